@@ -1,0 +1,3 @@
+pub mod Places
+pub mod Chosen
+pub mod Stored

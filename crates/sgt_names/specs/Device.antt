@@ -1,0 +1,34 @@
+-- What a reader tells over one read, and a writer over one write: of its bytes, and of how often it has failed.
+use Rattle.std.specs.Prelude.{◌≡◌, ◌≤◌, ◌<◌, ℕ, ◌+◌, List, length, take, ⊤, Option, Some, None, Result, Ok, Err}
+use Rattle.std.specs.Io.KnownBytes.{Consumes, Appends, IsAtEnd}
+
+-- after a failure the bytes told are those told before, or none are told any more
+abbrev pub KeepsOrForgets : Option (List ℕ) → Option (List ℕ) → Type 0
+KeepsOrForgets None new = ⊤
+KeepsOrForgets (Some xs) None = ⊤
+KeepsOrForgets (Some xs) (Some ys) = ys ≡ xs
+
+-- a read takes n bytes off the front and puts them into the front of the buffer; 0 only at the end, or without room
+abbrev pub TakesFront : {E : Type 0} → Option (List ℕ) → Option (List ℕ) → Result ℕ E → List ℕ → Type 0
+TakesFront old new (Ok n) buffer = Consumes old new (take n buffer) × (n ≡ 0 → 0 < length buffer → IsAtEnd new)
+TakesFront old new (Err e) buffer = KeepsOrForgets old new
+
+-- a write puts the first n of the bytes behind those written before
+abbrev pub PutsBehind : {E : Type 0} → Option (List ℕ) → Option (List ℕ) → Result ℕ E → List ℕ → Type 0
+PutsBehind old new (Ok n) bytes = Appends old new (take n bytes)
+PutsBehind old new (Err e) bytes = KeepsOrForgets old new
+
+-- an Err alone raises the count of failures, by one
+abbrev pub Counts : {A E : Type 0} → Result A E → ℕ → ℕ → Type 0
+Counts (Ok a) old new = new ≡ old
+Counts (Err e) old new = new ≡ old + 1
+
+-- an Ok has at most so many bytes
+abbrev pub AtMost : {E : Type 0} → Result ℕ E → ℕ → Type 0
+AtMost (Ok n) most = n ≤ most
+AtMost (Err e) most = ⊤
+
+-- an Ok takes at least one byte of a slice that isn't empty
+abbrev pub TakesSome : {E : Type 0} → Result ℕ E → ℕ → Type 0
+TakesSome (Ok n) size = 0 < size → 0 < n
+TakesSome (Err e) size = ⊤

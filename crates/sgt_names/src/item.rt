@@ -1,0 +1,114 @@
+//! The names of items.
+
+ghost use Rattle.std.specs.Prelude.{◌≡◌};
+ghost use Rattle.std.specs.List.{list_all};
+ghost use Rattle.sgt_names.specs.Name.{is_name_byte, is_small_letter, is_name};
+
+use std::cmp::Ordering;
+use std::marker::Model;
+use thiserror::Error;
+
+/// N1: bytes that are no name of an item.
+#[derive(Clone, Copy, Debug, PartialEq, Eq, Error)]
+#[error("N1: a name is a small letter and then up to 15 small letters, digits and underscores")]
+pub struct BadName;
+
+/// The name of an item: a small letter, then up to fifteen small letters, digits and underscores.
+/// Contracts see it as its bytes.
+#[derive(Clone, Copy, Debug, PartialEq, Eq)]
+pub struct Item {
+    // the name, and zeros up to 16
+    bytes: [u8; 16],
+    len: u8,
+}
+
+impl Model for Item {
+    ghost use Rattle.std.specs.Prelude.{ℕ, List, take, length};
+    ghost use Rattle.std.specs.Coded.{coded_list, coded_ℕ};
+
+    ghost Value = { List ℕ };
+
+    ghost coded = { coded_list coded_ℕ };
+
+    ghost use Rattle.sgt_names.specs.Name.{name_of, IsStored, stored, stored-name_of};
+
+    ghost view = { name_of };
+
+    ghost invariant = { IsStored };
+
+    ghost inverse = { stored };
+
+    ghost inverse_ok = { stored-name_of };
+}
+
+impl Item {
+    ghost use Rattle.std.specs.Prelude.{◌≡◌, ◌↔◌, IsTrue};
+    ghost use Rattle.std.specs.Result.{OkIff};
+    ghost use Rattle.std.specs.Ordering.{nat_cmp};
+    ghost use Rattle.std.specs.Cmp.Lexicographic.{slice_cmp};
+    ghost use Rattle.sgt_names.specs.Name.{IsName};
+
+    /// The name that these bytes spell. N1 for all other bytes; nothing is trimmed or cut off.
+    pub fn new(bytes: &[u8]) -> Result<Item, BadName>
+        ensures { OkIff result (IsName bytes.now) bytes.now }
+    {
+        if !is_name_text(bytes) || bytes.len() > 16 {
+            return Err(BadName);
+        }
+        let mut padded = [0u8; 16];
+        padded[..bytes.len()].copy_from_slice(bytes);
+        Ok(Item {
+            bytes: padded,
+            len: bytes.len() as u8,
+        })
+    }
+
+    /// The bytes of the name.
+    pub fn as_bytes(&self) -> &[u8]
+        ensures bytes { result.now ≡ self.now }
+        ensures name { IsName self.now }
+    {
+        &self.bytes[..self.len as usize]
+    }
+
+    /// Whether the two names are one.
+    pub fn same(&self, other: &Item) -> bool
+        ensures { IsTrue result ↔ (self.now ≡ other.now) }
+    {
+        self.as_bytes() == other.as_bytes()
+    }
+
+    /// The order of names, by their bytes.
+    pub fn order(&self, other: &Item) -> Ordering
+        ensures { result ≡ slice_cmp nat_cmp self.now other.now }
+    {
+        self.as_bytes().cmp(other.as_bytes())
+    }
+}
+
+fn is_letter(byte: u8) -> bool
+    ensures { result ≡ is_small_letter byte }
+{
+    byte.is_ascii_lowercase()
+}
+
+fn is_later_byte(byte: u8) -> bool
+    ensures { result ≡ is_name_byte byte }
+{
+    is_letter(byte) || byte.is_ascii_digit() || byte == b'_'
+}
+
+fn are_later_bytes(bytes: &[u8]) -> bool
+    ensures { result ≡ list_all is_name_byte bytes.now }
+{
+    bytes.iter().all(|byte| is_later_byte(*byte))
+}
+
+fn is_name_text(bytes: &[u8]) -> bool
+    ensures { result ≡ is_name bytes.now }
+{
+    match bytes.split_first() {
+        Some((first, later)) => is_letter(*first) && are_later_bytes(later) && later.len() < 16,
+        None => false,
+    }
+}

@@ -1,0 +1,28 @@
+//! The names of a certifier: transactions, sites, items and the entries of a site's log; and the readers and writers that
+//! the engines are generic over.
+#![tactic(auto)]
+
+mod entry;
+mod item;
+mod limits;
+mod listed;
+mod memory;
+mod number;
+mod outcome;
+mod sink;
+mod source;
+mod standard;
+
+pub use entry::{Entry, Holding, Kind, Label};
+pub use item::{BadName, Item};
+pub use limits::{MAX_ITEMS, MAX_SITES};
+pub use listed::Listed;
+pub use memory::{MemSink, MemSource};
+pub use number::{BadNumber, SiteNo, Tx};
+pub use outcome::{EngineFail, Outcome};
+pub use sink::Sink;
+pub use source::{Failed, Source};
+pub use standard::{FromRead, ToWrite};
+
+/// The value of an item.
+pub type Value = u64;

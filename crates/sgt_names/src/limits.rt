@@ -1,0 +1,7 @@
+//! The limits of a bundle, each of which stands here alone.
+
+/// How many sites there may be.
+pub const MAX_SITES: u8 = 16;
+
+/// How many items a site may have.
+pub const MAX_ITEMS: usize = 256;

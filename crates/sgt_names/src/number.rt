@@ -1,0 +1,91 @@
+//! The numbers of transactions and of sites.
+
+ghost use Rattle.std.specs.Prelude.{◌≡◌, ◌≤◌, ◌<◌, ◌^◌};
+ghost use Rattle.std.specs.Result.{OkIff};
+ghost use Rattle.sgt_names.specs.Limits.{max_sites};
+
+use crate::limits::MAX_SITES;
+use std::marker::Model;
+use thiserror::Error;
+
+/// N2: a number that is none of its kind.
+#[derive(Clone, Copy, Debug, PartialEq, Eq, Error)]
+#[error("N2: the number is out of range")]
+pub struct BadNumber;
+
+/// The number of a transaction, from 1 to 4294967295.
+#[derive(Clone, Copy, Debug, PartialEq, Eq, PartialOrd, Ord, Hash)]
+pub struct Tx {
+    number: u32,
+}
+
+impl Model for Tx {
+    ghost use Rattle.std.specs.Prelude.{ℕ, ◌≤◌};
+
+    ghost Value = { ℕ };
+
+    ghost view = { λ t. t.number };
+
+    ghost invariant = { λ t. 1 ≤ t.number };
+
+    ghost inverse = { λ n. record { number = n } };
+}
+
+impl Tx {
+    /// The transaction of this number. N2 for 0 and for numbers from 4294967296 on.
+    pub fn new(number: u64) -> Result<Tx, BadNumber>
+        ensures { OkIff result ((1 ≤ number) × (number < 2 ^ 32)) number }
+    {
+        match u32::try_from(number) {
+            Ok(number) if number >= 1 => Ok(Tx { number }),
+            _ => Err(BadNumber),
+        }
+    }
+
+    /// Its number.
+    pub fn number(self) -> u32
+        ensures is { result ≡ self }
+        ensures in_range { 1 ≤ self }
+    {
+        self.number
+    }
+}
+
+/// The number of a site, from 0 to 15.
+#[derive(Clone, Copy, Debug, PartialEq, Eq, PartialOrd, Ord, Hash)]
+pub struct SiteNo {
+    number: u8,
+}
+
+impl Model for SiteNo {
+    ghost use Rattle.std.specs.Prelude.{ℕ, ◌<◌};
+    ghost use Rattle.sgt_names.specs.Limits.{max_sites};
+
+    ghost Value = { ℕ };
+
+    ghost view = { λ s. s.number };
+
+    ghost invariant = { λ s. s.number < max_sites };
+
+    ghost inverse = { λ n. record { number = n } };
+}
+
+impl SiteNo {
+    /// The site of this number. N2 from the greatest number of sites on.
+    pub fn new(number: u64) -> Result<SiteNo, BadNumber>
+        ensures { OkIff result (number < max_sites) number }
+    {
+        match u8::try_from(number) {
+            Ok(number) if number < MAX_SITES => Ok(SiteNo { number }),
+            _ => Err(BadNumber),
+        }
+    }
+
+    /// Its number.
+    pub fn number(self) -> u8
+        ensures is { result ≡ self }
+        ensures in_range { self < max_sites }
+    {
+        self.number
+    }
+}

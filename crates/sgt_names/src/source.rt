@@ -1,0 +1,27 @@
+//! Where bytes come from.
+
+ghost use Rattle.std.specs.Prelude.{ℕ, List, Option, length};
+ghost use Rattle.sgt_names.specs.Device.{AtMost, Counts, TakesFront};
+
+use thiserror::Error;
+
+/// A device refused a read or a write.
+#[derive(Clone, Copy, Debug, PartialEq, Eq, Error)]
+#[error("the device failed")]
+pub struct Failed;
+
+/// A reader, which tells its bytes to contracts where it can.
+pub trait Source {
+    // the bytes that are left, where the source can tell them
+    ghost tells: { Self → Option (List ℕ) };
+
+    // how often it has failed
+    ghost failures: { Self → ℕ };
+
+    /// Reads some bytes into the front of the buffer. 0 comes only at the end, or where the buffer has no room.
+    /// After an Err the source may have forgotten its bytes; what it still tells is what it told before.
+    fn read(&mut self, buffer: &mut [u8]) -> Result<usize, Failed>
+        ensures bytes { TakesFront (tells self.old) (tells self.new) result buffer.new }
+        ensures count { AtMost result (length buffer.old) }
+        ensures fails { Counts result (failures self.old) (failures self.new) };
+}

@@ -1,0 +1,81 @@
+//! The readers and writers of std as sources and sinks.
+
+ghost use Rattle.std.specs.Prelude.{◌≡◌, ◌-◌, ◌^◌, None, if◌then◌else◌, nat_lt};
+
+use crate::sink::Sink;
+use crate::source::{Failed, Source};
+use std::io::{Read, Write};
+
+/// A reader of std's. It tells the bytes that this tells. (A counter of failures is finite: at its 2^64-th failure
+/// it forgets its bytes and reads as ended.)
+#[derive(Drop)]
+pub struct FromRead<R> {
+    inner: R,
+    failed: u64,
+}
+
+impl<R: Read> FromRead<R> {
+    /// The reader, with no failure so far.
+    pub fn new(inner: R) -> FromRead<R>
+        ensures bytes { ⟦<FromRead<R> as Source>⟧.tells result ≡ R.remaining inner }
+        ensures fails { ⟦<FromRead<R> as Source>⟧.failures result ≡ 0 }
+    {
+        FromRead { inner, failed: 0 }
+    }
+}
+
+impl<R: Read> Source for FromRead<R> {
+    ghost tells = { λ s. if nat_lt s.failed (2 ^ 64 - 1) then R.remaining s.inner else None };
+
+    ghost failures = { λ s. s.failed };
+
+    fn read(&mut self, buffer: &mut [u8]) -> Result<usize, Failed> {
+        match self.inner.read(buffer) {
+            Ok(n) => Ok(n),
+            Err(_) => {
+                if self.failed == u64::MAX {
+                    return Ok(0);
+                }
+                self.failed += 1;
+                Err(Failed)
+            }
+        }
+    }
+}
+
+/// A writer of std's. It tells the bytes that this tells. A write that takes nothing of a slice that isn't empty is a
+/// failure. (At its 2^64-th failure it forgets its bytes and takes what it is given.)
+#[derive(Drop)]
+pub struct ToWrite<W> {
+    inner: W,
+    failed: u64,
+}
+
+impl<W: Write> ToWrite<W> {
+    /// The writer, with no failure so far.
+    pub fn new(inner: W) -> ToWrite<W>
+        ensures bytes { ⟦<ToWrite<W> as Sink>⟧.holds result ≡ W.contents inner }
+        ensures fails { ⟦<ToWrite<W> as Sink>⟧.failures result ≡ 0 }
+    {
+        ToWrite { inner, failed: 0 }
+    }
+}
+
+impl<W: Write> Sink for ToWrite<W> {
+    ghost holds = { λ s. if nat_lt s.failed (2 ^ 64 - 1) then W.contents s.inner else None };
+
+    ghost failures = { λ s. s.failed };
+
+    fn write(&mut self, bytes: &[u8]) -> Result<usize, Failed> {
+        match self.inner.write(bytes) {
+            Ok(n) if n > 0 || bytes.is_empty() => Ok(n),
+            _ => {
+                if self.failed == u64::MAX {
+                    return Ok(bytes.len());
+                }
+                self.failed += 1;
+                Err(Failed)
+            }
+        }
+    }
+}
