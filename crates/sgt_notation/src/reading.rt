@@ -7,7 +7,6 @@ ghost use Rattle.sgt_notation.specs.Spelling.{IsEntry, IsHolding, IsLine, assign
 use crate::SectionLine;
 use crate::fault::{MAX_LINE, NotationFault};
 use crate::number::{find_site, find_tx, find_value};
-use memchr::memchr;
 use sgt_names::{Entry, Holding, Item, Tx, Value};
 
 /// What stands before the first such byte, and what after it.
@@ -15,7 +14,7 @@ fn cut(bytes: &[u8], at: u8) -> Option<(&[u8], &[u8])>
     ensures some { IfSome result (λ r. (bytes.now ≡ r.0.now ++ at ∷ r.1.now) × All (λ b. b ≢ at) r.0.now) }
     ensures none { IfNone result (All (λ b. b ≢ at) bytes.now) }
 {
-    let n = memchr(at, bytes)?;
+    let n = bytes.iter().position(|byte| *byte == at)?;
     Some((&bytes[..n], &bytes[n + 1..]))
 }
 
