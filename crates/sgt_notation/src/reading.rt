@@ -1,7 +1,7 @@
 //! Lines, read exactly where they are spelled.
 
 ghost use Rattle.std.specs.Prelude.{◌≡◌, ◌≢◌, ◌++◌, ◌∷◌, ℕ, List, All, IfSome, IfNone, MatchOption};
-ghost use Rattle.sgt_notation.specs.Reading.{Finds, IsOperation, Reads, operation_text};
+ghost use Rattle.sgt_notation.specs.Reading.{Finds, IsOperation, Reads, Refuses, operation_text};
 ghost use Rattle.sgt_notation.specs.Spelling.{IsEntry, IsHolding, IsLine, assignment, entry_text, line_text};
 
 use crate::SectionLine;
@@ -147,6 +147,17 @@ fn find_line(line: &[u8]) -> Option<SectionLine>
     }
 }
 
+/// Why a line that spells nothing is refused.
+fn refusal(line: &[u8]) -> NotationFault
+    ensures { Refuses line.now result }
+{
+    if line.len() > MAX_LINE {
+        NotationFault::TooLong
+    } else {
+        NotationFault::NotALine
+    }
+}
+
 /// The entry that this line, without its LF, spells. L2 for a line that is too long, and L1 for any other line.
 /// It takes no memory.
 pub fn read_entry(line: &[u8]) -> Result<Entry, NotationFault>
@@ -154,13 +165,7 @@ pub fn read_entry(line: &[u8]) -> Result<Entry, NotationFault>
 {
     match find_entry(line) {
         Some(entry) => Ok(entry),
-        None => {
-            if line.len() > MAX_LINE {
-                Err(NotationFault::TooLong)
-            } else {
-                Err(NotationFault::NotALine)
-            }
-        }
+        None => Err(refusal(line)),
     }
 }
 
@@ -171,12 +176,6 @@ pub fn read_section(line: &[u8]) -> Result<SectionLine, NotationFault>
 {
     match find_line(line) {
         Some(line) => Ok(line),
-        None => {
-            if line.len() > MAX_LINE {
-                Err(NotationFault::TooLong)
-            } else {
-                Err(NotationFault::NotALine)
-            }
-        }
+        None => Err(refusal(line)),
     }
 }
