@@ -5,7 +5,7 @@ use Rattle.std.specs.List.{AllByRecursion}
 use Rattle.std.proofs.lemmas.Bool.{cases_order}
 use Rattle.std.proofs.lemmas.List.{append-nil}
 use Rattle.std.proofs.lemmas.List.Elements.{recursion_from_All}
-use Rattle.sgt_notation.specs.Spelling.{line_text, text_of_lines, IsLine}
+use Rattle.sgt_notation.specs.Spelling.{line_text, text_of_lines, HasNoLf, IsLine}
 use Rattle.sgt_notation.proofs.OneSpelling.{HasNot, HasNot-from_test, cut_at_byte, line-one, line-one_line}
 use Rattle.sgt_notation.specs.declared.SectionLine.{SectionLine}
 use Rattle.sgt_cert.specs.Text.{certificate_text, sections_from, IsCertificate, AreSections}
@@ -14,7 +14,7 @@ use Rattle.sgt_cert.proofs.Reading.{certificate-one}
 use Rattle.sgt_cert.proofs.OneLine.{certificate-one_line}
 use Rattle.sgt_audit.specs.declared.Fault.{Fault}
 use Rattle.sgt_audit.specs.declared.Fault.TheVariants as fault
-use Rattle.sgt_audit.specs.Faults.{fault_number, Keeps, KeepsItself, AllKept, Stage, start, headed, within, complete, lines_so_far, IsFaultless, Piece, whole, last, HasNoLf, ComesNext, Rule, Breaks, FirstFault, HasNoFault}
+use Rattle.sgt_audit.specs.Faults.{fault_number, Keeps, KeepsItself, AllKept, Stage, start, headed, within, complete, lines_so_far, IsFaultless, Piece, whole, last, ComesNext, Rule, Breaks, FirstFault, HasNoFault}
 use Rattle.sgt_audit.proofs.Cuts.{sections-one}
 use Rattle.sgt_audit.proofs.FaultNumbers.{number-one}
 
