@@ -1,5 +1,5 @@
 -- What a line is read as: a JSON value, then the shape of a certificate, then its numbers, names and kinds.
-use Rattle.std.specs.Prelude.{◌≡◌, ℕ, suc, ◌+◌, ◌^◌, List, [], ◌∷◌, Bool, true, false, ◌&&◌, ◌||◌, ◌==◌, nat_le, nat_lt, if◌then◌else◌, Option, Some, None, is_some, option_map, option_and_then, codes, IsUtf8, ◌⊎◌, Result, Ok, Err}
+use Rattle.std.specs.Prelude.{◌≡◌, ℕ, suc, ◌+◌, ◌^◌, List, [], ◌∷◌, Bool, true, false, ◌&&◌, ◌||◌, ◌==◌, nat_le, nat_lt, if◌then◌else◌, Option, Some, None, is_some, option_map, option_and_then, codes, IsUtf8, Result, Ok, Err}
 use Rattle.std.specs.List.{list_all}
 use Rattle.std.specs.Option.{option_map_or}
 use Rattle.std.specs.Str.{bytes_eq}
@@ -91,10 +91,6 @@ Refuses bytes Shape = (d : Data) × ReadsAs bytes d × (is_shaped d ≡ false)
 Refuses bytes Range = ((d : Data) × ReadsAs bytes d × (is_shaped d ≡ true)) × ((c : Certificate) → IsCertificate c → bytes ≡ certificate_text c → ⊥)
 Refuses bytes Memory = Unit {0}
 
--- this is the answer, unless memory ran out
-abbrev pub IsUnlessMemory : Result Certificate CertFault → Result Certificate CertFault → Type 0
-IsUnlessMemory result answer = (result ≡ answer) ⊎ (result ≡ Err Memory)
-
 -- ---- the numbers, names and kinds of a value of that shape
 
 -- the whole number of the member, from the least one to below the limit
@@ -160,3 +156,11 @@ judged_as (Some c) bytes = if bytes_eq (certificate_text c) bytes then Ok c else
 
 abbrev pub answer_of : Data → List ℕ → Result Certificate CertFault
 answer_of d bytes = if is_shaped d then judged_as (certificate_in d) bytes else Err Shape
+
+-- the answer, unless memory ran out
+abbrev pub Answers : Result Certificate CertFault → Result Certificate CertFault → Type 0
+Answers (Ok c) answer = answer ≡ Ok c
+Answers (Err NotJson) answer = answer ≡ Err NotJson
+Answers (Err Shape) answer = answer ≡ Err Shape
+Answers (Err Range) answer = answer ≡ Err Range
+Answers (Err Memory) answer = Unit {0}
