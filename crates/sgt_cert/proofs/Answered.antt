@@ -1,8 +1,9 @@
 -- What follows from the answer to a value that was read from a line.
-use Rattle.std.proofs.Common.{◌≡◌, ◌≢◌, ℕ, ◌≤◌, ◌<◌, ◌^◌, List, [], ◌∷◌, Option, Some, None, Bool, true, false, cond, Result, Ok, Err, IfOk, IfErr, MatchResult, option_map, option_and_then, codes, refl, sym, ap, ap₂, ◌∙◌, subst, arith, All, inl, inr, ◌⊎◌}
+use Rattle.std.proofs.Common.{◌≡◌, ◌≢◌, ℕ, ◌≤◌, ◌<◌, List, [], ◌∷◌, Option, Some, None, Bool, true, false, cond, Result, Ok, Err, IfOk, IfErr, MatchResult, option_map, option_and_then, codes, refl, sym, ap, ap₂, ◌∙◌, subst, arith, All, inl, inr, ◌⊎◌}
 use Rattle.std.specs.Prelude.{nat_le, nat_lt, length, ◌&&◌, IsUtf8}
 use Rattle.std.specs.List.{AllByRecursion, list_all}
-use Rattle.std.specs.Str.{bytes_eq}
+use Rattle.std.specs.Str.{bytes_eq, is_utf8}
+use Rattle.std.proofs.lemmas.Str.{IsUtf8-from_is_utf8, is_utf8-from_IsUtf8}
 use Rattle.std.proofs.lemmas.List.Elements.{All-head, All-tail, All-from_recursion}
 use Rattle.std.proofs.lemmas.Slice.Eq.{bytes_eq-Decides}
 use Rattle.std.proofs.lemmas.Option.{option_and_then_some, cond_some, same_Some}
@@ -10,7 +11,6 @@ use Rattle.std.proofs.lemmas.Bool.{and_parts, and_from, leb-true, le-leb, lt-ltb
 use Rattle.serde_json.specs.Data.{Data}
 use Rattle.serde_json.specs.Find.{get, as_number, as_u64}
 use Rattle.serde_json.specs.Read.{read}
-use Rattle.sgt_names.specs.Limits.{max_sites}
 use Rattle.sgt_names.specs.Name.{Name, IsName, is_name, is_name_byte, is_small_letter}
 use Rattle.sgt_names.specs.declared.entry.Kind.{Kind}
 use Rattle.sgt_names.specs.declared.entry.Kind.TheVariants.{Wr, Rw, Ww}
@@ -238,7 +238,7 @@ not_refused bytes c Memory h is plain why = plain refl
 one_reading : (bytes : List ℕ) (d e : Data) → ReadsAs bytes d → ReadsAs bytes e → d ≡ e
 one_reading bytes d e a b = same_Some d e (sym a.1 ∙ b.1)
 
-refused_once : (bytes : List ℕ) (f e : CertFault) → Refuses bytes f → Refuses bytes e → e ≢ Memory → (f ≡ e) ⊎ (f ≡ Memory)
+pub refused_once : (bytes : List ℕ) (f e : CertFault) → Refuses bytes f → Refuses bytes e → e ≢ Memory → (f ≡ e) ⊎ (f ≡ Memory)
 refused_once bytes Memory e a b plain = inr refl
 refused_once bytes NotJson NotJson a b plain = inl refl
 refused_once bytes NotJson Shape a b plain = absurd (a b.0 b.1)
@@ -271,3 +271,30 @@ each-fault (Err f) bytes ok err e plain why = refused_once bytes f e err why pla
 -- no value is read, so it is no certificate's line
 pub unread : (bytes : List ℕ) (c : Certificate) → (IsUtf8 bytes → read bytes ≡ None) → IsCertificate c → bytes ≡ certificate_text c → ⊥
 unread bytes c none h is = let both : None ≡ Some (certificate_data c) = sym (none (subst IsUtf8 (sym is) (certificate-utf8 c h))) ∙ (ap read is ∙ read-certificate_text c h) in cc both
+
+-- ---- each line has an answer
+
+abbrev Judged : List ℕ → Type 0
+Judged bytes = ((c : Certificate) × IsCertificate c × (bytes ≡ certificate_text c)) ⊎ ((e : CertFault) × (e ≢ Memory) × Refuses bytes e)
+
+memory-not_range : Memory ≢ Range
+memory-not_range e = cc
+
+memory-not_shape : Memory ≢ Shape
+memory-not_shape e = cc
+
+judged-data : (bytes : List ℕ) (d : Data) → ReadsAs bytes d → (r : Result Certificate CertFault) → answer_of d bytes ≡ r → Judged bytes
+judged-data bytes d reads (Ok c) e = let p = answered-ok d bytes c e in inl (c, p.0, p.1)
+judged-data bytes d reads (Err Memory) e = absurd (elim (shaped-err (is_shaped d) (certificate_in d) bytes Memory e) [ inl p ↦ memory-not_range p.1 | inr p ↦ memory-not_shape p.1 ])
+judged-data bytes d reads (Err f) e = inr (f, (λ m. cc), answered-err d bytes f e reads)
+
+judged-read : (bytes : List ℕ) → IsUtf8 bytes → (o : Option Data) → read bytes ≡ o → Judged bytes
+judged-read bytes text None e = inr (NotJson, (λ m. cc), λ d reads. let both : Some d ≡ None = sym reads.1 ∙ e in cc both)
+judged-read bytes text (Some d) e = judged-data bytes d (text, e) (answer_of d bytes) refl
+
+judged-text : (bytes : List ℕ) (b : Bool) → is_utf8 bytes ≡ b → Judged bytes
+judged-text bytes true e = judged-read bytes (IsUtf8-from_is_utf8 bytes e) (read bytes) refl
+judged-text bytes false e = inr (NotJson, (λ m. cc), λ d reads. true≢false (sym (is_utf8-from_IsUtf8 bytes reads.0) ∙ e))
+
+pub read_or_refused : (bytes : List ℕ) → Judged bytes
+read_or_refused bytes = judged-text bytes (is_utf8 bytes) refl

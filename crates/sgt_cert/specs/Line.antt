@@ -10,7 +10,7 @@ use Rattle.sgt_names.specs.Limits.{max_sites}
 use Rattle.sgt_names.specs.Name.{Name, is_name}
 use Rattle.sgt_names.specs.declared.entry.Kind.{Kind}
 use Rattle.sgt_names.specs.declared.entry.Kind.TheVariants.{Wr, Rw, Ww}
-use Rattle.sgt_cert.specs.Text.{kind_name, certificate_text, IsCertificate}
+use Rattle.sgt_cert.specs.Text.{certificate_text, IsCertificate}
 use Rattle.sgt_cert.specs.declared.fault.CertFault.{CertFault}
 use Rattle.sgt_cert.specs.declared.fault.CertFault.TheVariants.{NotJson, Shape, Range, Memory}
 use Rattle.sgt_cert.specs.declared.certificate.Step.{Step}

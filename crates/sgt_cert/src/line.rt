@@ -42,7 +42,13 @@ fn push_text(out: &mut Vec<u8>, before: &[u8], text: &[u8]) -> Result<(), AllocE
     out.extend_from_slice(text)
 }
 
-fn push_step_parts(out: &mut Vec<u8>, item: &[u8], kind: &[u8], site: u64, to: u64) -> Result<(), AllocError>
+fn push_step_parts(
+    out: &mut Vec<u8>,
+    item: &[u8],
+    kind: &[u8],
+    site: u64,
+    to: u64,
+) -> Result<(), AllocError>
     ensures { OnOk result (out.new.items ≡ out.old.items ++ (codes "{\"item\":\"" ++ (item.now ++ (codes "\",\"kind\":\"" ++ (kind.now ++ (codes "\",\"site\":"
         ++ (decimal site ++ (codes ",\"to\":" ++ (decimal to ++ codes "}"))))))))) }
 {
@@ -142,7 +148,11 @@ pub fn to_line(alloc: Global, certificate: &Certificate) -> Result<Vec<u8>, Allo
     ensures { IfOk result (λ line. line.items ≡ certificate_text certificate.now) }
 {
     let mut line = Vec::new(alloc);
-    push_certificate(&mut line, certificate.decisions.as_slice(), certificate.sites as u64)?;
+    push_certificate(
+        &mut line,
+        certificate.decisions.as_slice(),
+        certificate.sites as u64,
+    )?;
     Ok(line)
 }
 
