@@ -9,7 +9,7 @@ use Rattle.std.proofs.lemmas.List.Quantifiers.{all_pairs_push}
 use Rattle.std.proofs.lemmas.Iterator.Search.{true_from_All, true_from_Any}
 use Rattle.std.proofs.lemmas.Option.{slice_get-get_or, slice_get_within, get_or_from_slice_get, slice_get-map, same_Some}
 use Rattle.std.proofs.Math.Seq.{drop-cons}
-use Rattle.sgt_names.proofs.Places.{Contains_at, Contains-from_at, All_at, AllPairs_at, slice_get-take, take-next}
+use Rattle.sgt_names.proofs.Places.{Contains_at, Contains-from_at, All_at, All-from_at, AllPairs_at, slice_get-take, take-next}
 
 pub all-decides : {X : Type 0} (P : X → Type 0) (xs : List X) (r : Bool) → MatchBool r (AllWithin P xs 0 (length xs)) ((k : ℕ) × (k < length xs) × HoldsAt (λ x. P x → ⊥) xs k) → IsTrue r ↔ All P xs
 all-decides P xs true h = (λ _. All-from_all_within P xs h, λ _. refl)
@@ -129,3 +129,9 @@ not-empty n r is miss = elim (cases_eq n 0) [ | inl none ↦ absurd (true≢fals
 
 pub empty : (n : ℕ) (r : Bool) → r ≡ (n == 0) → r ≡ true → n ≡ 0
 empty n r is hit = eqb-true n 0 (sym is ∙ hit)
+
+pub all-mapped : {X Y : Type 0} (f : X → Y) (P : Y → Type 0) (xs : List X) → All (λ x. P (f x)) xs ↔ All P (map f xs)
+all-mapped f P xs = (
+  λ all. All-from_at P (map f xs) (λ n y at. let x = mapped_at f xs n y at in subst P x.2 (All_at (λ x. P (f x)) xs n x.0 all x.1)),
+  λ all. All-from_at (λ x. P (f x)) xs (λ n x at. All_at P (map f xs) n (f x) all (slice_get-map f xs n ∙ ap (option_map f) at)),
+)

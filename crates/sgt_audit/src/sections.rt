@@ -1,7 +1,6 @@
 //! The sections of a bundle, line by line.
 
-ghost use Rattle.std.specs.Prelude.{◌≡◌, ◌≤◌, ◌<◌, ◌↔◌, [], ◌∷◌, ◌++◌, IsTrue, IfOk, OnOk, IfSome, IfNone, Some, None, length, slice_get, All};
-ghost use Rattle.std.specs.List.{last_or};
+ghost use Rattle.std.specs.Prelude.{◌≡◌, ◌≤◌, ◌<◌, ◌-◌, ◌↔◌, [], ◌∷◌, ◌++◌, IsTrue, IfOk, OnOk, IfSome, IfNone, Some, None, length, slice_get, All};
 ghost use Rattle.sgt_names.specs.Limits.{max_sites};
 ghost use Rattle.sgt_names.specs.Log.{names};
 ghost use Rattle.sgt_cert.specs.Parts.{ComesBefore};
@@ -68,7 +67,7 @@ impl OpenLog {
 
     /// The entry that was read last, if no final stands behind it.
     pub fn last_entry(&self) -> Option<Entry>
-        ensures some { IfSome result (λ e. (self.now.finals ≡ []) × (last_or None self.now.entries ≡ Some e)) }
+        ensures some { IfSome result (λ e. (self.now.finals ≡ []) × (slice_get self.now.entries (length self.now.entries - 1) ≡ Some e)) }
         ensures none { IfNone result ((self.now.finals ≡ []) → (self.now.entries ≡ [])) }
     {
         if self.finals.is_empty() {
