@@ -64,3 +64,20 @@ with_line log (Initial h) = record log { items = log.items ++ h ∷ [] }
 with_line log (Logged e) = record log { entries = log.entries ++ e ∷ [] }
 with_line log (Final h) = record log { finals = log.finals ++ h ∷ [] }
 with_line log _ = log
+
+-- an empty log
+abbrev pub no_log : SiteLog
+no_log = record { items = []; entries = []; finals = [] }
+
+-- what was read, and one more line
+abbrev pub next_current : SiteLog → SectionLine → Option SiteLog
+next_current log End = None
+next_current log line = Some (with_line log line)
+
+abbrev pub next_whole : List SiteLog → SiteLog → SectionLine → List SiteLog
+next_whole whole log End = whole ++ log ∷ []
+next_whole whole log _ = whole
+
+abbrev pub with_next : Begun → Option SiteLog → SectionLine → Begun
+with_next b None line = record b { current = Some no_log }
+with_next b (Some log) line = record b { whole = next_whole b.whole log line; current = next_current log line }
