@@ -1,5 +1,5 @@
 -- What may follow the sections as far as they were read: exactly what begins some sections with them.
-use Rattle.std.proofs.Common.{◌≡◌, ◌≢◌, ℕ, zero, suc, ◌+◌, ◌-◌, ◌<◌, ◌≤◌, List, [], ◌∷◌, ◌++◌, length, map, take, drop, replicate, Option, Some, None, refl, sym, ap, ap₂, ◌∙◌, subst, arith, inl, inr, ◌⊎◌, append_assoc, zero-add, add-zero, add-one, All, AllPairs}
+use Rattle.std.proofs.Common.{◌≡◌, ◌≢◌, ℕ, zero, suc, ◌+◌, ◌-◌, ◌<◌, ◌≤◌, List, [], ◌∷◌, ◌++◌, length, map, take, drop, replicate, Option, Some, None, Bool, IsTrue, refl, sym, ap, ap₂, ◌∙◌, subst, arith, inl, inr, ◌⊎◌, append_assoc, zero-add, add-zero, add-one, All, AllPairs}
 use Rattle.std.specs.Prelude.{◌↔◌, slice_get}
 use Rattle.std.proofs.lemmas.List.{append-nil, map-append, length-map, length-append, drop-map, take-append-drop, take_all, length-replicate}
 use Rattle.std.proofs.lemmas.List.Quantifiers.{all_pairs_push}
@@ -533,3 +533,27 @@ sections-whole b logs e = let split = split-whole 0 b.whole logs (open_lines (le
 
 pub are-sections : (b : Begun) → AreSections b.sites (lines_read b) → (b.current ≡ None) × (length b.whole ≡ b.sites)
 are-sections b (logs, shaped, all) = let same = sections-whole b logs all in (same.0, ap length same.1 ∙ shaped.each)
+
+-- ---- for a line that begins some sections behind what was read
+
+pub follow-decides : (b : Begun) → IsBegun b → (line : SectionLine) (r : Bool) → IsTrue r ↔ MayFollow b b.current line → IsTrue r ↔ Begins b.sites (lines_read b ++ line ∷ [])
+follow-decides b is line r test = (
+  λ h.
+      let f = test.0 h in
+      subst (Begins b.sites) (next-lines b b.current line refl f) (begins-sites b b.current line (begun-begins (with_next b b.current line) (next-begun b b.current line is is.room f))),
+  λ begins. test.1 (begins-follow b line begins),
+)
+  where
+    begins-sites : (b : Begun) (current : Option SiteLog) (line : SectionLine) → Begins (with_next b current line).sites (lines_read (with_next b current line)) → Begins b.sites (lines_read (with_next b current line))
+    begins-sites b None line h = h
+    begins-sites b (Some log) line h = h
+
+module _ (b : Begun) (is : IsBegun b) (line : SectionLine) (begins : Begins b.sites (lines_read b ++ line ∷ [])) (current : Option SiteLog) (here : b.current ≡ current) where
+  follow : MayFollow b current line
+  follow = subst (λ o. MayFollow b o line) here (begins-follow b line begins)
+
+  pub added-begun : IsBegun (with_next b current line)
+  added-begun = next-begun b current line is (subst (HasRoomFor b) here is.room) follow
+
+  pub added-lines : lines_read (with_next b current line) ≡ lines_read b ++ line ∷ []
+  added-lines = next-lines b current line here follow
