@@ -1,8 +1,8 @@
 -- No two faults have one number.
 use Rattle.std.proofs.Common.{◌≡◌, ℕ, refl, sym, ap, ◌∙◌, cond}
 use Rattle.std.specs.Prelude.{◌==◌}
-use Rattle.sgt_audit.specs.declared.Fault.{Fault}
-use Rattle.sgt_audit.specs.declared.Fault.TheVariants as fault
+use Rattle.sgt_audit.specs.declared.faults.Fault.{Fault}
+use Rattle.sgt_audit.specs.declared.faults.Fault.TheVariants as fault
 use Rattle.sgt_audit.specs.Faults.{fault_number}
 
 abbrev fault_of : ℕ → Fault

@@ -12,8 +12,8 @@ use Rattle.sgt_cert.specs.Text.{certificate_text, sections_from, IsCertificate, 
 use Rattle.sgt_cert.specs.declared.certificate.Certificate.{Certificate}
 use Rattle.sgt_cert.proofs.Reading.{certificate-one}
 use Rattle.sgt_cert.proofs.OneLine.{certificate-one_line}
-use Rattle.sgt_audit.specs.declared.Fault.{Fault}
-use Rattle.sgt_audit.specs.declared.Fault.TheVariants as fault
+use Rattle.sgt_audit.specs.declared.faults.Fault.{Fault}
+use Rattle.sgt_audit.specs.declared.faults.Fault.TheVariants as fault
 use Rattle.sgt_audit.specs.Faults.{fault_number, Keeps, KeepsItself, AllKept, Stage, start, headed, within, complete, lines_so_far, IsFaultless, Piece, whole, last, ComesNext, Rule, Breaks, FirstFault, HasNoFault}
 use Rattle.sgt_audit.proofs.Cuts.{sections-one}
 use Rattle.sgt_audit.proofs.FaultNumbers.{number-one}
