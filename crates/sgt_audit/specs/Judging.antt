@@ -9,7 +9,8 @@ use Rattle.sgt_names.specs.declared.entry.Holding.{Holding}
 use Rattle.sgt_notation.specs.declared.SectionLine.{SectionLine}
 use Rattle.sgt_notation.specs.declared.SectionLine.TheVariants as Line
 use Rattle.sgt_cert.specs.declared.bundle.SiteLog.{SiteLog}
-use Rattle.sgt_audit.specs.Faults.{fault_number, items_in, entries_in, Breaks}
+use Rattle.sgt_cert.specs.declared.certificate.Decision.{Decision}
+use Rattle.sgt_audit.specs.Faults.{fault_number, items_in, entries_in, KeepsItself, Breaks}
 use Rattle.sgt_audit.specs.declared.faults.Fault.{Fault}
 
 -- a read has the value of its item after these entries
@@ -40,3 +41,8 @@ KeptBelow rule n = (g : Fault) → fault_number g < n → rule g
 abbrev pub Judged : (Fault → Type 0) → Option Fault → Type 0
 Judged rule None = KeptBelow rule 17
 Judged rule (Some f) = Breaks rule f
+
+-- a certificate keeps its rules, or this is the least that is broken
+abbrev pub JudgedItself : List Decision → Option Fault → Type 0
+JudgedItself ds None = (f : Fault) → KeepsItself ds f
+JudgedItself ds (Some f) = Breaks (KeepsItself ds) f

@@ -1,23 +1,25 @@
 //! The least fault of a line, after lines with no fault.
 
-ghost use Rattle.std.specs.Prelude.{◌≡◌, ◌↔◌, ◌∷◌, ◌++◌, [], List, IsTrue};
+ghost use Rattle.std.specs.Prelude.{◌≡◌, ◌↔◌, ◌∷◌, ◌++◌, [], List, IsTrue, IfNone, IfOk};
 ghost use Rattle.sgt_notation.specs.declared.SectionLine.{SectionLine};
 ghost use Rattle.sgt_notation.specs.declared.SectionLine.TheVariants.{Logged, Final, End};
 ghost use Rattle.sgt_cert.specs.Certificate.{IsDecidedOnce};
 ghost use Rattle.sgt_cert.specs.Text.{Begins};
 ghost use Rattle.sgt_cert.specs.declared.certificate.Certificate.{Certificate};
 ghost use Rattle.sgt_audit.specs.Faults.{Keeps};
-ghost use Rattle.sgt_audit.specs.Judging.{GoesOn, GoesOnWith, HasOpen, Judged};
+ghost use Rattle.sgt_audit.specs.Judging.{GoesOn, GoesOnWith, HasOpen, Judged, JudgedItself};
 ghost use Rattle.sgt_audit.specs.Reading.{Fits, lines_read};
 
+use crate::decisions::{are_cycles, are_decided_once, are_ranks, commit_ranks};
 use crate::decided::{is_active, is_first, is_in_order, is_in_rank};
 use crate::entries::{all_ended, continues, is_open};
 use crate::faults::Fault;
 use crate::sections::{OpenLog, Sections};
 use crate::values::{holds_value, is_legal, is_listed};
-use sgt_cert::Decision;
+use sgt_cert::{Certificate, Decision};
 use sgt_names::{Entry, Holding};
 use sgt_notation::SectionLine;
+use std::alloc::{AllocError, Global};
 
 /// Whether the line goes on with the block of the entry in front of it, if that is open.
 fn goes_on_with(last: &Entry, line: &SectionLine) -> bool
@@ -122,7 +124,8 @@ fn judge_inside(decisions: &[Decision], log: &OpenLog, line: &SectionLine) -> Op
 
 /// The least fault of a line behind the sections that were read, but for the walks.
 pub fn judge_line(decisions: &[Decision], sections: &Sections, line: &SectionLine) -> Option<Fault>
-    ensures { (c : Certificate) → c.decisions ≡ decisions.now → c.sites ≡ sections.now.sites → IsDecidedOnce decisions.now
+    ensures goes_on { IfNone result (Begins sections.now.sites (lines_read sections.now ++ line.now ∷ [])) }
+    ensures judged { (c : Certificate) → c.decisions ≡ decisions.now → c.sites ≡ sections.now.sites → IsDecidedOnce decisions.now
         → Judged (Keeps c (lines_read sections.now) line.now) result }
 {
     if !sections.may_go_on(line) {
@@ -132,4 +135,22 @@ pub fn judge_line(decisions: &[Decision], sections: &Sections, line: &SectionLin
         Some(log) => judge_inside(decisions, log, line),
         None => None,
     }
+}
+
+/// The least fault of a certificate by itself.
+pub fn judge_certificate(alloc: Global, certificate: &Certificate) -> Result<Option<Fault>, AllocError>
+    ensures { IfOk result (JudgedItself certificate.now.decisions) }
+{
+    let decisions = certificate.decisions.as_slice();
+    let ranks = commit_ranks(alloc, decisions)?;
+    if !are_ranks(ranks.as_slice()) {
+        return Ok(Some(Fault::Ranks));
+    }
+    if !are_decided_once(decisions) {
+        return Ok(Some(Fault::DecidedTwice));
+    }
+    if !are_cycles(decisions) {
+        return Ok(Some(Fault::WalkShape));
+    }
+    Ok(None)
 }

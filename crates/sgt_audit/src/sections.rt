@@ -188,7 +188,8 @@ impl Sections {
 
     /// Whether these are all sections, and none is open.
     pub fn are_all(&self) -> bool
-        ensures { IsTrue result ↔ AreSections self.now.sites (lines_read self.now) }
+        ensures all { IsTrue result ↔ AreSections self.now.sites (lines_read self.now) }
+        ensures begun { IsBegun self.now }
     {
         match &self.current {
             Some(_) => false,
