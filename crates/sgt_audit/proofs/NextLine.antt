@@ -131,7 +131,7 @@ module _ (c : Certificate) (b new : Begun) (before : List SectionLine) (line : S
       let as_read = read-as logs is same in
       absurd (miss (whole-sections new begun as_read.0 (ap length as_read.1 ∙ len ∙ sym new-sites)))
 
-  module _ (spelled : IsLine line) (rules : (f : Fault) → Keeps c before line f) where
+  module _ (begun : IsBegun new) (spelled : IsLine line) (rules : (f : Fault) → Keeps c before line f) where
     each-line : (earlier later : List SectionLine) (l : SectionLine) → before ++ line ∷ [] ≡ earlier ++ l ∷ later → IsLine l × ((f : Fault) → Keeps c earlier l f)
     each-line earlier later l e =
         elim (cut_append before (line ∷ []) earlier later l e) [
@@ -143,15 +143,15 @@ module _ (c : Certificate) (b new : Begun) (before : List SectionLine) (line : S
         ]
 
     means : Means c new (before ++ line ∷ [])
-    means = record { sites = new-sites; lines = all-lines; kept = record { spelled = m.kept.spelled; itself = m.kept.itself; lines = each-line } }
+    means = record { begun = begun; sites = new-sites; lines = all-lines; kept = record { spelled = m.kept.spelled; itself = m.kept.itself; lines = each-line } }
 
   kept-here : KeptBelow (Keeps c (lines_read b) line) 17 → KeptBelow (Keeps c before line) 17
   kept-here kept = subst (λ ls. KeptBelow (Keeps c ls line) 17) (sym m.lines) kept
 
   pub added-open : IsLine line → KeptBelow (Keeps c (lines_read b) line) 17 → IsBegun new → (AreSections new.sites (lines_read new) → ⊥) → Means c new (before ++ line ∷ [])
-  added-open spelled kept begun miss = means spelled (each-rule line (kept-here kept) (open-walks line refl begun miss))
+  added-open spelled kept begun miss = means begun spelled (each-rule line (kept-here kept) (open-walks line refl begun miss))
 
-  pub added-last : IsLine line → KeptBelow (Keeps c (lines_read b) line) 17 → AreSections new.sites (lines_read new) → Walks new.whole → Means c new (before ++ line ∷ [])
-  added-last spelled kept all walks =
+  pub added-last : IsLine line → KeptBelow (Keeps c (lines_read b) line) 17 → IsBegun new → AreSections new.sites (lines_read new) → Walks new.whole → Means c new (before ++ line ∷ [])
+  added-last spelled kept begun all walks =
       let end = is-end all in
-      means spelled (each-rule line (kept-here kept) (subst (λ l. Keeps c before l fault.WalkStep) (sym end) (walks-kept end walks)))
+      means begun spelled (each-rule line (kept-here kept) (subst (λ l. Keeps c before l fault.WalkStep) (sym end) (walks-kept end walks)))

@@ -6,10 +6,11 @@ use Rattle.sgt_cert.specs.Text.{AreSections}
 use Rattle.sgt_cert.specs.declared.certificate.Certificate.{Certificate}
 use Rattle.sgt_audit.specs.declared.faults.Fault.{Fault}
 use Rattle.sgt_audit.specs.Faults.{AllKept, Stage, within, complete, lines_so_far, Piece, whole, Rule, Breaks}
-use Rattle.sgt_audit.specs.Reading.{Begun, lines_read}
+use Rattle.sgt_audit.specs.Reading.{Begun, IsBegun, lines_read}
 
 -- the certificate and the sections are what these lines say, none of which has a fault
 pub record Means (c : Certificate) (b : Begun) (before : List SectionLine) : Type 0 where
+  pub begun : IsBegun b
   pub sites : b.sites ≡ c.sites
   pub lines : before ≡ lines_read b
   pub kept : AllKept c before

@@ -160,7 +160,8 @@ impl Sections {
     pub fn new(alloc: Global, sites: u8) -> Sections
         requires some { 1 ≤ sites }
         requires few { sites ≤ max_sites }
-        ensures { result ≡ record { sites = sites; whole = []; current = None } }
+        ensures empty { result ≡ record { sites = sites; whole = []; current = None } }
+        ensures begun { IsBegun result }
     {
         Sections {
             alloc,
