@@ -20,7 +20,8 @@ use Rattle.sgt_audit.specs.declared.machine.Progress.TheVariants as at
 use Rattle.sgt_audit.specs.Faults.{fault_number, Keeps, KeepsItself, AllKept, Stage, start, headed, within, complete, lines_so_far, Piece, whole, last, Rule, Breaks}
 use Rattle.sgt_audit.specs.Reading.{Begun, IsBegun, lines_read}
 use Rattle.sgt_audit.specs.Kept.{Means, IsStageOf, AnswersLine}
-use Rattle.sgt_audit.specs.Progress.{Stands, Follows, limit_of, bytes_of}
+use Rattle.sgt_audit.specs.Progress.{Stands, Follows, bytes_of}
+use Rattle.sgt_audit.specs.Ending.{limit_of}
 use Rattle.sgt_audit.proofs.Streaming.{whole-sections, are-sections}
 
 -- ---- which stage it is
@@ -194,3 +195,37 @@ long-breaks c before s p (inr done) miss long = absurd (miss done.1)
 pub long-trails : (c : Certificate) (before : List SectionLine) (s : Stage) (p : Piece) → IsStageOf c before s → AreSections c.sites before → limit_of s < length (bytes_of p) → Breaks (Rule s p) fault.Trailing
 long-trails c before s p (inl here) all long = absurd (here.1 all)
 long-trails c before s p (inr done) all long = subst (λ s. Breaks (Rule s p) fault.Trailing) (sym done.0) (trailing-breaks c before p (limit-at s (complete c before) (length (bytes_of p)) done.0 long))
+
+-- ---- the end of the input
+
+module _ (c : Certificate) (before : List SectionLine) (l : List ℕ) where
+  below-truncated : length l ≤ MAX_LINE → (g : Fault) → fault_number g < 18 → Rule (within c before) (last l) g
+  below-truncated le fault.Notation lt = le
+  below-truncated le fault.Truncated lt = absurd (omega arith)
+  below-truncated le fault.Trailing lt = absurd (omega arith)
+  below-truncated le _ lt = tt
+
+  truncated : length l ≤ MAX_LINE → Breaks (Rule (within c before) (last l)) fault.Truncated
+  truncated le = record { broken = λ h. h; least = below-truncated le }
+
+  trails : (l ≡ [] → ⊥) → Breaks (Rule (complete c before) (last l)) fault.Trailing
+  trails some = record { broken = some; least = below-trailing c before (last l) }
+
+most-at : (s t : Stage) (n : ℕ) → s ≡ t → n ≤ limit_of s → n ≤ limit_of t
+most-at s t n same le = subst (λ s. n ≤ limit_of s) same le
+
+pub ends-within : (c : Certificate) (before : List SectionLine) (s : Stage) (l : List ℕ) → IsStageOf c before s → (AreSections c.sites before → ⊥) → length l ≤ limit_of s → Breaks (Rule s (last l)) fault.Truncated
+ends-within c before s l (inl here) miss le = subst (λ s. Breaks (Rule s (last l)) fault.Truncated) (sym here.0) (truncated c before l (most-at s (within c before) (length l) here.0 le))
+ends-within c before s l (inr done) miss le = absurd (miss done.1)
+
+pub ends-behind : (c : Certificate) (before : List SectionLine) (s : Stage) (l : List ℕ) → IsStageOf c before s → AreSections c.sites before → (l ≡ [] → ⊥) → Breaks (Rule s (last l)) fault.Trailing
+ends-behind c before s l (inl here) all some = absurd (here.1 all)
+ends-behind c before s l (inr done) all some = subst (λ s. Breaks (Rule s (last l)) fault.Trailing) (sym done.0) (trails c before l some)
+
+pub ends-whole : (c : Certificate) (before : List SectionLine) (s : Stage) → IsStageOf c before s → AreSections c.sites before → s ≡ complete c before
+ends-whole c before s (inl here) all = absurd (here.1 all)
+ends-whole c before s (inr done) all = done.0
+
+pub empty-nil : (l : List ℕ) → length l ≡ 0 → l ≡ []
+empty-nil [] e = refl
+empty-nil (x ∷ l) e = absurd (omega arith)

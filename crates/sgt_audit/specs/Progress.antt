@@ -1,14 +1,12 @@
 -- How far the auditor has come in a text.
-use Rattle.std.specs.Prelude.{◌≡◌, ℕ, ◌-◌, ◌^◌, List, [], ◌∷◌, ◌++◌, Option, Some, None, Result, Ok, Err}
+use Rattle.std.specs.Prelude.{◌≡◌, ℕ, List, [], ◌∷◌, ◌++◌, Option, Some, None, Result, Ok, Err}
 use Rattle.sgt_notation.specs.declared.SectionLine.{SectionLine}
-use Rattle.sgt_notation.specs.declared.fault.TheConstants.{MAX_LINE}
 use Rattle.sgt_cert.specs.Text.{certificate_text}
-use Rattle.sgt_cert.specs.declared.certificate.Certificate.{Certificate}
 use Rattle.sgt_audit.specs.declared.faults.Fault.{Fault}
 use Rattle.sgt_audit.specs.declared.kept.Kept.{Kept}
 use Rattle.sgt_audit.specs.declared.machine.Progress.{Progress}
 use Rattle.sgt_audit.specs.declared.machine.Progress.TheVariants as at
-use Rattle.sgt_audit.specs.Faults.{Stage, start, headed, complete, lines_so_far, Piece, whole, last, Rule, Breaks}
+use Rattle.sgt_audit.specs.Faults.{Stage, start, headed, lines_so_far, Piece, whole, last, Rule, Breaks}
 use Rattle.sgt_audit.specs.Kept.{Means, IsStageOf}
 
 -- what is kept means this stage
@@ -26,16 +24,6 @@ Begins l (Err f) = Breaks (Rule headed (whole l)) f
 abbrev pub Follows : Stage → List ℕ → Progress → Option Fault → Type 0
 Follows s l new None = (t : Stage) × Stands new t × (lines_so_far t ≡ lines_so_far s ++ l ∷ [])
 Follows s l new (Some f) = Breaks (Rule s (whole l)) f
-
--- at the end of the input, with these bytes behind the last LF: all was read, or the least fault
-abbrev pub EndsWith : Stage → List ℕ → Option Fault → Type 0
-EndsWith s l None = ((c : Certificate) × (before : List SectionLine) × (s ≡ complete c before)) × (l ≡ [])
-EndsWith s l (Some f) = Breaks (Rule s (last l)) f
-
--- how long the next line may be
-abbrev pub limit_of : Stage → ℕ
-limit_of headed = 2 ^ 64 - 1
-limit_of _ = MAX_LINE
 
 -- the bytes of a piece, without an LF
 abbrev pub bytes_of : Piece → List ℕ

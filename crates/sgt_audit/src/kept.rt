@@ -1,6 +1,6 @@
 //! A certificate, and lines of sections behind it, none of which has a fault.
 
-ghost use Rattle.std.specs.Prelude.{◌≡◌, ◌↔◌, [], List, IsTrue, IfOk, OnErr};
+ghost use Rattle.std.specs.Prelude.{◌≡◌, ◌≤◌, ◌↔◌, [], List, length, IsTrue, IfOk};
 ghost use Rattle.sgt_notation.specs.declared.SectionLine.{SectionLine};
 ghost use Rattle.sgt_cert.specs.Text.{AreSections};
 
@@ -20,7 +20,9 @@ pub struct Kept {
 }
 
 impl Kept {
-    ghost use Rattle.sgt_audit.specs.Kept.{AnswersLine, Means};
+    ghost use Rattle.sgt_audit.specs.Faults.{Stage};
+    ghost use Rattle.sgt_audit.specs.Kept.{AnswersLine, IsStageOf, Means};
+    ghost use Rattle.sgt_audit.specs.Ending.{EndsWith, limit_of};
     ghost use Rattle.sgt_audit.specs.Reading.{lines_read};
 
     /// Whether all sections were read.
@@ -51,5 +53,18 @@ impl Kept {
             return Ok(Some(Fault::WalkStep));
         }
         Ok(None)
+    }
+
+    /// At the end of the input, with these bytes behind the last LF: what was read, if all is there, or the fault.
+    pub fn end(self, rest: &[u8]) -> Result<Kept, Fault>
+        ensures { (before : List SectionLine) (s : Stage) → Means self.certificate self.sections before → IsStageOf self.certificate before s → length rest.now ≤ limit_of s → EndsWith s rest.now result }
+    {
+        if !self.is_complete() {
+            return Err(Fault::Truncated);
+        }
+        if !rest.is_empty() {
+            return Err(Fault::Trailing);
+        }
+        Ok(self)
     }
 }

@@ -31,7 +31,8 @@ pub struct Machine {
 
 impl Machine {
     ghost use Rattle.sgt_audit.specs.Faults.{Stage, Piece, start, headed, Rule, Breaks};
-    ghost use Rattle.sgt_audit.specs.Progress.{Begins, Stands, Follows, EndsWith, limit_of, bytes_of};
+    ghost use Rattle.sgt_audit.specs.Ending.{EndsWith, limit_of};
+    ghost use Rattle.sgt_audit.specs.Progress.{Begins, Stands, Follows, bytes_of};
 
     /// Before the first line.
     pub fn new(alloc: Global) -> Machine
@@ -121,21 +122,15 @@ impl Machine {
         }
     }
 
-    /// The fault at the end of the input, with these bytes behind the last LF.
-    pub fn end(&self, rest: &[u8]) -> Option<Fault>
-        ensures { (s : Stage) → Stands self.now.progress s → length rest.now ≤ limit_of s → EndsWith s rest.now result }
+    /// What was read, if all is there at the end of the input; or the fault, with these bytes behind the last LF.
+    pub fn end(self, rest: &[u8]) -> Result<Kept, Fault>
+        ensures { (s : Stage) → Stands self.progress s → length rest.now ≤ limit_of s → EndsWith s rest.now result }
     {
-        match &self.progress {
-            Progress::Start | Progress::Headed => Some(Fault::Truncated),
-            Progress::Reading(kept) => {
-                if !kept.is_complete() {
-                    Some(Fault::Truncated)
-                } else if rest.is_empty() {
-                    None
-                } else {
-                    Some(Fault::Trailing)
-                }
-            }
+        let Machine { progress, .. } = self;
+        match progress {
+            Progress::Start => Err(Fault::Truncated),
+            Progress::Headed => Err(Fault::Truncated),
+            Progress::Reading(kept) => kept.end(rest),
         }
     }
 }
