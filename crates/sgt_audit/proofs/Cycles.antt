@@ -7,7 +7,7 @@ use Rattle.sgt_names.proofs.Places.{All-from_at, All_at, AllPairs-from_at, AllPa
 use Rattle.sgt_cert.specs.Certificate.{IsCommitted, IsCycle, stops}
 use Rattle.sgt_cert.specs.declared.certificate.Step.{Step}
 use Rattle.sgt_cert.specs.declared.certificate.Decision.{Decision}
-use Rattle.sgt_audit.proofs.Tests.{mapped_at}
+use Rattle.sgt_audit.proofs.Slices.{mapped_at}
 
 pub push-one : {A : Type 0} (xs ys : List A) (x y : A) → xs ++ x ∷ [] ≡ ys ++ y ∷ [] → (xs ≡ ys) × (x ≡ y)
 push-one [] [] x y e = (refl, cc)

@@ -12,7 +12,7 @@ use Rattle.sgt_names.specs.Entry.{written}
 use Rattle.sgt_names.specs.Log.{value_in, value_at}
 use Rattle.sgt_names.specs.declared.entry.Entry.{Entry}
 use Rattle.sgt_names.specs.declared.entry.Holding.{Holding}
-use Rattle.sgt_audit.proofs.Tests.{drop_here, take_here}
+use Rattle.sgt_audit.proofs.Slices.{drop_here, take_here}
 
 -- a test that answers whether two names are one
 pub tested-eq : (x y : Name) (r : Bool) → (IsTrue r ↔ (x ≡ y)) → bytes_eq x y ≡ r

@@ -13,7 +13,7 @@ use Rattle.sgt_names.specs.declared.entry.Kind.{Kind}
 use Rattle.sgt_cert.specs.Valid.{IsLogged, AreLogged}
 use Rattle.sgt_cert.specs.declared.bundle.SiteLog.{SiteLog}
 use Rattle.sgt_cert.specs.declared.certificate.Step.{Step}
-use Rattle.sgt_audit.proofs.Tests.{Any_at, Any-from_at, drop_here}
+use Rattle.sgt_audit.proofs.Slices.{Any_at, Any-from_at, drop_here}
 
 -- the entry is of b, and one of these of a clashes with it
 abbrev pub Meets : List Entry → Kind → Name → (a b : ℕ) → Entry → Type 0

@@ -22,7 +22,7 @@ fn find_lf(bytes: &[u8]) -> Option<usize>
 }
 
 /// The first line, without its LF, and the bytes behind it.
-fn split_line(bytes: &[u8]) -> Option<(&[u8], &[u8])>
+pub fn split_line(bytes: &[u8]) -> Option<(&[u8], &[u8])>
     ensures some { IfSome result (λ r. HasNoLf r.0.now × (bytes.now ≡ r.0.now ++ 10 ∷ r.1.now)) }
     ensures none { IfNone result (HasNoLf bytes.now) }
 {

@@ -1,6 +1,6 @@
 use Rattle.std.proofs.Common.{ap, arith, length}
 use Rattle.sgt_audit.proofs.SpelledLines.{ended-all, cut-none, next-line, next-begins, ahead-next}
-use Rattle.sgt_audit.proofs.Tests.{refuted, not-empty}
+use Rattle.sgt_audit.proofs.Slices.{refuted, not-empty}
 use Rattle.sgt_audit.proofs.bundles.read_sections.Goals as goal
 use Rattle.sgt_audit.proofs.bundles.read_sections.Goals.{then-not-is_empty-via-then-not-is_empty, then-not-is_empty-via-else-not-is_empty+then-not-are_all}
 

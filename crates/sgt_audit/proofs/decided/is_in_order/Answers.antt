@@ -3,7 +3,7 @@ use Rattle.sgt_names.specs.Name.{Name}
 use Rattle.sgt_names.specs.Entry.{Repeats}
 use Rattle.sgt_names.specs.declared.entry.Entry.{Entry}
 use Rattle.sgt_cert.specs.Valid.{EndInOrder, RiseInRank}
-use Rattle.sgt_audit.proofs.Tests.{all-next, all-left, all-through, refuted}
+use Rattle.sgt_audit.proofs.Slices.{all-next, all-left, all-through, refuted}
 use Rattle.sgt_audit.proofs.decided.is_in_order.Goals as goal
 
 pub returns-then-not-ends_in_order : goal.returns-then-not-ends_in_order

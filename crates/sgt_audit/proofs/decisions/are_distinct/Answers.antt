@@ -1,6 +1,6 @@
 use Rattle.std.proofs.Common.{◌≡◌, ◌≢◌, ap, refl}
 use Rattle.sgt_cert.specs.declared.certificate.Step.{Step}
-use Rattle.sgt_audit.proofs.Tests.{here, pairs-next, pairs-left, pairs-through, refuted, any-not, not-any}
+use Rattle.sgt_audit.proofs.Slices.{here, pairs-next, pairs-left, pairs-through, refuted, any-not, not-any}
 use Rattle.sgt_audit.proofs.decisions.are_distinct.Goals as goal
 
 pub returns-then-leads_to : goal.returns-then-leads_to

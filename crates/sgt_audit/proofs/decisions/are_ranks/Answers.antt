@@ -1,6 +1,6 @@
 use Rattle.std.proofs.Common.{◌≢◌, ◌<◌, ℕ, length, refl}
 use Rattle.std.proofs.lemmas.Option.{slice_get-get_or}
-use Rattle.sgt_audit.proofs.Tests.{all-next-at, all-through, pairs-next, pairs-through, refuted, not-contained}
+use Rattle.sgt_audit.proofs.Slices.{all-next-at, all-through, pairs-next, pairs-through, refuted, not-contained}
 use Rattle.sgt_audit.proofs.decisions.are_ranks.Goals as goal
 
 pub loop-n-preserved : goal.loop-n-preserved

@@ -2,7 +2,7 @@ use Rattle.std.proofs.Common.{refl, arith}
 use Rattle.std.proofs.lemmas.Bool.{false≢true}
 use Rattle.std.proofs.lemmas.List.{nil_from_length}
 use Rattle.sgt_audit.proofs.Cycles.{is-cycle, cycle-closed, cycle-long, cycle-apart, cycle-through, no-walk}
-use Rattle.sgt_audit.proofs.Tests.{ne-false, ne-true, not-empty, empty, refuted}
+use Rattle.sgt_audit.proofs.Slices.{ne-false, ne-true, not-empty, empty, refuted}
 use Rattle.sgt_audit.proofs.decisions.is_cycle.Goals as goal
 use Rattle.sgt_audit.proofs.decisions.is_cycle.Goals.{then-ne-via-then-ne, then-ne-via-else-ne+then-is_empty, then-ne-via-else-ne+else-is_empty+then-not-are_distinct}
 

@@ -2,7 +2,7 @@ use Rattle.std.proofs.Common.{◌≢◌, ◌<◌, ℕ, sym, ◌∙◌, eq-eqb}
 use Rattle.std.proofs.lemmas.Bool.{true≢false}
 use Rattle.sgt_cert.specs.Certificate.{IsCommitted}
 use Rattle.sgt_cert.specs.declared.certificate.Step.{Step}
-use Rattle.sgt_audit.proofs.Tests.{here, all-next-at, all-through}
+use Rattle.sgt_audit.proofs.Slices.{here, all-next-at, all-through}
 use Rattle.sgt_audit.proofs.decisions.lead_to_committed.Goals as goal
 
 pub loop-step-preserved : goal.loop-step-preserved

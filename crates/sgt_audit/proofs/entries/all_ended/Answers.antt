@@ -2,7 +2,7 @@ use Rattle.std.proofs.Common.{rules, tests, Any, ◌≡◌}
 use Rattle.std.proofs.lemmas.Iterator.{cases_from_all, YieldsList-from_slice}
 use Rattle.sgt_names.specs.Entry.{tx_of, IsEnd}
 use Rattle.sgt_names.specs.declared.entry.Entry.{Entry}
-use Rattle.sgt_audit.proofs.Tests.{all-decides}
+use Rattle.sgt_audit.proofs.Slices.{all-decides}
 use Rattle.sgt_audit.proofs.entries.all_ended.Goals as goal
 
 pub returns : goal.returns

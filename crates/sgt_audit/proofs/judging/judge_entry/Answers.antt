@@ -1,5 +1,5 @@
 use Rattle.sgt_audit.proofs.Least.{twice-broken, value-broken, rank-broken, block-broken, end-broken, order-broken, entry-kept}
-use Rattle.sgt_audit.proofs.Tests.{refuted}
+use Rattle.sgt_audit.proofs.Slices.{refuted}
 use Rattle.sgt_audit.proofs.judging.judge_entry.Goals as goal
 
 pub returns-then-not-is_first : goal.returns-then-not-is_first

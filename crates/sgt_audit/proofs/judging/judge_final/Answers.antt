@@ -1,5 +1,5 @@
 use Rattle.sgt_audit.proofs.Least.{final-ended, final-value, final-kept}
-use Rattle.sgt_audit.proofs.Tests.{refuted}
+use Rattle.sgt_audit.proofs.Slices.{refuted}
 use Rattle.sgt_audit.proofs.judging.judge_final.Goals as goal
 
 pub returns-then-not-all_ended : goal.returns-then-not-all_ended

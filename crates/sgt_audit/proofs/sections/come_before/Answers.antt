@@ -2,7 +2,7 @@ use Rattle.std.proofs.Common.{rules, tests, ◌≡◌}
 use Rattle.std.proofs.lemmas.Iterator.{cases_from_all, YieldsList-from_slice}
 use Rattle.sgt_names.specs.declared.entry.Holding.{Holding}
 use Rattle.sgt_cert.specs.Parts.{ComesBefore}
-use Rattle.sgt_audit.proofs.Tests.{all-decides, all-mapped}
+use Rattle.sgt_audit.proofs.Slices.{all-decides, all-mapped}
 use Rattle.sgt_audit.proofs.sections.come_before.Goals as goal
 
 pub returns : goal.returns

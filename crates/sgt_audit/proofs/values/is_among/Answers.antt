@@ -1,7 +1,7 @@
 use Rattle.std.proofs.Common.{rules, tests, ◌≡◌}
 use Rattle.std.proofs.lemmas.Iterator.{cases_from_any, YieldsList-from_slice}
 use Rattle.sgt_names.specs.declared.entry.Holding.{Holding}
-use Rattle.sgt_audit.proofs.Tests.{any-decides, Any-Contains}
+use Rattle.sgt_audit.proofs.Slices.{any-decides, Any-Contains}
 use Rattle.sgt_audit.proofs.values.is_among.Goals as goal
 
 pub returns : goal.returns

@@ -4,7 +4,7 @@ use Rattle.sgt_notation.specs.declared.SectionLine.{SectionLine}
 use Rattle.sgt_audit.specs.declared.faults.Fault.TheVariants as fault
 use Rattle.sgt_audit.specs.Kept.{Means}
 use Rattle.sgt_audit.proofs.NextLine.{line-breaks, walks-broken, added-open, added-last, walks-at}
-use Rattle.sgt_audit.proofs.Tests.{refuted}
+use Rattle.sgt_audit.proofs.Slices.{refuted}
 use Rattle.sgt_audit.proofs.kept.Kept.next.Goals as goal
 use Rattle.sgt_audit.proofs.kept.Kept.next.Goals.{else-are_all-2-via-then-are_all-2+else-not-have_logged_walks, else-are_all-2-via-else-are_all-2}
 

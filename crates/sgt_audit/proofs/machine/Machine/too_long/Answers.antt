@@ -1,7 +1,7 @@
 use Rattle.std.proofs.Common.{sym, subst}
 use Rattle.sgt_audit.specs.Progress.{Stands}
 use Rattle.sgt_audit.proofs.Stages.{long-breaks, long-trails}
-use Rattle.sgt_audit.proofs.Tests.{refuted}
+use Rattle.sgt_audit.proofs.Slices.{refuted}
 use Rattle.sgt_audit.proofs.machine.Machine.too_long.Goals as goal
 
 pub returns-then-is_complete : goal.returns-then-is_complete
