@@ -2,6 +2,10 @@
 #![tactic(auto)]
 
 mod choice;
+#[cfg(test)]
+mod examples;
+#[cfg(test)]
+mod tests;
 
 use choice::{Choice, NoChoice, choose};
 use std::env;
