@@ -59,7 +59,7 @@ impl Source for MemSource<'_> {
         // and, of this source, exactly when it fails and what it gives
         ensures must_fail { IsErr result ↔ MustFail self.old }
         ensures ok { IfOk result (Supplies self.old self.new buffer.old buffer.new) }
-        ensures err { OnErr result (self.new ≡ record self.old { failures = self.old.failures + 1 }) }
+        ensures err { OnErr result ((self.new ≡ record self.old { failures = self.old.failures + 1 }) × (buffer.new ≡ buffer.old)) }
     {
         if let Some(good) = self.good {
             if good == 0 && self.failed < u64::MAX {
@@ -131,6 +131,7 @@ impl Sink for MemSink {
         ensures is_full { IsErr result ↔ IsFull self.old bytes.now }
         ensures ok { self.old.failures < 2 ^ 64 - 1 → IfOk result (λ n. (n ≡ min (length bytes.now) self.old.room)
             × (self.new ≡ record self.old { bytes = self.old.bytes ++ take n bytes.now; room = self.old.room - n })) }
+        ensures spent { self.old.failures ≡ 2 ^ 64 - 1 → self.old.room ≡ 0 → IfOk result (λ n. (n ≡ length bytes.now) × (self.new ≡ self.old)) }
         ensures err { OnErr result (self.new ≡ record self.old { failures = self.old.failures + 1 }) }
     {
         let n = bytes.len().min(self.room);
