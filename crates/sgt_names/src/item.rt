@@ -12,6 +12,7 @@ ghost use Rattle.std.specs.Cmp.Lexicographic.{slice_cmp, nat_list_eq_equiv, nat_
 ghost use Rattle.sgt_names.specs.Name.{is_name_byte, is_small_letter, is_name};
 
 use std::cmp::Ordering;
+use std::fmt::{self, Debug, Display, Formatter, Write};
 use std::hash::{Hash, Hasher};
 use std::marker::Model;
 use thiserror::Error;
@@ -23,7 +24,7 @@ pub struct BadName;
 
 /// The name of an item: a small letter, then up to fifteen small letters, digits and underscores.
 /// Contracts see it as its bytes.
-#[derive(Clone, Copy, Debug)]
+#[derive(Clone, Copy)]
 pub struct Item {
     // the name, and zeros up to 16
     bytes: [u8; 16],
@@ -137,6 +138,22 @@ impl Hash for Item {
 
     fn hash<H: Hasher>(&self, state: &mut H) {
         self.as_bytes().hash(state);
+    }
+}
+
+/// The name itself.
+impl Display for Item {
+    fn fmt<W: Write>(&self, f: &mut Formatter<W>) -> fmt::Result {
+        for byte in self.as_bytes() {
+            f.write_char(char::from(*byte))?;
+        }
+        Ok(())
+    }
+}
+
+impl Debug for Item {
+    fn fmt<W: Write>(&self, f: &mut Formatter<W>) -> fmt::Result {
+        Display::fmt(self, f)
     }
 }
 

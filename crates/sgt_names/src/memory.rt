@@ -32,7 +32,7 @@ impl<'a> Model for MemSource<'a> {
 
 impl<'a> MemSource<'a> {
     /// These bytes, up to `per_read` of them at a read. The read of number `fail_at`, counted from 1, and every later
-    /// one fails; 0 counts as 1.
+    /// one fails (2^64 - 1 of them); 0 counts as 1.
     pub fn new(bytes: &'a [u8], per_read: usize, fail_at: Option<u64>) -> MemSource<'a>
         requires { 0 < per_read }
         ensures { result ≡ record { rest = bytes.entry.now; per_read = per_read; good = option_map (λ at. at - 1) fail_at; failures = 0 } }
