@@ -57,30 +57,12 @@ fn find_entry(line: &[u8]) -> Option<Entry>
 {
     let (letter, rest) = line.split_first()?;
     match *letter {
-        b'r' => {
-            let (tx, item, value) = find_operation(rest)?;
-            Some(Entry::Read { tx, item, value })
-        }
-        b'w' => {
-            let (tx, item, value) = find_operation(rest)?;
-            Some(Entry::Write { tx, item, value })
-        }
-        b'p' => {
-            let (tx, item, value) = find_operation(rest)?;
-            Some(Entry::Want { tx, item, value })
-        }
-        b'c' => {
-            let tx = find_tx(rest)?;
-            Some(Entry::Commit { tx })
-        }
-        b'n' => {
-            let tx = find_tx(rest)?;
-            Some(Entry::Refuse { tx })
-        }
-        b'a' => {
-            let tx = find_tx(rest)?;
-            Some(Entry::Withdraw { tx })
-        }
+        b'r' => find_operation(rest).map(|(tx, item, value)| Entry::Read { tx, item, value }),
+        b'w' => find_operation(rest).map(|(tx, item, value)| Entry::Write { tx, item, value }),
+        b'p' => find_operation(rest).map(|(tx, item, value)| Entry::Want { tx, item, value }),
+        b'c' => find_tx(rest).map(|tx| Entry::Commit { tx }),
+        b'n' => find_tx(rest).map(|tx| Entry::Refuse { tx }),
+        b'a' => find_tx(rest).map(|tx| Entry::Withdraw { tx }),
         _ => None,
     }
 }
@@ -93,16 +75,13 @@ fn find_line(line: &[u8]) -> Option<SectionLine>
         return Some(SectionLine::Logged(entry));
     }
     if let Some(number) = behind(line, b"site ") {
-        let site = find_site(number)?;
-        return Some(SectionLine::Site(site));
+        return find_site(number).map(SectionLine::Site);
     }
     if let Some(text) = behind(line, b"item ") {
-        let holding = find_holding(text)?;
-        return Some(SectionLine::Initial(holding));
+        return find_holding(text).map(SectionLine::Initial);
     }
     if let Some(text) = behind(line, b"final ") {
-        let holding = find_holding(text)?;
-        return Some(SectionLine::Final(holding));
+        return find_holding(text).map(SectionLine::Final);
     }
     if line == b"end".as_slice() {
         Some(SectionLine::End)
