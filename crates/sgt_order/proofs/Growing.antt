@@ -10,7 +10,7 @@ use Rattle.sgt_arena.specs.declared.handle.Handle.{Handle}
 use Rattle.sgt_arena.specs.Arena.{Arena, get, with_value}
 use Rattle.sgt_edges.specs.declared.edge.Edge.{Edge}
 use Rattle.sgt_order.specs.declared.node.Node.{Node}
-use Rattle.sgt_order.specs.Net.{leaves}
+use Rattle.sgt_order.specs.SerializationGraph.{leaves}
 use Rattle.sgt_order.specs.Search.{ListsEdges, Lists, HaveSpace, SameNodes, Widened, numbers}
 use Rattle.sgt_order.proofs.Handles.{same_handle, handle_leaves}
 use Rattle.sgt_order.proofs.Lists.{get_set_same, get_set_other, set_same, filter_room, take_front}
@@ -156,6 +156,12 @@ space_next a b edges added n e at before after wider space h node got =
       | inl hit ↦ rw hit (omega (arith, room, listed, had, both, was.2, filter_room (leaves h) added n e at hit))
       | inr miss ↦ rw miss (omega (arith, (after h node got).fits))
     ]
+
+-- no less room in all, and as many edges in each list
+pub space_kept : (a b : Arena Node) (edges added : List Edge) → Lists a edges → Lists b edges → Widened a b → HaveSpace a added → HaveSpace b added
+space_kept a b edges added before after wider space h node got =
+    let was = wider.wider h node got in
+    omega (arith, space h was.0 was.1, ap length ((after h node got).is ∙ sym (before h was.0 was.1).is), was.2)
 
 -- what was listed once has space
 pub space_back : (a b : Arena Node) (edges added : List Edge) → Lists a (edges ++ added) → Lists b edges → Widened a b → HaveSpace b added

@@ -7,7 +7,7 @@ use Rattle.sgt_names.proofs.Places.{Contains-from_at, Contains_at, All-from_at, 
 use Rattle.sgt_arena.specs.declared.handle.Handle.{Handle}
 use Rattle.sgt_edges.specs.declared.edge.Edge.{Edge}
 use Rattle.sgt_order.specs.Graph.{Leads, Reaches, TellsReached}
-use Rattle.sgt_order.specs.Net.{Joins, IsOffered, IsCycle}
+use Rattle.sgt_order.specs.SerializationGraph.{Joins, IsOffered, IsCycle}
 use Rattle.sgt_order.specs.Search.{IsForward, Has, IsMarked, is_marked, Marked, IsFrom, Spread, IsTraced, Searched, IsOpen, Circles, AreMarks, Closes}
 use Rattle.sgt_order.proofs.Handles.{same_handle}
 use Rattle.sgt_order.proofs.Marking.{marked_from_test, marked_test}

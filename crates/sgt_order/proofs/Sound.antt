@@ -10,7 +10,7 @@ use Rattle.sgt_arena.specs.Arena.{Arena, get}
 use Rattle.sgt_edges.specs.declared.edge.Edge.{Edge}
 use Rattle.sgt_order.specs.declared.node.Node.{Node}
 use Rattle.sgt_order.specs.Graph.{placed, IsPlaced}
-use Rattle.sgt_order.specs.Net.{Net, HasNode, Joins, IsOrdered, StandsBefore, leaves}
+use Rattle.sgt_order.specs.SerializationGraph.{SerializationGraph, HasNode, Joins, IsOrdered, StandsBefore, leaves}
 use Rattle.sgt_order.specs.Search.{IsForward, Lists, HaveSpace, SameNodes, Widened, IsSound, Searched, IsOpen, is_marked, transactions_of, rooms_of}
 use Rattle.sgt_order.proofs.Lists.{get_push_early, get_push_cases}
 use Rattle.sgt_order.proofs.Nodes.{got_window, got_at, placed_within}
@@ -135,15 +135,15 @@ space_placed a b node added window items bare within space h found got =
     ]
 
 -- what is true of every graph
-pub is_ordered : (a : Arena Node) (net : Net) (marks : List (Option Edge)) → net.generation ≡ a.generation → net.transactions ≡ transactions_of a → IsSound a net.order net.edges marks → IsOrdered net
-is_ordered a net marks window nodes s = record {
-  members = All-from_at (HasNode net) net.order (λ p h at.
+pub is_ordered : (a : Arena Node) (graph : SerializationGraph) (marks : List (Option Edge)) → graph.generation ≡ a.generation → graph.transactions ≡ transactions_of a → IsSound a graph.order graph.edges marks → IsOrdered graph
+is_ordered a graph marks window nodes s = record {
+  members = All-from_at (HasNode graph) graph.order (λ p h at.
       let t : Node → ℕ = λ node. node.tx in
-      let within = placed_within a net.order net.edges p h s.holds at in
+      let within = placed_within a graph.order graph.edges p h s.holds at in
       (s.forward.window p h at ∙ sym window, omega (arith, within, ap length nodes, length-map a.items t)));
-  once = AllPairs-from_at (λ (x y : Handle). x ≢ y) net.order (λ p q x y lt at_x at_y same. omega (arith, lt, s.forward.once p q y (at_x ∙ ap Some same) at_y));
-  forward = All-from_at (λ (e : Edge). StandsBefore net.order e.from e.to) net.edges s.forward.forward;
-  acyclic = forward_acyclic a.generation net.order net.edges s.forward;
+  once = AllPairs-from_at (λ (x y : Handle). x ≢ y) graph.order (λ p q x y lt at_x at_y same. omega (arith, lt, s.forward.once p q y (at_x ∙ ap Some same) at_y));
+  forward = All-from_at (λ (e : Edge). StandsBefore graph.order e.from e.to) graph.edges s.forward.forward;
+  acyclic = forward_acyclic a.generation graph.order graph.edges s.forward;
 }
 
 -- the same nodes, whatever the room for more

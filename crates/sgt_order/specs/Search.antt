@@ -5,7 +5,7 @@ use Rattle.sgt_arena.specs.declared.handle.Handle.{Handle}
 use Rattle.sgt_arena.specs.Arena.{Arena, get}
 use Rattle.sgt_edges.specs.declared.edge.Edge.{Edge}
 use Rattle.sgt_order.specs.declared.node.Node.{Node}
-use Rattle.sgt_order.specs.Net.{IsOffered, Links, StandsBefore, leaves}
+use Rattle.sgt_order.specs.SerializationGraph.{IsOffered, Links, StandsBefore, leaves}
 
 -- the members of the order are of this window, no two are the same, and each edge leads from an earlier to a later one
 pub record IsForward (generation : ℕ) (order : List Handle) (edges : List Edge) : Type 0 where

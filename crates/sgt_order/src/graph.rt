@@ -4,7 +4,7 @@ ghost use Rattle.std.specs.Prelude.{◌≡◌, ◌<◌, ◌≤◌, ◌∷◌, []
 ghost use Rattle.sgt_arena.specs.Arena.{max_places};
 ghost use Rattle.sgt_edges.specs.declared.edge.Edge.{Edge as Member};
 ghost use Rattle.sgt_order.specs.Graph.{IsAcyclic, IsPlaced};
-ghost use Rattle.sgt_order.specs.Net.{HasNode, HasRoomFor, SameGraph, Joins, IsOrdered, IsOffered, Refuses, NodeLacks, StandsBefore};
+ghost use Rattle.sgt_order.specs.SerializationGraph.{HasNode, HasRoomFor, SameGraph, Joins, IsOrdered, IsOffered, Refuses, NodeLacks, StandsBefore, transaction_of};
 
 use crate::fault::{Admit, Fault};
 use crate::growth::{extend, make_room_for};
@@ -17,7 +17,8 @@ use smallvec::SmallVec;
 use std::alloc::{AllocError, Global};
 use std::marker::Model;
 
-/// The transactions of a window, the edges between them, and an order of the admitted ones in which each edge leads forward.
+/// The transactions of a window, the edges between them, and an order of the admitted ones along which each edge leads
+/// forward.
 #[derive(Drop)]
 pub struct Graph {
     nodes: Arena<Node>,
@@ -31,9 +32,9 @@ pub struct Graph {
 
 impl Model for Graph {
     ghost use Rattle.std.specs.Prelude.{map, ◌-◌, vec_len, vec_capacity};
-    ghost use Rattle.sgt_order.specs.Net.{Net};
+    ghost use Rattle.sgt_order.specs.SerializationGraph.{SerializationGraph};
 
-    ghost Value = { Net };
+    ghost Value = { SerializationGraph };
 
     ghost use Rattle.sgt_order.specs.Search.{IsSound, transactions_of, rooms_of};
 
@@ -100,6 +101,16 @@ impl Graph {
         }
     }
 
+    /// The transaction of a node, where the handle is one of the present window.
+    pub fn transaction(&self, node: Handle) -> Option<Tx>
+        ensures { result ≡ transaction_of self.now node }
+    {
+        match self.nodes.get(node) {
+            Some(node) => Some(node.tx),
+            None => None,
+        }
+    }
+
     /// The admitted nodes, in their order.
     pub fn order(&self) -> &[Handle]
         ensures is { result.now ≡ self.now.order }
@@ -115,11 +126,15 @@ impl Graph {
         stands_before(self.order.as_slice(), first, second)
     }
 
-    /// Makes room, so that a node can be admitted with these edges without taking memory.
+    /// Makes room, so that a node can be admitted with these edges without taking memory. The room lasts until the next
+    /// `admit`.
     pub fn reserve_for(&mut self, offered: &EdgeList) -> Result<(), AllocError>
         ensures same { SameGraph self.old self.new }
         ensures ok { OnOk result (HasRoomFor self.new offered.now) }
         ensures err { OnErr result (HasRoomFor self.old offered.now → ⊥) }
+
+        // room that was made for other edges stays
+        ensures room { (other : List Member) → HasRoomFor self.old other → HasRoomFor self.new other }
     {
         make_room_for(
             &mut self.nodes,

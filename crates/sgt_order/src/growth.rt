@@ -100,6 +100,7 @@ fn make_room(
 ) -> Result<(), AllocError>
     requires { members + 1 < 2 ^ 64 }
     ensures edges { edges.new.items ≡ edges.old.items }
+    ensures kept { (vec_capacity next.old ≤ vec_capacity next.new) × (vec_capacity edges.old ≤ vec_capacity edges.new) }
     ensures ok { OnOk result ((members < vec_capacity next.new) × (vec_len edges.new + more ≤ vec_capacity edges.new)) }
     ensures refuses { OnErr result (members < vec_capacity next.old → vec_len edges.old + more ≤ vec_capacity edges.old → ⊥) }
 {
@@ -121,6 +122,7 @@ pub(crate) fn make_room_for(
     ensures widened { Widened nodes.old nodes.new }
     ensures lists { Lists nodes.new edges.new.items }
     ensures edges { edges.new.items ≡ edges.old.items }
+    ensures kept { (vec_capacity next.old ≤ vec_capacity next.new) × (vec_capacity edges.old ≤ vec_capacity edges.new) }
     ensures ok { OnOk result ((members < vec_capacity next.new) × (vec_len edges.new + length offered.now ≤ vec_capacity edges.new) × HaveSpace nodes.new offered.now) }
     ensures refuses { OnErr result (members < vec_capacity next.old → vec_len edges.old + length offered.now ≤ vec_capacity edges.old → HaveSpace nodes.old offered.now → ⊥) }
 {

@@ -4,9 +4,11 @@
 mod fault;
 mod graph;
 mod growth;
+mod laws;
 mod node;
 mod placing;
 mod search;
 
 pub use fault::{Admit, Fault};
 pub use graph::Graph;
+pub use laws::order_stays_topological;

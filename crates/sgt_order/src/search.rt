@@ -4,7 +4,7 @@ ghost use Rattle.std.specs.Prelude.{◌≡◌, ◌↔◌, true, ℕ, ◌<◌, �
 ghost use Rattle.sgt_arena.specs.declared.handle.Handle.{Handle as Place};
 ghost use Rattle.sgt_edges.specs.declared.edge.Edge.{Edge as Member};
 ghost use Rattle.sgt_order.specs.Graph.{Reaches};
-ghost use Rattle.sgt_order.specs.Net.{Joins, IsOffered, IsCycle, StandsBefore};
+ghost use Rattle.sgt_order.specs.SerializationGraph.{Joins, IsOffered, IsCycle, StandsBefore};
 ghost use Rattle.sgt_order.specs.Search.{Marked, IsFrom, IsListed, AreTargets, Spread, IsForward, Holds, IsMarked, IsTraced, Circles, Closes, AreMarks, Has, Searched, IsOpen};
 
 use crate::node::Node;

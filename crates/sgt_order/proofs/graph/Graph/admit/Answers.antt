@@ -3,7 +3,7 @@ use Rattle.std.specs.Prelude.{slice_get}
 use Rattle.std.proofs.lemmas.List.{with_items_is}
 use Rattle.sgt_names.proofs.Places.{All_at}
 use Rattle.sgt_order.specs.Graph.{Reaches, IsAcyclic, placed}
-use Rattle.sgt_order.specs.Net.{IsOffered, HasRoomFor, HasNode, Joins}
+use Rattle.sgt_order.specs.SerializationGraph.{IsOffered, HasRoomFor, HasNode, Joins}
 use Rattle.sgt_order.specs.Search.{HaveSpace, IsMarked, is_marked}
 use Rattle.sgt_order.proofs.Forward.{forward_acyclic}
 use Rattle.sgt_order.proofs.Sound.{space_from_seen, node_from_seen, on_none, placed_seen}

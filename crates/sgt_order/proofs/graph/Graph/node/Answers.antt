@@ -2,7 +2,7 @@ use Rattle.std.proofs.Common.{◌≡◌, sym, ap, ◌∙◌, ◌++◌, ◌∷◌
 use Rattle.std.specs.Prelude.{slice_get}
 use Rattle.sgt_names.proofs.Places.{All_at}
 use Rattle.sgt_edges.specs.declared.edge.Edge.{Edge}
-use Rattle.sgt_order.specs.Net.{HasRoomFor, HasNode}
+use Rattle.sgt_order.specs.SerializationGraph.{HasRoomFor, HasNode}
 use Rattle.sgt_order.specs.Search.{IsSound}
 use Rattle.sgt_order.proofs.Sound.{sound_placed, sound_same, space_placed, space_same, space_seen, space_from_seen}
 use Rattle.sgt_order.proofs.graph.Graph.node.Goals as goal

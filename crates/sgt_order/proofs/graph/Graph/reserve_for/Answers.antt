@@ -1,7 +1,7 @@
 use Rattle.std.proofs.Common.{sym, ap, subst, arith, length}
-use Rattle.sgt_order.specs.Net.{HasRoomFor}
+use Rattle.sgt_order.specs.SerializationGraph.{HasRoomFor}
 use Rattle.sgt_order.specs.Search.{HaveSpace, Lists, IsSound}
-use Rattle.sgt_order.proofs.Growing.{on_ok_map, on_err_map}
+use Rattle.sgt_order.proofs.Growing.{space_kept, on_ok_map, on_err_map}
 use Rattle.sgt_order.proofs.Sound.{sound_widened, space_seen, space_from_seen}
 use Rattle.sgt_order.proofs.graph.Graph.reserve_for.Goals as goal
 
@@ -28,3 +28,17 @@ returns-clause-err c =
     let space = space_from_seen c.self.inside.nodes c.self.inside.edges.items c.args.offered.now c.self.invariant.holds.lists (λ x w i. seen.nodes x (w, i)) in
     h (omega (arith, seen.order, c.len.ensures, c.self.inside.order.ok)) (omega (arith, seen.edges, ap length c.as_slice.ensures, c.self.inside.edges.ok))
     (subst (HaveSpace c.self.inside.nodes) (sym c.as_slice.ensures) space)) c.make_room_for.ensures.refuses
+
+pub returns-clause-room : goal.returns-clause-room
+returns-clause-room c other room =
+    let seen = subst (λ v. HasRoomFor v other) (sym c.self.view_is) room in
+    let before = c.self.inside.nodes in
+    let after = c.make_room_for.new.nodes in
+    let lists = subst (λ es. Lists after es) c.make_room_for.ensures.edges c.make_room_for.ensures.lists in
+    let space = space_from_seen before c.self.inside.edges.items other c.self.invariant.holds.lists (λ h w i. seen.nodes h (w, i)) in
+    let still = space_kept before after c.self.inside.edges.items other c.self.invariant.holds.lists lists c.make_room_for.ensures.widened space in
+    record {
+      order = omega (arith, seen.order, c.make_room_for.ensures.kept.0);
+      edges = omega (arith, seen.edges, c.make_room_for.ensures.kept.1, ap length c.make_room_for.ensures.edges, c.self.inside.edges.ok, c.make_room_for.new.edges.ok);
+      nodes = λ h has. space_seen after other h still has.0 has.1;
+    }
