@@ -2,5 +2,7 @@
 #![tactic(auto)]
 
 mod edge;
+#[cfg(test)]
+mod tests;
 
 pub use edge::{Edge, EdgeList};
