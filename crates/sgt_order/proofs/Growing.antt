@@ -38,7 +38,7 @@ pub some-get : {T : Type 0} (a : Arena T) (h : Handle) → IsSome (get a h) → 
 some-get a h is = is_some-some (get a h) is
 
 module _ (nodes : Arena Node) (f : Handle) (old new : Node) (had : get nodes f ≡ Some old) where
-  same_nodes : new.tx ≡ old.tx → SameNodes nodes (with_value nodes f new)
+  pub same_nodes : new.tx ≡ old.tx → SameNodes nodes (with_value nodes f new)
   same_nodes tx = record {
     generation = refl;
     transactions =
@@ -46,13 +46,13 @@ module _ (nodes : Arena Node) (f : Handle) (old new : Node) (had : get nodes f �
         map-set t nodes.items f.index new ∙ set_same (map t nodes.items) f.index new.tx (slice_get-map t nodes.items f.index ∙ (ap (option_map t) (got_at nodes f old had) ∙ ap Some (sym tx)));
   }
 
-  pub widened_at : new.tx ≡ old.tx → old.out.capacity ≤ new.out.capacity → Widened nodes (with_value nodes f new)
-  widened_at tx more = record {
+  pub widened_at : new.tx ≡ old.tx → new.admitted ≡ old.admitted → old.out.capacity ≤ new.out.capacity → Widened nodes (with_value nodes f new)
+  widened_at tx admitted more = record {
     same = same_nodes tx;
     wider = λ h node got.
         elim (got_with nodes f h new node old had got) [
-          | inl here ↦ (old, ap (get nodes) here.0 ∙ had, omega (arith, more, ap (λ (n : Node). n.out.capacity) here.1))
-          | inr there ↦ (node, there.1, omega arith)
+          | inl here ↦ (old, ap (get nodes) here.0 ∙ had, omega (arith, more, ap (λ (n : Node). n.out.capacity) here.1), ap (λ (n : Node). n.admitted) (sym here.1) ∙ admitted)
+          | inr there ↦ (node, there.1, omega arith, refl)
         ];
   }
 
@@ -122,11 +122,11 @@ same_some a b h x same got =
     let y = option_map-none t (slice_get b.items h.index) x.tx at in
     (y.0, got_from b h y.0 (got_window a h x got ∙ sym same.generation) y.1)
 
-same_on : (a b d : Arena Node) → SameNodes a b → SameNodes b d → SameNodes a d
+pub same_on : (a b d : Arena Node) → SameNodes a b → SameNodes b d → SameNodes a d
 same_on a b d first then = record { generation = then.generation ∙ first.generation; transactions = then.transactions ∙ first.transactions }
 
 pub widened_none : (a : Arena Node) → Widened a a
-widened_none a = record { same = record { generation = refl; transactions = refl }; wider = λ h node got. (node, got, omega arith) }
+widened_none a = record { same = record { generation = refl; transactions = refl }; wider = λ h node got. (node, got, omega arith, refl) }
 
 pub widened_on : (a b d : Arena Node) → Widened a b → Widened b d → Widened a d
 widened_on a b d first then = record {
@@ -134,7 +134,7 @@ widened_on a b d first then = record {
   wider = λ h node got.
       let one = then.wider h node got in
       let two = first.wider h one.0 one.1 in
-      (two.0, two.1, omega (arith, one.2, two.2));
+      (two.0, two.1, omega (arith, one.2, two.2), one.3 ∙ two.3);
 }
 
 -- where a list is full, there is no space for one more edge

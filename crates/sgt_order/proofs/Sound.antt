@@ -1,22 +1,23 @@
 -- What is always true of a graph's parts stays so.
-use Rattle.std.proofs.Common.{◌≡◌, ◌≢◌, ℕ, zero, suc, ◌+◌, ◌-◌, ◌<◌, ◌≤◌, List, [], ◌∷◌, ◌++◌, length, map, Option, Some, None, refl, sym, ap, ◌∙◌, subst, arith, inl, inr}
-use Rattle.std.specs.Prelude.{slice_get, slice_index, filter, IsSome, option_map, MatchOption}
+use Rattle.std.proofs.Common.{◌≡◌, ◌≢◌, ℕ, zero, suc, ◌+◌, ◌-◌, ◌<◌, ◌≤◌, List, [], ◌∷◌, ◌++◌, length, map, Option, Some, None, refl, sym, ap, ◌∙◌, subst, arith, inl, inr, Contains}
+use Rattle.std.specs.Prelude.{slice_get, slice_index, filter, IsSome, option_map, MatchOption, ◌↔◌, true, false}
+use Rattle.std.proofs.lemmas.Bool.{true≢false}
 use Rattle.std.proofs.lemmas.List.{length-map, length_push}
 use Rattle.std.proofs.lemmas.Option.{slice_get-map, slice_get_within, get_or_from_slice_get}
 use Rattle.smallvec.specs.SmallVec.{small_vec_len}
 use Rattle.sgt_names.proofs.Places.{Contains-from_at, Contains_at, All-from_at, AllPairs-from_at}
 use Rattle.sgt_arena.specs.declared.handle.Handle.{Handle}
-use Rattle.sgt_arena.specs.Arena.{Arena, get}
+use Rattle.sgt_arena.specs.Arena.{Arena, get, with_value}
 use Rattle.sgt_edges.specs.declared.edge.Edge.{Edge}
 use Rattle.sgt_order.specs.declared.node.Node.{Node}
 use Rattle.sgt_order.specs.Graph.{placed, IsPlaced}
 use Rattle.sgt_order.specs.SerializationGraph.{SerializationGraph, HasNode, Joins, IsOrdered, StandsBefore, leaves}
-use Rattle.sgt_order.specs.Search.{IsForward, Lists, HaveSpace, SameNodes, Widened, IsSound, Searched, IsOpen, is_marked, transactions_of, rooms_of}
+use Rattle.sgt_order.specs.Search.{IsForward, Lists, Tells, HaveSpace, SameNodes, Widened, IsSound, Searched, IsOpen, is_marked, transactions_of, rooms_of}
 use Rattle.sgt_order.proofs.Lists.{get_push_early, get_push_cases}
 use Rattle.sgt_order.proofs.Nodes.{got_window, got_at, placed_within}
 use Rattle.sgt_order.proofs.Numbers.{filter_none, numbers_none}
-use Rattle.sgt_order.proofs.Growing.{got_from, same_some, some-get}
-use Rattle.sgt_order.proofs.Forward.{forward_acyclic, placed_forward, new_is_old, is_placed}
+use Rattle.sgt_order.proofs.Growing.{got_from, got_with, same_some, some-get}
+use Rattle.sgt_order.proofs.Forward.{forward_acyclic, placed_forward, new_is_old, old_is_new, h_is_new, is_placed}
 
 same_long : (a b : Arena Node) → SameNodes a b → length b.items ≡ length a.items
 same_long a b same =
@@ -30,14 +31,16 @@ sound_widened a b order edges marks s wider lists = record {
     placed = λ p h at. let node = s.holds.placed p h at in same_some a b h node.0 wider.same node.1;
     lists = lists;
   };
+  tells = λ h node got. let was = wider.wider h node got in subst (λ t. (t ≡ true) ↔ Contains order h) (sym was.3) (s.tells h was.0 was.1);
   long = s.long ∙ sym (same_long a b wider.same);
 }
 
 pub sound_marks : (a : Arena Node) (order : List Handle) (edges : List Edge) (marks new : List (Option Edge)) → IsSound a order edges marks → length new ≡ length marks → IsSound a order edges new
-sound_marks a order edges marks new s same = record { forward = s.forward; holds = s.holds; long = same ∙ s.long }
+sound_marks a order edges marks new s same = record { forward = s.forward; holds = s.holds; tells = s.tells; long = same ∙ s.long }
 
-pub sound_extended : (a b : Arena Node) (order : List Handle) (edges given : List Edge) (h : Handle) (marks : List (Option Edge)) → IsSound a order edges marks → Searched a.generation order edges given h marks → IsOpen given h marks → IsSome (get a h) → SameNodes a b → Lists b (edges ++ given) → IsSound b (placed (is_marked marks) order h) (edges ++ given) marks
-sound_extended a b order edges given h marks s searched free node same lists = record {
+pub sound_extended : (a b : Arena Node) (order : List Handle) (edges given : List Edge) (h : Handle) (marks : List (Option Edge)) → IsSound a order edges marks → Searched a.generation order edges given h marks → IsOpen given h marks → IsSome (get a h) → SameNodes a b → Lists b (edges ++ given) → Tells b (placed (is_marked marks) order h) → IsSound b (placed (is_marked marks) order h) (edges ++ given) marks
+sound_extended a b order edges given h marks s searched free node same lists tells = record {
+  tells = tells;
   forward = subst (λ n. IsForward n (placed (is_marked marks) order h) (edges ++ given)) (sym same.generation) (placed_forward a.generation order edges given h marks searched free);
   holds = record {
     placed = λ p x at.
@@ -96,8 +99,8 @@ on_none None P Q is h = h
 on_none (Some x) P Q is h = absurd cc
 
 -- after one more node, which lists no edge
-pub sound_placed : (a b : Arena Node) (order : List Handle) (edges : List Edge) (marks : List (Option Edge)) (node : Node) → IsSound a order edges marks → b.generation ≡ a.generation → b.items ≡ a.items ++ node ∷ [] → node.out.items ≡ [] → IsSound b order edges (marks ++ None ∷ [])
-sound_placed a b order edges marks node s window items bare = record {
+pub sound_placed : (a b : Arena Node) (order : List Handle) (edges : List Edge) (marks : List (Option Edge)) (node : Node) → IsSound a order edges marks → b.generation ≡ a.generation → b.items ≡ a.items ++ node ∷ [] → node.out.items ≡ [] → node.admitted ≡ false → IsSound b order edges (marks ++ None ∷ [])
+sound_placed a b order edges marks node s window items bare out_of = record {
   forward = subst (λ n. IsForward n order edges) (sym window) s.forward;
   holds = record {
     placed = λ p h at.
@@ -118,6 +121,19 @@ sound_placed a b order edges marks node s window items bare = record {
               record { is = out ∙ sym none; fits = omega (arith, ap length out) }
         ];
   };
+  tells = λ h found got.
+      let at = subst (λ xs. slice_get xs h.index ≡ Some found) items (got_at b h found got) in
+      let generation = got_window b h found got ∙ window in
+      elim (get_push_cases a.items node found h.index at) [
+        | inl old ↦ s.tells h found (got_from a h found generation old)
+        | inr new ↦ (
+          λ yes_. absurd (true≢false (sym yes_ ∙ (ap (λ (n : Node). n.admitted) (sym new.1) ∙ out_of))),
+          λ member.
+              let there = Contains_at order h member in
+              let had = s.holds.placed there.0 h there.1 in
+              absurd (omega (arith, slice_get_within a.items h.index had.0 (got_at a h had.0 had.1), new.0)),
+        )
+      ];
   long = length_push marks None ∙ (ap (λ n. n + 1) s.long ∙ (sym (length_push a.items node) ∙ ap length (sym items)));
 }
 
@@ -157,8 +173,29 @@ sound_same a b order edges marks s items window =
         placed = λ p h at. let node = s.holds.placed p h at in (node.0, back h node.0 node.1);
         lists = λ h node got. s.holds.lists h node (move h node got);
       };
+      tells = λ h node got. s.tells h node (move h node got);
       long = s.long ∙ ap length (sym items);
     }
 
 pub space_same : (a b : Arena Node) (added : List Edge) → b.items ≡ a.items → b.generation ≡ a.generation → HaveSpace a added → HaveSpace b added
 space_same a b added items window space h node got = space h node (got_from a h node (got_window b h node got ∙ window) (subst (λ xs. slice_get xs h.index ≡ Some node) items (got_at b h node got)))
+
+-- the nodes once h is told that it is admitted
+pub tells_placed : (a b : Arena Node) (order : List Handle) (edges given : List Edge) (h : Handle) (marks : List (Option Edge)) (node : Node) → Tells a order → Searched a.generation order edges given h marks → IsOpen given h marks → Widened a b → get b h ≡ Some node → Tells (with_value b h (record node { admitted = true })) (placed (is_marked marks) order h)
+tells_placed a b order edges given h marks node tells searched free wider had x found got =
+    elim (got_with b h x (record node { admitted = true }) found node had got) [
+      | inl here ↦ (
+        λ told. subst (Contains (placed (is_marked marks) order h)) (sym here.0) (h_is_new a.generation order edges given h marks searched free),
+        λ member. ap (λ (n : Node). n.admitted) (sym here.1),
+      )
+      | inr there ↦
+          let was = wider.wider x found there.1 in
+          let told = tells x was.0 was.1 in (
+            λ yes_. old_is_new a.generation order edges given h marks searched free x (told.0 (sym was.3 ∙ yes_)),
+            λ member.
+                elim (new_is_old a.generation order edges given h marks searched free x member) [
+                  | inl one ↦ absurd (there.0 one)
+                  | inr old ↦ was.3 ∙ told.1 old
+                ],
+          )
+    ]

@@ -1,5 +1,5 @@
 -- What is always true of a graph's parts, the search for what a node reaches, and the growth of the parts.
-use Rattle.std.specs.Prelude.{◌≡◌, ◌⊎◌, ℕ, suc, ◌+◌, ◌-◌, ◌<◌, ◌≤◌, List, [], ◌∷◌, Option, Some, None, Bool, is_some, if◌then◌else◌, length, map, filter, slice_get, slice_index_or, Contains}
+use Rattle.std.specs.Prelude.{◌≡◌, ◌⊎◌, ◌↔◌, true, ℕ, suc, ◌+◌, ◌-◌, ◌<◌, ◌≤◌, List, [], ◌∷◌, Option, Some, None, Bool, is_some, if◌then◌else◌, length, map, filter, slice_get, slice_index_or, Contains}
 use Rattle.smallvec.specs.SmallVec.{SmallVec, small_vec_len}
 use Rattle.sgt_arena.specs.declared.handle.Handle.{Handle}
 use Rattle.sgt_arena.specs.Arena.{Arena, get}
@@ -32,10 +32,15 @@ pub record Holds (nodes : Arena Node) (order : List Handle) (edges : List Edge) 
   pub placed : (p : ℕ) (h : Handle) → slice_get order p ≡ Some h → (node : Node) × (get nodes h ≡ Some node)
   pub lists : Lists nodes edges
 
+-- each node tells whether it is a member of the order
+abbrev pub Tells : Arena Node → List Handle → Type 0
+Tells nodes order = (h : Handle) (node : Node) → get nodes h ≡ Some node → (node.admitted ≡ true) ↔ Contains order h
+
 -- what is always true of a graph's parts
 pub record IsSound (nodes : Arena Node) (order : List Handle) (edges : List Edge) (marks : List (Option Edge)) : Type 0 where
   pub forward : IsForward nodes.generation order edges
   pub holds : Holds nodes order edges
+  pub tells : Tells nodes order
   pub long : length marks ≡ length nodes.items
 
 -- the transaction of each node
@@ -125,10 +130,10 @@ pub record SameNodes (old new : Arena Node) : Type 0 where
   pub generation : new.generation ≡ old.generation
   pub transactions : transactions_of new ≡ transactions_of old
 
--- the same nodes, whose lists have no less room in all
+-- the same nodes, admitted or not as they were, whose lists have no less room in all
 pub record Widened (old new : Arena Node) : Type 0 where
   pub same : SameNodes old new
-  pub wider : (h : Handle) (node : Node) → get new h ≡ Some node → (was : Node) × (get old h ≡ Some was) × (was.out.capacity ≤ node.out.capacity)
+  pub wider : (h : Handle) (node : Node) → get new h ≡ Some node → (was : Node) × (get old h ≡ Some was) × (was.out.capacity ≤ node.out.capacity) × (node.admitted ≡ was.admitted)
 
 -- each node can list those of the added edges that come from it without taking memory
 abbrev pub HaveSpace : Arena Node → List Edge → Type 0

@@ -65,6 +65,12 @@ pub record IsOrdered (graph : SerializationGraph) : Type 0 where
 abbrev pub IsOffered : List Handle → Handle → Edge → Type 0
 IsOffered order h e = ((e.from ≡ h) × Contains order e.to) ⊎ ((e.to ≡ h) × Contains order e.from)
 
+-- the node is of the present window and not admitted, and each edge is between it and an admitted node
+pub record MayAdmit (graph : SerializationGraph) (h : Handle) (offered : List Edge) : Type 0 where
+  pub node : HasNode graph h
+  pub fresh : Contains graph.order h → ⊥
+  pub edges : All (IsOffered graph.order h) offered
+
 -- the edges lead, one after another, from a to b
 abbrev pub Links : Handle → List Edge → Handle → Type 0
 Links a [] b = a ≡ b

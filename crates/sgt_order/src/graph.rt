@@ -4,7 +4,7 @@ ghost use Rattle.std.specs.Prelude.{◌≡◌, ◌<◌, ◌≤◌, ◌∷◌, []
 ghost use Rattle.sgt_arena.specs.Arena.{max_places};
 ghost use Rattle.sgt_edges.specs.declared.edge.Edge.{Edge as Member};
 ghost use Rattle.sgt_order.specs.Graph.{IsAcyclic, IsPlaced};
-ghost use Rattle.sgt_order.specs.SerializationGraph.{HasNode, HasRoomFor, SameGraph, Joins, IsOrdered, IsOffered, Refuses, NodeLacks, StandsBefore, transaction_of};
+ghost use Rattle.sgt_order.specs.SerializationGraph.{HasNode, HasRoomFor, SameGraph, Joins, IsOrdered, IsOffered, MayAdmit, Refuses, NodeLacks, StandsBefore, transaction_of};
 
 use crate::fault::{Admit, Fault};
 use crate::growth::{extend, make_room_for};
@@ -92,6 +92,7 @@ impl Graph {
         match self.nodes.place(Node {
             tx,
             out: SmallVec::new(alloc),
+            admitted: false,
         }) {
             Ok(handle) => {
                 self.marks.push_reserved(None);
@@ -117,6 +118,53 @@ impl Graph {
         ensures ordered { IsOrdered self.now }
     {
         self.order.as_slice()
+    }
+
+    /// Whether the handle is that of an admitted node.
+    pub fn is_admitted(&self, node: Handle) -> bool
+        ensures { IsTrue result ↔ Contains self.now.order node }
+    {
+        match self.nodes.get(node) {
+            Some(node) => node.admitted,
+            None => false,
+        }
+    }
+
+    /// Whether `admit` may be asked: the node is of the present window and not admitted, and each edge is between it and
+    /// an admitted node.
+    pub fn may_admit(&self, node: Handle, offered: &EdgeList) -> bool
+        ensures { IsTrue result ↔ MayAdmit self.now node offered.now }
+    {
+        self.has_node(node)
+            && !self.is_admitted(node)
+            && self.are_offered(node, offered.as_slice())
+    }
+
+    // Whether the handle is a node's.
+    fn has_node(&self, node: Handle) -> bool
+        ensures { IsTrue result ↔ HasNode self.now node }
+    {
+        node.generation == self.nodes.generation() && (node.index as usize) < self.nodes.len()
+    }
+
+    // Whether each edge is between the node and an admitted one.
+    fn are_offered(&self, node: Handle, offered: &[Edge]) -> bool
+        ensures { IsTrue result ↔ All (IsOffered self.now.order node) offered.now }
+    {
+        for edge in offered {
+            if !self.is_offered(node, edge) {
+                return false;
+            }
+        }
+        true
+    }
+
+    // Whether the edge is between the node and an admitted one.
+    fn is_offered(&self, node: Handle, edge: &Edge) -> bool
+        ensures { IsTrue result ↔ IsOffered self.now.order node edge.now }
+    {
+        (edge.from == node && self.is_admitted(edge.to))
+            || (edge.to == node && self.is_admitted(edge.from))
     }
 
     /// Whether both are admitted, and the first stands earlier in the order.
@@ -147,9 +195,7 @@ impl Graph {
 
     /// Admits a node with the edges between it and admitted ones, unless they would make a cycle.
     pub fn admit(&mut self, node: Handle, offered: &EdgeList) -> Result<(), Admit>
-        requires node { HasNode self.old node }
-        requires fresh { Contains self.old.order node → ⊥ }
-        requires offered { All (IsOffered self.old.order node) offered.now }
+        requires { MayAdmit self.old node offered.now }
         ensures acyclic { OnOk result (IsAcyclic (Joins (self.old.edges ++ offered.now))) }
         ensures order { OnOk result (IsPlaced (Joins (self.old.edges ++ offered.now)) self.old.order node self.new.order) }
         ensures edges { OnOk result (self.new.edges ≡ self.old.edges ++ offered.now) }

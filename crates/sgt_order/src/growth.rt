@@ -3,7 +3,7 @@
 ghost use Rattle.std.specs.Prelude.{◌≡◌, ◌+◌, ◌-◌, ◌^◌, ◌<◌, ◌≤◌, ◌∷◌, [], ◌++◌, length, IsSome, OnOk, OnErr, take, vec_len, vec_capacity};
 ghost use Rattle.sgt_arena.specs.Arena.{get};
 ghost use Rattle.sgt_order.specs.Graph.{placed};
-ghost use Rattle.sgt_order.specs.Search.{Lists, HaveSpace, Widened, IsSound, Searched, IsOpen, is_marked};
+ghost use Rattle.sgt_order.specs.Search.{Lists, HaveSpace, Widened, SameNodes, IsSound, Searched, IsOpen, is_marked};
 
 use crate::node::Node;
 use crate::placing::place_in;
@@ -147,7 +147,7 @@ pub(crate) fn extend(
     requires open { IsOpen offered.now new marks.now }
     requires node { IsSome (get nodes.old new) }
     requires members { vec_len order.old + 1 < 2 ^ 64 }
-    ensures widened { Widened nodes.old nodes.new }
+    ensures same { SameNodes nodes.old nodes.new }
     ensures sound { IsSound nodes.new order.new.items edges.new.items marks.now }
     ensures order { OnOk result (order.new.items ≡ placed (is_marked marks.now) order.old.items new) }
     ensures edges { OnOk result (edges.new.items ≡ edges.old.items ++ offered.now) }
@@ -158,5 +158,9 @@ pub(crate) fn extend(
     add_all(nodes, edges, offered)?;
     place_in(order.as_slice(), marks, new, next);
     mem::swap(order, next);
+    match nodes.get_mut(new) {
+        Some(node) => node.admitted = true,
+        None => unreachable!(),
+    }
     Ok(())
 }

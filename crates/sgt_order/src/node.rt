@@ -3,9 +3,10 @@
 use sgt_names::Tx;
 use smallvec::SmallVec;
 
-/// A transaction, and the numbers of the edges from it.
+/// A transaction, the numbers of the edges from it, and whether it is admitted.
 #[derive(Drop)]
 pub struct Node {
     pub tx: Tx,
     pub out: SmallVec<usize, 4>,
+    pub admitted: bool,
 }

@@ -9,7 +9,7 @@ use Rattle.sgt_order.proofs.growth.add.Goals as goal
 use Rattle.sgt_order.proofs.growth.add.Goals.{in-Some+else-is_err, in-None}
 
 pub returns-then-is_err-clause-widened : goal.returns-then-is_err-clause-widened
-returns-then-is_err-clause-widened c = widened_at c.args.nodes.now c.args.edge.from c.in-Some.node.now _ (sym c.in-Some.ensures.value) refl c.reserve.ensures.capacity
+returns-then-is_err-clause-widened c = widened_at c.args.nodes.now c.args.edge.from c.in-Some.node.now _ (sym c.in-Some.ensures.value) refl refl c.reserve.ensures.capacity
 
 pub returns-then-is_err-clause-lists : goal.returns-then-is_err-clause-lists
 returns-then-is_err-clause-lists c = lists_kept c.args.nodes.now c.args.edge.from c.in-Some.node.now _ (sym c.in-Some.ensures.value) c.args.edges.now.items c.reserve.ensures.items c.reserve.ensures.capacity c.requires.lists
@@ -27,7 +27,7 @@ pub returns-clause-widened : goal.returns-clause-widened
 returns-clause-widened c =
     elim c.match-get_mut.branch [
       | in-Some+else-is_err w ↦
-          let wider = widened_at c.args.nodes.now c.args.edge.from w.in-Some.node.now (record { tx = w.in-Some.node.now.tx; out = w.push_reserved.new.self }) (sym w.in-Some.ensures.value) refl (omega (arith, w.push_reserved.ensures.capacity, w.reserve.ensures.capacity)) in
+          let wider = widened_at c.args.nodes.now c.args.edge.from w.in-Some.node.now (record { tx = w.in-Some.node.now.tx; out = w.push_reserved.new.self; admitted = w.in-Some.node.now.admitted }) (sym w.in-Some.ensures.value) refl refl (omega (arith, w.push_reserved.ensures.capacity, w.reserve.ensures.capacity)) in
           rw w.nodes-is wider
       | in-None w ↦ rw w.nodes-is (widened_none c.args.nodes.now)
     ]
@@ -41,7 +41,7 @@ returns-clause-lists c =
           let number = w.len.ensures ∙ c.args.edges.now.ok.0 in
           let items = w.push_reserved.ensures.items ∙ (ap (λ z. z ++ w.len.result ∷ []) w.reserve.ensures.items ∙ ap (λ n. w.in-Some.node.now.out.items ++ n ∷ []) number) in
           let long = ap length w.push_reserved.ensures.items ∙ length_push w.reserve.new.self.items w.len.result in
-          rw w.nodes-is (lists_pushed c.args.nodes.now c.args.edge.from w.in-Some.node.now (record { tx = w.in-Some.node.now.tx; out = w.push_reserved.new.self }) (sym w.in-Some.ensures.value) c.args.edges.now.items c.args.edge refl items (omega (arith, room, long, w.push_reserved.ensures.capacity)) c.requires.lists)
+          rw w.nodes-is (lists_pushed c.args.nodes.now c.args.edge.from w.in-Some.node.now (record { tx = w.in-Some.node.now.tx; out = w.push_reserved.new.self; admitted = w.in-Some.node.now.admitted }) (sym w.in-Some.ensures.value) c.args.edges.now.items c.args.edge refl items (omega (arith, room, long, w.push_reserved.ensures.capacity)) c.requires.lists)
       | in-None w ↦ rw w.nodes-is (lists_apart c.args.nodes.now c.args.edges.now.items c.args.edge (sym w.in-None.ensures.value) c.requires.lists)
     ] in
     subst (λ es. Lists c.match-get_mut.nodes es) (sym c.push_reserved-2.ensures.items) lists

@@ -4,7 +4,7 @@ use Rattle.sgt_order.proofs.Growing.{widened_at, lists_popped, lists_without}
 use Rattle.sgt_order.proofs.growth.remove_last.Goals as goal
 
 pub returns-in-Some-get_mut-clause-widened : goal.returns-in-Some-get_mut-clause-widened
-returns-in-Some-get_mut-clause-widened c = widened_at c.args.nodes.now c.in-Some.edge.from c.in-Some-get_mut.node.now _ (sym c.in-Some-get_mut.ensures.value) refl (omega (arith, c.pop-in-Some-get_mut.ensures.capacity))
+returns-in-Some-get_mut-clause-widened c = widened_at c.args.nodes.now c.in-Some.edge.from c.in-Some-get_mut.node.now _ (sym c.in-Some-get_mut.ensures.value) refl refl (omega (arith, c.pop-in-Some-get_mut.ensures.capacity))
 
 pub returns-in-Some-get_mut-clause-lists : goal.returns-in-Some-get_mut-clause-lists
 returns-in-Some-get_mut-clause-lists c =

@@ -11,7 +11,7 @@ use Rattle.sgt_order.proofs.graph.Graph.admit.Goals as goal
 
 pub find_cycle-requires-clause-offered : goal.find_cycle-requires-clause-offered
 find_cycle-requires-clause-offered c n e at =
-    let offered = All_at (IsOffered c.args.self.now.order c.args.node) c.args.offered.now n e c.requires.offered (subst (λ xs. slice_get xs n ≡ Some e) c.as_slice-3.ensures at) in
+    let offered = All_at (IsOffered c.args.self.now.order c.args.node) c.args.offered.now n e c.requires.edges (subst (λ xs. slice_get xs n ≡ Some e) c.as_slice-3.ensures at) in
     subst (λ o. IsOffered o c.args.node e) (sym (c.as_slice.ensures.value ∙ ap (λ v. v.order) c.self.view_is)) offered
 
 pub returns-in-Err-clause-fault : goal.returns-in-Err-clause-fault

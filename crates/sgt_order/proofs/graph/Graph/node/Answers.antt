@@ -1,4 +1,4 @@
-use Rattle.std.proofs.Common.{◌≡◌, sym, ap, ◌∙◌, ◌++◌, ◌∷◌, [], subst, None, Some, ℕ}
+use Rattle.std.proofs.Common.{◌≡◌, refl, sym, ap, ◌∙◌, ◌++◌, ◌∷◌, [], subst, None, Some, ℕ}
 use Rattle.std.specs.Prelude.{slice_get}
 use Rattle.sgt_names.proofs.Places.{All_at}
 use Rattle.sgt_edges.specs.declared.edge.Edge.{Edge}
@@ -12,7 +12,7 @@ pub invariant_of-self-in-Ok : goal.invariant_of-self-in-Ok
 invariant_of-self-in-Ok c =
     let marks = c.push_reserved.ensures.items ∙ ap (λ z. z ++ None ∷ []) c.reserve.ensures.items in
     subst (λ ms. IsSound c.place.new.self c.self.inside.order.items c.self.inside.edges.items ms) (sym marks)
-    (sound_placed c.self.inside.nodes c.place.new.self c.self.inside.order.items c.self.inside.edges.items c.self.inside.marks.items _ c.self.invariant c.in-Ok.ensures.window c.in-Ok.ensures.ok c.new.ensures.items)
+    (sound_placed c.self.inside.nodes c.place.new.self c.self.inside.order.items c.self.inside.edges.items c.self.inside.marks.items _ c.self.invariant c.in-Ok.ensures.window c.in-Ok.ensures.ok c.new.ensures.items refl)
 
 pub invariant_of-self-in-Err : goal.invariant_of-self-in-Err
 invariant_of-self-in-Err c =
