@@ -4,11 +4,10 @@ use Rattle.std.specs.Prelude.{decimal, codes}
 use Rattle.std.proofs.lemmas.List.{append_cancel_left}
 use Rattle.std.proofs.lemmas.List.Elements.{recursion_from_All}
 use Rattle.sgt_names.specs.Name.{Name}
-use Rattle.sgt_names.specs.declared.entry.Entry.{Entry}
-use Rattle.sgt_names.specs.declared.entry.Entry.TheVariants.{Read, Write, Want, Commit, Refuse, Withdraw}
+use Rattle.sgt_names.specs.declared.entry.Entry.TheVariants.{Read, Write, Want}
 use Rattle.sgt_names.specs.declared.entry.Holding.{Holding}
 use Rattle.sgt_notation.specs.Reading.{IsOperation, SpellsNone, operation_text}
-use Rattle.sgt_notation.specs.Spelling.{assignment, entry_text, line_text, IsEntry, IsHolding, IsLine, IsSite, IsTx}
+use Rattle.sgt_notation.specs.Spelling.{assignment, entry_text, line_text, IsEntry, IsHolding, IsLine, IsSite}
 use Rattle.sgt_notation.specs.declared.SectionLine.TheVariants.{Site, Initial, Logged, Final, End}
 use Rattle.sgt_notation.proofs.OneSpelling.{HasNot, apart, entry-apart, cut_at_byte, decimal-without, name-without, operation-is, small-tx, tails}
 
