@@ -135,9 +135,7 @@ impl Graph {
     pub fn may_admit(&self, node: Handle, offered: &EdgeList) -> bool
         ensures { IsTrue result ↔ MayAdmit self.now node offered.now }
     {
-        self.has_node(node)
-            && !self.is_admitted(node)
-            && self.are_offered(node, offered.as_slice())
+        self.has_node(node) && !self.is_admitted(node) && self.are_offered(node, offered.as_slice())
     }
 
     // Whether the handle is a node's.
