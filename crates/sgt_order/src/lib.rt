@@ -8,6 +8,8 @@ mod laws;
 mod node;
 mod placing;
 mod search;
+#[cfg(test)]
+mod tests;
 
 pub use fault::{Admit, Fault};
 pub use graph::Graph;
