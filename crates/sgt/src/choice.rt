@@ -63,7 +63,7 @@ fn chosen(matches: &ArgMatches<'_>) -> Choice {
 }
 
 /// What the words ask for; the first word is the program's name.
-pub fn choose(alloc: Global, words: &[String]) -> Result<Choice, NoChoice> {
+pub(crate) fn choose(alloc: Global, words: &[String]) -> Result<Choice, NoChoice> {
     match command(alloc)?.try_get_matches_from(words) {
         Ok(matches) => Ok(chosen(&matches)),
         Err(error) => Err(refused(alloc, &error)),
