@@ -17,7 +17,7 @@ use Rattle.sgt_audit.proofs.Tests.{drop_here, take_here}
 -- a test that answers whether two names are one
 pub tested-eq : (x y : Name) (r : Bool) → (IsTrue r ↔ (x ≡ y)) → bytes_eq x y ≡ r
 tested-eq x y true h = (bytes_eq-Decides x y).1 (h.0 refl)
-tested-eq x y false h = elim (cases_Bool (bytes_eq x y)) [ | inl hit ↦ absurd (false≢true (h.1 ((bytes_eq-Decides x y).0 hit))) | inr miss ↦ miss ]
+tested-eq x y false h = elim (cases_Bool (bytes_eq x y)) [ inl hit ↦ absurd (false≢true (h.1 ((bytes_eq-Decides x y).0 hit))) | inr miss ↦ miss ]
 
 pub found-here : (items : List Holding) (i : ℕ) (h : Holding) (x : Name) → i < length items → h ≡ get_or items i h → bytes_eq h.item x ≡ true → value_in (drop i items) x ≡ value_in items x → Some h.value ≡ value_in items x
 found-here items i h x lt is same rest =

@@ -119,6 +119,7 @@ headed-on c spelled itself p e = record { line = certificate_text c; is = e; kee
   where
     same : (f : Fault) (d : Certificate) → IsCertificate d → certificate_text c ≡ certificate_text d → KeepsItself d.decisions f
     same f d is eq = subst (λ d. KeepsItself d.decisions f) (certificate-one c d spelled is eq) (itself f)
+
     holds : (f : Fault) → Rule headed (whole (certificate_text c)) f
     holds fault.Certificate = (c, spelled, refl)
     holds fault.Ranks = same fault.Ranks

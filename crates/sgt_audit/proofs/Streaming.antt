@@ -156,7 +156,7 @@ module _ (l : SiteLog) (log : SiteLog) (rest more : List SectionLine) (shaped : 
   finals-only : (line : SectionLine) → Goes line → NotFrom Initial (map Logged log.entries ++ (map Final log.finals ++ (line ∷ more))) → NotFrom Logged (map Final log.finals ++ (line ∷ more))
       → (line ≡ End → ⊥) → ((h : Holding) → line ≡ Final h → ⊥) → ⊥
   finals-only line e no_item no_entry not_end not_final =
-      elim (finals-goes line e no_item no_entry).1.2 [ | inl last ↦ not_end last.1 | inr next ↦ not_final next.0 next.3 ]
+      elim (finals-goes line e no_item no_entry).1.2 [ inl last ↦ not_end last.1 | inr next ↦ not_final next.0 next.3 ]
 
   site-follows : (k : ℕ) → Goes (Site k) → ⊥
   site-follows k e =
@@ -165,10 +165,13 @@ module _ (l : SiteLog) (log : SiteLog) (rest more : List SectionLine) (shaped : 
     where
       other-initial : (h : Holding) → Site k ≡ Initial h → ⊥
       other-initial h e = cc
+
       other-logged : (h : Entry) → Site k ≡ Logged h → ⊥
       other-logged h e = cc
+
       other-end : Site k ≡ End → ⊥
       other-end e = cc
+
       other-final : (h : Holding) → Site k ≡ Final h → ⊥
       other-final h e = cc
 
@@ -184,13 +187,14 @@ module _ (l : SiteLog) (log : SiteLog) (rest more : List SectionLine) (shaped : 
       where
         initial-end : Initial h ≡ End → ⊥
         initial-end same = cc
+
         initial-final : (x : Holding) → Initial h ≡ Final x → ⊥
         initial-final x same = cc
 
     initial-no_entries : log.entries ≡ []
     initial-no_entries = elim (nil_or_cons log.entries) [
       | inl none ↦ none
-      | inr some ↦ absurd (initial-only (subst (λ es. NotFrom Initial (map Logged es ++ (map Final log.finals ++ (Initial h ∷ more)))) (sym some.2) (λ a rs same. logged-initial a (heads (Logged some.0) (Initial a) (map Logged some.1 ++ (map Final log.finals ++ (Initial h ∷ more))) rs same) )))
+      | inr some ↦ absurd (initial-only (subst (λ es. NotFrom Initial (map Logged es ++ (map Final log.finals ++ (Initial h ∷ more)))) (sym some.2) (λ a rs same. logged-initial a (heads (Logged some.0) (Initial a) (map Logged some.1 ++ (map Final log.finals ++ (Initial h ∷ more))) rs same))))
     ]
       where
         logged-initial : {x : Entry} (a : Holding) → Logged x ≡ Initial a → ⊥
@@ -239,10 +243,13 @@ module _ (l : SiteLog) (log : SiteLog) (rest more : List SectionLine) (shaped : 
     where
       logged-initial : (a : Holding) → Logged x ≡ Initial a → ⊥
       logged-initial a same = cc
+
       final-logged : {h : Holding} (a : Entry) → Final h ≡ Logged a → ⊥
       final-logged a same = cc
+
       logged-end : Logged x ≡ End → ⊥
       logged-end same = cc
+
       logged-final : (a : Holding) → Logged x ≡ Final a → ⊥
       logged-final a same = cc
 
@@ -253,6 +260,7 @@ module _ (l : SiteLog) (log : SiteLog) (rest more : List SectionLine) (shaped : 
     where
       final-initial : (a : Holding) → Final h ≡ Initial a → ⊥
       final-initial a same = cc
+
       final-logged : (a : Entry) → Final h ≡ Logged a → ⊥
       final-logged a same = cc
 
@@ -389,7 +397,7 @@ begun-begins b is =
         logs = All-append IsShapedLog b.whole fill is.logs (filling-shaped b b.current is.room);
       },
       sections-append 0 b.whole fill ∙ ap (λ (ls : List SectionLine). sections_from 0 b.whole ++ ls) (lines.1 ∙ ap (λ k. open_lines k b.current ++ lines.0) (zero-add (length b.whole)))
-      ∙ sym (append_assoc (sections_from 0 b.whole) (open_lines (length b.whole) b.current) lines.0),
+          ∙ sym (append_assoc (sections_from 0 b.whole) (open_lines (length b.whole) b.current) lines.0),
     )
 
 -- ---- one more line

@@ -119,13 +119,13 @@ all-next-at P xs i x at p all = subst (All P) (sym (ap (λ n. take n xs) (add-on
 -- ---- what tests of numbers tell
 
 pub ne-false : (a b : ℕ) (r : Bool) → r ≡ not (a == b) → r ≡ false → a ≡ b
-ne-false a b r is miss = elim (cases_eq a b) [ | inl same ↦ same | inr apart ↦ absurd (true≢false (sym (ap not (ne_eqb a b apart)) ∙ sym is ∙ miss)) ]
+ne-false a b r is miss = elim (cases_eq a b) [ inl same ↦ same | inr apart ↦ absurd (true≢false (sym (ap not (ne_eqb a b apart)) ∙ sym is ∙ miss)) ]
 
 pub ne-true : (a b : ℕ) (r : Bool) → r ≡ not (a == b) → r ≡ true → a ≢ b
 ne-true a b r is hit same = true≢false (sym hit ∙ is ∙ ap not (eq-eqb a b same))
 
 pub not-empty : (n : ℕ) (r : Bool) → r ≡ (n == 0) → r ≡ false → 1 ≤ n
-not-empty n r is miss = elim (cases_eq n 0) [ | inl none ↦ absurd (true≢false (sym (eq-eqb n 0 none) ∙ sym is ∙ miss)) | inr some ↦ omega arith ]
+not-empty n r is miss = elim (cases_eq n 0) [ inl none ↦ absurd (true≢false (sym (eq-eqb n 0 none) ∙ sym is ∙ miss)) | inr some ↦ omega arith ]
 
 pub empty : (n : ℕ) (r : Bool) → r ≡ (n == 0) → r ≡ true → n ≡ 0
 empty n r is hit = eqb-true n 0 (sym is ∙ hit)

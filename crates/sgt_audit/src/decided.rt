@@ -39,9 +39,8 @@ pub fn decision_on(decisions: &[Decision], entry: &Entry) -> Option<usize>
     ensures some { IfSome result (λ number. IsDecided decisions.now entry.now number) }
     ensures none { IfNone result ((number : ℕ) → IsDecided decisions.now entry.now number → ⊥) }
 {
-    decisions
-        .iter()
-        .position(|decision| decided_tx(decision) == tx_of_entry(entry) && suits(entry, decision))
+    decisions.iter().position(|decision| decided_tx(decision) == tx_of_entry(entry)
+        && suits(entry, decision))
 }
 
 /// The rank of a commit of the transaction.
@@ -50,7 +49,10 @@ pub fn rank_of(decisions: &[Decision], tx: Tx) -> Option<u32>
     ensures none { IfNone result ((number rank : ℕ) → IsCommitted decisions.now number tx rank → ⊥) }
 {
     for decision in decisions {
-        if let Decision::Commit { tx: committed, rank } = decision
+        if let Decision::Commit {
+            tx: committed,
+            rank,
+        } = decision
             && *committed == tx
         {
             return Some(*rank);

@@ -22,7 +22,9 @@ pub fn item_of_entry(entry: &Entry) -> Option<Item>
     ensures { result ≡ item_of entry.now }
 {
     match *entry {
-        Entry::Read { item, .. } | Entry::Write { item, .. } | Entry::Want { item, .. } => Some(item),
+        Entry::Read { item, .. } | Entry::Write { item, .. } | Entry::Want { item, .. } => Some(
+            item,
+        ),
         Entry::Commit { .. } | Entry::Refuse { .. } | Entry::Withdraw { .. } => None,
     }
 }
@@ -31,7 +33,10 @@ pub fn item_of_entry(entry: &Entry) -> Option<Item>
 pub fn is_end(entry: &Entry) -> bool
     ensures { IsTrue result ↔ IsEnd entry.now }
 {
-    matches!(entry, Entry::Commit { .. } | Entry::Refuse { .. } | Entry::Withdraw { .. })
+    matches!(
+        entry,
+        Entry::Commit { .. } | Entry::Refuse { .. } | Entry::Withdraw { .. }
+    )
 }
 
 /// Whether it is a write or a want, behind which another entry has to follow directly.
@@ -73,7 +78,9 @@ pub fn writes(item: &Item, entry: &Entry) -> bool
     ensures { IsTrue result ↔ Writes item.now entry.now }
 {
     match entry {
-        Entry::Write { item: written, .. } | Entry::Want { item: written, .. } => written.same(item),
+        Entry::Write { item: written, .. } | Entry::Want { item: written, .. } => written.same(
+            item,
+        ),
         _ => false,
     }
 }
@@ -93,12 +100,16 @@ pub fn clashes(kind: Kind, item: &Item, first: &Entry, second: &Entry) -> bool
 pub fn has_ended(entries: &[Entry], tx: Tx) -> bool
     ensures { IsTrue result ↔ Any (λ f. IsEnd f × (tx_of f ≡ tx)) entries.now }
 {
-    entries.iter().any(|entry| is_end(entry) && tx_of_entry(entry) == tx)
+    entries
+        .iter()
+        .any(|entry| is_end(entry) && tx_of_entry(entry) == tx)
 }
 
 /// Whether each transaction with an entry has an end.
 pub fn all_ended(entries: &[Entry]) -> bool
     ensures { IsTrue result ↔ AllEnded entries.now }
 {
-    entries.iter().all(|entry| has_ended(entries, tx_of_entry(entry)))
+    entries
+        .iter()
+        .all(|entry| has_ended(entries, tx_of_entry(entry)))
 }

@@ -10,8 +10,8 @@ ghost use Rattle.sgt_audit.specs.Faults.{Keeps};
 ghost use Rattle.sgt_audit.specs.Judging.{GoesOn, GoesOnWith, HasOpen, Judged, JudgedItself};
 ghost use Rattle.sgt_audit.specs.Reading.{Fits, lines_read};
 
-use crate::decisions::{are_cycles, are_decided_once, are_ranks, commit_ranks};
 use crate::decided::{is_active, is_first, is_in_order, is_in_rank};
+use crate::decisions::{are_cycles, are_decided_once, are_ranks, commit_ranks};
 use crate::entries::{all_ended, continues, is_open};
 use crate::faults::Fault;
 use crate::sections::{OpenLog, Sections};
@@ -138,7 +138,10 @@ pub fn judge_line(decisions: &[Decision], sections: &Sections, line: &SectionLin
 }
 
 /// The least fault of a certificate by itself.
-pub fn judge_certificate(alloc: Global, certificate: &Certificate) -> Result<Option<Fault>, AllocError>
+pub fn judge_certificate(
+    alloc: Global,
+    certificate: &Certificate,
+) -> Result<Option<Fault>, AllocError>
     ensures { IfOk result (JudgedItself certificate.now.decisions) }
 {
     let decisions = certificate.decisions.as_slice();

@@ -43,7 +43,11 @@ fn written_value(entry: &Entry, item: &Item) -> Option<Value>
     ensures { result ≡ written item.now entry.now }
 {
     match entry {
-        Entry::Write { item: other, value, .. } if other.same(item) => Some(*value),
+        Entry::Write {
+            item: other,
+            value,
+            ..
+        } if other.same(item) => Some(*value),
         _ => None,
     }
 }

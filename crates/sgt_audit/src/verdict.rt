@@ -17,7 +17,10 @@ pub enum Verdict {
         withdrawn: u64,
     },
     /// It has a fault, at this line first.
-    No { line: u64, fault: Fault },
+    No {
+        line: u64,
+        fault: Fault,
+    },
 }
 
 fn count_commits(decisions: &[Decision]) -> usize
@@ -69,7 +72,9 @@ impl Verdict {
                 refused,
                 withdrawn,
             } => {
-                format!(in alloc; "yes {committed} committed {refused} refused {withdrawn} withdrawn\n")
+                format!(in alloc;
+                    "yes {committed} committed {refused} refused {withdrawn} withdrawn\n"
+                )
             }
             Verdict::No { line, fault } => {
                 let number = fault.number();

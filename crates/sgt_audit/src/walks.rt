@@ -15,9 +15,7 @@ use sgt_names::{Entry, Item, Kind, Tx};
 fn is_met(entries: &[Entry], kind: Kind, item: &Item, from: Tx, later: &Entry) -> bool
     ensures { IsTrue result ↔ Any (λ e. (tx_of e ≡ from) × Clash kind item.now e later.now) entries.now }
 {
-    entries
-        .iter()
-        .any(|entry| tx_of_entry(entry) == from && clashes(kind, item, entry, later))
+    entries.iter().any(|entry| tx_of_entry(entry) == from && clashes(kind, item, entry, later))
 }
 
 /// Whether the entry is of the one transaction, and an entry before it is of the other and clashes with it.
