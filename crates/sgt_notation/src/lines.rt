@@ -85,6 +85,7 @@ fn look_in(
     ensures err { IfErr result (λ e. e ≡ LinesFault.Memory) }
     ensures kept { OnErr result (line.new.items ≡ line.old.items) }
     ensures room { limit ≤ vec_capacity line.old → result ≢ Err LinesFault.Memory }
+    ensures wanted { OnErr result (vec_capacity line.old < length line.old.items + length held.now) }
     ensures capacity { vec_capacity line.old ≤ vec_capacity line.new }
 {
     match find_feed(held) {
@@ -179,6 +180,7 @@ impl Lines {
         ensures err { IfErr result (λ e. e ≡ LinesFault.Memory) }
         ensures kept { OnErr result ((line.new.items ≡ line.old.items) × (self.new ≡ self.old)) }
         ensures room { limit ≤ vec_capacity line.old → result ≢ Err LinesFault.Memory }
+        ensures wanted { OnErr result (vec_capacity line.old < length line.old.items + length self.old.held) }
         ensures capacity { vec_capacity line.old ≤ vec_capacity line.new }
     {
         let (found, n, used) = look_in(&self.buffer[self.start..self.end], line, limit)?;
@@ -218,6 +220,7 @@ impl Lines {
         ensures memory { IsErrOf result LinesFault.Memory → (S.failures source.new ≡ S.failures source.old)
             × Consumes (coming self.old (S.tells source.old)) (coming self.new (S.tells source.new)) line.new.items }
         ensures room { limit ≤ vec_capacity line.old → result ≢ Err LinesFault.Memory }
+        ensures wanted { IsErrOf result LinesFault.Memory → IfSome (coming self.old (S.tells source.old)) (λ bytes. vec_capacity line.old < length bytes) }
     {
         line.clear();
         'reads: loop {
