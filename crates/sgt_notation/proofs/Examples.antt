@@ -1,9 +1,14 @@
 -- The definitions of spellings and of lines, shown on examples.
-use Rattle.std.proofs.Common.{◌≡◌, ◌≢◌, ◌<◌, ◌≤◌, ℕ, [], ◌∷◌, ◌++◌, Some, refl, arith, lit<}
+use Rattle.std.proofs.Common.{◌≡◌, ℕ, List, [], ◌∷◌, Some, None, refl, ap, arith, length, lit<}
 use Rattle.std.specs.Prelude.{codes}
 use Rattle.std.specs.Fmt.{digits}
 use Rattle.sgt_notation.specs.Spelling.{entry_text, line_text, text_of_lines, IsTx, IsValue, IsSite}
+use Rattle.sgt_names.specs.Name.{IsName}
 use Rattle.sgt_names.specs.declared.entry.Entry.TheVariants.{Read, Write, Want, Commit, Refuse, Withdraw}
+use Rattle.sgt_notation.specs.Lines.{Gives, Leaves, SpendsNext}
+use Rattle.sgt_notation.specs.Reading.{Refuses}
+use Rattle.sgt_notation.specs.declared.fault.NotationFault.TheVariants.{Memory}
+use Rattle.sgt_notation.specs.declared.lines.Next.TheVariants as next
 use Rattle.sgt_notation.specs.declared.SectionLine.TheVariants.{Site, Initial, Logged, Final, End}
 
 -- ---- each kind of line
@@ -82,3 +87,29 @@ site_greatest = lit< tt
 
 pub no_site_above : IsSite 16 → ⊥
 no_site_above h = omega (arith, h)
+
+-- ---- a name has sixteen bytes at most
+
+pub name_longest : IsName (codes "abcdefghij_23456")
+name_longest = (refl, refl, lit< tt)
+
+pub no_name_longer : IsName (codes "abcdefghij_234567") → ⊥
+no_name_longer h = omega (arith, h.2)
+
+-- ---- what the relations of a reader exclude
+
+-- a byte is lost
+pub no_byte_lost : Leaves (Some (97 ∷ 98 ∷ [])) (97 ∷ []) (Some []) → ⊥
+no_byte_lost h = let sizes = ap length h in absurd (omega (arith, sizes))
+
+-- what is left is no longer told
+pub not_forgotten : Gives 6 (Some []) next.End [] None → ⊥
+not_forgotten h = h
+
+-- two reads gave one byte, and a line came
+pub no_read_for_nothing : SpendsNext next.Line 5 (Some (97 ∷ 10 ∷ [])) 3 (Some (10 ∷ [])) → ⊥
+no_read_for_nothing h = omega (arith, h)
+
+-- want of memory is no refusal of a line
+pub never_memory : (line : List ℕ) → Refuses line Memory → ⊥
+never_memory line h = h

@@ -37,7 +37,7 @@ pub enum LinesFault {
     ReadFault,
 }
 
-/// The reads that a `Lines` makes at most.
+/// The reads that a `Lines` makes at most, over all its calls.
 pub const MOST_READS: u32 = u32::MAX;
 
 /// The bytes that a read asks for at most.
@@ -189,9 +189,10 @@ impl Lines {
     }
 
     /// What comes next. `line` is cleared first, and gets the line without its LF, or what came before an Err.
-    /// A line longer than `limit` is told as soon as one byte more than that was read.
-    /// Memory where a growth of the line was refused. ReadFault where the reader failed during this call, or no read is
-    /// left; all that was read then stands in `line`.
+    /// A line longer than `limit` is told as soon as one byte more than that was read. Some of its bytes then stand in
+    /// `line`, and a further call goes on behind them. A `limit` of `usize::MAX` is none.
+    /// Memory where a growth of the line was refused: what stands in `line` is not given again. ReadFault where the
+    /// reader failed during this call, or no read is left; all that was read then stands in `line`.
     pub fn next<S: Source>(
         &mut self,
         source: &mut S,
