@@ -1,3 +1,5 @@
 pub mod Places
 pub mod Chosen
 pub mod Stored
+pub mod Ranged
+pub mod Touched

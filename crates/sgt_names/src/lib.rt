@@ -2,6 +2,7 @@
 //! the engines are generic over.
 #![tactic(auto)]
 
+mod draft;
 mod entry;
 mod item;
 mod limits;
@@ -13,6 +14,7 @@ mod sink;
 mod source;
 mod standard;
 
+pub use draft::{Draft, Seen, Touch};
 pub use entry::{Entry, Holding, Kind, Label};
 pub use item::{BadName, Item};
 pub use limits::{MAX_ITEMS, MAX_SITES};
