@@ -1,0 +1,6 @@
+//! The labelled edges between transactions.
+#![tactic(auto)]
+
+mod edge;
+
+pub use edge::{Edge, EdgeList};
