@@ -28,7 +28,7 @@ use Rattle.sgt_site.specs.declared.cell.Reader.{Reader}
 use Rattle.sgt_site.specs.declared.cell.Reading.{Reading}
 use Rattle.sgt_site.specs.Store.{Store, Pledge, IsSite, IsCovered, IsReader, HasRead, HasEnded, LogsRead, version_at, writer, writers_of, committed}
 use Rattle.sgt_site.specs.Refused.{MayRead}
-use Rattle.sgt_site.specs.Stored.{Contents, Spare, AreReadings, IsAnswering, IsAnswered, AnswersAt, HasRoom, answer_of, items_of, IsCell, IsKept, pledge_of}
+use Rattle.sgt_site.specs.Stored.{Contents, IsTouched, Spare, AreReadings, IsAnswering, IsAnswered, AnswersAt, HasRoom, answer_of, items_of, IsCell, IsKept, pledge_of}
 use Rattle.sgt_site.proofs.Appends.{get_cases, get_back, Any_at, Any-from_at, MayFollow, orderly-append, legal-append, value-kept, LogsRead-append, LogsRead-cases, HasEnded-append, HasEnded-append_right, HasEnded-cases}
 use Rattle.sgt_site.proofs.Projections.{ended_with_handle, length-writers, all_given}
 use Rattle.sgt_site.proofs.Found.{map_at}
@@ -353,16 +353,16 @@ module _ (s : Store) (tx : ℕ) (x : Name) (v : ℕ) (site : IsSite s) (may : Ma
       same_pledge : (p : Pledge) → p.tx ≡ tx → p ≡ record { tx = tx; part = p.part }
       same_pledge p same = λ i. record { tx = same i; part = p.part }
 
-      touched-set : (p : Pledge) → HasRoom p.part cells spare → All (λ c. Contains (map (λ t. t.item) p.part) c.item → 0 < c.has_room) new
-      touched-set p old = subst (All (λ (c : Contents). Contains (map (λ (t : Touch). t.item) p.part) c.item → 0 < c.has_room)) (sym answers.others) (All-from_at (λ (c : Contents). Contains (map (λ (t : Touch). t.item) p.part) c.item → 0 < c.has_room) (set cells n answers.answered) (λ k c here. by_place k c here))
+      touched-set : (p : Pledge) → HasRoom p.part cells spare → All (λ c. IsTouched p.part c.item → 0 < c.has_room) new
+      touched-set p old = subst (All (λ (c : Contents). IsTouched p.part c.item → 0 < c.has_room)) (sym answers.others) (All-from_at (λ (c : Contents). IsTouched p.part c.item → 0 < c.has_room) (set cells n answers.answered) (λ k c here. by_place k c here))
         where
-          by_place : (k : ℕ) (c : Contents) → slice_get (set cells n answers.answered) k ≡ Some c → Contains (map (λ (t : Touch). t.item) p.part) c.item → 0 < c.has_room
+          by_place : (k : ℕ) (c : Contents) → slice_get (set cells n answers.answered) k ≡ Some c → IsTouched p.part c.item → 0 < c.has_room
           by_place k c here = elim (cases_Bool (k == n)) [
             | inl hit ↦
                 let same : k ≡ n = grind (arith, nat_tests) in
                 let is : answers.answered ≡ c = same_Some answers.answered c (sym (get_set_same cells n answers.answered at.within) ∙ ap (slice_get (set cells n answers.answered)) (sym same) ∙ here) in
-                subst (λ (d : Contents). Contains (map (λ (t : Touch). t.item) p.part) d.item → 0 < d.has_room) (sym answers.reads.same ∙ is) (All_at (λ (d : Contents). Contains (map (λ (t : Touch). t.item) p.part) d.item → 0 < d.has_room) cells n answers.cell old.touched answers.at)
-            | inr miss ↦ All_at (λ (d : Contents). Contains (map (λ (t : Touch). t.item) p.part) d.item → 0 < d.has_room) cells k c old.touched (sym (get_set_other cells n k answers.answered (λ same. absurd (let hit : (k == n) ≡ true = grind (arith, nat_tests) in cc))) ∙ here)
+                subst (λ (d : Contents). IsTouched p.part d.item → 0 < d.has_room) (sym answers.reads.same ∙ is) (All_at (λ (d : Contents). IsTouched p.part d.item → 0 < d.has_room) cells n answers.cell old.touched answers.at)
+            | inr miss ↦ All_at (λ (d : Contents). IsTouched p.part d.item → 0 < d.has_room) cells k c old.touched (sym (get_set_other cells n k answers.answered (λ same. absurd (let hit : (k == n) ≡ true = grind (arith, nat_tests) in cc))) ∙ here)
           ]
 
       legal_one : (m t : ℕ) (y : Name) (w : ℕ) → slice_get one m ≡ Some (Read t y w) → value_at s.items (s.entries ++ take m one) y ≡ Some w

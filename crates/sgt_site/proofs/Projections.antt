@@ -7,7 +7,7 @@ use Rattle.std.proofs.lemmas.Bool.Decides.{nat_tests}
 use Rattle.std.proofs.lemmas.Slice.Eq.{bytes_eq-Decides}
 use Rattle.std.proofs.lemmas.Option.{same_Some, option_and_then_some}
 use Rattle.sgt_names.specs.Name.{Name}
-use Rattle.sgt_names.specs.Entry.{tx_of, IsEnd}
+use Rattle.sgt_names.specs.Entry.{tx_of, Writes, IsEnd}
 use Rattle.sgt_names.specs.declared.entry.Entry.{Entry}
 use Rattle.sgt_names.specs.declared.entry.Entry.TheVariants.{Read, Write, Want, Commit, Refuse, Withdraw}
 use Rattle.sgt_names.proofs.Places.{Contains_at, Contains-from_at, slice_get-take, AllPairs_at}
@@ -80,6 +80,15 @@ commit_is (Read t y v) tx h = absurd cc
 commit_is (Want t y v) tx h = absurd cc
 commit_is (Refuse t) tx h = absurd cc
 commit_is (Withdraw t) tx h = absurd cc
+
+-- the entries of a transaction that has not ended write nothing
+pub no_write : (s : Store) → IsSite s → (tx : ℕ) → (HasEnded s.entries tx → ⊥) → (p : ℕ) (x : Name) (e : Entry) → slice_get s.entries p ≡ Some e → tx_of e ≡ tx → Writes x e → ⊥
+no_write s site tx active p x (Write t y v) at own w = active (let c = Contains_at s.entries (Commit t) (site.writes p t y v at) in Any-from_at (λ e. (tx_of e ≡ tx) × IsEnd e) s.entries c.0 (Commit t) c.1 (own, tt))
+no_write s site tx active p x (Want t y v) at own w = active (let c = Contains_at s.entries (Refuse t) (site.wants p t y v at) in Any-from_at (λ e. (tx_of e ≡ tx) × IsEnd e) s.entries c.0 (Refuse t) c.1 (own, tt))
+no_write s site tx active p x (Read t y v) at own w = w
+no_write s site tx active p x (Commit t) at own w = w
+no_write s site tx active p x (Refuse t) at own w = w
+no_write s site tx active p x (Withdraw t) at own w = w
 
 module _ (s : Store) (site : IsSite s) where
   -- who is committed has a handle, and who has a handle is committed

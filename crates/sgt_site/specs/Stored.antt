@@ -72,12 +72,16 @@ pub record Spare : Type 0 where
   pub installed : ℕ
   pub ended : ℕ
 
+-- the item is touched
+abbrev pub IsTouched : List Touch → Name → Type 0
+IsTouched part x = Contains (map (λ t. t.item) part) x
+
 -- there is room for the block and the lists of what a pledge covers
 pub record HasRoom (part : List Touch) (cells : List Contents) (spare : Spare) : Type 0 where
   pub log : length part < spare.log
   pub installed : 0 < spare.installed
   pub ended : 0 < spare.ended
-  pub touched : All (λ c. Contains (map (λ t. t.item) part) c.item → 0 < c.has_room) cells
+  pub touched : All (λ c. IsTouched part c.item → 0 < c.has_room) cells
 
 -- the pledge that stands
 abbrev pub pledge_of : Option ℕ → List Touch → Option Pledge
@@ -101,6 +105,19 @@ pub record IsFresh (c : Contents) : Type 0 where
   pub readers : c.readers ≡ []
   pub readings : c.readings ≡ []
 
+-- each cell was changed so
+pub record AreChanged (R : Contents → Contents → Type 0) (old new : List Contents) : Type 0 where
+  pub as_many : length new ≡ length old
+  pub each : (n : ℕ) (c d : Contents) → slice_get old n ≡ Some c → slice_get new n ≡ Some d → R c d
+
+-- the cell at a place was changed so, and the others stay
+pub record ChangesAt (R : Contents → Contents → Type 0) (n : ℕ) (old new : List Contents) : Type 0 where
+  pub before : Contents
+  pub after : Contents
+  pub at : slice_get old n ≡ Some before
+  pub changed : R before after
+  pub others : new ≡ set old n after
+
 -- the same cell, with as much room or more
 abbrev pub SameButRoom : Contents → Contents → Type 0
 SameButRoom old new = (new ≡ record old { has_room = new.has_room }) × (old.has_room ≤ new.has_room)
@@ -118,11 +135,10 @@ abbrev pub noted_readers : Writer → Option Touch → List Reader
 noted_readers w None = []
 noted_readers w (Some t) = option_to_list (option_and_then (λ seen. Some (record { tx = w.tx; handle = w.handle; version = seen.version })) t.seen)
 
--- the new cell is the old one after the commit
-pub record IsNoted (w : Writer) (part : List Touch) (old new : Contents) : Type 0 where
-  pub item : new.item ≡ old.item
-  pub first : new.first ≡ old.first
-  pub value : new.value ≡ noted_value (find (λ t. bytes_eq t.item old.item) part) old.value
-  pub writers : new.writers ≡ old.writers ++ noted_writers w (find (λ t. bytes_eq t.item old.item) part)
-  pub readings : new.readings ≡ old.readings
-  pub readers : new.readers ≡ old.readers ++ noted_readers w (find (λ t. bytes_eq t.item old.item) part)
+-- how an item is touched, if it is
+abbrev pub touch_in : List Touch → Name → Option Touch
+touch_in part x = find (λ t. bytes_eq t.item x) part
+
+-- the new cell is the old one after the commit, which touches its item so
+abbrev pub IsNoted : Writer → Option Touch → Contents → Contents → Type 0
+IsNoted w touch old new = new ≡ record old { value = noted_value touch old.value; writers = old.writers ++ noted_writers w touch; readers = old.readers ++ noted_readers w touch; has_room = new.has_room }

@@ -6,7 +6,7 @@ ghost use Rattle.std.specs.Ordering.{nat_cmp};
 ghost use Rattle.sgt_names.specs.Ordered.{IsRisingBy, IsAt, IsGapFor};
 
 use sgt_arena::Handle;
-use sgt_names::{Holding, Item, Seen, Tx, Value};
+use sgt_names::{Holding, Item, Seen, Touch, Tx, Value};
 use std::alloc::{AllocError, Global};
 use std::marker::Model;
 
@@ -54,9 +54,9 @@ impl Model for Cell {
 }
 
 impl Cell {
-    ghost use Rattle.std.specs.Prelude.{◌≡◌, ◌<◌, ◌≤◌, [], ◌∷◌, ◌++◌, length, ◌↔◌, IsTrue, OnOk, OnErr, IfOk, IfSome, IfNone, Contains};
+    ghost use Rattle.std.specs.Prelude.{◌≡◌, ◌<◌, ◌≤◌, [], ◌∷◌, ◌++◌, length, ◌↔◌, IsTrue, OnOk, OnErr, IfOk, IfSome, IfNone, Some, Contains};
     ghost use Rattle.sgt_names.specs.declared.draft.Seen.{Seen as Answer};
-    ghost use Rattle.sgt_site.specs.Stored.{answer_of, AreReadings, IsAnswering, IsAnswered};
+    ghost use Rattle.sgt_site.specs.Stored.{answer_of, AreReadings, IsAnswering, IsAnswered, IsNoted};
 
     /// An item that nobody has written or read.
     pub(crate) fn new(alloc: Global, holding: Holding) -> Cell
@@ -161,21 +161,22 @@ impl Cell {
         self.readers.reserve(1)
     }
 
-    /// The transaction wrote the value.
-    pub(crate) fn add_writer(&mut self, writer: Writer, value: Value)
+    /// Notes a commit that touches the item.
+    pub(crate) fn note(&mut self, writer: &Writer, touch: &Touch)
         requires { 0 < self.old.has_room }
-        ensures { self.new ≡ record self.old { value = value; writers = self.old.writers ++ writer ∷ []; has_room = self.new.has_room } }
+        ensures { IsNoted writer.now (Some touch.now) self.old self.new }
     {
-        self.value = value;
-        self.writers.push_reserved(writer);
-    }
-
-    /// The committed transaction had read the item.
-    pub(crate) fn add_reader(&mut self, reader: Reader)
-        requires { 0 < self.old.has_room }
-        ensures { self.new ≡ record self.old { readers = self.old.readers ++ reader ∷ []; has_room = self.new.has_room } }
-    {
-        self.readers.push_reserved(reader);
+        if let Some(seen) = touch.seen {
+            self.readers.push_reserved(Reader {
+                tx: writer.tx,
+                handle: writer.handle,
+                version: seen.version,
+            });
+        }
+        if let Some(value) = touch.put {
+            self.value = value;
+            self.writers.push_reserved(*writer);
+        }
     }
 }
 

@@ -8,6 +8,8 @@ ghost use Rattle.sgt_names.specs.Ordered.{IsRisingBy, IsAt, IsGapFor};
 ghost use Rattle.sgt_site.specs.Store.{AreItems};
 ghost use Rattle.sgt_site.specs.Stored.{Contents, items_of, IsFresh, AreReadings, IsAnswering, AnswersAt};
 
+mod blocks;
+
 use crate::cell::{Cell, Reader, Writer, insert};
 use crate::fault::SiteFault;
 use sgt_names::{Entry, Holding, Item, Seen, SiteNo, Touch, Tx};

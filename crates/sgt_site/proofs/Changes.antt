@@ -1,0 +1,64 @@
+-- Loops over the cells, one place after another.
+use Rattle.std.proofs.Common.{◌≡◌, ℕ, zero, suc, ◌+◌, ◌<◌, ◌≤◌, Bool, true, false, List, [], ◌∷◌, length, get_or, set, drop, Option, Some, refl, sym, ap, ◌∙◌, subst, arith, inl, inr, length-set, All, Contains}
+use mathlib.Core.Bool.{false≢true}
+use Rattle.std.specs.Prelude.{slice_get, find}
+use Rattle.std.specs.Str.{bytes_eq}
+use Rattle.std.proofs.lemmas.Slice.Eq.{bytes_eq-Decides}
+use Rattle.std.proofs.lemmas.Bool.{cases_Bool, cases_order}
+use Rattle.std.proofs.lemmas.Option.{same_Some, slice_get_within}
+use Rattle.sgt_names.proofs.Places.{All_at, All-from_at}
+use Rattle.sgt_site.specs.Stored.{Contents, AreChanged, ChangesAt}
+use Rattle.sgt_site.proofs.Inserts.{get_set_same, get_set_other}
+
+-- what is left of a list, from an element on
+drop_suc : {A : Type 0} (xs : List A) (n : ℕ) (a : A) → n < length xs → a ≡ get_or xs n a → drop n xs ≡ a ∷ drop (suc n) xs
+drop_suc [] n a lt is = absurd (omega arith)
+drop_suc (x ∷ xs) zero a lt is = ap (λ y. y ∷ xs) (sym is)
+drop_suc (x ∷ xs) (suc n) a lt is = drop_suc xs n a (omega arith) is
+
+pub drop_next : {A : Type 0} (xs : List A) (n : ℕ) (a : A) → n < length xs → a ≡ get_or xs n a → drop n xs ≡ a ∷ drop (n + 1) xs
+drop_next xs n a lt is = let next : suc n ≡ n + 1 = omega arith in drop_suc xs n a lt is ∙ ap (λ k. a ∷ drop k xs) next
+
+-- a look for the first element that passes, from there on
+pub find_hit : {A : Type 0} (test : A → Bool) (xs : List A) (n : ℕ) (a : A) → n < length xs → a ≡ get_or xs n a → test a ≡ true → find test (drop n xs) ≡ Some a
+find_hit test xs n a lt is hit = ap (find test) (drop_next xs n a lt is) ∙ rw hit refl
+
+pub find_miss : {A : Type 0} (test : A → Bool) (xs : List A) (n : ℕ) (a : A) → n < length xs → a ≡ get_or xs n a → test a ≡ false → find test (drop n xs) ≡ find test (drop (n + 1) xs)
+find_miss test xs n a lt is miss = ap (find test) (drop_next xs n a lt is) ∙ rw miss refl
+
+-- the cells below a place were changed so, and the others are as they were
+pub record Done (R : Contents → Contents → Type 0) (i : ℕ) (old now : List Contents) : Type 0 where
+  pub as_many : length now ≡ length old
+  pub below : (n : ℕ) (c d : Contents) → n < i → slice_get old n ≡ Some c → slice_get now n ≡ Some d → R c d
+  pub above : (n : ℕ) → i ≤ n → slice_get now n ≡ slice_get old n
+
+module _ (R : Contents → Contents → Type 0) where
+  pub done-none : (cells : List Contents) → Done R 0 cells cells
+  done-none cells = record { as_many = refl; below = λ n c d lt. absurd (omega arith); above = λ n le. refl }
+
+  pub done-next : (i : ℕ) (old now next : List Contents) → Done R i old now → ChangesAt R i now next → Done R (i + 1) old next
+  done-next i old now next done change =
+      let within = slice_get_within now i change.before change.at in
+      let same = get_set_same now i change.after within in
+      record {
+        as_many = ap length change.others ∙ length-set now i change.after ∙ done.as_many;
+        below = λ n c d lt at_old at_next. elim (cases_order n i) [
+          | inl here ↦
+              let was : c ≡ change.before = same_Some c change.before (sym at_old ∙ sym (done.above n (omega arith)) ∙ ap (slice_get now) here ∙ change.at) in
+              let is : d ≡ change.after = same_Some d change.after (sym at_next ∙ ap (λ cs. slice_get cs n) change.others ∙ ap (slice_get (set now i change.after)) here ∙ same) in
+              rw (was, is) change.changed
+          | inr (inl less) ↦ done.below n c d less at_old (sym (ap (λ cs. slice_get cs n) change.others ∙ get_set_other now i n change.after (λ e. absurd (omega arith))) ∙ at_next)
+          | inr (inr more) ↦ absurd (omega arith)
+        ];
+        above = λ n le. ap (λ cs. slice_get cs n) change.others ∙ get_set_other now i n change.after (λ e. absurd (omega arith)) ∙ done.above n (omega arith);
+      }
+
+  pub done-all : (old now : List Contents) → Done R (length old) old now → AreChanged R old now
+  done-all old now done = record { as_many = done.as_many; each = λ n c d at_old at_now. done.below n c d (slice_get_within old n c at_old) at_old at_now }
+
+-- names that a test tells apart
+pub miss_item : (x y : List ℕ) → (x ≡ y → false ≡ true) → bytes_eq x y ≡ false
+miss_item x y apart = elim (cases_Bool (bytes_eq x y)) [
+  | inl hit ↦ absurd (false≢true (apart ((bytes_eq-Decides x y).0 hit)))
+  | inr miss ↦ miss
+]
