@@ -1,6 +1,6 @@
 -- What a site keeps when entries are logged that write nothing.
-use Rattle.std.proofs.Common.{◌≡◌, ℕ, zero, suc, ◌+◌, ◌<◌, ◌≤◌, ◌⊎◌, List, [], ◌∷◌, ◌++◌, length, map, get_or, set, take, true, Option, Some, None, refl, sym, ap, ap₂, ◌∙◌, subst, arith, inl, inr, All, Contains, append-nil}
-use Rattle.std.specs.Prelude.{slice_get, ◌↔◌, ◌==◌}
+use Rattle.std.proofs.Common.{◌≡◌, ℕ, zero, suc, ◌+◌, ◌<◌, ◌≤◌, ◌⊎◌, List, [], ◌∷◌, ◌++◌, length, map, get_or, set, take, true, false, Option, Some, None, refl, sym, ap, ap₂, ◌∙◌, subst, arith, inl, inr, All, Contains, append-nil}
+use Rattle.std.specs.Prelude.{slice_get, is_some, ◌↔◌, ◌==◌}
 use Rattle.std.specs.List.{filter_map}
 use Rattle.std.specs.Option.{ForSome}
 use Rattle.std.specs.Ordering.{nat_cmp}
@@ -419,6 +419,18 @@ pledged_is pledged part tx is = ap (λ (o : Option ℕ). pledge_of o part) is
 pub pledged_by : (pledged : Option ℕ) (part other : List Touch) (tx : ℕ) → pledge_of pledged part ≡ Some (record { tx = tx; part = other }) → pledged ≡ Some tx
 pledged_by None part other tx h = absurd cc
 pledged_by (Some t) part other tx h = ap Some (ap (λ (p : Pledge). p.tx) (same_Some _ (record { tx = tx; part = other }) h))
+
+pub pledged_some : (pledged : Option ℕ) (part : List Touch) → is_some pledged ≡ true → pledge_of pledged part ≡ None → ⊥
+pledged_some None part some none = absurd cc
+pledged_some (Some t) part some none = absurd cc
+
+pub pledged_none : (pledged : Option ℕ) → is_some pledged ≡ false → pledged ≡ None
+pledged_none None none = refl
+pledged_none (Some t) none = absurd cc
+
+pub no_pledge : (pledged : Option ℕ) (part : List Touch) → pledge_of pledged part ≡ None → pledged ≡ None
+no_pledge None part none = refl
+no_pledge (Some t) part none = absurd cc
 
 pub pledged_part : (pledged : Option ℕ) (part : List Touch) (p : Pledge) → pledge_of pledged part ≡ Some p → part ≡ p.part
 pledged_part None part p h = absurd cc

@@ -5,6 +5,7 @@ pub mod Changes
 pub mod Blocks
 pub mod Parts
 pub mod Keeps
+pub mod Pledges
 pub mod Refusals
 pub mod Installs
 pub mod Fresh

@@ -1,5 +1,5 @@
 -- How a site keeps its store: a cell for each item, and who has ended.
-use Rattle.std.specs.Prelude.{◌≡◌, ◌↔◌, ◌⊎◌, ℕ, ◌<◌, ◌≤◌, List, [], ◌++◌, length, map, Option, Some, None, All, Contains, find, unwrap_or, option_and_then, slice_get, set}
+use Rattle.std.specs.Prelude.{◌≡◌, ◌↔◌, ◌⊎◌, ℕ, ◌<◌, ◌≤◌, List, [], ◌++◌, length, map, Option, Some, None, All, Any, Contains, IsSome, find, unwrap_or, option_and_then, slice_get, set}
 use Rattle.std.specs.Option.{ForSome, option_to_list}
 use Rattle.std.specs.Str.{bytes_eq}
 use Rattle.std.specs.Ordering.{nat_cmp}
@@ -72,9 +72,12 @@ pub record Spare : Type 0 where
   pub installed : ℕ
   pub ended : ℕ
 
--- the item is touched
+-- how an item is touched, if it is
+abbrev pub touch_in : List Touch → Name → Option Touch
+touch_in part x = find (λ t. bytes_eq t.item x) part
+
 abbrev pub IsTouched : List Touch → Name → Type 0
-IsTouched part x = Contains (map (λ t. t.item) part) x
+IsTouched part x = IsSome (touch_in part x)
 
 -- there is room for the block and the lists of what a pledge covers
 pub record HasRoom (part : List Touch) (cells : List Contents) (spare : Spare) : Type 0 where
@@ -118,9 +121,25 @@ pub record ChangesAt (R : Contents → Contents → Type 0) (n : ℕ) (old new :
   pub changed : R before after
   pub others : new ≡ set old n after
 
+-- one of the cells is of the item
+abbrev pub HasItem : List Contents → Name → Type 0
+HasItem cells x = Contains (map (λ c. c.item) cells) x
+
+-- the transaction's read of the item is in the cells, and was answered so
+abbrev pub InCells : List Contents → ℕ → Name → Seen → Type 0
+InCells cells tx x seen = Any (λ c. (c.item ≡ x) × Contains c.readings (record { tx = tx; seen = seen })) cells
+
+-- a read of the item of the site is kept
+abbrev pub KeepsItem : List Touch → ℕ → Name → Type 0
+KeepsItem touched number x = Any (λ t. (t.site ≡ number) × IsSome t.seen × (t.item ≡ x)) touched
+
 -- the same cell, with as much room or more
 abbrev pub SameButRoom : Contents → Contents → Type 0
 SameButRoom old new = (new ≡ record old { has_room = new.has_room }) × (old.has_room ≤ new.has_room)
+
+-- the same cell, with room for one more writer and reader if its item is touched
+abbrev pub HasPlace : List Touch → Contents → Contents → Type 0
+HasPlace part old new = SameButRoom old new × (IsTouched part new.item → 0 < new.has_room)
 
 -- the value, the writers and the readers of a cell after a commit that touches its item so
 abbrev pub noted_value : Option Touch → ℕ → ℕ
@@ -134,10 +153,6 @@ noted_writers w (Some t) = option_to_list (option_and_then (λ v. Some w) t.put)
 abbrev pub noted_readers : Writer → Option Touch → List Reader
 noted_readers w None = []
 noted_readers w (Some t) = option_to_list (option_and_then (λ seen. Some (record { tx = w.tx; handle = w.handle; version = seen.version })) t.seen)
-
--- how an item is touched, if it is
-abbrev pub touch_in : List Touch → Name → Option Touch
-touch_in part x = find (λ t. bytes_eq t.item x) part
 
 -- the new cell is the old one after the commit, which touches its item so
 abbrev pub IsNoted : Writer → Option Touch → Contents → Contents → Type 0

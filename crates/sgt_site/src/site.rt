@@ -9,6 +9,7 @@ ghost use Rattle.sgt_site.specs.Store.{AreItems};
 ghost use Rattle.sgt_site.specs.Stored.{Contents, items_of, IsFresh, AreReadings, IsAnswering, AnswersAt};
 
 mod blocks;
+mod pledges;
 
 use crate::cell::{Cell, Reader, Writer, insert};
 use crate::fault::SiteFault;

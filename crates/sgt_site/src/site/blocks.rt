@@ -1,6 +1,6 @@
 //! The blocks that end a transaction, written under its pledge.
 
-ghost use Rattle.std.specs.Prelude.{◌≡◌, ◌↔◌, ◌+◌, ◌<◌, ◌≤◌, ◌++◌, length, map, slice_get, Some, vec_len, vec_capacity, All, Contains, IsTrue, OnSome};
+ghost use Rattle.std.specs.Prelude.{◌≡◌, ◌↔◌, ◌+◌, ◌<◌, ◌≤◌, ◌++◌, length, map, slice_get, Some, vec_len, vec_capacity, All, IsTrue};
 ghost use Rattle.sgt_names.specs.Draft.{at_site, writing_in};
 ghost use Rattle.sgt_names.specs.declared.entry.Entry.TheVariants.{Write, Want};
 ghost use Rattle.sgt_site.specs.Stored.{Contents, AreChanged, ChangesAt, IsNoted, IsTouched, touch_in};
@@ -155,9 +155,8 @@ fn note(cell: &mut Cell, writer: &Writer, part: &[Touch])
 }
 
 // How the item is touched, if it is.
-fn touch_of(part: &[Touch], item: Item) -> Option<Touch>
-    ensures is { result ≡ touch_in part.now item }
-    ensures touched { OnSome result (IsTouched part.now item) }
+pub(super) fn touch_of(part: &[Touch], item: Item) -> Option<Touch>
+    ensures { result ≡ touch_in part.now item }
 {
     for t in part {
         if t.item.same(&item) {

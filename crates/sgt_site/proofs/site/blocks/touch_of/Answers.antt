@@ -5,8 +5,8 @@ use Rattle.sgt_names.specs.declared.draft.Touch.{Touch}
 use Rattle.sgt_site.proofs.Changes.{find_hit, find_miss, miss_item}
 use Rattle.sgt_site.proofs.site.blocks.touch_of.Goals as goal
 
-pub returns-then-same-clause-is : goal.returns-then-same-clause-is
-returns-then-same-clause-is c =
+pub returns-then-same : goal.returns-then-same
+returns-then-same c =
     let hit : bytes_eq c.t-item.result.item c.args.item ≡ true = (bytes_eq-Decides _ _).1 (c.if-same.ensures.0 refl) in
     sym (find_hit (λ (t : Touch). bytes_eq t.item c.args.item) _ _ _ c.loop-t-test.true c.t-item.is hit) ∙ c.loop-t.invariant
 
