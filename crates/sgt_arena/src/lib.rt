@@ -4,6 +4,8 @@
 mod arena;
 mod fault;
 mod handle;
+#[cfg(test)]
+mod tests;
 
 pub use arena::Arena;
 pub use fault::{Fault, Refused};

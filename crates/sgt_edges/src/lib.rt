@@ -1,6 +1,12 @@
-//! The labelled edges between transactions.
+//! The labelled edges between transactions, and those of a draft at a site.
 #![tactic(auto)]
 
 mod edge;
+mod fault;
+mod laws;
+#[cfg(test)]
+mod tests;
 
 pub use edge::{Edge, EdgeList};
+pub use fault::EdgeFault;
+pub use laws::edges_are_conflicts;

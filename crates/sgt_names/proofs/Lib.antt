@@ -3,3 +3,4 @@ pub mod Chosen
 pub mod Stored
 pub mod Ranged
 pub mod Touched
+pub mod Examples

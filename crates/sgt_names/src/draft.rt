@@ -6,7 +6,7 @@ ghost use Rattle.sgt_names.specs.Draft.{AreRising, place_of, place_cmp, kept_in,
 
 use crate::Value;
 use crate::item::Item;
-use crate::number::SiteNo;
+use crate::site_no::SiteNo;
 use std::alloc::{AllocError, Global};
 use std::cmp::Ordering;
 use std::marker::Model;

@@ -1,6 +1,6 @@
 //! The names of items.
 
-ghost use Rattle.std.specs.Prelude.{◌≡◌};
+ghost use Rattle.std.specs.Prelude.{◌≡◌, ◌≤◌, IsTrue, length};
 ghost use Rattle.std.specs.List.{list_all};
 ghost use Rattle.sgt_names.specs.Name.{is_name_byte, is_small_letter, is_name};
 
@@ -52,7 +52,7 @@ impl Item {
     pub fn new(bytes: &[u8]) -> Result<Item, BadName>
         ensures { OkIff result (IsName bytes.now) bytes.now }
     {
-        if !is_name_text(bytes) || bytes.len() > 16 {
+        if !is_name_text(bytes) {
             return Err(BadName);
         }
         let mut padded = [0u8; 16];
@@ -105,7 +105,8 @@ fn are_later_bytes(bytes: &[u8]) -> bool
 }
 
 fn is_name_text(bytes: &[u8]) -> bool
-    ensures { result ≡ is_name bytes.now }
+    ensures is { result ≡ is_name bytes.now }
+    ensures short { IsTrue result → length bytes.now ≤ 16 }
 {
     match bytes.split_first() {
         Some((first, later)) => is_letter(*first) && are_later_bytes(later) && later.len() < 16,

@@ -1,10 +1,8 @@
-//! The numbers of transactions and of sites.
+//! The numbers of transactions.
 
 ghost use Rattle.std.specs.Prelude.{◌≡◌, ◌≤◌, ◌<◌, ◌^◌};
 ghost use Rattle.std.specs.Result.{OkIff};
-ghost use Rattle.sgt_names.specs.Limits.{max_sites};
 
-use crate::limits::MAX_SITES;
 use std::marker::Model;
 use thiserror::Error;
 
@@ -46,45 +44,6 @@ impl Tx {
     pub fn number(self) -> u32
         ensures is { result ≡ self }
         ensures in_range { 1 ≤ self }
-    {
-        self.number
-    }
-}
-
-/// The number of a site, from 0 to 15.
-#[derive(Clone, Copy, Debug, PartialEq, Eq, PartialOrd, Ord, Hash)]
-pub struct SiteNo {
-    number: u8,
-}
-
-impl Model for SiteNo {
-    ghost use Rattle.std.specs.Prelude.{ℕ, ◌<◌};
-    ghost use Rattle.sgt_names.specs.Limits.{max_sites};
-
-    ghost Value = { ℕ };
-
-    ghost view = { λ s. s.number };
-
-    ghost invariant = { λ s. s.number < max_sites };
-
-    ghost inverse = { λ n. record { number = n } };
-}
-
-impl SiteNo {
-    /// The site of this number. N2 from the greatest number of sites on.
-    pub fn new(number: u64) -> Result<SiteNo, BadNumber>
-        ensures { OkIff result (number < max_sites) number }
-    {
-        match u8::try_from(number) {
-            Ok(number) if number < MAX_SITES => Ok(SiteNo { number }),
-            _ => Err(BadNumber),
-        }
-    }
-
-    /// Its number.
-    pub fn number(self) -> u8
-        ensures is { result ≡ self }
-        ensures in_range { self < max_sites }
     {
         self.number
     }
