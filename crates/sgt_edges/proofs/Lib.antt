@@ -1,1 +1,3 @@
-pub mod Logged
+mod Logged
+mod Unlisted
+mod Gathers

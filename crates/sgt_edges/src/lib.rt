@@ -3,10 +3,12 @@
 
 mod edge;
 mod fault;
+mod gathered;
 mod laws;
 #[cfg(test)]
 mod tests;
 
 pub use edge::{Edge, EdgeList};
 pub use fault::EdgeFault;
+pub use gathered::gather;
 pub use laws::edges_are_conflicts;

@@ -169,6 +169,21 @@ module _ (n : ℕ) where
       let of : kept_of t ≡ Some (t.item, seen.value, seen.version) = ap (option_and_then (λ (s : Seen). Some (t.item, s.value, s.version))) some in
       Contains-from_at (kept_in (at_site n ts)) (count_before kept_of (at_site n ts) at.0) (t.item, seen.value, seen.version) (chosen_from kept_of (at_site n ts) at.0 t (t.item, seen.value, seen.version) at.1 of)
 
+  -- and so for a private write
+  pub put-from : (ts : List Touch) (x : Name) (v : ℕ) → Contains (writing_in (at_site n ts)) (x, v) → (t : Touch) × Contains ts t × (t.site ≡ n) × (t.item ≡ x) × (t.put ≡ Some v)
+  put-from ts x v has =
+      let at = Contains_at (writing_in (at_site n ts)) (x, v) has in
+      let from = chosen_at writing_of (at_site n ts) at.0 (x, v) at.1 in
+      let is = writing_is from.1 (x, v) from.3 in
+      let there = filter_at ts from.0 from.1 from.2 in
+      (from.1, there.0, there.1, is.0, is.1)
+
+  pub put-to : (ts : List Touch) (t : Touch) (v : ℕ) → Contains ts t → t.site ≡ n → t.put ≡ Some v → Contains (writing_in (at_site n ts)) (t.item, v)
+  put-to ts t v has here some =
+      let at = Contains_at (at_site n ts) t (of_site ts t has here) in
+      let of : writing_of t ≡ Some (t.item, v) = ap (option_and_then (λ u. Some (t.item, u))) some in
+      Contains-from_at (writing_in (at_site n ts)) (count_before writing_of (at_site n ts) at.0) (t.item, v) (chosen_from writing_of (at_site n ts) at.0 t (t.item, v) at.1 of)
+
 -- what is kept of the transaction's reads is what the log has of them
 module _ (s : Store) (cells : List Contents) (items : s.items ≡ items_of cells) (site : IsSite s) (rising : IsRisingBy (λ c. c.item) (slice_cmp nat_cmp) cells) (each : All (IsCell s.items s.installed s.entries) cells) (tx : ℕ) (touched : List Touch) where
   logged : (x : Name) (seen : Seen) → InCells cells tx x seen → LogsRead s.entries tx x seen.value seen.version

@@ -82,7 +82,8 @@ impl Site {
 
     /// The number of the site.
     pub fn number(&self) -> SiteNo
-        ensures { result ≡ self.now.number }
+        ensures number { result ≡ self.now.number }
+        ensures site { IsSite self.now }
     {
         self.number
     }
@@ -169,6 +170,7 @@ impl Site {
     /// The committed transactions that wrote the item, in the order of the log.
     pub fn writers(&self, item: Item) -> Result<&[Writer], SiteFault>
         ensures ok { IfOk result (λ ws. ws.now ≡ writers_of self.now.installed self.now.entries item) }
+        ensures site { IsSite self.now }
         ensures allowed { OnOk result (Contains (names self.now.items) item) }
         ensures refused { IfErr result (λ f. (f ≡ SiteFault.UnknownItem) × (¬ Contains (names self.now.items) item)) }
     {
@@ -181,6 +183,7 @@ impl Site {
     /// The committed transactions that read the item, with the versions that they read.
     pub fn readers(&self, item: Item) -> Result<&[Reader], SiteFault>
         ensures ok { IfOk result (λ rs. (r : Reader) → Contains rs.now r ↔ IsReader self.now.installed self.now.entries item r) }
+        ensures site { IsSite self.now }
         ensures allowed { OnOk result (Contains (names self.now.items) item) }
         ensures refused { IfErr result (λ f. (f ≡ SiteFault.UnknownItem) × (¬ Contains (names self.now.items) item)) }
     {
