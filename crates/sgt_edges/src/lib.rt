@@ -6,6 +6,8 @@ mod fault;
 mod gathered;
 mod laws;
 #[cfg(test)]
+mod site_and_edges;
+#[cfg(test)]
 mod tests;
 
 pub use edge::{Edge, EdgeList};

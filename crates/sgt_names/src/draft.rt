@@ -4,6 +4,9 @@ ghost use Rattle.std.specs.Prelude.{◌≡◌, ◌<◌, ◌≤◌, IfOk, IfErr, 
 ghost use Rattle.sgt_names.specs.Ordered.{IsAt, IsGapFor};
 ghost use Rattle.sgt_names.specs.Draft.{AreRising, place_of, place_cmp, kept_in, writing_in, at_site, look_of};
 
+#[cfg(test)]
+mod tests;
+
 use crate::Value;
 use crate::item::Item;
 use crate::site_no::SiteNo;
@@ -63,7 +66,7 @@ impl Draft {
         ensures rising { AreRising self.now.touched }
         ensures used { All IsUsed self.now.touched }
     {
-        self.touched.as_slice()
+        &self.touched
     }
 
     /// Makes room, so that the next `seen` takes no memory and succeeds.

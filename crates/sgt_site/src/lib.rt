@@ -4,6 +4,8 @@
 mod cell;
 mod fault;
 mod site;
+#[cfg(test)]
+mod tests;
 
 pub use cell::{Reader, Writer};
 pub use fault::SiteFault;
