@@ -18,20 +18,14 @@ use Rattle.sgt_site.specs.Store.{Store, IsSite, IsReader, version_at, writers_of
 use Rattle.sgt_site.specs.declared.cell.Reader.{Reader}
 use Rattle.sgt_site.specs.declared.cell.Writer.{Writer}
 use Rattle.sgt_site.proofs.Appends.{Any_at, Any-from_at}
+use Rattle.sgt_site.proofs.Basics.{is_single}
 use Rattle.sgt_site.proofs.Found.{map_at}
 use Rattle.sgt_site.proofs.Pledges.{kept-from, kept-to, put-from, put-to}
 use Rattle.sgt_edges.specs.Edges.{IsWriter, HasReader, Keeps, IsToWrite, IsEdge, wrote_before, wrote_after, wrote_too, read_it, IsGiven, Walks, given, StandsForAll, SeesTooNew}
 use Rattle.sgt_edges.specs.Gathered.{IsTooNew, edge, Adds, AddsOfRead, AddsOfWrite, AddsEdges, Gathers, label_at}
 use Rattle.sgt_edges.specs.declared.edge.Edge.{Edge}
 
--- all that is in a list of one
-only : {A : Type 0} (a b : A) → Contains (a ∷ []) b → b ≡ a
-only a b in_one = let at = Contains_at (a ∷ []) b in_one in by_place at.0 at.1
-  where
-    by_place : (m : ℕ) → slice_get (a ∷ []) m ≡ Some b → b ≡ a
-    by_place zero h = sym (same_Some a b h)
-    by_place (suc m) h = absurd cc
-
+-- a list of one has it
 itself : {A : Type 0} (a : A) → Contains (a ∷ []) a
 itself a = Contains-from_at (a ∷ []) 0 a refl
 
@@ -40,7 +34,7 @@ module _ (s : Store) where
   keeps-one : (t : Touch) (x : Name) (n : ℕ) → Keeps s (t ∷ []) x n → (t.site ≡ s.number) × (t.item ≡ x) × ((v : ℕ) × (t.seen ≡ Some (record { value = v; version = n })))
   keeps-one t x n keeps =
       let k = kept-from s.number (t ∷ []) x keeps.0 n keeps.1 in
-      let same = only t k.0 k.1 in
+      let same = is_single t k.0 k.1 in
       (ap (λ (u : Touch). u.site) (sym same) ∙ k.2, ap (λ (u : Touch). u.item) (sym same) ∙ k.3, (keeps.0, ap (λ (u : Touch). u.seen) (sym same) ∙ k.4))
 
   one-keeps : (t : Touch) (seen : Seen) → t.site ≡ s.number → t.seen ≡ Some seen → Keeps s (t ∷ []) t.item seen.version
@@ -49,7 +43,7 @@ module _ (s : Store) where
   writes-one : (t : Touch) (x : Name) → IsToWrite s (t ∷ []) x → (t.site ≡ s.number) × (t.item ≡ x) × ((v : ℕ) × (t.put ≡ Some v))
   writes-one t x writes =
       let k = put-from s.number (t ∷ []) x writes.0 writes.1 in
-      let same = only t k.0 k.1 in
+      let same = is_single t k.0 k.1 in
       (ap (λ (u : Touch). u.site) (sym same) ∙ k.2, ap (λ (u : Touch). u.item) (sym same) ∙ k.3, (writes.0, ap (λ (u : Touch). u.put) (sym same) ∙ k.4))
 
   one-writes : (t : Touch) (v : ℕ) → t.site ≡ s.number → t.put ≡ Some v → IsToWrite s (t ∷ []) t.item

@@ -1,7 +1,6 @@
 -- The blocks that end a transaction: orderly by themselves, and fit to follow the log under its pledge.
-use Rattle.std.proofs.Common.{◌≡◌, ℕ, zero, suc, ◌+◌, ◌<◌, ◌≤◌, List, [], ◌∷◌, ◌++◌, length, map, get_or, Option, Some, None, refl, sym, ap, ◌∙◌, subst, arith, inl, inr, All, AllPairs, Contains, length-append}
-use Rattle.std.specs.Prelude.{slice_get, ◌≢◌, option_map, option_and_then}
-use Rattle.std.specs.List.{filter_map, cons_option}
+use Rattle.std.proofs.Common.{◌≡◌, ℕ, zero, suc, ◌+◌, ◌<◌, List, [], ◌∷◌, ◌++◌, length, map, get_or, Some, None, refl, sym, ap, ◌∙◌, subst, arith, inl, inr, All, Contains, length-append}
+use Rattle.std.specs.Prelude.{slice_get, ◌≢◌, option_map}
 use Rattle.std.specs.Option.{ForSome}
 use Rattle.std.specs.Ordering.{nat_cmp, ordering_then}
 use Rattle.std.specs.Cmp.Lexicographic.{slice_cmp}
@@ -18,9 +17,9 @@ use Rattle.sgt_names.specs.Log.{names, IsOrderly}
 use Rattle.sgt_names.specs.Draft.{AreRising, place_of, place_cmp, writing_of, writing_in}
 use Rattle.sgt_names.specs.declared.draft.Touch.{Touch}
 use Rattle.sgt_names.specs.declared.entry.Entry.{Entry}
-use Rattle.sgt_names.specs.declared.entry.Entry.TheVariants.{Read, Write, Want, Commit, Refuse, Withdraw}
+use Rattle.sgt_names.specs.declared.entry.Entry.TheVariants.{Read, Write, Want, Commit, Refuse}
 use Rattle.sgt_names.specs.declared.entry.Holding.{Holding}
-use Rattle.sgt_names.proofs.Places.{Contains_at, Contains-from_at, All_at, All-from_at, AllPairs_at, AllPairs-from_at}
+use Rattle.sgt_names.proofs.Places.{Contains_at, All_at, All-from_at, AllPairs_at, AllPairs-from_at}
 use Rattle.sgt_site.specs.Store.{Store, IsSite, HasEnded}
 use Rattle.sgt_site.proofs.Appends.{get_front, get_back, get_cases, Any_at, Any-from_at, MayFollow, chosen_at, count-rises}
 use Rattle.sgt_site.proofs.Found.{map_at}

@@ -1,10 +1,8 @@
 -- Loops over the cells, one place after another.
-use Rattle.std.proofs.Common.{◌≡◌, ℕ, zero, suc, ◌+◌, ◌<◌, ◌≤◌, Bool, true, false, List, [], ◌∷◌, length, get_or, set, drop, Option, Some, refl, sym, ap, ◌∙◌, subst, arith, inl, inr, length-set, All, Contains}
+use Rattle.std.proofs.Common.{◌≡◌, ℕ, zero, suc, ◌+◌, ◌<◌, ◌≤◌, Bool, true, false, List, [], ◌∷◌, length, get_or, set, drop, Some, refl, sym, ap, ◌∙◌, subst, arith, inl, inr, length-set, All}
 use mathlib.Core.Bool.{false≢true}
 use Rattle.std.specs.Prelude.{slice_get, find, IsTrue, ◌↔◌}
-use Rattle.std.specs.Str.{bytes_eq}
-use Rattle.std.proofs.lemmas.Slice.Eq.{bytes_eq-Decides}
-use Rattle.std.proofs.lemmas.Bool.{cases_Bool, cases_lt, cases_order}
+use Rattle.std.proofs.lemmas.Bool.{cases_lt, cases_order}
 use Rattle.std.proofs.lemmas.Option.{same_Some, slice_get_within, slice_get-get_or}
 use Rattle.sgt_names.specs.declared.draft.Touch.{Touch}
 use Rattle.sgt_names.proofs.Places.{All_at, All-from_at}
@@ -56,13 +54,6 @@ module _ (R : Contents → Contents → Type 0) where
 
   pub done-all : (old now : List Contents) → Done R (length old) old now → AreChanged R old now
   done-all old now done = record { as_many = done.as_many; each = λ n c d at_old at_now. done.below n c d (slice_get_within old n c at_old) at_old at_now }
-
--- names that a test tells apart
-pub miss_item : (x y : List ℕ) → (x ≡ y → false ≡ true) → bytes_eq x y ≡ false
-miss_item x y apart = elim (cases_Bool (bytes_eq x y)) [
-  | inl hit ↦ absurd (false≢true (apart ((bytes_eq-Decides x y).0 hit)))
-  | inr miss ↦ miss
-]
 
 -- a test of all, one element after another: what is left passes exactly where the whole does
 module _ {A : Type 0} (P : A → Type 0) where

@@ -16,7 +16,7 @@ use Rattle.sgt_names.specs.Ordered.{IsRisingBy, IsAt, IsGapFor}
 use Rattle.sgt_names.specs.declared.draft.Seen.{Seen}
 use Rattle.sgt_names.proofs.Places.{Contains_at, Contains-from_at, AllPairs_at}
 use Rattle.sgt_names.proofs.Ranged.{rising-insert}
-use Rattle.sgt_site.specs.Stored.{Contents, AreReadings, IsAnswering, IsAnswered, AnswersAt, answer_of}
+use Rattle.sgt_site.specs.Stored.{Contents, AreReadings, IsAnswered, AnswersAt, answer_of}
 use Rattle.sgt_site.specs.declared.cell.Reading.{Reading}
 use Rattle.sgt_site.proofs.Inserts.{Contains-insert}
 

@@ -1,5 +1,5 @@
 -- An element put into a list, or in the place of another.
-use Rattle.std.proofs.Common.{◌≡◌, ℕ, zero, suc, ◌⊎◌, inl, inr, List, [], ◌∷◌, ◌<◌, length, set, Some, refl, sym, ap, ◌∙◌, subst, arith, Contains}
+use Rattle.std.proofs.Common.{◌≡◌, ℕ, zero, suc, ◌⊎◌, inl, inr, List, [], ◌∷◌, ◌<◌, length, set, Some, refl, sym, ap, subst, arith, Contains}
 use Rattle.std.specs.Prelude.{slice_get, ◌↔◌}
 use Rattle.std.specs.List.{insert}
 use Rattle.std.proofs.lemmas.Option.{same_Some}

@@ -1,6 +1,6 @@
 -- What a site keeps when it logs the block of a committed transaction.
-use Rattle.std.proofs.Common.{◌≡◌, ℕ, zero, suc, ◌<◌, ◌≤◌, ◌⊎◌, List, [], ◌∷◌, ◌++◌, length, map, get_or, Bool, true, false, Option, Some, None, refl, sym, ap, ap₂, ◌∙◌, subst, arith, inl, inr, All, Contains, append-nil}
-use Rattle.std.specs.Prelude.{slice_get, ◌↔◌, ◌==◌, if◌then◌else◌, option_and_then, unwrap_or, ◌≢◌}
+use Rattle.std.proofs.Common.{◌≡◌, ℕ, suc, ◌⊎◌, List, [], ◌∷◌, ◌++◌, length, get_or, true, Option, Some, None, refl, sym, ap, ap₂, ◌∙◌, subst, arith, inl, inr, Contains, append-nil}
+use Rattle.std.specs.Prelude.{slice_get, ◌↔◌, ◌==◌, if◌then◌else◌, option_and_then, unwrap_or}
 use Rattle.std.specs.List.{filter_map, cons_option, last_or}
 use Rattle.std.specs.Option.{option_to_list}
 use Rattle.std.specs.Ordering.{nat_cmp}
@@ -25,13 +25,14 @@ use Rattle.sgt_names.proofs.Places.{Contains-from_at, All_at, All-from_at, AllPa
 use Rattle.sgt_arena.specs.declared.handle.Handle.{Handle}
 use Rattle.sgt_site.specs.declared.cell.Writer.{Writer}
 use Rattle.sgt_site.specs.declared.cell.Reader.{Reader}
-use Rattle.sgt_site.specs.Store.{Store, Pledge, IsSite, IsCovered, IsReader, LogsRead, HasEnded, handle_of, writer, writers_of, committed, commit_block}
+use Rattle.sgt_site.specs.Store.{Store, Pledge, IsSite, IsCovered, IsReader, LogsRead, handle_of, writer, writers_of, committed, commit_block}
 use Rattle.sgt_site.specs.Stored.{Contents, Spare, AreChanged, IsNoted, IsCell, IsKept, items_of, touch_in, noted_value, noted_writers, noted_readers}
 use Rattle.sgt_site.proofs.Appends.{get_cases, orderly-append, legal-append, LogsRead-append, LogsRead-cases}
-use Rattle.sgt_site.proofs.Projections.{AllGiven, all_given, ended_with_handle}
+use Rattle.sgt_site.proofs.Projections.{all_given, ended_with_handle}
+use Rattle.sgt_site.proofs.Basics.{is_single}
 use Rattle.sgt_site.proofs.Keeps.{Ends, ended-one}
 use Rattle.sgt_site.proofs.Blocks.{commits-blocks, writings-rise, in_block, at_end, block_ends, block_alone, block_orderly, block_follows, no_reads}
-use Rattle.sgt_site.proofs.Parts.{ItemsRise, part-rises, touch-found, chosen_writes, kept-touch, touch-kept}
+use Rattle.sgt_site.proofs.Parts.{ItemsRise, part-rises, chosen_writes, kept-touch, touch-kept}
 
 -- the handles with more of them
 handle_kept : (ws us : List Writer) (t : ℕ) (h : Handle) → handle_of ws t ≡ Some h → handle_of (ws ++ us) t ≡ Some h
@@ -147,13 +148,6 @@ module _ (s : Store) (p : Pledge) (handle : Handle) (site : IsSite s) (covered :
       logged : (v : ℕ) → LogsRead (s.entries ++ bs) r.tx c.item v r.version → LogsRead s.entries r.tx c.item v r.version
       logged v read = LogsRead-cases s.entries bs r.tx c.item v r.version read (λ old. old) (λ m at is. absurd (no_reads Write Commit commits-blocks p.tx (writing_in p.part) m r.tx c.item v at))
 
-      in_one : (u : Reader) → Contains (u ∷ []) r → r ≡ u
-      in_one u has = by_place has.0 has.1 has.2
-        where
-          by_place : (k : ℕ) → k < 1 → get_or (u ∷ []) k r ≡ r → r ≡ u
-          by_place zero lt is = sym is
-          by_place (suc k) lt is = absurd (omega arith)
-
       of_touch : (o : Option Touch) → touch_in p.part c.item ≡ o → Contains (noted_readers by o) r → IsReader ws (s.entries ++ bs) c.item r
       of_touch None is has = absurd (omega (arith, has.1))
       of_touch (Some t) is has = of_seen t.seen refl has
@@ -161,7 +155,7 @@ module _ (s : Store) (p : Pledge) (handle : Handle) (site : IsSite s) (covered :
           of_seen : (q : Option Seen) → t.seen ≡ q → Contains (option_to_list (option_and_then (λ (seen : Seen). Some (record { tx = by.tx; handle = by.handle; version = seen.version })) q)) r → IsReader ws (s.entries ++ bs) c.item r
           of_seen None none in_it = absurd (omega (arith, in_it.1))
           of_seen (Some seen) some in_it =
-              let same = in_one (record { tx = by.tx; handle = by.handle; version = seen.version }) in_it in
+              let same = is_single (record { tx = by.tx; handle = by.handle; version = seen.version }) r in_it in
               rw same (given, (seen.value, LogsRead-append s.entries bs p.tx c.item seen.value seen.version ((covered.reads c.item seen.value seen.version).0 (touch-kept p.part c.item t seen is some))))
 
       from : Contains c.readers r ⊎ Contains (noted_readers by (touch_in p.part c.item)) r → IsReader ws (s.entries ++ bs) c.item r

@@ -5,10 +5,9 @@ use Rattle.std.specs.List.{filter_map}
 use Rattle.std.specs.Option.{ForSome}
 use Rattle.std.specs.Ordering.{nat_cmp}
 use Rattle.std.specs.Cmp.Lexicographic.{slice_cmp}
-use Rattle.std.specs.declared.cmp.Ordering.TheVariants.{Less, Equal}
+use Rattle.std.specs.declared.cmp.Ordering.TheVariants.{Less}
 use Rattle.std.proofs.lemmas.Bool.{cases_Bool, cases_order}
 use Rattle.std.proofs.lemmas.Bool.Decides.{nat_tests}
-use Rattle.std.proofs.lemmas.Cmp.{nat_list_cmp_total, tied_itself}
 use Rattle.std.proofs.lemmas.Option.{slice_get-get_or, slice_get_read, same_Some}
 use Rattle.std.proofs.lemmas.List.Elements.{filter_map-append, Contains-append_left, Contains-append_right, All-weaker}
 use Rattle.std.proofs.Math.Seq.{take-append_seam}
@@ -28,9 +27,10 @@ use Rattle.sgt_site.specs.declared.cell.Reader.{Reader}
 use Rattle.sgt_site.specs.declared.cell.Reading.{Reading}
 use Rattle.sgt_site.specs.Store.{Store, Pledge, IsSite, IsCovered, IsReader, HasRead, HasEnded, LogsRead, version_at, writer, writers_of, committed}
 use Rattle.sgt_site.specs.Refused.{MayRead}
-use Rattle.sgt_site.specs.Stored.{Contents, IsTouched, Spare, AreReadings, IsAnswering, IsAnswered, AnswersAt, HasRoom, answer_of, items_of, IsCell, IsKept, pledge_of}
+use Rattle.sgt_site.specs.Stored.{Contents, IsTouched, Spare, IsAnswering, IsAnswered, AnswersAt, HasRoom, answer_of, items_of, IsCell, IsKept, pledge_of}
 use Rattle.sgt_site.proofs.Appends.{get_cases, get_back, Any_at, Any-from_at, MayFollow, orderly-append, legal-append, value-kept, LogsRead-append, LogsRead-cases, HasEnded-append, HasEnded-append_right, HasEnded-cases}
 use Rattle.sgt_site.proofs.Projections.{ended_with_handle, length-writers, all_given}
+use Rattle.sgt_site.proofs.Basics.{less_apart, is_single}
 use Rattle.sgt_site.proofs.Found.{map_at}
 use Rattle.sgt_site.proofs.Inserts.{get_set_same, get_set_other}
 
@@ -78,13 +78,6 @@ answered-value s site cells new x n tx seen each at answers =
       subst (λ y. value_at s.items s.entries y ≡ Some seen.value) of (cell.value ∙ ap Some (sym (ap (λ (e : Seen). e.value) answers.is))),
       ap (λ (e : Seen). e.version) answers.is ∙ found_version s site answers.cell cell ∙ ap (version_at s.entries) of,
     )
-
-is_single : {A : Type 0} (a b : A) → Contains (a ∷ []) b → b ≡ a
-is_single a b has = let at = Contains_at (a ∷ []) b has in first at.0 at.1
-  where
-    first : (n : ℕ) → slice_get (a ∷ []) n ≡ Some b → b ≡ a
-    first zero h = sym (same_Some a b h)
-    first (suc n) h = absurd cc
 
 -- one entry that opens no block is an orderly log
 pub single_orderly : (items : List Holding) (e : Entry) → ForSome (item_of e) (Contains (names items)) → (IsOpen e → ⊥) → IsOrderly items (e ∷ [])
@@ -312,10 +305,10 @@ module _ (s : Store) (tx : ℕ) (x : Name) (v : ℕ) (site : IsSite s) (may : Ma
           | inl same ↦ subst (IsCell s.items s.installed (s.entries ++ one)) (set_here k c same here) (read_cell answers.cell answers.answered of answers.reads is_value (All_at (IsCell s.items s.installed s.entries) cells n answers.cell each answers.at))
           | inr (inl lt) ↦
               let old = set_other k c (λ e. absurd (omega arith)) here in
-              other_cell c (λ same. apart_less c.item x (subst (λ y. slice_cmp nat_cmp c.item y ≡ Less) of (AllPairs_at (λ (a b : Contents). slice_cmp nat_cmp a.item b.item ≡ Less) cells k n c answers.cell rising lt old answers.at)) same) (All_at (IsCell s.items s.installed s.entries) cells k c each old)
+              other_cell c (λ same. less_apart c.item x (subst (λ y. slice_cmp nat_cmp c.item y ≡ Less) of (AllPairs_at (λ (a b : Contents). slice_cmp nat_cmp a.item b.item ≡ Less) cells k n c answers.cell rising lt old answers.at)) same) (All_at (IsCell s.items s.installed s.entries) cells k c each old)
           | inr (inr gt) ↦
               let old = set_other k c (λ e. absurd (omega arith)) here in
-              other_cell c (λ same. apart_less x c.item (subst (λ y. slice_cmp nat_cmp y c.item ≡ Less) of (AllPairs_at (λ (a b : Contents). slice_cmp nat_cmp a.item b.item ≡ Less) cells n k answers.cell c rising gt answers.at old)) (sym same)) (All_at (IsCell s.items s.installed s.entries) cells k c each old)
+              other_cell c (λ same. less_apart x c.item (subst (λ y. slice_cmp nat_cmp y c.item ≡ Less) of (AllPairs_at (λ (a b : Contents). slice_cmp nat_cmp a.item b.item ≡ Less) cells n k answers.cell c rising gt answers.at old)) (sym same)) (All_at (IsCell s.items s.installed s.entries) cells k c each old)
         ])),
       )
     where
@@ -324,9 +317,6 @@ module _ (s : Store) (tx : ℕ) (x : Name) (v : ℕ) (site : IsSite s) (may : Ma
 
       set_other : (k : ℕ) (c : Contents) → (k ≡ n → ⊥) → slice_get (set cells n answers.answered) k ≡ Some c → slice_get cells k ≡ Some c
       set_other k c apart here = sym (get_set_other cells n k answers.answered apart) ∙ here
-
-      apart_less : (y z : Name) → slice_cmp nat_cmp y z ≡ Less → y ≡ z → ⊥
-      apart_less y z less same = absurd (let e : slice_cmp nat_cmp y y ≡ Less = subst (λ w. slice_cmp nat_cmp y w ≡ Less) (sym same) less in let t = tied_itself nat_list_cmp_total y in cc)
 
   no_end : (t : ℕ) → HasEnded one t → ⊥
   no_end t has =

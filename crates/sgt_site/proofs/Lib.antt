@@ -1,3 +1,4 @@
+pub mod Basics
 pub mod Appends
 pub mod Found
 pub mod Projections

@@ -1,14 +1,13 @@
 -- The part of a draft at one site: its items rise, so each is touched once.
-use Rattle.std.proofs.Common.{◌≡◌, ℕ, zero, suc, ◌<◌, ◌≤◌, Bool, true, false, List, [], ◌∷◌, Option, Some, None, refl, sym, ap, ◌∙◌, subst, arith, inl, inr, All, Contains}
-use Rattle.std.specs.Prelude.{slice_get, find, option_and_then, if◌then◌else◌}
+use Rattle.std.proofs.Common.{◌≡◌, ℕ, suc, Bool, true, false, List, [], ◌∷◌, Option, Some, None, refl, sym, ap, ◌∙◌, subst, arith, inl, inr, All, Contains}
+use Rattle.std.specs.Prelude.{slice_get, option_and_then, if◌then◌else◌}
 use Rattle.std.specs.List.{filter_map, cons_option}
 use Rattle.std.specs.Option.{option_to_list}
 use Rattle.std.specs.Ordering.{nat_cmp}
 use Rattle.std.specs.Str.{bytes_eq}
 use Rattle.std.specs.Cmp.Lexicographic.{slice_cmp}
-use Rattle.std.specs.declared.cmp.Ordering.TheVariants.{Less, Equal}
+use Rattle.std.specs.declared.cmp.Ordering.TheVariants.{Less}
 use Rattle.std.proofs.lemmas.Bool.{cases_Bool}
-use Rattle.std.proofs.lemmas.Cmp.{nat_list_cmp_total, tied_itself}
 use Rattle.std.proofs.lemmas.Option.{same_Some, option_and_then_some}
 use Rattle.std.proofs.lemmas.Slice.Eq.{bytes_eq-Decides}
 use Rattle.sgt_names.specs.Name.{Name}
@@ -23,6 +22,7 @@ use Rattle.sgt_names.proofs.Ranged.{find_first, find_none}
 use Rattle.sgt_site.specs.Store.{commit_block}
 use Rattle.sgt_site.specs.Stored.{touch_in}
 use Rattle.sgt_site.proofs.Appends.{chosen_at, chosen_from, count_before}
+use Rattle.sgt_site.proofs.Basics.{less_apart, apart_false}
 use Rattle.sgt_site.proofs.Blocks.{items-rise}
 
 abbrev pub ItemsRise : List Touch → Type 0
@@ -31,16 +31,6 @@ ItemsRise part = IsRisingBy (λ (t : Touch). t.item) (slice_cmp nat_cmp) part
 pub part-rises : (n : ℕ) (part : List Touch) → All (λ t. t.site ≡ n) part → AreRising part → ItemsRise part
 part-rises n part here rising = AllPairs-from_at (λ (t u : Touch). slice_cmp nat_cmp t.item u.item ≡ Less) part (λ p q t u lt at_p at_q.
     items-rise n t u (All_at (λ (t : Touch). t.site ≡ n) part p t here at_p) (All_at (λ (t : Touch). t.site ≡ n) part q u here at_q) (AllPairs_at (λ t u. place_cmp (place_of t) (place_of u) ≡ Less) part p q t u rising lt at_p at_q))
-
--- of two different items a test tells them apart
-less_apart : (x y : Name) → slice_cmp nat_cmp x y ≡ Less → x ≡ y → ⊥
-less_apart x y less same = absurd (let tied : slice_cmp nat_cmp x y ≡ Equal = subst (λ z. slice_cmp nat_cmp x z ≡ Equal) same (tied_itself nat_list_cmp_total x) in cc)
-
-apart_false : (x y : Name) → (x ≡ y → ⊥) → bytes_eq x y ≡ false
-apart_false x y apart = elim (cases_Bool (bytes_eq x y)) [
-  | inl hit ↦ absurd (apart ((bytes_eq-Decides x y).0 hit))
-  | inr miss ↦ miss
-]
 
 -- what a look among the touched items finds
 pub touch-found : (part : List Touch) (x : Name) (t : Touch) → touch_in part x ≡ Some t → (n : ℕ) × (slice_get part n ≡ Some t) × (t.item ≡ x)

@@ -1,16 +1,16 @@
 -- What a site keeps when it logs the block of a refused transaction.
-use Rattle.std.proofs.Common.{◌≡◌, ℕ, List, [], ◌∷◌, ◌++◌, length, map, Option, Some, None, refl, ap, ◌∙◌, subst, Contains}
+use Rattle.std.proofs.Common.{◌≡◌, ℕ, List, [], ◌∷◌, ◌++◌, length, Option, Some, None, refl, ap, ◌∙◌, Contains}
 use Rattle.std.specs.Prelude.{slice_get}
 use Rattle.std.specs.List.{filter_map, cons_option}
 use Rattle.sgt_names.specs.Name.{Name}
 use Rattle.sgt_names.specs.Draft.{writing_in}
 use Rattle.sgt_names.specs.declared.entry.Entry.{Entry}
-use Rattle.sgt_names.specs.declared.entry.Entry.TheVariants.{Read, Write, Want, Refuse}
+use Rattle.sgt_names.specs.declared.entry.Entry.TheVariants.{Write, Want, Refuse}
 use Rattle.sgt_names.proofs.Places.{Contains-from_at}
 use Rattle.sgt_site.specs.Store.{Store, Pledge, IsCovered, refuse_block}
 use Rattle.sgt_site.specs.Stored.{Contents, Spare, IsKept}
 use Rattle.sgt_site.proofs.Keeps.{Ends, ended-one, IsQuiet, site-quiet, cells-quiet}
-use Rattle.sgt_site.proofs.Blocks.{refusals-blocks, writings-rise, in_block, block_tx, at_end, block_ends, block_alone, block_orderly, block_follows, no_reads}
+use Rattle.sgt_site.proofs.Blocks.{refusals-blocks, writings-rise, in_block, at_end, block_ends, block_alone, block_orderly, block_follows, no_reads}
 
 -- what is chosen of neither a want nor a refusal is not in the block
 none_chosen : {B : Type 0} (f : Entry → Option B) (tx : ℕ) → ((x : Name) (v : ℕ) → f (Want tx x v) ≡ None) → f (Refuse tx) ≡ None → (ws : List (Name × ℕ)) → filter_map f (refuse_block tx ws) ≡ []

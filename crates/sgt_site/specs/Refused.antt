@@ -5,9 +5,9 @@ use Rattle.sgt_names.specs.Log.{names}
 use Rattle.sgt_names.specs.Draft.{at_site, kept_in, writing_in}
 use Rattle.sgt_names.specs.declared.draft.Touch.{Touch}
 use Rattle.sgt_names.specs.declared.entry.Holding.{Holding}
-use Rattle.sgt_site.specs.Store.{Store, AreItems, HasRead, HasEnded, KeepsReads, IsPledged, IsPledgedFor}
+use Rattle.sgt_site.specs.Store.{Store, AreItems, HasRead, HasEnded, KeepsReads, IsPledged}
 use Rattle.sgt_site.specs.declared.fault.SiteFault.{SiteFault}
-use Rattle.sgt_site.specs.declared.fault.SiteFault.TheVariants.{UnknownItem, ReadTwice, Ended, Memory, NotPledged, BadItems, PledgeOpen, DraftDiffers}
+use Rattle.sgt_site.specs.declared.fault.SiteFault.TheVariants.{UnknownItem, ReadTwice, Ended, Memory, BadItems, PledgeOpen, DraftDiffers}
 
 -- `new`
 abbrev pub RefusesItems : List Holding → SiteFault → Type 0
@@ -50,13 +50,3 @@ RefusesPledge s tx touched PledgeOpen = WritesKnown s touched × (¬ HasEnded s.
 RefusesPledge s tx touched DraftDiffers = WritesKnown s touched × (¬ HasEnded s.entries tx) × (s.pledge ≡ None) × (¬ KeepsReads s.entries tx (kept_in (at_site s.number touched)))
 RefusesPledge s tx touched Memory = MayPledge s tx touched
 RefusesPledge s tx touched _ = ⊥
-
--- `install` and `refuse`
-abbrev pub RefusesBlock : Store → ℕ → List Touch → SiteFault → Type 0
-RefusesBlock s tx touched NotPledged = ¬ IsPledgedFor s tx touched
-RefusesBlock s tx touched _ = ⊥
-
--- `unpledge` and `withdraw`
-abbrev pub RefusesSpent : Store → ℕ → SiteFault → Type 0
-RefusesSpent s tx NotPledged = ¬ IsPledged s tx
-RefusesSpent s tx _ = ⊥

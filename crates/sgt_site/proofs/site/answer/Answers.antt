@@ -1,7 +1,6 @@
 use Rattle.std.proofs.Common.{refl, length}
 use Rattle.std.proofs.lemmas.Option.{slice_get_read}
 use Rattle.sgt_site.proofs.Found.{answers_at}
-use Rattle.sgt_names.proofs.Places.{All_at}
 use Rattle.sgt_site.proofs.site.answer.Goals as goal
 
 pub answer-requires-clause-first : goal.answer-requires-clause-first

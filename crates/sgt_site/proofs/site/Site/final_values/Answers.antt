@@ -1,5 +1,3 @@
-use Rattle.std.proofs.Common.{◌∙◌, ap, sym}
-use Rattle.sgt_names.specs.Log.{names, FinalsAreLegal}
 use Rattle.sgt_site.proofs.Keeps.{names_finals, finals-legal}
 use Rattle.sgt_site.proofs.site.Site.final_values.Goals as goal
 

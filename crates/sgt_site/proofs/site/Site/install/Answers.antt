@@ -1,4 +1,4 @@
-use Rattle.std.proofs.Common.{◌≡◌, ap, refl, arith, append_assoc, length}
+use Rattle.std.proofs.Common.{ap, refl, arith, append_assoc, length}
 use Rattle.sgt_site.proofs.Keeps.{pledged_is}
 use Rattle.sgt_site.proofs.Installs.{kept-install, noted-items}
 use Rattle.sgt_site.proofs.site.Site.install.Goals as goal

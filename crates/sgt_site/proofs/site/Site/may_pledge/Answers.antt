@@ -1,5 +1,5 @@
 use mathlib.Core.Bool.{false≢true}
-use Rattle.std.proofs.Common.{◌≡◌, refl, sym, ◌∙◌, ap, subst, Contains}
+use Rattle.std.proofs.Common.{refl, sym, ap}
 use Rattle.sgt_site.specs.Stored.{HasItem, pledge_of}
 use Rattle.sgt_site.proofs.Pledges.{known-part, known-whole, keeps-from, keeps-logged, keeps-kept}
 use Rattle.sgt_site.proofs.Keeps.{names_items, pledged_some, pledged_none}

@@ -1,4 +1,4 @@
-use Rattle.std.proofs.Common.{◌≡◌, refl, sym, ◌∙◌, ap, arith, length}
+use Rattle.std.proofs.Common.{refl, ap, arith, length}
 use Rattle.std.proofs.lemmas.Result.{err_from_is_err_and}
 use Rattle.sgt_site.specs.Stored.{pledge_of}
 use Rattle.sgt_site.proofs.Keeps.{no_pledge}

@@ -1,5 +1,5 @@
 use mathlib.Core.Bool.{false≢true}
-use Rattle.std.proofs.Common.{◌≡◌, refl}
+use Rattle.std.proofs.Common.{refl}
 use Rattle.sgt_site.specs.Stored.{Contents, IsAnswering, KeepsItem}
 use Rattle.sgt_site.proofs.Changes.{all-pass, all-fail}
 use Rattle.sgt_site.proofs.site.pledges.all_kept.Goals as goal

@@ -1,7 +1,6 @@
 use Rattle.std.proofs.Common.{sym, ◌∙◌, subst}
 use Rattle.std.proofs.lemmas.Bool.{eqb-true}
 use Rattle.std.proofs.lemmas.Option.{same_Some}
-use Rattle.sgt_names.specs.declared.draft.Seen.{Seen}
 use Rattle.sgt_site.specs.Stored.{InCells}
 use Rattle.sgt_site.proofs.site.pledges.is_logged.Goals as goal
 
