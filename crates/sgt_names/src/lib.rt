@@ -2,6 +2,7 @@
 //! the engines are generic over.
 #![tactic(auto)]
 
+mod draft;
 mod entry;
 mod item;
 mod limits;
@@ -16,6 +17,7 @@ mod standard;
 #[cfg(test)]
 mod tests;
 
+pub use draft::{Draft, Seen, Touch};
 pub use entry::{Entry, Holding, Kind, Label};
 pub use item::{BadName, Item};
 pub use limits::{MAX_ITEMS, MAX_SITES};
