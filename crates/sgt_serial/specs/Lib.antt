@@ -1,0 +1,4 @@
+pub mod Difference
+pub mod Operations
+pub mod Report
+pub mod Values

@@ -1,0 +1,8 @@
+//! The serial run of a bundle's committed transactions: alone, one after another, by rank.
+#![tactic(auto)]
+
+mod operations;
+mod report;
+mod store;
+
+pub use report::{SerialFail, SerialReport, SerialTx, SiteValue};
