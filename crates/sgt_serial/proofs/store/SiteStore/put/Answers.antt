@@ -11,7 +11,7 @@ use Rattle.sgt_serial.proofs.store.SiteStore.put.Goals as goal
 pub invariant_of-self : goal.invariant_of-self
 invariant_of-self c =
     let hs = c.self.inside.holdings.items in
-    let found = c.in-Some.ensures tt in
+    let found = c.in-Some.ensures in
     let item = c.args.item.now in
     let h = c.index_mut.result.now in
     let at = read_at hs c.in-Some.place (record { item = item; value = found.0 }) h (ap (λ gs. slice_get gs c.in-Some.place) c.self.view_is ∙ found.1) c.index_mut.ensures.value in
@@ -20,7 +20,7 @@ invariant_of-self c =
 pub returns-in-Some-clause-after : goal.returns-in-Some-clause-after
 returns-in-Some-clause-after c x =
     let hs = c.self.inside.holdings.items in
-    let found = c.in-Some.ensures tt in
+    let found = c.in-Some.ensures in
     let item = c.args.item.now in
     let h = c.index_mut.result.now in
     let there = ap (λ gs. slice_get gs c.in-Some.place) c.self.view_is ∙ found.1 in
