@@ -1,3 +1,5 @@
+mod ByRank
 mod Fronts
 mod Items
 mod Puts
+mod Sorting

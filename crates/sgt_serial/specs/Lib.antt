@@ -1,4 +1,5 @@
 pub mod Difference
 pub mod Operations
+pub mod Order
 pub mod Report
 pub mod Values

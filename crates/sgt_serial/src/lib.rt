@@ -2,6 +2,7 @@
 #![tactic(auto)]
 
 mod operations;
+mod order;
 mod report;
 mod store;
 
