@@ -1,5 +1,6 @@
 mod ByRank
 mod Fronts
+mod Grouping
 mod Items
 mod Puts
 mod Sorting

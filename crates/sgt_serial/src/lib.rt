@@ -1,6 +1,7 @@
 //! The serial run of a bundle's committed transactions: alone, one after another, by rank.
 #![tactic(auto)]
 
+mod finals;
 mod operations;
 mod order;
 mod report;

@@ -5,8 +5,8 @@ ghost use Rattle.std.specs.Option.{option_to_list};
 ghost use Rattle.std.specs.List.{filter, filter_map};
 ghost use Rattle.std.specs.List.Sorted.{IsNonDecreasingBy, IsPartitionPoint};
 ghost use Rattle.sgt_names.specs.Limits.{max_sites};
-ghost use Rattle.sgt_serial.specs.Report.{read_at, write_at, picked_of, run_of};
-ghost use Rattle.sgt_serial.specs.Operations.{owned, picked, is_by, values_by};
+ghost use Rattle.sgt_serial.specs.Report.{read_at, write_at, reads_of, writes_of};
+ghost use Rattle.sgt_serial.specs.Operations.{owned, is_by, values_by};
 
 use crate::report::{SerialTx, SiteValue};
 use sgt_cert::SiteLog;
@@ -121,4 +121,44 @@ fn add_site(
         push_some(writes, write_in(site, entry))?;
     }
     Ok(())
+}
+
+/// The reads and the writes of all logs.
+#[derive(Drop)]
+pub struct Operations {
+    reads: ByTx,
+    writes: ByTx,
+}
+
+impl Operations {
+    /// Those of these logs.
+    pub fn new(alloc: Global, sites: &[SiteLog]) -> Result<Operations, AllocError>
+        requires { length sites.now ≤ max_sites }
+        ensures reads { IfOk result (λ o. (tx : ℕ) → values_by tx o.reads ≡ reads_of sites.now tx) }
+        ensures writes { IfOk result (λ o. (tx : ℕ) → values_by tx o.writes ≡ writes_of sites.now tx) }
+    {
+        let mut reads = Vec::new(alloc);
+        let mut writes = Vec::new(alloc);
+        for (number, log) in sites.iter().enumerate() {
+            let site = SiteNo::new(number as u64).unwrap();
+            add_site(&mut reads, &mut writes, site, log.entries.as_slice())?;
+        }
+        Ok(Operations {
+            reads: ByTx::new(reads)?,
+            writes: ByTx::new(writes)?,
+        })
+    }
+
+    /// The transaction with its reads and writes.
+    pub fn run(&self, alloc: Global, tx: Tx) -> Result<SerialTx, AllocError>
+        ensures { IfOk result (λ run. run ≡ record { tx = tx; reads = values_by tx self.now.reads; writes = values_by tx self.now.writes }) }
+    {
+        let reads = values(alloc, self.reads.of(tx))?;
+        let writes = values(alloc, self.writes.of(tx))?;
+        Ok(SerialTx {
+            tx,
+            reads: Listed::new(reads),
+            writes: Listed::new(writes),
+        })
+    }
 }
