@@ -33,18 +33,20 @@ abbrev pub AllRunOn : List SiteLog → List ℕ → Store → Type 0
 AllRunOn sites [] store = Unit {0}
 AllRunOn sites (tx ∷ txs) store = RunsOn sites tx store × AllRunOn sites txs (store_after sites tx store)
 
--- the transaction, run on this store, first differs from its logs here: at the first of its reads of which the store has another value
--- or none, or, where the store has the values of all its reads, at the first of its writes whose item isn't there
-abbrev pub DiffersAt : List SiteLog → ℕ → Store → SiteValue → Type 0
-DiffersAt sites tx store a = IsFirstWithout (Has store) (reads_of sites tx) a ⊎ (All (Has store) (reads_of sites tx) × IsFirstWithout (Knows store) (writes_of sites tx) a)
+-- reads and then writes on this store first differ from it here: at the first of the reads of which the store has another value or none, or,
+-- where the store has the values of all reads, at the first of the writes whose item isn't there
+abbrev pub DiffersFrom : Store → (reads writes : List SiteValue) → SiteValue → Type 0
+DiffersFrom store reads writes a = IsFirstWithout (Has store) reads a ⊎ (All (Has store) reads × IsFirstWithout (Knows store) writes a)
 
--- the first difference of the bundle's serial run from the record is at this item of this site: in this transaction, before which each one runs
--- as logged, or, where all of them do, among the final values
+-- these transactions, run one after another from this store, first differ from their logs in this one, at this item of this site: those before it run as logged
+abbrev pub DiffersIn : List SiteLog → List ℕ → Store → ℕ → ℕ → Name → Type 0
+DiffersIn sites txs store tx s x =
+    (n : ℕ) × (v : ℕ) × (slice_get txs n ≡ Some tx) × AllRunOn sites (take n txs) store × DiffersFrom (store_after_all sites (take n txs) store) (reads_of sites tx) (writes_of sites tx) (record { site = s; item = x; value = v })
+
+-- the first difference of the bundle's serial run from the record is at this item of this site: in this transaction,
+-- or in none, where all transactions run as logged and the final values differ
 abbrev pub IsFirstDifference : Parts → Option ℕ → ℕ → Name → Type 0
-IsFirstDifference b (Some tx) s x =
-    (n : ℕ) × (v : ℕ) × (slice_get (by_rank b.certificate.decisions) n ≡ Some tx)
-    × AllRunOn b.sites (take n (by_rank b.certificate.decisions)) (initial_store b.sites)
-    × DiffersAt b.sites tx (store_after_all b.sites (take n (by_rank b.certificate.decisions)) (initial_store b.sites)) (record { site = s; item = x; value = v })
+IsFirstDifference b (Some tx) s x = DiffersIn b.sites (by_rank b.certificate.decisions) (initial_store b.sites) tx s x
 IsFirstDifference b None s x =
     (v : ℕ) × AllRunOn b.sites (by_rank b.certificate.decisions) (initial_store b.sites)
     × IsFirstWithout (Has (store_after_all b.sites (by_rank b.certificate.decisions) (initial_store b.sites))) (finals_of b.sites) (record { site = s; item = x; value = v })

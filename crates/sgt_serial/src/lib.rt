@@ -5,6 +5,8 @@ mod finals;
 mod operations;
 mod order;
 mod report;
+mod run;
 mod store;
 
 pub use report::{SerialFail, SerialReport, SerialTx, SiteValue};
+pub use run::serial_run;
