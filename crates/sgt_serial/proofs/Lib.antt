@@ -1,4 +1,6 @@
+mod Bundles
 mod ByRank
+mod Differences
 mod Fronts
 mod Grouping
 mod Items

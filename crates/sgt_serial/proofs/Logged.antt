@@ -59,7 +59,7 @@ module _ {A : Type 0} (P : A → Type 0) where
     All-picked_at (f ∷ es) zero e y at hit some all =
         let same = same_Some f e at in
         let first : filter_map h (filter p (f ∷ es)) ≡ y ∷ filter_map h (filter p es) =
-            ap (λ b. filter_map h (cond b (f ∷ filter p es) (filter p es))) (ap p same ∙ hit) ∙ ap (λ o. cons_option o (filter_map h (filter p es))) (ap h same ∙ some) in
+        ap (λ b. filter_map h (cond b (f ∷ filter p es) (filter p es))) (ap p same ∙ hit) ∙ ap (λ o. cons_option o (filter_map h (filter p es))) (ap h same ∙ some) in
         All-head P y (filter_map h (filter p es)) (subst (All P) first all)
     All-picked_at (f ∷ es) (suc n) e y at hit some all =
         All-picked_at es n e y at hit some
@@ -73,7 +73,7 @@ module _ {A : Type 0} (P : A → Type 0) where
           | inr fails ↦ subst (All P) (ap (λ b. filter_map h (cond b (f ∷ filter p es) (filter p es))) fails) all
         ])
 
-range_at : (m k : ℕ) → k < m → slice_get (range_with_len 0 m) k ≡ Some k
+pub range_at : (m k : ℕ) → k < m → slice_get (range_with_len 0 m) k ≡ Some k
 range_at m k lt =
     slice_get-get_or (range_with_len 0 m) k 0 (omega (arith, length-range_with_len 0 m)) ∙ ap Some (get_or-range_with_len 0 m k 0 lt ∙ zero-add k)
 

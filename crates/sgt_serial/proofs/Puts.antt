@@ -34,8 +34,7 @@ both false b h = absurd (false≢true h)
 -- the item that a value is of
 is_of-is : (s : ℕ) (x : Name) (w : SiteValue) → is_of s x w ≡ true → (w.site ≡ s) × (w.item ≡ x)
 is_of-is s x w hit =
-    let parts = both (w.site == s) (bytes_eq w.item x) hit in
-    (
+    let parts = both (w.site == s) (bytes_eq w.item x) hit in (
       elim (cases_eq w.site s) [ inl same ↦ same | inr other ↦ absurd (false≢true (sym (ne_eqb w.site s other) ∙ parts.0)) ],
       (bytes_eq-Decides w.item x).0 parts.1,
     )

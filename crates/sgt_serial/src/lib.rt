@@ -2,11 +2,13 @@
 #![tactic(auto)]
 
 mod finals;
+mod laws;
 mod operations;
 mod order;
 mod report;
 mod run;
 mod store;
 
+pub use laws::{agreement_excludes_differences, first_differences_are_one};
 pub use report::{SerialFail, SerialReport, SerialTx, SiteValue};
 pub use run::serial_run;

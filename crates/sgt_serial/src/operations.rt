@@ -70,7 +70,10 @@ fn count_below(operations: &[Operation], number: u64) -> usize
 fn values(alloc: Global, operations: &[Operation]) -> Result<Vec<SiteValue>, AllocError>
     ensures { IfOk result (λ values. values.items ≡ map (λ o. o.value) operations.now) }
 {
-    operations.iter().map(|operation| operation.value).collect(alloc)
+    operations
+        .iter()
+        .map(|operation| operation.value)
+        .collect(alloc)
 }
 
 fn read_in(site: SiteNo, entry: &Entry) -> Option<Operation>
@@ -97,7 +100,10 @@ fn write_in(site: SiteNo, entry: &Entry) -> Option<Operation>
     }
 }
 
-fn push_some(operations: &mut Vec<Operation>, operation: Option<Operation>) -> Result<(), AllocError>
+fn push_some(
+    operations: &mut Vec<Operation>,
+    operation: Option<Operation>,
+) -> Result<(), AllocError>
     ensures { OnOk result (operations.new.items ≡ operations.old.items ++ option_to_list operation) }
 {
     if let Some(operation) = operation {

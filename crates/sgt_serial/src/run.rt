@@ -59,6 +59,26 @@ fn run_all(
     Ok(runs)
 }
 
+/// Runs the bundle's committed transactions, and compares the final values.
+fn run_bundle(alloc: Global, bundle: &Bundle) -> Result<SerialReport, SerialFail>
+    ensures agrees { OnOk result (SerialAgrees bundle.now) }
+    ensures report { IfOk result (λ report. report ≡ report_of bundle.now) }
+    ensures differs { (tx : Option ℕ) (s : ℕ) (x : Name) → result ≡ Err (SerialFail.Differs tx s x) → IsFirstDifference bundle.now tx s x }
+{
+    let sites = bundle.sites();
+    let order = serial_order(alloc, bundle.certificate().decisions.as_slice())?;
+    let mut store = Store::initial(alloc, sites)?;
+    let runs = run_all(alloc, sites, order.as_slice(), &mut store)?;
+    let finals = finals(alloc, sites)?;
+    if let Some(other) = store.first_other(finals.as_slice()) {
+        return Err(SerialFail::Differs(None, other.site, other.item));
+    }
+    Ok(SerialReport {
+        runs: Listed::new(runs),
+        finals: Listed::new(finals),
+    })
+}
+
 /// Runs the committed transactions of the bundle alone, one after another by rank (those of one rank in the order of their
 /// decisions), from the initial values: of each its logged reads are compared with the values so far, and then its logged
 /// writes are put into them. At the end the recorded final values are compared. Z1 names the first difference: in a
@@ -75,16 +95,5 @@ pub fn serial_run(alloc: Global, bundle: &Bundle) -> Result<SerialReport, Serial
     ensures first { (tx : Option ℕ) (s : ℕ) (x : Name) → IsFirstDifference bundle.now tx s x
         → (result ≡ Err (SerialFail.Differs tx s x)) ⊎ (result ≡ Err SerialFail.Memory) }
 {
-    let sites = bundle.sites();
-    let order = serial_order(alloc, bundle.certificate().decisions.as_slice())?;
-    let mut store = Store::initial(alloc, sites)?;
-    let runs = run_all(alloc, sites, order.as_slice(), &mut store)?;
-    let finals = finals(alloc, sites)?;
-    if let Some(other) = store.first_other(finals.as_slice()) {
-        return Err(SerialFail::Differs(None, other.site, other.item));
-    }
-    Ok(SerialReport {
-        runs: Listed::new(runs),
-        finals: Listed::new(finals),
-    })
+    run_bundle(alloc, bundle)
 }

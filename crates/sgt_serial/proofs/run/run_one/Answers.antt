@@ -11,8 +11,7 @@ returns-in-Some-put_all-clause-differs c tx s x e =
     let store = store_of c.args.store.now in
     let w = c.in-Some-put_all.write in
     let reads = subst (All (Has store)) c.as_slice.ensures c.in_default.ensures in
-    let first = subst (λ (ws : List SiteValue). IsFirstWithout (Knows store) ws w) c.as_slice-2.ensures c.in-Some-put_all.ensures.known in
-    (
+    let first = subst (λ (ws : List SiteValue). IsFirstWithout (Knows store) ws w) c.as_slice-2.ensures c.in-Some-put_all.ensures.known in (
       sym (same-tx (Some run.tx) tx w.site s w.item x e),
       w.value,
       at_place (DiffersFrom store run.reads run.writes) w s x (same-site (Some run.tx) tx w.site s w.item x e) (same-item (Some run.tx) tx w.site s w.item x e) (inr (reads, first)),
