@@ -1,0 +1,31 @@
+-- What it is to read a spelling.
+use Rattle.std.specs.Prelude.{◌≡◌, ◌≢◌, ◌<◌, ◌≤◌, ℕ, List, length, Option, Some, None, Result, Ok, Err}
+use Rattle.sgt_names.specs.Name.{Name}
+use Rattle.sgt_notation.specs.Spelling.{operation, IsTx, IsValue}
+use Rattle.sgt_names.specs.Name.{IsName}
+use Rattle.sgt_notation.specs.declared.fault.NotationFault.{NotationFault}
+use Rattle.sgt_notation.specs.declared.fault.NotationFault.TheVariants.{NotALine, TooLong, Memory}
+use Rattle.sgt_notation.specs.declared.fault.TheConstants.{MAX_LINE}
+
+-- the bytes are the text of no value
+abbrev pub SpellsNone : {A : Type 0} → (A → Type 0) → (A → List ℕ) → List ℕ → Type 0
+SpellsNone {A} Is text bytes = (a : A) → Is a → bytes ≢ text a
+
+-- Read exactly where spelled: a value is found where the bytes are its text, and none where they are the text of none.
+abbrev pub Finds : {A : Type 0} → (A → Type 0) → (A → List ℕ) → List ℕ → Option A → Type 0
+Finds Is text bytes (Some a) = Is a × (bytes ≡ text a)
+Finds Is text bytes None = SpellsNone Is text bytes
+
+-- The same of a line, with the refusal: L2 where it is too long, L1 where it is not too long and the text of no value.
+abbrev pub Reads : {A : Type 0} → (A → Type 0) → (A → List ℕ) → List ℕ → Result A NotationFault → Type 0
+Reads Is text line (Ok a) = Is a × (line ≡ text a)
+Reads Is text line (Err NotALine) = (length line ≤ MAX_LINE) × SpellsNone Is text line
+Reads Is text line (Err TooLong) = (MAX_LINE < length line) × SpellsNone Is text line
+Reads Is text line (Err Memory) = ⊥
+
+-- an operation, as a transaction, an item and a value
+abbrev pub IsOperation : ℕ × Name × ℕ → Type 0
+IsOperation o = IsTx o.0 × IsName o.1 × IsValue o.2
+
+abbrev pub operation_text : ℕ × Name × ℕ → List ℕ
+operation_text o = operation o.0 o.1 o.2
