@@ -8,6 +8,7 @@ mod order;
 mod report;
 mod run;
 mod store;
+mod text;
 
 pub use laws::{agreement_excludes_differences, first_differences_are_one};
 pub use report::{SerialFail, SerialReport, SerialTx, SiteValue};
