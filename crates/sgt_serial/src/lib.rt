@@ -8,6 +8,8 @@ mod order;
 mod report;
 mod run;
 mod store;
+#[cfg(test)]
+mod tests;
 mod text;
 
 pub use laws::{agreement_excludes_differences, first_differences_are_one};
