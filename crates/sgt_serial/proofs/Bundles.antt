@@ -8,7 +8,7 @@ use Rattle.sgt_names.specs.Log.{value_in}
 use Rattle.sgt_names.specs.declared.entry.Holding.{Holding}
 use Rattle.sgt_cert.specs.Parts.{Parts}
 use Rattle.sgt_cert.specs.Certificate.{by_rank}
-use Rattle.sgt_cert.specs.Serial.{Store, initial_store, RunsSerially, SerialAgrees}
+use Rattle.sgt_cert.specs.Serial.{Store, initial_store, SerialAgrees}
 use Rattle.sgt_cert.specs.declared.bundle.SiteLog.{SiteLog}
 use Rattle.sgt_serial.specs.declared.report.SiteValue.{SiteValue}
 use Rattle.sgt_serial.specs.Difference.{Has, IsFirstWithout, DiffersIn, AllRunOn, store_after_all, IsFirstDifference}

@@ -1,16 +1,14 @@
 -- Transactions, run one after another.
-use Rattle.std.proofs.Common.{◌≡◌, ℕ, zero, suc, ◌+◌, ◌<◌, List, [], ◌∷◌, ◌++◌, length, get_or, take, Option, Some, None, Result, Ok, Err, map, refl, sym, ap, ap₂, ◌∙◌, subst, inl, inr, ◌⊎◌, All}
-use Rattle.std.specs.Prelude.{slice_get}
+use Rattle.std.proofs.Common.{◌≡◌, ℕ, ◌+◌, ◌<◌, List, [], ◌∷◌, ◌++◌, length, get_or, take, Option, Result, Err, map, refl, sym, ap, ap₂, ◌∙◌, subst, All}
 use Rattle.sgt_names.specs.Name.{Name}
-use Rattle.sgt_names.specs.declared.entry.Holding.{Holding}
-use Rattle.sgt_cert.specs.Serial.{Store, store_after, RunsOn, RunsSerially}
+use Rattle.sgt_cert.specs.Serial.{Store, store_after, RunsOn}
 use Rattle.sgt_cert.specs.declared.bundle.SiteLog.{SiteLog}
 use Rattle.sgt_serial.specs.declared.report.SiteValue.{SiteValue}
 use Rattle.sgt_serial.specs.declared.report.SerialFail.{SerialFail}
-use Rattle.sgt_serial.specs.declared.report.SerialFail.TheVariants.{Differs, Memory}
-use Rattle.sgt_serial.specs.Difference.{Has, Knows, IsFirstWithout, DiffersFrom, DiffersIn, AllRunOn, store_after_all}
+use Rattle.sgt_serial.specs.declared.report.SerialFail.TheVariants.{Differs}
+use Rattle.sgt_serial.specs.Difference.{Has, Knows, DiffersFrom, AllRunOn, store_after_all}
 use Rattle.sgt_serial.specs.declared.report.SerialTx.{SerialTx}
-use Rattle.sgt_serial.specs.Report.{reads_of, writes_of, finals_of, run_of}
+use Rattle.sgt_serial.specs.Report.{reads_of, writes_of, run_of}
 use Rattle.sgt_serial.specs.Values.{with_all}
 use Rattle.std.proofs.lemmas.List.{map-append}
 use Rattle.sgt_serial.proofs.Fronts.{take-item}

@@ -1,11 +1,6 @@
-use Rattle.std.proofs.Common.{List, length, get_or, take, ℕ, ◌+◌, ◌<◌, Option, ◌≡◌, ap, sym, ◌∙◌, ◌++◌, arith, append_assoc}
-use Rattle.std.specs.List.{filter_map}
-use Rattle.std.specs.Option.{option_to_list}
-use Rattle.std.proofs.lemmas.List.Elements.{filter_map-append}
-use Rattle.sgt_names.specs.declared.entry.Entry.{Entry}
+use Rattle.std.proofs.Common.{◌∙◌, arith}
 use Rattle.sgt_serial.specs.Report.{read_at, write_at}
 use Rattle.sgt_serial.specs.Operations.{owned}
-use Rattle.sgt_serial.specs.declared.operations.Operation.{Operation}
 use Rattle.sgt_serial.proofs.Fronts.{filter_map-next}
 use Rattle.sgt_serial.proofs.operations.add_site.Goals as goal
 

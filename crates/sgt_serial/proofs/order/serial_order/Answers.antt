@@ -1,10 +1,9 @@
-use Rattle.std.proofs.Common.{rules, ◌≡◌, ap, sym, ◌∙◌, map, subst, List}
+use Rattle.std.proofs.Common.{rules, ap, ◌∙◌, map, subst, List}
 use Rattle.std.specs.Ordering.{nat_cmp}
 use Rattle.std.specs.List.Sorted.{IsPermutation, IsStableByKey}
 use Rattle.std.proofs.lemmas.Fn.{always_returns_same}
 use Rattle.std.proofs.lemmas.List.Sorted.{IsNonDecreasingBy-from_sort}
 use Rattle.std.proofs.lemmas.Result.{IfOk-weaker}
-use Rattle.sgt_serial.specs.Order.{ranked_in}
 use Rattle.sgt_serial.specs.declared.order.Ranked.{Ranked}
 use Rattle.sgt_serial.proofs.ByRank.{by_rank-sorted}
 use Rattle.sgt_serial.proofs.order.serial_order.Goals as goal

@@ -1,6 +1,5 @@
 use Rattle.std.proofs.Common.{◌≡◌, List, All, None, Err, sym, ap, ◌∙◌, subst}
 use Rattle.std.proofs.lemmas.Result.{err_from_is_err_and}
-use Rattle.sgt_names.specs.declared.entry.Holding.{Holding}
 use Rattle.sgt_cert.specs.Certificate.{by_rank}
 use Rattle.sgt_cert.specs.declared.certificate.Certificate.{Certificate}
 use Rattle.sgt_serial.specs.declared.report.SiteValue.{SiteValue}

@@ -1,11 +1,10 @@
-use Rattle.std.proofs.Common.{◌≡◌, ◌<◌, ◌++◌, ap, ◌∙◌, length, List, arith}
+use Rattle.std.proofs.Common.{◌≡◌, ◌<◌, ◌++◌, ap, ◌∙◌, length, arith}
 use Rattle.std.specs.List.{filter_map, flat_map, range_with_len}
 use Rattle.std.proofs.lemmas.Result.{OkIff-at_ok}
 use Rattle.sgt_names.specs.Limits.{max_sites}
 use Rattle.sgt_cert.specs.Serial.{entries_at, entries_of}
 use Rattle.sgt_serial.specs.Report.{read_at, write_at}
 use Rattle.sgt_serial.specs.Operations.{owned, values_by}
-use Rattle.sgt_serial.specs.declared.operations.Operation.{Operation}
 use Rattle.sgt_serial.proofs.Fronts.{item-at}
 use Rattle.sgt_serial.proofs.Grouping.{site_more, values_by-picked}
 use Rattle.sgt_serial.proofs.operations.Operations.new.Goals as goal

@@ -1,4 +1,4 @@
-use Rattle.std.proofs.Common.{◌≡◌, ℕ, subst, sym, ap, ◌∙◌, Some, cond}
+use Rattle.std.proofs.Common.{◌≡◌, subst, sym, ap, ◌∙◌, Some, cond}
 use Rattle.std.specs.Prelude.{slice_get, AllPairs}
 use Rattle.std.specs.Str.{bytes_eq}
 use Rattle.sgt_names.specs.Log.{value_in}

@@ -1,5 +1,4 @@
-use Rattle.std.proofs.Common.{sym, ap, ◌∙◌, arith}
-use Rattle.std.specs.Prelude.{not}
+use Rattle.std.proofs.Common.{sym, ◌∙◌, arith}
 use Rattle.sgt_serial.specs.Difference.{Has}
 use Rattle.sgt_serial.specs.Values.{store_of}
 use Rattle.sgt_serial.proofs.Fronts.{All-next, All-whole, first-here}
