@@ -1,6 +1,7 @@
 mod Bundles
 mod ByRank
 mod Differences
+mod Either
 mod Fronts
 mod Grouping
 mod Items

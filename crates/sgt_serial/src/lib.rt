@@ -12,6 +12,6 @@ mod store;
 mod tests;
 mod text;
 
-pub use laws::{agreement_excludes_differences, first_differences_are_one};
+pub use laws::{agreement_excludes_differences, first_differences_are_one, runs_agree_or_differ};
 pub use report::{SerialFail, SerialReport, SerialTx, SiteValue};
 pub use run::serial_run;
