@@ -1,6 +1,6 @@
 -- A serial run agrees with the record or has a first difference.
-use Rattle.std.proofs.Common.{◌≡◌, ◌≢◌, ℕ, zero, suc, true, false, List, [], ◌∷◌, take, Option, Some, None, refl, sym, ap, ◌∙◌, inl, inr, ◌⊎◌, All}
-use Rattle.std.specs.Prelude.{slice_get, is_some}
+use Rattle.std.proofs.Common.{◌≡◌, ℕ, suc, List, [], ◌∷◌, take, Option, Some, None, refl, sym, ap, ◌∙◌, inl, inr, ◌⊎◌, All}
+use Rattle.std.specs.Prelude.{is_some}
 use Rattle.std.proofs.lemmas.Bool.{cases_Bool, cases_eq, false≢true}
 use Rattle.std.proofs.lemmas.List.Elements.{All-nil, All-cons}
 use Rattle.std.proofs.lemmas.Option.{same_Some, none-some}
@@ -9,8 +9,7 @@ use Rattle.sgt_cert.specs.Parts.{Parts}
 use Rattle.sgt_cert.specs.Certificate.{by_rank}
 use Rattle.sgt_cert.specs.Serial.{Store, initial_store, store_after, SerialAgrees}
 use Rattle.sgt_cert.specs.declared.bundle.SiteLog.{SiteLog}
-use Rattle.sgt_serial.specs.declared.report.SiteValue.{SiteValue}
-use Rattle.sgt_serial.specs.Difference.{Has, Knows, IsFirstWithout, DiffersFrom, DiffersIn, AllRunOn, store_after_all, IsFirstDifference}
+use Rattle.sgt_serial.specs.Difference.{Has, Knows, IsFirstWithout, DiffersIn, AllRunOn, store_after_all, IsFirstDifference}
 use Rattle.sgt_serial.specs.Report.{reads_of, writes_of, finals_of}
 use Rattle.sgt_serial.proofs.Logged.{runs-on}
 use Rattle.sgt_serial.proofs.Differences.{runs-serially}

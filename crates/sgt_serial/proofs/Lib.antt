@@ -5,6 +5,7 @@ mod Either
 mod Fronts
 mod Grouping
 mod Items
+mod Lines
 mod Logged
 mod Puts
 mod Running
