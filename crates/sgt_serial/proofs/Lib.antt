@@ -2,6 +2,7 @@ mod Bundles
 mod ByRank
 mod Differences
 mod Either
+mod Examples
 mod Fronts
 mod Grouping
 mod Items

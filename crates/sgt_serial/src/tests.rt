@@ -1,6 +1,6 @@
 use crate::{SerialFail, SerialReport, serial_run};
 use sgt_cert::{Bundle, SiteLog, from_line};
-use sgt_names::Listed;
+use sgt_names::{Item, Listed, SiteNo};
 use sgt_notation::{SectionLine, read_section};
 use std::alloc::Global;
 use std::process::Abort;
@@ -52,7 +52,7 @@ fn shown(alloc: Global, answer: Result<SerialReport, SerialFail>) -> Result<Stri
             let item = String::from_utf8(Vec::from_slice(alloc, item.as_bytes())?)?;
             Ok(format!(in alloc; "Z1 {tx} {site}.{item}")?)
         }
-        Err(SerialFail::Memory) => Ok(format!(in alloc; "Z2")?),
+        Err(fail) => Ok(format!(in alloc; "{fail}")?),
     }
 }
 
@@ -69,6 +69,16 @@ fn check(rt: &impl Abort, alloc: Global, cases: &[(&str, &[&str], &str)]) -> Res
 const ONE: &str = "{\"commit\":1,\"rank\":0}";
 
 const ONE_TWO: &str = "{\"commit\":1,\"rank\":0},{\"commit\":2,\"rank\":1}";
+
+#[test]
+fn messages(rt: HostRuntime) -> Result<(), Fail> {
+    let alloc = rt.alloc();
+    assert!(rt; shown(alloc, Err(SerialFail::Memory))?.as_str() == "Z2: memory");
+    let fail = SerialFail::Differs(None, SiteNo::new(0)?, Item::new(b"x")?);
+    let message = format!(in alloc; "{fail}")?;
+    assert!(rt; message.as_str() == "Z1: the serial run differs from the record");
+    Ok(())
+}
 
 #[test]
 fn runs_that_agree(rt: HostRuntime) -> Result<(), Fail> {
