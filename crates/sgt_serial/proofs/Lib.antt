@@ -11,3 +11,4 @@ mod Logged
 mod Puts
 mod Running
 mod Sorting
+mod Steps

@@ -1,10 +1,12 @@
 //! The serial run of a bundle's committed transactions: alone, one after another, by rank.
 #![tactic(auto)]
 
+mod engine;
 mod finals;
 mod laws;
 mod operations;
 mod order;
+mod output;
 mod report;
 mod run;
 mod store;
