@@ -179,7 +179,9 @@ fn judge(alloc: Global, value: &Value, line: &[u8]) -> Result<Certificate, CertF
     }
 }
 
-/// Reads the line of a certificate, which is given without its LF.
+/// Reads the line of a certificate, which is given without its LF. Ok exactly for the text that `to_line` gives of a
+/// certificate whose sites are 1 to 16, with each step at one of them. Any other line is refused: with K1 where no JSON
+/// value is read from it, else with K2 where the value's members are not those of a certificate, else with K3.
 pub fn from_line(alloc: Global, line: &[u8]) -> Result<Certificate, CertFault>
     ensures ok { IfOk result (λ c. IsCertificate c × (line.now ≡ certificate_text c)) }
     ensures only { (c : Certificate) → IsCertificate c → line.now ≡ certificate_text c

@@ -1,4 +1,8 @@
-use crate::{Bundle, CertFault, Certificate, Decision, SiteLog, from_line, to_line};
+use crate::{
+    Bundle, CertFault, Certificate, Decision, SiteLog, certificates_are_read_back,
+    certificates_have_one_reading, from_line, lines_are_read_or_refused, lines_are_refused_once,
+    no_bytes_spell_two_bundles, ranks_are_distinct, to_line, valid_bundles_run_serially,
+};
 use sgt_names::Listed;
 use sgt_notation::{SectionLine, read_section};
 use std::alloc::Global;
@@ -263,6 +267,13 @@ fn bundles(rt: HostRuntime) -> Result<(), Fail> {
         Decision::Commit { .. } => return Err(Fail::new("another answer")),
         Decision::Refuse { .. } => return Err(Fail::new("another answer")),
     }
+    certificates_are_read_back();
+    certificates_have_one_reading();
+    lines_are_read_or_refused();
+    lines_are_refused_once();
+    no_bytes_spell_two_bundles();
+    ranks_are_distinct();
+    valid_bundles_run_serially();
     Ok(())
 }
 

@@ -1,3 +1,4 @@
 pub mod Places
 pub mod Chosen
 pub mod Stored
+pub mod Examples

@@ -1,8 +1,7 @@
 -- What it is to read a spelling.
 use Rattle.std.specs.Prelude.{◌≡◌, ◌≢◌, ◌<◌, ◌≤◌, ℕ, List, length, Option, Some, None, Result, Ok, Err}
-use Rattle.sgt_names.specs.Name.{Name}
+use Rattle.sgt_names.specs.Name.{Name, IsName}
 use Rattle.sgt_notation.specs.Spelling.{operation, IsTx, IsValue}
-use Rattle.sgt_names.specs.Name.{IsName}
 use Rattle.sgt_notation.specs.declared.fault.NotationFault.{NotationFault}
 use Rattle.sgt_notation.specs.declared.fault.NotationFault.TheVariants.{NotALine, TooLong, Memory}
 use Rattle.sgt_notation.specs.declared.fault.TheConstants.{MAX_LINE}
@@ -16,12 +15,16 @@ abbrev pub Finds : {A : Type 0} → (A → Type 0) → (A → List ℕ) → List
 Finds Is text bytes (Some a) = Is a × (bytes ≡ text a)
 Finds Is text bytes None = SpellsNone Is text bytes
 
--- The same of a line, with the refusal: L2 where it is too long, L1 where it is not too long and the text of no value.
+-- the refusal of a line that spells nothing: L2 where it is too long, else L1
+abbrev pub Refuses : List ℕ → NotationFault → Type 0
+Refuses line NotALine = length line ≤ MAX_LINE
+Refuses line TooLong = MAX_LINE < length line
+Refuses line Memory = ⊥
+
+-- the same as Finds, of a line, with the refusal
 abbrev pub Reads : {A : Type 0} → (A → Type 0) → (A → List ℕ) → List ℕ → Result A NotationFault → Type 0
 Reads Is text line (Ok a) = Is a × (line ≡ text a)
-Reads Is text line (Err NotALine) = (length line ≤ MAX_LINE) × SpellsNone Is text line
-Reads Is text line (Err TooLong) = (MAX_LINE < length line) × SpellsNone Is text line
-Reads Is text line (Err Memory) = ⊥
+Reads Is text line (Err e) = Refuses line e × SpellsNone Is text line
 
 -- an operation, as a transaction, an item and a value
 abbrev pub IsOperation : ℕ × Name × ℕ → Type 0

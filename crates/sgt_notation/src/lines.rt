@@ -115,13 +115,19 @@ fn append(line: &mut Vec<u8>, bytes: &[u8]) -> Result<(), LinesFault>
         .map_err(|_| LinesFault::Memory)
 }
 
+fn empty_buffer(alloc: Global) -> Result<Vec<u8>, AllocError>
+    ensures { IfOk result (λ buffer. vec_len buffer ≡ BUFFER) }
+{
+    vec![in alloc; 0; BUFFER]
+}
+
 impl Lines {
     /// A reader of lines that has read nothing. It takes its memory here; a call of `next` takes none but for the line.
     pub fn new(alloc: Global) -> Result<Lines, AllocError>
         ensures { IfOk result (λ s. s ≡ record { held = []; reads = MOST_READS }) }
     {
         Ok(Lines {
-            buffer: vec![in alloc; 0; BUFFER]?,
+            buffer: empty_buffer(alloc)?,
             start: 0,
             end: 0,
             reads: MOST_READS,

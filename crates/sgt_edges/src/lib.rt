@@ -1,0 +1,8 @@
+//! The labelled edges between transactions.
+#![tactic(auto)]
+
+mod edge;
+#[cfg(test)]
+mod tests;
+
+pub use edge::{Edge, EdgeList};
