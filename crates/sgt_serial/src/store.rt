@@ -48,7 +48,7 @@ impl SiteStore {
     {
         self.holdings
             .as_slice()
-            .binary_search_by(|holding| holding.item.order(item))
+            .binary_search_by(|holding| holding.item.cmp(item))
             .ok()
     }
 
