@@ -11,4 +11,3 @@ mod Logged
 mod Puts
 mod Running
 mod Sorting
-mod Steps

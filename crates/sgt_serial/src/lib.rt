@@ -6,7 +6,6 @@ mod finals;
 mod laws;
 mod operations;
 mod order;
-mod output;
 mod report;
 mod run;
 mod store;
@@ -14,6 +13,7 @@ mod store;
 mod tests;
 mod text;
 
+pub use engine::serial;
 pub use laws::{agreement_excludes_differences, first_differences_are_one, runs_agree_or_differ};
 pub use report::{SerialFail, SerialReport, SerialTx, SiteValue};
 pub use run::serial_run;

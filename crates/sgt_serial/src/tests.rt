@@ -1,6 +1,6 @@
-use crate::{SerialFail, SerialReport, serial_run};
+use crate::{SerialFail, SerialReport, serial, serial_run};
 use sgt_cert::{Bundle, SiteLog, from_line};
-use sgt_names::{Item, Listed, SiteNo};
+use sgt_names::{EngineFail, Item, Listed, MemSink, MemSource, Outcome, SiteNo};
 use sgt_notation::{SectionLine, read_section};
 use std::alloc::Global;
 use std::process::Abort;
@@ -190,4 +190,117 @@ fn first_differences(rt: HostRuntime) -> Result<(), Fail> {
             ),
         ],
     )
+}
+
+const BY_RANK: &str = "sgt 1
+{\"decisions\":[{\"commit\":2,\"rank\":1},{\"commit\":1,\"rank\":0}],\"sites\":1}
+site 0
+item x=5
+item y=2
+r1[x]=5
+w2[x]=6
+c2
+w1[y]=3
+c1
+final x=6
+final y=3
+end
+";
+
+const BY_RANK_RUN: &str = "t1
+r1[0.x]=5
+w1[0.y]=3
+t2
+w2[0.x]=6
+final 0.x=6
+final 0.y=3
+";
+
+#[test]
+fn whole_texts(rt: HostRuntime) -> Result<(), Fail> {
+    let alloc = rt.alloc();
+    for (text, outcome, wanted) in [
+        (BY_RANK, Outcome::Yes, BY_RANK_RUN),
+        (
+            "sgt 1
+{\"decisions\":[{\"commit\":1,\"rank\":0},{\"refuse\":2,\"walk\":[{\"item\":\"y\",\"kind\":\"rw\",\"site\":0,\"to\":1},{\"item\":\"x\",\"kind\":\"rw\",\"site\":0,\"to\":2}]}],\"sites\":1}
+site 0
+item x=5
+item y=2
+r1[x]=5
+r2[y]=2
+w1[y]=7
+c1
+p2[x]=8
+n2
+final x=5
+final y=7
+end
+",
+            Outcome::Yes,
+            "t1
+r1[0.x]=5
+w1[0.y]=7
+final 0.x=5
+final 0.y=7
+",
+        ),
+        (
+            "sgt 1
+{\"decisions\":[{\"commit\":1,\"rank\":0}],\"sites\":1}
+site 0
+item x=5
+r1[x]=4
+w1[x]=6
+c1
+final x=6
+end
+",
+            Outcome::No,
+            "no line 5 F10\n",
+        ),
+        (
+            "sgt 1
+{\"decisions\":[{\"commit\":1,\"rank\":1},{\"commit\":2,\"rank\":0}],\"sites\":1}
+site 0
+item x=5
+w1[x]=7
+c1
+w2[x]=7
+c2
+final x=7
+end
+",
+            Outcome::No,
+            "no line 7 F11\n",
+        ),
+        ("", Outcome::No, "no line 1 F18\n"),
+    ] {
+        let mut reader = MemSource::new(text.as_bytes(), 7, None);
+        let mut writer = MemSink::new(alloc, 1000)?;
+        assert_eq!(rt; serial(alloc, &mut reader, &mut writer)?, outcome);
+        assert_eq!(rt; writer.bytes(), wanted.as_bytes());
+    }
+    Ok(())
+}
+
+// Each read fails in turn, and the writer takes only so much: what went out is a front.
+#[test]
+fn devices_that_fail(rt: HostRuntime) -> Result<(), Fail> {
+    let alloc = rt.alloc();
+    for at in 1..5u64 {
+        let mut reader = MemSource::new(BY_RANK.as_bytes(), 50, Some(at));
+        let mut writer = MemSink::new(alloc, 1000)?;
+        let answer = serial(alloc, &mut reader, &mut writer);
+        assert_eq!(rt; answer, Err(EngineFail::ReadFault), "{at}");
+        assert!(rt; writer.bytes().is_empty());
+    }
+    for takes in [0usize, 1, 30, BY_RANK_RUN.len() - 1] {
+        let mut reader = MemSource::new(BY_RANK.as_bytes(), 1000, None);
+        let mut writer = MemSink::new(alloc, takes)?;
+        let answer = serial(alloc, &mut reader, &mut writer);
+        assert_eq!(rt; answer, Err(EngineFail::WriteFault), "{takes}");
+        assert_eq!(rt; writer.bytes(), &BY_RANK_RUN.as_bytes()[..takes]);
+    }
+    Ok(())
 }
