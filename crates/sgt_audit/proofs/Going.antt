@@ -46,7 +46,7 @@ text-append : (xs ys : List (List ℕ)) → text_of_lines (xs ++ ys) ≡ text_of
 text-append [] ys = refl
 text-append (x ∷ xs) ys = ap (λ (t : List ℕ). (x ++ 10 ∷ []) ++ t) (text-append xs ys) ∙ sym (append_assoc (x ++ 10 ∷ []) (text_of_lines xs) (text_of_lines ys))
 
-one-line : (xs : List (List ℕ)) (l rest : List ℕ) → text_of_lines (xs ++ l ∷ []) ++ rest ≡ text_of_lines xs ++ (l ++ 10 ∷ rest)
+pub one-line : (xs : List (List ℕ)) (l rest : List ℕ) → text_of_lines (xs ++ l ∷ []) ++ rest ≡ text_of_lines xs ++ (l ++ 10 ∷ rest)
 one-line xs l rest =
     ap (λ (t : List ℕ). t ++ rest) (text-append xs (l ∷ [])) ∙ append_assoc (text_of_lines xs) (text_of_lines (l ∷ [])) rest
     ∙ ap (λ (t : List ℕ). text_of_lines xs ++ t) (ap (λ (t : List ℕ). t ++ rest) (append-nil (l ++ 10 ∷ [])) ∙ append_assoc l (10 ∷ []) rest)

@@ -1,5 +1,5 @@
 -- The verdict on a text that was judged.
-use Rattle.std.proofs.Common.{◌≡◌, ℕ, List, [], Option, Some, None, IfSome, refl, sym, ap, ◌∙◌, subst}
+use Rattle.std.proofs.Common.{◌≡◌, ℕ, List, [], Option, Some, None, IfSome, refl, sym, ap, ap₂, ◌∙◌, subst}
 use Rattle.sgt_notation.specs.Spelling.{text_of_lines}
 use Rattle.sgt_notation.specs.declared.SectionLine.{SectionLine}
 use Rattle.sgt_cert.specs.Parts.{Parts}
@@ -8,6 +8,7 @@ use Rattle.sgt_cert.specs.Text.{AreSections, IsBundle, Spells}
 use Rattle.sgt_cert.specs.declared.certificate.Certificate.{Certificate}
 use Rattle.sgt_cert.specs.declared.bundle.SiteLog.{SiteLog}
 use Rattle.sgt_cert.proofs.Headline.{valid-agrees}
+use Rattle.sgt_cert.proofs.OneText.{bundle-one}
 use Rattle.sgt_names.proofs.Places.{All-from_at, All_at}
 use Rattle.sgt_audit.specs.declared.kept.Kept.{Kept}
 use Rattle.sgt_audit.specs.declared.reading.Judged.{Judged}
@@ -19,6 +20,8 @@ use Rattle.sgt_audit.specs.Kept.{Means}
 use Rattle.sgt_audit.specs.Reads.{IsJudged}
 use Rattle.sgt_audit.specs.Verdict.{IsVerdict, SaysHeadline, HoldsHeadline, yes_of}
 use Rattle.sgt_audit.proofs.NoFault.{bundle_of, spells-bundle, valid-bundle}
+use Rattle.sgt_audit.proofs.Faultless.{valid-no_fault}
+use Rattle.sgt_audit.proofs.OneFault.{first_fault-excluded, first_fault-one}
 use Rattle.sgt_audit.proofs.Streaming.{sections-whole}
 
 -- the bundle that was kept
@@ -58,3 +61,10 @@ verdict-headline bytes (No line f) first = tt
 pub told-map : (P Q : List ℕ → Type 0) (told : Option (List ℕ)) → ((bytes : List ℕ) → P bytes → Q bytes) → IfSome told P → IfSome told Q
 told-map P Q None f h = tt
 told-map P Q (Some bytes) f h = f bytes h
+
+-- two verdicts on one text are one
+pub verdict-one : (bytes : List ℕ) (v w : Verdict) → IsVerdict bytes v → IsVerdict bytes w → v ≡ w
+verdict-one bytes (Yes a b c) (Yes d e f) (p, spelled, valid, counts) (q, spells, holds, others) = counts ∙ ap (λ (p : Parts). yes_of p.certificate.decisions) (bundle-one bytes p q spelled spells) ∙ sym others
+verdict-one bytes (Yes a b c) (No n f) (p, spelled, valid, counts) first = absurd (first_fault-excluded bytes n f first (valid-no_fault bytes p spelled valid))
+verdict-one bytes (No n f) (Yes a b c) first (p, spelled, valid, counts) = absurd (first_fault-excluded bytes n f first (valid-no_fault bytes p spelled valid))
+verdict-one bytes (No m f) (No n g) first other = let same = first_fault-one bytes m n f g first other in ap₂ (λ n f. No n f) same.0 same.1
