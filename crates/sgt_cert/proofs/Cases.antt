@@ -2,6 +2,7 @@
 use Rattle.std.proofs.Common.{◌≡◌, ◌≢◌, ℕ, zero, suc, List, [], ◌∷◌, ◌++◌, length, refl, sym, ap, ◌∙◌, subst, Some, get_or, arith, lit<, lit≤, ◌<◌, ◌≤◌}
 use Rattle.std.specs.Prelude.{codes, slice_get, All, AllPairs, Contains, IsSome}
 use Rattle.sgt_names.specs.Name.{Name}
+use Rattle.sgt_names.specs.Entry.{tx_of}
 use Rattle.sgt_names.specs.declared.entry.Entry.{Entry}
 use Rattle.sgt_names.specs.declared.entry.Holding.{Holding}
 use Rattle.std.proofs.lemmas.Option.{same_Some}
@@ -303,6 +304,17 @@ torn-logged = (
   ((site_of torn 0, refl, record { p = 0; q = 2; e = e.Write 1 x 6; f = e.Read 2 x 6; before = lit< tt; first = refl; second = refl; from = refl; to = refl; apart = λ h. absurd (omega arith); clash = (refl, refl) }), tt),
 )
 
+torn-only : (p : ℕ) (en : Entry) → slice_get (site_of torn 1).entries p ≡ Some en → tx_of en ≡ 3 → ⊥
+torn-only zero en at = subst (λ d. tx_of d ≡ 3 → ⊥) (same_Some (e.Read 2 y 2) en at) (λ h. absurd (omega arith))
+torn-only (suc zero) en at = subst (λ d. tx_of d ≡ 3 → ⊥) (same_Some (e.Write 1 y 3) en at) (λ h. absurd (omega arith))
+torn-only (suc (suc zero)) en at = subst (λ d. tx_of d ≡ 3 → ⊥) (same_Some (e.Commit 1) en at) (λ h. absurd (omega arith))
+torn-only (suc (suc (suc zero))) en at = subst (λ d. tx_of d ≡ 3 → ⊥) (same_Some (e.Refuse 2) en at) (λ h. absurd (omega arith))
+torn-only (suc (suc (suc (suc p)))) en at = absurd cc
+
+-- the same steps, from a transaction that isn't in the conflict
+pub other_start-not_logged : AreLogged torn.sites 3 torn_walk → ⊥
+other_start-not_logged ((log, at, c), rest) = torn-only c.p c.e (subst (λ (l : SiteLog). slice_get l.entries c.p ≡ Some c.e) (sym (same_Some (site_of torn 1) log at)) c.first) c.from
+
 torn-cycles : (number tx : ℕ) (walk : List Step) → slice_get torn.certificate.decisions number ≡ Some (Refuse tx walk) → IsCycle torn.certificate.decisions number tx walk × AreLogged torn.sites tx walk
 torn-cycles zero tx walk at = absurd cc
 torn-cycles (suc zero) tx walk at =
@@ -344,15 +356,16 @@ equal_names-cycles (suc (suc n)) tx walk at = absurd cc
 pub equal_names-valid : IsValid equal_names
 equal_names-valid = valid-from_test equal_names refl equal_names-cycles
 
--- Two readers against their ranks: reads don't conflict. A third transaction is committed and stands in no log.
+-- Two readers against their ranks: reads don't conflict. A third transaction is committed and stands in no log, a fourth reads and is withdrawn.
 abbrev pub readers : Parts
-readers = of_x (Commit 1 2 ∷ Commit 2 0 ∷ Commit 7 1 ∷ []) (e.Read 1 x 5 ∷ e.Read 2 x 5 ∷ e.Commit 1 ∷ e.Commit 2 ∷ []) 5
+readers = of_x (Commit 1 2 ∷ Commit 2 0 ∷ Commit 7 1 ∷ Withdraw 4 ∷ []) (e.Read 1 x 5 ∷ e.Read 4 x 5 ∷ e.Read 2 x 5 ∷ e.Commit 1 ∷ e.Commit 2 ∷ e.Withdraw 4 ∷ []) 5
 
 readers-cycles : (number tx : ℕ) (walk : List Step) → slice_get readers.certificate.decisions number ≡ Some (Refuse tx walk) → IsCycle readers.certificate.decisions number tx walk × AreLogged readers.sites tx walk
 readers-cycles zero tx walk at = absurd cc
 readers-cycles (suc zero) tx walk at = absurd cc
 readers-cycles (suc (suc zero)) tx walk at = absurd cc
-readers-cycles (suc (suc (suc n))) tx walk at = absurd cc
+readers-cycles (suc (suc (suc zero))) tx walk at = absurd cc
+readers-cycles (suc (suc (suc (suc n)))) tx walk at = absurd cc
 
 pub readers-valid : IsValid readers
 readers-valid = valid-from_test readers refl readers-cycles
