@@ -1,7 +1,8 @@
 use crate::{
     Bundle, CertFault, Certificate, Decision, SiteLog, certificates_are_read_back,
-    certificates_have_one_reading, from_line, lines_are_read_or_refused, lines_are_refused_once,
-    no_bytes_spell_two_bundles, ranks_are_distinct, to_line, valid_bundles_run_serially,
+    certificates_have_one_reading, committed_transactions_run, from_line,
+    lines_are_read_or_refused, lines_are_refused_once, no_bytes_spell_two_bundles,
+    ranks_are_distinct, to_line, valid_bundles_run_serially,
 };
 use sgt_names::Listed;
 use sgt_notation::{SectionLine, read_section};
@@ -198,6 +199,25 @@ fn steps(rt: HostRuntime) -> Result<(), Fail> {
 }
 
 #[test]
+fn faults_as_text(rt: HostRuntime) -> Result<(), Fail> {
+    for (fault, text) in [
+        (CertFault::NotJson, "K1: the line is no JSON value"),
+        (
+            CertFault::Shape,
+            "K2: a member is missing, unknown or of another JSON type",
+        ),
+        (
+            CertFault::Range,
+            "K3: a number, name or kind is out of its range, or the line is not the compact text",
+        ),
+        (CertFault::Memory, "K4: out of memory"),
+    ] {
+        assert_eq!(rt; format!(in rt.alloc(); "{fault}")?.as_str(), text);
+    }
+    Ok(())
+}
+
+#[test]
 fn long_and_deep_lines(rt: HostRuntime) -> Result<(), Fail> {
     let alloc = rt.alloc();
     for (depth, wanted) in [(127usize, "K2"), (128, "K1"), (1000000, "K1")] {
@@ -277,6 +297,7 @@ fn bundles(rt: HostRuntime) -> Result<(), Fail> {
     }
     certificates_are_read_back();
     certificates_have_one_reading();
+    committed_transactions_run();
     lines_are_read_or_refused();
     lines_are_refused_once();
     no_bytes_spell_two_bundles();
