@@ -13,7 +13,7 @@ mod pledges;
 
 use crate::cell::{Cell, Reader, Writer, insert};
 use crate::fault::SiteFault;
-use sgt_names::{Entry, Holding, Item, Seen, SiteNo, Touch, Tx};
+use sgt_names::{Entry, Holding, Item, MAX_ITEMS, Seen, SiteNo, Touch, Tx};
 use std::alloc::{AllocError, Global};
 use std::cmp::Ordering;
 use std::marker::Model;
@@ -251,7 +251,7 @@ fn order(cell: &Cell, item: &Item) -> Ordering
 fn are_items(items: &[Holding]) -> bool
     ensures { IsTrue result ↔ AreItems items.now }
 {
-    if items.len() > 256 {
+    if items.len() > MAX_ITEMS {
         return false;
     }
     for i in 1..items.len() {
