@@ -5,6 +5,7 @@ use Rattle.sgt_names.specs.declared.outcome.EngineFail.{EngineFail}
 use Rattle.sgt_names.specs.declared.outcome.EngineFail.TheVariants.{Memory, ReadFault, WriteFault}
 use Rattle.sgt_names.specs.declared.outcome.Outcome.{Outcome}
 use Rattle.sgt_names.specs.declared.outcome.Outcome.TheVariants as Outcome_
+use Rattle.sgt_serial.specs.Answer.{IsAnswer}
 use Rattle.sgt_audit.specs.Verdict.{IsVerdict, HoldsHeadline, text_of}
 use Rattle.sgt_audit.specs.declared.faults.Fault.{Fault}
 use Rattle.sgt_audit.specs.declared.verdict.Verdict.{Verdict}
@@ -31,3 +32,7 @@ SaysYes told written written' = IfSome told HoldsHeadline × ((committed refused
 -- a no was said, and it names the first fault of the bytes told
 abbrev pub SaysNo : (told written written' : Option (List ℕ)) → Type 0
 SaysNo told written written' = (line : ℕ) × (fault : Fault) × Says (No line fault) told written written'
+
+-- the serial run of the valid bundle that the bytes told spell was written
+abbrev pub ShowsRun : (told written written' : Option (List ℕ)) → Type 0
+ShowsRun told written written' = (text : List ℕ) × IsAnswer told Outcome_.Yes text × Appends written written' text

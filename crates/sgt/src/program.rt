@@ -2,11 +2,12 @@
 
 ghost use Rattle.std.specs.Prelude.{◌≡◌, ◌<◌, ◌≤◌, ◌⊎◌, length, IfSome};
 ghost use Rattle.sgt_notation.specs.declared.lines.TheConstants.{MOST_READS};
-ghost use Rattle.sgt.specs.Program.{SaysYes, SaysNo, status_of_fail, outcome};
+ghost use Rattle.sgt.specs.Program.{SaysYes, SaysNo, ShowsRun, status_of_fail, outcome};
 
 use crate::choice::{Choice, NoChoice, choose};
 use sgt_audit::{Verdict, audit, write_all};
 use sgt_names::{EngineFail, Outcome, Sink, Source};
+use sgt_serial::serial;
 use std::alloc::Global;
 
 /// The exit status where memory ran out.
@@ -56,7 +57,8 @@ pub fn program<R: Source, W: Sink, E: Sink>(
     errors: &mut E,
 ) -> u8
     ensures statuses { result ≤ 4 }
-    ensures yes { result ≡ 0 → (reader.new ≡ reader.old) ⊎ SaysYes (R.tells reader.old) (W.holds writer.old) (W.holds writer.new) }
+    ensures yes { result ≡ 0 → (reader.new ≡ reader.old) ⊎ (SaysYes (R.tells reader.old) (W.holds writer.old) (W.holds writer.new)
+        ⊎ ShowsRun (R.tells reader.old) (W.holds writer.old) (W.holds writer.new)) }
     ensures no { result ≡ 1 → SaysNo (R.tells reader.old) (W.holds writer.old) (W.holds writer.new) }
     ensures usage { result ≡ 2 → (reader.new ≡ reader.old) × (writer.new ≡ writer.old) }
     ensures device { result ≡ 4 → ((R.failures reader.old < R.failures reader.new) ⊎ (W.failures writer.old < W.failures writer.new)
@@ -65,6 +67,10 @@ pub fn program<R: Source, W: Sink, E: Sink>(
     match choose(alloc, words) {
         Ok(Choice::Audit) => match audit(alloc, reader, writer) {
             Ok(verdict) => outcome_of(verdict).status(),
+            Err(fail) => give_up(errors, fail),
+        },
+        Ok(Choice::Serial) => match serial(alloc, reader, writer) {
+            Ok(outcome) => outcome.status(),
             Err(fail) => give_up(errors, fail),
         },
         Err(NoChoice::Help(text)) => match write_all(writer, text.as_bytes()) {
