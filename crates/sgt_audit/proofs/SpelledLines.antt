@@ -71,6 +71,7 @@ module _ (sites : ℕ) (bytes : List ℕ) (b : Begun) (rest : List ℕ) (a : IsA
         behind : (xs ys : List SectionLine) → AllByRecursion IsLine (xs ++ ys) → AllByRecursion IsLine ys
         behind [] ys h = h
         behind (x ∷ xs) ys h = behind xs ys h.1
+
         spelled : (l : SectionLine) (later : List SectionLine) → AllByRecursion IsLine (lines_read b ++ l ∷ later) → IsLine l
         spelled l later h = (behind (lines_read b) (l ∷ later) h).0
 
