@@ -60,9 +60,9 @@ abbrev pub HandsOutValid : Audited → Type 0
 HandsOutValid (audited.Valid b) = IsValid b
 HandsOutValid (audited.No line f) = Unit {0}
 
--- the text spells site logs and a certificate such that the committed transactions alone, run one after another by rank, have every
--- read value and every final value recorded for them, conflicting operations stand in rank order at every site, and each refused
--- transaction lies on a cycle of logged conflicts with transactions certified before it
+-- the stream spells site logs and a certificate such that running the committed transactions alone, one after another by rank,
+-- gives every read value and final value recorded for them, conflicting operations stand in rank order at every site, and each
+-- refused transaction lies on a cycle of logged conflicts with transactions certified before it
 pub record HoldsHeadline (bytes : List ℕ) : Type 0 where
   pub bundle : Parts
   pub spelled : Spells bytes bundle

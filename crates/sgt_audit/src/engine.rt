@@ -58,6 +58,11 @@ fn verdict_on(judged: Judged) -> Verdict
 
 /// Audits all that the reader gives, and writes the line of the verdict and nothing else. Once a line with a fault was
 /// read whole, no further read is made.
+///
+/// Where it answers yes to a stream of bytes, the stream spells site logs and a certificate such that running the committed
+/// transactions alone, one after another by rank, gives every read value and final value recorded for them, conflicting
+/// operations stand in rank order at every site, and each refused transaction lies on a cycle of logged conflicts with
+/// transactions certified before it.
 pub fn audit<R: Source, W: Sink>(
     alloc: Global,
     reader: &mut R,
