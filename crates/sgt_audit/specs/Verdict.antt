@@ -55,9 +55,14 @@ abbrev pub IsAudited : List ℕ → Audited → Type 0
 IsAudited bytes (audited.Valid b) = Spells bytes b × IsValid b
 IsAudited bytes (audited.No line f) = FirstFault bytes line f
 
--- the text spells site logs and a certificate such that the committed transactions alone, run one after another by rank, have every
--- read value and every final value recorded for them, conflicting operations stand in rank order at every site, and each refused
--- transaction lies on a cycle of logged conflicts with transactions certified before it
+-- a bundle that is handed out is valid, also where the reader tells nothing
+abbrev pub HandsOutValid : Audited → Type 0
+HandsOutValid (audited.Valid b) = IsValid b
+HandsOutValid (audited.No line f) = Unit {0}
+
+-- the stream spells site logs and a certificate such that running the committed transactions alone, one after another by rank,
+-- gives every read value and final value recorded for them, conflicting operations stand in rank order at every site, and each
+-- refused transaction lies on a cycle of logged conflicts with transactions certified before it
 pub record HoldsHeadline (bytes : List ℕ) : Type 0 where
   pub bundle : Parts
   pub spelled : Spells bytes bundle

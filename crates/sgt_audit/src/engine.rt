@@ -4,7 +4,7 @@ ghost use Rattle.std.specs.Prelude.{◌≡◌, ◌≢◌, ℕ, ◌<◌, ◌≤�
 ghost use Rattle.std.specs.Io.KnownBytes.{Appends};
 ghost use Rattle.sgt_notation.specs.declared.lines.TheConstants.{MOST_READS};
 ghost use Rattle.sgt_audit.specs.Reads.{IsJudged};
-ghost use Rattle.sgt_audit.specs.Verdict.{IsVerdict, IsAudited, SaysHeadline, WroteFront, text_of};
+ghost use Rattle.sgt_audit.specs.Verdict.{IsVerdict, IsAudited, HandsOutValid, SaysHeadline, WroteFront, text_of};
 
 use crate::faults::Fault;
 use crate::output::write_all;
@@ -27,6 +27,7 @@ pub enum Audited {
 /// first line with a fault.
 pub fn audit_bundle<R: Source>(alloc: Global, reader: &mut R) -> Result<Audited, EngineFail>
     ensures audited { IfOk result (λ a. IfSome (R.tells reader.old) (λ bytes. IsAudited bytes a)) }
+    ensures valid { IfOk result HandsOutValid }
     ensures quiet { IfOk result (λ _. R.failures reader.new ≡ R.failures reader.old) }
     ensures read_fault { IsErrOf result EngineFail.ReadFault →
         ((R.failures reader.old < R.failures reader.new) ⊎ IfSome (R.tells reader.old) (λ bytes. MOST_READS ≤ length bytes)) }
@@ -57,6 +58,11 @@ fn verdict_on(judged: Judged) -> Verdict
 
 /// Audits all that the reader gives, and writes the line of the verdict and nothing else. Once a line with a fault was
 /// read whole, no further read is made.
+///
+/// Where it answers yes to a stream of bytes, the stream spells site logs and a certificate such that running the committed
+/// transactions alone, one after another by rank, gives every read value and final value recorded for them, conflicting
+/// operations stand in rank order at every site, and each refused transaction lies on a cycle of logged conflicts with
+/// transactions certified before it.
 pub fn audit<R: Source, W: Sink>(
     alloc: Global,
     reader: &mut R,

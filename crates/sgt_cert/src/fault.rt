@@ -2,7 +2,7 @@
 
 use thiserror::Error;
 
-/// Why no certificate is read from a line. Of two that hold, the one with the least number is answered.
+/// Why no certificate is read from a line: K1 goes before K2 and K2 before K3, wherever in the line they stand.
 #[derive(Clone, Copy, Debug, PartialEq, Eq, Error)]
 pub enum CertFault {
     /// No JSON value is read from the line.
@@ -14,7 +14,7 @@ pub enum CertFault {
     /// A number, a name or a kind is out of its range, or the line is not the compact text of a certificate.
     #[error("K3: a number, name or kind is out of its range, or the line is not the compact text")]
     Range,
-    /// Out of memory.
+    /// Out of memory: nothing is known of the line.
     #[error("K4: out of memory")]
     Memory,
 }

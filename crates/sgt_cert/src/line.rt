@@ -143,7 +143,8 @@ fn push_certificate(out: &mut Vec<u8>, decisions: &[Decision], sites: u64) -> Re
     out.extend_from_slice(b"}")
 }
 
-/// The one line that spells the certificate, without an LF.
+/// The one line that spells the certificate, without an LF. (Where its sites are not 1 to 16, or a step is at none of them,
+/// that is a line too, but `from_line` refuses it.)
 pub fn to_line(alloc: Global, certificate: &Certificate) -> Result<Vec<u8>, AllocError>
     ensures { IfOk result (λ line. line.items ≡ certificate_text certificate.now) }
 {
@@ -179,7 +180,10 @@ fn judge(alloc: Global, value: &Value, line: &[u8]) -> Result<Certificate, CertF
     }
 }
 
-/// Reads the line of a certificate, which is given without its LF.
+/// Reads the line of a certificate, which is given without its LF. Ok exactly for the text that `to_line` gives of a
+/// certificate whose sites are 1 to 16, with each step at one of them. Any other line is refused: with K1 where no JSON
+/// value is read from it, else with K2 where the value's members are not those of a certificate, else with K3. K4 where
+/// memory ran out stands in place of any answer.
 pub fn from_line(alloc: Global, line: &[u8]) -> Result<Certificate, CertFault>
     ensures ok { IfOk result (λ c. IsCertificate c × (line.now ≡ certificate_text c)) }
     ensures only { (c : Certificate) → IsCertificate c → line.now ≡ certificate_text c

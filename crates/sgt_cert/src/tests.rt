@@ -1,4 +1,9 @@
-use crate::{Bundle, CertFault, Certificate, Decision, SiteLog, from_line, to_line};
+use crate::{
+    Bundle, CertFault, Certificate, Decision, SiteLog, certificates_are_read_back,
+    certificates_have_one_reading, committed_transactions_run, from_line,
+    lines_are_read_or_refused, lines_are_refused_once, no_bytes_spell_two_bundles,
+    ranks_are_distinct, to_line, valid_bundles_run_serially,
+};
 use sgt_names::Listed;
 use sgt_notation::{SectionLine, read_section};
 use std::alloc::Global;
@@ -72,6 +77,8 @@ fn whole_lines(rt: HostRuntime) -> Result<(), Fail> {
             ("{\"decisions\":{},\"sites\":1}", "K2"),
             ("{\"decisions\":[],\"sites\":null}", "K2"),
             ("{\"Decisions\":[],\"sites\":1}", "K2"),
+            ("{\"decisions\":[{\"withdraw\":0},{}],\"sites\":0}", "K2"),
+            ("{\"decisions\":[{\"withdraw\":0},{}],\"sites\":0", "K1"),
             ("", "K1"),
             ("1", "K2"),
             ("[]", "K2"),
@@ -103,6 +110,12 @@ fn decisions(rt: HostRuntime) -> Result<(), Fail> {
         ("{\"commit\":1}", "K2"),
         ("{\"commit\":1,\"rank\":0,\"walk\":[]}", "K2"),
         ("{\"commit\":1,\"walk\":[]}", "K2"),
+        ("{\"commit\":1,\"rank\":\"0\"}", "K2"),
+        ("{\"commit\":0,\"rank\":null}", "K2"),
+        ("{\"commit\":1,\"withdraw\":1}", "K2"),
+        ("{\"refuse\":2,\"walk\":[],\"rank\":0}", "K2"),
+        ("{\"refuse\":\"2\",\"walk\":[]}", "K2"),
+        ("{\"refuse\":2,\"rank\":0}", "K2"),
         ("{\"refuse\":2}", "K2"),
         ("{\"refuse\":2,\"walk\":0}", "K2"),
         ("{\"refuse\":2,\"walk\":[0]}", "K2"),
@@ -186,6 +199,25 @@ fn steps(rt: HostRuntime) -> Result<(), Fail> {
 }
 
 #[test]
+fn faults_as_text(rt: HostRuntime) -> Result<(), Fail> {
+    for (fault, text) in [
+        (CertFault::NotJson, "K1: the line is no JSON value"),
+        (
+            CertFault::Shape,
+            "K2: a member is missing, unknown or of another JSON type",
+        ),
+        (
+            CertFault::Range,
+            "K3: a number, name or kind is out of its range, or the line is not the compact text",
+        ),
+        (CertFault::Memory, "K4: out of memory"),
+    ] {
+        assert_eq!(rt; format!(in rt.alloc(); "{fault}")?.as_str(), text);
+    }
+    Ok(())
+}
+
+#[test]
 fn long_and_deep_lines(rt: HostRuntime) -> Result<(), Fail> {
     let alloc = rt.alloc();
     for (depth, wanted) in [(127usize, "K2"), (128, "K1"), (1000000, "K1")] {
@@ -263,6 +295,14 @@ fn bundles(rt: HostRuntime) -> Result<(), Fail> {
         Decision::Commit { .. } => return Err(Fail::new("another answer")),
         Decision::Refuse { .. } => return Err(Fail::new("another answer")),
     }
+    certificates_are_read_back();
+    certificates_have_one_reading();
+    committed_transactions_run();
+    lines_are_read_or_refused();
+    lines_are_refused_once();
+    no_bytes_spell_two_bundles();
+    ranks_are_distinct();
+    valid_bundles_run_serially();
     Ok(())
 }
 

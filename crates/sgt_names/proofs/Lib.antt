@@ -1,3 +1,6 @@
 pub mod Places
 pub mod Chosen
 pub mod Stored
+pub mod Ranged
+pub mod Touched
+pub mod Examples

@@ -5,3 +5,5 @@ pub mod Log
 pub mod Outcome
 pub mod Device
 pub mod Memory
+pub mod Ordered
+pub mod Draft

@@ -2,6 +2,7 @@
 //! the engines are generic over.
 #![tactic(auto)]
 
+mod draft;
 mod entry;
 mod item;
 mod limits;
@@ -10,17 +11,22 @@ mod memory;
 mod number;
 mod outcome;
 mod sink;
+mod site_no;
 mod source;
 mod standard;
+#[cfg(test)]
+mod tests;
 
+pub use draft::{Draft, Seen, Touch};
 pub use entry::{Entry, Holding, Kind, Label};
 pub use item::{BadName, Item};
 pub use limits::{MAX_ITEMS, MAX_SITES};
 pub use listed::Listed;
 pub use memory::{MemSink, MemSource};
-pub use number::{BadNumber, SiteNo, Tx};
+pub use number::{BadNumber, Tx};
 pub use outcome::{EngineFail, Outcome};
 pub use sink::Sink;
+pub use site_no::SiteNo;
 pub use source::{Failed, Source};
 pub use standard::{FromRead, ToWrite};
 

@@ -4,10 +4,10 @@ use Rattle.std.specs.Prelude.{decimal, codes}
 use Rattle.std.proofs.lemmas.List.{append_cancel_left}
 use Rattle.std.proofs.lemmas.List.Elements.{recursion_from_All}
 use Rattle.sgt_names.specs.Name.{Name}
-use Rattle.sgt_names.specs.declared.entry.Entry.TheVariants.{Read, Write, Want, Commit, Refuse, Withdraw}
+use Rattle.sgt_names.specs.declared.entry.Entry.TheVariants.{Read, Write, Want}
 use Rattle.sgt_names.specs.declared.entry.Holding.{Holding}
 use Rattle.sgt_notation.specs.Reading.{IsOperation, SpellsNone, operation_text}
-use Rattle.sgt_notation.specs.Spelling.{assignment, entry_text, line_text, IsEntry, IsHolding, IsLine, IsSite, IsTx}
+use Rattle.sgt_notation.specs.Spelling.{assignment, entry_text, line_text, IsEntry, IsHolding, IsLine, IsSite}
 use Rattle.sgt_notation.specs.declared.SectionLine.TheVariants.{Site, Initial, Logged, Final, End}
 use Rattle.sgt_notation.proofs.OneSpelling.{HasNot, apart, entry-apart, cut_at_byte, decimal-without, name-without, operation-is, small-tx, tails}
 
@@ -22,9 +22,6 @@ never at bs a b h e = never_by at a b (recursion_from_All (λ x. x ≢ at) (a ++
 
 text-is : (o : ℕ × Name × ℕ) → operation_text o ≡ decimal o.0 ++ 91 ∷ (o.1 ++ 93 ∷ (61 ∷ decimal o.2))
 text-is o = operation-is o.0 o.1 o.2
-
-pub has_bracket : (bs : List ℕ) (o : ℕ × Name × ℕ) → All (λ x. x ≢ 91) bs → bs ≡ operation_text o → ⊥
-has_bracket bs o plain whole = never 91 bs (decimal o.0) _ plain (whole ∙ text-is o)
 
 pub first_of : (bs tx tail : List ℕ) (o : ℕ × Name × ℕ) → bs ≡ tx ++ 91 ∷ tail → All (λ x. x ≢ 91) tx → IsOperation o → bs ≡ operation_text o → (tx ≡ decimal o.0) × (tail ≡ o.1 ++ 93 ∷ (61 ∷ decimal o.2))
 first_of bs tx tail o e plain is whole =
@@ -45,41 +42,23 @@ some_byte bs x xs empty e = let same = ap length e in absurd (omega (arith, same
 holding-is : (h : Holding) → assignment h.item h.value ≡ h.item ++ 61 ∷ decimal h.value
 holding-is h = append_assoc h.item (61 ∷ []) (decimal h.value)
 
-pub has_equals : (bs : List ℕ) (h : Holding) → All (λ x. x ≢ 61) bs → bs ≡ assignment h.item h.value → ⊥
-has_equals bs h plain whole = never 61 bs h.item _ plain (whole ∙ holding-is h)
-
 pub sides_of : (bs name last : List ℕ) (h : Holding) → bs ≡ name ++ 61 ∷ last → All (λ x. x ≢ 61) name → IsHolding h → bs ≡ assignment h.item h.value → (name ≡ h.item) × (last ≡ decimal h.value)
 sides_of bs name last h e plain is whole =
     cut_at_byte 61 name h.item last (decimal h.value) (recursion_from_All (λ x. x ≢ 61) name plain) (name-without 61 refl h.item is.0) (sym e ∙ whole ∙ holding-is h)
 
-pub assigned : (name last : List ℕ) (v : ℕ) → last ≡ decimal v → name ++ 61 ∷ last ≡ assignment name v
-assigned name last v e = ap (λ (t : List ℕ). name ++ 61 ∷ t) e ∙ sym (append_assoc name (61 ∷ []) (decimal v))
-
 -- ---- entries: behind the letter of a kind stands no such entry
 
-pub not_read : (line rest : List ℕ) → line ≡ 114 ∷ rest → SpellsNone IsOperation operation_text rest → SpellsNone IsEntry entry_text line
-not_read line rest is none (Read tx x v) ok whole = none (tx, x, v) ok (tails _ _ _ _ (sym is ∙ whole))
-not_read line rest is none e ok whole = absurd (apart (114 ∷ rest) (entry_text e) refl (sym is ∙ whole))
+pub read_not : (line rest : List ℕ) → line ≡ 114 ∷ rest → SpellsNone IsOperation operation_text rest → SpellsNone IsEntry entry_text line
+read_not line rest is none (Read tx x v) ok whole = none (tx, x, v) ok (tails _ _ _ _ (sym is ∙ whole))
+read_not line rest is none e ok whole = absurd (apart (114 ∷ rest) (entry_text e) refl (sym is ∙ whole))
 
-pub not_write : (line rest : List ℕ) → line ≡ 119 ∷ rest → SpellsNone IsOperation operation_text rest → SpellsNone IsEntry entry_text line
-not_write line rest is none (Write tx x v) ok whole = none (tx, x, v) ok (tails _ _ _ _ (sym is ∙ whole))
-not_write line rest is none e ok whole = absurd (apart (119 ∷ rest) (entry_text e) refl (sym is ∙ whole))
+pub write_not : (line rest : List ℕ) → line ≡ 119 ∷ rest → SpellsNone IsOperation operation_text rest → SpellsNone IsEntry entry_text line
+write_not line rest is none (Write tx x v) ok whole = none (tx, x, v) ok (tails _ _ _ _ (sym is ∙ whole))
+write_not line rest is none e ok whole = absurd (apart (119 ∷ rest) (entry_text e) refl (sym is ∙ whole))
 
-pub not_want : (line rest : List ℕ) → line ≡ 112 ∷ rest → SpellsNone IsOperation operation_text rest → SpellsNone IsEntry entry_text line
-not_want line rest is none (Want tx x v) ok whole = none (tx, x, v) ok (tails _ _ _ _ (sym is ∙ whole))
-not_want line rest is none e ok whole = absurd (apart (112 ∷ rest) (entry_text e) refl (sym is ∙ whole))
-
-pub not_commit : (line rest : List ℕ) → line ≡ 99 ∷ rest → SpellsNone IsTx decimal rest → SpellsNone IsEntry entry_text line
-not_commit line rest is none (Commit tx) ok whole = none tx ok (tails _ _ _ _ (sym is ∙ whole))
-not_commit line rest is none e ok whole = absurd (apart (99 ∷ rest) (entry_text e) refl (sym is ∙ whole))
-
-pub not_refuse : (line rest : List ℕ) → line ≡ 110 ∷ rest → SpellsNone IsTx decimal rest → SpellsNone IsEntry entry_text line
-not_refuse line rest is none (Refuse tx) ok whole = none tx ok (tails _ _ _ _ (sym is ∙ whole))
-not_refuse line rest is none e ok whole = absurd (apart (110 ∷ rest) (entry_text e) refl (sym is ∙ whole))
-
-pub not_withdraw : (line rest : List ℕ) → line ≡ 97 ∷ rest → SpellsNone IsTx decimal rest → SpellsNone IsEntry entry_text line
-not_withdraw line rest is none (Withdraw tx) ok whole = none tx ok (tails _ _ _ _ (sym is ∙ whole))
-not_withdraw line rest is none e ok whole = absurd (apart (97 ∷ rest) (entry_text e) refl (sym is ∙ whole))
+pub want_not : (line rest : List ℕ) → line ≡ 112 ∷ rest → SpellsNone IsOperation operation_text rest → SpellsNone IsEntry entry_text line
+want_not line rest is none (Want tx x v) ok whole = none (tx, x, v) ok (tails _ _ _ _ (sym is ∙ whole))
+want_not line rest is none e ok whole = absurd (apart (112 ∷ rest) (entry_text e) refl (sym is ∙ whole))
 
 -- ---- lines: behind the word of a kind stands no such line
 

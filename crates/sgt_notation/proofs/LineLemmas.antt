@@ -6,7 +6,7 @@ use Rattle.std.proofs.lemmas.Grind.{common_steps}
 use Rattle.std.specs.Io.KnownBytes.{Consumes}
 use native.Mathlib.Numerals.{unary_clauses}
 use Rattle.sgt_notation.specs.Spelling.{HasNoLf}
-use Rattle.sgt_notation.specs.Lines.{Ahead, coming, Gives, IsLeft, Looks}
+use Rattle.sgt_notation.specs.Lines.{Ahead, coming, Gives, IsLeft, Looks, Moves}
 use Rattle.sgt_notation.specs.declared.lines.Next.{Next}
 use Rattle.sgt_notation.specs.declared.lines.Next.TheVariants.{Line, Cut, TooLong, End}
 
@@ -45,3 +45,19 @@ pub window_later : (start end m : ℕ) (xs : List ℕ) → take (end - (start + 
 window_later start end m xs =
     let e : end - (start + m) ≡ (end - start) - m = omega arith in
     rw (e, ← drop-drop m start xs) (sym (drop_take m (end - start) (drop start xs)))
+
+-- over a look no byte is lost but the LF
+pub moves_found : (limit : ℕ) (held held' line line' : List ℕ) (found : Option Next) (n : ℕ) → Looks limit held line found n line' → IsLeft held found n held'
+    → Moves found (length held + length line) (length held' + length line')
+moves_found limit held held' line line' (Some Line) n looks left =
+    let all = ap length looks.2 ∙ length-append (take n held) (10 ∷ drop (n + 1) held) in
+    let grown = ap length looks.3 ∙ length-append line (take n held) in
+    let less = ap length left in
+    omega (arith, all, grown, less)
+moves_found limit held held' line line' (Some TooLong) n looks left = let same = ap length looks.3 in let less = ap length left in omega (arith, same, less)
+moves_found limit held held' line line' (Some Cut) n looks left = absurd looks
+moves_found limit held held' line line' (Some End) n looks left = absurd looks
+moves_found limit held held' line line' None n looks left =
+    let grown = ap length looks.2 ∙ length-append line held in
+    let less = ap length left in
+    omega (arith, grown, less)

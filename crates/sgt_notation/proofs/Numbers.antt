@@ -1,8 +1,9 @@
 -- The first byte of a number, and its parse.
-use Rattle.std.proofs.Common.{◌≡◌, ◌≢◌, ℕ, zero, suc, ◌<◌, ◌≤◌, ◌^◌, List, [], ◌∷◌, length, get_or, Some, Ok, Err, decimal, lit<, refl, sym, ap, ◌∙◌, subst, arith}
-use Rattle.std.proofs.lemmas.Fmt.{parse-decimal, decimal-digits_value, decimal_digit, decimal_nonempty, first_decimal}
+use Rattle.std.proofs.Common.{◌≡◌, ◌≢◌, ℕ, zero, suc, ◌<◌, ◌≤◌, ◌^◌, List, [], ◌∷◌, length, get_or, Some, None, Result, Ok, Err, decimal, lit<, refl, sym, ap, ◌∙◌, subst, arith}
+use Rattle.std.proofs.lemmas.Fmt.{parse-decimal, decimal-digits_value, decimal_injective, decimal_digit, decimal_nonempty, first_decimal}
 use Rattle.std.proofs.lemmas.Str.Parse.{IsNumeralModel, numerals_by_value, tells_digits, without_leading_plus_none}
 use Rattle.std.specs.Str.Parse.{AllDigits, IsNumeral, ParsesUnsigned, digits_value}
+use Rattle.std.specs.Result.{OkIff, result_ok}
 use Rattle.sgt_notation.specs.Spelling.{IsValue}
 use Rattle.sgt_notation.specs.Reading.{Finds}
 
@@ -41,3 +42,16 @@ parsed bs n ok plus zeros =
 
 pub unparsed : (bs : List ℕ) → ParsesUnsigned {E = ℕ} 64 10 bs (Err 0) → (n : ℕ) → IsValue n → bs ≡ decimal n → ⊥
 unparsed bs err n h is = let both = parse-decimal {E = ℕ} 64 n bs (Err 0) h h is err in cc both
+
+pub parsed_or_not : {E : Type 0} (bs : List ℕ) (r : Result ℕ E) → ParsesUnsigned 64 10 bs r → get_or bs 0 0 ≢ 43 → get_or bs 0 0 ≢ 48 → Finds IsValue decimal bs (result_ok r)
+parsed_or_not bs (Ok n) is plus zeros = parsed bs n is plus zeros
+parsed_or_not bs (Err e) is plus zeros = unparsed bs is
+
+-- what a test of its range makes of a number
+pub in_range : {E : Type 0} (Is : ℕ → Type 0) (bs : List ℕ) (n : ℕ) (r : Result ℕ E) → ((m : ℕ) → Is m → IsValue m) → IsValue n → bs ≡ decimal n → OkIff r (Is n) n → Finds Is decimal bs (result_ok r)
+in_range Is bs n (Ok m) small fits is ranged = (subst Is (sym ranged.1) ranged.0, is ∙ ap decimal (sym ranged.1))
+in_range Is bs n (Err e) small fits is ranged = λ a ok whole. ranged (subst Is (decimal_injective a n (small a ok) fits (sym whole ∙ is)) ok)
+
+pub not_ok : {A E : Type 0} (P : Type 0) (x : A) (r : Result A E) → OkIff r P x → result_ok r ≡ None → P → ⊥
+not_ok P x (Ok a) is none = absurd cc
+not_ok P x (Err e) is none = is

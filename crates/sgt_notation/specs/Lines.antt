@@ -71,3 +71,11 @@ IsLeft held (Some TooLong) n held' = held' ≡ held
 IsLeft held (Some Cut) n held' = ⊤
 IsLeft held (Some End) n held' = ⊤
 IsLeft held None n held' = held' ≡ []
+
+-- how many bytes are held and in the line, before such a look and after it: the LF alone goes
+abbrev pub Moves : Option Next → ℕ → ℕ → Type 0
+Moves (Some Line) old new = old ≡ new + 1
+Moves (Some TooLong) old new = old ≡ new
+Moves (Some Cut) old new = ⊤
+Moves (Some End) old new = ⊤
+Moves None old new = old ≡ new

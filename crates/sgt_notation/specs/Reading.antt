@@ -4,7 +4,7 @@ use Rattle.sgt_names.specs.Name.{Name, IsName}
 use Rattle.sgt_notation.specs.Spelling.{operation, IsTx, IsValue}
 use Rattle.sgt_notation.specs.declared.fault.NotationFault.{NotationFault}
 use Rattle.sgt_notation.specs.declared.fault.NotationFault.TheVariants.{NotALine, TooLong, Memory}
-use Rattle.sgt_notation.specs.declared.fault.TheConstants.{MAX_LINE}
+use Rattle.sgt_notation.specs.Limits.{max_line}
 
 -- the bytes are the text of no value
 abbrev pub SpellsNone : {A : Type 0} → (A → Type 0) → (A → List ℕ) → List ℕ → Type 0
@@ -17,8 +17,8 @@ Finds Is text bytes None = SpellsNone Is text bytes
 
 -- the refusal of a line that spells nothing: L2 where it is too long, else L1
 abbrev pub Refuses : List ℕ → NotationFault → Type 0
-Refuses line NotALine = length line ≤ MAX_LINE
-Refuses line TooLong = MAX_LINE < length line
+Refuses line NotALine = length line ≤ max_line
+Refuses line TooLong = max_line < length line
 Refuses line Memory = ⊥
 
 -- the same as Finds, of a line, with the refusal

@@ -2,7 +2,8 @@
 
 ghost use Rattle.std.specs.Prelude.{◌≡◌, ◌≢◌, ℕ, ◌+◌, ◌-◌, ◌<◌, ◌≤◌, ◌⊎◌, ◌^◌, List, [], ◌∷◌, ◌++◌, length, take, drop, Some, Ok, IfSome, IfNone, IfErr, IfOk, OnOk, OnErr, IsErrOf, vec_len, vec_capacity};
 ghost use Rattle.std.specs.Io.KnownBytes.{Consumes, IsAtEnd};
-ghost use Rattle.sgt_notation.specs.Lines.{Ahead, Gives, IsLeft, Leaves, Looks, Spends, SpendsNext, coming, most_left};
+ghost use Rattle.sgt_notation.specs.Limits.{most_reads};
+ghost use Rattle.sgt_notation.specs.Lines.{Ahead, Gives, IsLeft, Leaves, Looks, Moves, Spends, SpendsNext, coming, most_left};
 ghost use Rattle.sgt_notation.specs.Spelling.{HasNoLf};
 ghost use Rattle.sgt_notation.specs.declared.lines.TheConstants.{BUFFER};
 
@@ -36,7 +37,7 @@ pub enum LinesFault {
     ReadFault,
 }
 
-/// The reads that a `Lines` makes at most.
+/// The reads that a `Lines` makes at most, over all its calls.
 pub const MOST_READS: u32 = u32::MAX;
 
 /// The bytes that a read asks for at most.
@@ -84,6 +85,7 @@ fn look_in(
     ensures err { IfErr result (λ e. e ≡ LinesFault.Memory) }
     ensures kept { OnErr result (line.new.items ≡ line.old.items) }
     ensures room { limit ≤ vec_capacity line.old → result ≢ Err LinesFault.Memory }
+    ensures wanted { OnErr result (vec_capacity line.old < length line.old.items + length held.now) }
     ensures capacity { vec_capacity line.old ≤ vec_capacity line.new }
 {
     match find_feed(held) {
@@ -115,13 +117,19 @@ fn append(line: &mut Vec<u8>, bytes: &[u8]) -> Result<(), LinesFault>
         .map_err(|_| LinesFault::Memory)
 }
 
+fn empty_buffer(alloc: Global) -> Result<Vec<u8>, AllocError>
+    ensures { IfOk result (λ buffer. vec_len buffer ≡ BUFFER) }
+{
+    vec![in alloc; 0; BUFFER]
+}
+
 impl Lines {
     /// A reader of lines that has read nothing. It takes its memory here; a call of `next` takes none but for the line.
     pub fn new(alloc: Global) -> Result<Lines, AllocError>
-        ensures { IfOk result (λ s. s ≡ record { held = []; reads = MOST_READS }) }
+        ensures { IfOk result (λ s. s ≡ record { held = []; reads = most_reads }) }
     {
         Ok(Lines {
-            buffer: vec![in alloc; 0; BUFFER]?,
+            buffer: empty_buffer(alloc)?,
             start: 0,
             end: 0,
             reads: MOST_READS,
@@ -137,6 +145,7 @@ impl Lines {
         ensures fault { IsErrOf result LinesFault.ReadFault →
             ((S.failures source.old < S.failures source.new) ⊎ ((self.old.reads ≡ 0) × (S.tells source.new ≡ S.tells source.old))) }
         ensures reads { self.new.reads ≤ self.old.reads }
+        ensures counted { self.old.reads ≤ self.new.reads + 1 }
         ensures left { OnErr result ((self.new.held ≡ []) × Leaves (S.tells source.old) [] (S.tells source.new)) }
         ensures memory { result ≢ Err LinesFault.Memory }
     {
@@ -165,11 +174,13 @@ impl Lines {
         ensures looks { IfOk result (λ r. Looks limit self.old.held line.old.items r.0 r.1 line.new.items) }
         ensures left { IfOk result (λ r. IsLeft self.old.held r.0 r.1 self.new.held) }
         ensures reads { self.new.reads ≡ self.old.reads }
+        ensures moved { IfOk result (λ r. Moves r.0 (length self.old.held + length line.old.items) (length self.new.held + length line.new.items)) }
         ensures falls { IfOk result (λ r. r.0 ≡ Some Next.Line → length self.new.held < length self.old.held) }
         ensures unlimited { limit ≡ 2 ^ 64 - 1 → IfOk result (λ r. r.0 ≢ Some Next.TooLong) }
         ensures err { IfErr result (λ e. e ≡ LinesFault.Memory) }
         ensures kept { OnErr result ((line.new.items ≡ line.old.items) × (self.new ≡ self.old)) }
         ensures room { limit ≤ vec_capacity line.old → result ≢ Err LinesFault.Memory }
+        ensures wanted { OnErr result (vec_capacity line.old < length line.old.items + length self.old.held) }
         ensures capacity { vec_capacity line.old ≤ vec_capacity line.new }
     {
         let (found, n, used) = look_in(&self.buffer[self.start..self.end], line, limit)?;
@@ -178,9 +189,10 @@ impl Lines {
     }
 
     /// What comes next. `line` is cleared first, and gets the line without its LF, or what came before an Err.
-    /// A line longer than `limit` is told as soon as one byte more than that was read.
-    /// Memory where a growth of the line was refused. ReadFault where the reader failed during this call, or no read is
-    /// left; all that was read then stands in `line`.
+    /// A line longer than `limit` is told as soon as one byte more than that was read. Some of its bytes then stand in
+    /// `line`, and a further call goes on behind them. A `limit` of `usize::MAX` is none.
+    /// Memory where a growth of the line was refused: what stands in `line` is not given again. ReadFault where the
+    /// reader failed during this call, or no read is left; all that was read then stands in `line`.
     pub fn next<S: Source>(
         &mut self,
         source: &mut S,
@@ -195,14 +207,21 @@ impl Lines {
         ensures unlimited { limit ≡ 2 ^ 64 - 1 → result ≢ Ok Next.TooLong }
 
         ensures line { HasNoLf line.new.items × (length line.new.items ≤ limit) }
+        ensures capacity { vec_capacity line.old ≤ vec_capacity line.new }
         ensures reads { self.new.reads ≤ self.old.reads }
+        // each read that was counted gave a byte, but for the last; and each that gave bytes was counted
+        ensures counted { self.old.reads + length self.old.held ≤ self.new.reads + length self.new.held + length line.new.items + 1 }
+        ensures bounded { most_left self.new + length line.new.items ≤ most_left self.old }
 
         // of an Err
         ensures err { OnErr result (Leaves (coming self.old (S.tells source.old)) line.new.items (coming self.new (S.tells source.new))) }
         ensures read_fault { IsErrOf result LinesFault.ReadFault → (self.new.held ≡ [])
             × ((S.failures source.old < S.failures source.new) ⊎ Spends self.old.reads (S.tells source.old) 0 (S.tells source.new)) }
-        ensures memory { IsErrOf result LinesFault.Memory → S.failures source.new ≡ S.failures source.old }
+        ensures spent { IsErrOf result LinesFault.ReadFault → (S.failures source.old < S.failures source.new) ⊎ (self.new.reads ≡ 0) }
+        ensures memory { IsErrOf result LinesFault.Memory → (S.failures source.new ≡ S.failures source.old)
+            × Consumes (coming self.old (S.tells source.old)) (coming self.new (S.tells source.new)) line.new.items }
         ensures room { limit ≤ vec_capacity line.old → result ≢ Err LinesFault.Memory }
+        ensures wanted { IsErrOf result LinesFault.Memory → IfSome (coming self.old (S.tells source.old)) (λ bytes. vec_capacity line.old < length bytes) }
     {
         line.clear();
         'reads: loop {

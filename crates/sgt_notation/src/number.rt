@@ -21,34 +21,21 @@ pub(crate) fn find_value(bytes: &[u8]) -> Option<Value>
     if first == b'0' {
         return if bytes.len() == 1 { Some(0) } else { None };
     }
-    match parse_u64(bytes) {
-        Ok(n) => Some(n),
-        Err(_) => None,
-    }
+    parse_u64(bytes).ok()
 }
 
 /// The number of a transaction.
 pub(crate) fn find_tx(bytes: &[u8]) -> Option<Tx>
     ensures { Finds IsTx decimal bytes.now result }
 {
-    match find_value(bytes) {
-        Some(number) => match Tx::new(number) {
-            Ok(tx) => Some(tx),
-            Err(_) => None,
-        },
-        None => None,
-    }
+    let number = find_value(bytes)?;
+    Tx::new(number).ok()
 }
 
 /// The number of a site.
 pub(crate) fn find_site(bytes: &[u8]) -> Option<SiteNo>
     ensures { Finds IsSite decimal bytes.now result }
 {
-    match find_value(bytes) {
-        Some(number) => match SiteNo::new(number) {
-            Ok(site) => Some(site),
-            Err(_) => None,
-        },
-        None => None,
-    }
+    let number = find_value(bytes)?;
+    SiteNo::new(number).ok()
 }

@@ -29,33 +29,15 @@ fn behind<'a>(bytes: &'a [u8], word: &[u8]) -> Option<&'a [u8]>
 fn find_operation(bytes: &[u8]) -> Option<(Tx, Item, Value)>
     ensures { Finds IsOperation operation_text bytes.now result }
 {
-    let (tx_text, tail) = match cut(bytes, b'[') {
-        Some(parts) => parts,
-        None => return None,
-    };
-    let (name, last) = match cut(tail, b']') {
-        Some(parts) => parts,
-        None => return None,
-    };
-    let (equals, value_text) = match last.split_first() {
-        Some(parts) => parts,
-        None => return None,
-    };
+    let (tx_text, tail) = cut(bytes, b'[')?;
+    let (name, last) = cut(tail, b']')?;
+    let (equals, value_text) = last.split_first()?;
     if *equals != b'=' {
         return None;
     }
-    let tx = match find_tx(tx_text) {
-        Some(tx) => tx,
-        None => return None,
-    };
-    let item = match Item::new(name) {
-        Ok(item) => item,
-        Err(_) => return None,
-    };
-    let value = match find_value(value_text) {
-        Some(value) => value,
-        None => return None,
-    };
+    let tx = find_tx(tx_text)?;
+    let item = Item::new(name).ok()?;
+    let value = find_value(value_text)?;
     Some((tx, item, value))
 }
 
@@ -63,18 +45,9 @@ fn find_operation(bytes: &[u8]) -> Option<(Tx, Item, Value)>
 fn find_holding(bytes: &[u8]) -> Option<Holding>
     ensures { Finds IsHolding (λ h. assignment h.item h.value) bytes.now result }
 {
-    let (name, value_text) = match cut(bytes, b'=') {
-        Some(parts) => parts,
-        None => return None,
-    };
-    let item = match Item::new(name) {
-        Ok(item) => item,
-        Err(_) => return None,
-    };
-    let value = match find_value(value_text) {
-        Some(value) => value,
-        None => return None,
-    };
+    let (name, value_text) = cut(bytes, b'=')?;
+    let item = Item::new(name).ok()?;
+    let value = find_value(value_text)?;
     Some(Holding { item, value })
 }
 
@@ -82,35 +55,14 @@ fn find_holding(bytes: &[u8]) -> Option<Holding>
 fn find_entry(line: &[u8]) -> Option<Entry>
     ensures { Finds IsEntry entry_text line.now result }
 {
-    let (letter, rest) = match line.split_first() {
-        Some(parts) => parts,
-        None => return None,
-    };
+    let (letter, rest) = line.split_first()?;
     match *letter {
-        b'r' => match find_operation(rest) {
-            Some((tx, item, value)) => Some(Entry::Read { tx, item, value }),
-            None => None,
-        },
-        b'w' => match find_operation(rest) {
-            Some((tx, item, value)) => Some(Entry::Write { tx, item, value }),
-            None => None,
-        },
-        b'p' => match find_operation(rest) {
-            Some((tx, item, value)) => Some(Entry::Want { tx, item, value }),
-            None => None,
-        },
-        b'c' => match find_tx(rest) {
-            Some(tx) => Some(Entry::Commit { tx }),
-            None => None,
-        },
-        b'n' => match find_tx(rest) {
-            Some(tx) => Some(Entry::Refuse { tx }),
-            None => None,
-        },
-        b'a' => match find_tx(rest) {
-            Some(tx) => Some(Entry::Withdraw { tx }),
-            None => None,
-        },
+        b'r' => find_operation(rest).map(|(tx, item, value)| Entry::Read { tx, item, value }),
+        b'w' => find_operation(rest).map(|(tx, item, value)| Entry::Write { tx, item, value }),
+        b'p' => find_operation(rest).map(|(tx, item, value)| Entry::Want { tx, item, value }),
+        b'c' => find_tx(rest).map(|tx| Entry::Commit { tx }),
+        b'n' => find_tx(rest).map(|tx| Entry::Refuse { tx }),
+        b'a' => find_tx(rest).map(|tx| Entry::Withdraw { tx }),
         _ => None,
     }
 }
@@ -123,22 +75,13 @@ fn find_line(line: &[u8]) -> Option<SectionLine>
         return Some(SectionLine::Logged(entry));
     }
     if let Some(number) = behind(line, b"site ") {
-        return match find_site(number) {
-            Some(site) => Some(SectionLine::Site(site)),
-            None => None,
-        };
+        return find_site(number).map(SectionLine::Site);
     }
     if let Some(text) = behind(line, b"item ") {
-        return match find_holding(text) {
-            Some(holding) => Some(SectionLine::Initial(holding)),
-            None => None,
-        };
+        return find_holding(text).map(SectionLine::Initial);
     }
     if let Some(text) = behind(line, b"final ") {
-        return match find_holding(text) {
-            Some(holding) => Some(SectionLine::Final(holding)),
-            None => None,
-        };
+        return find_holding(text).map(SectionLine::Final);
     }
     if line == b"end".as_slice() {
         Some(SectionLine::End)

@@ -1,6 +1,7 @@
 use crate::{
     Lines, LinesFault, MAX_LINE, Next, NotationFault, SectionLine, lines_are_short,
-    lines_have_no_lf, lines_have_one_reading, read_entry, read_section, write_entry, write_section,
+    lines_have_no_lf, lines_have_one_reading, read_entry, read_section, what_comes_next_is_one,
+    write_entry, write_section,
 };
 use sgt_names::{Entry, Item, MemSource, Tx};
 use std::test::Fail;
@@ -45,6 +46,7 @@ fn lines_are_read_and_written(rt: HostRuntime) -> Result<(), Fail> {
     lines_have_one_reading();
     lines_are_short();
     lines_have_no_lf();
+    what_comes_next_is_one();
     Ok(())
 }
 
@@ -137,12 +139,20 @@ fn other_bytes_are_refused(rt: HostRuntime) -> Result<(), Fail> {
         let section = read_section(line);
         assert!(rt; section == Err(NotationFault::NotALine), "{line:?}");
     }
-    let mut long = vec![in rt.alloc(); b'1'; MAX_LINE]?;
+    let mut long = vec![in rt.alloc(); b'1'; 1_048_576]?;
     assert!(rt; read_entry(&long) == Err(NotationFault::NotALine));
     assert!(rt; read_section(&long) == Err(NotationFault::NotALine));
     long.push(b'1')?;
     assert!(rt; read_entry(&long) == Err(NotationFault::TooLong));
     assert!(rt; read_section(&long) == Err(NotationFault::TooLong));
+    for (fault, number) in [
+        (NotationFault::NotALine, "L1: "),
+        (NotationFault::TooLong, "L2: "),
+        (NotationFault::Memory, "L3: "),
+    ] {
+        let text = format!(in rt.alloc(); "{fault}")?;
+        assert!(rt; text.starts_with(number), "{number}");
+    }
     Ok(())
 }
 
@@ -234,9 +244,9 @@ fn a_line_is_too_long_by_one_byte(rt: HostRuntime) -> Result<(), Fail> {
         assert!(rt; next == wanted, "{text}");
     }
     for (size, limit, wanted) in [
-        (MAX_LINE, MAX_LINE, Next::Cut),
-        (MAX_LINE + 1, MAX_LINE, Next::TooLong),
-        (MAX_LINE + 1, usize::MAX, Next::Cut),
+        (1_048_576, MAX_LINE, Next::Cut),
+        (1_048_577, MAX_LINE, Next::TooLong),
+        (1_048_577, usize::MAX, Next::Cut),
     ] {
         let long = vec![in alloc; b'1'; size]?;
         let mut source = MemSource::new(long.as_slice(), 1_000_000, None);

@@ -1,6 +1,6 @@
 //! Lines, written as they are spelled.
 
-ghost use Rattle.std.specs.Prelude.{◌≡◌, ◌++◌, ℕ, List, take, decimal, vec_len, OnOk, OnErr};
+ghost use Rattle.std.specs.Prelude.{◌≡◌, ◌≤◌, ◌+◌, ◌++◌, ℕ, List, length, take, decimal, vec_len, vec_capacity, IsOk, OnOk, OnErr};
 ghost use Rattle.sgt_notation.specs.Spelling.{assignment, entry_text, line_text, operation};
 
 use crate::SectionLine;
@@ -11,6 +11,8 @@ use std::alloc::AllocError;
 fn push_number(out: &mut Vec<u8>, number: u64) -> Result<(), AllocError>
     ensures ok { OnOk result (out.new.items ≡ out.old.items ++ decimal number) }
     ensures err { OnErr result (out.new.items ≡ out.old.items) }
+    ensures room { vec_len out.old + length (decimal number) ≤ vec_capacity out.old → IsOk result }
+    ensures capacity { vec_capacity out.old ≤ vec_capacity out.new }
 {
     let mut buffer = Buffer::new();
     out.extend_from_slice(buffer.format(number).as_bytes())
@@ -19,6 +21,8 @@ fn push_number(out: &mut Vec<u8>, number: u64) -> Result<(), AllocError>
 fn push_operation(out: &mut Vec<u8>, tx: Tx, item: &Item, value: Value) -> Result<(), AllocError>
     ensures ok { OnOk result (out.new.items ≡ out.old.items ++ operation tx item.now value) }
     ensures err { OnErr result (take (vec_len out.old) out.new.items ≡ out.old.items) }
+    ensures room { vec_len out.old + length (operation tx item.now value) ≤ vec_capacity out.old → IsOk result }
+    ensures capacity { vec_capacity out.old ≤ vec_capacity out.new }
 {
     push_number(out, tx.number() as u64)?;
     out.extend_from_slice(b"[")?;
@@ -30,6 +34,8 @@ fn push_operation(out: &mut Vec<u8>, tx: Tx, item: &Item, value: Value) -> Resul
 fn push_assignment(out: &mut Vec<u8>, holding: &Holding) -> Result<(), AllocError>
     ensures ok { OnOk result (out.new.items ≡ out.old.items ++ assignment holding.now.item holding.now.value) }
     ensures err { OnErr result (take (vec_len out.old) out.new.items ≡ out.old.items) }
+    ensures room { vec_len out.old + length (assignment holding.now.item holding.now.value) ≤ vec_capacity out.old → IsOk result }
+    ensures capacity { vec_capacity out.old ≤ vec_capacity out.new }
 {
     out.extend_from_slice(holding.item.as_bytes())?;
     out.extend_from_slice(b"=")?;
@@ -39,6 +45,8 @@ fn push_assignment(out: &mut Vec<u8>, holding: &Holding) -> Result<(), AllocErro
 fn push_entry(out: &mut Vec<u8>, entry: &Entry) -> Result<(), AllocError>
     ensures ok { OnOk result (out.new.items ≡ out.old.items ++ entry_text entry.now) }
     ensures err { OnErr result (take (vec_len out.old) out.new.items ≡ out.old.items) }
+    ensures room { vec_len out.old + length (entry_text entry.now) ≤ vec_capacity out.old → IsOk result }
+    ensures capacity { vec_capacity out.old ≤ vec_capacity out.new }
 {
     match entry {
         Entry::Read { tx, item, value } => {
@@ -71,6 +79,8 @@ fn push_entry(out: &mut Vec<u8>, entry: &Entry) -> Result<(), AllocError>
 fn push_line(out: &mut Vec<u8>, line: &SectionLine) -> Result<(), AllocError>
     ensures ok { OnOk result (out.new.items ≡ out.old.items ++ line_text line.now) }
     ensures err { OnErr result (take (vec_len out.old) out.new.items ≡ out.old.items) }
+    ensures room { vec_len out.old + length (line_text line.now) ≤ vec_capacity out.old → IsOk result }
+    ensures capacity { vec_capacity out.old ≤ vec_capacity out.new }
 {
     match line {
         SectionLine::Site(site) => {
@@ -94,6 +104,8 @@ fn push_line(out: &mut Vec<u8>, line: &SectionLine) -> Result<(), AllocError>
 pub fn write_entry(out: &mut Vec<u8>, entry: &Entry) -> Result<(), AllocError>
     ensures ok { OnOk result (out.new.items ≡ out.old.items ++ entry_text entry.now) }
     ensures err { OnErr result (out.new.items ≡ out.old.items) }
+    ensures room { vec_len out.old + length (entry_text entry.now) ≤ vec_capacity out.old → IsOk result }
+    ensures capacity { vec_capacity out.old ≤ vec_capacity out.new }
 {
     write_section(out, &SectionLine::Logged(*entry))
 }
@@ -102,6 +114,8 @@ pub fn write_entry(out: &mut Vec<u8>, entry: &Entry) -> Result<(), AllocError>
 pub fn write_section(out: &mut Vec<u8>, line: &SectionLine) -> Result<(), AllocError>
     ensures ok { OnOk result (out.new.items ≡ out.old.items ++ line_text line.now) }
     ensures err { OnErr result (out.new.items ≡ out.old.items) }
+    ensures room { vec_len out.old + length (line_text line.now) ≤ vec_capacity out.old → IsOk result }
+    ensures capacity { vec_capacity out.old ≤ vec_capacity out.new }
 {
     let before = out.len();
     let written = push_line(out, line);

@@ -1,7 +1,7 @@
-use Rattle.std.proofs.Common.{sym, ◌∙◌, subst, arith}
-use Rattle.std.proofs.lemmas.Fmt.{decimal_injective}
+use Rattle.std.proofs.Common.{arith}
 use Rattle.sgt_notation.specs.Spelling.{IsSite}
+use Rattle.sgt_notation.proofs.Numbers.{in_range}
 use Rattle.sgt_notation.proofs.number.find_site.Goals as goal
 
-pub returns-in-Err : goal.returns-in-Err
-returns-in-Err c = λ a is whole. let same = decimal_injective c.in-Some.number a c.in-Some.ensures.0 (omega arith) (sym c.in-Some.ensures.1 ∙ whole) in c.in-Err.ensures (subst IsSite (sym same) is)
+pub returns : goal.returns
+returns c = rw c.ok.ensures.value (in_range IsSite c.args.bytes.now _ c.new.result (λ m h. omega (arith, h)) c.in_ok-number.ensures.0 c.in_ok-number.ensures.1 c.new.ensures)

@@ -1,5 +1,5 @@
 use Rattle.std.proofs.Common.{rules}
-use Rattle.sgt_notation.proofs.Numbers.{just_zero, not_empty, not_plus, not_zeros, parsed, unparsed}
+use Rattle.sgt_notation.proofs.Numbers.{just_zero, not_empty, not_plus, not_zeros, parsed_or_not}
 use Rattle.sgt_notation.proofs.number.find_value.Goals as goal
 
 pub returns-then-is_empty : goal.returns-then-is_empty
@@ -14,8 +14,5 @@ returns-then-bytes-eq1 c = just_zero c.args.bytes.now c.if-first-eq48.true c.if-
 pub returns-else-bytes-eq1 : goal.returns-else-bytes-eq1
 returns-else-bytes-eq1 c = not_zeros c.args.bytes.now c.if-first-eq48.true (search rules)
 
-pub returns-in-Ok : goal.returns-in-Ok
-returns-in-Ok c = parsed c.args.bytes.now c.in-Ok.n c.in-Ok.ensures (search rules) (search rules)
-
-pub returns-in-Err : goal.returns-in-Err
-returns-in-Err c = unparsed c.args.bytes.now c.in-Err.ensures
+pub returns : goal.returns
+returns c = rw c.ok.ensures.value (parsed_or_not c.args.bytes.now c.parse_u64.result c.parse_u64.ensures c.if-first-eq43.false c.if-first-eq48.false)

@@ -1,4 +1,4 @@
-use Rattle.std.proofs.Common.{◌≡◌, ◌≤◌, length, vec_capacity}
+use Rattle.std.proofs.Common.{◌≡◌, ◌≤◌, ◌+◌, length, vec_capacity}
 use Rattle.std.specs.Io.KnownBytes.{Consumes}
 use Rattle.sgt_notation.specs.Lines.{Spends, coming, most_left}
 use Rattle.sgt_notation.specs.Spelling.{HasNoLf}
@@ -13,6 +13,8 @@ invariant-reads g l =
     × (most_left l.self ≤ most_left l.initial.self)
     × Spends l.initial.self.reads (g.S.Source.tells l.initial.source) l.self.reads (g.S.Source.tells l.source)
     × (l.self.reads ≤ l.initial.self.reads)
+    × (l.initial.self.reads + length l.initial.self.held ≤ l.self.reads + length l.self.held + length l.line.items)
+    × (most_left l.self + length l.line.items ≤ most_left l.initial.self)
     × (vec_capacity l.initial.line ≤ vec_capacity l.line)
 
 abbrev pub decreases-reads : goal.decreases-reads

@@ -1,0 +1,17 @@
+//! Worked examples of the program: the words of the command line, standard input, standard output and the status.
+
+pub mod bundles;
+pub mod certificates;
+pub mod lines_doubled;
+pub mod lines_left_out;
+pub mod serial_runs;
+pub mod walks;
+
+/// A worked example of the program.
+pub struct Example {
+    pub name: &'static str,
+    pub words: &'static [&'static str],
+    pub input: &'static str,
+    pub output: &'static str,
+    pub status: u8,
+}

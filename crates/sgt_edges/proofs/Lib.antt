@@ -1,0 +1,3 @@
+mod Logged
+mod Unlisted
+mod Gathers

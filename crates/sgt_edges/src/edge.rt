@@ -1,0 +1,67 @@
+//! Edges and lists of them.
+
+ghost use Rattle.std.specs.Prelude.{◌≡◌, ◌∷◌, ◌++◌, [], OnOk, OnErr};
+
+use sgt_arena::Handle;
+use sgt_names::Label;
+use std::alloc::{AllocError, Global};
+use std::marker::Model;
+
+/// A conflict of two transactions: an operation of the first stands before one of the other.
+#[derive(Clone, Copy, Debug, PartialEq, Eq)]
+pub struct Edge {
+    pub from: Handle,
+    pub to: Handle,
+    /// Where the conflict is, and of which kind.
+    pub label: Label,
+}
+
+/// Edges in the order in which they were added.
+#[derive(Debug, Drop)]
+pub struct EdgeList {
+    edges: Vec<Edge>,
+}
+
+impl Model for EdgeList {
+    ghost use Rattle.std.specs.Prelude.{List};
+    ghost use Rattle.sgt_edges.specs.declared.edge.Edge.{Edge as Member};
+
+    ghost Value = { List Member };
+
+    ghost view = { λ l. l.edges.items };
+}
+
+impl EdgeList {
+    /// No edges.
+    pub fn new(alloc: Global) -> EdgeList
+        ensures { result ≡ [] }
+    {
+        EdgeList {
+            edges: Vec::new(alloc),
+        }
+    }
+
+    /// These edges.
+    pub fn from_vec(edges: Vec<Edge>) -> EdgeList
+        ensures { result ≡ edges.items }
+    {
+        EdgeList { edges }
+    }
+
+    /// Adds an edge at the end.
+    pub fn push(&mut self, edge: Edge) -> Result<(), AllocError>
+        ensures ok { OnOk result (self.new ≡ self.old ++ edge ∷ []) }
+        ensures err { OnErr result (self.new ≡ self.old) }
+    {
+        self.edges.reserve(1)?;
+        self.edges.push_reserved(edge);
+        Ok(())
+    }
+
+    /// The edges.
+    pub fn as_slice(&self) -> &[Edge]
+        ensures { result.now ≡ self.now }
+    {
+        self.edges.as_slice()
+    }
+}

@@ -1,0 +1,15 @@
+//! What the edges mean.
+
+ghost use Rattle.std.specs.Prelude.{ℕ, List, ◌↔◌};
+ghost use Rattle.sgt_names.specs.Name.{Name};
+ghost use Rattle.sgt_names.specs.declared.draft.Touch.{Touch};
+ghost use Rattle.sgt_names.specs.declared.entry.Kind.{Kind};
+ghost use Rattle.sgt_arena.specs.declared.handle.Handle.{Handle};
+ghost use Rattle.sgt_site.specs.Store.{Store, IsSite};
+ghost use Rattle.sgt_edges.specs.Edges.{IsActive, IsEdge, IsConflict};
+
+/// The edges of an active transaction at a site are its conflicts with the committed ones, in the site's log followed by its private writes there.
+pub fn edges_are_conflicts()
+    ensures { (s : Store) (tx : ℕ) (touched : List Touch) (me : Handle) → IsSite s → IsActive s tx touched
+        → (x : Name) (from to : Handle) (kind : Kind) → IsEdge s touched me x from to kind ↔ IsConflict s tx touched me x from to kind }
+{}

@@ -1,0 +1,144 @@
+//! One site, a transaction that is committed there, and the edges of the next one's drafts.
+
+use crate::{Edge, EdgeFault, gather};
+use sgt_arena::Handle;
+use sgt_names::{Draft, Entry, Holding, Item, Kind, Label, Seen, SiteNo, Tx};
+use sgt_site::{Reader, Site, SiteFault, Writer};
+use std::alloc::Global;
+use std::test::Fail;
+
+const H1: Handle = Handle {
+    index: 0,
+    generation: 0,
+};
+
+const ME: Handle = Handle {
+    index: 1,
+    generation: 0,
+};
+
+// Site 0 with x=5 and y=2, where transaction 1 read x, put x=6, and was installed under h1.
+fn installed(alloc: Global) -> Result<Site, Fail> {
+    let (number, x, one) = (SiteNo::new(0)?, Item::new(b"x")?, Tx::new(1)?);
+    let items = [
+        Holding { item: x, value: 5 },
+        Holding {
+            item: Item::new(b"y")?,
+            value: 2,
+        },
+    ];
+    let mut site = Site::new(alloc, number, &items)?;
+    let seen = site.read(one, x)?;
+    let mut draft = Draft::new(alloc);
+    draft.seen(number, x, seen.value, seen.version)?;
+    draft.put(number, x, 6)?;
+    site.pledge(one, &draft)?;
+    site.install(one, H1, &draft)?;
+    Ok(site)
+}
+
+// A draft that saw x = 6 at this version.
+fn saw(alloc: Global, version: u64) -> Result<Draft, Fail> {
+    let mut draft = Draft::new(alloc);
+    draft.seen(SiteNo::new(0)?, Item::new(b"x")?, 6, version)?;
+    Ok(draft)
+}
+
+// An edge on x at site 0.
+fn edge(from: Handle, to: Handle, kind: Kind) -> Result<Edge, Fail> {
+    let label = Label {
+        site: SiteNo::new(0)?,
+        item: Item::new(b"x")?,
+        kind,
+    };
+    Ok(Edge { from, to, label })
+}
+
+#[test]
+fn lists_of_the_log(rt: HostRuntime) -> Result<(), Fail> {
+    let site = installed(rt.alloc())?;
+    let (x, one) = (Item::new(b"x")?, Tx::new(1)?);
+    let log = [
+        Entry::Read {
+            tx: one,
+            item: x,
+            value: 5,
+        },
+        Entry::Write {
+            tx: one,
+            item: x,
+            value: 6,
+        },
+        Entry::Commit { tx: one },
+    ];
+    assert_eq!(rt; site.log(), log.as_slice());
+    let writer = Writer {
+        tx: one,
+        handle: H1,
+    };
+    assert_eq!(rt; site.writers(x)?, [writer].as_slice());
+    let reader = Reader {
+        tx: one,
+        handle: H1,
+        version: 0,
+    };
+    assert_eq!(rt; site.readers(x)?, [reader].as_slice());
+    Ok(())
+}
+
+#[test]
+fn reads_and_refusals(rt: HostRuntime) -> Result<(), Fail> {
+    let mut site = installed(rt.alloc())?;
+    let (x, one, two) = (Item::new(b"x")?, Tx::new(1)?, Tx::new(2)?);
+    assert_eq!(rt;
+        site.read(two, x)?,
+        Seen {
+            value: 6,
+            version: 1
+        }
+    );
+    assert_eq!(rt; site.read(one, Item::new(b"y")?), Err(SiteFault::Ended));
+    assert_eq!(rt; site.read(two, x), Err(SiteFault::ReadTwice));
+    assert_eq!(rt;
+        site.read(two, Item::new(b"q")?),
+        Err(SiteFault::UnknownItem)
+    );
+    assert_eq!(rt;
+        site.pledge(two, &saw(rt.alloc(), 0)?),
+        Err(SiteFault::DraftDiffers)
+    );
+    site.pledge(two, &saw(rt.alloc(), 1)?)?;
+    assert_eq!(rt;
+        site.read(two, Item::new(b"y")?),
+        Err(SiteFault::PledgeOpen)
+    );
+    Ok(())
+}
+
+#[test]
+fn edges_of_reads(rt: HostRuntime) -> Result<(), Fail> {
+    let alloc = rt.alloc();
+    let site = installed(alloc)?;
+    let new = gather(alloc, &site, &saw(alloc, 1)?, ME)?;
+    assert_eq!(rt; new.as_slice(), [edge(H1, ME, Kind::Wr)?].as_slice());
+    let old = gather(alloc, &site, &saw(alloc, 0)?, ME)?;
+    assert_eq!(rt; old.as_slice(), [edge(ME, H1, Kind::Rw)?].as_slice());
+    let invented = gather(alloc, &site, &saw(alloc, 2)?, ME);
+    assert_eq!(rt; invented.err(), Some(EdgeFault::SeenTooNew));
+    Ok(())
+}
+
+#[test]
+fn edges_of_a_write(rt: HostRuntime) -> Result<(), Fail> {
+    let alloc = rt.alloc();
+    let site = installed(alloc)?;
+    let mut draft = Draft::new(alloc);
+    draft.put(SiteNo::new(0)?, Item::new(b"x")?, 9)?;
+    let edges = gather(alloc, &site, &draft, ME)?;
+    let [first, second] = edges.as_slice() else {
+        return Err(Fail::new("two edges"));
+    };
+    let (ww, rw) = (edge(H1, ME, Kind::Ww)?, edge(H1, ME, Kind::Rw)?);
+    assert!(rt; *first == ww && *second == rw || *first == rw && *second == ww);
+    Ok(())
+}

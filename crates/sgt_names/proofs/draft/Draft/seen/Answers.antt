@@ -1,0 +1,19 @@
+use Rattle.std.proofs.Common.{refl, inl, length}
+use Rattle.std.proofs.lemmas.Option.{slice_get_read}
+use Rattle.sgt_names.proofs.Touched.{changes_seen, adds_seen, tried, OnOk_then}
+use Rattle.sgt_names.proofs.draft.Draft.seen.Goals as goal
+
+pub returns-in-Ok-clause-ok : goal.returns-in-Ok-clause-ok
+returns-in-Ok-clause-ok c =
+    let found = rw c.as_slice.ensures.value at c.in-Ok.ensures.found in
+    rw (← c.self.view_is) (changes_seen c.self.inside.touched.items c.self.invariant.0 (c.args.site, c.args.item) c.in-Ok.at c.index_mut-touch.result.now _ found (slice_get_read _ (length c.self.inside.touched.items) _ _ refl found.within c.index_mut-touch.ensures.value))
+
+pub invariant_of-self-in-Err : goal.invariant_of-self-in-Err
+invariant_of-self-in-Err c =
+    let gap = rw c.as_slice.ensures.value at c.in-Err.ensures.absent in
+    tried _ _ c.add.result _ _ c.in-Err.at _ c.add.ensures.ok c.add.ensures.err gap (inl refl) c.self.invariant
+
+pub returns-in-Err-clause-ok : goal.returns-in-Err-clause-ok
+returns-in-Err-clause-ok c =
+    let gap = rw c.as_slice.ensures.value at c.in-Err.ensures.absent in
+    rw (← c.self.view_is) (OnOk_then c.add.result c.add.ensures.ok (λ is. rw is (adds_seen c.self.inside.touched.items c.self.invariant.0 (c.args.site, c.args.item) c.in-Err.at _ gap)))

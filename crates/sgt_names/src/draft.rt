@@ -1,0 +1,248 @@
+//! Drafts: what a transaction has read and is to write.
+
+ghost use Rattle.std.specs.Prelude.{◌≡◌, ◌<◌, ◌≤◌, IfOk, IfErr, IsOk, OnOk, OnErr, slice_get, vec_len, vec_capacity, insert};
+ghost use Rattle.sgt_names.specs.Ordered.{IsAt, IsGapFor};
+ghost use Rattle.sgt_names.specs.Draft.{AreRising, place_of, place_cmp, kept_in, writing_in, at_site, look_of};
+
+#[cfg(test)]
+mod tests;
+
+use crate::Value;
+use crate::item::Item;
+use crate::site_no::SiteNo;
+use std::alloc::{AllocError, Global};
+use std::cmp::Ordering;
+use std::marker::Model;
+
+/// What a read answers: the value of the item, and how often it had been written.
+#[derive(Clone, Copy, Debug, PartialEq, Eq)]
+pub struct Seen {
+    pub value: Value,
+    pub version: u64,
+}
+
+/// An item that a draft touches: the kept read, if there is one, and the private write, if there is one.
+#[derive(Clone, Copy, Debug, PartialEq, Eq)]
+pub struct Touch {
+    pub site: SiteNo,
+    pub item: Item,
+    pub seen: Option<Seen>,
+    pub put: Option<Value>,
+}
+
+/// The kept reads and the private writes of a transaction.
+#[derive(Drop)]
+pub struct Draft {
+    touched: Vec<Touch>,
+}
+
+impl Model for Draft {
+    ghost use Rattle.std.specs.Prelude.{All, nat_lt, vec_len, vec_capacity};
+    ghost use Rattle.sgt_names.specs.Draft.{Private, AreRising, IsUsed};
+
+    ghost Value = { Private };
+
+    ghost view = { λ d. record { touched = d.touched.items; has_room = nat_lt (vec_len d.touched) (vec_capacity d.touched) } };
+
+    ghost invariant = { λ d. AreRising d.touched.items × All IsUsed d.touched.items };
+}
+
+impl Draft {
+    ghost use Rattle.std.specs.Prelude.{◌≡◌, ◌↔◌, [], true, IsTrue, IsOk, OnOk, OnErr, Some, None, slice_get, option_and_then, All};
+    ghost use Rattle.sgt_names.specs.Draft.{place_of, AreRising, IsUsed, at_site, kept_in, writing_in, touched_at, seen_at, put_at, look_of, Touches, ChangesOnly};
+
+    /// No reads and no writes.
+    pub fn new(alloc: Global) -> Draft
+        ensures { result.touched ≡ [] }
+    {
+        Draft {
+            touched: Vec::new(alloc),
+        }
+    }
+
+    /// The touched items, by rising site and name.
+    pub fn touched(&self) -> &[Touch]
+        ensures all { result.now ≡ self.now.touched }
+        ensures rising { AreRising self.now.touched }
+        ensures used { All IsUsed self.now.touched }
+    {
+        &self.touched
+    }
+
+    /// Makes room, so that the next `seen` takes no memory and succeeds.
+    pub fn room(&mut self) -> Result<(), AllocError>
+        ensures ok { OnOk result (self.new ≡ record self.old { has_room = true }) }
+        ensures err { OnErr result (self.new ≡ self.old) }
+    {
+        self.touched.reserve(1)
+    }
+
+    /// What this transaction sees of the item: its private write, or else its kept read.
+    pub fn look(&self, site: SiteNo, item: Item) -> Option<Value>
+        ensures { result ≡ option_and_then look_of (touched_at self.now.touched (site, item)) }
+    {
+        match search(self.touched.as_slice(), site, item) {
+            Ok(at) => look_at(&self.touched[at]),
+            Err(_) => None,
+        }
+    }
+
+    /// Keeps a read.
+    pub fn seen(
+        &mut self,
+        site: SiteNo,
+        item: Item,
+        value: Value,
+        version: u64,
+    ) -> Result<(), AllocError>
+        requires { seen_at self.old.touched (site, item) ≡ None }
+        ensures ok { OnOk result (ChangesOnly self.old.touched self.new.touched (record {
+          site = site;
+          item = item;
+          seen = Some (record { value = value; version = version });
+          put = put_at self.old.touched (site, item);
+        })) }
+        ensures err { OnErr result (self.new ≡ self.old) }
+        ensures succeeds { IsTrue self.old.has_room → IsOk result }
+    {
+        let seen = Some(Seen { value, version });
+        match search(self.touched.as_slice(), site, item) {
+            Ok(at) => {
+                let touch = &mut self.touched[at];
+                touch.seen = seen;
+                Ok(())
+            }
+            Err(at) => {
+                let touch = Touch {
+                    site,
+                    item,
+                    seen,
+                    put: None,
+                };
+                add(&mut self.touched, at, touch)
+            }
+        }
+    }
+
+    /// Keeps a private write, in place of an earlier one.
+    pub fn put(&mut self, site: SiteNo, item: Item, value: Value) -> Result<(), AllocError>
+        ensures ok { OnOk result (ChangesOnly self.old.touched self.new.touched (record {
+          site = site;
+          item = item;
+          seen = seen_at self.old.touched (site, item);
+          put = Some value;
+        })) }
+        ensures err { OnErr result (self.new ≡ self.old) }
+    {
+        match search(self.touched.as_slice(), site, item) {
+            Ok(at) => {
+                let touch = &mut self.touched[at];
+                touch.put = Some(value);
+                Ok(())
+            }
+            Err(at) => {
+                let touch = Touch {
+                    site,
+                    item,
+                    seen: None,
+                    put: Some(value),
+                };
+                add(&mut self.touched, at, touch)
+            }
+        }
+    }
+
+    /// Whether the site has a kept read or a private write.
+    pub fn touches(&self, site: SiteNo) -> bool
+        ensures { IsTrue result ↔ Touches self.now.touched site }
+    {
+        self.touched.as_slice().iter().any(|t| t.site == site)
+    }
+
+    /// The kept read of this number at a site, by rising item: the item, its value and its version.
+    pub fn kept(&self, site: SiteNo, n: usize) -> Option<(Item, Value, u64)>
+        ensures { result ≡ slice_get (kept_in (at_site site self.now.touched)) n }
+    {
+        nth_kept(self.touched.as_slice(), site, n)
+    }
+
+    /// The private write of this number at a site, by rising item.
+    pub fn writing(&self, site: SiteNo, n: usize) -> Option<(Item, Value)>
+        ensures { result ≡ slice_get (writing_in (at_site site self.now.touched)) n }
+    {
+        nth_writing(self.touched.as_slice(), site, n)
+    }
+}
+
+// Where the item of the site is among the touched ones, or where it would go.
+fn search(touched: &[Touch], site: SiteNo, item: Item) -> Result<usize, usize>
+    requires { AreRising touched.now }
+    ensures found { IfOk result (IsAt place_of touched.now (site, item)) }
+    ensures absent { IfErr result (IsGapFor place_of place_cmp touched.now (site, item)) }
+{
+    touched.binary_search_by(|t| order(t, site, &item))
+}
+
+fn order(t: &Touch, site: SiteNo, item: &Item) -> Ordering
+    ensures { result ≡ place_cmp (place_of t.now) (site, item.now) }
+{
+    t.site.number().cmp(&site.number()).then(t.item.order(item))
+}
+
+fn nth_kept(touched: &[Touch], site: SiteNo, n: usize) -> Option<(Item, Value, u64)>
+    ensures { result ≡ slice_get (kept_in (at_site site touched.now)) n }
+{
+    let mut left = n;
+    for t in touched {
+        if t.site == site {
+            if let Some(seen) = t.seen {
+                if left == 0 {
+                    return Some((t.item, seen.value, seen.version));
+                }
+                left -= 1;
+            }
+        }
+    }
+    None
+}
+
+fn nth_writing(touched: &[Touch], site: SiteNo, n: usize) -> Option<(Item, Value)>
+    ensures { result ≡ slice_get (writing_in (at_site site touched.now)) n }
+{
+    let mut left = n;
+    for t in touched {
+        if t.site == site {
+            if let Some(value) = t.put {
+                if left == 0 {
+                    return Some((t.item, value));
+                }
+                left -= 1;
+            }
+        }
+    }
+    None
+}
+
+fn look_at(touch: &Touch) -> Option<Value>
+    ensures { result ≡ look_of touch.now }
+{
+    match touch.put {
+        Some(value) => Some(value),
+        None => match touch.seen {
+            Some(seen) => Some(seen.value),
+            None => None,
+        },
+    }
+}
+
+// Inserts a touched item. Where no memory is had, nothing changes.
+fn add(touched: &mut Vec<Touch>, at: usize, touch: Touch) -> Result<(), AllocError>
+    requires { at ≤ vec_len touched.old }
+    ensures ok { OnOk result (touched.new.items ≡ insert touched.old.items at touch) }
+    ensures err { OnErr result ((touched.new.items ≡ touched.old.items) × (vec_len touched.new ≡ vec_len touched.old) × (vec_capacity touched.new ≡ vec_capacity touched.old)) }
+    ensures succeeds { vec_len touched.old < vec_capacity touched.old → IsOk result }
+{
+    touched.reserve(1)?;
+    let _ = touched.insert(at, touch);
+    Ok(())
+}

@@ -1,0 +1,12 @@
+pub mod Lists
+pub mod Handles
+pub mod Numbers
+pub mod Nodes
+pub mod Placed
+pub mod Marking
+pub mod Spreading
+pub mod Tracing
+pub mod Reaching
+pub mod Forward
+pub mod Growing
+pub mod Sound

@@ -1,0 +1,234 @@
+//! The graph.
+
+ghost use Rattle.std.specs.Prelude.{◌≡◌, ◌<◌, ◌≤◌, ◌∷◌, [], ◌++◌, ◌↔◌, length, IfOk, IfErr, OnOk, OnErr, IsTrue, All, Contains, List};
+ghost use Rattle.sgt_arena.specs.Arena.{max_places};
+ghost use Rattle.sgt_edges.specs.declared.edge.Edge.{Edge as Member};
+ghost use Rattle.sgt_order.specs.Graph.{IsAcyclic, IsPlaced};
+ghost use Rattle.sgt_order.specs.SerializationGraph.{HasNode, HasRoomFor, SameGraph, Joins, IsOrdered, IsOffered, MayAdmit, Refuses, NodeLacks, StandsBefore, transaction_of};
+
+use crate::fault::{Admit, Fault};
+use crate::growth::{extend, make_room_for};
+use crate::node::Node;
+use crate::search::{find_cycle, stands_before};
+use sgt_arena::{Arena, Handle, MAX_PLACES};
+use sgt_edges::{Edge, EdgeList};
+use sgt_names::Tx;
+use smallvec::SmallVec;
+use std::alloc::{AllocError, Global};
+use std::marker::Model;
+
+/// The transactions of a window, the edges between them, and an order of the admitted ones along which each edge leads
+/// forward.
+#[derive(Drop)]
+pub struct Graph {
+    nodes: Arena<Node>,
+    edges: Vec<Edge>,
+    order: Vec<Handle>,
+    // the room of the next order
+    next: Vec<Handle>,
+    // one for each node: the edge by which a search first met it
+    marks: Vec<Option<Edge>>,
+}
+
+impl Model for Graph {
+    ghost use Rattle.std.specs.Prelude.{map, ◌-◌, vec_len, vec_capacity};
+    ghost use Rattle.sgt_order.specs.SerializationGraph.{SerializationGraph};
+
+    ghost Value = { SerializationGraph };
+
+    ghost use Rattle.sgt_order.specs.Search.{IsSound, transactions_of, rooms_of};
+
+    ghost view = { λ g. record {
+      generation = g.nodes.generation;
+      transactions = transactions_of g.nodes;
+      order = g.order.items;
+      edges = g.edges.items;
+      order_room = vec_capacity g.next;
+      edge_room = vec_capacity g.edges - vec_len g.edges;
+      node_rooms = rooms_of g.nodes;
+    } };
+
+    ghost invariant = { λ g. IsSound g.nodes g.order.items g.edges.items g.marks.items };
+}
+
+impl Graph {
+    /// An empty graph, in the first window.
+    pub fn new(alloc: Global) -> Graph
+        ensures window { result.generation ≡ 0 }
+        ensures nodes { result.transactions ≡ [] }
+        ensures order { result.order ≡ [] }
+        ensures edges { result.edges ≡ [] }
+    {
+        Graph {
+            nodes: Arena::new(alloc),
+            edges: Vec::new(alloc),
+            order: Vec::new(alloc),
+            next: Vec::new(alloc),
+            marks: Vec::new(alloc),
+        }
+    }
+
+    /// Adds a node for a transaction, not yet admitted.
+    pub fn node(&mut self, tx: Tx) -> Result<Handle, Fault>
+        ensures handle { IfOk result (λ h. (h.index ≡ length self.old.transactions) × (h.generation ≡ self.old.generation)) }
+        ensures transactions { OnOk result (self.new.transactions ≡ self.old.transactions ++ tx ∷ []) }
+        ensures window { self.new.generation ≡ self.old.generation }
+        ensures order { self.new.order ≡ self.old.order }
+        ensures edges { self.new.edges ≡ self.old.edges }
+        ensures err { OnErr result (SameGraph self.old self.new) }
+        ensures fits { OnOk result (length self.old.transactions < max_places) }
+        ensures fault { IfErr result (NodeLacks self.old) }
+
+        // room that was made for edges between the nodes that were there stays
+        ensures room { (offered : List Member) → All (λ e. HasNode self.old e.from) offered
+            → HasRoomFor self.old offered → HasRoomFor self.new offered }
+    {
+        if self.nodes.len() >= MAX_PLACES {
+            return Err(Fault::Full);
+        }
+        if self.marks.reserve(1).is_err() {
+            return Err(Fault::Memory);
+        }
+        let alloc = *self.edges.allocator();
+        match self.nodes.place(Node {
+            tx,
+            out: SmallVec::new(alloc),
+            admitted: false,
+        }) {
+            Ok(handle) => {
+                self.marks.push_reserved(None);
+                Ok(handle)
+            }
+            Err(_) => Err(Fault::Memory),
+        }
+    }
+
+    /// The transaction of a node, where the handle is one of the present window.
+    pub fn transaction(&self, node: Handle) -> Option<Tx>
+        ensures { result ≡ transaction_of self.now node }
+    {
+        match self.nodes.get(node) {
+            Some(node) => Some(node.tx),
+            None => None,
+        }
+    }
+
+    /// The admitted nodes, in their order.
+    pub fn order(&self) -> &[Handle]
+        ensures is { result.now ≡ self.now.order }
+        ensures ordered { IsOrdered self.now }
+    {
+        self.order.as_slice()
+    }
+
+    /// Whether the handle is that of an admitted node.
+    pub fn is_admitted(&self, node: Handle) -> bool
+        ensures { IsTrue result ↔ Contains self.now.order node }
+    {
+        match self.nodes.get(node) {
+            Some(node) => node.admitted,
+            None => false,
+        }
+    }
+
+    /// Whether `admit` may be asked: the node is of the present window and not admitted, and each edge is between it and
+    /// an admitted node.
+    pub fn may_admit(&self, node: Handle, offered: &EdgeList) -> bool
+        ensures { IsTrue result ↔ MayAdmit self.now node offered.now }
+    {
+        self.has_node(node) && !self.is_admitted(node) && self.are_offered(node, offered.as_slice())
+    }
+
+    // Whether the handle is a node's.
+    fn has_node(&self, node: Handle) -> bool
+        ensures { IsTrue result ↔ HasNode self.now node }
+    {
+        node.generation == self.nodes.generation() && (node.index as usize) < self.nodes.len()
+    }
+
+    // Whether each edge is between the node and an admitted one.
+    fn are_offered(&self, node: Handle, offered: &[Edge]) -> bool
+        ensures { IsTrue result ↔ All (IsOffered self.now.order node) offered.now }
+    {
+        for edge in offered {
+            if !self.is_offered(node, edge) {
+                return false;
+            }
+        }
+        true
+    }
+
+    // Whether the edge is between the node and an admitted one.
+    fn is_offered(&self, node: Handle, edge: &Edge) -> bool
+        ensures { IsTrue result ↔ IsOffered self.now.order node edge.now }
+    {
+        (edge.from == node && self.is_admitted(edge.to))
+            || (edge.to == node && self.is_admitted(edge.from))
+    }
+
+    /// Whether both are admitted, and the first stands earlier in the order.
+    pub fn before(&self, first: Handle, second: Handle) -> bool
+        ensures { IsTrue result ↔ StandsBefore self.now.order first second }
+    {
+        stands_before(self.order.as_slice(), first, second)
+    }
+
+    /// Makes room, so that a node can be admitted with these edges without taking memory. The room lasts until the next
+    /// `admit`.
+    pub fn reserve_for(&mut self, offered: &EdgeList) -> Result<(), AllocError>
+        ensures same { SameGraph self.old self.new }
+        ensures ok { OnOk result (HasRoomFor self.new offered.now) }
+        ensures err { OnErr result (HasRoomFor self.old offered.now → ⊥) }
+
+        // room that was made for other edges stays
+        ensures room { (other : List Member) → HasRoomFor self.old other → HasRoomFor self.new other }
+    {
+        make_room_for(
+            &mut self.nodes,
+            &mut self.edges,
+            &mut self.next,
+            self.order.len(),
+            offered.as_slice(),
+        )
+    }
+
+    /// Admits a node with the edges between it and admitted ones, unless they would make a cycle.
+    pub fn admit(&mut self, node: Handle, offered: &EdgeList) -> Result<(), Admit>
+        requires { MayAdmit self.old node offered.now }
+        ensures acyclic { OnOk result (IsAcyclic (Joins (self.old.edges ++ offered.now))) }
+        ensures order { OnOk result (IsPlaced (Joins (self.old.edges ++ offered.now)) self.old.order node self.new.order) }
+        ensures edges { OnOk result (self.new.edges ≡ self.old.edges ++ offered.now) }
+        ensures window { self.new.generation ≡ self.old.generation }
+        ensures nodes { self.new.transactions ≡ self.old.transactions }
+        ensures err { OnErr result (SameGraph self.old self.new) }
+        ensures fault { IfErr result (Refuses self.old node offered.now) }
+    {
+        let alloc = *self.edges.allocator();
+        match find_cycle(
+            alloc,
+            self.order.as_slice(),
+            &self.nodes,
+            self.edges.as_slice(),
+            node,
+            offered.as_slice(),
+            self.marks.as_mut_slice(),
+        ) {
+            Ok(None) => {}
+            Ok(Some(walk)) => return Err(Admit::Cycle(walk)),
+            Err(_) => return Err(Admit::Memory),
+        }
+        match extend(
+            &mut self.nodes,
+            &mut self.edges,
+            &mut self.order,
+            &mut self.next,
+            self.marks.as_slice(),
+            node,
+            offered.as_slice(),
+        ) {
+            Ok(()) => {}
+            Err(_) => return Err(Admit::Memory),
+        }
+        Ok(())
+    }
+}

@@ -1,0 +1,13 @@
+pub mod Basics
+pub mod Appends
+pub mod Found
+pub mod Projections
+pub mod Changes
+pub mod Blocks
+pub mod Parts
+pub mod Keeps
+pub mod Pledges
+pub mod Refusals
+pub mod Installs
+pub mod Fresh
+pub mod Inserts

@@ -1,0 +1,324 @@
+//! A site: its items with their values, its log, and the pledge that stands.
+
+ghost use Rattle.std.specs.Prelude.{◌≡◌, ◌↔◌, ◌⊎◌, ℕ, ◌+◌, ◌<◌, ◌≤◌, [], Some, length, map, slice_get, vec_len, vec_capacity, All, Contains, IsTrue, IfOk, IfErr, OnErr};
+ghost use Rattle.std.specs.Ordering.{nat_cmp};
+ghost use Rattle.std.specs.declared.cmp.Ordering.TheVariants.{Less};
+ghost use Rattle.std.specs.Cmp.Lexicographic.{slice_cmp};
+ghost use Rattle.sgt_names.specs.Ordered.{IsRisingBy, IsAt, IsGapFor};
+ghost use Rattle.sgt_site.specs.Store.{AreItems};
+ghost use Rattle.sgt_site.specs.Stored.{Contents, items_of, IsFresh, AreReadings, IsAnswering, AnswersAt};
+
+mod blocks;
+mod pledges;
+
+use crate::cell::{Cell, Reader, Writer, insert};
+use crate::fault::SiteFault;
+use sgt_names::{Entry, Holding, Item, MAX_ITEMS, Seen, SiteNo, Touch, Tx};
+use std::alloc::{AllocError, Global};
+use std::cmp::Ordering;
+use std::marker::Model;
+
+/// The store and the log of a site.
+#[derive(Drop)]
+pub struct Site {
+    number: SiteNo,
+    // by rising name
+    cells: Vec<Cell>,
+    log: Vec<Entry>,
+    installed: Vec<Writer>,
+    // the transactions that have their end here, rising
+    ended: Vec<Tx>,
+    // whose pledge stands, and what its draft touches here
+    pledged: Option<Tx>,
+    part: Vec<Touch>,
+}
+
+impl Model for Site {
+    ghost use Rattle.std.specs.Prelude.{◌-◌, vec_len, vec_capacity};
+    ghost use Rattle.sgt_site.specs.Store.{Store};
+    ghost use Rattle.sgt_site.specs.Stored.{items_of, pledge_of, IsKept};
+
+    ghost Value = { Store };
+
+    ghost view = { λ s. record { number = s.number; items = items_of s.cells.items; entries = s.log.items; installed = s.installed.items; pledge = pledge_of s.pledged s.part.items } };
+
+    ghost invariant = { λ s. IsKept (record { number = s.number; items = items_of s.cells.items; entries = s.log.items; installed = s.installed.items; pledge = pledge_of s.pledged s.part.items }) s.cells.items s.ended.items (record { log = vec_capacity s.log - vec_len s.log; installed = vec_capacity s.installed - vec_len s.installed; ended = vec_capacity s.ended - vec_len s.ended }) };
+}
+
+impl Site {
+    ghost use Rattle.std.specs.Prelude.{◌≡◌, ◌↔◌, ◌≤◌, [], ◌∷◌, ◌++◌, length, Contains, slice_get, IsOk, OnOk, OnErr, IfOk, IfErr, IfSome, IfNone};
+    ghost use Rattle.sgt_site.specs.declared.fault.SiteFault.{SiteFault};
+    ghost use Rattle.sgt_site.specs.declared.cell.Reader.{Reader};
+    ghost use Rattle.sgt_names.specs.Log.{names, value_at, FinalsAreLegal};
+    ghost use Rattle.sgt_names.specs.Draft.{at_site, kept_in, writing_in};
+    ghost use Rattle.sgt_names.specs.declared.entry.Entry.TheVariants.{Read};
+    ghost use Rattle.sgt_site.specs.Store.{opened, version_at, writers_of, IsReader, AreItems, IsSite, IsPledged, IsPledgedFor, commit_block, refuse_block, withdraw_block};
+    ghost use Rattle.sgt_site.specs.Refused.{RefusesItems, RefusesRead, RefusesPledge, MayRead, MayPledge};
+
+    /// A site with these items, all fresh.
+    pub fn new(alloc: Global, number: SiteNo, items: &[Holding]) -> Result<Site, SiteFault>
+        ensures ok { IfOk result (λ s. s ≡ opened number items.now) }
+        ensures allowed { OnOk result (AreItems items.now) }
+        ensures refused { IfErr result (RefusesItems items.now) }
+    {
+        if !are_items(items) {
+            return Err(SiteFault::BadItems);
+        }
+        let mut cells = Vec::new(alloc);
+        if cells.reserve(items.len()).is_err() {
+            return Err(SiteFault::Memory);
+        }
+        add_cells(alloc, &mut cells, items);
+        Ok(Site {
+            number,
+            cells,
+            log: Vec::new(alloc),
+            installed: Vec::new(alloc),
+            ended: Vec::new(alloc),
+            pledged: None,
+            part: Vec::new(alloc),
+        })
+    }
+
+    /// The number of the site.
+    pub fn number(&self) -> SiteNo
+        ensures number { result ≡ self.now.number }
+        ensures site { IsSite self.now }
+    {
+        self.number
+    }
+
+    /// The entries of the log.
+    pub fn log(&self) -> &[Entry]
+        ensures entries { result.now ≡ self.now.entries }
+        ensures site { IsSite self.now }
+    {
+        self.log.as_slice()
+    }
+
+    /// Reads an item for a transaction, and logs it.
+    pub fn read(&mut self, tx: Tx, item: Item) -> Result<Seen, SiteFault>
+        ensures value { IfOk result (λ seen. value_at self.old.items self.old.entries item ≡ Some seen.value) }
+        ensures version { IfOk result (λ seen. seen.version ≡ version_at self.old.entries item) }
+        ensures logged { IfOk result (λ seen. self.new ≡ record self.old { entries = self.old.entries ++ Read tx item seen.value ∷ [] }) }
+        ensures err { OnErr result (self.new ≡ self.old) }
+
+        // The refusals exclude each other, so each comes exactly where its case says, memory aside.
+        ensures allowed { OnOk result (MayRead self.old tx item) }
+        ensures refused { IfErr result (RefusesRead self.old tx item) }
+    {
+        let at = match find(self.cells.as_slice(), item) {
+            Ok(at) => at,
+            Err(_) => return Err(SiteFault::UnknownItem),
+        };
+        if self.cells[at].has_read(tx) {
+            return Err(SiteFault::ReadTwice);
+        }
+        if has_ended(self.ended.as_slice(), tx) {
+            return Err(SiteFault::Ended);
+        }
+        if is_pledged(self.pledged, tx) {
+            return Err(SiteFault::PledgeOpen);
+        }
+        // the block of a pledge that stands, and the read
+        let room = self.part.len() + 2;
+        if !make_room(&mut self.log, room) {
+            return Err(SiteFault::Memory);
+        }
+        match answer(&mut self.cells, at, tx) {
+            Ok(seen) => {
+                let value = seen.value;
+                self.log.push_reserved(Entry::Read { tx, item, value });
+                Ok(seen)
+            }
+            Err(_) => Err(SiteFault::Memory),
+        }
+    }
+
+    /// Gives the pledge of the transaction back.
+    pub fn unpledge(&mut self, tx: Tx) -> Result<(), SiteFault>
+        ensures ok { OnOk result (self.new ≡ record self.old { pledge = None }) }
+        ensures err { OnErr result (self.new ≡ self.old) }
+        ensures succeeds { IsOk result ↔ IsPledged self.old tx }
+        ensures refused { IfErr result (λ f. f ≡ SiteFault.NotPledged) }
+    {
+        if !is_pledged(self.pledged, tx) {
+            return Err(SiteFault::NotPledged);
+        }
+        self.pledged = None;
+        self.part.clear();
+        Ok(())
+    }
+
+    /// Writes the block of a withdrawn transaction, under its pledge.
+    pub fn withdraw(&mut self, tx: Tx) -> Result<(), SiteFault>
+        ensures ok { OnOk result (self.new ≡ record self.old { entries = self.old.entries ++ withdraw_block tx; pledge = None }) }
+        ensures err { OnErr result (self.new ≡ self.old) }
+        ensures succeeds { IsOk result ↔ IsPledged self.old tx }
+        ensures refused { IfErr result (λ f. f ≡ SiteFault.NotPledged) }
+    {
+        if !is_pledged(self.pledged, tx) {
+            return Err(SiteFault::NotPledged);
+        }
+        self.log.push_reserved(Entry::Withdraw { tx });
+        add_ended(&mut self.ended, tx);
+        self.pledged = None;
+        self.part.clear();
+        Ok(())
+    }
+
+    /// The committed transactions that wrote the item, in the order of the log.
+    pub fn writers(&self, item: Item) -> Result<&[Writer], SiteFault>
+        ensures ok { IfOk result (λ ws. ws.now ≡ writers_of self.now.installed self.now.entries item) }
+        ensures site { IsSite self.now }
+        ensures allowed { OnOk result (Contains (names self.now.items) item) }
+        ensures refused { IfErr result (λ f. (f ≡ SiteFault.UnknownItem) × (¬ Contains (names self.now.items) item)) }
+    {
+        match find(self.cells.as_slice(), item) {
+            Ok(at) => Ok(self.cells[at].writers()),
+            Err(_) => Err(SiteFault::UnknownItem),
+        }
+    }
+
+    /// The committed transactions that read the item, with the versions that they read.
+    pub fn readers(&self, item: Item) -> Result<&[Reader], SiteFault>
+        ensures ok { IfOk result (λ rs. (r : Reader) → Contains rs.now r ↔ IsReader self.now.installed self.now.entries item r) }
+        ensures site { IsSite self.now }
+        ensures allowed { OnOk result (Contains (names self.now.items) item) }
+        ensures refused { IfErr result (λ f. (f ≡ SiteFault.UnknownItem) × (¬ Contains (names self.now.items) item)) }
+    {
+        match find(self.cells.as_slice(), item) {
+            Ok(at) => Ok(self.cells[at].readers()),
+            Err(_) => Err(SiteFault::UnknownItem),
+        }
+    }
+
+    /// The items with their values at the end of the log.
+    pub fn final_values(&self, alloc: Global) -> Result<Vec<Holding>, SiteFault>
+        ensures items { IfOk result (λ finals. names finals.items ≡ names self.now.items) }
+        ensures values { IfOk result (λ finals. FinalsAreLegal self.now.items self.now.entries finals.items) }
+        ensures refused { IfErr result (λ f. f ≡ SiteFault.Memory) }
+    {
+        match holdings(alloc, self.cells.as_slice()) {
+            Ok(finals) => Ok(finals),
+            Err(_) => Err(SiteFault::Memory),
+        }
+    }
+}
+
+// The items with their present values.
+fn holdings(alloc: Global, cells: &[Cell]) -> Result<Vec<Holding>, AllocError>
+    ensures { IfOk result (λ finals. finals.items ≡ map (λ c. record { item = c.item; value = c.value }) cells.now) }
+{
+    cells.iter().map(Cell::holding).collect(alloc)
+}
+
+// Whether this transaction has the pledge.
+fn is_pledged(pledged: Option<Tx>, tx: Tx) -> bool
+    ensures { IsTrue result ↔ (pledged ≡ Some tx) }
+{
+    match pledged {
+        Some(other) => other.number() == tx.number(),
+        None => false,
+    }
+}
+
+// Whether room for so many more was had.
+fn make_room<T>(items: &mut Vec<T>, more: usize) -> bool
+    ensures items { items.new.items ≡ items.old.items }
+    ensures len { vec_len items.new ≡ vec_len items.old }
+    ensures room { IsTrue result → vec_len items.old + more ≤ vec_capacity items.new }
+    ensures capacity { vec_capacity items.old ≤ vec_capacity items.new }
+{
+    items.reserve(more).is_ok()
+}
+
+// Where the item is.
+fn find(cells: &[Cell], item: Item) -> Result<usize, usize>
+    requires { IsRisingBy (λ c. c.item) (slice_cmp nat_cmp) cells.now }
+    ensures found { IfOk result (IsAt (λ c. c.item) cells.now item) }
+    ensures absent { OnErr result (¬ Contains (map (λ c. c.item) cells.now) item) }
+{
+    cells.binary_search_by(|c| order(c, &item))
+}
+
+fn order(cell: &Cell, item: &Item) -> Ordering
+    ensures { result ≡ slice_cmp nat_cmp cell.now.item item.now }
+{
+    cell.item().order(item)
+}
+
+fn are_items(items: &[Holding]) -> bool
+    ensures { IsTrue result ↔ AreItems items.now }
+{
+    if items.len() > MAX_ITEMS {
+        return false;
+    }
+    for i in 1..items.len() {
+        if !comes_before(&items[i - 1], &items[i]) {
+            return false;
+        }
+    }
+    true
+}
+
+fn comes_before(a: &Holding, b: &Holding) -> bool
+    ensures { IsTrue result ↔ (slice_cmp nat_cmp a.now.item b.now.item ≡ Less) }
+{
+    match a.item.order(&b.item) {
+        Ordering::Less => true,
+        _ => false,
+    }
+}
+
+fn add_cells(alloc: Global, cells: &mut Vec<Cell>, items: &[Holding])
+    requires empty { cells.old.items ≡ [] }
+    requires room { vec_len cells.old + length items.now ≤ vec_capacity cells.old }
+    ensures items { items_of cells.new.items ≡ items.now }
+    ensures fresh { All IsFresh cells.new.items }
+{
+    for holding in items {
+        cells.push_reserved(Cell::new(alloc, *holding));
+    }
+}
+
+// Where the transaction is among those that have ended, or where it would go.
+fn search(ended: &[Tx], tx: Tx) -> Result<usize, usize>
+    requires { IsRisingBy (λ t. t) nat_cmp ended.now }
+    ensures found { IfOk result (IsAt (λ t. t) ended.now tx) }
+    ensures absent { IfErr result (IsGapFor (λ t. t) nat_cmp ended.now tx) }
+{
+    ended.binary_search_by(|t| t.number().cmp(&tx.number()))
+}
+
+// Whether the transaction is among those that have ended.
+fn has_ended(ended: &[Tx], tx: Tx) -> bool
+    requires { IsRisingBy (λ t. t) nat_cmp ended.now }
+    ensures { IsTrue result ↔ Contains ended.now tx }
+{
+    search(ended, tx).is_ok()
+}
+
+// The transaction has its end.
+fn add_ended(ended: &mut Vec<Tx>, tx: Tx)
+    requires rising { IsRisingBy (λ t. t) nat_cmp ended.old.items }
+    requires first { ¬ Contains ended.old.items tx }
+    requires room { vec_len ended.old < vec_capacity ended.old }
+    ensures rising { IsRisingBy (λ t. t) nat_cmp ended.new.items }
+    ensures each { (t : ℕ) → Contains ended.new.items t ↔ ((t ≡ tx) ⊎ Contains ended.old.items t) }
+{
+    if let Err(at) = search(ended.as_slice(), tx) {
+        insert(ended, at, tx);
+    }
+}
+
+// Answers a transaction that has not read the item of this cell.
+fn answer(cells: &mut Vec<Cell>, at: usize, tx: Tx) -> Result<Seen, AllocError>
+    requires within { at < length cells.old.items }
+    requires rising { All (λ c. AreReadings c.readings) cells.old.items }
+    requires first { (c : Contents) → slice_get cells.old.items at ≡ Some c → ¬ IsAnswering c tx }
+    ensures ok { IfOk result (λ seen. AnswersAt cells.old.items cells.new.items at tx seen) }
+    ensures err { OnErr result (cells.new.items ≡ cells.old.items) }
+{
+    cells[at].answer(tx)
+}
