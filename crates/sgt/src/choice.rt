@@ -9,6 +9,8 @@ use std::alloc::{AllocError, Global};
 pub enum Choice {
     /// Judge a bundle.
     Audit,
+    /// Judge a bundle, and run it serially where it is valid.
+    Serial,
 }
 
 /// Why there is nothing to do.
@@ -38,11 +40,15 @@ fn command<'a>(alloc: Global) -> Result<Command<'a>, AllocError> {
     let audit = Command::new(alloc, "audit").about(
         "Judges a bundle: yes where it is valid, else its first fault (the default)",
     );
+    let serial = Command::new(alloc, "serial").about(
+        "Runs a valid bundle's committed transactions alone by rank; a no as audit writes it",
+    );
     Command::new(alloc, "sgt")
         .about(ABOUT)
         .after_help(STATUSES)
         .disable_help_subcommand(true)
-        .subcommand(audit)
+        .subcommand(audit)?
+        .subcommand(serial)
 }
 
 fn refused(alloc: Global, error: &Error) -> NoChoice {
@@ -58,12 +64,13 @@ fn refused(alloc: Global, error: &Error) -> NoChoice {
 
 fn chosen(matches: &ArgMatches<'_>) -> Choice {
     match matches.subcommand() {
+        Some(("serial", _)) => Choice::Serial,
         _ => Choice::Audit,
     }
 }
 
 /// What the words ask for; the first word is the program's name.
-pub fn choose(alloc: Global, words: &[String]) -> Result<Choice, NoChoice> {
+pub(crate) fn choose(alloc: Global, words: &[String]) -> Result<Choice, NoChoice> {
     match command(alloc)?.try_get_matches_from(words) {
         Ok(matches) => Ok(chosen(&matches)),
         Err(error) => Err(refused(alloc, &error)),

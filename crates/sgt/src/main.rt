@@ -1,34 +1,38 @@
-//! The program.
+//! `sgt` reads standard input and writes standard output.
 #![tactic(auto)]
 
 mod choice;
 #[cfg(test)]
 mod examples;
+mod program;
 #[cfg(test)]
 mod tests;
 
-use choice::{Choice, NoChoice, choose};
-use std::env;
+use program::{give_up, program, refuse_words};
+use sgt_names::{EngineFail, FromRead, ToWrite};
 use std::process::ExitCode;
+use std::{env, io};
 
 fn main(rt: HostRuntime) -> ExitCode {
+    let mut reader = FromRead::new(rt.stdin());
+    let mut writer = ToWrite::new(rt.stdout());
+    let mut errors = ToWrite::new(rt.stderr());
     let words: Vec<String> = match env::args(&rt) {
         Ok(words) => match words.collect(rt.alloc()) {
             Ok(words) => words,
-            Err(_) => return ExitCode::from(3),
+            Err(_) => return ExitCode::from(give_up(&mut errors, EngineFail::Memory)),
         },
-        Err(_) => return ExitCode::from(2),
+        Err(e) if e.kind() == io::ErrorKind::OutOfMemory => {
+            return ExitCode::from(give_up(&mut errors, EngineFail::Memory));
+        }
+        Err(_) => return ExitCode::from(refuse_words(&mut errors)),
     };
-    match choose(rt.alloc(), words.as_slice()) {
-        Ok(Choice::Audit) => ExitCode::from(1),
-        Err(NoChoice::Help(text)) => {
-            let _ = print!(rt; "{text}");
-            ExitCode::from(0)
-        }
-        Err(NoChoice::Usage(text)) => {
-            let _ = print!(rt; "E{text}");
-            ExitCode::from(2)
-        }
-        Err(NoChoice::Memory) => ExitCode::from(3),
-    }
+    let status = program(
+        rt.alloc(),
+        words.as_slice(),
+        &mut reader,
+        &mut writer,
+        &mut errors,
+    );
+    ExitCode::from(status)
 }

@@ -1,13 +1,18 @@
 -- The definitions of a log, shown on three small logs.
-use Rattle.std.proofs.Common.{◌≡◌, ◌≢◌, ℕ, zero, suc, List, [], ◌∷◌, Some, refl, sym, ◌∙◌, ap, subst, lit<, get_or}
+use Rattle.std.proofs.Common.{◌≡◌, ◌≢◌, ℕ, zero, suc, List, [], ◌∷◌, Some, refl, sym, ◌∙◌, ap, subst, lit<, get_or, arith, ◌<◌}
 use Rattle.std.specs.Prelude.{codes, slice_get}
 use Rattle.std.proofs.lemmas.Option.{same_Some}
 use Rattle.std.proofs.lemmas.Bool.{eqb-false}
 use Rattle.sgt_names.specs.Name.{Name}
 use Rattle.sgt_names.specs.Entry.{tx_of, Clash}
-use Rattle.sgt_names.specs.Log.{Conflicts, ReadsAreLegal}
+use Rattle.sgt_names.specs.Log.{Conflicts, ReadsAreLegal, FinalsAreLegal, IsOrderly, IsFormed, AllEnded, names, value_at}
+use Rattle.std.specs.Prelude.{Any, Contains}
+use Rattle.std.proofs.Common.{inl, inr}
+use Rattle.std.specs.Option.{ForSome}
+use Rattle.std.proofs.lemmas.List.Elements.{All-from_recursion}
+use Rattle.sgt_names.specs.Entry.{item_of, IsEnd, IsOpen, Continues, Repeats}
 use Rattle.sgt_names.specs.declared.entry.Entry.{Entry}
-use Rattle.sgt_names.specs.declared.entry.Entry.TheVariants.{Read, Write, Want, Commit, Refuse}
+use Rattle.sgt_names.specs.declared.entry.Entry.TheVariants.{Read, Write, Want, Commit, Refuse, Withdraw}
 use Rattle.sgt_names.specs.declared.entry.Holding.{Holding}
 use Rattle.sgt_names.specs.declared.entry.Kind.{Kind}
 use Rattle.sgt_names.specs.declared.entry.Kind.TheVariants.{Wr, Rw, Ww}
@@ -147,3 +152,142 @@ only_cycle-no_others kind z a b c =
     let here = AllPairs_at Allowed only_cycle c.p c.q c.e c.f (AllPairs-from_recursion Allowed only_cycle pairs) c.before c.first c.second in
     let apart = λ (same : tx_of c.e ≡ tx_of c.f). c.apart (sym c.from ∙ same ∙ c.to) in
     subst (λ n. IsOfCycle kind z n b) c.from (subst (λ n. IsOfCycle kind z (tx_of c.e) n) c.to (here kind z c.clash apart))
+
+-- a want leaves the value; a write changes that of its own item alone
+pub want-keeps : value_at items (Want 1 x 6 ∷ []) x ≡ Some 5
+want-keeps = refl
+
+pub write-changes : value_at items (Write 1 x 6 ∷ []) x ≡ Some 6
+write-changes = refl
+
+pub write-keeps_others : value_at items (Write 1 x 6 ∷ []) y ≡ Some 2
+write-keeps_others = refl
+
+-- a final is the value at the end
+pub final-at_end : FinalsAreLegal items own_read (record { item = x; value = 5 } ∷ []) → ⊥
+final-at_end legal = eqb-false 6 5 refl (same_Some 6 5 (legal 0 (record { item = x; value = 5 }) (lit< tt)))
+
+-- a read has the value in front of it: its own transaction's later write doesn't count
+abbrev value_read : Entry → ℕ
+value_read (Read tx z v) = v
+value_read _ = 0
+
+abbrev item_read : Entry → Name
+item_read (Read tx z v) = z
+item_read _ = []
+
+pub own_read-legal : ReadsAreLegal items own_read
+own_read-legal zero tx z v at =
+    let e = same_Some (Read 1 x 5) (Read tx z v) at in
+    subst (λ n. value_at items [] n ≡ Some v) (ap item_read e) (ap (λ n. Some (value_read n)) e)
+own_read-legal (suc zero) tx z v at = absurd cc
+own_read-legal (suc (suc zero)) tx z v at = absurd cc
+own_read-legal (suc (suc (suc n))) tx z v at = absurd cc
+
+-- two reads of an item by one transaction, a write and a want of it
+pub read_twice-not_orderly : IsOrderly items (Read 1 x 5 ∷ Read 1 x 5 ∷ Commit 1 ∷ []) → ⊥
+read_twice-not_orderly o = o.once 0 1 (Commit 1) (lit< tt) (lit< tt) x (refl, inl (refl, refl))
+
+pub write_and_want-not_orderly : IsOrderly items (Write 1 x 6 ∷ Want 1 x 7 ∷ Refuse 1 ∷ []) → ⊥
+write_and_want-not_orderly o = o.once 0 1 (Refuse 1) (lit< tt) (lit< tt) x (refl, inr (refl, refl))
+
+-- a want and then a commit, and a write with nothing behind it
+pub want_committed-not_orderly : IsOrderly items (Want 1 x 6 ∷ Commit 1 ∷ []) → ⊥
+want_committed-not_orderly o =
+    let next = o.blocks 0 (Want 1 x 6) refl tt in
+    subst (Continues (Want 1 x 6)) (sym (same_Some (Commit 1) next.0 next.1)) next.2
+
+pub other_refused-not_orderly : IsOrderly items (Want 1 x 6 ∷ Refuse 2 ∷ []) → ⊥
+other_refused-not_orderly o =
+    let next = o.blocks 0 (Want 1 x 6) refl tt in
+    eqb-false 1 2 refl (subst (Continues (Want 1 x 6)) (sym (same_Some (Refuse 2) next.0 next.1)) next.2)
+
+-- an entry behind the refusal of its transaction
+pub read_behind_end-not_orderly : IsOrderly items (Refuse 1 ∷ Read 1 x 5 ∷ []) → ⊥
+read_behind_end-not_orderly o = o.closed 0 1 (Refuse 1) (lit< tt) (lit< tt) tt refl
+
+-- a read of an item that the site doesn't have
+pub unknown_item-not_orderly : IsOrderly items (Read 1 (codes "z") 5 ∷ []) → ⊥
+unknown_item-not_orderly o =
+    let known = o.known 0 (Commit 1) (lit< tt) (codes "z") refl in
+    no_z known.0 known.1 known.2
+  where
+    no_z : (k : ℕ) → k < 2 → get_or (names items) k (codes "z") ≡ codes "z" → ⊥
+    no_z zero lt same = eqb-false 120 122 refl (ap (λ (n : Name). get_or n 0 0) same)
+    no_z (suc zero) lt same = eqb-false 121 122 refl (ap (λ (n : Name). get_or n 0 0) same)
+    no_z (suc (suc k)) lt same = absurd (omega arith)
+
+-- a transaction without an end
+pub not_ended : AllEnded (Read 1 x 5 ∷ []) → ⊥
+not_ended all =
+    let end = all 0 (Commit 1) (lit< tt) in
+    no_end end.0 end.1 end.2 end.3 end.4.0
+  where
+    no_end : (k : ℕ) (f : Entry) → k < 1 → get_or (Read 1 x 5 ∷ []) k f ≡ f → IsEnd f → ⊥
+    no_end zero f lt at is = subst IsEnd (sym at) is
+    no_end (suc k) f lt at is = absurd (omega arith)
+
+-- the log of the cycle is formed
+pub only_cycle-ended : AllEnded only_cycle
+only_cycle-ended = All-from_recursion (λ e. Any (λ f. IsEnd f × (tx_of f ≡ tx_of e)) only_cycle) only_cycle (by_1, (by_2, (by_1, (by_1, (by_2, (by_2, tt))))))
+  where
+    by_1 : Any (λ f. IsEnd f × (tx_of f ≡ 1)) only_cycle
+    by_1 = (3, Commit 1, lit< tt, refl, (tt, refl))
+
+    by_2 : Any (λ f. IsEnd f × (tx_of f ≡ 2)) only_cycle
+    by_2 = (5, Refuse 2, lit< tt, refl, (tt, refl))
+
+-- a write that a want follows, or a read
+pub write_then_want-not_orderly : IsOrderly items (Write 1 x 6 ∷ Want 1 y 3 ∷ Refuse 1 ∷ []) → ⊥
+write_then_want-not_orderly o =
+    let next = o.blocks 0 (Write 1 x 6) refl tt in
+    subst (Continues (Write 1 x 6)) (sym (same_Some (Want 1 y 3) next.0 next.1)) next.2
+
+-- a withdrawal is an end
+pub withdrawn-ended : AllEnded (Read 1 x 5 ∷ Withdraw 1 ∷ [])
+withdrawn-ended = All-from_recursion (λ e. Any (λ f. IsEnd f × (tx_of f ≡ tx_of e)) (Read 1 x 5 ∷ Withdraw 1 ∷ [])) (Read 1 x 5 ∷ Withdraw 1 ∷ []) (by_1, (by_1, tt))
+  where
+    by_1 : Any (λ f. IsEnd f × (tx_of f ≡ 1)) (Read 1 x 5 ∷ Withdraw 1 ∷ [])
+    by_1 = (1, Withdraw 1, lit< tt, refl, (tt, refl))
+
+-- the log of a transaction that reads an item and then writes it is formed
+abbrev Once : Entry → Entry → Type 0
+Once e f = (z : Name) → Repeats z e f → ⊥
+
+read_write : Once (Read 1 x 5) (Write 1 x 6)
+read_write z (same, inl both) = both.1
+read_write z (same, inr both) = both.0
+
+read_commit_once : Once (Read 1 x 5) (Commit 1)
+read_commit_once z (same, inl both) = both.1
+read_commit_once z (same, inr both) = both.0
+
+write_commit : Once (Write 1 x 6) (Commit 1)
+write_commit z (same, inl both) = both.1
+write_commit z (same, inr both) = both.1
+
+own_blocks : (n : ℕ) (e : Entry) → slice_get own_read n ≡ Some e → IsOpen e → (f : Entry) × (slice_get own_read (suc n) ≡ Some f) × Continues e f
+own_blocks zero e at open_ = absurd (subst IsOpen (sym (same_Some (Read 1 x 5) e at)) open_)
+own_blocks (suc zero) e at open_ = (Commit 1, refl, subst (λ f. Continues f (Commit 1)) (same_Some (Write 1 x 6) e at) refl)
+own_blocks (suc (suc zero)) e at open_ = absurd (subst IsOpen (sym (same_Some (Commit 1) e at)) open_)
+own_blocks (suc (suc (suc n))) e at open_ = absurd cc
+
+own_known : (z : Name) → Some x ≡ Some z → Contains (names items) z
+own_known z h = subst (Contains (names items)) (same_Some x z h) (0, lit< tt, refl)
+
+abbrev Closes : Entry → Entry → Type 0
+Closes e f = IsEnd e → tx_of e ≢ tx_of f
+
+pub own_read-formed : IsFormed items own_read
+own_read-formed = (
+  record {
+    known = All-from_recursion (λ e. ForSome (item_of e) (Contains (names items))) own_read (own_known, (own_known, (λ z h. absurd cc, tt)));
+    once = AllPairs-from_recursion Once own_read ((read_write, (read_commit_once, tt)), ((write_commit, tt), (tt, tt)));
+    blocks = own_blocks;
+    closed = AllPairs-from_recursion Closes own_read ((λ is same. is, (λ is same. is, tt)), ((λ is same. is, tt), (tt, tt)));
+  },
+  All-from_recursion (λ e. Any (λ f. IsEnd f × (tx_of f ≡ tx_of e)) own_read) own_read (by_1, (by_1, (by_1, tt))),
+)
+  where
+    by_1 : Any (λ f. IsEnd f × (tx_of f ≡ 1)) own_read
+    by_1 = (2, Commit 1, lit< tt, refl, (tt, refl))

@@ -2,7 +2,7 @@
 use Rattle.std.specs.Prelude.{◌≡◌, ◌≤◌, ◌<◌, ℕ, ◌+◌, List, length, take, ⊤, Option, Some, None, Result, Ok, Err}
 use Rattle.std.specs.Io.KnownBytes.{Consumes, Appends, IsAtEnd}
 
--- after a failure the bytes told are those told before, or none are told any more
+-- over a failure: what was told before is told still, or nothing is
 abbrev pub KeepsOrForgets : Option (List ℕ) → Option (List ℕ) → Type 0
 KeepsOrForgets None new = ⊤
 KeepsOrForgets (Some xs) None = ⊤

@@ -2,9 +2,18 @@
 
 ghost use Rattle.std.specs.Prelude.{◌≡◌, ◌≤◌, IsTrue, length};
 ghost use Rattle.std.specs.List.{list_all};
+ghost use Rattle.std.specs.Prelude.{Some, refl, bytes_eq};
+ghost use Rattle.std.specs.Ordering.{nat_cmp};
+ghost use Rattle.std.specs.Cmp.{partial_equiv_from_equiv};
+ghost use Rattle.std.proofs.Common.{rules};
+ghost use Rattle.std.specs.Hash as fed;
+ghost use Rattle.std.specs.Cmp.Rules.{hashing};
+ghost use Rattle.std.specs.Cmp.Lexicographic.{slice_cmp, nat_list_eq_equiv, nat_list_cmp_total, texts_ties, texts_po};
 ghost use Rattle.sgt_names.specs.Name.{is_name_byte, is_small_letter, is_name};
 
 use std::cmp::Ordering;
+use std::fmt::{self, Debug, Display, Formatter, Write};
+use std::hash::{Hash, Hasher};
 use std::marker::Model;
 use thiserror::Error;
 
@@ -15,7 +24,7 @@ pub struct BadName;
 
 /// The name of an item: a small letter, then up to fifteen small letters, digits and underscores.
 /// Contracts see it as its bytes.
-#[derive(Clone, Copy, Debug, PartialEq, Eq)]
+#[derive(Clone, Copy)]
 pub struct Item {
     // the name, and zeros up to 16
     bytes: [u8; 16],
@@ -44,8 +53,6 @@ impl Model for Item {
 impl Item {
     ghost use Rattle.std.specs.Prelude.{◌≡◌, ◌↔◌, IsTrue};
     ghost use Rattle.std.specs.Result.{OkIff};
-    ghost use Rattle.std.specs.Ordering.{nat_cmp};
-    ghost use Rattle.std.specs.Cmp.Lexicographic.{slice_cmp};
     ghost use Rattle.sgt_names.specs.Name.{IsName};
 
     /// The name that these bytes spell. N1 for all other bytes; nothing is trimmed or cut off.
@@ -75,14 +82,78 @@ impl Item {
     pub fn same(&self, other: &Item) -> bool
         ensures { IsTrue result ↔ (self.now ≡ other.now) }
     {
-        self.as_bytes() == other.as_bytes()
+        self == other
     }
 
     /// The order of names, by their bytes.
     pub fn order(&self, other: &Item) -> Ordering
         ensures { result ≡ slice_cmp nat_cmp self.now other.now }
     {
+        self.cmp(other)
+    }
+}
+
+impl PartialEq for Item {
+    ghost eq = { bytes_eq };
+
+    ghost laws = { partial_equiv_from_equiv nat_list_eq_equiv };
+
+    fn eq(&self, other: &Item) -> bool {
+        self.as_bytes() == other.as_bytes()
+    }
+}
+
+impl Eq for Item {
+    ghost laws = { nat_list_eq_equiv };
+}
+
+impl PartialOrd for Item {
+    ghost partial_cmp = { λ a b. Some (slice_cmp nat_cmp a b) };
+
+    ghost laws = { texts_po };
+
+    fn partial_cmp(&self, other: &Item) -> Option<Ordering> {
+        Some(self.cmp(other))
+    }
+}
+
+impl Ord for Item {
+    ghost cmp = { slice_cmp nat_cmp };
+
+    ghost total = { nat_list_cmp_total };
+
+    ghost matches_partial_cmp = { λ a b. refl };
+
+    ghost matches_eq = { texts_ties };
+
+    fn cmp(&self, other: &Item) -> Ordering {
         self.as_bytes().cmp(other.as_bytes())
+    }
+}
+
+impl Hash for Item {
+    ghost hash_input = { fed.slice fed.u8 };
+
+    ghost respects_eq = { Prim.search (hashing, rules) };
+
+    fn hash<H: Hasher>(&self, state: &mut H) {
+        self.as_bytes().hash(state);
+    }
+}
+
+/// The name itself.
+impl Display for Item {
+    fn fmt<W: Write>(&self, f: &mut Formatter<W>) -> fmt::Result {
+        for byte in self.as_bytes() {
+            f.write_char(char::from(*byte))?;
+        }
+        Ok(())
+    }
+}
+
+impl Debug for Item {
+    fn fmt<W: Write>(&self, f: &mut Formatter<W>) -> fmt::Result {
+        Display::fmt(self, f)
     }
 }
 

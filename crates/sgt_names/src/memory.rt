@@ -32,7 +32,7 @@ impl<'a> Model for MemSource<'a> {
 
 impl<'a> MemSource<'a> {
     /// These bytes, up to `per_read` of them at a read. The read of number `fail_at`, counted from 1, and every later
-    /// one fails; 0 counts as 1.
+    /// one fails (2^64 - 1 of them); 0 counts as 1.
     pub fn new(bytes: &'a [u8], per_read: usize, fail_at: Option<u64>) -> MemSource<'a>
         requires { 0 < per_read }
         ensures { result ≡ record { rest = bytes.entry.now; per_read = per_read; good = option_map (λ at. at - 1) fail_at; failures = 0 } }
@@ -59,7 +59,7 @@ impl Source for MemSource<'_> {
         // and, of this source, exactly when it fails and what it gives
         ensures must_fail { IsErr result ↔ MustFail self.old }
         ensures ok { IfOk result (Supplies self.old self.new buffer.old buffer.new) }
-        ensures err { OnErr result (self.new ≡ record self.old { failures = self.old.failures + 1 }) }
+        ensures err { OnErr result ((self.new ≡ record self.old { failures = self.old.failures + 1 }) × (buffer.new ≡ buffer.old)) }
     {
         if let Some(good) = self.good {
             if good == 0 && self.failed < u64::MAX {
@@ -131,6 +131,7 @@ impl Sink for MemSink {
         ensures is_full { IsErr result ↔ IsFull self.old bytes.now }
         ensures ok { self.old.failures < 2 ^ 64 - 1 → IfOk result (λ n. (n ≡ min (length bytes.now) self.old.room)
             × (self.new ≡ record self.old { bytes = self.old.bytes ++ take n bytes.now; room = self.old.room - n })) }
+        ensures spent { self.old.failures ≡ 2 ^ 64 - 1 → self.old.room ≡ 0 → IfOk result (λ n. (n ≡ length bytes.now) × (self.new ≡ self.old)) }
         ensures err { OnErr result (self.new ≡ record self.old { failures = self.old.failures + 1 }) }
     {
         let n = bytes.len().min(self.room);

@@ -3,10 +3,11 @@
 ghost use Rattle.std.specs.Prelude.{◌≡◌, ◌≤◌, ◌<◌, ◌^◌};
 ghost use Rattle.std.specs.Result.{OkIff};
 
+use std::fmt::{self, Display, Formatter, Write};
 use std::marker::Model;
 use thiserror::Error;
 
-/// N2: a number that is none of its kind.
+/// N2: a number outside the range of its kind.
 #[derive(Clone, Copy, Debug, PartialEq, Eq, Error)]
 #[error("N2: the number is out of range")]
 pub struct BadNumber;
@@ -46,5 +47,11 @@ impl Tx {
         ensures in_range { 1 ≤ self }
     {
         self.number
+    }
+}
+
+impl Display for Tx {
+    fn fmt<W: Write>(&self, f: &mut Formatter<W>) -> fmt::Result {
+        Display::fmt(&self.number, f)
     }
 }

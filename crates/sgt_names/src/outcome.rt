@@ -24,7 +24,7 @@ pub enum EngineFail {
 pub enum Outcome {
     /// A yes, or the whole of what was asked for.
     Yes,
-    /// A no.
+    /// A no, or not all of what was asked for was done.
     No,
     /// The input could not be read as what it should be.
     Unreadable,

@@ -14,7 +14,7 @@ pub trait Sink {
     ghost failures: { Self → ℕ };
 
     /// Takes some bytes off the front of the slice: at least one, where there is one.
-    /// After an Err the sink may have forgotten its bytes; what it still tells is what it told before.
+    /// After an Err the sink tells its bytes as before, or tells nothing.
     fn write(&mut self, bytes: &[u8]) -> Result<usize, Failed>
         ensures bytes { PutsBehind (holds self.old) (holds self.new) result bytes.now }
         ensures count { AtMost result (length bytes.now) }

@@ -6,6 +6,7 @@ ghost use Rattle.sgt_names.specs.Limits.{max_sites};
 
 use crate::limits::MAX_SITES;
 use crate::number::BadNumber;
+use std::fmt::{self, Display, Formatter, Write};
 use std::marker::Model;
 
 /// The number of a site, from 0 to 15.
@@ -28,7 +29,7 @@ impl Model for SiteNo {
 }
 
 impl SiteNo {
-    /// The site of this number. N2 from the greatest number of sites on.
+    /// The site of this number. N2 for every number from `MAX_SITES` on.
     pub fn new(number: u64) -> Result<SiteNo, BadNumber>
         ensures { OkIff result (number < max_sites) number }
     {
@@ -44,5 +45,11 @@ impl SiteNo {
         ensures in_range { self < max_sites }
     {
         self.number
+    }
+}
+
+impl Display for SiteNo {
+    fn fmt<W: Write>(&self, f: &mut Formatter<W>) -> fmt::Result {
+        Display::fmt(&self.number, f)
     }
 }

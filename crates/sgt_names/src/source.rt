@@ -19,7 +19,7 @@ pub trait Source {
     ghost failures: { Self → ℕ };
 
     /// Reads some bytes into the front of the buffer. 0 comes only at the end, or where the buffer has no room.
-    /// After an Err the source may have forgotten its bytes; what it still tells is what it told before.
+    /// After an Err the source tells its bytes as before or tells nothing, and what is in the buffer is not promised.
     fn read(&mut self, buffer: &mut [u8]) -> Result<usize, Failed>
         ensures bytes { TakesFront (tells self.old) (tells self.new) result buffer.new }
         ensures count { AtMost result (length buffer.old) }

@@ -6,8 +6,8 @@ use crate::sink::Sink;
 use crate::source::{Failed, Source};
 use std::io::{Read, Write};
 
-/// A reader of std's. It tells the bytes that this tells. (A counter of failures is finite: at its 2^64-th failure
-/// it forgets its bytes and reads as ended.)
+/// A reader of std's as a source. It tells what the inner reader tells. An interrupted read counts as a failure.
+/// It counts 2^64 - 1 failures: from the last of them on it tells no bytes, and a further read that fails answers 0.
 #[derive(Drop)]
 pub struct FromRead<R> {
     inner: R,
@@ -43,8 +43,9 @@ impl<R: Read> Source for FromRead<R> {
     }
 }
 
-/// A writer of std's. It tells the bytes that this tells. A write that takes nothing of a slice that isn't empty is a
-/// failure. (At its 2^64-th failure it forgets its bytes and takes what it is given.)
+/// A writer of std's as a sink. It tells what the inner writer tells, and never flushes it. A write that takes nothing of
+/// a slice that isn't empty is a failure, and so is an interrupted one. It counts 2^64 - 1 failures: from the last of them
+/// on it tells no bytes, and a further write that fails drops what it is given.
 #[derive(Drop)]
 pub struct ToWrite<W> {
     inner: W,

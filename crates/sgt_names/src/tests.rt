@@ -1,10 +1,11 @@
 //! What no clause says: that the calls succeed, on values from outside.
 
 use crate::{
-    EngineFail, FromRead, Item, Listed, MemSink, MemSource, Outcome, Sink, SiteNo, Source, ToWrite,
-    Tx,
+    BadName, BadNumber, EngineFail, FromRead, Item, Listed, MAX_ITEMS, MAX_SITES, MemSink,
+    MemSource, Outcome, Sink, SiteNo, Source, ToWrite, Tx,
 };
 use std::cmp::Ordering;
+use std::io::{self, Read, Write};
 use std::test::Fail;
 
 #[test]
@@ -62,10 +63,43 @@ fn names_of_items(rt: HostRuntime) -> Result<(), Fail> {
         }
     }
     let (a, b, c) = (Item::new(b"a")?, Item::new(b"ab")?, Item::new(b"a_")?);
+    assert!(rt; format!(in rt.alloc(); "{c} {c:?}")?.as_str() == "a_ a_");
+    assert!(rt; format!(in rt.alloc(); "{} {}", Tx::new(7)?, SiteNo::new(3)?)?.as_str() == "7 3");
     assert!(rt; a.same(&a) && !a.same(&b));
     assert!(rt; a.order(&b) == Ordering::Less && b.order(&c) == Ordering::Greater);
     assert!(rt; c.order(&c) == Ordering::Equal);
     Ok(())
+}
+
+/// A reader whose second call fails.
+#[derive(Drop)]
+struct Torn {
+    left: &'static [u8],
+    calls: u8,
+}
+
+impl Read for Torn {
+    fn read(&mut self, buffer: &mut [u8]) -> io::Result<usize> {
+        self.calls = self.calls.saturating_add(1);
+        if self.calls == 2 {
+            return Err(io::Error::from(io::ErrorKind::Other));
+        }
+        self.left.read(buffer)
+    }
+}
+
+/// A writer that takes nothing.
+#[derive(Drop)]
+struct Shut;
+
+impl Write for Shut {
+    fn write(&mut self, _bytes: &[u8]) -> io::Result<usize> {
+        Ok(0)
+    }
+
+    fn flush(&mut self) -> io::Result<()> {
+        Ok(())
+    }
 }
 
 #[test]
@@ -82,6 +116,14 @@ fn sources_over_memory(rt: HostRuntime) -> Result<(), Fail> {
     assert_eq!(rt; whole.read(&mut buffer), Ok(4));
     assert_eq!(rt; whole.read(&mut buffer), Ok(1));
     assert_eq!(rt; whole.read(&mut buffer), Ok(0));
+    let mut torn = FromRead::new(Torn {
+        left: b"xyz",
+        calls: 0,
+    });
+    assert_eq!(rt; torn.read(&mut buffer[..2]), Ok(2));
+    assert!(rt; torn.read(&mut buffer).is_err());
+    assert_eq!(rt; torn.read(&mut buffer), Ok(1));
+    assert_eq!(rt; buffer[0], b'z');
     let mut read = FromRead::new(b"xyz".as_slice());
     assert_eq!(rt; read.read(&mut buffer), Ok(3));
     assert!(rt; &buffer[..3] == b"xyz".as_slice());
@@ -99,6 +141,9 @@ fn sinks_over_memory(rt: HostRuntime) -> Result<(), Fail> {
     assert!(rt; sink.bytes() == b"abc".as_slice());
     let mut write = ToWrite::new(Vec::new(rt.alloc()));
     assert_eq!(rt; write.write(b"ab"), Ok(2));
+    let mut shut = ToWrite::new(Shut);
+    assert!(rt; shut.write(b"ab").is_err());
+    assert_eq!(rt; shut.write(b""), Ok(0));
     Ok(())
 }
 
@@ -107,7 +152,20 @@ fn outcomes_and_lists(rt: HostRuntime) -> Result<(), Fail> {
     assert_eq!(rt; Outcome::Yes.status(), 0);
     assert_eq!(rt; Outcome::No.status(), 1);
     assert_eq!(rt; Outcome::Unreadable.status(), 2);
+    assert!(rt; format!(in rt.alloc(); "{}", EngineFail::Memory)?.as_str() == "memory");
     assert!(rt; format!(in rt.alloc(); "{}", EngineFail::ReadFault)?.as_str() == "read fault");
+    assert!(rt; format!(in rt.alloc(); "{}", EngineFail::WriteFault)?.as_str() == "write fault");
+    assert!(rt;
+        format!(in rt.alloc(); "{BadName}")?
+            .as_str()
+            .starts_with("N1: ")
+    );
+    assert!(rt;
+        format!(in rt.alloc(); "{BadNumber}")?
+            .as_str()
+            .starts_with("N2: ")
+    );
+    assert_eq!(rt; (MAX_SITES, MAX_ITEMS), (16, 256));
     let list = Listed::new(vec![in rt.alloc(); 1u8, 2]?);
     assert!(rt; list.as_slice() == [1, 2].as_slice());
     assert_eq!(rt; list.into_vec().len(), 2);

@@ -176,9 +176,9 @@ pub on_ok : {T E : Type 0} (r : Result T E) (P : Type 0) → OnOk r P → is_ok 
 on_ok (Ok x) P h is = h
 on_ok (Err e) P h is = absurd cc
 
-pub on_ok_map : {T E : Type 0} (r : Result T E) (P Q : Type 0) → (P → Q) → OnOk r P → OnOk r Q
-on_ok_map (Ok x) P Q f h = f h
-on_ok_map (Err e) P Q f h = tt
+pub on_ok_map_2 : {T E : Type 0} (r : Result T E) (P Q R : Type 0) → (P → Q → R) → OnOk r P → OnOk r Q → OnOk r R
+on_ok_map_2 (Ok x) P Q R f p q = f p q
+on_ok_map_2 (Err e) P Q R f p q = tt
 
 pub on_err_map : {T E : Type 0} (r : Result T E) (P Q : Type 0) → (P → Q) → OnErr r P → OnErr r Q
 on_err_map (Ok x) P Q f h = tt

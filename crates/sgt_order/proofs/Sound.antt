@@ -35,9 +35,6 @@ sound_widened a b order edges marks s wider lists = record {
   long = s.long ∙ sym (same_long a b wider.same);
 }
 
-pub sound_marks : (a : Arena Node) (order : List Handle) (edges : List Edge) (marks new : List (Option Edge)) → IsSound a order edges marks → length new ≡ length marks → IsSound a order edges new
-sound_marks a order edges marks new s same = record { forward = s.forward; holds = s.holds; tells = s.tells; long = same ∙ s.long }
-
 pub sound_extended : (a b : Arena Node) (order : List Handle) (edges given : List Edge) (h : Handle) (marks : List (Option Edge)) → IsSound a order edges marks → Searched a.generation order edges given h marks → IsOpen given h marks → IsSome (get a h) → SameNodes a b → Lists b (edges ++ given) → Tells b (placed (is_marked marks) order h) → IsSound b (placed (is_marked marks) order h) (edges ++ given) marks
 sound_extended a b order edges given h marks s searched free node same lists tells = record {
   tells = tells;

@@ -1,5 +1,6 @@
 -- What is always true of a graph's parts, the search for what a node reaches, and the growth of the parts.
-use Rattle.std.specs.Prelude.{◌≡◌, ◌⊎◌, ◌↔◌, true, ℕ, suc, ◌+◌, ◌-◌, ◌<◌, ◌≤◌, List, [], ◌∷◌, Option, Some, None, Bool, is_some, if◌then◌else◌, length, map, filter, slice_get, slice_index_or, Contains}
+use Rattle.std.specs.Prelude.{◌≡◌, ◌⊎◌, ◌↔◌, true, ℕ, suc, ◌+◌, ◌-◌, ◌<◌, ◌≤◌, List, [], ◌∷◌, Option, Some, None, Bool, is_some, if◌then◌else◌, length, map, filter, slice_get, slice_index_or, Contains, Vec, vec_len, vec_capacity}
+use Rattle.std.specs.declared.alloc.Global.{Global}
 use Rattle.smallvec.specs.SmallVec.{SmallVec, small_vec_len}
 use Rattle.sgt_arena.specs.declared.handle.Handle.{Handle}
 use Rattle.sgt_arena.specs.Arena.{Arena, get}
@@ -134,6 +135,10 @@ pub record SameNodes (old new : Arena Node) : Type 0 where
 pub record Widened (old new : Arena Node) : Type 0 where
   pub same : SameNodes old new
   pub wider : (h : Handle) (node : Node) → get new h ≡ Some node → (was : Node) × (get old h ≡ Some was) × (was.out.capacity ≤ node.out.capacity) × (node.admitted ≡ was.admitted)
+
+-- one more member than these fits in the next order, and so many more edges fit among the edges
+abbrev pub HaveRoom : ℕ → ℕ → Vec Handle Global → Vec Edge Global → Type 0
+HaveRoom members more next edges = (members < vec_capacity next) × (vec_len edges + more ≤ vec_capacity edges)
 
 -- each node can list those of the added edges that come from it without taking memory
 abbrev pub HaveSpace : Arena Node → List Edge → Type 0

@@ -80,7 +80,8 @@ impl Graph {
         ensures fault { IfErr result (NodeLacks self.old) }
 
         // room that was made for edges between the nodes that were there stays
-        ensures room { (offered : List Member) → All (λ e. HasNode self.old e.from) offered → HasRoomFor self.old offered → HasRoomFor self.new offered }
+        ensures room { (offered : List Member) → All (λ e. HasNode self.old e.from) offered
+            → HasRoomFor self.old offered → HasRoomFor self.new offered }
     {
         if self.nodes.len() >= MAX_PLACES {
             return Err(Fault::Full);
@@ -197,7 +198,8 @@ impl Graph {
         ensures acyclic { OnOk result (IsAcyclic (Joins (self.old.edges ++ offered.now))) }
         ensures order { OnOk result (IsPlaced (Joins (self.old.edges ++ offered.now)) self.old.order node self.new.order) }
         ensures edges { OnOk result (self.new.edges ≡ self.old.edges ++ offered.now) }
-        ensures nodes { OnOk result ((self.new.generation ≡ self.old.generation) × (self.new.transactions ≡ self.old.transactions)) }
+        ensures window { self.new.generation ≡ self.old.generation }
+        ensures nodes { self.new.transactions ≡ self.old.transactions }
         ensures err { OnErr result (SameGraph self.old self.new) }
         ensures fault { IfErr result (Refuses self.old node offered.now) }
     {

@@ -3,7 +3,7 @@
 ghost use Rattle.std.specs.Prelude.{◌≡◌, ◌+◌, ◌-◌, ◌^◌, ◌<◌, ◌≤◌, ◌∷◌, [], ◌++◌, length, IsSome, OnOk, OnErr, take, vec_len, vec_capacity};
 ghost use Rattle.sgt_arena.specs.Arena.{get};
 ghost use Rattle.sgt_order.specs.Graph.{placed};
-ghost use Rattle.sgt_order.specs.Search.{Lists, HaveSpace, Widened, SameNodes, IsSound, Searched, IsOpen, is_marked};
+ghost use Rattle.sgt_order.specs.Search.{Lists, HaveRoom, HaveSpace, Widened, SameNodes, IsSound, Searched, IsOpen, is_marked};
 
 use crate::node::Node;
 use crate::placing::place_in;
@@ -100,9 +100,10 @@ fn make_room(
 ) -> Result<(), AllocError>
     requires { members + 1 < 2 ^ 64 }
     ensures edges { edges.new.items ≡ edges.old.items }
-    ensures kept { (vec_capacity next.old ≤ vec_capacity next.new) × (vec_capacity edges.old ≤ vec_capacity edges.new) }
-    ensures ok { OnOk result ((members < vec_capacity next.new) × (vec_len edges.new + more ≤ vec_capacity edges.new)) }
-    ensures refuses { OnErr result (members < vec_capacity next.old → vec_len edges.old + more ≤ vec_capacity edges.old → ⊥) }
+    ensures kept_order { vec_capacity next.old ≤ vec_capacity next.new }
+    ensures kept_edges { vec_capacity edges.old ≤ vec_capacity edges.new }
+    ensures ok { OnOk result (HaveRoom members more next.new edges.new) }
+    ensures refuses { OnErr result (HaveRoom members more next.old edges.old → ⊥) }
 {
     next.clear();
     next.reserve(members + 1)?;
@@ -122,9 +123,12 @@ pub(crate) fn make_room_for(
     ensures widened { Widened nodes.old nodes.new }
     ensures lists { Lists nodes.new edges.new.items }
     ensures edges { edges.new.items ≡ edges.old.items }
-    ensures kept { (vec_capacity next.old ≤ vec_capacity next.new) × (vec_capacity edges.old ≤ vec_capacity edges.new) }
-    ensures ok { OnOk result ((members < vec_capacity next.new) × (vec_len edges.new + length offered.now ≤ vec_capacity edges.new) × HaveSpace nodes.new offered.now) }
-    ensures refuses { OnErr result (members < vec_capacity next.old → vec_len edges.old + length offered.now ≤ vec_capacity edges.old → HaveSpace nodes.old offered.now → ⊥) }
+    ensures kept_order { vec_capacity next.old ≤ vec_capacity next.new }
+    ensures kept_edges { vec_capacity edges.old ≤ vec_capacity edges.new }
+    ensures room { OnOk result (HaveRoom members (length offered.now) next.new edges.new) }
+    ensures space { OnOk result (HaveSpace nodes.new offered.now) }
+    ensures refuses { OnErr result
+        (HaveRoom members (length offered.now) next.old edges.old → HaveSpace nodes.old offered.now → ⊥) }
 {
     make_room(edges, next, members, offered.len())?;
     add_all(nodes, edges, offered)?;
@@ -152,7 +156,8 @@ pub(crate) fn extend(
     ensures order { OnOk result (order.new.items ≡ placed (is_marked marks.now) order.old.items new) }
     ensures edges { OnOk result (edges.new.items ≡ edges.old.items ++ offered.now) }
     ensures err { OnErr result ((order.new.items ≡ order.old.items) × (edges.new.items ≡ edges.old.items)) }
-    ensures refuses { OnErr result (vec_len order.old < vec_capacity next.old → vec_len edges.old + length offered.now ≤ vec_capacity edges.old → HaveSpace nodes.old offered.now → ⊥) }
+    ensures refuses { OnErr result
+        (HaveRoom (vec_len order.old) (length offered.now) next.old edges.old → HaveSpace nodes.old offered.now → ⊥) }
 {
     make_room(edges, next, order.len(), offered.len())?;
     add_all(nodes, edges, offered)?;

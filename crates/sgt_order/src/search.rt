@@ -71,7 +71,7 @@ pub(crate) fn spread(
 pub(crate) fn closing(to: Handle, edges: &[Edge], marks: &[Option<Edge>]) -> Option<Edge>
     requires { (n : ℕ) (e : Member) → slice_get edges.now n ≡ Some e → e.to ≡ to → e.from.index < length marks.now }
     ensures some { IfSome result (λ e. (n : ℕ) × (slice_get edges.now n ≡ Some e) × (e.to ≡ to) × IsMarked marks.now e.from.index) }
-    ensures none { IfNone result ((n : ℕ) (e : Member) → slice_get edges.now n ≡ Some e → e.to ≡ to → IsMarked marks.now e.from.index → ⊥) }
+    ensures none { IfNone result (IsOpen edges.now to marks.now) }
 {
     for edge in edges {
         if edge.to == to && marks[edge.from.index as usize].is_some() {
@@ -168,7 +168,8 @@ pub(crate) fn find_cycle(
     requires fresh { Contains order.now new → ⊥ }
     requires offered { (n : ℕ) (e : Member) → slice_get offered.now n ≡ Some e → IsOffered order.now new e }
     ensures searched { Searched nodes.now.generation order.now edges.now offered.now new marks.new }
-    ensures found { IfOk result (λ found. MatchOption found (IsOpen offered.now new marks.new) (IsCycle (edges.now ++ offered.now) order.now new)) }
+    ensures found { IfOk result (λ found. MatchOption found
+        (IsOpen offered.now new marks.new) (IsCycle (edges.now ++ offered.now) order.now new)) }
     ensures err { OnErr result (Reaches (Joins (edges.now ++ offered.now)) new new) }
 {
     search(order, nodes, edges, new, offered, marks);

@@ -99,6 +99,20 @@ fn order_of_six(rt: HostRuntime) -> Result<(), Fail> {
     assert!(rt; graph.before(four, two) && graph.before(one, five));
     assert!(rt; !graph.before(two, four) && !graph.before(four, four) && !graph.before(one, six));
 
+    let old = Handle {
+        index: 0,
+        generation: 1,
+    };
+    for (node, ends) in [
+        (six, (two, four)),
+        (six, (six, six)),
+        (six, (six, old)),
+        (four, (four, two)),
+        (old, (one, old)),
+    ] {
+        assert!(rt; !graph.may_admit(node, &edges(alloc, &[ends])?));
+    }
+
     match admit(
         &rt,
         &mut graph,

@@ -34,7 +34,7 @@ pub returns-in-Err-extend-clause-fault : goal.returns-in-Err-extend-clause-fault
 returns-in-Err-extend-clause-fault c room acyclic =
     let seen = subst (λ v. HasRoomFor v c.args.offered.now) (sym c.self.view_is) room in
     let space = space_from_seen c.self.inside.nodes c.self.inside.edges.items c.args.offered.now c.self.invariant.holds.lists (λ x w i. seen.nodes x (w, i)) in
-    c.in-Err-extend.ensures.refuses (omega (arith, seen.order, c.self.inside.order.ok)) (omega (arith, seen.edges, ap length c.as_slice-5.ensures, c.self.inside.edges.ok)) (subst (HaveSpace c.self.inside.nodes) (sym c.as_slice-5.ensures) space)
+    c.in-Err-extend.ensures.refuses (omega (arith, seen.order, c.self.inside.order.ok), omega (arith, seen.edges, ap length c.as_slice-5.ensures, c.self.inside.edges.ok)) (subst (HaveSpace c.self.inside.nodes) (sym c.as_slice-5.ensures) space)
 
 pub returns-clause-acyclic : goal.returns-clause-acyclic
 returns-clause-acyclic c =

@@ -1,0 +1,294 @@
+-- A text has at most one first fault, and none where it spells a valid bundle.
+use Rattle.std.proofs.Common.{◌≡◌, ◌≢◌, ℕ, ◌+◌, ◌<◌, List, [], ◌∷◌, ◌++◌, map, length, refl, sym, ap, ap₂, ◌∙◌, subst, arith, inl, inr, ◌⊎◌, append_assoc}
+use Rattle.std.specs.Prelude.{codes}
+use Rattle.std.specs.List.{AllByRecursion}
+use Rattle.std.proofs.lemmas.Bool.{cases_order}
+use Rattle.std.proofs.lemmas.List.{append-nil}
+use Rattle.std.proofs.lemmas.List.Elements.{recursion_from_All}
+use Rattle.sgt_notation.specs.Spelling.{line_text, text_of_lines, HasNoLf, IsLine}
+use Rattle.sgt_notation.proofs.OneSpelling.{HasNot, HasNot-from_test, cut_at_byte, line-one, line-one_line}
+use Rattle.sgt_notation.specs.declared.SectionLine.{SectionLine}
+use Rattle.sgt_cert.specs.Text.{certificate_text, sections_from, IsCertificate, AreSections}
+use Rattle.sgt_cert.specs.declared.certificate.Certificate.{Certificate}
+use Rattle.sgt_cert.proofs.Reading.{certificate-one}
+use Rattle.sgt_cert.proofs.OneLine.{certificate-one_line}
+use Rattle.sgt_audit.specs.declared.faults.Fault.{Fault}
+use Rattle.sgt_audit.specs.declared.faults.Fault.TheVariants as fault
+use Rattle.sgt_audit.specs.Faults.{fault_number, Keeps, KeepsItself, AllKept, Stage, start, headed, within, complete, lines_so_far, IsFaultless, Piece, whole, last, ComesNext, Rule, Breaks, FirstFault, HasNoFault}
+use Rattle.sgt_audit.proofs.Cuts.{sections-one}
+use Rattle.sgt_audit.proofs.FaultNumbers.{number-one}
+
+-- ---- the next piece
+
+-- a text that goes on with a line feed is not what stands behind the last one
+has_lf : (xs ys : List ℕ) → HasNoLf (xs ++ 10 ∷ ys) → ⊥
+has_lf xs ys h = go xs ys (recursion_from_All (λ b. b ≢ 10) (xs ++ 10 ∷ ys) h)
+  where
+    go : (xs ys : List ℕ) → AllByRecursion (λ b. b ≢ 10) (xs ++ 10 ∷ ys) → ⊥
+    go [] ys h = h.0 refl
+    go (x ∷ xs) ys h = go xs ys h.1
+
+no_lf : (l : List ℕ) → HasNoLf l → HasNot 10 l
+no_lf l h = recursion_from_All (λ b. b ≢ 10) l h
+
+no_line : (l more : List ℕ) → l ++ 10 ∷ more ≡ [] → ⊥
+no_line [] more e = cc
+no_line (x ∷ l) more e = cc
+
+line_front : (l : List ℕ) (ls : List (List ℕ)) (rest : List ℕ) → text_of_lines (l ∷ ls) ++ rest ≡ l ++ 10 ∷ (text_of_lines ls ++ rest)
+line_front l ls rest = simp append_assoc
+
+-- where a line stands, that line comes next
+comes_line : (l more rest : List ℕ) (p : Piece) → HasNot 10 l → rest ≡ l ++ 10 ∷ more → ComesNext rest p → p ≡ whole l
+comes_line l more rest (whole m) h e (after, is, one) = ap whole (cut_at_byte 10 m l after more (no_lf m one) h (sym is ∙ e)).0
+comes_line l more rest (last m) h e (is, one) = absurd (has_lf l more (subst HasNoLf (sym is ∙ e) one))
+
+pub one_piece : (rest : List ℕ) (p q : Piece) → ComesNext rest p → ComesNext rest q → p ≡ q
+one_piece rest p (whole m) comes (more, is, one) = comes_line m more rest p (no_lf m one) is comes
+one_piece rest (whole l) (last m) (more, is, one) comes = sym (comes_line l more rest (last m) (no_lf l one) is comes)
+one_piece rest (last l) (last m) (is, one) (as_is, none) = ap last (sym is ∙ as_is)
+
+-- ---- lines of one text
+
+-- the second list of lines has one more behind the first, which comes next there
+record Beyond (xs ys : List SectionLine) (rest : List ℕ) : Type 0 where
+  line : SectionLine
+  more : List SectionLine
+  after : List ℕ
+  cut : ys ≡ xs ++ line ∷ more
+  next : rest ≡ line_text line ++ 10 ∷ after
+
+abbrev Compared : List SectionLine → List SectionLine → List ℕ → List ℕ → Type 0
+Compared xs ys r s = ((xs ≡ ys) × (r ≡ s)) ⊎ (Beyond xs ys r ⊎ Beyond ys xs s)
+
+beyond-more : (x y : SectionLine) (xs ys : List SectionLine) (r : List ℕ) → x ≡ y → Beyond xs ys r → Beyond (x ∷ xs) (y ∷ ys) r
+beyond-more x y xs ys r same b = record { line = b.line; more = b.more; after = b.after; cut = ap₂ (λ z zs. z ∷ zs) (sym same) b.cut; next = b.next }
+
+compare : (xs ys : List SectionLine) (r s : List ℕ) → AllByRecursion IsLine xs → AllByRecursion IsLine ys → text_of_lines (map line_text xs) ++ r ≡ text_of_lines (map line_text ys) ++ s → Compared xs ys r s
+compare [] [] r s h g e = inl (refl, e)
+compare [] (y ∷ ys) r s h g e = inr (inl (record { line = y; more = ys; after = text_of_lines (map line_text ys) ++ s; cut = refl; next = e ∙ line_front (line_text y) (map line_text ys) s }))
+compare (x ∷ xs) [] r s h g e = inr (inr (record { line = x; more = xs; after = text_of_lines (map line_text xs) ++ r; cut = refl; next = sym e ∙ line_front (line_text x) (map line_text xs) r }))
+compare (x ∷ xs) (y ∷ ys) r s h g e =
+    let e1 = sym (line_front (line_text x) (map line_text xs) r) ∙ e ∙ line_front (line_text y) (map line_text ys) s in
+    let cut = cut_at_byte 10 (line_text x) (line_text y) (text_of_lines (map line_text xs) ++ r) (text_of_lines (map line_text ys) ++ s) (line-one_line x h.0) (line-one_line y g.0) e1 in
+    let same = line-one x y h.0 g.0 cut.0 in
+    elim (compare xs ys r s h.1 g.1 cut.1) [
+      | inl both ↦ inl (ap₂ (λ z zs. z ∷ zs) same both.0, both.1)
+      | inr (inl b) ↦ inr (inl (beyond-more x y xs ys r same b))
+      | inr (inr b) ↦ inr (inr (beyond-more y x ys xs s (sym same) b))
+    ]
+
+each_line : (P : SectionLine → Type 0) (xs : List SectionLine) → ((earlier later : List SectionLine) (l : SectionLine) → xs ≡ earlier ++ l ∷ later → P l) → AllByRecursion P xs
+each_line P [] h = tt
+each_line P (x ∷ xs) h = (h [] xs x refl, each_line P xs (λ earlier later l e. h (x ∷ earlier) later l (ap (λ ys. x ∷ ys) e)))
+
+kept-lines : (c : Certificate) (before : List SectionLine) → AllKept c before → AllByRecursion IsLine before
+kept-lines c before kept = each_line IsLine before (λ earlier later l e. (kept.lines earlier later l e).0)
+
+-- ---- two stages of one text
+
+abbrev format : List ℕ
+format = codes "sgt 1"
+
+format-one_line : HasNot 10 format
+format-one_line = HasNot-from_test 10 format refl
+
+-- the next piece is a line, which keeps every rule
+record GoesOn (s : Stage) (p : Piece) : Type 0 where
+  line : List ℕ
+  is : p ≡ whole line
+  keeps : (f : Fault) → Rule s p f
+
+abbrev Meet : Stage → Piece → Stage → Piece → Type 0
+Meet s p t q = ((s ≡ t) × (p ≡ q)) ⊎ (GoesOn s p ⊎ GoesOn t q)
+
+turned : (s t : Stage) (p q : Piece) → Meet s p t q → Meet t q s p
+turned s t p q (inl both) = inl (sym both.0, sym both.1)
+turned s t p q (inr (inl on)) = inr (inr on)
+turned s t p q (inr (inr on)) = inr (inl on)
+
+start-on : (p : Piece) → p ≡ whole format → GoesOn start p
+start-on p e = record { line = format; is = e; keeps = subst (λ q. (f : Fault) → Rule start q f) (sym e) holds }
+  where
+    holds : (f : Fault) → Rule start (whole format) f
+    holds fault.Format = refl
+    holds _ = tt
+
+headed-on : (c : Certificate) → IsCertificate c → ((f : Fault) → KeepsItself c.decisions f) → (p : Piece) → p ≡ whole (certificate_text c) → GoesOn headed p
+headed-on c spelled itself p e = record { line = certificate_text c; is = e; keeps = subst (λ q. (f : Fault) → Rule headed q f) (sym e) holds }
+  where
+    same : (f : Fault) (d : Certificate) → IsCertificate d → certificate_text c ≡ certificate_text d → KeepsItself d.decisions f
+    same f d is eq = subst (λ d. KeepsItself d.decisions f) (certificate-one c d spelled is eq) (itself f)
+
+    holds : (f : Fault) → Rule headed (whole (certificate_text c)) f
+    holds fault.Certificate = (c, spelled, refl)
+    holds fault.Ranks = same fault.Ranks
+    holds fault.DecidedTwice = same fault.DecidedTwice
+    holds fault.WalkShape = same fault.WalkShape
+    holds _ = λ d is eq. tt
+
+within-on : (c : Certificate) (earlier : List SectionLine) (line : SectionLine) → IsLine line → ((f : Fault) → Keeps c earlier line f) → (p : Piece) → p ≡ whole (line_text line) → GoesOn (within c earlier) p
+within-on c earlier line is keeps p e = record { line = line_text line; is = e; keeps = subst (λ q. (f : Fault) → Rule (within c earlier) q f) (sym e) holds }
+  where
+    holds : (f : Fault) → Rule (within c earlier) (whole (line_text line)) f
+    holds fault.Notation = (line, is, refl)
+    holds f = λ m is_line same. subst (λ k. Keeps c earlier k f) (line-one line m is is_line same) (keeps f)
+
+no_more : (l : SectionLine) (ls : List SectionLine) → l ∷ ls ≡ [] → ⊥
+no_more l ls e = cc
+
+-- no line of the sections follows all of them
+ended : (c : Certificate) (xs ys : List SectionLine) (line : SectionLine) (more : List SectionLine) → AreSections c.sites xs → AllKept c ys → ys ≡ xs ++ line ∷ more → ⊥
+ended c xs ys line more (logs, shaped, all) kept cut =
+    let begins = (kept.lines xs more line cut).1 fault.Section in
+    let len = shaped.each ∙ sym begins.2.each in
+    let same = ap (λ (ls : List SectionLine). ls ++ line ∷ begins.1) all ∙ sym (append_assoc xs (line ∷ []) begins.1) ∙ sym begins.3 ∙ sym (append-nil (sections_from 0 begins.0)) in
+    no_more line begins.1 (sections-one 0 logs begins.0 (line ∷ begins.1) [] len same).1
+
+-- ---- stages behind the certificate
+
+module _ (c : Certificate) (xs ys : List SectionLine) (r s : List ℕ) (p q : Piece) (comes : ComesNext r p) (goes : ComesNext s q) (e : text_of_lines (map line_text xs) ++ r ≡ text_of_lines (map line_text ys) ++ s) where
+  compared : AllKept c xs → AllKept c ys → Compared xs ys r s
+  compared kept good = compare xs ys r s (kept-lines c xs kept) (kept-lines c ys good) e
+
+  beyond-on : AllKept c ys → Beyond xs ys r → GoesOn (within c xs) p
+  beyond-on good b =
+      let kept = good.lines xs b.more b.line b.cut in
+      within-on c xs b.line kept.0 kept.1 p (comes_line (line_text b.line) b.after r p (line-one_line b.line kept.0) b.next comes)
+
+  within-within : IsFaultless (within c xs) → IsFaultless (within c ys) → ((xs ≡ ys) × (p ≡ q)) ⊎ (GoesOn (within c xs) p ⊎ Beyond ys xs s)
+  within-within kept good =
+      elim (compared kept.0 good.0) [
+        | inl both ↦ inl (both.0, one_piece s p q (subst (λ t. ComesNext t p) both.1 comes) goes)
+        | inr (inl b) ↦ inr (inl (beyond-on good.0 b))
+        | inr (inr b) ↦ inr (inr b)
+      ]
+
+  within-complete : IsFaultless (within c xs) → IsFaultless (complete c ys) → GoesOn (within c xs) p
+  within-complete kept good =
+      elim (compared kept.0 good.0) [
+        | inl both ↦ absurd (kept.1 (subst (AreSections c.sites) (sym both.0) good.1))
+        | inr (inl b) ↦ beyond-on good.0 b
+        | inr (inr b) ↦ absurd (ended c ys xs b.line b.more good.1 kept.0 b.cut)
+      ]
+
+  complete-complete : IsFaultless (complete c xs) → IsFaultless (complete c ys) → (xs ≡ ys) × (p ≡ q)
+  complete-complete kept good =
+      elim (compared kept.0 good.0) [
+        | inl both ↦ (both.0, one_piece s p q (subst (λ t. ComesNext t p) both.1 comes) goes)
+        | inr (inl b) ↦ absurd (ended c xs ys b.line b.more kept.1 good.0 b.cut)
+        | inr (inr b) ↦ absurd (ended c ys xs b.line b.more good.1 kept.0 b.cut)
+      ]
+
+module _ (c : Certificate) (xs ys : List SectionLine) (r s : List ℕ) (p q : Piece) (comes : ComesNext r p) (goes : ComesNext s q) (e : text_of_lines (map line_text xs) ++ r ≡ text_of_lines (map line_text ys) ++ s) where
+  meet-within : IsFaultless (within c xs) → IsFaultless (within c ys) → Meet (within c xs) p (within c ys) q
+  meet-within kept good =
+      elim (within-within c xs ys r s p q comes goes e kept good) [
+        | inl both ↦ inl (ap (within c) both.0, both.1)
+        | inr (inl on) ↦ inr (inl on)
+        | inr (inr b) ↦ inr (inr (beyond-on c ys xs s r q p goes comes (sym e) kept.0 b))
+      ]
+
+  meet-complete : IsFaultless (complete c xs) → IsFaultless (complete c ys) → Meet (complete c xs) p (complete c ys) q
+  meet-complete kept good = let both = complete-complete c xs ys r s p q comes goes e kept good in inl (ap (complete c) both.0, both.1)
+
+-- the text from the certificate's line on
+headed_text : (rest : List ℕ) → text_of_lines (lines_so_far headed) ++ rest ≡ format ++ 10 ∷ rest
+headed_text rest = line_front format [] rest
+
+within_text : (c : Certificate) (xs : List SectionLine) (rest : List ℕ) → text_of_lines (lines_so_far (within c xs)) ++ rest ≡ format ++ 10 ∷ (certificate_text c ++ 10 ∷ (text_of_lines (map line_text xs) ++ rest))
+within_text c xs rest = line_front format (certificate_text c ∷ map line_text xs) rest ∙ ap (λ (ys : List ℕ). format ++ 10 ∷ ys) (line_front (certificate_text c) (map line_text xs) rest)
+
+behind : (xs ys : List ℕ) → format ++ 10 ∷ xs ≡ format ++ 10 ∷ ys → xs ≡ ys
+behind xs ys e = (cut_at_byte 10 format format xs ys format-one_line format-one_line e).1
+
+-- both stages are within or complete: they have one certificate
+module _ (c d : Certificate) (xs ys : List SectionLine) (r s : List ℕ) (p q : Piece) (comes : ComesNext r p) (goes : ComesNext s q)
+    (e : text_of_lines (lines_so_far (within c xs)) ++ r ≡ text_of_lines (lines_so_far (within d ys)) ++ s) where
+  one_head : AllKept c xs → AllKept d ys → (c ≡ d) × (text_of_lines (map line_text xs) ++ r ≡ text_of_lines (map line_text ys) ++ s)
+  one_head kept good =
+      let both = behind (certificate_text c ++ 10 ∷ (text_of_lines (map line_text xs) ++ r)) (certificate_text d ++ 10 ∷ (text_of_lines (map line_text ys) ++ s)) (sym (within_text c xs r) ∙ e ∙ within_text d ys s) in
+      let cut = cut_at_byte 10 (certificate_text c) (certificate_text d) (text_of_lines (map line_text xs) ++ r) (text_of_lines (map line_text ys) ++ s) (certificate-one_line c kept.spelled) (certificate-one_line d good.spelled) both in
+      (certificate-one c d kept.spelled good.spelled cut.0, cut.1)
+
+  two-within : IsFaultless (within c xs) → IsFaultless (within d ys) → Meet (within c xs) p (within d ys) q
+  two-within kept good =
+      let head = one_head kept.0 good.0 in
+      subst (λ k. IsFaultless (within k ys) → Meet (within c xs) p (within k ys) q) head.0 (λ here. meet-within c xs ys r s p q comes goes head.1 kept here) good
+
+  two-mixed : IsFaultless (within c xs) → IsFaultless (complete d ys) → Meet (within c xs) p (complete d ys) q
+  two-mixed kept good =
+      let head = one_head kept.0 good.0 in
+      subst (λ k. IsFaultless (complete k ys) → Meet (within c xs) p (complete k ys) q) head.0 (λ here. inr (inl (within-complete c xs ys r s p q comes goes head.1 kept here))) good
+
+  two-complete : IsFaultless (complete c xs) → IsFaultless (complete d ys) → Meet (complete c xs) p (complete d ys) q
+  two-complete kept good =
+      let head = one_head kept.0 good.0 in
+      subst (λ k. IsFaultless (complete k ys) → Meet (complete c xs) p (complete k ys) q) head.0 (λ here. meet-complete c xs ys r s p q comes goes head.1 kept here) good
+
+-- the first line comes next, the second one
+on_first : (r more : List ℕ) (p : Piece) → ComesNext r p → r ≡ format ++ 10 ∷ more → GoesOn start p
+on_first r more p comes e = start-on p (comes_line format more r p format-one_line e comes)
+
+on_second : (c : Certificate) (xs : List SectionLine) (r s : List ℕ) (p : Piece) → AllKept c xs → ComesNext r p → text_of_lines (lines_so_far headed) ++ r ≡ text_of_lines (lines_so_far (within c xs)) ++ s → GoesOn headed p
+on_second c xs r s p kept comes e =
+    let more = text_of_lines (map line_text xs) ++ s in
+    let at = behind r (certificate_text c ++ 10 ∷ more) (sym (headed_text r) ∙ e ∙ within_text c xs s) in
+    headed-on c kept.spelled kept.itself p (comes_line (certificate_text c) more r p (certificate-one_line c kept.spelled) at comes)
+
+-- two stages of one text, both with no fault: they are one, or behind one of them comes a line that keeps every rule
+meet : (s t : Stage) (a b : List ℕ) (p q : Piece) → IsFaultless s → IsFaultless t → ComesNext a p → ComesNext b q → text_of_lines (lines_so_far s) ++ a ≡ text_of_lines (lines_so_far t) ++ b → Meet s p t q
+meet start start a b p q kept good comes goes e = inl (refl, one_piece b p q (subst (λ r. ComesNext r p) e comes) goes)
+meet start headed a b p q kept good comes goes e = inr (inl (on_first a b p comes (e ∙ headed_text b)))
+meet start (within d ys) a b p q kept good comes goes e = inr (inl (on_first a (certificate_text d ++ 10 ∷ (text_of_lines (map line_text ys) ++ b)) p comes (e ∙ within_text d ys b)))
+meet start (complete d ys) a b p q kept good comes goes e = inr (inl (on_first a (certificate_text d ++ 10 ∷ (text_of_lines (map line_text ys) ++ b)) p comes (e ∙ within_text d ys b)))
+meet headed start a b p q kept good comes goes e = inr (inr (on_first b a q goes (sym e ∙ headed_text a)))
+meet headed headed a b p q kept good comes goes e = inl (refl, one_piece b p q (subst (λ r. ComesNext r p) (behind a b (sym (headed_text a) ∙ e ∙ headed_text b)) comes) goes)
+meet headed (within d ys) a b p q kept good comes goes e = inr (inl (on_second d ys a b p good.0 comes e))
+meet headed (complete d ys) a b p q kept good comes goes e = inr (inl (on_second d ys a b p good.0 comes e))
+meet (within c xs) start a b p q kept good comes goes e = inr (inr (on_first b (certificate_text c ++ 10 ∷ (text_of_lines (map line_text xs) ++ a)) q goes (sym e ∙ within_text c xs a)))
+meet (within c xs) headed a b p q kept good comes goes e = inr (inr (on_second c xs b a q kept.0 goes (sym e)))
+meet (within c xs) (within d ys) a b p q kept good comes goes e = two-within c d xs ys a b p q comes goes e kept good
+meet (within c xs) (complete d ys) a b p q kept good comes goes e = two-mixed c d xs ys a b p q comes goes e kept good
+meet (complete c xs) start a b p q kept good comes goes e = inr (inr (on_first b (certificate_text c ++ 10 ∷ (text_of_lines (map line_text xs) ++ a)) q goes (sym e ∙ within_text c xs a)))
+meet (complete c xs) headed a b p q kept good comes goes e = inr (inr (on_second c xs b a q kept.0 goes (sym e)))
+meet (complete c xs) (within d ys) a b p q kept good comes goes e = turned (within d ys) (complete c xs) q p (two-mixed d c ys xs b a q p goes comes (sym e) good kept)
+meet (complete c xs) (complete d ys) a b p q kept good comes goes e = two-complete c d xs ys a b p q comes goes e kept good
+
+-- of the rules of one place one fault is the least that is broken
+least-one : (rule : Fault → Type 0) (f g : Fault) → Breaks rule f → Breaks rule g → f ≡ g
+least-one rule f g first other =
+    elim (cases_order (fault_number f) (fault_number g)) [
+      | inl same ↦ number-one f g same
+      | inr (inl less) ↦ absurd (first.broken (other.least f less))
+      | inr (inr more) ↦ absurd (other.broken (first.least g more))
+    ]
+
+-- two first faults of one text are one, line and number
+pub first_fault-one : (bytes : List ℕ) (m n : ℕ) (f g : Fault) → FirstFault bytes m f → FirstFault bytes n g → (m ≡ n) × (f ≡ g)
+first_fault-one bytes m n f g first other =
+    elim (meet first.stage other.stage first.rest other.rest first.next other.next first.faultless other.faultless first.comes other.comes (sym first.text ∙ other.text)) [
+      | inl both ↦ (
+        first.number ∙ ap (λ s. length (lines_so_far s) + 1) both.0 ∙ sym other.number,
+        least-one (Rule other.stage other.next) f g (subst (λ s. Breaks (Rule s other.next) f) both.0 (subst (λ p. Breaks (Rule first.stage p) f) both.1 first.breaks)) other.breaks,
+      )
+      | inr (inl on) ↦ absurd (first.breaks.broken (on.keeps f))
+      | inr (inr on) ↦ absurd (other.breaks.broken (on.keeps g))
+    ]
+
+complete-holds : (c : Certificate) (lines : List SectionLine) (f : Fault) → Rule (complete c lines) (last []) f
+complete-holds c lines fault.Trailing = refl
+complete-holds c lines _ = tt
+
+not_a_line : (l : List ℕ) → last [] ≡ whole l → ⊥
+not_a_line l e = cc
+
+-- a text with no fault has no first one
+pub first_fault-excluded : (bytes : List ℕ) (n : ℕ) (f : Fault) → FirstFault bytes n f → HasNoFault bytes → ⊥
+first_fault-excluded bytes n f first (c, before, good, text) =
+    let none : ComesNext [] (last []) = (refl, λ k d lt. absurd (omega arith)) in
+    elim (meet first.stage (complete c before) first.rest [] first.next (last []) first.faultless good first.comes none (sym first.text ∙ text ∙ sym (append-nil (text_of_lines (lines_so_far (complete c before)))))) [
+      | inl both ↦ first.breaks.broken (subst (λ s. Rule s first.next f) (sym both.0) (subst (λ p. Rule (complete c before) p f) (sym both.1) (complete-holds c before f)))
+      | inr (inl on) ↦ first.breaks.broken (on.keeps f)
+      | inr (inr on) ↦ not_a_line on.line on.is
+    ]

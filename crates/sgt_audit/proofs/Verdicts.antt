@@ -1,0 +1,70 @@
+-- The verdict on a text that was judged.
+use Rattle.std.proofs.Common.{◌≡◌, ℕ, List, [], Option, Some, None, IfSome, refl, sym, ap, ap₂, ◌∙◌, subst}
+use Rattle.sgt_notation.specs.Spelling.{text_of_lines}
+use Rattle.sgt_notation.specs.declared.SectionLine.{SectionLine}
+use Rattle.sgt_cert.specs.Parts.{Parts}
+use Rattle.sgt_cert.specs.Valid.{IsRanked, IsValidLog, IsValid}
+use Rattle.sgt_cert.specs.Text.{AreSections, IsBundle, Spells}
+use Rattle.sgt_cert.specs.declared.certificate.Certificate.{Certificate}
+use Rattle.sgt_cert.specs.declared.bundle.SiteLog.{SiteLog}
+use Rattle.sgt_cert.proofs.Headline.{valid-agrees}
+use Rattle.sgt_cert.proofs.OneText.{bundle-one}
+use Rattle.sgt_names.proofs.Places.{All-from_at, All_at}
+use Rattle.sgt_audit.specs.declared.kept.Kept.{Kept}
+use Rattle.sgt_audit.specs.declared.reading.Judged.{Judged}
+use Rattle.sgt_audit.specs.declared.reading.Judged.TheVariants as judged
+use Rattle.sgt_audit.specs.declared.verdict.Verdict.{Verdict}
+use Rattle.sgt_audit.specs.declared.verdict.Verdict.TheVariants.{Yes, No}
+use Rattle.sgt_audit.specs.Faults.{complete, lines_so_far}
+use Rattle.sgt_audit.specs.Kept.{Means}
+use Rattle.sgt_audit.specs.Reads.{IsJudged}
+use Rattle.sgt_audit.specs.Verdict.{IsVerdict, SaysHeadline, HoldsHeadline, yes_of}
+use Rattle.sgt_audit.proofs.NoFault.{bundle_of, spells-bundle, valid-bundle}
+use Rattle.sgt_audit.proofs.Faultless.{valid-no_fault}
+use Rattle.sgt_audit.proofs.OneFault.{first_fault-excluded, first_fault-one}
+use Rattle.sgt_audit.proofs.Streaming.{sections-whole}
+
+-- the bundle that was kept
+abbrev pub kept_bundle : Kept → Parts
+kept_bundle k = record { certificate = k.certificate; sites = k.sections.whole }
+
+module _ (k : Kept) (before : List SectionLine) (m : Means k.certificate k.sections before) (all : AreSections k.certificate.sites before) (bytes : List ℕ) (text : bytes ≡ text_of_lines (lines_so_far (complete k.certificate before))) where
+  same-bundle : bundle_of bytes k.certificate before m.kept all text ≡ kept_bundle k
+  same-bundle = ap (λ logs. record { certificate = k.certificate; sites = logs }) (sym (sections-whole k.sections all.0 (all.2 ∙ m.lines)).1)
+
+  pub kept-spelled : Spells bytes (kept_bundle k)
+  kept-spelled = subst (Spells bytes) same-bundle (spells-bundle bytes k.certificate before m.kept all text)
+
+  pub kept-valid : IsValid (kept_bundle k)
+  kept-valid = subst IsValid same-bundle (valid-bundle bytes k.certificate before m.kept all text)
+
+-- its numbers and names are in range
+pub kept-is_bundle : (k : Kept) (before : List SectionLine) → Means k.certificate k.sections before → AreSections k.certificate.sites before → IsBundle (kept_bundle k)
+kept-is_bundle k before m all =
+    let s = kept-spelled k before m all (text_of_lines (lines_so_far (complete k.certificate before))) refl in
+    record { certificate = s.certificate; shape = s.shape; logs = s.logs }
+
+pub kept-verdict : (k : Kept) (bytes : List ℕ) → IsJudged (judged.Whole k) bytes → IsVerdict bytes (yes_of k.certificate.decisions)
+kept-verdict k bytes (before, m, all, text) = (kept_bundle k, kept-spelled k before m all bytes text, kept-valid k before m all bytes text, refl)
+
+-- a yes says the headline
+pub verdict-headline : (bytes : List ℕ) (v : Verdict) → IsVerdict bytes v → SaysHeadline bytes v
+verdict-headline bytes (Yes committed refused withdrawn) (b, spelled, valid, counts) = record {
+  bundle = b;
+  spelled = spelled;
+  serial = valid-agrees b valid;
+  ranked = All-from_at (λ (log : SiteLog). IsRanked b.certificate.decisions log.entries) b.sites (λ n log at. (All_at (IsValidLog b.certificate.decisions) b.sites n log valid.logs at).ranked);
+  cycles = valid.cycles;
+}
+verdict-headline bytes (No line f) first = tt
+
+pub told-map : (P Q : List ℕ → Type 0) (told : Option (List ℕ)) → ((bytes : List ℕ) → P bytes → Q bytes) → IfSome told P → IfSome told Q
+told-map P Q None f h = tt
+told-map P Q (Some bytes) f h = f bytes h
+
+-- two verdicts on one text are one
+pub verdict-one : (bytes : List ℕ) (v w : Verdict) → IsVerdict bytes v → IsVerdict bytes w → v ≡ w
+verdict-one bytes (Yes a b c) (Yes d e f) (p, spelled, valid, counts) (q, spells, holds, others) = counts ∙ ap (λ (p : Parts). yes_of p.certificate.decisions) (bundle-one bytes p q spelled spells) ∙ sym others
+verdict-one bytes (Yes a b c) (No n f) (p, spelled, valid, counts) first = absurd (first_fault-excluded bytes n f first (valid-no_fault bytes p spelled valid))
+verdict-one bytes (No n f) (Yes a b c) first (p, spelled, valid, counts) = absurd (first_fault-excluded bytes n f first (valid-no_fault bytes p spelled valid))
+verdict-one bytes (No m f) (No n g) first other = let same = first_fault-one bytes m n f g first other in ap₂ (λ n f. No n f) same.0 same.1

@@ -1,0 +1,53 @@
+use Rattle.std.proofs.Common.{◌∙◌, sym}
+use Rattle.sgt_cert.specs.Parts.{Parts}
+use Rattle.sgt_audit.proofs.SpelledLines.{some-line, first-is, some-second, second-is, spells-sections, sections-same, read-spells, read-only, bundle-answers, equal-lines, other-lines}
+use Rattle.sgt_audit.proofs.bundles.read_bundle.Goals as goal
+
+pub returns-in-None-clause-bundle : goal.returns-in-None-clause-bundle
+returns-in-None-clause-bundle c b s = some-line _ b s c.in-None.ensures.none
+
+pub returns-then-ne-clause-bundle : goal.returns-then-ne-clause-bundle
+returns-then-ne-clause-bundle c b s = other-lines _ _ _ _ c.ne.ensures c.if-ne.true c.as_slice.ensures (first-is _ b s _ _ c.in-Some.ensures.some.0 c.in-Some.ensures.some.1)
+
+pub returns-in-None-split_line-clause-bundle : goal.returns-in-None-split_line-clause-bundle
+returns-in-None-split_line-clause-bundle c b s = some-second _ b s _ _ c.in-Some.ensures.some.0 c.in-Some.ensures.some.1 c.in-None-split_line.ensures.none
+
+pub returns-in-Err-NotJson-clause-bundle : goal.returns-in-Err-NotJson-clause-bundle
+returns-in-Err-NotJson-clause-bundle c b s =
+    let second = second-is _ b s _ _ c.in-Some.ensures.some.0 c.in-Some.ensures.some.1 _ _ c.in-Some-split_line.ensures.some.0 c.in-Some-split_line.ensures.some.1 in
+    let memory = c.in-Err-NotJson.ensures.only b.certificate s.certificate second in
+    let other = c.in-Err-NotJson.field-0-is in
+    absurd (cc (memory, other))
+
+pub returns-in-Err-Shape-clause-bundle : goal.returns-in-Err-Shape-clause-bundle
+returns-in-Err-Shape-clause-bundle c b s =
+    let second = second-is _ b s _ _ c.in-Some.ensures.some.0 c.in-Some.ensures.some.1 _ _ c.in-Some-split_line.ensures.some.0 c.in-Some-split_line.ensures.some.1 in
+    let memory = c.in-Err-Shape.ensures.only b.certificate s.certificate second in
+    let other = c.in-Err-Shape.field-0-is in
+    absurd (cc (memory, other))
+
+pub returns-in-Err-Range-clause-bundle : goal.returns-in-Err-Range-clause-bundle
+returns-in-Err-Range-clause-bundle c b s =
+    let second = second-is _ b s _ _ c.in-Some.ensures.some.0 c.in-Some.ensures.some.1 _ _ c.in-Some-split_line.ensures.some.0 c.in-Some-split_line.ensures.some.1 in
+    let memory = c.in-Err-Range.ensures.only b.certificate s.certificate second in
+    let other = c.in-Err-Range.field-0-is in
+    absurd (cc (memory, other))
+
+pub returns-in-Ok-None-clause-bundle : goal.returns-in-Ok-None-clause-bundle
+returns-in-Ok-None-clause-bundle c b s =
+    let second = second-is _ b s _ _ c.in-Some.ensures.some.0 c.in-Some.ensures.some.1 _ _ c.in-Some-split_line.ensures.some.0 c.in-Some-split_line.ensures.some.1 in
+    let same = c.in-Ok.ensures.only b.certificate s.certificate second in
+    let none = rw c.in-Ok-None.field-0-is at c.in-Ok-None.ensures in
+    none _ (spells-sections _ b s _ _ c.in-Some.ensures.some.0 c.in-Some.ensures.some.1 _ _ c.in-Some-split_line.ensures.some.0 c.in-Some-split_line.ensures.some.1 c.in-Ok.certificate same)
+
+pub returns-in-Ok-Some-clause-bundle : goal.returns-in-Ok-Some-clause-bundle
+returns-in-Ok-Some-clause-bundle c =
+    let read = rw c.in-Ok-Some.field-0-is at c.in-Ok-Some.ensures in
+    let format = equal-lines _ _ _ _ c.ne.ensures c.if-ne.false c.as_slice.ensures in
+    let first = c.in-Some.ensures.some in
+    let next = c.in-Some-split_line.ensures.some in
+    bundle-answers c.args.bytes.now c.new.result _ c.new.ensures
+    (read-spells _ _ _ _ _ c.in-Ok.certificate c.in-Ok-Some.sections _ first.1 format next.1 c.in-Ok.ensures.ok.1 read.1 read.0 c.into_logs.ensures)
+    (λ b s miss.
+    let second = second-is _ b s _ _ first.0 first.1 _ _ next.0 next.1 in
+    read-only _ _ _ _ _ c.in-Ok.certificate c.in-Ok-Some.sections _ first.1 format next.1 c.in-Ok.ensures.ok.1 read.1 read.0 c.into_logs.ensures b s first.0 next.0 (c.in-Ok.ensures.only b.certificate s.certificate second) miss)

@@ -1,0 +1,36 @@
+-- What an auditor was fed.
+use Rattle.std.specs.Prelude.{◌≡◌, ℕ, ◌+◌, ◌<◌, ◌≤◌, ◌^◌, List, [], ◌∷◌, ◌++◌, length, codes}
+use Rattle.sgt_notation.specs.Spelling.{text_of_lines}
+use Rattle.sgt_cert.specs.Text.{certificate_text}
+use Rattle.sgt_cert.specs.declared.certificate.Certificate.{Certificate}
+use Rattle.sgt_audit.specs.declared.auditor.Auditor.{Auditor}
+use Rattle.sgt_audit.specs.declared.auditor.Standing.{Standing}
+use Rattle.sgt_audit.specs.declared.auditor.Standing.TheVariants.{Going, Found, Spent}
+use Rattle.sgt_audit.specs.Faults.{Stage, FirstFault, lines_so_far}
+use Rattle.sgt_audit.specs.Progress.{Stands}
+
+-- the number is m, as far as it can tell
+abbrev pub Counts : ℕ → ℕ → Type 0
+Counts number m = m < 2 ^ 64 → number ≡ m
+
+-- these lines have no fault and are what is kept, or their text has this first fault, whatever follows
+abbrev pub HasRead : Standing → List (List ℕ) → Type 0
+HasRead (Going machine line) lines = (s : Stage) × Stands machine.progress s × (lines_so_far s ≡ lines) × Counts line (length lines + 1)
+HasRead (Found line f) lines = (m : ℕ) × ((rest : List ℕ) → FirstFault (text_of_lines lines ++ rest) m f) × (m ≤ length lines) × Counts line m
+HasRead Spent lines = Unit {0}
+
+-- the lines of a bundle with this certificate and then these lines
+abbrev pub bundle_lines : Certificate → List (List ℕ) → List (List ℕ)
+bundle_lines c fed = codes "sgt 1" ∷ certificate_text c ∷ fed
+
+-- the auditor was made for this certificate, and then fed these lines
+abbrev pub HasFed : Auditor → Certificate → List (List ℕ) → Type 0
+HasFed auditor c fed = HasRead auditor.standing (bundle_lines c fed)
+
+-- a growth was refused, and every call answers so from now on
+abbrev pub IsSpent : Standing → Type 0
+IsSpent Spent = Unit {0}
+IsSpent _ = ⊥
+
+abbrev pub HasFailed : Auditor → Type 0
+HasFailed auditor = IsSpent auditor.standing

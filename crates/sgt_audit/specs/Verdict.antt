@@ -1,0 +1,77 @@
+-- The auditor's verdict on a text.
+use Rattle.std.specs.Prelude.{◌≡◌, ℕ, List, ◌++◌, take, codes, decimal, Bool, true, false, count_by, Option, Some, None, ⊤, All, slice_get}
+use Rattle.sgt_cert.specs.Parts.{Parts}
+use Rattle.sgt_cert.specs.Certificate.{IsCycle}
+use Rattle.sgt_cert.specs.Serial.{SerialAgrees}
+use Rattle.sgt_cert.specs.Valid.{AreLogged, IsRanked, IsValid}
+use Rattle.sgt_cert.specs.declared.certificate.Step.{Step}
+use Rattle.sgt_cert.specs.Text.{Spells}
+use Rattle.sgt_cert.specs.declared.certificate.Decision.{Decision}
+use Rattle.sgt_cert.specs.declared.certificate.Decision.TheVariants.{Commit, Refuse, Withdraw}
+use Rattle.sgt_audit.specs.declared.verdict.Verdict.{Verdict}
+use Rattle.sgt_audit.specs.declared.verdict.Verdict.TheVariants.{Yes, No}
+use Rattle.sgt_audit.specs.declared.engine.Audited.{Audited}
+use Rattle.sgt_audit.specs.declared.engine.Audited.TheVariants as audited
+use Rattle.sgt_audit.specs.Faults.{fault_number, FirstFault}
+
+abbrev pub is_commit : Decision → Bool
+is_commit (Commit tx rank) = true
+is_commit _ = false
+
+abbrev pub is_refusal : Decision → Bool
+is_refusal (Refuse tx walk) = true
+is_refusal _ = false
+
+abbrev pub is_withdrawal : Decision → Bool
+is_withdrawal (Withdraw tx) = true
+is_withdrawal _ = false
+
+-- the yes with the counts of these decisions
+abbrev pub yes_of : List Decision → Verdict
+yes_of ds = Yes (count_by is_commit ds) (count_by is_refusal ds) (count_by is_withdrawal ds)
+
+-- the verdict on a text: yes where it spells a valid bundle, with the counts of its decisions, else its first fault
+abbrev pub IsVerdict : List ℕ → Verdict → Type 0
+IsVerdict bytes (Yes committed refused withdrawn) = (b : Parts) × Spells bytes b × IsValid b × (Yes committed refused withdrawn ≡ yes_of b.certificate.decisions)
+IsVerdict bytes (No line f) = FirstFault bytes line f
+
+-- its line, with the LF
+abbrev pub text_of : Verdict → List ℕ
+text_of (Yes committed refused withdrawn) = codes "yes " ++ (decimal committed ++ (codes " committed " ++ (decimal refused ++ (codes " refused " ++ (decimal withdrawn ++ codes " withdrawn\n")))))
+text_of (No line f) = codes "no line " ++ (decimal line ++ (codes " F" ++ (decimal (fault_number f) ++ codes "\n")))
+
+-- known bytes grew by these, or none are told any more
+abbrev pub AppendsOrForgets : Option (List ℕ) → Option (List ℕ) → List ℕ → Type 0
+AppendsOrForgets None new bytes = ⊤
+AppendsOrForgets (Some xs) None bytes = ⊤
+AppendsOrForgets (Some xs) (Some ys) bytes = ys ≡ xs ++ bytes
+
+-- a front of some verdict's line was written, and nothing else
+abbrev pub WroteFront : Option (List ℕ) → Option (List ℕ) → Type 0
+WroteFront old new = (v : Verdict) × (n : ℕ) × AppendsOrForgets old new (take n (text_of v))
+
+-- what a text was found to spell: a valid bundle, or its first fault
+abbrev pub IsAudited : List ℕ → Audited → Type 0
+IsAudited bytes (audited.Valid b) = Spells bytes b × IsValid b
+IsAudited bytes (audited.No line f) = FirstFault bytes line f
+
+-- a bundle that is handed out is valid, also where the reader tells nothing
+abbrev pub HandsOutValid : Audited → Type 0
+HandsOutValid (audited.Valid b) = IsValid b
+HandsOutValid (audited.No line f) = Unit {0}
+
+-- the stream spells site logs and a certificate such that running the committed transactions alone, one after another by rank,
+-- gives every read value and final value recorded for them, conflicting operations stand in rank order at every site, and each
+-- refused transaction lies on a cycle of logged conflicts with transactions certified before it
+pub record HoldsHeadline (bytes : List ℕ) : Type 0 where
+  pub bundle : Parts
+  pub spelled : Spells bytes bundle
+  pub serial : SerialAgrees bundle
+  pub ranked : All (λ log. IsRanked bundle.certificate.decisions log.entries) bundle.sites
+  pub cycles : (number tx : ℕ) (walk : List Step) → slice_get bundle.certificate.decisions number ≡ Some (Refuse tx walk)
+      → IsCycle bundle.certificate.decisions number tx walk × AreLogged bundle.sites tx walk
+
+-- a yes says so
+abbrev pub SaysHeadline : List ℕ → Verdict → Type 0
+SaysHeadline bytes (Yes committed refused withdrawn) = HoldsHeadline bytes
+SaysHeadline bytes (No line f) = Unit {0}

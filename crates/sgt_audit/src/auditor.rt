@@ -1,0 +1,103 @@
+//! An auditor that is fed the lines of a bundle one by one.
+
+ghost use Rattle.std.specs.Prelude.{◌≡◌, ℕ, ◌+◌, ◌<◌, ◌^◌, List, [], ◌∷◌, ◌++◌, length, Err, IfOk, IfErr, OnOk, OnErr};
+ghost use Rattle.sgt_notation.specs.Spelling.{HasNoLf, text_of_lines};
+ghost use Rattle.sgt_cert.specs.Text.{certificate_text};
+ghost use Rattle.sgt_cert.specs.declared.certificate.Certificate.{Certificate};
+ghost use Rattle.sgt_audit.specs.Verdict.{IsVerdict};
+
+use crate::faults::Fault;
+use crate::machine::{Machine, Progress};
+use crate::verdict::{Verdict, yes_to};
+use sgt_cert::{Certificate, to_line};
+use sgt_names::EngineFail;
+use std::alloc::Global;
+
+/// How an auditor stands.
+#[derive(Drop)]
+pub enum Standing {
+    /// The lines so far have no fault; the next one has this number.
+    Going(Machine, u64),
+    /// The first fault was found.
+    Found(u64, Fault),
+    /// A growth was refused.
+    Spent,
+}
+
+/// An auditor of a bundle whose lines come one by one, from line 3 on. It answers as `audit` does on the format line,
+/// the certificate's line and the lines fed, each with its LF.
+#[derive(Drop)]
+pub struct Auditor {
+    standing: Standing,
+}
+
+impl Auditor {
+    ghost use Rattle.sgt_audit.specs.Fed.{HasFed, HasFailed, bundle_lines};
+
+    /// An auditor of a bundle with this certificate, which it judges. Memory alone is a refusal.
+    pub fn new(alloc: Global, certificate: Certificate) -> Result<Auditor, EngineFail>
+        ensures read { HasNoLf (certificate_text certificate) → IfOk result (λ a. HasFed a certificate []) }
+        ensures err { IfErr result (λ e. e ≡ EngineFail.Memory) }
+    {
+        let Ok(line) = to_line(alloc, &certificate) else {
+            return Err(EngineFail::Memory);
+        };
+        let mut machine = Machine {
+            alloc,
+            progress: Progress::Headed,
+        };
+        match machine.line(line.as_slice()) {
+            Ok(None) => Ok(Auditor {
+                standing: Standing::Going(machine, 3),
+            }),
+            Ok(Some(fault)) => Ok(Auditor {
+                standing: Standing::Found(2, fault),
+            }),
+            Err(_) => Err(EngineFail::Memory),
+        }
+    }
+
+    /// One more line, without its LF. After Memory every later call answers Memory.
+    pub fn feed(&mut self, line: &[u8]) -> Result<(), EngineFail>
+        requires { HasNoLf line.now }
+        ensures read { (c : Certificate) (fed : List (List ℕ)) → HasFed self.old c fed → HasFed self.new c (fed ++ line.now ∷ []) }
+        ensures err { IfErr result (λ e. (e ≡ EngineFail.Memory) × HasFailed self.new) }
+        ensures spent { HasFailed self.old → result ≡ Err EngineFail.Memory }
+    {
+        match &mut self.standing {
+            Standing::Going(machine, number) => match machine.line(line) {
+                Ok(None) => {
+                    *number = number.saturating_add(1);
+                    Ok(())
+                }
+                Ok(Some(fault)) => {
+                    self.standing = Standing::Found(*number, fault);
+                    Ok(())
+                }
+                Err(_) => {
+                    self.standing = Standing::Spent;
+                    Err(EngineFail::Memory)
+                }
+            },
+            Standing::Found(_, _) => Ok(()),
+            Standing::Spent => Err(EngineFail::Memory),
+        }
+    }
+
+    /// The verdict on the lines fed, which are all.
+    pub fn end(self) -> Result<Verdict, EngineFail>
+        ensures verdict { (c : Certificate) (fed : List (List ℕ)) → HasFed self c fed → length fed + 3 < 2 ^ 64 → IfOk result (IsVerdict (text_of_lines (bundle_lines c fed))) }
+        ensures err { IfErr result (λ e. e ≡ EngineFail.Memory) }
+        ensures spent { HasFailed self → result ≡ Err EngineFail.Memory }
+    {
+        let Auditor { standing } = self;
+        match standing {
+            Standing::Going(machine, line) => match machine.end(&[]) {
+                Ok(kept) => Ok(yes_to(kept.certificate.decisions.as_slice())),
+                Err(fault) => Ok(Verdict::No { line, fault }),
+            },
+            Standing::Found(line, fault) => Ok(Verdict::No { line, fault }),
+            Standing::Spent => Err(EngineFail::Memory),
+        }
+    }
+}

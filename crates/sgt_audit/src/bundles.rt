@@ -1,0 +1,87 @@
+//! The bundle that some bytes spell.
+
+ghost use Rattle.std.specs.Prelude.{◌≡◌, ◌≤◌, ◌∷◌, ◌++◌, ℕ, ◌+◌, ◌<◌, length, take, drop, IfOk, IfErr, IfSome, IfNone};
+ghost use Rattle.sgt_names.specs.Limits.{max_sites};
+ghost use Rattle.sgt_notation.specs.Spelling.{HasNoLf};
+ghost use Rattle.sgt_audit.specs.Spelled.{AnswersBundle, AnswersSections};
+
+use crate::sections::Sections;
+use memchr::memchr;
+use sgt_cert::{Bundle, CertFault, from_line};
+use sgt_names::EngineFail;
+use sgt_notation::read_section;
+use std::alloc::{AllocError, Global};
+
+/// Where the first LF stands.
+fn find_lf(bytes: &[u8]) -> Option<usize>
+    ensures some { IfSome result (λ n. (n < length bytes.now) × HasNoLf (take n bytes.now)
+        × (bytes.now ≡ take n bytes.now ++ 10 ∷ drop (n + 1) bytes.now)) }
+    ensures none { IfNone result (HasNoLf bytes.now) }
+{
+    memchr(b'\n', bytes)
+}
+
+/// The first line, without its LF, and the bytes behind it.
+fn split_line(bytes: &[u8]) -> Option<(&[u8], &[u8])>
+    ensures some { IfSome result (λ r. HasNoLf r.0.now × (bytes.now ≡ r.0.now ++ 10 ∷ r.1.now)) }
+    ensures none { IfNone result (HasNoLf bytes.now) }
+{
+    match find_lf(bytes) {
+        Some(n) => Some((&bytes[..n], &bytes[n + 1..])),
+        None => None,
+    }
+}
+
+/// The sections of so many sites that the bytes spell.
+fn read_sections(alloc: Global, sites: u8, bytes: &[u8]) -> Result<Option<Sections>, AllocError>
+    requires some { 1 ≤ sites }
+    requires few { sites ≤ max_sites }
+    ensures { IfOk result (AnswersSections sites bytes.now) }
+{
+    let mut sections = Sections::new(alloc, sites);
+    let mut rest = bytes;
+    'lines: while let Some((line, more)) = split_line(rest) {
+        let Ok(read) = read_section(line) else {
+            return Ok(None);
+        };
+        if !sections.may_go_on(&read) {
+            return Ok(None);
+        }
+        sections.add(read)?;
+        rest = more;
+    }
+    if !rest.is_empty() || !sections.are_all() {
+        return Ok(None);
+    }
+    Ok(Some(sections))
+}
+
+/// The bundle that the bytes spell, if they spell one. It need not be valid. Memory alone is a refusal.
+pub fn read_bundle(alloc: Global, bytes: &[u8]) -> Result<Option<Bundle>, EngineFail>
+    ensures bundle { IfOk result (AnswersBundle bytes.now) }
+    ensures err { IfErr result (λ e. e ≡ EngineFail.Memory) }
+{
+    let (format, behind) = match split_line(bytes) {
+        Some(split) => split,
+        None => return Ok(None),
+    };
+    if format != b"sgt 1".as_slice() {
+        return Ok(None);
+    }
+    let (line, rest) = match split_line(behind) {
+        Some(split) => split,
+        None => return Ok(None),
+    };
+    let certificate = match from_line(alloc, line) {
+        Ok(certificate) => certificate,
+        Err(CertFault::Memory) => return Err(EngineFail::Memory),
+        Err(CertFault::NotJson) => return Ok(None),
+        Err(CertFault::Shape) => return Ok(None),
+        Err(CertFault::Range) => return Ok(None),
+    };
+    match read_sections(alloc, certificate.sites, rest) {
+        Ok(Some(sections)) => Ok(Bundle::new(certificate, sections.into_logs())),
+        Ok(None) => Ok(None),
+        Err(_) => Err(EngineFail::Memory),
+    }
+}

@@ -1,0 +1,90 @@
+//! The audit of all that a reader gives.
+
+ghost use Rattle.std.specs.Prelude.{◌≡◌, ◌≢◌, ℕ, ◌<◌, ◌≤◌, ◌⊎◌, List, Err, length, IfOk, OnErr, IfSome, IsErrOf};
+ghost use Rattle.std.specs.Io.KnownBytes.{Appends};
+ghost use Rattle.sgt_notation.specs.declared.lines.TheConstants.{MOST_READS};
+ghost use Rattle.sgt_audit.specs.Reads.{IsJudged};
+ghost use Rattle.sgt_audit.specs.Verdict.{IsVerdict, IsAudited, HandsOutValid, SaysHeadline, WroteFront, text_of};
+
+use crate::faults::Fault;
+use crate::output::write_all;
+use crate::reading::{Judged, judge};
+use crate::verdict::{Verdict, yes_to};
+use sgt_cert::Bundle;
+use sgt_names::{EngineFail, Sink, Source};
+use std::alloc::Global;
+
+/// What a text was found to spell.
+#[derive(Drop)]
+pub enum Audited {
+    /// This valid bundle.
+    Valid(Bundle),
+    /// No valid bundle: it has a fault, at this line first.
+    No { line: u64, fault: Fault },
+}
+
+/// Audits all that the reader gives, and hands out the bundle itself. The reader is read once, and no further than the
+/// first line with a fault.
+pub fn audit_bundle<R: Source>(alloc: Global, reader: &mut R) -> Result<Audited, EngineFail>
+    ensures audited { IfOk result (λ a. IfSome (R.tells reader.old) (λ bytes. IsAudited bytes a)) }
+    ensures valid { IfOk result HandsOutValid }
+    ensures quiet { IfOk result (λ _. R.failures reader.new ≡ R.failures reader.old) }
+    ensures read_fault { IsErrOf result EngineFail.ReadFault →
+        ((R.failures reader.old < R.failures reader.new) ⊎ IfSome (R.tells reader.old) (λ bytes. MOST_READS ≤ length bytes)) }
+    ensures write_fault { result ≢ Err EngineFail.WriteFault }
+{
+    match judge(alloc, reader) {
+        Ok(Judged::Whole(kept)) => {
+            let logs = kept.sections.into_logs();
+            match Bundle::new(kept.certificate, logs) {
+                Some(bundle) => Ok(Audited::Valid(bundle)),
+                None => unreachable!(),
+            }
+        }
+        Ok(Judged::Faulty { line, fault }) => Ok(Audited::No { line, fault }),
+        Err(e) => Err(e),
+    }
+}
+
+/// The verdict on what was judged.
+fn verdict_on(judged: Judged) -> Verdict
+    ensures { (bytes : List ℕ) → IsJudged judged bytes → IsVerdict bytes result }
+{
+    match judged {
+        Judged::Whole(kept) => yes_to(kept.certificate.decisions.as_slice()),
+        Judged::Faulty { line, fault } => Verdict::No { line, fault },
+    }
+}
+
+/// Audits all that the reader gives, and writes the line of the verdict and nothing else. Once a line with a fault was
+/// read whole, no further read is made.
+///
+/// Where it answers yes to a stream of bytes, the stream spells site logs and a certificate such that running the committed
+/// transactions alone, one after another by rank, gives every read value and final value recorded for them, conflicting
+/// operations stand in rank order at every site, and each refused transaction lies on a cycle of logged conflicts with
+/// transactions certified before it.
+pub fn audit<R: Source, W: Sink>(
+    alloc: Global,
+    reader: &mut R,
+    writer: &mut W,
+) -> Result<Verdict, EngineFail>
+    ensures verdict { IfOk result (λ v. IfSome (R.tells reader.old) (λ bytes. IsVerdict bytes v)) }
+    ensures headline { IfOk result (λ v. IfSome (R.tells reader.old) (λ bytes. SaysHeadline bytes v)) }
+    ensures written { IfOk result (λ v. Appends (W.holds writer.old) (W.holds writer.new) (text_of v)) }
+    ensures front { OnErr result (WroteFront (W.holds writer.old) (W.holds writer.new)) }
+    ensures read_fault { IsErrOf result EngineFail.ReadFault →
+        ((R.failures reader.old < R.failures reader.new) ⊎ IfSome (R.tells reader.old) (λ bytes. MOST_READS ≤ length bytes)) }
+    ensures write_fault { IsErrOf result EngineFail.WriteFault → W.failures writer.old < W.failures writer.new }
+{
+    let verdict = match judge(alloc, reader) {
+        Ok(judged) => verdict_on(judged),
+        Err(e) => return Err(e),
+    };
+    let Ok(line) = verdict.to_line(alloc) else {
+        return Err(EngineFail::Memory);
+    };
+    if write_all(writer, line.as_bytes()).is_err() {
+        return Err(EngineFail::WriteFault);
+    }
+    Ok(verdict)
+}

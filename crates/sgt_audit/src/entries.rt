@@ -1,0 +1,115 @@
+//! What entries do, and how one bears on another.
+
+ghost use Rattle.std.specs.Prelude.{◌≡◌, ◌≢◌, ◌↔◌, ℕ, IsTrue, All, Any, option_map};
+ghost use Rattle.sgt_names.specs.Name.{Name};
+ghost use Rattle.sgt_names.specs.Entry.{tx_of, item_of, IsEnd, IsOpen, Continues, Reads, Writes, Clash, Repeats};
+ghost use Rattle.sgt_names.specs.Log.{AllEnded};
+
+use sgt_names::{Entry, Item, Kind, Tx};
+
+/// The transaction whose entry it is.
+pub fn tx_of_entry(entry: &Entry) -> Tx
+    ensures { result ≡ tx_of entry.now }
+{
+    match *entry {
+        Entry::Read { tx, .. } | Entry::Write { tx, .. } | Entry::Want { tx, .. } => tx,
+        Entry::Commit { tx } | Entry::Refuse { tx } | Entry::Withdraw { tx } => tx,
+    }
+}
+
+/// The item of an operation.
+pub fn item_of_entry(entry: &Entry) -> Option<Item>
+    ensures { result ≡ item_of entry.now }
+{
+    match *entry {
+        Entry::Read { item, .. } | Entry::Write { item, .. } | Entry::Want { item, .. } => Some(
+            item,
+        ),
+        Entry::Commit { .. } | Entry::Refuse { .. } | Entry::Withdraw { .. } => None,
+    }
+}
+
+/// Whether it ends its transaction.
+pub fn is_end(entry: &Entry) -> bool
+    ensures { IsTrue result ↔ IsEnd entry.now }
+{
+    matches!(
+        entry,
+        Entry::Commit { .. } | Entry::Refuse { .. } | Entry::Withdraw { .. }
+    )
+}
+
+/// Whether it is a write or a want, behind which another entry has to follow directly.
+pub fn is_open(entry: &Entry) -> bool
+    ensures { IsTrue result ↔ IsOpen entry.now }
+{
+    matches!(entry, Entry::Write { .. } | Entry::Want { .. })
+}
+
+/// Whether the second may stand directly behind the first in a block.
+pub fn continues(first: &Entry, second: &Entry) -> bool
+    ensures { IsTrue result ↔ Continues first.now second.now }
+{
+    match *first {
+        Entry::Write { tx, .. } => match *second {
+            Entry::Write { tx: next, .. } | Entry::Commit { tx: next } => tx == next,
+            _ => false,
+        },
+        Entry::Want { tx, .. } => match *second {
+            Entry::Want { tx: next, .. } | Entry::Refuse { tx: next } => tx == next,
+            _ => false,
+        },
+        _ => false,
+    }
+}
+
+/// Whether it reads the item.
+pub fn reads(item: &Item, entry: &Entry) -> bool
+    ensures { IsTrue result ↔ Reads item.now entry.now }
+{
+    match entry {
+        Entry::Read { item: read, .. } => read.same(item),
+        _ => false,
+    }
+}
+
+/// Whether it writes the item, or wants to.
+pub fn writes(item: &Item, entry: &Entry) -> bool
+    ensures { IsTrue result ↔ Writes item.now entry.now }
+{
+    match entry {
+        Entry::Write { item: written, .. } | Entry::Want { item: written, .. } => written.same(
+            item,
+        ),
+        _ => false,
+    }
+}
+
+/// Whether the two are operations on the item that clash as this kind.
+pub fn clashes(kind: Kind, item: &Item, first: &Entry, second: &Entry) -> bool
+    ensures { IsTrue result ↔ Clash kind item.now first.now second.now }
+{
+    match kind {
+        Kind::Wr => writes(item, first) && reads(item, second),
+        Kind::Rw => reads(item, first) && writes(item, second),
+        Kind::Ww => writes(item, first) && writes(item, second),
+    }
+}
+
+/// Whether the transaction has an end among these.
+pub fn has_ended(entries: &[Entry], tx: Tx) -> bool
+    ensures { IsTrue result ↔ Any (λ f. IsEnd f × (tx_of f ≡ tx)) entries.now }
+{
+    entries
+        .iter()
+        .any(|entry| is_end(entry) && tx_of_entry(entry) == tx)
+}
+
+/// Whether each transaction with an entry has an end.
+pub fn all_ended(entries: &[Entry]) -> bool
+    ensures { IsTrue result ↔ AllEnded entries.now }
+{
+    entries
+        .iter()
+        .all(|entry| has_ended(entries, tx_of_entry(entry)))
+}

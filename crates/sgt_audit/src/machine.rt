@@ -1,0 +1,136 @@
+//! The auditor's machine, which is fed a text line by line.
+
+ghost use Rattle.std.specs.Prelude.{◌≡◌, ◌≢◌, ◌<◌, ◌≤◌, [], List, length, IfOk, IfErr, codes};
+
+use crate::faults::Fault;
+use crate::judging::judge_certificate;
+use crate::kept::Kept;
+use crate::sections::Sections;
+use sgt_cert::{CertFault, from_line};
+use sgt_names::EngineFail;
+use sgt_notation::MAX_LINE;
+use std::alloc::Global;
+
+/// How far the text was read, with no fault.
+#[derive(Drop)]
+pub enum Progress {
+    /// Nothing was read.
+    Start,
+    /// The first line was read.
+    Headed,
+    /// A certificate was read, and lines of sections.
+    Reading(Kept),
+}
+
+/// The machine.
+#[derive(Drop)]
+pub struct Machine {
+    pub alloc: Global,
+    pub progress: Progress,
+}
+
+impl Machine {
+    ghost use Rattle.sgt_audit.specs.Faults.{Stage, Piece, start, headed, Rule, Breaks};
+    ghost use Rattle.sgt_audit.specs.Ending.{EndsWith, limit_of};
+    ghost use Rattle.sgt_audit.specs.Progress.{Begins, Stands, Follows, bytes_of};
+
+    /// Before the first line.
+    pub fn new(alloc: Global) -> Machine
+        ensures { Stands result.progress start }
+    {
+        Machine {
+            alloc,
+            progress: Progress::Start,
+        }
+    }
+
+    /// How long the next line may be.
+    pub fn limit(&self) -> usize
+        ensures { (s : Stage) → Stands self.now.progress s → result ≡ limit_of s }
+    {
+        match &self.progress {
+            Progress::Headed => usize::MAX,
+            Progress::Start | Progress::Reading(_) => MAX_LINE,
+        }
+    }
+
+    /// The certificate's line.
+    fn begin(alloc: Global, line: &[u8]) -> Result<Result<Kept, Fault>, EngineFail>
+        ensures begins { IfOk result (Begins line.now) }
+        ensures err { IfErr result (λ e. e ≡ EngineFail.Memory) }
+    {
+        let certificate = match from_line(alloc, line) {
+            Ok(certificate) => certificate,
+            Err(CertFault::Memory) => return Err(EngineFail::Memory),
+            Err(_) => return Ok(Err(Fault::Certificate)),
+        };
+        match judge_certificate(alloc, &certificate) {
+            Ok(None) => {
+                let sections = Sections::new(alloc, certificate.sites);
+                Ok(Ok(Kept {
+                    certificate,
+                    sections,
+                }))
+            }
+            Ok(Some(fault)) => Ok(Err(fault)),
+            Err(_) => Err(EngineFail::Memory),
+        }
+    }
+
+    /// The next line, without its LF.
+    pub fn line(&mut self, line: &[u8]) -> Result<Option<Fault>, EngineFail>
+        ensures follows { (s : Stage) → Stands self.old.progress s → IfOk result (Follows s line.now self.new.progress) }
+        ensures err { IfErr result (λ e. e ≡ EngineFail.Memory) }
+    {
+        match &mut self.progress {
+            Progress::Start => {
+                if line != b"sgt 1".as_slice() {
+                    return Ok(Some(Fault::Format));
+                }
+                self.progress = Progress::Headed;
+                Ok(None)
+            }
+            Progress::Headed => match Machine::begin(self.alloc, line) {
+                Ok(Ok(kept)) => {
+                    self.progress = Progress::Reading(kept);
+                    Ok(None)
+                }
+                Ok(Err(fault)) => Ok(Some(fault)),
+                Err(e) => Err(e),
+            },
+            Progress::Reading(kept) => match kept.next(line) {
+                Ok(fault) => Ok(fault),
+                Err(_) => Err(EngineFail::Memory),
+            },
+        }
+    }
+
+    /// The fault of a line that is too long.
+    pub fn too_long(&self) -> Fault
+        ensures { (s : Stage) (p : Piece) → Stands self.now.progress s → s ≢ headed → limit_of s < length (bytes_of p) → Breaks (Rule s p) result }
+    {
+        match &self.progress {
+            Progress::Start => Fault::Format,
+            Progress::Headed => Fault::Certificate,
+            Progress::Reading(kept) => {
+                if kept.is_complete() {
+                    Fault::Trailing
+                } else {
+                    Fault::Notation
+                }
+            }
+        }
+    }
+
+    /// What was read, if all is there at the end of the input; or the fault, with these bytes behind the last LF.
+    pub fn end(self, rest: &[u8]) -> Result<Kept, Fault>
+        ensures { (s : Stage) → Stands self.progress s → length rest.now ≤ limit_of s → EndsWith s rest.now result }
+    {
+        let Machine { progress, .. } = self;
+        match progress {
+            Progress::Start => Err(Fault::Truncated),
+            Progress::Headed => Err(Fault::Truncated),
+            Progress::Reading(kept) => kept.end(rest),
+        }
+    }
+}

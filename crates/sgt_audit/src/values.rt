@@ -1,0 +1,84 @@
+//! The values of items.
+
+ghost use Rattle.std.specs.Prelude.{◌≡◌, ◌↔◌, ℕ, IsTrue, Contains, Some};
+ghost use Rattle.std.specs.Option.{ForSome};
+ghost use Rattle.sgt_names.specs.Entry.{item_of, written};
+ghost use Rattle.sgt_names.specs.Log.{names, value_in, value_at};
+ghost use Rattle.sgt_audit.specs.Judging.{IsLegalRead};
+
+use crate::entries::item_of_entry;
+use sgt_names::{Entry, Holding, Item, Value};
+
+/// Whether the item is one of these.
+pub fn is_among(items: &[Holding], item: &Item) -> bool
+    ensures { IsTrue result ↔ Contains (names items.now) item.now }
+{
+    items.iter().any(|holding| holding.item.same(item))
+}
+
+/// Whether the entry's item is listed. An end has none.
+pub fn is_listed(items: &[Holding], entry: &Entry) -> bool
+    ensures { IsTrue result ↔ ForSome (item_of entry.now) (Contains (names items.now)) }
+{
+    match item_of_entry(entry) {
+        Some(item) => is_among(items, &item),
+        None => true,
+    }
+}
+
+/// The value that the item is listed with.
+fn listed_value(items: &[Holding], item: &Item) -> Option<Value>
+    ensures { result ≡ value_in items.now item.now }
+{
+    for holding in items {
+        if holding.item.same(item) {
+            return Some(holding.value);
+        }
+    }
+    None
+}
+
+/// The value that the entry writes to the item, if it does.
+fn written_value(entry: &Entry, item: &Item) -> Option<Value>
+    ensures { result ≡ written item.now entry.now }
+{
+    match entry {
+        Entry::Write {
+            item: other,
+            value,
+            ..
+        } if other.same(item) => Some(*value),
+        _ => None,
+    }
+}
+
+/// The value of the item after these entries: the last one written, or else the one that it is listed with.
+pub fn value_after(items: &[Holding], entries: &[Entry], item: &Item) -> Option<Value>
+    ensures { result ≡ value_at items.now entries.now item.now }
+{
+    let mut value = listed_value(items, item);
+    for entry in entries {
+        value = written_value(entry, item).or(value);
+    }
+    value
+}
+
+/// Whether the holding has the value of its item after these entries.
+pub fn holds_value(items: &[Holding], entries: &[Entry], holding: &Holding) -> bool
+    ensures { IsTrue result ↔ (value_at items.now entries.now holding.now.item ≡ Some holding.now.value) }
+{
+    match value_after(items, entries, &holding.item) {
+        Some(value) => value == holding.value,
+        None => false,
+    }
+}
+
+/// Whether the entry, if it is a read, has the value of its item after these entries.
+pub fn is_legal(items: &[Holding], entries: &[Entry], entry: &Entry) -> bool
+    ensures { IsTrue result ↔ IsLegalRead items.now entries.now entry.now }
+{
+    match *entry {
+        Entry::Read { item, value, .. } => holds_value(items, entries, &Holding { item, value }),
+        _ => true,
+    }
+}

@@ -1,0 +1,20 @@
+//! Why a line is no certificate.
+
+use thiserror::Error;
+
+/// Why no certificate is read from a line: K1 goes before K2 and K2 before K3, wherever in the line they stand.
+#[derive(Clone, Copy, Debug, PartialEq, Eq, Error)]
+pub enum CertFault {
+    /// No JSON value is read from the line.
+    #[error("K1: the line is no JSON value")]
+    NotJson,
+    /// In the value a member is missing, unknown or of another JSON type.
+    #[error("K2: a member is missing, unknown or of another JSON type")]
+    Shape,
+    /// A number, a name or a kind is out of its range, or the line is not the compact text of a certificate.
+    #[error("K3: a number, name or kind is out of its range, or the line is not the compact text")]
+    Range,
+    /// Out of memory: nothing is known of the line.
+    #[error("K4: out of memory")]
+    Memory,
+}

@@ -1,0 +1,205 @@
+//! The line of a certificate, written and read.
+
+ghost use Rattle.std.specs.Prelude.{◌≡◌, ◌≢◌, ◌++◌, IfOk, IfErr, OnOk, MatchResult, ◌⊎◌, codes, decimal, false};
+ghost use Rattle.serde_json.specs.View.{view};
+ghost use Rattle.serde_json.specs.Written.{compact_text, items_text};
+ghost use Rattle.sgt_cert.specs.Text.{certificate_text, decision_data, decisions_data, kind_name, step_data, walk_data, IsCertificate};
+ghost use Rattle.sgt_cert.specs.Line.{answer_of, Answers, Refuses};
+ghost use Rattle.sgt_cert.specs.declared.certificate.Certificate.{Certificate};
+ghost use Rattle.sgt_cert.specs.declared.fault.CertFault.{CertFault};
+
+use crate::certificate::{Certificate, Decision, Step};
+use crate::convert::certificate;
+use crate::fault::CertFault;
+use crate::shape::has_shape;
+use itoa::Buffer;
+use serde_json::Value;
+use sgt_names::Kind;
+use std::alloc::{AllocError, Global};
+
+fn push_number(out: &mut Vec<u8>, before: &[u8], n: u64) -> Result<(), AllocError>
+    ensures { OnOk result (out.new.items ≡ out.old.items ++ (before.now ++ decimal n)) }
+{
+    let mut buffer = Buffer::new();
+    out.extend_from_slice(before)?;
+    out.extend_from_slice(buffer.format(n).as_bytes())
+}
+
+fn kind_text(kind: Kind) -> &'static [u8]
+    ensures { result.now ≡ kind_name kind }
+{
+    match kind {
+        Kind::Wr => b"wr",
+        Kind::Rw => b"rw",
+        Kind::Ww => b"ww",
+    }
+}
+
+fn push_text(out: &mut Vec<u8>, before: &[u8], text: &[u8]) -> Result<(), AllocError>
+    ensures { OnOk result (out.new.items ≡ out.old.items ++ (before.now ++ text.now)) }
+{
+    out.extend_from_slice(before)?;
+    out.extend_from_slice(text)
+}
+
+fn push_step_parts(
+    out: &mut Vec<u8>,
+    item: &[u8],
+    kind: &[u8],
+    site: u64,
+    to: u64,
+) -> Result<(), AllocError>
+    ensures { OnOk result (out.new.items ≡ out.old.items ++ (codes "{\"item\":\"" ++ (item.now ++ (codes "\",\"kind\":\"" ++ (kind.now ++ (codes "\",\"site\":"
+        ++ (decimal site ++ (codes ",\"to\":" ++ (decimal to ++ codes "}"))))))))) }
+{
+    push_text(out, b"{\"item\":\"", item)?;
+    push_text(out, b"\",\"kind\":\"", kind)?;
+    push_number(out, b"\",\"site\":", site)?;
+    push_number(out, b",\"to\":", to)?;
+    out.extend_from_slice(b"}")
+}
+
+fn push_step(out: &mut Vec<u8>, step: &Step) -> Result<(), AllocError>
+    ensures { OnOk result (out.new.items ≡ out.old.items ++ compact_text (step_data step.now)) }
+{
+    let label = step.label;
+    push_step_parts(
+        out,
+        label.item.as_bytes(),
+        kind_text(label.kind),
+        label.site.number() as u64,
+        step.to.number() as u64,
+    )
+}
+
+/// The steps with commas between, and the closing bracket.
+fn push_steps(out: &mut Vec<u8>, walk: &[Step]) -> Result<(), AllocError>
+    ensures { OnOk result (out.new.items ≡ out.old.items ++ items_text false (walk_data walk.now)) }
+{
+    if let Some((first, further)) = walk.split_first() {
+        push_step(out, first)?;
+        for step in further {
+            out.extend_from_slice(b",")?;
+            push_step(out, step)?;
+        }
+    }
+    out.extend_from_slice(b"]")
+}
+
+fn push_commit(out: &mut Vec<u8>, tx: u64, rank: u64) -> Result<(), AllocError>
+    ensures { OnOk result (out.new.items ≡ out.old.items ++ (codes "{\"commit\":" ++ (decimal tx ++ (codes ",\"rank\":" ++ (decimal rank ++ codes "}"))))) }
+{
+    push_number(out, b"{\"commit\":", tx)?;
+    push_number(out, b",\"rank\":", rank)?;
+    out.extend_from_slice(b"}")
+}
+
+fn push_refuse(out: &mut Vec<u8>, tx: u64, walk: &[Step]) -> Result<(), AllocError>
+    ensures { OnOk result (out.new.items ≡ out.old.items ++ (codes "{\"refuse\":" ++ (decimal tx ++ (codes ",\"walk\":[" ++ (items_text false (walk_data walk.now) ++ codes "}"))))) }
+{
+    push_number(out, b"{\"refuse\":", tx)?;
+    out.extend_from_slice(b",\"walk\":[")?;
+    push_steps(out, walk)?;
+    out.extend_from_slice(b"}")
+}
+
+fn push_withdraw(out: &mut Vec<u8>, tx: u64) -> Result<(), AllocError>
+    ensures { OnOk result (out.new.items ≡ out.old.items ++ (codes "{\"withdraw\":" ++ (decimal tx ++ codes "}"))) }
+{
+    push_number(out, b"{\"withdraw\":", tx)?;
+    out.extend_from_slice(b"}")
+}
+
+fn push_decision(out: &mut Vec<u8>, decision: &Decision) -> Result<(), AllocError>
+    ensures { OnOk result (out.new.items ≡ out.old.items ++ compact_text (decision_data decision.now)) }
+{
+    match decision {
+        Decision::Commit { tx, rank } => push_commit(out, tx.number() as u64, *rank as u64),
+        Decision::Refuse { tx, walk } => push_refuse(out, tx.number() as u64, walk.as_slice()),
+        Decision::Withdraw { tx } => push_withdraw(out, tx.number() as u64),
+    }
+}
+
+/// The decisions with commas between, and the closing bracket.
+fn push_decisions(out: &mut Vec<u8>, decisions: &[Decision]) -> Result<(), AllocError>
+    ensures { OnOk result (out.new.items ≡ out.old.items ++ items_text false (decisions_data decisions.now)) }
+{
+    if let Some((first, further)) = decisions.split_first() {
+        push_decision(out, first)?;
+        for decision in further {
+            out.extend_from_slice(b",")?;
+            push_decision(out, decision)?;
+        }
+    }
+    out.extend_from_slice(b"]")
+}
+
+fn push_certificate(out: &mut Vec<u8>, decisions: &[Decision], sites: u64) -> Result<(), AllocError>
+    ensures { OnOk result (out.new.items ≡ out.old.items ++ (codes "{\"decisions\":[" ++ (items_text false (decisions_data decisions.now) ++ (codes ",\"sites\":" ++ (decimal sites ++ codes "}"))))) }
+{
+    out.extend_from_slice(b"{\"decisions\":[")?;
+    push_decisions(out, decisions)?;
+    push_number(out, b",\"sites\":", sites)?;
+    out.extend_from_slice(b"}")
+}
+
+/// The one line that spells the certificate, without an LF. (Where its sites are not 1 to 16, or a step is at none of them,
+/// that is a line too, but `from_line` refuses it.)
+pub fn to_line(alloc: Global, certificate: &Certificate) -> Result<Vec<u8>, AllocError>
+    ensures { IfOk result (λ line. line.items ≡ certificate_text certificate.now) }
+{
+    let mut line = Vec::new(alloc);
+    push_certificate(
+        &mut line,
+        certificate.decisions.as_slice(),
+        certificate.sites as u64,
+    )?;
+    Ok(line)
+}
+
+/// The certificate in a value that was read from the line.
+fn judge(alloc: Global, value: &Value, line: &[u8]) -> Result<Certificate, CertFault>
+    ensures { Answers result (answer_of (view value.now) line.now) }
+{
+    if !has_shape(value) {
+        return Err(CertFault::Shape);
+    }
+    let Ok(found) = certificate(alloc, value) else {
+        return Err(CertFault::Memory);
+    };
+    let Some(found) = found else {
+        return Err(CertFault::Range);
+    };
+    let Ok(text) = to_line(alloc, &found) else {
+        return Err(CertFault::Memory);
+    };
+    if text.as_slice() == line {
+        Ok(found)
+    } else {
+        Err(CertFault::Range)
+    }
+}
+
+/// Reads the line of a certificate, which is given without its LF. Ok exactly for the text that `to_line` gives of a
+/// certificate whose sites are 1 to 16, with each step at one of them. Any other line is refused: with K1 where no JSON
+/// value is read from it, else with K2 where the value's members are not those of a certificate, else with K3. K4 where
+/// memory ran out stands in place of any answer.
+pub fn from_line(alloc: Global, line: &[u8]) -> Result<Certificate, CertFault>
+    ensures ok { IfOk result (λ c. IsCertificate c × (line.now ≡ certificate_text c)) }
+    ensures only { (c : Certificate) → IsCertificate c → line.now ≡ certificate_text c
+        → MatchResult result (λ found. found ≡ c) (λ e. e ≡ CertFault.Memory) }
+    ensures refuses { IfErr result (Refuses line.now) }
+    ensures each { (e : CertFault) → e ≢ CertFault.Memory → Refuses line.now e
+        → MatchResult result (λ _. ⊥) (λ f. (f ≡ e) ⊎ (f ≡ CertFault.Memory)) }
+{
+    match Value::from_slice(alloc, line) {
+        Ok(value) => judge(alloc, &value, line),
+        Err(e) => {
+            if e.is_memory() {
+                Err(CertFault::Memory)
+            } else {
+                Err(CertFault::NotJson)
+            }
+        }
+    }
+}

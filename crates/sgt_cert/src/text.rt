@@ -1,0 +1,89 @@
+//! The text of a bundle.
+
+ghost use Rattle.std.specs.Prelude.{◌≡◌, ◌++◌, ◌∷◌, [], ◌<◌, ◌≤◌, ◌+◌, IfOk, OnOk, length, map};
+ghost use Rattle.sgt_names.specs.Limits.{max_sites};
+ghost use Rattle.sgt_notation.specs.Spelling.{line_text, text_of_lines};
+ghost use Rattle.sgt_notation.specs.declared.SectionLine.{SectionLine};
+ghost use Rattle.sgt_cert.specs.Parts.{Parts};
+ghost use Rattle.sgt_cert.specs.Text.{sections_from, section_lines, text_of};
+
+use crate::bundle::SiteLog;
+use crate::certificate::Certificate;
+use crate::line::to_line;
+use sgt_names::{Entry, Holding, SiteNo};
+use sgt_notation::{SectionLine, write_section};
+use std::alloc::{AllocError, Global};
+
+fn push_line(out: &mut Vec<u8>, line: &SectionLine) -> Result<(), AllocError>
+    ensures { OnOk result (out.new.items ≡ out.old.items ++ text_of_lines (map line_text (line.now ∷ []))) }
+{
+    write_section(out, line)?;
+    out.extend_from_slice(b"\n")
+}
+
+fn push_items(out: &mut Vec<u8>, items: &[Holding]) -> Result<(), AllocError>
+    ensures { OnOk result (out.new.items ≡ out.old.items ++ text_of_lines (map line_text (map SectionLine.Initial items.now))) }
+{
+    for item in items {
+        push_line(out, &SectionLine::Initial(*item))?;
+    }
+    Ok(())
+}
+
+fn push_entries(out: &mut Vec<u8>, entries: &[Entry]) -> Result<(), AllocError>
+    ensures { OnOk result (out.new.items ≡ out.old.items ++ text_of_lines (map line_text (map SectionLine.Logged entries.now))) }
+{
+    for entry in entries {
+        push_line(out, &SectionLine::Logged(*entry))?;
+    }
+    Ok(())
+}
+
+fn push_finals(out: &mut Vec<u8>, finals: &[Holding]) -> Result<(), AllocError>
+    ensures { OnOk result (out.new.items ≡ out.old.items ++ text_of_lines (map line_text (map SectionLine.Final finals.now))) }
+{
+    for item in finals {
+        push_line(out, &SectionLine::Final(*item))?;
+    }
+    Ok(())
+}
+
+fn push_section(out: &mut Vec<u8>, site: SiteNo, log: &SiteLog) -> Result<(), AllocError>
+    ensures { OnOk result (out.new.items ≡ out.old.items ++ text_of_lines (map line_text (section_lines site log.now))) }
+{
+    push_line(out, &SectionLine::Site(site))?;
+    push_items(out, log.items.as_slice())?;
+    push_entries(out, log.entries.as_slice())?;
+    push_finals(out, log.finals.as_slice())?;
+    push_line(out, &SectionLine::End)
+}
+
+fn push_sections(out: &mut Vec<u8>, sites: &[SiteLog]) -> Result<(), AllocError>
+    requires { length sites.now ≤ max_sites }
+    ensures { OnOk result (out.new.items ≡ out.old.items ++ text_of_lines (map line_text (sections_from 0 sites.now))) }
+{
+    for (k, log) in sites.iter().enumerate() {
+        let Ok(site) = SiteNo::new(k as u64) else {
+            unreachable!();
+        };
+        push_section(out, site, log)?;
+    }
+    Ok(())
+}
+
+/// The text of a certificate and its logs.
+pub(crate) fn text(
+    alloc: Global,
+    certificate: &Certificate,
+    sites: &[SiteLog],
+) -> Result<Vec<u8>, AllocError>
+    requires { length sites.now ≤ max_sites }
+    ensures { IfOk result (λ text. text.items ≡ text_of (record { certificate = certificate.now; sites = sites.now })) }
+{
+    let line = to_line(alloc, certificate)?;
+    let mut text = Vec::from_slice(alloc, b"sgt 1\n")?;
+    text.extend_from_slice(line.as_slice())?;
+    text.extend_from_slice(b"\n")?;
+    push_sections(&mut text, sites)?;
+    Ok(text)
+}

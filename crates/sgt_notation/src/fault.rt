@@ -1,0 +1,20 @@
+//! Why bytes are no line.
+
+use thiserror::Error;
+
+/// The bytes that a line has at most, its LF left out.
+pub const MAX_LINE: usize = 1_048_576;
+
+/// Why bytes are not read as a line.
+#[derive(Clone, Copy, Debug, PartialEq, Eq, Error)]
+pub enum NotationFault {
+    /// They spell no line, and are not too long for one.
+    #[error("L1: not a line")]
+    NotALine,
+    /// They are more than 1048576.
+    #[error("L2: the line is too long")]
+    TooLong,
+    /// A growth was refused. Never of an entry or a line of a section, which take no memory.
+    #[error("L3: memory")]
+    Memory,
+}

@@ -1,0 +1,240 @@
+//! A reader, cut into lines.
+
+ghost use Rattle.std.specs.Prelude.{◌≡◌, ◌≢◌, ℕ, ◌+◌, ◌-◌, ◌<◌, ◌≤◌, ◌⊎◌, ◌^◌, List, [], ◌∷◌, ◌++◌, length, take, drop, Some, Ok, IfSome, IfNone, IfErr, IfOk, OnOk, OnErr, IsErrOf, vec_len, vec_capacity};
+ghost use Rattle.std.specs.Io.KnownBytes.{Consumes, IsAtEnd};
+ghost use Rattle.sgt_notation.specs.Limits.{most_reads};
+ghost use Rattle.sgt_notation.specs.Lines.{Ahead, Gives, IsLeft, Leaves, Looks, Moves, Spends, SpendsNext, coming, most_left};
+ghost use Rattle.sgt_notation.specs.Spelling.{HasNoLf};
+ghost use Rattle.sgt_notation.specs.declared.lines.TheConstants.{BUFFER};
+
+use memchr::memchr;
+use sgt_names::Source;
+use std::alloc::{AllocError, Global};
+use std::marker::Model;
+use thiserror::Error;
+
+/// What comes next of a reader.
+#[derive(Clone, Copy, Debug, PartialEq, Eq)]
+pub enum Next {
+    /// A line, which had its LF.
+    Line,
+    /// The bytes after the last LF, of which there are some.
+    Cut,
+    /// More bytes than the limit, with no LF in them.
+    TooLong,
+    /// No bytes.
+    End,
+}
+
+/// Why what comes next could not be told.
+#[derive(Clone, Copy, Debug, PartialEq, Eq, Error)]
+pub enum LinesFault {
+    /// A growth of the line was refused.
+    #[error("memory")]
+    Memory,
+    /// The reader failed, or the greatest number of reads was made.
+    #[error("read fault")]
+    ReadFault,
+}
+
+/// The reads that a `Lines` makes at most, over all its calls.
+pub const MOST_READS: u32 = u32::MAX;
+
+/// The bytes that a read asks for at most.
+pub const BUFFER: usize = 65_536;
+
+/// Cuts a reader into lines. It holds the bytes that were read and not yet given out, and no reader: each call is passed
+/// the same one. Contracts see those bytes, and how many more reads there may be.
+#[derive(Drop)]
+pub struct Lines {
+    buffer: Vec<u8>,
+    start: usize,
+    end: usize,
+    reads: u32,
+}
+
+impl Model for Lines {
+    ghost Value = { Ahead };
+
+    ghost view = { λ s. record { held = take (s.end - s.start) (drop s.start s.buffer.items); reads = s.reads } };
+
+    ghost invariant = { λ s. (s.start ≤ s.end) × (s.end ≤ vec_len s.buffer) × (vec_len s.buffer ≡ BUFFER) };
+}
+
+/// Where the first LF stands.
+fn find_feed(bytes: &[u8]) -> Option<usize>
+    ensures some { IfSome result (λ n. (n < length bytes.now) × HasNoLf (take n bytes.now)
+        × (bytes.now ≡ take n bytes.now ++ 10 ∷ drop (n + 1) bytes.now)) }
+    ensures none { IfNone result (HasNoLf bytes.now) }
+{
+    memchr(b'\n', bytes)
+}
+
+/// Moves the bytes up to the first LF to the end of the line, unless it gets too long by them. It says how many these
+/// are, and how many are used up with the LF.
+fn look_in(
+    held: &[u8],
+    line: &mut Vec<u8>,
+    limit: usize,
+) -> Result<(Option<Next>, usize, usize), LinesFault>
+    requires { vec_len line.old ≤ limit }
+    ensures looks { IfOk result (λ r. Looks limit held.now line.old.items r.0 r.1 line.new.items) }
+    ensures left { IfOk result (λ r. IsLeft held.now r.0 r.1 (drop r.2 held.now)) }
+    ensures used { IfOk result (λ r. (r.2 ≤ length held.now) × (r.0 ≡ Some Next.Line → 0 < r.2)) }
+    ensures unlimited { length held.now ≤ BUFFER → limit ≡ 2 ^ 64 - 1 → IfOk result (λ r. r.0 ≢ Some Next.TooLong) }
+    ensures err { IfErr result (λ e. e ≡ LinesFault.Memory) }
+    ensures kept { OnErr result (line.new.items ≡ line.old.items) }
+    ensures room { limit ≤ vec_capacity line.old → result ≢ Err LinesFault.Memory }
+    ensures wanted { OnErr result (vec_capacity line.old < length line.old.items + length held.now) }
+    ensures capacity { vec_capacity line.old ≤ vec_capacity line.new }
+{
+    match find_feed(held) {
+        Some(n) => {
+            if n > limit - line.len() {
+                return Ok((Some(Next::TooLong), n, 0));
+            }
+            append(line, &held[..n])?;
+            Ok((Some(Next::Line), n, n + 1))
+        }
+        None => {
+            if held.len() > limit - line.len() {
+                return Ok((Some(Next::TooLong), held.len(), 0));
+            }
+            append(line, held)?;
+            Ok((None, held.len(), held.len()))
+        }
+    }
+}
+
+fn append(line: &mut Vec<u8>, bytes: &[u8]) -> Result<(), LinesFault>
+    ensures ok { OnOk result (line.new.items ≡ line.old.items ++ bytes.now) }
+    ensures err { IfErr result (λ e. e ≡ LinesFault.Memory) }
+    ensures kept { OnErr result (line.new.items ≡ line.old.items) }
+    ensures room { vec_len line.old + length bytes.now ≤ vec_capacity line.old → result ≢ Err LinesFault.Memory }
+    ensures capacity { vec_capacity line.old ≤ vec_capacity line.new }
+{
+    line.extend_from_slice(bytes)
+        .map_err(|_| LinesFault::Memory)
+}
+
+fn empty_buffer(alloc: Global) -> Result<Vec<u8>, AllocError>
+    ensures { IfOk result (λ buffer. vec_len buffer ≡ BUFFER) }
+{
+    vec![in alloc; 0; BUFFER]
+}
+
+impl Lines {
+    /// A reader of lines that has read nothing. It takes its memory here; a call of `next` takes none but for the line.
+    pub fn new(alloc: Global) -> Result<Lines, AllocError>
+        ensures { IfOk result (λ s. s ≡ record { held = []; reads = most_reads }) }
+    {
+        Ok(Lines {
+            buffer: empty_buffer(alloc)?,
+            start: 0,
+            end: 0,
+            reads: MOST_READS,
+        })
+    }
+
+    /// Reads once into the empty buffer; 0 is the end.
+    fn fill<S: Source>(&mut self, source: &mut S) -> Result<usize, LinesFault>
+        requires { self.old.held ≡ [] }
+        ensures ok { IfOk result (λ n. Consumes (S.tells source.old) (S.tells source.new) self.new.held
+            × (length self.new.held ≡ n) × (n ≤ BUFFER) × (n ≡ 0 → IsAtEnd (S.tells source.new))
+            × (self.old.reads ≡ self.new.reads + 1) × (S.failures source.new ≡ S.failures source.old)) }
+        ensures fault { IsErrOf result LinesFault.ReadFault →
+            ((S.failures source.old < S.failures source.new) ⊎ ((self.old.reads ≡ 0) × (S.tells source.new ≡ S.tells source.old))) }
+        ensures reads { self.new.reads ≤ self.old.reads }
+        ensures counted { self.old.reads ≤ self.new.reads + 1 }
+        ensures left { OnErr result ((self.new.held ≡ []) × Leaves (S.tells source.old) [] (S.tells source.new)) }
+        ensures memory { result ≢ Err LinesFault.Memory }
+    {
+        if self.reads == 0 {
+            return Err(LinesFault::ReadFault);
+        }
+        self.reads -= 1;
+        self.start = 0;
+        self.end = 0;
+        match source.read(self.buffer.as_mut_slice()) {
+            Ok(n) => {
+                self.end = n;
+                Ok(n)
+            }
+            Err(_) => Err(LinesFault::ReadFault),
+        }
+    }
+
+    /// Moves the held bytes up to the first LF to the end of the line.
+    fn look(
+        &mut self,
+        line: &mut Vec<u8>,
+        limit: usize,
+    ) -> Result<(Option<Next>, usize), LinesFault>
+        requires { vec_len line.old ≤ limit }
+        ensures looks { IfOk result (λ r. Looks limit self.old.held line.old.items r.0 r.1 line.new.items) }
+        ensures left { IfOk result (λ r. IsLeft self.old.held r.0 r.1 self.new.held) }
+        ensures reads { self.new.reads ≡ self.old.reads }
+        ensures moved { IfOk result (λ r. Moves r.0 (length self.old.held + length line.old.items) (length self.new.held + length line.new.items)) }
+        ensures falls { IfOk result (λ r. r.0 ≡ Some Next.Line → length self.new.held < length self.old.held) }
+        ensures unlimited { limit ≡ 2 ^ 64 - 1 → IfOk result (λ r. r.0 ≢ Some Next.TooLong) }
+        ensures err { IfErr result (λ e. e ≡ LinesFault.Memory) }
+        ensures kept { OnErr result ((line.new.items ≡ line.old.items) × (self.new ≡ self.old)) }
+        ensures room { limit ≤ vec_capacity line.old → result ≢ Err LinesFault.Memory }
+        ensures wanted { OnErr result (vec_capacity line.old < length line.old.items + length self.old.held) }
+        ensures capacity { vec_capacity line.old ≤ vec_capacity line.new }
+    {
+        let (found, n, used) = look_in(&self.buffer[self.start..self.end], line, limit)?;
+        self.start += used;
+        Ok((found, n))
+    }
+
+    /// What comes next. `line` is cleared first, and gets the line without its LF, or what came before an Err.
+    /// A line longer than `limit` is told as soon as one byte more than that was read. Some of its bytes then stand in
+    /// `line`, and a further call goes on behind them. A `limit` of `usize::MAX` is none.
+    /// Memory where a growth of the line was refused: what stands in `line` is not given again. ReadFault where the
+    /// reader failed during this call, or no read is left; all that was read then stands in `line`.
+    pub fn next<S: Source>(
+        &mut self,
+        source: &mut S,
+        line: &mut Vec<u8>,
+        limit: usize,
+    ) -> Result<Next, LinesFault>
+        ensures gives { IfOk result (λ next. Gives limit (coming self.old (S.tells source.old)) next
+            line.new.items (coming self.new (S.tells source.new))) }
+        ensures quiet { IfOk result (λ _. S.failures source.new ≡ S.failures source.old) }
+        ensures spends { IfOk result (λ next. SpendsNext next self.old.reads (S.tells source.old) self.new.reads (S.tells source.new)) }
+        ensures falls { result ≡ Ok Next.Line → most_left self.new < most_left self.old }
+        ensures unlimited { limit ≡ 2 ^ 64 - 1 → result ≢ Ok Next.TooLong }
+
+        ensures line { HasNoLf line.new.items × (length line.new.items ≤ limit) }
+        ensures capacity { vec_capacity line.old ≤ vec_capacity line.new }
+        ensures reads { self.new.reads ≤ self.old.reads }
+        // each read that was counted gave a byte, but for the last; and each that gave bytes was counted
+        ensures counted { self.old.reads + length self.old.held ≤ self.new.reads + length self.new.held + length line.new.items + 1 }
+        ensures bounded { most_left self.new + length line.new.items ≤ most_left self.old }
+
+        // of an Err
+        ensures err { OnErr result (Leaves (coming self.old (S.tells source.old)) line.new.items (coming self.new (S.tells source.new))) }
+        ensures read_fault { IsErrOf result LinesFault.ReadFault → (self.new.held ≡ [])
+            × ((S.failures source.old < S.failures source.new) ⊎ Spends self.old.reads (S.tells source.old) 0 (S.tells source.new)) }
+        ensures spent { IsErrOf result LinesFault.ReadFault → (S.failures source.old < S.failures source.new) ⊎ (self.new.reads ≡ 0) }
+        ensures memory { IsErrOf result LinesFault.Memory → (S.failures source.new ≡ S.failures source.old)
+            × Consumes (coming self.old (S.tells source.old)) (coming self.new (S.tells source.new)) line.new.items }
+        ensures room { limit ≤ vec_capacity line.old → result ≢ Err LinesFault.Memory }
+        ensures wanted { IsErrOf result LinesFault.Memory → IfSome (coming self.old (S.tells source.old)) (λ bytes. vec_capacity line.old < length bytes) }
+    {
+        line.clear();
+        'reads: loop {
+            if let (Some(next), _) = self.look(line, limit)? {
+                return Ok(next);
+            }
+            if self.fill(source)? == 0 {
+                return Ok(if line.is_empty() {
+                    Next::End
+                } else {
+                    Next::Cut
+                });
+            }
+        }
+    }
+}

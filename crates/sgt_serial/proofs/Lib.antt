@@ -1,0 +1,13 @@
+mod Bundles
+mod ByRank
+mod Differences
+mod Either
+mod Examples
+mod Fronts
+mod Grouping
+mod Items
+mod Lines
+mod Logged
+mod Puts
+mod Running
+mod Sorting

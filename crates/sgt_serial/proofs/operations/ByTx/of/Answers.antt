@@ -1,0 +1,24 @@
+use Rattle.std.proofs.Common.{◌≡◌, ◌+◌, true, false, nat_lt, take, drop, List, ℕ, ap, ◌∙◌, subst}
+use Rattle.std.specs.List.{filter}
+use Rattle.std.specs.List.Sorted.{IsPartitionPoint}
+use Rattle.std.proofs.lemmas.List.{take_rest}
+use Rattle.sgt_serial.specs.Operations.{is_by}
+use Rattle.sgt_serial.specs.declared.operations.Operation.{Operation}
+use Rattle.sgt_serial.proofs.Sorting.{of_number-between}
+use Rattle.sgt_serial.proofs.operations.ByTx.of.Goals as goal
+
+-- where the operations below a number end
+abbrev Splits : List Operation → ℕ → ℕ → Type 0
+Splits ys t i = IsPartitionPoint (λ o. nat_lt o.tx t ≡ true) (λ o. nat_lt o.tx t ≡ false) ys i
+
+pub returns : goal.returns
+returns c =
+    let tx = c.args.tx in
+    let ys = c.as_slice-operations.result.now in
+    let from = c.count_below.result in
+    let to = c.count_below-2.result in
+    let number : c.from-number.result ≡ tx = c.from-number.ensures ∙ c.number.ensures.is in
+    let later = take_rest ys from in
+    let low = subst (λ t. Splits ys t from) number c.count_below.ensures.point in
+    let high = subst (λ t. Splits (drop from ys) (t + 1) to) number (subst (λ (zs : List Operation). Splits zs (c.from-number.result + 1) to) later c.count_below-2.ensures.point) in
+    ap (take to) later ∙ of_number-between (λ (o : Operation). o.tx) ys tx from to low high ∙ ap (filter (is_by tx)) (c.as_slice-operations.ensures.value ∙ c.self.view_is)

@@ -1,0 +1,85 @@
+//! The serial run of all that a reader gives.
+
+ghost use Rattle.std.specs.Prelude.{◌≡◌, ◌≢◌, ◌⊎◌, ◌<◌, ◌≤◌, ℕ, List, Option, Err, length, OnErr, IfOk, IfErr, IfSome, IsErrOf};
+ghost use Rattle.std.specs.Io.KnownBytes.{Appends};
+ghost use Rattle.sgt_notation.specs.declared.lines.TheConstants.{MOST_READS};
+ghost use Rattle.sgt_cert.specs.Valid.{IsValid};
+ghost use Rattle.sgt_audit.specs.Verdict.{IsAudited, HandsOutValid};
+ghost use Rattle.sgt_serial.specs.Answer.{IsAnswer, WroteFront};
+ghost use Rattle.sgt_serial.specs.Report.{report_of};
+ghost use Rattle.sgt_serial.specs.Text.{report_text};
+
+use crate::report::SerialFail;
+use crate::run::serial_run;
+use sgt_audit::{Audited, Verdict, audit_bundle, write_all};
+use sgt_cert::Bundle;
+use sgt_names::{EngineFail, Outcome, Sink, Source};
+use std::alloc::{AllocError, Global};
+
+/// The text of a valid bundle's run.
+fn run_text(alloc: Global, bundle: &Bundle) -> Result<Vec<u8>, AllocError>
+    requires { IsValid bundle.now }
+    ensures { IfOk result (λ text. text.items ≡ report_text (report_of bundle.now)) }
+{
+    match serial_run(alloc, bundle) {
+        Ok(report) => report.to_text(alloc),
+        Err(SerialFail::Memory) => Err(AllocError),
+        Err(SerialFail::Differs(..)) => unreachable!(),
+    }
+}
+
+/// An outcome, and what is to be written.
+#[derive(Drop)]
+struct Answer {
+    outcome: Outcome,
+    text: Vec<u8>,
+}
+
+/// The answer to what was audited.
+fn answer_to(alloc: Global, audited: Audited) -> Result<Answer, AllocError>
+    requires { HandsOutValid audited }
+    ensures { IfOk result (λ answer. (told : Option (List ℕ)) → IfSome told (λ bytes. IsAudited bytes audited) → IsAnswer told answer.outcome answer.text.items) }
+{
+    match audited {
+        Audited::Valid(bundle) => Ok(Answer {
+            outcome: Outcome::Yes,
+            text: run_text(alloc, &bundle)?,
+        }),
+        Audited::No { line, fault } => {
+            let verdict = Verdict::No { line, fault }.to_line(alloc)?;
+            Ok(Answer {
+                outcome: Outcome::No,
+                text: Vec::from_slice(alloc, verdict.as_bytes())?,
+            })
+        }
+    }
+}
+
+/// Audits all that the reader gives, as `audit` does. A no is written as its line. For a yes the serial run of the bundle
+/// is written and no verdict: of each committed transaction by rank a line of its number, its reads and its writes, each by
+/// site and then in log order; then the final values by site and name. The reader is read once, and no further than the
+/// first line with a fault.
+pub fn serial<R: Source, W: Sink>(
+    alloc: Global,
+    reader: &mut R,
+    writer: &mut W,
+) -> Result<Outcome, EngineFail>
+    ensures answer { IfOk result (λ outcome. (text : List ℕ) × IsAnswer (R.tells reader.old) outcome text × Appends (W.holds writer.old) (W.holds writer.new) text) }
+    ensures front { OnErr result (WroteFront (R.tells reader.old) (W.holds writer.old) (W.holds writer.new)) }
+    ensures read_fault { IsErrOf result EngineFail.ReadFault →
+        ((R.failures reader.old < R.failures reader.new) ⊎ IfSome (R.tells reader.old) (λ bytes. MOST_READS ≤ length bytes)) }
+    ensures write_fault { IsErrOf result EngineFail.WriteFault → W.failures writer.old < W.failures writer.new }
+{
+    let audited = match audit_bundle(alloc, reader) {
+        Ok(audited) => audited,
+        Err(fail) => return Err(fail),
+    };
+    let answer = match answer_to(alloc, audited) {
+        Ok(answer) => answer,
+        Err(_) => return Err(EngineFail::Memory),
+    };
+    match write_all(writer, answer.text.as_slice()) {
+        Ok(()) => Ok(answer.outcome),
+        Err(_) => Err(EngineFail::WriteFault),
+    }
+}

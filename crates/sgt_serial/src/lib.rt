@@ -1,0 +1,19 @@
+//! The serial run of a bundle's committed transactions: alone, one after another, by rank.
+#![tactic(auto)]
+
+mod engine;
+mod finals;
+mod laws;
+mod operations;
+mod order;
+mod report;
+mod run;
+mod store;
+#[cfg(test)]
+mod tests;
+mod text;
+
+pub use engine::serial;
+pub use laws::{agreement_excludes_differences, first_differences_are_one, runs_agree_or_differ};
+pub use report::{SerialFail, SerialReport, SerialTx, SiteValue};
+pub use run::serial_run;
