@@ -1,7 +1,6 @@
 -- The edges of each touched item together are those of the draft.
-use Rattle.std.proofs.Common.{◌≡◌, ℕ, zero, suc, ◌+◌, ◌-◌, ◌<◌, ◌≤◌, ◌⊎◌, List, [], ◌∷◌, ◌++◌, length, map, get_or, take, drop, Bool, true, false, Option, Some, None, Result, Ok, Err, refl, sym, ap, ◌∙◌, subst, arith, inl, inr, All, Contains}
-use Rattle.std.specs.Prelude.{slice_get, OnOk, is_err, ◌↔◌, Any, IsSome, IfSome, option_map}
-use Rattle.std.specs.Option.{ForSome}
+use Rattle.std.proofs.Common.{◌≡◌, ℕ, ◌+◌, ◌-◌, ◌<◌, ◌≤◌, ◌⊎◌, List, [], ◌∷◌, ◌++◌, length, map, get_or, take, drop, false, Some, None, Result, Ok, Err, refl, sym, ap, ◌∙◌, subst, arith, inl, inr, All, Contains}
+use Rattle.std.specs.Prelude.{slice_get, OnOk, is_err, ◌↔◌, Any, option_map}
 use Rattle.std.proofs.lemmas.Bool.{cases_lt}
 use Rattle.std.proofs.lemmas.Option.{same_Some, slice_get-map, slice_get_read, slice_get_within}
 use Rattle.std.proofs.lemmas.List.Elements.{Contains-append_left, Contains-append_right, Contains-append_cases}
@@ -11,17 +10,16 @@ use Rattle.sgt_names.specs.declared.draft.Seen.{Seen}
 use Rattle.sgt_names.specs.declared.draft.Touch.{Touch}
 use Rattle.sgt_names.specs.declared.entry.Kind.{Kind}
 use Rattle.sgt_names.specs.declared.entry.Kind.TheVariants.{Wr, Rw, Ww}
-use Rattle.sgt_names.specs.declared.entry.Label.{Label}
 use Rattle.sgt_names.proofs.Places.{Contains_at, Contains-from_at, slice_get-take, slice_get-take_at, slice_get-drop, All-from_at}
 use Rattle.sgt_arena.specs.declared.handle.Handle.{Handle}
-use Rattle.sgt_site.specs.Store.{Store, IsSite, IsReader, version_at, writers_of}
+use Rattle.sgt_site.specs.Store.{Store, IsReader, version_at, writers_of}
 use Rattle.sgt_site.specs.declared.cell.Reader.{Reader}
 use Rattle.sgt_site.specs.declared.cell.Writer.{Writer}
 use Rattle.sgt_site.proofs.Appends.{Any_at, Any-from_at}
 use Rattle.sgt_site.proofs.Basics.{is_single}
 use Rattle.sgt_site.proofs.Found.{map_at}
 use Rattle.sgt_site.proofs.Pledges.{kept-from, kept-to, put-from, put-to}
-use Rattle.sgt_edges.specs.Edges.{IsWriter, HasReader, Keeps, IsToWrite, IsEdge, wrote_before, wrote_after, wrote_too, read_it, IsGiven, Walks, given, StandsForAll, SeesTooNew}
+use Rattle.sgt_edges.specs.Edges.{Keeps, IsToWrite, IsEdge, wrote_before, wrote_after, wrote_too, read_it, IsGiven, given, StandsForAll, SeesTooNew}
 use Rattle.sgt_edges.specs.Gathered.{IsTooNew, edge, Adds, AddsOfRead, AddsOfWrite, AddsEdges, Gathers, label_at}
 use Rattle.sgt_edges.specs.declared.edge.Edge.{Edge}
 

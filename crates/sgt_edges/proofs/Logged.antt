@@ -5,19 +5,18 @@ use Rattle.std.proofs.lemmas.Bool.{cases_lt, cases_order}
 use Rattle.std.proofs.lemmas.Option.{slice_get_within, slice_get-map}
 use Rattle.std.proofs.lemmas.Slice.Eq.{bytes_eq-Decides}
 use Rattle.sgt_names.specs.Name.{Name}
-use Rattle.sgt_names.specs.Entry.{tx_of, written, Reads, Writes, IsEnd, Clash}
+use Rattle.sgt_names.specs.Entry.{tx_of, written, Reads, Writes, Clash}
 use Rattle.sgt_names.specs.Log.{Conflicts}
 use Rattle.sgt_names.specs.Draft.{at_site, writing_in}
 use Rattle.sgt_names.specs.declared.draft.Touch.{Touch}
 use Rattle.sgt_names.specs.declared.entry.Entry.{Entry}
 use Rattle.sgt_names.specs.declared.entry.Entry.TheVariants.{Read, Write, Want, Commit, Refuse, Withdraw}
-use Rattle.sgt_names.specs.declared.entry.Holding.{Holding}
 use Rattle.sgt_names.specs.declared.entry.Kind.{Kind}
 use Rattle.sgt_names.specs.declared.entry.Kind.TheVariants.{Wr, Rw, Ww}
 use Rattle.sgt_names.proofs.Places.{Contains_at, Contains-from_at}
 use Rattle.sgt_arena.specs.declared.handle.Handle.{Handle}
 use Rattle.sgt_site.specs.Store.{Store, IsSite, HasEnded, version_at, handle_of}
-use Rattle.sgt_site.proofs.Appends.{get_front, get_back, get_cases, Any-from_at, count-rises, count-next}
+use Rattle.sgt_site.proofs.Appends.{get_front, get_back, get_cases, count-rises, count-next}
 use Rattle.sgt_site.proofs.Projections.{writer_at, writer_from, ended_with_handle, no_write, wanted_no_handle}
 use Rattle.sgt_site.proofs.Found.{map_at}
 use Rattle.sgt_edges.specs.Edges.{IsWriter, HasReader, Keeps, IsEdge, wrote_before, wrote_after, wrote_too, read_it, IsActive, IsConflict, followed}

@@ -1,6 +1,6 @@
 -- An item that isn't at the site has no writers and no readers.
-use Rattle.std.proofs.Common.{◌≡◌, ℕ, suc, Bool, true, false, List, [], ◌∷◌, length, Option, Some, None, refl, sym, ap, ◌∙◌, subst, inl, inr, Contains}
-use Rattle.std.specs.Prelude.{slice_get, if◌then◌else◌, option_and_then}
+use Rattle.std.proofs.Common.{◌≡◌, ℕ, suc, List, [], ◌∷◌, length, Option, Some, None, refl, sym, ap, ◌∙◌, inl, inr, Contains}
+use Rattle.std.specs.Prelude.{slice_get}
 use Rattle.std.specs.List.{filter_map, cons_option}
 use Rattle.std.specs.Option.{ForSome}
 use Rattle.std.specs.Str.{bytes_eq}
@@ -13,7 +13,7 @@ use Rattle.sgt_names.specs.declared.entry.Entry.{Entry}
 use Rattle.sgt_names.specs.declared.entry.Entry.TheVariants.{Read, Write, Want, Commit, Refuse, Withdraw}
 use Rattle.sgt_names.proofs.Places.{All_at}
 use Rattle.sgt_site.specs.declared.cell.Reader.{Reader}
-use Rattle.sgt_site.specs.Store.{Store, IsSite, IsReader, version_at, handle_of, writer, writers_of}
+use Rattle.sgt_site.specs.Store.{Store, IsSite, IsReader, version_at, writer, writers_of}
 use Rattle.sgt_site.proofs.Projections.{length-writers, all_given}
 
 chosen_none : {A B : Type 0} (f : A → Option B) (xs : List A) → ((n : ℕ) (a : A) → slice_get xs n ≡ Some a → f a ≡ None) → filter_map f xs ≡ []
