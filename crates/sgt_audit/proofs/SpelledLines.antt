@@ -21,6 +21,7 @@ use Rattle.sgt_audit.specs.Reading.{Begun, open_lines, lines_read}
 use Rattle.sgt_audit.specs.Spelled.{AnswersBundle, SpellsSections}
 use Rattle.sgt_cert.specs.declared.bundle.SiteLog.{SiteLog}
 use Rattle.sgt_audit.proofs.Going.{one-line}
+use Rattle.sgt_audit.proofs.OneFault.{has_lf, no_lf}
 use Rattle.sgt_audit.proofs.Streaming.{are-sections, sections-whole}
 
 -- the lines that were read, and then what is left
@@ -28,16 +29,6 @@ pub record IsAhead (sites : ℕ) (bytes : List ℕ) (b : Begun) (rest : List ℕ
   pub sites_are : b.sites ≡ sites
   pub each : All IsLine (lines_read b)
   pub text : bytes ≡ text_of_lines (map line_text (lines_read b)) ++ rest
-
-no_lf : (l : List ℕ) → HasNoLf l → HasNot 10 l
-no_lf l h = recursion_from_All (λ b. b ≢ 10) l h
-
-has_lf : (xs ys : List ℕ) → HasNoLf (xs ++ 10 ∷ ys) → ⊥
-has_lf xs ys h = go xs ys (recursion_from_All (λ b. b ≢ 10) (xs ++ 10 ∷ ys) h)
-  where
-    go : (xs ys : List ℕ) → AllByRecursion (λ b. b ≢ 10) (xs ++ 10 ∷ ys) → ⊥
-    go [] ys h = h.0 refl
-    go (x ∷ xs) ys h = go xs ys h.1
 
 module _ (sites : ℕ) (bytes : List ℕ) (b : Begun) (rest : List ℕ) (a : IsAhead sites bytes b rest) (lines : List SectionLine) (s : SpellsSections sites bytes lines) where
   -- what is left is the rest of the lines

@@ -22,6 +22,7 @@ use Rattle.sgt_audit.specs.Reading.{Begun, IsBegun, lines_read}
 use Rattle.sgt_audit.specs.Kept.{Means, IsStageOf, AnswersLine}
 use Rattle.sgt_audit.specs.Progress.{Stands, Follows, bytes_of}
 use Rattle.sgt_audit.specs.Ending.{limit_of}
+use Rattle.sgt_audit.proofs.Cuts.{no_cons}
 use Rattle.sgt_audit.proofs.Streaming.{whole-sections, are-sections}
 
 -- ---- which stage it is
@@ -86,10 +87,6 @@ module _ (c : Certificate) (is : IsCertificate c) (f : Fault) (breaks : Breaks (
 
 pub certificate-breaks : (c : Certificate) (l : List ℕ) (f : Fault) → IsCertificate c → l ≡ certificate_text c → Breaks (KeepsItself c.decisions) f → Breaks (Rule headed (whole l)) f
 certificate-breaks c l f is same breaks = subst (λ m. Breaks (Rule headed (whole m)) f) (sym same) (headed-breaks c is f breaks)
-
-no_cons : {A : Type 0} (front rest : List A) (l : A) → [] ≡ front ++ l ∷ rest → ⊥
-no_cons [] rest l e = cc
-no_cons (x ∷ front) rest l e = cc
 
 -- nothing behind it so far
 pub certificate-means : (c : Certificate) (b : Begun) → IsCertificate c → ((f : Fault) → KeepsItself c.decisions f) → IsBegun b → b ≡ record { sites = c.sites; whole = []; current = None } → Means c b []
