@@ -184,8 +184,3 @@ spends_on None mid new a b c first later = tt
 spends_on (Some xs) None new a b c first later = absurd first
 spends_on (Some xs) (Some ys) None a b c first later = absurd later
 spends_on (Some xs) (Some ys) (Some zs) a b c first later = omega arith
-
-pub spent_all : (told new : Option (List ℕ)) (a : ℕ) → Spends a told 0 new → IfSome told (λ bytes. a ≤ length bytes)
-spent_all None new a h = tt
-spent_all (Some xs) None a h = absurd h
-spent_all (Some xs) (Some ys) a h = omega (arith, h)

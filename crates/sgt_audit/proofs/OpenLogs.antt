@@ -20,7 +20,7 @@ use Rattle.sgt_audit.specs.Reading.{Begun, lines_read, open_lines, Fits, MayFoll
 use Rattle.sgt_audit.proofs.SectionLines.{items_in-is, entries_in-is, last_logged, up_to}
 use Rattle.sgt_audit.proofs.Cuts.{last-logged, IsClosed, section-closed}
 use Rattle.sgt_audit.proofs.Streaming.{begins-follow}
-use Rattle.sgt_audit.proofs.Least.{initial-kept, site-kept}
+use Rattle.sgt_audit.proofs.Least.{site-kept}
 
 last-place : (entries : List Entry) (m : ℕ) (g : Entry) → slice_get entries m ≡ Some g → length entries ≡ suc m → slice_get entries (length entries - 1) ≡ Some g
 last-place entries m g at len = ap (slice_get entries) (omega arith) ∙ at
@@ -66,11 +66,3 @@ kept-between c b line same none begins =
 -- what may stand in the open section
 pub fits-open : (b : Begun) (log : SiteLog) (line : SectionLine) → b.current ≡ Some log → Begins b.sites (lines_read b ++ line ∷ []) → Fits log line
 fits-open b log line here begins = subst (λ o. MayFollow b o line) here (begins-follow b line begins)
-
--- an item keeps every rule
-pub initial-inside : (c : Certificate) (before : List SectionLine) (log : SiteLog) (h : Holding) → HasOpen before log → Fits log (Initial h) → Begins c.sites (before ++ Initial h ∷ []) → KeptBelow (Keeps c before (Initial h)) 17
-initial-inside c before log h o fits begins = initial-kept c before h (λ e last. nothing log.entries fits.0 e (o.last e last).1) begins
-  where
-    nothing : (entries : List Entry) → entries ≡ [] → (e : Entry) → slice_get entries (length entries - 1) ≡ Some e → ⊥
-    nothing [] none e at = none-some e at
-    nothing (x ∷ entries) none e at = absurd cc

@@ -110,9 +110,6 @@ not-any P xs none k d lt p = none (k, get_or xs k d, lt, get_or_from_slice_get x
 pub not-contained : {X : Type 0} (xs : List X) (x : X) → (Contains xs x → ⊥) → All (λ a. a ≡ x → ⊥) xs
 not-contained xs x none k d lt e = none (Contains-from_at xs k x (slice_get-get_or xs k d lt ∙ ap Some e))
 
-pub contained-any : {X : Type 0} (xs : List X) (x : X) → Contains xs x → Any (λ a. (a ≡ x → ⊥) → ⊥) xs
-contained-any xs x c = let a = Contains_at xs x c in Any-from_at (λ a. (a ≡ x → ⊥) → ⊥) xs a.0 x a.1 (λ f. f refl)
-
 pub all-next-at : {X : Type 0} (P : X → Type 0) (xs : List X) (i : ℕ) (x : X) → slice_get xs i ≡ Some x → P x → All P (take i xs) → All P (take (i + 1) xs)
 all-next-at P xs i x at p all = subst (All P) (sym (ap (λ n. take n xs) (add-one i) ∙ take-next xs i x at)) (All-push P (take i xs) x all p)
 

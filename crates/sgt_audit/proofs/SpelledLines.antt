@@ -88,13 +88,6 @@ ahead-next sites bytes b new rest line after read a cut is same sites_same lines
       ∙ ap (λ ls. text_of_lines ls ++ after) (sym (ap (map line_text) lines ∙ map-append line_text (lines_read b) (read ∷ [])));
 }
 
-pub ahead-start : (sites : ℕ) (bytes : List ℕ) (b : Begun) → b ≡ record { sites = sites; whole = []; current = None } → IsAhead sites bytes b bytes
-ahead-start sites bytes b fresh = subst (λ b. IsAhead sites bytes b bytes) (sym fresh) (record { sites_are = refl; each = λ k d lt. absurd (omega arith); text = refl })
-
-pub ahead-done : (sites : ℕ) (bytes : List ℕ) (b : Begun) (rest : List ℕ) → IsAhead sites bytes b rest → rest ≡ [] → AreSections b.sites (lines_read b) → (b.sites ≡ sites) × SpellsSections sites bytes (lines_read b)
-ahead-done sites bytes b rest a none all =
-    (a.sites_are, record { each = a.each; all = subst (λ n. AreSections n (lines_read b)) a.sites_are all; text = a.text ∙ ap (λ (t : List ℕ). text_of_lines (map line_text (lines_read b)) ++ t) none ∙ append-nil (text_of_lines (map line_text (lines_read b))) })
-
 -- ---- the first two lines
 
 pub sections-same : (sites : ℕ) (bytes : List ℕ) (xs ys : List SectionLine) → SpellsSections sites bytes xs → SpellsSections sites bytes ys → xs ≡ ys

@@ -14,12 +14,6 @@ appends_on (Some xs) None new a b first later = absurd first
 appends_on (Some xs) (Some ys) None a b first later = absurd later
 appends_on (Some xs) (Some ys) (Some zs) a b first later = rw (later, first) (append_assoc xs a b)
 
-pub forgets_on : (told mid new : Option (List ℕ)) (a : List ℕ) → Appends told mid a → KeepsOrForgets mid new → AppendsOrForgets told new a
-forgets_on None mid new a first later = tt
-forgets_on (Some xs) None new a first later = absurd first
-forgets_on (Some xs) (Some ys) None a first later = tt
-forgets_on (Some xs) (Some ys) (Some zs) a first later = rw later first
-
 pub tail_whole : (bs : List ℕ) (i : ℕ) → take (length bs - i) (drop i bs) ≡ drop i bs
 tail_whole bs i = grind (arith, common_steps)
 
