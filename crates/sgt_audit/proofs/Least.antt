@@ -1,11 +1,10 @@
 -- The least fault of a line, rule after rule in rising number.
-use Rattle.std.proofs.Common.{◌≡◌, ◌≢◌, ℕ, ◌+◌, ◌-◌, ◌<◌, List, [], ◌∷◌, ◌++◌, length, Option, Some, None, refl, sym, ap, ap₂, ◌∙◌, subst, arith, inl, inr, All, Contains}
-use Rattle.std.specs.Prelude.{slice_get}
+use Rattle.std.proofs.Common.{◌≡◌, ◌≢◌, ℕ, ◌+◌, List, [], ◌∷◌, ◌++◌, Some, None, refl, sym, ap₂, ◌∙◌, subst, arith, inl, inr, All, Contains}
 use Rattle.std.specs.List.{last_or}
 use Rattle.std.specs.Option.{ForSome}
 use Rattle.std.proofs.lemmas.Bool.{cases_order}
 use Rattle.sgt_names.specs.Name.{Name}
-use Rattle.sgt_names.specs.Entry.{tx_of, item_of, IsEnd, IsOpen, Repeats}
+use Rattle.sgt_names.specs.Entry.{tx_of, item_of, IsEnd, Repeats}
 use Rattle.sgt_names.specs.Log.{names, value_at, AllEnded}
 use Rattle.sgt_names.specs.declared.entry.Entry.{Entry}
 use Rattle.sgt_names.specs.declared.entry.Entry.TheVariants as entry
@@ -20,7 +19,7 @@ use Rattle.sgt_cert.specs.declared.bundle.SiteLog.{SiteLog}
 use Rattle.sgt_audit.specs.declared.faults.Fault.{Fault}
 use Rattle.sgt_audit.specs.declared.faults.Fault.TheVariants as fault
 use Rattle.sgt_audit.specs.Faults.{fault_number, items_in, entries_in, Keeps, Breaks}
-use Rattle.sgt_audit.specs.Judging.{IsLegalRead, GoesOn, HasOpen, KeptBelow, Judged}
+use Rattle.sgt_audit.specs.Judging.{IsLegalRead, GoesOn, HasOpen, KeptBelow}
 use Rattle.sgt_audit.proofs.FaultNumbers.{number-one}
 
 -- the rule of number n is kept too

@@ -1,21 +1,18 @@
 -- The log that the lines read so far have open.
-use Rattle.std.proofs.Common.{◌≡◌, ℕ, suc, ◌+◌, ◌-◌, ◌<◌, List, [], ◌∷◌, ◌++◌, length, map, take, Option, Some, None, refl, sym, ap, ◌∙◌, subst, arith, append_assoc}
+use Rattle.std.proofs.Common.{◌≡◌, ℕ, suc, ◌-◌, List, [], ◌∷◌, ◌++◌, length, take, Some, None, sym, ap, ◌∙◌, subst, arith, append_assoc}
 use Rattle.std.specs.Prelude.{slice_get}
 use Rattle.std.specs.List.{last_or}
 use Rattle.std.proofs.lemmas.List.{append-nil, take_all}
 use Rattle.std.proofs.lemmas.Option.{none-some, slice_get_within}
 use Rattle.sgt_names.specs.declared.entry.Entry.{Entry}
-use Rattle.sgt_names.specs.declared.entry.Holding.{Holding}
 use Rattle.sgt_names.proofs.Places.{take-next}
 use Rattle.sgt_notation.specs.declared.SectionLine.{SectionLine}
 use Rattle.sgt_notation.specs.declared.SectionLine.TheVariants.{Site, Initial, Logged, Final, End}
 use Rattle.sgt_cert.specs.Text.{Begins, section_lines, sections_from}
 use Rattle.sgt_cert.specs.declared.certificate.Certificate.{Certificate}
 use Rattle.sgt_cert.specs.declared.bundle.SiteLog.{SiteLog}
-use Rattle.sgt_audit.specs.declared.faults.Fault.{Fault}
-use Rattle.sgt_audit.specs.declared.faults.Fault.TheVariants as fault
 use Rattle.sgt_audit.specs.Faults.{Keeps}
-use Rattle.sgt_audit.specs.Judging.{HasOpen, Judged, KeptBelow}
+use Rattle.sgt_audit.specs.Judging.{HasOpen, KeptBelow}
 use Rattle.sgt_audit.specs.Reading.{Begun, lines_read, open_lines, Fits, MayFollow, FitsBetween}
 use Rattle.sgt_audit.proofs.SectionLines.{items_in-is, entries_in-is, last_logged, up_to}
 use Rattle.sgt_audit.proofs.Cuts.{last-logged, IsClosed, section-closed}

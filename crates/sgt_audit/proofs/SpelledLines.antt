@@ -1,5 +1,5 @@
 -- Sections read from bytes, line by line, against all that the bytes may spell.
-use Rattle.std.proofs.Common.{◌≡◌, ◌≢◌, ℕ, List, [], ◌∷◌, ◌++◌, length, map, Option, Some, None, Bool, true, false, inl, inr, refl, sym, ap, ap₂, ◌∙◌, subst, arith, append_assoc, All}
+use Rattle.std.proofs.Common.{◌≡◌, ℕ, List, [], ◌∷◌, ◌++◌, length, map, Option, Some, None, Bool, true, false, inl, inr, refl, sym, ap, ap₂, ◌∙◌, subst, arith, append_assoc, All}
 use Rattle.std.specs.Prelude.{codes, not}
 use Rattle.std.specs.Option.{SomeIff}
 use Rattle.std.specs.Str.{bytes_eq}
@@ -8,14 +8,13 @@ use Rattle.std.proofs.lemmas.Slice.Eq.{bytes_eq-Decides}
 use Rattle.std.specs.List.{AllByRecursion}
 use Rattle.std.proofs.lemmas.List.{append-nil, map-append}
 use Rattle.std.proofs.lemmas.List.Elements.{All-from_recursion, recursion_from_All, All-push}
-use Rattle.sgt_names.specs.Limits.{max_sites}
 use Rattle.sgt_notation.specs.Spelling.{line_text, text_of_lines, HasNoLf, IsLine}
 use Rattle.sgt_notation.specs.declared.SectionLine.{SectionLine}
-use Rattle.sgt_notation.proofs.OneSpelling.{HasNot, HasNot-from_test, cut_at_byte, line-one, line-one_line}
+use Rattle.sgt_notation.proofs.OneSpelling.{HasNot-from_test, cut_at_byte, line-one, line-one_line}
 use Rattle.sgt_cert.specs.Parts.{Parts}
-use Rattle.sgt_cert.specs.Text.{certificate_text, text_of, sections_from, Begins, AreSections, IsCertificate, IsBundle, Spells}
+use Rattle.sgt_cert.specs.Text.{certificate_text, text_of, sections_from, Begins, AreSections, IsBundle, Spells}
 use Rattle.sgt_cert.specs.declared.certificate.Certificate.{Certificate}
-use Rattle.sgt_cert.proofs.OneText.{sections-one, line_front, first_line, no_line, lines_front, lines-one, sections-lines}
+use Rattle.sgt_cert.proofs.OneText.{first_line, no_line, lines_front, lines-one, sections-lines}
 use Rattle.sgt_cert.proofs.OneLine.{certificate-one_line}
 use Rattle.sgt_audit.specs.Reading.{Begun, open_lines, lines_read}
 use Rattle.sgt_audit.specs.Spelled.{AnswersBundle, SpellsSections}

@@ -1,23 +1,22 @@
 -- From one stage of a text to the next.
-use Rattle.std.proofs.Common.{◌≡◌, ◌≢◌, ℕ, ◌<◌, ◌≤◌, List, [], ◌∷◌, ◌++◌, length, map, Option, Some, None, refl, sym, ap, ap₂, ◌∙◌, subst, arith, inl, inr, ◌⊎◌}
+use Rattle.std.proofs.Common.{◌≡◌, ℕ, ◌<◌, ◌≤◌, List, [], ◌∷◌, ◌++◌, length, map, Option, Some, None, refl, sym, ap, ◌∙◌, subst, arith, inl, inr, ◌⊎◌}
 use Rattle.std.specs.Prelude.{codes}
 use Rattle.std.proofs.lemmas.Bool.{cases_eq}
 use Rattle.std.proofs.lemmas.List.{map-append}
 use Rattle.std.proofs.lemmas.Option.{none-some}
-use Rattle.sgt_notation.specs.Spelling.{line_text, IsLine}
+use Rattle.sgt_notation.specs.Spelling.{line_text}
 use Rattle.sgt_notation.specs.Limits.{max_line}
 use Rattle.sgt_notation.specs.declared.SectionLine.{SectionLine}
 use Rattle.sgt_notation.specs.declared.SectionLine.TheVariants.{Site, Initial, Logged, Final, End}
 use Rattle.sgt_notation.proofs.Short.{line-short}
-use Rattle.sgt_cert.specs.Text.{certificate_text, sections_from, IsCertificate, AreSections}
+use Rattle.sgt_cert.specs.Text.{certificate_text, IsCertificate, AreSections}
 use Rattle.sgt_cert.specs.declared.certificate.Certificate.{Certificate}
 use Rattle.sgt_cert.proofs.Reading.{certificate-one}
 use Rattle.sgt_audit.specs.declared.faults.Fault.{Fault}
 use Rattle.sgt_audit.specs.declared.faults.Fault.TheVariants as fault
 use Rattle.sgt_audit.specs.declared.kept.Kept.{Kept}
-use Rattle.sgt_audit.specs.declared.machine.Progress.{Progress}
 use Rattle.sgt_audit.specs.declared.machine.Progress.TheVariants as at
-use Rattle.sgt_audit.specs.Faults.{fault_number, Keeps, KeepsItself, AllKept, Stage, start, headed, within, complete, lines_so_far, Piece, whole, last, Rule, Breaks}
+use Rattle.sgt_audit.specs.Faults.{fault_number, Keeps, KeepsItself, Stage, headed, within, complete, lines_so_far, Piece, whole, last, Rule, Breaks}
 use Rattle.sgt_audit.specs.Reading.{Begun, IsBegun, lines_read}
 use Rattle.sgt_audit.specs.Kept.{Means, IsStageOf, AnswersLine}
 use Rattle.sgt_audit.specs.Progress.{Stands, Follows, bytes_of}

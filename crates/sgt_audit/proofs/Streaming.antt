@@ -1,12 +1,11 @@
 -- What may follow the sections as far as they were read: exactly what begins some sections with them.
-use Rattle.std.proofs.Common.{◌≡◌, ◌≢◌, ℕ, zero, suc, ◌+◌, ◌-◌, ◌<◌, ◌≤◌, List, [], ◌∷◌, ◌++◌, length, map, take, drop, replicate, Option, Some, None, Bool, IsTrue, refl, sym, ap, ap₂, ◌∙◌, subst, arith, inl, inr, ◌⊎◌, append_assoc, zero-add, add-zero, add-one, All, AllPairs}
+use Rattle.std.proofs.Common.{◌≡◌, ℕ, zero, suc, ◌+◌, ◌-◌, List, [], ◌∷◌, ◌++◌, length, map, take, drop, replicate, Option, Some, None, Bool, IsTrue, refl, sym, ap, ap₂, ◌∙◌, subst, arith, inl, inr, ◌⊎◌, append_assoc, zero-add, add-zero, add-one, All, AllPairs}
 use Rattle.std.specs.Prelude.{◌↔◌, slice_get}
 use Rattle.std.proofs.lemmas.List.{append-nil, map-append, length-map, length-append, drop-map, take-append-drop, take_all, length-replicate}
 use Rattle.std.proofs.lemmas.List.Quantifiers.{all_pairs_push}
 use Rattle.std.proofs.lemmas.List.Elements.{All-append, All-replicate, All-cons, All-push}
 use Rattle.std.proofs.lemmas.Option.{slice_get_within}
 use Rattle.sgt_names.proofs.Places.{All-from_at, All_at, AllPairs_at, take-next}
-use Rattle.sgt_names.specs.Limits.{max_items, max_sites}
 use Rattle.sgt_names.specs.Log.{names}
 use Rattle.sgt_names.specs.declared.entry.Entry.{Entry}
 use Rattle.sgt_names.specs.declared.entry.Holding.{Holding}
@@ -16,7 +15,7 @@ use Rattle.sgt_cert.specs.Parts.{ComesBefore, IsShapedLog, IsShaped}
 use Rattle.sgt_cert.specs.Text.{section_lines, sections_from, Begins, AreSections}
 use Rattle.sgt_cert.specs.declared.bundle.SiteLog.{SiteLog}
 use Rattle.sgt_cert.proofs.OneText.{section-one}
-use Rattle.sgt_audit.specs.Reading.{Begun, open_lines, lines_read, IsOpenLog, HasRoomFor, IsBegun, Fits, FitsBetween, MayFollow, with_line, no_log, next_current, next_whole, with_next}
+use Rattle.sgt_audit.specs.Reading.{Begun, open_lines, lines_read, IsOpenLog, HasRoomFor, IsBegun, Fits, FitsBetween, MayFollow, with_line, no_log, with_next}
 use Rattle.sgt_audit.proofs.Cuts.{heads, tails, no_cons}
 
 -- ---- whole logs in front

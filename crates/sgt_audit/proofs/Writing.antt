@@ -1,10 +1,8 @@
 -- What a writer holds after some writes.
 use Rattle.std.proofs.Common.{◌≡◌, ℕ, ◌-◌, List, ◌++◌, length, take, drop, Option, Some, None, sym, arith, append_assoc, append-nil}
-use Rattle.std.specs.Prelude.{⊤}
 use Rattle.std.proofs.lemmas.Grind.{common_steps}
 use Rattle.std.specs.Io.KnownBytes.{Appends}
-use Rattle.sgt_names.specs.Device.{KeepsOrForgets}
-use Rattle.sgt_audit.specs.Verdict.{AppendsOrForgets, WroteFront}
+use Rattle.sgt_audit.specs.Verdict.{WroteFront}
 use Rattle.sgt_audit.specs.declared.verdict.Verdict.TheVariants.{Yes}
 
 -- known bytes that grew by a, and then by b
