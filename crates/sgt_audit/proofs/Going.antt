@@ -1,12 +1,12 @@
 -- How far a text was read, against all that its reader told.
-use Rattle.std.proofs.Common.{◌≡◌, ◌≢◌, ℕ, zero, suc, ◌+◌, ◌-◌, ◌<◌, ◌≤◌, List, [], ◌∷◌, ◌++◌, length, take, Option, Some, None, IfSome, refl, sym, ap, ap₂, ◌∙◌, subst, arith, inl, inr, ◌⊎◌, append_assoc, All}
+use Rattle.std.proofs.Common.{◌≡◌, ◌≢◌, ℕ, zero, suc, ◌+◌, ◌<◌, List, [], ◌∷◌, ◌++◌, length, take, Option, Some, None, IfSome, refl, sym, ap, ◌∙◌, subst, arith, inl, inr, append_assoc}
 use Rattle.std.specs.Prelude.{⊤}
-use Rattle.std.specs.List.{flat_map, AllByRecursion}
+use Rattle.std.specs.List.{AllByRecursion}
 use Rattle.std.proofs.lemmas.Bool.{cases_eq, cases_order}
 use Rattle.std.proofs.lemmas.List.{append-nil, length-append}
-use Rattle.std.proofs.lemmas.List.Elements.{All-from_recursion, recursion_from_All, All-cons}
+use Rattle.std.proofs.lemmas.List.Elements.{recursion_from_All, All-cons}
 use Rattle.sgt_notation.specs.Spelling.{text_of_lines, HasNoLf}
-use Rattle.sgt_notation.specs.Lines.{Gives, IsNext, Spends}
+use Rattle.sgt_notation.specs.Lines.{Gives, Spends}
 use Rattle.sgt_notation.specs.declared.lines.Next.TheVariants.{Line, Cut, TooLong, End}
 use Rattle.sgt_notation.specs.declared.SectionLine.{SectionLine}
 use Rattle.sgt_cert.specs.Text.{AreSections}
@@ -16,9 +16,8 @@ use Rattle.sgt_audit.specs.declared.machine.Progress.{Progress}
 use Rattle.sgt_audit.specs.declared.machine.Progress.TheVariants as at
 use Rattle.sgt_audit.specs.declared.reading.Judged.{Judged}
 use Rattle.sgt_audit.specs.declared.reading.Judged.TheVariants as judged
-use Rattle.sgt_audit.specs.Faults.{Stage, start, headed, within, complete, lines_so_far, IsFaultless, Piece, whole, last, ComesNext, Rule, Breaks, FirstFault}
+use Rattle.sgt_audit.specs.Faults.{Stage, start, complete, lines_so_far, IsFaultless, Piece, whole, last, ComesNext, Rule, Breaks, FirstFault}
 use Rattle.sgt_audit.specs.Kept.{Means, IsStageOf}
-use Rattle.sgt_audit.specs.Ending.{limit_of}
 use Rattle.sgt_audit.specs.Progress.{Stands, Follows, bytes_of}
 use Rattle.sgt_audit.specs.Reads.{IsAll, IsEnded, IsJudged}
 
@@ -184,8 +183,3 @@ spends_on None mid new a b c first later = tt
 spends_on (Some xs) None new a b c first later = absurd first
 spends_on (Some xs) (Some ys) None a b c first later = absurd later
 spends_on (Some xs) (Some ys) (Some zs) a b c first later = omega arith
-
-pub spent_all : (told new : Option (List ℕ)) (a : ℕ) → Spends a told 0 new → IfSome told (λ bytes. a ≤ length bytes)
-spent_all None new a h = tt
-spent_all (Some xs) None a h = absurd h
-spent_all (Some xs) (Some ys) a h = omega (arith, h)

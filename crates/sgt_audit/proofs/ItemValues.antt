@@ -12,6 +12,7 @@ use Rattle.sgt_names.specs.Entry.{written}
 use Rattle.sgt_names.specs.Log.{value_in, value_at}
 use Rattle.sgt_names.specs.declared.entry.Entry.{Entry}
 use Rattle.sgt_names.specs.declared.entry.Holding.{Holding}
+use Rattle.sgt_audit.proofs.Cuts.{last_or-append}
 use Rattle.sgt_audit.proofs.Slices.{drop_here, take_here}
 
 -- a test that answers whether two names are one
@@ -28,10 +29,6 @@ not-here items i h x lt is other rest =
     sym (ap (λ b. cond b (Some h.value) (value_in (drop (i + 1) items) x)) other) ∙ sym (ap (λ hs. value_in hs x) (drop_here items i h lt is)) ∙ rest
 
 -- one more entry
-last_or-append : {A : Type 0} (o : Option A) (xs ys : List A) → last_or o (xs ++ ys) ≡ last_or (last_or o xs) ys
-last_or-append o [] ys = refl
-last_or-append o (x ∷ xs) ys = last_or-append (Some x) xs ys
-
 pub value_at-push : (items : List Holding) (entries : List Entry) (e : Entry) (x : Name) → value_at items (entries ++ e ∷ []) x ≡ last_or (value_at items entries x) (cons_option (written x e) [])
 value_at-push items entries e x = ap (last_or (value_in items x)) (filter_map-append (written x) entries (e ∷ [])) ∙ last_or-append (value_in items x) (filter_map (written x) entries) (cons_option (written x e) [])
 

@@ -1,11 +1,10 @@
 -- The least fault of a line, rule after rule in rising number.
-use Rattle.std.proofs.Common.{◌≡◌, ◌≢◌, ℕ, ◌+◌, ◌-◌, ◌<◌, List, [], ◌∷◌, ◌++◌, length, Option, Some, None, refl, sym, ap, ap₂, ◌∙◌, subst, arith, inl, inr, All, Contains}
-use Rattle.std.specs.Prelude.{slice_get}
+use Rattle.std.proofs.Common.{◌≡◌, ◌≢◌, ℕ, ◌+◌, List, [], ◌∷◌, ◌++◌, Some, None, refl, sym, ap₂, ◌∙◌, subst, arith, inl, inr, All, Contains}
 use Rattle.std.specs.List.{last_or}
 use Rattle.std.specs.Option.{ForSome}
 use Rattle.std.proofs.lemmas.Bool.{cases_order}
 use Rattle.sgt_names.specs.Name.{Name}
-use Rattle.sgt_names.specs.Entry.{tx_of, item_of, IsEnd, IsOpen, Repeats}
+use Rattle.sgt_names.specs.Entry.{tx_of, item_of, IsEnd, Repeats}
 use Rattle.sgt_names.specs.Log.{names, value_at, AllEnded}
 use Rattle.sgt_names.specs.declared.entry.Entry.{Entry}
 use Rattle.sgt_names.specs.declared.entry.Entry.TheVariants as entry
@@ -20,7 +19,7 @@ use Rattle.sgt_cert.specs.declared.bundle.SiteLog.{SiteLog}
 use Rattle.sgt_audit.specs.declared.faults.Fault.{Fault}
 use Rattle.sgt_audit.specs.declared.faults.Fault.TheVariants as fault
 use Rattle.sgt_audit.specs.Faults.{fault_number, items_in, entries_in, Keeps, Breaks}
-use Rattle.sgt_audit.specs.Judging.{IsLegalRead, GoesOn, HasOpen, KeptBelow, Judged}
+use Rattle.sgt_audit.specs.Judging.{IsLegalRead, GoesOn, HasOpen, KeptBelow}
 use Rattle.sgt_audit.proofs.FaultNumbers.{number-one}
 
 -- the rule of number n is kept too
@@ -133,9 +132,6 @@ module _ (c : Certificate) (ds : List Decision) (before : List SectionLine) (e :
   upto-8 : KeptBelow rule 8
   upto-8 = kept-next rule 7 fault.Section refl (logged-7 c before e) begins
 
-  pub item-broken : (ForSome (item_of e) (Contains (names items)) → ⊥) → Breaks rule fault.Item
-  item-broken miss = least-at rule 8 fault.Item refl upto-8 (λ r. miss (subst (λ items. ForSome (item_of e) (Contains (names items))) at_items r))
-
   abbrev FirstIn : List Entry → Type 0
   FirstIn entries = All (λ f. (x : Name) → Repeats x f e → ⊥) entries
 
@@ -231,9 +227,6 @@ module _ (c : Certificate) (before : List SectionLine) (h : Holding) (log : Site
       let upto-8 = kept-next final_rule 7 fault.Section refl (final-7 c before h) begins in
       kept-next final_rule 11 fault.RankOrder refl (kept-next final_rule 10 fault.ReadValue refl (kept-next final_rule 9 fault.Twice refl (kept-next final_rule 8 fault.Item refl upto-8 tt) tt) tt) tt
 
-  pub final-block : (GoesOn log (Final h) → ⊥) → Breaks final_rule fault.Block
-  final-block miss = least-at final_rule 12 fault.Block refl final-12 (λ r. miss (λ f none at. r f (o.entry_last f none at)))
-
   module _ (goes : GoesOn log (Final h)) where
     final-15 : KeptBelow final_rule 15
     final-15 =
@@ -288,14 +281,6 @@ module _ (c : Certificate) (before : List SectionLine) (log : SiteLog) (entries 
 -- no entry is open in front
 abbrev pub IsClosed : List SectionLine → Type 0
 IsClosed lines = (e : Entry) → last_or None lines ≡ Some (Logged e) → ⊥
-
-pub initial-kept : (c : Certificate) (before : List SectionLine) (h : Holding) → IsClosed before → Begins c.sites (before ++ Initial h ∷ []) → KeptBelow (Keeps c before (Initial h)) 17
-initial-kept c before h closed begins =
-    let rule = Keeps c before (Initial h) in
-    let upto-8 = kept-next rule 7 fault.Section refl (initial-7 c before h) begins in
-    let upto-12 = kept-next rule 11 fault.RankOrder refl (kept-next rule 10 fault.ReadValue refl (kept-next rule 9 fault.Twice refl (kept-next rule 8 fault.Item refl upto-8 tt) tt) tt) tt in
-    let upto-13 = kept-next rule 12 fault.Block refl upto-12 (λ f last is_open. absurd (closed f last)) in
-    kept-next rule 16 fault.Final refl (kept-next rule 15 fault.NotEnded refl (kept-next rule 14 fault.DecisionOrder refl (kept-next rule 13 fault.End refl upto-13 tt) tt) tt) tt
 
 pub site-kept : (c : Certificate) (before : List SectionLine) (k : ℕ) → IsClosed before → Begins c.sites (before ++ Site k ∷ []) → KeptBelow (Keeps c before (Site k)) 17
 site-kept c before k closed begins =

@@ -1,5 +1,5 @@
 -- Conflicts among the entries up to a place.
-use Rattle.std.proofs.Common.{◌≡◌, ◌≢◌, ℕ, suc, ◌+◌, ◌<◌, ◌≤◌, List, [], ◌∷◌, ◌++◌, length, get_or, take, drop, Some, true, false, Bool, refl, sym, ap, ◌∙◌, subst, arith, add-one, inl, inr, IsTrue, Any}
+use Rattle.std.proofs.Common.{◌≡◌, ◌≢◌, ℕ, ◌+◌, ◌<◌, ◌≤◌, List, length, get_or, take, drop, Some, true, false, refl, sym, ap, ◌∙◌, subst, arith, inl, inr, IsTrue, Any}
 use Rattle.std.specs.Prelude.{◌↔◌, slice_get}
 use Rattle.std.proofs.lemmas.Bool.{cases_order, false≢true}
 use Rattle.std.proofs.lemmas.List.{take_all, drop_all}

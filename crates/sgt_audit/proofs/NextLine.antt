@@ -1,5 +1,5 @@
 -- One more line behind lines that have no fault.
-use Rattle.std.proofs.Common.{◌≡◌, ℕ, ◌+◌, ◌<◌, List, [], ◌∷◌, ◌++◌, length, Some, None, refl, sym, ap, ◌∙◌, subst, arith, lit<, inl, inr, ◌⊎◌, Contains}
+use Rattle.std.proofs.Common.{◌≡◌, ℕ, List, [], ◌∷◌, ◌++◌, length, None, refl, sym, ap, ◌∙◌, subst, arith, lit<, inl, inr, Contains}
 use Rattle.std.proofs.lemmas.List.{append-nil}
 use Rattle.sgt_notation.specs.Spelling.{line_text, IsLine}
 use Rattle.sgt_notation.proofs.OneSpelling.{line-one}
@@ -14,7 +14,7 @@ use Rattle.sgt_cert.specs.declared.certificate.Step.{Step}
 use Rattle.sgt_cert.specs.declared.bundle.SiteLog.{SiteLog}
 use Rattle.sgt_audit.specs.declared.faults.Fault.{Fault}
 use Rattle.sgt_audit.specs.declared.faults.Fault.TheVariants as fault
-use Rattle.sgt_audit.specs.Faults.{fault_number, Keeps, AllKept, Stage, within, complete, Piece, whole, Rule, Breaks}
+use Rattle.sgt_audit.specs.Faults.{Keeps, Stage, within, whole, Rule, Breaks}
 use Rattle.sgt_audit.specs.Judging.{KeptBelow}
 use Rattle.sgt_audit.specs.Reading.{Begun, lines_read, IsBegun}
 use Rattle.sgt_audit.specs.Kept.{Means, IsStageOf}
@@ -22,7 +22,7 @@ use Rattle.sgt_audit.proofs.Cuts.{cut_append, last_cut}
 use Rattle.sgt_audit.proofs.Cycles.{push-one}
 use Rattle.sgt_audit.proofs.SectionLines.{last_end}
 use Rattle.sgt_audit.proofs.Streaming.{sections-whole, whole-sections}
-use Rattle.sgt_audit.proofs.Least.{kept-next, least-at}
+use Rattle.sgt_audit.proofs.Least.{least-at}
 
 -- the fault of a line is the fault of the text that spells it
 module _ (c : Certificate) (before : List SectionLine) (line : SectionLine) (is : IsLine line) (f : Fault) (breaks : Breaks (Keeps c before line) f) where

@@ -1,5 +1,5 @@
 -- Decisions where each transaction is in at most one: what is found is the only one there is.
-use Rattle.std.proofs.Common.{◌≡◌, ◌≢◌, ℕ, ◌<◌, ◌≤◌, List, Some, refl, sym, ap, ◌∙◌, subst, arith, inl, inr, IsTrue, true, All}
+use Rattle.std.proofs.Common.{◌≡◌, ◌≢◌, ℕ, List, Some, refl, sym, ap, ◌∙◌, arith, inl, inr, IsTrue}
 use Rattle.std.specs.Prelude.{◌↔◌, slice_get, nat_le, nat_lt}
 use Rattle.std.proofs.lemmas.Bool.{cases_order, le-leb, leb-true, lt-ltb, ltb-true}
 use Rattle.std.proofs.lemmas.Option.{same_Some}

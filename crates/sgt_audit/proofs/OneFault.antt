@@ -1,5 +1,5 @@
 -- A text has at most one first fault, and none where it spells a valid bundle.
-use Rattle.std.proofs.Common.{◌≡◌, ◌≢◌, ℕ, ◌+◌, ◌<◌, List, [], ◌∷◌, ◌++◌, map, length, refl, sym, ap, ap₂, ◌∙◌, subst, arith, inl, inr, ◌⊎◌, append_assoc}
+use Rattle.std.proofs.Common.{◌≡◌, ◌≢◌, ℕ, ◌+◌, List, [], ◌∷◌, ◌++◌, map, length, refl, sym, ap, ap₂, ◌∙◌, subst, arith, inl, inr, ◌⊎◌, append_assoc}
 use Rattle.std.specs.Prelude.{codes}
 use Rattle.std.specs.List.{AllByRecursion}
 use Rattle.std.proofs.lemmas.Bool.{cases_order}
@@ -12,31 +12,24 @@ use Rattle.sgt_cert.specs.Text.{certificate_text, sections_from, IsCertificate, 
 use Rattle.sgt_cert.specs.declared.certificate.Certificate.{Certificate}
 use Rattle.sgt_cert.proofs.Reading.{certificate-one}
 use Rattle.sgt_cert.proofs.OneLine.{certificate-one_line}
+use Rattle.sgt_cert.proofs.OneText.{line_front, sections-one}
 use Rattle.sgt_audit.specs.declared.faults.Fault.{Fault}
 use Rattle.sgt_audit.specs.declared.faults.Fault.TheVariants as fault
 use Rattle.sgt_audit.specs.Faults.{fault_number, Keeps, KeepsItself, AllKept, Stage, start, headed, within, complete, lines_so_far, IsFaultless, Piece, whole, last, ComesNext, Rule, Breaks, FirstFault, HasNoFault}
-use Rattle.sgt_audit.proofs.Cuts.{sections-one}
 use Rattle.sgt_audit.proofs.FaultNumbers.{number-one}
 
 -- ---- the next piece
 
 -- a text that goes on with a line feed is not what stands behind the last one
-has_lf : (xs ys : List ℕ) → HasNoLf (xs ++ 10 ∷ ys) → ⊥
+pub has_lf : (xs ys : List ℕ) → HasNoLf (xs ++ 10 ∷ ys) → ⊥
 has_lf xs ys h = go xs ys (recursion_from_All (λ b. b ≢ 10) (xs ++ 10 ∷ ys) h)
   where
     go : (xs ys : List ℕ) → AllByRecursion (λ b. b ≢ 10) (xs ++ 10 ∷ ys) → ⊥
     go [] ys h = h.0 refl
     go (x ∷ xs) ys h = go xs ys h.1
 
-no_lf : (l : List ℕ) → HasNoLf l → HasNot 10 l
+pub no_lf : (l : List ℕ) → HasNoLf l → HasNot 10 l
 no_lf l h = recursion_from_All (λ b. b ≢ 10) l h
-
-no_line : (l more : List ℕ) → l ++ 10 ∷ more ≡ [] → ⊥
-no_line [] more e = cc
-no_line (x ∷ l) more e = cc
-
-line_front : (l : List ℕ) (ls : List (List ℕ)) (rest : List ℕ) → text_of_lines (l ∷ ls) ++ rest ≡ l ++ 10 ∷ (text_of_lines ls ++ rest)
-line_front l ls rest = simp append_assoc
 
 -- where a line stands, that line comes next
 comes_line : (l more rest : List ℕ) (p : Piece) → HasNot 10 l → rest ≡ l ++ 10 ∷ more → ComesNext rest p → p ≡ whole l

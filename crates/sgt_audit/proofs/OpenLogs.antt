@@ -1,26 +1,23 @@
 -- The log that the lines read so far have open.
-use Rattle.std.proofs.Common.{◌≡◌, ℕ, suc, ◌+◌, ◌-◌, ◌<◌, List, [], ◌∷◌, ◌++◌, length, map, take, Option, Some, None, refl, sym, ap, ◌∙◌, subst, arith, append_assoc}
+use Rattle.std.proofs.Common.{◌≡◌, ℕ, suc, ◌-◌, List, [], ◌∷◌, ◌++◌, length, take, Some, None, sym, ap, ◌∙◌, subst, arith, append_assoc}
 use Rattle.std.specs.Prelude.{slice_get}
 use Rattle.std.specs.List.{last_or}
 use Rattle.std.proofs.lemmas.List.{append-nil, take_all}
 use Rattle.std.proofs.lemmas.Option.{none-some, slice_get_within}
 use Rattle.sgt_names.specs.declared.entry.Entry.{Entry}
-use Rattle.sgt_names.specs.declared.entry.Holding.{Holding}
 use Rattle.sgt_names.proofs.Places.{take-next}
 use Rattle.sgt_notation.specs.declared.SectionLine.{SectionLine}
 use Rattle.sgt_notation.specs.declared.SectionLine.TheVariants.{Site, Initial, Logged, Final, End}
 use Rattle.sgt_cert.specs.Text.{Begins, section_lines, sections_from}
 use Rattle.sgt_cert.specs.declared.certificate.Certificate.{Certificate}
 use Rattle.sgt_cert.specs.declared.bundle.SiteLog.{SiteLog}
-use Rattle.sgt_audit.specs.declared.faults.Fault.{Fault}
-use Rattle.sgt_audit.specs.declared.faults.Fault.TheVariants as fault
 use Rattle.sgt_audit.specs.Faults.{Keeps}
-use Rattle.sgt_audit.specs.Judging.{HasOpen, Judged, KeptBelow}
+use Rattle.sgt_audit.specs.Judging.{HasOpen, KeptBelow}
 use Rattle.sgt_audit.specs.Reading.{Begun, lines_read, open_lines, Fits, MayFollow, FitsBetween}
 use Rattle.sgt_audit.proofs.SectionLines.{items_in-is, entries_in-is, last_logged, up_to}
 use Rattle.sgt_audit.proofs.Cuts.{last-logged, IsClosed, section-closed}
 use Rattle.sgt_audit.proofs.Streaming.{begins-follow}
-use Rattle.sgt_audit.proofs.Least.{initial-kept, site-kept}
+use Rattle.sgt_audit.proofs.Least.{site-kept}
 
 last-place : (entries : List Entry) (m : ℕ) (g : Entry) → slice_get entries m ≡ Some g → length entries ≡ suc m → slice_get entries (length entries - 1) ≡ Some g
 last-place entries m g at len = ap (slice_get entries) (omega arith) ∙ at
@@ -66,11 +63,3 @@ kept-between c b line same none begins =
 -- what may stand in the open section
 pub fits-open : (b : Begun) (log : SiteLog) (line : SectionLine) → b.current ≡ Some log → Begins b.sites (lines_read b ++ line ∷ []) → Fits log line
 fits-open b log line here begins = subst (λ o. MayFollow b o line) here (begins-follow b line begins)
-
--- an item keeps every rule
-pub initial-inside : (c : Certificate) (before : List SectionLine) (log : SiteLog) (h : Holding) → HasOpen before log → Fits log (Initial h) → Begins c.sites (before ++ Initial h ∷ []) → KeptBelow (Keeps c before (Initial h)) 17
-initial-inside c before log h o fits begins = initial-kept c before h (λ e last. nothing log.entries fits.0 e (o.last e last).1) begins
-  where
-    nothing : (entries : List Entry) → entries ≡ [] → (e : Entry) → slice_get entries (length entries - 1) ≡ Some e → ⊥
-    nothing [] none e at = none-some e at
-    nothing (x ∷ entries) none e at = absurd cc

@@ -1,12 +1,12 @@
 -- What `all`, `any` and loops over a slice answer, where each test answers whether its element has a property.
-use Rattle.std.proofs.Common.{◌≡◌, ◌≢◌, ◌⊎◌, inl, inr, ℕ, zero, suc, arith, add-one, option_map, ◌+◌, ◌<◌, ◌≤◌, Bool, true, false, List, [], ◌∷◌, ◌++◌, length, map, get_or, take, drop, Some, None, IsTrue, refl, sym, ap, ◌∙◌, subst, All, AllPairs, Any, Contains, MatchBool}
+use Rattle.std.proofs.Common.{◌≡◌, ◌≢◌, inl, inr, ℕ, zero, suc, arith, add-one, option_map, ◌+◌, ◌<◌, ◌≤◌, Bool, true, false, List, [], ◌∷◌, ◌++◌, length, map, get_or, take, drop, Some, IsTrue, refl, sym, ap, ◌∙◌, subst, All, AllPairs, Any, Contains, MatchBool}
 use Rattle.std.specs.Prelude.{◌↔◌, slice_get, ◌==◌, not}
 use Rattle.std.specs.List.{AllWithin, HoldsAt}
 use Rattle.std.proofs.lemmas.Bool.{false≢true, true≢false, cases_eq, eq-eqb, eqb-true, ne_eqb}
 use Rattle.std.proofs.lemmas.List.{take_all}
 use Rattle.std.proofs.lemmas.List.Elements.{All-from_all_within, All-push}
 use Rattle.std.proofs.lemmas.List.Quantifiers.{all_pairs_push}
-use Rattle.std.proofs.lemmas.Iterator.Search.{true_from_All, true_from_Any}
+use Rattle.std.proofs.lemmas.Iterator.Search.{true_from_All}
 use Rattle.std.proofs.lemmas.Option.{slice_get-get_or, slice_get_within, get_or_from_slice_get, slice_get-map, same_Some}
 use Rattle.std.proofs.Math.Seq.{drop-cons}
 use Rattle.sgt_names.proofs.Places.{Contains_at, Contains-from_at, All_at, All-from_at, AllPairs_at, slice_get-take, take-next}
@@ -109,9 +109,6 @@ not-any P xs none k d lt p = none (k, get_or xs k d, lt, get_or_from_slice_get x
 
 pub not-contained : {X : Type 0} (xs : List X) (x : X) → (Contains xs x → ⊥) → All (λ a. a ≡ x → ⊥) xs
 not-contained xs x none k d lt e = none (Contains-from_at xs k x (slice_get-get_or xs k d lt ∙ ap Some e))
-
-pub contained-any : {X : Type 0} (xs : List X) (x : X) → Contains xs x → Any (λ a. (a ≡ x → ⊥) → ⊥) xs
-contained-any xs x c = let a = Contains_at xs x c in Any-from_at (λ a. (a ≡ x → ⊥) → ⊥) xs a.0 x a.1 (λ f. f refl)
 
 pub all-next-at : {X : Type 0} (P : X → Type 0) (xs : List X) (i : ℕ) (x : X) → slice_get xs i ≡ Some x → P x → All P (take i xs) → All P (take (i + 1) xs)
 all-next-at P xs i x at p all = subst (All P) (sym (ap (λ n. take n xs) (add-one i) ∙ take-next xs i x at)) (All-push P (take i xs) x all p)

@@ -1,5 +1,5 @@
 -- Sections read from bytes, line by line, against all that the bytes may spell.
-use Rattle.std.proofs.Common.{◌≡◌, ◌≢◌, ℕ, List, [], ◌∷◌, ◌++◌, length, map, Option, Some, None, Bool, true, false, inl, inr, refl, sym, ap, ap₂, ◌∙◌, subst, arith, append_assoc, All}
+use Rattle.std.proofs.Common.{◌≡◌, ℕ, List, [], ◌∷◌, ◌++◌, length, map, Option, Some, None, Bool, true, false, inl, inr, refl, sym, ap, ap₂, ◌∙◌, subst, arith, append_assoc, All}
 use Rattle.std.specs.Prelude.{codes, not}
 use Rattle.std.specs.Option.{SomeIff}
 use Rattle.std.specs.Str.{bytes_eq}
@@ -8,19 +8,19 @@ use Rattle.std.proofs.lemmas.Slice.Eq.{bytes_eq-Decides}
 use Rattle.std.specs.List.{AllByRecursion}
 use Rattle.std.proofs.lemmas.List.{append-nil, map-append}
 use Rattle.std.proofs.lemmas.List.Elements.{All-from_recursion, recursion_from_All, All-push}
-use Rattle.sgt_names.specs.Limits.{max_sites}
 use Rattle.sgt_notation.specs.Spelling.{line_text, text_of_lines, HasNoLf, IsLine}
 use Rattle.sgt_notation.specs.declared.SectionLine.{SectionLine}
-use Rattle.sgt_notation.proofs.OneSpelling.{HasNot, HasNot-from_test, cut_at_byte, line-one, line-one_line}
+use Rattle.sgt_notation.proofs.OneSpelling.{HasNot-from_test, cut_at_byte, line-one, line-one_line}
 use Rattle.sgt_cert.specs.Parts.{Parts}
-use Rattle.sgt_cert.specs.Text.{certificate_text, text_of, sections_from, Begins, AreSections, IsCertificate, IsBundle, Spells}
+use Rattle.sgt_cert.specs.Text.{certificate_text, text_of, sections_from, Begins, AreSections, IsBundle, Spells}
 use Rattle.sgt_cert.specs.declared.certificate.Certificate.{Certificate}
-use Rattle.sgt_cert.proofs.OneText.{sections-one, line_front, first_line, no_line, lines_front, lines-one, sections-lines}
+use Rattle.sgt_cert.proofs.OneText.{first_line, no_line, lines_front, lines-one, sections-lines}
 use Rattle.sgt_cert.proofs.OneLine.{certificate-one_line}
 use Rattle.sgt_audit.specs.Reading.{Begun, open_lines, lines_read}
 use Rattle.sgt_audit.specs.Spelled.{AnswersBundle, SpellsSections}
 use Rattle.sgt_cert.specs.declared.bundle.SiteLog.{SiteLog}
 use Rattle.sgt_audit.proofs.Going.{one-line}
+use Rattle.sgt_audit.proofs.OneFault.{has_lf, no_lf}
 use Rattle.sgt_audit.proofs.Streaming.{are-sections, sections-whole}
 
 -- the lines that were read, and then what is left
@@ -28,16 +28,6 @@ pub record IsAhead (sites : ℕ) (bytes : List ℕ) (b : Begun) (rest : List ℕ
   pub sites_are : b.sites ≡ sites
   pub each : All IsLine (lines_read b)
   pub text : bytes ≡ text_of_lines (map line_text (lines_read b)) ++ rest
-
-no_lf : (l : List ℕ) → HasNoLf l → HasNot 10 l
-no_lf l h = recursion_from_All (λ b. b ≢ 10) l h
-
-has_lf : (xs ys : List ℕ) → HasNoLf (xs ++ 10 ∷ ys) → ⊥
-has_lf xs ys h = go xs ys (recursion_from_All (λ b. b ≢ 10) (xs ++ 10 ∷ ys) h)
-  where
-    go : (xs ys : List ℕ) → AllByRecursion (λ b. b ≢ 10) (xs ++ 10 ∷ ys) → ⊥
-    go [] ys h = h.0 refl
-    go (x ∷ xs) ys h = go xs ys h.1
 
 module _ (sites : ℕ) (bytes : List ℕ) (b : Begun) (rest : List ℕ) (a : IsAhead sites bytes b rest) (lines : List SectionLine) (s : SpellsSections sites bytes lines) where
   -- what is left is the rest of the lines
@@ -96,13 +86,6 @@ ahead-next sites bytes b new rest line after read a cut is same sites_same lines
       ∙ sym (one-line (map line_text (lines_read b)) (line_text read) after)
       ∙ ap (λ ls. text_of_lines ls ++ after) (sym (ap (map line_text) lines ∙ map-append line_text (lines_read b) (read ∷ [])));
 }
-
-pub ahead-start : (sites : ℕ) (bytes : List ℕ) (b : Begun) → b ≡ record { sites = sites; whole = []; current = None } → IsAhead sites bytes b bytes
-ahead-start sites bytes b fresh = subst (λ b. IsAhead sites bytes b bytes) (sym fresh) (record { sites_are = refl; each = λ k d lt. absurd (omega arith); text = refl })
-
-pub ahead-done : (sites : ℕ) (bytes : List ℕ) (b : Begun) (rest : List ℕ) → IsAhead sites bytes b rest → rest ≡ [] → AreSections b.sites (lines_read b) → (b.sites ≡ sites) × SpellsSections sites bytes (lines_read b)
-ahead-done sites bytes b rest a none all =
-    (a.sites_are, record { each = a.each; all = subst (λ n. AreSections n (lines_read b)) a.sites_are all; text = a.text ∙ ap (λ (t : List ℕ). text_of_lines (map line_text (lines_read b)) ++ t) none ∙ append-nil (text_of_lines (map line_text (lines_read b))) })
 
 -- ---- the first two lines
 

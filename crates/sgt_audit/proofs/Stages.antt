@@ -1,27 +1,27 @@
 -- From one stage of a text to the next.
-use Rattle.std.proofs.Common.{◌≡◌, ◌≢◌, ℕ, ◌<◌, ◌≤◌, List, [], ◌∷◌, ◌++◌, length, map, Option, Some, None, refl, sym, ap, ap₂, ◌∙◌, subst, arith, inl, inr, ◌⊎◌}
+use Rattle.std.proofs.Common.{◌≡◌, ℕ, ◌<◌, ◌≤◌, List, [], ◌∷◌, ◌++◌, length, map, Option, Some, None, refl, sym, ap, ◌∙◌, subst, arith, inl, inr, ◌⊎◌}
 use Rattle.std.specs.Prelude.{codes}
 use Rattle.std.proofs.lemmas.Bool.{cases_eq}
 use Rattle.std.proofs.lemmas.List.{map-append}
 use Rattle.std.proofs.lemmas.Option.{none-some}
-use Rattle.sgt_notation.specs.Spelling.{line_text, IsLine}
-use Rattle.sgt_notation.specs.declared.fault.TheConstants.{MAX_LINE}
+use Rattle.sgt_notation.specs.Spelling.{line_text}
+use Rattle.sgt_notation.specs.Limits.{max_line}
 use Rattle.sgt_notation.specs.declared.SectionLine.{SectionLine}
 use Rattle.sgt_notation.specs.declared.SectionLine.TheVariants.{Site, Initial, Logged, Final, End}
 use Rattle.sgt_notation.proofs.Short.{line-short}
-use Rattle.sgt_cert.specs.Text.{certificate_text, sections_from, IsCertificate, AreSections}
+use Rattle.sgt_cert.specs.Text.{certificate_text, IsCertificate, AreSections}
 use Rattle.sgt_cert.specs.declared.certificate.Certificate.{Certificate}
 use Rattle.sgt_cert.proofs.Reading.{certificate-one}
 use Rattle.sgt_audit.specs.declared.faults.Fault.{Fault}
 use Rattle.sgt_audit.specs.declared.faults.Fault.TheVariants as fault
 use Rattle.sgt_audit.specs.declared.kept.Kept.{Kept}
-use Rattle.sgt_audit.specs.declared.machine.Progress.{Progress}
 use Rattle.sgt_audit.specs.declared.machine.Progress.TheVariants as at
-use Rattle.sgt_audit.specs.Faults.{fault_number, Keeps, KeepsItself, AllKept, Stage, start, headed, within, complete, lines_so_far, Piece, whole, last, Rule, Breaks}
+use Rattle.sgt_audit.specs.Faults.{fault_number, Keeps, KeepsItself, Stage, headed, within, complete, lines_so_far, Piece, whole, last, Rule, Breaks}
 use Rattle.sgt_audit.specs.Reading.{Begun, IsBegun, lines_read}
 use Rattle.sgt_audit.specs.Kept.{Means, IsStageOf, AnswersLine}
 use Rattle.sgt_audit.specs.Progress.{Stands, Follows, bytes_of}
 use Rattle.sgt_audit.specs.Ending.{limit_of}
+use Rattle.sgt_audit.proofs.Cuts.{no_cons}
 use Rattle.sgt_audit.proofs.Streaming.{whole-sections, are-sections}
 
 -- ---- which stage it is
@@ -87,10 +87,6 @@ module _ (c : Certificate) (is : IsCertificate c) (f : Fault) (breaks : Breaks (
 pub certificate-breaks : (c : Certificate) (l : List ℕ) (f : Fault) → IsCertificate c → l ≡ certificate_text c → Breaks (KeepsItself c.decisions) f → Breaks (Rule headed (whole l)) f
 certificate-breaks c l f is same breaks = subst (λ m. Breaks (Rule headed (whole m)) f) (sym same) (headed-breaks c is f breaks)
 
-no_cons : {A : Type 0} (front rest : List A) (l : A) → [] ≡ front ++ l ∷ rest → ⊥
-no_cons [] rest l e = cc
-no_cons (x ∷ front) rest l e = cc
-
 -- nothing behind it so far
 pub certificate-means : (c : Certificate) (b : Begun) → IsCertificate c → ((f : Fault) → KeepsItself c.decisions f) → IsBegun b → b ≡ record { sites = c.sites; whole = []; current = None } → Means c b []
 certificate-means c b is itself begun fresh = record {
@@ -103,7 +99,7 @@ certificate-means c b is itself begun fresh = record {
 -- ---- a line that is too long
 
 module _ (c : Certificate) (before : List SectionLine) where
-  long-within : (p : Piece) → MAX_LINE < length (bytes_of p) → Rule (within c before) p fault.Notation → ⊥
+  long-within : (p : Piece) → max_line < length (bytes_of p) → Rule (within c before) p fault.Notation → ⊥
   long-within (whole l) long (line, is, same) = let short = line-short line is in absurd (omega (arith, ap length same))
   long-within (last l) long le = absurd (omega arith)
 
@@ -136,10 +132,10 @@ module _ (c : Certificate) (before : List SectionLine) where
   below-notation p fault.Truncated lt = absurd (omega arith)
   below-notation p fault.Trailing lt = absurd (omega arith)
 
-  notation-breaks : (p : Piece) → MAX_LINE < length (bytes_of p) → Breaks (Rule (within c before) p) fault.Notation
+  notation-breaks : (p : Piece) → max_line < length (bytes_of p) → Breaks (Rule (within c before) p) fault.Notation
   notation-breaks p long = record { broken = long-within p long; least = below-notation p }
 
-  trailing-broken : (p : Piece) → MAX_LINE < length (bytes_of p) → Rule (complete c before) p fault.Trailing → ⊥
+  trailing-broken : (p : Piece) → max_line < length (bytes_of p) → Rule (complete c before) p fault.Trailing → ⊥
   trailing-broken (whole l) long h = h
   trailing-broken (last l) long none = absurd (omega (arith, ap length none))
 
@@ -182,7 +178,7 @@ module _ (c : Certificate) (before : List SectionLine) where
   below-trailing (whole l) fault.Truncated lt = tt
   below-trailing (last l) fault.Truncated lt = tt
 
-  trailing-breaks : (p : Piece) → MAX_LINE < length (bytes_of p) → Breaks (Rule (complete c before) p) fault.Trailing
+  trailing-breaks : (p : Piece) → max_line < length (bytes_of p) → Breaks (Rule (complete c before) p) fault.Trailing
   trailing-breaks p long = record { broken = trailing-broken p long; least = below-trailing p }
 
 limit-at : (s t : Stage) (n : ℕ) → s ≡ t → limit_of s < n → limit_of t < n
@@ -199,13 +195,13 @@ long-trails c before s p (inr done) all long = subst (λ s. Breaks (Rule s p) fa
 -- ---- the end of the input
 
 module _ (c : Certificate) (before : List SectionLine) (l : List ℕ) where
-  below-truncated : length l ≤ MAX_LINE → (g : Fault) → fault_number g < 18 → Rule (within c before) (last l) g
+  below-truncated : length l ≤ max_line → (g : Fault) → fault_number g < 18 → Rule (within c before) (last l) g
   below-truncated le fault.Notation lt = le
   below-truncated le fault.Truncated lt = absurd (omega arith)
   below-truncated le fault.Trailing lt = absurd (omega arith)
   below-truncated le _ lt = tt
 
-  truncated : length l ≤ MAX_LINE → Breaks (Rule (within c before) (last l)) fault.Truncated
+  truncated : length l ≤ max_line → Breaks (Rule (within c before) (last l)) fault.Truncated
   truncated le = record { broken = λ h. h; least = below-truncated le }
 
   trails : (l ≡ [] → ⊥) → Breaks (Rule (complete c before) (last l)) fault.Trailing

@@ -1,12 +1,11 @@
 -- What may follow the sections as far as they were read: exactly what begins some sections with them.
-use Rattle.std.proofs.Common.{◌≡◌, ◌≢◌, ℕ, zero, suc, ◌+◌, ◌-◌, ◌<◌, ◌≤◌, List, [], ◌∷◌, ◌++◌, length, map, take, drop, replicate, Option, Some, None, Bool, IsTrue, refl, sym, ap, ap₂, ◌∙◌, subst, arith, inl, inr, ◌⊎◌, append_assoc, zero-add, add-zero, add-one, All, AllPairs}
+use Rattle.std.proofs.Common.{◌≡◌, ℕ, zero, suc, ◌+◌, ◌-◌, List, [], ◌∷◌, ◌++◌, length, map, take, drop, replicate, Option, Some, None, Bool, IsTrue, refl, sym, ap, ap₂, ◌∙◌, subst, arith, inl, inr, ◌⊎◌, append_assoc, zero-add, add-zero, add-one, All, AllPairs}
 use Rattle.std.specs.Prelude.{◌↔◌, slice_get}
 use Rattle.std.proofs.lemmas.List.{append-nil, map-append, length-map, length-append, drop-map, take-append-drop, take_all, length-replicate}
 use Rattle.std.proofs.lemmas.List.Quantifiers.{all_pairs_push}
 use Rattle.std.proofs.lemmas.List.Elements.{All-append, All-replicate, All-cons, All-push}
 use Rattle.std.proofs.lemmas.Option.{slice_get_within}
 use Rattle.sgt_names.proofs.Places.{All-from_at, All_at, AllPairs_at, take-next}
-use Rattle.sgt_names.specs.Limits.{max_items, max_sites}
 use Rattle.sgt_names.specs.Log.{names}
 use Rattle.sgt_names.specs.declared.entry.Entry.{Entry}
 use Rattle.sgt_names.specs.declared.entry.Holding.{Holding}
@@ -16,13 +15,10 @@ use Rattle.sgt_cert.specs.Parts.{ComesBefore, IsShapedLog, IsShaped}
 use Rattle.sgt_cert.specs.Text.{section_lines, sections_from, Begins, AreSections}
 use Rattle.sgt_cert.specs.declared.bundle.SiteLog.{SiteLog}
 use Rattle.sgt_cert.proofs.OneText.{section-one}
-use Rattle.sgt_audit.specs.Reading.{Begun, open_lines, lines_read, IsOpenLog, HasRoomFor, IsBegun, Fits, FitsBetween, MayFollow, with_line, no_log, next_current, next_whole, with_next}
+use Rattle.sgt_audit.specs.Reading.{Begun, open_lines, lines_read, IsOpenLog, HasRoomFor, IsBegun, Fits, FitsBetween, MayFollow, with_line, no_log, with_next}
+use Rattle.sgt_audit.proofs.Cuts.{heads, tails, no_cons}
 
 -- ---- whole logs in front
-
-no_cons : {A : Type 0} (front rest : List A) (l : A) → [] ≡ front ++ l ∷ rest → ⊥
-no_cons [] rest l e = cc
-no_cons (x ∷ front) rest l e = cc
 
 split-whole : (k : ℕ) (ws logs : List SiteLog) (rest : List SectionLine) → sections_from k logs ≡ sections_from k ws ++ rest → (more : List SiteLog) × (logs ≡ ws ++ more) × (sections_from (k + length ws) more ≡ rest)
 split-whole k [] logs rest e = (logs, refl, ap (λ j. sections_from j logs) (add-zero k) ∙ e)
@@ -45,12 +41,6 @@ sections-append k (w ∷ ws) more =
 -- lines that begin otherwise
 abbrev NotFrom : {A B : Type 0} → (A → B) → List B → Type 0
 NotFrom {A} {B} f us = (a : A) (rest : List B) → us ≡ f a ∷ rest → ⊥
-
-heads : {A : Type 0} (x y : A) (xs ys : List A) → x ∷ xs ≡ y ∷ ys → x ≡ y
-heads x y xs ys e = cc
-
-tails : {A : Type 0} (x y : A) (xs ys : List A) → x ∷ xs ≡ y ∷ ys → xs ≡ ys
-tails x y xs ys e = cc
 
 -- the second list of one kind is a beginning of the first
 prefix-map : {A B : Type 0} (f : A → B) → ((a b : A) → f a ≡ f b → a ≡ b) → (xs ys : List A) (us vs : List B) → NotFrom f us → map f xs ++ us ≡ map f ys ++ vs

@@ -1,24 +1,22 @@
 -- The verdict on a text that was judged.
-use Rattle.std.proofs.Common.{◌≡◌, ℕ, List, [], Option, Some, None, IfSome, refl, sym, ap, ap₂, ◌∙◌, subst}
+use Rattle.std.proofs.Common.{◌≡◌, ℕ, List, Option, Some, None, IfSome, refl, sym, ap, ap₂, ◌∙◌, subst}
 use Rattle.sgt_notation.specs.Spelling.{text_of_lines}
 use Rattle.sgt_notation.specs.declared.SectionLine.{SectionLine}
 use Rattle.sgt_cert.specs.Parts.{Parts}
 use Rattle.sgt_cert.specs.Valid.{IsRanked, IsValidLog, IsValid}
 use Rattle.sgt_cert.specs.Text.{AreSections, IsBundle, Spells}
-use Rattle.sgt_cert.specs.declared.certificate.Certificate.{Certificate}
 use Rattle.sgt_cert.specs.declared.bundle.SiteLog.{SiteLog}
 use Rattle.sgt_cert.proofs.Headline.{valid-agrees}
 use Rattle.sgt_cert.proofs.OneText.{bundle-one}
 use Rattle.sgt_names.proofs.Places.{All-from_at, All_at}
 use Rattle.sgt_audit.specs.declared.kept.Kept.{Kept}
-use Rattle.sgt_audit.specs.declared.reading.Judged.{Judged}
 use Rattle.sgt_audit.specs.declared.reading.Judged.TheVariants as judged
 use Rattle.sgt_audit.specs.declared.verdict.Verdict.{Verdict}
 use Rattle.sgt_audit.specs.declared.verdict.Verdict.TheVariants.{Yes, No}
 use Rattle.sgt_audit.specs.Faults.{complete, lines_so_far}
 use Rattle.sgt_audit.specs.Kept.{Means}
 use Rattle.sgt_audit.specs.Reads.{IsJudged}
-use Rattle.sgt_audit.specs.Verdict.{IsVerdict, SaysHeadline, HoldsHeadline, yes_of}
+use Rattle.sgt_audit.specs.Verdict.{IsVerdict, SaysHeadline, yes_of}
 use Rattle.sgt_audit.proofs.NoFault.{bundle_of, spells-bundle, valid-bundle}
 use Rattle.sgt_audit.proofs.Faultless.{valid-no_fault}
 use Rattle.sgt_audit.proofs.OneFault.{first_fault-excluded, first_fault-one}

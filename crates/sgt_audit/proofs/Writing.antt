@@ -1,10 +1,8 @@
 -- What a writer holds after some writes.
 use Rattle.std.proofs.Common.{◌≡◌, ℕ, ◌-◌, List, ◌++◌, length, take, drop, Option, Some, None, sym, arith, append_assoc, append-nil}
-use Rattle.std.specs.Prelude.{⊤}
 use Rattle.std.proofs.lemmas.Grind.{common_steps}
 use Rattle.std.specs.Io.KnownBytes.{Appends}
-use Rattle.sgt_names.specs.Device.{KeepsOrForgets}
-use Rattle.sgt_audit.specs.Verdict.{AppendsOrForgets, WroteFront}
+use Rattle.sgt_audit.specs.Verdict.{WroteFront}
 use Rattle.sgt_audit.specs.declared.verdict.Verdict.TheVariants.{Yes}
 
 -- known bytes that grew by a, and then by b
@@ -13,12 +11,6 @@ appends_on None mid new a b first later = tt
 appends_on (Some xs) None new a b first later = absurd first
 appends_on (Some xs) (Some ys) None a b first later = absurd later
 appends_on (Some xs) (Some ys) (Some zs) a b first later = rw (later, first) (append_assoc xs a b)
-
-pub forgets_on : (told mid new : Option (List ℕ)) (a : List ℕ) → Appends told mid a → KeepsOrForgets mid new → AppendsOrForgets told new a
-forgets_on None mid new a first later = tt
-forgets_on (Some xs) None new a first later = absurd first
-forgets_on (Some xs) (Some ys) None a first later = tt
-forgets_on (Some xs) (Some ys) (Some zs) a first later = rw later first
 
 pub tail_whole : (bs : List ℕ) (i : ℕ) → take (length bs - i) (drop i bs) ≡ drop i bs
 tail_whole bs i = grind (arith, common_steps)

@@ -1,7 +1,7 @@
 -- The end of the input, and how long a line may be.
 use Rattle.std.specs.Prelude.{◌≡◌, ℕ, ◌-◌, ◌^◌, List, [], Result, Ok, Err}
 use Rattle.sgt_notation.specs.declared.SectionLine.{SectionLine}
-use Rattle.sgt_notation.specs.declared.fault.TheConstants.{MAX_LINE}
+use Rattle.sgt_notation.specs.Limits.{max_line}
 use Rattle.sgt_cert.specs.Text.{AreSections}
 use Rattle.sgt_audit.specs.declared.faults.Fault.{Fault}
 use Rattle.sgt_audit.specs.declared.kept.Kept.{Kept}
@@ -16,4 +16,4 @@ EndsWith s l (Err f) = Breaks (Rule s (last l)) f
 -- how long the next line may be
 abbrev pub limit_of : Stage → ℕ
 limit_of headed = 2 ^ 64 - 1
-limit_of _ = MAX_LINE
+limit_of _ = max_line

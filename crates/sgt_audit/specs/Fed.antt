@@ -1,5 +1,5 @@
 -- What an auditor was fed.
-use Rattle.std.specs.Prelude.{◌≡◌, ℕ, ◌+◌, ◌<◌, ◌≤◌, ◌^◌, List, [], ◌∷◌, ◌++◌, length, codes}
+use Rattle.std.specs.Prelude.{◌≡◌, ℕ, ◌+◌, ◌<◌, ◌≤◌, ◌^◌, List, ◌∷◌, ◌++◌, length, codes}
 use Rattle.sgt_notation.specs.Spelling.{text_of_lines}
 use Rattle.sgt_cert.specs.Text.{certificate_text}
 use Rattle.sgt_cert.specs.declared.certificate.Certificate.{Certificate}

@@ -5,7 +5,7 @@ use Rattle.sgt_notation.specs.declared.SectionLine.{SectionLine}
 use Rattle.sgt_cert.specs.Text.{AreSections}
 use Rattle.sgt_cert.specs.declared.certificate.Certificate.{Certificate}
 use Rattle.sgt_audit.specs.declared.faults.Fault.{Fault}
-use Rattle.sgt_audit.specs.Faults.{AllKept, Stage, within, complete, lines_so_far, Piece, whole, Rule, Breaks}
+use Rattle.sgt_audit.specs.Faults.{AllKept, Stage, within, complete, whole, Rule, Breaks}
 use Rattle.sgt_audit.specs.Reading.{Begun, IsBegun, lines_read}
 
 -- the certificate and the sections are what these lines say, none of which has a fault

@@ -2,7 +2,7 @@
 
 ghost use Rattle.std.specs.Prelude.{◌≡◌, ◌≢◌, ℕ, ◌<◌, ◌≤◌, ◌⊎◌, List, Err, length, IfOk, OnErr, IfSome, IsErrOf};
 ghost use Rattle.std.specs.Io.KnownBytes.{Appends};
-ghost use Rattle.sgt_notation.specs.declared.lines.TheConstants.{MOST_READS};
+ghost use Rattle.sgt_notation.specs.Limits.{most_reads};
 ghost use Rattle.sgt_audit.specs.Reads.{IsJudged};
 ghost use Rattle.sgt_audit.specs.Verdict.{IsVerdict, IsAudited, HandsOutValid, SaysHeadline, WroteFront, text_of};
 
@@ -30,7 +30,7 @@ pub fn audit_bundle<R: Source>(alloc: Global, reader: &mut R) -> Result<Audited,
     ensures valid { IfOk result HandsOutValid }
     ensures quiet { IfOk result (λ _. R.failures reader.new ≡ R.failures reader.old) }
     ensures read_fault { IsErrOf result EngineFail.ReadFault →
-        ((R.failures reader.old < R.failures reader.new) ⊎ IfSome (R.tells reader.old) (λ bytes. MOST_READS ≤ length bytes)) }
+        ((R.failures reader.old < R.failures reader.new) ⊎ IfSome (R.tells reader.old) (λ bytes. most_reads ≤ length bytes)) }
     ensures write_fault { result ≢ Err EngineFail.WriteFault }
 {
     match judge(alloc, reader) {
@@ -73,7 +73,7 @@ pub fn audit<R: Source, W: Sink>(
     ensures written { IfOk result (λ v. Appends (W.holds writer.old) (W.holds writer.new) (text_of v)) }
     ensures front { OnErr result (WroteFront (W.holds writer.old) (W.holds writer.new)) }
     ensures read_fault { IsErrOf result EngineFail.ReadFault →
-        ((R.failures reader.old < R.failures reader.new) ⊎ IfSome (R.tells reader.old) (λ bytes. MOST_READS ≤ length bytes)) }
+        ((R.failures reader.old < R.failures reader.new) ⊎ IfSome (R.tells reader.old) (λ bytes. most_reads ≤ length bytes)) }
     ensures write_fault { IsErrOf result EngineFail.WriteFault → W.failures writer.old < W.failures writer.new }
 {
     let verdict = match judge(alloc, reader) {

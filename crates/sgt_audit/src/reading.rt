@@ -1,7 +1,7 @@
 //! A text judged as its lines come from a reader.
 
 ghost use Rattle.std.specs.Prelude.{◌≡◌, ◌≢◌, ◌<◌, ◌≤◌, ◌⊎◌, [], Ok, Err, length, IfOk, IfSome, IsErrOf};
-ghost use Rattle.sgt_notation.specs.declared.lines.TheConstants.{MOST_READS};
+ghost use Rattle.sgt_notation.specs.Limits.{most_reads};
 ghost use Rattle.sgt_audit.specs.Faults.{Stage};
 ghost use Rattle.sgt_audit.specs.Ending.{limit_of};
 ghost use Rattle.sgt_audit.specs.Progress.{Stands};
@@ -39,7 +39,7 @@ pub fn judge<R: Source>(alloc: Global, reader: &mut R) -> Result<Judged, EngineF
     ensures all { IfOk result IsAll }
     ensures quiet { IfOk result (λ _. R.failures reader.new ≡ R.failures reader.old) }
     ensures read_fault { IsErrOf result EngineFail.ReadFault →
-        ((R.failures reader.old < R.failures reader.new) ⊎ IfSome (R.tells reader.old) (λ bytes. MOST_READS ≤ length bytes)) }
+        ((R.failures reader.old < R.failures reader.new) ⊎ IfSome (R.tells reader.old) (λ bytes. most_reads ≤ length bytes)) }
     ensures write_fault { result ≢ Err EngineFail.WriteFault }
 {
     let Ok(mut lines) = Lines::new(alloc) else {

@@ -1,6 +1,4 @@
-use Rattle.std.proofs.Common.{◌∙◌, sym}
-use Rattle.sgt_cert.specs.Parts.{Parts}
-use Rattle.sgt_audit.proofs.SpelledLines.{some-line, first-is, some-second, second-is, spells-sections, sections-same, read-spells, read-only, bundle-answers, equal-lines, other-lines}
+use Rattle.sgt_audit.proofs.SpelledLines.{some-line, first-is, some-second, second-is, spells-sections, read-spells, read-only, bundle-answers, equal-lines, other-lines}
 use Rattle.sgt_audit.proofs.bundles.read_bundle.Goals as goal
 
 pub returns-in-None-clause-bundle : goal.returns-in-None-clause-bundle

@@ -1,8 +1,6 @@
-use Rattle.std.proofs.Common.{arith}
 use Rattle.sgt_names.specs.Name.{Name}
 use Rattle.sgt_names.specs.Entry.{Repeats}
 use Rattle.sgt_names.specs.declared.entry.Entry.{Entry}
-use Rattle.sgt_cert.specs.Valid.{EndInOrder, RiseInRank}
 use Rattle.sgt_audit.proofs.Slices.{all-next, all-left, all-through, refuted}
 use Rattle.sgt_audit.proofs.decided.is_first.Goals as goal
 

@@ -1,8 +1,6 @@
 use Rattle.std.proofs.Common.{All, take}
 use Rattle.sgt_names.specs.Name.{Name}
 use Rattle.sgt_names.specs.Entry.{Repeats}
-use Rattle.sgt_cert.specs.Certificate.{IsDecidedOnce}
-use Rattle.sgt_cert.specs.Valid.{EndInOrder, RiseInRank}
 use Rattle.sgt_audit.proofs.decided.is_first.Given as goal
 
 abbrev pub invariant-loop-earlier : goal.invariant-loop-earlier

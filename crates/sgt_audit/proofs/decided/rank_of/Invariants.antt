@@ -1,4 +1,4 @@
-use Rattle.std.proofs.Common.{◌≡◌, ◌<◌, ℕ}
+use Rattle.std.proofs.Common.{◌<◌, ℕ}
 use Rattle.sgt_cert.specs.Certificate.{IsCommitted}
 use Rattle.sgt_audit.proofs.decided.rank_of.Given as goal
 

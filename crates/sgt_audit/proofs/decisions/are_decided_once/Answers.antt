@@ -1,7 +1,7 @@
 use Rattle.std.proofs.Common.{◌≡◌, ◌≢◌, sym, ◌∙◌}
 use Rattle.sgt_cert.specs.Certificate.{decided}
 use Rattle.sgt_cert.specs.declared.certificate.Decision.{Decision}
-use Rattle.sgt_audit.proofs.Slices.{here, pairs-next, pairs-left, pairs-through, refuted, any-not, not-any, any-map, all-map}
+use Rattle.sgt_audit.proofs.Slices.{here, pairs-next, pairs-left, pairs-through, refuted, not-any, any-map, all-map}
 use Rattle.sgt_audit.proofs.decisions.are_decided_once.Goals as goal
 
 pub returns-then-is_decided : goal.returns-then-is_decided

@@ -1,4 +1,4 @@
-use Rattle.std.proofs.Common.{◌≡◌, ◌≢◌, ap, refl}
+use Rattle.std.proofs.Common.{◌≡◌, ◌≢◌}
 use Rattle.sgt_cert.specs.declared.certificate.Step.{Step}
 use Rattle.sgt_audit.proofs.Slices.{here, pairs-next, pairs-left, pairs-through, refuted, any-not, not-any}
 use Rattle.sgt_audit.proofs.decisions.are_distinct.Goals as goal

@@ -1,4 +1,4 @@
-use Rattle.std.proofs.Common.{refl, arith}
+use Rattle.std.proofs.Common.{arith}
 use Rattle.std.proofs.lemmas.Bool.{false≢true}
 use Rattle.std.proofs.lemmas.List.{nil_from_length}
 use Rattle.sgt_audit.proofs.Cycles.{is-cycle, cycle-closed, cycle-long, cycle-apart, cycle-through, no-walk}

@@ -1,4 +1,4 @@
-use Rattle.sgt_audit.proofs.Least.{end-block, end-ended, end-kept}
+use Rattle.sgt_audit.proofs.Least.{end-ended, end-kept}
 use Rattle.sgt_audit.proofs.Slices.{refuted}
 use Rattle.sgt_audit.proofs.judging.judge_end.Goals as goal
 

@@ -1,4 +1,4 @@
-use Rattle.std.proofs.Common.{◌≡◌, All, take}
+use Rattle.std.proofs.Common.{take}
 use Rattle.sgt_names.specs.Log.{Conflicts}
 use Rattle.sgt_audit.proofs.walks.have_conflict.Given as goal
 

@@ -1,4 +1,4 @@
-use Rattle.std.proofs.Common.{List, ℕ, sym, ap, subst, ◌∙◌, arith}
+use Rattle.std.proofs.Common.{sym, ap, subst, ◌∙◌, arith}
 use Rattle.sgt_notation.specs.Spelling.{text_of_lines}
 use Rattle.sgt_audit.specs.Fed.{HasRead, bundle_lines}
 use Rattle.sgt_audit.specs.Verdict.{IsVerdict, yes_of}

@@ -1,6 +1,5 @@
-use Rattle.std.proofs.Common.{◌∷◌, [], ◌++◌, sym, ap, ◌∙◌, refl, subst}
+use Rattle.std.proofs.Common.{◌∷◌, [], ◌++◌, sym, subst}
 use Rattle.sgt_cert.specs.Certificate.{IsDecidedOnce}
-use Rattle.sgt_notation.specs.declared.SectionLine.{SectionLine}
 use Rattle.sgt_audit.specs.declared.faults.Fault.TheVariants as fault
 use Rattle.sgt_audit.specs.Kept.{Means}
 use Rattle.sgt_audit.proofs.NextLine.{line-breaks, walks-broken, added-open, added-last, walks-at}

@@ -1,4 +1,4 @@
-use Rattle.std.proofs.Common.{sym, subst}
+use Rattle.std.proofs.Common.{subst}
 use Rattle.sgt_audit.specs.Progress.{Stands}
 use Rattle.sgt_audit.proofs.Stages.{headed-follows, reading-follows}
 use Rattle.sgt_audit.proofs.machine.Machine.line.Goals as goal

@@ -1,4 +1,4 @@
-use Rattle.std.proofs.Common.{sym, subst}
+use Rattle.std.proofs.Common.{subst}
 use Rattle.sgt_audit.specs.Progress.{Stands}
 use Rattle.sgt_audit.proofs.Stages.{long-breaks, long-trails}
 use Rattle.sgt_audit.proofs.Slices.{refuted}

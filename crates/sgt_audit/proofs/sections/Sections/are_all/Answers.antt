@@ -1,4 +1,4 @@
-use Rattle.std.proofs.Common.{refl, ◌∙◌}
+use Rattle.std.proofs.Common.{◌∙◌}
 use Rattle.sgt_audit.proofs.Adding.{not-all, all-counted}
 use Rattle.sgt_audit.proofs.sections.Sections.are_all.Goals as goal
 
