@@ -69,6 +69,10 @@ pub fn serial<R: Source, W: Sink>(
     ensures read_fault { IsErrOf result EngineFail.ReadFault →
         ((R.failures reader.old < R.failures reader.new) ⊎ IfSome (R.tells reader.old) (λ bytes. MOST_READS ≤ length bytes)) }
     ensures write_fault { IsErrOf result EngineFail.WriteFault → W.failures writer.old < W.failures writer.new }
+
+    // A fault of a device isn't passed over.
+    ensures quiet_reader { IfOk result (λ _. R.failures reader.new ≡ R.failures reader.old) }
+    ensures quiet_writer { result ≢ Err EngineFail.WriteFault → W.failures writer.new ≡ W.failures writer.old }
 {
     let audited = match audit_bundle(alloc, reader) {
         Ok(audited) => audited,
