@@ -1,9 +1,8 @@
 -- What a writer holds after some writes.
-use Rattle.std.proofs.Common.{◌≡◌, ℕ, ◌-◌, List, ◌++◌, length, take, drop, Option, Some, None, sym, arith, append_assoc, append-nil}
+use Rattle.std.proofs.Common.{◌≡◌, ℕ, ◌-◌, List, [], ◌++◌, length, take, drop, Option, Some, None, sym, arith, append_assoc, append-nil}
 use Rattle.std.proofs.lemmas.Grind.{common_steps}
 use Rattle.std.specs.Io.KnownBytes.{Appends}
-use Rattle.sgt_audit.specs.Verdict.{WroteFront}
-use Rattle.sgt_audit.specs.declared.verdict.Verdict.TheVariants.{Yes}
+use Rattle.sgt_audit.specs.Verdict.{AppendsOrForgets}
 
 -- known bytes that grew by a, and then by b
 pub appends_on : (told mid new : Option (List ℕ)) (a b : List ℕ) → Appends told mid a → Appends mid new b → Appends told new (a ++ b)
@@ -15,6 +14,6 @@ appends_on (Some xs) (Some ys) (Some zs) a b first later = rw (later, first) (ap
 pub tail_whole : (bs : List ℕ) (i : ℕ) → take (length bs - i) (drop i bs) ≡ drop i bs
 tail_whole bs i = grind (arith, common_steps)
 
-pub wrote_nothing : (told : Option (List ℕ)) → WroteFront told told
-wrote_nothing None = (Yes 0 0 0, 0, tt)
-wrote_nothing (Some xs) = (Yes 0 0 0, 0, sym (append-nil xs))
+pub wrote_nothing : (held : Option (List ℕ)) → AppendsOrForgets held held []
+wrote_nothing None = tt
+wrote_nothing (Some xs) = sym (append-nil xs)

@@ -37,6 +37,7 @@ impl Auditor {
     /// An auditor of a bundle with this certificate, which it judges. Memory alone is a refusal.
     pub fn new(alloc: Global, certificate: Certificate) -> Result<Auditor, EngineFail>
         ensures read { HasNoLf (certificate_text certificate) → IfOk result (λ a. HasFed a certificate []) }
+        ensures going { IfOk result (λ a. HasFailed a → ⊥) }
         ensures err { IfErr result (λ e. e ≡ EngineFail.Memory) }
     {
         let Ok(line) = to_line(alloc, &certificate) else {
@@ -61,6 +62,7 @@ impl Auditor {
     pub fn feed(&mut self, line: &[u8]) -> Result<(), EngineFail>
         requires { HasNoLf line.now }
         ensures read { (c : Certificate) (fed : List (List ℕ)) → HasFed self.old c fed → HasFed self.new c (fed ++ line.now ∷ []) }
+        ensures going { OnOk result (HasFailed self.new → ⊥) }
         ensures err { IfErr result (λ e. (e ≡ EngineFail.Memory) × HasFailed self.new) }
         ensures spent { HasFailed self.old → result ≡ Err EngineFail.Memory }
     {
@@ -87,7 +89,7 @@ impl Auditor {
     /// The verdict on the lines fed, which are all.
     pub fn end(self) -> Result<Verdict, EngineFail>
         ensures verdict { (c : Certificate) (fed : List (List ℕ)) → HasFed self c fed → length fed + 3 < 2 ^ 64 → IfOk result (IsVerdict (text_of_lines (bundle_lines c fed))) }
-        ensures err { IfErr result (λ e. e ≡ EngineFail.Memory) }
+        ensures err { IfErr result (λ e. (e ≡ EngineFail.Memory) × HasFailed self) }
         ensures spent { HasFailed self → result ≡ Err EngineFail.Memory }
     {
         let Auditor { standing } = self;

@@ -1,3 +1,4 @@
+use Rattle.std.proofs.Common.{inl}
 use Rattle.sgt_audit.specs.Verdict.{IsVerdict, SaysHeadline}
 use Rattle.sgt_audit.specs.Reads.{IsJudged}
 use Rattle.sgt_audit.proofs.Verdicts.{told-map, verdict-headline}
@@ -5,7 +6,7 @@ use Rattle.sgt_audit.proofs.Writing.{wrote_nothing}
 use Rattle.sgt_audit.proofs.engine.audit.Goals as goal
 
 pub returns-in-Err-clause-front : goal.returns-in-Err-clause-front
-returns-in-Err-clause-front g c = wrote_nothing (g.W.Sink.holds c.args.writer.now)
+returns-in-Err-clause-front g c = inl (wrote_nothing (g.W.Sink.holds c.args.writer.now))
 
 pub returns-clause-verdict : goal.returns-clause-verdict
 returns-clause-verdict g c = told-map (IsJudged c.in-Ok.judged) (λ bytes. IsVerdict bytes c.verdict_on-verdict.result) _ c.verdict_on-verdict.ensures c.in-Ok.ensures.judged
