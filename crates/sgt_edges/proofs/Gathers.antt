@@ -241,15 +241,23 @@ module _ (s : Store) (ts : List Touch) (me : Handle) where
       by_side e (inr is) = (is.0, edge-whole s me ts t e.label.item e.from e.to e.label.kind (Contains-from_at ts i t here) is.1)
 
   -- and in the end all of them
-  pub gathers-given : (i : ℕ) (edges : List Edge) → Gathers s ts me i edges → All (IsGiven s ts me) edges
-  gathers-given i edges so_far = All-from_at (IsGiven s ts me) edges (λ n e at. so_far.given e (Contains-from_at edges n e at))
+  pub gathers-every : (i : ℕ) (edges : List Edge) → length ts ≤ i → Gathers s ts me i edges → (e : Edge) → Contains edges e ↔ IsGiven s ts me e
+  gathers-every i edges end so_far e = (so_far.given e, every)
+    where
+      every : IsGiven s ts me e → Contains edges e
+      every is =
+          let part = edge-part s me ts e.label.item e.from e.to e.label.kind is.1 in
+          let at = Contains_at ts part.0 part.1 in
+          let lt = slice_get_within ts at.0 part.0 at.1 in
+          let here : edge s.number e.from e.to e.label.item e.label.kind ≡ e = ap (λ n. edge n e.from e.to e.label.item e.label.kind) (sym is.0) in
+          subst (Contains edges) here (so_far.each at.0 part.0 (omega (arith, lt, end)) at.1 e.label.item e.from e.to e.label.kind part.2)
 
-  pub gathers-all : (i : ℕ) (edges : List Edge) → length ts ≤ i → Gathers s ts me i edges → StandsForAll s ts me edges
-  gathers-all i edges end so_far x f t k is =
-      let part = edge-part s me ts x f t k is in
-      let at = Contains_at ts part.0 part.1 in
-      let lt = slice_get_within ts at.0 part.0 at.1 in
-      given (edge s.number f t x k) (so_far.each at.0 part.0 (omega (arith, lt, end)) at.1 x f t k part.2) refl
+  -- where they are all and nothing else, each is one of the draft, and they stand for all
+  pub every-given : (edges : List Edge) → ((e : Edge) → Contains edges e ↔ IsGiven s ts me e) → All (IsGiven s ts me) edges
+  every-given edges every = All-from_at (IsGiven s ts me) edges (λ n e at. (every e).0 (Contains-from_at edges n e at))
+
+  pub every-stands : (edges : List Edge) → ((e : Edge) → Contains edges e ↔ IsGiven s ts me e) → StandsForAll s ts me edges
+  every-stands edges every x f t k is = given (edge s.number f t x k) ((every (edge s.number f t x k)).1 (refl, is)) refl
 
   -- a version of an item that is too new is one of the draft
   pub item-new : Any (IsTooNew s) ts → SeesTooNew s ts

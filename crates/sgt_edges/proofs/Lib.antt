@@ -1,3 +1,4 @@
 mod Logged
 mod Unlisted
 mod Gathers
+mod Joined

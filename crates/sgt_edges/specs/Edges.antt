@@ -39,11 +39,14 @@ pub data IsEdge (s : Store) (touched : List Touch) (me : Handle) (x : Name) : Ha
   wrote_too : (k : ℕ) (h : Handle) → IsToWrite s touched x → IsWriter s x k h → IsEdge s touched me x h me Ww
   read_it : (h : Handle) → IsToWrite s touched x → HasReader s x h → IsEdge s touched me x h me Rw
 
--- an edge between two committed transactions on the item
-pub data IsOldEdge (s : Store) (x : Name) : Handle → Handle → Type 0 where
-  write_read : (k : ℕ) (h : Handle) (r : Reader) → IsReader s.installed s.entries x r → k < r.version → IsWriter s x k h → IsOldEdge s x h r.handle
-  read_write : (k : ℕ) (h : Handle) (r : Reader) → IsReader s.installed s.entries x r → r.version ≤ k → IsWriter s x k h → IsOldEdge s x r.handle h
-  write_write : (j k : ℕ) (g h : Handle) → j < k → IsWriter s x j g → IsWriter s x k h → IsOldEdge s x g h
+-- an edge between two committed transactions: a conflict of the log between them on the item
+pub record IsOldEdge (s : Store) (x : Name) (from to : Handle) : Type 0 where
+  pub first : ℕ
+  pub second : ℕ
+  pub from_first : handle_of s.installed first ≡ Some from
+  pub to_second : handle_of s.installed second ≡ Some to
+  pub kind : Kind
+  pub conflict : Conflicts s.entries kind x first second
 
 -- an edge that is given is one of the draft's here
 abbrev pub IsGiven : Store → List Touch → Handle → Edge → Type 0
@@ -54,6 +57,13 @@ pub data Walks (s : Store) (x : Name) (edges : List Edge) : Handle → Handle �
   given : (e : Edge) → Contains edges e → e.label.item ≡ x → Walks s x edges e.from e.to
   old : (g h : Handle) → IsOldEdge s x g h → Walks s x edges g h
   on : (f g h : Handle) → Walks s x edges f g → Walks s x edges g h → Walks s x edges f h
+
+-- an edge between me and a committed transaction: from its handle to mine, or from mine to it
+pub record JoinsCommitted (s : Store) (me from to : Handle) : Type 0 where
+  pub other : ℕ
+  pub handle : Handle
+  pub given : handle_of s.installed other ≡ Some handle
+  pub ends : ((from ≡ handle) × (to ≡ me)) ⊎ ((from ≡ me) × (to ≡ handle))
 
 -- the log of the site, followed by the transaction's private writes there
 abbrev pub followed : Store → ℕ → List Touch → List Entry

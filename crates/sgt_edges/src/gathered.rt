@@ -5,6 +5,7 @@ ghost use Rattle.sgt_names.specs.declared.entry.Kind.{Kind};
 ghost use Rattle.sgt_site.specs.Store.{IsSite, IsReader, version_at, writers_of};
 ghost use Rattle.sgt_site.specs.declared.cell.Reader.{Reader as CommittedReader};
 ghost use Rattle.sgt_edges.specs.Edges.{IsGiven, StandsForAll, SeesTooNew, RefusesEdges};
+ghost use Rattle.sgt_edges.specs.declared.edge.Edge.{Edge as AnEdge};
 ghost use Rattle.sgt_edges.specs.Gathered.{IsTooNew, AddsEdges, AddsOfRead, AddsOfWrite, label_at};
 
 use crate::edge::{Edge, EdgeList};
@@ -26,11 +27,25 @@ pub fn gather(alloc: Global, site: &Site, draft: &Draft, me: Handle) -> Result<E
     if sees_too_new(site, touched) {
         return Err(EdgeFault::SeenTooNew);
     }
+    match every_edge(alloc, site, touched, me) {
+        Ok(edges) => Ok(edges),
+        Err(_) => Err(EdgeFault::Memory),
+    }
+}
+
+// The edges of the draft here: all of them, and nothing else.
+fn every_edge(
+    alloc: Global,
+    site: &Site,
+    touched: &[Touch],
+    me: Handle,
+) -> Result<EdgeList, AllocError>
+    requires { ¬ Any (IsTooNew site.now) touched.now }
+    ensures { IfOk result (λ edges. (e : AnEdge) → Contains edges e ↔ IsGiven site.now touched.now me e) }
+{
     let mut edges = EdgeList::new(alloc);
     for t in touched {
-        if add_edges(&mut edges, site, t, me).is_err() {
-            return Err(EdgeFault::Memory);
-        }
+        add_edges(&mut edges, site, t, me)?;
     }
     Ok(edges)
 }

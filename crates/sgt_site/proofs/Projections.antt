@@ -56,7 +56,7 @@ length-writers ws (Write tx y v ∷ es) x all =
       | inr miss ↦ rw miss rest
     ]
 
-writer_is : (ws : List Writer) (x : Name) (e : Entry) (w : Writer) → writer ws x e ≡ Some w → (v : ℕ) × (e ≡ Write w.tx x v) × (handle_of ws w.tx ≡ Some w.handle)
+pub writer_is : (ws : List Writer) (x : Name) (e : Entry) (w : Writer) → writer ws x e ≡ Some w → (v : ℕ) × (e ≡ Write w.tx x v) × (handle_of ws w.tx ≡ Some w.handle)
 writer_is ws x (Write tx y v) w h =
     let c = if_some (bytes_eq y x) (option_and_then (λ k. Some (record { tx = tx; handle = k })) (handle_of ws tx)) w h in
     option_and_then_some (λ k. Some (record { tx = tx; handle = k })) (handle_of ws tx) w c.1 (λ k given same.

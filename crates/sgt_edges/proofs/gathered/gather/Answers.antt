@@ -1,25 +1,19 @@
 use mathlib.Core.Bool.{false≢true}
-use Rattle.std.proofs.Common.{refl, sym}
-use Rattle.sgt_edges.proofs.Gathers.{gathers-next, gathers-given, gathers-all, item-new, draft-new, not-new, ok_of}
+use Rattle.std.proofs.Common.{refl}
+use Rattle.sgt_edges.proofs.Gathers.{every-given, every-stands, item-new, draft-new}
 use Rattle.sgt_edges.proofs.gathered.gather.Goals as goal
 
 pub returns-then-sees_too_new-clause-refused : goal.returns-then-sees_too_new-clause-refused
 returns-then-sees_too_new-clause-refused c = rw (← c.touched-touched.ensures.all) (item-new c.args.site.now _ c.args.me (c.if-sees_too_new.ensures.0 refl))
 
-pub returns-then-is_err-clause-refused : goal.returns-then-is_err-clause-refused
-returns-then-is_err-clause-refused c = rw (← c.touched-touched.ensures.all) (λ new. false≢true (c.if-sees_too_new.ensures.1 (draft-new c.args.site.now _ c.args.me new)))
+pub returns-in-Ok-clause-given : goal.returns-in-Ok-clause-given
+returns-in-Ok-clause-given c = rw (← c.touched-touched.ensures.all) (every-given _ _ _ _ c.in-Ok.ensures)
 
-pub add_edges-requires : goal.add_edges-requires
-add_edges-requires c = not-new c.args.site.now _ c.args.me (λ new. false≢true (c.if-sees_too_new.ensures.1 new)) _ _ c.loop-t-test.true c.t-item.is
+pub returns-in-Ok-clause-stands : goal.returns-in-Ok-clause-stands
+returns-in-Ok-clause-stands c = rw (← c.touched-touched.ensures.all) (every-stands _ _ _ _ c.in-Ok.ensures)
 
-pub loop-t-preserved : goal.loop-t-preserved
-loop-t-preserved c = gathers-next _ _ _ _ _ _ _ c.loop-t-test.true c.t-item.is c.loop-t.invariant (ok_of c.add_edges.result (sym c.if-is_err.ensures.value) c.add_edges.ensures)
+pub returns-in-Ok-clause-allowed : goal.returns-in-Ok-clause-allowed
+returns-in-Ok-clause-allowed c = rw (← c.touched-touched.ensures.all) (λ new. false≢true (c.if-sees_too_new.ensures.1 (draft-new c.args.site.now _ c.args.me new)))
 
-pub returns-clause-given : goal.returns-clause-given
-returns-clause-given c = rw (← c.touched-touched.ensures.all) (gathers-given _ _ _ _ _ c.loop-t.invariant)
-
-pub returns-clause-stands : goal.returns-clause-stands
-returns-clause-stands c = rw (← c.touched-touched.ensures.all) (gathers-all _ _ _ _ _ c.loop-t-test.false c.loop-t.invariant)
-
-pub returns-clause-allowed : goal.returns-clause-allowed
-returns-clause-allowed c = rw (← c.touched-touched.ensures.all) (λ new. false≢true (c.if-sees_too_new.ensures.1 (draft-new c.args.site.now _ c.args.me new)))
+pub returns-in-Err-clause-refused : goal.returns-in-Err-clause-refused
+returns-in-Err-clause-refused c = rw (← c.touched-touched.ensures.all) (λ new. false≢true (c.if-sees_too_new.ensures.1 (draft-new c.args.site.now _ c.args.me new)))
