@@ -2,3 +2,4 @@ mod Logged
 mod Unlisted
 mod Gathers
 mod Joined
+mod Examples

@@ -1,4 +1,3 @@
-use Rattle.std.proofs.Common.{sym}
 use Rattle.sgt_edges.proofs.Gathers.{gathers-next, gathers-every, not-new}
 use Rattle.sgt_edges.proofs.gathered.every_edge.Goals as goal
 

@@ -1,0 +1,194 @@
+-- What stands for all edges, shown on a small site: 1 and 2 wrote x, 3 read what 2 wrote, and the draft is to write x.
+use Rattle.std.proofs.Common.{◌≡◌, ◌≢◌, ◌==◌, false, ℕ, zero, suc, List, [], ◌∷◌, Some, None, refl, sym, ap, ◌∙◌, subst, arith, lit<, ◌<◌}
+use Rattle.std.specs.Prelude.{codes, slice_get}
+use Rattle.std.proofs.lemmas.Option.{same_Some}
+use Rattle.std.proofs.lemmas.Bool.{eqb-false}
+use Rattle.std.proofs.lemmas.Bool.Decides.{nat_tests}
+use Rattle.sgt_names.specs.Name.{Name}
+use Rattle.sgt_names.specs.Entry.{tx_of, Clash}
+use Rattle.sgt_names.specs.declared.draft.Touch.{Touch}
+use Rattle.sgt_names.specs.declared.entry.Entry.{Entry}
+use Rattle.sgt_names.specs.declared.entry.Entry.TheVariants.{Read, Write, Commit}
+use Rattle.sgt_names.specs.declared.entry.Kind.{Kind}
+use Rattle.sgt_names.specs.declared.entry.Kind.TheVariants.{Wr, Rw, Ww}
+use Rattle.sgt_names.proofs.Places.{Contains-from_at}
+use Rattle.sgt_arena.specs.declared.handle.Handle.{Handle}
+use Rattle.sgt_site.specs.Store.{Store, LogsRead, handle_of}
+use Rattle.sgt_site.specs.declared.cell.Writer.{Writer}
+use Rattle.sgt_site.proofs.Basics.{is_single}
+use Rattle.sgt_edges.specs.Edges.{IsWriter, HasReader, IsToWrite, wrote_before, wrote_after, wrote_too, read_it, IsOldEdge, Walks, given, old, on, StandsForAll}
+use Rattle.sgt_edges.specs.Gathered.{edge}
+use Rattle.sgt_edges.specs.declared.edge.Edge.{Edge}
+
+abbrev x : Name
+x = codes "x"
+
+abbrev handle : ℕ → Handle
+handle n = record { index = n; generation = 0 }
+
+abbrev me : Handle
+me = handle 0
+
+abbrev site : Store
+site = record {
+  number = 0;
+  items = record { item = x; value = 5 } ∷ [];
+  entries = Write 1 x 6 ∷ Commit 1 ∷ Write 2 x 7 ∷ Commit 2 ∷ Read 3 x 7 ∷ Commit 3 ∷ [];
+  installed = record { tx = 1; handle = handle 1 } ∷ record { tx = 2; handle = handle 2 } ∷ record { tx = 3; handle = handle 3 } ∷ [];
+  pledge = None;
+}
+
+abbrev draft : List Touch
+draft = record { site = 0; item = x; seen = None; put = Some 9 } ∷ []
+
+-- the edge from the reader alone
+abbrev from_reader : List Edge
+from_reader = edge 0 (handle 3) me x Rw ∷ []
+
+-- the edge from the last writer alone
+abbrev from_writer : List Edge
+from_writer = edge 0 (handle 2) me x Ww ∷ []
+
+is_x : (z : Name) → IsToWrite site draft z → x ≡ z
+is_x z writes = ap (λ (w : Name × ℕ). w.0) (sym (is_single (x, 9) (z, writes.0) writes.1))
+
+-- each writer walks to me over the reader
+over_reader : (k : ℕ) (g : Handle) → IsWriter site x k g → Walks site x from_reader g me
+over_reader zero g w =
+    let same : handle 1 ≡ g = ap (λ (u : Writer). u.handle) (same_Some (record { tx = 1; handle = handle 1 }) w.0 w.1) ∙ w.2 in
+    subst (λ h. Walks site x from_reader h me) same (on (handle 1) (handle 3) me (old (handle 1) (handle 3) from_first) (given (edge 0 (handle 3) me x Rw) (Contains-from_at from_reader 0 (edge 0 (handle 3) me x Rw) refl) refl))
+  where
+    from_first : IsOldEdge site x (handle 1) (handle 3)
+    from_first = record {
+      first = 1;
+      second = 3;
+      from_first = refl;
+      to_second = refl;
+      kind = Wr;
+      conflict = record {
+        p = 0;
+        q = 4;
+        e = Write 1 x 6;
+        f = Read 3 x 7;
+        before = lit< tt;
+        first = refl;
+        second = refl;
+        from = refl;
+        to = refl;
+        apart = eqb-false 1 3 refl;
+        clash = (refl, refl);
+      };
+    }
+over_reader (suc zero) g w =
+    let same : handle 2 ≡ g = ap (λ (u : Writer). u.handle) (same_Some (record { tx = 2; handle = handle 2 }) w.0 w.1) ∙ w.2 in
+    subst (λ h. Walks site x from_reader h me) same (on (handle 2) (handle 3) me (old (handle 2) (handle 3) from_second) (given (edge 0 (handle 3) me x Rw) (Contains-from_at from_reader 0 (edge 0 (handle 3) me x Rw) refl) refl))
+  where
+    from_second : IsOldEdge site x (handle 2) (handle 3)
+    from_second = record {
+      first = 2;
+      second = 3;
+      from_first = refl;
+      to_second = refl;
+      kind = Wr;
+      conflict = record {
+        p = 2;
+        q = 4;
+        e = Write 2 x 7;
+        f = Read 3 x 7;
+        before = lit< tt;
+        first = refl;
+        second = refl;
+        from = refl;
+        to = refl;
+        apart = eqb-false 2 3 refl;
+        clash = (refl, refl);
+      };
+    }
+over_reader (suc (suc k)) g w = absurd cc
+
+-- the only reader is 3
+reader_is : (g : Handle) → HasReader site x g → handle 3 ≡ g
+reader_is g r = by_place r.1.1.1.place r.1.1.1.at
+  where
+    is_third : (tx v : ℕ) → Read 3 x 7 ≡ Read tx x v → 3 ≡ tx
+    is_third tx v e = ap tx_of e
+
+    by_place : (n : ℕ) → slice_get site.entries n ≡ Some (Read r.0.tx x r.1.1.0) → handle 3 ≡ g
+    by_place zero at = absurd cc
+    by_place (suc zero) at = absurd cc
+    by_place (suc (suc zero)) at = absurd cc
+    by_place (suc (suc (suc zero))) at = absurd cc
+    by_place (suc (suc (suc (suc zero)))) at = same_Some (handle 3) g (ap (handle_of site.installed) (is_third r.0.tx r.1.1.0 (same_Some (Read 3 x 7) (Read r.0.tx x r.1.1.0) at)) ∙ r.1.0 ∙ ap Some r.2)
+    by_place (suc (suc (suc (suc (suc zero))))) at = absurd cc
+    by_place (suc (suc (suc (suc (suc (suc n)))))) at = absurd cc
+
+-- the edge from the reader of the present version stands for all: each writer walks over the reader
+pub reader-stands_for_all : StandsForAll site draft me from_reader
+reader-stands_for_all z f t k (wrote_before n m g keeps less w) = absurd (omega (arith, keeps.1.1))
+reader-stands_for_all z f t k (wrote_after n m g keeps more w) = absurd (omega (arith, keeps.1.1))
+reader-stands_for_all z f t k (wrote_too m g writes w) =
+    subst (λ (y : Name). Walks site y from_reader g me) (is_x z writes) (over_reader m g (subst (λ (y : Name). IsWriter site y m g) (sym (is_x z writes)) w))
+reader-stands_for_all z f t k (read_it g writes r) =
+    let same = reader_is g (subst (λ (y : Name). HasReader site y g) (sym (is_x z writes)) r) in
+    subst (λ (y : Name). Walks site y from_reader g me) (is_x z writes) (subst (λ h. Walks site x from_reader h me) same (given (edge 0 (handle 3) me x Rw) (Contains-from_at from_reader 0 (edge 0 (handle 3) me x Rw) refl) refl))
+
+other_handle : (m n : ℕ) → m ≢ n → handle m ≢ handle n
+other_handle m n apart same = apart (ap (λ (h : Handle). h.index) same)
+
+third_is : (tx : ℕ) → handle_of site.installed tx ≡ Some (handle 3) → tx ≡ 3
+third_is zero has = absurd cc
+third_is (suc zero) has = absurd (other_handle 1 3 (eqb-false 1 3 refl) (same_Some (handle 1) (handle 3) has))
+third_is (suc (suc zero)) has = absurd (other_handle 2 3 (eqb-false 2 3 refl) (same_Some (handle 2) (handle 3) has))
+third_is (suc (suc (suc zero))) has = refl
+third_is (suc (suc (suc (suc n)))) has =
+    let one : (1 == suc (suc (suc (suc n)))) ≡ false = grind (arith, nat_tests) in
+    let two : (2 == suc (suc (suc (suc n)))) ≡ false = grind (arith, nat_tests) in
+    let three : (3 == suc (suc (suc (suc n)))) ≡ false = grind (arith, nat_tests) in
+    let none : handle_of site.installed (suc (suc (suc (suc n)))) ≡ None = rw (one, two, three) refl in
+    absurd (let e = sym none ∙ has in cc)
+
+-- no conflict leads on from an end
+no_end : (kind : Kind) (z : Name) (tx : ℕ) (f : Entry) → Clash kind z (Commit tx) f → ⊥
+no_end Wr z tx f clash = clash.0
+no_end Rw z tx f clash = clash.0
+no_end Ww z tx f clash = clash.0
+
+to_no_end : (kind : Kind) (z : Name) (tx : ℕ) (e : Entry) → Clash kind z e (Commit tx) → ⊥
+to_no_end Wr z tx e clash = clash.1
+to_no_end Rw z tx e clash = clash.1
+to_no_end Ww z tx e clash = clash.1
+
+-- nothing conflicts with an earlier entry of 3
+nothing_after : (p q : ℕ) (e f : Entry) (kind : Kind) → slice_get site.entries p ≡ Some e → slice_get site.entries q ≡ Some f → p < q → tx_of e ≡ 3 → Clash kind x e f → ⊥
+nothing_after zero q e f kind at_p at_q lt of clash = eqb-false 1 3 refl (ap tx_of (same_Some (Write 1 x 6) e at_p) ∙ of)
+nothing_after (suc zero) q e f kind at_p at_q lt of clash = eqb-false 1 3 refl (ap tx_of (same_Some (Commit 1) e at_p) ∙ of)
+nothing_after (suc (suc zero)) q e f kind at_p at_q lt of clash = eqb-false 2 3 refl (ap tx_of (same_Some (Write 2 x 7) e at_p) ∙ of)
+nothing_after (suc (suc (suc zero))) q e f kind at_p at_q lt of clash = eqb-false 2 3 refl (ap tx_of (same_Some (Commit 2) e at_p) ∙ of)
+nothing_after (suc (suc (suc (suc zero)))) q e f kind at_p at_q lt of clash = by_second q at_q lt
+  where
+    by_second : (n : ℕ) → slice_get site.entries n ≡ Some f → 4 < n → ⊥
+    by_second zero at lt = absurd (omega (arith, lt))
+    by_second (suc zero) at lt = absurd (omega (arith, lt))
+    by_second (suc (suc zero)) at lt = absurd (omega (arith, lt))
+    by_second (suc (suc (suc zero))) at lt = absurd (omega (arith, lt))
+    by_second (suc (suc (suc (suc zero)))) at lt = absurd (omega (arith, lt))
+    by_second (suc (suc (suc (suc (suc zero))))) at lt = to_no_end kind x 3 e (subst (Clash kind x e) (sym (same_Some (Commit 3) f at)) clash)
+    by_second (suc (suc (suc (suc (suc (suc n)))))) at lt = absurd cc
+nothing_after (suc (suc (suc (suc (suc zero))))) q e f kind at_p at_q lt of clash = no_end kind x 3 f (subst (λ d. Clash kind x d f) (sym (same_Some (Commit 3) e at_p)) clash)
+nothing_after (suc (suc (suc (suc (suc (suc n)))))) q e f kind at_p at_q lt of clash = absurd cc
+
+no_walk : (f t : Handle) → Walks site x from_writer f t → f ≢ handle 3
+no_walk f t (given e has item) same = other_handle 2 3 (eqb-false 2 3 refl) (ap (λ (d : Edge). d.from) (sym (is_single (edge 0 (handle 2) me x Ww) e has)) ∙ same)
+no_walk f t (old g h o) same = nothing_after o.conflict.p o.conflict.q o.conflict.e o.conflict.f o.kind o.conflict.first o.conflict.second o.conflict.before (o.conflict.from ∙ third_is o.first (o.from_first ∙ ap Some same)) o.conflict.clash
+no_walk f t (on g h i first second) same = no_walk g h first same
+
+-- the edge from the last writer doesn't: nothing leads on from the reader
+pub writer-does_not_stand_for_all : StandsForAll site draft me from_writer → ⊥
+writer-does_not_stand_for_all stands =
+    no_walk (handle 3) me (stands x (handle 3) me Rw (read_it (handle 3) (9, Contains-from_at ((x, 9) ∷ []) 0 (x, 9) refl) reader)) refl
+  where
+    reads : LogsRead site.entries 3 x 7 2
+    reads = record { place = 4; at = refl; version = refl }
+
+    reader : HasReader site x (handle 3)
+    reader = (record { tx = 3; handle = handle 3; version = 2 }, (refl, (7, reads)), refl)
