@@ -1,5 +1,5 @@
 -- What stands for all edges, shown on a small site: 1 and 2 wrote x, 3 read what 2 wrote, and the draft is to write x.
-use Rattle.std.proofs.Common.{◌≡◌, ◌≢◌, ◌==◌, false, ℕ, zero, suc, List, [], ◌∷◌, Some, None, refl, sym, ap, ◌∙◌, subst, arith, lit<, ◌<◌}
+use Rattle.std.proofs.Common.{◌≡◌, ◌≢◌, ◌==◌, false, ℕ, zero, suc, List, [], ◌∷◌, Some, None, refl, sym, ap, ◌∙◌, subst, arith, lit<, ◌<◌, ◌⊎◌, inl, inr}
 use Rattle.std.specs.Prelude.{codes, slice_get}
 use Rattle.std.proofs.lemmas.Option.{same_Some}
 use Rattle.std.proofs.lemmas.Bool.{eqb-false}
@@ -16,7 +16,7 @@ use Rattle.sgt_arena.specs.declared.handle.Handle.{Handle}
 use Rattle.sgt_site.specs.Store.{Store, LogsRead, handle_of}
 use Rattle.sgt_site.specs.declared.cell.Writer.{Writer}
 use Rattle.sgt_site.proofs.Basics.{is_single}
-use Rattle.sgt_edges.specs.Edges.{IsWriter, HasReader, IsToWrite, wrote_before, wrote_after, wrote_too, read_it, IsOldEdge, Walks, given, old, on, StandsForAll}
+use Rattle.sgt_edges.specs.Edges.{IsWriter, HasReader, IsToWrite, wrote_before, wrote_after, wrote_too, read_it, IsOldEdge, JoinsCommitted, Walks, given, old, on, StandsForAll}
 use Rattle.sgt_edges.specs.Gathered.{edge}
 use Rattle.sgt_edges.specs.declared.edge.Edge.{Edge}
 
@@ -135,17 +135,20 @@ reader-stands_for_all z f t k (read_it g writes r) =
 other_handle : (m n : ℕ) → m ≢ n → handle m ≢ handle n
 other_handle m n apart same = apart (ap (λ (h : Handle). h.index) same)
 
+-- a fourth has none
+no_handle : (n : ℕ) → handle_of site.installed (suc (suc (suc (suc n)))) ≡ None
+no_handle n =
+    let one : (1 == suc (suc (suc (suc n)))) ≡ false = grind (arith, nat_tests) in
+    let two : (2 == suc (suc (suc (suc n)))) ≡ false = grind (arith, nat_tests) in
+    let three : (3 == suc (suc (suc (suc n)))) ≡ false = grind (arith, nat_tests) in
+    rw (one, two, three) refl
+
 third_is : (tx : ℕ) → handle_of site.installed tx ≡ Some (handle 3) → tx ≡ 3
 third_is zero has = absurd cc
 third_is (suc zero) has = absurd (other_handle 1 3 (eqb-false 1 3 refl) (same_Some (handle 1) (handle 3) has))
 third_is (suc (suc zero)) has = absurd (other_handle 2 3 (eqb-false 2 3 refl) (same_Some (handle 2) (handle 3) has))
 third_is (suc (suc (suc zero))) has = refl
-third_is (suc (suc (suc (suc n)))) has =
-    let one : (1 == suc (suc (suc (suc n)))) ≡ false = grind (arith, nat_tests) in
-    let two : (2 == suc (suc (suc (suc n)))) ≡ false = grind (arith, nat_tests) in
-    let three : (3 == suc (suc (suc (suc n)))) ≡ false = grind (arith, nat_tests) in
-    let none : handle_of site.installed (suc (suc (suc (suc n)))) ≡ None = rw (one, two, three) refl in
-    absurd (let e = sym none ∙ has in cc)
+third_is (suc (suc (suc (suc n)))) has = absurd (let e = sym (no_handle n) ∙ has in cc)
 
 -- no conflict leads on from an end
 no_end : (kind : Kind) (z : Name) (tx : ℕ) (f : Entry) → Clash kind z (Commit tx) f → ⊥
@@ -192,3 +195,18 @@ writer-does_not_stand_for_all stands =
 
     reader : HasReader site x (handle 3)
     reader = (record { tx = 3; handle = handle 3; version = 2 }, (refl, (7, reads)), refl)
+
+-- no edge joins me and myself: nobody was installed under my handle
+pub nobody-joins_itself : JoinsCommitted site me me me → ⊥
+nobody-joins_itself joins = by_side joins.ends
+  where
+    not_mine : (tx : ℕ) → handle_of site.installed tx ≢ Some me
+    not_mine zero has = absurd cc
+    not_mine (suc zero) has = absurd (other_handle 1 0 (eqb-false 1 0 refl) (same_Some (handle 1) me has))
+    not_mine (suc (suc zero)) has = absurd (other_handle 2 0 (eqb-false 2 0 refl) (same_Some (handle 2) me has))
+    not_mine (suc (suc (suc zero))) has = absurd (other_handle 3 0 (eqb-false 3 0 refl) (same_Some (handle 3) me has))
+    not_mine (suc (suc (suc (suc n)))) has = absurd (let e = sym (no_handle n) ∙ has in cc)
+
+    by_side : ((me ≡ joins.handle) × (me ≡ me)) ⊎ ((me ≡ me) × (me ≡ joins.handle)) → ⊥
+    by_side (inl a) = not_mine joins.other (joins.given ∙ ap Some (sym a.0))
+    by_side (inr a) = not_mine joins.other (joins.given ∙ ap Some (sym a.1))

@@ -5,13 +5,18 @@ ghost use Rattle.sgt_names.specs.Name.{Name};
 ghost use Rattle.sgt_names.specs.declared.draft.Touch.{Touch};
 ghost use Rattle.sgt_names.specs.declared.entry.Kind.{Kind};
 ghost use Rattle.sgt_arena.specs.declared.handle.Handle.{Handle};
-ghost use Rattle.sgt_site.specs.Store.{Store, IsSite};
+ghost use Rattle.sgt_site.specs.Store.{Store, IsSite, IsPledgedFor};
 ghost use Rattle.sgt_edges.specs.Edges.{IsActive, IsEdge, IsConflict, JoinsCommitted};
 
 /// The edges of an active transaction at a site are its conflicts with the committed ones, in the site's log followed by its private writes there.
 pub fn edges_are_conflicts()
     ensures { (s : Store) (tx : ℕ) (touched : List Touch) (me : Handle) → IsSite s → IsActive s tx touched
         → (x : Name) (from to : Handle) (kind : Kind) → IsEdge s touched me x from to kind ↔ IsConflict s tx touched me x from to kind }
+{}
+
+/// A transaction whose pledge for its draft stands is active, so that its edges are its conflicts.
+pub fn pledged_are_active()
+    ensures { (s : Store) (tx : ℕ) (touched : List Touch) → IsSite s → IsPledgedFor s tx touched → IsActive s tx touched }
 {}
 
 /// Each edge leads to me from a committed transaction of the site, or from me to one: so one end alone is me, where no committed one has my handle.

@@ -13,4 +13,4 @@ mod tests;
 pub use edge::{Edge, EdgeList};
 pub use fault::EdgeFault;
 pub use gathered::gather;
-pub use laws::{edges_are_conflicts, edges_join_committed};
+pub use laws::{edges_are_conflicts, edges_join_committed, pledged_are_active};
