@@ -4,3 +4,4 @@ pub mod Stored
 pub mod Ranged
 pub mod Touched
 pub mod Examples
+pub mod DraftExamples

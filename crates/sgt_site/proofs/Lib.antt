@@ -11,3 +11,4 @@ pub mod Refusals
 pub mod Installs
 pub mod Fresh
 pub mod Inserts
+pub mod Examples

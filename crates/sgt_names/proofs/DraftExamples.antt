@@ -1,0 +1,80 @@
+-- The definitions of a draft, shown on a small one: x was read and written at site 0, at site 1 y was read and z written.
+use Rattle.std.proofs.Common.{◌≡◌, ℕ, zero, suc, List, [], ◌∷◌, ◌++◌, length, Option, Some, None, refl, sym, ap, ◌∙◌, arith, lit<, ◌<◌, inl, inr, ◌⊎◌}
+use Rattle.std.specs.Prelude.{codes, slice_get, option_and_then}
+use Rattle.std.specs.Option.{option_to_list}
+use Rattle.std.proofs.lemmas.Option.{same_Some}
+use Rattle.std.proofs.lemmas.Bool.{eqb-false}
+use Rattle.sgt_names.specs.Name.{Name}
+use Rattle.sgt_names.specs.Draft.{Place, at_site, kept_in, writing_in, touched_at, look_of, Touches, IsUsed, ChangesOnly, AreRising}
+use Rattle.sgt_names.specs.declared.draft.Touch.{Touch}
+
+abbrev x : Name
+x = codes "x"
+
+abbrev y : Name
+y = codes "y"
+
+abbrev z : Name
+z = codes "z"
+
+abbrev on_x : Touch
+on_x = record { site = 0; item = x; seen = Some (record { value = 5; version = 0 }); put = Some 6 }
+
+abbrev on_y : Touch
+on_y = record { site = 1; item = y; seen = Some (record { value = 2; version = 3 }); put = None }
+
+abbrev on_z : Touch
+on_z = record { site = 1; item = z; seen = None; put = Some 9 }
+
+abbrev draft : List Touch
+draft = on_x ∷ on_y ∷ on_z ∷ []
+
+abbrev look : Place → Option ℕ
+look p = option_and_then look_of (touched_at draft p)
+
+-- the private write comes before the kept read; an equal name at another site is another item
+pub look-prefers_the_write : look (0, x) ≡ Some 6
+look-prefers_the_write = refl
+
+pub look-at_a_read : look (1, y) ≡ Some 2
+look-at_a_read = refl
+
+pub look-at_a_write : look (1, z) ≡ Some 9
+look-at_a_write = refl
+
+pub look-at_another_site : look (1, x) ≡ None
+look-at_another_site = refl
+
+-- the kept reads and the private writes of each site
+pub kept-at_the_first : kept_in (at_site 0 draft) ≡ (x, 5, 0) ∷ []
+kept-at_the_first = refl
+
+pub kept-at_the_second : kept_in (at_site 1 draft) ≡ (y, 2, 3) ∷ []
+kept-at_the_second = refl
+
+pub writing-at_the_first : writing_in (at_site 0 draft) ≡ (x, 6) ∷ []
+writing-at_the_first = refl
+
+pub writing-at_the_second : writing_in (at_site 1 draft) ≡ (z, 9) ∷ []
+writing-at_the_second = refl
+
+pub writing-elsewhere : writing_in (at_site 2 draft) ≡ []
+writing-elsewhere = refl
+
+-- an item that was neither read nor written isn't used
+pub unused-not_used : IsUsed (record { site = 0; item = x; seen = None; put = None }) → ⊥
+unused-not_used (inl some) = absurd cc
+unused-not_used (inr some) = absurd cc
+
+-- a change of one item doesn't drop another
+pub dropping-not_only : ChangesOnly (on_y ∷ on_z ∷ []) (on_y ∷ []) on_y → ⊥
+dropping-not_only changes = by_front changes.front changes.there changes.rest changes.was changes.is
+  where
+    by_there : (there : Option Touch) (rest : List Touch) → on_y ∷ on_z ∷ [] ≡ option_to_list there ++ rest → on_y ∷ [] ≡ on_y ∷ rest → ⊥
+    by_there None rest was is = absurd cc
+    by_there (Some t) rest was is = absurd cc
+
+    by_front : (front : List Touch) (there : Option Touch) (rest : List Touch) → on_y ∷ on_z ∷ [] ≡ front ++ (option_to_list there ++ rest) → on_y ∷ [] ≡ front ++ on_y ∷ rest → ⊥
+    by_front [] there rest was is = by_there there rest was is
+    by_front (f ∷ []) there rest was is = absurd cc
+    by_front (f ∷ g ∷ fs) there rest was is = absurd cc
