@@ -1,5 +1,5 @@
 -- What a site keeps when it logs the block of a committed transaction.
-use Rattle.std.proofs.Common.{◌≡◌, ℕ, suc, ◌⊎◌, List, [], ◌∷◌, ◌++◌, length, get_or, true, Option, Some, None, refl, sym, ap, ap₂, ◌∙◌, subst, arith, inl, inr, Contains, append-nil}
+use Rattle.std.proofs.Common.{◌≡◌, ℕ, suc, ◌<◌, ◌≢◌, ◌⊎◌, AllPairs, List, [], ◌∷◌, ◌++◌, length, get_or, true, Option, Some, None, refl, sym, ap, ap₂, ◌∙◌, subst, arith, inl, inr, Contains, append-nil}
 use Rattle.std.specs.Prelude.{slice_get, ◌↔◌, ◌==◌, if◌then◌else◌, option_and_then, unwrap_or}
 use Rattle.std.specs.List.{filter_map, cons_option, last_or}
 use Rattle.std.specs.Option.{option_to_list}
@@ -12,6 +12,7 @@ use Rattle.std.proofs.lemmas.Bool.Decides.{nat_tests}
 use Rattle.std.proofs.lemmas.Option.{same_Some, slice_get_within, slice_get-get_or}
 use Rattle.std.proofs.lemmas.List.{map-append}
 use Rattle.std.proofs.lemmas.List.Elements.{filter_map-append, Contains-append_left, Contains-append_right, Contains-append_cases}
+use Rattle.std.proofs.lemmas.List.Quantifiers.{all_pairs_push}
 use Rattle.sgt_names.specs.Name.{Name}
 use Rattle.sgt_names.specs.Entry.{written}
 use Rattle.sgt_names.specs.Log.{value_in, value_at}
@@ -168,12 +169,31 @@ module _ (s : Store) (p : Pledge) (handle : Handle) (site : IsSite s) (covered :
           let is : record { tx = p.tx; handle = handle; version = r.version } ≡ r = λ i. record { tx = sym own i; handle = sym same i; version = r.version } in
           rw t.1 (rw t.2 (Contains-from_at (record { tx = p.tx; handle = handle; version = r.version } ∷ []) 0 r (ap Some is)))
 
+  -- who ends now has not read as a committed transaction before
+  once_noted : (c : Contents) → IsCell s.items s.installed s.entries c → AllPairs (λ (a b : Reader). a.tx ≢ b.tx) (c.readers ++ noted_readers by (touch_in p.part c.item))
+  once_noted c cell = by_touch (touch_in p.part c.item)
+    where
+      apart : (k : ℕ) (d : Reader) → k < length c.readers → (get_or c.readers k d).tx ≢ p.tx
+      apart k d lt same =
+          let r = get_or c.readers k d in
+          let has = Contains-from_at c.readers k r (slice_get-get_or c.readers k d lt) in
+          covered.active (ended_with_handle s site p.tx r.handle (subst (λ t. handle_of s.installed t ≡ Some r.handle) same ((cell.readers r).0 has).0))
+
+      by_seen : (q : Option Seen) → AllPairs (λ (a b : Reader). a.tx ≢ b.tx) (c.readers ++ option_to_list (option_and_then (λ (seen : Seen). Some (record { tx = by.tx; handle = by.handle; version = seen.version })) q))
+      by_seen None = subst (AllPairs (λ (a b : Reader). a.tx ≢ b.tx)) (sym (append-nil c.readers)) cell.readers_once
+      by_seen (Some seen) = all_pairs_push (λ (a b : Reader). a.tx ≢ b.tx) c.readers (record { tx = by.tx; handle = by.handle; version = seen.version }) cell.readers_once apart
+
+      by_touch : (o : Option Touch) → AllPairs (λ (a b : Reader). a.tx ≢ b.tx) (c.readers ++ noted_readers by o)
+      by_touch None = by_seen None
+      by_touch (Some t) = by_seen t.seen
+
   -- a cell that is noted has what the log says of its item
   cell_noted : (c d : Contents) → IsCell s.items s.installed s.entries c → IsNoted by (touch_in p.part c.item) c d → IsCell s.items ws (s.entries ++ bs) d
   cell_noted c d cell noted = subst (IsCell s.items ws (s.entries ++ bs)) (sym noted) record {
     value = value_noted c cell;
     writers = writers_noted c cell;
     readers = readers_noted c cell;
+    readers_once = once_noted c cell;
     rising = cell.rising;
     readings = λ m. (
       λ has. LogsRead-append s.entries bs m.tx c.item m.seen.value m.seen.version ((cell.readings m).0 has),

@@ -46,7 +46,7 @@ impl Model for Site {
 }
 
 impl Site {
-    ghost use Rattle.std.specs.Prelude.{◌≡◌, ◌↔◌, ◌≤◌, [], ◌∷◌, ◌++◌, length, Contains, slice_get, IsOk, OnOk, OnErr, IfOk, IfErr, IfSome, IfNone};
+    ghost use Rattle.std.specs.Prelude.{◌≡◌, ◌≢◌, ◌↔◌, ◌≤◌, [], ◌∷◌, ◌++◌, length, AllPairs, Contains, slice_get, IsOk, OnOk, OnErr, IfOk, IfErr, IfSome, IfNone};
     ghost use Rattle.sgt_site.specs.declared.fault.SiteFault.{SiteFault};
     ghost use Rattle.sgt_site.specs.declared.cell.Reader.{Reader};
     ghost use Rattle.sgt_names.specs.Log.{names, value_at, FinalsAreLegal};
@@ -183,6 +183,7 @@ impl Site {
     /// The committed transactions that read the item, with the versions that they read.
     pub fn readers(&self, item: Item) -> Result<&[Reader], SiteFault>
         ensures ok { IfOk result (λ rs. (r : Reader) → Contains rs.now r ↔ IsReader self.now.installed self.now.entries item r) }
+        ensures once { IfOk result (λ rs. AllPairs (λ a b. a.tx ≢ b.tx) rs.now) }
         ensures site { IsSite self.now }
         ensures allowed { OnOk result (Contains (names self.now.items) item) }
         ensures refused { IfErr result (λ f. (f ≡ SiteFault.UnknownItem) × (¬ Contains (names self.now.items) item)) }
