@@ -48,7 +48,7 @@ impl Model for Draft {
 }
 
 impl Draft {
-    ghost use Rattle.std.specs.Prelude.{◌≡◌, ◌↔◌, [], true, IsTrue, IsOk, OnOk, OnErr, Some, None, slice_get, option_and_then, All};
+    ghost use Rattle.std.specs.Prelude.{◌≡◌, ◌↔◌, ◌⊎◌, [], true, IsTrue, IsSome, IsOk, OnOk, OnErr, Some, None, slice_get, option_and_then, All};
     ghost use Rattle.sgt_names.specs.Draft.{place_of, AreRising, IsUsed, at_site, kept_in, writing_in, touched_at, seen_at, put_at, look_of, Touches, ChangesOnly};
 
     /// No reads and no writes.
@@ -103,7 +103,8 @@ impl Draft {
           put = put_at self.old.touched (site, item);
         })) }
         ensures err { OnErr result (self.new ≡ self.old) }
-        ensures succeeds { IsTrue self.old.has_room → IsOk result }
+        ensures succeeds { IsTrue self.old.has_room ⊎ IsSome (touched_at self.old.touched (site, item)) → IsOk result }
+        ensures room { IsSome (touched_at self.old.touched (site, item)) → self.new.has_room ≡ self.old.has_room }
     {
         let seen = Some(Seen { value, version });
         match search(self.touched.as_slice(), site, item) {
@@ -133,6 +134,8 @@ impl Draft {
           put = Some value;
         })) }
         ensures err { OnErr result (self.new ≡ self.old) }
+        ensures succeeds { IsTrue self.old.has_room ⊎ IsSome (touched_at self.old.touched (site, item)) → IsOk result }
+        ensures room { IsSome (touched_at self.old.touched (site, item)) → self.new.has_room ≡ self.old.has_room }
     {
         match search(self.touched.as_slice(), site, item) {
             Ok(at) => {
