@@ -189,7 +189,7 @@ fn search(touched: &[Touch], site: SiteNo, item: Item) -> Result<usize, usize>
 fn order(t: &Touch, site: SiteNo, item: &Item) -> Ordering
     ensures { result ≡ place_cmp (place_of t.now) (site, item.now) }
 {
-    t.site.number().cmp(&site.number()).then(t.item.order(item))
+    t.site.number().cmp(&site.number()).then(t.item.cmp(item))
 }
 
 fn nth_kept(touched: &[Touch], site: SiteNo, n: usize) -> Option<(Item, Value, u64)>

@@ -246,7 +246,7 @@ fn find(cells: &[Cell], item: Item) -> Result<usize, usize>
 fn order(cell: &Cell, item: &Item) -> Ordering
     ensures { result ≡ slice_cmp nat_cmp cell.now.item item.now }
 {
-    cell.item().order(item)
+    cell.item().cmp(item)
 }
 
 fn are_items(items: &[Holding]) -> bool
@@ -266,7 +266,7 @@ fn are_items(items: &[Holding]) -> bool
 fn comes_before(a: &Holding, b: &Holding) -> bool
     ensures { IsTrue result ↔ (slice_cmp nat_cmp a.now.item b.now.item ≡ Less) }
 {
-    match a.item.order(&b.item) {
+    match a.item.cmp(&b.item) {
         Ordering::Less => true,
         _ => false,
     }

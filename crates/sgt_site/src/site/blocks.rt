@@ -87,7 +87,7 @@ fn is_part(part: &[Touch], number: SiteNo, touched: &[Touch]) -> bool
 fn same_touch(a: &Touch, b: &Touch) -> bool
     ensures { IsTrue result ↔ (a.now ≡ b.now) }
 {
-    a.site == b.site && a.item.same(&b.item) && a.seen == b.seen && a.put == b.put
+    a.site == b.site && a.item == b.item && a.seen == b.seen && a.put == b.put
 }
 
 // Logs the writes.
@@ -159,7 +159,7 @@ pub(super) fn touch_of(part: &[Touch], item: Item) -> Option<Touch>
     ensures { result ≡ touch_in part.now item }
 {
     for t in part {
-        if t.item.same(&item) {
+        if t.item == item {
             return Some(*t);
         }
     }

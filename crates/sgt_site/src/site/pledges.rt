@@ -188,7 +188,7 @@ fn keeps(number: SiteNo, touched: &[Touch], item: Item) -> bool
 fn is_of(number: SiteNo, touch: &Touch, item: Item) -> bool
     ensures { IsTrue result ↔ ((touch.now.site ≡ number) × IsSome touch.now.seen × (touch.now.item ≡ item)) }
 {
-    touch.site == number && touch.seen.is_some() && touch.item.same(&item)
+    touch.site == number && touch.seen.is_some() && touch.item == item
 }
 
 // Copies what is touched at the site.
