@@ -55,8 +55,8 @@ kept-fresh number cells spare items fresh = record {
     orderly = record { known = λ k d lt. absurd (omega arith); once = λ i j d lt within. absurd (omega arith); blocks = λ n e at opens. absurd cc; closed = λ i j d lt within. absurd (omega arith) };
     legal = λ n tx x v at. absurd cc;
     given = refl;
-    writes = λ n tx x v at. absurd cc;
-    wants = λ n tx x v at. absurd cc;
+    writes = λ tx x v has. absurd (omega (arith, has.1));
+    wants = λ tx x v has. absurd (omega (arith, has.1));
     pledged = λ p is. absurd cc;
   };
   rising = AllPairs-from_at (λ a b. slice_cmp nat_cmp a.item b.item ≡ Less) cells (λ p q a b lt at_p at_q.

@@ -22,7 +22,7 @@ use Rattle.sgt_names.specs.declared.draft.Touch.{Touch}
 use Rattle.sgt_names.specs.declared.entry.Entry.{Entry}
 use Rattle.sgt_names.specs.declared.entry.Entry.TheVariants.{Read, Write, Want, Commit, Refuse, Withdraw}
 use Rattle.sgt_names.specs.declared.entry.Holding.{Holding}
-use Rattle.sgt_names.proofs.Places.{Contains-from_at, All_at, All-from_at, AllPairs_at, AllPairs-from_at}
+use Rattle.sgt_names.proofs.Places.{Contains_at, Contains-from_at, All_at, All-from_at, AllPairs_at, AllPairs-from_at}
 use Rattle.sgt_arena.specs.declared.handle.Handle.{Handle}
 use Rattle.sgt_site.specs.declared.cell.Writer.{Writer}
 use Rattle.sgt_site.specs.declared.cell.Reader.{Reader}
@@ -213,13 +213,13 @@ module _ (s : Store) (p : Pledge) (handle : Handle) (site : IsSite s) (covered :
         (block_follows Write Commit commits-blocks p.tx (writing_in p.part) s site covered.active);
     legal = legal-append s.items s.entries bs site.legal (λ m t x v at. absurd (no_reads Write Commit commits-blocks p.tx (writing_in p.part) m t x v at));
     given = map-append (λ (w : Writer). w.tx) s.installed (by ∷ []) ∙ ap₂ (λ (us vs : List ℕ). us ++ vs) site.given (sym (committed_one (writing_in p.part))) ∙ sym (filter_map-append committed s.entries bs);
-    writes = λ n t x v at. get_cases s.entries bs n (Write t x v) at
-        (λ front. Contains-append_left s.entries bs (Commit t) (site.writes n t x v front))
+    writes = λ t x v has. let w = Contains_at (s.entries ++ bs) (Write t x v) has in get_cases s.entries bs w.0 (Write t x v) w.1
+        (λ front. Contains-append_left s.entries bs (Commit t) (site.writes t x v (Contains-from_at s.entries w.0 (Write t x v) front)))
         (λ m is back. in_block Write Commit commits-blocks p.tx (writing_in p.part) m (Write t x v) back
         (λ w here same. Contains-append_right s.entries bs (Commit t) (Contains-from_at bs (length (writing_in p.part)) (Commit t) (at_end Write Commit commits-blocks p.tx (writing_in p.part) ∙ ap (λ u. Some (Commit u)) (let own : p.tx ≡ t = cc in own))))
         (λ here same. absurd cc));
-    wants = λ n t x v at. get_cases s.entries bs n (Want t x v) at
-        (λ front. Contains-append_left s.entries bs (Refuse t) (site.wants n t x v front))
+    wants = λ t x v has. let w = Contains_at (s.entries ++ bs) (Want t x v) has in get_cases s.entries bs w.0 (Want t x v) w.1
+        (λ front. Contains-append_left s.entries bs (Refuse t) (site.wants t x v (Contains-from_at s.entries w.0 (Want t x v) front)))
         (λ m is back. in_block Write Commit commits-blocks p.tx (writing_in p.part) m (Want t x v) back (λ w here same. absurd cc) (λ here same. absurd cc));
     pledged = λ q is. absurd cc;
   }

@@ -157,11 +157,11 @@ module _ (s : Store) (bs : List Entry) (tx : ℕ) (site : IsSite s) (active : Ha
     orderly = orderly-append s.items s.entries bs site.orderly orderly may;
     legal = legal-append s.items s.entries bs site.legal legal;
     given = site.given ∙ sym (none-append committed s.entries bs quiet.commits);
-    writes = λ n t x v at. get_cases s.entries bs n (Write t x v) at
-        (λ front. Contains-append_left s.entries bs (Commit t) (site.writes n t x v front))
+    writes = λ t x v has. let w = Contains_at (s.entries ++ bs) (Write t x v) has in get_cases s.entries bs w.0 (Write t x v) w.1
+        (λ front. Contains-append_left s.entries bs (Commit t) (site.writes t x v (Contains-from_at s.entries w.0 (Write t x v) front)))
         (λ m is back. absurd (quiet.writes m t x v back));
-    wants = λ n t x v at. get_cases s.entries bs n (Want t x v) at
-        (λ front. Contains-append_left s.entries bs (Refuse t) (site.wants n t x v front))
+    wants = λ t x v has. let w = Contains_at (s.entries ++ bs) (Want t x v) has in get_cases s.entries bs w.0 (Want t x v) w.1
+        (λ front. Contains-append_left s.entries bs (Refuse t) (site.wants t x v (Contains-from_at s.entries w.0 (Want t x v) front)))
         (λ m is back. Contains-append_right s.entries bs (Refuse t) (wants m t x v back));
     pledged = covered;
   }
