@@ -1,4 +1,4 @@
-//! Drafts: what a transaction has read and is to write.
+//! Drafts: what a transaction has read and is to write. Its writes are private until it is certified.
 
 ghost use Rattle.std.specs.Prelude.{◌≡◌, ◌<◌, ◌≤◌, IfOk, IfErr, IsOk, OnOk, OnErr, slice_get, vec_len, vec_capacity, insert};
 ghost use Rattle.sgt_names.specs.Ordered.{IsAt, IsGapFor};
@@ -48,10 +48,10 @@ impl Model for Draft {
 }
 
 impl Draft {
-    ghost use Rattle.std.specs.Prelude.{◌≡◌, ◌↔◌, [], true, IsTrue, IsOk, OnOk, OnErr, Some, None, slice_get, option_and_then, All};
+    ghost use Rattle.std.specs.Prelude.{◌≡◌, ◌↔◌, ◌⊎◌, [], true, IsTrue, IsSome, IsOk, OnOk, OnErr, Some, None, slice_get, option_and_then, All};
     ghost use Rattle.sgt_names.specs.Draft.{place_of, AreRising, IsUsed, at_site, kept_in, writing_in, touched_at, seen_at, put_at, look_of, Touches, ChangesOnly};
 
-    /// No reads and no writes.
+    /// No reads and no writes. Takes no memory.
     pub fn new(alloc: Global) -> Draft
         ensures { result.touched ≡ [] }
     {
@@ -69,7 +69,7 @@ impl Draft {
         &self.touched
     }
 
-    /// Makes room, so that the next `seen` takes no memory and succeeds.
+    /// Makes room, so that the next `seen` or `put` takes no memory and succeeds. Errs where there was no memory.
     pub fn room(&mut self) -> Result<(), AllocError>
         ensures ok { OnOk result (self.new ≡ record self.old { has_room = true }) }
         ensures err { OnErr result (self.new ≡ self.old) }
@@ -77,7 +77,7 @@ impl Draft {
         self.touched.reserve(1)
     }
 
-    /// What this transaction sees of the item: its private write, or else its kept read.
+    /// What this transaction sees of the item: its private write, or else its kept read. A binary search.
     pub fn look(&self, site: SiteNo, item: Item) -> Option<Value>
         ensures { result ≡ option_and_then look_of (touched_at self.now.touched (site, item)) }
     {
@@ -87,7 +87,8 @@ impl Draft {
         }
     }
 
-    /// Keeps a read.
+    /// Keeps a read of an item that it has not read. Errs where there was no memory for an item that is new to it.
+    /// A binary search; a new item moves those of greater places.
     pub fn seen(
         &mut self,
         site: SiteNo,
@@ -103,7 +104,8 @@ impl Draft {
           put = put_at self.old.touched (site, item);
         })) }
         ensures err { OnErr result (self.new ≡ self.old) }
-        ensures succeeds { IsTrue self.old.has_room → IsOk result }
+        ensures succeeds { IsTrue self.old.has_room ⊎ IsSome (touched_at self.old.touched (site, item)) → IsOk result }
+        ensures room { IsSome (touched_at self.old.touched (site, item)) → self.new.has_room ≡ self.old.has_room }
     {
         let seen = Some(Seen { value, version });
         match search(self.touched.as_slice(), site, item) {
@@ -124,7 +126,8 @@ impl Draft {
         }
     }
 
-    /// Keeps a private write, in place of an earlier one.
+    /// Keeps a private write, in place of an earlier one. Errs where there was no memory for an item that is new to it.
+    /// A binary search; a new item moves those of greater places.
     pub fn put(&mut self, site: SiteNo, item: Item, value: Value) -> Result<(), AllocError>
         ensures ok { OnOk result (ChangesOnly self.old.touched self.new.touched (record {
           site = site;
@@ -133,6 +136,8 @@ impl Draft {
           put = Some value;
         })) }
         ensures err { OnErr result (self.new ≡ self.old) }
+        ensures succeeds { IsTrue self.old.has_room ⊎ IsSome (touched_at self.old.touched (site, item)) → IsOk result }
+        ensures room { IsSome (touched_at self.old.touched (site, item)) → self.new.has_room ≡ self.old.has_room }
     {
         match search(self.touched.as_slice(), site, item) {
             Ok(at) => {
@@ -152,21 +157,21 @@ impl Draft {
         }
     }
 
-    /// Whether the site has a kept read or a private write.
+    /// Whether the site has a kept read or a private write. Goes over the draft.
     pub fn touches(&self, site: SiteNo) -> bool
         ensures { IsTrue result ↔ Touches self.now.touched site }
     {
         self.touched.as_slice().iter().any(|t| t.site == site)
     }
 
-    /// The kept read of this number at a site, by rising item: the item, its value and its version.
+    /// The kept read of this number at a site, counted from 0 by rising item: the item, its value and its version. Goes over the draft.
     pub fn kept(&self, site: SiteNo, n: usize) -> Option<(Item, Value, u64)>
         ensures { result ≡ slice_get (kept_in (at_site site self.now.touched)) n }
     {
         nth_kept(self.touched.as_slice(), site, n)
     }
 
-    /// The private write of this number at a site, by rising item.
+    /// The private write of this number at a site, counted from 0 by rising item: the item and its value. Goes over the draft.
     pub fn writing(&self, site: SiteNo, n: usize) -> Option<(Item, Value)>
         ensures { result ≡ slice_get (writing_in (at_site site self.now.touched)) n }
     {
@@ -186,7 +191,7 @@ fn search(touched: &[Touch], site: SiteNo, item: Item) -> Result<usize, usize>
 fn order(t: &Touch, site: SiteNo, item: &Item) -> Ordering
     ensures { result ≡ place_cmp (place_of t.now) (site, item.now) }
 {
-    t.site.number().cmp(&site.number()).then(t.item.order(item))
+    t.site.number().cmp(&site.number()).then(t.item.cmp(item))
 }
 
 fn nth_kept(touched: &[Touch], site: SiteNo, n: usize) -> Option<(Item, Value, u64)>

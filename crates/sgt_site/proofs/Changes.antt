@@ -1,7 +1,7 @@
 -- Loops over the cells, one place after another.
-use Rattle.std.proofs.Common.{◌≡◌, ℕ, zero, suc, ◌+◌, ◌<◌, ◌≤◌, Bool, true, false, List, [], ◌∷◌, length, get_or, set, drop, Some, refl, sym, ap, ◌∙◌, subst, arith, inl, inr, length-set, All}
+use Rattle.std.proofs.Common.{◌≡◌, ℕ, zero, suc, ◌+◌, ◌<◌, ◌≤◌, false, List, [], ◌∷◌, length, get_or, set, drop, Some, refl, sym, ap, ◌∙◌, subst, arith, inl, inr, length-set, All}
 use mathlib.Core.Bool.{false≢true}
-use Rattle.std.specs.Prelude.{slice_get, find, IsTrue, ◌↔◌}
+use Rattle.std.specs.Prelude.{slice_get, IsTrue, ◌↔◌}
 use Rattle.std.proofs.lemmas.Bool.{cases_lt, cases_order}
 use Rattle.std.proofs.lemmas.Option.{same_Some, slice_get_within, slice_get-get_or}
 use Rattle.sgt_names.specs.declared.draft.Touch.{Touch}
@@ -15,15 +15,8 @@ drop_suc [] n a lt is = absurd (omega arith)
 drop_suc (x ∷ xs) zero a lt is = ap (λ y. y ∷ xs) (sym is)
 drop_suc (x ∷ xs) (suc n) a lt is = drop_suc xs n a (omega arith) is
 
-pub drop_next : {A : Type 0} (xs : List A) (n : ℕ) (a : A) → n < length xs → a ≡ get_or xs n a → drop n xs ≡ a ∷ drop (n + 1) xs
+drop_next : {A : Type 0} (xs : List A) (n : ℕ) (a : A) → n < length xs → a ≡ get_or xs n a → drop n xs ≡ a ∷ drop (n + 1) xs
 drop_next xs n a lt is = let next : suc n ≡ n + 1 = omega arith in drop_suc xs n a lt is ∙ ap (λ k. a ∷ drop k xs) next
-
--- a look for the first element that passes, from there on
-pub find_hit : {A : Type 0} (test : A → Bool) (xs : List A) (n : ℕ) (a : A) → n < length xs → a ≡ get_or xs n a → test a ≡ true → find test (drop n xs) ≡ Some a
-find_hit test xs n a lt is hit = ap (find test) (drop_next xs n a lt is) ∙ rw hit refl
-
-pub find_miss : {A : Type 0} (test : A → Bool) (xs : List A) (n : ℕ) (a : A) → n < length xs → a ≡ get_or xs n a → test a ≡ false → find test (drop n xs) ≡ find test (drop (n + 1) xs)
-find_miss test xs n a lt is miss = ap (find test) (drop_next xs n a lt is) ∙ rw miss refl
 
 -- the cells below a place were changed so, and the others are as they were
 pub record Done (R : Contents → Contents → Type 0) (i : ℕ) (old now : List Contents) : Type 0 where

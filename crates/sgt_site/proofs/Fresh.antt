@@ -1,5 +1,5 @@
 -- A site with no entries.
-use Rattle.std.proofs.Common.{◌≡◌, ℕ, zero, suc, ◌+◌, ◌-◌, ◌<◌, ◌≤◌, List, [], ◌∷◌, length, get_or, Some, refl, sym, ap, ◌∙◌, subst, arith, inl, inr, true, All}
+use Rattle.std.proofs.Common.{◌≡◌, ℕ, zero, suc, ◌+◌, ◌-◌, ◌<◌, ◌≤◌, List, [], ◌∷◌, length, get_or, Some, refl, sym, ap, ◌∙◌, subst, arith, inl, inr, true, ◌≢◌, All, AllPairs}
 use Rattle.std.specs.Prelude.{slice_get, option_map}
 use Rattle.std.specs.Ordering.{nat_cmp}
 use Rattle.std.specs.Cmp.Lexicographic.{slice_cmp}
@@ -13,6 +13,7 @@ use Rattle.sgt_names.specs.Ordered.{IsRisingBy}
 use Rattle.sgt_names.specs.Log.{value_in}
 use Rattle.sgt_names.specs.declared.entry.Holding.{Holding}
 use Rattle.sgt_names.proofs.Places.{AllPairs_at, AllPairs-from_at, AllPairs-tail, All_at, All-from_at}
+use Rattle.sgt_site.specs.declared.cell.Reader.{Reader}
 use Rattle.sgt_site.specs.Store.{AreItems, opened}
 use Rattle.sgt_site.specs.Stored.{Contents, Spare, AreReadings, items_of, IsCell, IsFresh, IsKept}
 
@@ -54,8 +55,8 @@ kept-fresh number cells spare items fresh = record {
     orderly = record { known = λ k d lt. absurd (omega arith); once = λ i j d lt within. absurd (omega arith); blocks = λ n e at opens. absurd cc; closed = λ i j d lt within. absurd (omega arith) };
     legal = λ n tx x v at. absurd cc;
     given = refl;
-    writes = λ n tx x v at. absurd cc;
-    wants = λ n tx x v at. absurd cc;
+    writes = λ tx x v has. absurd (omega (arith, has.1));
+    wants = λ tx x v has. absurd (omega (arith, has.1));
     pledged = λ p is. absurd cc;
   };
   rising = AllPairs-from_at (λ a b. slice_cmp nat_cmp a.item b.item ≡ Less) cells (λ p q a b lt at_p at_q.
@@ -64,6 +65,7 @@ kept-fresh number cells spare items fresh = record {
     value = listed (items_of cells) n (record { item = c.item; value = c.first }) items.rising (item_at cells n c at) ∙ ap Some (sym is.value);
     writers = is.writers;
     readers = λ r. (λ has. absurd (let lt : length c.readers ≡ 0 = ap length is.readers in omega (arith, lt, has.1)), λ reads. let none = reads.0 in absurd cc);
+    readers_once = subst (AllPairs (λ (a b : Reader). a.tx ≢ b.tx)) (sym is.readers) (λ i j d lt within. absurd (omega arith));
     rising = subst AreReadings (sym is.readings) (λ i j d lt within. absurd (omega arith));
     readings = λ m. (λ has. absurd (let lt : length c.readings ≡ 0 = ap length is.readings in omega (arith, lt, has.1)), λ read. let none = read.at in absurd cc);
   });

@@ -1,5 +1,5 @@
 -- What a site keeps when it logs the block of a committed transaction.
-use Rattle.std.proofs.Common.{◌≡◌, ℕ, suc, ◌⊎◌, List, [], ◌∷◌, ◌++◌, length, get_or, true, Option, Some, None, refl, sym, ap, ap₂, ◌∙◌, subst, arith, inl, inr, Contains, append-nil}
+use Rattle.std.proofs.Common.{◌≡◌, ℕ, suc, ◌<◌, ◌≢◌, ◌⊎◌, AllPairs, List, [], ◌∷◌, ◌++◌, length, get_or, true, Option, Some, None, refl, sym, ap, ap₂, ◌∙◌, subst, arith, inl, inr, Contains, append-nil}
 use Rattle.std.specs.Prelude.{slice_get, ◌↔◌, ◌==◌, if◌then◌else◌, option_and_then, unwrap_or}
 use Rattle.std.specs.List.{filter_map, cons_option, last_or}
 use Rattle.std.specs.Option.{option_to_list}
@@ -12,6 +12,7 @@ use Rattle.std.proofs.lemmas.Bool.Decides.{nat_tests}
 use Rattle.std.proofs.lemmas.Option.{same_Some, slice_get_within, slice_get-get_or}
 use Rattle.std.proofs.lemmas.List.{map-append}
 use Rattle.std.proofs.lemmas.List.Elements.{filter_map-append, Contains-append_left, Contains-append_right, Contains-append_cases}
+use Rattle.std.proofs.lemmas.List.Quantifiers.{all_pairs_push}
 use Rattle.sgt_names.specs.Name.{Name}
 use Rattle.sgt_names.specs.Entry.{written}
 use Rattle.sgt_names.specs.Log.{value_in, value_at}
@@ -21,7 +22,7 @@ use Rattle.sgt_names.specs.declared.draft.Touch.{Touch}
 use Rattle.sgt_names.specs.declared.entry.Entry.{Entry}
 use Rattle.sgt_names.specs.declared.entry.Entry.TheVariants.{Read, Write, Want, Commit, Refuse, Withdraw}
 use Rattle.sgt_names.specs.declared.entry.Holding.{Holding}
-use Rattle.sgt_names.proofs.Places.{Contains-from_at, All_at, All-from_at, AllPairs_at, AllPairs-from_at}
+use Rattle.sgt_names.proofs.Places.{Contains_at, Contains-from_at, All_at, All-from_at, AllPairs_at, AllPairs-from_at}
 use Rattle.sgt_arena.specs.declared.handle.Handle.{Handle}
 use Rattle.sgt_site.specs.declared.cell.Writer.{Writer}
 use Rattle.sgt_site.specs.declared.cell.Reader.{Reader}
@@ -168,12 +169,31 @@ module _ (s : Store) (p : Pledge) (handle : Handle) (site : IsSite s) (covered :
           let is : record { tx = p.tx; handle = handle; version = r.version } ≡ r = λ i. record { tx = sym own i; handle = sym same i; version = r.version } in
           rw t.1 (rw t.2 (Contains-from_at (record { tx = p.tx; handle = handle; version = r.version } ∷ []) 0 r (ap Some is)))
 
+  -- who ends now has not read as a committed transaction before
+  once_noted : (c : Contents) → IsCell s.items s.installed s.entries c → AllPairs (λ (a b : Reader). a.tx ≢ b.tx) (c.readers ++ noted_readers by (touch_in p.part c.item))
+  once_noted c cell = by_touch (touch_in p.part c.item)
+    where
+      apart : (k : ℕ) (d : Reader) → k < length c.readers → (get_or c.readers k d).tx ≢ p.tx
+      apart k d lt same =
+          let r = get_or c.readers k d in
+          let has = Contains-from_at c.readers k r (slice_get-get_or c.readers k d lt) in
+          covered.active (ended_with_handle s site p.tx r.handle (subst (λ t. handle_of s.installed t ≡ Some r.handle) same ((cell.readers r).0 has).0))
+
+      by_seen : (q : Option Seen) → AllPairs (λ (a b : Reader). a.tx ≢ b.tx) (c.readers ++ option_to_list (option_and_then (λ (seen : Seen). Some (record { tx = by.tx; handle = by.handle; version = seen.version })) q))
+      by_seen None = subst (AllPairs (λ (a b : Reader). a.tx ≢ b.tx)) (sym (append-nil c.readers)) cell.readers_once
+      by_seen (Some seen) = all_pairs_push (λ (a b : Reader). a.tx ≢ b.tx) c.readers (record { tx = by.tx; handle = by.handle; version = seen.version }) cell.readers_once apart
+
+      by_touch : (o : Option Touch) → AllPairs (λ (a b : Reader). a.tx ≢ b.tx) (c.readers ++ noted_readers by o)
+      by_touch None = by_seen None
+      by_touch (Some t) = by_seen t.seen
+
   -- a cell that is noted has what the log says of its item
   cell_noted : (c d : Contents) → IsCell s.items s.installed s.entries c → IsNoted by (touch_in p.part c.item) c d → IsCell s.items ws (s.entries ++ bs) d
   cell_noted c d cell noted = subst (IsCell s.items ws (s.entries ++ bs)) (sym noted) record {
     value = value_noted c cell;
     writers = writers_noted c cell;
     readers = readers_noted c cell;
+    readers_once = once_noted c cell;
     rising = cell.rising;
     readings = λ m. (
       λ has. LogsRead-append s.entries bs m.tx c.item m.seen.value m.seen.version ((cell.readings m).0 has),
@@ -193,13 +213,13 @@ module _ (s : Store) (p : Pledge) (handle : Handle) (site : IsSite s) (covered :
         (block_follows Write Commit commits-blocks p.tx (writing_in p.part) s site covered.active);
     legal = legal-append s.items s.entries bs site.legal (λ m t x v at. absurd (no_reads Write Commit commits-blocks p.tx (writing_in p.part) m t x v at));
     given = map-append (λ (w : Writer). w.tx) s.installed (by ∷ []) ∙ ap₂ (λ (us vs : List ℕ). us ++ vs) site.given (sym (committed_one (writing_in p.part))) ∙ sym (filter_map-append committed s.entries bs);
-    writes = λ n t x v at. get_cases s.entries bs n (Write t x v) at
-        (λ front. Contains-append_left s.entries bs (Commit t) (site.writes n t x v front))
+    writes = λ t x v has. let w = Contains_at (s.entries ++ bs) (Write t x v) has in get_cases s.entries bs w.0 (Write t x v) w.1
+        (λ front. Contains-append_left s.entries bs (Commit t) (site.writes t x v (Contains-from_at s.entries w.0 (Write t x v) front)))
         (λ m is back. in_block Write Commit commits-blocks p.tx (writing_in p.part) m (Write t x v) back
         (λ w here same. Contains-append_right s.entries bs (Commit t) (Contains-from_at bs (length (writing_in p.part)) (Commit t) (at_end Write Commit commits-blocks p.tx (writing_in p.part) ∙ ap (λ u. Some (Commit u)) (let own : p.tx ≡ t = cc in own))))
         (λ here same. absurd cc));
-    wants = λ n t x v at. get_cases s.entries bs n (Want t x v) at
-        (λ front. Contains-append_left s.entries bs (Refuse t) (site.wants n t x v front))
+    wants = λ t x v has. let w = Contains_at (s.entries ++ bs) (Want t x v) has in get_cases s.entries bs w.0 (Want t x v) w.1
+        (λ front. Contains-append_left s.entries bs (Refuse t) (site.wants t x v (Contains-from_at s.entries w.0 (Want t x v) front)))
         (λ m is back. in_block Write Commit commits-blocks p.tx (writing_in p.part) m (Want t x v) back (λ w here same. absurd cc) (λ here same. absurd cc));
     pledged = λ q is. absurd cc;
   }

@@ -1,5 +1,5 @@
 -- What a site keeps when entries are logged that write nothing.
-use Rattle.std.proofs.Common.{◌≡◌, ℕ, zero, suc, ◌+◌, ◌<◌, ◌≤◌, ◌⊎◌, List, [], ◌∷◌, ◌++◌, length, map, get_or, set, take, true, false, Option, Some, None, refl, sym, ap, ap₂, ◌∙◌, subst, arith, inl, inr, All, Contains, append-nil}
+use Rattle.std.proofs.Common.{◌≡◌, ℕ, zero, suc, ◌+◌, ◌<◌, ◌≤◌, ◌⊎◌, List, [], ◌∷◌, ◌++◌, length, map, get_or, set, take, true, false, Option, Some, None, refl, sym, ap, ap₂, ◌∙◌, subst, arith, inl, inr, ◌≢◌, All, AllPairs, Contains, append-nil}
 use Rattle.std.specs.Prelude.{slice_get, is_some, ◌↔◌, ◌==◌}
 use Rattle.std.specs.List.{filter_map}
 use Rattle.std.specs.Option.{ForSome}
@@ -135,6 +135,7 @@ module _ (s : Store) (bs : List Entry) (tx : ℕ) (site : IsSite s) (active : Ha
     value = value-quiet c cell;
     writers = writers-quiet c cell;
     readers = readers-quiet c cell;
+    readers_once = cell.readers_once;
     rising = cell.rising;
     readings = λ m. (
       λ has. LogsRead-append s.entries bs m.tx c.item m.seen.value m.seen.version ((cell.readings m).0 has),
@@ -156,11 +157,11 @@ module _ (s : Store) (bs : List Entry) (tx : ℕ) (site : IsSite s) (active : Ha
     orderly = orderly-append s.items s.entries bs site.orderly orderly may;
     legal = legal-append s.items s.entries bs site.legal legal;
     given = site.given ∙ sym (none-append committed s.entries bs quiet.commits);
-    writes = λ n t x v at. get_cases s.entries bs n (Write t x v) at
-        (λ front. Contains-append_left s.entries bs (Commit t) (site.writes n t x v front))
+    writes = λ t x v has. let w = Contains_at (s.entries ++ bs) (Write t x v) has in get_cases s.entries bs w.0 (Write t x v) w.1
+        (λ front. Contains-append_left s.entries bs (Commit t) (site.writes t x v (Contains-from_at s.entries w.0 (Write t x v) front)))
         (λ m is back. absurd (quiet.writes m t x v back));
-    wants = λ n t x v at. get_cases s.entries bs n (Want t x v) at
-        (λ front. Contains-append_left s.entries bs (Refuse t) (site.wants n t x v front))
+    wants = λ t x v has. let w = Contains_at (s.entries ++ bs) (Want t x v) has in get_cases s.entries bs w.0 (Want t x v) w.1
+        (λ front. Contains-append_left s.entries bs (Refuse t) (site.wants t x v (Contains-from_at s.entries w.0 (Want t x v) front)))
         (λ m is back. Contains-append_right s.entries bs (Refuse t) (wants m t x v back));
     pledged = covered;
   }
@@ -246,6 +247,7 @@ module _ (s : Store) (tx : ℕ) (x : Name) (v : ℕ) (site : IsSite s) (may : Ma
     value = value-quiet s one tx site may.active read_quiet c cell;
     writers = writers-quiet s one tx site may.active read_quiet c cell;
     readers = readers-quiet s one tx site may.active read_quiet c cell;
+    readers_once = cell.readers_once;
     rising = cell.rising;
     readings = λ m. (
       λ has. LogsRead-append s.entries one m.tx c.item m.seen.value m.seen.version ((cell.readings m).0 has),
@@ -268,6 +270,7 @@ module _ (s : Store) (tx : ℕ) (x : Name) (v : ℕ) (site : IsSite s) (may : Ma
         value = ap (value_at s.items (s.entries ++ one)) item ∙ value-quiet s one tx site may.active read_quiet c cell ∙ ap Some (sym same);
         writers = writers ∙ writers-quiet s one tx site may.active read_quiet c cell ∙ ap (writers_of s.installed (s.entries ++ one)) (sym item);
         readers = λ r. subst (λ (rs : List Reader). Contains rs r ↔ IsReader s.installed (s.entries ++ one) d.item r) (sym readers) (subst (λ (y : Name). Contains c.readers r ↔ IsReader s.installed (s.entries ++ one) y r) (sym item) (readers-quiet s one tx site may.active read_quiet c cell r));
+        readers_once = subst (AllPairs (λ (a b : Reader). a.tx ≢ b.tx)) (sym readers) cell.readers_once;
         rising = answered.rising;
         readings = λ m. subst (λ (y : Name). Contains d.readings m ↔ LogsRead (s.entries ++ one) m.tx y m.seen.value m.seen.version) (sym (item ∙ of)) (
           λ has. logged version m ((answered.reads m).0 has),

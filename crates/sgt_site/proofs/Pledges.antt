@@ -270,7 +270,7 @@ module _ (s : Store) (cells new : List Contents) (ended : List ℕ) (spare more 
   roomier-each = All-from_at (IsCell s.items s.installed s.entries) new (λ n d at.
       let c = old_at n d at in
       let cell = All_at (IsCell s.items s.installed s.entries) cells n c.0 kept.each c.1 in
-      subst (IsCell s.items s.installed s.entries) (sym (changed.each n c.0 d c.1 at).0) (record { value = cell.value; writers = cell.writers; readers = cell.readers; rising = cell.rising; readings = cell.readings }))
+      subst (IsCell s.items s.installed s.entries) (sym (changed.each n c.0 d c.1 at).0) (record { value = cell.value; writers = cell.writers; readers = cell.readers; readers_once = cell.readers_once; rising = cell.rising; readings = cell.readings }))
 
   -- with no pledge, room is as it may be
   pub kept-open : (p : Option Pledge) → p ≡ None → IsKept (record s { pledge = p }) new ended more

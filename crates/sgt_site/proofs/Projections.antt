@@ -83,8 +83,8 @@ commit_is (Withdraw t) tx h = absurd cc
 
 -- the entries of a transaction that has not ended write nothing
 pub no_write : (s : Store) → IsSite s → (tx : ℕ) → (HasEnded s.entries tx → ⊥) → (p : ℕ) (x : Name) (e : Entry) → slice_get s.entries p ≡ Some e → tx_of e ≡ tx → Writes x e → ⊥
-no_write s site tx active p x (Write t y v) at own w = active (let c = Contains_at s.entries (Commit t) (site.writes p t y v at) in Any-from_at (λ e. (tx_of e ≡ tx) × IsEnd e) s.entries c.0 (Commit t) c.1 (own, tt))
-no_write s site tx active p x (Want t y v) at own w = active (let c = Contains_at s.entries (Refuse t) (site.wants p t y v at) in Any-from_at (λ e. (tx_of e ≡ tx) × IsEnd e) s.entries c.0 (Refuse t) c.1 (own, tt))
+no_write s site tx active p x (Write t y v) at own w = active (let c = Contains_at s.entries (Commit t) (site.writes t y v (Contains-from_at s.entries p (Write t y v) at)) in Any-from_at (λ e. (tx_of e ≡ tx) × IsEnd e) s.entries c.0 (Commit t) c.1 (own, tt))
+no_write s site tx active p x (Want t y v) at own w = active (let c = Contains_at s.entries (Refuse t) (site.wants t y v (Contains-from_at s.entries p (Want t y v) at)) in Any-from_at (λ e. (tx_of e ≡ tx) × IsEnd e) s.entries c.0 (Refuse t) c.1 (own, tt))
 no_write s site tx active p x (Read t y v) at own w = w
 no_write s site tx active p x (Commit t) at own w = w
 no_write s site tx active p x (Refuse t) at own w = w
@@ -112,7 +112,7 @@ module _ (s : Store) (site : IsSite s) where
   pub wanted_no_handle : (tx : ℕ) (h : Handle) (p : ℕ) (x : Name) (v : ℕ) → handle_of s.installed tx ≡ Some h → slice_get s.entries p ≡ Some (Want tx x v) → ⊥
   wanted_no_handle tx h p x v given wants =
       let c = Contains_at s.entries (Commit tx) (commit_with_handle tx h given) in
-      let r = Contains_at s.entries (Refuse tx) (site.wants p tx x v wants) in
+      let r = Contains_at s.entries (Refuse tx) (site.wants tx x v (Contains-from_at s.entries p (Want tx x v) wants)) in
       elim (cases_order c.0 r.0) [
         | inl same ↦ let e : ◌≡◌ {A = Option Entry} (Some (Commit tx)) (Some (Refuse tx)) = sym c.1 ∙ ap (slice_get s.entries) same ∙ r.1 in absurd cc
         | inr (inl lt) ↦ AllPairs_at (λ e f. IsEnd e → tx_of e ≢ tx_of f) s.entries c.0 r.0 (Commit tx) (Refuse tx) site.orderly.closed lt c.1 r.1 tt refl
@@ -120,7 +120,7 @@ module _ (s : Store) (site : IsSite s) where
       ]
 
   pub all_given : AllGiven s.installed s.entries
-  all_given n tx x v at = committed_of tx (site.writes n tx x v at)
+  all_given n tx x v at = committed_of tx (site.writes tx x v (Contains-from_at s.entries n (Write tx x v) at))
 
   version_of : (x : Name) (q : ℕ) → count_before (writer s.installed x) s.entries q ≡ version_at (take q s.entries) x
   version_of x q = length-writers s.installed (take q s.entries) x (λ n tx y v at. all_given n tx y v (slice_get-take s.entries q n (Write tx y v) at).1)

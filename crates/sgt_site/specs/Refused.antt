@@ -1,5 +1,5 @@
 -- When a site refuses: the cases exclude each other, and memory is answered only where no other refusal holds.
-use Rattle.std.specs.Prelude.{◌≡◌, ℕ, List, None, All, Contains}
+use Rattle.std.specs.Prelude.{◌≡◌, ◌≢◌, ℕ, List, None, All, Contains}
 use Rattle.sgt_names.specs.Name.{Name}
 use Rattle.sgt_names.specs.Log.{names}
 use Rattle.sgt_names.specs.Draft.{at_site, kept_in, writing_in}
@@ -46,7 +46,7 @@ pub record MayPledge (s : Store) (tx : ℕ) (touched : List Touch) : Type 0 wher
 abbrev pub RefusesPledge : Store → ℕ → List Touch → SiteFault → Type 0
 RefusesPledge s tx touched UnknownItem = ¬ WritesKnown s touched
 RefusesPledge s tx touched Ended = WritesKnown s touched × HasEnded s.entries tx
-RefusesPledge s tx touched PledgeOpen = WritesKnown s touched × (¬ HasEnded s.entries tx) × (s.pledge ≡ None → ⊥)
+RefusesPledge s tx touched PledgeOpen = WritesKnown s touched × (¬ HasEnded s.entries tx) × (s.pledge ≢ None)
 RefusesPledge s tx touched DraftDiffers = WritesKnown s touched × (¬ HasEnded s.entries tx) × (s.pledge ≡ None) × (¬ KeepsReads s.entries tx (kept_in (at_site s.number touched)))
 RefusesPledge s tx touched Memory = MayPledge s tx touched
 RefusesPledge s tx touched _ = ⊥

@@ -19,12 +19,13 @@ use Rattle.sgt_arena.specs.declared.handle.Handle.{Handle}
 use Rattle.sgt_site.specs.declared.cell.Writer.{Writer}
 use Rattle.sgt_site.specs.declared.cell.Reader.{Reader}
 
--- a pledge: room for a transaction's block, and what its draft touches here
+-- a pledge: whose it is, and what the draft that it was given for touches here
 pub record Pledge : Type 0 where
   pub tx : ℕ
   pub part : List Touch
 
--- what contracts see of a site
+-- what contracts see of a site: its items with their first values, its log, each committed transaction with its handle in the
+-- order of the commits, and the pledge that stands
 pub record Store : Type 0 where
   pub number : ℕ
   pub items : List Holding
@@ -41,7 +42,7 @@ pub record AreItems (items : List Holding) : Type 0 where
 abbrev pub opened : ℕ → List Holding → Store
 opened number items = record { number = number; items = items; entries = []; installed = []; pledge = None }
 
--- the version of an item after these entries: how often it was written
+-- the version of an item after these entries: how often it has been written
 abbrev pub version_at : List Entry → Name → ℕ
 version_at entries x = length (filter_map (written x) entries)
 
@@ -53,13 +54,13 @@ HasRead entries tx x = Any (λ e. (tx_of e ≡ tx) × Reads x e) entries
 abbrev pub HasEnded : List Entry → ℕ → Type 0
 HasEnded entries tx = Any (λ e. (tx_of e ≡ tx) × IsEnd e) entries
 
--- the log has a read of the item by the transaction, with this value, at this version
+-- the transaction read the item: it read this value, when the item had this version
 pub record LogsRead (entries : List Entry) (tx : ℕ) (x : Name) (v n : ℕ) : Type 0 where
   pub place : ℕ
   pub at : slice_get entries place ≡ Some (Read tx x v)
   pub version : version_at (take place entries) x ≡ n
 
--- these kept reads are the transaction's reads in the log, each with its value and version
+-- these kept reads are all of the transaction's reads in the log, each with its value and version
 abbrev pub KeepsReads : List Entry → ℕ → List (Name × ℕ × ℕ) → Type 0
 KeepsReads entries tx kept = (x : Name) (v n : ℕ) → Contains kept (x, v, n) ↔ LogsRead entries tx x v n
 
@@ -77,7 +78,7 @@ writer installed x _ = None
 abbrev pub writers_of : List Writer → List Entry → Name → List Writer
 writers_of installed entries x = filter_map (writer installed x) entries
 
--- the handle was given for the transaction, which read the item at this version
+-- a committed transaction with its handle, which read the item at this version
 abbrev pub IsReader : List Writer → List Entry → Name → Reader → Type 0
 IsReader installed entries x r = (handle_of installed r.tx ≡ Some r.handle) × ((v : ℕ) × LogsRead entries r.tx x v r.version)
 
@@ -102,7 +103,7 @@ pub record IsCovered (s : Store) (p : Pledge) : Type 0 where
   pub rising : AreRising p.part
   pub reads : KeepsReads s.entries p.tx (kept_in p.part)
   pub known : All (λ w. Contains (names s.items) w.0) (writing_in p.part)
-  pub active : HasEnded s.entries p.tx → ⊥
+  pub active : ¬ HasEnded s.entries p.tx
 
 -- what every site keeps
 pub record IsSite (s : Store) : Type 0 where
@@ -112,8 +113,8 @@ pub record IsSite (s : Store) : Type 0 where
   -- the handles are those of the commits, in the order of the log
   pub given : map (λ w. w.tx) s.installed ≡ filter_map committed s.entries
   -- who writes is committed, and who asked to write is refused
-  pub writes : (n tx : ℕ) (x : Name) (v : ℕ) → slice_get s.entries n ≡ Some (Write tx x v) → Contains s.entries (Commit tx)
-  pub wants : (n tx : ℕ) (x : Name) (v : ℕ) → slice_get s.entries n ≡ Some (Want tx x v) → Contains s.entries (Refuse tx)
+  pub writes : (tx : ℕ) (x : Name) (v : ℕ) → Contains s.entries (Write tx x v) → Contains s.entries (Commit tx)
+  pub wants : (tx : ℕ) (x : Name) (v : ℕ) → Contains s.entries (Want tx x v) → Contains s.entries (Refuse tx)
   pub pledged : ForSome s.pledge (IsCovered s)
 
 -- the pledge of the transaction stands

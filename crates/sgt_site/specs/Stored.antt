@@ -1,5 +1,5 @@
 -- How a site keeps its store: a cell for each item, and who has ended.
-use Rattle.std.specs.Prelude.{◌≡◌, ◌↔◌, ◌⊎◌, ℕ, ◌<◌, ◌≤◌, List, [], ◌++◌, length, map, Option, Some, None, All, Any, Contains, IsSome, find, unwrap_or, option_and_then, slice_get, set}
+use Rattle.std.specs.Prelude.{◌≡◌, ◌≢◌, ◌↔◌, ◌⊎◌, ℕ, ◌<◌, ◌≤◌, List, [], ◌++◌, length, map, Option, Some, None, All, AllPairs, Any, Contains, IsSome, find, unwrap_or, option_and_then, slice_get, set}
 use Rattle.std.specs.Option.{ForSome, option_to_list}
 use Rattle.std.specs.Str.{bytes_eq}
 use Rattle.std.specs.Ordering.{nat_cmp}
@@ -63,6 +63,7 @@ pub record IsCell (items : List Holding) (installed : List Writer) (entries : Li
   pub value : value_at items entries c.item ≡ Some c.value
   pub writers : c.writers ≡ writers_of installed entries c.item
   pub readers : (r : Reader) → Contains c.readers r ↔ IsReader installed entries c.item r
+  pub readers_once : AllPairs (λ a b. a.tx ≢ b.tx) c.readers
   pub rising : AreReadings c.readings
   pub readings : (m : Reading) → Contains c.readings m ↔ LogsRead entries m.tx c.item m.seen.value m.seen.version
 

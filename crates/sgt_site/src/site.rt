@@ -1,4 +1,8 @@
 //! A site: its items with their values, its log, and the pledge that stands.
+//!
+//! Writes are deferred: a transaction's writes stay in its draft until it is certified, and are logged as one block with its end.
+//! Logs, conflicts and "reads from" are those of Bernstein, Hadzilacos and Goodman, Concurrency Control and Recovery in Database
+//! Systems (1987), chapter 2.
 
 ghost use Rattle.std.specs.Prelude.{◌≡◌, ◌↔◌, ◌⊎◌, ℕ, ◌+◌, ◌<◌, ◌≤◌, [], Some, length, map, slice_get, vec_len, vec_capacity, All, Contains, IsTrue, IfOk, IfErr, OnErr};
 ghost use Rattle.std.specs.Ordering.{nat_cmp};
@@ -46,7 +50,7 @@ impl Model for Site {
 }
 
 impl Site {
-    ghost use Rattle.std.specs.Prelude.{◌≡◌, ◌↔◌, ◌≤◌, [], ◌∷◌, ◌++◌, length, Contains, slice_get, IsOk, OnOk, OnErr, IfOk, IfErr, IfSome, IfNone};
+    ghost use Rattle.std.specs.Prelude.{◌≡◌, ◌≢◌, ◌↔◌, ◌≤◌, [], ◌∷◌, ◌++◌, length, AllPairs, Contains, slice_get, IsOk, OnOk, OnErr, IfOk, IfErr, IfSome, IfNone};
     ghost use Rattle.sgt_site.specs.declared.fault.SiteFault.{SiteFault};
     ghost use Rattle.sgt_site.specs.declared.cell.Reader.{Reader};
     ghost use Rattle.sgt_names.specs.Log.{names, value_at, FinalsAreLegal};
@@ -55,7 +59,10 @@ impl Site {
     ghost use Rattle.sgt_site.specs.Store.{opened, version_at, writers_of, IsReader, AreItems, IsSite, IsPledged, IsPledgedFor, commit_block, refuse_block, withdraw_block};
     ghost use Rattle.sgt_site.specs.Refused.{RefusesItems, RefusesRead, RefusesPledge, MayRead, MayPledge};
 
-    /// A site with these items, all fresh.
+    /// A site with these items, each with its listed value, and no entries. The cost is the number of items.
+    ///
+    /// - S6: the names don't rise, or there are more than 256.
+    /// - S4: there was no memory.
     pub fn new(alloc: Global, number: SiteNo, items: &[Holding]) -> Result<Site, SiteFault>
         ensures ok { IfOk result (λ s. s ≡ opened number items.now) }
         ensures allowed { OnOk result (AreItems items.now) }
@@ -80,7 +87,7 @@ impl Site {
         })
     }
 
-    /// The number of the site.
+    /// The number that the site was made with.
     pub fn number(&self) -> SiteNo
         ensures number { result ≡ self.now.number }
         ensures site { IsSite self.now }
@@ -88,7 +95,7 @@ impl Site {
         self.number
     }
 
-    /// The entries of the log.
+    /// The entries of the log, the oldest first.
     pub fn log(&self) -> &[Entry]
         ensures entries { result.now ≡ self.now.entries }
         ensures site { IsSite self.now }
@@ -96,7 +103,18 @@ impl Site {
         self.log.as_slice()
     }
 
-    /// Reads an item for a transaction, and logs it.
+    /// Reads an item for a transaction, and logs it. What is answered was written by a committed transaction, or is the first value.
+    /// A pledge that stands stays covered.
+    ///
+    /// The first that holds is answered:
+    /// - S1: the item isn't at this site.
+    /// - S2: the transaction has read it.
+    /// - S3: the transaction has its end here.
+    /// - S7: the pledge that stands is its own.
+    /// - S4: there was no memory.
+    ///
+    /// Searches the items, the reads of this one and the ended transactions, each in the logarithm of their number, and not the log.
+    /// The reads of this item by transactions of greater numbers move by a place.
     pub fn read(&mut self, tx: Tx, item: Item) -> Result<Seen, SiteFault>
         ensures value { IfOk result (λ seen. value_at self.old.items self.old.entries item ≡ Some seen.value) }
         ensures version { IfOk result (λ seen. seen.version ≡ version_at self.old.entries item) }
@@ -135,22 +153,10 @@ impl Site {
         }
     }
 
-    /// Gives the pledge of the transaction back.
-    pub fn unpledge(&mut self, tx: Tx) -> Result<(), SiteFault>
-        ensures ok { OnOk result (self.new ≡ record self.old { pledge = None }) }
-        ensures err { OnErr result (self.new ≡ self.old) }
-        ensures succeeds { IsOk result ↔ IsPledged self.old tx }
-        ensures refused { IfErr result (λ f. f ≡ SiteFault.NotPledged) }
-    {
-        if !is_pledged(self.pledged, tx) {
-            return Err(SiteFault::NotPledged);
-        }
-        self.pledged = None;
-        self.part.clear();
-        Ok(())
-    }
-
-    /// Writes the block of a withdrawn transaction, under its pledge.
+    /// Ends a transaction as withdrawn, under its pledge for whichever draft. Takes no memory; the cost is a search of the ended
+    /// transactions, of which those of greater numbers move by a place.
+    ///
+    /// - S5: no pledge of the transaction stands.
     pub fn withdraw(&mut self, tx: Tx) -> Result<(), SiteFault>
         ensures ok { OnOk result (self.new ≡ record self.old { entries = self.old.entries ++ withdraw_block tx; pledge = None }) }
         ensures err { OnErr result (self.new ≡ self.old) }
@@ -167,7 +173,9 @@ impl Site {
         Ok(())
     }
 
-    /// The committed transactions that wrote the item, in the order of the log.
+    /// The committed transactions that wrote the item, in the order of the log. Searches the items, and copies nothing.
+    ///
+    /// - S1: the item isn't at this site.
     pub fn writers(&self, item: Item) -> Result<&[Writer], SiteFault>
         ensures ok { IfOk result (λ ws. ws.now ≡ writers_of self.now.installed self.now.entries item) }
         ensures site { IsSite self.now }
@@ -180,9 +188,13 @@ impl Site {
         }
     }
 
-    /// The committed transactions that read the item, with the versions that they read.
+    /// The committed transactions that read the item, with the versions that they read, in no fixed order.
+    /// Searches the items, and copies nothing.
+    ///
+    /// - S1: the item isn't at this site.
     pub fn readers(&self, item: Item) -> Result<&[Reader], SiteFault>
         ensures ok { IfOk result (λ rs. (r : Reader) → Contains rs.now r ↔ IsReader self.now.installed self.now.entries item r) }
+        ensures once { IfOk result (λ rs. AllPairs (λ a b. a.tx ≢ b.tx) rs.now) }
         ensures site { IsSite self.now }
         ensures allowed { OnOk result (Contains (names self.now.items) item) }
         ensures refused { IfErr result (λ f. (f ≡ SiteFault.UnknownItem) × (¬ Contains (names self.now.items) item)) }
@@ -193,7 +205,9 @@ impl Site {
         }
     }
 
-    /// The items with their values at the end of the log.
+    /// The items with their values at the end of the log. The cost is the number of items.
+    ///
+    /// - S4: there was no memory.
     pub fn final_values(&self, alloc: Global) -> Result<Vec<Holding>, SiteFault>
         ensures items { IfOk result (λ finals. names finals.items ≡ names self.now.items) }
         ensures values { IfOk result (λ finals. FinalsAreLegal self.now.items self.now.entries finals.items) }
@@ -245,7 +259,7 @@ fn find(cells: &[Cell], item: Item) -> Result<usize, usize>
 fn order(cell: &Cell, item: &Item) -> Ordering
     ensures { result ≡ slice_cmp nat_cmp cell.now.item item.now }
 {
-    cell.item().order(item)
+    cell.item().cmp(item)
 }
 
 fn are_items(items: &[Holding]) -> bool
@@ -265,7 +279,7 @@ fn are_items(items: &[Holding]) -> bool
 fn comes_before(a: &Holding, b: &Holding) -> bool
     ensures { IsTrue result ↔ (slice_cmp nat_cmp a.now.item b.now.item ≡ Less) }
 {
-    match a.item.order(&b.item) {
+    match a.item.cmp(&b.item) {
         Ordering::Less => true,
         _ => false,
     }

@@ -17,7 +17,12 @@ impl Site {
     ghost use Rattle.sgt_site.specs.declared.fault.SiteFault.{SiteFault};
     ghost use Rattle.sgt_site.specs.Store.{IsPledgedFor, commit_block, refuse_block};
 
-    /// Writes the block of a committed transaction, under its pledge for this draft.
+    /// Commits a transaction here, under its pledge for this draft: its writes by rising item, and its end. The handle is kept as it
+    /// is given; that no other transaction was given it is for the caller to see to. Takes no memory.
+    ///
+    /// - S5: no pledge of the transaction stands, or the draft reads or writes otherwise here than the one that was pledged.
+    ///
+    /// Goes over the draft and, for each item of the site, over what the draft touches here.
     pub fn install(&mut self, tx: Tx, handle: Handle, draft: &Draft) -> Result<(), SiteFault>
         ensures ok { OnOk result (self.new ≡ record self.old {
           entries = self.old.entries ++ commit_block tx (writing_in (at_site self.old.number draft.now.touched));
@@ -44,7 +49,10 @@ impl Site {
         Ok(())
     }
 
-    /// Writes the block of a refused transaction, under its pledge for this draft.
+    /// Ends a transaction as refused, under its pledge for this draft: what it wanted to write by rising item, and its end. No value
+    /// changes. Takes no memory, and goes over the draft.
+    ///
+    /// - S5: no pledge of the transaction stands, or the draft reads or writes otherwise here than the one that was pledged.
     pub fn refuse(&mut self, tx: Tx, draft: &Draft) -> Result<(), SiteFault>
         ensures ok { OnOk result (self.new ≡ record self.old {
           entries = self.old.entries ++ refuse_block tx (writing_in (at_site self.old.number draft.now.touched));
@@ -87,7 +95,7 @@ fn is_part(part: &[Touch], number: SiteNo, touched: &[Touch]) -> bool
 fn same_touch(a: &Touch, b: &Touch) -> bool
     ensures { IsTrue result ↔ (a.now ≡ b.now) }
 {
-    a.site == b.site && a.item.same(&b.item) && a.seen == b.seen && a.put == b.put
+    a.site == b.site && a.item == b.item && a.seen == b.seen && a.put == b.put
 }
 
 // Logs the writes.
@@ -159,7 +167,7 @@ pub(super) fn touch_of(part: &[Touch], item: Item) -> Option<Touch>
     ensures { result ≡ touch_in part.now item }
 {
     for t in part {
-        if t.item.same(&item) {
+        if t.item == item {
             return Some(*t);
         }
     }

@@ -10,17 +10,29 @@ ghost use Rattle.sgt_names.specs.declared.draft.Seen.{Seen as Answer};
 ghost use Rattle.sgt_site.specs.Stored.{Contents, AreReadings, IsAnswering, AreChanged, ChangesAt, SameButRoom, HasPlace, IsTouched, HasItem, InCells, KeepsItem};
 
 use super::blocks::touch_of;
-use super::{Site, find, has_ended, make_room};
+use super::{Site, find, has_ended, is_pledged, make_room};
 use crate::cell::{Cell, Writer};
 use crate::fault::SiteFault;
 use sgt_names::{Draft, Entry, Item, Seen, SiteNo, Touch, Tx};
 
 impl Site {
-    ghost use Rattle.std.specs.Prelude.{◌≡◌, Some, None, OnOk, OnErr, IfErr};
+    ghost use Rattle.std.specs.Prelude.{◌≡◌, ◌↔◌, Some, None, IsOk, OnOk, OnErr, IfErr};
     ghost use Rattle.sgt_names.specs.Draft.{at_site};
+    ghost use Rattle.sgt_site.specs.declared.fault.SiteFault.{SiteFault};
+    ghost use Rattle.sgt_site.specs.Store.{IsPledged};
     ghost use Rattle.sgt_site.specs.Refused.{RefusesPledge, MayPledge};
 
-    /// Makes room for the block that is to end a transaction, whichever it is. One pledge stands at a time.
+    /// Makes room for the block that is to end a transaction, whichever it is. While the pledge stands, `install`, `refuse`,
+    /// `withdraw` and `unpledge` take no memory and succeed, however many reads of others come between. One stands at a time.
+    ///
+    /// The first that holds is answered:
+    /// - S1: the draft is to write an item here that isn't at this site.
+    /// - S3: the transaction has its end here.
+    /// - S7: a pledge stands, of whichever transaction.
+    /// - S8: the draft's reads here aren't the transaction's in the log, each with its value and version.
+    /// - S4: there was no memory.
+    ///
+    /// Goes over the draft and, for each item of the site, over what the draft touches here; it doesn't go over the log.
     pub fn pledge(&mut self, tx: Tx, draft: &Draft) -> Result<(), SiteFault>
         ensures ok { OnOk result (self.new ≡ record self.old { pledge = Some (record { tx = tx; part = at_site self.old.number draft.now.touched }) }) }
         ensures err { OnErr result (self.new ≡ self.old) }
@@ -43,6 +55,23 @@ impl Site {
             return Err(SiteFault::Memory);
         }
         self.pledged = Some(tx);
+        Ok(())
+    }
+
+    /// Gives the pledge of the transaction back. Takes no memory; the room that was made is kept for later.
+    ///
+    /// - S5: no pledge of the transaction stands.
+    pub fn unpledge(&mut self, tx: Tx) -> Result<(), SiteFault>
+        ensures ok { OnOk result (self.new ≡ record self.old { pledge = None }) }
+        ensures err { OnErr result (self.new ≡ self.old) }
+        ensures succeeds { IsOk result ↔ IsPledged self.old tx }
+        ensures refused { IfErr result (λ f. f ≡ SiteFault.NotPledged) }
+    {
+        if !is_pledged(self.pledged, tx) {
+            return Err(SiteFault::NotPledged);
+        }
+        self.pledged = None;
+        self.part.clear();
         Ok(())
     }
 
@@ -188,7 +217,7 @@ fn keeps(number: SiteNo, touched: &[Touch], item: Item) -> bool
 fn is_of(number: SiteNo, touch: &Touch, item: Item) -> bool
     ensures { IsTrue result ↔ ((touch.now.site ≡ number) × IsSome touch.now.seen × (touch.now.item ≡ item)) }
 {
-    touch.site == number && touch.seen.is_some() && touch.item.same(&item)
+    touch.site == number && touch.seen.is_some() && touch.item == item
 }
 
 // Copies what is touched at the site.

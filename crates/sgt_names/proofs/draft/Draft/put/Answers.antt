@@ -1,6 +1,7 @@
-use Rattle.std.proofs.Common.{refl, inr, length}
+use Rattle.std.proofs.Common.{refl, arith, inl, inr, length}
+use Rattle.std.proofs.lemmas.Bool.Decides.{nat_tests}
 use Rattle.std.proofs.lemmas.Option.{slice_get_read}
-use Rattle.sgt_names.proofs.Touched.{changes_put, adds_put, tried, OnOk_then}
+use Rattle.sgt_names.proofs.Touched.{changes_put, adds_put, not_touched, tried, OnOk_then}
 use Rattle.sgt_names.proofs.draft.Draft.put.Goals as goal
 
 pub returns-in-Ok-clause-ok : goal.returns-in-Ok-clause-ok
@@ -17,3 +18,12 @@ pub returns-in-Err-clause-ok : goal.returns-in-Err-clause-ok
 returns-in-Err-clause-ok c =
     let gap = rw c.as_slice.ensures.value at c.in-Err.ensures.absent in
     rw (← c.self.view_is) (OnOk_then c.add.result c.add.ensures.ok (λ is. rw is (adds_put c.self.inside.touched.items c.self.invariant.0 (c.args.site, c.args.item) c.in-Err.at _ gap)))
+
+pub returns-in-Err-clause-succeeds : goal.returns-in-Err-clause-succeeds
+returns-in-Err-clause-succeeds c = rw (← c.self.view_is) (λ room. elim room [
+  | inl fits ↦ c.add.ensures.succeeds (grind (arith, nat_tests, fits))
+  | inr touched ↦ absurd (not_touched _ _ _ (rw c.as_slice.ensures.value at c.in-Err.ensures.absent) touched)
+])
+
+pub returns-in-Err-clause-room : goal.returns-in-Err-clause-room
+returns-in-Err-clause-room c = rw (← c.self.view_is) (λ touched. absurd (not_touched _ _ _ (rw c.as_slice.ensures.value at c.in-Err.ensures.absent) touched))
