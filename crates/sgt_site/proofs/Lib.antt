@@ -12,3 +12,4 @@ pub mod Installs
 pub mod Fresh
 pub mod Inserts
 pub mod Examples
+mod Reasons
