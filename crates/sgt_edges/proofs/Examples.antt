@@ -1,11 +1,11 @@
--- What stands for all edges, shown on a small site: 1 and 2 wrote x, 3 read what 2 wrote, and the draft is to write x.
-use Rattle.std.proofs.Common.{◌≡◌, ◌≢◌, ◌==◌, false, ℕ, zero, suc, List, [], ◌∷◌, Some, None, refl, sym, ap, ◌∙◌, subst, arith, lit<, ◌<◌, ◌⊎◌, inl, inr}
+-- What stands for all edges, shown on two small sites. At the first, 1 and 2 wrote x, 3 read what 2 wrote, and the draft is to write x.
+use Rattle.std.proofs.Common.{◌≡◌, ◌≢◌, ◌==◌, false, ℕ, zero, suc, List, [], ◌∷◌, Some, None, refl, sym, ap, ◌∙◌, subst, arith, lit<, get_or, Contains, ◌<◌, ◌⊎◌, inl, inr}
 use Rattle.std.specs.Prelude.{codes, slice_get}
 use Rattle.std.proofs.lemmas.Option.{same_Some}
 use Rattle.std.proofs.lemmas.Bool.{eqb-false}
 use Rattle.std.proofs.lemmas.Bool.Decides.{nat_tests}
 use Rattle.sgt_names.specs.Name.{Name}
-use Rattle.sgt_names.specs.Entry.{tx_of, Clash}
+use Rattle.sgt_names.specs.Entry.{tx_of, Writes, Clash}
 use Rattle.sgt_names.specs.declared.draft.Touch.{Touch}
 use Rattle.sgt_names.specs.declared.entry.Entry.{Entry}
 use Rattle.sgt_names.specs.declared.entry.Entry.TheVariants.{Read, Write, Commit}
@@ -210,3 +210,73 @@ nobody-joins_itself joins = by_side joins.ends
     by_side : ((me ≡ joins.handle) × (me ≡ me)) ⊎ ((me ≡ me) × (me ≡ joins.handle)) → ⊥
     by_side (inl a) = not_mine joins.other (joins.given ∙ ap Some (sym a.0))
     by_side (inr a) = not_mine joins.other (joins.given ∙ ap Some (sym a.1))
+
+-- another site: 1 and 2 read x and wrote y, and the draft is to write both
+abbrev y : Name
+y = codes "y"
+
+abbrev two_items : Store
+two_items = record {
+  number = 0;
+  items = record { item = x; value = 5 } ∷ record { item = y; value = 2 } ∷ [];
+  entries = Read 1 x 5 ∷ Write 1 y 7 ∷ Commit 1 ∷ Read 2 x 5 ∷ Write 2 y 8 ∷ Commit 2 ∷ [];
+  installed = record { tx = 1; handle = handle 1 } ∷ record { tx = 2; handle = handle 2 } ∷ [];
+  pledge = None;
+}
+
+abbrev both : List Touch
+both = record { site = 0; item = x; seen = None; put = Some 9 } ∷ record { site = 0; item = y; seen = None; put = Some 9 } ∷ []
+
+abbrev over_y : Edge
+over_y = edge 0 (handle 1) me y Ww
+
+abbrev over_x : Edge
+over_x = edge 0 (handle 2) me x Rw
+
+abbrev by_items : List Edge
+by_items = over_y ∷ over_x ∷ []
+
+other_item : y ≢ x
+other_item same = eqb-false 121 120 refl (ap (λ (n : Name). get_or n 0 0) same)
+
+-- nobody wrote x
+no_write_of_x : (n : ℕ) (e : Entry) → slice_get two_items.entries n ≡ Some e → Writes x e → ⊥
+no_write_of_x zero e at writes = subst (Writes x) (sym (same_Some (Read 1 x 5) e at)) writes
+no_write_of_x (suc zero) e at writes = other_item (subst (Writes x) (sym (same_Some (Write 1 y 7) e at)) writes)
+no_write_of_x (suc (suc zero)) e at writes = subst (Writes x) (sym (same_Some (Commit 1) e at)) writes
+no_write_of_x (suc (suc (suc zero))) e at writes = subst (Writes x) (sym (same_Some (Read 2 x 5) e at)) writes
+no_write_of_x (suc (suc (suc (suc zero)))) e at writes = other_item (subst (Writes x) (sym (same_Some (Write 2 y 8) e at)) writes)
+no_write_of_x (suc (suc (suc (suc (suc zero))))) e at writes = subst (Writes x) (sym (same_Some (Commit 2) e at)) writes
+no_write_of_x (suc (suc (suc (suc (suc (suc n)))))) e at writes = absurd cc
+
+no_conflict : (p q : ℕ) (e f : Entry) (kind : Kind) → slice_get two_items.entries p ≡ Some e → slice_get two_items.entries q ≡ Some f → Clash kind x e f → ⊥
+no_conflict p q e f Wr at_p at_q clash = no_write_of_x p e at_p clash.0
+no_conflict p q e f Rw at_p at_q clash = no_write_of_x q f at_q clash.1
+no_conflict p q e f Ww at_p at_q clash = no_write_of_x p e at_p clash.0
+
+from_first : (e : Edge) → Contains by_items e → e.label.item ≡ x → e.from ≢ handle 1
+from_first e has item same = by_place at.0 at.1
+  where
+    at : (n : ℕ) × (slice_get by_items n ≡ Some e)
+    at = Contains_at by_items e has
+
+    by_place : (n : ℕ) → slice_get by_items n ≡ Some e → ⊥
+    by_place zero here = other_item (ap (λ (d : Edge). d.label.item) (same_Some over_y e here) ∙ item)
+    by_place (suc zero) here = other_handle 2 1 (eqb-false 2 1 refl) (ap (λ (d : Edge). d.from) (same_Some over_x e here) ∙ same)
+    by_place (suc (suc n)) here = absurd cc
+
+no_walk_of_x : (f t : Handle) → Walks two_items x by_items f t → f ≢ handle 1
+no_walk_of_x f t (given e has item) same = from_first e has item same
+no_walk_of_x f t (old g h o) same = no_conflict o.conflict.p o.conflict.q o.conflict.e o.conflict.f o.kind o.conflict.first o.conflict.second o.conflict.clash
+no_walk_of_x f t (on g h i first second) same = no_walk_of_x g h first same
+
+-- a walk keeps to its item: neither the edge over y nor the conflict on y leads from 1 to me on x
+pub other_items-do_not_stand_for_all : StandsForAll two_items both me by_items → ⊥
+other_items-do_not_stand_for_all stands =
+    no_walk_of_x (handle 1) me (stands x (handle 1) me Rw (read_it (handle 1) (9, Contains-from_at ((x, 9) ∷ (y, 9) ∷ []) 0 (x, 9) refl) reader)) refl
+  where
+    reads : LogsRead two_items.entries 1 x 5 0
+    reads = record { place = 0; at = refl; version = refl }
+
+    reader : HasReader two_items x (handle 1)
+    reader = (record { tx = 1; handle = handle 1; version = 0 }, (refl, (5, reads)), refl)
