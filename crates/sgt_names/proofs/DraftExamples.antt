@@ -1,11 +1,9 @@
 -- The definitions of a draft, shown on a small one: x was read and written at site 0, at site 1 y was read and z written.
-use Rattle.std.proofs.Common.{◌≡◌, ℕ, zero, suc, List, [], ◌∷◌, ◌++◌, length, Option, Some, None, refl, sym, ap, ◌∙◌, arith, lit<, ◌<◌, inl, inr, ◌⊎◌}
-use Rattle.std.specs.Prelude.{codes, slice_get, option_and_then}
+use Rattle.std.proofs.Common.{◌≡◌, ℕ, List, [], ◌∷◌, ◌++◌, Option, Some, None, refl, inl, inr}
+use Rattle.std.specs.Prelude.{codes, option_and_then}
 use Rattle.std.specs.Option.{option_to_list}
-use Rattle.std.proofs.lemmas.Option.{same_Some}
-use Rattle.std.proofs.lemmas.Bool.{eqb-false}
 use Rattle.sgt_names.specs.Name.{Name}
-use Rattle.sgt_names.specs.Draft.{Place, at_site, kept_in, writing_in, touched_at, look_of, Touches, IsUsed, ChangesOnly, AreRising}
+use Rattle.sgt_names.specs.Draft.{Place, at_site, kept_in, writing_in, touched_at, look_of, IsUsed, ChangesOnly}
 use Rattle.sgt_names.specs.declared.draft.Touch.{Touch}
 
 abbrev x : Name

@@ -5,3 +5,4 @@ pub mod Ranged
 pub mod Touched
 pub mod Examples
 pub mod DraftExamples
+pub mod Rising

@@ -48,6 +48,9 @@ impl Model for Draft {
 }
 
 impl Draft {
+    ghost use Rattle.std.specs.Ordering.{nat_cmp};
+    ghost use Rattle.std.specs.Cmp.Lexicographic.{slice_cmp};
+    ghost use Rattle.sgt_names.specs.Ordered.{IsRisingBy};
     ghost use Rattle.std.specs.Prelude.{◌≡◌, ◌↔◌, ◌⊎◌, [], true, IsTrue, IsSome, IsOk, OnOk, OnErr, Some, None, slice_get, option_and_then, All};
     ghost use Rattle.sgt_names.specs.Draft.{place_of, AreRising, IsUsed, at_site, kept_in, writing_in, touched_at, seen_at, put_at, look_of, Touches, ChangesOnly};
 
@@ -166,14 +169,16 @@ impl Draft {
 
     /// The kept read of this number at a site, counted from 0 by rising item: the item, its value and its version. Goes over the draft.
     pub fn kept(&self, site: SiteNo, n: usize) -> Option<(Item, Value, u64)>
-        ensures { result ≡ slice_get (kept_in (at_site site self.now.touched)) n }
+        ensures nth { result ≡ slice_get (kept_in (at_site site self.now.touched)) n }
+        ensures rising { IsRisingBy (λ k. k.0) (slice_cmp nat_cmp) (kept_in (at_site site self.now.touched)) }
     {
         nth_kept(self.touched.as_slice(), site, n)
     }
 
     /// The private write of this number at a site, counted from 0 by rising item: the item and its value. Goes over the draft.
     pub fn writing(&self, site: SiteNo, n: usize) -> Option<(Item, Value)>
-        ensures { result ≡ slice_get (writing_in (at_site site self.now.touched)) n }
+        ensures nth { result ≡ slice_get (writing_in (at_site site self.now.touched)) n }
+        ensures rising { IsRisingBy (λ w. w.0) (slice_cmp nat_cmp) (writing_in (at_site site self.now.touched)) }
     {
         nth_writing(self.touched.as_slice(), site, n)
     }

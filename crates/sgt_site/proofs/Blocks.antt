@@ -2,52 +2,25 @@
 use Rattle.std.proofs.Common.{◌≡◌, ℕ, zero, suc, ◌+◌, ◌<◌, List, [], ◌∷◌, ◌++◌, length, map, get_or, Some, None, refl, sym, ap, ◌∙◌, subst, arith, inl, inr, All, Contains, length-append}
 use Rattle.std.specs.Prelude.{slice_get, ◌≢◌, option_map}
 use Rattle.std.specs.Option.{ForSome}
-use Rattle.std.specs.Ordering.{nat_cmp, ordering_then}
+use Rattle.std.specs.Ordering.{nat_cmp}
 use Rattle.std.specs.Cmp.Lexicographic.{slice_cmp}
-use Rattle.std.specs.declared.cmp.Ordering.{Ordering}
 use Rattle.std.specs.declared.cmp.Ordering.TheVariants.{Less, Equal}
 use Rattle.std.proofs.lemmas.Bool.{cases_lt}
-use Rattle.std.proofs.lemmas.Cmp.{nat_cmp_total, nat_list_cmp_total, tied_itself}
+use Rattle.std.proofs.lemmas.Cmp.{nat_list_cmp_total, tied_itself}
 use Rattle.std.proofs.lemmas.List.{length-map}
-use Rattle.std.proofs.lemmas.Option.{slice_get_within, slice_get-get_or, slice_get-map, same_Some, option_and_then_some}
+use Rattle.std.proofs.lemmas.Option.{slice_get_within, slice_get-get_or, slice_get-map, same_Some}
 use Rattle.sgt_names.specs.Name.{Name}
 use Rattle.sgt_names.specs.Ordered.{IsRisingBy}
 use Rattle.sgt_names.specs.Entry.{tx_of, item_of, Reads, Writes, IsEnd, IsOpen, Continues, Repeats}
 use Rattle.sgt_names.specs.Log.{names, IsOrderly}
-use Rattle.sgt_names.specs.Draft.{AreRising, place_of, place_cmp, writing_of, writing_in}
-use Rattle.sgt_names.specs.declared.draft.Touch.{Touch}
 use Rattle.sgt_names.specs.declared.entry.Entry.{Entry}
 use Rattle.sgt_names.specs.declared.entry.Entry.TheVariants.{Read, Write, Want, Commit, Refuse}
 use Rattle.sgt_names.specs.declared.entry.Holding.{Holding}
 use Rattle.sgt_names.proofs.Places.{Contains_at, All_at, All-from_at, AllPairs_at, AllPairs-from_at}
 use Rattle.sgt_site.specs.Store.{Store, IsSite, HasEnded}
-use Rattle.sgt_site.proofs.Appends.{get_front, get_back, get_cases, Any_at, Any-from_at, MayFollow, chosen_at, count-rises}
+use Rattle.sgt_site.proofs.Appends.{get_front, get_back, get_cases, Any_at, Any-from_at, MayFollow}
 use Rattle.sgt_site.proofs.Found.{map_at}
 use Rattle.sgt_site.proofs.Projections.{no_write}
-
--- a private write is of its item, with its value
-pub writing_is : (t : Touch) (w : Name × ℕ) → writing_of t ≡ Some w → (t.item ≡ w.0) × (t.put ≡ Some w.1)
-writing_is t w h = option_and_then_some (λ v. Some (t.item, v)) t.put w h (λ v put is. (ap (λ (p : Name × ℕ). p.0) (same_Some _ w is), put ∙ ap Some (ap (λ (p : Name × ℕ). p.1) (same_Some _ w is))))
-
--- at one site the places rise by the items
-pub items-rise : (n : ℕ) (t u : Touch) → t.site ≡ n → u.site ≡ n → place_cmp (place_of t) (place_of u) ≡ Less → slice_cmp nat_cmp t.item u.item ≡ Less
-items-rise n t u at_t at_u less =
-    let tied : nat_cmp t.site u.site ≡ Equal = subst (λ m. nat_cmp t.site m ≡ Equal) (at_t ∙ sym at_u) (tied_itself nat_cmp_total t.site) in
-    ap (λ (o : Ordering). ordering_then o (slice_cmp nat_cmp t.item u.item)) (sym tied) ∙ less
-
--- the private writes of a draft at one site are of rising items
-pub writings-rise : (n : ℕ) (part : List Touch) → All (λ t. t.site ≡ n) part → AreRising part → IsRisingBy (λ w. w.0) (slice_cmp nat_cmp) (writing_in part)
-writings-rise n part here rising = AllPairs-from_at (λ (a b : Name × ℕ). slice_cmp nat_cmp a.0 b.0 ≡ Less) (writing_in part) (λ p q a b lt at_p at_q.
-    let c = chosen_at writing_of part p a at_p in
-    let d = chosen_at writing_of part q b at_q in
-    let of_c = (writing_is c.1 a c.3).0 in
-    let of_d = (writing_is d.1 b d.3).0 in
-    elim (cases_lt c.0 d.0) [
-      | inl before ↦
-          let less = items-rise n c.1 d.1 (All_at (λ (t : Touch). t.site ≡ n) part c.0 c.1 here c.2) (All_at (λ (t : Touch). t.site ≡ n) part d.0 d.1 here d.2) (AllPairs_at (λ t u. place_cmp (place_of t) (place_of u) ≡ Less) part c.0 d.0 c.1 d.1 rising before c.2 d.2) in
-          subst (λ (y : Name). slice_cmp nat_cmp y b.0 ≡ Less) of_c (subst (λ (y : Name). slice_cmp nat_cmp c.1.item y ≡ Less) of_d less)
-      | inr after ↦ let more = count-rises writing_of part d.0 c.0 after in absurd (omega (arith, more, c.4, d.4))
-    ])
 
 -- how the entries of a block and its end behave
 pub record MakeBlocks (W : ℕ → Name → ℕ → Entry) (E : ℕ → Entry) : Type 0 where

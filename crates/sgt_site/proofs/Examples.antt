@@ -1,6 +1,6 @@
 -- The definitions of a site, shown on small logs: transaction 1 read x, wrote it, and was committed; then 2 read x.
-use Rattle.std.proofs.Common.{◌≡◌, ◌≢◌, ℕ, zero, suc, List, [], ◌∷◌, Some, None, refl, sym, ap, ◌∙◌, subst, lit<, arith, take, Contains}
-use Rattle.std.specs.Prelude.{codes, slice_get, ◌↔◌}
+use Rattle.std.proofs.Common.{◌≡◌, ℕ, zero, suc, List, [], ◌∷◌, Some, refl, sym, ap, ◌∙◌, subst, lit<, arith, take, Contains}
+use Rattle.std.specs.Prelude.{codes, slice_get}
 use Rattle.std.proofs.lemmas.Option.{same_Some}
 use Rattle.std.proofs.lemmas.Bool.{eqb-false}
 use Rattle.std.specs.Ordering.{nat_cmp}
@@ -13,9 +13,8 @@ use Rattle.sgt_names.specs.declared.entry.Entry.TheVariants.{Read, Write, Want, 
 use Rattle.sgt_names.specs.declared.entry.Holding.{Holding}
 use Rattle.sgt_names.proofs.Places.{Contains-from_at, AllPairs_at}
 use Rattle.sgt_arena.specs.declared.handle.Handle.{Handle}
-use Rattle.sgt_site.specs.Store.{version_at, HasRead, HasEnded, LogsRead, KeepsReads, handle_of, writers_of, IsReader, commit_block, refuse_block, withdraw_block, AreItems}
+use Rattle.sgt_site.specs.Store.{version_at, HasRead, HasEnded, LogsRead, KeepsReads, writers_of, IsReader, commit_block, refuse_block, withdraw_block, AreItems}
 use Rattle.sgt_site.specs.declared.cell.Writer.{Writer}
-use Rattle.sgt_site.specs.declared.cell.Reader.{Reader}
 use Rattle.sgt_site.proofs.Appends.{Any_at}
 use Rattle.sgt_site.proofs.Basics.{is_single}
 

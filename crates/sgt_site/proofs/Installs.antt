@@ -24,6 +24,7 @@ use Rattle.sgt_names.specs.declared.entry.Entry.TheVariants.{Read, Write, Want, 
 use Rattle.sgt_names.specs.declared.entry.Holding.{Holding}
 use Rattle.sgt_names.proofs.Places.{Contains_at, Contains-from_at, All_at, All-from_at, AllPairs_at, AllPairs-from_at}
 use Rattle.sgt_arena.specs.declared.handle.Handle.{Handle}
+use Rattle.sgt_names.proofs.Rising.{writings-rise}
 use Rattle.sgt_site.specs.declared.cell.Writer.{Writer}
 use Rattle.sgt_site.specs.declared.cell.Reader.{Reader}
 use Rattle.sgt_site.specs.Store.{Store, Pledge, IsSite, IsCovered, IsReader, LogsRead, handle_of, writer, writers_of, committed, commit_block}
@@ -32,7 +33,7 @@ use Rattle.sgt_site.proofs.Appends.{get_cases, orderly-append, legal-append, Log
 use Rattle.sgt_site.proofs.Projections.{all_given, ended_with_handle}
 use Rattle.sgt_site.proofs.Basics.{is_single}
 use Rattle.sgt_site.proofs.Keeps.{Ends, ended-one}
-use Rattle.sgt_site.proofs.Blocks.{commits-blocks, writings-rise, in_block, at_end, block_ends, block_alone, block_orderly, block_follows, no_reads}
+use Rattle.sgt_site.proofs.Blocks.{commits-blocks, in_block, at_end, block_ends, block_alone, block_orderly, block_follows, no_reads}
 use Rattle.sgt_site.proofs.Parts.{ItemsRise, part-rises, chosen_writes, kept-touch, touch-kept}
 
 -- the handles with more of them

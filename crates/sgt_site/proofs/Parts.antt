@@ -8,7 +8,7 @@ use Rattle.std.specs.Str.{bytes_eq}
 use Rattle.std.specs.Cmp.Lexicographic.{slice_cmp}
 use Rattle.std.specs.declared.cmp.Ordering.TheVariants.{Less}
 use Rattle.std.proofs.lemmas.Bool.{cases_Bool}
-use Rattle.std.proofs.lemmas.Option.{same_Some, option_and_then_some}
+use Rattle.std.proofs.lemmas.Option.{same_Some}
 use Rattle.std.proofs.lemmas.Slice.Eq.{bytes_eq-Decides}
 use Rattle.sgt_names.specs.Name.{Name}
 use Rattle.sgt_names.specs.Ordered.{IsRisingBy}
@@ -19,11 +19,11 @@ use Rattle.sgt_names.specs.declared.entry.Entry.{Entry}
 use Rattle.sgt_names.specs.declared.entry.Entry.TheVariants.{Write, Commit}
 use Rattle.sgt_names.proofs.Places.{Contains_at, Contains-from_at, All_at, AllPairs_at, AllPairs-from_at, AllPairs-tail}
 use Rattle.sgt_names.proofs.Ranged.{find_first, find_none}
+use Rattle.sgt_names.proofs.Rising.{items-rise, kept_is}
 use Rattle.sgt_site.specs.Store.{commit_block}
 use Rattle.sgt_site.specs.Stored.{touch_in}
 use Rattle.sgt_site.proofs.Appends.{chosen_at, chosen_from, count_before}
 use Rattle.sgt_site.proofs.Basics.{less_apart, apart_false}
-use Rattle.sgt_site.proofs.Blocks.{items-rise}
 
 abbrev pub ItemsRise : List Touch → Type 0
 ItemsRise part = IsRisingBy (λ (t : Touch). t.item) (slice_cmp nat_cmp) part
@@ -83,9 +83,6 @@ module _ {B : Type 0} (f : Entry → Option B) (g : ℕ → Option B) (x : Name)
       by_put t part t.put rises (chosen_writes part (AllPairs-tail (λ (a b : Touch). slice_cmp nat_cmp a.item b.item ≡ Less) t part rises)) (bytes_eq t.item x) refl ∙ from_test t (touch_in part x) (bytes_eq t.item x)
 
 -- a kept read is of a touched item
-pub kept_is : (t : Touch) (k : Name × ℕ × ℕ) → kept_of t ≡ Some k → (seen : Seen) × (t.seen ≡ Some seen) × ((t.item, seen.value, seen.version) ≡ k)
-kept_is t k h = option_and_then_some (λ (seen : Seen). Some (t.item, seen.value, seen.version)) t.seen k h (λ seen is same. (seen, is, same_Some _ k same))
-
 pub kept-touch : (part : List Touch) (x : Name) (v n : ℕ) → ItemsRise part → Contains (kept_in part) (x, v, n) → (t : Touch) × (touch_in part x ≡ Some t) × (t.seen ≡ Some (record { value = v; version = n }))
 kept-touch part x v n rises has =
     let at = Contains_at (kept_in part) (x, v, n) has in

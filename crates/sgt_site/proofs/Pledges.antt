@@ -2,7 +2,6 @@
 use mathlib.Core.Bool.{false≢true}
 use Rattle.std.proofs.Common.{◌≡◌, ℕ, zero, suc, List, [], ◌∷◌, map, get_or, Bool, true, false, Option, Some, None, refl, sym, ap, ap₂, ◌∙◌, subst, arith, All, Contains}
 use Rattle.std.specs.Prelude.{slice_get, ◌↔◌, ◌==◌, if◌then◌else◌, IsSome, IfSome, IfNone, option_map, option_and_then}
-use Rattle.std.specs.List.{AllByRecursion}
 use Rattle.std.specs.Option.{ForSome}
 use Rattle.std.specs.Ordering.{nat_cmp}
 use Rattle.std.specs.Cmp.Lexicographic.{slice_cmp}
@@ -14,20 +13,19 @@ use Rattle.sgt_names.specs.Name.{Name}
 use Rattle.sgt_names.specs.Ordered.{IsRisingBy, IsAt}
 use Rattle.sgt_names.specs.declared.draft.Seen.{Seen}
 use Rattle.sgt_names.specs.declared.draft.Touch.{Touch}
-use Rattle.sgt_names.specs.Draft.{AreRising, place_of, place_cmp, at_site, kept_of, kept_in, writing_of, writing_in}
+use Rattle.sgt_names.specs.Draft.{AreRising, at_site, kept_of, kept_in, writing_of, writing_in}
 use Rattle.sgt_names.specs.Entry.{item_of}
 use Rattle.sgt_names.specs.Log.{names}
 use Rattle.sgt_names.specs.declared.entry.Entry.TheVariants.{Read}
 use Rattle.sgt_names.specs.declared.entry.Holding.{Holding}
+use Rattle.sgt_names.proofs.Rising.{writing_is, kept_is, site-here, site-rising}
 use Rattle.sgt_site.specs.Store.{Store, Pledge, IsSite, IsCovered, LogsRead, KeepsReads}
 use Rattle.sgt_site.specs.Refused.{MayPledge}
-use Rattle.sgt_names.proofs.Places.{AllPairs_at, AllPairs-from_at, Contains_at, Contains-from_at, All_at, All-from_at, PairsByRecursion, AllPairs-from_recursion, recursion_from_AllPairs}
+use Rattle.sgt_names.proofs.Places.{AllPairs_at, AllPairs-from_at, Contains_at, Contains-from_at, All_at, All-from_at}
 use Rattle.sgt_site.specs.declared.cell.Reading.{Reading}
 use Rattle.sgt_site.specs.Stored.{Contents, Spare, AreReadings, IsAnswering, HasItem, InCells, KeepsItem, SameButRoom, AreChanged, HasRoom, IsCell, IsKept, items_of}
 use Rattle.sgt_site.proofs.Appends.{Any_at, Any-from_at, chosen_at, chosen_from, count_before}
 use Rattle.sgt_site.proofs.Inserts.{Contains-later}
-use Rattle.sgt_site.proofs.Blocks.{writing_is}
-use Rattle.sgt_site.proofs.Parts.{kept_is}
 use Rattle.sgt_site.proofs.Keeps.{names_items}
 use Rattle.sgt_site.proofs.Found.{has_key, same_key, map_at}
 
@@ -113,28 +111,6 @@ module _ (n : ℕ) where
 
   pub of_site : (ts : List Touch) (t : Touch) → Contains ts t → t.site ≡ n → Contains (at_site n ts) t
   of_site ts t has here = let at = Contains_at ts t has in at_filter ts at.0 t at.1 here
-
-  all_filter : (P : Touch → Type 0) (ts : List Touch) → AllByRecursion P ts → AllByRecursion P (at_site n ts)
-  all_filter P [] all = tt
-  all_filter P (u ∷ ts) all = by_test (all_filter P ts all.1) (u.site == n)
-    where
-      by_test : AllByRecursion P (at_site n ts) → (b : Bool) → AllByRecursion P (if b then u ∷ at_site n ts else at_site n ts)
-      by_test rest true = (all.0, rest)
-      by_test rest false = rest
-
-  pairs_filter : (R : Touch → Touch → Type 0) (ts : List Touch) → PairsByRecursion R ts → PairsByRecursion R (at_site n ts)
-  pairs_filter R [] pairs = tt
-  pairs_filter R (u ∷ ts) pairs = by_test (pairs_filter R ts pairs.1) (u.site == n)
-    where
-      by_test : PairsByRecursion R (at_site n ts) → (b : Bool) → PairsByRecursion R (if b then u ∷ at_site n ts else at_site n ts)
-      by_test rest true = (all_filter (R u) ts pairs.0, rest)
-      by_test rest false = rest
-
-  pub site-rising : (ts : List Touch) → AreRising ts → AreRising (at_site n ts)
-  site-rising ts rising = AllPairs-from_recursion (λ a b. place_cmp (place_of a) (place_of b) ≡ Less) (at_site n ts) (pairs_filter (λ a b. place_cmp (place_of a) (place_of b) ≡ Less) ts (recursion_from_AllPairs (λ a b. place_cmp (place_of a) (place_of b) ≡ Less) ts rising))
-
-  pub site-here : (ts : List Touch) → All (λ t. t.site ≡ n) (at_site n ts)
-  site-here ts = All-from_at (λ (t : Touch). t.site ≡ n) (at_site n ts) (λ k t at. (filter_at ts k t at).1)
 
   -- what the writes of the part ask, and what they ask of the whole draft
   pub known-part : (P : Name → Type 0) (ts : List Touch) → All (λ t. t.site ≡ n → IsSome t.put → P t.item) ts → All (λ w. P w.0) (writing_in (at_site n ts))

@@ -7,10 +7,11 @@ use Rattle.sgt_names.specs.Draft.{writing_in}
 use Rattle.sgt_names.specs.declared.entry.Entry.{Entry}
 use Rattle.sgt_names.specs.declared.entry.Entry.TheVariants.{Write, Want, Refuse}
 use Rattle.sgt_names.proofs.Places.{Contains-from_at}
+use Rattle.sgt_names.proofs.Rising.{writings-rise}
 use Rattle.sgt_site.specs.Store.{Store, Pledge, IsCovered, refuse_block}
 use Rattle.sgt_site.specs.Stored.{Contents, Spare, IsKept}
 use Rattle.sgt_site.proofs.Keeps.{Ends, ended-one, IsQuiet, site-quiet, cells-quiet}
-use Rattle.sgt_site.proofs.Blocks.{refusals-blocks, writings-rise, in_block, at_end, block_ends, block_alone, block_orderly, block_follows, no_reads}
+use Rattle.sgt_site.proofs.Blocks.{refusals-blocks, in_block, at_end, block_ends, block_alone, block_orderly, block_follows, no_reads}
 
 -- what is chosen of neither a want nor a refusal is not in the block
 none_chosen : {B : Type 0} (f : Entry → Option B) (tx : ℕ) → ((x : Name) (v : ℕ) → f (Want tx x v) ≡ None) → f (Refuse tx) ≡ None → (ws : List (Name × ℕ)) → filter_map f (refuse_block tx ws) ≡ []
