@@ -1,12 +1,13 @@
 //! What the edges mean.
 
-ghost use Rattle.std.specs.Prelude.{ℕ, List, ◌↔◌};
+ghost use Rattle.std.specs.Prelude.{◌≡◌, ℕ, List, ◌↔◌};
 ghost use Rattle.sgt_names.specs.Name.{Name};
 ghost use Rattle.sgt_names.specs.declared.draft.Touch.{Touch};
 ghost use Rattle.sgt_names.specs.declared.entry.Kind.{Kind};
 ghost use Rattle.sgt_arena.specs.declared.handle.Handle.{Handle};
 ghost use Rattle.sgt_site.specs.Store.{Store, IsSite, IsPledgedFor};
-ghost use Rattle.sgt_edges.specs.Edges.{IsActive, IsEdge, IsConflict, JoinsCommitted};
+ghost use Rattle.sgt_edges.specs.Edges.{IsActive, IsEdge, IsConflict, JoinsCommitted, RefusesEdges};
+ghost use Rattle.sgt_edges.specs.declared.fault.EdgeFault.{EdgeFault};
 
 /// The edges of an active transaction at a site are its conflicts with the committed ones, in the site's log followed by its private writes there.
 pub fn edges_are_conflicts()
@@ -23,4 +24,9 @@ pub fn pledged_are_active()
 pub fn edges_join_committed()
     ensures { (s : Store) (touched : List Touch) (me : Handle) (x : Name) (from to : Handle) (kind : Kind)
         → IsEdge s touched me x from to kind → JoinsCommitted s me from to }
+{}
+
+/// No draft is refused for two reasons; want of memory stands where no version is too new.
+pub fn gathers_are_refused_once()
+    ensures { (s : Store) (touched : List Touch) (f g : EdgeFault) → RefusesEdges s touched f → RefusesEdges s touched g → f ≡ g }
 {}

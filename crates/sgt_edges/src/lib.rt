@@ -13,4 +13,6 @@ mod tests;
 pub use edge::{Edge, EdgeList};
 pub use fault::EdgeFault;
 pub use gathered::gather;
-pub use laws::{edges_are_conflicts, edges_join_committed, pledged_are_active};
+pub use laws::{
+    edges_are_conflicts, edges_join_committed, gathers_are_refused_once, pledged_are_active,
+};

@@ -1,9 +1,10 @@
 -- The definitions of a draft, shown on a small one: x was read and written at site 0, at site 1 y was read and z written.
-use Rattle.std.proofs.Common.{◌≡◌, ℕ, List, [], ◌∷◌, ◌++◌, Option, Some, None, refl, inl, inr}
-use Rattle.std.specs.Prelude.{codes, option_and_then}
+use Rattle.std.proofs.Common.{◌≡◌, ℕ, List, [], ◌∷◌, ◌++◌, Option, Some, None, refl, ap, subst, get_or, inl, inr}
+use Rattle.std.specs.Prelude.{codes, option_and_then, IfSome}
+use Rattle.std.proofs.lemmas.Bool.{eqb-false}
 use Rattle.std.specs.Option.{option_to_list}
 use Rattle.sgt_names.specs.Name.{Name}
-use Rattle.sgt_names.specs.Draft.{Place, at_site, kept_in, writing_in, touched_at, look_of, IsUsed, ChangesOnly}
+use Rattle.sgt_names.specs.Draft.{Place, place_of, at_site, kept_in, writing_in, touched_at, look_of, IsUsed, ChangesOnly}
 use Rattle.sgt_names.specs.declared.draft.Touch.{Touch}
 
 abbrev x : Name
@@ -76,3 +77,19 @@ dropping-not_only changes = by_front changes.front changes.there changes.rest ch
     by_front [] there rest was is = by_there there rest was is
     by_front (f ∷ []) there rest was is = absurd cc
     by_front (f ∷ g ∷ fs) there rest was is = absurd cc
+
+-- nor does it put one item in the place of another
+pub replacing-not_only : ChangesOnly (on_y ∷ []) (on_z ∷ []) on_z → ⊥
+replacing-not_only changes = by_front changes.front changes.there changes.rest changes.was changes.is changes.place
+  where
+    apart : place_of on_y ≡ place_of on_z → ⊥
+    apart same = eqb-false 121 122 refl (ap (λ (p : Place). get_or p.1 0 0) same)
+
+    by_there : (there : Option Touch) (rest : List Touch) → on_y ∷ [] ≡ option_to_list there ++ rest → on_z ∷ [] ≡ on_z ∷ rest → IfSome there (λ t. place_of t ≡ place_of on_z) → ⊥
+    by_there None rest was is place = absurd cc
+    by_there (Some t) rest was is place = apart (subst (λ (u : Touch). place_of u ≡ place_of on_z) (let same : t ≡ on_y = cc in same) place)
+
+    by_front : (front : List Touch) (there : Option Touch) (rest : List Touch) → on_y ∷ [] ≡ front ++ (option_to_list there ++ rest) → on_z ∷ [] ≡ front ++ on_z ∷ rest → IfSome there (λ t. place_of t ≡ place_of on_z) → ⊥
+    by_front [] there rest was is place = by_there there rest was is place
+    by_front (f ∷ []) there rest was is place = absurd cc
+    by_front (f ∷ g ∷ fs) there rest was is place = absurd cc
