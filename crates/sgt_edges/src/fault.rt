@@ -8,7 +8,7 @@ pub enum EdgeFault {
     /// A growth was refused.
     #[error("X1: out of memory")]
     Memory,
-    /// The draft keeps a version that the site has not had.
-    #[error("X2: a version that the site has not had")]
+    /// The draft keeps a read at a version that the site has not reached.
+    #[error("X2: the draft saw a version that the site has not reached")]
     SeenTooNew,
 }

@@ -17,17 +17,25 @@ const ME: Handle = Handle {
     generation: 0,
 };
 
-// Site 0 with x=5 and y=2, where transaction 1 read x, put x=6, and was installed under h1.
-fn installed(alloc: Global) -> Result<Site, Fail> {
-    let (number, x, one) = (SiteNo::new(0)?, Item::new(b"x")?, Tx::new(1)?);
+// Site 0 with x=5 and y=2.
+fn opened(alloc: Global) -> Result<Site, Fail> {
     let items = [
-        Holding { item: x, value: 5 },
+        Holding {
+            item: Item::new(b"x")?,
+            value: 5,
+        },
         Holding {
             item: Item::new(b"y")?,
             value: 2,
         },
     ];
-    let mut site = Site::new(alloc, number, &items)?;
+    Ok(Site::new(alloc, SiteNo::new(0)?, &items)?)
+}
+
+// There transaction 1 read x, put x=6, and was installed under h1.
+fn installed(alloc: Global) -> Result<Site, Fail> {
+    let (number, x, one) = (SiteNo::new(0)?, Item::new(b"x")?, Tx::new(1)?);
+    let mut site = opened(alloc)?;
     let seen = site.read(one, x)?;
     let mut draft = Draft::new(alloc);
     draft.seen(number, x, seen.value, seen.version)?;
@@ -52,6 +60,19 @@ fn edge(from: Handle, to: Handle, kind: Kind) -> Result<Edge, Fail> {
         kind,
     };
     Ok(Edge { from, to, label })
+}
+
+#[test]
+fn the_first_read(rt: HostRuntime) -> Result<(), Fail> {
+    let mut site = opened(rt.alloc())?;
+    assert_eq!(rt;
+        site.read(Tx::new(1)?, Item::new(b"x")?)?,
+        Seen {
+            value: 5,
+            version: 0
+        }
+    );
+    Ok(())
 }
 
 #[test]

@@ -1,6 +1,6 @@
 //! What no clause says: that the calls succeed.
 
-use crate::{Edge, EdgeList};
+use crate::{Edge, EdgeFault, EdgeList};
 use sgt_arena::Handle;
 use sgt_names::{Item, Kind, Label, SiteNo};
 use std::test::Fail;
@@ -33,5 +33,19 @@ fn edges_in_the_order_of_adding(rt: HostRuntime) -> Result<(), Fail> {
     assert_eq!(rt; edges.as_slice(), [there, back].as_slice());
     let same = EdgeList::from_vec(vec![in rt.alloc(); there, back]?);
     assert_eq!(rt; same.as_slice(), [there, back].as_slice());
+    Ok(())
+}
+
+#[test]
+fn what_the_faults_say(rt: HostRuntime) -> Result<(), Fail> {
+    for (fault, text) in [
+        (EdgeFault::Memory, "X1: out of memory"),
+        (
+            EdgeFault::SeenTooNew,
+            "X2: the draft saw a version that the site has not reached",
+        ),
+    ] {
+        assert_eq!(rt; format!(in rt.alloc(); "{fault}")?.as_str(), text);
+    }
     Ok(())
 }

@@ -6,3 +6,4 @@ pub mod Touched
 pub mod Examples
 pub mod DraftExamples
 pub mod Rising
+mod Shown

@@ -78,9 +78,9 @@ first_of None None = None
 abbrev pub look_of : Touch → Option ℕ
 look_of t = first_of t.put t.seen
 
--- the site is touched
+-- the site is touched: an item of it was read, or is to be written
 abbrev pub Touches : List Touch → ℕ → Type 0
-Touches ts s = Any (λ t. t.site ≡ s) ts
+Touches ts s = Any (λ t. (t.site ≡ s) × IsUsed t) ts
 
 -- the new list has this item touched so, in the place of what the old one had there, and is the old one elsewhere
 pub record ChangesOnly (old new : List Touch) (touch : Touch) : Type 0 where

@@ -5,6 +5,7 @@
 mod draft;
 mod entry;
 mod item;
+mod laws;
 mod limits;
 mod listed;
 mod memory;
@@ -20,6 +21,7 @@ mod tests;
 pub use draft::{Draft, Seen, Touch};
 pub use entry::{Entry, Holding, Kind, Label};
 pub use item::{BadName, Item};
+pub use laws::changes_show_at_their_place;
 pub use limits::{MAX_ITEMS, MAX_SITES};
 pub use listed::Listed;
 pub use memory::{MemSink, MemSource};

@@ -194,6 +194,7 @@ pub(crate) fn insert<T: Drop>(items: &mut Vec<T>, at: usize, item: T)
     requires within { at ≤ vec_len items.old }
     requires room { vec_len items.old < vec_capacity items.old }
     ensures items { items.new.items ≡ inserted items.old.items at item }
+    ensures capacity { vec_capacity items.new ≡ vec_capacity items.old }
 {
     let _ = items.insert(at, item);
 }

@@ -9,7 +9,7 @@ pub enum SiteFault {
     #[error("S1: no such item at this site")]
     UnknownItem,
     /// The transaction has read the item here.
-    #[error("S2: the transaction has read the item")]
+    #[error("S2: the transaction has read the item already")]
     ReadTwice,
     /// The transaction has its end here.
     #[error("S3: the transaction has ended at this site")]
@@ -20,8 +20,8 @@ pub enum SiteFault {
     /// No pledge of the transaction stands, or it is not for this draft.
     #[error("S5: no such pledge stands")]
     NotPledged,
-    /// The names of the items don't rise, or there are too many.
-    #[error("S6: the items of a site rise by name, and are not too many")]
+    /// The names of the items don't rise, or there are more than 256.
+    #[error("S6: the names of the items do not rise, or there are more than 256")]
     BadItems,
     /// A pledge stands.
     #[error("S7: a pledge stands")]

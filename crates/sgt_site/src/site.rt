@@ -53,7 +53,7 @@ impl Site {
     ghost use Rattle.std.specs.Prelude.{◌≡◌, ◌≢◌, ◌↔◌, ◌≤◌, [], ◌∷◌, ◌++◌, length, AllPairs, Contains, slice_get, IsOk, OnOk, OnErr, IfOk, IfErr, IfSome, IfNone};
     ghost use Rattle.sgt_site.specs.declared.fault.SiteFault.{SiteFault};
     ghost use Rattle.sgt_site.specs.declared.cell.Reader.{Reader};
-    ghost use Rattle.sgt_names.specs.Log.{names, value_at, FinalsAreLegal};
+    ghost use Rattle.sgt_names.specs.Log.{names, value_at, FinalsAreLegal, IsOrderly, ReadsAreLegal};
     ghost use Rattle.sgt_names.specs.Draft.{at_site, kept_in, writing_in};
     ghost use Rattle.sgt_names.specs.declared.entry.Entry.TheVariants.{Read};
     ghost use Rattle.sgt_site.specs.Store.{opened, version_at, writers_of, IsReader, AreItems, IsSite, IsPledged, IsPledgedFor, commit_block, refuse_block, withdraw_block};
@@ -98,6 +98,8 @@ impl Site {
     /// The entries of the log, the oldest first.
     pub fn log(&self) -> &[Entry]
         ensures entries { result.now ≡ self.now.entries }
+        ensures orderly { IsOrderly self.now.items self.now.entries }
+        ensures legal { ReadsAreLegal self.now.items self.now.entries }
         ensures site { IsSite self.now }
     {
         self.log.as_slice()
@@ -320,6 +322,7 @@ fn add_ended(ended: &mut Vec<Tx>, tx: Tx)
     requires room { vec_len ended.old < vec_capacity ended.old }
     ensures rising { IsRisingBy (λ t. t) nat_cmp ended.new.items }
     ensures each { (t : ℕ) → Contains ended.new.items t ↔ ((t ≡ tx) ⊎ Contains ended.old.items t) }
+    ensures capacity { vec_capacity ended.new ≡ vec_capacity ended.old }
 {
     if let Err(at) = search(ended.as_slice(), tx) {
         insert(ended, at, tx);

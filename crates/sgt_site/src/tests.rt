@@ -165,9 +165,34 @@ fn items_that_fall(rt: HostRuntime) -> Result<(), Fail> {
         Site::new(rt.alloc(), SiteNo::new(0)?, &items).err(),
         Some(SiteFault::BadItems)
     );
-    assert_eq!(rt;
-        format!(in rt.alloc(); "{}", SiteFault::NotPledged)?.as_str(),
-        "S5: no such pledge stands"
-    );
+    Ok(())
+}
+
+#[test]
+fn what_the_faults_say(rt: HostRuntime) -> Result<(), Fail> {
+    for (fault, text) in [
+        (SiteFault::UnknownItem, "S1: no such item at this site"),
+        (
+            SiteFault::ReadTwice,
+            "S2: the transaction has read the item already",
+        ),
+        (
+            SiteFault::Ended,
+            "S3: the transaction has ended at this site",
+        ),
+        (SiteFault::Memory, "S4: out of memory"),
+        (SiteFault::NotPledged, "S5: no such pledge stands"),
+        (
+            SiteFault::BadItems,
+            "S6: the names of the items do not rise, or there are more than 256",
+        ),
+        (SiteFault::PledgeOpen, "S7: a pledge stands"),
+        (
+            SiteFault::DraftDiffers,
+            "S8: the draft's reads are not those of the log",
+        ),
+    ] {
+        assert_eq!(rt; format!(in rt.alloc(); "{fault}")?.as_str(), text);
+    }
     Ok(())
 }
