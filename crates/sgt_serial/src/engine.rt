@@ -2,7 +2,7 @@
 
 ghost use Rattle.std.specs.Prelude.{◌≡◌, ◌≢◌, ◌⊎◌, ◌<◌, ◌≤◌, ℕ, List, Option, Err, length, OnErr, IfOk, IfErr, IfSome, IsErrOf};
 ghost use Rattle.std.specs.Io.KnownBytes.{Appends};
-ghost use Rattle.sgt_notation.specs.declared.lines.TheConstants.{MOST_READS};
+ghost use Rattle.sgt_notation.specs.Limits.{most_reads};
 ghost use Rattle.sgt_cert.specs.Valid.{IsValid};
 ghost use Rattle.sgt_audit.specs.Verdict.{IsAudited, HandsOutValid};
 ghost use Rattle.sgt_serial.specs.Answer.{IsAnswer, WroteFront};
@@ -66,8 +66,10 @@ pub fn serial<R: Source, W: Sink>(
 ) -> Result<Outcome, EngineFail>
     ensures answer { IfOk result (λ outcome. (text : List ℕ) × IsAnswer (R.tells reader.old) outcome text × Appends (W.holds writer.old) (W.holds writer.new) text) }
     ensures front { OnErr result (WroteFront (R.tells reader.old) (W.holds writer.old) (W.holds writer.new)) }
+    ensures unwritten { IsErrOf result EngineFail.ReadFault → writer.new ≡ writer.old }
+    ensures untouched { IsErrOf result EngineFail.Memory → writer.new ≡ writer.old }
     ensures read_fault { IsErrOf result EngineFail.ReadFault →
-        ((R.failures reader.old < R.failures reader.new) ⊎ IfSome (R.tells reader.old) (λ bytes. MOST_READS ≤ length bytes)) }
+        ((R.failures reader.old < R.failures reader.new) ⊎ IfSome (R.tells reader.old) (λ bytes. most_reads ≤ length bytes)) }
     ensures write_fault { IsErrOf result EngineFail.WriteFault → W.failures writer.old < W.failures writer.new }
 
     // A fault of a device isn't passed over.
