@@ -2,10 +2,9 @@
 
 ghost use Rattle.std.specs.Prelude.{◌≡◌, ◌≢◌, ℕ, ◌+◌, ◌-◌, ◌<◌, ◌≤◌, ◌⊎◌, ◌^◌, List, [], ◌∷◌, ◌++◌, length, take, drop, Some, Ok, IfSome, IfNone, IfErr, IfOk, OnOk, OnErr, IsErrOf, vec_len, vec_capacity};
 ghost use Rattle.std.specs.Io.KnownBytes.{Consumes, IsAtEnd};
-ghost use Rattle.sgt_notation.specs.Limits.{most_reads};
+ghost use Rattle.sgt_notation.specs.Limits.{buffer_size, most_reads};
 ghost use Rattle.sgt_notation.specs.Lines.{Ahead, Gives, IsLeft, Leaves, Looks, Moves, Spends, SpendsNext, coming, most_left};
 ghost use Rattle.sgt_notation.specs.Spelling.{HasNoLf};
-ghost use Rattle.sgt_notation.specs.declared.lines.TheConstants.{BUFFER};
 
 use memchr::memchr;
 use sgt_names::Source;
@@ -58,7 +57,7 @@ impl Model for Lines {
 
     ghost view = { λ s. record { held = take (s.end - s.start) (drop s.start s.buffer.items); reads = s.reads } };
 
-    ghost invariant = { λ s. (s.start ≤ s.end) × (s.end ≤ vec_len s.buffer) × (vec_len s.buffer ≡ BUFFER) };
+    ghost invariant = { λ s. (s.start ≤ s.end) × (s.end ≤ vec_len s.buffer) × (vec_len s.buffer ≡ buffer_size) };
 }
 
 /// Where the first LF stands.
@@ -81,7 +80,7 @@ fn look_in(
     ensures looks { IfOk result (λ r. Looks limit held.now line.old.items r.0 r.1 line.new.items) }
     ensures left { IfOk result (λ r. IsLeft held.now r.0 r.1 (drop r.2 held.now)) }
     ensures used { IfOk result (λ r. (r.2 ≤ length held.now) × (r.0 ≡ Some Next.Line → 0 < r.2)) }
-    ensures unlimited { length held.now ≤ BUFFER → limit ≡ 2 ^ 64 - 1 → IfOk result (λ r. r.0 ≢ Some Next.TooLong) }
+    ensures unlimited { length held.now ≤ buffer_size → limit ≡ 2 ^ 64 - 1 → IfOk result (λ r. r.0 ≢ Some Next.TooLong) }
     ensures err { IfErr result (λ e. e ≡ LinesFault.Memory) }
     ensures kept { OnErr result (line.new.items ≡ line.old.items) }
     ensures room { limit ≤ vec_capacity line.old → result ≢ Err LinesFault.Memory }
@@ -118,7 +117,7 @@ fn append(line: &mut Vec<u8>, bytes: &[u8]) -> Result<(), LinesFault>
 }
 
 fn empty_buffer(alloc: Global) -> Result<Vec<u8>, AllocError>
-    ensures { IfOk result (λ buffer. vec_len buffer ≡ BUFFER) }
+    ensures { IfOk result (λ buffer. vec_len buffer ≡ buffer_size) }
 {
     vec![in alloc; 0; BUFFER]
 }
@@ -140,7 +139,7 @@ impl Lines {
     fn fill<S: Source>(&mut self, source: &mut S) -> Result<usize, LinesFault>
         requires { self.old.held ≡ [] }
         ensures ok { IfOk result (λ n. Consumes (S.tells source.old) (S.tells source.new) self.new.held
-            × (length self.new.held ≡ n) × (n ≤ BUFFER) × (n ≡ 0 → IsAtEnd (S.tells source.new))
+            × (length self.new.held ≡ n) × (n ≤ buffer_size) × (n ≡ 0 → IsAtEnd (S.tells source.new))
             × (self.old.reads ≡ self.new.reads + 1) × (S.failures source.new ≡ S.failures source.old)) }
         ensures fault { IsErrOf result LinesFault.ReadFault →
             ((S.failures source.old < S.failures source.new) ⊎ ((self.old.reads ≡ 0) × (S.tells source.new ≡ S.tells source.old))) }
