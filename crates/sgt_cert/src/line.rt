@@ -14,17 +14,16 @@ use crate::certificate::{Certificate, Decision, Step};
 use crate::convert::certificate;
 use crate::fault::CertFault;
 use crate::shape::has_shape;
-use itoa::Buffer;
 use serde_json::Value;
 use sgt_names::Kind;
+use sgt_notation::push_number;
 use std::alloc::{AllocError, Global};
 
-fn push_number(out: &mut Vec<u8>, before: &[u8], n: u64) -> Result<(), AllocError>
+fn push_member(out: &mut Vec<u8>, before: &[u8], n: u64) -> Result<(), AllocError>
     ensures { OnOk result (out.new.items ≡ out.old.items ++ (before.now ++ decimal n)) }
 {
-    let mut buffer = Buffer::new();
     out.extend_from_slice(before)?;
-    out.extend_from_slice(buffer.format(n).as_bytes())
+    push_number(out, n)
 }
 
 fn kind_text(kind: Kind) -> &'static [u8]
@@ -56,8 +55,8 @@ fn push_step_parts(
 {
     push_text(out, b"{\"item\":\"", item)?;
     push_text(out, b"\",\"kind\":\"", kind)?;
-    push_number(out, b"\",\"site\":", site)?;
-    push_number(out, b",\"to\":", to)?;
+    push_member(out, b"\",\"site\":", site)?;
+    push_member(out, b",\"to\":", to)?;
     out.extend_from_slice(b"}")
 }
 
@@ -93,8 +92,8 @@ fn push_steps(out: &mut Vec<u8>, walk: &[Step]) -> Result<(), AllocError>
 fn push_commit(out: &mut Vec<u8>, tx: u64, rank: u64) -> Result<(), AllocError>
     ensures { OnOk result (out.new.items ≡ out.old.items ++ (codes "{\"commit\":" ++ (decimal tx ++ (codes ",\"rank\":" ++ (decimal rank ++ codes "}"))))) }
 {
-    push_number(out, b"{\"commit\":", tx)?;
-    push_number(out, b",\"rank\":", rank)?;
+    push_member(out, b"{\"commit\":", tx)?;
+    push_member(out, b",\"rank\":", rank)?;
     out.extend_from_slice(b"}")
 }
 
@@ -102,7 +101,7 @@ fn push_refuse(out: &mut Vec<u8>, tx: u64, walk: &[Step]) -> Result<(), AllocErr
     ensures text { OnOk result (out.new.items ≡ out.old.items ++ (codes "{\"refuse\":" ++ (decimal tx ++ (codes ",\"walk\":[" ++ (items_text false (walk_data walk.now) ++ codes "}"))))) }
     ensures in_range { OnOk result (All (IsStep max_sites) walk.now) }
 {
-    push_number(out, b"{\"refuse\":", tx)?;
+    push_member(out, b"{\"refuse\":", tx)?;
     out.extend_from_slice(b",\"walk\":[")?;
     push_steps(out, walk)?;
     out.extend_from_slice(b"}")
@@ -111,7 +110,7 @@ fn push_refuse(out: &mut Vec<u8>, tx: u64, walk: &[Step]) -> Result<(), AllocErr
 fn push_withdraw(out: &mut Vec<u8>, tx: u64) -> Result<(), AllocError>
     ensures { OnOk result (out.new.items ≡ out.old.items ++ (codes "{\"withdraw\":" ++ (decimal tx ++ codes "}"))) }
 {
-    push_number(out, b"{\"withdraw\":", tx)?;
+    push_member(out, b"{\"withdraw\":", tx)?;
     out.extend_from_slice(b"}")
 }
 
@@ -147,7 +146,7 @@ fn push_certificate(out: &mut Vec<u8>, decisions: &[Decision], sites: u64) -> Re
 {
     out.extend_from_slice(b"{\"decisions\":[")?;
     push_decisions(out, decisions)?;
-    push_number(out, b",\"sites\":", sites)?;
+    push_member(out, b",\"sites\":", sites)?;
     out.extend_from_slice(b"}")
 }
 
