@@ -173,15 +173,10 @@ fn judge(alloc: Global, value: &Value, line: &[u8]) -> Result<Certificate, CertF
     if !has_shape(value) {
         return Err(CertFault::Shape);
     }
-    let Ok(found) = certificate(alloc, value) else {
-        return Err(CertFault::Memory);
-    };
-    let Some(found) = found else {
+    let Some(found) = certificate(alloc, value)? else {
         return Err(CertFault::Range);
     };
-    let Ok(text) = to_line(alloc, &found) else {
-        return Err(CertFault::Memory);
-    };
+    let text = to_line(alloc, &found)?;
     if text.as_slice() == line {
         Ok(found)
     } else {

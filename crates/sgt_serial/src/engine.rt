@@ -1,6 +1,6 @@
 //! The serial run of all that a reader gives.
 
-ghost use Rattle.std.specs.Prelude.{◌≡◌, ◌≢◌, ◌⊎◌, ◌<◌, ◌≤◌, ℕ, List, Option, Err, length, OnErr, IfOk, IfErr, IfSome, IsErrOf};
+ghost use Rattle.std.specs.Prelude.{◌≡◌, ◌≢◌, ◌⊎◌, ◌<◌, ◌≤◌, ℕ, List, Option, Err, length, OnErr, IfOk, IfSome, IsErrOf};
 ghost use Rattle.std.specs.Io.KnownBytes.{Appends};
 ghost use Rattle.sgt_notation.specs.Limits.{most_reads};
 ghost use Rattle.sgt_cert.specs.Valid.{IsValid};
@@ -59,6 +59,9 @@ fn answer_to(alloc: Global, audited: Audited) -> Result<Answer, AllocError>
 /// is written and no verdict: of each committed transaction by rank a line of its number, its reads and its writes, each by
 /// site and then in log order; then the final values by site and name. The reader is read once, and no further than the
 /// first line with a fault.
+///
+/// ReadFault where the reader failed, or no read is left, and Memory where a growth was refused: nothing was written.
+/// WriteFault where the writer failed: a front of the answer may have been written.
 pub fn serial<R: Source, W: Sink>(
     alloc: Global,
     reader: &mut R,
@@ -76,10 +79,7 @@ pub fn serial<R: Source, W: Sink>(
     ensures quiet_reader { IfOk result (λ _. R.failures reader.new ≡ R.failures reader.old) }
     ensures quiet_writer { result ≢ Err EngineFail.WriteFault → W.failures writer.new ≡ W.failures writer.old }
 {
-    let audited = match audit_bundle(alloc, reader) {
-        Ok(audited) => audited,
-        Err(fail) => return Err(fail),
-    };
+    let audited = audit_bundle(alloc, reader)?;
     let answer = match answer_to(alloc, audited) {
         Ok(answer) => answer,
         Err(_) => return Err(EngineFail::Memory),
