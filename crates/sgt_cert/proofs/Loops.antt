@@ -32,11 +32,7 @@ pub on_ok-anyway : {T E P : Type 0} (r : Result T E) → P → OnOk r P
 on_ok-anyway (Ok x) p = p
 on_ok-anyway (Err e) p = tt
 
--- where one fails, not all hold
-pub not-all : {X : Type 0} (P : X → Type 0) (xs : List X) (i : ℕ) (x : X) → i < length xs → x ≡ get_or xs i x → (P x → ⊥) → All P xs → ⊥
-not-all P xs i x within is fails h = fails (subst P (sym is) (h i x within))
-
--- the same of two properties of logs
+-- where a log lacks one of the two properties, not all logs have both
 pub not-both : (logs : List SiteLog) (i : ℕ) (log : SiteLog) → i < length logs → log ≡ get_or logs i log → (IsShapedLog log × IsLog log → ⊥) → All IsShapedLog logs × All IsLog logs → ⊥
 not-both logs i log within is fails h = fails (subst IsShapedLog (sym is) (h.0 i log within), subst IsLog (sym is) (h.1 i log within))
 

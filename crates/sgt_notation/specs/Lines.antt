@@ -1,4 +1,5 @@
 -- What a reader of lines has ahead of it, and what comes next of it.
+-- (From `Looks` on: used by private clauses alone.)
 use Rattle.std.specs.Prelude.{◌≡◌, ◌<◌, ◌≤◌, ℕ, ◌+◌, ◌*◌, List, [], ◌∷◌, ◌++◌, length, take, drop, ⊤, Option, Some, None}
 use Rattle.std.specs.Io.KnownBytes.{prepend_known}
 use Rattle.sgt_notation.specs.Limits.{buffer_size}

@@ -1,6 +1,6 @@
 //! Lines, written as they are spelled.
 
-ghost use Rattle.std.specs.Prelude.{◌≡◌, ◌≤◌, ◌+◌, ◌++◌, ℕ, List, length, take, decimal, vec_len, vec_capacity, IsOk, OnOk, OnErr};
+ghost use Rattle.std.specs.Prelude.{◌≡◌, ◌≤◌, ◌+◌, ◌++◌, length, take, decimal, vec_len, vec_capacity, IsOk, OnOk, OnErr};
 ghost use Rattle.sgt_notation.specs.Spelling.{assignment, entry_text, line_text, operation};
 
 use crate::SectionLine;
