@@ -11,10 +11,10 @@ use Rattle.sgt_cert.specs.declared.certificate.Decision.{Decision}
 use Rattle.sgt_cert.specs.declared.certificate.Decision.TheVariants.{Commit, Refuse, Withdraw}
 use Rattle.sgt_cert.proofs.Ranks.{rank-lt-limit}
 
-abbrev of_rank : List Decision → ℕ → List ℕ
+abbrev pub of_rank : List Decision → ℕ → List ℕ
 of_rank ds r = filter_map (with_rank r) ds
 
-abbrev of_ranks : List Decision → ℕ → ℕ → List ℕ
+abbrev pub of_ranks : List Decision → ℕ → ℕ → List ℕ
 of_ranks ds k n = flat_map (λ rank. filter_map (with_rank rank) ds) (range_with_len k n)
 
 among : (o : Option ℕ) (xs : List ℕ) (a : ℕ) → Contains xs a → Contains (cons_option o xs) a

@@ -1,4 +1,5 @@
 -- What a line is read as: a JSON value, then the shape of a certificate, then its numbers, names and kinds.
+-- (From `whole_at` on: used by private clauses alone.)
 use Rattle.std.specs.Prelude.{◌≡◌, ℕ, suc, ◌+◌, ◌^◌, List, [], ◌∷◌, Bool, true, false, ◌&&◌, ◌||◌, ◌==◌, nat_le, nat_lt, if◌then◌else◌, Option, Some, None, is_some, option_map, option_and_then, codes, IsUtf8, Result, Ok, Err}
 use Rattle.std.specs.List.{list_all}
 use Rattle.std.specs.Option.{option_map_or}

@@ -11,6 +11,9 @@ use serde_json::Value;
 use sgt_names::{Item, Kind, Label, Listed, MAX_SITES, SiteNo, Tx};
 use std::alloc::{AllocError, Global};
 
+/// Numbers of transactions and ranks are below this.
+const NUMBERS: u64 = 1 << 32;
+
 /// The number of the member, where it is a whole one from `least` on and below `limit`.
 fn whole(value: &Value, key: &str, least: u64, limit: u64) -> Option<u64>
     ensures { result ≡ whole_at key.now least limit (view value.now) }
@@ -26,7 +29,7 @@ fn whole(value: &Value, key: &str, least: u64, limit: u64) -> Option<u64>
 fn tx(value: &Value, key: &str) -> Option<Tx>
     ensures { result ≡ tx_at key.now (view value.now) }
 {
-    let n = whole(value, key, 1, 4294967296)?;
+    let n = whole(value, key, 1, NUMBERS)?;
     Tx::new(n).ok()
 }
 
@@ -117,7 +120,7 @@ fn commit(value: &Value) -> Option<Decision>
     ensures { result ≡ commit_in (view value.now) }
 {
     let tx = tx(value, "commit")?;
-    let rank = whole(value, "rank", 0, 4294967296)?;
+    let rank = whole(value, "rank", 0, NUMBERS)?;
     Some(Decision::Commit {
         tx,
         rank: rank as u32,

@@ -1,5 +1,9 @@
 //! Why a line is no certificate.
 
+ghost use Rattle.std.specs.Prelude.{◌≡◌};
+ghost use Rattle.sgt_cert.specs.declared.fault.CertFault.TheVariants.{Memory};
+
+use std::alloc::AllocError;
 use thiserror::Error;
 
 /// Why no certificate is read from a line: K1 goes before K2 and K2 before K3, wherever in the line they stand.
@@ -17,4 +21,12 @@ pub enum CertFault {
     /// Out of memory: nothing is known of the line.
     #[error("K4: out of memory")]
     Memory,
+}
+
+impl From<AllocError> for CertFault {
+    ghost from_gives = { λ _ e. e ≡ Memory };
+
+    fn from(_: AllocError) -> CertFault {
+        CertFault::Memory
+    }
 }

@@ -1,7 +1,7 @@
 //! Whether a certificate and logs are those of a bundle.
 //!
-//! That names and numbers are in their ranges is known of each value by its type, so where a function here reads one and
-//! leaves it, it does so for its contract alone.
+//! Names and numbers are in their ranges by their types. A proof learns it where a value is read, so some functions here
+//! read a value for the sake of their clause alone, and give nothing back.
 
 ghost use Rattle.std.specs.Prelude.{◌≡◌, ◌↔◌, IsTrue, All, AllPairs};
 ghost use Rattle.sgt_names.specs.Log.{names};
@@ -12,7 +12,6 @@ ghost use Rattle.sgt_cert.specs.Text.{IsBundle, IsCertificate, IsDecision, IsLog
 use crate::bundle::SiteLog;
 use crate::certificate::{Certificate, Decision, Step};
 use sgt_names::{Entry, Holding, Item, MAX_ITEMS, MAX_SITES};
-use std::cmp::Ordering;
 
 fn holding_fits(holding: Holding)
     ensures { IsHolding holding }
@@ -67,11 +66,7 @@ fn entries_fit(entries: &[Entry])
 fn comes_before(first: &Item, second: &Item) -> bool
     ensures { IsTrue result ↔ ComesBefore first.now second.now }
 {
-    match first.order(second) {
-        Ordering::Less => true,
-        Ordering::Equal => false,
-        Ordering::Greater => false,
-    }
+    first < second
 }
 
 /// Whether the names rise.
@@ -91,6 +86,12 @@ fn rise(items: &[Holding]) -> bool
     true
 }
 
+fn is_item(first: &Item, second: &Item) -> bool
+    ensures { IsTrue result ↔ (first.now ≡ second.now) }
+{
+    first == second
+}
+
 /// Whether the finals have the names of the items, in the same order.
 fn same_names(items: &[Holding], finals: &[Holding]) -> bool
     ensures { IsTrue result ↔ (names finals.now ≡ names items.now) }
@@ -99,7 +100,7 @@ fn same_names(items: &[Holding], finals: &[Holding]) -> bool
         return false;
     }
     for i in 0..items.len() {
-        if !finals[i].item.same(&items[i].item) {
+        if !is_item(&finals[i].item, &items[i].item) {
             return false;
         }
     }

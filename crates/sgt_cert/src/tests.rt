@@ -2,7 +2,7 @@ use crate::{
     Bundle, CertFault, Certificate, Decision, SiteLog, certificates_are_read_back,
     certificates_have_one_reading, committed_transactions_run, from_line,
     lines_are_read_or_refused, lines_are_refused_once, no_bytes_spell_two_bundles,
-    ranks_are_distinct, to_line, valid_bundles_run_serially,
+    ranks_are_distinct, serial_order_is_by_rank, to_line, valid_bundles_run_serially,
 };
 use sgt_names::Listed;
 use sgt_notation::{SectionLine, read_section};
@@ -302,6 +302,7 @@ fn bundles(rt: HostRuntime) -> Result<(), Fail> {
     lines_are_refused_once();
     no_bytes_spell_two_bundles();
     ranks_are_distinct();
+    serial_order_is_by_rank();
     valid_bundles_run_serially();
     Ok(())
 }

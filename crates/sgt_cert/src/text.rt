@@ -1,10 +1,9 @@
 //! The text of a bundle.
 
-ghost use Rattle.std.specs.Prelude.{◌≡◌, ◌++◌, ◌∷◌, [], ◌<◌, ◌≤◌, ◌+◌, IfOk, OnOk, length, map};
+ghost use Rattle.std.specs.Prelude.{◌≡◌, ◌++◌, ◌∷◌, [], ◌≤◌, ◌+◌, IfOk, OnOk, length, map};
 ghost use Rattle.sgt_names.specs.Limits.{max_sites};
 ghost use Rattle.sgt_notation.specs.Spelling.{line_text, text_of_lines};
 ghost use Rattle.sgt_notation.specs.declared.SectionLine.{SectionLine};
-ghost use Rattle.sgt_cert.specs.Parts.{Parts};
 ghost use Rattle.sgt_cert.specs.Text.{sections_from, section_lines, text_of};
 
 use crate::bundle::SiteLog;
@@ -71,7 +70,7 @@ fn push_sections(out: &mut Vec<u8>, sites: &[SiteLog]) -> Result<(), AllocError>
     Ok(())
 }
 
-/// The text of a certificate and its logs.
+/// The text of a certificate and its logs. Err: memory ran out.
 pub(crate) fn text(
     alloc: Global,
     certificate: &Certificate,

@@ -1,15 +1,13 @@
 -- Operations, holdings, entries and lines that the bytes do not spell.
 use Rattle.std.proofs.Common.{◌≡◌, ◌≢◌, ℕ, List, [], ◌∷◌, ◌++◌, length, All, refl, sym, ap, ◌∙◌, subst, arith, append_assoc, lit<}
-use Rattle.std.specs.Prelude.{decimal, codes}
-use Rattle.std.proofs.lemmas.List.{append_cancel_left}
+use Rattle.std.specs.Prelude.{decimal}
 use Rattle.std.proofs.lemmas.List.Elements.{recursion_from_All}
 use Rattle.sgt_names.specs.Name.{Name}
 use Rattle.sgt_names.specs.declared.entry.Entry.TheVariants.{Read, Write, Want}
 use Rattle.sgt_names.specs.declared.entry.Holding.{Holding}
 use Rattle.sgt_notation.specs.Reading.{IsOperation, SpellsNone, operation_text}
-use Rattle.sgt_notation.specs.Spelling.{assignment, entry_text, line_text, IsEntry, IsHolding, IsLine, IsSite}
-use Rattle.sgt_notation.specs.declared.SectionLine.TheVariants.{Site, Initial, Logged, Final, End}
-use Rattle.sgt_notation.proofs.OneSpelling.{HasNot, apart, entry-apart, cut_at_byte, decimal-without, name-without, operation-is, small-tx, tails}
+use Rattle.sgt_notation.specs.Spelling.{assignment, entry_text, IsEntry, IsHolding}
+use Rattle.sgt_notation.proofs.OneSpelling.{HasNot, apart, cut_at_byte, decimal-without, name-without, operation-is, small-tx, tails}
 
 never_by : (at : ℕ) (a b : List ℕ) → HasNot at (a ++ at ∷ b) → ⊥
 never_by at [] b h = h.0 refl
@@ -59,29 +57,3 @@ write_not line rest is none e ok whole = absurd (apart (119 ∷ rest) (entry_tex
 pub want_not : (line rest : List ℕ) → line ≡ 112 ∷ rest → SpellsNone IsOperation operation_text rest → SpellsNone IsEntry entry_text line
 want_not line rest is none (Want tx x v) ok whole = none (tx, x, v) ok (tails _ _ _ _ (sym is ∙ whole))
 want_not line rest is none e ok whole = absurd (apart (112 ∷ rest) (entry_text e) refl (sym is ∙ whole))
-
--- ---- lines: behind the word of a kind stands no such line
-
-pub not_site : (line rest : List ℕ) → line ≡ codes "site " ++ rest → SpellsNone IsSite decimal rest → SpellsNone IsLine line_text line
-not_site line rest is none (Site k) ok whole = none k ok (append_cancel_left (codes "site ") rest (decimal k) (sym is ∙ whole))
-not_site line rest is none (Logged e) ok whole = absurd (entry-apart e (codes "site " ++ rest) refl (sym whole ∙ is))
-not_site line rest is none l ok whole = absurd (apart (codes "site " ++ rest) (line_text l) refl (sym is ∙ whole))
-
-pub not_item : (line rest : List ℕ) → line ≡ codes "item " ++ rest → SpellsNone IsHolding (λ h. assignment h.item h.value) rest → SpellsNone IsLine line_text line
-not_item line rest is none (Initial h) ok whole = none h ok (append_cancel_left (codes "item ") rest (assignment h.item h.value) (sym is ∙ whole))
-not_item line rest is none (Logged e) ok whole = absurd (entry-apart e (codes "item " ++ rest) refl (sym whole ∙ is))
-not_item line rest is none l ok whole = absurd (apart (codes "item " ++ rest) (line_text l) refl (sym is ∙ whole))
-
-pub not_final : (line rest : List ℕ) → line ≡ codes "final " ++ rest → SpellsNone IsHolding (λ h. assignment h.item h.value) rest → SpellsNone IsLine line_text line
-not_final line rest is none (Final h) ok whole = none h ok (append_cancel_left (codes "final ") rest (assignment h.item h.value) (sym is ∙ whole))
-not_final line rest is none (Logged e) ok whole = absurd (entry-apart e (codes "final " ++ rest) refl (sym whole ∙ is))
-not_final line rest is none l ok whole = absurd (apart (codes "final " ++ rest) (line_text l) refl (sym is ∙ whole))
-
--- a line begins with none of the words, is no end and no entry
-pub no_line : (line : List ℕ) → SpellsNone IsEntry entry_text line → ((rest : List ℕ) → line ≢ codes "site " ++ rest) → ((rest : List ℕ) → line ≢ codes "item " ++ rest) → ((rest : List ℕ) → line ≢ codes "final " ++ rest) → line ≢ codes "end"
-    → SpellsNone IsLine line_text line
-no_line line entry site item final end (Site k) ok whole = site (decimal k) whole
-no_line line entry site item final end (Initial h) ok whole = item (assignment h.item h.value) whole
-no_line line entry site item final end (Logged e) ok whole = entry e ok whole
-no_line line entry site item final end (Final h) ok whole = final (assignment h.item h.value) whole
-no_line line entry site item final end End ok whole = end whole

@@ -8,3 +8,7 @@ max_line = 1048576
 -- how many reads a reader of lines makes at most
 abbrev pub most_reads : ℕ
 most_reads = 4294967295
+
+-- how many bytes a read asks for at most
+abbrev pub buffer_size : ℕ
+buffer_size = 65536

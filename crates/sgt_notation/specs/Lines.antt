@@ -1,10 +1,11 @@
 -- What a reader of lines has ahead of it, and what comes next of it.
+-- (From `Looks` on: used by private clauses alone.)
 use Rattle.std.specs.Prelude.{◌≡◌, ◌<◌, ◌≤◌, ℕ, ◌+◌, ◌*◌, List, [], ◌∷◌, ◌++◌, length, take, drop, ⊤, Option, Some, None}
 use Rattle.std.specs.Io.KnownBytes.{prepend_known}
+use Rattle.sgt_notation.specs.Limits.{buffer_size}
 use Rattle.sgt_notation.specs.Spelling.{HasNoLf}
 use Rattle.sgt_notation.specs.declared.lines.Next.{Next}
 use Rattle.sgt_notation.specs.declared.lines.Next.TheVariants.{Line, Cut, TooLong, End}
-use Rattle.sgt_notation.specs.declared.lines.TheConstants.{BUFFER}
 
 -- the bytes that were read and not yet given out, and how many more reads it makes
 pub record Ahead : Type 0 where
@@ -13,7 +14,7 @@ pub record Ahead : Type 0 where
 
 -- how many bytes may still come out
 abbrev pub most_left : Ahead → ℕ
-most_left ahead = ahead.reads * BUFFER + length ahead.held
+most_left ahead = ahead.reads * buffer_size + length ahead.held
 
 -- all that comes: what is held, and then what the source has left
 abbrev pub coming : Ahead → Option (List ℕ) → Option (List ℕ)

@@ -1,11 +1,10 @@
 //! A reader, cut into lines.
 
-ghost use Rattle.std.specs.Prelude.{◌≡◌, ◌≢◌, ℕ, ◌+◌, ◌-◌, ◌<◌, ◌≤◌, ◌⊎◌, ◌^◌, List, [], ◌∷◌, ◌++◌, length, take, drop, Some, Ok, IfSome, IfNone, IfErr, IfOk, OnOk, OnErr, IsErrOf, vec_len, vec_capacity};
+ghost use Rattle.std.specs.Prelude.{◌≡◌, ◌≢◌, ◌+◌, ◌-◌, ◌<◌, ◌≤◌, ◌⊎◌, ◌^◌, [], ◌∷◌, ◌++◌, length, take, drop, Some, Ok, IfSome, IfNone, IfErr, IfOk, OnOk, OnErr, IsErrOf, vec_len, vec_capacity};
 ghost use Rattle.std.specs.Io.KnownBytes.{Consumes, IsAtEnd};
-ghost use Rattle.sgt_notation.specs.Limits.{most_reads};
+ghost use Rattle.sgt_notation.specs.Limits.{buffer_size, most_reads};
 ghost use Rattle.sgt_notation.specs.Lines.{Ahead, Gives, IsLeft, Leaves, Looks, Moves, Spends, SpendsNext, coming, most_left};
 ghost use Rattle.sgt_notation.specs.Spelling.{HasNoLf};
-ghost use Rattle.sgt_notation.specs.declared.lines.TheConstants.{BUFFER};
 
 use memchr::memchr;
 use sgt_names::Source;
@@ -37,6 +36,16 @@ pub enum LinesFault {
     ReadFault,
 }
 
+impl From<AllocError> for LinesFault {
+    ghost use Rattle.sgt_notation.specs.declared.lines.LinesFault.TheVariants.{Memory};
+
+    ghost from_gives = { λ _ e. e ≡ Memory };
+
+    fn from(_: AllocError) -> LinesFault {
+        LinesFault::Memory
+    }
+}
+
 /// The reads that a `Lines` makes at most, over all its calls.
 pub const MOST_READS: u32 = u32::MAX;
 
@@ -58,7 +67,7 @@ impl Model for Lines {
 
     ghost view = { λ s. record { held = take (s.end - s.start) (drop s.start s.buffer.items); reads = s.reads } };
 
-    ghost invariant = { λ s. (s.start ≤ s.end) × (s.end ≤ vec_len s.buffer) × (vec_len s.buffer ≡ BUFFER) };
+    ghost invariant = { λ s. (s.start ≤ s.end) × (s.end ≤ vec_len s.buffer) × (vec_len s.buffer ≡ buffer_size) };
 }
 
 /// Where the first LF stands.
@@ -70,8 +79,9 @@ fn find_feed(bytes: &[u8]) -> Option<usize>
     memchr(b'\n', bytes)
 }
 
-/// Moves the bytes up to the first LF to the end of the line, unless it gets too long by them. It says how many these
-/// are, and how many are used up with the LF.
+/// Moves the bytes before the first LF, or all of them where there is none, to the end of the line, unless it gets too
+/// long by them. The first number is that of these bytes. The second is how many of the held bytes are used up: with the
+/// LF, or none of too long a line.
 fn look_in(
     held: &[u8],
     line: &mut Vec<u8>,
@@ -81,7 +91,7 @@ fn look_in(
     ensures looks { IfOk result (λ r. Looks limit held.now line.old.items r.0 r.1 line.new.items) }
     ensures left { IfOk result (λ r. IsLeft held.now r.0 r.1 (drop r.2 held.now)) }
     ensures used { IfOk result (λ r. (r.2 ≤ length held.now) × (r.0 ≡ Some Next.Line → 0 < r.2)) }
-    ensures unlimited { length held.now ≤ BUFFER → limit ≡ 2 ^ 64 - 1 → IfOk result (λ r. r.0 ≢ Some Next.TooLong) }
+    ensures unlimited { length held.now ≤ buffer_size → limit ≡ 2 ^ 64 - 1 → IfOk result (λ r. r.0 ≢ Some Next.TooLong) }
     ensures err { IfErr result (λ e. e ≡ LinesFault.Memory) }
     ensures kept { OnErr result (line.new.items ≡ line.old.items) }
     ensures room { limit ≤ vec_capacity line.old → result ≢ Err LinesFault.Memory }
@@ -113,18 +123,19 @@ fn append(line: &mut Vec<u8>, bytes: &[u8]) -> Result<(), LinesFault>
     ensures room { vec_len line.old + length bytes.now ≤ vec_capacity line.old → result ≢ Err LinesFault.Memory }
     ensures capacity { vec_capacity line.old ≤ vec_capacity line.new }
 {
-    line.extend_from_slice(bytes)
-        .map_err(|_| LinesFault::Memory)
+    line.extend_from_slice(bytes)?;
+    Ok(())
 }
 
 fn empty_buffer(alloc: Global) -> Result<Vec<u8>, AllocError>
-    ensures { IfOk result (λ buffer. vec_len buffer ≡ BUFFER) }
+    ensures { IfOk result (λ buffer. vec_len buffer ≡ buffer_size) }
 {
     vec![in alloc; 0; BUFFER]
 }
 
 impl Lines {
     /// A reader of lines that has read nothing. It takes its memory here; a call of `next` takes none but for the line.
+    /// Err: memory ran out.
     pub fn new(alloc: Global) -> Result<Lines, AllocError>
         ensures { IfOk result (λ s. s ≡ record { held = []; reads = most_reads }) }
     {
@@ -140,7 +151,7 @@ impl Lines {
     fn fill<S: Source>(&mut self, source: &mut S) -> Result<usize, LinesFault>
         requires { self.old.held ≡ [] }
         ensures ok { IfOk result (λ n. Consumes (S.tells source.old) (S.tells source.new) self.new.held
-            × (length self.new.held ≡ n) × (n ≤ BUFFER) × (n ≡ 0 → IsAtEnd (S.tells source.new))
+            × (length self.new.held ≡ n) × (n ≤ buffer_size) × (n ≡ 0 → IsAtEnd (S.tells source.new))
             × (self.old.reads ≡ self.new.reads + 1) × (S.failures source.new ≡ S.failures source.old)) }
         ensures fault { IsErrOf result LinesFault.ReadFault →
             ((S.failures source.old < S.failures source.new) ⊎ ((self.old.reads ≡ 0) × (S.tells source.new ≡ S.tells source.old))) }
@@ -189,8 +200,9 @@ impl Lines {
     }
 
     /// What comes next. `line` is cleared first, and gets the line without its LF, or what came before an Err.
-    /// A line longer than `limit` is told as soon as one byte more than that was read. Some of its bytes then stand in
-    /// `line`, and a further call goes on behind them. A `limit` of `usize::MAX` is none.
+    /// `limit` is in bytes, without the LF; `usize::MAX` is none. A line longer than that is told as soon as one byte more
+    /// was read. Some of its bytes then stand in `line`, and a further call goes on behind them.
+    ///
     /// Memory where a growth of the line was refused: what stands in `line` is not given again. ReadFault where the
     /// reader failed during this call, or no read is left; all that was read then stands in `line`.
     pub fn next<S: Source>(
@@ -209,7 +221,7 @@ impl Lines {
         ensures line { HasNoLf line.new.items × (length line.new.items ≤ limit) }
         ensures capacity { vec_capacity line.old ≤ vec_capacity line.new }
         ensures reads { self.new.reads ≤ self.old.reads }
-        // each read that was counted gave a byte, but for the last; and each that gave bytes was counted
+        // each read that was counted gave a byte, but for the last; and a count gave no more bytes than the buffer holds
         ensures counted { self.old.reads + length self.old.held ≤ self.new.reads + length self.new.held + length line.new.items + 1 }
         ensures bounded { most_left self.new + length line.new.items ≤ most_left self.old }
 

@@ -1,7 +1,7 @@
 use crate::{
     Lines, LinesFault, MAX_LINE, Next, NotationFault, SectionLine, lines_are_short,
-    lines_have_no_lf, lines_have_one_reading, read_entry, read_section, what_comes_next_is_one,
-    write_entry, write_section,
+    lines_have_no_lf, lines_have_one_reading, push_number, read_entry, read_section,
+    what_comes_next_is_one, write_entry, write_section,
 };
 use sgt_names::{Entry, Item, MemSource, Tx};
 use std::test::Fail;
@@ -222,6 +222,16 @@ fn a_failing_read_is_met_where_it_is_needed(rt: HostRuntime) -> Result<(), Fail>
             }
         }
     }
+    Ok(())
+}
+
+#[test]
+fn numbers_are_written_behind_what_is_there(rt: HostRuntime) -> Result<(), Fail> {
+    let mut out = Vec::new(rt.alloc());
+    push_number(&mut out, 0)?;
+    push_number(&mut out, 1_000)?;
+    push_number(&mut out, u64::MAX)?;
+    assert!(rt; out.as_slice() == b"0100018446744073709551615".as_slice());
     Ok(())
 }
 

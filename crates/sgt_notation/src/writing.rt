@@ -1,6 +1,6 @@
 //! Lines, written as they are spelled.
 
-ghost use Rattle.std.specs.Prelude.{◌≡◌, ◌≤◌, ◌+◌, ◌++◌, ℕ, List, length, take, decimal, vec_len, vec_capacity, IsOk, OnOk, OnErr};
+ghost use Rattle.std.specs.Prelude.{◌≡◌, ◌≤◌, ◌+◌, ◌++◌, length, take, decimal, vec_len, vec_capacity, IsOk, OnOk, OnErr};
 ghost use Rattle.sgt_notation.specs.Spelling.{assignment, entry_text, line_text, operation};
 
 use crate::SectionLine;
@@ -8,7 +8,8 @@ use itoa::Buffer;
 use sgt_names::{Entry, Holding, Item, Tx, Value};
 use std::alloc::AllocError;
 
-fn push_number(out: &mut Vec<u8>, number: u64) -> Result<(), AllocError>
+/// Writes the number in decimal digits behind what is there. Err: memory ran out, and nothing is written.
+pub fn push_number(out: &mut Vec<u8>, number: u64) -> Result<(), AllocError>
     ensures ok { OnOk result (out.new.items ≡ out.old.items ++ decimal number) }
     ensures err { OnErr result (out.new.items ≡ out.old.items) }
     ensures room { vec_len out.old + length (decimal number) ≤ vec_capacity out.old → IsOk result }

@@ -1,4 +1,5 @@
 -- The reads and writes of all logs, each with its transaction.
+-- (Used by private clauses alone.)
 use Rattle.std.specs.Prelude.{ℕ, List, map, Option, option_map, Bool, ◌==◌}
 use Rattle.std.specs.List.{filter, filter_map}
 use Rattle.sgt_names.specs.Entry.{tx_of}

@@ -1,4 +1,5 @@
 -- Committed transactions with their ranks.
+-- (Used by private clauses alone.)
 use Rattle.std.specs.Prelude.{Option, Some, None}
 use Rattle.sgt_cert.specs.declared.certificate.Decision.{Decision}
 use Rattle.sgt_cert.specs.declared.certificate.Decision.TheVariants.{Commit}

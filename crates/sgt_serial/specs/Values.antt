@@ -1,4 +1,5 @@
 -- The values of the items of all sites, as they are kept while transactions run.
+-- (Used by private clauses alone.)
 use Rattle.std.specs.Prelude.{ℕ, List, AllPairs, Bool, ◌&&◌, ◌==◌, Option, Some, None, if◌then◌else◌, slice_get, option_and_then}
 use Rattle.std.specs.List.{last_or, filter_map}
 use Rattle.std.specs.Str.{bytes_eq}

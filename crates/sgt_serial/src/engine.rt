@@ -1,8 +1,8 @@
 //! The serial run of all that a reader gives.
 
-ghost use Rattle.std.specs.Prelude.{◌≡◌, ◌≢◌, ◌⊎◌, ◌<◌, ◌≤◌, ℕ, List, Option, Err, length, OnErr, IfOk, IfErr, IfSome, IsErrOf};
+ghost use Rattle.std.specs.Prelude.{◌≡◌, ◌≢◌, ◌⊎◌, ◌<◌, ◌≤◌, ℕ, List, Option, Err, length, OnErr, IfOk, IfSome, IsErrOf};
 ghost use Rattle.std.specs.Io.KnownBytes.{Appends};
-ghost use Rattle.sgt_notation.specs.declared.lines.TheConstants.{MOST_READS};
+ghost use Rattle.sgt_notation.specs.Limits.{most_reads};
 ghost use Rattle.sgt_cert.specs.Valid.{IsValid};
 ghost use Rattle.sgt_audit.specs.Verdict.{IsAudited, HandsOutValid};
 ghost use Rattle.sgt_serial.specs.Answer.{IsAnswer, WroteFront};
@@ -59,6 +59,9 @@ fn answer_to(alloc: Global, audited: Audited) -> Result<Answer, AllocError>
 /// is written and no verdict: of each committed transaction by rank a line of its number, its reads and its writes, each by
 /// site and then in log order; then the final values by site and name. The reader is read once, and no further than the
 /// first line with a fault.
+///
+/// ReadFault where the reader failed, or no read is left, and Memory where a growth was refused: nothing was written.
+/// WriteFault where the writer failed: a front of the answer may have been written.
 pub fn serial<R: Source, W: Sink>(
     alloc: Global,
     reader: &mut R,
@@ -66,18 +69,17 @@ pub fn serial<R: Source, W: Sink>(
 ) -> Result<Outcome, EngineFail>
     ensures answer { IfOk result (λ outcome. (text : List ℕ) × IsAnswer (R.tells reader.old) outcome text × Appends (W.holds writer.old) (W.holds writer.new) text) }
     ensures front { OnErr result (WroteFront (R.tells reader.old) (W.holds writer.old) (W.holds writer.new)) }
+    ensures unwritten { IsErrOf result EngineFail.ReadFault → writer.new ≡ writer.old }
+    ensures untouched { IsErrOf result EngineFail.Memory → writer.new ≡ writer.old }
     ensures read_fault { IsErrOf result EngineFail.ReadFault →
-        ((R.failures reader.old < R.failures reader.new) ⊎ IfSome (R.tells reader.old) (λ bytes. MOST_READS ≤ length bytes)) }
+        ((R.failures reader.old < R.failures reader.new) ⊎ IfSome (R.tells reader.old) (λ bytes. most_reads ≤ length bytes)) }
     ensures write_fault { IsErrOf result EngineFail.WriteFault → W.failures writer.old < W.failures writer.new }
 
     // A fault of a device isn't passed over.
     ensures quiet_reader { IfOk result (λ _. R.failures reader.new ≡ R.failures reader.old) }
     ensures quiet_writer { result ≢ Err EngineFail.WriteFault → W.failures writer.new ≡ W.failures writer.old }
 {
-    let audited = match audit_bundle(alloc, reader) {
-        Ok(audited) => audited,
-        Err(fail) => return Err(fail),
-    };
+    let audited = audit_bundle(alloc, reader)?;
     let answer = match answer_to(alloc, audited) {
         Ok(answer) => answer,
         Err(_) => return Err(EngineFail::Memory),

@@ -1,6 +1,6 @@
 //! The serial run.
 
-ghost use Rattle.std.specs.Prelude.{◌≡◌, ◌≢◌, ◌⊎◌, ℕ, ◌≤◌, length, map, All, Some, Ok, Err, IfOk, OnOk, Option};
+ghost use Rattle.std.specs.Prelude.{◌≡◌, ◌⊎◌, ℕ, ◌≤◌, length, map, All, Some, Ok, Err, IfOk, OnOk, Option};
 ghost use Rattle.sgt_names.specs.Limits.{max_sites};
 ghost use Rattle.sgt_names.specs.Name.{Name};
 ghost use Rattle.sgt_cert.specs.Serial.{SerialAgrees};

@@ -1,20 +1,13 @@
 //! A serial run, written.
 
-ghost use Rattle.std.specs.Prelude.{◌≡◌, ◌++◌, map, codes, decimal, OnOk, IfOk};
+ghost use Rattle.std.specs.Prelude.{◌≡◌, ◌++◌, map, OnOk, IfOk};
 ghost use Rattle.sgt_notation.specs.Spelling.{text_of_lines};
 ghost use Rattle.sgt_serial.specs.Text.{place_text, operation_line, run_lines, final_line, report_text};
 
 use crate::report::{SerialReport, SerialTx, SiteValue};
-use itoa::Buffer;
 use sgt_names::Tx;
+use sgt_notation::push_number;
 use std::alloc::{AllocError, Global};
-
-fn push_number(out: &mut Vec<u8>, number: u64) -> Result<(), AllocError>
-    ensures { OnOk result (out.new.items ≡ out.old.items ++ decimal number) }
-{
-    let mut buffer = Buffer::new();
-    out.extend_from_slice(buffer.format(number).as_bytes())
-}
 
 fn push_place(out: &mut Vec<u8>, value: &SiteValue) -> Result<(), AllocError>
     ensures { OnOk result (out.new.items ≡ out.old.items ++ place_text value.now) }
@@ -86,6 +79,7 @@ fn push_finals(out: &mut Vec<u8>, values: &[SiteValue]) -> Result<(), AllocError
 
 impl SerialReport {
     /// The text of the run: of each transaction a line of its number, its reads and its writes; then the final values.
+    /// Err: memory ran out.
     pub fn to_text(&self, alloc: Global) -> Result<Vec<u8>, AllocError>
         ensures { IfOk result (λ text. text.items ≡ report_text self.now) }
     {

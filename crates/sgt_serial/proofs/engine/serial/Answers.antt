@@ -4,13 +4,13 @@ use Rattle.sgt_serial.proofs.engine.serial.Goals as goal
 
 pub returns-clause-front : goal.returns-clause-front
 returns-clause-front g c =
-    let answer = c.in-Ok-answer_to.answer in
+    let answer = c.in-Ok.answer in
     let told = g.R.Source.tells c.args.reader.now in
     let out = c.in-Err-write_all.ensures.err in
     inr (
       answer.outcome,
       answer.text.items,
       out.0,
-      c.in-Ok-answer_to.ensures told c.in-Ok.ensures.audited,
+      c.in-Ok.ensures told c.in_ok-audited.ensures.audited,
       subst (λ (text : List ℕ). AppendsOrForgets (g.W.Sink.holds c.args.writer.now) (g.W.Sink.holds c.write_all.new.writer) (take out.0 text)) c.as_slice.ensures.value out.1,
     )
