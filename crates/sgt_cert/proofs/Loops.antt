@@ -1,10 +1,10 @@
 -- What a loop over a list has found so far, and names that rise.
 use Rattle.std.proofs.Common.{◌≡◌, ℕ, ◌+◌, ◌<◌, ◌≤◌, List, [], ◌∷◌, length, take, drop, get_or, refl, sym, subst, arith, All, AllPairs, ap, ◌∙◌, zero, suc, add-one, drop-cons}
-use Rattle.std.specs.Prelude.{◌↔◌}
+use Rattle.std.specs.Prelude.{◌↔◌, OnOk, Result, Ok, Err}
 use Rattle.std.proofs.lemmas.List.{take_all, drop_all}
 use Rattle.std.proofs.lemmas.List.Kept.{AllPairs-cons}
 use Rattle.std.proofs.lemmas.Cmp.{nat_list_cmp_total}
-use Rattle.std.proofs.lemmas.List.Elements.{All-more}
+use Rattle.std.proofs.lemmas.List.Elements.{All-cons, All-more}
 use Rattle.sgt_names.specs.Log.{names}
 use Rattle.sgt_names.specs.Name.{Name}
 use Rattle.sgt_names.specs.declared.entry.Holding.{Holding}
@@ -19,6 +19,18 @@ all-step P xs i x within h is p = All-more P xs i x within h (subst P is p)
 
 pub all-end : {X : Type 0} (P : X → Type 0) (xs : List X) (i : ℕ) → length xs ≤ i → All P (take i xs) → All P xs
 all-end P xs i past h = subst (All P) (take_all i xs past) h
+
+-- the same, of a list with one in front
+pub all-behind : {X : Type 0} (P : X → Type 0) (whole : List X) (x : X) (xs : List X) (i : ℕ) → whole ≡ x ∷ xs → P x → length xs ≤ i → All P (take i xs) → All P whole
+all-behind P whole x xs i is p past h = subst (All P) (sym is) (All-cons P x xs p (all-end P xs i past h))
+
+pub all-none : {X : Type 0} (P : X → Type 0) (xs : List X) → length xs ≡ 0 → All P xs
+all-none P xs none i d within = absurd (omega arith)
+
+-- what holds anyway holds at an Ok
+pub on_ok-anyway : {T E P : Type 0} (r : Result T E) → P → OnOk r P
+on_ok-anyway (Ok x) p = p
+on_ok-anyway (Err e) p = tt
 
 -- where one fails, not all hold
 pub not-all : {X : Type 0} (P : X → Type 0) (xs : List X) (i : ℕ) (x : X) → i < length xs → x ≡ get_or xs i x → (P x → ⊥) → All P xs → ⊥

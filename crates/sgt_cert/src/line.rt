@@ -1,9 +1,11 @@
 //! The line of a certificate, written and read.
 
-ghost use Rattle.std.specs.Prelude.{◌≡◌, ◌≢◌, ◌++◌, IfOk, IfErr, OnOk, MatchResult, ◌⊎◌, codes, decimal, false};
+ghost use Rattle.std.specs.Prelude.{◌≡◌, ◌≢◌, ◌++◌, IfOk, IfErr, OnOk, MatchResult, ◌⊎◌, All, codes, decimal, false};
 ghost use Rattle.serde_json.specs.View.{view};
 ghost use Rattle.serde_json.specs.Written.{compact_text, items_text};
-ghost use Rattle.sgt_cert.specs.Text.{certificate_text, decision_data, decisions_data, kind_name, step_data, walk_data, IsCertificate};
+ghost use Rattle.sgt_cert.specs.Text.{certificate_text, decision_data, decisions_data, kind_name, step_data, walk_data, IsCertificate, IsDecision, IsStep};
+ghost use Rattle.sgt_names.specs.Limits.{max_sites};
+ghost use Rattle.sgt_notation.specs.Spelling.{HasNoLf};
 ghost use Rattle.sgt_cert.specs.Line.{answer_of, Answers, Refuses};
 ghost use Rattle.sgt_cert.specs.declared.certificate.Certificate.{Certificate};
 ghost use Rattle.sgt_cert.specs.declared.fault.CertFault.{CertFault};
@@ -60,7 +62,8 @@ fn push_step_parts(
 }
 
 fn push_step(out: &mut Vec<u8>, step: &Step) -> Result<(), AllocError>
-    ensures { OnOk result (out.new.items ≡ out.old.items ++ compact_text (step_data step.now)) }
+    ensures text { OnOk result (out.new.items ≡ out.old.items ++ compact_text (step_data step.now)) }
+    ensures in_range { IsStep max_sites step.now }
 {
     let label = step.label;
     push_step_parts(
@@ -74,7 +77,8 @@ fn push_step(out: &mut Vec<u8>, step: &Step) -> Result<(), AllocError>
 
 /// The steps with commas between, and the closing bracket.
 fn push_steps(out: &mut Vec<u8>, walk: &[Step]) -> Result<(), AllocError>
-    ensures { OnOk result (out.new.items ≡ out.old.items ++ items_text false (walk_data walk.now)) }
+    ensures text { OnOk result (out.new.items ≡ out.old.items ++ items_text false (walk_data walk.now)) }
+    ensures in_range { OnOk result (All (IsStep max_sites) walk.now) }
 {
     if let Some((first, further)) = walk.split_first() {
         push_step(out, first)?;
@@ -95,7 +99,8 @@ fn push_commit(out: &mut Vec<u8>, tx: u64, rank: u64) -> Result<(), AllocError>
 }
 
 fn push_refuse(out: &mut Vec<u8>, tx: u64, walk: &[Step]) -> Result<(), AllocError>
-    ensures { OnOk result (out.new.items ≡ out.old.items ++ (codes "{\"refuse\":" ++ (decimal tx ++ (codes ",\"walk\":[" ++ (items_text false (walk_data walk.now) ++ codes "}"))))) }
+    ensures text { OnOk result (out.new.items ≡ out.old.items ++ (codes "{\"refuse\":" ++ (decimal tx ++ (codes ",\"walk\":[" ++ (items_text false (walk_data walk.now) ++ codes "}"))))) }
+    ensures in_range { OnOk result (All (IsStep max_sites) walk.now) }
 {
     push_number(out, b"{\"refuse\":", tx)?;
     out.extend_from_slice(b",\"walk\":[")?;
@@ -111,7 +116,8 @@ fn push_withdraw(out: &mut Vec<u8>, tx: u64) -> Result<(), AllocError>
 }
 
 fn push_decision(out: &mut Vec<u8>, decision: &Decision) -> Result<(), AllocError>
-    ensures { OnOk result (out.new.items ≡ out.old.items ++ compact_text (decision_data decision.now)) }
+    ensures text { OnOk result (out.new.items ≡ out.old.items ++ compact_text (decision_data decision.now)) }
+    ensures in_range { OnOk result (IsDecision max_sites decision.now) }
 {
     match decision {
         Decision::Commit { tx, rank } => push_commit(out, tx.number() as u64, *rank as u64),
@@ -122,7 +128,8 @@ fn push_decision(out: &mut Vec<u8>, decision: &Decision) -> Result<(), AllocErro
 
 /// The decisions with commas between, and the closing bracket.
 fn push_decisions(out: &mut Vec<u8>, decisions: &[Decision]) -> Result<(), AllocError>
-    ensures { OnOk result (out.new.items ≡ out.old.items ++ items_text false (decisions_data decisions.now)) }
+    ensures text { OnOk result (out.new.items ≡ out.old.items ++ items_text false (decisions_data decisions.now)) }
+    ensures in_range { OnOk result (All (IsDecision max_sites) decisions.now) }
 {
     if let Some((first, further)) = decisions.split_first() {
         push_decision(out, first)?;
@@ -135,7 +142,8 @@ fn push_decisions(out: &mut Vec<u8>, decisions: &[Decision]) -> Result<(), Alloc
 }
 
 fn push_certificate(out: &mut Vec<u8>, decisions: &[Decision], sites: u64) -> Result<(), AllocError>
-    ensures { OnOk result (out.new.items ≡ out.old.items ++ (codes "{\"decisions\":[" ++ (items_text false (decisions_data decisions.now) ++ (codes ",\"sites\":" ++ (decimal sites ++ codes "}"))))) }
+    ensures text { OnOk result (out.new.items ≡ out.old.items ++ (codes "{\"decisions\":[" ++ (items_text false (decisions_data decisions.now) ++ (codes ",\"sites\":" ++ (decimal sites ++ codes "}"))))) }
+    ensures in_range { OnOk result (All (IsDecision max_sites) decisions.now) }
 {
     out.extend_from_slice(b"{\"decisions\":[")?;
     push_decisions(out, decisions)?;
@@ -143,10 +151,12 @@ fn push_certificate(out: &mut Vec<u8>, decisions: &[Decision], sites: u64) -> Re
     out.extend_from_slice(b"}")
 }
 
-/// The one line that spells the certificate, without an LF. (Where its sites are not 1 to 16, or a step is at none of them,
-/// that is a line too, but `from_line` refuses it.)
+/// The one line that spells the certificate, without an LF. Err: memory ran out.
+///
+/// Any certificate has such a line. Where its sites are not 1 to 16, or a step is at none of them, `from_line` refuses it.
 pub fn to_line(alloc: Global, certificate: &Certificate) -> Result<Vec<u8>, AllocError>
-    ensures { IfOk result (λ line. line.items ≡ certificate_text certificate.now) }
+    ensures text { IfOk result (λ line. line.items ≡ certificate_text certificate.now) }
+    ensures one_line { IfOk result (λ line. HasNoLf line.items) }
 {
     let mut line = Vec::new(alloc);
     push_certificate(

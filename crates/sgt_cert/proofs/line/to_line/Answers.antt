@@ -1,5 +1,12 @@
+use Rattle.std.proofs.Common.{arith}
 use Rattle.sgt_cert.proofs.Compact.{certificate-pieces}
+use Rattle.sgt_cert.proofs.OneLine.{written-no_lf}
 use Rattle.sgt_cert.proofs.line.to_line.Goals as goal
 
-pub returns : goal.returns
-returns c = certificate-pieces c.args.certificate.now _ _ _ c.in_ok-push_certificate.ensures c.new-line.ensures.items c.as_slice.ensures
+pub returns-clause-text : goal.returns-clause-text
+returns-clause-text c = certificate-pieces c.args.certificate.now _ _ _ c.in_ok-push_certificate.ensures.text c.new-line.ensures.items c.as_slice.ensures
+
+pub returns-clause-one_line : goal.returns-clause-one_line
+returns-clause-one_line c =
+    written-no_lf c.args.certificate.now _ _ (certificate-pieces c.args.certificate.now _ _ _ c.in_ok-push_certificate.ensures.text c.new-line.ensures.items c.as_slice.ensures)
+    (omega arith) c.as_slice.ensures c.in_ok-push_certificate.ensures.in_range
