@@ -1,1 +1,3 @@
+pub mod OneWord
 pub mod Said
+pub mod Told

@@ -1,12 +1,12 @@
 -- What the program says.
-use Rattle.std.specs.Prelude.{◌≡◌, ℕ, List, Option, Some, None, IfSome}
+use Rattle.std.specs.Prelude.{◌≡◌, ◌<◌, ◌⊎◌, ℕ, List, Option, codes, length, take, IfSome}
 use Rattle.std.specs.Io.KnownBytes.{Appends}
 use Rattle.sgt_names.specs.declared.outcome.EngineFail.{EngineFail}
 use Rattle.sgt_names.specs.declared.outcome.EngineFail.TheVariants.{Memory, ReadFault, WriteFault}
 use Rattle.sgt_names.specs.declared.outcome.Outcome.{Outcome}
 use Rattle.sgt_names.specs.declared.outcome.Outcome.TheVariants as Outcome_
 use Rattle.sgt_serial.specs.Answer.{IsAnswer}
-use Rattle.sgt_audit.specs.Verdict.{IsVerdict, HoldsHeadline, text_of}
+use Rattle.sgt_audit.specs.Verdict.{IsVerdict, HoldsHeadline, AppendsOrForgets, text_of}
 use Rattle.sgt_audit.specs.declared.faults.Fault.{Fault}
 use Rattle.sgt_audit.specs.declared.verdict.Verdict.{Verdict}
 use Rattle.sgt_audit.specs.declared.verdict.Verdict.TheVariants.{Yes, No}
@@ -16,6 +16,17 @@ abbrev pub status_of_fail : EngineFail → ℕ
 status_of_fail Memory = 3
 status_of_fail ReadFault = 4
 status_of_fail WriteFault = 4
+
+-- what the error stream is told then
+abbrev pub text_of_fail : EngineFail → List ℕ
+text_of_fail Memory = codes "sgt: memory\n"
+text_of_fail ReadFault = codes "sgt: read fault\n"
+text_of_fail WriteFault = codes "sgt: write fault\n"
+
+-- the text was written; or the writer failed, and a front of the text was, less than the whole
+abbrev pub WroteOrFailed : (written written' : Option (List ℕ)) (failures failures' : ℕ) (text : List ℕ) → Type 0
+WroteOrFailed written written' failures failures' text = Appends written written' text
+    ⊎ ((failures < failures') × ((n : ℕ) × (n < length text) × AppendsOrForgets written written' (take n text)))
 
 abbrev pub outcome : Verdict → Outcome
 outcome (Yes c r w) = Outcome_.Yes

@@ -13,6 +13,9 @@ use std::alloc::{AllocError, Global};
 use std::process::Abort;
 use std::test::Fail;
 
+const HELP: &str =
+    "Audits the logs of a certified run. Reads a bundle from standard input and writes to standard output.\n\nUsage: sgt [COMMAND]\n\nCommands:\n  audit   Writes `yes C committed R refused W withdrawn` for a valid bundle, else `no line L FN` (the default)\n  serial  Runs a valid bundle's committed transactions one after another by rank, else writes audit's `no` line\n\nOptions:\n  -h, --help  Print help\n\nL is the first line with a fault and FN the fault: docs/FORMAT.md has the faults and the format of a bundle.\n\nExit status:\n  0  yes, or help was asked for\n  1  no: the bundle is not valid\n  2  the words are no command; nothing was read\n  3  want of memory\n  4  a read or a write failed\n";
+
 /// What a run wrote, and its status.
 #[derive(Drop)]
 struct Ran {
@@ -128,6 +131,10 @@ fn words_are_judged_first(rt: HostRuntime) -> Result<(), Fail> {
         (["--version"].as_slice(), 2),
         (["audit", "x"].as_slice(), 2),
         (["serial", "--all"].as_slice(), 2),
+        (["--"].as_slice(), 2),
+        (["audit", "--"].as_slice(), 2),
+        (["serial", "--"].as_slice(), 2),
+        (["audit", "serial"].as_slice(), 2),
     ] {
         // the first read would fail
         let input = MemSource::new(b"sgt 1\n", 9, Some(1));
@@ -136,6 +143,14 @@ fn words_are_judged_first(rt: HostRuntime) -> Result<(), Fail> {
         assert_eq!(rt; ran.errors.bytes().is_empty(), status == 0, "{words:?}");
         assert_eq!(rt; ran.output.bytes().is_empty(), status == 2, "{words:?}");
     }
+    Ok(())
+}
+
+#[test]
+fn help(rt: HostRuntime) -> Result<(), Fail> {
+    let words = ["--help"].as_slice();
+    let ran = run(rt.alloc(), words, MemSource::new(b"", 1, Some(1)), 2000)?;
+    assert_eq!(rt; str::from_utf8(ran.output.bytes()), Ok(HELP));
     Ok(())
 }
 

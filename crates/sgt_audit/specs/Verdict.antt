@@ -1,5 +1,5 @@
 -- The auditor's verdict on a text.
-use Rattle.std.specs.Prelude.{◌≡◌, ℕ, List, ◌++◌, take, codes, decimal, Bool, true, false, count_by, Option, Some, None, ⊤, All, slice_get, ◌⊎◌, [], IfSome}
+use Rattle.std.specs.Prelude.{◌≡◌, ◌<◌, ℕ, List, ◌++◌, length, take, codes, decimal, Bool, true, false, count_by, Option, Some, None, ⊤, All, slice_get, ◌⊎◌, [], IfSome}
 use Rattle.sgt_cert.specs.Parts.{Parts}
 use Rattle.sgt_cert.specs.Certificate.{IsCycle}
 use Rattle.sgt_cert.specs.Serial.{SerialAgrees}
@@ -46,9 +46,10 @@ AppendsOrForgets None new bytes = ⊤
 AppendsOrForgets (Some xs) None bytes = ⊤
 AppendsOrForgets (Some xs) (Some ys) bytes = ys ≡ xs ++ bytes
 
--- nothing was written, or a front of the line of the verdict on the bytes told
+-- nothing was written, or a front of the line of the verdict on the bytes told, and less than the whole line
 abbrev pub WroteFront : (told old new : Option (List ℕ)) → Type 0
-WroteFront told old new = AppendsOrForgets old new [] ⊎ ((v : Verdict) × (n : ℕ) × IfSome told (λ bytes. IsVerdict bytes v) × AppendsOrForgets old new (take n (text_of v)))
+WroteFront told old new = AppendsOrForgets old new []
+    ⊎ ((v : Verdict) × (n : ℕ) × (n < length (text_of v)) × IfSome told (λ bytes. IsVerdict bytes v) × AppendsOrForgets old new (take n (text_of v)))
 
 -- what a text was found to spell: a valid bundle, or its first fault
 abbrev pub IsAudited : List ℕ → Audited → Type 0

@@ -2,7 +2,6 @@
 
 ghost use Rattle.std.specs.Prelude.{◌≡◌, ℕ, ◌+◌, ◌<◌, ◌^◌, List, [], ◌∷◌, ◌++◌, length, Err, IfOk, IfErr, OnOk, OnErr};
 ghost use Rattle.sgt_notation.specs.Spelling.{HasNoLf, text_of_lines};
-ghost use Rattle.sgt_cert.specs.Text.{certificate_text};
 ghost use Rattle.sgt_cert.specs.declared.certificate.Certificate.{Certificate};
 ghost use Rattle.sgt_audit.specs.Verdict.{IsVerdict};
 
@@ -34,9 +33,10 @@ pub struct Auditor {
 impl Auditor {
     ghost use Rattle.sgt_audit.specs.Fed.{HasFed, HasFailed, bundle_lines};
 
-    /// An auditor of a bundle with this certificate, which it judges. Memory alone is a refusal.
+    /// An auditor of a bundle with this certificate, which it judges. A fault of the certificate is no Err: `end` answers it.
+    /// An Err is Memory.
     pub fn new(alloc: Global, certificate: Certificate) -> Result<Auditor, EngineFail>
-        ensures read { HasNoLf (certificate_text certificate) → IfOk result (λ a. HasFed a certificate []) }
+        ensures read { IfOk result (λ a. HasFed a certificate []) }
         ensures going { IfOk result (λ a. HasFailed a → ⊥) }
         ensures err { IfErr result (λ e. e ≡ EngineFail.Memory) }
     {
@@ -58,7 +58,8 @@ impl Auditor {
         }
     }
 
-    /// One more line, without its LF. After Memory every later call answers Memory.
+    /// One more line, without its LF; it must have no byte `\n` in it (`line.contains(&b'\n')` tests that). A fault is no
+    /// Err: `end` answers it. An Err is Memory, and every later call answers Memory then.
     pub fn feed(&mut self, line: &[u8]) -> Result<(), EngineFail>
         requires { HasNoLf line.now }
         ensures read { (c : Certificate) (fed : List (List ℕ)) → HasFed self.old c fed → HasFed self.new c (fed ++ line.now ∷ []) }
@@ -86,7 +87,7 @@ impl Auditor {
         }
     }
 
-    /// The verdict on the lines fed, which are all.
+    /// The verdict on the lines fed, which are all. An Err is Memory, and comes only where `feed` answered it.
     pub fn end(self) -> Result<Verdict, EngineFail>
         ensures verdict { (c : Certificate) (fed : List (List ℕ)) → HasFed self c fed → length fed + 3 < 2 ^ 64 → IfOk result (IsVerdict (text_of_lines (bundle_lines c fed))) }
         ensures err { IfErr result (λ e. (e ≡ EngineFail.Memory) × HasFailed self) }

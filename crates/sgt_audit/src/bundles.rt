@@ -22,7 +22,7 @@ fn find_lf(bytes: &[u8]) -> Option<usize>
 }
 
 /// The first line, without its LF, and the bytes behind it.
-pub fn split_line(bytes: &[u8]) -> Option<(&[u8], &[u8])>
+pub(crate) fn split_line(bytes: &[u8]) -> Option<(&[u8], &[u8])>
     ensures some { IfSome result (λ r. HasNoLf r.0.now × (bytes.now ≡ r.0.now ++ 10 ∷ r.1.now)) }
     ensures none { IfNone result (HasNoLf bytes.now) }
 {
@@ -56,7 +56,7 @@ fn read_sections(alloc: Global, sites: u8, bytes: &[u8]) -> Result<Option<Sectio
     Ok(Some(sections))
 }
 
-/// The bundle that the bytes spell, if they spell one. It need not be valid. Memory alone is a refusal.
+/// The bundle that the bytes spell, if they spell one. It need not be valid. An Err is Memory.
 pub fn read_bundle(alloc: Global, bytes: &[u8]) -> Result<Option<Bundle>, EngineFail>
     ensures bundle { IfOk result (AnswersBundle bytes.now) }
     ensures err { IfErr result (λ e. e ≡ EngineFail.Memory) }

@@ -12,7 +12,7 @@ use sgt_cert::Decision;
 use sgt_names::{Entry, Kind, Tx};
 
 /// The transaction that is decided.
-pub fn decided_tx(decision: &Decision) -> Tx
+pub(crate) fn decided_tx(decision: &Decision) -> Tx
     ensures { result ≡ decided decision.now }
 {
     match decision {
@@ -35,7 +35,7 @@ fn suits(entry: &Entry, decision: &Decision) -> bool
 }
 
 /// The number of a decision on the entry's transaction that suits the entry.
-pub fn decision_on(decisions: &[Decision], entry: &Entry) -> Option<usize>
+pub(crate) fn decision_on(decisions: &[Decision], entry: &Entry) -> Option<usize>
     ensures some { IfSome result (λ number. IsDecided decisions.now entry.now number) }
     ensures none { IfNone result ((number : ℕ) → IsDecided decisions.now entry.now number → ⊥) }
 {
@@ -44,7 +44,7 @@ pub fn decision_on(decisions: &[Decision], entry: &Entry) -> Option<usize>
 }
 
 /// The rank of a commit of the transaction.
-pub fn rank_of(decisions: &[Decision], tx: Tx) -> Option<u32>
+pub(crate) fn rank_of(decisions: &[Decision], tx: Tx) -> Option<u32>
     ensures some { IfSome result (λ rank. (number : ℕ) × IsCommitted decisions.now number tx rank) }
     ensures none { IfNone result ((number rank : ℕ) → IsCommitted decisions.now number tx rank → ⊥) }
 {
@@ -76,7 +76,7 @@ fn repeats(first: &Entry, second: &Entry) -> bool
 }
 
 /// Whether the entry is not the second read of its item by its transaction, nor the second write or want.
-pub fn is_first(entries: &[Entry], entry: &Entry) -> bool
+pub(crate) fn is_first(entries: &[Entry], entry: &Entry) -> bool
     ensures { IsTrue result ↔ All (λ f. (x : Name) → Repeats x f entry.now → ⊥) entries.now }
 {
     for earlier in entries {
@@ -118,7 +118,7 @@ fn rises(decisions: &[Decision], first: &Entry, second: &Entry) -> bool
 }
 
 /// Whether the entry conflicts with no entry before it of a committed transaction of greater rank, if its own is committed.
-pub fn is_in_rank(decisions: &[Decision], entries: &[Entry], entry: &Entry) -> bool
+pub(crate) fn is_in_rank(decisions: &[Decision], entries: &[Entry], entry: &Entry) -> bool
     ensures { IsDecidedOnce decisions.now → (IsTrue result ↔ All (λ f. RiseInRank decisions.now f entry.now) entries.now) }
 {
     for earlier in entries {
@@ -130,7 +130,7 @@ pub fn is_in_rank(decisions: &[Decision], entries: &[Entry], entry: &Entry) -> b
 }
 
 /// Whether the entry's transaction is decided as the entry says, and has no end before it.
-pub fn is_active(decisions: &[Decision], entries: &[Entry], entry: &Entry) -> bool
+pub(crate) fn is_active(decisions: &[Decision], entries: &[Entry], entry: &Entry) -> bool
     ensures { IsTrue result ↔ (((number : ℕ) × IsDecided decisions.now entry.now number) × All (λ f. IsEnd f → tx_of f ≢ tx_of entry.now) entries.now) }
 {
     match decision_on(decisions, entry) {
@@ -156,7 +156,7 @@ fn ends_in_order(decisions: &[Decision], first: &Entry, second: &Entry) -> bool
 }
 
 /// Whether no end before the entry, if it is one, was decided later.
-pub fn is_in_order(decisions: &[Decision], entries: &[Entry], entry: &Entry) -> bool
+pub(crate) fn is_in_order(decisions: &[Decision], entries: &[Entry], entry: &Entry) -> bool
     ensures { IsDecidedOnce decisions.now → (IsTrue result ↔ All (λ f. EndInOrder decisions.now f entry.now) entries.now) }
 {
     for earlier in entries {

@@ -21,7 +21,7 @@ fn committed_rank(decision: &Decision) -> Option<u32>
 }
 
 /// The ranks of the commits.
-pub fn commit_ranks(alloc: Global, decisions: &[Decision]) -> Result<Vec<u32>, AllocError>
+pub(crate) fn commit_ranks(alloc: Global, decisions: &[Decision]) -> Result<Vec<u32>, AllocError>
     ensures { IfOk result (λ v. v.items ≡ ranks decisions.now) }
 {
     decisions
@@ -37,7 +37,7 @@ fn is_in(ranks: &[u32], rank: u32) -> bool
 }
 
 /// Whether n ranks are 0 to n - 1, each once.
-pub fn are_ranks(ranks: &[u32]) -> bool
+pub(crate) fn are_ranks(ranks: &[u32]) -> bool
     ensures { IsTrue result ↔ AreRanks ranks.now }
 {
     for (n, rank) in ranks.iter().enumerate() {
@@ -55,7 +55,7 @@ fn is_decided(decisions: &[Decision], tx: Tx) -> bool
 }
 
 /// Whether each transaction is in at most one decision.
-pub fn are_decided_once(decisions: &[Decision]) -> bool
+pub(crate) fn are_decided_once(decisions: &[Decision]) -> bool
     ensures { IsTrue result ↔ IsDecidedOnce decisions.now }
 {
     for (n, decision) in decisions.iter().enumerate() {
@@ -134,7 +134,7 @@ fn has_cycle(decisions: &[Decision], number: usize, decision: &Decision) -> bool
 }
 
 /// Whether the walk of each refused transaction has the shape of a cycle.
-pub fn are_cycles(decisions: &[Decision]) -> bool
+pub(crate) fn are_cycles(decisions: &[Decision]) -> bool
     ensures { IsTrue result ↔ ((number tx : ℕ) (walk : List Step) → slice_get decisions.now number ≡ Some (Refuse tx walk) → IsCycle decisions.now number tx walk) }
 {
     for (number, decision) in decisions.iter().enumerate() {

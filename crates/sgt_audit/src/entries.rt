@@ -8,7 +8,7 @@ ghost use Rattle.sgt_names.specs.Log.{AllEnded};
 use sgt_names::{Entry, Item, Kind, Tx};
 
 /// The transaction whose entry it is.
-pub fn tx_of_entry(entry: &Entry) -> Tx
+pub(crate) fn tx_of_entry(entry: &Entry) -> Tx
     ensures { result ≡ tx_of entry.now }
 {
     match *entry {
@@ -18,7 +18,7 @@ pub fn tx_of_entry(entry: &Entry) -> Tx
 }
 
 /// The item of an operation.
-pub fn item_of_entry(entry: &Entry) -> Option<Item>
+pub(crate) fn item_of_entry(entry: &Entry) -> Option<Item>
     ensures { result ≡ item_of entry.now }
 {
     match *entry {
@@ -30,7 +30,7 @@ pub fn item_of_entry(entry: &Entry) -> Option<Item>
 }
 
 /// Whether it ends its transaction.
-pub fn is_end(entry: &Entry) -> bool
+pub(crate) fn is_end(entry: &Entry) -> bool
     ensures { IsTrue result ↔ IsEnd entry.now }
 {
     matches!(
@@ -40,14 +40,14 @@ pub fn is_end(entry: &Entry) -> bool
 }
 
 /// Whether it is a write or a want, behind which another entry has to follow directly.
-pub fn is_open(entry: &Entry) -> bool
+pub(crate) fn is_open(entry: &Entry) -> bool
     ensures { IsTrue result ↔ IsOpen entry.now }
 {
     matches!(entry, Entry::Write { .. } | Entry::Want { .. })
 }
 
 /// Whether the second may stand directly behind the first in a block.
-pub fn continues(first: &Entry, second: &Entry) -> bool
+pub(crate) fn continues(first: &Entry, second: &Entry) -> bool
     ensures { IsTrue result ↔ Continues first.now second.now }
 {
     match *first {
@@ -64,29 +64,27 @@ pub fn continues(first: &Entry, second: &Entry) -> bool
 }
 
 /// Whether it reads the item.
-pub fn reads(item: &Item, entry: &Entry) -> bool
+pub(crate) fn reads(item: &Item, entry: &Entry) -> bool
     ensures { IsTrue result ↔ Reads item.now entry.now }
 {
     match entry {
-        Entry::Read { item: read, .. } => read.same(item),
+        Entry::Read { item: read, .. } => read == item,
         _ => false,
     }
 }
 
 /// Whether it writes the item, or wants to.
-pub fn writes(item: &Item, entry: &Entry) -> bool
+pub(crate) fn writes(item: &Item, entry: &Entry) -> bool
     ensures { IsTrue result ↔ Writes item.now entry.now }
 {
     match entry {
-        Entry::Write { item: written, .. } | Entry::Want { item: written, .. } => written.same(
-            item,
-        ),
+        Entry::Write { item: written, .. } | Entry::Want { item: written, .. } => written == item,
         _ => false,
     }
 }
 
 /// Whether the two are operations on the item that clash as this kind.
-pub fn clashes(kind: Kind, item: &Item, first: &Entry, second: &Entry) -> bool
+pub(crate) fn clashes(kind: Kind, item: &Item, first: &Entry, second: &Entry) -> bool
     ensures { IsTrue result ↔ Clash kind item.now first.now second.now }
 {
     match kind {
@@ -97,7 +95,7 @@ pub fn clashes(kind: Kind, item: &Item, first: &Entry, second: &Entry) -> bool
 }
 
 /// Whether the transaction has an end among these.
-pub fn has_ended(entries: &[Entry], tx: Tx) -> bool
+pub(crate) fn has_ended(entries: &[Entry], tx: Tx) -> bool
     ensures { IsTrue result ↔ Any (λ f. IsEnd f × (tx_of f ≡ tx)) entries.now }
 {
     entries
@@ -106,7 +104,7 @@ pub fn has_ended(entries: &[Entry], tx: Tx) -> bool
 }
 
 /// Whether each transaction with an entry has an end.
-pub fn all_ended(entries: &[Entry]) -> bool
+pub(crate) fn all_ended(entries: &[Entry]) -> bool
     ensures { IsTrue result ↔ AllEnded entries.now }
 {
     entries

@@ -5,9 +5,9 @@ use thiserror::Error;
 /// Why a text is no valid bundle, by the first line that shows it.
 #[derive(Clone, Copy, Debug, PartialEq, Eq, Error)]
 pub enum Fault {
-    #[error("F1: the first line is not `sgt 1`")]
+    #[error("F1: the first line is not `sgt 1`, or is too long")]
     Format = 1,
-    #[error("F2: the line is none of a section, or is too long")]
+    #[error("F2: the line spells nothing, or is too long")]
     Notation = 2,
     #[error("F3: the second line is no certificate")]
     Certificate = 3,
@@ -17,19 +17,19 @@ pub enum Fault {
     DecidedTwice = 5,
     #[error("F6: the walk of a refused transaction is no cycle through transactions committed earlier")]
     WalkShape = 6,
-    #[error("F7: the section does not go on with such a line")]
+    #[error("F7: the section allows no such line here")]
     Section = 7,
     #[error("F8: the item is not one of this site")]
     Item = 8,
-    #[error("F9: the transaction read the item here before, or wrote it")]
+    #[error("F9: the transaction's second read of the item here, or its second write or want of it")]
     Twice = 9,
     #[error("F10: the value read is not the item's value here")]
     ReadValue = 10,
     #[error("F11: the entry conflicts with an earlier one of a committed transaction of greater rank")]
     RankOrder = 11,
-    #[error("F12: the block in front does not go on with this line")]
+    #[error("F12: the block before this line is not finished")]
     Block = 12,
-    #[error("F13: the transaction is not decided so, or has ended here")]
+    #[error("F13: the transaction is not decided as this entry says, or has ended here")]
     End = 13,
     #[error("F14: an earlier end here was decided later")]
     DecisionOrder = 14,

@@ -123,7 +123,7 @@ fn judge_inside(decisions: &[Decision], log: &OpenLog, line: &SectionLine) -> Op
 }
 
 /// The least fault of a line behind the sections that were read, but for the walks.
-pub fn judge_line(decisions: &[Decision], sections: &Sections, line: &SectionLine) -> Option<Fault>
+pub(crate) fn judge_line(decisions: &[Decision], sections: &Sections, line: &SectionLine) -> Option<Fault>
     ensures goes_on { IfNone result (Begins sections.now.sites (lines_read sections.now ++ line.now ∷ [])) }
     ensures judged { (c : Certificate) → c.decisions ≡ decisions.now → c.sites ≡ sections.now.sites → IsDecidedOnce decisions.now
         → Judged (Keeps c (lines_read sections.now) line.now) result }
@@ -138,7 +138,7 @@ pub fn judge_line(decisions: &[Decision], sections: &Sections, line: &SectionLin
 }
 
 /// The least fault of a certificate by itself.
-pub fn judge_certificate(
+pub(crate) fn judge_certificate(
     alloc: Global,
     certificate: &Certificate,
 ) -> Result<Option<Fault>, AllocError>

@@ -26,14 +26,14 @@ impl Kept {
     ghost use Rattle.sgt_audit.specs.Reading.{lines_read};
 
     /// Whether all sections were read.
-    pub fn is_complete(&self) -> bool
+    pub(crate) fn is_complete(&self) -> bool
         ensures { (before : List SectionLine) → Means self.now.certificate self.now.sections before → (IsTrue result ↔ AreSections self.now.certificate.sites before) }
     {
         self.sections.are_all()
     }
 
     /// The next line, without its LF.
-    pub fn next(&mut self, line: &[u8]) -> Result<Option<Fault>, AllocError>
+    pub(crate) fn next(&mut self, line: &[u8]) -> Result<Option<Fault>, AllocError>
         ensures certificate { self.new.certificate ≡ self.old.certificate }
         ensures answers { (before : List SectionLine) → Means self.old.certificate self.old.sections before
             → IfOk result (AnswersLine self.old.certificate self.new.sections before line.now) }
@@ -56,7 +56,7 @@ impl Kept {
     }
 
     /// At the end of the input, with these bytes behind the last LF: what was read, if all is there, or the fault.
-    pub fn end(self, rest: &[u8]) -> Result<Kept, Fault>
+    pub(crate) fn end(self, rest: &[u8]) -> Result<Kept, Fault>
         ensures { (before : List SectionLine) (s : Stage) → Means self.certificate self.sections before → IsStageOf self.certificate before s → length rest.now ≤ limit_of s → EndsWith s rest.now result }
     {
         if !self.is_complete() {

@@ -35,7 +35,7 @@ impl Machine {
     ghost use Rattle.sgt_audit.specs.Progress.{Begins, Stands, Follows, bytes_of};
 
     /// Before the first line.
-    pub fn new(alloc: Global) -> Machine
+    pub(crate) fn new(alloc: Global) -> Machine
         ensures { Stands result.progress start }
     {
         Machine {
@@ -45,7 +45,7 @@ impl Machine {
     }
 
     /// How long the next line may be.
-    pub fn limit(&self) -> usize
+    pub(crate) fn limit(&self) -> usize
         ensures { (s : Stage) → Stands self.now.progress s → result ≡ limit_of s }
     {
         match &self.progress {
@@ -78,7 +78,7 @@ impl Machine {
     }
 
     /// The next line, without its LF.
-    pub fn line(&mut self, line: &[u8]) -> Result<Option<Fault>, EngineFail>
+    pub(crate) fn line(&mut self, line: &[u8]) -> Result<Option<Fault>, EngineFail>
         ensures follows { (s : Stage) → Stands self.old.progress s → IfOk result (Follows s line.now self.new.progress) }
         ensures err { IfErr result (λ e. e ≡ EngineFail.Memory) }
     {
@@ -106,7 +106,7 @@ impl Machine {
     }
 
     /// The fault of a line that is too long.
-    pub fn too_long(&self) -> Fault
+    pub(crate) fn too_long(&self) -> Fault
         ensures { (s : Stage) (p : Piece) → Stands self.now.progress s → s ≢ headed → limit_of s < length (bytes_of p) → Breaks (Rule s p) result }
     {
         match &self.progress {
@@ -123,7 +123,7 @@ impl Machine {
     }
 
     /// What was read, if all is there at the end of the input; or the fault, with these bytes behind the last LF.
-    pub fn end(self, rest: &[u8]) -> Result<Kept, Fault>
+    pub(crate) fn end(self, rest: &[u8]) -> Result<Kept, Fault>
         ensures { (s : Stage) → Stands self.progress s → length rest.now ≤ limit_of s → EndsWith s rest.now result }
     {
         let Machine { progress, .. } = self;

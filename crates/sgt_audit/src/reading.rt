@@ -34,7 +34,7 @@ fn ended(machine: Machine, rest: &[u8], line: u64) -> Judged
 }
 
 /// Judges all that the reader gives. Once a line with a fault was read whole, no further read is made.
-pub fn judge<R: Source>(alloc: Global, reader: &mut R) -> Result<Judged, EngineFail>
+pub(crate) fn judge<R: Source>(alloc: Global, reader: &mut R) -> Result<Judged, EngineFail>
     ensures judged { IfOk result (λ j. IfSome (R.tells reader.old) (IsJudged j)) }
     ensures all { IfOk result IsAll }
     ensures quiet { IfOk result (λ _. R.failures reader.new ≡ R.failures reader.old) }

@@ -10,7 +10,6 @@ use sgt_cert::SiteLog;
 use sgt_names::{Entry, Holding, Item, Listed, MAX_ITEMS, SiteNo};
 use sgt_notation::SectionLine;
 use std::alloc::{AllocError, Global};
-use std::cmp::Ordering;
 use std::marker::Model;
 
 /// The log of the site whose section is open, as far as it was read.
@@ -35,7 +34,14 @@ fn come_before(items: &[Holding], item: &Item) -> bool
 {
     items
         .iter()
-        .all(|holding| holding.item.order(item) == Ordering::Less)
+        .all(|holding| holding.item < *item)
+}
+
+/// Whether the two are values of one item.
+fn have_one_item(first: &Holding, second: &Holding) -> bool
+    ensures { IsTrue result ↔ (first.now.item ≡ second.now.item) }
+{
+    first.item == second.item
 }
 
 /// Whether this is the site behind so many whole logs, of so many sites.
@@ -59,21 +65,21 @@ impl OpenLog {
     }
 
     /// The items with their initial values.
-    pub fn items(&self) -> &[Holding]
+    pub(crate) fn items(&self) -> &[Holding]
         ensures { result.now ≡ self.now.items }
     {
         self.items.as_slice()
     }
 
     /// The entries.
-    pub fn entries(&self) -> &[Entry]
+    pub(crate) fn entries(&self) -> &[Entry]
         ensures { result.now ≡ self.now.entries }
     {
         self.entries.as_slice()
     }
 
     /// The entry that was read last, if no final stands behind it.
-    pub fn last_entry(&self) -> Option<Entry>
+    pub(crate) fn last_entry(&self) -> Option<Entry>
         ensures some { IfSome result (λ e. (self.now.finals ≡ []) × (slice_get self.now.entries (length self.now.entries - 1) ≡ Some e)) }
         ensures none { IfNone result ((self.now.finals ≡ []) → (self.now.entries ≡ [])) }
     {
@@ -85,7 +91,7 @@ impl OpenLog {
     }
 
     /// Whether the line may stand next.
-    pub fn has_room_for(&self, line: &SectionLine) -> bool
+    pub(crate) fn has_room_for(&self, line: &SectionLine) -> bool
         ensures { IsTrue result ↔ Fits self.now line.now }
     {
         match line {
@@ -98,7 +104,7 @@ impl OpenLog {
             }
             SectionLine::Logged(_) => self.finals.is_empty(),
             SectionLine::Final(holding) => match self.items.get(self.finals.len()) {
-                Some(initial) => initial.item.same(&holding.item),
+                Some(initial) => have_one_item(initial, holding),
                 None => false,
             },
             SectionLine::End => self.finals.len() == self.items.len(),
@@ -157,7 +163,7 @@ impl Sections {
     ghost use Rattle.sgt_audit.specs.Reading.{IsBegun, MayFollow, lines_read};
 
     /// No line, of the sections of so many sites.
-    pub fn new(alloc: Global, sites: u8) -> Sections
+    pub(crate) fn new(alloc: Global, sites: u8) -> Sections
         requires some { 1 ≤ sites }
         requires few { sites ≤ max_sites }
         ensures empty { result ≡ record { sites = sites; whole = []; current = None } }
@@ -172,7 +178,7 @@ impl Sections {
     }
 
     /// The log whose section is open.
-    pub fn current(&self) -> Option<&OpenLog>
+    pub(crate) fn current(&self) -> Option<&OpenLog>
         ensures some { IfSome result (λ log. self.now.current ≡ Some log.now) }
         ensures none { IfNone result (self.now.current ≡ None) }
         ensures begun { IsBegun self.now }
@@ -181,14 +187,14 @@ impl Sections {
     }
 
     /// The logs that are whole.
-    pub fn whole(&self) -> &[SiteLog]
+    pub(crate) fn whole(&self) -> &[SiteLog]
         ensures { result.now ≡ self.now.whole }
     {
         self.whole.as_slice()
     }
 
     /// Whether these are all sections, and none is open.
-    pub fn are_all(&self) -> bool
+    pub(crate) fn are_all(&self) -> bool
         ensures all { IsTrue result ↔ AreSections self.now.sites (lines_read self.now) }
         ensures begun { IsBegun self.now }
     {
@@ -199,7 +205,7 @@ impl Sections {
     }
 
     /// Whether some sections begin with what was read and this line.
-    pub fn may_go_on(&self, line: &SectionLine) -> bool
+    pub(crate) fn may_go_on(&self, line: &SectionLine) -> bool
         ensures { IsTrue result ↔ Begins self.now.sites (lines_read self.now ++ line.now ∷ []) }
     {
         match &self.current {
@@ -212,7 +218,7 @@ impl Sections {
     }
 
     /// One more line.
-    pub fn add(&mut self, line: SectionLine) -> Result<(), AllocError>
+    pub(crate) fn add(&mut self, line: SectionLine) -> Result<(), AllocError>
         requires { Begins self.old.sites (lines_read self.old ++ line ∷ []) }
         ensures sites { self.new.sites ≡ self.old.sites }
         ensures lines { OnOk result (lines_read self.new ≡ lines_read self.old ++ line ∷ []) }
@@ -237,7 +243,7 @@ impl Sections {
     }
 
     /// The logs.
-    pub fn into_logs(self) -> Vec<SiteLog>
+    pub(crate) fn into_logs(self) -> Vec<SiteLog>
         ensures { result.items ≡ self.whole }
     {
         let Sections { whole, .. } = self;

@@ -10,14 +10,14 @@ use crate::entries::item_of_entry;
 use sgt_names::{Entry, Holding, Item, Value};
 
 /// Whether the item is one of these.
-pub fn is_among(items: &[Holding], item: &Item) -> bool
+pub(crate) fn is_among(items: &[Holding], item: &Item) -> bool
     ensures { IsTrue result ↔ Contains (names items.now) item.now }
 {
-    items.iter().any(|holding| holding.item.same(item))
+    items.iter().any(|holding| holding.item == *item)
 }
 
 /// Whether the entry's item is listed. An end has none.
-pub fn is_listed(items: &[Holding], entry: &Entry) -> bool
+pub(crate) fn is_listed(items: &[Holding], entry: &Entry) -> bool
     ensures { IsTrue result ↔ ForSome (item_of entry.now) (Contains (names items.now)) }
 {
     match item_of_entry(entry) {
@@ -31,7 +31,7 @@ fn listed_value(items: &[Holding], item: &Item) -> Option<Value>
     ensures { result ≡ value_in items.now item.now }
 {
     for holding in items {
-        if holding.item.same(item) {
+        if holding.item == *item {
             return Some(holding.value);
         }
     }
@@ -47,13 +47,13 @@ fn written_value(entry: &Entry, item: &Item) -> Option<Value>
             item: other,
             value,
             ..
-        } if other.same(item) => Some(*value),
+        } if other == item => Some(*value),
         _ => None,
     }
 }
 
 /// The value of the item after these entries: the last one written, or else the one that it is listed with.
-pub fn value_after(items: &[Holding], entries: &[Entry], item: &Item) -> Option<Value>
+pub(crate) fn value_after(items: &[Holding], entries: &[Entry], item: &Item) -> Option<Value>
     ensures { result ≡ value_at items.now entries.now item.now }
 {
     let mut value = listed_value(items, item);
@@ -64,7 +64,7 @@ pub fn value_after(items: &[Holding], entries: &[Entry], item: &Item) -> Option<
 }
 
 /// Whether the holding has the value of its item after these entries.
-pub fn holds_value(items: &[Holding], entries: &[Entry], holding: &Holding) -> bool
+pub(crate) fn holds_value(items: &[Holding], entries: &[Entry], holding: &Holding) -> bool
     ensures { IsTrue result ↔ (value_at items.now entries.now holding.now.item ≡ Some holding.now.value) }
 {
     match value_after(items, entries, &holding.item) {
@@ -74,7 +74,7 @@ pub fn holds_value(items: &[Holding], entries: &[Entry], holding: &Holding) -> b
 }
 
 /// Whether the entry, if it is a read, has the value of its item after these entries.
-pub fn is_legal(items: &[Holding], entries: &[Entry], entry: &Entry) -> bool
+pub(crate) fn is_legal(items: &[Holding], entries: &[Entry], entry: &Entry) -> bool
     ensures { IsTrue result ↔ IsLegalRead items.now entries.now entry.now }
 {
     match *entry {

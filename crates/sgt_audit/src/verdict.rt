@@ -16,7 +16,7 @@ pub enum Verdict {
         refused: u64,
         withdrawn: u64,
     },
-    /// It has a fault, at this line first.
+    /// It has a fault, at this line first. Lines are counted from 1.
     No {
         line: u64,
         fault: Fault,
@@ -51,7 +51,7 @@ fn count_withdrawals(decisions: &[Decision]) -> usize
 }
 
 /// The yes with the counts of these decisions.
-pub fn yes_to(decisions: &[Decision]) -> Verdict
+pub(crate) fn yes_to(decisions: &[Decision]) -> Verdict
     ensures { result ≡ yes_of decisions.now }
 {
     Verdict::Yes {
@@ -62,7 +62,7 @@ pub fn yes_to(decisions: &[Decision]) -> Verdict
 }
 
 impl Verdict {
-    /// Its line, with the LF.
+    /// Its line, with the LF: `yes C committed R refused W withdrawn` or `no line L FN`. An Err is want of memory.
     pub fn to_line(self, alloc: Global) -> Result<String, AllocError>
         ensures { IfOk result (λ s. string_bytes s ≡ text_of self) }
     {

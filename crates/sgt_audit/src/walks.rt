@@ -81,7 +81,7 @@ fn has_logged_walk(sites: &[SiteLog], decision: &Decision) -> bool
 }
 
 /// Whether the walk of each refused transaction is one of conflicts in the logs.
-pub fn have_logged_walks(decisions: &[Decision], sites: &[SiteLog]) -> bool
+pub(crate) fn have_logged_walks(decisions: &[Decision], sites: &[SiteLog]) -> bool
     ensures { IsTrue result ↔ ((tx : ℕ) (walk : List Step) → Contains decisions.now (Refuse tx walk) → AreLogged sites.now tx walk) }
 {
     for decision in decisions {

@@ -1,5 +1,5 @@
 -- What an input is answered by.
-use Rattle.std.specs.Prelude.{◌≡◌, ◌⊎◌, ℕ, List, [], take, Option, IfSome}
+use Rattle.std.specs.Prelude.{◌≡◌, ◌<◌, ◌⊎◌, ℕ, List, [], length, take, Option, IfSome}
 use Rattle.sgt_names.specs.declared.outcome.Outcome.{Outcome}
 use Rattle.sgt_names.specs.declared.outcome.Outcome.TheVariants.{Yes, No, Unreadable}
 use Rattle.sgt_cert.specs.Parts.{Parts}
@@ -18,6 +18,7 @@ IsAnswer told Yes text = (b : Parts) × IsValid b × IfSome told (λ bytes. Spel
 IsAnswer told No text = (line : ℕ) × (fault : Fault) × IfSome told (λ bytes. FirstFault bytes line fault) × (text ≡ text_of (verdict.No line fault))
 IsAnswer told Unreadable text = ⊥
 
--- nothing was written, or a front of the text that the input is answered by
+-- nothing was written, or a front of the text that the input is answered by, and less than the whole text
 abbrev pub WroteFront : Option (List ℕ) → Option (List ℕ) → Option (List ℕ) → Type 0
-WroteFront told old new = AppendsOrForgets old new [] ⊎ ((outcome : Outcome) × (text : List ℕ) × (n : ℕ) × IsAnswer told outcome text × AppendsOrForgets old new (take n text))
+WroteFront told old new = AppendsOrForgets old new []
+    ⊎ ((outcome : Outcome) × (text : List ℕ) × (n : ℕ) × (n < length text) × IsAnswer told outcome text × AppendsOrForgets old new (take n text))

@@ -1,4 +1,4 @@
-use Rattle.std.proofs.Common.{List, ℕ, take, inr, subst}
+use Rattle.std.proofs.Common.{List, ℕ, ◌<◌, length, take, inr, subst}
 use Rattle.sgt_audit.specs.Verdict.{AppendsOrForgets}
 use Rattle.sgt_serial.proofs.engine.serial.Goals as goal
 
@@ -11,6 +11,7 @@ returns-clause-front g c =
       answer.outcome,
       answer.text.items,
       out.0,
+      subst (λ (text : List ℕ). out.0 < length text) c.as_slice.ensures.value out.1,
       c.in-Ok.ensures told c.in_ok-audited.ensures.audited,
-      subst (λ (text : List ℕ). AppendsOrForgets (g.W.Sink.holds c.args.writer.now) (g.W.Sink.holds c.write_all.new.writer) (take out.0 text)) c.as_slice.ensures.value out.1,
+      subst (λ (text : List ℕ). AppendsOrForgets (g.W.Sink.holds c.args.writer.now) (g.W.Sink.holds c.write_all.new.writer) (take out.0 text)) c.as_slice.ensures.value out.2,
     )
