@@ -172,14 +172,6 @@ space_back a b edges added before after wider h node got =
     let both = ap length (filter-append (leaves h) edges added) ∙ length-append (filter (leaves h) edges) (filter (leaves h) added) in
     omega (arith, had, now, both, was.2, (before h was.0 was.1).fits)
 
-pub on_ok : {T E : Type 0} (r : Result T E) (P : Type 0) → OnOk r P → is_ok r ≡ true → P
-on_ok (Ok x) P h is = h
-on_ok (Err e) P h is = absurd cc
-
 pub on_ok_map_2 : {T E : Type 0} (r : Result T E) (P Q R : Type 0) → (P → Q → R) → OnOk r P → OnOk r Q → OnOk r R
 on_ok_map_2 (Ok x) P Q R f p q = f p q
 on_ok_map_2 (Err e) P Q R f p q = tt
-
-pub on_err_map : {T E : Type 0} (r : Result T E) (P Q : Type 0) → (P → Q) → OnErr r P → OnErr r Q
-on_err_map (Ok x) P Q f h = tt
-on_err_map (Err e) P Q f h = f h

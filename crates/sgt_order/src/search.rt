@@ -174,10 +174,7 @@ pub(crate) fn find_cycle(
 {
     search(order, nodes, edges, new, offered, marks);
     match closing(new, offered, marks) {
-        Some(last) => match walk_back(alloc, order, marks, new, last) {
-            Ok(walk) => Ok(Some(walk)),
-            Err(error) => Err(error),
-        },
+        Some(last) => Ok(Some(walk_back(alloc, order, marks, new, last)?)),
         None => Ok(None),
     }
 }
