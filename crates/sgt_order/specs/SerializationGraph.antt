@@ -1,4 +1,5 @@
--- What a contract sees of a graph.
+-- What a contract sees of a serialization graph. It is that of Bernstein, Hadzilacos and Goodman, Concurrency Control and
+-- Recovery in Database Systems (1987), ch. 2, with a topological order beside it.
 use Rattle.std.specs.Prelude.{◌≡◌, ◌≢◌, ◌==◌, ◌&&◌, ◌⊎◌, ℕ, ◌<◌, ◌≤◌, List, [], ◌∷◌, ◌++◌, Option, Some, None, if◌then◌else◌, Bool, All, AllPairs, Contains, drop, filter, length, slice_get, slice_index}
 use Rattle.sgt_arena.specs.declared.handle.Handle.{Handle}
 use Rattle.sgt_arena.specs.Arena.{max_places}
@@ -79,7 +80,7 @@ Links a (e ∷ es) b = (e.from ≡ a) × Links e.to es b
 
 -- a walk over these edges from h back to it, with at least one node between; those are admitted, and it comes through no
 -- node twice
-pub record IsCycle (over : List Edge) (order : List Handle) (h : Handle) (walk : List Edge) : Type 0 where
+pub record IsCycleThrough (over : List Edge) (order : List Handle) (h : Handle) (walk : List Edge) : Type 0 where
   pub leads : Links h walk h
   pub long : 2 ≤ length walk
   pub edges : All (Contains over) walk
@@ -89,7 +90,7 @@ pub record IsCycle (over : List Edge) (order : List Handle) (h : Handle) (walk :
 -- why a node isn't admitted: the edges would make this cycle, or memory was wanted, which is never so where there is
 -- room and no cycle
 abbrev pub AdmitRefuses : SerializationGraph → Handle → List Edge → AdmitFault → Type 0
-AdmitRefuses graph h offered (Cycle walk) = IsCycle (graph.edges ++ offered) graph.order h walk
+AdmitRefuses graph h offered (Cycle walk) = IsCycleThrough (graph.edges ++ offered) graph.order h walk
 AdmitRefuses graph h offered Memory = HasRoomFor graph offered → IsAcyclic (Joins (graph.edges ++ offered)) → ⊥
 
 -- why a node isn't added: the window is full, or memory was wanted, which is never so where there is room
