@@ -1,10 +1,9 @@
 -- What a contract sees of an arena.
 use Rattle.std.specs.Prelude.{◌≡◌, ◌==◌, ℕ, ◌+◌, ◌<◌, ◌≤◌, List, length, Option, None, slice_get, slice_set, refl, if◌then◌else◌}
 use Rattle.std.specs.Coded.{Coded, code_by, coded×, coded_ℕ, coded_list}
-use Rattle.sgt_arena.specs.declared.TheConstants.{MAX_PLACES}
 use Rattle.sgt_arena.specs.declared.handle.Handle.{Handle}
-use Rattle.sgt_arena.specs.declared.fault.Fault.{Fault}
-use Rattle.sgt_arena.specs.declared.fault.Fault.TheVariants.{Full, Memory, GenerationsSpent}
+use Rattle.sgt_arena.specs.declared.fault.ArenaFault.{ArenaFault}
+use Rattle.sgt_arena.specs.declared.fault.ArenaFault.TheVariants.{Full, Memory, LastWindow}
 
 -- the number of the window, the values placed in it, and how many more can be placed without taking memory
 pub record Arena (T : Type 0) : Type 0 where
@@ -23,7 +22,7 @@ arena_code {T} code =
 
 -- how many values a window may hold
 abbrev pub max_places : ℕ
-max_places = MAX_PLACES
+max_places = 4096
 
 -- the greatest number of a window
 abbrev pub last_generation : ℕ
@@ -43,7 +42,7 @@ module _ {T : Type 0} where
   SameValues old new = (new.items ≡ old.items) × (new.generation ≡ old.generation)
 
   -- why so many more values can't be placed
-  abbrev pub Lacks : Arena T → ℕ → Fault → Type 0
+  abbrev pub Lacks : Arena T → ℕ → ArenaFault → Type 0
   Lacks a more Full = max_places < length a.items + more
   Lacks a more Memory = (length a.items + more ≤ max_places) × (a.room < more)
-  Lacks a more GenerationsSpent = ⊥
+  Lacks a more LastWindow = ⊥

@@ -1,15 +1,17 @@
-//! The home of a window's values: each has a handle, which shows it until the window is closed, and never another.
+//! Keeps the values of a window under handles. Until the window is closed a handle shows the value that it was given for;
+//! from then on the arena shows nothing under it.
+//!
+//! What the docs say of costs is no clause.
 #![tactic(auto)]
 
 mod arena;
 mod fault;
 mod handle;
+mod limits;
 #[cfg(test)]
 mod tests;
 
 pub use arena::Arena;
-pub use fault::{Fault, Refused};
+pub use fault::{ArenaFault, Refused};
 pub use handle::Handle;
-
-/// How many values a window may hold.
-pub const MAX_PLACES: usize = 4096;
+pub use limits::MAX_PLACES;

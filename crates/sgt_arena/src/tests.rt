@@ -1,6 +1,6 @@
 //! What no clause says: that the calls succeed, what a refusal says, and that each value is dropped once, in order.
 
-use crate::{Arena, Fault, Handle, MAX_PLACES, Refused};
+use crate::{Arena, ArenaFault, Handle, MAX_PLACES, Refused};
 use std::sync::atomic::{AtomicU64, Ordering};
 use std::test::Fail;
 
@@ -38,8 +38,8 @@ fn places_and_shows(rt: HostRuntime) -> Result<(), Fail> {
 #[test]
 fn full_at_4096(rt: HostRuntime) -> Result<(), Fail> {
     let mut arena = Arena::new(rt.alloc());
-    assert_eq!(rt; arena.reserve(4097), Err(Fault::Full));
-    assert_eq!(rt; arena.reserve(usize::MAX), Err(Fault::Full));
+    assert_eq!(rt; arena.reserve(4097), Err(ArenaFault::Full));
+    assert_eq!(rt; arena.reserve(usize::MAX), Err(ArenaFault::Full));
     arena.reserve(4096)?;
     for number in 0..4096u32 {
         let handle = arena.place(number)?;
@@ -47,11 +47,11 @@ fn full_at_4096(rt: HostRuntime) -> Result<(), Fail> {
     }
     match arena.place(4096) {
         Ok(_) => assert!(rt; false, "a value beyond the last place"),
-        Err(Refused { value, fault }) => assert_eq!(rt; (value, fault), (4096, Fault::Full)),
+        Err(Refused { value, fault }) => assert_eq!(rt; (value, fault), (4096, ArenaFault::Full)),
     }
     assert_eq!(rt;
         (arena.reserve(1), arena.reserve(0)),
-        (Err(Fault::Full), Ok(()))
+        (Err(ArenaFault::Full), Ok(()))
     );
     assert_eq!(rt; (arena.len(), MAX_PLACES), (4096, 4096));
     for number in 0..4096u32 {
@@ -70,7 +70,7 @@ fn the_last_generation(rt: HostRuntime) -> Result<(), Fail> {
     arena.place(7u32)?;
     arena.close()?;
     let handle = arena.place(8)?;
-    assert_eq!(rt; arena.close(), Err(Fault::GenerationsSpent));
+    assert_eq!(rt; arena.close(), Err(ArenaFault::LastWindow));
     assert_eq!(rt; (arena.len(), arena.generation()), (1, 4_294_967_295));
     assert_eq!(rt; arena.get(handle).copied(), Some(8));
     Ok(())
@@ -79,9 +79,12 @@ fn the_last_generation(rt: HostRuntime) -> Result<(), Fail> {
 #[test]
 fn what_the_faults_say(rt: HostRuntime) -> Result<(), Fail> {
     for (fault, text) in [
-        (Fault::Full, "G1: the window is full"),
-        (Fault::Memory, "G2: out of memory"),
-        (Fault::GenerationsSpent, "G3: the generations are spent"),
+        (ArenaFault::Full, "G1: the window is full"),
+        (ArenaFault::Memory, "G2: out of memory"),
+        (
+            ArenaFault::LastWindow,
+            "G3: the last window can't be closed",
+        ),
     ] {
         assert_eq!(rt; format!(in rt.alloc(); "{fault}")?.as_str(), text);
     }

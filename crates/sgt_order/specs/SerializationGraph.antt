@@ -1,16 +1,17 @@
--- What a contract sees of a graph.
+-- What a contract sees of a serialization graph. It is that of Bernstein, Hadzilacos and Goodman, Concurrency Control and
+-- Recovery in Database Systems (1987), ch. 2, with a topological order beside it.
 use Rattle.std.specs.Prelude.{◌≡◌, ◌≢◌, ◌==◌, ◌&&◌, ◌⊎◌, ℕ, ◌<◌, ◌≤◌, List, [], ◌∷◌, ◌++◌, Option, Some, None, if◌then◌else◌, Bool, All, AllPairs, Contains, drop, filter, length, slice_get, slice_index}
 use Rattle.sgt_arena.specs.declared.handle.Handle.{Handle}
 use Rattle.sgt_arena.specs.Arena.{max_places}
 use Rattle.sgt_edges.specs.declared.edge.Edge.{Edge}
 use Rattle.sgt_order.specs.Graph.{IsAcyclic}
-use Rattle.sgt_order.specs.declared.fault.Admit.{Admit}
-use Rattle.sgt_order.specs.declared.fault.Admit.TheVariants.{Cycle, Memory}
-use Rattle.sgt_order.specs.declared.fault.Fault.{Fault}
-use Rattle.sgt_order.specs.declared.fault.Fault.TheVariants.{Full, Memory as NoMemory}
+use Rattle.sgt_order.specs.declared.fault.AdmitFault.{AdmitFault}
+use Rattle.sgt_order.specs.declared.fault.AdmitFault.TheVariants.{Cycle, Memory}
+use Rattle.sgt_order.specs.declared.fault.NodeFault.{NodeFault}
+use Rattle.sgt_order.specs.declared.fault.NodeFault.TheVariants.{Full, Memory as NoMemory}
 
 -- the window, the transaction of each node, the admitted nodes in their order, the edges, and what fits without taking
--- memory: members in the next order, edges, and edges from each node
+-- memory: members in the next order, more edges, more edges from each node, and more nodes
 pub record SerializationGraph : Type 0 where
   pub generation : ℕ
   pub transactions : List ℕ
@@ -18,7 +19,8 @@ pub record SerializationGraph : Type 0 where
   pub edges : List Edge
   pub order_room : ℕ
   pub edge_room : ℕ
-  pub node_rooms : List ℕ
+  pub edge_rooms : List ℕ
+  pub node_room : ℕ
 
 -- the handle is a node's
 abbrev pub HasNode : SerializationGraph → Handle → Type 0
@@ -36,7 +38,7 @@ leaves h e = (e.from.index == h.index) && (e.from.generation == h.generation)
 pub record HasRoomFor (graph : SerializationGraph) (offered : List Edge) : Type 0 where
   pub order : length graph.order < graph.order_room
   pub edges : length offered ≤ graph.edge_room
-  pub nodes : (h : Handle) → HasNode graph h → length (filter (leaves h) offered) ≤ slice_index graph.node_rooms h.index
+  pub nodes : (h : Handle) → HasNode graph h → length (filter (leaves h) offered) ≤ slice_index graph.edge_rooms h.index
 
 -- the nodes, the order and the edges stay
 pub record SameGraph (old new : SerializationGraph) : Type 0 where
@@ -78,7 +80,7 @@ Links a (e ∷ es) b = (e.from ≡ a) × Links e.to es b
 
 -- a walk over these edges from h back to it, with at least one node between; those are admitted, and it comes through no
 -- node twice
-pub record IsCycle (over : List Edge) (order : List Handle) (h : Handle) (walk : List Edge) : Type 0 where
+pub record IsCycleThrough (over : List Edge) (order : List Handle) (h : Handle) (walk : List Edge) : Type 0 where
   pub leads : Links h walk h
   pub long : 2 ≤ length walk
   pub edges : All (Contains over) walk
@@ -87,11 +89,11 @@ pub record IsCycle (over : List Edge) (order : List Handle) (h : Handle) (walk :
 
 -- why a node isn't admitted: the edges would make this cycle, or memory was wanted, which is never so where there is
 -- room and no cycle
-abbrev pub Refuses : SerializationGraph → Handle → List Edge → Admit → Type 0
-Refuses graph h offered (Cycle walk) = IsCycle (graph.edges ++ offered) graph.order h walk
-Refuses graph h offered Memory = HasRoomFor graph offered → IsAcyclic (Joins (graph.edges ++ offered)) → ⊥
+abbrev pub AdmitRefuses : SerializationGraph → Handle → List Edge → AdmitFault → Type 0
+AdmitRefuses graph h offered (Cycle walk) = IsCycleThrough (graph.edges ++ offered) graph.order h walk
+AdmitRefuses graph h offered Memory = HasRoomFor graph offered → IsAcyclic (Joins (graph.edges ++ offered)) → ⊥
 
--- why a node isn't added
-abbrev pub NodeLacks : SerializationGraph → Fault → Type 0
-NodeLacks graph Full = max_places ≤ length graph.transactions
-NodeLacks graph NoMemory = length graph.transactions < max_places
+-- why a node isn't added: the window is full, or memory was wanted, which is never so where there is room
+abbrev pub NodeRefuses : SerializationGraph → NodeFault → Type 0
+NodeRefuses graph Full = max_places ≤ length graph.transactions
+NodeRefuses graph NoMemory = (length graph.transactions < max_places) × (graph.node_room ≡ 0)

@@ -1,12 +1,17 @@
-//! What a graph refuses.
+//! Why a graph doesn't take a node, or doesn't admit it.
+
+ghost use Rattle.std.specs.Prelude.{◌≡◌};
+ghost use Rattle.sgt_order.specs.declared.fault.AdmitFault.TheVariants.{Memory};
+ghost use Rattle.sgt_order.specs.declared.fault.NodeFault.TheVariants.{Memory as NodeMemory};
 
 use sgt_edges::EdgeList;
+use std::alloc::AllocError;
 use thiserror::Error;
 
 /// Why a node isn't admitted.
 #[derive(Debug, Drop, Error)]
-pub enum Admit {
-    /// Its edges would make this cycle, which leads from the node back to it.
+pub enum AdmitFault {
+    /// Its edges would make this cycle, a walk from the node back to it.
     #[error("O1: the edges make a cycle")]
     Cycle(EdgeList),
     /// A growth was refused.
@@ -14,13 +19,29 @@ pub enum Admit {
     Memory,
 }
 
+impl From<AllocError> for AdmitFault {
+    ghost from_gives = { λ _ e. e ≡ Memory };
+
+    fn from(_: AllocError) -> AdmitFault {
+        AdmitFault::Memory
+    }
+}
+
 /// Why a node isn't added.
 #[derive(Clone, Copy, Debug, PartialEq, Eq, Error)]
-pub enum Fault {
+pub enum NodeFault {
     /// A growth was refused.
     #[error("O2: out of memory")]
     Memory,
     /// The window has as many nodes as it may.
     #[error("O4: the window is full")]
     Full,
+}
+
+impl From<AllocError> for NodeFault {
+    ghost from_gives = { λ _ e. e ≡ NodeMemory };
+
+    fn from(_: AllocError) -> NodeFault {
+        NodeFault::Memory
+    }
 }

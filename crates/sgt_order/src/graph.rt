@@ -1,12 +1,12 @@
-//! The graph.
+//! The serialization graph.
 
-ghost use Rattle.std.specs.Prelude.{◌≡◌, ◌<◌, ◌≤◌, ◌∷◌, [], ◌++◌, ◌↔◌, length, IfOk, IfErr, OnOk, OnErr, IsTrue, All, Contains, List};
+ghost use Rattle.std.specs.Prelude.{◌≡◌, ◌<◌, ◌∷◌, [], ◌++◌, ◌↔◌, length, IfOk, IfErr, OnOk, OnErr, IsTrue, All, Contains, List};
 ghost use Rattle.sgt_arena.specs.Arena.{max_places};
 ghost use Rattle.sgt_edges.specs.declared.edge.Edge.{Edge as Member};
 ghost use Rattle.sgt_order.specs.Graph.{IsAcyclic, IsPlaced};
-ghost use Rattle.sgt_order.specs.SerializationGraph.{HasNode, HasRoomFor, SameGraph, Joins, IsOrdered, IsOffered, MayAdmit, Refuses, NodeLacks, StandsBefore, transaction_of};
+ghost use Rattle.sgt_order.specs.SerializationGraph.{HasNode, HasRoomFor, SameGraph, Joins, IsOrdered, IsOffered, MayAdmit, AdmitRefuses, NodeRefuses, StandsBefore, transaction_of};
 
-use crate::fault::{Admit, Fault};
+use crate::fault::{AdmitFault, NodeFault};
 use crate::growth::{extend, make_room_for};
 use crate::node::Node;
 use crate::search::{find_cycle, stands_before};
@@ -17,8 +17,9 @@ use smallvec::SmallVec;
 use std::alloc::{AllocError, Global};
 use std::marker::Model;
 
-/// The transactions of a window, the edges between them, and an order of the admitted ones along which each edge leads
-/// forward.
+/// The serialization graph of a window: nodes, each for a transaction, edges between admitted nodes, and a topological order
+/// of the admitted nodes. A node is first added, and later admitted with the edges that it has to admitted nodes, unless
+/// they would make a cycle. So the graph is acyclic at any time.
 #[derive(Drop)]
 pub struct Graph {
     nodes: Arena<Node>,
@@ -31,7 +32,7 @@ pub struct Graph {
 }
 
 impl Model for Graph {
-    ghost use Rattle.std.specs.Prelude.{map, ◌-◌, vec_len, vec_capacity};
+    ghost use Rattle.std.specs.Prelude.{◌-◌, min, vec_len, vec_capacity};
     ghost use Rattle.sgt_order.specs.SerializationGraph.{SerializationGraph};
 
     ghost Value = { SerializationGraph };
@@ -45,14 +46,15 @@ impl Model for Graph {
       edges = g.edges.items;
       order_room = vec_capacity g.next;
       edge_room = vec_capacity g.edges - vec_len g.edges;
-      node_rooms = rooms_of g.nodes;
+      edge_rooms = rooms_of g.nodes;
+      node_room = min g.nodes.room (vec_capacity g.marks - vec_len g.marks);
     } };
 
     ghost invariant = { λ g. IsSound g.nodes g.order.items g.edges.items g.marks.items };
 }
 
 impl Graph {
-    /// An empty graph, in the first window.
+    /// An empty graph, in the window with the number 0. It takes no memory.
     pub fn new(alloc: Global) -> Graph
         ensures window { result.generation ≡ 0 }
         ensures nodes { result.transactions ≡ [] }
@@ -68,8 +70,10 @@ impl Graph {
         }
     }
 
-    /// Adds a node for a transaction, not yet admitted.
-    pub fn node(&mut self, tx: Tx) -> Result<Handle, Fault>
+    /// Adds a node for a transaction, not yet admitted. It errs with O4 where the window has as many nodes as it may, 4096,
+    /// else with O2 where no room is left and memory is refused; after an Err the nodes, the order and the edges are as they
+    /// were. In the long run a call takes constant time; one that has to grow moves all nodes.
+    pub fn node(&mut self, tx: Tx) -> Result<Handle, NodeFault>
         ensures handle { IfOk result (λ h. (h.index ≡ length self.old.transactions) × (h.generation ≡ self.old.generation)) }
         ensures transactions { OnOk result (self.new.transactions ≡ self.old.transactions ++ tx ∷ []) }
         ensures window { self.new.generation ≡ self.old.generation }
@@ -77,43 +81,37 @@ impl Graph {
         ensures edges { self.new.edges ≡ self.old.edges }
         ensures err { OnErr result (SameGraph self.old self.new) }
         ensures fits { OnOk result (length self.old.transactions < max_places) }
-        ensures fault { IfErr result (NodeLacks self.old) }
+        ensures fault { IfErr result (NodeRefuses self.old) }
 
         // room that was made for edges between the nodes that were there stays
         ensures room { (offered : List Member) → All (λ e. HasNode self.old e.from) offered
             → HasRoomFor self.old offered → HasRoomFor self.new offered }
     {
         if self.nodes.len() >= MAX_PLACES {
-            return Err(Fault::Full);
+            return Err(NodeFault::Full);
         }
-        if self.marks.reserve(1).is_err() {
-            return Err(Fault::Memory);
-        }
+        self.marks.reserve(1)?;
         let alloc = *self.edges.allocator();
-        match self.nodes.place(Node {
+        let node = Node {
             tx,
             out: SmallVec::new(alloc),
             admitted: false,
-        }) {
-            Ok(handle) => {
-                self.marks.push_reserved(None);
-                Ok(handle)
-            }
-            Err(_) => Err(Fault::Memory),
-        }
+        };
+        let Ok(handle) = self.nodes.place(node) else {
+            return Err(NodeFault::Memory);
+        };
+        self.marks.push_reserved(None);
+        Ok(handle)
     }
 
-    /// The transaction of a node, where the handle is one of the present window.
+    /// The transaction of a node, or None where the handle is no node's. Constant time.
     pub fn transaction(&self, node: Handle) -> Option<Tx>
         ensures { result ≡ transaction_of self.now node }
     {
-        match self.nodes.get(node) {
-            Some(node) => Some(node.tx),
-            None => None,
-        }
+        Some(self.nodes.get(node)?.tx)
     }
 
-    /// The admitted nodes, in their order.
+    /// The admitted nodes, in a topological order of the graph. Constant time.
     pub fn order(&self) -> &[Handle]
         ensures is { result.now ≡ self.now.order }
         ensures ordered { IsOrdered self.now }
@@ -121,7 +119,7 @@ impl Graph {
         self.order.as_slice()
     }
 
-    /// Whether the handle is that of an admitted node.
+    /// Whether the handle is an admitted node's. Constant time.
     pub fn is_admitted(&self, node: Handle) -> bool
         ensures { IsTrue result ↔ Contains self.now.order node }
     {
@@ -131,8 +129,8 @@ impl Graph {
         }
     }
 
-    /// Whether `admit` may be asked: the node is of the present window and not admitted, and each edge is between it and
-    /// an admitted node.
+    /// Whether `admit` may be called with these: the handle is a node's, the node isn't admitted, and each edge leads from it
+    /// to an admitted node or from an admitted node to it. Constant time for each edge.
     pub fn may_admit(&self, node: Handle, offered: &EdgeList) -> bool
         ensures { IsTrue result ↔ MayAdmit self.now node offered.now }
     {
@@ -166,15 +164,17 @@ impl Graph {
             || (edge.to == node && self.is_admitted(edge.from))
     }
 
-    /// Whether both are admitted, and the first stands earlier in the order.
+    /// Whether both are admitted, and the first stands earlier in the order. It goes over the order.
     pub fn before(&self, first: Handle, second: Handle) -> bool
         ensures { IsTrue result ↔ StandsBefore self.now.order first second }
     {
         stands_before(self.order.as_slice(), first, second)
     }
 
-    /// Makes room, so that a node can be admitted with these edges without taking memory. The room lasts until the next
-    /// `admit`.
+    /// Makes room, so that a node can be admitted with these edges without taking memory: `admit` with them then errs only
+    /// where they make a cycle. The room lasts until an `admit` answers Ok. It errs where memory is refused; whatever it
+    /// answers, the nodes, the order and the edges are as they were, and room that was made for other edges stays. It goes
+    /// over the edges; one that has to grow also moves all edges.
     pub fn reserve_for(&mut self, offered: &EdgeList) -> Result<(), AllocError>
         ensures same { SameGraph self.old self.new }
         ensures ok { OnOk result (HasRoomFor self.new offered.now) }
@@ -192,8 +192,18 @@ impl Graph {
         )
     }
 
-    /// Admits a node with the edges between it and admitted ones, unless they would make a cycle.
-    pub fn admit(&mut self, node: Handle, offered: &EdgeList) -> Result<(), Admit>
+    /// Admits a node with the edges between it and admitted nodes, unless they would make a cycle. Its condition, which
+    /// `may_admit` tests: the handle is a node's, the node isn't admitted, and each edge leads from it to an admitted node or
+    /// from an admitted node to it. In the new order it stands behind the nodes that it doesn't reach and before those that it
+    /// reaches, both in their old order.
+    ///
+    /// It errs with O1 where the edges make a cycle, and shows one: a walk from the node back to it, through admitted nodes
+    /// and none of them twice. It errs with O2 where memory is refused: for the graph's growth, never so where `reserve_for`
+    /// made room for these edges and no Ok of `admit` came since, or for the list of that walk. After an Err the nodes, the
+    /// order and the edges are as they were, and room that was made stays.
+    ///
+    /// It goes over the nodes, the edges given, and the edges that leave a node that the new one reaches.
+    pub fn admit(&mut self, node: Handle, offered: &EdgeList) -> Result<(), AdmitFault>
         requires { MayAdmit self.old node offered.now }
         ensures acyclic { OnOk result (IsAcyclic (Joins (self.old.edges ++ offered.now))) }
         ensures order { OnOk result (IsPlaced (Joins (self.old.edges ++ offered.now)) self.old.order node self.new.order) }
@@ -201,10 +211,13 @@ impl Graph {
         ensures window { self.new.generation ≡ self.old.generation }
         ensures nodes { self.new.transactions ≡ self.old.transactions }
         ensures err { OnErr result (SameGraph self.old self.new) }
-        ensures fault { IfErr result (Refuses self.old node offered.now) }
+        ensures fault { IfErr result (AdmitRefuses self.old node offered.now) }
+
+        // room that was made stays where it isn't admitted
+        ensures room { OnErr result ((other : List Member) → HasRoomFor self.old other → HasRoomFor self.new other) }
     {
         let alloc = *self.edges.allocator();
-        match find_cycle(
+        let found = find_cycle(
             alloc,
             self.order.as_slice(),
             &self.nodes,
@@ -212,12 +225,11 @@ impl Graph {
             node,
             offered.as_slice(),
             self.marks.as_mut_slice(),
-        ) {
-            Ok(None) => {}
-            Ok(Some(walk)) => return Err(Admit::Cycle(walk)),
-            Err(_) => return Err(Admit::Memory),
+        )?;
+        if let Some(walk) = found {
+            return Err(AdmitFault::Cycle(walk));
         }
-        match extend(
+        extend(
             &mut self.nodes,
             &mut self.edges,
             &mut self.order,
@@ -225,10 +237,7 @@ impl Graph {
             self.marks.as_slice(),
             node,
             offered.as_slice(),
-        ) {
-            Ok(()) => {}
-            Err(_) => return Err(Admit::Memory),
-        }
+        )?;
         Ok(())
     }
 }

@@ -1,6 +1,6 @@
 //! What no clause says: that the calls succeed, on orders that were worked out by hand or by the plain rule.
 
-use crate::{Admit, Fault, Graph, order_stays_topological};
+use crate::{AdmitFault, Graph, NodeFault, order_stays_topological};
 use sgt_arena::Handle;
 use sgt_edges::{Edge, EdgeList};
 use sgt_names::{Item, Kind, Label, SiteNo, Tx};
@@ -31,7 +31,7 @@ fn admit(
     graph: &mut Graph,
     node: Handle,
     offered: &EdgeList,
-) -> Result<(), Admit> {
+) -> Result<(), AdmitFault> {
     assert!(rt; graph.may_admit(node, offered));
     graph.admit(node, offered)
 }
@@ -119,7 +119,7 @@ fn order_of_six(rt: HostRuntime) -> Result<(), Fail> {
         six,
         &edges(alloc, &[(two, six), (six, four)])?,
     ) {
-        Err(Admit::Cycle(walk)) => {
+        Err(AdmitFault::Cycle(walk)) => {
             assert_eq!(rt;
                 stations(alloc, &graph, &walk)?,
                 vec![in alloc; 6, 4, 2, 6]?
@@ -171,7 +171,7 @@ fn chain_of_4096(rt: HostRuntime) -> Result<(), Fail> {
             _ => [(node, node), (node, node)],
         };
         match admit(&rt, &mut graph, node, &edges(alloc, &ends)?) {
-            Err(Admit::Cycle(walk)) => {
+            Err(AdmitFault::Cycle(walk)) => {
                 let mut around = vec![in alloc; 4096]?;
                 around.extend_from_slice(wanted.as_slice())?;
                 around.push(4096)?;
@@ -180,7 +180,7 @@ fn chain_of_4096(rt: HostRuntime) -> Result<(), Fail> {
             _ => assert!(rt; false, "a cycle was admitted"),
         }
         assert_eq!(rt; order(alloc, &graph)?, wanted);
-        assert_eq!(rt; graph.node(Tx::new(4097)?), Err(Fault::Full));
+        assert_eq!(rt; graph.node(Tx::new(4097)?), Err(NodeFault::Full));
     }
     Ok(())
 }
@@ -351,11 +351,11 @@ fn random_window_of_4096(rt: HostRuntime) -> Result<(), Fail> {
         let offered = edges(alloc, ends.as_slice())?;
         match admit(&rt, &mut graph, node, &offered) {
             Ok(()) => assert!(rt; admitted, "{number}"),
-            Err(Admit::Cycle(_)) => {
+            Err(AdmitFault::Cycle(_)) => {
                 refused = refused.wrapping_add(1);
                 assert!(rt; !admitted, "{number}");
             }
-            Err(Admit::Memory) => assert!(rt; false, "{number}"),
+            Err(AdmitFault::Memory) => assert!(rt; false, "{number}"),
         }
         assert_eq!(rt; graph.order().len(), plain.order.len());
         for (handle, at) in graph.order().iter().zip(&plain.order) {
@@ -371,16 +371,16 @@ fn what_the_faults_say(rt: HostRuntime) -> Result<(), Fail> {
     let alloc = rt.alloc();
     for (fault, text) in [
         (
-            Admit::Cycle(edges(alloc, &[])?),
+            AdmitFault::Cycle(edges(alloc, &[])?),
             "O1: the edges make a cycle",
         ),
-        (Admit::Memory, "O2: out of memory"),
+        (AdmitFault::Memory, "O2: out of memory"),
     ] {
         assert_eq!(rt; format!(in alloc; "{fault}")?.as_str(), text);
     }
     for (fault, text) in [
-        (Fault::Memory, "O2: out of memory"),
-        (Fault::Full, "O4: the window is full"),
+        (NodeFault::Memory, "O2: out of memory"),
+        (NodeFault::Full, "O4: the window is full"),
     ] {
         assert_eq!(rt; format!(in alloc; "{fault}")?.as_str(), text);
     }

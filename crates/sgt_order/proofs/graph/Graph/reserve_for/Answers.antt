@@ -1,7 +1,8 @@
 use Rattle.std.proofs.Common.{sym, ap, subst, arith, length}
+use Rattle.std.proofs.lemmas.Result.{on_err_weaker}
 use Rattle.sgt_order.specs.SerializationGraph.{HasRoomFor}
 use Rattle.sgt_order.specs.Search.{HaveSpace, Lists, IsSound}
-use Rattle.sgt_order.proofs.Growing.{space_kept, on_ok_map_2, on_err_map}
+use Rattle.sgt_order.proofs.Growing.{space_kept, on_ok_map_2}
 use Rattle.sgt_order.proofs.Sound.{sound_widened, space_seen, space_from_seen}
 use Rattle.sgt_order.proofs.graph.Graph.reserve_for.Goals as goal
 
@@ -23,7 +24,7 @@ returns-clause-ok c =
 
 pub returns-clause-err : goal.returns-clause-err
 returns-clause-err c =
-    on_err_map c.make_room_for.result _ _ (λ h room.
+    on_err_weaker c.make_room_for.result (λ h room.
     let seen = subst (λ v. HasRoomFor v c.args.offered.now) (sym c.self.view_is) room in
     let space = space_from_seen c.self.inside.nodes c.self.inside.edges.items c.args.offered.now c.self.invariant.holds.lists (λ x w i. seen.nodes x (w, i)) in
     h (omega (arith, seen.order, c.len.ensures, c.self.inside.order.ok), omega (arith, seen.edges, ap length c.as_slice.ensures, c.self.inside.edges.ok))
