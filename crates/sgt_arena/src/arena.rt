@@ -164,10 +164,10 @@ impl<T> Arena<T> {
         ensures room { OnOk result (self.new.room ≡ self.old.room + length self.old.items) }
         ensures last { IsErr result ↔ (self.old.generation ≡ last_generation) }
         ensures err { OnErr result (self.new ≡ self.old) }
-        ensures fault { IfErr result (λ fault. fault ≡ ArenaFault.LastWindow) }
+        ensures fault { IfErr result (λ fault. fault ≡ ArenaFault.GenerationsSpent) }
     {
         if self.generation == u32::MAX {
-            return Err(ArenaFault::LastWindow);
+            return Err(ArenaFault::GenerationsSpent);
         }
         self.values.clear();
         self.generation += 1;

@@ -51,7 +51,7 @@ impl Model for Item {
 }
 
 impl Item {
-    ghost use Rattle.std.specs.Prelude.{◌≡◌, ◌↔◌, IsTrue};
+    ghost use Rattle.std.specs.Prelude.{◌≡◌};
     ghost use Rattle.std.specs.Result.{OkIff};
     ghost use Rattle.sgt_names.specs.Name.{IsName};
 
@@ -76,20 +76,6 @@ impl Item {
         ensures name { IsName self.now }
     {
         &self.bytes[..self.len as usize]
-    }
-
-    /// Whether the two names are one.
-    pub fn same(&self, other: &Item) -> bool
-        ensures { IsTrue result ↔ (self.now ≡ other.now) }
-    {
-        self == other
-    }
-
-    /// The order of names, by their bytes.
-    pub fn order(&self, other: &Item) -> Ordering
-        ensures { result ≡ slice_cmp nat_cmp self.now other.now }
-    {
-        self.cmp(other)
     }
 }
 

@@ -65,9 +65,9 @@ fn names_of_items(rt: HostRuntime) -> Result<(), Fail> {
     let (a, b, c) = (Item::new(b"a")?, Item::new(b"ab")?, Item::new(b"a_")?);
     assert!(rt; format!(in rt.alloc(); "{c} {c:?}")?.as_str() == "a_ a_");
     assert!(rt; format!(in rt.alloc(); "{} {}", Tx::new(7)?, SiteNo::new(3)?)?.as_str() == "7 3");
-    assert!(rt; a.same(&a) && !a.same(&b));
-    assert!(rt; a.order(&b) == Ordering::Less && b.order(&c) == Ordering::Greater);
-    assert!(rt; c.order(&c) == Ordering::Equal);
+    assert!(rt; a == a && a != b);
+    assert!(rt; a < b && b > c && c <= c);
+    assert!(rt; c.cmp(&c) == Ordering::Equal && a.cmp(&b) == Ordering::Less);
     Ok(())
 }
 

@@ -5,8 +5,8 @@ use Rattle.sgt_arena.specs.declared.handle.Handle.{Handle}
 use Rattle.sgt_arena.specs.Arena.{max_places}
 use Rattle.sgt_edges.specs.declared.edge.Edge.{Edge}
 use Rattle.sgt_order.specs.Graph.{IsAcyclic}
-use Rattle.sgt_order.specs.declared.fault.AdmitFault.{AdmitFault}
-use Rattle.sgt_order.specs.declared.fault.AdmitFault.TheVariants.{Cycle, Memory}
+use Rattle.sgt_order.specs.declared.fault.Admit.{Admit}
+use Rattle.sgt_order.specs.declared.fault.Admit.TheVariants.{Cycle, Memory}
 use Rattle.sgt_order.specs.declared.fault.NodeFault.{NodeFault}
 use Rattle.sgt_order.specs.declared.fault.NodeFault.TheVariants.{Full, Memory as NoMemory}
 
@@ -89,7 +89,7 @@ pub record IsCycleThrough (over : List Edge) (order : List Handle) (h : Handle) 
 
 -- why a node isn't admitted: the edges would make this cycle, or memory was wanted, which is never so where there is
 -- room and no cycle
-abbrev pub AdmitRefuses : SerializationGraph → Handle → List Edge → AdmitFault → Type 0
+abbrev pub AdmitRefuses : SerializationGraph → Handle → List Edge → Admit → Type 0
 AdmitRefuses graph h offered (Cycle walk) = IsCycleThrough (graph.edges ++ offered) graph.order h walk
 AdmitRefuses graph h offered Memory = HasRoomFor graph offered → IsAcyclic (Joins (graph.edges ++ offered)) → ⊥
 

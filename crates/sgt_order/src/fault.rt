@@ -1,7 +1,7 @@
 //! Why a graph doesn't take a node, or doesn't admit it.
 
 ghost use Rattle.std.specs.Prelude.{◌≡◌};
-ghost use Rattle.sgt_order.specs.declared.fault.AdmitFault.TheVariants.{Memory};
+ghost use Rattle.sgt_order.specs.declared.fault.Admit.TheVariants.{Memory};
 ghost use Rattle.sgt_order.specs.declared.fault.NodeFault.TheVariants.{Memory as NodeMemory};
 
 use sgt_edges::EdgeList;
@@ -10,7 +10,7 @@ use thiserror::Error;
 
 /// Why a node isn't admitted.
 #[derive(Debug, Drop, Error)]
-pub enum AdmitFault {
+pub enum Admit {
     /// Its edges would make this cycle, a walk from the node back to it.
     #[error("O1: the edges make a cycle")]
     Cycle(EdgeList),
@@ -19,11 +19,11 @@ pub enum AdmitFault {
     Memory,
 }
 
-impl From<AllocError> for AdmitFault {
+impl From<AllocError> for Admit {
     ghost from_gives = { λ _ e. e ≡ Memory };
 
-    fn from(_: AllocError) -> AdmitFault {
-        AdmitFault::Memory
+    fn from(_: AllocError) -> Admit {
+        Admit::Memory
     }
 }
 

@@ -6,7 +6,7 @@ ghost use Rattle.sgt_edges.specs.declared.edge.Edge.{Edge as Member};
 ghost use Rattle.sgt_order.specs.Graph.{IsAcyclic, IsPlaced};
 ghost use Rattle.sgt_order.specs.SerializationGraph.{HasNode, HasRoomFor, SameGraph, Joins, IsOrdered, IsOffered, MayAdmit, AdmitRefuses, NodeRefuses, StandsBefore, transaction_of};
 
-use crate::fault::{AdmitFault, NodeFault};
+use crate::fault::{Admit, NodeFault};
 use crate::growth::{extend, make_room_for};
 use crate::node::Node;
 use crate::search::{find_cycle, stands_before};
@@ -203,7 +203,7 @@ impl Graph {
     /// order and the edges are as they were, and room that was made stays.
     ///
     /// It goes over the nodes, the edges given, and the edges that leave a node that the new one reaches.
-    pub fn admit(&mut self, node: Handle, offered: &EdgeList) -> Result<(), AdmitFault>
+    pub fn admit(&mut self, node: Handle, offered: &EdgeList) -> Result<(), Admit>
         requires { MayAdmit self.old node offered.now }
         ensures acyclic { OnOk result (IsAcyclic (Joins (self.old.edges ++ offered.now))) }
         ensures order { OnOk result (IsPlaced (Joins (self.old.edges ++ offered.now)) self.old.order node self.new.order) }
@@ -227,7 +227,7 @@ impl Graph {
             self.marks.as_mut_slice(),
         )?;
         if let Some(walk) = found {
-            return Err(AdmitFault::Cycle(walk));
+            return Err(Admit::Cycle(walk));
         }
         extend(
             &mut self.nodes,

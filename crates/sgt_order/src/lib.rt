@@ -16,6 +16,6 @@ mod search;
 #[cfg(test)]
 mod tests;
 
-pub use fault::{AdmitFault, NodeFault};
+pub use fault::{Admit, NodeFault};
 pub use graph::Graph;
 pub use laws::order_stays_topological;
