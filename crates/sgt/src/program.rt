@@ -77,7 +77,7 @@ fn outcome_of(verdict: Verdict) -> Outcome
 /// Does what the words ask for, and gives the exit status: 0 yes (or help was shown), 1 no, 2 the words are no command
 /// (nothing is read or written then), 3 want of memory, 4 a read or a write failed. The first word is the program's name.
 /// Nothing is read but for the audit and the serial run.
-pub(crate) fn program<R: Source, W: Sink, E: Sink>(
+pub fn program<R: Source, W: Sink, E: Sink>(
     alloc: Global,
     words: &[String],
     reader: &mut R,
