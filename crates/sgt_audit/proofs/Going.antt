@@ -16,10 +16,10 @@ use Rattle.sgt_audit.specs.declared.machine.Progress.{Progress}
 use Rattle.sgt_audit.specs.declared.machine.Progress.TheVariants as at
 use Rattle.sgt_audit.specs.declared.reading.Judged.{Judged}
 use Rattle.sgt_audit.specs.declared.reading.Judged.TheVariants as judged
-use Rattle.sgt_audit.specs.Faults.{Stage, start, complete, lines_so_far, IsFaultless, Piece, whole, last, ComesNext, Rule, Breaks, FirstFault}
+use Rattle.sgt_audit.specs.Faults.{Stage, complete, lines_so_far, IsFaultless, Piece, whole, last, ComesNext, Rule, Breaks, FirstFault}
 use Rattle.sgt_audit.specs.Kept.{Means, IsStageOf}
 use Rattle.sgt_audit.specs.Progress.{Stands, Follows, bytes_of}
-use Rattle.sgt_audit.specs.Reads.{IsAll, IsEnded, IsJudged}
+use Rattle.sgt_audit.specs.Reads.{IsEnded, IsJudged}
 
 -- the bytes are the lines of the stage and then what comes
 abbrev pub IsRest : Stage → Option (List ℕ) → Option (List ℕ) → Type 0
@@ -124,18 +124,7 @@ at-end told p limit n old new l (judged.Whole k) (s, stands, rest, number) gives
 at-end told p limit n old new l (judged.Faulty line f) (s, stands, rest, number) gives ended =
     let e = ended s stands in fault-at told old p line f s stands rest (e.0 ∙ number) (end-comes limit old new l s f gives e.1)
 
--- what was read whole, whether the reader told it or not
-pub ended-all : (s : Stage) (l : List ℕ) (n : ℕ) (j : Judged) → IsEnded s l n j → IsAll j
-ended-all s l n (judged.Whole k) e = (e.0.0, e.0.1, e.0.2)
-ended-all s l n (judged.Faulty line f) e = tt
-
 -- ---- a line that is too long
-
--- some piece comes next, and it is as long as what begins without an LF
-record Long (bytes : List ℕ) (limit : ℕ) : Type 0 where
-  next : Piece
-  comes : ComesNext bytes next
-  long : limit < length (bytes_of next)
 
 piece : (bytes : List ℕ) → (next : Piece) × ComesNext bytes next
 piece [] = (last [], (refl, λ k d lt. absurd (omega arith)))
@@ -172,11 +161,7 @@ pub at-long : (told : Option (List ℕ)) (p : Progress) (limit n : ℕ) (old new
     → ((s : Stage) → Stands p s → (next : Piece) → limit < length (bytes_of next) → Breaks (Rule s next) f) → IfSome told (λ bytes. FirstFault bytes n f)
 at-long told p limit n old new l f (s, stands, rest, number) gives breaks = fault-at told old p n f s stands rest number (long-comes limit old new l s f gives (breaks s stands))
 
--- ---- at the start, and the reads
-
-pub begins : (told : Option (List ℕ)) (p : Progress) → Stands p start → Goes told p told 1
-begins None p stands = (start, stands, tt, refl)
-begins (Some bytes) p stands = (start, stands, refl, refl)
+-- ---- the reads
 
 pub spends_on : (told mid new : Option (List ℕ)) (a b c : ℕ) → Spends a told b mid → Spends b mid c new → Spends a told c new
 spends_on None mid new a b c first later = tt

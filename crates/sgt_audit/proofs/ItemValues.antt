@@ -1,12 +1,9 @@
 -- The value of an item, looked for in a list.
-use Rattle.std.proofs.Common.{inl, inr, ◌≡◌, ℕ, ◌+◌, ◌<◌, Bool, true, false, cond, List, [], ◌∷◌, ◌++◌, length, get_or, take, drop, Option, Some, None, refl, sym, ap, ap₂, ◌∙◌, IsTrue}
-use Rattle.std.specs.Prelude.{◌↔◌}
+use Rattle.std.proofs.Common.{◌≡◌, ℕ, ◌+◌, ◌<◌, true, false, cond, List, [], ◌∷◌, ◌++◌, length, get_or, take, drop, Option, Some, None, refl, sym, ap, ap₂, ◌∙◌}
 use Rattle.std.specs.List.{last_or, filter_map, cons_option}
 use Rattle.std.specs.Option.{option_or}
 use Rattle.std.specs.Str.{bytes_eq}
-use Rattle.std.proofs.lemmas.Bool.{cases_Bool, false≢true}
 use Rattle.std.proofs.lemmas.List.Elements.{filter_map-append}
-use Rattle.std.proofs.lemmas.Slice.Eq.{bytes_eq-Decides}
 use Rattle.sgt_names.specs.Name.{Name}
 use Rattle.sgt_names.specs.Entry.{written}
 use Rattle.sgt_names.specs.Log.{value_in, value_at}
@@ -14,11 +11,6 @@ use Rattle.sgt_names.specs.declared.entry.Entry.{Entry}
 use Rattle.sgt_names.specs.declared.entry.Holding.{Holding}
 use Rattle.sgt_audit.proofs.Cuts.{last_or-append}
 use Rattle.sgt_audit.proofs.Slices.{drop_here, take_here}
-
--- a test that answers whether two names are one
-pub tested-eq : (x y : Name) (r : Bool) → (IsTrue r ↔ (x ≡ y)) → bytes_eq x y ≡ r
-tested-eq x y true h = (bytes_eq-Decides x y).1 (h.0 refl)
-tested-eq x y false h = elim (cases_Bool (bytes_eq x y)) [ inl hit ↦ absurd (false≢true (h.1 ((bytes_eq-Decides x y).0 hit))) | inr miss ↦ miss ]
 
 pub found-here : (items : List Holding) (i : ℕ) (h : Holding) (x : Name) → i < length items → h ≡ get_or items i h → bytes_eq h.item x ≡ true → value_in (drop i items) x ≡ value_in items x → Some h.value ≡ value_in items x
 found-here items i h x lt is same rest =

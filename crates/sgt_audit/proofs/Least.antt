@@ -10,7 +10,7 @@ use Rattle.sgt_names.specs.declared.entry.Entry.{Entry}
 use Rattle.sgt_names.specs.declared.entry.Entry.TheVariants as entry
 use Rattle.sgt_names.specs.declared.entry.Holding.{Holding}
 use Rattle.sgt_notation.specs.declared.SectionLine.{SectionLine}
-use Rattle.sgt_notation.specs.declared.SectionLine.TheVariants.{Site, Initial, Logged, Final, End}
+use Rattle.sgt_notation.specs.declared.SectionLine.TheVariants.{Site, Logged, Final, End}
 use Rattle.sgt_cert.specs.Valid.{IsDecided, EndInOrder, RiseInRank}
 use Rattle.sgt_cert.specs.Text.{Begins}
 use Rattle.sgt_cert.specs.declared.certificate.Certificate.{Certificate}
@@ -84,22 +84,6 @@ end-7 c before fault.WalkStep lt = absurd (omega arith)
 end-7 c before fault.Truncated lt = absurd (omega arith)
 end-7 c before fault.Trailing lt = absurd (omega arith)
 end-7 c before _ lt = tt
-
-initial-7 : (c : Certificate) (before : List SectionLine) (h : Holding) → KeptBelow (Keeps c before (Initial h)) 7
-initial-7 c before h fault.Section lt = absurd (omega arith)
-initial-7 c before h fault.Item lt = absurd (omega arith)
-initial-7 c before h fault.Twice lt = absurd (omega arith)
-initial-7 c before h fault.ReadValue lt = absurd (omega arith)
-initial-7 c before h fault.RankOrder lt = absurd (omega arith)
-initial-7 c before h fault.Block lt = absurd (omega arith)
-initial-7 c before h fault.End lt = absurd (omega arith)
-initial-7 c before h fault.DecisionOrder lt = absurd (omega arith)
-initial-7 c before h fault.NotEnded lt = absurd (omega arith)
-initial-7 c before h fault.Final lt = absurd (omega arith)
-initial-7 c before h fault.WalkStep lt = absurd (omega arith)
-initial-7 c before h fault.Truncated lt = absurd (omega arith)
-initial-7 c before h fault.Trailing lt = absurd (omega arith)
-initial-7 c before h _ lt = tt
 
 site-7 : (c : Certificate) (before : List SectionLine) (k : ℕ) → KeptBelow (Keeps c before (Site k)) 7
 site-7 c before k fault.Section lt = absurd (omega arith)
@@ -260,9 +244,6 @@ module _ (c : Certificate) (before : List SectionLine) (log : SiteLog) (entries 
   end-12 =
       let upto-8 = kept-next end_rule 7 fault.Section refl (end-7 c before) begins in
       kept-next end_rule 11 fault.RankOrder refl (kept-next end_rule 10 fault.ReadValue refl (kept-next end_rule 9 fault.Twice refl (kept-next end_rule 8 fault.Item refl upto-8 tt) tt) tt) tt
-
-  pub end-block : (GoesOn log End → ⊥) → Breaks end_rule fault.Block
-  end-block miss = least-at end_rule 12 fault.Block refl end-12 (λ r. miss (λ f none at. r f (o.entry_last f none at)))
 
   module _ (goes : GoesOn log End) where
     end-15 : KeptBelow end_rule 15

@@ -1,4 +1,5 @@
 -- What each rule asks of a line, in terms of the open section's items and entries.
+-- Private clauses alone use these words.
 use Rattle.std.specs.Prelude.{◌≡◌, ℕ, ◌-◌, ◌<◌, List, [], length, Option, Some, None, slice_get}
 use Rattle.std.specs.List.{last_or}
 use Rattle.sgt_names.specs.Entry.{IsOpen, Continues}

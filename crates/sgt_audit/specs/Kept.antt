@@ -1,4 +1,5 @@
 -- What is kept of a text: the lines read so far, which have no fault.
+-- Private clauses use these words, and of the public ones those alone that say what an auditor was fed (Fed).
 use Rattle.std.specs.Prelude.{◌≡◌, ◌⊎◌, ℕ, List, [], ◌∷◌, ◌++◌, Option, Some, None}
 use Rattle.sgt_notation.specs.Spelling.{line_text}
 use Rattle.sgt_notation.specs.declared.SectionLine.{SectionLine}

@@ -1,4 +1,5 @@
 -- How far the auditor has come in a text.
+-- Private clauses use these words, and of the public ones those alone that say what an auditor was fed (Fed).
 use Rattle.std.specs.Prelude.{◌≡◌, ℕ, List, [], ◌∷◌, ◌++◌, Option, Some, None, Result, Ok, Err}
 use Rattle.sgt_notation.specs.declared.SectionLine.{SectionLine}
 use Rattle.sgt_cert.specs.Text.{certificate_text}

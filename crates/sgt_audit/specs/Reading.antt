@@ -1,4 +1,5 @@
 -- The sections of a bundle as far as they were read.
+-- Private clauses use these words, and of the public ones those alone that go through Fed or Spelled.
 use Rattle.std.specs.Prelude.{◌≡◌, ℕ, ◌<◌, ◌≤◌, List, [], ◌∷◌, ◌++◌, length, map, take, All, AllPairs, Option, Some, None, slice_get}
 use Rattle.sgt_names.specs.Limits.{max_items, max_sites}
 use Rattle.sgt_names.specs.Log.{names}

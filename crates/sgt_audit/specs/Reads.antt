@@ -1,4 +1,5 @@
 -- What was judged of a text that a reader tells.
+-- Private clauses alone use these words.
 use Rattle.std.specs.Prelude.{◌≡◌, ℕ, List, []}
 use Rattle.sgt_notation.specs.Spelling.{text_of_lines}
 use Rattle.sgt_notation.specs.declared.SectionLine.{SectionLine}

@@ -123,7 +123,11 @@ fn judge_inside(decisions: &[Decision], log: &OpenLog, line: &SectionLine) -> Op
 }
 
 /// The least fault of a line behind the sections that were read, but for the walks.
-pub(crate) fn judge_line(decisions: &[Decision], sections: &Sections, line: &SectionLine) -> Option<Fault>
+pub(crate) fn judge_line(
+    decisions: &[Decision],
+    sections: &Sections,
+    line: &SectionLine,
+) -> Option<Fault>
     ensures goes_on { IfNone result (Begins sections.now.sites (lines_read sections.now ++ line.now ∷ [])) }
     ensures judged { (c : Certificate) → c.decisions ≡ decisions.now → c.sites ≡ sections.now.sites → IsDecidedOnce decisions.now
         → Judged (Keeps c (lines_read sections.now) line.now) result }

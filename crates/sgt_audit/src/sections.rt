@@ -32,9 +32,7 @@ impl Model for OpenLog {
 fn come_before(items: &[Holding], item: &Item) -> bool
     ensures { IsTrue result ↔ All (λ x. ComesBefore x item.now) (names items.now) }
 {
-    items
-        .iter()
-        .all(|holding| holding.item < *item)
+    items.iter().all(|holding| holding.item < *item)
 }
 
 /// Whether the two are values of one item.
