@@ -72,7 +72,8 @@ impl Graph {
 
     /// Adds a node for a transaction, not yet admitted. It errs with O4 where the window has as many nodes as it may, 4096,
     /// else with O2 where no room is left and memory is refused; after an Err the nodes, the order and the edges are as they
-    /// were. In the long run a call takes constant time; one that has to grow moves all nodes.
+    /// were. Room that `reserve_for` made for edges between nodes that were there stays. In the long run a call takes
+    /// constant time; one that has to grow moves all nodes.
     pub fn node(&mut self, tx: Tx) -> Result<Handle, NodeFault>
         ensures handle { IfOk result (λ h. (h.index ≡ length self.old.transactions) × (h.generation ≡ self.old.generation)) }
         ensures transactions { OnOk result (self.new.transactions ≡ self.old.transactions ++ tx ∷ []) }
@@ -172,9 +173,10 @@ impl Graph {
     }
 
     /// Makes room, so that a node can be admitted with these edges without taking memory: `admit` with them then errs only
-    /// where they make a cycle. The room lasts until an `admit` answers Ok. It errs where memory is refused; whatever it
-    /// answers, the nodes, the order and the edges are as they were, and room that was made for other edges stays. It goes
-    /// over the edges; one that has to grow also moves all edges.
+    /// where they make a cycle. The node has to be added first, since for edges from a node that isn't there no room is made.
+    /// The room lasts until an `admit` answers Ok. It errs, as O2, where that room isn't there and memory is refused.
+    /// Whatever it answers, the nodes, the order and the edges are as they were, and room that was made for other edges
+    /// stays. It goes over the edges given; a call that has to grow also moves all edges.
     pub fn reserve_for(&mut self, offered: &EdgeList) -> Result<(), AllocError>
         ensures same { SameGraph self.old self.new }
         ensures ok { OnOk result (HasRoomFor self.new offered.now) }
