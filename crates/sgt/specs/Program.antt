@@ -1,5 +1,5 @@
 -- What the program says.
-use Rattle.std.specs.Prelude.{◌≡◌, ◌<◌, ◌⊎◌, ℕ, List, Option, codes, length, take, IfSome}
+use Rattle.std.specs.Prelude.{◌<◌, ◌⊎◌, ℕ, List, Option, codes, length, take, IfSome}
 use Rattle.std.specs.Io.KnownBytes.{Appends}
 use Rattle.sgt_names.specs.declared.outcome.EngineFail.{EngineFail}
 use Rattle.sgt_names.specs.declared.outcome.EngineFail.TheVariants.{Memory, ReadFault, WriteFault}
