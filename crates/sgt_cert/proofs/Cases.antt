@@ -87,7 +87,7 @@ undecided-not_agree a = let told = All_at (λ en. (number : ℕ) × IsDecided []
 
 -- a conflict between equal ranks
 pub equal-not_risen : RiseInRank (Commit 1 0 ∷ Commit 2 0 ∷ []) (e.Write 1 x 7) (e.Write 2 x 7) → ⊥
-equal-not_risen r = let wrong : 0 < 0 = r Ww x 0 1 0 0 (refl, refl) (λ same. absurd (omega arith)) refl refl in absurd (omega arith)
+equal-not_risen r = let wrong : 0 < 0 = r Ww x 0 1 0 0 (refl, refl, λ p q. absurd cc) (λ same. absurd (omega arith)) refl refl in absurd (omega arith)
 
 -- each kind of conflict is asked for
 pub write_read-not_risen : RiseInRank (Commit 1 1 ∷ Commit 2 0 ∷ []) (e.Write 1 x 7) (e.Read 2 x 7) → ⊥
@@ -185,7 +185,7 @@ other_site-not_logged (log, at, c) = absurd cc
 -- ---- the serial run
 
 -- one site with an item x=5, whose log ends with this value
-abbrev of_x : List Decision → List Entry → ℕ → Parts
+abbrev pub of_x : List Decision → List Entry → ℕ → Parts
 of_x ds entries v = record {
   certificate = record { sites = 1; decisions = ds };
   sites = record { items = record { item = x; value = 5 } ∷ []; entries = entries; finals = record { item = x; value = v } ∷ [] } ∷ [];
@@ -238,6 +238,17 @@ swapped-reads : (store : Store) (tx s : ℕ) (i : Name) (v : ℕ) → Contains (
 swapped-reads store tx zero i v c = let at = Contains_at (first_log swapped).entries (e.Read tx i v) c in absurd (swapped-no_read at.0 tx i v at.1)
 swapped-reads store tx (suc s) i v (n, lt, is) = absurd (omega arith)
 
+swapped-add : (n tx : ℕ) (i : Name) (v : ℕ) → slice_get (first_log swapped).entries n ≡ Some (e.Add tx i v) → ⊥
+swapped-add zero tx i v at = absurd cc
+swapped-add (suc zero) tx i v at = absurd cc
+swapped-add (suc (suc zero)) tx i v at = absurd cc
+swapped-add (suc (suc (suc zero))) tx i v at = absurd cc
+swapped-add (suc (suc (suc (suc n)))) tx i v at = absurd cc
+
+swapped-adds : (store : Store) (tx s : ℕ) (i : Name) (v : ℕ) → Contains (entries_of swapped.sites s) (e.Add tx i v) → IsSome (store s i)
+swapped-adds store tx zero i v c = let at = Contains_at (first_log swapped).entries (e.Add tx i v) c in absurd (swapped-add at.0 tx i v at.1)
+swapped-adds store tx (suc s) i v (n, lt, is) = absurd (omega arith)
+
 swapped-writes : (store : Store) → IsSome (store 0 x) → (tx s : ℕ) (i : Name) (v : ℕ) → Contains (entries_of swapped.sites s) (e.Write tx i v) → IsSome (store s i)
 swapped-writes store here tx zero i v c =
     let at = Contains_at (first_log swapped).entries (e.Write tx i v) c in
@@ -245,7 +256,7 @@ swapped-writes store here tx zero i v c =
 swapped-writes store here tx (suc s) i v (n, lt, is) = absurd (omega arith)
 
 swapped-runs : (store : Store) (tx : ℕ) → IsSome (store 0 x) → RunsOn swapped.sites tx store
-swapped-runs store tx here = record { reads = swapped-reads store tx; writes = swapped-writes store here tx }
+swapped-runs store tx here = record { reads = swapped-reads store tx; writes = swapped-writes store here tx; adds = swapped-adds store tx }
 
 swapped-finals : (store : Store) → store 0 x ≡ Some 7 → (s : ℕ) (log : SiteLog) → slice_get swapped.sites s ≡ Some log → All (λ (h : Holding). store s h.item ≡ Some h.value) log.finals
 swapped-finals store here zero log at =

@@ -1,5 +1,5 @@
 -- No bytes spell two bundles.
-use Rattle.std.proofs.Common.{◌≡◌, ℕ, suc, ◌+◌, ◌≤◌, List, [], ◌∷◌, ◌++◌, length, map, refl, sym, ap, ap₂, ◌∙◌, arith, append_assoc, All}
+use Rattle.std.proofs.Common.{◌≡◌, ℕ, suc, ◌+◌, ◌≤◌, Bool, true, false, List, [], ◌∷◌, ◌++◌, length, map, refl, sym, ap, ap₂, ◌∙◌, arith, append_assoc, All}
 use Rattle.std.specs.Prelude.{codes}
 use Rattle.std.specs.List.{AllByRecursion}
 use Rattle.std.proofs.lemmas.List.{append-nil}
@@ -10,9 +10,9 @@ use Rattle.sgt_names.specs.declared.entry.Holding.{Holding}
 use Rattle.sgt_notation.specs.Spelling.{line_text, text_of_lines, IsEntry, IsHolding, IsLine}
 use Rattle.sgt_notation.specs.declared.SectionLine.{SectionLine}
 use Rattle.sgt_notation.specs.declared.SectionLine.TheVariants.{Site, Initial, Logged, Final, End}
-use Rattle.sgt_notation.proofs.OneSpelling.{HasNot-from_test, cut_at_byte, line-one, line-one_line}
+use Rattle.sgt_notation.proofs.OneSpelling.{HasNot, HasNot-from_test, cut_at_byte, line-one, line-one_line}
 use Rattle.sgt_cert.specs.Parts.{Parts}
-use Rattle.sgt_cert.specs.Text.{certificate_text, section_lines, sections_from, text_of, IsBundle, IsLog, Spells}
+use Rattle.sgt_cert.specs.Text.{certificate_text, format_line, has_increments, section_lines, sections_from, text_in, text_of, IsBundle, IsLog, Spells}
 use Rattle.sgt_cert.specs.declared.certificate.Certificate.{Certificate}
 use Rattle.sgt_cert.specs.declared.bundle.SiteLog.{SiteLog}
 use Rattle.sgt_cert.proofs.OneLine.{certificate-one_line}
@@ -142,7 +142,11 @@ sections-lines k (log ∷ logs) few h =
     (final-lines log.finals (recursion_from_All IsHolding log.finals first.finals))) (tt, tt) in
     lines-append (section_lines k log) (sections_from (suc k) logs) (omega arith, body) (sections-lines (suc k) logs (omega arith) (All-tail IsLog log logs h))
 
--- ---- so a bundle has one text, and a text one bundle
+-- ---- so a bundle has its text, and a text one bundle
+
+pub text-from : (certificate : Certificate) (sites seen : List SiteLog) (bytes : List ℕ) → seen ≡ sites
+    → bytes ≡ text_of (record { certificate = certificate; sites = seen }) → bytes ≡ text_of (record { certificate = certificate; sites = sites })
+text-from certificate sites seen bytes same e = e ∙ ap (λ (logs : List SiteLog). text_of (record { certificate = certificate; sites = logs })) same
 
 pub spells-from : (certificate : Certificate) (sites seen : List SiteLog) (bytes : List ℕ) → IsBundle (record { certificate = certificate; sites = sites }) → seen ≡ sites
     → bytes ≡ text_of (record { certificate = certificate; sites = seen }) → Spells bytes (record { certificate = certificate; sites = sites })
@@ -150,17 +154,35 @@ spells-from certificate sites seen bytes is same e = record {
   certificate = is.certificate;
   shape = is.shape;
   logs = is.logs;
+  second = has_increments sites;
+  allowed = λ h. h;
   text = e ∙ ap (λ (logs : List SiteLog). text_of (record { certificate = certificate; sites = logs })) same;
 }
 
+-- the formats of a bundle
+pub in_second : (b : Parts) → IsBundle b → Spells (text_in true b) b
+in_second b is = record { certificate = is.certificate; shape = is.shape; logs = is.logs; second = true; allowed = λ h. refl; text = refl }
+
+pub in_first : (b : Parts) → IsBundle b → has_increments b.sites ≡ false → Spells (text_in false b) b
+in_first b is none = record { certificate = is.certificate; shape = is.shape; logs = is.logs; second = false; allowed = λ h. sym none ∙ h; text = refl }
+
+pub own-first : (b : Parts) → has_increments b.sites ≡ false → text_of b ≡ text_in false b
+own-first b none = ap (λ t. text_in t b) none
+
+pub in_second_alone : (b : Parts) (bytes : List ℕ) → Spells bytes b → has_increments b.sites ≡ true → (bytes ≡ text_in true b) × (text_of b ≡ text_in true b)
+in_second_alone b bytes s some = (s.text ∙ ap (λ t. text_in t b) (s.allowed some), ap (λ t. text_in t b) some)
+
+pub format-one_line : (second : Bool) → HasNot 10 (format_line second)
+format-one_line true = HasNot-from_test 10 (codes "sgt 2") refl
+format-one_line false = HasNot-from_test 10 (codes "sgt 1") refl
+
 pub bundle-one : (bytes : List ℕ) (b c : Parts) → Spells bytes b → Spells bytes c → b ≡ c
 bundle-one bytes b c s t =
-    let format = codes "sgt 1" in
     let body = λ (d : Parts). map line_text (sections_from 0 d.sites) in
     let after = λ (d : Parts). text_of_lines (certificate_text d.certificate ∷ body d) in
     let e = sym s.text ∙ t.text in
-    let e1 = sym (first_line format (certificate_text b.certificate ∷ body b)) ∙ e ∙ first_line format (certificate_text c.certificate ∷ body c) in
-    let cut = cut_at_byte 10 format format (after b) (after c) (HasNot-from_test 10 format refl) (HasNot-from_test 10 format refl) e1 in
+    let e1 = sym (first_line (format_line s.second) (certificate_text b.certificate ∷ body b)) ∙ e ∙ first_line (format_line t.second) (certificate_text c.certificate ∷ body c) in
+    let cut = cut_at_byte 10 (format_line s.second) (format_line t.second) (after b) (after c) (format-one_line s.second) (format-one_line t.second) e1 in
     let e2 = sym (first_line (certificate_text b.certificate) (body b)) ∙ cut.1 ∙ first_line (certificate_text c.certificate) (body c) in
     let cut2 = cut_at_byte 10 (certificate_text b.certificate) (certificate_text c.certificate) (text_of_lines (body b)) (text_of_lines (body c)) (certificate-one_line b.certificate s.certificate) (certificate-one_line c.certificate t.certificate) e2 in
     let certificate-is = certificate-one b.certificate c.certificate s.certificate t.certificate cut2.0 in

@@ -39,7 +39,15 @@ fn entry_fits(entry: Entry)
             let _number = tx.number();
             holding_fits(Holding { item, value });
         }
+        Entry::Add { tx, item, value } => {
+            let _number = tx.number();
+            holding_fits(Holding { item, value });
+        }
         Entry::Want { tx, item, value } => {
+            let _number = tx.number();
+            holding_fits(Holding { item, value });
+        }
+        Entry::WantAdd { tx, item, value } => {
             let _number = tx.number();
             holding_fits(Holding { item, value });
         }

@@ -1,7 +1,7 @@
 use crate::{
-    Bundle, CertFault, Certificate, Decision, SiteLog, certificates_are_read_back,
-    certificates_have_one_reading, committed_transactions_run, from_line,
-    lines_are_read_or_refused, lines_are_refused_once, no_bytes_spell_two_bundles,
+    Bundle, CertFault, Certificate, Decision, SiteLog, bundles_are_spelled_in_their_formats,
+    certificates_are_read_back, certificates_have_one_reading, committed_transactions_run,
+    from_line, lines_are_read_or_refused, lines_are_refused_once, no_bytes_spell_two_bundles,
     ranks_are_distinct, serial_order_is_by_rank, to_line, valid_bundles_run_serially,
 };
 use sgt_names::Listed;
@@ -295,6 +295,7 @@ fn bundles(rt: HostRuntime) -> Result<(), Fail> {
         Decision::Commit { .. } => return Err(Fail::new("another answer")),
         Decision::Refuse { .. } => return Err(Fail::new("another answer")),
     }
+    bundles_are_spelled_in_their_formats();
     certificates_are_read_back();
     certificates_have_one_reading();
     committed_transactions_run();
@@ -304,6 +305,40 @@ fn bundles(rt: HostRuntime) -> Result<(), Fail> {
     ranks_are_distinct();
     serial_order_is_by_rank();
     valid_bundles_run_serially();
+    Ok(())
+}
+
+// The text of the bundle of these parts.
+fn text_of(alloc: Global, line: &str, logs: &[&[&str]]) -> Result<Vec<u8>, Fail> {
+    match bundle_of(alloc, line, logs)? {
+        Some(bundle) => Ok(bundle.to_text(alloc)?),
+        None => Err(Fail::new("another answer")),
+    }
+}
+
+// Line 1 says `sgt 2` exactly where an entry is an increment or asks for one.
+#[test]
+fn formats(rt: HostRuntime) -> Result<(), Fail> {
+    let alloc = rt.alloc();
+    let line = "{\"decisions\":[{\"commit\":2,\"rank\":0},{\"commit\":1,\"rank\":1}],\"sites\":1}";
+    let text = text_of(
+        alloc,
+        line,
+        &[&["item x=5", "d2[x]=4", "c2", "d1[x]=3", "c1", "final x=12"]],
+    )?;
+    let wanted =
+        "sgt 2\n{\"decisions\":[{\"commit\":2,\"rank\":0},{\"commit\":1,\"rank\":1}],\"sites\":1}\nsite 0\nitem x=5\nd2[x]=4\nc2\nd1[x]=3\nc1\nfinal x=12\nend\n";
+    assert!(rt; text.as_slice() == wanted.as_bytes());
+    for (log, format) in [
+        (["item x=5", "r1[x]=5", "final x=5"].as_slice(), "sgt 1\n"),
+        (["item x=5", "w1[x]=5", "final x=5"].as_slice(), "sgt 1\n"),
+        (["item x=5", "d1[x]=5", "final x=5"].as_slice(), "sgt 2\n"),
+        (["item x=5", "p1[x]=5", "final x=5"].as_slice(), "sgt 1\n"),
+        (["item x=5", "q1[x]=5", "final x=5"].as_slice(), "sgt 2\n"),
+    ] {
+        let text = text_of(alloc, "{\"decisions\":[],\"sites\":2}", &[&["a3"], log])?;
+        assert!(rt; text.as_slice().starts_with(format.as_bytes()));
+    }
     Ok(())
 }
 

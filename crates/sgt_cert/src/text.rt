@@ -4,7 +4,9 @@ ghost use Rattle.std.specs.Prelude.{◌≡◌, ◌++◌, ◌∷◌, [], ◌≤�
 ghost use Rattle.sgt_names.specs.Limits.{max_sites};
 ghost use Rattle.sgt_notation.specs.Spelling.{line_text, text_of_lines};
 ghost use Rattle.sgt_notation.specs.declared.SectionLine.{SectionLine};
-ghost use Rattle.sgt_cert.specs.Text.{sections_from, section_lines, text_of};
+ghost use Rattle.std.specs.List.{list_any};
+ghost use Rattle.sgt_names.specs.Entry.{is_increment as increment};
+ghost use Rattle.sgt_cert.specs.Text.{has_increments, sections_from, section_lines, text_of};
 
 use crate::bundle::SiteLog;
 use crate::certificate::Certificate;
@@ -70,7 +72,28 @@ fn push_sections(out: &mut Vec<u8>, sites: &[SiteLog]) -> Result<(), AllocError>
     Ok(())
 }
 
-/// The text of a certificate and its logs. Err: memory ran out.
+fn is_increment(entry: &Entry) -> bool
+    ensures { result ≡ increment entry.now }
+{
+    matches!(entry, Entry::Add { .. } | Entry::WantAdd { .. })
+}
+
+fn any_increment(entries: &[Entry]) -> bool
+    ensures { result ≡ list_any increment entries.now }
+{
+    entries.iter().any(|entry| is_increment(entry))
+}
+
+/// Whether an entry of these logs is an increment, or asks for one.
+fn any_log_increments(sites: &[SiteLog]) -> bool
+    ensures { result ≡ has_increments sites.now }
+{
+    sites
+        .iter()
+        .any(|log| any_increment(log.entries.as_slice()))
+}
+
+/// The text of a certificate and its logs, in the second format exactly where it has to be. Err: memory ran out.
 pub(crate) fn text(
     alloc: Global,
     certificate: &Certificate,
@@ -80,7 +103,9 @@ pub(crate) fn text(
     ensures { IfOk result (λ text. text.items ≡ text_of (record { certificate = certificate.now; sites = sites.now })) }
 {
     let line = to_line(alloc, certificate)?;
-    let mut text = Vec::from_slice(alloc, b"sgt 1\n")?;
+    let second = any_log_increments(sites);
+    let format = if second { b"sgt 2\n" } else { b"sgt 1\n" };
+    let mut text = Vec::from_slice(alloc, format)?;
     text.extend_from_slice(line.as_slice())?;
     text.extend_from_slice(b"\n")?;
     push_sections(&mut text, sites)?;

@@ -1,5 +1,6 @@
 pub mod Places
 pub mod Chosen
+pub mod Increments
 pub mod Stored
 pub mod Ranged
 pub mod Touched

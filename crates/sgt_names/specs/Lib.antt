@@ -2,6 +2,7 @@ pub mod Limits
 pub mod Name
 pub mod Entry
 pub mod Log
+pub mod Sums
 pub mod Outcome
 pub mod Device
 pub mod Memory

@@ -2,7 +2,8 @@
 
 use crate::{
     BadName, BadNumber, EngineFail, FromRead, Item, Listed, MAX_ITEMS, MAX_SITES, MemSink,
-    MemSource, Outcome, Sink, SiteNo, Source, ToWrite, Tx,
+    MemSource, Outcome, Sink, SiteNo, Source, ToWrite, Tx, increments_commute,
+    increments_conflict_with_others, increments_do_not_conflict, value_is_of_the_last_write,
 };
 use std::cmp::Ordering;
 use std::io::{self, Read, Write};
@@ -144,6 +145,15 @@ fn sinks_over_memory(rt: HostRuntime) -> Result<(), Fail> {
     let mut shut = ToWrite::new(Shut);
     assert!(rt; shut.write(b"ab").is_err());
     assert_eq!(rt; shut.write(b""), Ok(0));
+    Ok(())
+}
+
+#[test]
+fn laws_of_increments(rt: HostRuntime) -> Result<(), Fail> {
+    increments_commute();
+    increments_conflict_with_others();
+    increments_do_not_conflict();
+    value_is_of_the_last_write();
     Ok(())
 }
 

@@ -3,7 +3,7 @@ use Rattle.std.proofs.Common.{◌≡◌, ◌≢◌, ℕ, List, [], ◌∷◌, �
 use Rattle.std.specs.Prelude.{decimal}
 use Rattle.std.proofs.lemmas.List.Elements.{recursion_from_All}
 use Rattle.sgt_names.specs.Name.{Name}
-use Rattle.sgt_names.specs.declared.entry.Entry.TheVariants.{Read, Write, Want}
+use Rattle.sgt_names.specs.declared.entry.Entry.TheVariants.{Read, Write, Add, Want, WantAdd}
 use Rattle.sgt_names.specs.declared.entry.Holding.{Holding}
 use Rattle.sgt_notation.specs.Reading.{IsOperation, SpellsNone, operation_text}
 use Rattle.sgt_notation.specs.Spelling.{assignment, entry_text, IsEntry, IsHolding}
@@ -54,6 +54,14 @@ pub write_not : (line rest : List ℕ) → line ≡ 119 ∷ rest → SpellsNone 
 write_not line rest is none (Write tx x v) ok whole = none (tx, x, v) ok (tails _ _ _ _ (sym is ∙ whole))
 write_not line rest is none e ok whole = absurd (apart (119 ∷ rest) (entry_text e) refl (sym is ∙ whole))
 
+pub add_not : (line rest : List ℕ) → line ≡ 100 ∷ rest → SpellsNone IsOperation operation_text rest → SpellsNone IsEntry entry_text line
+add_not line rest is none (Add tx x v) ok whole = none (tx, x, v) ok (tails _ _ _ _ (sym is ∙ whole))
+add_not line rest is none e ok whole = absurd (apart (100 ∷ rest) (entry_text e) refl (sym is ∙ whole))
+
 pub want_not : (line rest : List ℕ) → line ≡ 112 ∷ rest → SpellsNone IsOperation operation_text rest → SpellsNone IsEntry entry_text line
 want_not line rest is none (Want tx x v) ok whole = none (tx, x, v) ok (tails _ _ _ _ (sym is ∙ whole))
 want_not line rest is none e ok whole = absurd (apart (112 ∷ rest) (entry_text e) refl (sym is ∙ whole))
+
+pub want_add_not : (line rest : List ℕ) → line ≡ 113 ∷ rest → SpellsNone IsOperation operation_text rest → SpellsNone IsEntry entry_text line
+want_add_not line rest is none (WantAdd tx x v) ok whole = none (tx, x, v) ok (tails _ _ _ _ (sym is ∙ whole))
+want_add_not line rest is none e ok whole = absurd (apart (113 ∷ rest) (entry_text e) refl (sym is ∙ whole))

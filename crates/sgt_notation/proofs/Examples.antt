@@ -4,7 +4,7 @@ use Rattle.std.specs.Prelude.{codes}
 use Rattle.std.specs.Fmt.{digits}
 use Rattle.sgt_notation.specs.Spelling.{entry_text, line_text, text_of_lines, IsTx, IsValue, IsSite}
 use Rattle.sgt_names.specs.Name.{IsName}
-use Rattle.sgt_names.specs.declared.entry.Entry.TheVariants.{Read, Write, Want, Commit, Refuse, Withdraw}
+use Rattle.sgt_names.specs.declared.entry.Entry.TheVariants.{Read, Write, Add, Want, WantAdd, Commit, Refuse, Withdraw}
 use Rattle.sgt_notation.specs.Lines.{Gives, Leaves, SpendsNext}
 use Rattle.sgt_notation.specs.Reading.{Refuses}
 use Rattle.sgt_notation.specs.declared.fault.NotationFault.TheVariants.{Memory}
@@ -24,6 +24,14 @@ write-is = refl
 pub want-is : entry_text (Want 2 (codes "y") 18446744073709551615) ≡ codes "p2[y]=18446744073709551615"
 unfolding digits
 want-is = refl
+
+pub add-is : entry_text (Add 1 (codes "x") 3) ≡ codes "d1[x]=3"
+unfolding digits
+add-is = refl
+
+pub asked_add-is : entry_text (WantAdd 2 (codes "x") 8) ≡ codes "q2[x]=8"
+unfolding digits
+asked_add-is = refl
 
 pub commit-is : entry_text (Commit 4294967295) ≡ codes "c4294967295"
 unfolding digits

@@ -59,7 +59,9 @@ fn find_entry(line: &[u8]) -> Option<Entry>
     match *letter {
         b'r' => find_operation(rest).map(|(tx, item, value)| Entry::Read { tx, item, value }),
         b'w' => find_operation(rest).map(|(tx, item, value)| Entry::Write { tx, item, value }),
+        b'd' => find_operation(rest).map(|(tx, item, value)| Entry::Add { tx, item, value }),
         b'p' => find_operation(rest).map(|(tx, item, value)| Entry::Want { tx, item, value }),
+        b'q' => find_operation(rest).map(|(tx, item, value)| Entry::WantAdd { tx, item, value }),
         b'c' => find_tx(rest).map(|tx| Entry::Commit { tx }),
         b'n' => find_tx(rest).map(|tx| Entry::Refuse { tx }),
         b'a' => find_tx(rest).map(|tx| Entry::Withdraw { tx }),

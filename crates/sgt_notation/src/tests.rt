@@ -20,7 +20,9 @@ fn lines_are_read_and_written(rt: HostRuntime) -> Result<(), Fail> {
         ("end", false),
         ("r12[x_1]=5", true),
         ("w4294967295[abcdefghijklmnop]=18446744073709551615", true),
+        ("d1[x]=3", true),
         ("p1[r2]=10", true),
+        ("q2[x]=18446744073709551615", true),
         ("c1", true),
         ("n20", true),
         ("a4294967295", true),
@@ -43,6 +45,8 @@ fn lines_are_read_and_written(rt: HostRuntime) -> Result<(), Fail> {
     let item = Item::new(b"x_1")?;
     let value = 5;
     assert!(rt; read_entry(b"r12[x_1]=5") == Ok(Entry::Read { tx, item, value }));
+    assert!(rt; read_entry(b"d12[x_1]=5") == Ok(Entry::Add { tx, item, value }));
+    assert!(rt; read_entry(b"q12[x_1]=5") == Ok(Entry::WantAdd { tx, item, value }));
     lines_have_one_reading();
     lines_are_short();
     lines_have_no_lf();
@@ -76,6 +80,12 @@ fn other_bytes_are_refused(rt: HostRuntime) -> Result<(), Fail> {
         b"c",
         b"C1",
         b"d1",
+        b"d1[x]",
+        b"D1[x]=3",
+        b"d0[x]=3",
+        b"d1[x]=18446744073709551616",
+        b"q1",
+        b"q1[x]=",
         b"c4294967296",
         b"c18446744073709551616",
         b"r1[x]",

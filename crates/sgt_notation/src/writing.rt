@@ -58,8 +58,16 @@ fn push_entry(out: &mut Vec<u8>, entry: &Entry) -> Result<(), AllocError>
             out.extend_from_slice(b"w")?;
             push_operation(out, *tx, item, *value)
         }
+        Entry::Add { tx, item, value } => {
+            out.extend_from_slice(b"d")?;
+            push_operation(out, *tx, item, *value)
+        }
         Entry::Want { tx, item, value } => {
             out.extend_from_slice(b"p")?;
+            push_operation(out, *tx, item, *value)
+        }
+        Entry::WantAdd { tx, item, value } => {
+            out.extend_from_slice(b"q")?;
             push_operation(out, *tx, item, *value)
         }
         Entry::Commit { tx } => {
