@@ -11,6 +11,7 @@ use Rattle.std.proofs.lemmas.Slice.Eq.{bytes_eq-Decides}
 use Rattle.sgt_names.specs.Name.{Name}
 use Rattle.sgt_names.specs.Entry.{tx_of, change_of, Reads, Writes, IsIncrement, IsEnd, IsOpen, GoesOn, Continues, Clash}
 use Rattle.sgt_names.specs.Log.{changed, value_after}
+use Rattle.sgt_names.specs.Draft.{added_to, changed_by}
 use Rattle.sgt_names.specs.Sums.{added, Overwrites}
 use Rattle.sgt_names.specs.declared.entry.Change.{Change}
 use Rattle.sgt_names.specs.declared.entry.Change.TheVariants as change
@@ -35,6 +36,13 @@ after_changes o cs = fold changed o cs
 adds-swap : (o : Option ℕ) (u v : ℕ) → changed (changed o (change.Add u)) (change.Add v) ≡ changed (changed o (change.Add v)) (change.Add u)
 adds-swap None u v = refl
 adds-swap (Some w) u v = ap Some (omega arith)
+
+-- a change and an increment behind it are one change
+pub added-as_one : (o : Option ℕ) (c : Option Change) (v : ℕ) → changed_by (Some (added_to c v)) o ≡ changed (changed_by c o) (change.Add v)
+added-as_one o None v = refl
+added-as_one o (Some (change.Put u)) v = refl
+added-as_one None (Some (change.Add u)) v = refl
+added-as_one (Some w) (Some (change.Add u)) v = ap Some (omega arith)
 
 -- an increment may go behind other increments
 add-behind : (o : Option ℕ) (u : ℕ) (cs rest : List Change) → AllByRecursion IsAdd cs → after_changes o (change.Add u ∷ (cs ++ rest)) ≡ after_changes o (cs ++ change.Add u ∷ rest)

@@ -3,10 +3,11 @@
 ghost use Rattle.std.specs.Prelude.{◌≡◌, ◌≢◌, ◌<◌, ◌+◌, ◌%◌, ◌^◌, ◌++◌, ◌∷◌, ℕ, List, All, Option, Some};
 ghost use Rattle.sgt_names.specs.Name.{Name};
 ghost use Rattle.sgt_names.specs.Entry.{Clash, IsIncrement, Reads, Writes};
-ghost use Rattle.sgt_names.specs.Log.{value_after};
+ghost use Rattle.sgt_names.specs.Log.{changed, value_after};
 ghost use Rattle.sgt_names.specs.Sums.{added, Overwrites};
-ghost use Rattle.sgt_names.specs.Draft.{Place, place_of, AreRising, touched_at, ChangesOnly};
+ghost use Rattle.sgt_names.specs.Draft.{Place, place_of, AreRising, touched_at, added_to, changed_by, ChangesOnly};
 ghost use Rattle.sgt_names.specs.declared.draft.Touch.{Touch};
+ghost use Rattle.sgt_names.specs.declared.entry.Change.{Change};
 ghost use Rattle.sgt_names.specs.declared.entry.Entry.{Entry};
 ghost use Rattle.sgt_names.specs.declared.entry.Kind.{Kind};
 
@@ -15,6 +16,11 @@ ghost use Rattle.sgt_names.specs.declared.entry.Kind.{Kind};
 pub fn changes_show_at_their_place()
     ensures there { (old new : List Touch) (t : Touch) → AreRising new → ChangesOnly old new t → touched_at new (place_of t) ≡ Some t }
     ensures others { (old new : List Touch) (t : Touch) (p : Place) → p ≢ place_of t → ChangesOnly old new t → touched_at new p ≡ touched_at old p }
+{}
+
+/// A change of an item with an increment behind it does what the two as one change do.
+pub fn additions_sum_up()
+    ensures { (first : Option ℕ) (c : Option Change) (v : ℕ) → changed_by (Some (added_to c v)) first ≡ changed (changed_by c first) (Change.Add v) }
 {}
 
 /// The value of an item is the last one written, or else the first, plus all increments behind it, modulo 2^64.
