@@ -11,7 +11,8 @@ use Rattle.std.proofs.lemmas.Bool.{and_parts, and_from, leb-true, le-leb, lt-ltb
 use Rattle.serde_json.specs.Data.{Data}
 use Rattle.serde_json.specs.Find.{get, as_number, as_u64}
 use Rattle.serde_json.specs.Read.{read}
-use Rattle.sgt_names.specs.Name.{Name, IsName, is_name, is_name_byte, is_small_letter}
+use Rattle.sgt_names.specs.Name.{Name, IsName, is_name_byte, is_small_letter}
+use Rattle.sgt_names.specs.Stored.{is_name}
 use Rattle.sgt_names.specs.declared.entry.Kind.{Kind}
 use Rattle.sgt_names.specs.declared.entry.Kind.TheVariants.{Wr, Rw, Ww}
 use Rattle.sgt_names.proofs.Stored.{is_name-IsName}

@@ -5,7 +5,7 @@ use Rattle.std.proofs.lemmas.List.Elements.{All-cons}
 use Rattle.sgt_names.specs.Limits.{max_sites}
 use Rattle.sgt_names.proofs.Lists.{All-whole}
 use Rattle.sgt_cert.specs.Parts.{FitTogether, HasStepsWithin}
-use Rattle.sgt_cert.specs.Text.{IsBundle, IsCertificate, IsDecision, IsLog}
+use Rattle.sgt_cert.specs.Text.{IsBundle, IsDecision, IsLog}
 use Rattle.sgt_cert.specs.declared.certificate.Certificate.{Certificate}
 use Rattle.sgt_cert.specs.declared.certificate.Decision.{Decision}
 use Rattle.sgt_cert.specs.declared.certificate.Decision.TheVariants.{Commit, Refuse, Withdraw}

@@ -1,23 +1,20 @@
 -- Bundles with increments, and what the definitions say of them.
-use Rattle.std.proofs.Common.{◌≡◌, ◌≢◌, ℕ, zero, suc, Bool, true, false, List, [], ◌∷◌, ◌++◌, refl, sym, ap, ◌∙◌, subst, Some, arith, lit<, ◌<◌}
-use Rattle.std.specs.Prelude.{codes, slice_get}
+use Rattle.std.proofs.Common.{◌≡◌, ℕ, zero, suc, true, false, List, [], ◌∷◌, refl, sym, ◌∙◌, arith, lit<, ◌<◌}
+use Rattle.std.specs.Prelude.{codes}
 use Rattle.std.specs.Fmt.{digits}
 use Rattle.std.proofs.lemmas.Bool.{true≢false}
 use Rattle.std.proofs.lemmas.Option.{same_Some}
 use Rattle.serde_json.proofs.OnLiterals.{serde_json_on_literals}
 use Rattle.sgt_names.specs.declared.entry.Entry.TheVariants as e
-use Rattle.sgt_names.specs.declared.entry.Entry.{Entry}
-use Rattle.sgt_names.specs.declared.entry.Kind.TheVariants.{Wr, Rw, Ww}
-use Rattle.sgt_names.proofs.Places.{All_at, AllPairs_at, AllPairs-from_recursion, Contains-from_at}
+use Rattle.sgt_names.specs.declared.entry.Kind.TheVariants.{Wr}
+use Rattle.sgt_names.proofs.Places.{Contains-from_at}
 use Rattle.sgt_notation.specs.Spelling.{text_of_lines}
 use Rattle.sgt_cert.specs.Parts.{Parts}
-use Rattle.sgt_cert.specs.Certificate.{Suits, IsCycle}
-use Rattle.sgt_cert.specs.Valid.{RefusedLieOnCycles, AreLogged, IsLogged, IsValid, IsValidLog, RiseInRank}
+use Rattle.sgt_cert.specs.Certificate.{Suits}
+use Rattle.sgt_cert.specs.Valid.{RefusedLieOnCycles, IsValid}
 use Rattle.sgt_cert.specs.Serial.{SerialAgrees}
-use Rattle.sgt_cert.specs.Text.{text_of, text_in, has_increments, Spells}
+use Rattle.sgt_cert.specs.Text.{text_of, has_increments, Spells}
 use Rattle.sgt_cert.specs.declared.bundle.SiteLog.{SiteLog}
-use Rattle.sgt_cert.specs.declared.certificate.Step.{Step}
-use Rattle.sgt_cert.specs.declared.certificate.Decision.{Decision}
 use Rattle.sgt_cert.specs.declared.certificate.Decision.TheVariants.{Commit, Refuse, Withdraw}
 use Rattle.sgt_cert.proofs.WorkedBundles.{x, y, own_read}
 use Rattle.sgt_cert.proofs.Examples.{of_x}

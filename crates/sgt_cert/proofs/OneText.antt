@@ -3,7 +3,7 @@ use Rattle.std.proofs.Common.{◌≡◌, ℕ, suc, ◌+◌, ◌≤◌, Bool, tru
 use Rattle.std.specs.Prelude.{codes}
 use Rattle.std.specs.List.{AllByRecursion}
 use Rattle.std.proofs.lemmas.List.{append-nil}
-use Rattle.std.proofs.lemmas.List.Elements.{All-head, All-tail, recursion_from_All}
+use Rattle.std.proofs.lemmas.List.Elements.{All-cons, All-from_recursion, All-head, All-tail, recursion_from_All}
 use Rattle.sgt_names.specs.Limits.{max_sites}
 use Rattle.sgt_names.proofs.Lists.{AllByRecursion-append, heads, tails}
 use Rattle.sgt_names.specs.declared.entry.Entry.{Entry}
@@ -186,3 +186,41 @@ bundle-one bytes b c s t =
     let len = s.shape.each ∙ ap (λ (d : Certificate). d.sites) certificate-is ∙ sym t.shape.each in
     let sites-are = sections-one 0 b.sites c.sites [] [] len (ap (λ (ls : List SectionLine). ls ++ []) lines-are) in
     λ i. record { certificate = certificate-is i; sites = sites-are.0 i }
+
+-- ---- and lines with a spelling are of logs in their ranges
+
+front-all : {A : Type 0} (P : A → Type 0) (xs ys : List A) → AllByRecursion P (xs ++ ys) → AllByRecursion P xs × AllByRecursion P ys
+front-all P [] ys h = (tt, h)
+front-all P (x ∷ xs) ys h = let more = front-all P xs ys h.1 in ((h.0, more.0), more.1)
+
+items-from_lines : (items : List Holding) → AllByRecursion IsLine (map Initial items) → AllByRecursion IsHolding items
+items-from_lines [] h = tt
+items-from_lines (x ∷ items) h = (h.0, items-from_lines items h.1)
+
+entries-from_lines : (entries : List Entry) → AllByRecursion IsLine (map Logged entries) → AllByRecursion IsEntry entries
+entries-from_lines [] h = tt
+entries-from_lines (x ∷ entries) h = (h.0, entries-from_lines entries h.1)
+
+finals-from_lines : (finals : List Holding) → AllByRecursion IsLine (map Final finals) → AllByRecursion IsHolding finals
+finals-from_lines [] h = tt
+finals-from_lines (x ∷ finals) h = (h.0, finals-from_lines finals h.1)
+
+log-from_lines : (k : ℕ) (log : SiteLog) (back : List SectionLine) → AllByRecursion IsLine (section_lines k log ++ back) → IsLog log × AllByRecursion IsLine back
+log-from_lines k log back h =
+    let spread = subst (AllByRecursion IsLine) (section_spread k log back) h in
+    let items = front-all IsLine (map Initial log.items) (map Logged log.entries ++ (map Final log.finals ++ (End ∷ back))) spread.1 in
+    let entries = front-all IsLine (map Logged log.entries) (map Final log.finals ++ (End ∷ back)) items.1 in
+    let finals = front-all IsLine (map Final log.finals) (End ∷ back) entries.1 in (
+      record {
+        items = All-from_recursion IsHolding log.items (items-from_lines log.items items.0);
+        entries = All-from_recursion IsEntry log.entries (entries-from_lines log.entries entries.0);
+        finals = All-from_recursion IsHolding log.finals (finals-from_lines log.finals finals.0);
+      },
+      finals.1.1,
+    )
+
+pub logs-from_lines : (k : ℕ) (logs : List SiteLog) → AllByRecursion IsLine (sections_from k logs) → All IsLog logs
+logs-from_lines k [] h = λ n d less. absurd (omega arith)
+logs-from_lines k (log ∷ logs) h =
+    let first = log-from_lines k log (sections_from (suc k) logs) h in
+    All-cons IsLog log logs first.0 (logs-from_lines (suc k) logs first.1)

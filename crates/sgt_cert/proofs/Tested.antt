@@ -20,9 +20,8 @@ use Rattle.sgt_names.specs.declared.entry.Kind.{Kind}
 use Rattle.sgt_names.specs.declared.entry.Kind.TheVariants.{Wr, Rw, Ww}
 use Rattle.sgt_names.proofs.Places.{AllPairs-from_recursion, AllPairs_at, AllPairs-tail, Contains-from_at, PairsByRecursion}
 use Rattle.sgt_cert.specs.Parts.{Parts}
-use Rattle.sgt_cert.specs.Certificate.{decided_tx, IsCycle, IsDecidedOnce, Suits, ranks}
-use Rattle.sgt_cert.specs.Valid.{RefusedLieOnCycles, IsDecided, EndInOrder, RiseInRank, IsValidLog, AreLogged, IsValid}
-use Rattle.sgt_cert.specs.declared.certificate.Step.{Step}
+use Rattle.sgt_cert.specs.Certificate.{decided_tx, IsDecidedOnce, Suits, ranks}
+use Rattle.sgt_cert.specs.Valid.{RefusedLieOnCycles, IsDecided, EndInOrder, RiseInRank, IsValidLog, IsValid}
 use Rattle.sgt_cert.specs.declared.certificate.Decision.{Decision}
 use Rattle.sgt_cert.specs.declared.certificate.Decision.TheVariants.{Commit, Refuse, Withdraw}
 use Rattle.sgt_cert.specs.declared.bundle.SiteLog.{SiteLog}

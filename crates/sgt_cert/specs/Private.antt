@@ -1,11 +1,11 @@
 -- Words of private clauses alone: the certificate in a JSON value that has the shape of one, and the answer to a line.
 use Rattle.std.specs.Prelude.{◌≡◌, ℕ, ◌+◌, ◌^◌, List, [], ◌∷◌, ◌&&◌, nat_le, nat_lt, if◌then◌else◌, Option, Some, None, option_map, option_and_then, codes, Result, Ok, Err}
 use Rattle.std.specs.Str.{bytes_eq}
-use Rattle.serde_json.specs.Data.{Data, item, member}
+use Rattle.serde_json.specs.Data.{Data}
 use Rattle.serde_json.specs.Find.{get, as_number, as_str, as_array, as_u64}
-use Rattle.serde_json.specs.Read.{read}
 use Rattle.sgt_names.specs.Limits.{max_sites}
-use Rattle.sgt_names.specs.Name.{Name, is_name}
+use Rattle.sgt_names.specs.Name.{Name}
+use Rattle.sgt_names.specs.Stored.{is_name}
 use Rattle.sgt_names.specs.declared.entry.Kind.{Kind}
 use Rattle.sgt_names.specs.declared.entry.Kind.TheVariants.{Wr, Rw, Ww}
 use Rattle.sgt_cert.specs.Text.{certificate_text}
