@@ -32,7 +32,7 @@ abbrev pub Goes : Option (List ℕ) → Progress → Option (List ℕ) → ℕ �
 Goes told p coming n = (s : Stage) × Stands p s × IsRest s told coming × (n ≡ length (lines_so_far s) + 1)
 
 -- what the machine has kept has no fault
-stage-faultless : (k : Kept) (before : List SectionLine) (s : Stage) → Means k.certificate k.sections before → IsStageOf k.certificate before s → IsFaultless s
+stage-faultless : (k : Kept) (before : List SectionLine) (s : Stage) → Means k.second k.certificate k.sections before → IsStageOf k.second k.certificate before s → IsFaultless s
 stage-faultless k before s m (inl here) = subst IsFaultless (sym here.0) (m.kept, here.1)
 stage-faultless k before s m (inr done) = subst IsFaultless (sym done.0) (m.kept, done.1)
 
@@ -95,7 +95,7 @@ end-comes limit (Some xs) None l s f gives breaks = absurd gives
 end-comes limit (Some xs) (Some ys) l s f gives breaks = (last [], (gives.0, λ k d lt. absurd (omega arith)), breaks)
 
 -- all was read, and nothing is left
-whole-text : (told coming : Option (List ℕ)) (k : Kept) (before : List SectionLine) (s : Stage) → Means k.certificate k.sections before → AreSections k.certificate.sites before → s ≡ complete k.certificate before
+whole-text : (told coming : Option (List ℕ)) (k : Kept) (before : List SectionLine) (s : Stage) → Means k.second k.certificate k.sections before → AreSections k.certificate.sites before → s ≡ complete k.second k.certificate before
     → IsRest s told coming → IfSome coming (λ rest. rest ≡ []) → IfSome told (IsJudged (judged.Whole k))
 whole-text None coming k before s m all here rest none = tt
 whole-text (Some bytes) None k before s m all here rest none = absurd rest

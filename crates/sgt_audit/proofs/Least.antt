@@ -131,7 +131,9 @@ module _ (c : Certificate) (ds : List Decision) (before : List SectionLine) (e :
   legal-keeps : (e : Entry) → IsLegalRead (items_in before) (entries_in before) e → Keeps c before (Logged e) fault.ReadValue
   legal-keeps (entry.Read tx x v) h = h
   legal-keeps (entry.Write tx x v) h = tt
+  legal-keeps (entry.Add tx x v) h = tt
   legal-keeps (entry.Want tx x v) h = tt
+  legal-keeps (entry.WantAdd tx x v) h = tt
   legal-keeps (entry.Commit tx) h = tt
   legal-keeps (entry.Refuse tx) h = tt
   legal-keeps (entry.Withdraw tx) h = tt
@@ -139,7 +141,9 @@ module _ (c : Certificate) (ds : List Decision) (before : List SectionLine) (e :
   keeps-legal : (e : Entry) → Keeps c before (Logged e) fault.ReadValue → IsLegalRead (items_in before) (entries_in before) e
   keeps-legal (entry.Read tx x v) h = h
   keeps-legal (entry.Write tx x v) h = tt
+  keeps-legal (entry.Add tx x v) h = tt
   keeps-legal (entry.Want tx x v) h = tt
+  keeps-legal (entry.WantAdd tx x v) h = tt
   keeps-legal (entry.Commit tx) h = tt
   keeps-legal (entry.Refuse tx) h = tt
   keeps-legal (entry.Withdraw tx) h = tt

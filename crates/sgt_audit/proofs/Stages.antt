@@ -1,6 +1,5 @@
 -- From one stage of a text to the next.
-use Rattle.std.proofs.Common.{◌≡◌, ℕ, ◌<◌, ◌≤◌, List, [], ◌∷◌, ◌++◌, length, map, Option, Some, None, refl, sym, ap, ◌∙◌, subst, arith, inl, inr, ◌⊎◌}
-use Rattle.std.specs.Prelude.{codes}
+use Rattle.std.proofs.Common.{◌≡◌, ℕ, ◌<◌, ◌≤◌, Bool, List, [], ◌∷◌, ◌++◌, length, map, Option, Some, None, refl, sym, ap, ap₂, ◌∙◌, subst, arith, inl, inr, ◌⊎◌}
 use Rattle.std.proofs.lemmas.Bool.{cases_eq}
 use Rattle.std.proofs.lemmas.List.{map-append}
 use Rattle.std.proofs.lemmas.Option.{none-some}
@@ -9,7 +8,7 @@ use Rattle.sgt_notation.specs.Limits.{max_line}
 use Rattle.sgt_notation.specs.declared.SectionLine.{SectionLine}
 use Rattle.sgt_notation.specs.declared.SectionLine.TheVariants.{Site, Initial, Logged, Final, End}
 use Rattle.sgt_notation.proofs.Short.{line-short}
-use Rattle.sgt_cert.specs.Text.{certificate_text, IsCertificate, AreSections}
+use Rattle.sgt_cert.specs.Text.{certificate_text, format_line, IsCertificate, AreSections}
 use Rattle.sgt_cert.specs.declared.certificate.Certificate.{Certificate}
 use Rattle.sgt_cert.proofs.Reading.{certificate-one}
 use Rattle.sgt_audit.specs.declared.faults.Fault.{Fault}
@@ -40,56 +39,56 @@ all-or-not b is =
       ]
     ]
 
-stage-of : (c : Certificate) (b : Begun) (before : List SectionLine) → Means c b before → (t : Stage) × IsStageOf c before t × (lines_so_far t ≡ lines_so_far (within c before))
-stage-of c b before m =
+stage-of : (second : Bool) (c : Certificate) (b : Begun) (before : List SectionLine) → Means second c b before → (t : Stage) × IsStageOf second c before t × (lines_so_far t ≡ lines_so_far (within second c before))
+stage-of second c b before m =
     let at_lines = λ (n : ℕ). λ (e : n ≡ c.sites). subst (λ k. AreSections k (lines_read b) → AreSections c.sites before) (sym e) (subst (AreSections c.sites) (sym m.lines)) in
     elim (all-or-not b m.begun) [
-      | inl all ↦ (complete c before, inr (refl, at_lines b.sites m.sites all), refl)
-      | inr miss ↦ (within c before, inl (refl, λ all. miss (subst (λ k. AreSections k (lines_read b)) (sym m.sites) (subst (AreSections c.sites) m.lines all))), refl)
+      | inl all ↦ (complete second c before, inr (refl, at_lines b.sites m.sites all), refl)
+      | inr miss ↦ (within second c before, inl (refl, λ all. miss (subst (λ k. AreSections k (lines_read b)) (sym m.sites) (subst (AreSections c.sites) m.lines all))), refl)
     ]
 
-one-more : (c : Certificate) (before : List SectionLine) (line : SectionLine) (l : List ℕ) → l ≡ line_text line → lines_so_far (within c (before ++ line ∷ [])) ≡ lines_so_far (within c before) ++ l ∷ []
-one-more c before line l same = ap (λ (ls : List (List ℕ)). codes "sgt 1" ∷ certificate_text c ∷ ls) (map-append line_text before (line ∷ []) ∙ ap (λ t. map line_text before ++ t ∷ []) (sym same))
+one-more : (second : Bool) (c : Certificate) (before : List SectionLine) (line : SectionLine) (l : List ℕ) → l ≡ line_text line → lines_so_far (within second c (before ++ line ∷ [])) ≡ lines_so_far (within second c before) ++ l ∷ []
+one-more second c before line l same = ap (λ (ls : List (List ℕ)). format_line second ∷ certificate_text c ∷ ls) (map-append line_text before (line ∷ []) ∙ ap (λ t. map line_text before ++ t ∷ []) (sym same))
 
-stage-lines : (c : Certificate) (before : List SectionLine) (s : Stage) → IsStageOf c before s → lines_so_far s ≡ lines_so_far (within c before)
-stage-lines c before s (inl here) = ap lines_so_far here.0
-stage-lines c before s (inr done) = ap lines_so_far done.0
+stage-lines : (second : Bool) (c : Certificate) (before : List SectionLine) (s : Stage) → IsStageOf second c before s → lines_so_far s ≡ lines_so_far (within second c before)
+stage-lines second c before s (inl here) = ap lines_so_far here.0
+stage-lines second c before s (inr done) = ap lines_so_far done.0
 
 -- a line behind the certificate
-pub reading-follows : (c d : Certificate) (old new : Begun) (l : List ℕ) (answer : Option Fault) → d ≡ c → ((before : List SectionLine) → Means c old before → AnswersLine c new before l answer)
-    → (s : Stage) → Stands (at.Reading (record { certificate = c; sections = old })) s → Follows s l (at.Reading (record { certificate = d; sections = new })) answer
-reading-follows c d old new l None same answers s (before, m, stage) =
+pub reading-follows : (second other : Bool) (c d : Certificate) (old new : Begun) (l : List ℕ) (answer : Option Fault) → other ≡ second → d ≡ c → ((before : List SectionLine) → Means second c old before → AnswersLine second c new before l answer)
+    → (s : Stage) → Stands (at.Reading (record { second = second; certificate = c; sections = old })) s → Follows s l (at.Reading (record { second = other; certificate = d; sections = new })) answer
+reading-follows second other c d old new l None format same answers s (before, m, stage) =
     let next = answers before m in
-    let t = stage-of c new (before ++ next.0 ∷ []) next.2 in
-    (t.0, subst (λ k. Stands (at.Reading (record { certificate = k; sections = new })) t.0) (sym same) (before ++ next.0 ∷ [], next.2, t.1), t.2 ∙ one-more c before next.0 l next.1 ∙ ap (λ (ls : List (List ℕ)). ls ++ l ∷ []) (sym (stage-lines c before s stage)))
-reading-follows c d old new l (Some f) same answers s (before, m, stage) = answers before m s stage
+    let t = stage-of second c new (before ++ next.0 ∷ []) next.2 in
+    (t.0, subst (λ k. Stands (at.Reading (record { second = other; certificate = k; sections = new })) t.0) (sym same) (subst (λ f. Stands (at.Reading (record { second = f; certificate = c; sections = new })) t.0) (sym format) (before ++ next.0 ∷ [], next.2, t.1)), t.2 ∙ one-more second c before next.0 l next.1 ∙ ap (λ (ls : List (List ℕ)). ls ++ l ∷ []) (sym (stage-lines second c before s stage)))
+reading-follows second other c d old new l (Some f) format same answers s (before, m, stage) = answers before m s stage
 
 -- the certificate's line
-pub headed-follows : (k : Kept) (l : List ℕ) → l ≡ certificate_text k.certificate → Means k.certificate k.sections [] → (s : Stage) → s ≡ headed → Follows s l (at.Reading k) None
-headed-follows k l same m s here =
-    let t = stage-of k.certificate k.sections [] m in
-    (t.0, ([], m, t.1), t.2 ∙ ap (λ x. codes "sgt 1" ∷ x ∷ []) (sym same) ∙ ap (λ s. lines_so_far s ++ l ∷ []) (sym here))
+pub headed-follows : (second : Bool) (k : Kept) (l : List ℕ) → k.second ≡ second → l ≡ certificate_text k.certificate → Means k.second k.certificate k.sections [] → (s : Stage) → s ≡ headed second → Follows s l (at.Reading k) None
+headed-follows second k l format same m s here =
+    let t = stage-of k.second k.certificate k.sections [] m in
+    (t.0, ([], m, t.1), t.2 ∙ ap₂ (λ f x. format_line f ∷ x ∷ []) format (sym same) ∙ ap (λ s. lines_so_far s ++ l ∷ []) (sym here))
 
 -- ---- the certificate
 
-module _ (c : Certificate) (is : IsCertificate c) (f : Fault) (breaks : Breaks (KeepsItself c.decisions) f) where
-  headed-broken : (g : Fault) → (KeepsItself c.decisions g → ⊥) → Rule headed (whole (certificate_text c)) g → ⊥
+module _ (second : Bool) (c : Certificate) (is : IsCertificate c) (f : Fault) (breaks : Breaks (KeepsItself c.decisions) f) where
+  headed-broken : (g : Fault) → (KeepsItself c.decisions g → ⊥) → Rule (headed second) (whole (certificate_text c)) g → ⊥
   headed-broken fault.Certificate miss h = miss tt
   headed-broken g miss h = miss (h c is refl)
 
-  headed-kept : (g : Fault) → KeepsItself c.decisions g → Rule headed (whole (certificate_text c)) g
+  headed-kept : (g : Fault) → KeepsItself c.decisions g → Rule (headed second) (whole (certificate_text c)) g
   headed-kept fault.Certificate k = (c, is, refl)
   headed-kept g k = λ d is_d same. subst (λ d. KeepsItself d.decisions g) (certificate-one c d is is_d same) k
 
-  headed-breaks : Breaks (Rule headed (whole (certificate_text c))) f
+  headed-breaks : Breaks (Rule (headed second) (whole (certificate_text c))) f
   headed-breaks = record { broken = headed-broken f breaks.broken; least = λ g lt. headed-kept g (breaks.least g lt) }
 
-pub certificate-breaks : (c : Certificate) (l : List ℕ) (f : Fault) → IsCertificate c → l ≡ certificate_text c → Breaks (KeepsItself c.decisions) f → Breaks (Rule headed (whole l)) f
-certificate-breaks c l f is same breaks = subst (λ m. Breaks (Rule headed (whole m)) f) (sym same) (headed-breaks c is f breaks)
+pub certificate-breaks : (second : Bool) (c : Certificate) (l : List ℕ) (f : Fault) → IsCertificate c → l ≡ certificate_text c → Breaks (KeepsItself c.decisions) f → Breaks (Rule (headed second) (whole l)) f
+certificate-breaks second c l f is same breaks = subst (λ m. Breaks (Rule (headed second) (whole m)) f) (sym same) (headed-breaks second c is f breaks)
 
 -- nothing behind it so far
-pub certificate-means : (c : Certificate) (b : Begun) → IsCertificate c → ((f : Fault) → KeepsItself c.decisions f) → IsBegun b → b ≡ record { sites = c.sites; whole = []; current = None } → Means c b []
-certificate-means c b is itself begun fresh = record {
+pub certificate-means : (second : Bool) (c : Certificate) (b : Begun) → IsCertificate c → ((f : Fault) → KeepsItself c.decisions f) → IsBegun b → b ≡ record { sites = c.sites; whole = []; current = None } → Means second c b []
+certificate-means second c b is itself begun fresh = record {
   begun = begun;
   sites = ap (λ b. b.sites) fresh;
   lines = sym (ap lines_read fresh);
@@ -98,9 +97,9 @@ certificate-means c b is itself begun fresh = record {
 
 -- ---- a line that is too long
 
-module _ (c : Certificate) (before : List SectionLine) where
-  long-within : (p : Piece) → max_line < length (bytes_of p) → Rule (within c before) p fault.Notation → ⊥
-  long-within (whole l) long (line, is, same) = let short = line-short line is in absurd (omega (arith, ap length same))
+module _ (second : Bool) (c : Certificate) (before : List SectionLine) where
+  long-within : (p : Piece) → max_line < length (bytes_of p) → Rule (within second c before) p fault.Notation → ⊥
+  long-within (whole l) long (line, is, same) = let short = line-short line is.0 in absurd (omega (arith, ap length same))
   long-within (last l) long le = absurd (omega arith)
 
   format-rule : (line : SectionLine) → Keeps c before line fault.Format
@@ -110,7 +109,7 @@ module _ (c : Certificate) (before : List SectionLine) where
   format-rule (Final h) = tt
   format-rule End = tt
 
-  below-notation : (p : Piece) (g : Fault) → fault_number g < 2 → Rule (within c before) p g
+  below-notation : (p : Piece) (g : Fault) → fault_number g < 2 → Rule (within second c before) p g
   below-notation (whole l) fault.Format lt = λ line is same. format-rule line
   below-notation (last l) fault.Format lt = tt
   below-notation p fault.Notation lt = absurd (omega arith)
@@ -132,14 +131,14 @@ module _ (c : Certificate) (before : List SectionLine) where
   below-notation p fault.Truncated lt = absurd (omega arith)
   below-notation p fault.Trailing lt = absurd (omega arith)
 
-  notation-breaks : (p : Piece) → max_line < length (bytes_of p) → Breaks (Rule (within c before) p) fault.Notation
+  notation-breaks : (p : Piece) → max_line < length (bytes_of p) → Breaks (Rule (within second c before) p) fault.Notation
   notation-breaks p long = record { broken = long-within p long; least = below-notation p }
 
-  trailing-broken : (p : Piece) → max_line < length (bytes_of p) → Rule (complete c before) p fault.Trailing → ⊥
+  trailing-broken : (p : Piece) → max_line < length (bytes_of p) → Rule (complete second c before) p fault.Trailing → ⊥
   trailing-broken (whole l) long h = h
   trailing-broken (last l) long none = absurd (omega (arith, ap length none))
 
-  below-trailing : (p : Piece) (g : Fault) → fault_number g < 19 → Rule (complete c before) p g
+  below-trailing : (p : Piece) (g : Fault) → fault_number g < 19 → Rule (complete second c before) p g
   below-trailing p fault.Trailing lt = absurd (omega arith)
   below-trailing (whole l) fault.Format lt = tt
   below-trailing (last l) fault.Format lt = tt
@@ -178,49 +177,49 @@ module _ (c : Certificate) (before : List SectionLine) where
   below-trailing (whole l) fault.Truncated lt = tt
   below-trailing (last l) fault.Truncated lt = tt
 
-  trailing-breaks : (p : Piece) → max_line < length (bytes_of p) → Breaks (Rule (complete c before) p) fault.Trailing
+  trailing-breaks : (p : Piece) → max_line < length (bytes_of p) → Breaks (Rule (complete second c before) p) fault.Trailing
   trailing-breaks p long = record { broken = trailing-broken p long; least = below-trailing p }
 
 limit-at : (s t : Stage) (n : ℕ) → s ≡ t → limit_of s < n → limit_of t < n
 limit-at s t n same lt = subst (λ s. limit_of s < n) same lt
 
-pub long-breaks : (c : Certificate) (before : List SectionLine) (s : Stage) (p : Piece) → IsStageOf c before s → (AreSections c.sites before → ⊥) → limit_of s < length (bytes_of p) → Breaks (Rule s p) fault.Notation
-long-breaks c before s p (inl here) miss long = subst (λ s. Breaks (Rule s p) fault.Notation) (sym here.0) (notation-breaks c before p (limit-at s (within c before) (length (bytes_of p)) here.0 long))
-long-breaks c before s p (inr done) miss long = absurd (miss done.1)
+pub long-breaks : (second : Bool) (c : Certificate) (before : List SectionLine) (s : Stage) (p : Piece) → IsStageOf second c before s → (AreSections c.sites before → ⊥) → limit_of s < length (bytes_of p) → Breaks (Rule s p) fault.Notation
+long-breaks second c before s p (inl here) miss long = subst (λ s. Breaks (Rule s p) fault.Notation) (sym here.0) (notation-breaks second c before p (limit-at s (within second c before) (length (bytes_of p)) here.0 long))
+long-breaks second c before s p (inr done) miss long = absurd (miss done.1)
 
-pub long-trails : (c : Certificate) (before : List SectionLine) (s : Stage) (p : Piece) → IsStageOf c before s → AreSections c.sites before → limit_of s < length (bytes_of p) → Breaks (Rule s p) fault.Trailing
-long-trails c before s p (inl here) all long = absurd (here.1 all)
-long-trails c before s p (inr done) all long = subst (λ s. Breaks (Rule s p) fault.Trailing) (sym done.0) (trailing-breaks c before p (limit-at s (complete c before) (length (bytes_of p)) done.0 long))
+pub long-trails : (second : Bool) (c : Certificate) (before : List SectionLine) (s : Stage) (p : Piece) → IsStageOf second c before s → AreSections c.sites before → limit_of s < length (bytes_of p) → Breaks (Rule s p) fault.Trailing
+long-trails second c before s p (inl here) all long = absurd (here.1 all)
+long-trails second c before s p (inr done) all long = subst (λ s. Breaks (Rule s p) fault.Trailing) (sym done.0) (trailing-breaks second c before p (limit-at s (complete second c before) (length (bytes_of p)) done.0 long))
 
 -- ---- the end of the input
 
-module _ (c : Certificate) (before : List SectionLine) (l : List ℕ) where
-  below-truncated : length l ≤ max_line → (g : Fault) → fault_number g < 18 → Rule (within c before) (last l) g
+module _ (second : Bool) (c : Certificate) (before : List SectionLine) (l : List ℕ) where
+  below-truncated : length l ≤ max_line → (g : Fault) → fault_number g < 18 → Rule (within second c before) (last l) g
   below-truncated le fault.Notation lt = le
   below-truncated le fault.Truncated lt = absurd (omega arith)
   below-truncated le fault.Trailing lt = absurd (omega arith)
   below-truncated le _ lt = tt
 
-  truncated : length l ≤ max_line → Breaks (Rule (within c before) (last l)) fault.Truncated
+  truncated : length l ≤ max_line → Breaks (Rule (within second c before) (last l)) fault.Truncated
   truncated le = record { broken = λ h. h; least = below-truncated le }
 
-  trails : (l ≡ [] → ⊥) → Breaks (Rule (complete c before) (last l)) fault.Trailing
+  trails : (l ≡ [] → ⊥) → Breaks (Rule (complete second c before) (last l)) fault.Trailing
   trails some = record { broken = some; least = below-trailing c before (last l) }
 
 most-at : (s t : Stage) (n : ℕ) → s ≡ t → n ≤ limit_of s → n ≤ limit_of t
 most-at s t n same le = subst (λ s. n ≤ limit_of s) same le
 
-pub ends-within : (c : Certificate) (before : List SectionLine) (s : Stage) (l : List ℕ) → IsStageOf c before s → (AreSections c.sites before → ⊥) → length l ≤ limit_of s → Breaks (Rule s (last l)) fault.Truncated
-ends-within c before s l (inl here) miss le = subst (λ s. Breaks (Rule s (last l)) fault.Truncated) (sym here.0) (truncated c before l (most-at s (within c before) (length l) here.0 le))
-ends-within c before s l (inr done) miss le = absurd (miss done.1)
+pub ends-within : (second : Bool) (c : Certificate) (before : List SectionLine) (s : Stage) (l : List ℕ) → IsStageOf second c before s → (AreSections c.sites before → ⊥) → length l ≤ limit_of s → Breaks (Rule s (last l)) fault.Truncated
+ends-within second c before s l (inl here) miss le = subst (λ s. Breaks (Rule s (last l)) fault.Truncated) (sym here.0) (truncated second c before l (most-at s (within second c before) (length l) here.0 le))
+ends-within second c before s l (inr done) miss le = absurd (miss done.1)
 
-pub ends-behind : (c : Certificate) (before : List SectionLine) (s : Stage) (l : List ℕ) → IsStageOf c before s → AreSections c.sites before → (l ≡ [] → ⊥) → Breaks (Rule s (last l)) fault.Trailing
-ends-behind c before s l (inl here) all some = absurd (here.1 all)
-ends-behind c before s l (inr done) all some = subst (λ s. Breaks (Rule s (last l)) fault.Trailing) (sym done.0) (trails c before l some)
+pub ends-behind : (second : Bool) (c : Certificate) (before : List SectionLine) (s : Stage) (l : List ℕ) → IsStageOf second c before s → AreSections c.sites before → (l ≡ [] → ⊥) → Breaks (Rule s (last l)) fault.Trailing
+ends-behind second c before s l (inl here) all some = absurd (here.1 all)
+ends-behind second c before s l (inr done) all some = subst (λ s. Breaks (Rule s (last l)) fault.Trailing) (sym done.0) (trails second c before l some)
 
-pub ends-whole : (c : Certificate) (before : List SectionLine) (s : Stage) → IsStageOf c before s → AreSections c.sites before → s ≡ complete c before
-ends-whole c before s (inl here) all = absurd (here.1 all)
-ends-whole c before s (inr done) all = done.0
+pub ends-whole : (second : Bool) (c : Certificate) (before : List SectionLine) (s : Stage) → IsStageOf second c before s → AreSections c.sites before → s ≡ complete second c before
+ends-whole second c before s (inl here) all = absurd (here.1 all)
+ends-whole second c before s (inr done) all = done.0
 
 pub empty-nil : (l : List ℕ) → length l ≡ 0 → l ≡ []
 empty-nil [] e = refl

@@ -26,20 +26,20 @@ use Rattle.sgt_audit.proofs.Streaming.{sections-whole}
 abbrev pub kept_bundle : Kept → Parts
 kept_bundle k = record { certificate = k.certificate; sites = k.sections.whole }
 
-module _ (k : Kept) (before : List SectionLine) (m : Means k.certificate k.sections before) (all : AreSections k.certificate.sites before) (bytes : List ℕ) (text : bytes ≡ text_of_lines (lines_so_far (complete k.certificate before))) where
-  same-bundle : bundle_of bytes k.certificate before m.kept all text ≡ kept_bundle k
+module _ (k : Kept) (before : List SectionLine) (m : Means k.second k.certificate k.sections before) (all : AreSections k.certificate.sites before) (bytes : List ℕ) (text : bytes ≡ text_of_lines (lines_so_far (complete k.second k.certificate before))) where
+  same-bundle : bundle_of bytes k.second k.certificate before m.kept all text ≡ kept_bundle k
   same-bundle = ap (λ logs. record { certificate = k.certificate; sites = logs }) (sym (sections-whole k.sections all.0 (all.2 ∙ m.lines)).1)
 
   pub kept-spelled : Spells bytes (kept_bundle k)
-  kept-spelled = subst (Spells bytes) same-bundle (spells-bundle bytes k.certificate before m.kept all text)
+  kept-spelled = subst (Spells bytes) same-bundle (spells-bundle bytes k.second k.certificate before m.kept all text)
 
   pub kept-valid : IsValid (kept_bundle k)
-  kept-valid = subst IsValid same-bundle (valid-bundle bytes k.certificate before m.kept all text)
+  kept-valid = subst IsValid same-bundle (valid-bundle bytes k.second k.certificate before m.kept all text)
 
 -- its numbers and names are in range
-pub kept-is_bundle : (k : Kept) (before : List SectionLine) → Means k.certificate k.sections before → AreSections k.certificate.sites before → IsBundle (kept_bundle k)
+pub kept-is_bundle : (k : Kept) (before : List SectionLine) → Means k.second k.certificate k.sections before → AreSections k.certificate.sites before → IsBundle (kept_bundle k)
 kept-is_bundle k before m all =
-    let s = kept-spelled k before m all (text_of_lines (lines_so_far (complete k.certificate before))) refl in
+    let s = kept-spelled k before m all (text_of_lines (lines_so_far (complete k.second k.certificate before))) refl in
     record { certificate = s.certificate; shape = s.shape; logs = s.logs }
 
 pub kept-verdict : (k : Kept) (bytes : List ℕ) → IsJudged (judged.Whole k) bytes → IsVerdict bytes (yes_of k.certificate.decisions)
@@ -51,6 +51,8 @@ verdict-headline bytes (Yes committed refused withdrawn) (b, spelled, valid, cou
   bundle = b;
   spelled = spelled;
   serial = valid-agrees b valid;
+  once = valid.once;
+  ranks = valid.ranks;
   ranked = All-from_at (λ (log : SiteLog). IsRanked b.certificate.decisions log.entries) b.sites (λ n log at. (All_at (IsValidLog b.certificate.decisions) b.sites n log valid.logs at).ranked);
   cycles = valid.cycles;
 }

@@ -1,6 +1,6 @@
 -- How far the auditor has come in a text.
 -- Private clauses use these words, and of the public ones those alone that say what an auditor was fed (Fed).
-use Rattle.std.specs.Prelude.{◌≡◌, ℕ, List, [], ◌∷◌, ◌++◌, Option, Some, None, Result, Ok, Err}
+use Rattle.std.specs.Prelude.{◌≡◌, ℕ, Bool, List, [], ◌∷◌, ◌++◌, Option, Some, None, Result, Ok, Err}
 use Rattle.sgt_notation.specs.declared.SectionLine.{SectionLine}
 use Rattle.sgt_cert.specs.Text.{certificate_text}
 use Rattle.sgt_audit.specs.declared.faults.Fault.{Fault}
@@ -13,13 +13,13 @@ use Rattle.sgt_audit.specs.Kept.{Means, IsStageOf}
 -- what is kept means this stage
 abbrev pub Stands : Progress → Stage → Type 0
 Stands at.Start s = s ≡ start
-Stands at.Headed s = s ≡ headed
-Stands (at.Reading k) s = (before : List SectionLine) × Means k.certificate k.sections before × IsStageOf k.certificate before s
+Stands (at.Headed second) s = s ≡ headed second
+Stands (at.Reading k) s = (before : List SectionLine) × Means k.second k.certificate k.sections before × IsStageOf k.second k.certificate before s
 
 -- the second line is this certificate's, which keeps its rules, or this is its least fault
-abbrev pub Begins : List ℕ → Result Kept Fault → Type 0
-Begins l (Ok k) = (l ≡ certificate_text k.certificate) × Means k.certificate k.sections []
-Begins l (Err f) = Breaks (Rule headed (whole l)) f
+abbrev pub Begins : Bool → List ℕ → Result Kept Fault → Type 0
+Begins second l (Ok k) = (k.second ≡ second) × (l ≡ certificate_text k.certificate) × Means k.second k.certificate k.sections []
+Begins second l (Err f) = Breaks (Rule (headed second) (whole l)) f
 
 -- after a line with its LF: the next stage, or the least fault of this one
 abbrev pub Follows : Stage → List ℕ → Progress → Option Fault → Type 0

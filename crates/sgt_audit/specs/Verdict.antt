@@ -1,7 +1,7 @@
 -- The auditor's verdict on a text.
 use Rattle.std.specs.Prelude.{◌≡◌, ◌<◌, ℕ, List, ◌++◌, length, take, codes, decimal, Bool, true, false, count_by, Option, Some, None, ⊤, All, slice_get, ◌⊎◌, [], IfSome}
 use Rattle.sgt_cert.specs.Parts.{Parts}
-use Rattle.sgt_cert.specs.Certificate.{IsCycle}
+use Rattle.sgt_cert.specs.Certificate.{AreRanks, IsCycle, IsDecidedOnce, ranks}
 use Rattle.sgt_cert.specs.Serial.{SerialAgrees}
 use Rattle.sgt_cert.specs.Valid.{AreLogged, IsRanked, IsValid}
 use Rattle.sgt_cert.specs.declared.certificate.Step.{Step}
@@ -68,6 +68,9 @@ pub record HoldsHeadline (bytes : List ℕ) : Type 0 where
   pub bundle : Parts
   pub spelled : Spells bytes bundle
   pub serial : SerialAgrees bundle
+  -- by rank: each transaction is decided once, and the ranks of the n committed ones are 0 to n - 1, each once
+  pub once : IsDecidedOnce bundle.certificate.decisions
+  pub ranks : AreRanks (ranks bundle.certificate.decisions)
   pub ranked : All (λ log. IsRanked bundle.certificate.decisions log.entries) bundle.sites
   pub cycles : (number tx : ℕ) (walk : List Step) → slice_get bundle.certificate.decisions number ≡ Some (Refuse tx walk)
       → IsCycle bundle.certificate.decisions number tx walk × AreLogged bundle.sites tx walk

@@ -28,8 +28,8 @@ fn suits(entry: &Entry, decision: &Decision) -> bool
 {
     match entry {
         Entry::Read { .. } => true,
-        Entry::Write { .. } | Entry::Commit { .. } => matches!(decision, Decision::Commit { .. }),
-        Entry::Want { .. } | Entry::Refuse { .. } => matches!(decision, Decision::Refuse { .. }),
+        Entry::Write { .. } | Entry::Add { .. } | Entry::Commit { .. } => matches!(decision, Decision::Commit { .. }),
+        Entry::Want { .. } | Entry::WantAdd { .. } | Entry::Refuse { .. } => matches!(decision, Decision::Refuse { .. }),
         Entry::Withdraw { .. } => matches!(decision, Decision::Withdraw { .. }),
     }
 }

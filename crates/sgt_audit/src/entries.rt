@@ -2,7 +2,7 @@
 
 ghost use Rattle.std.specs.Prelude.{◌≡◌, ◌≢◌, ◌↔◌, ℕ, IsTrue, All, Any, option_map};
 ghost use Rattle.sgt_names.specs.Name.{Name};
-ghost use Rattle.sgt_names.specs.Entry.{tx_of, item_of, IsEnd, IsOpen, Continues, Reads, Writes, Clash, Repeats};
+ghost use Rattle.sgt_names.specs.Entry.{tx_of, item_of, is_increment, GoesOn, GoesOnAsking, IsEnd, IsOpen, Continues, Reads, Writes, Clash, Repeats};
 ghost use Rattle.sgt_names.specs.Log.{AllEnded};
 
 use sgt_names::{Entry, Item, Kind, Tx};
@@ -12,7 +12,8 @@ pub(crate) fn tx_of_entry(entry: &Entry) -> Tx
     ensures { result ≡ tx_of entry.now }
 {
     match *entry {
-        Entry::Read { tx, .. } | Entry::Write { tx, .. } | Entry::Want { tx, .. } => tx,
+        Entry::Read { tx, .. } | Entry::Write { tx, .. } | Entry::Add { tx, .. } => tx,
+        Entry::Want { tx, .. } | Entry::WantAdd { tx, .. } => tx,
         Entry::Commit { tx } | Entry::Refuse { tx } | Entry::Withdraw { tx } => tx,
     }
 }
@@ -22,9 +23,8 @@ pub(crate) fn item_of_entry(entry: &Entry) -> Option<Item>
     ensures { result ≡ item_of entry.now }
 {
     match *entry {
-        Entry::Read { item, .. } | Entry::Write { item, .. } | Entry::Want { item, .. } => Some(
-            item,
-        ),
+        Entry::Read { item, .. } | Entry::Write { item, .. } | Entry::Add { item, .. } => Some(item),
+        Entry::Want { item, .. } | Entry::WantAdd { item, .. } => Some(item),
         Entry::Commit { .. } | Entry::Refuse { .. } | Entry::Withdraw { .. } => None,
     }
 }
@@ -39,11 +39,43 @@ pub(crate) fn is_end(entry: &Entry) -> bool
     )
 }
 
-/// Whether it is a write or a want, behind which another entry has to follow directly.
+/// Whether it is an increment, or asks for one.
+pub(crate) fn is_increment(entry: &Entry) -> bool
+    ensures { result ≡ is_increment entry.now }
+{
+    matches!(entry, Entry::Add { .. } | Entry::WantAdd { .. })
+}
+
+/// Whether it changes an item or asks to, so that another entry of its block has to follow directly.
 pub(crate) fn is_open(entry: &Entry) -> bool
     ensures { IsTrue result ↔ IsOpen entry.now }
 {
-    matches!(entry, Entry::Write { .. } | Entry::Want { .. })
+    matches!(
+        entry,
+        Entry::Write { .. } | Entry::Add { .. } | Entry::Want { .. } | Entry::WantAdd { .. }
+    )
+}
+
+/// Whether the entry may stand behind a change of the transaction in its block.
+fn goes_on(tx: Tx, entry: &Entry) -> bool
+    ensures { IsTrue result ↔ GoesOn tx entry.now }
+{
+    match *entry {
+        Entry::Write { tx: next, .. } | Entry::Add { tx: next, .. } => tx == next,
+        Entry::Commit { tx: next } => tx == next,
+        _ => false,
+    }
+}
+
+/// Whether the entry may stand behind a want of the transaction in its block.
+fn goes_on_asking(tx: Tx, entry: &Entry) -> bool
+    ensures { IsTrue result ↔ GoesOnAsking tx entry.now }
+{
+    match *entry {
+        Entry::Want { tx: next, .. } | Entry::WantAdd { tx: next, .. } => tx == next,
+        Entry::Refuse { tx: next } => tx == next,
+        _ => false,
+    }
 }
 
 /// Whether the second may stand directly behind the first in a block.
@@ -51,14 +83,8 @@ pub(crate) fn continues(first: &Entry, second: &Entry) -> bool
     ensures { IsTrue result ↔ Continues first.now second.now }
 {
     match *first {
-        Entry::Write { tx, .. } => match *second {
-            Entry::Write { tx: next, .. } | Entry::Commit { tx: next } => tx == next,
-            _ => false,
-        },
-        Entry::Want { tx, .. } => match *second {
-            Entry::Want { tx: next, .. } | Entry::Refuse { tx: next } => tx == next,
-            _ => false,
-        },
+        Entry::Write { tx, .. } | Entry::Add { tx, .. } => goes_on(tx, second),
+        Entry::Want { tx, .. } | Entry::WantAdd { tx, .. } => goes_on_asking(tx, second),
         _ => false,
     }
 }
@@ -73,12 +99,13 @@ pub(crate) fn reads(item: &Item, entry: &Entry) -> bool
     }
 }
 
-/// Whether it writes the item, or wants to.
+/// Whether it writes the item, adds to it, or asks for either.
 pub(crate) fn writes(item: &Item, entry: &Entry) -> bool
     ensures { IsTrue result ↔ Writes item.now entry.now }
 {
     match entry {
-        Entry::Write { item: written, .. } | Entry::Want { item: written, .. } => written == item,
+        Entry::Write { item: written, .. } | Entry::Add { item: written, .. } => written == item,
+        Entry::Want { item: written, .. } | Entry::WantAdd { item: written, .. } => written == item,
         _ => false,
     }
 }
@@ -90,7 +117,11 @@ pub(crate) fn clashes(kind: Kind, item: &Item, first: &Entry, second: &Entry) ->
     match kind {
         Kind::Wr => writes(item, first) && reads(item, second),
         Kind::Rw => reads(item, first) && writes(item, second),
-        Kind::Ww => writes(item, first) && writes(item, second),
+        Kind::Ww => {
+            writes(item, first)
+                && writes(item, second)
+                && !(is_increment(first) && is_increment(second))
+        }
     }
 }
 
