@@ -18,7 +18,8 @@ use Rattle.sgt_names.specs.declared.entry.Entry.{Entry}
 use Rattle.sgt_names.specs.declared.entry.Entry.TheVariants.{Read, Write, Add, Want, WantAdd, Commit, Refuse, Withdraw}
 use Rattle.sgt_names.specs.declared.entry.Kind.{Kind}
 use Rattle.sgt_names.specs.declared.entry.Kind.TheVariants.{Wr, Rw, Ww}
-use Rattle.sgt_names.proofs.Chosen.{under, exactly, option_cases, chosen, chosen-yes, chosen-no, chosen-silent}
+use Rattle.sgt_names.proofs.Lists.{option_cases}
+use Rattle.sgt_names.proofs.Chosen.{under, exactly, chosen, chosen-yes, chosen-no, chosen-silent}
 
 -- ---- changes in order
 

@@ -3,7 +3,6 @@ pub mod Name
 pub mod Entry
 pub mod Log
 pub mod Sums
-pub mod Outcome
 pub mod Device
 pub mod Memory
 pub mod Ordered

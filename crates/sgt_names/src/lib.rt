@@ -30,7 +30,7 @@ pub use listed::Listed;
 pub use memory::{MemSink, MemSource};
 pub use number::{BadNumber, Tx};
 pub use outcome::{EngineFail, Outcome};
-pub use sink::Sink;
+pub use sink::{Sink, write_all};
 pub use site_no::SiteNo;
 pub use source::{Failed, Source};
 pub use standard::{FromRead, ToWrite};

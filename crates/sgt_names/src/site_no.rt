@@ -9,7 +9,7 @@ use crate::number::BadNumber;
 use std::fmt::{self, Display, Formatter, Write};
 use std::marker::Model;
 
-/// The number of a site, from 0 to 15.
+/// The number of a site, from 0 to 63.
 #[derive(Clone, Copy, Debug, PartialEq, Eq, PartialOrd, Ord, Hash)]
 pub struct SiteNo {
     number: u8,
