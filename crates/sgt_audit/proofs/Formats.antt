@@ -1,5 +1,5 @@
 -- The increments of a bundle's logs, each allowed by its format: as entries at their places, and as lines.
-use Rattle.std.proofs.Common.{◌≡◌, ℕ, zero, suc, Bool, true, false, List, [], ◌∷◌, ◌++◌, map, Some, IsTrue, All, refl, subst}
+use Rattle.std.proofs.Common.{◌≡◌, ℕ, zero, suc, Bool, true, false, List, [], ◌∷◌, ◌++◌, map, Some, IsTrue, All, refl, sym, ap, subst, arith}
 use Rattle.std.specs.Prelude.{slice_get}
 use Rattle.std.specs.List.{list_any, AllByRecursion}
 use Rattle.std.proofs.lemmas.List.Folds.{Any-from_list_any, list_any-from_Any}
@@ -17,11 +17,14 @@ use Rattle.sgt_audit.specs.Faults.{Allows, IsLineIn}
 use Rattle.sgt_audit.proofs.SectionLines.{AllByRecursion-append, AllByRecursion-map}
 use Rattle.sgt_audit.proofs.Slices.{Any_at, Any-from_at}
 
--- the two formats have two lines
+-- the two formats have two lines, which end in two digits
+other_digit : format_line false ≡ format_line true → ⊥
+other_digit e = let digits : 49 ≡ 50 = same_Some 49 50 (ap (λ (line : List ℕ). slice_get line 4) e) in absurd (omega (arith, digits))
+
 pub format-one : (f g : Bool) → format_line f ≡ format_line g → f ≡ g
 format-one false false e = refl
-format-one false true e = absurd cc
-format-one true false e = absurd cc
+format-one false true e = absurd (other_digit e)
+format-one true false e = absurd (other_digit (sym e))
 format-one true true e = refl
 
 -- ---- the entries of the logs

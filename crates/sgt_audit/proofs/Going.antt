@@ -38,7 +38,7 @@ stage-faultless k before s m (inr done) = subst IsFaultless (sym done.0) (m.kept
 
 pub faultless : (p : Progress) (s : Stage) → Stands p s → IsFaultless s
 faultless at.Start s stands = subst IsFaultless (sym stands) tt
-faultless at.Headed s stands = subst IsFaultless (sym stands) tt
+faultless (at.Headed second) s stands = subst IsFaultless (sym stands) tt
 faultless (at.Reading k) s (before, m, stage) = stage-faultless k before s m stage
 
 text-append : (xs ys : List (List ℕ)) → text_of_lines (xs ++ ys) ≡ text_of_lines xs ++ text_of_lines ys

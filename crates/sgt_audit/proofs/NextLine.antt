@@ -136,9 +136,9 @@ module _ (second : Bool) (c : Certificate) (b new : Begun) (before : List Sectio
     each-line earlier later l e =
         elim (cut_append before (line ∷ []) earlier later l e) [
           | inl first ↦ m.kept.lines earlier first.0 l first.1
-          | inr second ↦
-              let same = last_cut line second.0 later l second.2 in
-              let front = second.1 ∙ ap (λ (ls : List SectionLine). before ++ ls) same.1 ∙ append-nil before in
+          | inr last ↦
+              let same = last_cut line last.0 later l last.2 in
+              let front = last.1 ∙ ap (λ (ls : List SectionLine). before ++ ls) same.1 ∙ append-nil before in
               subst (λ ls. IsLineIn second l × ((f : Fault) → Keeps c ls l f)) (sym front) (subst (λ l. IsLineIn second l × ((f : Fault) → Keeps c before l f)) same.0 (spelled, rules))
         ]
 

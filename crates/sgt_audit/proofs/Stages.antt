@@ -204,7 +204,7 @@ module _ (second : Bool) (c : Certificate) (before : List SectionLine) (l : List
   truncated le = record { broken = λ h. h; least = below-truncated le }
 
   trails : (l ≡ [] → ⊥) → Breaks (Rule (complete second c before) (last l)) fault.Trailing
-  trails some = record { broken = some; least = below-trailing c before (last l) }
+  trails some = record { broken = some; least = below-trailing second c before (last l) }
 
 most-at : (s t : Stage) (n : ℕ) → s ≡ t → n ≤ limit_of s → n ≤ limit_of t
 most-at s t n same le = subst (λ s. n ≤ limit_of s) same le

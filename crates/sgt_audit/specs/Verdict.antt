@@ -1,5 +1,6 @@
 -- The auditor's verdict on a text.
-use Rattle.std.specs.Prelude.{◌≡◌, ◌<◌, ℕ, List, ◌++◌, length, take, codes, decimal, Bool, true, false, count_by, Option, Some, None, ⊤, All, slice_get, ◌⊎◌, [], IfSome}
+use Rattle.std.specs.Prelude.{◌≡◌, ◌<◌, ℕ, List, ◌++◌, length, take, codes, decimal, Bool, true, false, count_by, Option, Some, All, slice_get, ◌⊎◌, [], IfSome}
+use Rattle.sgt_names.specs.Device.{AppendsOrForgets}
 use Rattle.sgt_cert.specs.Parts.{Parts}
 use Rattle.sgt_cert.specs.Certificate.{AreRanks, IsCycle, IsDecidedOnce, ranks}
 use Rattle.sgt_cert.specs.Serial.{SerialAgrees}
@@ -39,12 +40,6 @@ IsVerdict bytes (No line f) = FirstFault bytes line f
 abbrev pub text_of : Verdict → List ℕ
 text_of (Yes committed refused withdrawn) = codes "yes " ++ (decimal committed ++ (codes " committed " ++ (decimal refused ++ (codes " refused " ++ (decimal withdrawn ++ codes " withdrawn\n")))))
 text_of (No line f) = codes "no line " ++ (decimal line ++ (codes " F" ++ (decimal (fault_number f) ++ codes "\n")))
-
--- known bytes grew by these, or none are told any more
-abbrev pub AppendsOrForgets : Option (List ℕ) → Option (List ℕ) → List ℕ → Type 0
-AppendsOrForgets None new bytes = ⊤
-AppendsOrForgets (Some xs) None bytes = ⊤
-AppendsOrForgets (Some xs) (Some ys) bytes = ys ≡ xs ++ bytes
 
 -- nothing was written, or a front of the line of the verdict on the bytes told, and less than the whole line
 abbrev pub WroteFront : (told old new : Option (List ℕ)) → Type 0

@@ -7,11 +7,10 @@ ghost use Rattle.sgt_audit.specs.Reads.{IsJudged};
 ghost use Rattle.sgt_audit.specs.Verdict.{IsVerdict, IsAudited, HandsOutValid, SaysHeadline, WroteFront, text_of};
 
 use crate::faults::Fault;
-use crate::output::write_all;
 use crate::reading::{Judged, judge};
 use crate::verdict::{Verdict, yes_to};
 use sgt_cert::Bundle;
-use sgt_names::{EngineFail, Sink, Source};
+use sgt_names::{EngineFail, Sink, Source, write_all};
 use std::alloc::Global;
 
 /// What a text was found to spell.

@@ -6,7 +6,6 @@ ghost use Rattle.sgt_notation.specs.Spelling.{line_text};
 ghost use Rattle.sgt_cert.specs.Text.{format_line};
 ghost use Rattle.sgt_audit.specs.Faults.{Allows, IsLineIn};
 
-use crate::entries::is_increment;
 use sgt_notation::{SectionLine, read_section};
 
 /// Whether the line says the second format, if it says one of the two.
@@ -28,7 +27,7 @@ fn is_allowed(second: bool, line: &SectionLine) -> bool
     ensures { IsTrue result ↔ Allows second line.now }
 {
     match line {
-        SectionLine::Logged(entry) => second || !is_increment(entry),
+        SectionLine::Logged(entry) => second || !entry.is_increment(),
         _ => true,
     }
 }

@@ -6,8 +6,7 @@ ghost use Rattle.sgt_names.specs.Entry.{item_of};
 ghost use Rattle.sgt_names.specs.Log.{names, value_in, value_after, value_at};
 ghost use Rattle.sgt_audit.specs.Judging.{IsLegalRead};
 
-use crate::entries::item_of_entry;
-use sgt_names::{Entry, Holding, Item, Value};
+use sgt_names::{Change, Entry, Holding, Item, Value};
 
 /// Whether the item is one of these.
 pub(crate) fn is_among(items: &[Holding], item: &Item) -> bool
@@ -20,7 +19,7 @@ pub(crate) fn is_among(items: &[Holding], item: &Item) -> bool
 pub(crate) fn is_listed(items: &[Holding], entry: &Entry) -> bool
     ensures { IsTrue result ↔ ForSome (item_of entry.now) (Contains (names items.now)) }
 {
-    match item_of_entry(entry) {
+    match entry.item() {
         Some(item) => is_among(items, &item),
         None => true,
     }
@@ -42,18 +41,10 @@ fn listed_value(items: &[Holding], item: &Item) -> Option<Value>
 fn value_behind(value: Option<Value>, entry: &Entry, item: &Item) -> Option<Value>
     ensures { result ≡ value_after value (entry.now ∷ []) item.now }
 {
-    match *entry {
-        Entry::Write {
-            item: changed,
-            value: put,
-            ..
-        } if changed == *item => Some(put),
-        Entry::Add {
-            item: changed,
-            value: added,
-            ..
-        } if changed == *item => value.map(|before| before.wrapping_add(added)),
-        _ => value,
+    match entry.change(item) {
+        Some(Change::Put(put)) => Some(put),
+        Some(Change::Add(added)) => value.map(|before| before.wrapping_add(added)),
+        None => value,
     }
 }
 

@@ -27,4 +27,4 @@ returns-in-Some-clause-valid g c =
     let all = rw c.in-Ok-Whole.field-0-is at c.in-Ok-Whole.ensures.all in
     let k = c.in-Ok-Whole.kept in
     let parts : List SiteLog → Parts = λ logs. record { certificate = k.certificate; sites = logs } in
-    subst IsValid (sym (c.in-Some.ensures.1 ∙ ap parts c.into_logs-logs.ensures)) (kept-valid k all.0 all.1 all.2 (text_of_lines (lines_so_far (complete k.certificate all.0))) refl)
+    subst IsValid (sym (c.in-Some.ensures.1 ∙ ap parts c.into_logs-logs.ensures)) (kept-valid k all.0 all.1 all.2 (text_of_lines (lines_so_far (complete k.second k.certificate all.0))) refl)

@@ -40,5 +40,5 @@ returns-in-Ok-TooLong-clause-judged g c =
     let gives = rw c.in-Ok-TooLong.field-0-is at c.in-Ok-TooLong.ensures.gives in
     at-long _ _ _ _ _ _ _ _ c.lines.invariant.0 gives
     (λ s stands next long.
-    c.too_long.ensures s next stands (λ here. c.in-Ok-TooLong.ensures.unlimited (c.limit.ensures s stands ∙ ap limit_of here) (ap Ok c.in-Ok-TooLong.field-0-is))
+    c.too_long.ensures s next stands (λ second here. c.in-Ok-TooLong.ensures.unlimited (c.limit.ensures s stands ∙ ap limit_of here) (ap Ok c.in-Ok-TooLong.field-0-is))
     (subst (λ n. n < length (bytes_of next)) (c.limit.ensures s stands) long))
