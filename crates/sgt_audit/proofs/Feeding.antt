@@ -10,11 +10,12 @@ use Rattle.sgt_audit.specs.declared.machine.Machine.{Machine}
 use Rattle.sgt_audit.specs.declared.machine.Progress.TheVariants as at
 use Rattle.sgt_audit.specs.declared.auditor.Standing.TheVariants.{Going, Found}
 use Rattle.sgt_audit.specs.Faults.{Stage, headed, whole, last, lines_so_far, Rule, Breaks, FirstFault}
-use Rattle.sgt_audit.specs.Progress.{Stands, Follows}
+use Rattle.sgt_audit.specs.Progress.{Stands}
+use Rattle.sgt_audit.specs.private.NextLine.{Follows}
 use Rattle.sgt_audit.specs.Verdict.{IsVerdict, yes_of}
 use Rattle.sgt_audit.specs.Fed.{HasRead, bundle_lines}
-use Rattle.sgt_audit.specs.Ending.{EndsWith}
-use Rattle.sgt_audit.proofs.Going.{faultless, one-line}
+use Rattle.sgt_audit.specs.private.Ending.{EndsWith}
+use Rattle.sgt_audit.proofs.ReaderAtStage.{faultless, one-line}
 use Rattle.sgt_audit.proofs.Verdicts.{kept-verdict}
 
 -- a fault in the next line, whatever follows

@@ -8,14 +8,14 @@ use Rattle.std.proofs.lemmas.Option.{same_Some}
 use Rattle.sgt_names.specs.Entry.{is_increment, IsIncrement}
 use Rattle.sgt_names.specs.declared.entry.Entry.{Entry}
 use Rattle.sgt_names.proofs.Places.{All_at, All-from_at}
+use Rattle.sgt_names.proofs.Lists.{AllByRecursion-append, Any_at, Any-from_at}
 use Rattle.sgt_notation.specs.Spelling.{IsLine}
 use Rattle.sgt_notation.specs.declared.SectionLine.{SectionLine}
 use Rattle.sgt_notation.specs.declared.SectionLine.TheVariants.{Site, Initial, Logged, Final, End}
 use Rattle.sgt_cert.specs.Text.{format_line, has_increments, section_lines, sections_from}
 use Rattle.sgt_cert.specs.declared.bundle.SiteLog.{SiteLog}
 use Rattle.sgt_audit.specs.Faults.{Allows, IsLineIn}
-use Rattle.sgt_audit.proofs.SectionLines.{AllByRecursion-append, AllByRecursion-map}
-use Rattle.sgt_audit.proofs.Slices.{Any_at, Any-from_at}
+use Rattle.sgt_audit.proofs.SectionLines.{AllByRecursion-map}
 
 -- the two formats have two lines, which end in two digits
 other_digit : format_line false ≡ format_line true → ⊥

@@ -15,13 +15,13 @@ use Rattle.sgt_cert.specs.declared.bundle.SiteLog.{SiteLog}
 use Rattle.sgt_audit.specs.declared.faults.Fault.{Fault}
 use Rattle.sgt_audit.specs.declared.faults.Fault.TheVariants as fault
 use Rattle.sgt_audit.specs.Faults.{IsLineIn, Keeps, Stage, within, whole, Rule, Breaks}
-use Rattle.sgt_audit.specs.Judging.{KeptBelow}
+use Rattle.sgt_audit.specs.private.Judging.{KeptBelow}
 use Rattle.sgt_audit.specs.Reading.{Begun, lines_read, IsBegun}
 use Rattle.sgt_audit.specs.Kept.{Means, IsStageOf}
-use Rattle.sgt_audit.proofs.Cuts.{cut_append, last_cut}
+use Rattle.sgt_audit.proofs.LinePlaces.{cut_append, last_cut}
 use Rattle.sgt_audit.proofs.Cycles.{push-one}
 use Rattle.sgt_audit.proofs.SectionLines.{last_end}
-use Rattle.sgt_audit.proofs.Streaming.{sections-whole, whole-sections}
+use Rattle.sgt_audit.proofs.MayFollow.{sections-whole, whole-sections}
 use Rattle.sgt_audit.proofs.Least.{least-at}
 
 -- the fault of a line is the fault of the text that spells it

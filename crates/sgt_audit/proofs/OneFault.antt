@@ -81,27 +81,27 @@ kept-lines second c before kept = each_line IsLine before (λ earlier later l e.
 -- ---- two stages of one text
 
 -- the next piece is a line, which keeps every rule
-record GoesOn (s : Stage) (p : Piece) : Type 0 where
+record MeetsGoodLine (s : Stage) (p : Piece) : Type 0 where
   line : List ℕ
   is : p ≡ whole line
   keeps : (f : Fault) → Rule s p f
 
 abbrev Meet : Stage → Piece → Stage → Piece → Type 0
-Meet s p t q = ((s ≡ t) × (p ≡ q)) ⊎ (GoesOn s p ⊎ GoesOn t q)
+Meet s p t q = ((s ≡ t) × (p ≡ q)) ⊎ (MeetsGoodLine s p ⊎ MeetsGoodLine t q)
 
 turned : (s t : Stage) (p q : Piece) → Meet s p t q → Meet t q s p
 turned s t p q (inl both) = inl (sym both.0, sym both.1)
 turned s t p q (inr (inl on)) = inr (inr on)
 turned s t p q (inr (inr on)) = inr (inl on)
 
-start-on : (second : Bool) (p : Piece) → p ≡ whole (format_line second) → GoesOn start p
+start-on : (second : Bool) (p : Piece) → p ≡ whole (format_line second) → MeetsGoodLine start p
 start-on second p e = record { line = format_line second; is = e; keeps = subst (λ q. (f : Fault) → Rule start q f) (sym e) holds }
   where
     holds : (f : Fault) → Rule start (whole (format_line second)) f
     holds fault.Format = (second, refl)
     holds _ = tt
 
-headed-on : (second : Bool) (c : Certificate) → IsCertificate c → ((f : Fault) → KeepsItself c.decisions f) → (p : Piece) → p ≡ whole (certificate_text c) → GoesOn (headed second) p
+headed-on : (second : Bool) (c : Certificate) → IsCertificate c → ((f : Fault) → KeepsItself c.decisions f) → (p : Piece) → p ≡ whole (certificate_text c) → MeetsGoodLine (headed second) p
 headed-on second c spelled itself p e = record { line = certificate_text c; is = e; keeps = subst (λ q. (f : Fault) → Rule (headed second) q f) (sym e) holds }
   where
     same : (f : Fault) (d : Certificate) → IsCertificate d → certificate_text c ≡ certificate_text d → KeepsItself d.decisions f
@@ -114,7 +114,7 @@ headed-on second c spelled itself p e = record { line = certificate_text c; is =
     holds fault.WalkShape = same fault.WalkShape
     holds _ = λ d is eq. tt
 
-within-on : (second : Bool) (c : Certificate) (earlier : List SectionLine) (line : SectionLine) → IsLineIn second line → ((f : Fault) → Keeps c earlier line f) → (p : Piece) → p ≡ whole (line_text line) → GoesOn (within second c earlier) p
+within-on : (second : Bool) (c : Certificate) (earlier : List SectionLine) (line : SectionLine) → IsLineIn second line → ((f : Fault) → Keeps c earlier line f) → (p : Piece) → p ≡ whole (line_text line) → MeetsGoodLine (within second c earlier) p
 within-on second c earlier line is keeps p e = record { line = line_text line; is = e; keeps = subst (λ q. (f : Fault) → Rule (within second c earlier) q f) (sym e) holds }
   where
     holds : (f : Fault) → Rule (within second c earlier) (whole (line_text line)) f
@@ -138,12 +138,12 @@ module _ (second : Bool) (c : Certificate) (xs ys : List SectionLine) (r s : Lis
   compared : AllKept second c xs → AllKept second c ys → Compared xs ys r s
   compared kept good = compare xs ys r s (kept-lines second c xs kept) (kept-lines second c ys good) e
 
-  beyond-on : AllKept second c ys → Beyond xs ys r → GoesOn (within second c xs) p
+  beyond-on : AllKept second c ys → Beyond xs ys r → MeetsGoodLine (within second c xs) p
   beyond-on good b =
       let kept = good.lines xs b.more b.line b.cut in
       within-on second c xs b.line kept.0 kept.1 p (comes_line (line_text b.line) b.after r p (line-one_line b.line kept.0.0) b.next comes)
 
-  within-within : IsFaultless (within second c xs) → IsFaultless (within second c ys) → ((xs ≡ ys) × (p ≡ q)) ⊎ (GoesOn (within second c xs) p ⊎ Beyond ys xs s)
+  within-within : IsFaultless (within second c xs) → IsFaultless (within second c ys) → ((xs ≡ ys) × (p ≡ q)) ⊎ (MeetsGoodLine (within second c xs) p ⊎ Beyond ys xs s)
   within-within kept good =
       elim (compared kept.0 good.0) [
         | inl both ↦ inl (both.0, one_piece s p q (subst (λ t. ComesNext t p) both.1 comes) goes)
@@ -151,7 +151,7 @@ module _ (second : Bool) (c : Certificate) (xs ys : List SectionLine) (r s : Lis
         | inr (inr b) ↦ inr (inr b)
       ]
 
-  within-complete : IsFaultless (within second c xs) → IsFaultless (complete second c ys) → GoesOn (within second c xs) p
+  within-complete : IsFaultless (within second c xs) → IsFaultless (complete second c ys) → MeetsGoodLine (within second c xs) p
   within-complete kept good =
       elim (compared kept.0 good.0) [
         | inl both ↦ absurd (kept.1 (subst (AreSections c.sites) (sym both.0) good.1))
@@ -216,10 +216,10 @@ module _ (f g : Bool) (c d : Certificate) (xs ys : List SectionLine) (r s : List
       subst₂ (λ h k. IsFaultless (complete h k ys) → Meet (complete f c xs) p (complete h k ys) q) head.0 head.1 (λ here. meet-complete f c xs ys r s p q comes goes head.2 kept here) good
 
 -- the first line comes next, the second one
-on_first : (f : Bool) (r more : List ℕ) (p : Piece) → ComesNext r p → r ≡ format_line f ++ 10 ∷ more → GoesOn start p
+on_first : (f : Bool) (r more : List ℕ) (p : Piece) → ComesNext r p → r ≡ format_line f ++ 10 ∷ more → MeetsGoodLine start p
 on_first f r more p comes e = start-on f p (comes_line (format_line f) more r p (format-one_line f) e comes)
 
-on_second : (f g : Bool) (c : Certificate) (xs : List SectionLine) (r s : List ℕ) (p : Piece) → AllKept g c xs → ComesNext r p → text_of_lines (lines_so_far (headed f)) ++ r ≡ text_of_lines (lines_so_far (within g c xs)) ++ s → GoesOn (headed f) p
+on_second : (f g : Bool) (c : Certificate) (xs : List SectionLine) (r s : List ℕ) (p : Piece) → AllKept g c xs → ComesNext r p → text_of_lines (lines_so_far (headed f)) ++ r ≡ text_of_lines (lines_so_far (within g c xs)) ++ s → MeetsGoodLine (headed f) p
 on_second f g c xs r s p kept comes e =
     let more = text_of_lines (map line_text xs) ++ s in
     let at = (behind f g r (certificate_text c ++ 10 ∷ more) (sym (headed_text f r) ∙ e ∙ within_text g c xs s)).1 in

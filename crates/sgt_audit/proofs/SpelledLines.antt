@@ -14,12 +14,13 @@ use Rattle.sgt_cert.proofs.OneText.{first_line, format-one_line, no_line, lines_
 use Rattle.sgt_cert.proofs.OneLine.{certificate-one_line}
 use Rattle.sgt_audit.specs.Faults.{IsLineIn}
 use Rattle.sgt_audit.specs.Reading.{Begun, open_lines, lines_read}
-use Rattle.sgt_audit.specs.Spelled.{AnswersBundle, SpellsSections}
+use Rattle.sgt_audit.specs.Spelled.{AnswersBundle}
+use Rattle.sgt_audit.specs.private.SpelledSections.{SpellsSections}
 use Rattle.sgt_cert.specs.declared.bundle.SiteLog.{SiteLog}
 use Rattle.sgt_audit.proofs.Formats.{format-one, lines-of, lines-allowed, logs-allowed}
-use Rattle.sgt_audit.proofs.Going.{one-line}
+use Rattle.sgt_audit.proofs.ReaderAtStage.{one-line}
 use Rattle.sgt_audit.proofs.OneFault.{has_lf, no_lf}
-use Rattle.sgt_audit.proofs.Streaming.{are-sections, sections-whole}
+use Rattle.sgt_audit.proofs.MayFollow.{are-sections, sections-whole}
 
 -- the lines that were read, and then what is left
 pub record IsAhead (second : Bool) (sites : ℕ) (bytes : List ℕ) (b : Begun) (rest : List ℕ) : Type 0 where

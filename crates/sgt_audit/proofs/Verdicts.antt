@@ -15,12 +15,12 @@ use Rattle.sgt_audit.specs.declared.verdict.Verdict.{Verdict}
 use Rattle.sgt_audit.specs.declared.verdict.Verdict.TheVariants.{Yes, No}
 use Rattle.sgt_audit.specs.Faults.{complete, lines_so_far}
 use Rattle.sgt_audit.specs.Kept.{Means}
-use Rattle.sgt_audit.specs.Reads.{IsJudged}
+use Rattle.sgt_audit.specs.private.Stops.{IsJudged}
 use Rattle.sgt_audit.specs.Verdict.{IsVerdict, SaysHeadline, yes_of}
 use Rattle.sgt_audit.proofs.NoFault.{bundle_of, spells-bundle, valid-bundle}
 use Rattle.sgt_audit.proofs.Faultless.{valid-no_fault}
 use Rattle.sgt_audit.proofs.OneFault.{first_fault-excluded, first_fault-one}
-use Rattle.sgt_audit.proofs.Streaming.{sections-whole}
+use Rattle.sgt_audit.proofs.MayFollow.{sections-whole}
 
 -- the bundle that was kept
 abbrev pub kept_bundle : Kept → Parts

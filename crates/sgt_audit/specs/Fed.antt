@@ -10,13 +10,13 @@ use Rattle.sgt_audit.specs.Faults.{Stage, FirstFault, lines_so_far}
 use Rattle.sgt_audit.specs.Progress.{Stands}
 
 -- the number is m, as far as it can tell
-abbrev pub Counts : ℕ → ℕ → Type 0
-Counts number m = m < 2 ^ 64 → number ≡ m
+abbrev pub IsNumbered : ℕ → ℕ → Type 0
+IsNumbered number m = m < 2 ^ 64 → number ≡ m
 
 -- these lines have no fault and are what is kept, or their text has this first fault, whatever follows
 abbrev pub HasRead : Standing → List (List ℕ) → Type 0
-HasRead (Going machine line) lines = (s : Stage) × Stands machine.progress s × (lines_so_far s ≡ lines) × Counts line (length lines + 1)
-HasRead (Found line f) lines = (m : ℕ) × ((rest : List ℕ) → FirstFault (text_of_lines lines ++ rest) m f) × (m ≤ length lines) × Counts line m
+HasRead (Going machine line) lines = (s : Stage) × Stands machine.progress s × (lines_so_far s ≡ lines) × IsNumbered line (length lines + 1)
+HasRead (Found line f) lines = (m : ℕ) × ((rest : List ℕ) → FirstFault (text_of_lines lines ++ rest) m f) × (m ≤ length lines) × IsNumbered line m
 HasRead Spent lines = Unit {0}
 
 -- the lines of a bundle in the first or the second format, with this certificate and then these lines

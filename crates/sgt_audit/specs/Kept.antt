@@ -1,5 +1,5 @@
 -- What is kept of a text: the lines read so far, which have no fault.
--- Private clauses use these words, and of the public ones those alone that say what an auditor was fed (Fed).
+-- (Of public clauses those alone use these words that say what an auditor was fed.)
 use Rattle.std.specs.Prelude.{◌≡◌, ◌⊎◌, ℕ, Bool, List, [], ◌∷◌, ◌++◌, Option, Some, None}
 use Rattle.sgt_notation.specs.Spelling.{line_text}
 use Rattle.sgt_notation.specs.declared.SectionLine.{SectionLine}
@@ -19,8 +19,3 @@ pub record Means (second : Bool) (c : Certificate) (b : Begun) (before : List Se
 -- how far the text was read by then
 abbrev pub IsStageOf : Bool → Certificate → List SectionLine → Stage → Type 0
 IsStageOf second c before s = ((s ≡ within second c before) × (AreSections c.sites before → ⊥)) ⊎ ((s ≡ complete second c before) × AreSections c.sites before)
-
--- one more line is kept, or this is its least fault
-abbrev pub AnswersLine : Bool → Certificate → Begun → List SectionLine → List ℕ → Option Fault → Type 0
-AnswersLine second c new before l None = (line : SectionLine) × (l ≡ line_text line) × Means second c new (before ++ line ∷ [])
-AnswersLine second c new before l (Some f) = (s : Stage) → IsStageOf second c before s → Breaks (Rule s (whole l)) f

@@ -3,23 +3,15 @@
 ghost use Rattle.std.specs.Prelude.{◌≡◌, ◌≤◌, ◌∷◌, ◌++◌, ℕ, ◌+◌, ◌<◌, length, take, drop, IfOk, IfErr, IfSome, IfNone};
 ghost use Rattle.sgt_names.specs.Limits.{max_sites};
 ghost use Rattle.sgt_notation.specs.Spelling.{HasNoLf};
-ghost use Rattle.sgt_audit.specs.Spelled.{AnswersBundle, AnswersSections};
+ghost use Rattle.sgt_audit.specs.Spelled.{AnswersBundle};
+ghost use Rattle.sgt_audit.specs.private.SpelledSections.{AnswersSections};
 
 use crate::format::{read_format, read_line};
 use crate::sections::Sections;
-use memchr::memchr;
 use sgt_cert::{Bundle, CertFault, from_line};
 use sgt_names::EngineFail;
+use sgt_notation::find_lf;
 use std::alloc::{AllocError, Global};
-
-/// Where the first LF stands.
-fn find_lf(bytes: &[u8]) -> Option<usize>
-    ensures some { IfSome result (λ n. (n < length bytes.now) × HasNoLf (take n bytes.now)
-        × (bytes.now ≡ take n bytes.now ++ 10 ∷ drop (n + 1) bytes.now)) }
-    ensures none { IfNone result (HasNoLf bytes.now) }
-{
-    memchr(b'\n', bytes)
-}
 
 /// The first line, without its LF, and the bytes behind it.
 pub(crate) fn split_line(bytes: &[u8]) -> Option<(&[u8], &[u8])>

@@ -24,8 +24,9 @@ pub struct Kept {
 
 impl Kept {
     ghost use Rattle.sgt_audit.specs.Faults.{Stage};
-    ghost use Rattle.sgt_audit.specs.Kept.{AnswersLine, IsStageOf, Means};
-    ghost use Rattle.sgt_audit.specs.Ending.{EndsWith, limit_of};
+    ghost use Rattle.sgt_audit.specs.Kept.{IsStageOf, Means};
+    ghost use Rattle.sgt_audit.specs.private.NextLine.{AnswersLine};
+    ghost use Rattle.sgt_audit.specs.private.Ending.{EndsWith, limit_of};
     ghost use Rattle.sgt_audit.specs.Reading.{lines_read};
 
     /// Whether all sections were read.

@@ -32,8 +32,9 @@ pub struct Machine {
 
 impl Machine {
     ghost use Rattle.sgt_audit.specs.Faults.{Stage, Piece, start, headed, Rule, Breaks};
-    ghost use Rattle.sgt_audit.specs.Ending.{EndsWith, limit_of};
-    ghost use Rattle.sgt_audit.specs.Progress.{Begins, Stands, Follows, bytes_of};
+    ghost use Rattle.sgt_audit.specs.private.Ending.{EndsWith, limit_of};
+    ghost use Rattle.sgt_audit.specs.Progress.{Stands};
+    ghost use Rattle.sgt_audit.specs.private.NextLine.{AnswersCertificate, Follows, bytes_of};
 
     /// Before the first line.
     pub(crate) fn new(alloc: Global) -> Machine
@@ -57,7 +58,7 @@ impl Machine {
 
     /// The certificate's line.
     fn begin(alloc: Global, second: bool, line: &[u8]) -> Result<Result<Kept, Fault>, EngineFail>
-        ensures begins { IfOk result (Begins second line.now) }
+        ensures begins { IfOk result (AnswersCertificate second line.now) }
         ensures err { IfErr result (λ e. e ≡ EngineFail.Memory) }
     {
         let certificate = match from_line(alloc, line) {

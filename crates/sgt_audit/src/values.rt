@@ -4,7 +4,7 @@ ghost use Rattle.std.specs.Prelude.{◌≡◌, ◌↔◌, ◌∷◌, [], ℕ, Is
 ghost use Rattle.std.specs.Option.{ForSome};
 ghost use Rattle.sgt_names.specs.Entry.{item_of};
 ghost use Rattle.sgt_names.specs.Log.{names, value_in, value_after, value_at};
-ghost use Rattle.sgt_audit.specs.Judging.{IsLegalRead};
+ghost use Rattle.sgt_audit.specs.private.Judging.{IsLegalRead};
 
 use sgt_names::{Change, Entry, Holding, Item, Value};
 

@@ -5,7 +5,7 @@ use Rattle.sgt_cert.specs.Text.{IsBundle, Spells}
 use Rattle.sgt_cert.specs.Valid.{IsValid}
 use Rattle.sgt_cert.specs.declared.bundle.SiteLog.{SiteLog}
 use Rattle.sgt_audit.specs.Faults.{complete, lines_so_far}
-use Rattle.sgt_audit.specs.Reads.{IsJudged}
+use Rattle.sgt_audit.specs.private.Stops.{IsJudged}
 use Rattle.sgt_audit.specs.declared.reading.Judged.TheVariants as judged
 use Rattle.sgt_audit.proofs.Verdicts.{kept-is_bundle, kept-spelled, kept-valid, told-map}
 use Rattle.sgt_audit.proofs.engine.audit_bundle.Goals as goal

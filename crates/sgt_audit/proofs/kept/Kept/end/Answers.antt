@@ -1,5 +1,5 @@
 use Rattle.std.proofs.Common.{ap, length, arith}
-use Rattle.sgt_audit.proofs.Stages.{ends-within, ends-behind, ends-whole, empty-nil}
+use Rattle.sgt_audit.proofs.NextStage.{ends-within, ends-behind, ends-whole, empty-nil}
 use Rattle.sgt_audit.proofs.Slices.{refuted, not-empty, empty}
 use Rattle.sgt_audit.proofs.kept.Kept.end.Goals as goal
 

@@ -1,5 +1,5 @@
 use Rattle.std.proofs.Common.{refl}
-use Rattle.sgt_audit.proofs.Stages.{certificate-breaks, certificate-means}
+use Rattle.sgt_audit.proofs.NextStage.{certificate-breaks, certificate-means}
 use Rattle.sgt_audit.proofs.machine.Machine.begin.Goals as goal
 
 pub returns-in-Ok-None-clause-begins : goal.returns-in-Ok-None-clause-begins

@@ -1,6 +1,6 @@
 use Rattle.std.proofs.Common.{subst}
 use Rattle.sgt_audit.specs.Progress.{Stands}
-use Rattle.sgt_audit.proofs.Stages.{headed-follows, reading-follows}
+use Rattle.sgt_audit.proofs.NextStage.{headed-follows, reading-follows}
 use Rattle.sgt_audit.proofs.machine.Machine.line.Goals as goal
 
 pub returns-in-Ok-Ok-clause-follows : goal.returns-in-Ok-Ok-clause-follows

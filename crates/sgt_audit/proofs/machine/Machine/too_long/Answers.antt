@@ -1,6 +1,6 @@
 use Rattle.std.proofs.Common.{subst}
 use Rattle.sgt_audit.specs.Progress.{Stands}
-use Rattle.sgt_audit.proofs.Stages.{long-breaks, long-trails}
+use Rattle.sgt_audit.proofs.NextStage.{long-breaks, long-trails}
 use Rattle.sgt_audit.proofs.Slices.{refuted}
 use Rattle.sgt_audit.proofs.machine.Machine.too_long.Goals as goal
 

@@ -14,12 +14,15 @@ use Rattle.sgt_audit.specs.declared.faults.Fault.{Fault}
 use Rattle.sgt_audit.specs.declared.kept.Kept.{Kept}
 use Rattle.sgt_audit.specs.declared.machine.Progress.{Progress}
 use Rattle.sgt_audit.specs.declared.machine.Progress.TheVariants as at
+use Rattle.sgt_audit.specs.declared.reading.Stop.TheVariants as stop
 use Rattle.sgt_audit.specs.declared.reading.Judged.{Judged}
 use Rattle.sgt_audit.specs.declared.reading.Judged.TheVariants as judged
 use Rattle.sgt_audit.specs.Faults.{Stage, complete, lines_so_far, IsFaultless, Piece, whole, last, ComesNext, Rule, Breaks, FirstFault}
 use Rattle.sgt_audit.specs.Kept.{Means, IsStageOf}
-use Rattle.sgt_audit.specs.Progress.{Stands, Follows, bytes_of}
-use Rattle.sgt_audit.specs.Reads.{IsEnded, IsJudged}
+use Rattle.sgt_audit.specs.Progress.{Stands}
+use Rattle.sgt_audit.specs.private.NextLine.{Follows, bytes_of}
+use Rattle.sgt_audit.specs.private.Ending.{limit_of}
+use Rattle.sgt_audit.specs.private.Stops.{IsAll, IsEnded, IsJudged, IsStop}
 
 -- the bytes are the lines of the stage and then what comes
 abbrev pub IsRest : Stage → Option (List ℕ) → Option (List ℕ) → Type 0
@@ -84,45 +87,53 @@ fault-line told p q limit n old new l f (s, stands, rest, number) gives follows 
 
 -- ---- the end of the input
 
-cut-comes : (limit : ℕ) (old new : Option (List ℕ)) (l : List ℕ) (s : Stage) (f : Fault) → Gives limit old Cut l new → Breaks (Rule s (last l)) f → IfSome old (λ rest. (next : Piece) × ComesNext rest next × Breaks (Rule s next) f)
-cut-comes limit None new l s f gives breaks = tt
-cut-comes limit (Some xs) None l s f gives breaks = absurd gives
-cut-comes limit (Some xs) (Some ys) l s f gives breaks = (last l, (gives.3, gives.0), breaks)
+at-stop : (told coming : Option (List ℕ)) (s : Stage) (l : List ℕ) (n : ℕ) → IsRest s told coming → n ≡ length (lines_so_far s) + 1 → IfSome coming (λ rest. rest ≡ l)
+    → IfSome told (λ bytes. (bytes ≡ text_of_lines (lines_so_far s) ++ l) × (n ≡ length (lines_so_far s) + 1))
+at-stop None coming s l n rest number left = tt
+at-stop (Some bytes) None s l n rest number left = absurd rest
+at-stop (Some bytes) (Some xs) s l n rest number left = (rest ∙ ap (λ (t : List ℕ). text_of_lines (lines_so_far s) ++ t) left, number)
 
-end-comes : (limit : ℕ) (old new : Option (List ℕ)) (l : List ℕ) (s : Stage) (f : Fault) → Gives limit old End l new → Breaks (Rule s (last [])) f → IfSome old (λ rest. (next : Piece) × ComesNext rest next × Breaks (Rule s next) f)
-end-comes limit None new l s f gives breaks = tt
-end-comes limit (Some xs) None l s f gives breaks = absurd gives
-end-comes limit (Some xs) (Some ys) l s f gives breaks = (last [], (gives.0, λ k d lt. absurd (omega arith)), breaks)
+cut-left : (limit : ℕ) (old new : Option (List ℕ)) (l : List ℕ) → Gives limit old Cut l new → IfSome old (λ rest. rest ≡ l)
+cut-left limit None new l gives = tt
+cut-left limit (Some xs) None l gives = absurd gives
+cut-left limit (Some xs) (Some ys) l gives = gives.3
 
--- all was read, and nothing is left
-whole-text : (told coming : Option (List ℕ)) (k : Kept) (before : List SectionLine) (s : Stage) → Means k.second k.certificate k.sections before → AreSections k.certificate.sites before → s ≡ complete k.second k.certificate before
-    → IsRest s told coming → IfSome coming (λ rest. rest ≡ []) → IfSome told (IsJudged (judged.Whole k))
-whole-text None coming k before s m all here rest none = tt
-whole-text (Some bytes) None k before s m all here rest none = absurd rest
-whole-text (Some bytes) (Some xs) k before s m all here rest none =
-    (before, m, all, rest ∙ ap (λ (t : List ℕ). text_of_lines (lines_so_far s) ++ t) none ∙ append-nil (text_of_lines (lines_so_far s)) ∙ ap (λ s. text_of_lines (lines_so_far s)) here)
+end-left : (limit : ℕ) (old new : Option (List ℕ)) (l : List ℕ) → Gives limit old End l new → IfSome old (λ rest. rest ≡ l)
+end-left limit None new l gives = tt
+end-left limit (Some xs) None l gives = absurd gives
+end-left limit (Some xs) (Some ys) l gives = gives.0 ∙ sym gives.1
 
-cut-none : (limit : ℕ) (old new : Option (List ℕ)) (l : List ℕ) → Gives limit old Cut l new → l ≡ [] → IfSome old (λ rest. rest ≡ [])
-cut-none limit None new l gives none = tt
-cut-none limit (Some xs) None l gives none = absurd gives
-cut-none limit (Some xs) (Some ys) l gives none = gives.3 ∙ none
+-- reading stops there, in line n, with these bytes behind the last LF
+pub stops-cut : (told : Option (List ℕ)) (p : Progress) (limit n : ℕ) (old new : Option (List ℕ)) (l : List ℕ) → Goes told p old n → Gives limit old Cut l new
+    → ((s : Stage) → Stands p s → length l ≤ limit_of s) → HasNoLf l → IsStop told (stop.Ended n) p l
+stops-cut told p limit n old new l (s, stands, rest, number) gives short none = (s, stands, short s stands, none, at-stop told old s l n rest number (cut-left limit old new l gives))
 
-end-none : (limit : ℕ) (old new : Option (List ℕ)) (l : List ℕ) → Gives limit old End l new → IfSome old (λ rest. rest ≡ [])
-end-none limit None new l gives = tt
-end-none limit (Some xs) None l gives = absurd gives
-end-none limit (Some xs) (Some ys) l gives = gives.0
+pub stops-end : (told : Option (List ℕ)) (p : Progress) (limit n : ℕ) (old new : Option (List ℕ)) (l : List ℕ) → Goes told p old n → Gives limit old End l new
+    → ((s : Stage) → Stands p s → length l ≤ limit_of s) → HasNoLf l → IsStop told (stop.Ended n) p l
+stops-end told p limit n old new l (s, stands, rest, number) gives short none = (s, stands, short s stands, none, at-stop told old s l n rest number (end-left limit old new l gives))
 
-pub at-cut : (told : Option (List ℕ)) (p : Progress) (limit n : ℕ) (old new : Option (List ℕ)) (l : List ℕ) (j : Judged) → Goes told p old n → Gives limit old Cut l new → ((s : Stage) → Stands p s → IsEnded s l n j) → IfSome told (IsJudged j)
-at-cut told p limit n old new l (judged.Whole k) (s, stands, rest, number) gives ended =
-    let e = ended s stands in whole-text told old k e.0.0 s e.0.1 e.0.2 e.0.3 rest (cut-none limit old new l gives e.1)
-at-cut told p limit n old new l (judged.Faulty line f) (s, stands, rest, number) gives ended =
-    let e = ended s stands in fault-at told old p line f s stands rest (e.0 ∙ number) (cut-comes limit old new l s f gives e.1)
+-- what the machine says of the text that ends there
+module _ (s : Stage) (l : List ℕ) (n : ℕ) (good : IsFaultless s) (none : HasNoLf l) where
+  text-judged : (bytes : List ℕ) (j : Judged) → IsEnded s l n j → (bytes ≡ text_of_lines (lines_so_far s) ++ l) × (n ≡ length (lines_so_far s) + 1) → IsJudged j bytes
+  text-judged bytes (judged.Whole k) ends at =
+      let e = ends.0 in
+      (e.0, e.1, e.2, at.0 ∙ ap (λ (t : List ℕ). text_of_lines (lines_so_far s) ++ t) ends.1 ∙ append-nil (text_of_lines (lines_so_far s)) ∙ ap (λ s. text_of_lines (lines_so_far s)) e.3)
+  text-judged bytes (judged.Faulty line f) ends at =
+      record { stage = s; rest = l; next = last l; text = at.0; faultless = good; number = ends.0 ∙ at.1; comes = (refl, none); breaks = ends.1 }
 
-pub at-end : (told : Option (List ℕ)) (p : Progress) (limit n : ℕ) (old new : Option (List ℕ)) (l : List ℕ) (j : Judged) → Goes told p old n → Gives limit old End l new → ((s : Stage) → Stands p s → IsEnded s [] n j) → IfSome told (IsJudged j)
-at-end told p limit n old new l (judged.Whole k) (s, stands, rest, number) gives ended =
-    let e = ended s stands in whole-text told old k e.0.0 s e.0.1 e.0.2 e.0.3 rest (end-none limit old new l gives)
-at-end told p limit n old new l (judged.Faulty line f) (s, stands, rest, number) gives ended =
-    let e = ended s stands in fault-at told old p line f s stands rest (e.0 ∙ number) (end-comes limit old new l s f gives e.1)
+  told-judged : (told : Option (List ℕ)) (j : Judged) → IsEnded s l n j → IfSome told (λ bytes. (bytes ≡ text_of_lines (lines_so_far s) ++ l) × (n ≡ length (lines_so_far s) + 1)) → IfSome told (IsJudged j)
+  told-judged None j ends at = tt
+  told-judged (Some bytes) j ends at = text-judged bytes j ends at
+
+pub stop-judged : (told : Option (List ℕ)) (p : Progress) (n : ℕ) (l : List ℕ) (j : Judged) → IsStop told (stop.Ended n) p l → ((s : Stage) → Stands p s → length l ≤ limit_of s → IsEnded s l n j) → IfSome told (IsJudged j)
+stop-judged told p n l j (s, stands, short, none, at) ends = told-judged s l n (faultless p s stands) none told j (ends s stands short) at
+
+ended-all : (s : Stage) (l : List ℕ) (n : ℕ) (j : Judged) → IsEnded s l n j → IsAll j
+ended-all s l n (judged.Whole k) ends = let e = ends.0 in (e.0, e.1, e.2)
+ended-all s l n (judged.Faulty line f) ends = tt
+
+pub stop-all : (told : Option (List ℕ)) (p : Progress) (n : ℕ) (l : List ℕ) (j : Judged) → IsStop told (stop.Ended n) p l → ((s : Stage) → Stands p s → length l ≤ limit_of s → IsEnded s l n j) → IsAll j
+stop-all told p n l j (s, stands, short, none, at) ends = ended-all s l n j (ends s stands short)
 
 -- ---- a line that is too long
 
@@ -155,7 +166,7 @@ piece-long limit bytes (last l) (is, none) lt front = omega (arith, ap length is
 long-comes : (limit : ℕ) (old new : Option (List ℕ)) (l : List ℕ) (s : Stage) (f : Fault) → Gives limit old TooLong l new → ((next : Piece) → limit < length (bytes_of next) → Breaks (Rule s next) f) → IfSome old (λ rest. (next : Piece) × ComesNext rest next × Breaks (Rule s next) f)
 long-comes limit None new l s f gives breaks = tt
 long-comes limit (Some xs) None l s f gives breaks = absurd gives
-long-comes limit (Some xs) (Some ys) l s f gives breaks = let p = piece xs in (p.0, p.1, breaks p.0 (piece-long limit xs p.0 p.1 gives.0 gives.1))
+long-comes limit (Some xs) (Some ys) l s f gives breaks = let p = piece xs in (p.0, p.1, breaks p.0 (piece-long limit xs p.0 p.1 gives.0.0 gives.0.1))
 
 pub at-long : (told : Option (List ℕ)) (p : Progress) (limit n : ℕ) (old new : Option (List ℕ)) (l : List ℕ) (f : Fault) → Goes told p old n → Gives limit old TooLong l new
     → ((s : Stage) → Stands p s → (next : Piece) → limit < length (bytes_of next) → Breaks (Rule s next) f) → IfSome told (λ bytes. FirstFault bytes n f)

@@ -1,5 +1,4 @@
 -- What each rule asks of a line, in terms of the open section's items and entries.
--- Private clauses alone use these words.
 use Rattle.std.specs.Prelude.{◌≡◌, ℕ, ◌-◌, ◌<◌, List, [], length, Option, Some, None, slice_get}
 use Rattle.std.specs.List.{last_or}
 use Rattle.sgt_names.specs.Entry.{IsOpen, Continues}
@@ -20,12 +19,12 @@ IsLegalRead items entries (Read tx x v) = value_at items entries x ≡ Some v
 IsLegalRead items entries _ = Unit {0}
 
 -- the line goes on with the block of the entry in front of it, if that is open
-abbrev pub GoesOnWith : Entry → SectionLine → Type 0
-GoesOnWith f line = IsOpen f → (e : Entry) × (line ≡ Line.Logged e) × Continues f e
+abbrev pub ContinuesBlock : Entry → SectionLine → Type 0
+ContinuesBlock f line = IsOpen f → (e : Entry) × (line ≡ Line.Logged e) × Continues f e
 
 -- the line goes on with the block that is open at the end of the log, if one is
-abbrev pub GoesOn : SiteLog → SectionLine → Type 0
-GoesOn log line = (f : Entry) → log.finals ≡ [] → slice_get log.entries (length log.entries - 1) ≡ Some f → GoesOnWith f line
+abbrev pub ContinuesLog : SiteLog → SectionLine → Type 0
+ContinuesLog log line = (f : Entry) → log.finals ≡ [] → slice_get log.entries (length log.entries - 1) ≡ Some f → ContinuesBlock f line
 
 -- the log is the one that these lines have open
 pub record HasOpen (before : List SectionLine) (log : SiteLog) : Type 0 where
@@ -39,9 +38,9 @@ abbrev pub KeptBelow : (Fault → Type 0) → ℕ → Type 0
 KeptBelow rule n = (g : Fault) → fault_number g < n → rule g
 
 -- every rule up to the one of walks is kept, or this is the least that is broken
-abbrev pub Judged : (Fault → Type 0) → Option Fault → Type 0
-Judged rule None = KeptBelow rule 17
-Judged rule (Some f) = Breaks rule f
+abbrev pub JudgedLine : (Fault → Type 0) → Option Fault → Type 0
+JudgedLine rule None = KeptBelow rule 17
+JudgedLine rule (Some f) = Breaks rule f
 
 -- a certificate keeps its rules, or this is the least that is broken
 abbrev pub JudgedItself : List Decision → Option Fault → Type 0

@@ -1,5 +1,4 @@
 -- The end of the input, and how long a line may be.
--- Private clauses alone use these words.
 use Rattle.std.specs.Prelude.{◌≡◌, ℕ, ◌-◌, ◌^◌, List, [], Result, Ok, Err}
 use Rattle.sgt_notation.specs.declared.SectionLine.{SectionLine}
 use Rattle.sgt_notation.specs.Limits.{max_line}

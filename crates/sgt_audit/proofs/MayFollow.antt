@@ -9,14 +9,16 @@ use Rattle.sgt_names.proofs.Places.{All-from_at, All_at, AllPairs_at, take-next}
 use Rattle.sgt_names.specs.Log.{names}
 use Rattle.sgt_names.specs.declared.entry.Entry.{Entry}
 use Rattle.sgt_names.specs.declared.entry.Holding.{Holding}
+use Rattle.sgt_names.proofs.Lists.{heads, tails, list_cases, middle_at, front_at}
 use Rattle.sgt_notation.specs.declared.SectionLine.{SectionLine}
 use Rattle.sgt_notation.specs.declared.SectionLine.TheVariants.{Site, Initial, Logged, Final, End}
 use Rattle.sgt_cert.specs.Parts.{ComesBefore, IsShapedLog, IsShaped}
 use Rattle.sgt_cert.specs.Text.{section_lines, sections_from, Begins, AreSections}
 use Rattle.sgt_cert.specs.declared.bundle.SiteLog.{SiteLog}
 use Rattle.sgt_cert.proofs.OneText.{section-one}
-use Rattle.sgt_audit.specs.Reading.{Begun, open_lines, lines_read, IsOpenLog, HasRoomFor, IsBegun, Fits, FitsBetween, MayFollow, with_line, no_log, with_next}
-use Rattle.sgt_audit.proofs.Cuts.{heads, tails, no_cons}
+use Rattle.sgt_audit.specs.Reading.{Begun, open_lines, lines_read, IsOpenLog, HasRoomFor, IsBegun}
+use Rattle.sgt_audit.specs.private.Following.{Fits, FitsBetween, MayFollow, with_line, no_log, with_next}
+use Rattle.sgt_audit.proofs.LinePlaces.{no_cons}
 
 -- ---- whole logs in front
 
@@ -115,21 +117,8 @@ next-final (h ∷ hs) rest more line e = inr (h, hs, refl, sym (heads (Final h) 
 
 -- ---- what may follow an open section
 
-nil_or_cons : {A : Type 0} (xs : List A) → (xs ≡ []) ⊎ ((x : A) × (ys : List A) × (xs ≡ x ∷ ys))
-nil_or_cons [] = inl refl
-nil_or_cons (x ∷ xs) = inr (x, xs, refl)
-
-at_end : {A : Type 0} (xs : List A) (y : A) (ys : List A) → slice_get (xs ++ y ∷ ys) (length xs) ≡ Some y
-at_end [] y ys = refl
-at_end (x ∷ xs) y ys = at_end xs y ys
-
-at_front : {A : Type 0} (xs ys : List A) (n : ℕ) (x : A) → slice_get xs n ≡ Some x → slice_get (xs ++ ys) n ≡ Some x
-at_front [] ys n x h = absurd cc
-at_front (z ∷ xs) ys zero x h = h
-at_front (z ∷ xs) ys (suc n) x h = at_front xs ys n x h
-
 all-before : {A : Type 0} (R : A → A → Type 0) (xs : List A) (y : A) (ys : List A) → AllPairs R (xs ++ y ∷ ys) → All (λ x. R x y) xs
-all-before R xs y ys pairs = All-from_at (λ x. R x y) xs (λ n x at. AllPairs_at R (xs ++ y ∷ ys) n (length xs) x y pairs (slice_get_within xs n x at) (at_front xs (y ∷ ys) n x at) (at_end xs y ys))
+all-before R xs y ys pairs = All-from_at (λ x. R x y) xs (λ n x at. AllPairs_at R (xs ++ y ∷ ys) n (length xs) x y pairs (slice_get_within xs n x at) (front_at xs (y ∷ ys) n x at) (middle_at xs y ys))
 
 module _ (l : SiteLog) (log : SiteLog) (rest more : List SectionLine) (shaped : IsShapedLog l) where
   abbrev Goes : SectionLine → Type 0
@@ -182,7 +171,7 @@ module _ (l : SiteLog) (log : SiteLog) (rest more : List SectionLine) (shaped : 
         initial-final x same = cc
 
     initial-no_entries : log.entries ≡ []
-    initial-no_entries = elim (nil_or_cons log.entries) [
+    initial-no_entries = elim (list_cases log.entries) [
       | inl none ↦ none
       | inr some ↦ absurd (initial-only (subst (λ es. NotFrom Initial (map Logged es ++ (map Final log.finals ++ (Initial h ∷ more)))) (sym some.2) (λ a rs same. logged-initial a (heads (Logged some.0) (Initial a) (map Logged some.1 ++ (map Final log.finals ++ (Initial h ∷ more))) rs same))))
     ]
@@ -191,7 +180,7 @@ module _ (l : SiteLog) (log : SiteLog) (rest more : List SectionLine) (shaped : 
         logged-initial a same = cc
 
     initial-no_finals : log.finals ≡ []
-    initial-no_finals = elim (nil_or_cons log.finals) [
+    initial-no_finals = elim (list_cases log.finals) [
       | inl none ↦ none
       | inr some ↦ absurd (initial-only (subst (λ fs. NotFrom Initial (map Logged log.entries ++ (map Final fs ++ (Initial h ∷ more)))) (sym some.2)
           (after_items log.entries [] (Final some.0 ∷ (map Final some.1 ++ (Initial h ∷ more))) (λ a rs same. final-initial a (heads (Final some.0) (Initial a) (map Final some.1 ++ (Initial h ∷ more)) rs same)))))
@@ -205,7 +194,7 @@ module _ (l : SiteLog) (log : SiteLog) (rest more : List SectionLine) (shaped : 
     initial-next =
         let begin = items-begin l log rest (Initial h ∷ more) e in
         let here = begin.2 ∙ ap₂ (λ (es : List Entry) (fs : List Holding). map Logged es ++ (map Final fs ++ (Initial h ∷ more))) initial-no_entries initial-no_finals in
-        elim (nil_or_cons begin.0) [
+        elim (list_cases begin.0) [
           | inl none ↦ absurd (after_items l.entries l.finals (End ∷ rest) (end-not Initial end-initial rest) h more (subst (λ (zs : List Holding). map Initial zs ++ (map Logged l.entries ++ (map Final l.finals ++ (End ∷ rest))) ≡ Initial h ∷ more) none here))
           | inr some ↦
               let first = subst (λ (zs : List Holding). map Initial zs ++ (map Logged l.entries ++ (map Final l.finals ++ (End ∷ rest))) ≡ Initial h ∷ more) some.2 here in
@@ -223,7 +212,7 @@ module _ (l : SiteLog) (log : SiteLog) (rest more : List SectionLine) (shaped : 
         )
 
   logged-follows : (x : Entry) → Goes (Logged x) → log.finals ≡ []
-  logged-follows x e = elim (nil_or_cons log.finals) [
+  logged-follows x e = elim (list_cases log.finals) [
     | inl none ↦ none
     | inr some ↦ absurd (finals-only (Logged x) e
         (after_items log.entries log.finals (Logged x ∷ more) (λ a rs same. logged-initial a (heads (Logged x) (Initial a) more rs same)))
@@ -263,7 +252,7 @@ module _ (l : SiteLog) (log : SiteLog) (rest more : List SectionLine) (shaped : 
             let same = final-one h next.0 next.3 in
             let finals = goes.1.1 ∙ ap (λ (zs : List Holding). log.finals ++ zs) (next.2 ∙ ap (λ z. z ∷ next.1) (sym same)) in
             let listed = ap names (sym goes.0) ∙ sym shaped.finals ∙ ap names finals ∙ map-append (λ (h : Holding). h.item) log.finals (h ∷ next.1) in
-            ap₂ slice_get listed (sym (length-map log.finals (λ (h : Holding). h.item))) ∙ at_end (names log.finals) h.item (names next.1)
+            ap₂ slice_get listed (sym (length-map log.finals (λ (h : Holding). h.item))) ∙ middle_at (names log.finals) h.item (names next.1)
       ]
     where
       final-end : Final h ≡ End → ⊥
@@ -322,7 +311,7 @@ follow-at : (sites : ℕ) (whole : List SiteLog) (current : Option SiteLog) (lin
 follow-at sites whole current line logs more shaped [] all e = absurd (no_cons (open_lines (length whole) current) more line e)
 follow-at sites whole None line logs more shaped (l ∷ ls) all e = follow-between sites whole line logs more shaped line l ls None all e
 follow-at sites whole (Some log) line logs more shaped (l ∷ ls) all e =
-    let shape = All_at IsShapedLog logs (length whole) l shaped.logs (ap (λ ms. slice_get ms (length whole)) all ∙ at_end whole l ls) in
+    let shape = All_at IsShapedLog logs (length whole) l shaped.logs (ap (λ ms. slice_get ms (length whole)) all ∙ middle_at whole l ls) in
     follow-open sites whole line logs more shaped log l ls shape e
 
 pub begins-follow : (b : Begun) (line : SectionLine) → Begins b.sites (lines_read b ++ line ∷ []) → MayFollow b b.current line

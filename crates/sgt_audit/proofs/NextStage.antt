@@ -17,17 +17,16 @@ use Rattle.sgt_audit.specs.declared.kept.Kept.{Kept}
 use Rattle.sgt_audit.specs.declared.machine.Progress.TheVariants as at
 use Rattle.sgt_audit.specs.Faults.{fault_number, Keeps, KeepsItself, Stage, headed, within, complete, lines_so_far, Piece, whole, last, Rule, Breaks}
 use Rattle.sgt_audit.specs.Reading.{Begun, IsBegun, lines_read}
-use Rattle.sgt_audit.specs.Kept.{Means, IsStageOf, AnswersLine}
-use Rattle.sgt_audit.specs.Progress.{Stands, Follows, bytes_of}
-use Rattle.sgt_audit.specs.Ending.{limit_of}
-use Rattle.sgt_audit.proofs.Cuts.{no_cons}
-use Rattle.sgt_audit.proofs.Streaming.{whole-sections, are-sections}
+use Rattle.sgt_audit.specs.Kept.{Means, IsStageOf}
+use Rattle.sgt_audit.specs.private.NextLine.{AnswersLine}
+use Rattle.sgt_audit.specs.Progress.{Stands}
+use Rattle.sgt_audit.specs.private.NextLine.{Follows, bytes_of}
+use Rattle.sgt_audit.specs.private.Ending.{limit_of}
+use Rattle.sgt_audit.proofs.LinePlaces.{no_cons}
+use Rattle.sgt_audit.proofs.MayFollow.{whole-sections, are-sections}
+use Rattle.sgt_names.proofs.Lists.{option_cases}
 
 -- ---- which stage it is
-
-option_cases : {A : Type 0} (o : Option A) → (o ≡ None) ⊎ ((x : A) × (o ≡ Some x))
-option_cases None = inl refl
-option_cases (Some x) = inr (x, refl)
 
 all-or-not : (b : Begun) → IsBegun b → AreSections b.sites (lines_read b) ⊎ (AreSections b.sites (lines_read b) → ⊥)
 all-or-not b is =
