@@ -6,7 +6,7 @@ use Rattle.std.specs.Str.{bytes_eq}
 use Rattle.std.proofs.lemmas.List.Elements.{filter_map-append}
 use Rattle.sgt_names.specs.Name.{Name}
 use Rattle.sgt_names.specs.Entry.{change_of}
-use Rattle.sgt_names.specs.Log.{changed, value_in, value_after, value_at}
+use Rattle.sgt_names.specs.Log.{value_with, value_in, value_after, value_at}
 use Rattle.sgt_names.specs.declared.entry.Entry.{Entry}
 use Rattle.sgt_names.specs.declared.entry.Holding.{Holding}
 use Rattle.sgt_names.proofs.Lists.{drop_next, take_next, element_at}
@@ -22,7 +22,7 @@ not-here items i h x lt is other rest =
 
 -- one more entry
 pub value_at-push : (items : List Holding) (entries : List Entry) (e : Entry) (x : Name) → value_at items (entries ++ e ∷ []) x ≡ value_after (value_at items entries x) (e ∷ []) x
-value_at-push items entries e x = ap (fold changed (value_in items x)) (filter_map-append (change_of x) entries (e ∷ [])) ∙ fold-append changed (value_in items x) (filter_map (change_of x) entries) (cons_option (change_of x e) [])
+value_at-push items entries e x = ap (fold value_with (value_in items x)) (filter_map-append (change_of x) entries (e ∷ [])) ∙ fold-append value_with (value_in items x) (filter_map (change_of x) entries) (cons_option (change_of x e) [])
 
 -- the value behind the next entry
 pub value-next : (items : List Holding) (entries : List Entry) (i : ℕ) (e : Entry) (x : Name) (value : Option ℕ) → i < length entries → e ≡ get_or entries i e

@@ -14,7 +14,7 @@ use Rattle.sgt_cert.specs.declared.certificate.Step.{Step}
 use Rattle.sgt_cert.specs.declared.bundle.SiteLog.{SiteLog}
 use Rattle.sgt_audit.specs.declared.faults.Fault.{Fault}
 use Rattle.sgt_audit.specs.declared.faults.Fault.TheVariants as fault
-use Rattle.sgt_audit.specs.Faults.{IsLineIn, Keeps, Stage, within, whole, Rule, Breaks}
+use Rattle.sgt_audit.specs.Faults.{AllKept, IsLineIn, Keeps, Stage, within, whole, Rule, Breaks}
 use Rattle.sgt_audit.specs.private.Judging.{KeptBelow}
 use Rattle.sgt_audit.specs.Reading.{Begun, lines_read, IsBegun}
 use Rattle.sgt_audit.specs.Kept.{Means, IsStageOf}
@@ -24,17 +24,33 @@ use Rattle.sgt_audit.proofs.SectionLines.{last_end}
 use Rattle.sgt_audit.proofs.MayFollow.{sections-whole, whole-sections}
 use Rattle.sgt_audit.proofs.Least.{least-at}
 
+-- no line keeps a rule of notation by itself
+pub no_notation : (c : Certificate) (before : List SectionLine) (line : SectionLine) → Keeps c before line fault.Notation
+no_notation c before (Site k) = tt
+no_notation c before (Initial h) = tt
+no_notation c before (Logged e) = tt
+no_notation c before (Final h) = tt
+no_notation c before End = tt
+
+-- lines that keep every rule, and one more
+module _ (second : Bool) (c : Certificate) (before : List SectionLine) (line : SectionLine) (kept : AllKept second c before) (spelled : IsLineIn second line) (rules : (f : Fault) → Keeps c before line f) where
+  each-line : (earlier later : List SectionLine) (l : SectionLine) → before ++ line ∷ [] ≡ earlier ++ l ∷ later → IsLineIn second l × ((f : Fault) → Keeps c earlier l f)
+  each-line earlier later l e =
+      elim (cut_append before (line ∷ []) earlier later l e) [
+        | inl first ↦ kept.lines earlier first.0 l first.1
+        | inr last ↦
+            let same = last_cut line last.0 later l last.2 in
+            let front = last.1 ∙ ap (λ (ls : List SectionLine). before ++ ls) same.1 ∙ append-nil before in
+            subst (λ ls. IsLineIn second l × ((f : Fault) → Keeps c ls l f)) (sym front) (subst (λ l. IsLineIn second l × ((f : Fault) → Keeps c before l f)) same.0 (spelled, rules))
+      ]
+
+  pub kept-more : AllKept second c (before ++ line ∷ [])
+  kept-more = record { spelled = kept.spelled; itself = kept.itself; lines = each-line }
+
 -- the fault of a line is the fault of the text that spells it
 module _ (second : Bool) (c : Certificate) (before : List SectionLine) (line : SectionLine) (is : IsLineIn second line) (f : Fault) (breaks : Breaks (Keeps c before line) f) where
-  no_notation : (line : SectionLine) → Keeps c before line fault.Notation
-  no_notation (Site k) = tt
-  no_notation (Initial h) = tt
-  no_notation (Logged e) = tt
-  no_notation (Final h) = tt
-  no_notation End = tt
-
   within-broken : (g : Fault) → (Keeps c before line g → ⊥) → Rule (within second c before) (whole (line_text line)) g → ⊥
-  within-broken fault.Notation miss h = miss (no_notation line)
+  within-broken fault.Notation miss h = miss (no_notation c before line)
   within-broken g miss h = miss (h line is refl)
 
   within-kept : (g : Fault) → Keeps c before line g → Rule (within second c before) (whole (line_text line)) g
@@ -132,18 +148,8 @@ module _ (second : Bool) (c : Certificate) (b new : Begun) (before : List Sectio
       absurd (miss (whole-sections new begun as_read.0 (ap length as_read.1 ∙ len ∙ sym new-sites)))
 
   module _ (begun : IsBegun new) (spelled : IsLineIn second line) (rules : (f : Fault) → Keeps c before line f) where
-    each-line : (earlier later : List SectionLine) (l : SectionLine) → before ++ line ∷ [] ≡ earlier ++ l ∷ later → IsLineIn second l × ((f : Fault) → Keeps c earlier l f)
-    each-line earlier later l e =
-        elim (cut_append before (line ∷ []) earlier later l e) [
-          | inl first ↦ m.kept.lines earlier first.0 l first.1
-          | inr last ↦
-              let same = last_cut line last.0 later l last.2 in
-              let front = last.1 ∙ ap (λ (ls : List SectionLine). before ++ ls) same.1 ∙ append-nil before in
-              subst (λ ls. IsLineIn second l × ((f : Fault) → Keeps c ls l f)) (sym front) (subst (λ l. IsLineIn second l × ((f : Fault) → Keeps c before l f)) same.0 (spelled, rules))
-        ]
-
     means : Means second c new (before ++ line ∷ [])
-    means = record { begun = begun; sites = new-sites; lines = all-lines; kept = record { spelled = m.kept.spelled; itself = m.kept.itself; lines = each-line } }
+    means = record { begun = begun; sites = new-sites; lines = all-lines; kept = kept-more second c before line m.kept spelled rules }
 
   kept-here : KeptBelow (Keeps c (lines_read b) line) 17 → KeptBelow (Keeps c before line) 17
   kept-here kept = subst (λ ls. KeptBelow (Keeps c ls line) 17) (sym m.lines) kept

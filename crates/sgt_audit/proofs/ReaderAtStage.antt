@@ -1,5 +1,5 @@
 -- How far a text was read, against all that its reader told.
-use Rattle.std.proofs.Common.{◌≡◌, ◌≢◌, ℕ, zero, suc, ◌+◌, ◌<◌, List, [], ◌∷◌, ◌++◌, length, take, Option, Some, None, IfSome, refl, sym, ap, ◌∙◌, subst, arith, inl, inr, append_assoc}
+use Rattle.std.proofs.Common.{◌≡◌, ◌≢◌, ℕ, zero, suc, ◌+◌, ◌<◌, ◌≤◌, List, [], ◌∷◌, ◌++◌, length, take, Option, Some, None, IfSome, refl, sym, ap, ◌∙◌, subst, arith, inl, inr, append_assoc}
 use Rattle.std.specs.Prelude.{⊤}
 use Rattle.std.specs.List.{AllByRecursion}
 use Rattle.std.proofs.lemmas.Bool.{cases_eq, cases_order}
@@ -137,7 +137,7 @@ stop-all told p n l j (s, stands, short, none, at) ends = ended-all s l n j (end
 
 -- ---- a line that is too long
 
-piece : (bytes : List ℕ) → (next : Piece) × ComesNext bytes next
+pub piece : (bytes : List ℕ) → (next : Piece) × ComesNext bytes next
 piece [] = (last [], (refl, λ k d lt. absurd (omega arith)))
 piece (b ∷ bytes) = elim (cases_eq b 10) [
   | inl lf ↦ (whole [], (bytes, ap (λ x. x ∷ bytes) lf, λ k d lt. absurd (omega arith)))

@@ -4,19 +4,20 @@ use Rattle.std.specs.Option.{SomeIff}
 use Rattle.std.specs.List.{AllByRecursion}
 use Rattle.std.proofs.lemmas.List.{append-nil, map-append}
 use Rattle.std.proofs.lemmas.List.Elements.{recursion_from_All, All-push}
-use Rattle.sgt_notation.specs.Spelling.{line_text, text_of_lines, HasNoLf}
+use Rattle.sgt_notation.specs.Spelling.{line_text, text_of_lines, HasNoLf, IsLine}
 use Rattle.sgt_notation.specs.declared.SectionLine.{SectionLine}
 use Rattle.sgt_notation.proofs.OneSpelling.{cut_at_byte, line-one, line-one_line}
-use Rattle.sgt_cert.specs.Parts.{Parts}
-use Rattle.sgt_cert.specs.Text.{certificate_text, format_line, text_in, sections_from, Begins, AreSections, IsBundle, Spells}
+use Rattle.sgt_cert.specs.Parts.{FitTogether, Parts}
+use Rattle.sgt_cert.specs.Text.{certificate_text, format_line, text_in, sections_from, Begins, AreSections, IsCertificate, Spells}
 use Rattle.sgt_cert.specs.declared.certificate.Certificate.{Certificate}
-use Rattle.sgt_cert.proofs.OneText.{first_line, format-one_line, no_line, lines_front, lines-one, sections-lines}
+use Rattle.sgt_cert.proofs.OneText.{first_line, format-one_line, no_line, lines_front, lines-one, logs-from_lines, sections-lines}
 use Rattle.sgt_cert.proofs.OneLine.{certificate-one_line}
 use Rattle.sgt_audit.specs.Faults.{IsLineIn}
 use Rattle.sgt_audit.specs.Reading.{Begun, open_lines, lines_read}
 use Rattle.sgt_audit.specs.Spelled.{AnswersBundle}
 use Rattle.sgt_audit.specs.private.SpelledSections.{SpellsSections}
 use Rattle.sgt_cert.specs.declared.bundle.SiteLog.{SiteLog}
+use Rattle.sgt_audit.proofs.Fitting.{fit-together}
 use Rattle.sgt_audit.proofs.Formats.{format-one, lines-of, lines-allowed, logs-allowed}
 use Rattle.sgt_audit.proofs.ReaderAtStage.{one-line}
 use Rattle.sgt_audit.proofs.OneFault.{has_lf, no_lf}
@@ -144,24 +145,24 @@ module _ (f : Bool) (bytes format-line rest second behind : List ℕ) (c : Certi
       first ∙ ap₂ (λ (l t : List ℕ). l ++ 10 ∷ t) is (next ∙ ap₂ (λ (l t : List ℕ). l ++ 10 ∷ t) certified (read.text ∙ ap (λ ls. text_of_lines (map line_text ls)) lines-are) ∙ sym (first_line (certificate_text c) (map line_text (sections_from 0 logs))))
       ∙ sym (first_line (format_line f) (certificate_text c ∷ map line_text (sections_from 0 logs)))
 
-  pub read-spells : IsBundle bundle → Spells bytes bundle
-  read-spells b = record {
-    certificate = b.certificate;
-    shape = b.shape;
-    logs = b.logs;
+  pub read-spells : IsCertificate c → FitTogether bundle → Spells bytes bundle
+  read-spells certificate fit = record {
+    certificate = certificate;
+    shape = fit.shape;
+    logs = logs-from_lines 0 logs (subst (AllByRecursion IsLine) lines-are (lines-of f (lines_read r) read.each));
     second = f;
     allowed = logs-allowed f 0 logs (subst (All (IsLineIn f)) lines-are read.each);
     text = text-is;
   }
 
   -- and no other one
-  pub read-only : (b : Parts) → Spells bytes b → HasNoLf format-line → HasNoLf second → c ≡ b.certificate → (IsBundle bundle → ⊥) → ⊥
+  pub read-only : (b : Parts) → Spells bytes b → HasNoLf format-line → HasNoLf second → c ≡ b.certificate → (FitTogether bundle → ⊥) → ⊥
   read-only b s one two same miss =
       let spelled = spells-sections bytes b s format-line rest one first second behind two next f c is same in
       let lines = sections-same f c.sites behind (sections_from 0 b.sites) (lines_read r) spelled read in
       let logs-are : b.sites ≡ logs = sym (sections-whole r b.sites lines).1 ∙ sym whole in
-      miss (subst (λ p. IsBundle p) (ap₂ (λ d ls. record { certificate = d; sites = ls }) (sym same) logs-are) (record { certificate = s.certificate; shape = s.shape; logs = s.logs }))
+      miss (subst (λ p. FitTogether p) (ap₂ (λ d ls. record { certificate = d; sites = ls }) (sym same) logs-are) (fit-together b.certificate b.sites s.certificate s.shape))
 
-pub bundle-answers : (bytes : List ℕ) (found : Option Parts) (v : Parts) → SomeIff found (IsBundle v) v → (IsBundle v → Spells bytes v) → ((b : Parts) → Spells bytes b → (IsBundle v → ⊥) → ⊥) → AnswersBundle bytes found
+pub bundle-answers : (bytes : List ℕ) (found : Option Parts) (v : Parts) → SomeIff found (FitTogether v) v → (FitTogether v → Spells bytes v) → ((b : Parts) → Spells bytes b → (FitTogether v → ⊥) → ⊥) → AnswersBundle bytes found
 bundle-answers bytes None v miss spells only = λ b s. only b s miss
 bundle-answers bytes (Some b) v hit spells only = subst (Spells bytes) (sym hit.1) (spells hit.0)

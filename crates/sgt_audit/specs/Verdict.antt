@@ -1,31 +1,17 @@
 -- The auditor's verdict on a text.
-use Rattle.std.specs.Prelude.{◌≡◌, ◌<◌, ℕ, List, ◌++◌, length, take, codes, decimal, Bool, true, false, count_by, Option, Some, All, slice_get, ◌⊎◌, [], IfSome}
+use Rattle.std.specs.Prelude.{◌≡◌, ◌<◌, ℕ, List, ◌++◌, length, take, codes, decimal, count_by, Option, All, ◌⊎◌, [], IfSome}
 use Rattle.sgt_names.specs.Device.{AppendsOrForgets}
 use Rattle.sgt_cert.specs.Parts.{Parts}
-use Rattle.sgt_cert.specs.Certificate.{AreRanks, IsCycle, IsDecidedOnce, ranks}
+use Rattle.sgt_cert.specs.Certificate.{AreRanks, IsDecidedOnce, is_commit, is_refusal, is_withdrawal, ranks}
 use Rattle.sgt_cert.specs.Serial.{SerialAgrees}
-use Rattle.sgt_cert.specs.Valid.{AreLogged, IsRanked, IsValid}
-use Rattle.sgt_cert.specs.declared.certificate.Step.{Step}
+use Rattle.sgt_cert.specs.Valid.{IsRanked, IsValid, RefusedLieOnCycles}
 use Rattle.sgt_cert.specs.Text.{Spells}
 use Rattle.sgt_cert.specs.declared.certificate.Decision.{Decision}
-use Rattle.sgt_cert.specs.declared.certificate.Decision.TheVariants.{Commit, Refuse, Withdraw}
 use Rattle.sgt_audit.specs.declared.verdict.Verdict.{Verdict}
 use Rattle.sgt_audit.specs.declared.verdict.Verdict.TheVariants.{Yes, No}
 use Rattle.sgt_audit.specs.declared.engine.Audited.{Audited}
 use Rattle.sgt_audit.specs.declared.engine.Audited.TheVariants as audited
 use Rattle.sgt_audit.specs.Faults.{fault_number, FirstFault}
-
-abbrev pub is_commit : Decision → Bool
-is_commit (Commit tx rank) = true
-is_commit _ = false
-
-abbrev pub is_refusal : Decision → Bool
-is_refusal (Refuse tx walk) = true
-is_refusal _ = false
-
-abbrev pub is_withdrawal : Decision → Bool
-is_withdrawal (Withdraw tx) = true
-is_withdrawal _ = false
 
 -- the yes with the counts of these decisions
 abbrev pub yes_of : List Decision → Verdict
@@ -67,8 +53,7 @@ pub record HoldsHeadline (bytes : List ℕ) : Type 0 where
   pub once : IsDecidedOnce bundle.certificate.decisions
   pub ranks : AreRanks (ranks bundle.certificate.decisions)
   pub ranked : All (λ log. IsRanked bundle.certificate.decisions log.entries) bundle.sites
-  pub cycles : (number tx : ℕ) (walk : List Step) → slice_get bundle.certificate.decisions number ≡ Some (Refuse tx walk)
-      → IsCycle bundle.certificate.decisions number tx walk × AreLogged bundle.sites tx walk
+  pub cycles : RefusedLieOnCycles bundle
 
 -- a yes says so
 abbrev pub SaysHeadline : List ℕ → Verdict → Type 0

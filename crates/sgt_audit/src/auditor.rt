@@ -53,11 +53,7 @@ impl Auditor {
     }
 
     /// The same in the second format or in the first.
-    fn begin(
-        alloc: Global,
-        second: bool,
-        certificate: Certificate,
-    ) -> Result<Auditor, EngineFail>
+    fn begin(alloc: Global, second: bool, certificate: Certificate) -> Result<Auditor, EngineFail>
         ensures read { IfOk result (λ a. HasFed a second certificate []) }
         ensures going { IfOk result (λ a. HasFailed a → ⊥) }
         ensures err { IfErr result (λ e. e ≡ EngineFail.Memory) }

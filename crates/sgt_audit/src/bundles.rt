@@ -25,7 +25,12 @@ pub(crate) fn split_line(bytes: &[u8]) -> Option<(&[u8], &[u8])>
 }
 
 /// The sections of so many sites that the bytes spell in the second format, or in the first.
-fn read_sections(alloc: Global, second: bool, sites: u8, bytes: &[u8]) -> Result<Option<Sections>, AllocError>
+fn read_sections(
+    alloc: Global,
+    second: bool,
+    sites: u8,
+    bytes: &[u8],
+) -> Result<Option<Sections>, AllocError>
     requires some { 1 ≤ sites }
     requires few { sites ≤ max_sites }
     ensures { IfOk result (AnswersSections second sites bytes.now) }

@@ -4,23 +4,12 @@ ghost use Rattle.std.specs.Prelude.{◌≡◌, ◌≢◌, ◌<◌, ◌↔◌, �
 ghost use Rattle.sgt_names.specs.Name.{Name};
 ghost use Rattle.sgt_names.specs.Entry.{tx_of, item_of, IsEnd, Clash, Repeats};
 ghost use Rattle.sgt_names.specs.declared.entry.Kind.{Kind};
-ghost use Rattle.sgt_cert.specs.Certificate.{decided, Suits, IsCommitted, IsDecidedOnce};
+ghost use Rattle.sgt_cert.specs.Certificate.{Suits, IsCommitted, IsDecidedOnce};
 ghost use Rattle.sgt_cert.specs.Valid.{IsDecided, EndInOrder, RiseInRank};
 
 use crate::entries::{clashes, has_ended};
 use sgt_cert::Decision;
 use sgt_names::{Entry, Kind, Tx};
-
-/// The transaction that is decided.
-pub(crate) fn decided_tx(decision: &Decision) -> Tx
-    ensures { result ≡ decided decision.now }
-{
-    match decision {
-        Decision::Commit { tx, .. } => *tx,
-        Decision::Refuse { tx, .. } => *tx,
-        Decision::Withdraw { tx } => *tx,
-    }
-}
 
 /// Whether the decision suits an entry of its transaction.
 fn suits(entry: &Entry, decision: &Decision) -> bool
@@ -28,8 +17,14 @@ fn suits(entry: &Entry, decision: &Decision) -> bool
 {
     match entry {
         Entry::Read { .. } => true,
-        Entry::Write { .. } | Entry::Add { .. } | Entry::Commit { .. } => matches!(decision, Decision::Commit { .. }),
-        Entry::Want { .. } | Entry::WantAdd { .. } | Entry::Refuse { .. } => matches!(decision, Decision::Refuse { .. }),
+        Entry::Write { .. } | Entry::Add { .. } | Entry::Commit { .. } => matches!(
+            decision,
+            Decision::Commit { .. }
+        ),
+        Entry::Want { .. } | Entry::WantAdd { .. } | Entry::Refuse { .. } => matches!(
+            decision,
+            Decision::Refuse { .. }
+        ),
         Entry::Withdraw { .. } => matches!(decision, Decision::Withdraw { .. }),
     }
 }
@@ -39,8 +34,7 @@ pub(crate) fn decision_on(decisions: &[Decision], entry: &Entry) -> Option<usize
     ensures some { IfSome result (λ number. IsDecided decisions.now entry.now number) }
     ensures none { IfNone result ((number : ℕ) → IsDecided decisions.now entry.now number → ⊥) }
 {
-    decisions.iter().position(|decision| decided_tx(decision) == entry.tx()
-        && suits(entry, decision))
+    decisions.iter().position(|decision| decision.tx() == entry.tx() && suits(entry, decision))
 }
 
 /// The rank of a commit of the transaction.

@@ -77,7 +77,5 @@ pub(crate) fn has_ended(entries: &[Entry], tx: Tx) -> bool
 pub(crate) fn all_ended(entries: &[Entry]) -> bool
     ensures { IsTrue result ↔ AllEnded entries.now }
 {
-    entries
-        .iter()
-        .all(|entry| has_ended(entries, entry.tx()))
+    entries.iter().all(|entry| has_ended(entries, entry.tx()))
 }

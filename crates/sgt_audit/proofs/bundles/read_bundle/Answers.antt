@@ -45,7 +45,7 @@ returns-in-Ok-Some-clause-bundle c =
     let first = c.in-Some.ensures.some in
     let next = c.in-Some-split_line.ensures.some in
     bundle-answers c.args.bytes.now c.new.result _ c.new.ensures
-    (read-spells _ _ _ _ _ _ c.in-Ok.certificate c.in-Ok-Some.sections _ first.1 format next.1 c.in-Ok.ensures.ok.1 read.1 read.0 c.into_logs.ensures)
+    (read-spells _ _ _ _ _ _ c.in-Ok.certificate c.in-Ok-Some.sections _ first.1 format next.1 c.in-Ok.ensures.ok.1 read.1 read.0 c.into_logs.ensures c.in-Ok.ensures.ok.0)
     (λ b s miss.
     let second = second-is _ b s _ _ first.0 first.1 _ _ next.0 next.1 in
     read-only _ _ _ _ _ _ c.in-Ok.certificate c.in-Ok-Some.sections _ first.1 format next.1 c.in-Ok.ensures.ok.1 read.1 read.0 c.into_logs.ensures b s first.0 next.0 (c.in-Ok.ensures.only b.certificate s.certificate second) miss)

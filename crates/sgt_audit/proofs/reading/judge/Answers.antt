@@ -1,9 +1,19 @@
-use Rattle.std.proofs.Common.{refl}
+use Rattle.std.proofs.Common.{ℕ, ◌≤◌, List, length, sym, subst}
+use Rattle.sgt_audit.specs.private.Ending.{limit_of}
+use Rattle.sgt_audit.specs.private.Stops.{IsEnded, IsStop}
 use Rattle.sgt_audit.proofs.ReaderAtStage.{stop-judged, stop-all}
 use Rattle.sgt_audit.proofs.reading.judge.Goals as goal
 
-pub returns-in-Ended-clause-judged : goal.returns-in-Ended-clause-judged
-returns-in-Ended-clause-judged g c = ?
+pub returns-clause-judged : goal.returns-clause-judged
+returns-clause-judged g c =
+    stop-judged _ _ _ _ _ (subst (λ stop. IsStop (g.R.Source.tells c.args.reader.now) stop c.feed_lines.new.machine.progress c.feed_lines.new.line.items) c.in-Ended.is c.in_ok-line.ensures.stops)
+    (λ s stands le.
+    subst (λ (l : List ℕ). IsEnded s l c.in-Ended.number c.ended.result) c.as_slice.ensures.value
+    (c.ended.ensures s stands (subst (λ (l : List ℕ). length l ≤ limit_of s) (sym c.as_slice.ensures.value) le)))
 
-pub returns-in-Ended-clause-all : goal.returns-in-Ended-clause-all
-returns-in-Ended-clause-all g c = ?
+pub returns-clause-all : goal.returns-clause-all
+returns-clause-all g c =
+    stop-all (g.R.Source.tells c.args.reader.now) _ _ _ _ (subst (λ stop. IsStop (g.R.Source.tells c.args.reader.now) stop c.feed_lines.new.machine.progress c.feed_lines.new.line.items) c.in-Ended.is c.in_ok-line.ensures.stops)
+    (λ s stands le.
+    subst (λ (l : List ℕ). IsEnded s l c.in-Ended.number c.ended.result) c.as_slice.ensures.value
+    (c.ended.ensures s stands (subst (λ (l : List ℕ). length l ≤ limit_of s) (sym c.as_slice.ensures.value) le)))

@@ -9,7 +9,7 @@ use Rattle.sgt_audit.proofs.sections.come_before.Goals as goal
 pub returns : goal.returns
 returns c =
     let P : Holding → Type 0 = λ h. ComesBefore h.item c.args.item.now in
-    let each = all-decides P c.args.items.now c.all.result (cases_from_all _ _ _ P (λ h. P h → ⊥) c.all.ensures.ran (YieldsList-from_slice c.args.items.now cc) (λ x q k. search (rules, tests)) (λ x q k. search (rules, tests))) in
-    let Before = λ x. ComesBefore x c.args.item.now in
-    let item = λ (h : Holding). h.item in
-    (λ h. All-from_map Before item c.args.items.now (each.0 h), λ h. each.1 (All-map Before item c.args.items.now h))
+    let each = all-decides P c.args.items.now c.all.result (cases_from_all _ _ _ P (λ h. P h → ⊥) c.all.ensures.ran (YieldsList-from_slice c.args.items.now cc) (λ x q k. search (rules, tests)) (λ x q k. search (rules, tests))) in (
+      λ h. All-from_map (λ x. ComesBefore x c.args.item.now) (λ (h : Holding). h.item) c.args.items.now (each.0 h),
+      λ h. each.1 (All-map (λ x. ComesBefore x c.args.item.now) (λ (h : Holding). h.item) c.args.items.now h),
+    )

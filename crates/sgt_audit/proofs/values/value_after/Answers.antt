@@ -1,3 +1,4 @@
+use Rattle.std.proofs.Common.{◌∙◌}
 use Rattle.sgt_audit.proofs.ItemValues.{value-next}
 use Rattle.sgt_audit.proofs.values.value_after.Goals as goal
 

@@ -31,13 +31,13 @@ returns-clause-answers k before m =
         k.in-Some.read,
         k.in-Some.ensures.1,
         subst (λ self. Means k.args.self.now.second k.args.self.now.certificate self.sections (before ++ k.in-Some.read ∷ [])) (sym w.self-is)
-            (added-last _ _ _ k.add.new.self before _ m k.in_ok-add.ensures.sites k.in_ok-add.ensures.lines k.in-Ok.ensures.0 kept k.are_all-2.ensures.begun (k.are_all-2.ensures.all.0 w.if-are_all-2.true)
+            (added-last _ _ _ k.add.new.self before _ m k.in_ok-add.ensures.sites k.in_ok-add.ensures.lines k.in-Some.ensures.0 kept k.are_all-2.ensures.begun (k.are_all-2.ensures.all.0 w.if-are_all-2.true)
             (walks-at _ _ _ _ k.as_slice-decisions.ensures w.whole.ensures (w.have_logged_walks.ensures.0 w.if-not-have_logged_walks.false))),
       )
       | else-are_all-2-via-else-are_all-2 w ↦ (
         k.in-Some.read,
         k.in-Some.ensures.1,
         subst (λ self. Means k.args.self.now.second k.args.self.now.certificate self.sections (before ++ k.in-Some.read ∷ [])) (sym w.self-is)
-            (added-open _ _ _ k.add.new.self before _ m k.in_ok-add.ensures.sites k.in_ok-add.ensures.lines k.in-Ok.ensures.0 kept k.are_all-2.ensures.begun (refuted k.are_all-2.result k.are_all-2.ensures.all w.if-are_all-2.false)),
+            (added-open _ _ _ k.add.new.self before _ m k.in_ok-add.ensures.sites k.in_ok-add.ensures.lines k.in-Some.ensures.0 kept k.are_all-2.ensures.begun (refuted k.are_all-2.result k.are_all-2.ensures.all w.if-are_all-2.false)),
       )
     ]
