@@ -1,6 +1,8 @@
 -- Sections read from bytes, line by line, against all that the bytes may spell.
-use Rattle.std.proofs.Common.{◌≡◌, ℕ, List, [], ◌∷◌, ◌++◌, length, map, Option, Some, None, Bool, refl, sym, ap, ap₂, ◌∙◌, subst, subst₂, arith, append_assoc, All}
+use Rattle.std.proofs.Common.{◌≡◌, ℕ, List, [], ◌∷◌, ◌++◌, length, map, Option, Some, None, Bool, true, false, IsTrue, refl, sym, ap, ap₂, ◌∙◌, subst, subst₂, arith, append_assoc, All}
+use Rattle.std.specs.Prelude.{◌↔◌}
 use Rattle.std.specs.Option.{SomeIff}
+use Rattle.std.proofs.lemmas.Bool.{false≢true}
 use Rattle.std.specs.List.{AllByRecursion}
 use Rattle.std.proofs.lemmas.List.{append-nil, map-append}
 use Rattle.std.proofs.lemmas.List.Elements.{recursion_from_All, All-push}
@@ -15,7 +17,7 @@ use Rattle.sgt_cert.proofs.OneLine.{certificate-one_line}
 use Rattle.sgt_audit.specs.Faults.{IsLineIn}
 use Rattle.sgt_audit.specs.Reading.{Begun, open_lines, lines_read}
 use Rattle.sgt_audit.specs.Spelled.{AnswersBundle}
-use Rattle.sgt_audit.specs.private.SpelledSections.{SpellsSections}
+use Rattle.sgt_audit.specs.private.SpelledSections.{AreSpelled, SpellsSections}
 use Rattle.sgt_cert.specs.declared.bundle.SiteLog.{SiteLog}
 use Rattle.sgt_audit.proofs.Fitting.{fit-together}
 use Rattle.sgt_audit.proofs.Formats.{format-one, lines-of, lines-allowed, logs-allowed}
@@ -75,6 +77,24 @@ module _ (second : Bool) (sites : ℕ) (bytes : List ℕ) (b : Begun) (rest : Li
         let one = line-one read n.0 is.0 n.3.0 (sym same ∙ n.2) in
         subst (λ k. Begins k (lines_read b ++ read ∷ [])) (sym a.sites_are)
         (s.all.0, n.1, s.all.1, s.all.2 ∙ n.4 ∙ ap (λ l. lines_read b ++ l ∷ n.1) (sym one) ∙ sym (append_assoc (lines_read b) (read ∷ []) n.1))
+
+-- all is read: these are all sections, or the bytes spell none
+pub all-spelled : (second : Bool) (sites : ℕ) (bytes : List ℕ) (b : Begun) (rest : List ℕ) → IsAhead second sites bytes b rest → (all : Bool) → IsTrue all ↔ AreSections b.sites (lines_read b) → rest ≡ []
+    → AreSpelled all second sites bytes (lines_read b)
+all-spelled second sites bytes b rest a true both none = record {
+  each = a.each;
+  all = subst (λ n. AreSections n (lines_read b)) a.sites_are (both.0 refl);
+  text = a.text ∙ ap (λ (t : List ℕ). text_of_lines (map line_text (lines_read b)) ++ t) none ∙ append-nil (text_of_lines (map line_text (lines_read b)));
+}
+all-spelled second sites bytes b rest a false both none = λ lines s. false≢true (both.1 (ended-all second sites bytes b rest a lines s none))
+
+-- nothing is read
+pub ahead-none : (second : Bool) (bytes : List ℕ) (b : Begun) → lines_read b ≡ [] → IsAhead second b.sites bytes b bytes
+ahead-none second bytes b none = record {
+  sites_are = refl;
+  each = subst (All (IsLineIn second)) (sym none) (λ k d lt. absurd (omega arith));
+  text = ap (λ ls. text_of_lines (map line_text ls) ++ bytes) (sym none);
+}
 
 -- one more line
 pub ahead-next : (second : Bool) (sites : ℕ) (bytes : List ℕ) (b new : Begun) (rest line after : List ℕ) (read : SectionLine) → IsAhead second sites bytes b rest → rest ≡ line ++ 10 ∷ after → IsLineIn second read → line ≡ line_text read

@@ -1,10 +1,11 @@
 //! The bundle that some bytes spell.
 
-ghost use Rattle.std.specs.Prelude.{◌≡◌, ◌≤◌, ◌∷◌, ◌++◌, ℕ, ◌+◌, ◌<◌, length, take, drop, IfOk, IfErr, IfSome, IfNone};
+ghost use Rattle.std.specs.Prelude.{◌≡◌, ◌≤◌, [], ◌∷◌, ◌++◌, ℕ, ◌+◌, ◌<◌, length, take, drop, IfOk, IfErr, IfSome, IfNone};
 ghost use Rattle.sgt_names.specs.Limits.{max_sites};
 ghost use Rattle.sgt_notation.specs.Spelling.{HasNoLf};
 ghost use Rattle.sgt_audit.specs.Spelled.{AnswersBundle};
-ghost use Rattle.sgt_audit.specs.private.SpelledSections.{AnswersSections};
+ghost use Rattle.sgt_audit.specs.Reading.{lines_read};
+ghost use Rattle.sgt_audit.specs.private.SpelledSections.{AnswersSections, AreSpelled};
 
 use crate::format::{read_format, read_line};
 use crate::sections::Sections;
@@ -24,7 +25,30 @@ pub(crate) fn split_line(bytes: &[u8]) -> Option<(&[u8], &[u8])>
     }
 }
 
-/// The sections of so many sites that the bytes spell in the second format, or in the first.
+/// Adds the lines of sections that the bytes spell in the second format, or in the first. Whether they are all sections.
+fn add_lines(second: bool, bytes: &[u8], sections: &mut Sections) -> Result<bool, AllocError>
+    requires { lines_read sections.old ≡ [] }
+    ensures sites { sections.new.sites ≡ sections.old.sites }
+    ensures all { IfOk result (λ all. AreSpelled all second sections.old.sites bytes.now (lines_read sections.new)) }
+{
+    let mut rest = bytes;
+    'lines: while let Some((line, more)) = split_line(rest) {
+        let Some(read) = read_line(second, line) else {
+            return Ok(false);
+        };
+        if !sections.may_go_on(&read) {
+            return Ok(false);
+        }
+        sections.add(read)?;
+        rest = more;
+    }
+    if !rest.is_empty() {
+        return Ok(false);
+    }
+    Ok(sections.are_all())
+}
+
+/// The sections of so many sites that the bytes spell.
 fn read_sections(
     alloc: Global,
     second: bool,
@@ -36,21 +60,11 @@ fn read_sections(
     ensures { IfOk result (AnswersSections second sites bytes.now) }
 {
     let mut sections = Sections::new(alloc, sites);
-    let mut rest = bytes;
-    'lines: while let Some((line, more)) = split_line(rest) {
-        let Some(read) = read_line(second, line) else {
-            return Ok(None);
-        };
-        if !sections.may_go_on(&read) {
-            return Ok(None);
-        }
-        sections.add(read)?;
-        rest = more;
+    if add_lines(second, bytes, &mut sections)? {
+        Ok(Some(sections))
+    } else {
+        Ok(None)
     }
-    if !rest.is_empty() || !sections.are_all() {
-        return Ok(None);
-    }
-    Ok(Some(sections))
 }
 
 /// The bundle that the bytes spell, if they spell one. It need not be valid. An Err is Memory.

@@ -55,7 +55,7 @@ pub(crate) fn rank_of(decisions: &[Decision], tx: Tx) -> Option<u32>
     None
 }
 
-/// Whether both are reads of one item, or writes or wants of one, by one transaction.
+/// Whether both are reads of one item, or both change one or ask to, by one transaction.
 fn repeats(first: &Entry, second: &Entry) -> bool
     ensures { IsTrue result ↔ ((x : Name) × Repeats x first.now second.now) }
 {
@@ -69,7 +69,7 @@ fn repeats(first: &Entry, second: &Entry) -> bool
     }
 }
 
-/// Whether the entry is not the second read of its item by its transaction, nor the second write or want.
+/// Whether the entry is not the second read of its item by its transaction, nor its second change, made or asked for.
 pub(crate) fn is_first(entries: &[Entry], entry: &Entry) -> bool
     ensures { IsTrue result ↔ All (λ f. (x : Name) → Repeats x f entry.now → ⊥) entries.now }
 {
@@ -81,7 +81,7 @@ pub(crate) fn is_first(entries: &[Entry], entry: &Entry) -> bool
     true
 }
 
-/// Whether the two are operations on one item of which at least one writes or wants to.
+/// Whether the two are in conflict: operations on one item of which at least one writes or asks to, but not two increments.
 fn conflict(first: &Entry, second: &Entry) -> bool
     ensures { IsTrue result ↔ ((kind : Kind) × (x : Name) × Clash kind x first.now second.now) }
 {

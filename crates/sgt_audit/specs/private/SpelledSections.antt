@@ -1,5 +1,5 @@
 -- Bytes that spell sections.
-use Rattle.std.specs.Prelude.{◌≡◌, ℕ, Bool, List, map, All, Option, Some, None}
+use Rattle.std.specs.Prelude.{◌≡◌, ℕ, Bool, true, false, List, map, All, Option, Some, None}
 use Rattle.sgt_notation.specs.Spelling.{line_text, text_of_lines}
 use Rattle.sgt_notation.specs.declared.SectionLine.{SectionLine}
 use Rattle.sgt_cert.specs.Text.{AreSections}
@@ -11,6 +11,11 @@ pub record SpellsSections (second : Bool) (sites : ℕ) (bytes : List ℕ) (line
   pub each : All (IsLineIn second) lines
   pub all : AreSections sites lines
   pub text : bytes ≡ text_of_lines (map line_text lines)
+
+-- the bytes spell these lines, or no sections at all
+abbrev pub AreSpelled : Bool → Bool → ℕ → List ℕ → List SectionLine → Type 0
+AreSpelled true second sites bytes lines = SpellsSections second sites bytes lines
+AreSpelled false second sites bytes lines = (others : List SectionLine) → SpellsSections second sites bytes others → ⊥
 
 -- these sections are what the bytes spell, or they spell none
 abbrev pub AnswersSections : Bool → ℕ → List ℕ → Option Begun → Type 0
