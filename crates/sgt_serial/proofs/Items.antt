@@ -16,11 +16,12 @@ use Rattle.std.proofs.lemmas.Map.Lookups.{exact_bytes}
 use Rattle.std.proofs.lemmas.List.Sorted.{searchable_from_sorted}
 use Rattle.std.proofs.lemmas.Option.{same_Some, slice_get-map, slice_get-get_or, slice_get_within, get_or_from_slice_get}
 use Rattle.sgt_names.specs.Name.{Name}
-use Rattle.sgt_names.specs.Log.{names, value_in}
+use Rattle.sgt_names.specs.Log.{names, value_in, changed}
+use Rattle.sgt_names.specs.declared.entry.Change.{Change}
 use Rattle.sgt_names.specs.declared.entry.Holding.{Holding}
 use Rattle.sgt_names.proofs.Places.{AllPairs_at, AllPairs-tail}
 use Rattle.sgt_cert.specs.Parts.{ComesBefore}
-use Rattle.sgt_serial.specs.Values.{IsRising}
+use Rattle.sgt_serial.specs.private.Values.{IsRising}
 
 -- how the bytes of two names compare
 abbrev name_cmp : Name → Name → Ordering
@@ -112,6 +113,17 @@ value_in-set (g ∷ hs) rising (suc i) h v at y =
           let miss : bytes_eq h.item y ≡ false = bytes_eq-other h.item y (λ e. other (is ∙ sym e)) in
           rw (hit, miss) refl
       | inr miss ↦ rw miss rest
+    ]
+
+-- a change of an item that has a value
+pub change-where : (hs : List Holding) (y x : Name) (v w : ℕ) (c : Change) → value_in hs y ≡ Some v → changed (Some v) c ≡ Some w
+    → cond (bytes_eq y x) (Some w) (value_in hs x) ≡ cond (bytes_eq y x) (changed (value_in hs x) c) (value_in hs x)
+change-where hs y x v w c here after =
+    elim (cases_Bool (bytes_eq y x)) [
+      | inl hit ↦
+          let same = ap (value_in hs) (sym ((bytes_eq-Decides y x).0 hit)) ∙ here in
+          rw hit (sym (ap (λ o. changed o c) same ∙ after))
+      | inr miss ↦ rw miss refl
     ]
 
 -- what is read at a place where something stands

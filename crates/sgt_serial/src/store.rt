@@ -3,16 +3,26 @@
 ghost use Rattle.std.specs.Prelude.{◌≡◌, ℕ, ◌&&◌, map, All, IfOk, IfNone, MatchOption, is_some, if◌then◌else◌, Some, slice_get};
 ghost use Rattle.std.specs.Str.{bytes_eq};
 ghost use Rattle.sgt_names.specs.Name.{Name};
-ghost use Rattle.sgt_names.specs.Log.{value_in};
+ghost use Rattle.sgt_names.specs.Log.{value_in, changed};
 ghost use Rattle.sgt_cert.specs.Parts.{IsShapedLog};
 ghost use Rattle.sgt_serial.specs.Difference.{Has, Knows, IsFirstWithout};
-ghost use Rattle.sgt_serial.specs.Values.{IsRising, store_of, is_of, with_all};
+ghost use Rattle.sgt_serial.specs.private.Values.{IsRising, store_of, is_of, with_all};
 
-use crate::report::SiteValue;
+use crate::report::{SiteChange, SiteValue};
 use sgt_cert::SiteLog;
-use sgt_names::{Holding, Item, SiteNo, Value};
+use sgt_names::{Change, Holding, Item, SiteNo, Value};
 use std::alloc::{AllocError, Global};
 use std::marker::Model;
+
+/// The value after a change.
+fn changed(value: Value, change: Change) -> Value
+    ensures { changed (Some value) change ≡ Some result }
+{
+    match change {
+        Change::Put(put) => put,
+        Change::Add(added) => value.wrapping_add(added),
+    }
+}
 
 /// The items of a site with their values, by rising name.
 #[derive(Drop)]
@@ -23,7 +33,7 @@ struct SiteStore {
 impl Model for SiteStore {
     ghost use Rattle.std.specs.Prelude.{List};
     ghost use Rattle.sgt_names.specs.declared.entry.Holding.{Holding};
-    ghost use Rattle.sgt_serial.specs.Values.{IsRising};
+    ghost use Rattle.sgt_serial.specs.private.Values.{IsRising};
 
     ghost Value = { List Holding };
 
@@ -62,14 +72,16 @@ impl SiteStore {
         }
     }
 
-    /// Sets the value of the item, if it is there.
-    fn put(&mut self, item: &Item, value: Value) -> bool
+    /// Changes the value of the item, if it is there.
+    fn change(&mut self, item: &Item, change: Change) -> bool
         ensures there { result ≡ is_some (value_in self.old item.now) }
-        ensures after { (x : Name) → value_in self.new x ≡ (if result && bytes_eq item.now x then Some value else value_in self.old x) }
+        ensures after { (x : Name) → value_in self.new x
+            ≡ (if result && bytes_eq item.now x then changed (value_in self.old x) change else value_in self.old x) }
     {
         match self.place(item) {
             Some(place) => {
-                self.holdings[place].value = value;
+                let holding = &mut self.holdings[place];
+                holding.value = changed(holding.value, change);
                 true
             }
             None => false,
@@ -114,14 +126,15 @@ impl Store {
         }
     }
 
-    fn put(&mut self, write: &SiteValue) -> bool
+    /// Makes the change, if its item is there.
+    fn change(&mut self, write: &SiteChange) -> bool
         ensures known { result ≡ is_some (store_of self.old write.now.site write.now.item) }
         ensures after { (s : ℕ) (x : Name) → store_of self.new s x
-            ≡ (if result && is_of s x write.now then Some write.now.value else store_of self.old s x) }
+            ≡ (if result && is_of s x write.now then changed (store_of self.old s x) write.now.change else store_of self.old s x) }
     {
         let site = write.site.number() as usize;
         if site < self.sites.len() {
-            self.sites[site].put(&write.item, write.value)
+            self.sites[site].change(&write.item, write.change)
         } else {
             false
         }
@@ -139,13 +152,13 @@ impl Store {
         None
     }
 
-    /// Puts these values into their items, in order, up to the first whose item isn't there.
-    pub fn put_all(&mut self, writes: &[SiteValue]) -> Option<SiteValue>
+    /// Makes these changes, in order, up to the first whose item isn't there.
+    pub fn change_all(&mut self, writes: &[SiteChange]) -> Option<SiteChange>
         ensures known { MatchOption result (All (Knows (store_of self.old)) writes.now) (IsFirstWithout (Knows (store_of self.old)) writes.now) }
         ensures after { IfNone result ((s : ℕ) (x : Name) → store_of self.new s x ≡ with_all writes.now (store_of self.old) s x) }
     {
         for write in writes {
-            if !self.put(write) {
+            if !self.change(write) {
                 return Some(*write);
             }
         }
