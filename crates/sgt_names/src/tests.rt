@@ -2,7 +2,7 @@
 
 use crate::{
     BadName, BadNumber, EngineFail, FromRead, Item, Listed, MAX_ITEMS, MAX_SITES, MemSink,
-    MemSource, Sink, SiteNo, Source, ToWrite, Tx, increments_commute,
+    MemSource, Sink, SiteNo, Source, ToWrite, Tx, additions_sum_up, increments_commute,
     increments_conflict_with_others, increments_do_not_conflict, value_is_of_the_last_write,
 };
 use std::cmp::Ordering;
@@ -150,6 +150,7 @@ fn sinks_over_memory(rt: HostRuntime) -> Result<(), Fail> {
 
 #[test]
 fn laws_of_increments(rt: HostRuntime) -> Result<(), Fail> {
+    additions_sum_up();
     increments_commute();
     increments_conflict_with_others();
     increments_do_not_conflict();
