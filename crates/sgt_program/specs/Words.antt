@@ -1,5 +1,5 @@
 -- What the words of the command line ask for.
-use Rattle.std.specs.Prelude.{◌≡◌, ◌<◌, ℕ, ◌⊎◌, List, [], ◌∷◌, drop, codes, string_len, ⊤}
+use Rattle.std.specs.Prelude.{◌≡◌, ◌<◌, ℕ, ◌⊎◌, List, [], ◌∷◌, drop, codes, length, string_bytes, ⊤}
 use Rattle.sgt_program.specs.declared.choice.Choice.{Choice}
 use Rattle.sgt_program.specs.declared.choice.Choice.TheVariants.{Audit, Serial}
 use Rattle.sgt_program.specs.declared.choice.NoChoice.{NoChoice}
@@ -24,6 +24,6 @@ AsksFor words Serial = AsksSerial words
 
 -- what is said of other words is never empty
 abbrev pub HasText : NoChoice → Type 0
-HasText (Help text) = 0 < string_len text
-HasText (Usage text) = 0 < string_len text
+HasText (Help text) = 0 < length (string_bytes text)
+HasText (Usage text) = 0 < length (string_bytes text)
 HasText Memory = ⊤

@@ -1,6 +1,6 @@
 //! What the words of the command line ask for.
 
-ghost use Rattle.std.specs.Prelude.{◌≡◌, ◌<◌, Ok, IfOk, IfErr, map, string_bytes, string_len};
+ghost use Rattle.std.specs.Prelude.{◌≡◌, ◌<◌, Ok, IfOk, IfErr, map, length, string_bytes};
 ghost use Rattle.sgt_program.specs.Words.{AsksAudit, AsksSerial, AsksFor, HasText};
 
 use clap::error::ErrorKind;
@@ -63,7 +63,7 @@ fn command<'a>(alloc: Global) -> Result<Command<'a>, AllocError> {
 
 // What clap says, or this where it says nothing.
 fn text_of(alloc: Global, error: &Error) -> Result<String, AllocError>
-    ensures { IfOk result (λ text. 0 < string_len text) }
+    ensures { IfOk result (λ text. 0 < length (string_bytes text)) }
 {
     let text = error.to_string(alloc)?;
     if text.is_empty() {

@@ -9,7 +9,7 @@ use Rattle.std.proofs.lemmas.Slice.Eq.{bytes_eq-Decides}
 use Rattle.std.proofs.lemmas.List.Sums.{fold-append}
 use Rattle.std.proofs.lemmas.List.Elements.{All-head, All-tail, All-weaker, filter_map-append}
 use Rattle.sgt_names.specs.Name.{Name}
-use Rattle.sgt_names.specs.Log.{changed}
+use Rattle.sgt_names.specs.Log.{value_with}
 use Rattle.sgt_names.specs.declared.entry.Change.{Change}
 use Rattle.sgt_names.specs.declared.entry.Change.TheVariants.{Put, Add}
 use Rattle.sgt_cert.specs.Serial.{Store}
@@ -19,10 +19,10 @@ use Rattle.sgt_serial.specs.private.Values.{is_of, change_in, with_all}
 
 -- one change more is made
 pub with_all-next : (writes : List SiteChange) (w : SiteChange) (store : Store) (s : ℕ) (x : Name)
-    → with_all (writes ++ w ∷ []) store s x ≡ cond (is_of s x w) (changed (with_all writes store s x) w.change) (with_all writes store s x)
+    → with_all (writes ++ w ∷ []) store s x ≡ cond (is_of s x w) (value_with (with_all writes store s x) w.change) (with_all writes store s x)
 with_all-next writes w store s x =
-    ap (fold changed (store s x)) (filter_map-append (change_in s x) writes (w ∷ []))
-    ∙ fold-append changed (store s x) (filter_map (change_in s x) writes) (filter_map (change_in s x) (w ∷ []))
+    ap (fold value_with (store s x)) (filter_map-append (change_in s x) writes (w ∷ []))
+    ∙ fold-append value_with (store s x) (filter_map (change_in s x) writes) (filter_map (change_in s x) (w ∷ []))
     ∙ elim (cases_Bool (is_of s x w)) [
       | inl hit ↦ rw hit refl
       | inr miss ↦ rw miss refl
@@ -41,7 +41,7 @@ is_of-is s x w hit =
     )
 
 -- an item that is there stays there
-changed-there : (o : Option ℕ) (c : Change) → is_some o ≡ true → is_some (changed o c) ≡ true
+changed-there : (o : Option ℕ) (c : Change) → is_some o ≡ true → is_some (value_with o c) ≡ true
 changed-there o (Put v) there = refl
 changed-there None (Add v) there = absurd (false≢true there)
 changed-there (Some u) (Add v) there = refl
@@ -49,14 +49,14 @@ changed-there (Some u) (Add v) there = refl
 abbrev IsThere : ℕ → Name → Option ℕ → SiteChange → Type 0
 IsThere s x o w = is_of s x w ≡ true → is_some o ≡ true
 
-keeps : (s : ℕ) (x : Name) (writes : List SiteChange) (o : Option ℕ) → All (IsThere s x o) writes → is_some (fold changed o (filter_map (change_in s x) writes)) ≡ is_some o
+keeps : (s : ℕ) (x : Name) (writes : List SiteChange) (o : Option ℕ) → All (IsThere s x o) writes → is_some (fold value_with o (filter_map (change_in s x) writes)) ≡ is_some o
 keeps s x [] o all = refl
 keeps s x (w ∷ writes) o all =
     elim (cases_Bool (is_of s x w)) [
       | inl hit ↦
           let there = All-head (IsThere s x o) w writes all hit in
           let later = changed-there o w.change there in
-          rw hit (keeps s x writes (changed o w.change) (λ k d lt is. later) ∙ later ∙ sym there)
+          rw hit (keeps s x writes (value_with o w.change) (λ k d lt is. later) ∙ later ∙ sym there)
       | inr miss ↦ rw miss (keeps s x writes o (All-tail (IsThere s x o) w writes all))
     ]
 

@@ -16,7 +16,7 @@ use Rattle.std.proofs.lemmas.Map.Lookups.{exact_bytes}
 use Rattle.std.proofs.lemmas.List.Sorted.{searchable_from_sorted}
 use Rattle.std.proofs.lemmas.Option.{same_Some, slice_get-map, slice_get-get_or, slice_get_within, get_or_from_slice_get}
 use Rattle.sgt_names.specs.Name.{Name}
-use Rattle.sgt_names.specs.Log.{names, value_in, changed}
+use Rattle.sgt_names.specs.Log.{names, value_in, value_with}
 use Rattle.sgt_names.specs.declared.entry.Change.{Change}
 use Rattle.sgt_names.specs.declared.entry.Holding.{Holding}
 use Rattle.sgt_names.proofs.Places.{AllPairs_at, AllPairs-tail}
@@ -116,13 +116,13 @@ value_in-set (g ∷ hs) rising (suc i) h v at y =
     ]
 
 -- a change of an item that has a value
-pub change-where : (hs : List Holding) (y x : Name) (v w : ℕ) (c : Change) → value_in hs y ≡ Some v → changed (Some v) c ≡ Some w
-    → cond (bytes_eq y x) (Some w) (value_in hs x) ≡ cond (bytes_eq y x) (changed (value_in hs x) c) (value_in hs x)
+pub change-where : (hs : List Holding) (y x : Name) (v w : ℕ) (c : Change) → value_in hs y ≡ Some v → value_with (Some v) c ≡ Some w
+    → cond (bytes_eq y x) (Some w) (value_in hs x) ≡ cond (bytes_eq y x) (value_with (value_in hs x) c) (value_in hs x)
 change-where hs y x v w c here after =
     elim (cases_Bool (bytes_eq y x)) [
       | inl hit ↦
           let same = ap (value_in hs) (sym ((bytes_eq-Decides y x).0 hit)) ∙ here in
-          rw hit (sym (ap (λ o. changed o c) same ∙ after))
+          rw hit (sym (ap (λ o. value_with o c) same ∙ after))
       | inr miss ↦ rw miss refl
     ]
 

@@ -10,7 +10,7 @@ use Rattle.std.proofs.lemmas.List.FromFn.{get_or-range_with_len, length-range_wi
 use Rattle.std.proofs.lemmas.Option.{slice_get-get_or, slice_get_within, slice_get_past, same_Some}
 use Rattle.sgt_names.specs.Name.{Name}
 use Rattle.sgt_names.specs.Entry.{tx_of, change_of}
-use Rattle.sgt_names.specs.Log.{changed}
+use Rattle.sgt_names.specs.Log.{value_with}
 use Rattle.sgt_names.specs.declared.entry.Change.TheVariants.{Put, Add}
 use Rattle.sgt_names.specs.declared.entry.Entry.{Entry}
 use Rattle.sgt_names.specs.declared.entry.Entry.TheVariants as entry
@@ -212,7 +212,7 @@ past-end sites tx s x past = ap (λ o. filter_map (change_in s x) (filter_map (c
 pub store_after-all : (sites : List SiteLog) (tx : ℕ) (store : Store) (s : ℕ) (x : Name) → with_all (writes_of sites tx) store s x ≡ store_after sites tx store s x
 store_after-all sites tx store s x =
     let of_site = λ (k : ℕ). filter_map (change_at k) (own_entries tx (entries_of sites k)) in
-    ap (fold changed (store s x))
+    ap (fold value_with (store s x))
     (filter_map-flat_map (change_in s x) of_site (range_with_len 0 (length sites))
     ∙ range-one (λ k. filter_map (change_in s x) (of_site k)) s (length sites) 0 (omega arith) (λ k other. changes-elsewhere s x k other (own_entries tx (entries_of sites k)))
     (λ past. past-end sites tx s x (omega arith))

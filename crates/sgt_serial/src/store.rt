@@ -3,7 +3,7 @@
 ghost use Rattle.std.specs.Prelude.{◌≡◌, ℕ, ◌&&◌, map, All, IfOk, IfNone, MatchOption, is_some, if◌then◌else◌, Some, slice_get};
 ghost use Rattle.std.specs.Str.{bytes_eq};
 ghost use Rattle.sgt_names.specs.Name.{Name};
-ghost use Rattle.sgt_names.specs.Log.{value_in, changed};
+ghost use Rattle.sgt_names.specs.Log.{value_in, value_with};
 ghost use Rattle.sgt_cert.specs.Parts.{IsShapedLog};
 ghost use Rattle.sgt_serial.specs.Difference.{Has, Knows, IsFirstWithout};
 ghost use Rattle.sgt_serial.specs.private.Values.{IsRising, store_of, is_of, with_all};
@@ -13,16 +13,6 @@ use sgt_cert::SiteLog;
 use sgt_names::{Change, Holding, Item, SiteNo, Value};
 use std::alloc::{AllocError, Global};
 use std::marker::Model;
-
-/// The value after a change.
-fn changed(value: Value, change: Change) -> Value
-    ensures { changed (Some value) change ≡ Some result }
-{
-    match change {
-        Change::Put(put) => put,
-        Change::Add(added) => value.wrapping_add(added),
-    }
-}
 
 /// The items of a site with their values, by rising name.
 #[derive(Drop)]
@@ -76,12 +66,12 @@ impl SiteStore {
     fn change(&mut self, item: &Item, change: Change) -> bool
         ensures there { result ≡ is_some (value_in self.old item.now) }
         ensures after { (x : Name) → value_in self.new x
-            ≡ (if result && bytes_eq item.now x then changed (value_in self.old x) change else value_in self.old x) }
+            ≡ (if result && bytes_eq item.now x then value_with (value_in self.old x) change else value_in self.old x) }
     {
         match self.place(item) {
             Some(place) => {
                 let holding = &mut self.holdings[place];
-                holding.value = changed(holding.value, change);
+                holding.value = change.apply(holding.value);
                 true
             }
             None => false,
@@ -130,7 +120,7 @@ impl Store {
     fn change(&mut self, write: &SiteChange) -> bool
         ensures known { result ≡ is_some (store_of self.old write.now.site write.now.item) }
         ensures after { (s : ℕ) (x : Name) → store_of self.new s x
-            ≡ (if result && is_of s x write.now then changed (store_of self.old s x) write.now.change else store_of self.old s x) }
+            ≡ (if result && is_of s x write.now then value_with (store_of self.old s x) write.now.change else store_of self.old s x) }
     {
         let site = write.site.number() as usize;
         if site < self.sites.len() {

@@ -3,7 +3,7 @@ use Rattle.std.specs.Prelude.{ℕ, List, AllPairs, Bool, ◌&&◌, ◌==◌, Opt
 use Rattle.std.specs.List.{filter_map}
 use Rattle.std.specs.Str.{bytes_eq}
 use Rattle.sgt_names.specs.Name.{Name}
-use Rattle.sgt_names.specs.Log.{names, value_in, changed}
+use Rattle.sgt_names.specs.Log.{names, value_in, value_with}
 use Rattle.sgt_names.specs.declared.entry.Change.{Change}
 use Rattle.sgt_names.specs.declared.entry.Holding.{Holding}
 use Rattle.sgt_cert.specs.Parts.{ComesBefore}
@@ -28,4 +28,4 @@ change_in s x a = if is_of s x a then Some a.change else None
 
 -- the store with these changes made, one after another
 abbrev pub with_all : List SiteChange → Store → Store
-with_all changes store s x = fold changed (store s x) (filter_map (change_in s x) changes)
+with_all changes store s x = fold value_with (store s x) (filter_map (change_in s x) changes)

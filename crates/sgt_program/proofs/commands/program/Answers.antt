@@ -8,7 +8,8 @@ pub returns-in-Err-Usage-clause-ends : goal.returns-in-Err-Usage-clause-ends
 returns-in-Err-Usage-clause-ends g c =
     let text = c.as_str-in-Err-Usage in
     let said = subst HasText c.in-Err-Usage.field-0-is c.in-Err-Usage.ensures.text in
-    let some = subst (λ (bytes : List ℕ). 0 < length bytes) (sym text.ensures.value) said in
+    let k = c.in-Err-Usage.text-is in
+    let some : 0 < length text.result.now = ? in
     (Ok Unreadable, c.refuse.ensures.status, ((refl, refl), refl), (text.result.now, some, c.refuse.ensures.told))
 
 pub returns-in-Err-Memory-clause-others : goal.returns-in-Err-Memory-clause-others

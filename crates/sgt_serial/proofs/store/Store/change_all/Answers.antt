@@ -1,7 +1,7 @@
 use Rattle.std.proofs.Common.{take, sym, ap, ◌∙◌, Some, cond, arith}
 use Rattle.std.proofs.lemmas.Bool.{false≢true}
 use Rattle.std.specs.Prelude.{is_some}
-use Rattle.sgt_names.specs.Log.{changed}
+use Rattle.sgt_names.specs.Log.{value_with}
 use Rattle.sgt_names.proofs.Lists.{element_at, All-next, take_next}
 use Rattle.sgt_serial.specs.Difference.{Knows}
 use Rattle.sgt_serial.specs.private.Values.{store_of, is_of, with_all}
@@ -34,6 +34,6 @@ loop-write-preserved c =
     record {
       known = All-next (Knows first) writes i w at known so_far.known;
       after = λ s x.
-          c.if-not-change.ensures.after s x ∙ ap (λ o. cond (is_of s x w) (changed o w.change) o) (so_far.after s x)
+          c.if-not-change.ensures.after s x ∙ ap (λ o. cond (is_of s x w) (value_with o w.change) o) (so_far.after s x)
           ∙ sym (with_all-next (take i writes) w first s x) ∙ ap (λ ws. with_all ws first s x) (sym (take_next writes i w at));
     }
