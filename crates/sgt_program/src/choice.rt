@@ -47,8 +47,14 @@ const AUDIT: &str =
 const SERIAL: &str =
     "Runs a valid bundle's committed transactions one after another by rank, else writes audit's `no` line";
 
-const MORE: &str =
-    "L is the first line with a fault and FN the fault: docs/FORMAT.md has the faults and the format of a bundle.\n\nExit status:\n  0  yes, or help was asked for\n  1  no: the bundle is not valid\n  2  the words are no command; nothing was read\n  3  want of memory\n  4  a read or a write failed";
+const MORE: &str = "L is the first line with a fault and FN the fault: docs/FORMAT.md has the faults and the formats of a bundle.
+
+Exit status:
+  0  yes, or help was asked for
+  1  no: the bundle is not valid
+  2  the words are no command; nothing was read
+  3  want of memory
+  4  a read or a write failed";
 
 fn command<'a>(alloc: Global) -> Result<Command<'a>, AllocError> {
     let audit = Command::new(alloc, "audit").about(AUDIT).after_help(MORE);

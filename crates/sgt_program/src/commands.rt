@@ -29,14 +29,17 @@ fn finish<E: Sink>(errors: &mut E, ending: Result<Outcome, EngineFail>) -> u8
 /// Says why there is no answer, and gives the exit status. Where the error stream fails too, the status is the same.
 pub fn give_up<E: Sink>(errors: &mut E, fail: EngineFail) -> u8
     ensures status { result ≡ status_of (Err fail) }
-    ensures told { WroteOrFailed (E.holds errors.old) (E.holds errors.new) (E.failures errors.old) (E.failures errors.new) (text_of_fail fail) }
+    ensures told { WroteOrFailed (E.holds errors.old) (E.holds errors.new) (E.failures errors.old) (E.failures errors.new)
+        (text_of_fail fail) }
 {
     finish(errors, Err(fail))
 }
 
 /// Tells the error stream that the words are no command, by this text.
 fn refuse<E: Sink>(errors: &mut E, text: &str) -> u8
+    requires { 0 < length text.now }
     ensures status { result ≡ status_of (Ok Outcome.Unreadable) }
+    ensures some { 0 < length text.now }
     ensures told { WroteOrFailed (E.holds errors.old) (E.holds errors.new) (E.failures errors.old) (E.failures errors.new) text.now }
 {
     tell(errors, text);

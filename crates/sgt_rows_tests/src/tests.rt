@@ -24,7 +24,7 @@ Commands:
 Options:
   -h, --help  Print help
 
-L is the first line with a fault and FN the fault: docs/FORMAT.md has the faults and the format of a bundle.
+L is the first line with a fault and FN the fault: docs/FORMAT.md has the faults and the formats of a bundle.
 
 Exit status:
   0  yes, or help was asked for

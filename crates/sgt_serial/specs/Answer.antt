@@ -17,7 +17,8 @@ use Rattle.sgt_serial.specs.Text.{report_text}
 -- the text that an input is answered by: with a yes the run of the valid bundle that it spells, with a no the line of its first fault
 abbrev pub IsAnswer : Option (List ℕ) → Outcome → List ℕ → Type 0
 IsAnswer told Yes text = (b : Parts) × IsValid b × IfSome told (λ bytes. Spells bytes b) × (text ≡ report_text (report_of b))
-IsAnswer told No text = (line : ℕ) × (fault : Fault) × IfSome told (λ bytes. FirstFault bytes line fault) × (text ≡ text_of (verdict.No line fault))
+IsAnswer told No text =
+    (line : ℕ) × (fault : Fault) × IfSome told (λ bytes. FirstFault bytes line fault) × (text ≡ text_of (verdict.No line fault))
 IsAnswer told Unreadable text = ⊥
 
 -- that text was written
@@ -27,4 +28,5 @@ WroteAnswer told outcome old new = (text : List ℕ) × IsAnswer told outcome te
 -- nothing was written, or a front of the text that the input is answered by, and less than the whole text
 abbrev pub WroteFront : (told old new : Option (List ℕ)) → Type 0
 WroteFront told old new = AppendsOrForgets old new []
-    ⊎ ((outcome : Outcome) × (text : List ℕ) × (n : ℕ) × (n < length text) × IsAnswer told outcome text × AppendsOrForgets old new (take n text))
+    ⊎ ((outcome : Outcome) × (text : List ℕ) × (n : ℕ) × (n < length text) × IsAnswer told outcome text
+      × AppendsOrForgets old new (take n text))

@@ -45,7 +45,8 @@ fn run_all(
     requires { length sites.now ≤ max_sites }
     ensures runs { IfOk result (λ runs. runs.items ≡ map (run_of sites.now) order.now) }
     ensures as_logged { OnOk result (AllRunOn sites.now order.now (store_of store.old)) }
-    ensures after { OnOk result ((s : ℕ) (x : Name) → store_of store.new s x ≡ store_after_all sites.now order.now (store_of store.old) s x) }
+    ensures after { OnOk result ((s : ℕ) (x : Name)
+        → store_of store.new s x ≡ store_after_all sites.now order.now (store_of store.old) s x) }
     ensures differs { (tx : Option ℕ) (s : ℕ) (x : Name) → result ≡ Err (SerialFail.Differs tx s x)
         → (i : ℕ) × (tx ≡ Some i) × DiffersIn sites.now order.now (store_of store.old) i s x }
 {
@@ -81,8 +82,9 @@ fn run_bundle(alloc: Global, bundle: &Bundle) -> Result<SerialReport, SerialFail
 
 /// Runs the committed transactions of the bundle alone, one after another by rank (those of one rank in the order of their
 /// decisions), from the initial values: of each its logged reads are compared with the values so far, and then its logged
-/// writes are put into them and its increments added, modulo 2^64. At the end the recorded final values are compared. Z1 names the first difference: in a
-/// transaction, or with `None` among the final values. Z2 comes only where a growth was refused.
+/// writes are put into them and its increments added, modulo 2^64. At the end the recorded final values are compared. Z1
+/// names the first difference: in a transaction, or with `None` among the final values. Z2 comes only where a growth was
+/// refused.
 pub fn serial_run(alloc: Global, bundle: &Bundle) -> Result<SerialReport, SerialFail>
     // What is said is so.
     ensures agrees { OnOk result (SerialAgrees bundle.now) }

@@ -132,7 +132,9 @@ impl Store {
 
     /// The first of these values that the store hasn't.
     pub fn first_other(&self, values: &[SiteValue]) -> Option<SiteValue>
-        ensures { MatchOption result (All (Has (store_of self.now)) values.now) (IsFirstWithout (Has (store_of self.now)) values.now) }
+        ensures { MatchOption result
+            (All (Has (store_of self.now)) values.now)
+            (IsFirstWithout (Has (store_of self.now)) values.now) }
     {
         for value in values {
             if self.get(value.site, &value.item) != Some(value.value) {
@@ -144,7 +146,9 @@ impl Store {
 
     /// Makes these changes, in order, up to the first whose item isn't there.
     pub fn change_all(&mut self, writes: &[SiteChange]) -> Option<SiteChange>
-        ensures known { MatchOption result (All (Knows (store_of self.old)) writes.now) (IsFirstWithout (Knows (store_of self.old)) writes.now) }
+        ensures known { MatchOption result
+            (All (Knows (store_of self.old)) writes.now)
+            (IsFirstWithout (Knows (store_of self.old)) writes.now) }
         ensures after { IfNone result ((s : ℕ) (x : Name) → store_of self.new s x ≡ with_all writes.now (store_of self.old) s x) }
     {
         for write in writes {
