@@ -29,6 +29,10 @@ AppendsOrForgets None new bytes = ⊤
 AppendsOrForgets (Some xs) None bytes = ⊤
 AppendsOrForgets (Some xs) (Some ys) bytes = ys ≡ xs ++ bytes
 
+-- a front of the bytes was written, and not all of them
+abbrev pub WritesFront : Option (List ℕ) → Option (List ℕ) → List ℕ → Type 0
+WritesFront old new bytes = (n : ℕ) × (n < length bytes) × AppendsOrForgets old new (take n bytes)
+
 -- an Ok has at most so many bytes
 abbrev pub AtMost : {E : Type 0} → Result ℕ E → ℕ → Type 0
 AtMost (Ok n) most = n ≤ most

@@ -4,9 +4,6 @@ ghost use Rattle.std.specs.Prelude.{◌≡◌, ◌<◌, ◌≤◌, IfOk, IfErr, 
 ghost use Rattle.sgt_names.specs.Ordered.{IsAt, IsGapFor};
 ghost use Rattle.sgt_names.specs.Draft.{AreRising, place_of, place_cmp, kept_in, writing_in, at_site, added_to, look_of};
 
-#[cfg(test)]
-mod tests;
-
 use crate::Value;
 use crate::entry::Change;
 use crate::item::Item;
@@ -302,7 +299,8 @@ fn look_at(touch: &Touch) -> Option<Value>
 fn insert_touch(touched: &mut Vec<Touch>, at: usize, touch: Touch) -> Result<(), AllocError>
     requires { at ≤ vec_len touched.old }
     ensures ok { OnOk result (touched.new.items ≡ insert touched.old.items at touch) }
-    ensures err { OnErr result ((touched.new.items ≡ touched.old.items) × (vec_len touched.new ≡ vec_len touched.old) × (vec_capacity touched.new ≡ vec_capacity touched.old)) }
+    ensures err { OnErr result ((touched.new.items ≡ touched.old.items) × (vec_len touched.new ≡ vec_len touched.old)
+        × (vec_capacity touched.new ≡ vec_capacity touched.old)) }
     ensures succeeds { vec_len touched.old < vec_capacity touched.old → IsOk result }
 {
     touched.reserve(1)?;

@@ -15,8 +15,6 @@ mod sink;
 mod site_no;
 mod source;
 mod standard;
-#[cfg(test)]
-mod tests;
 
 pub use draft::{Draft, Seen, Touch};
 pub use entry::{Change, Entry, Holding, Kind, Label};

@@ -1,8 +1,8 @@
 //! Where bytes go.
 
-ghost use Rattle.std.specs.Prelude.{ℕ, List, Option, ◌<◌, length, take, OnOk, OnErr};
+ghost use Rattle.std.specs.Prelude.{ℕ, List, Option, length, OnOk, OnErr};
 ghost use Rattle.std.specs.Io.KnownBytes.{Appends};
-ghost use Rattle.sgt_names.specs.Device.{AppendsOrForgets, AtMost, CountsFailures, PutsBehind, TakesSome};
+ghost use Rattle.sgt_names.specs.Device.{AtMost, CountsFailures, PutsBehind, TakesSome, WritesFront};
 
 use crate::source::Failed;
 
@@ -26,7 +26,7 @@ pub trait Sink {
 /// Writes all of the bytes. An Err is the writer's: a front of the bytes may have been written then, but not all of them.
 pub fn write_all<W: Sink>(writer: &mut W, bytes: &[u8]) -> Result<(), Failed>
     ensures ok { OnOk result (Appends (W.holds writer.old) (W.holds writer.new) bytes.now) }
-    ensures err { OnErr result ((n : ℕ) × (n < length bytes.now) × AppendsOrForgets (W.holds writer.old) (W.holds writer.new) (take n bytes.now)) }
+    ensures err { OnErr result (WritesFront (W.holds writer.old) (W.holds writer.new) bytes.now) }
     ensures fails { CountsFailures result (W.failures writer.old) (W.failures writer.new) }
 {
     let mut at = 0;
