@@ -10,7 +10,7 @@ use Rattle.sgt_names.proofs.Devices.{wrote_nothing}
 use Rattle.sgt_audit.specs.Verdict.{IsVerdict, SaysHeadline, text_of}
 use Rattle.sgt_audit.specs.declared.verdict.Verdict.{Verdict}
 use Rattle.sgt_audit.specs.declared.verdict.Verdict.TheVariants.{Yes, No}
-use Rattle.sgt_serial.specs.Answer.{WroteAnswer, WroteFront}
+use Rattle.sgt_serial.specs.Answer.{WroteAnswer, WroteAnswerFront}
 use Rattle.sgt_program.specs.Commands.{AnswersAudit, AnswersSerial, AnswersOthers, outcome}
 use Rattle.sgt_program.specs.Ending.{status_of}
 
@@ -29,7 +29,7 @@ verdict-answers told old new (No line fault) is headline wrote = record {
   front = λ le. absurd (omega arith);
 }
 
-pub run-answers : (told old new : Option (List ℕ)) (r : Result Outcome EngineFail) → IfOk r (λ o. WroteAnswer told o old new) → OnErr r (WroteFront told old new) → AnswersSerial (status_of r) told old new
+pub run-answers : (told old new : Option (List ℕ)) (r : Result Outcome EngineFail) → IfOk r (λ o. WroteAnswer told o old new) → OnErr r (WroteAnswerFront told old new) → AnswersSerial (status_of r) told old new
 run-answers told old new (Ok Outcome_.Yes) wrote front = record {
   run = λ e. wrote;
   no = λ e. absurd (omega arith);
@@ -67,5 +67,5 @@ pub memory-answers : (status : ℕ) (held : Option (List ℕ)) → status ≡ 3 
 memory-answers status held is = record {
   help = λ e. absurd (omega arith);
   known = λ e. absurd (omega arith);
-  front = λ le. (0 ∷ [], 0, omega arith, wrote_nothing held);
+  front = λ le. (0 ∷ [], (0, omega arith, wrote_nothing held));
 }

@@ -1,7 +1,7 @@
 -- What each command answers, by the exit status.
-use Rattle.std.specs.Prelude.{◌≡◌, ◌≢◌, ◌<◌, ◌≤◌, ℕ, List, Option, length, take, IfSome}
+use Rattle.std.specs.Prelude.{◌≡◌, ◌≢◌, ◌<◌, ◌≤◌, ℕ, List, Option, length, IfSome}
 use Rattle.std.specs.Io.KnownBytes.{Appends}
-use Rattle.sgt_names.specs.Device.{AppendsOrForgets}
+use Rattle.sgt_names.specs.Device.{WritesFront}
 use Rattle.sgt_names.specs.declared.outcome.Outcome.{Outcome}
 use Rattle.sgt_names.specs.declared.outcome.Outcome.TheVariants as Outcome_
 use Rattle.sgt_audit.specs.Verdict as audit
@@ -49,11 +49,11 @@ pub record AnswersSerial (status : ℕ) (told written written' : Option (List �
   pub run : status ≡ 0 → ShowsRun told written written'
   pub no : status ≡ 1 → SaysNo told written written'
   pub known : status ≢ 2
-  pub front : 3 ≤ status → serial.WroteFront told written written'
+  pub front : 3 ≤ status → serial.WroteAnswerFront told written written'
 
 -- words that ask for neither: help, or no command
 pub record AnswersOthers (status : ℕ) (written written' : Option (List ℕ)) : Type 0 where
   pub help : status ≡ 0 → ShowsHelp written written'
   pub known : status ≢ 1
   -- what was written before stays
-  pub front : 3 ≤ status → (text : List ℕ) × (n : ℕ) × (n < length text) × AppendsOrForgets written written' (take n text)
+  pub front : 3 ≤ status → (text : List ℕ) × WritesFront written written' text

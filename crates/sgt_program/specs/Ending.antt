@@ -1,7 +1,7 @@
 -- How a run of the program ends.
-use Rattle.std.specs.Prelude.{◌<◌, ◌≤◌, ◌⊎◌, ℕ, List, Option, Result, Ok, Err, codes, length, take, IfSome}
+use Rattle.std.specs.Prelude.{◌<◌, ◌≤◌, ◌⊎◌, ℕ, List, Option, Result, Ok, Err, codes, length, IfSome}
 use Rattle.std.specs.Io.KnownBytes.{Appends}
-use Rattle.sgt_names.specs.Device.{AppendsOrForgets}
+use Rattle.sgt_names.specs.Device.{WritesFront}
 use Rattle.sgt_names.specs.declared.outcome.EngineFail.{EngineFail}
 use Rattle.sgt_names.specs.declared.outcome.EngineFail.TheVariants.{Memory, ReadFault, WriteFault}
 use Rattle.sgt_names.specs.declared.outcome.Outcome.{Outcome}
@@ -34,7 +34,7 @@ LeavesDevices (Err WriteFault) quiet read_failed write_failed unwritten = write_
 -- the text was written; or the writer failed, and a front of the text was, less than the whole
 abbrev pub WroteOrFailed : (written written' : Option (List ℕ)) (failures failures' : ℕ) (text : List ℕ) → Type 0
 WroteOrFailed written written' failures failures' text = Appends written written' text
-    ⊎ ((failures < failures') × ((n : ℕ) × (n < length text) × AppendsOrForgets written written' (take n text)))
+    ⊎ ((failures < failures') × WritesFront written written' text)
 
 -- what the error stream is told where there is no answer
 abbrev pub text_of_fail : EngineFail → List ℕ

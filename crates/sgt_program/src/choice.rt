@@ -68,7 +68,7 @@ fn command<'a>(alloc: Global) -> Result<Command<'a>, AllocError> {
 }
 
 // What clap says, or this where it says nothing.
-fn text_of(alloc: Global, error: &Error) -> Result<String, AllocError>
+fn message(alloc: Global, error: &Error) -> Result<String, AllocError>
     ensures { IfOk result (λ text. 0 < length (string_bytes text)) }
 {
     let text = error.to_string(alloc)?;
@@ -84,7 +84,7 @@ fn refused(alloc: Global, error: &Error) -> NoChoice
     if error.kind() == ErrorKind::OutOfMemory {
         return NoChoice::Memory;
     }
-    match text_of(alloc, error) {
+    match message(alloc, error) {
         Ok(text) if error.use_stderr() => NoChoice::Usage(text),
         Ok(text) => NoChoice::Help(text),
         Err(_) => NoChoice::Memory,

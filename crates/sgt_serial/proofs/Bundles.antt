@@ -27,7 +27,7 @@ at_item sites s x =
     ∙ mapped (λ (items : List Holding). value_in items x) (λ (log : SiteLog). log.items) (slice_get sites s)
 
 -- the initial values
-pub first-store : (sites : List SiteLog) → store_of (map (λ (log : SiteLog). log.items) sites) ≡ initial_store sites
+first-store : (sites : List SiteLog) → store_of (map (λ (log : SiteLog). log.items) sites) ≡ initial_store sites
 first-store sites = λ i s x. at_item sites s x i
 
 -- what is run, from which store

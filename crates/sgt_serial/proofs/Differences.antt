@@ -25,7 +25,7 @@ use Rattle.sgt_serial.specs.Report.{reads_of, writes_of, final_at, finals_at, fi
 use Rattle.sgt_serial.proofs.Logged.{All-flat_map, All-flat_map_at, range_at, has-reads, knows-writes}
 
 -- the transaction at a place runs as logged after those before it
-pub AllRunOn-at : (sites : List SiteLog) (txs : List ℕ) (n tx : ℕ) (store : Store) → AllRunOn sites txs store → slice_get txs n ≡ Some tx → RunsOn sites tx (store_after_all sites (take n txs) store)
+AllRunOn-at : (sites : List SiteLog) (txs : List ℕ) (n tx : ℕ) (store : Store) → AllRunOn sites txs store → slice_get txs n ≡ Some tx → RunsOn sites tx (store_after_all sites (take n txs) store)
 AllRunOn-at sites [] n tx store all at = absurd cc
 AllRunOn-at sites (t ∷ txs) zero tx store all at = subst (λ u. RunsOn sites u store) (same_Some t tx at) all.0
 AllRunOn-at sites (t ∷ txs) (suc n) tx store all at = AllRunOn-at sites txs n tx (store_after sites t store) all.1 at
@@ -49,7 +49,7 @@ pub as_logged : (sites : List SiteLog) (txs : List ℕ) (store : Store) → Runs
 as_logged sites [] store runs = tt
 as_logged sites (t ∷ txs) store runs = (runs.0, as_logged sites txs (store_after sites t store) runs.1)
 
-pub has-finals : (sites : List SiteLog) (txs : List ℕ) (store : Store) → RunsSerially sites txs store → All (Has (store_after_all sites txs store)) (finals_of sites)
+has-finals : (sites : List SiteLog) (txs : List ℕ) (store : Store) → RunsSerially sites txs store → All (Has (store_after_all sites txs store)) (finals_of sites)
 has-finals sites [] store runs = finals-listed sites store runs
 has-finals sites (t ∷ txs) store runs = has-finals sites txs (store_after sites t store) runs.1
 

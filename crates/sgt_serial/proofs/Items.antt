@@ -47,7 +47,7 @@ bytes_eq-other : (x y : Name) → x ≢ y → bytes_eq x y ≡ false
 bytes_eq-other x y other = elim (cases_Bool (bytes_eq x y)) [ inl hit ↦ absurd (other ((bytes_eq-Decides x y).0 hit)) | inr miss ↦ miss ]
 
 -- the value at the place of an item
-pub value_in-at : (hs : List Holding) → IsRising hs → (i : ℕ) (h : Holding) → slice_get hs i ≡ Some h → value_in hs h.item ≡ Some h.value
+value_in-at : (hs : List Holding) → IsRising hs → (i : ℕ) (h : Holding) → slice_get hs i ≡ Some h → value_in hs h.item ≡ Some h.value
 value_in-at [] rising i h at = absurd cc
 value_in-at (g ∷ hs) rising zero h at =
     let same = same_Some g h at in
@@ -57,7 +57,7 @@ value_in-at (g ∷ hs) rising (suc i) h at =
     ap (λ b. cond b (Some g.value) (value_in hs h.item)) (bytes_eq-other g.item h.item other) ∙ value_in-at hs (AllPairs-tail ComesBefore g.item (names hs) rising) i h at
 
 -- an item that stands nowhere has no value
-pub value_in-none : (hs : List Holding) (x : Name) → ((i : ℕ) (h : Holding) → slice_get hs i ≡ Some h → h.item ≢ x) → value_in hs x ≡ None
+value_in-none : (hs : List Holding) (x : Name) → ((i : ℕ) (h : Holding) → slice_get hs i ≡ Some h → h.item ≢ x) → value_in hs x ≡ None
 value_in-none [] x nowhere = refl
 value_in-none (g ∷ hs) x nowhere =
     ap (λ b. cond b (Some g.value) (value_in hs x)) (bytes_eq-other g.item x (nowhere 0 g refl)) ∙ value_in-none hs x (λ i h at. nowhere (suc i) h at)

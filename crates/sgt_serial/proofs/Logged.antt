@@ -21,7 +21,7 @@ use Rattle.sgt_cert.specs.Serial.{Store, entries_at, entries_of, own_entries, st
 use Rattle.sgt_cert.specs.declared.bundle.SiteLog.{SiteLog}
 use Rattle.sgt_serial.specs.declared.report.SiteChange.{SiteChange}
 use Rattle.sgt_serial.specs.declared.report.SiteValue.{SiteValue}
-use Rattle.sgt_serial.specs.Report.{read_at, change_at, picked_of, reads_of, writes_of}
+use Rattle.sgt_serial.specs.Report.{read_at, write_at, picked_of, reads_of, writes_of}
 use Rattle.sgt_serial.specs.Difference.{Has, Knows}
 use Rattle.sgt_serial.specs.private.Values.{is_of, change_in, with_all}
 use Rattle.sgt_serial.proofs.Sorting.{filter_map-flat_map}
@@ -46,7 +46,7 @@ module _ {A : Type 0} (P : A → Type 0) where
 
   module _ {E : Type 0} (p : E → Bool) (h : E → Option A) where
     -- each that passes and is picked
-    pub All-picked : (es : List E) → ((n : ℕ) (e : E) (y : A) → slice_get es n ≡ Some e → p e ≡ true → h e ≡ Some y → P y) → All P (filter_map h (filter p es))
+    All-picked : (es : List E) → ((n : ℕ) (e : E) (y : A) → slice_get es n ≡ Some e → p e ≡ true → h e ≡ Some y → P y) → All P (filter_map h (filter p es))
     All-picked [] each = All-nil P
     All-picked (e ∷ es) each =
         let rest = All-picked es (λ n f y at. each (suc n) f y at) in
@@ -59,7 +59,7 @@ module _ {A : Type 0} (P : A → Type 0) where
           | inr miss ↦ rw miss rest
         ]
 
-    pub All-picked_at : (es : List E) (n : ℕ) (e : E) (y : A) → slice_get es n ≡ Some e → p e ≡ true → h e ≡ Some y → All P (filter_map h (filter p es)) → P y
+    All-picked_at : (es : List E) (n : ℕ) (e : E) (y : A) → slice_get es n ≡ Some e → p e ≡ true → h e ≡ Some y → All P (filter_map h (filter p es)) → P y
     All-picked_at [] n e y at hit some all = absurd cc
     All-picked_at (f ∷ es) zero e y at hit some all =
         let same = same_Some f e at in
@@ -92,7 +92,7 @@ module _ {A : Type 0} (pick : ℕ → Entry → Option A) (sites : List SiteLog)
   of_site s = filter_map (pick s) (own_entries tx (entries_of sites s))
 
   -- what is picked of an entry of the transaction has the property
-  abbrev pub EachPicked : Type 0
+  abbrev EachPicked : Type 0
   EachPicked = (s : ℕ) (e : Entry) (a : A) → Contains (entries_of sites s) e → tx_of e ≡ tx → pick s e ≡ Some a → P a
 
   by-tx : (u : ℕ) → (u == tx) ≡ true → u ≡ tx
@@ -115,8 +115,8 @@ module _ (sites : List SiteLog) (tx : ℕ) (store : Store) where
   pub runs-on : All (Has store) (reads_of sites tx) → All (Knows store) (writes_of sites tx) → RunsOn sites tx store
   runs-on reads writes = record {
     reads = λ s x v c. each-picked read_at sites tx (Has store) reads s (Read tx x v) (record { site = s; item = x; value = v }) c refl refl;
-    writes = λ s x v c. each-picked change_at sites tx (Knows store) writes s (Write tx x v) (record { site = s; item = x; change = Put v }) c refl refl;
-    adds = λ s x v c. each-picked change_at sites tx (Knows store) writes s (entry.Add tx x v) (record { site = s; item = x; change = Add v }) c refl refl;
+    writes = λ s x v c. each-picked write_at sites tx (Knows store) writes s (Write tx x v) (record { site = s; item = x; change = Put v }) c refl refl;
+    adds = λ s x v c. each-picked write_at sites tx (Knows store) writes s (entry.Add tx x v) (record { site = s; item = x; change = Add v }) c refl refl;
   }
 
   has-read : RunsOn sites tx store → EachPicked read_at sites tx (Has store)
@@ -130,7 +130,7 @@ module _ (sites : List SiteLog) (tx : ℕ) (store : Store) where
   has-read runs s (Refuse u) a c by some = absurd cc
   has-read runs s (Withdraw u) a c by some = absurd cc
 
-  knows-write : RunsOn sites tx store → EachPicked change_at sites tx (Knows store)
+  knows-write : RunsOn sites tx store → EachPicked write_at sites tx (Knows store)
   knows-write runs s (Write u x v) a c by some =
       subst (Knows store) (same_Some (record { site = s; item = x; change = Put v }) a some) (runs.writes s x v (subst (λ (t : ℕ). Contains (entries_of sites s) (Write t x v)) by c))
   knows-write runs s (entry.Add u x v) a c by some =
@@ -146,7 +146,7 @@ module _ (sites : List SiteLog) (tx : ℕ) (store : Store) where
   has-reads runs = all-picked read_at sites tx (Has store) (has-read runs)
 
   pub knows-writes : RunsOn sites tx store → All (Knows store) (writes_of sites tx)
-  knows-writes runs = all-picked change_at sites tx (Knows store) (knows-write runs)
+  knows-writes runs = all-picked write_at sites tx (Knows store) (knows-write runs)
 
 -- of a range of numbers one alone gives something
 range-none : {A : Type 0} (f : ℕ → List A) (s m a : ℕ) → s < a → ((k : ℕ) → k ≢ s → f k ≡ []) → flat_map f (range_with_len a m) ≡ []
@@ -162,14 +162,14 @@ range-one f s (suc m) a le others past =
     ]
 
 -- what is done to an item of a site
-changes-one : (s : ℕ) (x : Name) (e : Entry) (es : List Entry) → filter_map (change_in s x) (cons_option (change_at s e) (filter_map (change_at s) es))
-    ≡ cons_option (change_of x e) (filter_map (change_in s x) (filter_map (change_at s) es))
+changes-one : (s : ℕ) (x : Name) (e : Entry) (es : List Entry) → filter_map (change_in s x) (cons_option (write_at s e) (filter_map (write_at s) es))
+    ≡ cons_option (change_of x e) (filter_map (change_in s x) (filter_map (write_at s) es))
 changes-one s x (Write tx y v) es =
-    let rest = filter_map (change_in s x) (filter_map (change_at s) es) in
+    let rest = filter_map (change_in s x) (filter_map (write_at s) es) in
     let here : is_of s x (record { site = s; item = y; change = Put v }) ≡ bytes_eq y x = rw (eq-eqb s s refl) refl in
     ap (λ b. cons_option (cond b (Some (Put v)) None) rest) here
 changes-one s x (entry.Add tx y v) es =
-    let rest = filter_map (change_in s x) (filter_map (change_at s) es) in
+    let rest = filter_map (change_in s x) (filter_map (write_at s) es) in
     let here : is_of s x (record { site = s; item = y; change = Add v }) ≡ bytes_eq y x = rw (eq-eqb s s refl) refl in
     ap (λ b. cons_option (cond b (Some (Add v)) None) rest) here
 changes-one s x (Read tx y v) es = refl
@@ -179,12 +179,12 @@ changes-one s x (Commit tx) es = refl
 changes-one s x (Refuse tx) es = refl
 changes-one s x (Withdraw tx) es = refl
 
-changes-here : (s : ℕ) (x : Name) (es : List Entry) → filter_map (change_in s x) (filter_map (change_at s) es) ≡ filter_map (change_of x) es
+changes-here : (s : ℕ) (x : Name) (es : List Entry) → filter_map (change_in s x) (filter_map (write_at s) es) ≡ filter_map (change_of x) es
 changes-here s x [] = refl
 changes-here s x (e ∷ es) = changes-one s x e es ∙ ap (cons_option (change_of x e)) (changes-here s x es)
 
 -- a change at another site
-elsewhere : (s : ℕ) (x : Name) (k : ℕ) → k ≢ s → (e : Entry) (a : SiteChange) → change_at k e ≡ Some a → is_of s x a ≡ false
+elsewhere : (s : ℕ) (x : Name) (k : ℕ) → k ≢ s → (e : Entry) (a : SiteChange) → write_at k e ≡ Some a → is_of s x a ≡ false
 elsewhere s x k other (Write tx y v) a some =
     subst (λ (c : SiteChange). is_of s x c ≡ false) (same_Some (record { site = k; item = y; change = Put v }) a some) (rw (ne_eqb k s other) refl)
 elsewhere s x k other (entry.Add tx y v) a some =
@@ -196,22 +196,22 @@ elsewhere s x k other (Commit tx) a some = absurd cc
 elsewhere s x k other (Refuse tx) a some = absurd cc
 elsewhere s x k other (Withdraw tx) a some = absurd cc
 
-changes-elsewhere : (s : ℕ) (x : Name) (k : ℕ) → k ≢ s → (es : List Entry) → filter_map (change_in s x) (filter_map (change_at k) es) ≡ []
+changes-elsewhere : (s : ℕ) (x : Name) (k : ℕ) → k ≢ s → (es : List Entry) → filter_map (change_in s x) (filter_map (write_at k) es) ≡ []
 changes-elsewhere s x k other [] = refl
 changes-elsewhere s x k other (e ∷ es) =
     let rest = changes-elsewhere s x k other es in
-    elim (option_cases (change_at k e)) [
+    elim (option_cases (write_at k e)) [
       | inl none ↦ rw none rest
       | inr some ↦ rw (some.1, elsewhere s x k other e some.0 some.1) rest
     ]
 
-past-end : (sites : List SiteLog) (tx s : ℕ) (x : Name) → length sites ≤ s → filter_map (change_in s x) (filter_map (change_at s) (own_entries tx (entries_of sites s))) ≡ []
-past-end sites tx s x past = ap (λ o. filter_map (change_in s x) (filter_map (change_at s) (own_entries tx (entries_at o)))) (slice_get_past sites s past)
+past-end : (sites : List SiteLog) (tx s : ℕ) (x : Name) → length sites ≤ s → filter_map (change_in s x) (filter_map (write_at s) (own_entries tx (entries_of sites s))) ≡ []
+past-end sites tx s x past = ap (λ o. filter_map (change_in s x) (filter_map (write_at s) (own_entries tx (entries_at o)))) (slice_get_past sites s past)
 
 -- a transaction's writes and increments lead to the store after it
 pub store_after-all : (sites : List SiteLog) (tx : ℕ) (store : Store) (s : ℕ) (x : Name) → with_all (writes_of sites tx) store s x ≡ store_after sites tx store s x
 store_after-all sites tx store s x =
-    let of_site = λ (k : ℕ). filter_map (change_at k) (own_entries tx (entries_of sites k)) in
+    let of_site = λ (k : ℕ). filter_map (write_at k) (own_entries tx (entries_of sites k)) in
     ap (fold value_with (store s x))
     (filter_map-flat_map (change_in s x) of_site (range_with_len 0 (length sites))
     ∙ range-one (λ k. filter_map (change_in s x) (of_site k)) s (length sites) 0 (omega arith) (λ k other. changes-elsewhere s x k other (own_entries tx (entries_of sites k)))

@@ -37,11 +37,11 @@ at_value P a s x site item h = subst P (λ i. record { site = site i; item = ite
 pub at_change : (P : SiteChange → Type 0) (a : SiteChange) (s : ℕ) (x : Name) → a.site ≡ s → a.item ≡ x → P a → P (record { site = s; item = x; change = a.change })
 at_change P a s x site item h = subst P (λ i. record { site = site i; item = item i; change = a.change }) h
 
-pub AllRunOn-push : (sites : List SiteLog) (txs : List ℕ) (tx : ℕ) (store : Store) → AllRunOn sites txs store → RunsOn sites tx (store_after_all sites txs store) → AllRunOn sites (txs ++ tx ∷ []) store
+AllRunOn-push : (sites : List SiteLog) (txs : List ℕ) (tx : ℕ) (store : Store) → AllRunOn sites txs store → RunsOn sites tx (store_after_all sites txs store) → AllRunOn sites (txs ++ tx ∷ []) store
 AllRunOn-push sites [] tx store all last = (last, tt)
 AllRunOn-push sites (t ∷ txs) tx store all last = (all.0, AllRunOn-push sites txs tx (store_after sites t store) all.1 last)
 
-pub store_after_all-push : (sites : List SiteLog) (txs : List ℕ) (tx : ℕ) (store : Store) → store_after_all sites (txs ++ tx ∷ []) store ≡ store_after sites tx (store_after_all sites txs store)
+store_after_all-push : (sites : List SiteLog) (txs : List ℕ) (tx : ℕ) (store : Store) → store_after_all sites (txs ++ tx ∷ []) store ≡ store_after sites tx (store_after_all sites txs store)
 store_after_all-push sites [] tx store = refl
 store_after_all-push sites (t ∷ txs) tx store = store_after_all-push sites txs tx (store_after sites t store)
 

@@ -1,7 +1,7 @@
 -- What an input is answered by.
-use Rattle.std.specs.Prelude.{◌≡◌, ◌<◌, ◌⊎◌, ℕ, List, [], length, take, Option, IfSome}
+use Rattle.std.specs.Prelude.{◌≡◌, ◌⊎◌, ℕ, List, [], Option, IfSome}
 use Rattle.std.specs.Io.KnownBytes.{Appends}
-use Rattle.sgt_names.specs.Device.{AppendsOrForgets}
+use Rattle.sgt_names.specs.Device.{AppendsOrForgets, WritesFront}
 use Rattle.sgt_names.specs.declared.outcome.Outcome.{Outcome}
 use Rattle.sgt_names.specs.declared.outcome.Outcome.TheVariants.{Yes, No, Unreadable}
 use Rattle.sgt_cert.specs.Parts.{Parts}
@@ -26,7 +26,6 @@ abbrev pub WroteAnswer : (told : Option (List ℕ)) → Outcome → (old new : O
 WroteAnswer told outcome old new = (text : List ℕ) × IsAnswer told outcome text × Appends old new text
 
 -- nothing was written, or a front of the text that the input is answered by, and less than the whole text
-abbrev pub WroteFront : (told old new : Option (List ℕ)) → Type 0
-WroteFront told old new = AppendsOrForgets old new []
-    ⊎ ((outcome : Outcome) × (text : List ℕ) × (n : ℕ) × (n < length text) × IsAnswer told outcome text
-      × AppendsOrForgets old new (take n text))
+abbrev pub WroteAnswerFront : (told old new : Option (List ℕ)) → Type 0
+WroteAnswerFront told old new = AppendsOrForgets old new []
+    ⊎ ((outcome : Outcome) × (text : List ℕ) × IsAnswer told outcome text × WritesFront old new text)

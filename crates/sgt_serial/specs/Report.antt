@@ -20,10 +20,10 @@ read_at s (Read tx x v) = Some (record { site = s; item = x; value = v })
 read_at s _ = None
 
 -- what it does to its item, if it changes it: a write puts its value, an increment adds it
-abbrev pub change_at : ℕ → Entry → Option SiteChange
-change_at s (Write tx x v) = Some (record { site = s; item = x; change = change.Put v })
-change_at s (Add tx x v) = Some (record { site = s; item = x; change = change.Add v })
-change_at s _ = None
+abbrev pub write_at : ℕ → Entry → Option SiteChange
+write_at s (Write tx x v) = Some (record { site = s; item = x; change = change.Put v })
+write_at s (Add tx x v) = Some (record { site = s; item = x; change = change.Add v })
+write_at s _ = None
 
 -- a list of each site, joined by site
 abbrev pub by_site : {A : Type 0} → (ℕ → List A) → List SiteLog → List A
@@ -39,7 +39,7 @@ reads_of sites tx = picked_of read_at sites tx
 
 -- its logged writes and increments
 abbrev pub writes_of : List SiteLog → ℕ → List SiteChange
-writes_of sites tx = picked_of change_at sites tx
+writes_of sites tx = picked_of write_at sites tx
 
 -- a final value of this site
 abbrev pub final_at : ℕ → Holding → SiteValue

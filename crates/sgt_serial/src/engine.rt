@@ -4,7 +4,7 @@ ghost use Rattle.std.specs.Prelude.{◌≡◌, ◌≢◌, ◌⊎◌, ◌<◌, �
 ghost use Rattle.sgt_notation.specs.Limits.{most_reads};
 ghost use Rattle.sgt_cert.specs.Valid.{IsValid};
 ghost use Rattle.sgt_audit.specs.Verdict.{IsAudited, HandsOutValid};
-ghost use Rattle.sgt_serial.specs.Answer.{IsAnswer, WroteAnswer, WroteFront};
+ghost use Rattle.sgt_serial.specs.Answer.{IsAnswer, WroteAnswer, WroteAnswerFront};
 ghost use Rattle.sgt_serial.specs.Report.{report_of};
 ghost use Rattle.sgt_serial.specs.Text.{report_text};
 
@@ -68,7 +68,7 @@ pub fn serial<R: Source, W: Sink>(
     writer: &mut W,
 ) -> Result<Outcome, EngineFail>
     ensures answer { IfOk result (λ outcome. WroteAnswer (R.tells reader.old) outcome (W.holds writer.old) (W.holds writer.new)) }
-    ensures front { OnErr result (WroteFront (R.tells reader.old) (W.holds writer.old) (W.holds writer.new)) }
+    ensures front { OnErr result (WroteAnswerFront (R.tells reader.old) (W.holds writer.old) (W.holds writer.new)) }
     ensures unwritten { IsErrOf result EngineFail.ReadFault → writer.new ≡ writer.old }
     ensures untouched { IsErrOf result EngineFail.Memory → writer.new ≡ writer.old }
 

@@ -4,7 +4,7 @@ ghost use Rattle.std.specs.Prelude.{◌≡◌, ℕ, true, false, nat_lt, ◌++�
 ghost use Rattle.std.specs.List.{filter, filter_map};
 ghost use Rattle.std.specs.List.Sorted.{IsNonDecreasingBy, IsPartitionPoint};
 ghost use Rattle.sgt_names.specs.Limits.{max_sites};
-ghost use Rattle.sgt_serial.specs.Report.{read_at, change_at, run_of};
+ghost use Rattle.sgt_serial.specs.Report.{read_at, write_at, run_of};
 ghost use Rattle.sgt_serial.specs.private.Operations.{entry_at, owner, is_by, run_in};
 
 use crate::report::{SerialTx, SiteChange, SiteValue};
@@ -58,8 +58,8 @@ fn read_of(own: &SiteEntry) -> Option<SiteValue>
     }
 }
 
-fn change_of(own: &SiteEntry) -> Option<SiteChange>
-    ensures { result ≡ change_at own.now.site own.now.entry }
+fn write_of(own: &SiteEntry) -> Option<SiteChange>
+    ensures { result ≡ write_at own.now.site own.now.entry }
 {
     let site = own.site;
     match own.entry {
@@ -83,10 +83,10 @@ fn reads(alloc: Global, own: &[SiteEntry]) -> Result<Vec<SiteValue>, AllocError>
     own.iter().filter_map(read_of).collect(alloc)
 }
 
-fn changes(alloc: Global, own: &[SiteEntry]) -> Result<Vec<SiteChange>, AllocError>
-    ensures { IfOk result (λ changes. changes.items ≡ filter_map (λ e. change_at e.site e.entry) own.now) }
+fn writes(alloc: Global, own: &[SiteEntry]) -> Result<Vec<SiteChange>, AllocError>
+    ensures { IfOk result (λ writes. writes.items ≡ filter_map (λ e. write_at e.site e.entry) own.now) }
 {
-    own.iter().filter_map(change_of).collect(alloc)
+    own.iter().filter_map(write_of).collect(alloc)
 }
 
 /// Adds the entries of a site's log.
@@ -139,7 +139,7 @@ impl Operations {
         Ok(SerialTx {
             tx,
             reads: Listed::new(reads(alloc, own)?),
-            writes: Listed::new(changes(alloc, own)?),
+            writes: Listed::new(writes(alloc, own)?),
         })
     }
 }

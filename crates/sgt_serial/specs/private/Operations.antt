@@ -7,7 +7,7 @@ use Rattle.sgt_cert.specs.Serial.{entries_of}
 use Rattle.sgt_cert.specs.declared.bundle.SiteLog.{SiteLog}
 use Rattle.sgt_serial.specs.declared.operations.SiteEntry.{SiteEntry}
 use Rattle.sgt_serial.specs.declared.report.SerialTx.{SerialTx}
-use Rattle.sgt_serial.specs.Report.{by_site, read_at, change_at}
+use Rattle.sgt_serial.specs.Report.{by_site, read_at, write_at}
 
 abbrev pub entry_at : ℕ → Entry → SiteEntry
 entry_at s e = record { site = s; entry = e }
@@ -28,5 +28,5 @@ abbrev pub run_in : List SiteEntry → ℕ → SerialTx
 run_in entries tx = record {
   tx = tx;
   reads = filter_map (λ (e : SiteEntry). read_at e.site e.entry) (filter (is_by tx) entries);
-  writes = filter_map (λ (e : SiteEntry). change_at e.site e.entry) (filter (is_by tx) entries);
+  writes = filter_map (λ (e : SiteEntry). write_at e.site e.entry) (filter (is_by tx) entries);
 }
