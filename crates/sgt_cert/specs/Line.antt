@@ -9,6 +9,7 @@ use Rattle.sgt_cert.specs.Text.{certificate_text, IsCertificate}
 use Rattle.sgt_cert.specs.declared.fault.CertFault.{CertFault}
 use Rattle.sgt_cert.specs.declared.fault.CertFault.TheVariants.{NotJson, Shape, Range, Memory}
 use Rattle.sgt_cert.specs.declared.certificate.Certificate.{Certificate}
+
 -- serde_json reads this value from the bytes
 abbrev pub ReadsAs : List ℕ → Data → Type 0
 ReadsAs bytes d = IsUtf8 bytes × (read bytes ≡ Some d)

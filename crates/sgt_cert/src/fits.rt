@@ -84,7 +84,9 @@ fn decision_fits(decision: &Decision, sites: u8) -> bool
 fn decisions_fit(decisions: &[Decision], sites: u8) -> bool
     ensures { IsTrue result ↔ All (HasStepsWithin sites) decisions.now }
 {
-    decisions.iter().all(|decision| decision_fits(decision, sites))
+    decisions
+        .iter()
+        .all(|decision| decision_fits(decision, sites))
 }
 
 /// Whether these are the parts of a bundle.

@@ -211,16 +211,13 @@ impl Lines {
         line: &mut Vec<u8>,
         limit: usize,
     ) -> Result<Next, LinesFault>
-        ensures ok {
-            let old = stream self.old (S.tells source.old) (S.failures source.old) in
+        ensures ok { let old = stream self.old (S.tells source.old) (S.failures source.old) in
             let new = stream self.new (S.tells source.new) (S.failures source.new) in
             IfOk result (λ next. GaveNext limit old next line.new.items new) }
-        ensures read_fault {
-            let old = stream self.old (S.tells source.old) (S.failures source.old) in
+        ensures read_fault { let old = stream self.old (S.tells source.old) (S.failures source.old) in
             let new = stream self.new (S.tells source.new) (S.failures source.new) in
             IsErrOf result LinesFault.ReadFault → MetReadFault old line.new.items new }
-        ensures memory {
-            let old = stream self.old (S.tells source.old) (S.failures source.old) in
+        ensures memory { let old = stream self.old (S.tells source.old) (S.failures source.old) in
             let new = stream self.new (S.tells source.new) (S.failures source.new) in
             IsErrOf result LinesFault.Memory → WantedMemory limit (vec_capacity line.old) old line.new.items new }
         // of each of these

@@ -3,7 +3,7 @@ use Rattle.sgt_audit.proofs.SpelledLines.{IsAhead}
 use Rattle.sgt_audit.proofs.bundles.read_sections.Given as goal
 
 abbrev pub invariant-lines : goal.invariant-lines
-invariant-lines l = IsAhead l.sites l.bytes l.sections l.rest
+invariant-lines l = IsAhead l.second l.sites l.bytes l.sections l.rest
 
 abbrev pub decreases-lines : goal.decreases-lines
 decreases-lines l = length l.rest
