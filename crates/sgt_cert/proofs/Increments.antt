@@ -1,26 +1,23 @@
 -- Bundles with increments, and what the definitions say of them.
-use Rattle.std.proofs.Common.{◌≡◌, ◌≢◌, ℕ, zero, suc, Bool, true, false, List, [], ◌∷◌, ◌++◌, refl, sym, ap, ◌∙◌, subst, Some, arith, lit<, ◌<◌}
-use Rattle.std.specs.Prelude.{codes, slice_get}
+use Rattle.std.proofs.Common.{◌≡◌, ℕ, zero, suc, true, false, List, [], ◌∷◌, refl, sym, ◌∙◌, arith, lit<, ◌<◌}
+use Rattle.std.specs.Prelude.{codes}
 use Rattle.std.specs.Fmt.{digits}
 use Rattle.std.proofs.lemmas.Bool.{true≢false}
 use Rattle.std.proofs.lemmas.Option.{same_Some}
 use Rattle.serde_json.proofs.OnLiterals.{serde_json_on_literals}
 use Rattle.sgt_names.specs.declared.entry.Entry.TheVariants as e
-use Rattle.sgt_names.specs.declared.entry.Entry.{Entry}
-use Rattle.sgt_names.specs.declared.entry.Kind.TheVariants.{Wr, Rw, Ww}
-use Rattle.sgt_names.proofs.Places.{All_at, AllPairs_at, AllPairs-from_recursion, Contains-from_at}
+use Rattle.sgt_names.specs.declared.entry.Kind.TheVariants.{Wr}
+use Rattle.sgt_names.proofs.Places.{Contains-from_at}
 use Rattle.sgt_notation.specs.Spelling.{text_of_lines}
 use Rattle.sgt_cert.specs.Parts.{Parts}
-use Rattle.sgt_cert.specs.Certificate.{Suits, IsCycle}
-use Rattle.sgt_cert.specs.Valid.{AreLogged, IsLogged, IsValid, IsValidLog, RiseInRank}
+use Rattle.sgt_cert.specs.Certificate.{Suits}
+use Rattle.sgt_cert.specs.Valid.{RefusedLieOnCycles, IsValid}
 use Rattle.sgt_cert.specs.Serial.{SerialAgrees}
-use Rattle.sgt_cert.specs.Text.{text_of, text_in, has_increments, Spells}
+use Rattle.sgt_cert.specs.Text.{text_of, has_increments, Spells}
 use Rattle.sgt_cert.specs.declared.bundle.SiteLog.{SiteLog}
-use Rattle.sgt_cert.specs.declared.certificate.Step.{Step}
-use Rattle.sgt_cert.specs.declared.certificate.Decision.{Decision}
 use Rattle.sgt_cert.specs.declared.certificate.Decision.TheVariants.{Commit, Refuse, Withdraw}
-use Rattle.sgt_cert.proofs.Rows.{x, y, own_read}
-use Rattle.sgt_cert.proofs.Cases.{of_x}
+use Rattle.sgt_cert.proofs.WorkedBundles.{x, y, own_read}
+use Rattle.sgt_cert.proofs.Examples.{of_x}
 use Rattle.sgt_cert.proofs.Headline.{valid-agrees}
 use Rattle.sgt_cert.proofs.Tested.{valid-from_test}
 
@@ -42,8 +39,7 @@ pub two_adds-text : text_of (two_adds 0 1) ≡ text_of_lines (codes "sgt 2" ∷ 
 unfolding digits serde_json_on_literals
 two_adds-text = refl
 
-two_adds-cycles : (r s number tx : ℕ) (walk : List Step) → slice_get (two_adds r s).certificate.decisions number ≡ Some (Refuse tx walk)
-    → IsCycle (two_adds r s).certificate.decisions number tx walk × AreLogged (two_adds r s).sites tx walk
+two_adds-cycles : (r s : ℕ) → RefusedLieOnCycles (two_adds r s)
 two_adds-cycles r s zero tx walk at = absurd cc
 two_adds-cycles r s (suc zero) tx walk at = absurd cc
 two_adds-cycles r s (suc (suc n)) tx walk at = absurd cc
@@ -62,8 +58,7 @@ two_adds-turned-serial = valid-agrees (two_adds 1 0) two_adds-turned-valid
 abbrev pub add_and_read : ℕ → ℕ → Parts
 add_and_read r s = of_x (Commit 1 r ∷ Commit 2 s ∷ []) (e.Add 1 x 3 ∷ e.Commit 1 ∷ e.Read 2 x 8 ∷ e.Commit 2 ∷ []) 8
 
-add_and_read-cycles : (r s number tx : ℕ) (walk : List Step) → slice_get (add_and_read r s).certificate.decisions number ≡ Some (Refuse tx walk)
-    → IsCycle (add_and_read r s).certificate.decisions number tx walk × AreLogged (add_and_read r s).sites tx walk
+add_and_read-cycles : (r s : ℕ) → RefusedLieOnCycles (add_and_read r s)
 add_and_read-cycles r s zero tx walk at = absurd cc
 add_and_read-cycles r s (suc zero) tx walk at = absurd cc
 add_and_read-cycles r s (suc (suc n)) tx walk at = absurd cc

@@ -20,9 +20,8 @@ use Rattle.sgt_names.specs.declared.entry.Kind.{Kind}
 use Rattle.sgt_names.specs.declared.entry.Kind.TheVariants.{Wr, Rw, Ww}
 use Rattle.sgt_names.proofs.Places.{AllPairs-from_recursion, AllPairs_at, AllPairs-tail, Contains-from_at, PairsByRecursion}
 use Rattle.sgt_cert.specs.Parts.{Parts}
-use Rattle.sgt_cert.specs.Certificate.{decided, IsCycle, IsDecidedOnce, Suits, ranks}
-use Rattle.sgt_cert.specs.Valid.{IsDecided, EndInOrder, RiseInRank, IsValidLog, AreLogged, IsValid}
-use Rattle.sgt_cert.specs.declared.certificate.Step.{Step}
+use Rattle.sgt_cert.specs.Certificate.{decided_tx, IsDecidedOnce, Suits, ranks}
+use Rattle.sgt_cert.specs.Valid.{RefusedLieOnCycles, IsDecided, EndInOrder, RiseInRank, IsValidLog, IsValid}
 use Rattle.sgt_cert.specs.declared.certificate.Decision.{Decision}
 use Rattle.sgt_cert.specs.declared.certificate.Decision.TheVariants.{Commit, Refuse, Withdraw}
 use Rattle.sgt_cert.specs.declared.bundle.SiteLog.{SiteLog}
@@ -240,28 +239,28 @@ Suits-from (e.Withdraw tx) (Withdraw i) h = tt
 Suits-from _ _ h = absurd (true≢false (sym h))
 
 abbrev is_decided : List Decision → Entry → Bool
-is_decided decisions en = list_any (λ d. (decided d == tx_of en) && suits en d) decisions
+is_decided decisions en = list_any (λ d. (decided_tx d == tx_of en) && suits en d) decisions
 
 decided-sound : (decisions : List Decision) (en : Entry) → is_decided decisions en ≡ true → (number : ℕ) × IsDecided decisions en number
 decided-sound decisions en h =
-    let f = found (λ d. (decided d == tx_of en) && suits en d) decisions h in
-    let p = and_parts (decided f.1 == tx_of en) (suits en f.1) f.3 in
-    (f.0, (f.1, f.2, eqb-true (decided f.1) (tx_of en) p.0, Suits-from en f.1 p.1))
+    let f = found (λ d. (decided_tx d == tx_of en) && suits en d) decisions h in
+    let p = and_parts (decided_tx f.1 == tx_of en) (suits en f.1) f.3 in
+    (f.0, (f.1, f.2, eqb-true (decided_tx f.1) (tx_of en) p.0, Suits-from en f.1 p.1))
 
 -- the number of the decision on a transaction
 abbrev number_of : List Decision → ℕ → Option ℕ
 number_of [] tx = None
-number_of (d ∷ ds) tx = if decided d == tx then Some 0 else option_map suc (number_of ds tx)
+number_of (d ∷ ds) tx = if decided_tx d == tx then Some 0 else option_map suc (number_of ds tx)
 
 abbrev Apart : Decision → Decision → Type 0
-Apart d f = decided d ≢ decided f
+Apart d f = decided_tx d ≢ decided_tx f
 
-number_of-at : (ds : List Decision) (n tx : ℕ) (d : Decision) → IsDecidedOnce ds → slice_get ds n ≡ Some d → decided d ≡ tx → number_of ds tx ≡ Some n
+number_of-at : (ds : List Decision) (n tx : ℕ) (d : Decision) → IsDecidedOnce ds → slice_get ds n ≡ Some d → decided_tx d ≡ tx → number_of ds tx ≡ Some n
 number_of-at [] n tx d once at is = absurd cc
-number_of-at (f ∷ ds) zero tx d once at is = ap (λ b. cond b (Some 0) (option_map suc (number_of ds tx))) (eq-eqb (decided f) tx (ap decided (same_Some f d at) ∙ is))
+number_of-at (f ∷ ds) zero tx d once at is = ap (λ b. cond b (Some 0) (option_map suc (number_of ds tx))) (eq-eqb (decided_tx f) tx (ap decided_tx (same_Some f d at) ∙ is))
 number_of-at (f ∷ ds) (suc n) tx d once at is =
-    let apart : decided f ≢ tx = λ e. AllPairs_at Apart (f ∷ ds) 0 (suc n) f d once (omega arith) refl at (e ∙ sym is) in
-    ap (λ b. cond b (Some 0) (option_map suc (number_of ds tx))) (ne_eqb (decided f) tx apart) ∙ ap (option_map suc) (number_of-at ds n tx d (AllPairs-tail Apart f ds once) at is)
+    let apart : decided_tx f ≢ tx = λ e. AllPairs_at Apart (f ∷ ds) 0 (suc n) f d once (omega arith) refl at (e ∙ sym is) in
+    ap (λ b. cond b (Some 0) (option_map suc (number_of ds tx))) (ne_eqb (decided_tx f) tx apart) ∙ ap (option_map suc) (number_of-at ds n tx d (AllPairs-tail Apart f ds once) at is)
 
 abbrev in_order : Option ℕ → Option ℕ → Bool
 in_order (Some m) (Some n) = nat_le m n
@@ -404,19 +403,19 @@ other-sound a b h e = refuted (a == b) h (eq-eqb a b e)
 
 abbrev pub bundle_passes : Parts → Bool
 bundle_passes b =
-    pairs_pass (λ d f. other (decided d) (decided f)) b.certificate.decisions
+    pairs_pass (λ d f. other (decided_tx d) (decided_tx f)) b.certificate.decisions
     && (list_all (λ r. nat_lt r (length (ranks b.certificate.decisions))) (ranks b.certificate.decisions)
     && (pairs_pass other (ranks b.certificate.decisions) && list_all (log_passes b.certificate.decisions) b.sites))
 
 -- a bundle that passes, and whose walks are cycles, is valid
 pub valid-from_test : (b : Parts) → bundle_passes b ≡ true
-    → ((number tx : ℕ) (walk : List Step) → slice_get b.certificate.decisions number ≡ Some (Refuse tx walk) → IsCycle b.certificate.decisions number tx walk × AreLogged b.sites tx walk) → IsValid b
+    → (RefusedLieOnCycles b) → IsValid b
 valid-from_test b h cycles =
     let ds = b.certificate.decisions in
     let twice = and_parts _ _ h in
     let low = and_parts _ _ twice.1 in
     let rest = and_parts _ _ low.1 in
-    let once = AllPairs-from_recursion Apart ds (pairs-from_test Apart (λ d f. other (decided d) (decided f)) (λ d f. other-sound (decided d) (decided f)) ds twice.0) in
+    let once = AllPairs-from_recursion Apart ds (pairs-from_test Apart (λ d f. other (decided_tx d) (decided_tx f)) (λ d f. other-sound (decided_tx d) (decided_tx f)) ds twice.0) in
     record {
       logs = All-from_recursion (IsValidLog ds) b.sites (all-from_test (IsValidLog ds) (log_passes ds) (log-sound ds once) b.sites rest.1);
       once = once;

@@ -8,14 +8,14 @@ use Rattle.std.specs.Cmp.Lexicographic.{slice_cmp}
 use Rattle.std.specs.declared.cmp.Ordering.{Ordering}
 use Rattle.sgt_names.specs.Name.{Name}
 use Rattle.sgt_names.specs.Ordered.{IsRisingBy}
-use Rattle.sgt_names.specs.Log.{changed}
+use Rattle.sgt_names.specs.Log.{value_with_any}
 use Rattle.sgt_names.specs.declared.entry.Change.{Change}
 use Rattle.sgt_names.specs.declared.entry.Change.TheVariants.{Put, Add}
 use Rattle.sgt_names.specs.declared.draft.Seen.{Seen}
 use Rattle.sgt_names.specs.declared.draft.Touch.{Touch}
 
 -- what contracts see of a draft: the items that it touches, by rising site and name, and whether one more fits
-pub record Private : Type 0 where
+pub record DraftView : Type 0 where
   pub touched : List Touch
   pub has_room : Bool
 
@@ -77,14 +77,9 @@ added_to None v = Add v
 added_to (Some (Put u)) v = Put ((u + v) % 2 ^ 64)
 added_to (Some (Add u)) v = Add ((u + v) % 2 ^ 64)
 
--- the value after a change, if there is one
-abbrev pub changed_by : Option Change → Option ℕ → Option ℕ
-changed_by None first = first
-changed_by (Some c) first = changed first c
-
 -- what a transaction sees of its own: the value of the kept read, with the private change behind it
 abbrev pub look_of : Touch → Option ℕ
-look_of t = changed_by t.change (option_map (λ seen. seen.value) t.seen)
+look_of t = value_with_any (option_map (λ seen. seen.value) t.seen) t.change
 
 -- the site is touched: an item of it was read, or is to be changed
 abbrev pub Touches : List Touch → ℕ → Type 0

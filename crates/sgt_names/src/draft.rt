@@ -39,9 +39,9 @@ pub struct Draft {
 
 impl Model for Draft {
     ghost use Rattle.std.specs.Prelude.{All, nat_lt, vec_len, vec_capacity};
-    ghost use Rattle.sgt_names.specs.Draft.{Private, AreRising, IsUsed};
+    ghost use Rattle.sgt_names.specs.Draft.{DraftView, AreRising, IsUsed};
 
-    ghost Value = { Private };
+    ghost Value = { DraftView };
 
     ghost view = { λ d. record { touched = d.touched.items; has_room = nat_lt (vec_len d.touched) (vec_capacity d.touched) } };
 
@@ -293,7 +293,7 @@ fn look_at(touch: &Touch) -> Option<Value>
     let seen = touch.seen.map(|seen| seen.value);
     match touch.change {
         Some(Change::Put(value)) => Some(value),
-        Some(Change::Add(value)) => seen.map(|seen| seen.wrapping_add(value)),
+        Some(change) => seen.map(|seen| change.apply(seen)),
         None => seen,
     }
 }

@@ -2,7 +2,7 @@
 
 ghost use Rattle.std.specs.Prelude.{◌≡◌, ◌+◌, ◌-◌, ◌<◌, ◌≤◌, ◌^◌, ◌↔◌, [], ◌++◌, length, take, drop, min, Some, None, option_map, if◌then◌else◌, nat_lt, IsErr, IfOk, OnErr, vec_len, vec_capacity};
 ghost use Rattle.sgt_names.specs.Device.{AtMost, CountsFailures, PutsBehind, TakesFront, TakesSome};
-ghost use Rattle.sgt_names.specs.Memory.{MustFail, IsFull, Supplies};
+ghost use Rattle.sgt_names.specs.Memory.{MustFail, Supplies, IsFull, IsSpent, Takes};
 
 use crate::sink::Sink;
 use crate::source::{Failed, Source};
@@ -129,9 +129,8 @@ impl Sink for MemSink {
 
         // and, of this sink, exactly when it fails and what it takes
         ensures is_full { IsErr result ↔ IsFull self.old bytes.now }
-        ensures ok { self.old.failures < 2 ^ 64 - 1 → IfOk result (λ n. (n ≡ min (length bytes.now) self.old.room)
-            × (self.new ≡ record self.old { bytes = self.old.bytes ++ take n bytes.now; room = self.old.room - n })) }
-        ensures spent { self.old.failures ≡ 2 ^ 64 - 1 → self.old.room ≡ 0 → IfOk result (λ n. (n ≡ length bytes.now) × (self.new ≡ self.old)) }
+        ensures ok { (IsSpent self.old → ⊥) → IfOk result (Takes self.old self.new bytes.now) }
+        ensures spent { IsSpent self.old → IfOk result (λ n. (n ≡ length bytes.now) × (self.new ≡ self.old)) }
         ensures err { OnErr result (self.new ≡ record self.old { failures = self.old.failures + 1 }) }
     {
         let n = bytes.len().min(self.room);

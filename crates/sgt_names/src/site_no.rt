@@ -1,6 +1,7 @@
 //! The numbers of sites.
 
-ghost use Rattle.std.specs.Prelude.{◌≡◌, ◌<◌};
+ghost use Rattle.std.specs.Prelude.{◌≡◌, ◌<◌, Some};
+ghost use Rattle.std.specs.Fmt.{decimal};
 ghost use Rattle.std.specs.Result.{OkIff};
 ghost use Rattle.sgt_names.specs.Limits.{max_sites};
 
@@ -48,7 +49,10 @@ impl SiteNo {
     }
 }
 
+/// The number in decimal.
 impl Display for SiteNo {
+    ghost output = { λ s. Some (decimal s) };
+
     fn fmt<W: Write>(&self, f: &mut Formatter<W>) -> fmt::Result {
         Display::fmt(&self.number, f)
     }

@@ -1,44 +1,14 @@
--- What a loop over a list has found so far, and names that rise.
-use Rattle.std.proofs.Common.{◌≡◌, ℕ, ◌+◌, ◌<◌, ◌≤◌, List, [], ◌∷◌, length, take, drop, get_or, refl, sym, subst, arith, All, AllPairs, ap, ◌∙◌, zero, suc, add-one, drop-cons}
-use Rattle.std.specs.Prelude.{◌↔◌, OnOk, Result, Ok, Err}
-use Rattle.std.proofs.lemmas.List.{take_all, drop_all}
+-- Names that rise, as a loop over them finds it.
+use Rattle.std.proofs.Common.{◌≡◌, ℕ, ◌+◌, ◌<◌, ◌≤◌, List, [], ◌∷◌, length, drop, get_or, refl, sym, subst, arith, AllPairs, ap, ◌∙◌, zero, suc, add-one, drop-cons}
+use Rattle.std.specs.Prelude.{◌↔◌}
+use Rattle.std.proofs.lemmas.List.{drop_all}
 use Rattle.std.proofs.lemmas.List.Kept.{AllPairs-cons}
 use Rattle.std.proofs.lemmas.Cmp.{nat_list_cmp_total}
-use Rattle.std.proofs.lemmas.List.Elements.{All-cons, All-more}
 use Rattle.sgt_names.specs.Log.{names}
 use Rattle.sgt_names.specs.Name.{Name}
 use Rattle.sgt_names.specs.declared.entry.Holding.{Holding}
 use Rattle.sgt_names.proofs.Places.{AllPairs-tail}
-use Rattle.sgt_cert.specs.Parts.{ComesBefore, IsShapedLog}
-use Rattle.sgt_cert.specs.Text.{IsBundle, IsCertificate, IsLog}
-use Rattle.sgt_cert.specs.declared.certificate.Certificate.{Certificate}
-use Rattle.sgt_cert.specs.declared.bundle.SiteLog.{SiteLog}
-
-pub all-step : {X : Type 0} (P : X → Type 0) (xs : List X) (i : ℕ) (x : X) → i < length xs → All P (take i xs) → x ≡ get_or xs i x → P x → All P (take (i + 1) xs)
-all-step P xs i x within h is p = All-more P xs i x within h (subst P is p)
-
-pub all-end : {X : Type 0} (P : X → Type 0) (xs : List X) (i : ℕ) → length xs ≤ i → All P (take i xs) → All P xs
-all-end P xs i past h = subst (All P) (take_all i xs past) h
-
--- the same, of a list with one in front
-pub all-behind : {X : Type 0} (P : X → Type 0) (whole : List X) (x : X) (xs : List X) (i : ℕ) → whole ≡ x ∷ xs → P x → length xs ≤ i → All P (take i xs) → All P whole
-all-behind P whole x xs i is p past h = subst (All P) (sym is) (All-cons P x xs p (all-end P xs i past h))
-
-pub all-none : {X : Type 0} (P : X → Type 0) (xs : List X) → length xs ≡ 0 → All P xs
-all-none P xs none i d within = absurd (omega arith)
-
--- what holds anyway holds at an Ok
-pub on_ok-anyway : {T E P : Type 0} (r : Result T E) → P → OnOk r P
-on_ok-anyway (Ok x) p = p
-on_ok-anyway (Err e) p = tt
-
--- where a log lacks one of the two properties, not all logs have both
-pub not-both : (logs : List SiteLog) (i : ℕ) (log : SiteLog) → i < length logs → log ≡ get_or logs i log → (IsShapedLog log × IsLog log → ⊥) → All IsShapedLog logs × All IsLog logs → ⊥
-not-both logs i log within is fails h = fails (subst IsShapedLog (sym is) (h.0 i log within), subst IsLog (sym is) (h.1 i log within))
-
--- the parts of a bundle, and those that are none
-pub bundle-from : (c : Certificate) (logs : List SiteLog) → IsCertificate c → length logs ≡ c.sites → All IsShapedLog logs × All IsLog logs → IsBundle (record { certificate = c; sites = logs })
-bundle-from c logs h each both = record { certificate = h; shape = record { some = h.0; few = h.1; each = each; logs = both.0 }; logs = both.1 }
+use Rattle.sgt_cert.specs.Parts.{ComesBefore}
 
 -- two names in a row that rise, in front of others
 rise-step : (x y : Name) (more : List Name) → ComesBefore x y → AllPairs ComesBefore (x ∷ y ∷ more) ↔ AllPairs ComesBefore (y ∷ more)

@@ -14,15 +14,15 @@ use Rattle.sgt_names.specs.declared.entry.Kind.TheVariants.{Wr, Rw, Ww}
 use Rattle.sgt_names.proofs.Places.{All_at, AllPairs_at, AllPairs-from_recursion, Contains_at, Contains-from_at}
 use Rattle.sgt_notation.specs.Spelling.{text_of_lines}
 use Rattle.sgt_cert.specs.Parts.{Parts}
-use Rattle.sgt_cert.specs.Certificate.{decided, IsDecidedOnce, Suits, IsCommitted, AreRanks, IsCycle, by_rank, stops}
-use Rattle.sgt_cert.specs.Valid.{Agrees, IsDecided, EndInOrder, RiseInRank, IsLogged, AreLogged, IsValid}
+use Rattle.sgt_cert.specs.Certificate.{decided_tx, IsDecidedOnce, Suits, IsCommitted, AreRanks, IsCycle, by_rank, stops}
+use Rattle.sgt_cert.specs.Valid.{RefusedLieOnCycles, Agrees, IsDecided, EndInOrder, RiseInRank, IsLogged, AreLogged, IsValid}
 use Rattle.sgt_cert.specs.Serial.{SerialAgrees, RunsOn, Store, entries_of, initial_store, store_after}
 use Rattle.sgt_cert.specs.Text.{text_of, certificate_text}
 use Rattle.sgt_cert.specs.declared.bundle.SiteLog.{SiteLog}
 use Rattle.sgt_cert.specs.declared.certificate.Step.{Step}
 use Rattle.sgt_cert.specs.declared.certificate.Decision.{Decision}
 use Rattle.sgt_cert.specs.declared.certificate.Decision.TheVariants.{Commit, Refuse, Withdraw}
-use Rattle.sgt_cert.proofs.Rows.{x, y, cycle, swapped, first_log}
+use Rattle.sgt_cert.proofs.WorkedBundles.{x, y, cycle, swapped, first_log}
 use Rattle.sgt_cert.proofs.Tested.{valid-from_test}
 
 differ : (a b : ℕ) → a ≢ b → Some a ≡ Some b → ⊥
@@ -32,7 +32,7 @@ differ a b apart h = apart (same_Some a b h)
 
 -- committed and withdrawn
 pub twice-not_once : IsDecidedOnce (Commit 1 0 ∷ Withdraw 1 ∷ []) → ⊥
-twice-not_once once = AllPairs_at (λ d f. decided d ≢ decided f) (Commit 1 0 ∷ Withdraw 1 ∷ []) 0 1 (Commit 1 0) (Withdraw 1) once (lit< tt) refl refl refl
+twice-not_once once = AllPairs_at (λ d f. decided_tx d ≢ decided_tx f) (Commit 1 0 ∷ Withdraw 1 ∷ []) 0 1 (Commit 1 0) (Withdraw 1) once (lit< tt) refl refl refl
 
 -- one commit, of rank 1
 pub from_one-not_ranks : AreRanks (1 ∷ []) → ⊥
@@ -326,7 +326,7 @@ torn-only (suc (suc (suc (suc p)))) en at = absurd cc
 pub other_start-not_logged : AreLogged torn.sites 3 torn_walk → ⊥
 other_start-not_logged ((log, at, c), rest) = torn-only c.p c.e (subst (λ (l : SiteLog). slice_get l.entries c.p ≡ Some c.e) (sym (same_Some (site_of torn 1) log at)) c.first) c.from
 
-torn-cycles : (number tx : ℕ) (walk : List Step) → slice_get torn.certificate.decisions number ≡ Some (Refuse tx walk) → IsCycle torn.certificate.decisions number tx walk × AreLogged torn.sites tx walk
+torn-cycles : RefusedLieOnCycles torn
 torn-cycles zero tx walk at = absurd cc
 torn-cycles (suc zero) tx walk at =
     let tx-is : 2 ≡ tx = cc in
@@ -359,7 +359,7 @@ pub equal_names-text : text_of equal_names ≡ text_of_lines (codes "sgt 1" ∷ 
 unfolding digits serde_json_on_literals
 equal_names-text = refl
 
-equal_names-cycles : (number tx : ℕ) (walk : List Step) → slice_get equal_names.certificate.decisions number ≡ Some (Refuse tx walk) → IsCycle equal_names.certificate.decisions number tx walk × AreLogged equal_names.sites tx walk
+equal_names-cycles : RefusedLieOnCycles equal_names
 equal_names-cycles zero tx walk at = absurd cc
 equal_names-cycles (suc zero) tx walk at = absurd cc
 equal_names-cycles (suc (suc n)) tx walk at = absurd cc
@@ -371,7 +371,7 @@ equal_names-valid = valid-from_test equal_names refl equal_names-cycles
 abbrev pub readers : Parts
 readers = of_x (Commit 1 2 ∷ Commit 2 0 ∷ Commit 7 1 ∷ Withdraw 4 ∷ []) (e.Read 1 x 5 ∷ e.Read 4 x 5 ∷ e.Read 2 x 5 ∷ e.Commit 1 ∷ e.Commit 2 ∷ e.Withdraw 4 ∷ []) 5
 
-readers-cycles : (number tx : ℕ) (walk : List Step) → slice_get readers.certificate.decisions number ≡ Some (Refuse tx walk) → IsCycle readers.certificate.decisions number tx walk × AreLogged readers.sites tx walk
+readers-cycles : RefusedLieOnCycles readers
 readers-cycles zero tx walk at = absurd cc
 readers-cycles (suc zero) tx walk at = absurd cc
 readers-cycles (suc (suc zero)) tx walk at = absurd cc
