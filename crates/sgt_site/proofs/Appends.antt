@@ -8,7 +8,7 @@ use Rattle.std.proofs.lemmas.List.{take-append-le}
 use Rattle.std.proofs.lemmas.List.Elements.{filter_map-append, All-append}
 use Rattle.sgt_names.specs.Name.{Name}
 use Rattle.sgt_names.specs.Entry.{tx_of, item_of, change_of, IsEnd, Repeats}
-use Rattle.sgt_names.specs.Log.{names, changed, value_at, IsOrderly, ReadsAreLegal}
+use Rattle.sgt_names.specs.Log.{names, value_with, value_at, IsOrderly, ReadsAreLegal}
 use Rattle.sgt_names.specs.declared.entry.Entry.{Entry}
 use Rattle.sgt_names.specs.declared.entry.Entry.TheVariants.{Read}
 use Rattle.sgt_names.specs.declared.entry.Holding.{Holding}
@@ -110,7 +110,7 @@ module _ (items : List Holding) (es bs : List Entry) where
 
   -- the value of an item that the new entries don't change
   pub value-kept : (x : Name) → filter_map (change_of x) bs ≡ [] → value_at items (es ++ bs) x ≡ value_at items es x
-  value-kept x none = ap (fold changed _) (filter_map-append (change_of x) es bs ∙ ap (λ cs. filter_map (change_of x) es ++ cs) none ∙ append-nil (filter_map (change_of x) es))
+  value-kept x none = ap (fold value_with _) (filter_map-append (change_of x) es bs ∙ ap (λ cs. filter_map (change_of x) es ++ cs) none ∙ append-nil (filter_map (change_of x) es))
 
 -- a read in the log stays there
 pub LogsRead-append : (es bs : List Entry) (tx : ℕ) (x : Name) (v n : ℕ) → LogsRead es tx x v n → LogsRead (es ++ bs) tx x v n

@@ -22,7 +22,7 @@ use Rattle.sgt_names.proofs.Places.{Contains_at, All_at, All-from_at, AllPairs_a
 use Rattle.sgt_site.specs.State.{SiteState, IsSite, HasEnded, change_entry, want_entry}
 use Rattle.sgt_names.proofs.Lists.{front_at, back_at, map_at, Any_at, Any-from_at}
 use Rattle.sgt_site.proofs.Appends.{get_cases, MayFollow}
-use Rattle.sgt_site.proofs.Entries.{change-tx}
+use Rattle.sgt_site.proofs.Entries.{tx_of-change_entry}
 use Rattle.sgt_site.proofs.Projections.{no_write}
 
 -- how the entries of a block and its end behave
@@ -43,7 +43,7 @@ pub record MakeBlocks (W : ℕ → Name → Change → Entry) (E : ℕ → Entry
 
 pub commits-blocks : MakeBlocks change_entry Commit
 commits-blocks = record {
-  tx = change-tx;
+  tx = tx_of-change_entry;
   end_tx = λ t. refl;
   item = by_item;
   end_item = λ t. refl;

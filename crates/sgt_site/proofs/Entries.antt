@@ -29,23 +29,34 @@ change_is x (Write t y v) c h = let is = cond_some (bytes_eq y x) (change.Put v)
 change_is x (Add t y v) c h = let is = cond_some (bytes_eq y x) (change.Add v) c h in subst (λ d. Add t y v ≡ change_entry t x d) is.1 (ap (λ (z : Name). Add t z v) ((bytes_eq-Decides y x).0 is.0))
 change_is x _ c h = absurd cc
 
+-- and has its item
+pub change-item : (x : Name) (e : Entry) (c : Change) → change_of x e ≡ Some c → item_of e ≡ Some x
+change-item x (Write t y v) c h = ap Some ((bytes_eq-Decides y x).0 (cond_some (bytes_eq y x) (change.Put v) c h).0)
+change-item x (Add t y v) c h = ap Some ((bytes_eq-Decides y x).0 (cond_some (bytes_eq y x) (change.Add v) c h).0)
+change-item x _ c h = absurd cc
+
 pub read_is : (x : Name) (e : Entry) → Reads x e → (v : ℕ) × (e ≡ Read (tx_of e) x v)
 read_is x (Read t y v) r = (v, ap (λ (z : Name). Read t z v) r)
 read_is x _ r = absurd r
 
 module _ (t : ℕ) (x : Name) where
-  pub change-tx : (c : Change) → tx_of (change_entry t x c) ≡ t
-  change-tx (change.Put v) = refl
-  change-tx (change.Add v) = refl
+  pub tx_of-change_entry : (c : Change) → tx_of (change_entry t x c) ≡ t
+  tx_of-change_entry (change.Put v) = refl
+  tx_of-change_entry (change.Add v) = refl
 
-  pub change-writes : (c : Change) → Writes x (change_entry t x c)
-  change-writes (change.Put v) = refl
-  change-writes (change.Add v) = refl
+  pub Writes-change_entry : (c : Change) → Writes x (change_entry t x c)
+  Writes-change_entry (change.Put v) = refl
+  Writes-change_entry (change.Add v) = refl
 
-  pub change-adds : (c : Change) → is_increment (change_entry t x c) ≡ adds c
-  change-adds (change.Put v) = refl
-  change-adds (change.Add v) = refl
+  pub is_increment-change_entry : (c : Change) → is_increment (change_entry t x c) ≡ adds c
+  is_increment-change_entry (change.Put v) = refl
+  is_increment-change_entry (change.Add v) = refl
 
-  pub change-of : (y : Name) (c : Change) → x ≡ y → change_of y (change_entry t x c) ≡ Some c
-  change-of y (change.Put v) same = rw ((bytes_eq-Decides x y).1 same) refl
-  change-of y (change.Add v) same = rw ((bytes_eq-Decides x y).1 same) refl
+  pub change_of-change_entry : (y : Name) (c : Change) → x ≡ y → change_of y (change_entry t x c) ≡ Some c
+  change_of-change_entry y (change.Put v) same = rw ((bytes_eq-Decides x y).1 same) refl
+  change_of-change_entry y (change.Add v) same = rw ((bytes_eq-Decides x y).1 same) refl
+
+-- and it is the item that it writes
+pub writes_one : (t : ℕ) (x : Name) (c : Change) (y : Name) → Writes y (change_entry t x c) → x ≡ y
+writes_one t x (change.Put v) y writes = writes
+writes_one t x (change.Add v) y writes = writes

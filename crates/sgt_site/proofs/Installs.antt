@@ -13,8 +13,8 @@ use Rattle.std.proofs.lemmas.List.Quantifiers.{all_pairs_push}
 use Rattle.std.proofs.lemmas.List.Sums.{fold-append}
 use Rattle.sgt_names.specs.Name.{Name}
 use Rattle.sgt_names.specs.Entry.{tx_of, change_of}
-use Rattle.sgt_names.specs.Log.{changed, value_in, value_at}
-use Rattle.sgt_names.specs.Draft.{changed_by, writing_in}
+use Rattle.sgt_names.specs.Log.{value_with, value_with_any, value_in, value_at}
+use Rattle.sgt_names.specs.Draft.{writing_in}
 use Rattle.sgt_names.specs.declared.draft.Seen.{Seen}
 use Rattle.sgt_names.specs.declared.draft.Touch.{Touch}
 use Rattle.sgt_names.specs.declared.entry.Change.{Change}
@@ -98,11 +98,11 @@ module _ (s : SiteState) (p : Pledge) (handle : Handle) (site : IsSite s) (cover
   given = handle_new s.installed (by ∷ []) p.tx fresh ∙ handle_one by p.tx refl
 
   -- the value, the writers and the readers of a cell with the block behind the log
-  value_noted : (c : Contents) → IsCell s.items s.installed s.entries c → value_at s.items (s.entries ++ bs) c.item ≡ changed_by (change_in (touch_in p.part c.item)) (Some c.value)
+  value_noted : (c : Contents) → IsCell s.items s.installed s.entries c → value_at s.items (s.entries ++ bs) c.item ≡ value_with_any (Some c.value) (change_in (touch_in p.part c.item))
   value_noted c cell =
-      ap (fold changed (value_in s.items c.item)) (filter_map-append (change_of c.item) s.entries bs ∙ ap (λ (cs : List Change). filter_map (change_of c.item) s.entries ++ cs) chosen)
-          ∙ fold-append changed (value_in s.items c.item) (filter_map (change_of c.item) s.entries) (option_to_list (option_and_then (λ d. Some d) (change_in (touch_in p.part c.item))))
-          ∙ ap (λ o. fold changed o (option_to_list (option_and_then (λ d. Some d) (change_in (touch_in p.part c.item))))) cell.value
+      ap (fold value_with (value_in s.items c.item)) (filter_map-append (change_of c.item) s.entries bs ∙ ap (λ (cs : List Change). filter_map (change_of c.item) s.entries ++ cs) chosen)
+          ∙ fold-append value_with (value_in s.items c.item) (filter_map (change_of c.item) s.entries) (option_to_list (option_and_then (λ d. Some d) (change_in (touch_in p.part c.item))))
+          ∙ ap (λ o. fold value_with o (option_to_list (option_and_then (λ d. Some d) (change_in (touch_in p.part c.item))))) cell.value
           ∙ by_change (change_in (touch_in p.part c.item))
     where
       hits : (y : Name) (d : Change) → bytes_eq y c.item ≡ true → change_of c.item (change_entry p.tx y d) ≡ Some d
@@ -116,7 +116,7 @@ module _ (s : SiteState) (p : Pledge) (handle : Handle) (site : IsSite s) (cover
       chosen : filter_map (change_of c.item) bs ≡ option_to_list (option_and_then (λ d. Some d) (change_in (touch_in p.part c.item)))
       chosen = chosen_changes (change_of c.item) (λ d. Some d) c.item p.tx hits misses refl p.part rises
 
-      by_change : (o : Option Change) → fold changed (Some c.value) (option_to_list (option_and_then (λ d. Some d) o)) ≡ changed_by o (Some c.value)
+      by_change : (o : Option Change) → fold value_with (Some c.value) (option_to_list (option_and_then (λ d. Some d) o)) ≡ value_with_any (Some c.value) o
       by_change None = refl
       by_change (Some d) = refl
 

@@ -1,7 +1,6 @@
 //! What a site keeps of an item.
 
-ghost use Rattle.std.specs.Prelude.{◌≡◌, Some};
-ghost use Rattle.sgt_names.specs.Log.{changed as value_with};
+ghost use Rattle.std.specs.Prelude.{◌≡◌};
 ghost use Rattle.sgt_site.specs.private.Cells.{adds};
 
 use crate::readings::Readings;
@@ -169,22 +168,13 @@ impl Cell {
             });
         }
         if let Some(change) = touch.change {
-            self.value = changed(self.value, change);
+            self.value = change.apply(self.value);
             self.writers.push_reserved(Writer {
                 tx: by.tx,
                 handle: by.handle,
                 increment: is_increment(change),
             });
         }
-    }
-}
-
-fn changed(value: Value, change: Change) -> Value
-    ensures { Some result ≡ value_with (Some value) change }
-{
-    match change {
-        Change::Put(put) => put,
-        Change::Add(added) => value.wrapping_add(added),
     }
 }
 

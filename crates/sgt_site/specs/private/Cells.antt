@@ -6,7 +6,7 @@ use Rattle.std.specs.Ordering.{nat_cmp}
 use Rattle.std.specs.Cmp.Lexicographic.{slice_cmp}
 use Rattle.sgt_names.specs.Name.{Name}
 use Rattle.sgt_names.specs.Ordered.{IsRisingBy}
-use Rattle.sgt_names.specs.Draft.{changed_by}
+use Rattle.sgt_names.specs.Log.{value_with_any}
 use Rattle.sgt_names.specs.declared.draft.Seen.{Seen}
 use Rattle.sgt_names.specs.declared.draft.Touch.{Touch}
 use Rattle.sgt_names.specs.declared.entry.Change.{Change}
@@ -136,7 +136,7 @@ noted_readers i seen = option_to_list (option_map (λ s. record { tx = i.tx; han
 -- the new cell is the old one after the commit, which touches its item so
 pub record IsNoted (i : Install) (touch : Option Touch) (old new : Contents) : Type 0 where
   pub item : new.item ≡ old.item
-  pub value : Some new.value ≡ changed_by (change_in touch) (Some old.value)
+  pub value : Some new.value ≡ value_with_any (Some old.value) (change_in touch)
   pub writers : new.writers ≡ old.writers ++ noted_writers i (change_in touch)
   pub readers : new.readers ≡ old.readers ++ noted_readers i (seen_in touch)
   pub readings : new.readings ≡ old.readings
