@@ -1,0 +1,10 @@
+//! The certifier of all sites.
+#![tactic(auto)]
+
+mod call;
+mod certifier;
+mod laws;
+
+pub use call::{Call, CertifierFault, Decided};
+pub use certifier::Certifier;
+pub use laws::histories_are_sound;
