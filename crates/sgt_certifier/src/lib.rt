@@ -3,6 +3,7 @@
 
 mod call;
 mod certifier;
+mod install;
 mod laws;
 
 pub use call::{Call, CertifierFault, Decided};
