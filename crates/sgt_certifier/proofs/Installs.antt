@@ -136,7 +136,7 @@ added_noted s t i site items sites step after below new h =
       once = AllPairs-push (λ a b. a ≢ b) sites site h.once (λ k c same. new ((h.sites i step site).0 (subst (Contains sites) same c)));
     })
 
--- ---- there are no more noted sites than sites
+-- ---- there are no more noted sites than there are sites
 
 below_any : (n q : ℕ) (xs : List ℕ) → All (λ k. k < n) xs → list_any (eqb q) xs ≡ true → q < n
 below_any n q [] all hit = absurd (true≢false (sym hit))
@@ -150,7 +150,11 @@ below_any n q (x ∷ xs) all hit =
           below_any n q xs (λ k d lt. all (suc k) d (omega (arith, lt))) later
     ]
 
+-- numbers below n, no two of them the same, are at most n
+pub distinct_few : (n : ℕ) (xs : List ℕ) → AllPairs (λ a b. a ≢ b) xs → All (λ k. k < n) xs → length xs ≤ n
+distinct_few n xs once below =
+    length-le_from_distinct_below xs n (IsDistinct-from_apart eqb xs (λ i j d lt within. ne_eqb (get_or xs i d) (get_or xs j d) (once i j d lt within)))
+    (λ q hit. below_any n q xs below hit)
+
 pub noted_few : (s : State) (sites : List ℕ) → AreNoted s sites → length sites ≤ max_sites
-noted_few s sites h =
-    length-le_from_distinct_below sites max_sites (IsDistinct-from_apart eqb sites (λ i j d lt within. ne_eqb (get_or sites i d) (get_or sites j d) (h.once i j d lt within)))
-    (λ q hit. below_any max_sites q sites h.below hit)
+noted_few s sites h = distinct_few max_sites sites h.once h.below

@@ -5,6 +5,7 @@ mod call;
 mod certifier;
 mod install;
 mod laws;
+mod ranking;
 
 pub use call::{Call, CertifierFault, Decided};
 pub use certifier::Certifier;
