@@ -1,21 +1,27 @@
 -- The installs of a history, and the sites that are noted in the open step.
 use Rattle.std.proofs.Common.{◌≡◌, ◌≢◌, ◌<◌, ◌≤◌, ◌+◌, ◌⊎◌, ℕ, zero, suc, Bool, true, false, eqb, List, [], ◌∷◌, ◌++◌, length, get_or, refl, sym, ◌∙◌, ap, subst, arith, inl, inr, All, AllPairs, Any, Contains, Some, None}
-use Rattle.std.specs.Prelude.{slice_get, ◌↔◌, ◌||◌}
-use Rattle.std.specs.List.{list_any}
+use Rattle.std.specs.Prelude.{slice_get, filter, count_by, ◌↔◌, ◌==◌, ◌&&◌}
+use Rattle.std.specs.List.{list_any, filter_map}
+use Rattle.std.specs.Str.{bytes_eq}
+use Rattle.std.proofs.lemmas.Slice.Eq.{bytes_eq-Decides}
+use Rattle.std.proofs.lemmas.List.{length-append}
+use Rattle.std.proofs.lemmas.List.Sums.{length-filter}
 use Rattle.std.proofs.lemmas.Bool.{cases_Bool, ne_eqb, eqb-true, true≢false}
 use Rattle.std.proofs.lemmas.Option.{same_Some}
 use Rattle.std.proofs.lemmas.Map.Keys.{IsDistinct-from_apart}
 use Rattle.std.proofs.lemmas.Map.Steps.{length-le_from_distinct_below}
-use Rattle.std.proofs.lemmas.List.Elements.{Contains-append_cases, Contains-append_left, Contains-append_right}
+use Rattle.std.proofs.lemmas.List.Elements.{Contains-append_cases, Contains-append_left, Contains-append_right, filter_map-append, filter-append}
 use Rattle.sgt_names.proofs.Places.{Contains_at, Contains-from_at, All-from_at, All_at}
 use Rattle.sgt_names.specs.Limits.{max_sites}
 use Rattle.sgt_names.specs.Name.{Name}
 use Rattle.sgt_order.specs.Graph.{placed}
 use Rattle.sgt_certifier.specs.Certifier.{State, Arc, Install, committed, Commits, opening, serial, with_install, with_closed}
-use Rattle.sgt_certifier.specs.History.{IsNoted}
+use Rattle.sgt_certifier.specs.History.{IsNoted, install_in, installs_in, changes_item, counted}
+use Rattle.sgt_certifier.specs.declared.call.Call.{Call}
+use Rattle.sgt_certifier.specs.declared.call.Call.TheVariants as call
 use Rattle.sgt_certifier.specs.Kept.{AreNoted}
 use Rattle.sgt_certifier.specs.Sound.{IsRuled, IsInstalled, AreTwice}
-use Rattle.sgt_certifier.proofs.Members.{cons_cases, cons_here, nil_none, placed_old}
+use Rattle.sgt_certifier.proofs.Members.{cons_cases, cons_here, cons_later, nil_none, placed_old}
 use Rattle.sgt_certifier.proofs.Ruling.{AllPairs-push, push_cases}
 
 -- ---- each step keeps them
@@ -158,3 +164,48 @@ distinct_few n xs once below =
 
 pub noted_few : (s : State) (sites : List ℕ) → AreNoted s sites → length sites ≤ max_sites
 noted_few s sites h = distinct_few max_sites sites h.once h.below
+
+-- ---- counts
+
+counted_push : (history : List Call) (c : Call) (site : ℕ) (item : Name) → counted (history ++ c ∷ []) site item ≡ counted history site item + length (filter (changes_item site item) (filter_map install_in (c ∷ [])))
+counted_push history c site item =
+    let p = changes_item site item in
+    let longer = sym (length-filter p (installs_in (history ++ c ∷ []))) in
+    let shorter = length-filter p (installs_in history) in
+    let split = ap (λ xs. length (filter p xs)) (filter_map-append install_in history (c ∷ [])) ∙ (ap length (filter-append p (installs_in history) (filter_map install_in (c ∷ []))) ∙ length-append (filter p (installs_in history)) (filter p (filter_map install_in (c ∷ [])))) in
+    longer ∙ (split ∙ ap (λ n. n + length (filter p (filter_map install_in (c ∷ [])))) shorter)
+
+pub counted_hit : (history : List Call) (tx site at : ℕ) (items : List Name) (item : Name) → changes_item at item (record { tx = tx; site = site; items = items }) ≡ true → counted (history ++ call.Installed tx site items ∷ []) at item ≡ suc (counted history at item)
+counted_hit history tx site at items item hit =
+    let one : length (filter (changes_item at item) ((record { tx = tx; site = site; items = items }) ∷ [])) ≡ 1 = rw hit refl in
+    omega (arith, counted_push history (call.Installed tx site items) at item, one)
+
+pub counted_miss : (history : List Call) (tx site at : ℕ) (items : List Name) (item : Name) → changes_item at item (record { tx = tx; site = site; items = items }) ≡ false → counted (history ++ call.Installed tx site items ∷ []) at item ≡ counted history at item
+counted_miss history tx site at items item miss =
+    let none : length (filter (changes_item at item) ((record { tx = tx; site = site; items = items }) ∷ [])) ≡ 0 = rw miss refl in
+    omega (arith, counted_push history (call.Installed tx site items) at item, none)
+
+pub counted_other : (history : List Call) (c : Call) (site : ℕ) (item : Name) → install_in c ≡ None → counted (history ++ c ∷ []) site item ≡ counted history site item
+counted_other history c site item none =
+    let empty : filter_map install_in (c ∷ []) ≡ [] = rw none refl in
+    let zero_more : length (filter (changes_item site item) (filter_map install_in (c ∷ []))) ≡ 0 = ap (λ xs. length (filter (changes_item site item) xs)) empty in
+    omega (arith, counted_push history c site item, zero_more)
+
+pub any_member : (item : Name) (items : List Name) → Contains items item → list_any (bytes_eq item) items ≡ true
+any_member item [] c = absurd (nil_none item c)
+any_member item (x ∷ xs) c =
+    elim (cases_Bool (bytes_eq item x)) [
+      | inl hit ↦ rw hit refl
+      | inr miss ↦ elim (cons_cases x xs item c) [
+        | inl e ↦ absurd (true≢false (sym ((bytes_eq-Decides item x).1 (sym e)) ∙ miss))
+        | inr later ↦ rw miss (any_member item xs later)
+      ]
+    ]
+
+pub no_member : (item : Name) (items : List Name) → (Contains items item → ⊥) → list_any (bytes_eq item) items ≡ false
+no_member item [] none = refl
+no_member item (x ∷ xs) none =
+    elim (cases_Bool (bytes_eq item x)) [
+      | inl hit ↦ absurd (none (subst (Contains (x ∷ xs)) (sym ((bytes_eq-Decides item x).0 hit)) (cons_here x xs)))
+      | inr miss ↦ rw miss (no_member item xs (λ c. none (cons_later x xs item c)))
+    ]
