@@ -1,9 +1,8 @@
 //! The queue of jobs: their numbers in rising order, and then a stop for each worker. The front is taken.
 
-ghost use Rattle.std.specs.Prelude.{◌≡◌, ◌<◌, ◌-◌, ℕ, true, false, IfOk, IfErr, IfSome, Some, slice_get, ⊤};
+ghost use Rattle.std.specs.Prelude.{◌≡◌, ◌+◌, ◌-◌, ◌<◌, ◌⊎◌, true, false, length, IfOk, IfErr, IfNone, IfSome, OnOk, Some, slice_get, ⊤};
 ghost use Rattle.crossbeam_channel.specs.Claims.{view, IsSeatAt};
 ghost use Rattle.crossbeam_channel.specs.Ends.{sends_on, receives_on};
-ghost use Rattle.sgt_workers.specs.Answers.{IsJob};
 ghost use Rattle.sgt_workers.specs.Queue.{hold, Kept, Takes};
 ghost use Rattle.sgt_workers.specs.declared.fault.PoolFault.TheVariants.{Unrun};
 
@@ -118,7 +117,8 @@ pub fn fill<R: Wait>(
 ) -> Result<(), PoolFault>
     requires seat { IsSeatAt (sends_on sender.now) pass.old }
     requires view { view pass.old ≡ hold true 0 false 0 }
-    ensures { IfErr result (λ f. (n : ℕ) × IsJob jobs n × (f ≡ Unrun n)) }
+    ensures sent { OnOk result ((view pass.new).sent ≡ jobs) }
+    ensures fault { IfErr result (λ f. ((view pass.new).sent < jobs) × (f ≡ Unrun ((view pass.new).sent + 1))) }
 {
     for k in 0..jobs {
         let job = Task::Run(k + 1);
@@ -134,6 +134,8 @@ pub fn fill<R: Wait>(
 fn send_stops<R: Wait>(rt: &R, sender: &Sender, pass: &mut QueuePass, workers: usize)
     requires seat { IsSeatAt (sends_on sender.now) pass.old }
     requires sends { (view pass.old).sends ≡ true }
+    ensures seat { IsSeatAt (sends_on sender.now) pass.new }
+    ensures sent { ((view pass.new).sends ≡ true) × ((view pass.new).sent ≡ (view pass.old).sent) }
 {
     for _ in 0..workers {
         if sender
@@ -146,7 +148,7 @@ fn send_stops<R: Wait>(rt: &R, sender: &Sender, pass: &mut QueuePass, workers: u
 }
 
 /// Takes the front: the next job, or None at a stop. Also None where the queue is empty and its sender gone, or where no
-/// script has the number.
+/// script has the number, which isn't met.
 pub fn take_job<'a, C, R: Wait>(
     rt: &R,
     receiver: &Receiver,
@@ -157,6 +159,7 @@ pub fn take_job<'a, C, R: Wait>(
     ensures seat { IsSeatAt (receives_on receiver.now) pass.new }
     ensures rising { IfSome result (λ j. ((view pass.old).taken < j.number) × ((view pass.new).taken ≡ j.number)) }
     ensures script { IfSome result (λ j. slice_get scripts.now (j.number - 1) ≡ Some j.script.now) }
+    ensures none { IfNone result ((view pass.new ≡ view pass.old) ⊎ (length scripts.now < (view pass.new).taken)) }
 {
     let Task::Run(number) = take(rt, receiver, pass) else {
         return None;
