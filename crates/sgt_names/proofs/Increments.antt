@@ -10,15 +10,17 @@ use Rattle.std.proofs.lemmas.Option.{cond_some}
 use Rattle.std.proofs.lemmas.Slice.Eq.{bytes_eq-Decides}
 use Rattle.sgt_names.specs.Name.{Name}
 use Rattle.sgt_names.specs.Entry.{tx_of, change_of, Reads, Writes, IsIncrement, IsEnd, IsOpen, GoesOn, Continues, Clash}
-use Rattle.sgt_names.specs.Log.{changed, value_after}
-use Rattle.sgt_names.specs.Sums.{added, Overwrites}
+use Rattle.sgt_names.specs.Log.{value_with, value_with_any, value_after}
+use Rattle.sgt_names.specs.Draft.{added_to}
+use Rattle.sgt_names.specs.Sums.{sum_added, Overwrites}
 use Rattle.sgt_names.specs.declared.entry.Change.{Change}
 use Rattle.sgt_names.specs.declared.entry.Change.TheVariants as change
 use Rattle.sgt_names.specs.declared.entry.Entry.{Entry}
 use Rattle.sgt_names.specs.declared.entry.Entry.TheVariants.{Read, Write, Add, Want, WantAdd, Commit, Refuse, Withdraw}
 use Rattle.sgt_names.specs.declared.entry.Kind.{Kind}
 use Rattle.sgt_names.specs.declared.entry.Kind.TheVariants.{Wr, Rw, Ww}
-use Rattle.sgt_names.proofs.Chosen.{under, exactly, option_cases, chosen, chosen-yes, chosen-no, chosen-silent}
+use Rattle.sgt_names.proofs.Lists.{option_cases}
+use Rattle.sgt_names.proofs.Chosen.{under, exactly, chosen, chosen-yes, chosen-no, chosen-silent}
 
 -- ---- changes in order
 
@@ -28,19 +30,26 @@ IsAdd (change.Add v) = Unit {0}
 
 -- the value after these changes
 abbrev pub after_changes : Option ℕ → List Change → Option ℕ
-after_changes o cs = fold changed o cs
+after_changes o cs = fold value_with o cs
 
 -- two increments may change places
-adds-swap : (o : Option ℕ) (u v : ℕ) → changed (changed o (change.Add u)) (change.Add v) ≡ changed (changed o (change.Add v)) (change.Add u)
+adds-swap : (o : Option ℕ) (u v : ℕ) → value_with (value_with o (change.Add u)) (change.Add v) ≡ value_with (value_with o (change.Add v)) (change.Add u)
 adds-swap None u v = refl
 adds-swap (Some w) u v = ap Some (omega arith)
+
+-- a change and an increment behind it are one change
+pub added-as_one : (o : Option ℕ) (c : Option Change) (v : ℕ) → value_with_any o (Some (added_to c v)) ≡ value_with (value_with_any o c) (change.Add v)
+added-as_one o None v = refl
+added-as_one o (Some (change.Put u)) v = refl
+added-as_one None (Some (change.Add u)) v = refl
+added-as_one (Some w) (Some (change.Add u)) v = ap Some (omega arith)
 
 -- an increment may go behind other increments
 add-behind : (o : Option ℕ) (u : ℕ) (cs rest : List Change) → AllByRecursion IsAdd cs → after_changes o (change.Add u ∷ (cs ++ rest)) ≡ after_changes o (cs ++ change.Add u ∷ rest)
 add-behind o u [] rest h = refl
 add-behind o u (change.Put v ∷ cs) rest h = absurd h.0
 add-behind o u (change.Add v ∷ cs) rest h =
-    ap (λ p. after_changes p (cs ++ rest)) (adds-swap o u v) ∙ add-behind (changed o (change.Add v)) u cs rest h.1
+    ap (λ p. after_changes p (cs ++ rest)) (adds-swap o u v) ∙ add-behind (value_with o (change.Add v)) u cs rest h.1
 
 both : (c : Change) (cs : List Change) → AllByRecursion (λ d. IsAdd c × IsAdd d) cs → AllByRecursion IsAdd cs
 both c [] h = tt
@@ -102,11 +111,11 @@ module _ {A : Type 0} (key : A → Option ℕ) (val : A → Option Change) where
                       | inl two ↦ two
                       | inr other ↦ let rises : r < s = h 0 (suc n) x a r s c v (omega arith) refl at ranked.1 key_a some.1 val_a other in absurd (omega arith)
                     ]) in
-                    ap (after_changes o) (with_c (under (k + 1)) (ap (under (k + 1)) ranked.1 ∙ lt-ltb r (k + 1) (omega arith))) ∙ rest (changed o c)
+                    ap (after_changes o) (with_c (under (k + 1)) (ap (under (k + 1)) ranked.1 ∙ lt-ltb r (k + 1) (omega arith))) ∙ rest (value_with o c)
                     ∙ last-of-key c (chosen key val (under k) xs) (chosen key val (exactly k) xs) o adds
                     ∙ sym (ap (after_changes o) (joined (chosen-no key val (under k) x xs (ap (under k) ranked.1 ∙ le-ltb r k (omega arith))) (with_c (exactly k) (ap (exactly k) ranked.1 ∙ eq-eqb r k same))))
                 | inr (inl less) ↦
-                    ap (after_changes o) (with_c (under (k + 1)) (ap (under (k + 1)) ranked.1 ∙ lt-ltb r (k + 1) (omega arith))) ∙ rest (changed o c)
+                    ap (after_changes o) (with_c (under (k + 1)) (ap (under (k + 1)) ranked.1 ∙ lt-ltb r (k + 1) (omega arith))) ∙ rest (value_with o c)
                     ∙ sym (ap (after_changes o) (joined (with_c (under k) (ap (under k) ranked.1 ∙ lt-ltb r k less)) (chosen-no key val (exactly k) x xs (ap (exactly k) ranked.1 ∙ ne_eqb r k (λ e. absurd (omega arith))))))
                 | inr (inr more) ↦
                     ap (after_changes o) (chosen-no key val (under (k + 1)) x xs (ap (under (k + 1)) ranked.1 ∙ le-ltb r (k + 1) (omega arith))) ∙ rest o
@@ -162,7 +171,7 @@ increments-swap o front back a b x is_a is_b =
     let before = filter_map (change_of x) front in
     let after = filter_map (change_of x) back in
     let p = after_changes o before in
-    let whole = λ (d e : Entry). ap (after_changes o) (filter_map-append (change_of x) front (d ∷ e ∷ back)) ∙ fold-append changed o before (filter_map (change_of x) (d ∷ e ∷ back)) in
+    let whole = λ (d e : Entry). ap (after_changes o) (filter_map-append (change_of x) front (d ∷ e ∷ back)) ∙ fold-append value_with o before (filter_map (change_of x) (d ∷ e ∷ back)) in
     whole a b ∙ elim (option_cases (change_of x a)) [
       | inl none ↦ ap (λ t. after_changes p (cons_option t (cons_option (change_of x b) after))) none ∙ sym (ap (λ t. after_changes p (cons_option (change_of x b) (cons_option t after))) none)
       | inr first ↦ elim (option_cases (change_of x b)) [
@@ -174,7 +183,7 @@ increments-swap o front back a b x is_a is_b =
       ]
     ] ∙ sym (whole b a)
   where
-    swap : (c d : Change) (q : Option ℕ) → IsAdd c → IsAdd d → changed (changed q c) d ≡ changed (changed q d) c
+    swap : (c d : Change) (q : Option ℕ) → IsAdd c → IsAdd d → value_with (value_with q c) d ≡ value_with (value_with q d) c
     swap (change.Add u) (change.Add v) q h g = adds-swap q u v
     swap (change.Put u) d q h g = absurd h
     swap (change.Add u) (change.Put v) q h g = absurd g
@@ -182,7 +191,7 @@ increments-swap o front back a b x is_a is_b =
 -- ---- what the last write and the increments behind it leave
 
 -- entries that don't overwrite the item add to it
-sum-is : (x : Name) (u : ℕ) (es : List Entry) → u < 2 ^ 64 → AllByRecursion (λ e. Overwrites x e → ⊥) es → value_after (Some u) es x ≡ Some ((u + added x es) % 2 ^ 64)
+sum-is : (x : Name) (u : ℕ) (es : List Entry) → u < 2 ^ 64 → AllByRecursion (λ e. Overwrites x e → ⊥) es → value_after (Some u) es x ≡ Some ((u + sum_added x es) % 2 ^ 64)
 sum-is x u [] small h = ap Some (omega arith)
 sum-is x u (Add tx y v ∷ es) small h =
     elim (cases_Bool (bytes_eq y x)) [
@@ -201,13 +210,13 @@ sum-is x u (Commit tx ∷ es) small h = sum-is x u es small h.1
 sum-is x u (Refuse tx ∷ es) small h = sum-is x u es small h.1
 sum-is x u (Withdraw tx ∷ es) small h = sum-is x u es small h.1
 
-pub value-from_first : (u : ℕ) (es : List Entry) (x : Name) → u < 2 ^ 64 → AllByRecursion (λ e. Overwrites x e → ⊥) es → value_after (Some u) es x ≡ Some ((u + added x es) % 2 ^ 64)
+pub value-from_first : (u : ℕ) (es : List Entry) (x : Name) → u < 2 ^ 64 → AllByRecursion (λ e. Overwrites x e → ⊥) es → value_after (Some u) es x ≡ Some ((u + sum_added x es) % 2 ^ 64)
 value-from_first u es x = sum-is x u es
 
-pub value-from_write : (o : Option ℕ) (front back : List Entry) (tx v : ℕ) (x : Name) → v < 2 ^ 64 → AllByRecursion (λ e. Overwrites x e → ⊥) back → value_after o (front ++ Write tx x v ∷ back) x ≡ Some ((v + added x back) % 2 ^ 64)
+pub value-from_write : (o : Option ℕ) (front back : List Entry) (tx v : ℕ) (x : Name) → v < 2 ^ 64 → AllByRecursion (λ e. Overwrites x e → ⊥) back → value_after o (front ++ Write tx x v ∷ back) x ≡ Some ((v + sum_added x back) % 2 ^ 64)
 value-from_write o front back tx v x small h =
     ap (after_changes o) (filter_map-append (change_of x) front (Write tx x v ∷ back))
-    ∙ fold-append changed o (filter_map (change_of x) front) (filter_map (change_of x) (Write tx x v ∷ back))
+    ∙ fold-append value_with o (filter_map (change_of x) front) (filter_map (change_of x) (Write tx x v ∷ back))
     ∙ rw ((bytes_eq-Decides x x).1 refl) (sum-is x v back small h)
 
 -- ---- conflicts

@@ -1,4 +1,6 @@
 pub mod Places
+pub mod Lists
+pub mod Devices
 pub mod Chosen
 pub mod Increments
 pub mod Stored

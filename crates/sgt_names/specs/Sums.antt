@@ -7,10 +7,10 @@ use Rattle.sgt_names.specs.declared.entry.Entry.{Entry}
 use Rattle.sgt_names.specs.declared.entry.Entry.TheVariants.{Write, Add}
 
 -- the sum of what the entries add to the item
-abbrev pub added : Name → List Entry → ℕ
-added x [] = 0
-added x (Add tx y v ∷ es) = (if bytes_eq y x then v else 0) + added x es
-added x (_ ∷ es) = added x es
+abbrev pub sum_added : Name → List Entry → ℕ
+sum_added x [] = 0
+sum_added x (Add tx y v ∷ es) = (if bytes_eq y x then v else 0) + sum_added x es
+sum_added x (_ ∷ es) = sum_added x es
 
 -- the entry is a write of the item
 abbrev pub Overwrites : Name → Entry → Type 0

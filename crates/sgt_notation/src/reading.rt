@@ -1,7 +1,8 @@
 //! Lines, read exactly where they are spelled.
 
 ghost use Rattle.std.specs.Prelude.{◌≡◌, ◌≢◌, ◌++◌, ◌∷◌, ℕ, List, All, IfSome, IfNone, MatchOption};
-ghost use Rattle.sgt_notation.specs.Reading.{Finds, IsOperation, Reads, Refuses, operation_text};
+ghost use Rattle.sgt_notation.specs.Private.{IsOperation, operation_text};
+ghost use Rattle.sgt_notation.specs.Reading.{Finds, Reads, Refuses};
 ghost use Rattle.sgt_notation.specs.Spelling.{IsEntry, IsHolding, IsLine, assignment, entry_text, line_text};
 
 use crate::SectionLine;

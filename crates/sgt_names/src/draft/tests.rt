@@ -1,6 +1,6 @@
 //! What no clause says: that the calls succeed, on values from outside.
 
-use crate::{Draft, Item, SiteNo};
+use crate::{Change, Draft, Item, SiteNo};
 use std::test::Fail;
 
 #[test]
@@ -22,7 +22,7 @@ fn reads_and_writes_of_a_draft(rt: HostRuntime) -> Result<(), Fail> {
     assert_eq!(rt; draft.kept(here, 0), Some((x, 5, 0)));
     assert_eq!(rt; draft.kept(here, 1), Some((y, 2, 4)));
     assert_eq!(rt; draft.kept(there, 0), None);
-    assert_eq!(rt; draft.writing(here, 0), Some((x, 6)));
+    assert_eq!(rt; draft.writing(here, 0), Some((x, Change::Put(6))));
     assert_eq!(rt; draft.writing(here, 1), None);
     assert_eq!(rt; draft.touched().len(), 3);
     Ok(())

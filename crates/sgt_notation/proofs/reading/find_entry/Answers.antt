@@ -1,5 +1,5 @@
 use Rattle.std.proofs.Common.{rules}
-use Rattle.sgt_notation.proofs.Cuts.{read_not, write_not, add_not, want_not, want_add_not}
+use Rattle.sgt_notation.proofs.Unspelled.{read_not, write_not, add_not, want_not, want_add_not}
 use Rattle.sgt_notation.proofs.reading.find_entry.Goals as goal
 
 pub returns-in-114 : goal.returns-in-114

@@ -5,9 +5,11 @@ use Rattle.std.proofs.lemmas.List.Elements.{recursion_from_All}
 use Rattle.sgt_names.specs.Name.{Name}
 use Rattle.sgt_names.specs.declared.entry.Entry.TheVariants.{Read, Write, Add, Want, WantAdd}
 use Rattle.sgt_names.specs.declared.entry.Holding.{Holding}
-use Rattle.sgt_notation.specs.Reading.{IsOperation, SpellsNone, operation_text}
+use Rattle.sgt_names.proofs.Lists.{tails}
+use Rattle.sgt_notation.specs.Private.{IsOperation, operation_text}
+use Rattle.sgt_notation.specs.Reading.{SpellsNone}
 use Rattle.sgt_notation.specs.Spelling.{assignment, entry_text, IsEntry, IsHolding}
-use Rattle.sgt_notation.proofs.OneSpelling.{HasNot, apart, cut_at_byte, decimal-without, name-without, operation-is, small-tx, tails}
+use Rattle.sgt_notation.proofs.OneSpelling.{HasNot, apart, cut_at_byte, decimal-without, name-without, operation-is, small-tx}
 
 never_by : (at : ℕ) (a b : List ℕ) → HasNot at (a ++ at ∷ b) → ⊥
 never_by at [] b h = h.0 refl
