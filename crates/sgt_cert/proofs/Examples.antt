@@ -13,7 +13,7 @@ use Rattle.sgt_names.specs.declared.entry.Entry.TheVariants as e
 use Rattle.sgt_names.specs.declared.entry.Kind.TheVariants.{Wr, Rw, Ww}
 use Rattle.sgt_names.proofs.Places.{All_at, AllPairs_at, AllPairs-from_recursion, Contains_at, Contains-from_at}
 use Rattle.sgt_notation.specs.Spelling.{text_of_lines}
-use Rattle.sgt_cert.specs.Parts.{Parts}
+use Rattle.sgt_cert.specs.Parts.{FitTogether, Parts}
 use Rattle.sgt_cert.specs.Certificate.{decided_tx, IsDecidedOnce, Suits, IsCommitted, AreRanks, IsCycle, by_rank, stops}
 use Rattle.sgt_cert.specs.Valid.{RefusedLieOnCycles, Agrees, IsDecided, EndInOrder, RiseInRank, IsLogged, AreLogged, IsValid}
 use Rattle.sgt_cert.specs.Serial.{SerialAgrees, RunsOn, Store, entries_of, initial_store, store_after}
@@ -386,3 +386,22 @@ pub ww-text : certificate_text (record { sites = 1; decisions = Refuse 2 (record
     ≡ codes "{\"decisions\":[{\"refuse\":2,\"walk\":[{\"item\":\"x\",\"kind\":\"ww\",\"site\":0,\"to\":2}]}],\"sites\":1}"
 unfolding digits serde_json_on_literals
 ww-text = refl
+
+-- ---- parts that do not fit together
+
+-- a step at a site that there isn't
+pub step_beyond-not_fit : (sites : List SiteLog) → FitTogether (record { certificate = record { sites = 1; decisions = Refuse 2 (record { label = record { site = 1; item = x; kind = Ww }; to = 2 } ∷ []) ∷ [] }; sites = sites }) → ⊥
+step_beyond-not_fit sites h =
+    let step : Step = record { label = record { site = 1; item = x; kind = Ww }; to = 2 } in
+    let within : 1 < 1 = h.steps 0 (Refuse 2 (step ∷ [])) (lit< tt) 0 step (lit< tt) in
+    absurd (omega arith)
+
+-- no site, more than there may be, or fewer logs than the certificate says
+pub no_site-not_fit : FitTogether (record { certificate = record { sites = 0; decisions = [] }; sites = [] }) → ⊥
+no_site-not_fit h = omega (arith, h.shape.some)
+
+pub sixty_five-not_fit : (sites : List SiteLog) → FitTogether (record { certificate = record { sites = 65; decisions = [] }; sites = sites }) → ⊥
+sixty_five-not_fit sites h = omega (arith, h.shape.few)
+
+pub log_missing-not_fit : FitTogether (record { certificate = record { sites = 1; decisions = [] }; sites = [] }) → ⊥
+log_missing-not_fit h = omega (arith, h.shape.each)

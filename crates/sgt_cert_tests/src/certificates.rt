@@ -158,15 +158,3 @@ fn faults_as_text(rt: HostRuntime) -> Result<(), Fail> {
     }
     Ok(())
 }
-
-#[test]
-fn deep_lines(rt: HostRuntime) -> Result<(), Fail> {
-    let alloc = rt.alloc();
-    for (depth, wanted) in [(127usize, "K2"), (128, "K1"), (1000000, "K1")] {
-        let mut line = Vec::new(alloc);
-        line.resize(depth, b'[')?;
-        line.resize(2 * depth, b']')?;
-        assert!(rt; number_of(&from_line(alloc, line.as_slice())) == wanted);
-    }
-    Ok(())
-}

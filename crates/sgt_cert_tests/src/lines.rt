@@ -121,15 +121,3 @@ fn numbers_and_entries_are_written_behind_what_is_there(rt: HostRuntime) -> Resu
     assert!(rt; out.as_slice() == b"018446744073709551615c7".as_slice());
     Ok(())
 }
-
-#[test]
-fn refusals_as_text(rt: HostRuntime) -> Result<(), Fail> {
-    for (fault, text) in [
-        (NotationFault::NotALine, "L1: not a line"),
-        (NotationFault::TooLong, "L2: the line is too long"),
-        (NotationFault::Memory, "L3: memory"),
-    ] {
-        assert_eq!(rt; format!(in rt.alloc(); "{fault}")?.as_str(), text);
-    }
-    Ok(())
-}

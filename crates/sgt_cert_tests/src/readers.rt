@@ -25,6 +25,7 @@ fn lines_come_in_any_pieces(rt: HostRuntime) -> Result<(), Fail> {
             assert!(rt; line.as_slice() == text.as_bytes(), "{text} by {per_read}");
         }
     }
+    assert!(rt; find_lf(TEXT) == Some(6));
     what_comes_next_is_one();
     Ok(())
 }
@@ -55,23 +56,5 @@ fn a_line_is_too_long_by_one_byte(rt: HostRuntime) -> Result<(), Fail> {
         let next = first(&mut lines, &mut line, text, fail_at);
         assert!(rt; next == wanted, "{text}");
     }
-    Ok(())
-}
-
-#[test]
-fn a_read_fault_keeps_what_was_read(rt: HostRuntime) -> Result<(), Fail> {
-    let alloc = rt.alloc();
-    let mut source = MemSource::new(TEXT, 3, Some(3));
-    let mut lines = Lines::new(alloc)?;
-    let mut line = Vec::new(alloc);
-    assert!(rt; lines.next(&mut source, &mut line, 7) == Err(LinesFault::ReadFault));
-    assert!(rt; line.as_slice() == b"site 0".as_slice());
-    Ok(())
-}
-
-#[test]
-fn the_first_lf(rt: HostRuntime) -> Result<(), Fail> {
-    assert!(rt; find_lf(TEXT) == Some(6));
-    assert!(rt; find_lf(b"last") == None);
     Ok(())
 }

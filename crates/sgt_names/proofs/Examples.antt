@@ -11,6 +11,7 @@ use Rattle.std.proofs.Common.{inl, inr}
 use Rattle.std.specs.Option.{ForSome}
 use Rattle.std.proofs.lemmas.List.Elements.{All-from_recursion}
 use Rattle.sgt_names.specs.Entry.{item_of, IsEnd, IsOpen, Continues, Repeats}
+use Rattle.sgt_names.specs.Sums.{Overwrites}
 use Rattle.sgt_names.specs.declared.entry.Entry.{Entry}
 use Rattle.sgt_names.specs.declared.entry.Entry.TheVariants.{Read, Write, Add, Want, WantAdd, Commit, Refuse, Withdraw}
 use Rattle.sgt_names.specs.declared.entry.Holding.{Holding}
@@ -306,6 +307,10 @@ add-keeps_others = refl
 
 pub asked_add-keeps : value_at items (WantAdd 1 x 4 ∷ []) x ≡ Some 5
 asked_add-keeps = refl
+
+-- an increment overwrites nothing, nor does what was only asked for
+pub add-overwrites_nothing : (Overwrites x (Add 1 x 3) → ⊥) × (Overwrites x (WantAdd 1 x 3) → ⊥) × (Overwrites x (Want 1 x 3) → ⊥)
+add-overwrites_nothing = ((λ h. h), (λ h. h), (λ h. h))
 
 -- the sum is taken modulo 2^64
 pub add-wraps : value_at (record { item = x; value = 18446744073709551615 } ∷ []) (Add 1 x 1 ∷ []) x ≡ Some 0

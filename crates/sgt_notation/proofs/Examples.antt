@@ -1,12 +1,12 @@
 -- The definitions of spellings and of lines, shown on examples.
-use Rattle.std.proofs.Common.{◌≡◌, ◌≢◌, ℕ, List, [], ◌∷◌, Some, None, refl, ap, arith, length, lit<}
+use Rattle.std.proofs.Common.{◌≡◌, ◌≢◌, ℕ, List, [], ◌∷◌, ◌++◌, subst, Some, None, refl, ap, arith, length, lit<}
 use Rattle.std.specs.Prelude.{codes}
 use Rattle.std.specs.Fmt.{digits}
 use Rattle.sgt_notation.specs.Spelling.{entry_text, line_text, text_of_lines, IsTx, IsValue, IsSite}
 use Rattle.sgt_names.specs.Name.{IsName}
 use Rattle.sgt_names.specs.declared.entry.Entry.TheVariants.{Read, Write, Add, Want, WantAdd, Commit, Refuse, Withdraw}
 use Rattle.std.proofs.lemmas.List.Elements.{All-from_recursion, recursion_from_All}
-use Rattle.sgt_notation.specs.Lines.{Gives, IsLongerThan, Leaves, SpendsNext}
+use Rattle.sgt_notation.specs.Lines.{Failed, Gives, IsLongerThan, IsSpent, Leaves, SpendsNext, Stream, WantedMemory, stream}
 use Rattle.sgt_notation.specs.Reading.{Refuses}
 use Rattle.sgt_notation.specs.declared.fault.NotationFault.TheVariants.{Memory}
 use Rattle.sgt_notation.specs.declared.lines.Next.TheVariants as next
@@ -132,3 +132,23 @@ all-not_longer h = omega (arith, h.0)
 
 pub one_more-longer : IsLongerThan 2 (97 ∷ 98 ∷ 99 ∷ [])
 one_more-longer = (lit< tt, All-from_recursion (λ b. b ≢ 10) (97 ∷ 98 ∷ 99 ∷ []) ((λ h. absurd (omega arith)), ((λ h. absurd (omega arith)), ((λ h. absurd (omega arith)), tt))))
+
+-- a failure that isn't there, or whose read isn't counted
+pub unfailed-not_failed : Failed (stream (record { held = []; reads = 5 }) None 7) (stream (record { held = []; reads = 4 }) None 7) → ⊥
+unfailed-not_failed h = omega (arith, h.0)
+
+pub uncounted-not_failed : Failed (stream (record { held = []; reads = 5 }) None 7) (stream (record { held = []; reads = 5 }) None 8) → ⊥
+uncounted-not_failed h = omega (arith, h.1)
+
+-- a read is left, or the source failed
+pub one_left-not_spent : IsSpent (stream (record { held = []; reads = 1 }) None 7) (stream (record { held = []; reads = 1 }) None 7) → ⊥
+one_left-not_spent h = omega (arith, h.0)
+
+pub failed-not_spent : IsSpent (stream (record { held = []; reads = 0 }) None 7) (stream (record { held = []; reads = 0 }) None 8) → ⊥
+failed-not_spent h = omega (arith, h.1)
+
+-- a line of two bytes fits a buffer with room for two
+pub fitting-not_wanted : (old new : Stream) → new.ahead.held ≡ 10 ∷ [] → WantedMemory 9 2 old (97 ∷ 98 ∷ []) new → ⊥
+fitting-not_wanted old new held w =
+    let long = subst (λ (h : List ℕ). IsLongerThan 2 ((97 ∷ 98 ∷ []) ++ h)) held w.read in
+    (recursion_from_All (λ b. b ≢ 10) (97 ∷ 98 ∷ 10 ∷ []) long.1).1.1.0 refl
