@@ -18,4 +18,5 @@ pub record Means (second : Bool) (c : Certificate) (b : Begun) (before : List Se
 
 -- how far the text was read by then
 abbrev pub IsStageOf : Bool → Certificate → List SectionLine → Stage → Type 0
-IsStageOf second c before s = ((s ≡ within second c before) × (AreSections c.sites before → ⊥)) ⊎ ((s ≡ complete second c before) × AreSections c.sites before)
+IsStageOf second c before s = ((s ≡ within second c before) × (AreSections c.sites before → ⊥))
+    ⊎ ((s ≡ complete second c before) × AreSections c.sites before)

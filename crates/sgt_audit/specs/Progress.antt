@@ -14,4 +14,5 @@ use Rattle.sgt_audit.specs.Kept.{Means, IsStageOf}
 abbrev pub Stands : Progress → Stage → Type 0
 Stands at.Start s = s ≡ start
 Stands (at.Headed second) s = s ≡ headed second
-Stands (at.Reading k) s = (before : List SectionLine) × Means k.second k.certificate k.sections before × IsStageOf k.second k.certificate before s
+Stands (at.Reading k) s = (before : List SectionLine) × Means k.second k.certificate k.sections before
+    × IsStageOf k.second k.certificate before s

@@ -19,12 +19,14 @@ yes_of ds = Yes (count_by is_commit ds) (count_by is_refusal ds) (count_by is_wi
 
 -- the verdict on a text: yes where it spells a valid bundle, with the counts of its decisions, else its first fault
 abbrev pub IsVerdict : List ℕ → Verdict → Type 0
-IsVerdict bytes (Yes committed refused withdrawn) = (b : Parts) × Spells bytes b × IsValid b × (Yes committed refused withdrawn ≡ yes_of b.certificate.decisions)
+IsVerdict bytes (Yes committed refused withdrawn) = (b : Parts) × Spells bytes b × IsValid b
+    × (Yes committed refused withdrawn ≡ yes_of b.certificate.decisions)
 IsVerdict bytes (No line f) = FirstFault bytes line f
 
 -- its line, with the LF
 abbrev pub text_of : Verdict → List ℕ
-text_of (Yes committed refused withdrawn) = codes "yes " ++ (decimal committed ++ (codes " committed " ++ (decimal refused ++ (codes " refused " ++ (decimal withdrawn ++ codes " withdrawn\n")))))
+text_of (Yes committed refused withdrawn) =
+    codes "yes " ++ (decimal committed ++ (codes " committed " ++ (decimal refused ++ (codes " refused " ++ (decimal withdrawn ++ codes " withdrawn\n")))))
 text_of (No line f) = codes "no line " ++ (decimal line ++ (codes " F" ++ (decimal (fault_number f) ++ codes "\n")))
 
 -- nothing was written, or a front of the line of the verdict on the bytes told, and less than the whole line

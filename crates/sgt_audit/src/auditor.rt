@@ -80,7 +80,8 @@ impl Auditor {
     /// Err: `end` answers it. An Err is Memory, and every later call answers Memory then.
     pub fn feed(&mut self, line: &[u8]) -> Result<(), EngineFail>
         requires { HasNoLf line.now }
-        ensures read { (second : Bool) (c : Certificate) (fed : List (List ℕ)) → HasFed self.old second c fed → HasFed self.new second c (fed ++ line.now ∷ []) }
+        ensures read { (second : Bool) (c : Certificate) (fed : List (List ℕ)) → HasFed self.old second c fed
+            → HasFed self.new second c (fed ++ line.now ∷ []) }
         ensures going { OnOk result (HasFailed self.new → ⊥) }
         ensures err { IfErr result (λ e. (e ≡ EngineFail.Memory) × HasFailed self.new) }
         ensures spent { HasFailed self.old → result ≡ Err EngineFail.Memory }

@@ -125,7 +125,8 @@ pub(crate) fn is_in_rank(decisions: &[Decision], entries: &[Entry], entry: &Entr
 
 /// Whether the entry's transaction is decided as the entry says, and has no end before it.
 pub(crate) fn is_active(decisions: &[Decision], entries: &[Entry], entry: &Entry) -> bool
-    ensures { IsTrue result ↔ (((number : ℕ) × IsDecided decisions.now entry.now number) × All (λ f. IsEnd f → tx_of f ≢ tx_of entry.now) entries.now) }
+    ensures { IsTrue result ↔ (((number : ℕ) × IsDecided decisions.now entry.now number)
+        × All (λ f. IsEnd f → tx_of f ≢ tx_of entry.now) entries.now) }
 {
     match decision_on(decisions, entry) {
         Some(_) => !has_ended(entries, entry.tx()),

@@ -125,7 +125,8 @@ fn has_cycle(decisions: &[Decision], number: usize, decision: &Decision) -> bool
 
 /// Whether the walk of each refused transaction has the shape of a cycle.
 pub(crate) fn are_cycles(decisions: &[Decision]) -> bool
-    ensures { IsTrue result ↔ ((number tx : ℕ) (walk : List Step) → slice_get decisions.now number ≡ Some (Refuse tx walk) → IsCycle decisions.now number tx walk) }
+    ensures { IsTrue result ↔ ((number tx : ℕ) (walk : List Step) → slice_get decisions.now number ≡ Some (Refuse tx walk)
+        → IsCycle decisions.now number tx walk) }
 {
     for (number, decision) in decisions.iter().enumerate() {
         if !has_cycle(decisions, number, decision) {

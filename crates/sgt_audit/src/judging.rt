@@ -47,8 +47,8 @@ fn continues_log(log: &OpenLog, line: &SectionLine) -> bool
 
 /// The least fault of an entry.
 fn judge_entry(decisions: &[Decision], log: &OpenLog, entry: &Entry) -> Option<Fault>
-    ensures { (c : Certificate) (before : List SectionLine) → c.decisions ≡ decisions.now → IsDecidedOnce decisions.now → HasOpen before log.now
-        → Begins c.sites (before ++ Logged entry.now ∷ []) → JudgedLine (Keeps c before (Logged entry.now)) result }
+    ensures { (c : Certificate) (before : List SectionLine) → c.decisions ≡ decisions.now → IsDecidedOnce decisions.now
+        → HasOpen before log.now → Begins c.sites (before ++ Logged entry.now ∷ []) → JudgedLine (Keeps c before (Logged entry.now)) result }
 {
     let items = log.items();
     let entries = log.entries();
@@ -111,8 +111,8 @@ fn judge_end(log: &OpenLog) -> Option<Fault>
 
 /// The least fault of a line in the open section, but for the walks.
 fn judge_inside(decisions: &[Decision], log: &OpenLog, line: &SectionLine) -> Option<Fault>
-    ensures { (c : Certificate) (before : List SectionLine) → c.decisions ≡ decisions.now → IsDecidedOnce decisions.now → HasOpen before log.now → Fits log.now line.now
-        → Begins c.sites (before ++ line.now ∷ []) → JudgedLine (Keeps c before line.now) result }
+    ensures { (c : Certificate) (before : List SectionLine) → c.decisions ≡ decisions.now → IsDecidedOnce decisions.now
+        → HasOpen before log.now → Fits log.now line.now → Begins c.sites (before ++ line.now ∷ []) → JudgedLine (Keeps c before line.now) result }
 {
     match line {
         SectionLine::Logged(entry) => judge_entry(decisions, log, entry),

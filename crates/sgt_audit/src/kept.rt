@@ -31,7 +31,8 @@ impl Kept {
 
     /// Whether all sections were read.
     pub(crate) fn is_complete(&self) -> bool
-        ensures { (before : List SectionLine) → Means self.now.second self.now.certificate self.now.sections before → (IsTrue result ↔ AreSections self.now.certificate.sites before) }
+        ensures { (before : List SectionLine) → Means self.now.second self.now.certificate self.now.sections before
+            → (IsTrue result ↔ AreSections self.now.certificate.sites before) }
     {
         self.sections.are_all()
     }
@@ -62,7 +63,8 @@ impl Kept {
 
     /// At the end of the input, with these bytes behind the last LF: what was read, if all is there, or the fault.
     pub(crate) fn end(self, rest: &[u8]) -> Result<Kept, Fault>
-        ensures { (before : List SectionLine) (s : Stage) → Means self.second self.certificate self.sections before → IsStageOf self.second self.certificate before s → length rest.now ≤ limit_of s → EndsWith s rest.now result }
+        ensures { (before : List SectionLine) (s : Stage) → Means self.second self.certificate self.sections before
+            → IsStageOf self.second self.certificate before s → length rest.now ≤ limit_of s → EndsWith s rest.now result }
     {
         if !self.is_complete() {
             return Err(Fault::Truncated);

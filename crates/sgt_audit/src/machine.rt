@@ -110,7 +110,8 @@ impl Machine {
 
     /// The fault of a line that is too long.
     pub(crate) fn too_long(&self) -> Fault
-        ensures { (s : Stage) (p : Piece) → Stands self.now.progress s → ((second : Bool) → s ≢ headed second) → limit_of s < length (bytes_of p) → Breaks (Rule s p) result }
+        ensures { (s : Stage) (p : Piece) → Stands self.now.progress s → ((second : Bool) → s ≢ headed second)
+            → limit_of s < length (bytes_of p) → Breaks (Rule s p) result }
     {
         match &self.progress {
             Progress::Start => Fault::Format,

@@ -10,7 +10,8 @@ use Rattle.sgt_audit.specs.Kept.{Means}
 
 -- at the end of the input, with these bytes behind the last LF: all was read, or the least fault
 abbrev pub EndsWith : Stage → List ℕ → Result Kept Fault → Type 0
-EndsWith s l (Ok k) = ((before : List SectionLine) × Means k.second k.certificate k.sections before × AreSections k.certificate.sites before × (s ≡ complete k.second k.certificate before)) × (l ≡ [])
+EndsWith s l (Ok k) = ((before : List SectionLine) × Means k.second k.certificate k.sections before
+    × AreSections k.certificate.sites before × (s ≡ complete k.second k.certificate before)) × (l ≡ [])
 EndsWith s l (Err f) = Breaks (Rule s (last l)) f
 
 -- how long the next line may be

@@ -11,7 +11,8 @@ use Rattle.sgt_audit.specs.Reading.{Begun}
 -- what may stand behind the lines of an open section
 abbrev pub Fits : SiteLog → SectionLine → Type 0
 Fits log (Site k) = ⊥
-Fits log (Initial h) = (log.entries ≡ []) × (log.finals ≡ []) × (length log.items < max_items) × All (λ x. ComesBefore x h.item) (names log.items)
+Fits log (Initial h) = (log.entries ≡ []) × (log.finals ≡ []) × (length log.items < max_items)
+    × All (λ x. ComesBefore x h.item) (names log.items)
 Fits log (Logged e) = log.finals ≡ []
 Fits log (Final h) = slice_get (names log.items) (length log.finals) ≡ Some h.item
 Fits log End = length log.finals ≡ length log.items

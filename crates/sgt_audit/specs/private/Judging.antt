@@ -30,8 +30,10 @@ ContinuesLog log line = (f : Entry) → log.finals ≡ [] → slice_get log.entr
 pub record HasOpen (before : List SectionLine) (log : SiteLog) : Type 0 where
   pub items : items_in before ≡ log.items
   pub entries : entries_in before ≡ log.entries
-  pub last : (f : Entry) → last_or None before ≡ Some (Line.Logged f) → (log.finals ≡ []) × (slice_get log.entries (length log.entries - 1) ≡ Some f)
-  pub entry_last : (f : Entry) → log.finals ≡ [] → slice_get log.entries (length log.entries - 1) ≡ Some f → last_or None before ≡ Some (Line.Logged f)
+  pub last : (f : Entry) → last_or None before ≡ Some (Line.Logged f)
+      → (log.finals ≡ []) × (slice_get log.entries (length log.entries - 1) ≡ Some f)
+  pub entry_last : (f : Entry) → log.finals ≡ [] → slice_get log.entries (length log.entries - 1) ≡ Some f
+      → last_or None before ≡ Some (Line.Logged f)
 
 -- every rule of smaller number is kept
 abbrev pub KeptBelow : (Fault → Type 0) → ℕ → Type 0

@@ -21,16 +21,19 @@ IsStop told (stop.Ended n) p l = (s : Stage) × Stands p s × (length l ≤ limi
 
 -- what is kept is all of the lines of a text with no fault
 abbrev pub IsAll : Judged → Type 0
-IsAll (judged.Whole k) = (before : List SectionLine) × Means k.second k.certificate k.sections before × AreSections k.certificate.sites before
+IsAll (judged.Whole k) = (before : List SectionLine) × Means k.second k.certificate k.sections before
+    × AreSections k.certificate.sites before
 IsAll (judged.Faulty line f) = Unit {0}
 
 -- the text has no fault, and is this; or it has this first fault
 abbrev pub IsJudged : Judged → List ℕ → Type 0
-IsJudged (judged.Whole k) bytes = (before : List SectionLine) × Means k.second k.certificate k.sections before × AreSections k.certificate.sites before
+IsJudged (judged.Whole k) bytes = (before : List SectionLine) × Means k.second k.certificate k.sections before
+    × AreSections k.certificate.sites before
     × (bytes ≡ text_of_lines (lines_so_far (complete k.second k.certificate before)))
 IsJudged (judged.Faulty line f) bytes = FirstFault bytes line f
 
 -- the end of the input at a stage, with these bytes behind the last LF
 abbrev pub IsEnded : Stage → List ℕ → ℕ → Judged → Type 0
-IsEnded s l n (judged.Whole k) = ((before : List SectionLine) × Means k.second k.certificate k.sections before × AreSections k.certificate.sites before × (s ≡ complete k.second k.certificate before)) × (l ≡ [])
+IsEnded s l n (judged.Whole k) = ((before : List SectionLine) × Means k.second k.certificate k.sections before
+    × AreSections k.certificate.sites before × (s ≡ complete k.second k.certificate before)) × (l ≡ [])
 IsEnded s l n (judged.Faulty line f) = (line ≡ n) × Breaks (Rule s (last l)) f
