@@ -47,7 +47,8 @@ const AUDIT: &str =
 const SERIAL: &str =
     "Runs a valid bundle's committed transactions one after another by rank, else writes audit's `no` line";
 
-const MORE: &str = "L is the first line with a fault and FN the fault: docs/FORMAT.md has the faults and the formats of a bundle.
+const MORE: &str =
+    "L is the first line with a fault and FN the fault: docs/FORMAT.md has the faults and the formats of a bundle.
 
 Exit status:
   0  yes, or help was asked for

@@ -76,12 +76,12 @@ pub fn program<R: Source, W: Sink, E: Sink>(
     // how the run ended: by its status, by the devices, and by what the error stream was told
     ensures ends { (ending : Result Outcome EngineFail) × (result ≡ status_of ending)
         × LeavesDevices ending
-            ((R.failures reader.new ≡ R.failures reader.old) × (W.failures writer.new ≡ W.failures writer.old))
-            (ReadFailed (R.tells reader.old) (R.failures reader.old) (R.failures reader.new))
-            (W.failures writer.old < W.failures writer.new)
-            (writer.new ≡ writer.old)
+        ((R.failures reader.new ≡ R.failures reader.old) × (W.failures writer.new ≡ W.failures writer.old))
+        (ReadFailed (R.tells reader.old) (R.failures reader.old) (R.failures reader.new))
+        (W.failures writer.old < W.failures writer.new)
+        (writer.new ≡ writer.old)
         × TellsErrors ending (errors.new ≡ errors.old)
-            (WroteOrFailed (E.holds errors.old) (E.holds errors.new) (E.failures errors.old) (E.failures errors.new)) }
+        (WroteOrFailed (E.holds errors.old) (E.holds errors.new) (E.failures errors.old) (E.failures errors.new)) }
 {
     match choose(alloc, words) {
         Ok(Choice::Audit) => finish(errors, run_audit(alloc, reader, writer)),

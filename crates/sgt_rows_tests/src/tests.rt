@@ -13,7 +13,8 @@ use sgt_program::program;
 use std::alloc::{AllocError, Global};
 use std::test::Fail;
 
-const HELP: &str = "Audits the logs of a certified run. Reads a bundle from standard input and writes to standard output.
+const HELP: &str =
+    "Audits the logs of a certified run. Reads a bundle from standard input and writes to standard output.
 
 Usage: sgt [COMMAND]
 
@@ -62,9 +63,7 @@ fn answers(alloc: Global, row: &Row, per_read: usize) -> Result<bool, Fail> {
     let mut output = MemSink::new(alloc, 1000)?;
     let mut errors = MemSink::new(alloc, 100)?;
     let status = run(alloc, row.words, &mut input, &mut output, &mut errors)?;
-    Ok(status == row.status
-        && output.bytes() == row.output.as_bytes()
-        && errors.bytes().is_empty())
+    Ok(status == row.status && output.bytes() == row.output.as_bytes() && errors.bytes().is_empty())
 }
 
 #[test]
@@ -127,7 +126,12 @@ fn limits(rt: HostRuntime) -> Result<(), Fail> {
         let text = of_sites(rt.alloc(), count)?;
         assert!(rt; audits(rt.alloc(), text.as_str(), says)?, "{count} sites");
     }
-    for (count, says) in [(256, YES), (257, YES), (1024, YES), (1025, "no line 1028 F7\n")] {
+    for (count, says) in [
+        (256, YES),
+        (257, YES),
+        (1024, YES),
+        (1025, "no line 1028 F7\n"),
+    ] {
         let text = of_items(rt.alloc(), count)?;
         assert!(rt; audits(rt.alloc(), text.as_str(), says)?, "{count} items");
     }
@@ -158,7 +162,10 @@ fn words_are_judged_first(rt: HostRuntime) -> Result<(), Fail> {
         let mut errors = MemSink::new(rt.alloc(), 2000)?;
         let found = run(rt.alloc(), words, &mut input, &mut output, &mut errors)?;
         let told = (output.bytes().is_empty(), errors.bytes().is_empty());
-        assert!(rt; (found, told) == (status, (status == 2, status == 0)), "{words:?}");
+        assert!(rt;
+            (found, told) == (status, (status == 2, status == 0)),
+            "{words:?}"
+        );
     }
     Ok(())
 }
@@ -167,14 +174,21 @@ fn words_are_judged_first(rt: HostRuntime) -> Result<(), Fail> {
 #[test]
 fn help(rt: HostRuntime) -> Result<(), Fail> {
     let words = ["--help"].as_slice();
-    for (takes, status, told) in [(2000, 0, ""), (100, 4, "sgt: write fault\n"), (0, 4, "sgt: write fault\n")] {
+    for (takes, status, told) in [
+        (2000, 0, ""),
+        (100, 4, "sgt: write fault\n"),
+        (0, 4, "sgt: write fault\n"),
+    ] {
         let mut input = MemSource::new(b"", 1, Some(1));
         let mut output = MemSink::new(rt.alloc(), takes)?;
         let mut errors = MemSink::new(rt.alloc(), 100)?;
         let found = run(rt.alloc(), words, &mut input, &mut output, &mut errors)?;
         assert!(rt; HELP.as_bytes().starts_with(output.bytes()), "{takes}");
         assert_eq!(rt; output.bytes().len() == HELP.len(), status == 0, "{takes}");
-        assert!(rt; found == status && errors.bytes() == told.as_bytes(), "{takes}");
+        assert!(rt;
+            found == status && errors.bytes() == told.as_bytes(),
+            "{takes}"
+        );
     }
     Ok(())
 }
@@ -191,10 +205,12 @@ fn gives_up(
     let mut output = MemSink::new(alloc, takes)?;
     let mut errors = MemSink::new(alloc, 100)?;
     let status = run(alloc, row.words, &mut input, &mut output, &mut errors)?;
-    Ok(status == 4
-        && errors.bytes() == told.as_bytes()
-        && output.bytes().len() == if fail_at.is_some() { 0 } else { takes }
-        && row.output.as_bytes().starts_with(output.bytes()))
+    Ok(
+        status == 4
+            && errors.bytes() == told.as_bytes()
+            && output.bytes().len() == if fail_at.is_some() { 0 } else { takes }
+            && row.output.as_bytes().starts_with(output.bytes()),
+    )
 }
 
 // One byte a read, and each of them fails in turn; then the writer takes ever more bytes, and not all.

@@ -90,11 +90,7 @@ fn writes(alloc: Global, own: &[SiteEntry]) -> Result<Vec<SiteChange>, AllocErro
 }
 
 /// Adds the entries of a site's log.
-fn add_site(
-    entries: &mut Vec<SiteEntry>,
-    site: SiteNo,
-    logged: &[Entry],
-) -> Result<(), AllocError>
+fn add_site(entries: &mut Vec<SiteEntry>, site: SiteNo, logged: &[Entry]) -> Result<(), AllocError>
     ensures { OnOk result (entries.new.items ≡ entries.old.items ++ map (entry_at site) logged.now) }
 {
     for entry in logged {

@@ -211,4 +211,3 @@ fn first_differences(rt: HostRuntime) -> Result<(), Fail> {
         ],
     )
 }
-
