@@ -81,7 +81,8 @@ fn order_of_six(rt: HostRuntime) -> Result<(), Fail> {
     let mut graph = Graph::new(alloc);
     let mut nodes = [Handle::default(); 7];
     for number in 1..7u64 {
-        nodes[number as usize] = graph.node(Tx::new(number)?)?;
+        let node = graph.node(Tx::new(number)?)?;
+        nodes[number as usize] = node;
     }
     let [_, one, two, three, four, five, six] = nodes;
     let steps: [(Handle, &[(Handle, Handle)], Said, &[u32]); 8] = [
