@@ -1,0 +1,87 @@
+-- The decisions of a history, call by call, and their ranks.
+use Rattle.std.proofs.Common.{◌≡◌, ◌≢◌, ◌<◌, ◌≤◌, ◌+◌, ℕ, suc, List, [], ◌∷◌, ◌++◌, length, map, get_or, drop, refl, sym, ◌∙◌, ap, subst, arith, add-one, append_assoc, inl, inr, All, AllPairs, Contains, Some}
+use Rattle.std.specs.Prelude.{slice_get, slice_index}
+use Rattle.std.proofs.lemmas.List.{map-append}
+use Rattle.std.proofs.lemmas.Option.{get_or_from_slice_get, slice_get_within}
+use Rattle.std.proofs.lemmas.List.Elements.{Contains-append_cases}
+use Rattle.sgt_names.proofs.Places.{All-from_at, All_at, Contains_at, Contains-from_at}
+use Rattle.sgt_cert.specs.declared.certificate.Decision.{Decision}
+use Rattle.sgt_cert.specs.declared.certificate.Decision.TheVariants as decision
+use Rattle.sgt_certifier.specs.declared.call.Call.{Call}
+use Rattle.sgt_certifier.specs.declared.call.Call.TheVariants as call
+use Rattle.sgt_certifier.specs.Certifier.{State, Ruling, committed, refused, withdrawn, ruled, serial, ranked, place_in}
+use Rattle.sgt_certifier.specs.Sound.{IsSoundCertifier, IsRuled}
+use Rattle.sgt_certifier.specs.Kept.{ruling_of, rulings_from, windows_after, with_rank_in}
+use Rattle.sgt_certifier.proofs.Members.{place_left, place_right, cons_cases, cons_here, cons_later, nil_none}
+use Rattle.sgt_certifier.proofs.Distinct.{Apart}
+use Rattle.sgt_certifier.proofs.Keeping.{distinct-append}
+use Rattle.sgt_certifier.proofs.Installs.{distinct_few}
+use Rattle.sgt_certifier.proofs.Ruling.{place_in_at}
+
+-- the decisions of a call and of those after it
+pub rulings_split : (begun before : ℕ) (c : Call) (cs : List Call) → rulings_from begun before (c ∷ cs) ≡ rulings_from 0 before (c ∷ []) ++ rulings_from (windows_after begun before c).0 (windows_after begun before c).1 cs
+rulings_split begun before (call.Begin tx h) cs = ap (λ k. rulings_from k before cs) (sym (add-one begun))
+rulings_split begun before (call.Decide h edges reply) cs = refl
+rulings_split begun before (call.Finish tx) cs = refl
+rulings_split begun before (call.Withdraw h number) cs = refl
+rulings_split begun before (call.Close ranks) cs = refl
+rulings_split begun before (call.Installed tx site items) cs = refl
+
+pub windows_few : (begun before : ℕ) (c : Call) → (windows_after begun before c).0 ≤ begun + 1
+windows_few begun before (call.Begin tx h) = omega arith
+windows_few begun before (call.Decide h edges reply) = omega arith
+windows_few begun before (call.Finish tx) = omega arith
+windows_few begun before (call.Withdraw h number) = omega arith
+windows_few begun before (call.Close ranks) = omega arith
+windows_few begun before (call.Installed tx site items) = omega arith
+
+pub made_next : (f : Ruling → Decision) (old new : List Decision) (first rest whole : List Ruling) (all : List Decision) → whole ≡ first ++ rest → new ≡ old ++ map f first → old ++ map f whole ≡ all → new ++ map f rest ≡ all
+made_next f old new first rest whole all split pushed made =
+    ap (λ z. z ++ map f rest) pushed ∙ (append_assoc old (map f first) (map f rest) ∙ (ap (λ z. old ++ z) (sym (map-append f first rest)) ∙ (ap (λ z. old ++ map f z) (sym split) ∙ made)))
+
+abbrev IsBelow : ℕ → Ruling → Type 0
+IsBelow n r = ruled r < n
+
+pub below_first : (n : ℕ) (first rest whole : List Ruling) → whole ≡ first ++ rest → All (λ r. ruled r < n) whole → All (λ r. ruled r < n) first
+below_first n first rest whole split all = All-from_at (IsBelow n) first (λ k r at. All_at (IsBelow n) (first ++ rest) k r (subst (All (IsBelow n)) split all) (place_left first rest k r at))
+
+pub below_rest : (n : ℕ) (first rest whole : List Ruling) → whole ≡ first ++ rest → All (λ r. ruled r < n) whole → All (λ r. ruled r < n) rest
+below_rest n first rest whole split all = All-from_at (IsBelow n) rest (λ k r at. All_at (IsBelow n) (first ++ rest) (length first + k) r (subst (All (IsBelow n)) split all) (place_right first rest k r at))
+
+-- ---- the table of the ranks
+
+abbrev pub IsTable : List ℕ → List ℕ → Type 0
+IsTable serial table = (k tx : ℕ) → slice_get serial k ≡ Some tx → slice_get table tx ≡ Some k
+
+pub table_rank : (order table : List ℕ) (tx : ℕ) → IsTable order table → Contains order tx → slice_index table tx ≡ place_in order tx
+table_rank order table tx is member = get_or_from_slice_get table tx (place_in order tx) 0 (is (place_in order tx) tx (place_in_at order tx member))
+
+map_agree : {A B : Type 0} (f g : A → B) (xs : List A) → ((x : A) → Contains xs x → f x ≡ g x) → map f xs ≡ map g xs
+map_agree f g [] h = refl
+map_agree f g (x ∷ xs) h = ap (λ y. y ∷ map f xs) (h x (cons_here x xs)) ∙ ap (λ ys. g x ∷ ys) (map_agree f g xs (λ y c. h y (cons_later x xs y c)))
+
+one_agrees : (s : State) (table : List ℕ) → IsRuled s → IsTable (serial s) table → (r : Ruling) → Contains s.rulings r → with_rank_in table r ≡ ranked (serial s) r
+one_agrees s table ruled_ is (committed tx) c = let at = Contains_at s.rulings (committed tx) c in ap (decision.Commit tx) (table_rank (serial s) table tx is (ruled_.to_serial at.0 tx at.1))
+one_agrees s table ruled_ is (refused tx walk) c = refl
+one_agrees s table ruled_ is (withdrawn tx) c = refl
+
+pub table_ranks : (s : State) (table : List ℕ) → IsRuled s → IsTable (serial s) table → map (with_rank_in table) s.rulings ≡ map (ranked (serial s)) s.rulings
+table_ranks s table ruled_ is = map_agree (with_rank_in table) (ranked (serial s)) s.rulings (one_agrees s table ruled_ is)
+
+pub rulings_below : (s : State) (n : ℕ) → IsRuled s → s.begun < n → All (λ r. ruled r < n) s.rulings
+rulings_below s n h less = All-from_at (IsBelow n) s.rulings (λ k r at. let le = h.begun k r at in omega (arith, le, less))
+
+-- ---- the serial order
+
+pub serial-distinct : (s : State) → IsSoundCertifier s → AllPairs (λ a b. a ≢ b) (serial s)
+serial-distinct s h = distinct-append s.past s.order h.distinct_past h.distinct_order (λ a b ca cb e. let p = h.past_before a ca in let w = h.order_here b cb in omega (arith, p, w.0, e))
+
+pub serial-below : (s : State) → IsSoundCertifier s → All (λ tx. tx < suc s.begun) (serial s)
+serial-below s h = All-from_at (λ tx. tx < suc s.begun) (serial s) (λ k tx at.
+    elim (Contains-append_cases s.past s.order tx (Contains-from_at (serial s) k tx at)) [
+      | inl early ↦ let p = h.past_before tx early in let w = h.window in omega (arith, p, w)
+      | inr late ↦ let p = h.order_here tx late in omega (arith, p.1)
+    ])
+
+pub serial-few : (s : State) → IsSoundCertifier s → length (serial s) ≤ suc s.begun
+serial-few s h = distinct_few (suc s.begun) (serial s) (serial-distinct s h) (serial-below s h)

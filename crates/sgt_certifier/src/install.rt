@@ -1,0 +1,127 @@
+//! The items that a draft changes at a site, listed for the history.
+
+ghost use Rattle.std.specs.Prelude.{◌≡◌, ◌≢◌, ◌↔◌, ◌==◌, ◌&&◌, ℕ, List, [], Contains, IsTrue, is_some, IfOk, OnErr, IfSome, IfNone, Any, slice_get};
+ghost use Rattle.sgt_names.specs.declared.draft.Touch.{Touch as Touched};
+ghost use Rattle.sgt_certifier.specs.declared.install.Prepared.{Prepared as APrepared};
+ghost use Rattle.sgt_certifier.specs.Kept.{changed_at, IsExpected};
+
+use sgt_names::{Item, Listed, SiteNo, Touch};
+use std::alloc::{AllocError, Global};
+
+/// The list of an install that is still to come, made in advance.
+#[derive(Drop)]
+pub struct Prepared {
+    pub site: SiteNo,
+    pub items: Listed<Item>,
+}
+
+// Whether the draft changes the item, at this site.
+fn is_changed(touch: &Touch, site: SiteNo) -> bool
+    ensures { result ≡ ((touch.now.site == site) && is_some touch.now.put) }
+{
+    touch.site == site && touch.put.is_some()
+}
+
+// The items that the draft changes at the site.
+fn changed_items(
+    alloc: Global,
+    touched: &[Touch],
+    site: SiteNo,
+) -> Result<Listed<Item>, AllocError>
+    ensures ok { IfOk result (λ items. items ≡ changed_at touched.now site) }
+    ensures err { OnErr result (changed_at touched.now site ≢ []) }
+{
+    let mut items = Vec::new(alloc);
+    for touch in touched {
+        if is_changed(touch, site) {
+            items.push(touch.item)?;
+        }
+    }
+    Ok(Listed::new(items))
+}
+
+// Whether these are the items that the draft changes at the site.
+fn are_changed(items: &[Item], touched: &[Touch], site: SiteNo) -> bool
+    ensures { IsTrue result ↔ (items.now ≡ changed_at touched.now site) }
+{
+    let mut met = 0;
+    for touch in touched {
+        if is_changed(touch, site) {
+            if met >= items.len() {
+                return false;
+            }
+            if items[met] != touch.item {
+                return false;
+            }
+            met += 1;
+        }
+    }
+    met == items.len()
+}
+
+// Whether the list was made for this site of the draft.
+fn is_for(prepared: &Prepared, touched: &[Touch], site: SiteNo) -> bool
+    ensures { IsTrue result ↔ (prepared.now ≡ record { site = site; items = changed_at touched.now site }) }
+{
+    prepared.site == site && are_changed(prepared.items.as_slice(), touched, site)
+}
+
+// The place of the list that was made for this site of the draft.
+fn place_of(expected: &[Prepared], touched: &[Touch], site: SiteNo) -> Option<usize>
+    ensures found { IfSome result (λ k. slice_get expected.now k ≡ Some (record { site = site; items = changed_at touched.now site })) }
+    ensures none { IfNone result (Contains expected.now (record { site = site; items = changed_at touched.now site }) → ⊥) }
+{
+    for place in 0..expected.len() {
+        if is_for(&expected[place], touched, site) {
+            return Some(place);
+        }
+    }
+    None
+}
+
+// The items that the draft changes at the site: the list that was made for it, which is taken away, or else a new one.
+pub fn take_items(
+    alloc: Global,
+    expected: &mut Vec<Prepared>,
+    touched: &[Touch],
+    site: SiteNo,
+) -> Result<Listed<Item>, AllocError>
+    ensures items { IfOk result (λ items. items ≡ changed_at touched.now site) }
+    ensures others { (other : List Touched) (s : ℕ) → s ≢ site → IsExpected expected.old.items other s → IsExpected expected.new.items other s }
+    ensures err { OnErr result (expected.new.items ≡ expected.old.items) }
+    ensures wants { OnErr result (IsExpected expected.old.items touched.now site → ⊥) }
+{
+    match place_of(expected.as_slice(), touched, site) {
+        Some(place) => Ok(expected.remove(place).items),
+        None => changed_items(alloc, touched, site),
+    }
+}
+
+// Whether the site is among these.
+pub fn is_among(sites: &[SiteNo], site: SiteNo) -> bool
+    ensures { IsTrue result ↔ Contains sites.now site }
+{
+    sites.contains(&site)
+}
+
+// Whether a list was made for the site.
+fn has_site(expected: &[Prepared], site: SiteNo) -> bool
+    ensures { IsTrue result ↔ Any (λ (p : APrepared). p.site ≡ site) expected.now }
+{
+    expected.iter().any(|prepared| prepared.site == site)
+}
+
+// The lists of the items that the draft changes, one for each site where it changes any.
+pub fn prepared_lists(alloc: Global, touched: &[Touch]) -> Result<Vec<Prepared>, AllocError>
+    ensures { IfOk result (λ lists. (site : ℕ) → IsExpected lists.items touched.now site) }
+{
+    let mut lists = Vec::new(alloc);
+    for touch in touched {
+        let site = touch.site;
+        if is_changed(touch, site) && !has_site(lists.as_slice(), site) {
+            let items = changed_items(alloc, touched, site)?;
+            lists.push(Prepared { site, items })?;
+        }
+    }
+    Ok(lists)
+}

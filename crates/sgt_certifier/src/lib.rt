@@ -1,0 +1,12 @@
+//! The certifier of all sites.
+#![tactic(auto)]
+
+mod call;
+mod certifier;
+mod install;
+mod laws;
+mod ranking;
+
+pub use call::{Call, CertifierFault, Decided};
+pub use certifier::Certifier;
+pub use laws::{histories_are_sound, installs_are_counted, installs_are_noted_once};

@@ -1,0 +1,5 @@
+//! Tests of the certifier.
+#![tactic(auto)]
+
+#[cfg(test)]
+mod tests;
