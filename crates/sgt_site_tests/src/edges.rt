@@ -1,7 +1,7 @@
 //! What no clause says: that the calls succeed.
 
-use crate::{Edge, EdgeFault, EdgeList};
 use sgt_arena::Handle;
+use sgt_edges::{Edge, EdgeFault, EdgeList};
 use sgt_names::{Item, Kind, Label, SiteNo};
 use std::test::Fail;
 

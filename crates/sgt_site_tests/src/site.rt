@@ -1,8 +1,8 @@
 //! What no clause says: that the calls succeed, on values from outside.
 
-use crate::{Reader, Site, SiteFault, Writer};
 use sgt_arena::Handle;
 use sgt_names::{Draft, Entry, Holding, Item, Seen, SiteNo, Tx};
+use sgt_site::{Reader, Site, SiteFault, Writer};
 use std::alloc::Global;
 use std::test::Fail;
 
@@ -11,160 +11,128 @@ const HANDLE: Handle = Handle {
     generation: 2,
 };
 
-// Site 3 with x=5 and y=2.
+// Site 3 with x=5 and y=18446744073709551615.
 fn opened(alloc: Global) -> Result<Site, Fail> {
+    let (x, y) = (Item::new(b"x")?, Item::new(b"y")?);
     let items = [
+        Holding { item: x, value: 5 },
         Holding {
-            item: Item::new(b"x")?,
-            value: 5,
-        },
-        Holding {
-            item: Item::new(b"y")?,
-            value: 2,
+            item: y,
+            value: u64::MAX,
         },
     ];
     Ok(Site::new(alloc, SiteNo::new(3)?, &items)?)
 }
 
-// A site where the transaction read x and is pledged to write y = 9.
-fn pledged(alloc: Global, tx: Tx) -> Result<(Site, Draft), Fail> {
+// The transaction reads x, is to add 1 to y, and is pledged.
+fn pledge(site: &mut Site, draft: &mut Draft, tx: Tx) -> Result<(), Fail> {
     let (number, x, y) = (SiteNo::new(3)?, Item::new(b"x")?, Item::new(b"y")?);
-    let mut site = opened(alloc)?;
     let seen = site.read(tx, x)?;
-    let mut draft = Draft::new(alloc);
     draft.seen(number, x, seen.value, seen.version)?;
-    draft.put(number, y, 9)?;
-    site.pledge(tx, &draft)?;
-    Ok((site, draft))
+    draft.add(number, y, 1)?;
+    site.pledge(tx, draft)?;
+    Ok(())
 }
 
 #[test]
 fn a_committed_transaction(rt: HostRuntime) -> Result<(), Fail> {
     let (x, y, tx) = (Item::new(b"x")?, Item::new(b"y")?, Tx::new(8)?);
-    let (mut site, draft) = pledged(rt.alloc(), tx)?;
+    let mut site = opened(rt.alloc())?;
+    let mut draft = Draft::new(rt.alloc());
+    pledge(&mut site, &mut draft, tx)?;
     site.install(tx, HANDLE, &draft)?;
+    let (item, value) = (y, 1);
     let log = [
         Entry::Read {
             tx,
             item: x,
             value: 5,
         },
-        Entry::Write {
-            tx,
-            item: y,
-            value: 9,
-        },
+        Entry::Add { tx, item, value },
         Entry::Commit { tx },
     ];
     assert_eq!(rt; site.log(), log.as_slice());
-    assert_eq!(rt;
-        site.writers(y)?,
-        [Writer { tx, handle: HANDLE }].as_slice()
-    );
-    assert_eq!(rt;
-        site.readers(x)?,
-        [Reader {
-            tx,
-            handle: HANDLE,
-            version: 0
-        }]
-        .as_slice()
-    );
     let finals = site.final_values(rt.alloc())?;
-    assert_eq!(rt;
-        finals.as_slice(),
-        [Holding { item: x, value: 5 }, Holding { item: y, value: 9 }].as_slice()
-    );
+    let after = [Holding { item: x, value: 5 }, Holding { item: y, value: 0 }];
+    assert_eq!(rt; finals.as_slice(), after.as_slice());
+    assert_eq!(rt; site.items().len(), 2);
     assert_eq!(rt; site.number().number(), 3);
     Ok(())
 }
 
 #[test]
-fn a_refused_transaction(rt: HostRuntime) -> Result<(), Fail> {
+fn writers_and_readers(rt: HostRuntime) -> Result<(), Fail> {
     let (x, y, tx) = (Item::new(b"x")?, Item::new(b"y")?, Tx::new(8)?);
-    let (mut site, draft) = pledged(rt.alloc(), tx)?;
+    let mut site = opened(rt.alloc())?;
+    let mut draft = Draft::new(rt.alloc());
+    pledge(&mut site, &mut draft, tx)?;
+    site.install(tx, HANDLE, &draft)?;
+    let writer = Writer {
+        tx,
+        handle: HANDLE,
+        increment: true,
+    };
+    let reader = Reader {
+        tx,
+        handle: HANDLE,
+        version: 0,
+    };
+    assert_eq!(rt; site.writers(y)?, [writer].as_slice());
+    assert_eq!(rt; site.readers(x)?, [reader].as_slice());
+    Ok(())
+}
+
+#[test]
+fn a_refused_transaction(rt: HostRuntime) -> Result<(), Fail> {
+    let tx = Tx::new(8)?;
+    let mut site = opened(rt.alloc())?;
+    let mut draft = Draft::new(rt.alloc());
+    pledge(&mut site, &mut draft, tx)?;
     site.refuse(tx, &draft)?;
-    let log = [
-        Entry::Read {
-            tx,
-            item: x,
-            value: 5,
-        },
-        Entry::Want {
-            tx,
-            item: y,
-            value: 9,
-        },
-        Entry::Refuse { tx },
-    ];
-    assert_eq!(rt; site.log(), log.as_slice());
-    assert_eq!(rt; site.refuse(tx, &draft), Err(SiteFault::NotPledged));
+    let (item, value) = (Item::new(b"y")?, 1);
+    let block = [Entry::WantAdd { tx, item, value }, Entry::Refuse { tx }];
+    assert_eq!(rt; &site.log()[1..], block.as_slice());
     Ok(())
 }
 
 #[test]
 fn a_withdrawn_transaction(rt: HostRuntime) -> Result<(), Fail> {
-    let (x, tx) = (Item::new(b"x")?, Tx::new(8)?);
-    let (mut site, draft) = pledged(rt.alloc(), tx)?;
+    let tx = Tx::new(8)?;
+    let mut site = opened(rt.alloc())?;
+    let mut draft = Draft::new(rt.alloc());
+    pledge(&mut site, &mut draft, tx)?;
     site.unpledge(tx)?;
     assert_eq!(rt; site.withdraw(tx), Err(SiteFault::NotPledged));
     site.pledge(tx, &draft)?;
     site.withdraw(tx)?;
-    let log = [
-        Entry::Read {
-            tx,
-            item: x,
-            value: 5,
-        },
-        Entry::Withdraw { tx },
-    ];
-    assert_eq!(rt; site.log(), log.as_slice());
+    assert_eq!(rt; &site.log()[1..], [Entry::Withdraw { tx }].as_slice());
     Ok(())
+}
+
+// The transactions from 1 on read y, so many: whether each saw the first value.
+fn read_by_many(site: &mut Site, many: u64) -> Result<bool, Fail> {
+    let y = Item::new(b"y")?;
+    let first = Seen {
+        value: u64::MAX,
+        version: 0,
+    };
+    for number in 1..many {
+        if site.read(Tx::new(number)?, y)? != first {
+            return Ok(false);
+        }
+    }
+    Ok(true)
 }
 
 #[test]
 fn a_thousand_reads_under_a_pledge(rt: HostRuntime) -> Result<(), Fail> {
-    let (y, tx) = (Item::new(b"y")?, Tx::new(5000)?);
-    let (mut site, draft) = pledged(rt.alloc(), tx)?;
-    for number in 1..1001u64 {
-        let seen = site.read(Tx::new(number)?, y)?;
-        assert_eq!(rt;
-            seen,
-            Seen {
-                value: 2,
-                version: 0
-            },
-            "{number}"
-        );
-    }
+    let tx = Tx::new(5000)?;
+    let mut site = opened(rt.alloc())?;
+    let mut draft = Draft::new(rt.alloc());
+    pledge(&mut site, &mut draft, tx)?;
+    assert!(rt; read_by_many(&mut site, 1001)?);
     site.install(tx, HANDLE, &draft)?;
     assert_eq!(rt; site.log().len(), 1003);
-    assert_eq!(rt;
-        site.read(Tx::new(1001)?, y)?,
-        Seen {
-            value: 9,
-            version: 1
-        }
-    );
-    Ok(())
-}
-
-#[test]
-fn items_that_fall(rt: HostRuntime) -> Result<(), Fail> {
-    let items = [
-        Holding {
-            item: Item::new(b"y")?,
-            value: 2,
-        },
-        Holding {
-            item: Item::new(b"x")?,
-            value: 5,
-        },
-    ];
-    assert_eq!(rt;
-        Site::new(rt.alloc(), SiteNo::new(0)?, &items).err(),
-        Some(SiteFault::BadItems)
-    );
     Ok(())
 }
 
@@ -184,7 +152,7 @@ fn what_the_faults_say(rt: HostRuntime) -> Result<(), Fail> {
         (SiteFault::NotPledged, "S5: no such pledge stands"),
         (
             SiteFault::BadItems,
-            "S6: the names of the items do not rise, or there are more than 256",
+            "S6: the names of the items do not rise, or there are more than 1,024",
         ),
         (SiteFault::PledgeOpen, "S7: a pledge stands"),
         (

@@ -1,7 +1,7 @@
 //! One site, a transaction that is committed there, and the edges of the next one's drafts.
 
-use crate::{Edge, EdgeFault, gather};
 use sgt_arena::Handle;
+use sgt_edges::{Edge, EdgeFault, gather};
 use sgt_names::{Draft, Entry, Holding, Item, Kind, Label, Seen, SiteNo, Tx};
 use sgt_site::{Reader, Site, SiteFault, Writer};
 use std::alloc::Global;
@@ -9,6 +9,11 @@ use std::test::Fail;
 
 const H1: Handle = Handle {
     index: 0,
+    generation: 0,
+};
+
+const H2: Handle = Handle {
+    index: 2,
     generation: 0,
 };
 
@@ -32,17 +37,15 @@ fn opened(alloc: Global) -> Result<Site, Fail> {
     Ok(Site::new(alloc, SiteNo::new(0)?, &items)?)
 }
 
-// There transaction 1 read x, put x=6, and was installed under h1.
-fn installed(alloc: Global) -> Result<Site, Fail> {
+// There transaction 1 reads x, puts x=6, and is installed under h1.
+fn install(site: &mut Site, draft: &mut Draft) -> Result<(), Fail> {
     let (number, x, one) = (SiteNo::new(0)?, Item::new(b"x")?, Tx::new(1)?);
-    let mut site = opened(alloc)?;
     let seen = site.read(one, x)?;
-    let mut draft = Draft::new(alloc);
     draft.seen(number, x, seen.value, seen.version)?;
     draft.put(number, x, 6)?;
-    site.pledge(one, &draft)?;
-    site.install(one, H1, &draft)?;
-    Ok(site)
+    site.pledge(one, draft)?;
+    site.install(one, H1, draft)?;
+    Ok(())
 }
 
 // A draft that saw x = 6 at this version.
@@ -77,7 +80,8 @@ fn the_first_read(rt: HostRuntime) -> Result<(), Fail> {
 
 #[test]
 fn lists_of_the_log(rt: HostRuntime) -> Result<(), Fail> {
-    let site = installed(rt.alloc())?;
+    let mut site = opened(rt.alloc())?;
+    install(&mut site, &mut Draft::new(rt.alloc()))?;
     let (x, one) = (Item::new(b"x")?, Tx::new(1)?);
     let log = [
         Entry::Read {
@@ -96,6 +100,7 @@ fn lists_of_the_log(rt: HostRuntime) -> Result<(), Fail> {
     let writer = Writer {
         tx: one,
         handle: H1,
+        increment: false,
     };
     assert_eq!(rt; site.writers(x)?, [writer].as_slice());
     let reader = Reader {
@@ -109,7 +114,8 @@ fn lists_of_the_log(rt: HostRuntime) -> Result<(), Fail> {
 
 #[test]
 fn reads_and_refusals(rt: HostRuntime) -> Result<(), Fail> {
-    let mut site = installed(rt.alloc())?;
+    let mut site = opened(rt.alloc())?;
+    install(&mut site, &mut Draft::new(rt.alloc()))?;
     let (x, one, two) = (Item::new(b"x")?, Tx::new(1)?, Tx::new(2)?);
     assert_eq!(rt;
         site.read(two, x)?,
@@ -139,7 +145,8 @@ fn reads_and_refusals(rt: HostRuntime) -> Result<(), Fail> {
 #[test]
 fn edges_of_reads(rt: HostRuntime) -> Result<(), Fail> {
     let alloc = rt.alloc();
-    let site = installed(alloc)?;
+    let mut site = opened(alloc)?;
+    install(&mut site, &mut Draft::new(alloc))?;
     let new = gather(alloc, &site, &saw(alloc, 1)?, ME)?;
     assert_eq!(rt; new.as_slice(), [edge(H1, ME, Kind::Wr)?].as_slice());
     let old = gather(alloc, &site, &saw(alloc, 0)?, ME)?;
@@ -152,7 +159,8 @@ fn edges_of_reads(rt: HostRuntime) -> Result<(), Fail> {
 #[test]
 fn edges_of_a_write(rt: HostRuntime) -> Result<(), Fail> {
     let alloc = rt.alloc();
-    let site = installed(alloc)?;
+    let mut site = opened(alloc)?;
+    install(&mut site, &mut Draft::new(alloc))?;
     let mut draft = Draft::new(alloc);
     draft.put(SiteNo::new(0)?, Item::new(b"x")?, 9)?;
     let edges = gather(alloc, &site, &draft, ME)?;
@@ -161,5 +169,23 @@ fn edges_of_a_write(rt: HostRuntime) -> Result<(), Fail> {
     };
     let (ww, rw) = (edge(H1, ME, Kind::Ww)?, edge(H1, ME, Kind::Rw)?);
     assert!(rt; *first == ww && *second == rw || *first == rw && *second == ww);
+    Ok(())
+}
+
+// A draft of mine adds to x, after 1 wrote x and 2 added to it: of the two it has an edge from the write alone.
+#[test]
+fn edges_of_an_increment(rt: HostRuntime) -> Result<(), Fail> {
+    let alloc = rt.alloc();
+    let (number, x, two) = (SiteNo::new(0)?, Item::new(b"x")?, Tx::new(2)?);
+    let mut site = opened(alloc)?;
+    install(&mut site, &mut Draft::new(alloc))?;
+    let mut draft = Draft::new(alloc);
+    draft.add(number, x, 4)?;
+    site.pledge(two, &draft)?;
+    site.install(two, H2, &draft)?;
+    let edges = gather(alloc, &site, &draft, ME)?;
+    let (ww, rw) = (edge(H1, ME, Kind::Ww)?, edge(H1, ME, Kind::Rw)?);
+    assert_eq!(rt; edges.as_slice(), [ww, rw].as_slice());
+    assert_eq!(rt; gather(alloc, &site, &draft, H1)?.as_slice().len(), 0);
     Ok(())
 }
