@@ -20,12 +20,6 @@ pub record ToldUpTo (first next : ℕ) (order : List Handle) (old new : Arena No
   pub told : (h : Handle) (node : Node) → get new h ≡ Some node
       → (was : Node) × (get old h ≡ Some was) × (node.out ≡ was.out) × IsToldBefore first next order h was node
 
-pub told_none : (first : ℕ) (order : List Handle) (a : Arena Node) → ToldUpTo first first order a a
-told_none first order a = record {
-  same = record { generation = refl; transactions = refl };
-  told = λ h node got. (node, got, refl, inr (λ p from before at. absurd (omega (arith, from, before)), refl));
-}
-
 pub told_next : (first next : ℕ) (order : List Handle) (a b : Arena Node) (f : Handle) (node : Node) → ToldUpTo first next order a b → first ≤ next → slice_get order next ≡ Some f → get b f ≡ Some node → ((p q : ℕ) (h : Handle) → slice_get order p ≡ Some h → slice_get order q ≡ Some h → p ≡ q) → ToldUpTo first (next + 1) order a (with_value b f (record node { place = Some next }))
 told_next first next order a b f node told from at had once = record {
   same = same_on _ _ _ told.same (same_nodes b f node (record node { place = Some next }) had refl);

@@ -1,8 +1,9 @@
 use Rattle.std.proofs.Common.{◌<◌, sym, ap, ◌∙◌, length, arith, take}
 use Rattle.std.proofs.lemmas.List.{length_push, length-take-le}
 use Rattle.std.specs.Prelude.{filter}
+use Rattle.sgt_names.proofs.Lists.{element_at}
 use Rattle.sgt_order.specs.SerializationGraph.{is_present}
-use Rattle.sgt_order.proofs.Lists.{read, filter_hit, filter_miss, filter_room}
+use Rattle.sgt_order.proofs.Lists.{filter_hit, filter_miss, filter_room}
 use Rattle.sgt_order.proofs.Present.{filter_less}
 use Rattle.sgt_order.proofs.offer.present_len.Goals as goal
 use Rattle.sgt_order.proofs.offer.present_len.Goals.{then-is_present, else-is_present}
@@ -14,7 +15,7 @@ overflow_add-count c =
 
 pub loop-edge-preserved : goal.loop-edge-preserved
 loop-edge-preserved c =
-    let here = read c.args.offered.now c.loop-edge.edge-index c.edge-item.result c.loop-edge-test.true c.edge-item.is in
+    let here = element_at c.args.offered.now c.loop-edge.edge-index c.edge-item.result c.loop-edge-test.true c.edge-item.is in
     elim c.if-is_present.branch [
       | then-is_present w ↦
           let hit = sym c.is_present.ensures ∙ w.if-is_present.true in

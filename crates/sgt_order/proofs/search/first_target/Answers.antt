@@ -1,10 +1,11 @@
 use Rattle.std.proofs.Common.{◌≡◌, ◌≤◌, ℕ, Some, sym, ap, ◌∙◌, arith, inl, inr, take}
 use Rattle.std.specs.Prelude.{slice_get}
 use Rattle.std.proofs.lemmas.List.{take_all}
+use Rattle.sgt_names.proofs.Lists.{element_at}
 use Rattle.sgt_edges.specs.declared.edge.Edge.{Edge as Joint}
 use Rattle.sgt_order.specs.private.Search.{IsFrom}
 use Rattle.sgt_order.proofs.Handles.{handle_other}
-use Rattle.sgt_order.proofs.Lists.{read, get_take_next}
+use Rattle.sgt_order.proofs.Lists.{get_take_next}
 use Rattle.sgt_order.proofs.search.first_target.Goals as goal
 use Rattle.sgt_order.proofs.search.first_target.Goals.{then-eq, else-eq}
 
@@ -12,7 +13,7 @@ pub loop-edge-preserved : goal.loop-edge-preserved
 loop-edge-preserved c =
     let n = c.loop-edge.edge-index in
     let x = c.edge-item.result in
-    let here = read c.args.offered.now n x c.loop-edge-test.true c.edge-item.is in
+    let here = element_at c.args.offered.now n x c.loop-edge-test.true c.edge-item.is in
     elim c.if-eq.branch [
       | then-eq w ↦
           rw w.first-is (record {
