@@ -28,7 +28,7 @@ def random_run(rng):
     core = plain_core.Core(sites)
     places = [(site, name) for site, items in enumerate(sites) for name, _ in items] or [(0, "x")]
     adds = rng.random() < 0.6
-    for _ in range(rng.choice([3, 10, 20, 40])):
+    for _ in range(rng.choice([3, 10, 20, 40, 80])):
         live = list(core.active)
         kind = rng.choice("bbrrrrwwddcccviiaz" if adds else "bbrrrrwwwcccviiaz")
         tx = rng.choice(live) if live else 1
@@ -66,7 +66,7 @@ def with_certificate(rng, lines):
     elif turn == 2 and "rank" in decision:
         decision["rank"] = rng.choice([0, 1, decision["rank"] + 1, 2**32 - 1])
     elif turn == 3 and step:
-        step[rng.choice(["kind"])] = rng.choice(["wr", "rw", "ww"])
+        step["kind"] = rng.choice(["wr", "rw", "ww"])
     elif turn == 4 and step:
         step["to"] = rng.randrange(1, 5)
     elif turn == 5 and step:
@@ -79,11 +79,11 @@ def with_certificate(rng, lines):
 def damaged(rng, text):
     """The bundle with one to three changes."""
     lines = text.split("\n")[:-1]
-    for _ in range(rng.choice([0, 1, 1, 1, 2, 3])):
+    for _ in range(rng.choice([0, 1, 1, 1, 1, 2])):
         if len(lines) < 3:
             break
         at = rng.randrange(len(lines))
-        turn = rng.randrange(10)
+        turn = rng.randrange(16)
         if turn == 0:
             lines.insert(at, lines[at])
         elif turn == 1:
