@@ -18,7 +18,8 @@ IsTooNew s t = (t.site ≡ s.number) × ((seen : Seen) × (t.seen ≡ Some seen)
 
 -- the edge between two handles on the touched item, if they differ
 abbrev pub IsBetween : Touch → Kind → Handle → Handle → Edge → Type 0
-IsBetween t kind from to e = (from ≢ to) × (e ≡ record { from = from; to = to; label = record { site = t.site; item = t.item; kind = kind } })
+IsBetween t kind from to e =
+    (from ≢ to) × (e ≡ record { from = from; to = to; label = record { site = t.site; item = t.item; kind = kind } })
 
 -- the edges that are so were added, and no others
 abbrev pub AddsAll : (Edge → Type 0) → List Edge → List Edge → Type 0
