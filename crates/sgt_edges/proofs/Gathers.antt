@@ -5,13 +5,13 @@ use Rattle.std.proofs.lemmas.Bool.{cases_lt}
 use Rattle.std.proofs.lemmas.Option.{same_Some, slice_get_within}
 use Rattle.std.proofs.lemmas.List.Elements.{Contains-append_left, Contains-append_right, Contains-append_cases}
 use Rattle.sgt_names.specs.Name.{Name}
-use Rattle.sgt_names.specs.Draft.{at_site, kept_in, writing_in}
+use Rattle.sgt_names.specs.Draft.{at_site, kept_in}
 use Rattle.sgt_names.specs.declared.draft.Seen.{Seen}
 use Rattle.sgt_names.specs.declared.draft.Touch.{Touch}
 use Rattle.sgt_names.specs.declared.entry.Change.{Change}
 use Rattle.sgt_names.specs.declared.entry.Kind.{Kind}
 use Rattle.sgt_names.specs.declared.entry.Kind.TheVariants.{Wr, Rw, Ww}
-use Rattle.sgt_names.proofs.Lists.{element_at, Any_at, Any-from_at}
+use Rattle.sgt_names.proofs.Lists.{Any_at, Any-from_at}
 use Rattle.sgt_names.proofs.Places.{Contains_at, Contains-from_at, slice_get-take, slice_get-take_at, slice_get-drop, All-from_at}
 use Rattle.sgt_arena.specs.declared.handle.Handle.{Handle}
 use Rattle.sgt_site.specs.State.{SiteState, version_at, writers_of}
@@ -19,7 +19,7 @@ use Rattle.sgt_site.specs.declared.cell.Reader.{Reader}
 use Rattle.sgt_site.specs.declared.cell.Writer.{Writer}
 use Rattle.sgt_site.proofs.Basics.{is_single}
 use Rattle.sgt_site.proofs.Pledges.{kept-from, kept-to, change-from, change-to}
-use Rattle.sgt_edges.specs.Edges.{SawAt, IsToChange, ConflictsWith, IsWriter, HasReader, Precedes, wrote_before, wrote_after, wrote_too, read_it, IsEdge, IsGiven, given, StandsForAll, SeesTooNew}
+use Rattle.sgt_edges.specs.Edges.{SawAt, IsToChange, IsWriter, HasReader, Precedes, wrote_before, wrote_after, wrote_too, read_it, IsGiven, given, StandsForAll, SeesTooNew}
 use Rattle.sgt_edges.specs.private.Gathered.{IsTooNew, IsBetween, AddsAll, FromWriter, ToWriter, FromConflicting, FromReader, IsOfRead, IsOfChange}
 use Rattle.sgt_edges.specs.declared.edge.Edge.{Edge}
 

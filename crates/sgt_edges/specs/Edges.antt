@@ -43,7 +43,8 @@ ConflictsWith (Add v) w = w.increment ≡ false
 pub data Precedes (s : SiteState) (touched : List Touch) (me : Handle) (x : Name) : Handle → Handle → Kind → Type 0 where
   wrote_before : (n k : ℕ) (w : Writer) → SawAt s touched x n → k < n → IsWriter s x k w → Precedes s touched me x w.handle me Wr
   wrote_after : (n k : ℕ) (w : Writer) → SawAt s touched x n → n ≤ k → IsWriter s x k w → Precedes s touched me x me w.handle Rw
-  wrote_too : (c : Change) (k : ℕ) (w : Writer) → IsToChange s touched x c → IsWriter s x k w → ConflictsWith c w → Precedes s touched me x w.handle me Ww
+  wrote_too : (c : Change) (k : ℕ) (w : Writer) → IsToChange s touched x c → IsWriter s x k w → ConflictsWith c w
+      → Precedes s touched me x w.handle me Ww
   read_it : (c : Change) (r : Reader) → IsToChange s touched x c → HasReader s x r → Precedes s touched me x r.handle me Rw
 
 -- an edge of the draft, from one handle to another
@@ -91,7 +92,8 @@ pub record IsActive (s : SiteState) (tx : ℕ) (touched : List Touch) : Type 0 w
   pub reads : KeepsReads s.entries tx (kept_in (at_site s.number touched))
 
 -- a conflict between the transaction and a committed one, in the log followed by its private changes, from one handle to another
-pub record IsConflict (s : SiteState) (tx : ℕ) (touched : List Touch) (me : Handle) (x : Name) (from to : Handle) (kind : Kind) : Type 0 where
+pub record IsConflict (s : SiteState) (tx : ℕ) (touched : List Touch) (me : Handle)
+    (x : Name) (from to : Handle) (kind : Kind) : Type 0 where
   pub other : ℕ
   pub handle : Handle
   pub given : handle_of s.installed other ≡ Some handle

@@ -14,7 +14,8 @@ ghost use Rattle.sgt_edges.specs.declared.fault.EdgeFault.{EdgeFault};
 /// followed by its private changes there.
 pub fn edges_are_conflicts()
     ensures { (s : SiteState) (tx : ℕ) (touched : List Touch) (me : Handle) → IsSite s → IsActive s tx touched
-        → (x : Name) (from to : Handle) (kind : Kind) → IsEdge s touched me x from to kind ↔ IsConflict s tx touched me x from to kind }
+        → (x : Name) (from to : Handle) (kind : Kind)
+        → IsEdge s touched me x from to kind ↔ IsConflict s tx touched me x from to kind }
 {}
 
 /// A transaction whose pledge for its draft stands is active, so that its edges are its conflicts.
@@ -30,7 +31,8 @@ pub fn edges_join_committed()
 
 /// No draft is refused for two reasons; want of memory stands where no version is too new.
 pub fn gathers_are_refused_once()
-    ensures { (s : SiteState) (touched : List Touch) (f g : EdgeFault) → RefusesEdges s touched f → RefusesEdges s touched g → f ≡ g }
+    ensures { (s : SiteState) (touched : List Touch) (f g : EdgeFault)
+        → RefusesEdges s touched f → RefusesEdges s touched g → f ≡ g }
 {}
 
 /// Of one draft at several sites: a walk over edges of the draft at any of them and logged conflicts between committed

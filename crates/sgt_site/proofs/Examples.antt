@@ -17,7 +17,6 @@ use Rattle.sgt_names.proofs.Places.{Contains-from_at, AllPairs_at}
 use Rattle.sgt_arena.specs.declared.handle.Handle.{Handle}
 use Rattle.sgt_site.specs.State.{version_at, HasRead, HasEnded, LogsRead, KeepsReads, writers_of, IsReader, commit_block, refuse_block, withdraw_block, AreItems}
 use Rattle.sgt_site.specs.declared.cell.Install.{Install}
-use Rattle.sgt_site.specs.declared.cell.Writer.{Writer}
 use Rattle.sgt_names.proofs.Lists.{Any_at}
 use Rattle.sgt_site.proofs.Basics.{is_single}
 

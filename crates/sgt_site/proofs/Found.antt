@@ -1,5 +1,5 @@
 -- What a search finds: an item among the cells, a transaction among the reads of an item and among those that have ended.
-use Rattle.std.proofs.Common.{◌≡◌, ℕ, ◌⊎◌, Bool, List, [], ◌∷◌, map, get_or, Option, Some, None, Result, Ok, Err, refl, sym, ap, ◌∙◌, subst, arith, inl, inr, Contains}
+use Rattle.std.proofs.Common.{◌≡◌, ℕ, Bool, List, [], ◌∷◌, map, get_or, Option, Some, None, Result, Ok, Err, refl, sym, ap, ◌∙◌, subst, arith, inl, inr, Contains}
 use mathlib.Core.Bool.{false≢true}
 use Rattle.std.specs.Prelude.{slice_get, set, IsTrue, is_some, is_ok, OnOk, OnErr, IfOk, IfErr, option_map, ◌↔◌}
 use Rattle.std.specs.List.{insert}

@@ -101,9 +101,9 @@ module _ (s : SiteState) (p : Pledge) (handle : Handle) (site : IsSite s) (cover
   value_noted : (c : Contents) → IsCell s.items s.installed s.entries c → value_at s.items (s.entries ++ bs) c.item ≡ value_with_any (Some c.value) (change_in (touch_in p.part c.item))
   value_noted c cell =
       ap (fold value_with (value_in s.items c.item)) (filter_map-append (change_of c.item) s.entries bs ∙ ap (λ (cs : List Change). filter_map (change_of c.item) s.entries ++ cs) chosen)
-          ∙ fold-append value_with (value_in s.items c.item) (filter_map (change_of c.item) s.entries) (option_to_list (option_and_then (λ d. Some d) (change_in (touch_in p.part c.item))))
-          ∙ ap (λ o. fold value_with o (option_to_list (option_and_then (λ d. Some d) (change_in (touch_in p.part c.item))))) cell.value
-          ∙ by_change (change_in (touch_in p.part c.item))
+      ∙ fold-append value_with (value_in s.items c.item) (filter_map (change_of c.item) s.entries) (option_to_list (option_and_then (λ d. Some d) (change_in (touch_in p.part c.item))))
+      ∙ ap (λ o. fold value_with o (option_to_list (option_and_then (λ d. Some d) (change_in (touch_in p.part c.item))))) cell.value
+      ∙ by_change (change_in (touch_in p.part c.item))
     where
       hits : (y : Name) (d : Change) → bytes_eq y c.item ≡ true → change_of c.item (change_entry p.tx y d) ≡ Some d
       hits y (Put v) hit = rw hit refl

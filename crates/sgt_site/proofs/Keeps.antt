@@ -1,6 +1,6 @@
 -- What a site keeps when entries are logged that change nothing.
-use Rattle.std.proofs.Common.{◌≡◌, ℕ, zero, suc, ◌+◌, ◌<◌, ◌≤◌, ◌⊎◌, List, [], ◌∷◌, ◌++◌, length, map, get_or, set, take, true, false, Option, Some, None, refl, sym, ap, ap₂, ◌∙◌, subst, arith, inl, inr, ◌≢◌, All, AllPairs, Contains, append-nil}
-use Rattle.std.specs.Prelude.{slice_get, is_some, option_map, ◌↔◌, ◌==◌}
+use Rattle.std.proofs.Common.{◌≡◌, ℕ, zero, suc, ◌+◌, ◌<◌, ◌≤◌, ◌⊎◌, List, [], ◌∷◌, ◌++◌, length, get_or, set, take, true, false, Option, Some, None, refl, sym, ap, ◌∙◌, subst, arith, inl, inr, ◌≢◌, All, AllPairs, Contains, append-nil}
+use Rattle.std.specs.Prelude.{slice_get, is_some, ◌↔◌, ◌==◌}
 use Rattle.std.specs.List.{filter_map}
 use Rattle.std.specs.Option.{ForSome}
 use Rattle.std.specs.Ordering.{nat_cmp}
@@ -8,7 +8,7 @@ use Rattle.std.specs.Cmp.Lexicographic.{slice_cmp}
 use Rattle.std.specs.declared.cmp.Ordering.TheVariants.{Less}
 use Rattle.std.proofs.lemmas.Bool.{cases_Bool, cases_order}
 use Rattle.std.proofs.lemmas.Bool.Decides.{nat_tests}
-use Rattle.std.proofs.lemmas.Option.{slice_get-get_or, slice_get_read, same_Some}
+use Rattle.std.proofs.lemmas.Option.{slice_get_read, same_Some}
 use Rattle.std.proofs.lemmas.List.Elements.{filter_map-append, Contains-append_left, Contains-append_right, All-weaker}
 use Rattle.std.proofs.Math.Seq.{take-append_seam}
 use Rattle.sgt_names.specs.Name.{Name}
@@ -24,12 +24,11 @@ use Rattle.sgt_names.specs.declared.entry.Holding.{Holding}
 use Rattle.sgt_names.proofs.Lists.{option_cases, back_at, map_at, Any_at, Any-from_at, filter_map-none}
 use Rattle.sgt_names.proofs.Places.{Contains_at, Contains-from_at, All_at, All-from_at, AllPairs_at}
 use Rattle.sgt_site.specs.declared.cell.Install.{Install}
-use Rattle.sgt_site.specs.declared.cell.Writer.{Writer}
 use Rattle.sgt_site.specs.declared.cell.Reader.{Reader}
 use Rattle.sgt_site.specs.declared.readings.Reading.{Reading}
 use Rattle.sgt_site.specs.State.{SiteState, Pledge, IsSite, IsCovered, IsReader, IsWant, HasRead, HasEnded, LogsRead, version_at, writer, writers_of, committed_in}
 use Rattle.sgt_site.specs.Refused.{MayRead}
-use Rattle.sgt_site.specs.private.Cells.{Contents, CellsRise, HasItem, IsTouched, IsAnswering, IsAnswered, AnswersAt, answer_of, items_of, values_of}
+use Rattle.sgt_site.specs.private.Cells.{Contents, CellsRise, IsTouched, IsAnswering, IsAnswered, AnswersAt, answer_of, items_of, values_of}
 use Rattle.sgt_site.specs.private.Kept.{Spare, HasRoom, IsCell, IsKept, pledge_of}
 use Rattle.sgt_site.proofs.Appends.{get_cases, chosen_from, count_before, MayFollow, orderly-append, legal-append, value-kept, LogsRead-append, LogsRead-cases, HasEnded-append, HasEnded-append_right, HasEnded-cases}
 use Rattle.sgt_site.proofs.Entries.{read_is}

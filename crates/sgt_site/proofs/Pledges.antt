@@ -1,7 +1,6 @@
 -- What a pledge asks of a draft, and what its room leaves.
-use mathlib.Core.Bool.{false≢true}
 use Rattle.std.proofs.Common.{◌≡◌, ℕ, zero, suc, List, [], ◌∷◌, get_or, take, Bool, true, false, Option, Some, None, refl, sym, ap, ◌∙◌, subst, arith, inl, inr, All, Contains}
-use Rattle.std.specs.Prelude.{slice_get, ◌↔◌, ◌==◌, if◌then◌else◌, IsSome, option_and_then}
+use Rattle.std.specs.Prelude.{slice_get, ◌==◌, if◌then◌else◌, IsSome, option_and_then}
 use Rattle.std.specs.Option.{ForSome}
 use Rattle.std.proofs.lemmas.Bool.{eqb-true, eq-eqb, cases_order}
 use Rattle.std.proofs.lemmas.Option.{same_Some, slice_get_within, slice_get-get_or}

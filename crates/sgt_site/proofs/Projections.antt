@@ -1,6 +1,6 @@
 -- The writers and versions of an item, as chosen from the log.
-use Rattle.std.proofs.Common.{◌≡◌, ℕ, zero, suc, Bool, true, List, [], ◌∷◌, length, map, take, Option, Some, None, refl, sym, ap, ap₂, ◌∙◌, subst, arith, inl, inr, Contains}
-use Rattle.std.specs.Prelude.{slice_get, ◌==◌, if◌then◌else◌, option_map, option_and_then, ◌≢◌}
+use Rattle.std.proofs.Common.{◌≡◌, ℕ, zero, suc, true, List, [], ◌∷◌, length, map, take, Option, Some, refl, sym, ap, ◌∙◌, subst, arith, inl, inr, Contains}
+use Rattle.std.specs.Prelude.{slice_get, ◌==◌, if◌then◌else◌, ◌≢◌}
 use Rattle.std.proofs.lemmas.Bool.{cases_Bool, cases_order}
 use Rattle.std.proofs.lemmas.Bool.Decides.{nat_tests}
 use Rattle.std.proofs.lemmas.Option.{same_Some}
@@ -8,7 +8,7 @@ use Rattle.sgt_names.specs.Name.{Name}
 use Rattle.sgt_names.specs.Entry.{tx_of, change_of, is_increment, Writes, IsEnd}
 use Rattle.sgt_names.specs.declared.entry.Change.{Change}
 use Rattle.sgt_names.specs.declared.entry.Entry.{Entry}
-use Rattle.sgt_names.specs.declared.entry.Entry.TheVariants.{Read, Write, Add, Want, WantAdd, Commit, Refuse, Withdraw}
+use Rattle.sgt_names.specs.declared.entry.Entry.TheVariants.{Commit, Refuse}
 use Rattle.sgt_names.proofs.Lists.{option_cases, Any-from_at}
 use Rattle.sgt_names.proofs.Places.{Contains_at, Contains-from_at, slice_get-take, AllPairs_at}
 use Rattle.sgt_arena.specs.declared.handle.Handle.{Handle}

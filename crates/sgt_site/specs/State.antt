@@ -1,5 +1,5 @@
 -- A site as contracts see it: its items, its log, the handles of its committed transactions and the pledge that stands.
-use Rattle.std.specs.Prelude.{◌≡◌, ℕ, Bool, true, false, ◌==◌, List, [], ◌∷◌, ◌++◌, length, map, take, Option, Some, None, if◌then◌else◌, All, Any, Contains, slice_get, ◌↔◌, ◌≤◌, option_map, option_and_then}
+use Rattle.std.specs.Prelude.{◌≡◌, ℕ, ◌==◌, List, [], ◌∷◌, ◌++◌, length, map, take, Option, Some, None, if◌then◌else◌, All, Any, Contains, slice_get, ◌↔◌, ◌≤◌, option_map, option_and_then}
 use Rattle.std.specs.List.{filter_map}
 use Rattle.std.specs.Option.{ForSome}
 use Rattle.std.specs.Ordering.{nat_cmp}
@@ -74,7 +74,8 @@ handle_of (i ∷ is) tx = if i.tx == tx then Some i.handle else handle_of is tx
 -- the entry's transaction with its handle, if the entry writes the item or adds to it
 abbrev pub writer : List Install → Name → Entry → Option Writer
 writer installed x e =
-    option_and_then (λ (c : Change). option_map (λ h. record { tx = tx_of e; handle = h; increment = is_increment e }) (handle_of installed (tx_of e))) (change_of x e)
+    let made : Handle → Writer = λ h. record { tx = tx_of e; handle = h; increment = is_increment e } in
+    option_and_then (λ (c : Change). option_map made (handle_of installed (tx_of e))) (change_of x e)
 
 -- who wrote an item or added to it, with their handles, in the order of the log
 abbrev pub writers_of : List Install → List Entry → Name → List Writer
@@ -131,7 +132,8 @@ pub record IsSite (s : SiteState) : Type 0 where
   -- the handles are those of the commits, in the order of the log
   pub given : map (λ i. i.tx) s.installed ≡ filter_map committed_in s.entries
   -- who changes an item is committed, and who asked to is refused
-  pub changes : (e : Entry) (x : Name) (c : Change) → Contains s.entries e → change_of x e ≡ Some c → Contains s.entries (entry.Commit (tx_of e))
+  pub changes : (e : Entry) (x : Name) (c : Change) → Contains s.entries e → change_of x e ≡ Some c
+      → Contains s.entries (entry.Commit (tx_of e))
   pub wants : (e : Entry) → Contains s.entries e → IsWant e → Contains s.entries (entry.Refuse (tx_of e))
   pub pledged : ForSome s.pledge (IsCovered s)
 

@@ -20,5 +20,6 @@ pub fn reads_are_refused_once()
 
 /// No pledge is refused for two reasons; want of memory stands where there is no other, so a pledge that may be given has none.
 pub fn pledges_are_refused_once()
-    ensures { (s : SiteState) (tx : ℕ) (touched : List Touch) (f g : SiteFault) → RefusesPledge s tx touched f → RefusesPledge s tx touched g → f ≡ g }
+    ensures { (s : SiteState) (tx : ℕ) (touched : List Touch) (f g : SiteFault)
+        → RefusesPledge s tx touched f → RefusesPledge s tx touched g → f ≡ g }
 {}

@@ -148,7 +148,9 @@ impl Site {
     pub fn read(&mut self, tx: Tx, item: Item) -> Result<Seen, SiteFault>
         ensures value { IfOk result (λ seen. value_at self.old.items self.old.entries item ≡ Some seen.value) }
         ensures version { IfOk result (λ seen. seen.version ≡ version_at self.old.entries item) }
-        ensures logged { IfOk result (λ seen. self.new ≡ record self.old { entries = self.old.entries ++ Read tx item seen.value ∷ [] }) }
+        ensures logged { IfOk result (λ seen. self.new ≡ record self.old {
+          entries = self.old.entries ++ Read tx item seen.value ∷ [];
+        }) }
         ensures err { OnErr result (self.new ≡ self.old) }
 
         // The refusals exclude each other, so each comes exactly where its case says, memory aside.

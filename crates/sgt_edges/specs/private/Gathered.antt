@@ -1,5 +1,5 @@
 -- The edges of one touched item.
-use Rattle.std.specs.Prelude.{◌≡◌, ◌≢◌, ◌⊎◌, ◌↔◌, ℕ, ◌<◌, List, [], ◌∷◌, take, drop, Some, Any, Contains}
+use Rattle.std.specs.Prelude.{◌≡◌, ◌≢◌, ◌⊎◌, ◌↔◌, ◌<◌, List, take, drop, Some, Any, Contains}
 use Rattle.sgt_names.specs.declared.draft.Seen.{Seen}
 use Rattle.sgt_names.specs.declared.draft.Touch.{Touch}
 use Rattle.sgt_names.specs.declared.entry.Change.{Change}
@@ -18,7 +18,8 @@ IsTooNew s t = (t.site ≡ s.number) × ((seen : Seen) × (t.seen ≡ Some seen)
 
 -- the edge between two handles on the touched item, if they differ
 abbrev pub IsBetween : Touch → Kind → Handle → Handle → Edge → Type 0
-IsBetween t kind from to e = (from ≢ to) × (e ≡ record { from = from; to = to; label = record { site = t.site; item = t.item; kind = kind } })
+IsBetween t kind from to e =
+    (from ≢ to) × (e ≡ record { from = from; to = to; label = record { site = t.site; item = t.item; kind = kind } })
 
 -- the edges that are so were added, and no others
 abbrev pub AddsAll : (Edge → Type 0) → List Edge → List Edge → Type 0

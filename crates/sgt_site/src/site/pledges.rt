@@ -30,7 +30,9 @@ impl Site {
     ///
     /// Goes over the draft and, for each item of the site, over what the draft touches here; it doesn't go over the log.
     pub fn pledge(&mut self, tx: Tx, draft: &Draft) -> Result<(), SiteFault>
-        ensures ok { OnOk result (self.new ≡ record self.old { pledge = Some (record { tx = tx; part = at_site self.old.number draft.now.touched }) }) }
+        ensures ok { OnOk result (self.new ≡ record self.old {
+          pledge = Some (record { tx = tx; part = at_site self.old.number draft.now.touched });
+        }) }
         ensures err { OnErr result (self.new ≡ self.old) }
 
         // The refusals exclude each other, so each comes exactly where its case says, memory aside.

@@ -1,4 +1,3 @@
-use Rattle.std.proofs.Common.{refl}
 use Rattle.sgt_site.proofs.Found.{found_reading, readings-rise}
 use Rattle.sgt_site.proofs.Inserts.{Contains-insert}
 use Rattle.sgt_site.proofs.readings.Readings.add.Goals as goal

@@ -2,7 +2,7 @@ use mathlib.Core.Bool.{false≢true}
 use Rattle.std.proofs.Common.{◌∙◌, ap, length, arith, refl, sym, subst}
 use Rattle.std.proofs.lemmas.Option.{same_Some, slice_get_read}
 use Rattle.sgt_site.specs.private.Cells.{Contents, IsAnswering}
-use Rattle.sgt_site.proofs.Keeps.{found_cell, found_known, reads-here, answered-items, answered-value, kept-read, kept-roomier, pledged_is, pledged_by, pledged_part}
+use Rattle.sgt_site.proofs.Keeps.{found_cell, found_known, reads-here, answered-value, kept-read, kept-roomier, pledged_is, pledged_by, pledged_part}
 use Rattle.sgt_site.proofs.site.Site.read.Goals as goal
 
 pub has_ended-requires : goal.has_ended-requires

@@ -1,4 +1,4 @@
-use Rattle.std.proofs.Common.{refl, subst, sym, Contains}
+use Rattle.std.proofs.Common.{refl}
 use Rattle.sgt_site.proofs.Keeps.{found_cell, found_known}
 use Rattle.sgt_site.proofs.site.Site.readers.Goals as goal
 
