@@ -1,5 +1,5 @@
 -- The order after one region of it was moved.
-use Rattle.std.proofs.Common.{◌≡◌, ◌⊎◌, ℕ, zero, suc, ◌+◌, ◌-◌, ◌<◌, ◌≤◌, Bool, false, List, [], ◌∷◌, ◌++◌, length, take, drop, Option, Some, None, refl, sym, ap, ◌∙◌, subst, arith, inl, inr, Contains, length-append}
+use Rattle.std.proofs.Common.{◌≡◌, ℕ, zero, suc, ◌+◌, ◌-◌, ◌<◌, ◌≤◌, Bool, false, List, [], ◌∷◌, ◌++◌, length, take, drop, Option, Some, None, refl, sym, ap, ◌∙◌, subst, arith, inl, inr, Contains, length-append}
 use Rattle.std.specs.Prelude.{slice_get, slice_set, not, filter, ◌↔◌}
 use Rattle.std.proofs.lemmas.Bool.{cases_lt, cases_eq, cases_Bool}
 use Rattle.std.proofs.lemmas.Option.{same_Some, none-some, slice_get_within}
@@ -8,7 +8,7 @@ use Rattle.std.proofs.lemmas.List.Filters.{length-filter_both}
 use Rattle.std.proofs.lemmas.List.Sorted.{IsPermutation-filter_both, Contains-permutation}
 use Rattle.sgt_names.proofs.Places.{Contains-from_at, Contains_at, slice_get-drop}
 use Rattle.sgt_arena.specs.declared.handle.Handle.{Handle}
-use Rattle.sgt_arena.specs.Arena.{Arena, get}
+use Rattle.sgt_arena.specs.Arena.{Arena}
 use Rattle.sgt_edges.specs.declared.edge.Edge.{Edge}
 use Rattle.sgt_order.specs.declared.node.Node.{Node}
 use Rattle.sgt_order.specs.Graph.{placed}

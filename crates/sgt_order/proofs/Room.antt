@@ -1,5 +1,5 @@
 -- The room for an admission, as contracts see it and as the parts have it.
-use Rattle.std.proofs.Common.{◌≡◌, ℕ, ◌+◌, ◌-◌, ◌<◌, ◌≤◌, List, ◌++◌, length, Option, refl, sym, ap, ◌∙◌, subst, arith, min, Vec, vec_len, vec_capacity}
+use Rattle.std.proofs.Common.{◌≡◌, ℕ, ◌+◌, ◌-◌, ◌<◌, ◌≤◌, List, ◌++◌, length, Option, sym, ap, ◌∙◌, subst, arith, min, Vec, vec_len, vec_capacity}
 use Rattle.std.specs.Prelude.{filter, slice_index, Result, Ok, Err, IfErr, Any}
 use Rattle.std.specs.declared.alloc.Global.{Global}
 use Rattle.sgt_arena.specs.declared.handle.Handle.{Handle}
@@ -10,7 +10,7 @@ use Rattle.sgt_order.specs.declared.fault.Admit.TheVariants.{Cycle, Memory, Stal
 use Rattle.sgt_order.specs.Graph.{IsAcyclic}
 use Rattle.sgt_order.specs.SerializationGraph.{SerializationGraph, HasRoomFor, AdmitRefuses, IsCycleThrough, Joins, LeadsBack, present, is_present, leaves}
 use Rattle.sgt_order.specs.private.Parts.{FitTogether, Lists, transactions_of, rooms_of}
-use Rattle.sgt_order.specs.private.Search.{IsAtRest, no_marks, in_window}
+use Rattle.sgt_order.specs.private.Search.{IsAtRest, no_marks}
 use Rattle.sgt_order.specs.private.Growth.{KeepsRoom, HaveRoom, HaveSpace}
 use Rattle.sgt_order.specs.private.Admission.{HasAllRoom, LeadsToOlder, RefusesAdmission, edges_with}
 use Rattle.sgt_order.proofs.Growing.{space_kept}

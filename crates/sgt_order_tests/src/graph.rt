@@ -79,12 +79,15 @@ fn is_order(graph: &Graph, wanted: &[u32]) -> bool {
 fn order_of_six(rt: HostRuntime) -> Result<(), Fail> {
     let alloc = rt.alloc();
     let mut graph = Graph::new(alloc);
-    let mut nodes = [Handle::default(); 7];
-    for number in 1..7u64 {
-        let node = graph.node(Tx::new(number)?)?;
-        nodes[number as usize] = node;
+    let mut nodes = Vec::new(alloc);
+    for number in 1..7 {
+        nodes.push(graph.node(Tx::new(number)?)?)?;
     }
-    let [_, one, two, three, four, five, six] = nodes;
+    let [one, two, three, four, five, six] = [0, 1, 2, 3, 4, 5].map(|at: usize| nodes
+        .as_slice()
+        .get(at)
+        .copied()
+        .unwrap_or_default());
     let steps: [(Handle, &[(Handle, Handle)], Said, &[u32]); 8] = [
         (one, &[], Said::Admitted, &[1]),
         (two, &[], Said::Admitted, &[1, 2]),

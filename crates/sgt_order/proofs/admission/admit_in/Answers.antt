@@ -1,4 +1,4 @@
-use Rattle.std.proofs.Common.{◌≡◌, ◌+◌, sym, ap, ◌∙◌, ◌++◌, subst, arith, length, drop}
+use Rattle.std.proofs.Common.{sym, ap, ◌∙◌, ◌++◌, subst, arith, length, drop}
 use Rattle.std.proofs.lemmas.Result.{err_from_is_err_and}
 use Rattle.sgt_order.specs.Graph.{IsAcyclic, IsPlaced}
 use Rattle.sgt_order.specs.SerializationGraph.{Joins}

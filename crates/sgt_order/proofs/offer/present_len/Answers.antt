@@ -1,9 +1,9 @@
-use Rattle.std.proofs.Common.{◌<◌, sym, ap, ◌∙◌, length, arith, take}
+use Rattle.std.proofs.Common.{sym, ap, ◌∙◌, length, arith, take}
 use Rattle.std.proofs.lemmas.List.{length_push, length-take-le}
 use Rattle.std.specs.Prelude.{filter}
 use Rattle.sgt_names.proofs.Lists.{element_at}
 use Rattle.sgt_order.specs.SerializationGraph.{is_present}
-use Rattle.sgt_order.proofs.Lists.{filter_hit, filter_miss, filter_room}
+use Rattle.sgt_order.proofs.Lists.{filter_hit, filter_miss}
 use Rattle.sgt_order.proofs.Present.{filter_less}
 use Rattle.sgt_order.proofs.offer.present_len.Goals as goal
 use Rattle.sgt_order.proofs.offer.present_len.Goals.{then-is_present, else-is_present}

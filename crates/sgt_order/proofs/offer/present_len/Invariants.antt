@@ -1,4 +1,4 @@
-use Rattle.std.proofs.Common.{◌≡◌, ◌≤◌, length, take}
+use Rattle.std.proofs.Common.{◌≡◌, length, take}
 use Rattle.std.specs.Prelude.{filter}
 use Rattle.sgt_order.specs.SerializationGraph.{is_present}
 use Rattle.sgt_order.proofs.offer.present_len.Given as goal

@@ -1,4 +1,4 @@
-use Rattle.std.proofs.Common.{◌≡◌, sym, ap, ◌∙◌, ◌++◌, ◌-◌, arith, length, take, drop}
+use Rattle.std.proofs.Common.{sym, ap, ◌∙◌, ◌++◌, ◌-◌, arith, length, take, drop}
 use Rattle.sgt_order.specs.Graph.{placed}
 use Rattle.sgt_order.specs.private.Search.{is_marked}
 use Rattle.sgt_order.proofs.Lists.{whole_rest, rest_long}

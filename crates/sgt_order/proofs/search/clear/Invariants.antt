@@ -1,4 +1,4 @@
-use Rattle.std.proofs.Common.{drop, length, ◌≡◌}
+use Rattle.std.proofs.Common.{drop}
 use Rattle.sgt_order.specs.private.Search.{AreAmong}
 use Rattle.sgt_order.proofs.search.clear.Given as goal
 

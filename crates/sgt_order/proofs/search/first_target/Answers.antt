@@ -1,9 +1,7 @@
-use Rattle.std.proofs.Common.{◌≡◌, ◌≤◌, ℕ, Some, sym, ap, ◌∙◌, arith, inl, inr, take}
+use Rattle.std.proofs.Common.{Some, sym, ap, ◌∙◌, arith, inl, inr}
 use Rattle.std.specs.Prelude.{slice_get}
 use Rattle.std.proofs.lemmas.List.{take_all}
 use Rattle.sgt_names.proofs.Lists.{element_at}
-use Rattle.sgt_edges.specs.declared.edge.Edge.{Edge as Joint}
-use Rattle.sgt_order.specs.private.Search.{IsFrom}
 use Rattle.sgt_order.proofs.Handles.{handle_other}
 use Rattle.sgt_order.proofs.Lists.{get_take_next}
 use Rattle.sgt_order.proofs.search.first_target.Goals as goal
