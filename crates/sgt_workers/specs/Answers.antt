@@ -27,7 +27,8 @@ abbrev pub IsTold : ℕ → List Done → PoolFault → Type 0
 IsTold count dones Memory = ⊥
 IsTold count dones (Unrun n) = IsJob count n × All (λ d. d.job ≡ n → ⊥) dones
 IsTold count dones (Doubled n) =
-    (i : ℕ) × (j : ℕ) × (d : Done) × (e : Done) × (i < j) × (slice_get dones i ≡ Some d) × (slice_get dones j ≡ Some e) × (d.job ≡ n) × (e.job ≡ n)
+    (i : ℕ) × (j : ℕ) × (d : Done) × (e : Done) × (i < j)
+    × (slice_get dones i ≡ Some d) × (slice_get dones j ≡ Some e) × (d.job ≡ n) × (e.job ≡ n)
 
 -- a fault of the pool, and none of its work
 abbrev pub IsOwn : {E : Type 0} → PoolFail E → Type 0
