@@ -1,15 +1,8 @@
 //! `sgt` reads standard input and writes standard output.
 #![tactic(auto)]
 
-mod choice;
-#[cfg(test)]
-mod examples;
-mod program;
-#[cfg(test)]
-mod tests;
-
-use program::{give_up, program, refuse_words};
 use sgt_names::{EngineFail, FromRead, ToWrite};
+use sgt_program::{give_up, program, refuse_words};
 use std::process::ExitCode;
 use std::{env, io};
 

@@ -154,14 +154,13 @@ impl<T> Arena<T> {
         &mut self.values[handle.index as usize]
     }
 
-    /// Drops all values and begins the next window, in which no handle that was given before shows anything. The memory is
-    /// kept, as room for as many values. It errs with G3 in the window of the greatest number, 4,294,967,295, and the arena
-    /// is then as it was. That each value is dropped once, and in the order of placing, is tested and no clause.
+    /// Drops all values, gives their memory back and begins the next window, in which no handle that was given before shows
+    /// anything. It errs with G3 in the window of the greatest number, 4,294,967,295, and the arena is then as it was. That
+    /// each value is dropped once, and in the order of placing, is tested and no clause.
     pub fn close(&mut self) -> Result<(), ArenaFault>
     where
         T: Drop,
         ensures ok { OnOk result ((self.new.items ≡ []) × (self.new.generation ≡ self.old.generation + 1)) }
-        ensures room { OnOk result (self.new.room ≡ self.old.room + length self.old.items) }
         ensures last { IsErr result ↔ (self.old.generation ≡ last_generation) }
         ensures err { OnErr result (self.new ≡ self.old) }
         ensures fault { IfErr result (λ fault. fault ≡ ArenaFault.GenerationsSpent) }
@@ -169,7 +168,7 @@ impl<T> Arena<T> {
         if self.generation == u32::MAX {
             return Err(ArenaFault::GenerationsSpent);
         }
-        self.values.clear();
+        self.values = Vec::new(*self.values.allocator());
         self.generation += 1;
         Ok(())
     }

@@ -8,8 +8,6 @@ mod arena;
 mod fault;
 mod handle;
 mod limits;
-#[cfg(test)]
-mod tests;
 
 pub use arena::Arena;
 pub use fault::{ArenaFault, Refused};

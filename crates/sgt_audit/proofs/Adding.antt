@@ -7,8 +7,9 @@ use Rattle.sgt_notation.specs.declared.SectionLine.{SectionLine}
 use Rattle.sgt_notation.specs.declared.SectionLine.TheVariants.{Site, Initial, Logged, Final, End}
 use Rattle.sgt_cert.specs.Text.{Begins, AreSections}
 use Rattle.sgt_cert.specs.declared.bundle.SiteLog.{SiteLog}
-use Rattle.sgt_audit.specs.Reading.{Begun, lines_read, IsBegun, MayFollow, FitsBetween, Fits, with_line, no_log, next_current, next_whole}
-use Rattle.sgt_audit.proofs.Streaming.{follow-decides, added-begun, added-lines, whole-sections, are-sections}
+use Rattle.sgt_audit.specs.Reading.{Begun, lines_read, IsBegun}
+use Rattle.sgt_audit.specs.private.Following.{MayFollow, FitsBetween, Fits, with_line, no_log, next_current, next_whole}
+use Rattle.sgt_audit.proofs.MayFollow.{follow-decides, added-begun, added-lines, whole-sections, are-sections}
 
 -- a line that isn't the end stays in the open section
 inside : (log : SiteLog) (line : SectionLine) → (line ≡ End → ⊥) → next_current log line ≡ Some (with_line log line)

@@ -4,10 +4,10 @@ use Rattle.std.specs.Prelude.{slice_get}
 use Rattle.std.proofs.lemmas.List.{map-append, length-map}
 use Rattle.std.proofs.lemmas.Option.{slice_get-map}
 use Rattle.sgt_names.proofs.Places.{All-from_at, All_at, AllPairs-from_at, AllPairs_at}
+use Rattle.sgt_names.proofs.Lists.{map_at}
 use Rattle.sgt_cert.specs.Certificate.{IsCommitted, IsCycle, stops}
 use Rattle.sgt_cert.specs.declared.certificate.Step.{Step}
 use Rattle.sgt_cert.specs.declared.certificate.Decision.{Decision}
-use Rattle.sgt_audit.proofs.Slices.{mapped_at}
 
 pub push-one : {A : Type 0} (xs ys : List A) (x y : A) → xs ++ x ∷ [] ≡ ys ++ y ∷ [] → (xs ≡ ys) × (x ≡ y)
 push-one [] [] x y e = (refl, cc)
@@ -35,14 +35,14 @@ module _ (decisions : List Decision) (number tx : ℕ) (walk between : List Step
     long = omega (arith, length-map between (λ (s : Step). s.to));
     closed = stops-are ∙ ap (λ t. stops between ++ t ∷ []) closed;
     distinct = AllPairs-from_at (λ a b. a ≢ b) (stops between) (λ p q a b lt at_p at_q e.
-        let s = mapped_at (λ (s : Step). s.to) between p a at_p in
-        let t = mapped_at (λ (s : Step). s.to) between q b at_q in
+        let s = map_at (λ (s : Step). s.to) between p a at_p in
+        let t = map_at (λ (s : Step). s.to) between q b at_q in
         AllPairs_at (λ (a b : Step). a.to ≢ b.to) between p q s.0 t.0 apart lt s.1 t.1 (s.2 ∙ e ∙ sym t.2));
     others = All-from_at (λ a. a ≢ tx) (stops between) (λ n a at e.
-        let s = mapped_at (λ (s : Step). s.to) between n a at in
+        let s = map_at (λ (s : Step). s.to) between n a at in
         (All_at (LeadsThrough decisions number tx) between n s.0 through s.1).0 (s.2 ∙ e));
     earlier = All-from_at (λ a. (m : ℕ) × (rank : ℕ) × (m < number) × IsCommitted decisions m a rank) (stops between) (λ n a at.
-        let s = mapped_at (λ (s : Step). s.to) between n a at in
+        let s = map_at (λ (s : Step). s.to) between n a at in
         subst (λ t. (m : ℕ) × (rank : ℕ) × (m < number) × IsCommitted decisions m t rank) s.2 (All_at (LeadsThrough decisions number tx) between n s.0 through s.1).1);
   }
 

@@ -1,9 +1,8 @@
 -- An auditor that is fed line by line.
-use Rattle.std.proofs.Common.{◌≡◌, ℕ, ◌+◌, ◌<◌, ◌^◌, List, [], ◌∷◌, ◌++◌, length, None, Ok, refl, sym, ap, ◌∙◌, subst, arith}
-use Rattle.std.specs.Prelude.{codes}
+use Rattle.std.proofs.Common.{◌≡◌, ℕ, ◌+◌, ◌<◌, ◌^◌, Bool, List, [], ◌∷◌, ◌++◌, length, None, Ok, refl, sym, ap, ◌∙◌, subst, arith}
 use Rattle.std.proofs.lemmas.List.{append-nil, length-append}
 use Rattle.sgt_notation.specs.Spelling.{text_of_lines, HasNoLf}
-use Rattle.sgt_cert.specs.Text.{certificate_text}
+use Rattle.sgt_cert.specs.Text.{certificate_text, format_line}
 use Rattle.sgt_cert.specs.declared.certificate.Certificate.{Certificate}
 use Rattle.sgt_audit.specs.declared.faults.Fault.{Fault}
 use Rattle.sgt_audit.specs.declared.kept.Kept.{Kept}
@@ -11,11 +10,12 @@ use Rattle.sgt_audit.specs.declared.machine.Machine.{Machine}
 use Rattle.sgt_audit.specs.declared.machine.Progress.TheVariants as at
 use Rattle.sgt_audit.specs.declared.auditor.Standing.TheVariants.{Going, Found}
 use Rattle.sgt_audit.specs.Faults.{Stage, headed, whole, last, lines_so_far, Rule, Breaks, FirstFault}
-use Rattle.sgt_audit.specs.Progress.{Stands, Follows}
+use Rattle.sgt_audit.specs.Progress.{Stands}
+use Rattle.sgt_audit.specs.private.NextLine.{Follows}
 use Rattle.sgt_audit.specs.Verdict.{IsVerdict, yes_of}
 use Rattle.sgt_audit.specs.Fed.{HasRead, bundle_lines}
-use Rattle.sgt_audit.specs.Ending.{EndsWith}
-use Rattle.sgt_audit.proofs.Going.{faultless, one-line}
+use Rattle.sgt_audit.specs.private.Ending.{EndsWith}
+use Rattle.sgt_audit.proofs.ReaderAtStage.{faultless, one-line}
 use Rattle.sgt_audit.proofs.Verdicts.{kept-verdict}
 
 -- a fault in the next line, whatever follows
@@ -65,9 +65,9 @@ whole-verdict m n k lines (s, stands, same, counts) ends =
 
 -- ---- the certificate's line
 
-pub first-read : (m : Machine) (l : List ℕ) (c : Certificate) → l ≡ certificate_text c → Follows headed l m.progress None → HasRead (Going m 3) (bundle_lines c [])
-first-read m l c same (t, stands, lines) = (t, stands, lines ∙ ap (λ x. codes "sgt 1" ∷ x ∷ []) same, λ _. refl)
+pub first-read : (second : Bool) (m : Machine) (l : List ℕ) (c : Certificate) → l ≡ certificate_text c → Follows (headed second) l m.progress None → HasRead (Going m 3) (bundle_lines second c [])
+first-read second m l c same (t, stands, lines) = (t, stands, lines ∙ ap (λ x. format_line second ∷ x ∷ []) same, λ _. refl)
 
-pub first-fault : (m : Machine) (l : List ℕ) (c : Certificate) (f : Fault) → m.progress ≡ at.Headed → HasNoLf (certificate_text c) → l ≡ certificate_text c → ((s : Stage) → Stands m.progress s → Breaks (Rule s (whole l)) f) → HasRead (Found 2 f) (bundle_lines c [])
-first-fault m l c f here none same breaks =
-    fault-read m 2 (codes "sgt 1" ∷ []) (certificate_text c) f none (headed, subst (λ p. Stands p headed) (sym here) refl, refl, λ _. refl) (λ s stands. subst (λ l. Breaks (Rule s (whole l)) f) same (breaks s stands))
+pub first-fault : (second : Bool) (m : Machine) (l : List ℕ) (c : Certificate) (f : Fault) → m.progress ≡ at.Headed second → HasNoLf (certificate_text c) → l ≡ certificate_text c → ((s : Stage) → Stands m.progress s → Breaks (Rule s (whole l)) f) → HasRead (Found 2 f) (bundle_lines second c [])
+first-fault second m l c f here none same breaks =
+    fault-read m 2 (format_line second ∷ []) (certificate_text c) f none (headed second, subst (λ p. Stands p (headed second)) (sym here) refl, refl, λ _. refl) (λ s stands. subst (λ l. Breaks (Rule s (whole l)) f) same (breaks s stands))

@@ -19,7 +19,7 @@ use Rattle.sgt_cert.specs.declared.bundle.SiteLog.{SiteLog}
 use Rattle.sgt_audit.specs.declared.faults.Fault.{Fault}
 use Rattle.sgt_audit.specs.declared.faults.Fault.TheVariants as fault
 use Rattle.sgt_audit.specs.Faults.{fault_number, items_in, entries_in, Keeps, Breaks}
-use Rattle.sgt_audit.specs.Judging.{IsLegalRead, GoesOn, HasOpen, KeptBelow}
+use Rattle.sgt_audit.specs.private.Judging.{IsLegalRead, ContinuesLog, HasOpen, KeptBelow}
 use Rattle.sgt_audit.proofs.FaultNumbers.{number-one}
 
 -- the rule of number n is kept too
@@ -131,7 +131,9 @@ module _ (c : Certificate) (ds : List Decision) (before : List SectionLine) (e :
   legal-keeps : (e : Entry) → IsLegalRead (items_in before) (entries_in before) e → Keeps c before (Logged e) fault.ReadValue
   legal-keeps (entry.Read tx x v) h = h
   legal-keeps (entry.Write tx x v) h = tt
+  legal-keeps (entry.Add tx x v) h = tt
   legal-keeps (entry.Want tx x v) h = tt
+  legal-keeps (entry.WantAdd tx x v) h = tt
   legal-keeps (entry.Commit tx) h = tt
   legal-keeps (entry.Refuse tx) h = tt
   legal-keeps (entry.Withdraw tx) h = tt
@@ -139,7 +141,9 @@ module _ (c : Certificate) (ds : List Decision) (before : List SectionLine) (e :
   keeps-legal : (e : Entry) → Keeps c before (Logged e) fault.ReadValue → IsLegalRead (items_in before) (entries_in before) e
   keeps-legal (entry.Read tx x v) h = h
   keeps-legal (entry.Write tx x v) h = tt
+  keeps-legal (entry.Add tx x v) h = tt
   keeps-legal (entry.Want tx x v) h = tt
+  keeps-legal (entry.WantAdd tx x v) h = tt
   keeps-legal (entry.Commit tx) h = tt
   keeps-legal (entry.Refuse tx) h = tt
   keeps-legal (entry.Withdraw tx) h = tt
@@ -172,10 +176,10 @@ module _ (c : Certificate) (ds : List Decision) (before : List SectionLine) (e :
           upto-12 : KeptBelow rule 12
           upto-12 = kept-next rule 11 fault.RankOrder refl upto-11 (subst (RisesIn c.decisions) (sym at_entries) (subst (λ ds. RisesIn ds entries) (sym same) rises))
 
-          pub block-broken : (GoesOn log (Logged e) → ⊥) → Breaks rule fault.Block
+          pub block-broken : (ContinuesLog log (Logged e) → ⊥) → Breaks rule fault.Block
           block-broken miss = least-at rule 12 fault.Block refl upto-12 (λ r. miss (λ f none at. r f (o.entry_last f none at)))
 
-          module _ (goes : GoesOn log (Logged e)) where
+          module _ (goes : ContinuesLog log (Logged e)) where
             upto-13 : KeptBelow rule 13
             upto-13 = kept-next rule 12 fault.Block refl upto-12 (λ f last. goes f (o.last f last).0 (o.last f last).1)
 
@@ -211,7 +215,7 @@ module _ (c : Certificate) (before : List SectionLine) (h : Holding) (log : Site
       let upto-8 = kept-next final_rule 7 fault.Section refl (final-7 c before h) begins in
       kept-next final_rule 11 fault.RankOrder refl (kept-next final_rule 10 fault.ReadValue refl (kept-next final_rule 9 fault.Twice refl (kept-next final_rule 8 fault.Item refl upto-8 tt) tt) tt) tt
 
-  module _ (goes : GoesOn log (Final h)) where
+  module _ (goes : ContinuesLog log (Final h)) where
     final-15 : KeptBelow final_rule 15
     final-15 =
         let upto-13 = kept-next final_rule 12 fault.Block refl final-12 (λ f last. goes f (o.last f last).0 (o.last f last).1) in
@@ -245,7 +249,7 @@ module _ (c : Certificate) (before : List SectionLine) (log : SiteLog) (entries 
       let upto-8 = kept-next end_rule 7 fault.Section refl (end-7 c before) begins in
       kept-next end_rule 11 fault.RankOrder refl (kept-next end_rule 10 fault.ReadValue refl (kept-next end_rule 9 fault.Twice refl (kept-next end_rule 8 fault.Item refl upto-8 tt) tt) tt) tt
 
-  module _ (goes : GoesOn log End) where
+  module _ (goes : ContinuesLog log End) where
     end-15 : KeptBelow end_rule 15
     end-15 =
         let upto-13 = kept-next end_rule 12 fault.Block refl end-12 (λ f last. goes f (o.last f last).0 (o.last f last).1) in

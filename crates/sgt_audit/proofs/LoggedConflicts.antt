@@ -10,10 +10,10 @@ use Rattle.sgt_names.specs.Entry.{tx_of, Clash}
 use Rattle.sgt_names.specs.Log.{Conflicts}
 use Rattle.sgt_names.specs.declared.entry.Entry.{Entry}
 use Rattle.sgt_names.specs.declared.entry.Kind.{Kind}
+use Rattle.sgt_names.proofs.Lists.{Any_at, Any-from_at, drop_next, element_at}
 use Rattle.sgt_cert.specs.Valid.{IsLogged, AreLogged}
 use Rattle.sgt_cert.specs.declared.bundle.SiteLog.{SiteLog}
 use Rattle.sgt_cert.specs.declared.certificate.Step.{Step}
-use Rattle.sgt_audit.proofs.Slices.{Any_at, Any-from_at, drop_here}
 
 -- the entry is of b, and one of these of a clashes with it
 abbrev pub Meets : List Entry → Kind → Name → (a b : ℕ) → Entry → Type 0
@@ -62,13 +62,13 @@ none-met entries kind x a b n le none = (λ e. absurd (false≢true e), λ c. ab
 module _ (sites : List SiteLog) (from at : ℕ) (walk : List Step) (n : ℕ) (before : AreLogged sites at (drop n walk) ↔ AreLogged sites from walk) where
   module _ (step : Step) (lt : n < length walk) (is : step ≡ get_or walk n step) where
     opened : AreLogged sites at (drop n walk) → IsLogged sites at step × AreLogged sites step.to (drop (n + 1) walk)
-    opened h = subst (AreLogged sites at) (drop_here walk n step lt is) h
+    opened h = subst (AreLogged sites at) (drop_next walk n step (element_at walk n step lt is)) h
 
     pub step-fails : (IsLogged sites at step → ⊥) → IsTrue false ↔ AreLogged sites from walk
     step-fails miss = (λ e. absurd (false≢true e), λ h. absurd (miss (opened (before.1 h)).0))
 
     pub step-holds : IsLogged sites at step → AreLogged sites step.to (drop (n + 1) walk) ↔ AreLogged sites from walk
-    step-holds hit = (λ h. before.0 (subst (AreLogged sites at) (sym (drop_here walk n step lt is)) (hit, h)), λ h. (opened (before.1 h)).1)
+    step-holds hit = (λ h. before.0 (subst (AreLogged sites at) (sym (drop_next walk n step (element_at walk n step lt is))) (hit, h)), λ h. (opened (before.1 h)).1)
 
   pub steps-end : length walk ≤ n → IsTrue true ↔ AreLogged sites from walk
   steps-end le = (λ _. before.0 (subst (AreLogged sites at) (sym (drop_all n walk le)) tt), λ _. refl)

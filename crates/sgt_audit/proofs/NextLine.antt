@@ -1,7 +1,7 @@
 -- One more line behind lines that have no fault.
-use Rattle.std.proofs.Common.{◌≡◌, ℕ, List, [], ◌∷◌, ◌++◌, length, None, refl, sym, ap, ◌∙◌, subst, arith, lit<, inl, inr, Contains}
+use Rattle.std.proofs.Common.{◌≡◌, ℕ, Bool, List, [], ◌∷◌, ◌++◌, length, None, refl, sym, ap, ◌∙◌, subst, arith, lit<, inl, inr, Contains}
 use Rattle.std.proofs.lemmas.List.{append-nil}
-use Rattle.sgt_notation.specs.Spelling.{line_text, IsLine}
+use Rattle.sgt_notation.specs.Spelling.{line_text}
 use Rattle.sgt_notation.proofs.OneSpelling.{line-one}
 use Rattle.sgt_notation.specs.declared.SectionLine.{SectionLine}
 use Rattle.sgt_notation.specs.declared.SectionLine.TheVariants.{Site, Initial, Logged, Final, End}
@@ -14,46 +14,62 @@ use Rattle.sgt_cert.specs.declared.certificate.Step.{Step}
 use Rattle.sgt_cert.specs.declared.bundle.SiteLog.{SiteLog}
 use Rattle.sgt_audit.specs.declared.faults.Fault.{Fault}
 use Rattle.sgt_audit.specs.declared.faults.Fault.TheVariants as fault
-use Rattle.sgt_audit.specs.Faults.{Keeps, Stage, within, whole, Rule, Breaks}
-use Rattle.sgt_audit.specs.Judging.{KeptBelow}
+use Rattle.sgt_audit.specs.Faults.{AllKept, IsLineIn, Keeps, Stage, within, whole, Rule, Breaks}
+use Rattle.sgt_audit.specs.private.Judging.{KeptBelow}
 use Rattle.sgt_audit.specs.Reading.{Begun, lines_read, IsBegun}
 use Rattle.sgt_audit.specs.Kept.{Means, IsStageOf}
-use Rattle.sgt_audit.proofs.Cuts.{cut_append, last_cut}
+use Rattle.sgt_audit.proofs.LinePlaces.{cut_append, last_cut}
 use Rattle.sgt_audit.proofs.Cycles.{push-one}
 use Rattle.sgt_audit.proofs.SectionLines.{last_end}
-use Rattle.sgt_audit.proofs.Streaming.{sections-whole, whole-sections}
+use Rattle.sgt_audit.proofs.MayFollow.{sections-whole, whole-sections}
 use Rattle.sgt_audit.proofs.Least.{least-at}
 
--- the fault of a line is the fault of the text that spells it
-module _ (c : Certificate) (before : List SectionLine) (line : SectionLine) (is : IsLine line) (f : Fault) (breaks : Breaks (Keeps c before line) f) where
-  no_notation : (line : SectionLine) → Keeps c before line fault.Notation
-  no_notation (Site k) = tt
-  no_notation (Initial h) = tt
-  no_notation (Logged e) = tt
-  no_notation (Final h) = tt
-  no_notation End = tt
+-- no line keeps a rule of notation by itself
+pub no_notation : (c : Certificate) (before : List SectionLine) (line : SectionLine) → Keeps c before line fault.Notation
+no_notation c before (Site k) = tt
+no_notation c before (Initial h) = tt
+no_notation c before (Logged e) = tt
+no_notation c before (Final h) = tt
+no_notation c before End = tt
 
-  within-broken : (g : Fault) → (Keeps c before line g → ⊥) → Rule (within c before) (whole (line_text line)) g → ⊥
-  within-broken fault.Notation miss h = miss (no_notation line)
+-- lines that keep every rule, and one more
+module _ (second : Bool) (c : Certificate) (before : List SectionLine) (line : SectionLine) (kept : AllKept second c before) (spelled : IsLineIn second line) (rules : (f : Fault) → Keeps c before line f) where
+  each-line : (earlier later : List SectionLine) (l : SectionLine) → before ++ line ∷ [] ≡ earlier ++ l ∷ later → IsLineIn second l × ((f : Fault) → Keeps c earlier l f)
+  each-line earlier later l e =
+      elim (cut_append before (line ∷ []) earlier later l e) [
+        | inl first ↦ kept.lines earlier first.0 l first.1
+        | inr last ↦
+            let same = last_cut line last.0 later l last.2 in
+            let front = last.1 ∙ ap (λ (ls : List SectionLine). before ++ ls) same.1 ∙ append-nil before in
+            subst (λ ls. IsLineIn second l × ((f : Fault) → Keeps c ls l f)) (sym front) (subst (λ l. IsLineIn second l × ((f : Fault) → Keeps c before l f)) same.0 (spelled, rules))
+      ]
+
+  pub kept-more : AllKept second c (before ++ line ∷ [])
+  kept-more = record { spelled = kept.spelled; itself = kept.itself; lines = each-line }
+
+-- the fault of a line is the fault of the text that spells it
+module _ (second : Bool) (c : Certificate) (before : List SectionLine) (line : SectionLine) (is : IsLineIn second line) (f : Fault) (breaks : Breaks (Keeps c before line) f) where
+  within-broken : (g : Fault) → (Keeps c before line g → ⊥) → Rule (within second c before) (whole (line_text line)) g → ⊥
+  within-broken fault.Notation miss h = miss (no_notation c before line)
   within-broken g miss h = miss (h line is refl)
 
-  within-kept : (g : Fault) → Keeps c before line g → Rule (within c before) (whole (line_text line)) g
+  within-kept : (g : Fault) → Keeps c before line g → Rule (within second c before) (whole (line_text line)) g
   within-kept fault.Notation k = (line, is, refl)
-  within-kept g k = λ m is_m same. subst (λ l. Keeps c before l g) (line-one line m is is_m same) k
+  within-kept g k = λ m is_m same. subst (λ l. Keeps c before l g) (line-one line m is.0 is_m.0 same) k
 
-  within-breaks : Breaks (Rule (within c before) (whole (line_text line))) f
+  within-breaks : Breaks (Rule (within second c before) (whole (line_text line))) f
   within-breaks = record { broken = within-broken f breaks.broken; least = λ g lt. within-kept g (breaks.least g lt) }
 
 -- what was read is not all, so the stage is within
-stage-within : (c : Certificate) (b : Begun) (before : List SectionLine) (s : Stage) → Means c b before → (AreSections b.sites (lines_read b) → ⊥) → IsStageOf c before s → s ≡ within c before
-stage-within c b before s m open_yet (inl here) = here.0
-stage-within c b before s m open_yet (inr done) = absurd (open_yet (subst (λ n. AreSections n (lines_read b)) (sym m.sites) (subst (AreSections c.sites) m.lines done.1)))
+stage-within : (second : Bool) (c : Certificate) (b : Begun) (before : List SectionLine) (s : Stage) → Means second c b before → (AreSections b.sites (lines_read b) → ⊥) → IsStageOf second c before s → s ≡ within second c before
+stage-within second c b before s m open_yet (inl here) = here.0
+stage-within second c b before s m open_yet (inr done) = absurd (open_yet (subst (λ n. AreSections n (lines_read b)) (sym m.sites) (subst (AreSections c.sites) m.lines done.1)))
 
-pub line-breaks : (c : Certificate) (b : Begun) (before : List SectionLine) (line : SectionLine) (l : List ℕ) (f : Fault) → Means c b before → (AreSections b.sites (lines_read b) → ⊥) → IsLine line → l ≡ line_text line → Breaks (Keeps c (lines_read b) line) f
-    → (s : Stage) → IsStageOf c before s → Breaks (Rule s (whole l)) f
-line-breaks c b before line l f m open_yet is same breaks s stage =
-    subst (λ t. Breaks (Rule t (whole l)) f) (sym (stage-within c b before s m open_yet stage))
-    (subst (λ m. Breaks (Rule (within c before) (whole m)) f) (sym same) (within-breaks c before line is f (subst (λ ls. Breaks (Keeps c ls line) f) (sym m.lines) breaks)))
+pub line-breaks : (second : Bool) (c : Certificate) (b : Begun) (before : List SectionLine) (line : SectionLine) (l : List ℕ) (f : Fault) → Means second c b before → (AreSections b.sites (lines_read b) → ⊥) → IsLineIn second line → l ≡ line_text line → Breaks (Keeps c (lines_read b) line) f
+    → (s : Stage) → IsStageOf second c before s → Breaks (Rule s (whole l)) f
+line-breaks second c b before line l f m open_yet is same breaks s stage =
+    subst (λ t. Breaks (Rule t (whole l)) f) (sym (stage-within second c b before s m open_yet stage))
+    (subst (λ m. Breaks (Rule (within second c before) (whole m)) f) (sym same) (within-breaks second c before line is f (subst (λ ls. Breaks (Keeps c ls line) f) (sym m.lines) breaks)))
 
 -- each walk of these decisions is logged
 abbrev pub WalksOf : List Decision → List SiteLog → Type 0
@@ -64,7 +80,7 @@ walks-at ds es xs ys i j walks = subst (WalksOf es) j (subst (λ d. WalksOf d xs
 
 -- ---- the line is added
 
-module _ (c : Certificate) (b new : Begun) (before : List SectionLine) (line : SectionLine) (m : Means c b before) (sites : new.sites ≡ b.sites) (lines : lines_read new ≡ lines_read b ++ line ∷ []) where
+module _ (second : Bool) (c : Certificate) (b new : Begun) (before : List SectionLine) (line : SectionLine) (m : Means second c b before) (sites : new.sites ≡ b.sites) (lines : lines_read new ≡ lines_read b ++ line ∷ []) where
   all-lines : before ++ line ∷ [] ≡ lines_read new
   all-lines = ap (λ (ls : List SectionLine). ls ++ line ∷ []) m.lines ∙ sym lines
 
@@ -131,27 +147,17 @@ module _ (c : Certificate) (b new : Begun) (before : List SectionLine) (line : S
       let as_read = read-as logs is same in
       absurd (miss (whole-sections new begun as_read.0 (ap length as_read.1 ∙ len ∙ sym new-sites)))
 
-  module _ (begun : IsBegun new) (spelled : IsLine line) (rules : (f : Fault) → Keeps c before line f) where
-    each-line : (earlier later : List SectionLine) (l : SectionLine) → before ++ line ∷ [] ≡ earlier ++ l ∷ later → IsLine l × ((f : Fault) → Keeps c earlier l f)
-    each-line earlier later l e =
-        elim (cut_append before (line ∷ []) earlier later l e) [
-          | inl first ↦ m.kept.lines earlier first.0 l first.1
-          | inr second ↦
-              let same = last_cut line second.0 later l second.2 in
-              let front = second.1 ∙ ap (λ (ls : List SectionLine). before ++ ls) same.1 ∙ append-nil before in
-              subst (λ ls. IsLine l × ((f : Fault) → Keeps c ls l f)) (sym front) (subst (λ l. IsLine l × ((f : Fault) → Keeps c before l f)) same.0 (spelled, rules))
-        ]
-
-    means : Means c new (before ++ line ∷ [])
-    means = record { begun = begun; sites = new-sites; lines = all-lines; kept = record { spelled = m.kept.spelled; itself = m.kept.itself; lines = each-line } }
+  module _ (begun : IsBegun new) (spelled : IsLineIn second line) (rules : (f : Fault) → Keeps c before line f) where
+    means : Means second c new (before ++ line ∷ [])
+    means = record { begun = begun; sites = new-sites; lines = all-lines; kept = kept-more second c before line m.kept spelled rules }
 
   kept-here : KeptBelow (Keeps c (lines_read b) line) 17 → KeptBelow (Keeps c before line) 17
   kept-here kept = subst (λ ls. KeptBelow (Keeps c ls line) 17) (sym m.lines) kept
 
-  pub added-open : IsLine line → KeptBelow (Keeps c (lines_read b) line) 17 → IsBegun new → (AreSections new.sites (lines_read new) → ⊥) → Means c new (before ++ line ∷ [])
+  pub added-open : IsLineIn second line → KeptBelow (Keeps c (lines_read b) line) 17 → IsBegun new → (AreSections new.sites (lines_read new) → ⊥) → Means second c new (before ++ line ∷ [])
   added-open spelled kept begun miss = means begun spelled (each-rule line (kept-here kept) (open-walks line refl begun miss))
 
-  pub added-last : IsLine line → KeptBelow (Keeps c (lines_read b) line) 17 → IsBegun new → AreSections new.sites (lines_read new) → Walks new.whole → Means c new (before ++ line ∷ [])
+  pub added-last : IsLineIn second line → KeptBelow (Keeps c (lines_read b) line) 17 → IsBegun new → AreSections new.sites (lines_read new) → Walks new.whole → Means second c new (before ++ line ∷ [])
   added-last spelled kept begun all walks =
       let end = is-end all in
       means begun spelled (each-rule line (kept-here kept) (subst (λ l. Keeps c before l fault.WalkStep) (sym end) (walks-kept end walks)))

@@ -8,16 +8,16 @@ use Rattle.sgt_names.specs.Entry.{tx_of, IsEnd, Clash}
 use Rattle.sgt_names.specs.declared.entry.Entry.{Entry}
 use Rattle.sgt_names.specs.declared.entry.Kind.{Kind}
 use Rattle.sgt_names.proofs.Places.{AllPairs_at}
-use Rattle.sgt_cert.specs.Certificate.{decided, IsCommitted, IsDecidedOnce}
+use Rattle.sgt_cert.specs.Certificate.{decided_tx, IsCommitted, IsDecidedOnce}
 use Rattle.sgt_cert.specs.Valid.{IsDecided, EndInOrder, RiseInRank}
 use Rattle.sgt_cert.specs.declared.certificate.Decision.{Decision}
 use Rattle.sgt_cert.specs.declared.certificate.Decision.TheVariants.{Commit}
 
 abbrev DecidedApart : Decision → Decision → Type 0
-DecidedApart d e = decided d ≢ decided e
+DecidedApart d e = decided_tx d ≢ decided_tx e
 
 -- two decisions on one transaction are one
-pub one-decision : (ds : List Decision) (m n : ℕ) (d e : Decision) → IsDecidedOnce ds → slice_get ds m ≡ Some d → slice_get ds n ≡ Some e → decided d ≡ decided e → m ≡ n
+pub one-decision : (ds : List Decision) (m n : ℕ) (d e : Decision) → IsDecidedOnce ds → slice_get ds m ≡ Some d → slice_get ds n ≡ Some e → decided_tx d ≡ decided_tx e → m ≡ n
 one-decision ds m n d e once at_m at_n same =
     elim (cases_order m n) [
       | inl one ↦ one

@@ -1,22 +1,22 @@
 -- A text has at most one first fault, and none where it spells a valid bundle.
-use Rattle.std.proofs.Common.{◌≡◌, ◌≢◌, ℕ, ◌+◌, List, [], ◌∷◌, ◌++◌, map, length, refl, sym, ap, ap₂, ◌∙◌, subst, arith, inl, inr, ◌⊎◌, append_assoc}
-use Rattle.std.specs.Prelude.{codes}
+use Rattle.std.proofs.Common.{◌≡◌, ◌≢◌, ℕ, ◌+◌, Bool, List, [], ◌∷◌, ◌++◌, map, length, refl, sym, ap, ap₂, ◌∙◌, subst, subst₂, arith, inl, inr, ◌⊎◌, append_assoc}
 use Rattle.std.specs.List.{AllByRecursion}
 use Rattle.std.proofs.lemmas.Bool.{cases_order}
 use Rattle.std.proofs.lemmas.List.{append-nil}
 use Rattle.std.proofs.lemmas.List.Elements.{recursion_from_All}
 use Rattle.sgt_notation.specs.Spelling.{line_text, text_of_lines, HasNoLf, IsLine}
-use Rattle.sgt_notation.proofs.OneSpelling.{HasNot, HasNot-from_test, cut_at_byte, line-one, line-one_line}
+use Rattle.sgt_notation.proofs.OneSpelling.{HasNot, cut_at_byte, line-one, line-one_line}
 use Rattle.sgt_notation.specs.declared.SectionLine.{SectionLine}
-use Rattle.sgt_cert.specs.Text.{certificate_text, sections_from, IsCertificate, AreSections}
+use Rattle.sgt_cert.specs.Text.{certificate_text, format_line, sections_from, IsCertificate, AreSections}
 use Rattle.sgt_cert.specs.declared.certificate.Certificate.{Certificate}
 use Rattle.sgt_cert.proofs.Reading.{certificate-one}
 use Rattle.sgt_cert.proofs.OneLine.{certificate-one_line}
-use Rattle.sgt_cert.proofs.OneText.{line_front, sections-one}
+use Rattle.sgt_cert.proofs.OneText.{format-one_line, line_front, sections-one}
 use Rattle.sgt_audit.specs.declared.faults.Fault.{Fault}
 use Rattle.sgt_audit.specs.declared.faults.Fault.TheVariants as fault
-use Rattle.sgt_audit.specs.Faults.{fault_number, Keeps, KeepsItself, AllKept, Stage, start, headed, within, complete, lines_so_far, IsFaultless, Piece, whole, last, ComesNext, Rule, Breaks, FirstFault, HasNoFault}
+use Rattle.sgt_audit.specs.Faults.{fault_number, IsLineIn, Keeps, KeepsItself, AllKept, Stage, start, headed, within, complete, lines_so_far, IsFaultless, Piece, whole, last, ComesNext, Rule, Breaks, FirstFault, HasNoFault}
 use Rattle.sgt_audit.proofs.FaultNumbers.{number-one}
+use Rattle.sgt_audit.proofs.Formats.{format-one}
 
 -- ---- the next piece
 
@@ -75,64 +75,58 @@ each_line : (P : SectionLine → Type 0) (xs : List SectionLine) → ((earlier l
 each_line P [] h = tt
 each_line P (x ∷ xs) h = (h [] xs x refl, each_line P xs (λ earlier later l e. h (x ∷ earlier) later l (ap (λ ys. x ∷ ys) e)))
 
-kept-lines : (c : Certificate) (before : List SectionLine) → AllKept c before → AllByRecursion IsLine before
-kept-lines c before kept = each_line IsLine before (λ earlier later l e. (kept.lines earlier later l e).0)
+kept-lines : (second : Bool) (c : Certificate) (before : List SectionLine) → AllKept second c before → AllByRecursion IsLine before
+kept-lines second c before kept = each_line IsLine before (λ earlier later l e. (kept.lines earlier later l e).0.0)
 
 -- ---- two stages of one text
 
-abbrev format : List ℕ
-format = codes "sgt 1"
-
-format-one_line : HasNot 10 format
-format-one_line = HasNot-from_test 10 format refl
-
 -- the next piece is a line, which keeps every rule
-record GoesOn (s : Stage) (p : Piece) : Type 0 where
+record MeetsGoodLine (s : Stage) (p : Piece) : Type 0 where
   line : List ℕ
   is : p ≡ whole line
   keeps : (f : Fault) → Rule s p f
 
 abbrev Meet : Stage → Piece → Stage → Piece → Type 0
-Meet s p t q = ((s ≡ t) × (p ≡ q)) ⊎ (GoesOn s p ⊎ GoesOn t q)
+Meet s p t q = ((s ≡ t) × (p ≡ q)) ⊎ (MeetsGoodLine s p ⊎ MeetsGoodLine t q)
 
 turned : (s t : Stage) (p q : Piece) → Meet s p t q → Meet t q s p
 turned s t p q (inl both) = inl (sym both.0, sym both.1)
 turned s t p q (inr (inl on)) = inr (inr on)
 turned s t p q (inr (inr on)) = inr (inl on)
 
-start-on : (p : Piece) → p ≡ whole format → GoesOn start p
-start-on p e = record { line = format; is = e; keeps = subst (λ q. (f : Fault) → Rule start q f) (sym e) holds }
+start-on : (second : Bool) (p : Piece) → p ≡ whole (format_line second) → MeetsGoodLine start p
+start-on second p e = record { line = format_line second; is = e; keeps = subst (λ q. (f : Fault) → Rule start q f) (sym e) holds }
   where
-    holds : (f : Fault) → Rule start (whole format) f
-    holds fault.Format = refl
+    holds : (f : Fault) → Rule start (whole (format_line second)) f
+    holds fault.Format = (second, refl)
     holds _ = tt
 
-headed-on : (c : Certificate) → IsCertificate c → ((f : Fault) → KeepsItself c.decisions f) → (p : Piece) → p ≡ whole (certificate_text c) → GoesOn headed p
-headed-on c spelled itself p e = record { line = certificate_text c; is = e; keeps = subst (λ q. (f : Fault) → Rule headed q f) (sym e) holds }
+headed-on : (second : Bool) (c : Certificate) → IsCertificate c → ((f : Fault) → KeepsItself c.decisions f) → (p : Piece) → p ≡ whole (certificate_text c) → MeetsGoodLine (headed second) p
+headed-on second c spelled itself p e = record { line = certificate_text c; is = e; keeps = subst (λ q. (f : Fault) → Rule (headed second) q f) (sym e) holds }
   where
     same : (f : Fault) (d : Certificate) → IsCertificate d → certificate_text c ≡ certificate_text d → KeepsItself d.decisions f
     same f d is eq = subst (λ d. KeepsItself d.decisions f) (certificate-one c d spelled is eq) (itself f)
 
-    holds : (f : Fault) → Rule headed (whole (certificate_text c)) f
+    holds : (f : Fault) → Rule (headed second) (whole (certificate_text c)) f
     holds fault.Certificate = (c, spelled, refl)
     holds fault.Ranks = same fault.Ranks
     holds fault.DecidedTwice = same fault.DecidedTwice
     holds fault.WalkShape = same fault.WalkShape
     holds _ = λ d is eq. tt
 
-within-on : (c : Certificate) (earlier : List SectionLine) (line : SectionLine) → IsLine line → ((f : Fault) → Keeps c earlier line f) → (p : Piece) → p ≡ whole (line_text line) → GoesOn (within c earlier) p
-within-on c earlier line is keeps p e = record { line = line_text line; is = e; keeps = subst (λ q. (f : Fault) → Rule (within c earlier) q f) (sym e) holds }
+within-on : (second : Bool) (c : Certificate) (earlier : List SectionLine) (line : SectionLine) → IsLineIn second line → ((f : Fault) → Keeps c earlier line f) → (p : Piece) → p ≡ whole (line_text line) → MeetsGoodLine (within second c earlier) p
+within-on second c earlier line is keeps p e = record { line = line_text line; is = e; keeps = subst (λ q. (f : Fault) → Rule (within second c earlier) q f) (sym e) holds }
   where
-    holds : (f : Fault) → Rule (within c earlier) (whole (line_text line)) f
+    holds : (f : Fault) → Rule (within second c earlier) (whole (line_text line)) f
     holds fault.Notation = (line, is, refl)
-    holds f = λ m is_line same. subst (λ k. Keeps c earlier k f) (line-one line m is is_line same) (keeps f)
+    holds f = λ m is_line same. subst (λ k. Keeps c earlier k f) (line-one line m is.0 is_line.0 same) (keeps f)
 
 no_more : (l : SectionLine) (ls : List SectionLine) → l ∷ ls ≡ [] → ⊥
 no_more l ls e = cc
 
 -- no line of the sections follows all of them
-ended : (c : Certificate) (xs ys : List SectionLine) (line : SectionLine) (more : List SectionLine) → AreSections c.sites xs → AllKept c ys → ys ≡ xs ++ line ∷ more → ⊥
-ended c xs ys line more (logs, shaped, all) kept cut =
+ended : (second : Bool) (c : Certificate) (xs ys : List SectionLine) (line : SectionLine) (more : List SectionLine) → AreSections c.sites xs → AllKept second c ys → ys ≡ xs ++ line ∷ more → ⊥
+ended second c xs ys line more (logs, shaped, all) kept cut =
     let begins = (kept.lines xs more line cut).1 fault.Section in
     let len = shaped.each ∙ sym begins.2.each in
     let same = ap (λ (ls : List SectionLine). ls ++ line ∷ begins.1) all ∙ sym (append_assoc xs (line ∷ []) begins.1) ∙ sym begins.3 ∙ sym (append-nil (sections_from 0 begins.0)) in
@@ -140,16 +134,16 @@ ended c xs ys line more (logs, shaped, all) kept cut =
 
 -- ---- stages behind the certificate
 
-module _ (c : Certificate) (xs ys : List SectionLine) (r s : List ℕ) (p q : Piece) (comes : ComesNext r p) (goes : ComesNext s q) (e : text_of_lines (map line_text xs) ++ r ≡ text_of_lines (map line_text ys) ++ s) where
-  compared : AllKept c xs → AllKept c ys → Compared xs ys r s
-  compared kept good = compare xs ys r s (kept-lines c xs kept) (kept-lines c ys good) e
+module _ (second : Bool) (c : Certificate) (xs ys : List SectionLine) (r s : List ℕ) (p q : Piece) (comes : ComesNext r p) (goes : ComesNext s q) (e : text_of_lines (map line_text xs) ++ r ≡ text_of_lines (map line_text ys) ++ s) where
+  compared : AllKept second c xs → AllKept second c ys → Compared xs ys r s
+  compared kept good = compare xs ys r s (kept-lines second c xs kept) (kept-lines second c ys good) e
 
-  beyond-on : AllKept c ys → Beyond xs ys r → GoesOn (within c xs) p
+  beyond-on : AllKept second c ys → Beyond xs ys r → MeetsGoodLine (within second c xs) p
   beyond-on good b =
       let kept = good.lines xs b.more b.line b.cut in
-      within-on c xs b.line kept.0 kept.1 p (comes_line (line_text b.line) b.after r p (line-one_line b.line kept.0) b.next comes)
+      within-on second c xs b.line kept.0 kept.1 p (comes_line (line_text b.line) b.after r p (line-one_line b.line kept.0.0) b.next comes)
 
-  within-within : IsFaultless (within c xs) → IsFaultless (within c ys) → ((xs ≡ ys) × (p ≡ q)) ⊎ (GoesOn (within c xs) p ⊎ Beyond ys xs s)
+  within-within : IsFaultless (within second c xs) → IsFaultless (within second c ys) → ((xs ≡ ys) × (p ≡ q)) ⊎ (MeetsGoodLine (within second c xs) p ⊎ Beyond ys xs s)
   within-within kept good =
       elim (compared kept.0 good.0) [
         | inl both ↦ inl (both.0, one_piece s p q (subst (λ t. ComesNext t p) both.1 comes) goes)
@@ -157,96 +151,104 @@ module _ (c : Certificate) (xs ys : List SectionLine) (r s : List ℕ) (p q : Pi
         | inr (inr b) ↦ inr (inr b)
       ]
 
-  within-complete : IsFaultless (within c xs) → IsFaultless (complete c ys) → GoesOn (within c xs) p
+  within-complete : IsFaultless (within second c xs) → IsFaultless (complete second c ys) → MeetsGoodLine (within second c xs) p
   within-complete kept good =
       elim (compared kept.0 good.0) [
         | inl both ↦ absurd (kept.1 (subst (AreSections c.sites) (sym both.0) good.1))
         | inr (inl b) ↦ beyond-on good.0 b
-        | inr (inr b) ↦ absurd (ended c ys xs b.line b.more good.1 kept.0 b.cut)
+        | inr (inr b) ↦ absurd (ended second c ys xs b.line b.more good.1 kept.0 b.cut)
       ]
 
-  complete-complete : IsFaultless (complete c xs) → IsFaultless (complete c ys) → (xs ≡ ys) × (p ≡ q)
+  complete-complete : IsFaultless (complete second c xs) → IsFaultless (complete second c ys) → (xs ≡ ys) × (p ≡ q)
   complete-complete kept good =
       elim (compared kept.0 good.0) [
         | inl both ↦ (both.0, one_piece s p q (subst (λ t. ComesNext t p) both.1 comes) goes)
-        | inr (inl b) ↦ absurd (ended c xs ys b.line b.more kept.1 good.0 b.cut)
-        | inr (inr b) ↦ absurd (ended c ys xs b.line b.more good.1 kept.0 b.cut)
+        | inr (inl b) ↦ absurd (ended second c xs ys b.line b.more kept.1 good.0 b.cut)
+        | inr (inr b) ↦ absurd (ended second c ys xs b.line b.more good.1 kept.0 b.cut)
       ]
 
-module _ (c : Certificate) (xs ys : List SectionLine) (r s : List ℕ) (p q : Piece) (comes : ComesNext r p) (goes : ComesNext s q) (e : text_of_lines (map line_text xs) ++ r ≡ text_of_lines (map line_text ys) ++ s) where
-  meet-within : IsFaultless (within c xs) → IsFaultless (within c ys) → Meet (within c xs) p (within c ys) q
+module _ (second : Bool) (c : Certificate) (xs ys : List SectionLine) (r s : List ℕ) (p q : Piece) (comes : ComesNext r p) (goes : ComesNext s q) (e : text_of_lines (map line_text xs) ++ r ≡ text_of_lines (map line_text ys) ++ s) where
+  meet-within : IsFaultless (within second c xs) → IsFaultless (within second c ys) → Meet (within second c xs) p (within second c ys) q
   meet-within kept good =
-      elim (within-within c xs ys r s p q comes goes e kept good) [
-        | inl both ↦ inl (ap (within c) both.0, both.1)
+      elim (within-within second c xs ys r s p q comes goes e kept good) [
+        | inl both ↦ inl (ap (within second c) both.0, both.1)
         | inr (inl on) ↦ inr (inl on)
-        | inr (inr b) ↦ inr (inr (beyond-on c ys xs s r q p goes comes (sym e) kept.0 b))
+        | inr (inr b) ↦ inr (inr (beyond-on second c ys xs s r q p goes comes (sym e) kept.0 b))
       ]
 
-  meet-complete : IsFaultless (complete c xs) → IsFaultless (complete c ys) → Meet (complete c xs) p (complete c ys) q
-  meet-complete kept good = let both = complete-complete c xs ys r s p q comes goes e kept good in inl (ap (complete c) both.0, both.1)
+  meet-complete : IsFaultless (complete second c xs) → IsFaultless (complete second c ys) → Meet (complete second c xs) p (complete second c ys) q
+  meet-complete kept good = let both = complete-complete second c xs ys r s p q comes goes e kept good in inl (ap (complete second c) both.0, both.1)
 
 -- the text from the certificate's line on
-headed_text : (rest : List ℕ) → text_of_lines (lines_so_far headed) ++ rest ≡ format ++ 10 ∷ rest
-headed_text rest = line_front format [] rest
+headed_text : (second : Bool) (rest : List ℕ) → text_of_lines (lines_so_far (headed second)) ++ rest ≡ format_line second ++ 10 ∷ rest
+headed_text second rest = line_front (format_line second) [] rest
 
-within_text : (c : Certificate) (xs : List SectionLine) (rest : List ℕ) → text_of_lines (lines_so_far (within c xs)) ++ rest ≡ format ++ 10 ∷ (certificate_text c ++ 10 ∷ (text_of_lines (map line_text xs) ++ rest))
-within_text c xs rest = line_front format (certificate_text c ∷ map line_text xs) rest ∙ ap (λ (ys : List ℕ). format ++ 10 ∷ ys) (line_front (certificate_text c) (map line_text xs) rest)
+within_text : (second : Bool) (c : Certificate) (xs : List SectionLine) (rest : List ℕ) → text_of_lines (lines_so_far (within second c xs)) ++ rest ≡ format_line second ++ 10 ∷ (certificate_text c ++ 10 ∷ (text_of_lines (map line_text xs) ++ rest))
+within_text second c xs rest = line_front (format_line second) (certificate_text c ∷ map line_text xs) rest ∙ ap (λ (ys : List ℕ). format_line second ++ 10 ∷ ys) (line_front (certificate_text c) (map line_text xs) rest)
 
-behind : (xs ys : List ℕ) → format ++ 10 ∷ xs ≡ format ++ 10 ∷ ys → xs ≡ ys
-behind xs ys e = (cut_at_byte 10 format format xs ys format-one_line format-one_line e).1
+behind : (f g : Bool) (xs ys : List ℕ) → format_line f ++ 10 ∷ xs ≡ format_line g ++ 10 ∷ ys → (f ≡ g) × (xs ≡ ys)
+behind f g xs ys e =
+    let cut = cut_at_byte 10 (format_line f) (format_line g) xs ys (format-one_line f) (format-one_line g) e in
+    (format-one f g cut.0, cut.1)
 
--- both stages are within or complete: they have one certificate
-module _ (c d : Certificate) (xs ys : List SectionLine) (r s : List ℕ) (p q : Piece) (comes : ComesNext r p) (goes : ComesNext s q)
-    (e : text_of_lines (lines_so_far (within c xs)) ++ r ≡ text_of_lines (lines_so_far (within d ys)) ++ s) where
-  one_head : AllKept c xs → AllKept d ys → (c ≡ d) × (text_of_lines (map line_text xs) ++ r ≡ text_of_lines (map line_text ys) ++ s)
+-- both stages are within or complete: they have one format and one certificate
+module _ (f g : Bool) (c d : Certificate) (xs ys : List SectionLine) (r s : List ℕ) (p q : Piece) (comes : ComesNext r p) (goes : ComesNext s q)
+    (e : text_of_lines (lines_so_far (within f c xs)) ++ r ≡ text_of_lines (lines_so_far (within g d ys)) ++ s) where
+  one_head : AllKept f c xs → AllKept g d ys → (f ≡ g) × (c ≡ d) × (text_of_lines (map line_text xs) ++ r ≡ text_of_lines (map line_text ys) ++ s)
   one_head kept good =
-      let both = behind (certificate_text c ++ 10 ∷ (text_of_lines (map line_text xs) ++ r)) (certificate_text d ++ 10 ∷ (text_of_lines (map line_text ys) ++ s)) (sym (within_text c xs r) ∙ e ∙ within_text d ys s) in
-      let cut = cut_at_byte 10 (certificate_text c) (certificate_text d) (text_of_lines (map line_text xs) ++ r) (text_of_lines (map line_text ys) ++ s) (certificate-one_line c kept.spelled) (certificate-one_line d good.spelled) both in
-      (certificate-one c d kept.spelled good.spelled cut.0, cut.1)
+      let both = behind f g (certificate_text c ++ 10 ∷ (text_of_lines (map line_text xs) ++ r)) (certificate_text d ++ 10 ∷ (text_of_lines (map line_text ys) ++ s)) (sym (within_text f c xs r) ∙ e ∙ within_text g d ys s) in
+      let cut = cut_at_byte 10 (certificate_text c) (certificate_text d) (text_of_lines (map line_text xs) ++ r) (text_of_lines (map line_text ys) ++ s) (certificate-one_line c kept.spelled) (certificate-one_line d good.spelled) both.1 in
+      (both.0, certificate-one c d kept.spelled good.spelled cut.0, cut.1)
 
-  two-within : IsFaultless (within c xs) → IsFaultless (within d ys) → Meet (within c xs) p (within d ys) q
+  two-within : IsFaultless (within f c xs) → IsFaultless (within g d ys) → Meet (within f c xs) p (within g d ys) q
   two-within kept good =
       let head = one_head kept.0 good.0 in
-      subst (λ k. IsFaultless (within k ys) → Meet (within c xs) p (within k ys) q) head.0 (λ here. meet-within c xs ys r s p q comes goes head.1 kept here) good
+      subst₂ (λ h k. IsFaultless (within h k ys) → Meet (within f c xs) p (within h k ys) q) head.0 head.1 (λ here. meet-within f c xs ys r s p q comes goes head.2 kept here) good
 
-  two-mixed : IsFaultless (within c xs) → IsFaultless (complete d ys) → Meet (within c xs) p (complete d ys) q
+  two-mixed : IsFaultless (within f c xs) → IsFaultless (complete g d ys) → Meet (within f c xs) p (complete g d ys) q
   two-mixed kept good =
       let head = one_head kept.0 good.0 in
-      subst (λ k. IsFaultless (complete k ys) → Meet (within c xs) p (complete k ys) q) head.0 (λ here. inr (inl (within-complete c xs ys r s p q comes goes head.1 kept here))) good
+      subst₂ (λ h k. IsFaultless (complete h k ys) → Meet (within f c xs) p (complete h k ys) q) head.0 head.1 (λ here. inr (inl (within-complete f c xs ys r s p q comes goes head.2 kept here))) good
 
-  two-complete : IsFaultless (complete c xs) → IsFaultless (complete d ys) → Meet (complete c xs) p (complete d ys) q
+  two-complete : IsFaultless (complete f c xs) → IsFaultless (complete g d ys) → Meet (complete f c xs) p (complete g d ys) q
   two-complete kept good =
       let head = one_head kept.0 good.0 in
-      subst (λ k. IsFaultless (complete k ys) → Meet (complete c xs) p (complete k ys) q) head.0 (λ here. meet-complete c xs ys r s p q comes goes head.1 kept here) good
+      subst₂ (λ h k. IsFaultless (complete h k ys) → Meet (complete f c xs) p (complete h k ys) q) head.0 head.1 (λ here. meet-complete f c xs ys r s p q comes goes head.2 kept here) good
 
 -- the first line comes next, the second one
-on_first : (r more : List ℕ) (p : Piece) → ComesNext r p → r ≡ format ++ 10 ∷ more → GoesOn start p
-on_first r more p comes e = start-on p (comes_line format more r p format-one_line e comes)
+on_first : (f : Bool) (r more : List ℕ) (p : Piece) → ComesNext r p → r ≡ format_line f ++ 10 ∷ more → MeetsGoodLine start p
+on_first f r more p comes e = start-on f p (comes_line (format_line f) more r p (format-one_line f) e comes)
 
-on_second : (c : Certificate) (xs : List SectionLine) (r s : List ℕ) (p : Piece) → AllKept c xs → ComesNext r p → text_of_lines (lines_so_far headed) ++ r ≡ text_of_lines (lines_so_far (within c xs)) ++ s → GoesOn headed p
-on_second c xs r s p kept comes e =
+on_second : (f g : Bool) (c : Certificate) (xs : List SectionLine) (r s : List ℕ) (p : Piece) → AllKept g c xs → ComesNext r p → text_of_lines (lines_so_far (headed f)) ++ r ≡ text_of_lines (lines_so_far (within g c xs)) ++ s → MeetsGoodLine (headed f) p
+on_second f g c xs r s p kept comes e =
     let more = text_of_lines (map line_text xs) ++ s in
-    let at = behind r (certificate_text c ++ 10 ∷ more) (sym (headed_text r) ∙ e ∙ within_text c xs s) in
-    headed-on c kept.spelled kept.itself p (comes_line (certificate_text c) more r p (certificate-one_line c kept.spelled) at comes)
+    let at = (behind f g r (certificate_text c ++ 10 ∷ more) (sym (headed_text f r) ∙ e ∙ within_text g c xs s)).1 in
+    headed-on f c kept.spelled kept.itself p (comes_line (certificate_text c) more r p (certificate-one_line c kept.spelled) at comes)
+
+-- two stages behind the first line are one
+on_headed : (f g : Bool) (a b : List ℕ) (p q : Piece) → ComesNext a p → ComesNext b q → text_of_lines (lines_so_far (headed f)) ++ a ≡ text_of_lines (lines_so_far (headed g)) ++ b → Meet (headed f) p (headed g) q
+on_headed f g a b p q comes goes e =
+    let both = behind f g a b (sym (headed_text f a) ∙ e ∙ headed_text g b) in
+    inl (ap headed both.0, one_piece b p q (subst (λ r. ComesNext r p) both.1 comes) goes)
 
 -- two stages of one text, both with no fault: they are one, or behind one of them comes a line that keeps every rule
 meet : (s t : Stage) (a b : List ℕ) (p q : Piece) → IsFaultless s → IsFaultless t → ComesNext a p → ComesNext b q → text_of_lines (lines_so_far s) ++ a ≡ text_of_lines (lines_so_far t) ++ b → Meet s p t q
 meet start start a b p q kept good comes goes e = inl (refl, one_piece b p q (subst (λ r. ComesNext r p) e comes) goes)
-meet start headed a b p q kept good comes goes e = inr (inl (on_first a b p comes (e ∙ headed_text b)))
-meet start (within d ys) a b p q kept good comes goes e = inr (inl (on_first a (certificate_text d ++ 10 ∷ (text_of_lines (map line_text ys) ++ b)) p comes (e ∙ within_text d ys b)))
-meet start (complete d ys) a b p q kept good comes goes e = inr (inl (on_first a (certificate_text d ++ 10 ∷ (text_of_lines (map line_text ys) ++ b)) p comes (e ∙ within_text d ys b)))
-meet headed start a b p q kept good comes goes e = inr (inr (on_first b a q goes (sym e ∙ headed_text a)))
-meet headed headed a b p q kept good comes goes e = inl (refl, one_piece b p q (subst (λ r. ComesNext r p) (behind a b (sym (headed_text a) ∙ e ∙ headed_text b)) comes) goes)
-meet headed (within d ys) a b p q kept good comes goes e = inr (inl (on_second d ys a b p good.0 comes e))
-meet headed (complete d ys) a b p q kept good comes goes e = inr (inl (on_second d ys a b p good.0 comes e))
-meet (within c xs) start a b p q kept good comes goes e = inr (inr (on_first b (certificate_text c ++ 10 ∷ (text_of_lines (map line_text xs) ++ a)) q goes (sym e ∙ within_text c xs a)))
-meet (within c xs) headed a b p q kept good comes goes e = inr (inr (on_second c xs b a q kept.0 goes (sym e)))
-meet (within c xs) (within d ys) a b p q kept good comes goes e = two-within c d xs ys a b p q comes goes e kept good
-meet (within c xs) (complete d ys) a b p q kept good comes goes e = two-mixed c d xs ys a b p q comes goes e kept good
-meet (complete c xs) start a b p q kept good comes goes e = inr (inr (on_first b (certificate_text c ++ 10 ∷ (text_of_lines (map line_text xs) ++ a)) q goes (sym e ∙ within_text c xs a)))
-meet (complete c xs) headed a b p q kept good comes goes e = inr (inr (on_second c xs b a q kept.0 goes (sym e)))
-meet (complete c xs) (within d ys) a b p q kept good comes goes e = turned (within d ys) (complete c xs) q p (two-mixed d c ys xs b a q p goes comes (sym e) good kept)
-meet (complete c xs) (complete d ys) a b p q kept good comes goes e = two-complete c d xs ys a b p q comes goes e kept good
+meet start (headed g) a b p q kept good comes goes e = inr (inl (on_first g a b p comes (e ∙ headed_text g b)))
+meet start (within g d ys) a b p q kept good comes goes e = inr (inl (on_first g a (certificate_text d ++ 10 ∷ (text_of_lines (map line_text ys) ++ b)) p comes (e ∙ within_text g d ys b)))
+meet start (complete g d ys) a b p q kept good comes goes e = inr (inl (on_first g a (certificate_text d ++ 10 ∷ (text_of_lines (map line_text ys) ++ b)) p comes (e ∙ within_text g d ys b)))
+meet (headed f) start a b p q kept good comes goes e = inr (inr (on_first f b a q goes (sym e ∙ headed_text f a)))
+meet (headed f) (headed g) a b p q kept good comes goes e = on_headed f g a b p q comes goes e
+meet (headed f) (within g d ys) a b p q kept good comes goes e = inr (inl (on_second f g d ys a b p good.0 comes e))
+meet (headed f) (complete g d ys) a b p q kept good comes goes e = inr (inl (on_second f g d ys a b p good.0 comes e))
+meet (within f c xs) start a b p q kept good comes goes e = inr (inr (on_first f b (certificate_text c ++ 10 ∷ (text_of_lines (map line_text xs) ++ a)) q goes (sym e ∙ within_text f c xs a)))
+meet (within f c xs) (headed g) a b p q kept good comes goes e = inr (inr (on_second g f c xs b a q kept.0 goes (sym e)))
+meet (within f c xs) (within g d ys) a b p q kept good comes goes e = two-within f g c d xs ys a b p q comes goes e kept good
+meet (within f c xs) (complete g d ys) a b p q kept good comes goes e = two-mixed f g c d xs ys a b p q comes goes e kept good
+meet (complete f c xs) start a b p q kept good comes goes e = inr (inr (on_first f b (certificate_text c ++ 10 ∷ (text_of_lines (map line_text xs) ++ a)) q goes (sym e ∙ within_text f c xs a)))
+meet (complete f c xs) (headed g) a b p q kept good comes goes e = inr (inr (on_second g f c xs b a q kept.0 goes (sym e)))
+meet (complete f c xs) (within g d ys) a b p q kept good comes goes e = turned (within g d ys) (complete f c xs) q p (two-mixed g f d c ys xs b a q p goes comes (sym e) good kept)
+meet (complete f c xs) (complete g d ys) a b p q kept good comes goes e = two-complete f g c d xs ys a b p q comes goes e kept good
 
 -- of the rules of one place one fault is the least that is broken
 least-one : (rule : Fault → Type 0) (f g : Fault) → Breaks rule f → Breaks rule g → f ≡ g
@@ -269,19 +271,19 @@ first_fault-one bytes m n f g first other =
       | inr (inr on) ↦ absurd (other.breaks.broken (on.keeps g))
     ]
 
-complete-holds : (c : Certificate) (lines : List SectionLine) (f : Fault) → Rule (complete c lines) (last []) f
-complete-holds c lines fault.Trailing = refl
-complete-holds c lines _ = tt
+complete-holds : (second : Bool) (c : Certificate) (lines : List SectionLine) (f : Fault) → Rule (complete second c lines) (last []) f
+complete-holds second c lines fault.Trailing = refl
+complete-holds second c lines _ = tt
 
 not_a_line : (l : List ℕ) → last [] ≡ whole l → ⊥
 not_a_line l e = cc
 
 -- a text with no fault has no first one
 pub first_fault-excluded : (bytes : List ℕ) (n : ℕ) (f : Fault) → FirstFault bytes n f → HasNoFault bytes → ⊥
-first_fault-excluded bytes n f first (c, before, good, text) =
+first_fault-excluded bytes n f first (second, c, before, good, text) =
     let none : ComesNext [] (last []) = (refl, λ k d lt. absurd (omega arith)) in
-    elim (meet first.stage (complete c before) first.rest [] first.next (last []) first.faultless good first.comes none (sym first.text ∙ text ∙ sym (append-nil (text_of_lines (lines_so_far (complete c before)))))) [
-      | inl both ↦ first.breaks.broken (subst (λ s. Rule s first.next f) (sym both.0) (subst (λ p. Rule (complete c before) p f) (sym both.1) (complete-holds c before f)))
+    elim (meet first.stage (complete second c before) first.rest [] first.next (last []) first.faultless good first.comes none (sym first.text ∙ text ∙ sym (append-nil (text_of_lines (lines_so_far (complete second c before)))))) [
+      | inl both ↦ first.breaks.broken (subst (λ s. Rule s first.next f) (sym both.0) (subst (λ p. Rule (complete second c before) p f) (sym both.1) (complete-holds second c before f)))
       | inr (inl on) ↦ first.breaks.broken (on.keeps f)
       | inr (inr on) ↦ not_a_line on.line on.is
     ]

@@ -12,11 +12,12 @@ use Rattle.sgt_cert.specs.Text.{Begins, section_lines, sections_from}
 use Rattle.sgt_cert.specs.declared.certificate.Certificate.{Certificate}
 use Rattle.sgt_cert.specs.declared.bundle.SiteLog.{SiteLog}
 use Rattle.sgt_audit.specs.Faults.{Keeps}
-use Rattle.sgt_audit.specs.Judging.{HasOpen, KeptBelow}
-use Rattle.sgt_audit.specs.Reading.{Begun, lines_read, open_lines, Fits, MayFollow, FitsBetween}
+use Rattle.sgt_audit.specs.private.Judging.{HasOpen, KeptBelow}
+use Rattle.sgt_audit.specs.Reading.{Begun, lines_read, open_lines}
+use Rattle.sgt_audit.specs.private.Following.{Fits, MayFollow, FitsBetween}
 use Rattle.sgt_audit.proofs.SectionLines.{items_in-is, entries_in-is, last_logged, up_to}
-use Rattle.sgt_audit.proofs.Cuts.{last-logged, IsClosed, section-closed}
-use Rattle.sgt_audit.proofs.Streaming.{begins-follow}
+use Rattle.sgt_audit.proofs.LinePlaces.{last-logged, IsClosed, section-closed}
+use Rattle.sgt_audit.proofs.MayFollow.{begins-follow}
 use Rattle.sgt_audit.proofs.Least.{site-kept}
 
 last-place : (entries : List Entry) (m : ℕ) (g : Entry) → slice_get entries m ≡ Some g → length entries ≡ suc m → slice_get entries (length entries - 1) ≡ Some g

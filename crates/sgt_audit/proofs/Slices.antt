@@ -10,17 +10,11 @@ use Rattle.std.proofs.lemmas.Iterator.Search.{true_from_All}
 use Rattle.std.proofs.lemmas.Option.{slice_get-get_or, slice_get_within, get_or_from_slice_get, slice_get-map, same_Some}
 use Rattle.std.proofs.Math.Seq.{drop-cons}
 use Rattle.sgt_names.proofs.Places.{Contains_at, Contains-from_at, All_at, All-from_at, AllPairs_at, slice_get-take, take-next}
+use Rattle.sgt_names.proofs.Lists.{Any_at, Any-from_at, All-next, All-whole, element_at, map_at, take_next}
 
 pub all-decides : {X : Type 0} (P : X → Type 0) (xs : List X) (r : Bool) → MatchBool r (AllWithin P xs 0 (length xs)) ((k : ℕ) × (k < length xs) × HoldsAt (λ x. P x → ⊥) xs k) → IsTrue r ↔ All P xs
 all-decides P xs true h = (λ _. All-from_all_within P xs h, λ _. refl)
 all-decides P xs false h = (λ e. absurd (false≢true e), λ all. true_from_All P (λ x. P x → ⊥) false xs (λ x p q. q p) h all)
-
--- an element with the property, at its place
-pub Any_at : {X : Type 0} (P : X → Type 0) (xs : List X) → Any P xs → (n : ℕ) × (a : X) × (slice_get xs n ≡ Some a) × P a
-Any_at P xs (k, a, lt, at, p) = (k, a, slice_get-get_or xs k a lt ∙ ap Some at, p)
-
-pub Any-from_at : {X : Type 0} (P : X → Type 0) (xs : List X) (n : ℕ) (a : X) → slice_get xs n ≡ Some a → P a → Any P xs
-Any-from_at P xs n a at p = (n, a, slice_get_within xs n a at, get_or_from_slice_get xs n a a at, p)
 
 some_element : {X : Type 0} (xs : List X) (k : ℕ) → k < length xs → X
 some_element [] k lt = absurd (omega arith)
@@ -36,41 +30,27 @@ pub any-decides : {X : Type 0} (P : X → Type 0) (xs : List X) (r : Bool) → M
 any-decides P xs true (k, lt, h) = (λ _. held_at P xs k lt h, λ _. refl)
 any-decides P xs false h = (λ e. absurd (false≢true e), λ (k, x, lt, at, p). absurd (h k x (omega arith) lt (subst P (sym at) p)))
 
-pub mapped_at : {X Y : Type 0} (f : X → Y) (xs : List X) (n : ℕ) (y : Y) → slice_get (map f xs) n ≡ Some y → (x : X) × (slice_get xs n ≡ Some x) × (f x ≡ y)
-mapped_at f [] n y h = absurd cc
-mapped_at f (x ∷ xs) zero y h = (x, refl, same_Some (f x) y h)
-mapped_at f (x ∷ xs) (suc n) y h = mapped_at f xs n y h
-
 -- a listed element, by what is listed of it
 pub Any-Contains : {X Y : Type 0} (f : X → Y) (xs : List X) (y : Y) → Any (λ x. f x ≡ y) xs ↔ Contains (map f xs) y
 Any-Contains f xs y = (
   λ h. let a = Any_at (λ x. f x ≡ y) xs h in Contains-from_at (map f xs) a.0 y (slice_get-map f xs a.0 ∙ ap (option_map f) a.2 ∙ ap Some a.3),
   λ c. let at = Contains_at (map f xs) y c in
-      let found = mapped_at f xs at.0 y at.1 in
+      let found = map_at f xs at.0 y at.1 in
       Any-from_at (λ x. f x ≡ y) xs at.0 found.0 found.1 found.2,
 )
 
 -- ---- the element of a loop, at its place
 
-pub here : {X : Type 0} (xs : List X) (i : ℕ) (x : X) → i < length xs → x ≡ get_or xs i x → slice_get xs i ≡ Some x
-here xs i x lt is = slice_get-get_or xs i x lt ∙ ap Some (sym is)
-
-pub drop_here : {X : Type 0} (xs : List X) (i : ℕ) (x : X) → i < length xs → x ≡ get_or xs i x → drop i xs ≡ x ∷ drop (i + 1) xs
-drop_here xs i x lt is = drop-cons xs i x lt ∙ ap (λ y. y ∷ drop (suc i) xs) (sym is) ∙ ap (λ n. x ∷ drop n xs) (sym (add-one i))
-
-pub take_here : {X : Type 0} (xs : List X) (i : ℕ) (x : X) → i < length xs → x ≡ get_or xs i x → take (i + 1) xs ≡ take i xs ++ x ∷ []
-take_here xs i x lt is = ap (λ n. take n xs) (add-one i) ∙ take-next xs i x (here xs i x lt is)
-
 -- ---- a loop that leaves with false at the first element without the property
 
 pub all-next : {X : Type 0} (P : X → Type 0) (xs : List X) (i : ℕ) (x : X) → i < length xs → x ≡ get_or xs i x → P x → All P (take i xs) → All P (take (i + 1) xs)
-all-next P xs i x lt is p all = subst (All P) (sym (take_here xs i x lt is)) (All-push P (take i xs) x all p)
+all-next P xs i x lt is p all = All-next P xs i x (element_at xs i x lt is) p all
 
 pub all-left : {X : Type 0} (P : X → Type 0) (xs : List X) (i : ℕ) (x : X) → i < length xs → x ≡ get_or xs i x → (P x → ⊥) → IsTrue false ↔ All P xs
-all-left P xs i x lt is not = (λ e. absurd (false≢true e), λ all. absurd (not (All_at P xs i x all (here xs i x lt is))))
+all-left P xs i x lt is not = (λ e. absurd (false≢true e), λ all. absurd (not (All_at P xs i x all (element_at xs i x lt is))))
 
 pub all-through : {X : Type 0} (P : X → Type 0) (xs : List X) (i : ℕ) → length xs ≤ i → All P (take i xs) → IsTrue true ↔ All P xs
-all-through P xs i le all = (λ _. subst (All P) (take_all i xs le) all, λ _. refl)
+all-through P xs i le all = (λ _. All-whole P xs i le all, λ _. refl)
 
 -- what a test that answered false tells
 pub refuted : {P : Type 0} (r : Bool) → IsTrue r ↔ P → r ≡ false → P → ⊥
@@ -79,7 +59,7 @@ refuted r both miss p = true≢false (sym (both.1 p) ∙ miss)
 -- ---- a loop that compares each element with those before it
 
 pub pairs-next : {X : Type 0} (R : X → X → Type 0) (xs : List X) (i : ℕ) (x : X) → slice_get xs i ≡ Some x → All (λ a. R a x) (take i xs) → AllPairs R (take i xs) → AllPairs R (take (i + 1) xs)
-pairs-next R xs i x at each pairs = subst (AllPairs R) (sym (ap (λ n. take n xs) (add-one i) ∙ take-next xs i x at)) (all_pairs_push R (take i xs) x pairs each)
+pairs-next R xs i x at each pairs = subst (AllPairs R) (sym (take_next xs i x at)) (all_pairs_push R (take i xs) x pairs each)
 
 pub pairs-left : {X : Type 0} (R : X → X → Type 0) (xs : List X) (i : ℕ) (x : X) → slice_get xs i ≡ Some x → Any (λ a. R a x → ⊥) (take i xs) → IsTrue false ↔ AllPairs R xs
 pairs-left R xs i x at found = (
@@ -98,9 +78,6 @@ pairs-through R xs i le pairs = (λ _. subst (AllPairs R) (take_all i xs le) pai
 pub any-map : {X : Type 0} (P Q : X → Type 0) (xs : List X) → ((x : X) → P x → Q x) → Any P xs → Any Q xs
 any-map P Q xs f (k, x, lt, at, p) = (k, x, lt, at, f x p)
 
-pub all-map : {X : Type 0} (P Q : X → Type 0) (xs : List X) → ((x : X) → P x → Q x) → All P xs → All Q xs
-all-map P Q xs f all k d lt = f (get_or xs k d) (all k d lt)
-
 pub any-not : {X : Type 0} (P : X → Type 0) (xs : List X) → Any P xs → Any (λ x. (P x → ⊥) → ⊥) xs
 any-not P xs found = any-map P (λ x. (P x → ⊥) → ⊥) xs (λ x p f. f p) found
 
@@ -109,9 +86,6 @@ not-any P xs none k d lt p = none (k, get_or xs k d, lt, get_or_from_slice_get x
 
 pub not-contained : {X : Type 0} (xs : List X) (x : X) → (Contains xs x → ⊥) → All (λ a. a ≡ x → ⊥) xs
 not-contained xs x none k d lt e = none (Contains-from_at xs k x (slice_get-get_or xs k d lt ∙ ap Some e))
-
-pub all-next-at : {X : Type 0} (P : X → Type 0) (xs : List X) (i : ℕ) (x : X) → slice_get xs i ≡ Some x → P x → All P (take i xs) → All P (take (i + 1) xs)
-all-next-at P xs i x at p all = subst (All P) (sym (ap (λ n. take n xs) (add-one i) ∙ take-next xs i x at)) (All-push P (take i xs) x all p)
 
 -- ---- what tests of numbers tell
 
@@ -126,9 +100,3 @@ not-empty n r is miss = elim (cases_eq n 0) [ inl none ↦ absurd (true≢false 
 
 pub empty : (n : ℕ) (r : Bool) → r ≡ (n == 0) → r ≡ true → n ≡ 0
 empty n r is hit = eqb-true n 0 (sym is ∙ hit)
-
-pub all-mapped : {X Y : Type 0} (f : X → Y) (P : Y → Type 0) (xs : List X) → All (λ x. P (f x)) xs ↔ All P (map f xs)
-all-mapped f P xs = (
-  λ all. All-from_at P (map f xs) (λ n y at. let x = mapped_at f xs n y at in subst P x.2 (All_at (λ x. P (f x)) xs n x.0 all x.1)),
-  λ all. All-from_at (λ x. P (f x)) xs (λ n x at. All_at P (map f xs) n (f x) all (slice_get-map f xs n ∙ ap (option_map f) at)),
-)

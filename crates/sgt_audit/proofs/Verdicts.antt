@@ -2,9 +2,9 @@
 use Rattle.std.proofs.Common.{◌≡◌, ℕ, List, Option, Some, None, IfSome, refl, sym, ap, ap₂, ◌∙◌, subst}
 use Rattle.sgt_notation.specs.Spelling.{text_of_lines}
 use Rattle.sgt_notation.specs.declared.SectionLine.{SectionLine}
-use Rattle.sgt_cert.specs.Parts.{Parts}
+use Rattle.sgt_cert.specs.Parts.{FitTogether, Parts}
 use Rattle.sgt_cert.specs.Valid.{IsRanked, IsValidLog, IsValid}
-use Rattle.sgt_cert.specs.Text.{AreSections, IsBundle, Spells}
+use Rattle.sgt_cert.specs.Text.{AreSections, Spells}
 use Rattle.sgt_cert.specs.declared.bundle.SiteLog.{SiteLog}
 use Rattle.sgt_cert.proofs.Headline.{valid-agrees}
 use Rattle.sgt_cert.proofs.OneText.{bundle-one}
@@ -15,32 +15,33 @@ use Rattle.sgt_audit.specs.declared.verdict.Verdict.{Verdict}
 use Rattle.sgt_audit.specs.declared.verdict.Verdict.TheVariants.{Yes, No}
 use Rattle.sgt_audit.specs.Faults.{complete, lines_so_far}
 use Rattle.sgt_audit.specs.Kept.{Means}
-use Rattle.sgt_audit.specs.Reads.{IsJudged}
+use Rattle.sgt_audit.specs.private.Stops.{IsJudged}
 use Rattle.sgt_audit.specs.Verdict.{IsVerdict, SaysHeadline, yes_of}
 use Rattle.sgt_audit.proofs.NoFault.{bundle_of, spells-bundle, valid-bundle}
+use Rattle.sgt_audit.proofs.Fitting.{fit-together}
 use Rattle.sgt_audit.proofs.Faultless.{valid-no_fault}
 use Rattle.sgt_audit.proofs.OneFault.{first_fault-excluded, first_fault-one}
-use Rattle.sgt_audit.proofs.Streaming.{sections-whole}
+use Rattle.sgt_audit.proofs.MayFollow.{sections-whole}
 
 -- the bundle that was kept
 abbrev pub kept_bundle : Kept → Parts
 kept_bundle k = record { certificate = k.certificate; sites = k.sections.whole }
 
-module _ (k : Kept) (before : List SectionLine) (m : Means k.certificate k.sections before) (all : AreSections k.certificate.sites before) (bytes : List ℕ) (text : bytes ≡ text_of_lines (lines_so_far (complete k.certificate before))) where
-  same-bundle : bundle_of bytes k.certificate before m.kept all text ≡ kept_bundle k
+module _ (k : Kept) (before : List SectionLine) (m : Means k.second k.certificate k.sections before) (all : AreSections k.certificate.sites before) (bytes : List ℕ) (text : bytes ≡ text_of_lines (lines_so_far (complete k.second k.certificate before))) where
+  same-bundle : bundle_of bytes k.second k.certificate before m.kept all text ≡ kept_bundle k
   same-bundle = ap (λ logs. record { certificate = k.certificate; sites = logs }) (sym (sections-whole k.sections all.0 (all.2 ∙ m.lines)).1)
 
   pub kept-spelled : Spells bytes (kept_bundle k)
-  kept-spelled = subst (Spells bytes) same-bundle (spells-bundle bytes k.certificate before m.kept all text)
+  kept-spelled = subst (Spells bytes) same-bundle (spells-bundle bytes k.second k.certificate before m.kept all text)
 
   pub kept-valid : IsValid (kept_bundle k)
-  kept-valid = subst IsValid same-bundle (valid-bundle bytes k.certificate before m.kept all text)
+  kept-valid = subst IsValid same-bundle (valid-bundle bytes k.second k.certificate before m.kept all text)
 
--- its numbers and names are in range
-pub kept-is_bundle : (k : Kept) (before : List SectionLine) → Means k.certificate k.sections before → AreSections k.certificate.sites before → IsBundle (kept_bundle k)
-kept-is_bundle k before m all =
-    let s = kept-spelled k before m all (text_of_lines (lines_so_far (complete k.certificate before))) refl in
-    record { certificate = s.certificate; shape = s.shape; logs = s.logs }
+-- its parts fit together
+pub kept-fit : (k : Kept) (before : List SectionLine) → Means k.second k.certificate k.sections before → AreSections k.certificate.sites before → FitTogether (kept_bundle k)
+kept-fit k before m all =
+    let s = kept-spelled k before m all (text_of_lines (lines_so_far (complete k.second k.certificate before))) refl in
+    fit-together k.certificate k.sections.whole s.certificate s.shape
 
 pub kept-verdict : (k : Kept) (bytes : List ℕ) → IsJudged (judged.Whole k) bytes → IsVerdict bytes (yes_of k.certificate.decisions)
 kept-verdict k bytes (before, m, all, text) = (kept_bundle k, kept-spelled k before m all bytes text, kept-valid k before m all bytes text, refl)
@@ -51,6 +52,8 @@ verdict-headline bytes (Yes committed refused withdrawn) (b, spelled, valid, cou
   bundle = b;
   spelled = spelled;
   serial = valid-agrees b valid;
+  once = valid.once;
+  ranks = valid.ranks;
   ranked = All-from_at (λ (log : SiteLog). IsRanked b.certificate.decisions log.entries) b.sites (λ n log at. (All_at (IsValidLog b.certificate.decisions) b.sites n log valid.logs at).ranked);
   cycles = valid.cycles;
 }

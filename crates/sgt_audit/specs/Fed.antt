@@ -1,7 +1,7 @@
 -- What an auditor was fed.
-use Rattle.std.specs.Prelude.{◌≡◌, ℕ, ◌+◌, ◌<◌, ◌≤◌, ◌^◌, List, ◌∷◌, ◌++◌, length, codes}
+use Rattle.std.specs.Prelude.{◌≡◌, ℕ, ◌+◌, ◌<◌, ◌≤◌, ◌^◌, Bool, List, ◌∷◌, ◌++◌, length}
 use Rattle.sgt_notation.specs.Spelling.{text_of_lines}
-use Rattle.sgt_cert.specs.Text.{certificate_text}
+use Rattle.sgt_cert.specs.Text.{certificate_text, format_line}
 use Rattle.sgt_cert.specs.declared.certificate.Certificate.{Certificate}
 use Rattle.sgt_audit.specs.declared.auditor.Auditor.{Auditor}
 use Rattle.sgt_audit.specs.declared.auditor.Standing.{Standing}
@@ -10,22 +10,22 @@ use Rattle.sgt_audit.specs.Faults.{Stage, FirstFault, lines_so_far}
 use Rattle.sgt_audit.specs.Progress.{Stands}
 
 -- the number is m, as far as it can tell
-abbrev pub Counts : ℕ → ℕ → Type 0
-Counts number m = m < 2 ^ 64 → number ≡ m
+abbrev pub IsNumbered : ℕ → ℕ → Type 0
+IsNumbered number m = m < 2 ^ 64 → number ≡ m
 
 -- these lines have no fault and are what is kept, or their text has this first fault, whatever follows
 abbrev pub HasRead : Standing → List (List ℕ) → Type 0
-HasRead (Going machine line) lines = (s : Stage) × Stands machine.progress s × (lines_so_far s ≡ lines) × Counts line (length lines + 1)
-HasRead (Found line f) lines = (m : ℕ) × ((rest : List ℕ) → FirstFault (text_of_lines lines ++ rest) m f) × (m ≤ length lines) × Counts line m
+HasRead (Going machine line) lines = (s : Stage) × Stands machine.progress s × (lines_so_far s ≡ lines) × IsNumbered line (length lines + 1)
+HasRead (Found line f) lines = (m : ℕ) × ((rest : List ℕ) → FirstFault (text_of_lines lines ++ rest) m f) × (m ≤ length lines) × IsNumbered line m
 HasRead Spent lines = Unit {0}
 
--- the lines of a bundle with this certificate and then these lines
-abbrev pub bundle_lines : Certificate → List (List ℕ) → List (List ℕ)
-bundle_lines c fed = codes "sgt 1" ∷ certificate_text c ∷ fed
+-- the lines of a bundle in the first or the second format, with this certificate and then these lines
+abbrev pub bundle_lines : Bool → Certificate → List (List ℕ) → List (List ℕ)
+bundle_lines second c fed = format_line second ∷ certificate_text c ∷ fed
 
--- the auditor was made for this certificate, and then fed these lines
-abbrev pub HasFed : Auditor → Certificate → List (List ℕ) → Type 0
-HasFed auditor c fed = HasRead auditor.standing (bundle_lines c fed)
+-- the auditor was made for this format and this certificate, and then fed these lines
+abbrev pub HasFed : Auditor → Bool → Certificate → List (List ℕ) → Type 0
+HasFed auditor second c fed = HasRead auditor.standing (bundle_lines second c fed)
 
 -- a growth was refused, and every call answers so from now on
 abbrev pub IsSpent : Standing → Type 0

@@ -1,6 +1,6 @@
 -- How far the auditor has come in a text.
--- Private clauses use these words, and of the public ones those alone that say what an auditor was fed (Fed).
-use Rattle.std.specs.Prelude.{◌≡◌, ℕ, List, [], ◌∷◌, ◌++◌, Option, Some, None, Result, Ok, Err}
+-- (Of public clauses those alone use these words that say what an auditor was fed.)
+use Rattle.std.specs.Prelude.{◌≡◌, ℕ, Bool, List, [], ◌∷◌, ◌++◌, Option, Some, None, Result, Ok, Err}
 use Rattle.sgt_notation.specs.declared.SectionLine.{SectionLine}
 use Rattle.sgt_cert.specs.Text.{certificate_text}
 use Rattle.sgt_audit.specs.declared.faults.Fault.{Fault}
@@ -13,20 +13,5 @@ use Rattle.sgt_audit.specs.Kept.{Means, IsStageOf}
 -- what is kept means this stage
 abbrev pub Stands : Progress → Stage → Type 0
 Stands at.Start s = s ≡ start
-Stands at.Headed s = s ≡ headed
-Stands (at.Reading k) s = (before : List SectionLine) × Means k.certificate k.sections before × IsStageOf k.certificate before s
-
--- the second line is this certificate's, which keeps its rules, or this is its least fault
-abbrev pub Begins : List ℕ → Result Kept Fault → Type 0
-Begins l (Ok k) = (l ≡ certificate_text k.certificate) × Means k.certificate k.sections []
-Begins l (Err f) = Breaks (Rule headed (whole l)) f
-
--- after a line with its LF: the next stage, or the least fault of this one
-abbrev pub Follows : Stage → List ℕ → Progress → Option Fault → Type 0
-Follows s l new None = (t : Stage) × Stands new t × (lines_so_far t ≡ lines_so_far s ++ l ∷ [])
-Follows s l new (Some f) = Breaks (Rule s (whole l)) f
-
--- the bytes of a piece, without an LF
-abbrev pub bytes_of : Piece → List ℕ
-bytes_of (whole l) = l
-bytes_of (last l) = l
+Stands (at.Headed second) s = s ≡ headed second
+Stands (at.Reading k) s = (before : List SectionLine) × Means k.second k.certificate k.sections before × IsStageOf k.second k.certificate before s

@@ -1,30 +1,17 @@
 -- The auditor's verdict on a text.
-use Rattle.std.specs.Prelude.{◌≡◌, ◌<◌, ℕ, List, ◌++◌, length, take, codes, decimal, Bool, true, false, count_by, Option, Some, None, ⊤, All, slice_get, ◌⊎◌, [], IfSome}
+use Rattle.std.specs.Prelude.{◌≡◌, ◌<◌, ℕ, List, ◌++◌, length, take, codes, decimal, count_by, Option, All, ◌⊎◌, [], IfSome}
+use Rattle.sgt_names.specs.Device.{AppendsOrForgets}
 use Rattle.sgt_cert.specs.Parts.{Parts}
-use Rattle.sgt_cert.specs.Certificate.{IsCycle}
+use Rattle.sgt_cert.specs.Certificate.{AreRanks, IsDecidedOnce, is_commit, is_refusal, is_withdrawal, ranks}
 use Rattle.sgt_cert.specs.Serial.{SerialAgrees}
-use Rattle.sgt_cert.specs.Valid.{AreLogged, IsRanked, IsValid}
-use Rattle.sgt_cert.specs.declared.certificate.Step.{Step}
+use Rattle.sgt_cert.specs.Valid.{IsRanked, IsValid, RefusedLieOnCycles}
 use Rattle.sgt_cert.specs.Text.{Spells}
 use Rattle.sgt_cert.specs.declared.certificate.Decision.{Decision}
-use Rattle.sgt_cert.specs.declared.certificate.Decision.TheVariants.{Commit, Refuse, Withdraw}
 use Rattle.sgt_audit.specs.declared.verdict.Verdict.{Verdict}
 use Rattle.sgt_audit.specs.declared.verdict.Verdict.TheVariants.{Yes, No}
 use Rattle.sgt_audit.specs.declared.engine.Audited.{Audited}
 use Rattle.sgt_audit.specs.declared.engine.Audited.TheVariants as audited
 use Rattle.sgt_audit.specs.Faults.{fault_number, FirstFault}
-
-abbrev pub is_commit : Decision → Bool
-is_commit (Commit tx rank) = true
-is_commit _ = false
-
-abbrev pub is_refusal : Decision → Bool
-is_refusal (Refuse tx walk) = true
-is_refusal _ = false
-
-abbrev pub is_withdrawal : Decision → Bool
-is_withdrawal (Withdraw tx) = true
-is_withdrawal _ = false
 
 -- the yes with the counts of these decisions
 abbrev pub yes_of : List Decision → Verdict
@@ -39,12 +26,6 @@ IsVerdict bytes (No line f) = FirstFault bytes line f
 abbrev pub text_of : Verdict → List ℕ
 text_of (Yes committed refused withdrawn) = codes "yes " ++ (decimal committed ++ (codes " committed " ++ (decimal refused ++ (codes " refused " ++ (decimal withdrawn ++ codes " withdrawn\n")))))
 text_of (No line f) = codes "no line " ++ (decimal line ++ (codes " F" ++ (decimal (fault_number f) ++ codes "\n")))
-
--- known bytes grew by these, or none are told any more
-abbrev pub AppendsOrForgets : Option (List ℕ) → Option (List ℕ) → List ℕ → Type 0
-AppendsOrForgets None new bytes = ⊤
-AppendsOrForgets (Some xs) None bytes = ⊤
-AppendsOrForgets (Some xs) (Some ys) bytes = ys ≡ xs ++ bytes
 
 -- nothing was written, or a front of the line of the verdict on the bytes told, and less than the whole line
 abbrev pub WroteFront : (told old new : Option (List ℕ)) → Type 0
@@ -68,9 +49,11 @@ pub record HoldsHeadline (bytes : List ℕ) : Type 0 where
   pub bundle : Parts
   pub spelled : Spells bytes bundle
   pub serial : SerialAgrees bundle
+  -- by rank: each transaction is decided once, and the ranks of the n committed ones are 0 to n - 1, each once
+  pub once : IsDecidedOnce bundle.certificate.decisions
+  pub ranks : AreRanks (ranks bundle.certificate.decisions)
   pub ranked : All (λ log. IsRanked bundle.certificate.decisions log.entries) bundle.sites
-  pub cycles : (number tx : ℕ) (walk : List Step) → slice_get bundle.certificate.decisions number ≡ Some (Refuse tx walk)
-      → IsCycle bundle.certificate.decisions number tx walk × AreLogged bundle.sites tx walk
+  pub cycles : RefusedLieOnCycles bundle
 
 -- a yes says so
 abbrev pub SaysHeadline : List ℕ → Verdict → Type 0

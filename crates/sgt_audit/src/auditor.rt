@@ -1,6 +1,6 @@
 //! An auditor that is fed the lines of a bundle one by one.
 
-ghost use Rattle.std.specs.Prelude.{◌≡◌, ℕ, ◌+◌, ◌<◌, ◌^◌, List, [], ◌∷◌, ◌++◌, length, Err, IfOk, IfErr, OnOk, OnErr};
+ghost use Rattle.std.specs.Prelude.{◌≡◌, ℕ, ◌+◌, ◌<◌, ◌^◌, List, [], ◌∷◌, ◌++◌, length, Bool, true, false, Err, IfOk, IfErr, OnOk, OnErr};
 ghost use Rattle.sgt_notation.specs.Spelling.{HasNoLf, text_of_lines};
 ghost use Rattle.sgt_cert.specs.declared.certificate.Certificate.{Certificate};
 ghost use Rattle.sgt_audit.specs.Verdict.{IsVerdict};
@@ -33,10 +33,28 @@ pub struct Auditor {
 impl Auditor {
     ghost use Rattle.sgt_audit.specs.Fed.{HasFed, HasFailed, bundle_lines};
 
-    /// An auditor of a bundle with this certificate, which it judges. A fault of the certificate is no Err: `end` answers it.
-    /// An Err is Memory.
+    /// An auditor of a bundle in the first format, `sgt 1`, with this certificate, which it judges. A fault of the
+    /// certificate is no Err: `end` answers it. An Err is Memory.
     pub fn new(alloc: Global, certificate: Certificate) -> Result<Auditor, EngineFail>
-        ensures read { IfOk result (λ a. HasFed a certificate []) }
+        ensures read { IfOk result (λ a. HasFed a false certificate []) }
+        ensures going { IfOk result (λ a. HasFailed a → ⊥) }
+        ensures err { IfErr result (λ e. e ≡ EngineFail.Memory) }
+    {
+        Auditor::begin(alloc, false, certificate)
+    }
+
+    /// The same in the second format, `sgt 2`, which has increments. There need be none.
+    pub fn new_2(alloc: Global, certificate: Certificate) -> Result<Auditor, EngineFail>
+        ensures read { IfOk result (λ a. HasFed a true certificate []) }
+        ensures going { IfOk result (λ a. HasFailed a → ⊥) }
+        ensures err { IfErr result (λ e. e ≡ EngineFail.Memory) }
+    {
+        Auditor::begin(alloc, true, certificate)
+    }
+
+    /// The same in the second format or in the first.
+    fn begin(alloc: Global, second: bool, certificate: Certificate) -> Result<Auditor, EngineFail>
+        ensures read { IfOk result (λ a. HasFed a second certificate []) }
         ensures going { IfOk result (λ a. HasFailed a → ⊥) }
         ensures err { IfErr result (λ e. e ≡ EngineFail.Memory) }
     {
@@ -45,7 +63,7 @@ impl Auditor {
         };
         let mut machine = Machine {
             alloc,
-            progress: Progress::Headed,
+            progress: Progress::Headed(second),
         };
         match machine.line(line.as_slice()) {
             Ok(None) => Ok(Auditor {
@@ -62,7 +80,7 @@ impl Auditor {
     /// Err: `end` answers it. An Err is Memory, and every later call answers Memory then.
     pub fn feed(&mut self, line: &[u8]) -> Result<(), EngineFail>
         requires { HasNoLf line.now }
-        ensures read { (c : Certificate) (fed : List (List ℕ)) → HasFed self.old c fed → HasFed self.new c (fed ++ line.now ∷ []) }
+        ensures read { (second : Bool) (c : Certificate) (fed : List (List ℕ)) → HasFed self.old second c fed → HasFed self.new second c (fed ++ line.now ∷ []) }
         ensures going { OnOk result (HasFailed self.new → ⊥) }
         ensures err { IfErr result (λ e. (e ≡ EngineFail.Memory) × HasFailed self.new) }
         ensures spent { HasFailed self.old → result ≡ Err EngineFail.Memory }
@@ -89,7 +107,8 @@ impl Auditor {
 
     /// The verdict on the lines fed, which are all. An Err is Memory, and comes only where `feed` answered it.
     pub fn end(self) -> Result<Verdict, EngineFail>
-        ensures verdict { (c : Certificate) (fed : List (List ℕ)) → HasFed self c fed → length fed + 3 < 2 ^ 64 → IfOk result (IsVerdict (text_of_lines (bundle_lines c fed))) }
+        ensures verdict { (second : Bool) (c : Certificate) (fed : List (List ℕ)) → HasFed self second c fed → length fed + 3 < 2 ^ 64
+            → IfOk result (IsVerdict (text_of_lines (bundle_lines second c fed))) }
         ensures err { IfErr result (λ e. (e ≡ EngineFail.Memory) × HasFailed self) }
         ensures spent { HasFailed self → result ≡ Err EngineFail.Memory }
     {

@@ -1,25 +1,18 @@
 //! The bundle that some bytes spell.
 
-ghost use Rattle.std.specs.Prelude.{◌≡◌, ◌≤◌, ◌∷◌, ◌++◌, ℕ, ◌+◌, ◌<◌, length, take, drop, IfOk, IfErr, IfSome, IfNone};
+ghost use Rattle.std.specs.Prelude.{◌≡◌, ◌≤◌, [], ◌∷◌, ◌++◌, ℕ, ◌+◌, ◌<◌, length, take, drop, IfOk, IfErr, IfSome, IfNone};
 ghost use Rattle.sgt_names.specs.Limits.{max_sites};
 ghost use Rattle.sgt_notation.specs.Spelling.{HasNoLf};
-ghost use Rattle.sgt_audit.specs.Spelled.{AnswersBundle, AnswersSections};
+ghost use Rattle.sgt_audit.specs.Spelled.{AnswersBundle};
+ghost use Rattle.sgt_audit.specs.Reading.{lines_read};
+ghost use Rattle.sgt_audit.specs.private.SpelledSections.{AnswersSections, AreSpelled};
 
+use crate::format::{read_format, read_line};
 use crate::sections::Sections;
-use memchr::memchr;
 use sgt_cert::{Bundle, CertFault, from_line};
 use sgt_names::EngineFail;
-use sgt_notation::read_section;
+use sgt_notation::find_lf;
 use std::alloc::{AllocError, Global};
-
-/// Where the first LF stands.
-fn find_lf(bytes: &[u8]) -> Option<usize>
-    ensures some { IfSome result (λ n. (n < length bytes.now) × HasNoLf (take n bytes.now)
-        × (bytes.now ≡ take n bytes.now ++ 10 ∷ drop (n + 1) bytes.now)) }
-    ensures none { IfNone result (HasNoLf bytes.now) }
-{
-    memchr(b'\n', bytes)
-}
 
 /// The first line, without its LF, and the bytes behind it.
 pub(crate) fn split_line(bytes: &[u8]) -> Option<(&[u8], &[u8])>
@@ -32,28 +25,46 @@ pub(crate) fn split_line(bytes: &[u8]) -> Option<(&[u8], &[u8])>
     }
 }
 
-/// The sections of so many sites that the bytes spell.
-fn read_sections(alloc: Global, sites: u8, bytes: &[u8]) -> Result<Option<Sections>, AllocError>
-    requires some { 1 ≤ sites }
-    requires few { sites ≤ max_sites }
-    ensures { IfOk result (AnswersSections sites bytes.now) }
+/// Adds the lines of sections that the bytes spell in the second format, or in the first. Whether they are all sections.
+fn add_lines(second: bool, bytes: &[u8], sections: &mut Sections) -> Result<bool, AllocError>
+    requires { lines_read sections.old ≡ [] }
+    ensures sites { sections.new.sites ≡ sections.old.sites }
+    ensures all { IfOk result (λ all. AreSpelled all second sections.old.sites bytes.now (lines_read sections.new)) }
 {
-    let mut sections = Sections::new(alloc, sites);
     let mut rest = bytes;
     'lines: while let Some((line, more)) = split_line(rest) {
-        let Ok(read) = read_section(line) else {
-            return Ok(None);
+        let Some(read) = read_line(second, line) else {
+            return Ok(false);
         };
         if !sections.may_go_on(&read) {
-            return Ok(None);
+            return Ok(false);
         }
         sections.add(read)?;
         rest = more;
     }
-    if !rest.is_empty() || !sections.are_all() {
-        return Ok(None);
+    if !rest.is_empty() {
+        return Ok(false);
     }
-    Ok(Some(sections))
+    Ok(sections.are_all())
+}
+
+/// The sections of so many sites that the bytes spell.
+fn read_sections(
+    alloc: Global,
+    second: bool,
+    sites: u8,
+    bytes: &[u8],
+) -> Result<Option<Sections>, AllocError>
+    requires some { 1 ≤ sites }
+    requires few { sites ≤ max_sites }
+    ensures { IfOk result (AnswersSections second sites bytes.now) }
+{
+    let mut sections = Sections::new(alloc, sites);
+    if add_lines(second, bytes, &mut sections)? {
+        Ok(Some(sections))
+    } else {
+        Ok(None)
+    }
 }
 
 /// The bundle that the bytes spell, if they spell one. It need not be valid. An Err is Memory.
@@ -65,9 +76,9 @@ pub fn read_bundle(alloc: Global, bytes: &[u8]) -> Result<Option<Bundle>, Engine
         Some(split) => split,
         None => return Ok(None),
     };
-    if format != b"sgt 1".as_slice() {
+    let Some(second) = read_format(format) else {
         return Ok(None);
-    }
+    };
     let (line, rest) = match split_line(behind) {
         Some(split) => split,
         None => return Ok(None),
@@ -79,7 +90,7 @@ pub fn read_bundle(alloc: Global, bytes: &[u8]) -> Result<Option<Bundle>, Engine
         Err(CertFault::Shape) => return Ok(None),
         Err(CertFault::Range) => return Ok(None),
     };
-    match read_sections(alloc, certificate.sites, rest) {
+    match read_sections(alloc, second, certificate.sites, rest) {
         Ok(Some(sections)) => Ok(Bundle::new(certificate, sections.into_logs())),
         Ok(None) => Ok(None),
         Err(_) => Err(EngineFail::Memory),

@@ -4,23 +4,12 @@ ghost use Rattle.std.specs.Prelude.{◌≡◌, ◌≢◌, ◌<◌, ◌↔◌, �
 ghost use Rattle.sgt_names.specs.Name.{Name};
 ghost use Rattle.sgt_names.specs.Entry.{tx_of, item_of, IsEnd, Clash, Repeats};
 ghost use Rattle.sgt_names.specs.declared.entry.Kind.{Kind};
-ghost use Rattle.sgt_cert.specs.Certificate.{decided, Suits, IsCommitted, IsDecidedOnce};
+ghost use Rattle.sgt_cert.specs.Certificate.{Suits, IsCommitted, IsDecidedOnce};
 ghost use Rattle.sgt_cert.specs.Valid.{IsDecided, EndInOrder, RiseInRank};
 
-use crate::entries::{clashes, has_ended, is_end, item_of_entry, reads, tx_of_entry, writes};
+use crate::entries::{clashes, has_ended};
 use sgt_cert::Decision;
 use sgt_names::{Entry, Kind, Tx};
-
-/// The transaction that is decided.
-pub(crate) fn decided_tx(decision: &Decision) -> Tx
-    ensures { result ≡ decided decision.now }
-{
-    match decision {
-        Decision::Commit { tx, .. } => *tx,
-        Decision::Refuse { tx, .. } => *tx,
-        Decision::Withdraw { tx } => *tx,
-    }
-}
 
 /// Whether the decision suits an entry of its transaction.
 fn suits(entry: &Entry, decision: &Decision) -> bool
@@ -28,8 +17,14 @@ fn suits(entry: &Entry, decision: &Decision) -> bool
 {
     match entry {
         Entry::Read { .. } => true,
-        Entry::Write { .. } | Entry::Commit { .. } => matches!(decision, Decision::Commit { .. }),
-        Entry::Want { .. } | Entry::Refuse { .. } => matches!(decision, Decision::Refuse { .. }),
+        Entry::Write { .. } | Entry::Add { .. } | Entry::Commit { .. } => matches!(
+            decision,
+            Decision::Commit { .. }
+        ),
+        Entry::Want { .. } | Entry::WantAdd { .. } | Entry::Refuse { .. } => matches!(
+            decision,
+            Decision::Refuse { .. }
+        ),
         Entry::Withdraw { .. } => matches!(decision, Decision::Withdraw { .. }),
     }
 }
@@ -39,8 +34,7 @@ pub(crate) fn decision_on(decisions: &[Decision], entry: &Entry) -> Option<usize
     ensures some { IfSome result (λ number. IsDecided decisions.now entry.now number) }
     ensures none { IfNone result ((number : ℕ) → IsDecided decisions.now entry.now number → ⊥) }
 {
-    decisions.iter().position(|decision| decided_tx(decision) == tx_of_entry(entry)
-        && suits(entry, decision))
+    decisions.iter().position(|decision| decision.tx() == entry.tx() && suits(entry, decision))
 }
 
 /// The rank of a commit of the transaction.
@@ -61,21 +55,21 @@ pub(crate) fn rank_of(decisions: &[Decision], tx: Tx) -> Option<u32>
     None
 }
 
-/// Whether both are reads of one item, or writes or wants of one, by one transaction.
+/// Whether both are reads of one item, or both change one or ask to, by one transaction.
 fn repeats(first: &Entry, second: &Entry) -> bool
     ensures { IsTrue result ↔ ((x : Name) × Repeats x first.now second.now) }
 {
-    match item_of_entry(second) {
+    match second.item() {
         Some(item) => {
-            tx_of_entry(first) == tx_of_entry(second)
-                && (reads(&item, first) && reads(&item, second)
-                    || writes(&item, first) && writes(&item, second))
+            first.tx() == second.tx()
+                && (first.reads(&item) && second.reads(&item)
+                    || first.writes(&item) && second.writes(&item))
         }
         None => false,
     }
 }
 
-/// Whether the entry is not the second read of its item by its transaction, nor the second write or want.
+/// Whether the entry is not the second read of its item by its transaction, nor its second change, made or asked for.
 pub(crate) fn is_first(entries: &[Entry], entry: &Entry) -> bool
     ensures { IsTrue result ↔ All (λ f. (x : Name) → Repeats x f entry.now → ⊥) entries.now }
 {
@@ -87,11 +81,11 @@ pub(crate) fn is_first(entries: &[Entry], entry: &Entry) -> bool
     true
 }
 
-/// Whether the two are operations on one item of which at least one writes or wants to.
+/// Whether the two are in conflict: operations on one item of which at least one writes or asks to, but not two increments.
 fn conflict(first: &Entry, second: &Entry) -> bool
     ensures { IsTrue result ↔ ((kind : Kind) × (x : Name) × Clash kind x first.now second.now) }
 {
-    match item_of_entry(second) {
+    match second.item() {
         Some(item) => {
             clashes(Kind::Wr, &item, first, second)
                 || clashes(Kind::Rw, &item, first, second)
@@ -105,11 +99,11 @@ fn conflict(first: &Entry, second: &Entry) -> bool
 fn rises(decisions: &[Decision], first: &Entry, second: &Entry) -> bool
     ensures { IsDecidedOnce decisions.now → (IsTrue result ↔ RiseInRank decisions.now first.now second.now) }
 {
-    if tx_of_entry(first) == tx_of_entry(second) || !conflict(first, second) {
+    if first.tx() == second.tx() || !conflict(first, second) {
         return true;
     }
-    match rank_of(decisions, tx_of_entry(first)) {
-        Some(earlier) => match rank_of(decisions, tx_of_entry(second)) {
+    match rank_of(decisions, first.tx()) {
+        Some(earlier) => match rank_of(decisions, second.tx()) {
             Some(later) => earlier < later,
             None => true,
         },
@@ -134,7 +128,7 @@ pub(crate) fn is_active(decisions: &[Decision], entries: &[Entry], entry: &Entry
     ensures { IsTrue result ↔ (((number : ℕ) × IsDecided decisions.now entry.now number) × All (λ f. IsEnd f → tx_of f ≢ tx_of entry.now) entries.now) }
 {
     match decision_on(decisions, entry) {
-        Some(_) => !has_ended(entries, tx_of_entry(entry)),
+        Some(_) => !has_ended(entries, entry.tx()),
         None => false,
     }
 }
@@ -143,7 +137,7 @@ pub(crate) fn is_active(decisions: &[Decision], entries: &[Entry], entry: &Entry
 fn ends_in_order(decisions: &[Decision], first: &Entry, second: &Entry) -> bool
     ensures { IsDecidedOnce decisions.now → (IsTrue result ↔ EndInOrder decisions.now first.now second.now) }
 {
-    if !is_end(first) || !is_end(second) {
+    if !first.is_end() || !second.is_end() {
         return true;
     }
     match decision_on(decisions, first) {

@@ -1,24 +1,14 @@
 //! A certificate by itself: its ranks, its transactions, its walks.
 
 ghost use Rattle.std.specs.Prelude.{◌≡◌, ◌≢◌, ◌<◌, ◌≤◌, ◌↔◌, ℕ, List, IsTrue, IfOk, Some, All, AllPairs, Any, Contains, length, slice_get};
-ghost use Rattle.sgt_cert.specs.Certificate.{decided, rank_in, ranks, AreRanks, IsCommitted, IsCycle, IsDecidedOnce};
+ghost use Rattle.sgt_cert.specs.Certificate.{decided_tx, ranks, AreRanks, IsCommitted, IsCycle, IsDecidedOnce};
 ghost use Rattle.sgt_cert.specs.declared.certificate.Decision.TheVariants.{Refuse};
 ghost use Rattle.sgt_cert.specs.declared.certificate.Step.{Step};
 
-use crate::decided::{decided_tx, rank_of};
+use crate::decided::rank_of;
 use sgt_cert::{Decision, Step};
 use sgt_names::Tx;
 use std::alloc::{AllocError, Global};
-
-/// The rank of a commit.
-fn committed_rank(decision: &Decision) -> Option<u32>
-    ensures { result ≡ rank_in decision.now }
-{
-    match decision {
-        Decision::Commit { rank, .. } => Some(*rank),
-        _ => None,
-    }
-}
 
 /// The ranks of the commits.
 pub(crate) fn commit_ranks(alloc: Global, decisions: &[Decision]) -> Result<Vec<u32>, AllocError>
@@ -26,7 +16,7 @@ pub(crate) fn commit_ranks(alloc: Global, decisions: &[Decision]) -> Result<Vec<
 {
     decisions
         .iter()
-        .filter_map(|decision| committed_rank(decision))
+        .filter_map(|decision| decision.rank())
         .collect(alloc)
 }
 
@@ -49,9 +39,9 @@ pub(crate) fn are_ranks(ranks: &[u32]) -> bool
 }
 
 fn is_decided(decisions: &[Decision], tx: Tx) -> bool
-    ensures { IsTrue result ↔ Any (λ d. decided d ≡ tx) decisions.now }
+    ensures { IsTrue result ↔ Any (λ d. decided_tx d ≡ tx) decisions.now }
 {
-    decisions.iter().any(|decision| decided_tx(decision) == tx)
+    decisions.iter().any(|decision| decision.tx() == tx)
 }
 
 /// Whether each transaction is in at most one decision.
@@ -59,7 +49,7 @@ pub(crate) fn are_decided_once(decisions: &[Decision]) -> bool
     ensures { IsTrue result ↔ IsDecidedOnce decisions.now }
 {
     for (n, decision) in decisions.iter().enumerate() {
-        if is_decided(&decisions[..n], decided_tx(decision)) {
+        if is_decided(&decisions[..n], decision.tx()) {
             return false;
         }
     }

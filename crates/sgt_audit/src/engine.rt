@@ -3,15 +3,14 @@
 ghost use Rattle.std.specs.Prelude.{◌≡◌, ◌≢◌, ℕ, ◌<◌, ◌≤◌, ◌⊎◌, List, Err, length, IfOk, OnErr, IfSome, IsErrOf};
 ghost use Rattle.std.specs.Io.KnownBytes.{Appends};
 ghost use Rattle.sgt_notation.specs.Limits.{most_reads};
-ghost use Rattle.sgt_audit.specs.Reads.{IsJudged};
+ghost use Rattle.sgt_audit.specs.private.Stops.{IsJudged};
 ghost use Rattle.sgt_audit.specs.Verdict.{IsVerdict, IsAudited, HandsOutValid, SaysHeadline, WroteFront, text_of};
 
 use crate::faults::Fault;
-use crate::output::write_all;
 use crate::reading::{Judged, judge};
 use crate::verdict::{Verdict, yes_to};
 use sgt_cert::Bundle;
-use sgt_names::{EngineFail, Sink, Source};
+use sgt_names::{EngineFail, Sink, Source, write_all};
 use std::alloc::Global;
 
 /// What a text was found to spell.
@@ -31,7 +30,7 @@ pub enum Audited {
 pub fn audit_bundle<R: Source>(alloc: Global, reader: &mut R) -> Result<Audited, EngineFail>
     ensures audited { IfOk result (λ a. IfSome (R.tells reader.old) (λ bytes. IsAudited bytes a)) }
     ensures valid { IfOk result HandsOutValid }
-    ensures quiet { IfOk result (λ _. R.failures reader.new ≡ R.failures reader.old) }
+    ensures quiet { result ≢ Err EngineFail.ReadFault → R.failures reader.new ≡ R.failures reader.old }
     ensures read_fault { IsErrOf result EngineFail.ReadFault →
         ((R.failures reader.old < R.failures reader.new) ⊎ IfSome (R.tells reader.old) (λ bytes. most_reads ≤ length bytes)) }
     ensures write_fault { result ≢ Err EngineFail.WriteFault }
@@ -77,7 +76,8 @@ pub fn audit<R: Source, W: Sink>(
     ensures verdict { IfOk result (λ v. IfSome (R.tells reader.old) (λ bytes. IsVerdict bytes v)) }
     ensures headline { IfOk result (λ v. IfSome (R.tells reader.old) (λ bytes. SaysHeadline bytes v)) }
     ensures written { IfOk result (λ v. Appends (W.holds writer.old) (W.holds writer.new) (text_of v)) }
-    ensures quiet { IfOk result (λ _. (R.failures reader.new ≡ R.failures reader.old) × (W.failures writer.new ≡ W.failures writer.old)) }
+    ensures quiet_reader { result ≢ Err EngineFail.ReadFault → R.failures reader.new ≡ R.failures reader.old }
+    ensures quiet_writer { result ≢ Err EngineFail.WriteFault → W.failures writer.new ≡ W.failures writer.old }
     ensures front { OnErr result (WroteFront (R.tells reader.old) (W.holds writer.old) (W.holds writer.new)) }
     ensures unwritten { IsErrOf result EngineFail.ReadFault → writer.new ≡ writer.old }
     ensures untouched { IsErrOf result EngineFail.Memory → writer.new ≡ writer.old }

@@ -1,47 +1,48 @@
 //! The faults of a text that is no valid bundle.
 
-use thiserror::Error;
+use std::error::Error;
+use std::fmt::{self, Display, Formatter, Write};
 
-/// Why a text is no valid bundle, by the first line that shows it.
-#[derive(Clone, Copy, Debug, PartialEq, Eq, Error)]
+/// Why a text is no valid bundle, by the first line that shows it. The number of a variant is the fault's.
+#[derive(Clone, Copy, Debug, PartialEq, Eq)]
 pub enum Fault {
-    #[error("F1: the first line is not `sgt 1`, or is too long")]
+    /// The first line is neither `sgt 1` nor `sgt 2`, or is too long.
     Format = 1,
-    #[error("F2: the line spells nothing, or is too long")]
+    /// The line spells nothing of its format, or is too long.
     Notation = 2,
-    #[error("F3: the second line is no certificate")]
+    /// The second line is no certificate.
     Certificate = 3,
-    #[error("F4: the ranks of the n commits are not 0 to n-1, each once")]
+    /// The ranks of the n commits are not 0 to n-1, each once.
     Ranks = 4,
-    #[error("F5: a transaction is decided twice")]
+    /// A transaction is decided twice.
     DecidedTwice = 5,
-    #[error("F6: the walk of a refused transaction is no cycle through transactions committed earlier")]
+    /// The walk of a refused transaction is no cycle through transactions committed earlier.
     WalkShape = 6,
-    #[error("F7: the section allows no such line here")]
+    /// The section allows no such line here.
     Section = 7,
-    #[error("F8: the item is not one of this site")]
+    /// The item is not one of this site.
     Item = 8,
-    #[error("F9: the transaction's second read of the item here, or its second write or want of it")]
+    /// The transaction's second read of the item here, or its second change of it, made or asked for.
     Twice = 9,
-    #[error("F10: the value read is not the item's value here")]
+    /// The value read is not the item's value here.
     ReadValue = 10,
-    #[error("F11: the entry conflicts with an earlier one of a committed transaction of greater rank")]
+    /// The entry conflicts with an earlier one of a committed transaction of greater rank.
     RankOrder = 11,
-    #[error("F12: the block before this line is not finished")]
+    /// The block before this line is not finished.
     Block = 12,
-    #[error("F13: the transaction is not decided as this entry says, or has ended here")]
+    /// The transaction is not decided as this entry says, or has ended here.
     End = 13,
-    #[error("F14: an earlier end here was decided later")]
+    /// An earlier end here was decided later.
     DecisionOrder = 14,
-    #[error("F15: a transaction with entries here has no end here")]
+    /// A transaction with entries here has no end here.
     NotEnded = 15,
-    #[error("F16: the final value is not the item's value at the end")]
+    /// The final value is not the item's value at the end.
     Final = 16,
-    #[error("F17: a step of a walk is no conflict of the logs")]
+    /// A step of a walk is no conflict of the logs.
     WalkStep = 17,
-    #[error("F18: the input ends here")]
+    /// The input ends here.
     Truncated = 18,
-    #[error("F19: more follows the last section")]
+    /// More follows the last section.
     Trailing = 19,
 }
 
@@ -55,4 +56,41 @@ impl Fault {
     {
         self as u8
     }
+
+    /// What it says of the line.
+    fn words(self) -> &'static str {
+        match self {
+            Fault::Format => "F1: the first line is neither `sgt 1` nor `sgt 2`, or is too long",
+            Fault::Notation => "F2: the line spells nothing of its format, or is too long",
+            Fault::Certificate => "F3: the second line is no certificate",
+            Fault::Ranks => "F4: the ranks of the n commits are not 0 to n-1, each once",
+            Fault::DecidedTwice => "F5: a transaction is decided twice",
+            Fault::WalkShape =>
+                "F6: the walk of a refused transaction is no cycle through transactions committed earlier",
+            Fault::Section => "F7: the section allows no such line here",
+            Fault::Item => "F8: the item is not one of this site",
+            Fault::Twice =>
+                "F9: the transaction's second read of the item here, or its second change of it, made or asked for",
+            Fault::ReadValue => "F10: the value read is not the item's value here",
+            Fault::RankOrder =>
+                "F11: the entry conflicts with an earlier one of a committed transaction of greater rank",
+            Fault::Block => "F12: the block before this line is not finished",
+            Fault::End =>
+                "F13: the transaction is not decided as this entry says, or has ended here",
+            Fault::DecisionOrder => "F14: an earlier end here was decided later",
+            Fault::NotEnded => "F15: a transaction with entries here has no end here",
+            Fault::Final => "F16: the final value is not the item's value at the end",
+            Fault::WalkStep => "F17: a step of a walk is no conflict of the logs",
+            Fault::Truncated => "F18: the input ends here",
+            Fault::Trailing => "F19: more follows the last section",
+        }
+    }
 }
+
+impl Display for Fault {
+    fn fmt<W: Write>(&self, f: &mut Formatter<W>) -> fmt::Result {
+        Display::fmt(self.words(), f)
+    }
+}
+
+impl Error for Fault {}

@@ -7,8 +7,9 @@ ghost use Rattle.sgt_cert.specs.Certificate.{IsDecidedOnce};
 ghost use Rattle.sgt_cert.specs.Text.{Begins};
 ghost use Rattle.sgt_cert.specs.declared.certificate.Certificate.{Certificate};
 ghost use Rattle.sgt_audit.specs.Faults.{Keeps};
-ghost use Rattle.sgt_audit.specs.Judging.{GoesOn, GoesOnWith, HasOpen, Judged, JudgedItself};
-ghost use Rattle.sgt_audit.specs.Reading.{Fits, lines_read};
+ghost use Rattle.sgt_audit.specs.private.Judging.{ContinuesLog, ContinuesBlock, HasOpen, JudgedLine, JudgedItself};
+ghost use Rattle.sgt_audit.specs.Reading.{lines_read};
+ghost use Rattle.sgt_audit.specs.private.Following.{Fits};
 
 use crate::decided::{is_active, is_first, is_in_order, is_in_rank};
 use crate::decisions::{are_cycles, are_decided_once, are_ranks, commit_ranks};
@@ -22,8 +23,8 @@ use sgt_notation::SectionLine;
 use std::alloc::{AllocError, Global};
 
 /// Whether the line goes on with the block of the entry in front of it, if that is open.
-fn goes_on_with(last: &Entry, line: &SectionLine) -> bool
-    ensures { IsTrue result ↔ GoesOnWith last.now line.now }
+fn continues_block(last: &Entry, line: &SectionLine) -> bool
+    ensures { IsTrue result ↔ ContinuesBlock last.now line.now }
 {
     if !is_open(last) {
         return true;
@@ -35,11 +36,11 @@ fn goes_on_with(last: &Entry, line: &SectionLine) -> bool
 }
 
 /// Whether the line goes on with the block that is open at the end of the log, if one is.
-fn goes_on(log: &OpenLog, line: &SectionLine) -> bool
-    ensures { IsTrue result ↔ GoesOn log.now line.now }
+fn continues_log(log: &OpenLog, line: &SectionLine) -> bool
+    ensures { IsTrue result ↔ ContinuesLog log.now line.now }
 {
     match log.last_entry() {
-        Some(last) => goes_on_with(&last, line),
+        Some(last) => continues_block(&last, line),
         None => true,
     }
 }
@@ -47,7 +48,7 @@ fn goes_on(log: &OpenLog, line: &SectionLine) -> bool
 /// The least fault of an entry.
 fn judge_entry(decisions: &[Decision], log: &OpenLog, entry: &Entry) -> Option<Fault>
     ensures { (c : Certificate) (before : List SectionLine) → c.decisions ≡ decisions.now → IsDecidedOnce decisions.now → HasOpen before log.now
-        → Begins c.sites (before ++ Logged entry.now ∷ []) → Judged (Keeps c before (Logged entry.now)) result }
+        → Begins c.sites (before ++ Logged entry.now ∷ []) → JudgedLine (Keeps c before (Logged entry.now)) result }
 {
     let items = log.items();
     let entries = log.entries();
@@ -63,7 +64,7 @@ fn judge_entry(decisions: &[Decision], log: &OpenLog, entry: &Entry) -> Option<F
     if !is_in_rank(decisions, entries, entry) {
         return Some(Fault::RankOrder);
     }
-    if !goes_on(log, &SectionLine::Logged(*entry)) {
+    if !continues_log(log, &SectionLine::Logged(*entry)) {
         return Some(Fault::Block);
     }
     if !is_active(decisions, entries, entry) {
@@ -78,11 +79,11 @@ fn judge_entry(decisions: &[Decision], log: &OpenLog, entry: &Entry) -> Option<F
 /// The least fault of a final value.
 fn judge_final(log: &OpenLog, holding: &Holding) -> Option<Fault>
     ensures { (c : Certificate) (before : List SectionLine) → HasOpen before log.now
-        → Begins c.sites (before ++ Final holding.now ∷ []) → Judged (Keeps c before (Final holding.now)) result }
+        → Begins c.sites (before ++ Final holding.now ∷ []) → JudgedLine (Keeps c before (Final holding.now)) result }
 {
     let items = log.items();
     let entries = log.entries();
-    if !goes_on(log, &SectionLine::Final(*holding)) {
+    if !continues_log(log, &SectionLine::Final(*holding)) {
         return Some(Fault::Block);
     }
     if !all_ended(entries) {
@@ -97,9 +98,9 @@ fn judge_final(log: &OpenLog, holding: &Holding) -> Option<Fault>
 /// The least fault of a section's end, but for the walks.
 fn judge_end(log: &OpenLog) -> Option<Fault>
     ensures { (c : Certificate) (before : List SectionLine) → HasOpen before log.now
-        → Begins c.sites (before ++ End ∷ []) → Judged (Keeps c before End) result }
+        → Begins c.sites (before ++ End ∷ []) → JudgedLine (Keeps c before End) result }
 {
-    if !goes_on(log, &SectionLine::End) {
+    if !continues_log(log, &SectionLine::End) {
         return Some(Fault::Block);
     }
     if !all_ended(log.entries()) {
@@ -111,7 +112,7 @@ fn judge_end(log: &OpenLog) -> Option<Fault>
 /// The least fault of a line in the open section, but for the walks.
 fn judge_inside(decisions: &[Decision], log: &OpenLog, line: &SectionLine) -> Option<Fault>
     ensures { (c : Certificate) (before : List SectionLine) → c.decisions ≡ decisions.now → IsDecidedOnce decisions.now → HasOpen before log.now → Fits log.now line.now
-        → Begins c.sites (before ++ line.now ∷ []) → Judged (Keeps c before line.now) result }
+        → Begins c.sites (before ++ line.now ∷ []) → JudgedLine (Keeps c before line.now) result }
 {
     match line {
         SectionLine::Logged(entry) => judge_entry(decisions, log, entry),
@@ -128,9 +129,9 @@ pub(crate) fn judge_line(
     sections: &Sections,
     line: &SectionLine,
 ) -> Option<Fault>
-    ensures goes_on { IfNone result (Begins sections.now.sites (lines_read sections.now ++ line.now ∷ [])) }
+    ensures may_follow { IfNone result (Begins sections.now.sites (lines_read sections.now ++ line.now ∷ [])) }
     ensures judged { (c : Certificate) → c.decisions ≡ decisions.now → c.sites ≡ sections.now.sites → IsDecidedOnce decisions.now
-        → Judged (Keeps c (lines_read sections.now) line.now) result }
+        → JudgedLine (Keeps c (lines_read sections.now) line.now) result }
 {
     if !sections.may_go_on(line) {
         return Some(Fault::Section);

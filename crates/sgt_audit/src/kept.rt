@@ -5,43 +5,48 @@ ghost use Rattle.sgt_notation.specs.declared.SectionLine.{SectionLine};
 ghost use Rattle.sgt_cert.specs.Text.{AreSections};
 
 use crate::faults::Fault;
+use crate::format::read_line;
 use crate::judging::judge_line;
 use crate::sections::Sections;
 use crate::walks::have_logged_walks;
 use sgt_cert::{Certificate, SiteLog};
-use sgt_notation::{SectionLine, read_section};
+use sgt_notation::SectionLine;
 use std::alloc::AllocError;
 
 /// A certificate and the sections that were read behind it.
 #[derive(Drop)]
 pub struct Kept {
+    /// Whether the format is the second.
+    pub second: bool,
     pub certificate: Certificate,
     pub sections: Sections,
 }
 
 impl Kept {
     ghost use Rattle.sgt_audit.specs.Faults.{Stage};
-    ghost use Rattle.sgt_audit.specs.Kept.{AnswersLine, IsStageOf, Means};
-    ghost use Rattle.sgt_audit.specs.Ending.{EndsWith, limit_of};
+    ghost use Rattle.sgt_audit.specs.Kept.{IsStageOf, Means};
+    ghost use Rattle.sgt_audit.specs.private.NextLine.{AnswersLine};
+    ghost use Rattle.sgt_audit.specs.private.Ending.{EndsWith, limit_of};
     ghost use Rattle.sgt_audit.specs.Reading.{lines_read};
 
     /// Whether all sections were read.
     pub(crate) fn is_complete(&self) -> bool
-        ensures { (before : List SectionLine) → Means self.now.certificate self.now.sections before → (IsTrue result ↔ AreSections self.now.certificate.sites before) }
+        ensures { (before : List SectionLine) → Means self.now.second self.now.certificate self.now.sections before → (IsTrue result ↔ AreSections self.now.certificate.sites before) }
     {
         self.sections.are_all()
     }
 
     /// The next line, without its LF.
     pub(crate) fn next(&mut self, line: &[u8]) -> Result<Option<Fault>, AllocError>
+        ensures second { self.new.second ≡ self.old.second }
         ensures certificate { self.new.certificate ≡ self.old.certificate }
-        ensures answers { (before : List SectionLine) → Means self.old.certificate self.old.sections before
-            → IfOk result (AnswersLine self.old.certificate self.new.sections before line.now) }
+        ensures answers { (before : List SectionLine) → Means self.old.second self.old.certificate self.old.sections before
+            → IfOk result (AnswersLine self.old.second self.old.certificate self.new.sections before line.now) }
     {
         if self.sections.are_all() {
             return Ok(Some(Fault::Trailing));
         }
-        let Ok(read) = read_section(line) else {
+        let Some(read) = read_line(self.second, line) else {
             return Ok(Some(Fault::Notation));
         };
         let decisions = self.certificate.decisions.as_slice();
@@ -57,7 +62,7 @@ impl Kept {
 
     /// At the end of the input, with these bytes behind the last LF: what was read, if all is there, or the fault.
     pub(crate) fn end(self, rest: &[u8]) -> Result<Kept, Fault>
-        ensures { (before : List SectionLine) (s : Stage) → Means self.certificate self.sections before → IsStageOf self.certificate before s → length rest.now ≤ limit_of s → EndsWith s rest.now result }
+        ensures { (before : List SectionLine) (s : Stage) → Means self.second self.certificate self.sections before → IsStageOf self.second self.certificate before s → length rest.now ≤ limit_of s → EndsWith s rest.now result }
     {
         if !self.is_complete() {
             return Err(Fault::Truncated);

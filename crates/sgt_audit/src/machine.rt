@@ -1,8 +1,9 @@
 //! The auditor's machine, which is fed a text line by line.
 
-ghost use Rattle.std.specs.Prelude.{◌≡◌, ◌≢◌, ◌<◌, ◌≤◌, [], List, length, IfOk, IfErr, codes};
+ghost use Rattle.std.specs.Prelude.{◌≡◌, ◌≢◌, ◌<◌, ◌≤◌, [], List, length, Bool, IfOk, IfErr};
 
 use crate::faults::Fault;
+use crate::format::read_format;
 use crate::judging::judge_certificate;
 use crate::kept::Kept;
 use crate::sections::Sections;
@@ -16,8 +17,8 @@ use std::alloc::Global;
 pub enum Progress {
     /// Nothing was read.
     Start,
-    /// The first line was read.
-    Headed,
+    /// The first line was read, and whether it is that of the second format.
+    Headed(bool),
     /// A certificate was read, and lines of sections.
     Reading(Kept),
 }
@@ -31,8 +32,9 @@ pub struct Machine {
 
 impl Machine {
     ghost use Rattle.sgt_audit.specs.Faults.{Stage, Piece, start, headed, Rule, Breaks};
-    ghost use Rattle.sgt_audit.specs.Ending.{EndsWith, limit_of};
-    ghost use Rattle.sgt_audit.specs.Progress.{Begins, Stands, Follows, bytes_of};
+    ghost use Rattle.sgt_audit.specs.private.Ending.{EndsWith, limit_of};
+    ghost use Rattle.sgt_audit.specs.Progress.{Stands};
+    ghost use Rattle.sgt_audit.specs.private.NextLine.{AnswersCertificate, Follows, bytes_of};
 
     /// Before the first line.
     pub(crate) fn new(alloc: Global) -> Machine
@@ -49,14 +51,14 @@ impl Machine {
         ensures { (s : Stage) → Stands self.now.progress s → result ≡ limit_of s }
     {
         match &self.progress {
-            Progress::Headed => usize::MAX,
+            Progress::Headed(_) => usize::MAX,
             Progress::Start | Progress::Reading(_) => MAX_LINE,
         }
     }
 
     /// The certificate's line.
-    fn begin(alloc: Global, line: &[u8]) -> Result<Result<Kept, Fault>, EngineFail>
-        ensures begins { IfOk result (Begins line.now) }
+    fn begin(alloc: Global, second: bool, line: &[u8]) -> Result<Result<Kept, Fault>, EngineFail>
+        ensures begins { IfOk result (AnswersCertificate second line.now) }
         ensures err { IfErr result (λ e. e ≡ EngineFail.Memory) }
     {
         let certificate = match from_line(alloc, line) {
@@ -68,6 +70,7 @@ impl Machine {
             Ok(None) => {
                 let sections = Sections::new(alloc, certificate.sites);
                 Ok(Ok(Kept {
+                    second,
                     certificate,
                     sections,
                 }))
@@ -83,14 +86,14 @@ impl Machine {
         ensures err { IfErr result (λ e. e ≡ EngineFail.Memory) }
     {
         match &mut self.progress {
-            Progress::Start => {
-                if line != b"sgt 1".as_slice() {
-                    return Ok(Some(Fault::Format));
+            Progress::Start => match read_format(line) {
+                Some(second) => {
+                    self.progress = Progress::Headed(second);
+                    Ok(None)
                 }
-                self.progress = Progress::Headed;
-                Ok(None)
-            }
-            Progress::Headed => match Machine::begin(self.alloc, line) {
+                None => Ok(Some(Fault::Format)),
+            },
+            Progress::Headed(second) => match Machine::begin(self.alloc, *second, line) {
                 Ok(Ok(kept)) => {
                     self.progress = Progress::Reading(kept);
                     Ok(None)
@@ -107,11 +110,11 @@ impl Machine {
 
     /// The fault of a line that is too long.
     pub(crate) fn too_long(&self) -> Fault
-        ensures { (s : Stage) (p : Piece) → Stands self.now.progress s → s ≢ headed → limit_of s < length (bytes_of p) → Breaks (Rule s p) result }
+        ensures { (s : Stage) (p : Piece) → Stands self.now.progress s → ((second : Bool) → s ≢ headed second) → limit_of s < length (bytes_of p) → Breaks (Rule s p) result }
     {
         match &self.progress {
             Progress::Start => Fault::Format,
-            Progress::Headed => Fault::Certificate,
+            Progress::Headed(_) => Fault::Certificate,
             Progress::Reading(kept) => {
                 if kept.is_complete() {
                     Fault::Trailing
@@ -129,7 +132,7 @@ impl Machine {
         let Machine { progress, .. } = self;
         match progress {
             Progress::Start => Err(Fault::Truncated),
-            Progress::Headed => Err(Fault::Truncated),
+            Progress::Headed(_) => Err(Fault::Truncated),
             Progress::Reading(kept) => kept.end(rest),
         }
     }

@@ -1,11 +1,11 @@
 //! A text judged as its lines come from a reader.
 
-ghost use Rattle.std.specs.Prelude.{◌≡◌, ◌≢◌, ◌<◌, ◌≤◌, ◌⊎◌, [], Ok, Err, length, IfOk, IfSome, IsErrOf};
+ghost use Rattle.std.specs.Prelude.{◌≡◌, ◌≢◌, ◌<◌, ◌≤◌, ◌⊎◌, [], Err, length, IfOk, IfSome, IsErrOf};
 ghost use Rattle.sgt_notation.specs.Limits.{most_reads};
-ghost use Rattle.sgt_audit.specs.Faults.{Stage};
-ghost use Rattle.sgt_audit.specs.Ending.{limit_of};
+ghost use Rattle.sgt_audit.specs.Faults.{Stage, start};
+ghost use Rattle.sgt_audit.specs.private.Ending.{limit_of};
 ghost use Rattle.sgt_audit.specs.Progress.{Stands};
-ghost use Rattle.sgt_audit.specs.Reads.{IsAll, IsEnded, IsJudged};
+ghost use Rattle.sgt_audit.specs.private.Stops.{IsAll, IsEnded, IsJudged, IsStop};
 
 use crate::faults::Fault;
 use crate::kept::Kept;
@@ -23,6 +23,15 @@ pub enum Judged {
     Faulty { line: u64, fault: Fault },
 }
 
+/// Where the reading of a text stopped.
+#[derive(Clone, Copy)]
+pub enum Stop {
+    /// At the text's first fault.
+    Faulty { line: u64, fault: Fault },
+    /// At the end of the input, in the line of this number. The bytes behind the last LF are in the buffer.
+    Ended { line: u64 },
+}
+
 /// The machine at the end of the input, with these bytes behind the last LF.
 fn ended(machine: Machine, rest: &[u8], line: u64) -> Judged
     ensures { (s : Stage) → Stands machine.progress s → length rest.now ≤ limit_of s → IsEnded s rest.now line result }
@@ -33,37 +42,38 @@ fn ended(machine: Machine, rest: &[u8], line: u64) -> Judged
     }
 }
 
-/// Judges all that the reader gives. Once a line with a fault was read whole, no further read is made.
-pub(crate) fn judge<R: Source>(alloc: Global, reader: &mut R) -> Result<Judged, EngineFail>
-    ensures judged { IfOk result (λ j. IfSome (R.tells reader.old) (IsJudged j)) }
-    ensures all { IfOk result IsAll }
-    ensures quiet { IfOk result (λ _. R.failures reader.new ≡ R.failures reader.old) }
+/// Feeds the machine line by line, up to the first fault or to the end of the input.
+fn feed_lines<R: Source>(
+    reader: &mut R,
+    lines: &mut Lines,
+    line: &mut Vec<u8>,
+    machine: &mut Machine,
+) -> Result<Stop, EngineFail>
+    requires fresh { lines.old ≡ record { held = []; reads = most_reads } }
+    requires starts { Stands machine.old.progress start }
+    ensures stops { IfOk result (λ stop. IsStop (R.tells reader.old) stop machine.new.progress line.new.items) }
+    ensures quiet { result ≢ Err EngineFail.ReadFault → R.failures reader.new ≡ R.failures reader.old }
     ensures read_fault { IsErrOf result EngineFail.ReadFault →
         ((R.failures reader.old < R.failures reader.new) ⊎ IfSome (R.tells reader.old) (λ bytes. most_reads ≤ length bytes)) }
     ensures write_fault { result ≢ Err EngineFail.WriteFault }
 {
-    let Ok(mut lines) = Lines::new(alloc) else {
-        return Err(EngineFail::Memory);
-    };
-    let mut line = Vec::new(alloc);
-    let mut machine = Machine::new(alloc);
     let mut number = 1u64;
     'lines: loop {
-        match lines.next(reader, &mut line, machine.limit()) {
+        match lines.next(reader, line, machine.limit()) {
             Ok(Next::Line) => match machine.line(line.as_slice()) {
                 Ok(None) => number += 1,
                 Ok(Some(fault)) => {
-                    return Ok(Judged::Faulty {
+                    return Ok(Stop::Faulty {
                         line: number,
                         fault,
                     });
                 }
                 Err(_) => return Err(EngineFail::Memory),
             },
-            Ok(Next::Cut) => return Ok(ended(machine, line.as_slice(), number)),
-            Ok(Next::End) => return Ok(ended(machine, &[], number)),
+            Ok(Next::Cut) => return Ok(Stop::Ended { line: number }),
+            Ok(Next::End) => return Ok(Stop::Ended { line: number }),
             Ok(Next::TooLong) => {
-                return Ok(Judged::Faulty {
+                return Ok(Stop::Faulty {
                     line: number,
                     fault: machine.too_long(),
                 });
@@ -71,5 +81,23 @@ pub(crate) fn judge<R: Source>(alloc: Global, reader: &mut R) -> Result<Judged, 
             Err(LinesFault::Memory) => return Err(EngineFail::Memory),
             Err(LinesFault::ReadFault) => return Err(EngineFail::ReadFault),
         }
+    }
+}
+
+/// Judges all that the reader gives. Once a line with a fault was read whole, no further read is made.
+pub(crate) fn judge<R: Source>(alloc: Global, reader: &mut R) -> Result<Judged, EngineFail>
+    ensures judged { IfOk result (λ j. IfSome (R.tells reader.old) (IsJudged j)) }
+    ensures all { IfOk result IsAll }
+    ensures quiet { result ≢ Err EngineFail.ReadFault → R.failures reader.new ≡ R.failures reader.old }
+    ensures read_fault { IsErrOf result EngineFail.ReadFault →
+        ((R.failures reader.old < R.failures reader.new) ⊎ IfSome (R.tells reader.old) (λ bytes. most_reads ≤ length bytes)) }
+    ensures write_fault { result ≢ Err EngineFail.WriteFault }
+{
+    let mut lines = Lines::new(alloc)?;
+    let mut line = Vec::new(alloc);
+    let mut machine = Machine::new(alloc);
+    match feed_lines(reader, &mut lines, &mut line, &mut machine)? {
+        Stop::Faulty { line, fault } => Ok(Judged::Faulty { line, fault }),
+        Stop::Ended { line: number } => Ok(ended(machine, line.as_slice(), number)),
     }
 }

@@ -50,7 +50,7 @@ fn is_next(site: SiteNo, whole: usize, sites: u8) -> bool
 }
 
 impl OpenLog {
-    ghost use Rattle.sgt_audit.specs.Reading.{Fits, with_line};
+    ghost use Rattle.sgt_audit.specs.private.Following.{Fits, with_line};
 
     fn new(alloc: Global) -> OpenLog
         ensures { result ≡ record { items = []; entries = []; finals = [] } }
@@ -158,7 +158,8 @@ impl Model for Sections {
 }
 
 impl Sections {
-    ghost use Rattle.sgt_audit.specs.Reading.{IsBegun, MayFollow, lines_read};
+    ghost use Rattle.sgt_audit.specs.Reading.{IsBegun, lines_read};
+    ghost use Rattle.sgt_audit.specs.private.Following.{MayFollow};
 
     /// No line, of the sections of so many sites.
     pub(crate) fn new(alloc: Global, sites: u8) -> Sections

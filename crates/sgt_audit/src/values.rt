@@ -1,13 +1,12 @@
 //! The values of items.
 
-ghost use Rattle.std.specs.Prelude.{◌≡◌, ◌↔◌, ℕ, IsTrue, Contains, Some};
+ghost use Rattle.std.specs.Prelude.{◌≡◌, ◌↔◌, ◌∷◌, [], ℕ, IsTrue, Contains, Some};
 ghost use Rattle.std.specs.Option.{ForSome};
-ghost use Rattle.sgt_names.specs.Entry.{item_of, written};
-ghost use Rattle.sgt_names.specs.Log.{names, value_in, value_at};
-ghost use Rattle.sgt_audit.specs.Judging.{IsLegalRead};
+ghost use Rattle.sgt_names.specs.Entry.{item_of};
+ghost use Rattle.sgt_names.specs.Log.{names, value_in, value_after, value_at};
+ghost use Rattle.sgt_audit.specs.private.Judging.{IsLegalRead};
 
-use crate::entries::item_of_entry;
-use sgt_names::{Entry, Holding, Item, Value};
+use sgt_names::{Change, Entry, Holding, Item, Value};
 
 /// Whether the item is one of these.
 pub(crate) fn is_among(items: &[Holding], item: &Item) -> bool
@@ -20,7 +19,7 @@ pub(crate) fn is_among(items: &[Holding], item: &Item) -> bool
 pub(crate) fn is_listed(items: &[Holding], entry: &Entry) -> bool
     ensures { IsTrue result ↔ ForSome (item_of entry.now) (Contains (names items.now)) }
 {
-    match item_of_entry(entry) {
+    match entry.item() {
         Some(item) => is_among(items, &item),
         None => true,
     }
@@ -38,27 +37,25 @@ fn listed_value(items: &[Holding], item: &Item) -> Option<Value>
     None
 }
 
-/// The value that the entry writes to the item, if it does.
-fn written_value(entry: &Entry, item: &Item) -> Option<Value>
-    ensures { result ≡ written item.now entry.now }
+/// The value of the item behind the entry, where it was this in front of it.
+fn value_behind(value: Option<Value>, entry: &Entry, item: &Item) -> Option<Value>
+    ensures { result ≡ value_after value (entry.now ∷ []) item.now }
 {
-    match entry {
-        Entry::Write {
-            item: other,
-            value,
-            ..
-        } if other == item => Some(*value),
-        _ => None,
+    match entry.change(item) {
+        Some(Change::Put(put)) => Some(put),
+        Some(Change::Add(added)) => value.map(|before| before.wrapping_add(added)),
+        None => value,
     }
 }
 
-/// The value of the item after these entries: the last one written, or else the one that it is listed with.
+/// The value of the item after these entries: the last one written, or else the one that it is listed with, plus all
+/// increments behind it.
 pub(crate) fn value_after(items: &[Holding], entries: &[Entry], item: &Item) -> Option<Value>
     ensures { result ≡ value_at items.now entries.now item.now }
 {
     let mut value = listed_value(items, item);
     for entry in entries {
-        value = written_value(entry, item).or(value);
+        value = value_behind(value, entry, item);
     }
     value
 }

@@ -1,7 +1,8 @@
 //! The verdict on a bundle, and its line.
 
 ghost use Rattle.std.specs.Prelude.{◌≡◌, IfOk, count_by, string_bytes};
-ghost use Rattle.sgt_audit.specs.Verdict.{is_commit, is_refusal, is_withdrawal, yes_of, text_of};
+ghost use Rattle.sgt_cert.specs.Certificate.{is_commit, is_refusal, is_withdrawal};
+ghost use Rattle.sgt_audit.specs.Verdict.{yes_of, text_of};
 
 use crate::faults::Fault;
 use sgt_cert::Decision;
@@ -28,7 +29,7 @@ fn count_commits(decisions: &[Decision]) -> usize
 {
     decisions
         .iter()
-        .filter(|decision| matches!(decision, Decision::Commit { .. }))
+        .filter(|decision| decision.is_commit())
         .count()
 }
 
@@ -37,7 +38,7 @@ fn count_refusals(decisions: &[Decision]) -> usize
 {
     decisions
         .iter()
-        .filter(|decision| matches!(decision, Decision::Refuse { .. }))
+        .filter(|decision| decision.is_refusal())
         .count()
 }
 
@@ -46,7 +47,7 @@ fn count_withdrawals(decisions: &[Decision]) -> usize
 {
     decisions
         .iter()
-        .filter(|decision| matches!(decision, Decision::Withdraw { .. }))
+        .filter(|decision| decision.is_withdrawal())
         .count()
 }
 

@@ -7,7 +7,7 @@ ghost use Rattle.sgt_cert.specs.Valid.{IsLogged, AreLogged};
 ghost use Rattle.sgt_cert.specs.declared.certificate.Decision.TheVariants.{Refuse};
 ghost use Rattle.sgt_cert.specs.declared.certificate.Step.{Step};
 
-use crate::entries::{clashes, tx_of_entry};
+use crate::entries::clashes;
 use sgt_cert::{Decision, SiteLog, Step};
 use sgt_names::{Entry, Item, Kind, Tx};
 
@@ -15,14 +15,14 @@ use sgt_names::{Entry, Item, Kind, Tx};
 fn is_met(entries: &[Entry], kind: Kind, item: &Item, from: Tx, later: &Entry) -> bool
     ensures { IsTrue result ↔ Any (λ e. (tx_of e ≡ from) × Clash kind item.now e later.now) entries.now }
 {
-    entries.iter().any(|entry| tx_of_entry(entry) == from && clashes(kind, item, entry, later))
+    entries.iter().any(|entry| entry.tx() == from && clashes(kind, item, entry, later))
 }
 
 /// Whether the entry is of the one transaction, and an entry before it is of the other and clashes with it.
 fn meets(earlier: &[Entry], kind: Kind, item: &Item, from: Tx, to: Tx, entry: &Entry) -> bool
     ensures { IsTrue result ↔ ((tx_of entry.now ≡ to) × Any (λ e. (tx_of e ≡ from) × Clash kind item.now e entry.now) earlier.now) }
 {
-    tx_of_entry(entry) == to && is_met(earlier, kind, item, from, entry)
+    entry.tx() == to && is_met(earlier, kind, item, from, entry)
 }
 
 /// Whether an entry of the one transaction precedes and conflicts with one of the other.

@@ -1,5 +1,5 @@
 -- What follows from the answer to a value that was read from a line.
-use Rattle.std.proofs.Common.{◌≡◌, ◌≢◌, ℕ, ◌≤◌, ◌<◌, List, [], ◌∷◌, Option, Some, None, Bool, true, false, cond, Result, Ok, Err, IfOk, IfErr, MatchResult, option_map, option_and_then, codes, refl, sym, ap, ap₂, ◌∙◌, subst, arith, All, inl, inr, ◌⊎◌}
+use Rattle.std.proofs.Common.{◌≡◌, ◌≢◌, ℕ, suc, ◌≤◌, ◌<◌, List, [], ◌∷◌, Option, Some, None, Bool, true, false, cond, Result, Ok, Err, IfOk, IfErr, MatchResult, option_map, option_and_then, codes, refl, sym, ap, ap₂, ◌∙◌, subst, arith, All, inl, inr, ◌⊎◌}
 use Rattle.std.specs.Prelude.{nat_le, nat_lt, length, ◌&&◌, IsUtf8}
 use Rattle.std.specs.List.{AllByRecursion, list_all}
 use Rattle.std.specs.Str.{bytes_eq, is_utf8}
@@ -11,7 +11,8 @@ use Rattle.std.proofs.lemmas.Bool.{and_parts, and_from, leb-true, le-leb, lt-ltb
 use Rattle.serde_json.specs.Data.{Data}
 use Rattle.serde_json.specs.Find.{get, as_number, as_u64}
 use Rattle.serde_json.specs.Read.{read}
-use Rattle.sgt_names.specs.Name.{Name, IsName, is_name, is_name_byte, is_small_letter}
+use Rattle.sgt_names.specs.Name.{Name, IsName, is_name_byte, is_small_letter}
+use Rattle.sgt_names.specs.Stored.{is_name}
 use Rattle.sgt_names.specs.declared.entry.Kind.{Kind}
 use Rattle.sgt_names.specs.declared.entry.Kind.TheVariants.{Wr, Rw, Ww}
 use Rattle.sgt_names.proofs.Stored.{is_name-IsName}
@@ -21,27 +22,29 @@ use Rattle.sgt_cert.specs.declared.certificate.Step.{Step}
 use Rattle.sgt_cert.specs.declared.certificate.Decision.{Decision}
 use Rattle.sgt_cert.specs.declared.certificate.Decision.TheVariants.{Commit, Refuse, Withdraw}
 use Rattle.sgt_cert.specs.declared.certificate.Certificate.{Certificate}
+use Rattle.sgt_names.specs.Limits.{max_sites}
 use Rattle.sgt_cert.specs.Text.{kind_name, step_data, walk_data, decision_data, decisions_data, certificate_data, certificate_text, IsStep, IsDecision, IsCertificate}
-use Rattle.sgt_cert.specs.Line.{Answers, ReadsAs, Refuses, answer_of, certificate_in, commit_in, decision_in, decisions_in, is_commit, is_decision, is_refuse, is_shaped, is_step, items_list, judged_as, kind_at, kind_if, list_at, name_at, name_if, refuse_in, step_in, text_at, tx_at, walk_in, whole_at, withdraw_in}
+use Rattle.sgt_cert.specs.Line.{ReadsAs, Refuses, is_commit_object, is_decision_object, is_refuse_object, is_certificate_object, is_step_object, items_list}
+use Rattle.sgt_cert.specs.Private.{Answers, answer_of, certificate_in, commit_in, decision_in, decisions_in, judged_as, kind_at, kind_if, list_at, name_at, name_if, refuse_in, step_in, text_at, tx_at, walk_in, whole_at, withdraw_in}
 use Rattle.sgt_cert.proofs.Reading.{read-certificate_text, certificate-one}
 use Rattle.sgt_cert.proofs.OneLine.{certificate-utf8}
 
 -- ---- the data of a certificate has its shape
 
-walk-shaped : (walk : List Step) → list_all is_step (items_list (walk_data walk)) ≡ true
+walk-shaped : (walk : List Step) → list_all is_step_object (items_list (walk_data walk)) ≡ true
 walk-shaped [] = refl
 walk-shaped (s ∷ walk) = walk-shaped walk
 
-decision-shaped : (d : Decision) → is_decision (decision_data d) ≡ true
+decision-shaped : (d : Decision) → is_decision_object (decision_data d) ≡ true
 decision-shaped (Commit tx rank) = refl
 decision-shaped (Refuse tx walk) = rw (walk-shaped walk) refl
 decision-shaped (Withdraw tx) = refl
 
-decisions-shaped : (ds : List Decision) → list_all is_decision (items_list (decisions_data ds)) ≡ true
+decisions-shaped : (ds : List Decision) → list_all is_decision_object (items_list (decisions_data ds)) ≡ true
 decisions-shaped [] = refl
 decisions-shaped (d ∷ ds) = rw (decision-shaped d, decisions-shaped ds) refl
 
-certificate-shaped : (c : Certificate) → is_shaped (certificate_data c) ≡ true
+certificate-shaped : (c : Certificate) → is_certificate_object (certificate_data c) ≡ true
 certificate-shaped c = rw (decisions-shaped c.decisions) refl
 
 -- ---- and the certificate is found in it
@@ -92,7 +95,7 @@ decisions-back sites (d ∷ ds) h = rw (decision-back sites d (All-head (IsDecis
 certificate-back : (c : Certificate) → IsCertificate c → certificate_in (certificate_data c) ≡ Some c
 certificate-back c h =
     let low = le-leb 1 c.sites h.0 in
-    let high = lt-ltb c.sites 17 (omega (arith, h.1)) in
+    let high = lt-ltb c.sites (suc max_sites) (omega (arith, h.1)) in
     rw (low, high, decisions-back c.sites c.decisions h.2) refl
 
 -- ---- what is found is in its range
@@ -150,13 +153,13 @@ decisions-within sites [] [] e = tt
 decisions-within sites [] (x ∷ xs) e = cc
 decisions-within sites (d ∷ ds) ys e = option_and_then_some _ (decision_in sites d) ys e
     (λ x found rest. option_map_some _ (decisions_in sites ds) ys rest
-    (λ xs later is. subst (AllByRecursion (IsDecision sites)) is (one_of_three sites (is_commit d) (is_refuse d) d x found, decisions-within sites ds xs later)))
+    (λ xs later is. subst (AllByRecursion (IsDecision sites)) is (one_of_three sites (is_commit_object d) (is_refuse_object d) d x found, decisions-within sites ds xs later)))
 
 certificate-within : (d : Data) (c : Certificate) → certificate_in d ≡ Some c → IsCertificate c
-certificate-within d c e = option_and_then_some _ (whole_at (codes "sites") 1 17 d) c e
+certificate-within d c e = option_and_then_some _ (whole_at (codes "sites") 1 (suc max_sites) d) c e
     (λ s sites rest. option_map_some _ (option_and_then (decisions_in s) (list_at (codes "decisions") d)) c rest
     (λ xs all is. option_and_then_some (decisions_in s) (list_at (codes "decisions") d) xs all
-    (λ ds listed found. let a = whole-within (codes "sites") 1 17 d s sites in
+    (λ ds listed found. let a = whole-within (codes "sites") 1 (suc max_sites) d s sites in
     subst IsCertificate is (a.0, omega (arith, a.1), All-from_recursion (IsDecision s) xs (decisions-within s ds xs found)))))
 
 -- ---- the text of a certificate is read as its data
@@ -202,14 +205,14 @@ shaped-err true o bytes f e = inl (refl, judged-err o bytes f e)
 shaped-err false o bytes f e = inr (refl, cc)
 
 answered-ok : (d : Data) (bytes : List ℕ) (c : Certificate) → answer_of d bytes ≡ Ok c → IsCertificate c × (bytes ≡ certificate_text c)
-answered-ok d bytes c e = let p = shaped-ok (is_shaped d) (certificate_in d) bytes c e in (certificate-within d c p.0, p.1)
+answered-ok d bytes c e = let p = shaped-ok (is_certificate_object d) (certificate_in d) bytes c e in (certificate-within d c p.0, p.1)
 
 no_certificate : (d : Data) (bytes : List ℕ) (f : CertFault) → answer_of d bytes ≡ Err f → read bytes ≡ Some d → (c : Certificate) → IsCertificate c → bytes ≡ certificate_text c → ⊥
 no_certificate d bytes f e reads c h is = let both : Err f ≡ Ok c = sym e ∙ answered d bytes c h is reads in cc both
 
 answered-err : (d : Data) (bytes : List ℕ) (f : CertFault) → answer_of d bytes ≡ Err f → ReadsAs bytes d → Refuses bytes f
 answered-err d bytes f e reads =
-    elim (shaped-err (is_shaped d) (certificate_in d) bytes f e) [
+    elim (shaped-err (is_certificate_object d) (certificate_in d) bytes f e) [
       | inl p ↦ subst (Refuses bytes) (sym p.1) ((d, reads, p.0), no_certificate d bytes f e reads.1)
       | inr p ↦ subst (Refuses bytes) (sym p.1) (d, reads, p.0)
     ]
@@ -231,7 +234,7 @@ pub not_refused : (bytes : List ℕ) (c : Certificate) (e : CertFault) → IsCer
 not_refused bytes c NotJson h is plain why = why (certificate_data c) (subst (λ t. ReadsAs t (certificate_data c)) (sym is) (reads-certificate c h))
 not_refused bytes c Shape h is plain why =
     let same = read-as bytes why.0 c h is why.1.1 in
-    true≢false (sym (certificate-shaped c) ∙ ap is_shaped (sym same) ∙ why.2)
+    true≢false (sym (certificate-shaped c) ∙ ap is_certificate_object (sym same) ∙ why.2)
 not_refused bytes c Range h is plain why = why.1 c h is
 not_refused bytes c Memory h is plain why = plain refl
 
@@ -245,9 +248,9 @@ refused_once bytes NotJson Shape a b plain = absurd (a b.0 b.1)
 refused_once bytes NotJson Range a b plain = absurd (a b.0.0 b.0.1)
 refused_once bytes Shape NotJson a b plain = absurd (b a.0 a.1)
 refused_once bytes Shape Shape a b plain = inl refl
-refused_once bytes Shape Range a b plain = absurd (true≢false (sym b.0.2 ∙ ap is_shaped (one_reading bytes b.0.0 a.0 b.0.1 a.1) ∙ a.2))
+refused_once bytes Shape Range a b plain = absurd (true≢false (sym b.0.2 ∙ ap is_certificate_object (one_reading bytes b.0.0 a.0 b.0.1 a.1) ∙ a.2))
 refused_once bytes Range NotJson a b plain = absurd (b a.0.0 a.0.1)
-refused_once bytes Range Shape a b plain = absurd (true≢false (sym a.0.2 ∙ ap is_shaped (one_reading bytes a.0.0 b.0 a.0.1 b.1) ∙ b.2))
+refused_once bytes Range Shape a b plain = absurd (true≢false (sym a.0.2 ∙ ap is_certificate_object (one_reading bytes a.0.0 b.0 a.0.1 b.1) ∙ b.2))
 refused_once bytes Range Range a b plain = inl refl
 refused_once bytes f Memory a b plain = absurd (plain refl)
 
@@ -285,7 +288,7 @@ memory-not_shape e = cc
 
 judged-data : (bytes : List ℕ) (d : Data) → ReadsAs bytes d → (r : Result Certificate CertFault) → answer_of d bytes ≡ r → Judged bytes
 judged-data bytes d reads (Ok c) e = let p = answered-ok d bytes c e in inl (c, p.0, p.1)
-judged-data bytes d reads (Err Memory) e = absurd (elim (shaped-err (is_shaped d) (certificate_in d) bytes Memory e) [ inl p ↦ memory-not_range p.1 | inr p ↦ memory-not_shape p.1 ])
+judged-data bytes d reads (Err Memory) e = absurd (elim (shaped-err (is_certificate_object d) (certificate_in d) bytes Memory e) [ inl p ↦ memory-not_range p.1 | inr p ↦ memory-not_shape p.1 ])
 judged-data bytes d reads (Err f) e = inr (f, (λ m. cc), answered-err d bytes f e reads)
 
 judged-read : (bytes : List ℕ) → IsUtf8 bytes → (o : Option Data) → read bytes ≡ o → Judged bytes

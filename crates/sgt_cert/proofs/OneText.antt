@@ -1,28 +1,24 @@
 -- No bytes spell two bundles.
-use Rattle.std.proofs.Common.{◌≡◌, ℕ, suc, ◌+◌, ◌≤◌, List, [], ◌∷◌, ◌++◌, length, map, refl, sym, ap, ap₂, ◌∙◌, arith, append_assoc, All}
+use Rattle.std.proofs.Common.{◌≡◌, ℕ, suc, ◌+◌, ◌≤◌, Bool, true, false, List, [], ◌∷◌, ◌++◌, length, map, refl, sym, ap, ap₂, ◌∙◌, subst, arith, append_assoc, All}
 use Rattle.std.specs.Prelude.{codes}
 use Rattle.std.specs.List.{AllByRecursion}
 use Rattle.std.proofs.lemmas.List.{append-nil}
-use Rattle.std.proofs.lemmas.List.Elements.{All-head, All-tail, recursion_from_All}
+use Rattle.std.proofs.lemmas.List.Elements.{All-cons, All-from_recursion, All-head, All-tail, recursion_from_All}
 use Rattle.sgt_names.specs.Limits.{max_sites}
+use Rattle.sgt_names.proofs.Lists.{AllByRecursion-append, heads, tails}
 use Rattle.sgt_names.specs.declared.entry.Entry.{Entry}
 use Rattle.sgt_names.specs.declared.entry.Holding.{Holding}
 use Rattle.sgt_notation.specs.Spelling.{line_text, text_of_lines, IsEntry, IsHolding, IsLine}
 use Rattle.sgt_notation.specs.declared.SectionLine.{SectionLine}
 use Rattle.sgt_notation.specs.declared.SectionLine.TheVariants.{Site, Initial, Logged, Final, End}
-use Rattle.sgt_notation.proofs.OneSpelling.{HasNot-from_test, cut_at_byte, line-one, line-one_line}
-use Rattle.sgt_cert.specs.Parts.{Parts}
-use Rattle.sgt_cert.specs.Text.{certificate_text, section_lines, sections_from, text_of, IsBundle, IsLog, Spells}
+use Rattle.sgt_notation.proofs.OneSpelling.{HasNot, HasNot-from_test, cut_at_byte, line-one, line-one_line}
+use Rattle.sgt_cert.specs.Parts.{FitTogether, Parts}
+use Rattle.sgt_cert.specs.Text.{certificate_text, format_line, has_increments, section_lines, sections_from, text_in, text_of, IsBundle, IsDecision, IsLog, Spells}
 use Rattle.sgt_cert.specs.declared.certificate.Certificate.{Certificate}
 use Rattle.sgt_cert.specs.declared.bundle.SiteLog.{SiteLog}
+use Rattle.sgt_cert.proofs.InRange.{written-bundle}
 use Rattle.sgt_cert.proofs.OneLine.{certificate-one_line}
 use Rattle.sgt_cert.proofs.Reading.{certificate-one}
-
-heads : {A : Type 0} (x y : A) (xs ys : List A) → x ∷ xs ≡ y ∷ ys → x ≡ y
-heads x y xs ys e = cc
-
-tails : {A : Type 0} (x y : A) (xs ys : List A) → x ∷ xs ≡ y ∷ ys → xs ≡ ys
-tails x y xs ys e = cc
 
 -- ---- sections have one reading
 
@@ -116,10 +112,6 @@ lines-one (x ∷ xs) (y ∷ ys) h g e =
 
 -- ---- the lines of a bundle have a spelling
 
-lines-append : (xs ys : List SectionLine) → AllByRecursion IsLine xs → AllByRecursion IsLine ys → AllByRecursion IsLine (xs ++ ys)
-lines-append [] ys h g = g
-lines-append (x ∷ xs) ys h g = (h.0, lines-append xs ys h.1 g)
-
 initial-lines : (items : List Holding) → AllByRecursion IsHolding items → AllByRecursion IsLine (map Initial items)
 initial-lines [] h = tt
 initial-lines (x ∷ items) h = (h.0, initial-lines items h.1)
@@ -136,31 +128,55 @@ pub sections-lines : (k : ℕ) (logs : List SiteLog) → k + length logs ≤ max
 sections-lines k [] few h = tt
 sections-lines k (log ∷ logs) few h =
     let first = All-head IsLog log logs h in
-    let body = lines-append (map Initial log.items ++ map Logged log.entries ++ map Final log.finals) (End ∷ [])
-    (lines-append (map Initial log.items ++ map Logged log.entries) (map Final log.finals)
-    (lines-append (map Initial log.items) (map Logged log.entries) (initial-lines log.items (recursion_from_All IsHolding log.items first.items)) (logged-lines log.entries (recursion_from_All IsEntry log.entries first.entries)))
+    let body = AllByRecursion-append IsLine (map Initial log.items ++ map Logged log.entries ++ map Final log.finals) (End ∷ [])
+    (AllByRecursion-append IsLine (map Initial log.items ++ map Logged log.entries) (map Final log.finals)
+    (AllByRecursion-append IsLine (map Initial log.items) (map Logged log.entries) (initial-lines log.items (recursion_from_All IsHolding log.items first.items)) (logged-lines log.entries (recursion_from_All IsEntry log.entries first.entries)))
     (final-lines log.finals (recursion_from_All IsHolding log.finals first.finals))) (tt, tt) in
-    lines-append (section_lines k log) (sections_from (suc k) logs) (omega arith, body) (sections-lines (suc k) logs (omega arith) (All-tail IsLog log logs h))
+    AllByRecursion-append IsLine (section_lines k log) (sections_from (suc k) logs) (omega arith, body) (sections-lines (suc k) logs (omega arith) (All-tail IsLog log logs h))
 
--- ---- so a bundle has one text, and a text one bundle
+-- ---- so a bundle has its text, and a text one bundle
 
-pub spells-from : (certificate : Certificate) (sites seen : List SiteLog) (bytes : List ℕ) → IsBundle (record { certificate = certificate; sites = sites }) → seen ≡ sites
-    → bytes ≡ text_of (record { certificate = certificate; sites = seen }) → Spells bytes (record { certificate = certificate; sites = sites })
-spells-from certificate sites seen bytes is same e = record {
-  certificate = is.certificate;
-  shape = is.shape;
-  logs = is.logs;
-  text = e ∙ ap (λ (logs : List SiteLog). text_of (record { certificate = certificate; sites = logs })) same;
-}
+pub text-from : (certificate : Certificate) (sites seen : List SiteLog) (bytes : List ℕ) → seen ≡ sites
+    → bytes ≡ text_of (record { certificate = certificate; sites = seen }) → bytes ≡ text_of (record { certificate = certificate; sites = sites })
+text-from certificate sites seen bytes same e = e ∙ ap (λ (logs : List SiteLog). text_of (record { certificate = certificate; sites = logs })) same
+
+pub spells-from : (certificate : Certificate) (sites seen : List SiteLog) (bytes : List ℕ) → FitTogether (record { certificate = certificate; sites = sites }) → seen ≡ sites
+    → bytes ≡ text_of (record { certificate = certificate; sites = seen }) → All (IsDecision max_sites) certificate.decisions → All IsLog seen → Spells bytes (record { certificate = certificate; sites = sites })
+spells-from certificate sites seen bytes fit same e decisions logs =
+    let is = written-bundle certificate sites fit decisions (subst (All IsLog) same logs) in
+    record {
+      certificate = is.certificate;
+      shape = is.shape;
+      logs = is.logs;
+      second = has_increments sites;
+      allowed = λ h. h;
+      text = e ∙ ap (λ (logs : List SiteLog). text_of (record { certificate = certificate; sites = logs })) same;
+    }
+
+-- the formats of a bundle
+pub in_second : (b : Parts) → IsBundle b → Spells (text_in true b) b
+in_second b is = record { certificate = is.certificate; shape = is.shape; logs = is.logs; second = true; allowed = λ h. refl; text = refl }
+
+pub in_first : (b : Parts) → IsBundle b → has_increments b.sites ≡ false → Spells (text_in false b) b
+in_first b is none = record { certificate = is.certificate; shape = is.shape; logs = is.logs; second = false; allowed = λ h. sym none ∙ h; text = refl }
+
+pub own-first : (b : Parts) → has_increments b.sites ≡ false → text_of b ≡ text_in false b
+own-first b none = ap (λ t. text_in t b) none
+
+pub in_second_alone : (b : Parts) (bytes : List ℕ) → Spells bytes b → has_increments b.sites ≡ true → (bytes ≡ text_in true b) × (text_of b ≡ text_in true b)
+in_second_alone b bytes s some = (s.text ∙ ap (λ t. text_in t b) (s.allowed some), ap (λ t. text_in t b) some)
+
+pub format-one_line : (second : Bool) → HasNot 10 (format_line second)
+format-one_line true = HasNot-from_test 10 (codes "sgt 2") refl
+format-one_line false = HasNot-from_test 10 (codes "sgt 1") refl
 
 pub bundle-one : (bytes : List ℕ) (b c : Parts) → Spells bytes b → Spells bytes c → b ≡ c
 bundle-one bytes b c s t =
-    let format = codes "sgt 1" in
     let body = λ (d : Parts). map line_text (sections_from 0 d.sites) in
     let after = λ (d : Parts). text_of_lines (certificate_text d.certificate ∷ body d) in
     let e = sym s.text ∙ t.text in
-    let e1 = sym (first_line format (certificate_text b.certificate ∷ body b)) ∙ e ∙ first_line format (certificate_text c.certificate ∷ body c) in
-    let cut = cut_at_byte 10 format format (after b) (after c) (HasNot-from_test 10 format refl) (HasNot-from_test 10 format refl) e1 in
+    let e1 = sym (first_line (format_line s.second) (certificate_text b.certificate ∷ body b)) ∙ e ∙ first_line (format_line t.second) (certificate_text c.certificate ∷ body c) in
+    let cut = cut_at_byte 10 (format_line s.second) (format_line t.second) (after b) (after c) (format-one_line s.second) (format-one_line t.second) e1 in
     let e2 = sym (first_line (certificate_text b.certificate) (body b)) ∙ cut.1 ∙ first_line (certificate_text c.certificate) (body c) in
     let cut2 = cut_at_byte 10 (certificate_text b.certificate) (certificate_text c.certificate) (text_of_lines (body b)) (text_of_lines (body c)) (certificate-one_line b.certificate s.certificate) (certificate-one_line c.certificate t.certificate) e2 in
     let certificate-is = certificate-one b.certificate c.certificate s.certificate t.certificate cut2.0 in
@@ -170,3 +186,41 @@ bundle-one bytes b c s t =
     let len = s.shape.each ∙ ap (λ (d : Certificate). d.sites) certificate-is ∙ sym t.shape.each in
     let sites-are = sections-one 0 b.sites c.sites [] [] len (ap (λ (ls : List SectionLine). ls ++ []) lines-are) in
     λ i. record { certificate = certificate-is i; sites = sites-are.0 i }
+
+-- ---- and lines with a spelling are of logs in their ranges
+
+front-all : {A : Type 0} (P : A → Type 0) (xs ys : List A) → AllByRecursion P (xs ++ ys) → AllByRecursion P xs × AllByRecursion P ys
+front-all P [] ys h = (tt, h)
+front-all P (x ∷ xs) ys h = let more = front-all P xs ys h.1 in ((h.0, more.0), more.1)
+
+items-from_lines : (items : List Holding) → AllByRecursion IsLine (map Initial items) → AllByRecursion IsHolding items
+items-from_lines [] h = tt
+items-from_lines (x ∷ items) h = (h.0, items-from_lines items h.1)
+
+entries-from_lines : (entries : List Entry) → AllByRecursion IsLine (map Logged entries) → AllByRecursion IsEntry entries
+entries-from_lines [] h = tt
+entries-from_lines (x ∷ entries) h = (h.0, entries-from_lines entries h.1)
+
+finals-from_lines : (finals : List Holding) → AllByRecursion IsLine (map Final finals) → AllByRecursion IsHolding finals
+finals-from_lines [] h = tt
+finals-from_lines (x ∷ finals) h = (h.0, finals-from_lines finals h.1)
+
+log-from_lines : (k : ℕ) (log : SiteLog) (back : List SectionLine) → AllByRecursion IsLine (section_lines k log ++ back) → IsLog log × AllByRecursion IsLine back
+log-from_lines k log back h =
+    let spread = subst (AllByRecursion IsLine) (section_spread k log back) h in
+    let items = front-all IsLine (map Initial log.items) (map Logged log.entries ++ (map Final log.finals ++ (End ∷ back))) spread.1 in
+    let entries = front-all IsLine (map Logged log.entries) (map Final log.finals ++ (End ∷ back)) items.1 in
+    let finals = front-all IsLine (map Final log.finals) (End ∷ back) entries.1 in (
+      record {
+        items = All-from_recursion IsHolding log.items (items-from_lines log.items items.0);
+        entries = All-from_recursion IsEntry log.entries (entries-from_lines log.entries entries.0);
+        finals = All-from_recursion IsHolding log.finals (finals-from_lines log.finals finals.0);
+      },
+      finals.1.1,
+    )
+
+pub logs-from_lines : (k : ℕ) (logs : List SiteLog) → AllByRecursion IsLine (sections_from k logs) → All IsLog logs
+logs-from_lines k [] h = λ n d less. absurd (omega arith)
+logs-from_lines k (log ∷ logs) h =
+    let first = log-from_lines k log (sections_from (suc k) logs) h in
+    All-cons IsLog log logs first.0 (logs-from_lines (suc k) logs first.1)

@@ -11,7 +11,7 @@ use Rattle.std.proofs.lemmas.List.Folds.{Any-from_list_any}
 use Rattle.std.proofs.lemmas.Option.{same_Some}
 use Rattle.std.proofs.lemmas.Slice.Eq.{bytes_eq-Decides}
 use Rattle.sgt_names.specs.Name.{Name}
-use Rattle.sgt_names.specs.Entry.{tx_of, item_of, Reads, Writes, IsEnd, IsOpen, Continues, Clash, Repeats}
+use Rattle.sgt_names.specs.Entry.{tx_of, item_of, Reads, Writes, is_increment, IsEnd, IsOpen, GoesOn, GoesOnAsking, Continues, Clash, Repeats}
 use Rattle.sgt_names.specs.Log.{names, value_at}
 use Rattle.sgt_names.specs.declared.entry.Entry.{Entry}
 use Rattle.sgt_names.specs.declared.entry.Entry.TheVariants as e
@@ -20,9 +20,8 @@ use Rattle.sgt_names.specs.declared.entry.Kind.{Kind}
 use Rattle.sgt_names.specs.declared.entry.Kind.TheVariants.{Wr, Rw, Ww}
 use Rattle.sgt_names.proofs.Places.{AllPairs-from_recursion, AllPairs_at, AllPairs-tail, Contains-from_at, PairsByRecursion}
 use Rattle.sgt_cert.specs.Parts.{Parts}
-use Rattle.sgt_cert.specs.Certificate.{decided, IsCycle, IsDecidedOnce, Suits, ranks}
-use Rattle.sgt_cert.specs.Valid.{IsDecided, EndInOrder, RiseInRank, IsValidLog, AreLogged, IsValid}
-use Rattle.sgt_cert.specs.declared.certificate.Step.{Step}
+use Rattle.sgt_cert.specs.Certificate.{decided_tx, IsDecidedOnce, Suits, ranks}
+use Rattle.sgt_cert.specs.Valid.{RefusedLieOnCycles, IsDecided, EndInOrder, RiseInRank, IsValidLog, IsValid}
 use Rattle.sgt_cert.specs.declared.certificate.Decision.{Decision}
 use Rattle.sgt_cert.specs.declared.certificate.Decision.TheVariants.{Commit, Refuse, Withdraw}
 use Rattle.sgt_cert.specs.declared.bundle.SiteLog.{SiteLog}
@@ -64,20 +63,26 @@ reads _ = None
 
 abbrev writes : Entry → Option Name
 writes (e.Write tx x v) = Some x
+writes (e.Add tx x v) = Some x
 writes (e.Want tx x v) = Some x
+writes (e.WantAdd tx x v) = Some x
 writes _ = None
 
 reads-is : (x : Name) (en : Entry) → Reads x en → reads en ≡ Some x
 reads-is x (e.Read tx y v) h = ap Some h
 reads-is x (e.Write tx y v) h = absurd h
+reads-is x (e.Add tx y v) h = absurd h
 reads-is x (e.Want tx y v) h = absurd h
+reads-is x (e.WantAdd tx y v) h = absurd h
 reads-is x (e.Commit tx) h = absurd h
 reads-is x (e.Refuse tx) h = absurd h
 reads-is x (e.Withdraw tx) h = absurd h
 
 writes-is : (x : Name) (en : Entry) → Writes x en → writes en ≡ Some x
 writes-is x (e.Write tx y v) h = ap Some h
+writes-is x (e.Add tx y v) h = ap Some h
 writes-is x (e.Want tx y v) h = ap Some h
+writes-is x (e.WantAdd tx y v) h = ap Some h
 writes-is x (e.Read tx y v) h = absurd h
 writes-is x (e.Commit tx) h = absurd h
 writes-is x (e.Refuse tx) h = absurd h
@@ -104,12 +109,19 @@ repeats-sound en f h x (same, how) =
     ]))
 
 abbrev clashes : Entry → Entry → Bool
-clashes en f = same_item (writes en) (reads f) || (same_item (reads en) (writes f) || same_item (writes en) (writes f))
+clashes en f = same_item (writes en) (reads f) || (same_item (reads en) (writes f) || (same_item (writes en) (writes f) && not (is_increment en && is_increment f)))
+
+not_both : (a b : Bool) → (a ≡ true → b ≡ true → ⊥) → not (a && b) ≡ true
+not_both true true h = absurd (h refl refl)
+not_both true false h = refl
+not_both false b h = refl
 
 clashes-from : (k : Kind) (x : Name) (en f : Entry) → Clash k x en f → clashes en f ≡ true
 clashes-from Wr x en f h = or_left (same_item (writes en) (reads f)) _ (same_item-from x (writes en) (reads f) (writes-is x en h.0) (reads-is x f h.1))
 clashes-from Rw x en f h = or_right (same_item (writes en) (reads f)) _ (or_left (same_item (reads en) (writes f)) _ (same_item-from x (reads en) (writes f) (reads-is x en h.0) (writes-is x f h.1)))
-clashes-from Ww x en f h = or_right (same_item (writes en) (reads f)) _ (or_right (same_item (reads en) (writes f)) _ (same_item-from x (writes en) (writes f) (writes-is x en h.0) (writes-is x f h.1)))
+clashes-from Ww x en f h =
+    or_right (same_item (writes en) (reads f)) _ (or_right (same_item (reads en) (writes f)) _
+    (and-true (same_item (writes en) (writes f)) (not (is_increment en && is_increment f)) (same_item-from x (writes en) (writes f) (writes-is x en h.0) (writes-is x f h.1)) (not_both (is_increment en) (is_increment f) h.2)))
 
 -- ---- ends and blocks
 
@@ -133,27 +145,55 @@ IsEnd-from _ h = absurd (true≢false (sym h))
 
 abbrev is_open : Entry → Bool
 is_open (e.Write tx x v) = true
+is_open (e.Add tx x v) = true
 is_open (e.Want tx x v) = true
+is_open (e.WantAdd tx x v) = true
 is_open _ = false
 
 is_open-from : (en : Entry) → IsOpen en → is_open en ≡ true
 is_open-from (e.Write tx x v) h = refl
+is_open-from (e.Add tx x v) h = refl
 is_open-from (e.Want tx x v) h = refl
+is_open-from (e.WantAdd tx x v) h = refl
 is_open-from _ h = absurd h
 
+abbrev goes_on : ℕ → Entry → Bool
+goes_on i (e.Write j x v) = i == j
+goes_on i (e.Add j x v) = i == j
+goes_on i (e.Commit j) = i == j
+goes_on i _ = false
+
+GoesOn-from : (i : ℕ) (f : Entry) → goes_on i f ≡ true → GoesOn i f
+GoesOn-from i (e.Write j x v) h = eqb-true i j h
+GoesOn-from i (e.Add j x v) h = eqb-true i j h
+GoesOn-from i (e.Commit j) h = eqb-true i j h
+GoesOn-from i _ h = absurd (true≢false (sym h))
+
+abbrev goes_on_asking : ℕ → Entry → Bool
+goes_on_asking i (e.Want j x v) = i == j
+goes_on_asking i (e.WantAdd j x v) = i == j
+goes_on_asking i (e.Refuse j) = i == j
+goes_on_asking i _ = false
+
+GoesOnAsking-from : (i : ℕ) (f : Entry) → goes_on_asking i f ≡ true → GoesOnAsking i f
+GoesOnAsking-from i (e.Want j x v) h = eqb-true i j h
+GoesOnAsking-from i (e.WantAdd j x v) h = eqb-true i j h
+GoesOnAsking-from i (e.Refuse j) h = eqb-true i j h
+GoesOnAsking-from i _ h = absurd (true≢false (sym h))
+
 abbrev continues : Entry → Entry → Bool
-continues (e.Write i x v) (e.Write j y w) = i == j
-continues (e.Write i x v) (e.Commit j) = i == j
-continues (e.Want i x v) (e.Want j y w) = i == j
-continues (e.Want i x v) (e.Refuse j) = i == j
-continues _ _ = false
+continues (e.Write i x v) f = goes_on i f
+continues (e.Add i x v) f = goes_on i f
+continues (e.Want i x v) f = goes_on_asking i f
+continues (e.WantAdd i x v) f = goes_on_asking i f
+continues _ f = false
 
 Continues-from : (en f : Entry) → continues en f ≡ true → Continues en f
-Continues-from (e.Write i x v) (e.Write j y w) h = eqb-true i j h
-Continues-from (e.Write i x v) (e.Commit j) h = eqb-true i j h
-Continues-from (e.Want i x v) (e.Want j y w) h = eqb-true i j h
-Continues-from (e.Want i x v) (e.Refuse j) h = eqb-true i j h
-Continues-from _ _ h = absurd (true≢false (sym h))
+Continues-from (e.Write i x v) f h = GoesOn-from i f h
+Continues-from (e.Add i x v) f h = GoesOn-from i f h
+Continues-from (e.Want i x v) f h = GoesOnAsking-from i f h
+Continues-from (e.WantAdd i x v) f h = GoesOnAsking-from i f h
+Continues-from _ f h = absurd (true≢false (sym h))
 
 abbrev blocks_pass : List Entry → Bool
 blocks_pass [] = true
@@ -179,7 +219,9 @@ blocks-sound (d ∷ more) h (suc n) en at open_ = blocks-sound more (and_parts (
 abbrev suits : Entry → Decision → Bool
 suits (e.Read tx x v) d = true
 suits (e.Write tx x v) (Commit i rank) = true
+suits (e.Add tx x v) (Commit i rank) = true
 suits (e.Want tx x v) (Refuse i walk) = true
+suits (e.WantAdd tx x v) (Refuse i walk) = true
 suits (e.Commit tx) (Commit i rank) = true
 suits (e.Refuse tx) (Refuse i walk) = true
 suits (e.Withdraw tx) (Withdraw i) = true
@@ -188,35 +230,37 @@ suits _ _ = false
 Suits-from : (en : Entry) (d : Decision) → suits en d ≡ true → Suits en d
 Suits-from (e.Read tx x v) d h = tt
 Suits-from (e.Write tx x v) (Commit i rank) h = tt
+Suits-from (e.Add tx x v) (Commit i rank) h = tt
 Suits-from (e.Want tx x v) (Refuse i walk) h = tt
+Suits-from (e.WantAdd tx x v) (Refuse i walk) h = tt
 Suits-from (e.Commit tx) (Commit i rank) h = tt
 Suits-from (e.Refuse tx) (Refuse i walk) h = tt
 Suits-from (e.Withdraw tx) (Withdraw i) h = tt
 Suits-from _ _ h = absurd (true≢false (sym h))
 
 abbrev is_decided : List Decision → Entry → Bool
-is_decided decisions en = list_any (λ d. (decided d == tx_of en) && suits en d) decisions
+is_decided decisions en = list_any (λ d. (decided_tx d == tx_of en) && suits en d) decisions
 
 decided-sound : (decisions : List Decision) (en : Entry) → is_decided decisions en ≡ true → (number : ℕ) × IsDecided decisions en number
 decided-sound decisions en h =
-    let f = found (λ d. (decided d == tx_of en) && suits en d) decisions h in
-    let p = and_parts (decided f.1 == tx_of en) (suits en f.1) f.3 in
-    (f.0, (f.1, f.2, eqb-true (decided f.1) (tx_of en) p.0, Suits-from en f.1 p.1))
+    let f = found (λ d. (decided_tx d == tx_of en) && suits en d) decisions h in
+    let p = and_parts (decided_tx f.1 == tx_of en) (suits en f.1) f.3 in
+    (f.0, (f.1, f.2, eqb-true (decided_tx f.1) (tx_of en) p.0, Suits-from en f.1 p.1))
 
 -- the number of the decision on a transaction
 abbrev number_of : List Decision → ℕ → Option ℕ
 number_of [] tx = None
-number_of (d ∷ ds) tx = if decided d == tx then Some 0 else option_map suc (number_of ds tx)
+number_of (d ∷ ds) tx = if decided_tx d == tx then Some 0 else option_map suc (number_of ds tx)
 
 abbrev Apart : Decision → Decision → Type 0
-Apart d f = decided d ≢ decided f
+Apart d f = decided_tx d ≢ decided_tx f
 
-number_of-at : (ds : List Decision) (n tx : ℕ) (d : Decision) → IsDecidedOnce ds → slice_get ds n ≡ Some d → decided d ≡ tx → number_of ds tx ≡ Some n
+number_of-at : (ds : List Decision) (n tx : ℕ) (d : Decision) → IsDecidedOnce ds → slice_get ds n ≡ Some d → decided_tx d ≡ tx → number_of ds tx ≡ Some n
 number_of-at [] n tx d once at is = absurd cc
-number_of-at (f ∷ ds) zero tx d once at is = ap (λ b. cond b (Some 0) (option_map suc (number_of ds tx))) (eq-eqb (decided f) tx (ap decided (same_Some f d at) ∙ is))
+number_of-at (f ∷ ds) zero tx d once at is = ap (λ b. cond b (Some 0) (option_map suc (number_of ds tx))) (eq-eqb (decided_tx f) tx (ap decided_tx (same_Some f d at) ∙ is))
 number_of-at (f ∷ ds) (suc n) tx d once at is =
-    let apart : decided f ≢ tx = λ e. AllPairs_at Apart (f ∷ ds) 0 (suc n) f d once (omega arith) refl at (e ∙ sym is) in
-    ap (λ b. cond b (Some 0) (option_map suc (number_of ds tx))) (ne_eqb (decided f) tx apart) ∙ ap (option_map suc) (number_of-at ds n tx d (AllPairs-tail Apart f ds once) at is)
+    let apart : decided_tx f ≢ tx = λ e. AllPairs_at Apart (f ∷ ds) 0 (suc n) f d once (omega arith) refl at (e ∙ sym is) in
+    ap (λ b. cond b (Some 0) (option_map suc (number_of ds tx))) (ne_eqb (decided_tx f) tx apart) ∙ ap (option_map suc) (number_of-at ds n tx d (AllPairs-tail Apart f ds once) at is)
 
 abbrev in_order : Option ℕ → Option ℕ → Bool
 in_order (Some m) (Some n) = nat_le m n
@@ -359,19 +403,19 @@ other-sound a b h e = refuted (a == b) h (eq-eqb a b e)
 
 abbrev pub bundle_passes : Parts → Bool
 bundle_passes b =
-    pairs_pass (λ d f. other (decided d) (decided f)) b.certificate.decisions
+    pairs_pass (λ d f. other (decided_tx d) (decided_tx f)) b.certificate.decisions
     && (list_all (λ r. nat_lt r (length (ranks b.certificate.decisions))) (ranks b.certificate.decisions)
     && (pairs_pass other (ranks b.certificate.decisions) && list_all (log_passes b.certificate.decisions) b.sites))
 
 -- a bundle that passes, and whose walks are cycles, is valid
 pub valid-from_test : (b : Parts) → bundle_passes b ≡ true
-    → ((number tx : ℕ) (walk : List Step) → slice_get b.certificate.decisions number ≡ Some (Refuse tx walk) → IsCycle b.certificate.decisions number tx walk × AreLogged b.sites tx walk) → IsValid b
+    → (RefusedLieOnCycles b) → IsValid b
 valid-from_test b h cycles =
     let ds = b.certificate.decisions in
     let twice = and_parts _ _ h in
     let low = and_parts _ _ twice.1 in
     let rest = and_parts _ _ low.1 in
-    let once = AllPairs-from_recursion Apart ds (pairs-from_test Apart (λ d f. other (decided d) (decided f)) (λ d f. other-sound (decided d) (decided f)) ds twice.0) in
+    let once = AllPairs-from_recursion Apart ds (pairs-from_test Apart (λ d f. other (decided_tx d) (decided_tx f)) (λ d f. other-sound (decided_tx d) (decided_tx f)) ds twice.0) in
     record {
       logs = All-from_recursion (IsValidLog ds) b.sites (all-from_test (IsValidLog ds) (log_passes ds) (log-sound ds once) b.sites rest.1);
       once = once;

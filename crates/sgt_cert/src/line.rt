@@ -6,7 +6,8 @@ ghost use Rattle.serde_json.specs.Written.{compact_text, items_text};
 ghost use Rattle.sgt_cert.specs.Text.{certificate_text, decision_data, decisions_data, kind_name, step_data, walk_data, IsCertificate, IsDecision, IsStep};
 ghost use Rattle.sgt_names.specs.Limits.{max_sites};
 ghost use Rattle.sgt_notation.specs.Spelling.{HasNoLf};
-ghost use Rattle.sgt_cert.specs.Line.{answer_of, Answers, Refuses};
+ghost use Rattle.sgt_cert.specs.Line.{Refuses};
+ghost use Rattle.sgt_cert.specs.Private.{answer_of, Answers};
 ghost use Rattle.sgt_cert.specs.declared.certificate.Certificate.{Certificate};
 ghost use Rattle.sgt_cert.specs.declared.fault.CertFault.{CertFault};
 
@@ -152,17 +153,14 @@ fn push_certificate(out: &mut Vec<u8>, decisions: &[Decision], sites: u64) -> Re
 
 /// The one line that spells the certificate, without an LF. Err: memory ran out.
 ///
-/// Any certificate has such a line. Where its sites are not 1 to 16, or a step is at none of them, `from_line` refuses it.
+/// Any certificate has such a line. Where its sites are not 1 to `MAX_SITES`, or a step is at none of them, `from_line` refuses it.
 pub fn to_line(alloc: Global, certificate: &Certificate) -> Result<Vec<u8>, AllocError>
     ensures text { IfOk result (λ line. line.items ≡ certificate_text certificate.now) }
     ensures one_line { IfOk result (λ line. HasNoLf line.items) }
+    ensures in_range { IfOk result (λ _. All (IsDecision max_sites) certificate.now.decisions) }
 {
     let mut line = Vec::new(alloc);
-    push_certificate(
-        &mut line,
-        certificate.decisions.as_slice(),
-        certificate.sites as u64,
-    )?;
+    push_certificate(&mut line, certificate.decisions(), certificate.sites as u64)?;
     Ok(line)
 }
 
@@ -185,7 +183,7 @@ fn judge(alloc: Global, value: &Value, line: &[u8]) -> Result<Certificate, CertF
 }
 
 /// Reads the line of a certificate, which is given without its LF. Ok exactly for the text that `to_line` gives of a
-/// certificate whose sites are 1 to 16, with each step at one of them. Any other line is refused: with K1 where no JSON
+/// certificate whose sites are 1 to `MAX_SITES`, with each step at one of them. Any other line is refused: with K1 where no JSON
 /// value is read from it, else with K2 where the value's members are not those of a certificate, else with K3. K4 where
 /// memory ran out stands in place of any answer.
 pub fn from_line(alloc: Global, line: &[u8]) -> Result<Certificate, CertFault>

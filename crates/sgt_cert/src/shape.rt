@@ -3,7 +3,7 @@
 ghost use Rattle.std.specs.Prelude.{◌≡◌, codes};
 ghost use Rattle.std.specs.List.{list_all};
 ghost use Rattle.serde_json.specs.View.{view};
-ghost use Rattle.sgt_cert.specs.Line.{count, has, is_array_of, is_commit, is_decision, is_number, is_refuse, is_shaped, is_step, is_string, is_withdraw};
+ghost use Rattle.sgt_cert.specs.Line.{count, has, is_array_of, is_commit_object, is_decision_object, is_number, is_refuse_object, is_certificate_object, is_step_object, is_string, is_withdraw_object};
 
 use serde_json::Value;
 
@@ -35,7 +35,7 @@ fn has_string(value: &Value, key: &str) -> bool
 }
 
 fn shows_step(value: &Value) -> bool
-    ensures { result ≡ is_step (view value.now) }
+    ensures { result ≡ is_step_object (view value.now) }
 {
     member_count(value) == 4
         && has_string(value, "item")
@@ -45,13 +45,13 @@ fn shows_step(value: &Value) -> bool
 }
 
 fn show_steps(items: &[Value]) -> bool
-    ensures { result ≡ list_all (λ v. is_step (view v)) items.now }
+    ensures { result ≡ list_all (λ v. is_step_object (view v)) items.now }
 {
     items.iter().all(shows_step)
 }
 
 fn shows_steps(value: &Value) -> bool
-    ensures { result ≡ is_array_of is_step (view value.now) }
+    ensures { result ≡ is_array_of is_step_object (view value.now) }
 {
     match value.as_array() {
         Some(items) => show_steps(items),
@@ -60,7 +60,7 @@ fn shows_steps(value: &Value) -> bool
 }
 
 fn has_walk(value: &Value) -> bool
-    ensures { result ≡ has (codes "walk") (is_array_of is_step) (view value.now) }
+    ensures { result ≡ has (codes "walk") (is_array_of is_step_object) (view value.now) }
 {
     match value.get("walk") {
         Some(found) => shows_steps(found),
@@ -69,37 +69,37 @@ fn has_walk(value: &Value) -> bool
 }
 
 pub(crate) fn shows_commit(value: &Value) -> bool
-    ensures { result ≡ is_commit (view value.now) }
+    ensures { result ≡ is_commit_object (view value.now) }
 {
     member_count(value) == 2 && has_number(value, "commit") && has_number(value, "rank")
 }
 
 pub(crate) fn shows_refuse(value: &Value) -> bool
-    ensures { result ≡ is_refuse (view value.now) }
+    ensures { result ≡ is_refuse_object (view value.now) }
 {
     member_count(value) == 2 && has_number(value, "refuse") && has_walk(value)
 }
 
 fn shows_withdraw(value: &Value) -> bool
-    ensures { result ≡ is_withdraw (view value.now) }
+    ensures { result ≡ is_withdraw_object (view value.now) }
 {
     member_count(value) == 1 && has_number(value, "withdraw")
 }
 
 fn shows_decision(value: &Value) -> bool
-    ensures { result ≡ is_decision (view value.now) }
+    ensures { result ≡ is_decision_object (view value.now) }
 {
     shows_commit(value) || shows_refuse(value) || shows_withdraw(value)
 }
 
 fn show_decisions(items: &[Value]) -> bool
-    ensures { result ≡ list_all (λ v. is_decision (view v)) items.now }
+    ensures { result ≡ list_all (λ v. is_decision_object (view v)) items.now }
 {
     items.iter().all(shows_decision)
 }
 
 fn shows_decisions(value: &Value) -> bool
-    ensures { result ≡ is_array_of is_decision (view value.now) }
+    ensures { result ≡ is_array_of is_decision_object (view value.now) }
 {
     match value.as_array() {
         Some(items) => show_decisions(items),
@@ -108,7 +108,7 @@ fn shows_decisions(value: &Value) -> bool
 }
 
 fn has_decisions(value: &Value) -> bool
-    ensures { result ≡ has (codes "decisions") (is_array_of is_decision) (view value.now) }
+    ensures { result ≡ has (codes "decisions") (is_array_of is_decision_object) (view value.now) }
 {
     match value.get("decisions") {
         Some(found) => shows_decisions(found),
@@ -118,7 +118,7 @@ fn has_decisions(value: &Value) -> bool
 
 /// Whether it has just the members of a certificate, each of its JSON type.
 pub(crate) fn has_shape(value: &Value) -> bool
-    ensures { result ≡ is_shaped (view value.now) }
+    ensures { result ≡ is_certificate_object (view value.now) }
 {
     member_count(value) == 2 && has_decisions(value) && has_number(value, "sites")
 }

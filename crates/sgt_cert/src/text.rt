@@ -1,10 +1,12 @@
 //! The text of a bundle.
 
-ghost use Rattle.std.specs.Prelude.{◌≡◌, ◌++◌, ◌∷◌, [], ◌≤◌, ◌+◌, IfOk, OnOk, length, map};
+ghost use Rattle.std.specs.Prelude.{◌≡◌, ◌++◌, ◌∷◌, [], ◌≤◌, ◌+◌, All, IfOk, OnOk, length, map};
 ghost use Rattle.sgt_names.specs.Limits.{max_sites};
-ghost use Rattle.sgt_notation.specs.Spelling.{line_text, text_of_lines};
+ghost use Rattle.sgt_notation.specs.Spelling.{line_text, text_of_lines, IsEntry, IsHolding, IsLine};
 ghost use Rattle.sgt_notation.specs.declared.SectionLine.{SectionLine};
-ghost use Rattle.sgt_cert.specs.Text.{sections_from, section_lines, text_of};
+ghost use Rattle.std.specs.List.{list_any};
+ghost use Rattle.sgt_names.specs.Entry.{is_increment};
+ghost use Rattle.sgt_cert.specs.Text.{has_increments, sections_from, section_lines, text_of, IsDecision, IsLog};
 
 use crate::bundle::SiteLog;
 use crate::certificate::Certificate;
@@ -14,14 +16,16 @@ use sgt_notation::{SectionLine, write_section};
 use std::alloc::{AllocError, Global};
 
 fn push_line(out: &mut Vec<u8>, line: &SectionLine) -> Result<(), AllocError>
-    ensures { OnOk result (out.new.items ≡ out.old.items ++ text_of_lines (map line_text (line.now ∷ []))) }
+    ensures text { OnOk result (out.new.items ≡ out.old.items ++ text_of_lines (map line_text (line.now ∷ []))) }
+    ensures in_range { OnOk result (IsLine line.now) }
 {
     write_section(out, line)?;
     out.extend_from_slice(b"\n")
 }
 
 fn push_items(out: &mut Vec<u8>, items: &[Holding]) -> Result<(), AllocError>
-    ensures { OnOk result (out.new.items ≡ out.old.items ++ text_of_lines (map line_text (map SectionLine.Initial items.now))) }
+    ensures text { OnOk result (out.new.items ≡ out.old.items ++ text_of_lines (map line_text (map SectionLine.Initial items.now))) }
+    ensures in_range { OnOk result (All IsHolding items.now) }
 {
     for item in items {
         push_line(out, &SectionLine::Initial(*item))?;
@@ -30,7 +34,8 @@ fn push_items(out: &mut Vec<u8>, items: &[Holding]) -> Result<(), AllocError>
 }
 
 fn push_entries(out: &mut Vec<u8>, entries: &[Entry]) -> Result<(), AllocError>
-    ensures { OnOk result (out.new.items ≡ out.old.items ++ text_of_lines (map line_text (map SectionLine.Logged entries.now))) }
+    ensures text { OnOk result (out.new.items ≡ out.old.items ++ text_of_lines (map line_text (map SectionLine.Logged entries.now))) }
+    ensures in_range { OnOk result (All IsEntry entries.now) }
 {
     for entry in entries {
         push_line(out, &SectionLine::Logged(*entry))?;
@@ -39,7 +44,8 @@ fn push_entries(out: &mut Vec<u8>, entries: &[Entry]) -> Result<(), AllocError>
 }
 
 fn push_finals(out: &mut Vec<u8>, finals: &[Holding]) -> Result<(), AllocError>
-    ensures { OnOk result (out.new.items ≡ out.old.items ++ text_of_lines (map line_text (map SectionLine.Final finals.now))) }
+    ensures text { OnOk result (out.new.items ≡ out.old.items ++ text_of_lines (map line_text (map SectionLine.Final finals.now))) }
+    ensures in_range { OnOk result (All IsHolding finals.now) }
 {
     for item in finals {
         push_line(out, &SectionLine::Final(*item))?;
@@ -48,7 +54,8 @@ fn push_finals(out: &mut Vec<u8>, finals: &[Holding]) -> Result<(), AllocError>
 }
 
 fn push_section(out: &mut Vec<u8>, site: SiteNo, log: &SiteLog) -> Result<(), AllocError>
-    ensures { OnOk result (out.new.items ≡ out.old.items ++ text_of_lines (map line_text (section_lines site log.now))) }
+    ensures text { OnOk result (out.new.items ≡ out.old.items ++ text_of_lines (map line_text (section_lines site log.now))) }
+    ensures in_range { OnOk result (IsLog log.now) }
 {
     push_line(out, &SectionLine::Site(site))?;
     push_items(out, log.items.as_slice())?;
@@ -59,7 +66,8 @@ fn push_section(out: &mut Vec<u8>, site: SiteNo, log: &SiteLog) -> Result<(), Al
 
 fn push_sections(out: &mut Vec<u8>, sites: &[SiteLog]) -> Result<(), AllocError>
     requires { length sites.now ≤ max_sites }
-    ensures { OnOk result (out.new.items ≡ out.old.items ++ text_of_lines (map line_text (sections_from 0 sites.now))) }
+    ensures text { OnOk result (out.new.items ≡ out.old.items ++ text_of_lines (map line_text (sections_from 0 sites.now))) }
+    ensures in_range { OnOk result (All IsLog sites.now) }
 {
     for (k, log) in sites.iter().enumerate() {
         let Ok(site) = SiteNo::new(k as u64) else {
@@ -70,17 +78,36 @@ fn push_sections(out: &mut Vec<u8>, sites: &[SiteLog]) -> Result<(), AllocError>
     Ok(())
 }
 
-/// The text of a certificate and its logs. Err: memory ran out.
+fn any_increment(entries: &[Entry]) -> bool
+    ensures { result ≡ list_any is_increment entries.now }
+{
+    entries.iter().any(|entry| entry.is_increment())
+}
+
+/// Whether an entry of these logs is an increment, or asks for one.
+fn any_log_increments(sites: &[SiteLog]) -> bool
+    ensures { result ≡ has_increments sites.now }
+{
+    sites
+        .iter()
+        .any(|log| any_increment(log.entries.as_slice()))
+}
+
+/// The text of a certificate and its logs, in the second format exactly where it has to be. Err: memory ran out.
 pub(crate) fn text(
     alloc: Global,
     certificate: &Certificate,
     sites: &[SiteLog],
 ) -> Result<Vec<u8>, AllocError>
     requires { length sites.now ≤ max_sites }
-    ensures { IfOk result (λ text. text.items ≡ text_of (record { certificate = certificate.now; sites = sites.now })) }
+    ensures text { IfOk result (λ text. text.items ≡ text_of (record { certificate = certificate.now; sites = sites.now })) }
+    ensures decisions { IfOk result (λ _. All (IsDecision max_sites) certificate.now.decisions) }
+    ensures logs { IfOk result (λ _. All IsLog sites.now) }
 {
     let line = to_line(alloc, certificate)?;
-    let mut text = Vec::from_slice(alloc, b"sgt 1\n")?;
+    let second = any_log_increments(sites);
+    let format = if second { b"sgt 2\n" } else { b"sgt 1\n" };
+    let mut text = Vec::from_slice(alloc, format)?;
     text.extend_from_slice(line.as_slice())?;
     text.extend_from_slice(b"\n")?;
     push_sections(&mut text, sites)?;

@@ -1,5 +1,5 @@
 -- What stands for all edges, shown on two small sites. At the first, 1 and 2 wrote x, 3 read what 2 wrote, and the draft is to write x.
-use Rattle.std.proofs.Common.{◌≡◌, ◌≢◌, ◌==◌, false, ℕ, zero, suc, List, [], ◌∷◌, Some, None, refl, sym, ap, ◌∙◌, subst, arith, lit<, get_or, Contains, ◌<◌, ◌⊎◌, inl, inr}
+use Rattle.std.proofs.Common.{◌≡◌, ◌≢◌, ◌==◌, true, false, ℕ, zero, suc, List, [], ◌∷◌, Some, None, refl, sym, ap, ◌∙◌, subst, arith, lit<, get_or, Contains, ◌<◌, ◌⊎◌, inl, inr}
 use Rattle.std.specs.Prelude.{codes, slice_get}
 use Rattle.std.proofs.lemmas.Option.{same_Some}
 use Rattle.std.proofs.lemmas.Bool.{eqb-false}
@@ -7,17 +7,19 @@ use Rattle.std.proofs.lemmas.Bool.Decides.{nat_tests}
 use Rattle.sgt_names.specs.Name.{Name}
 use Rattle.sgt_names.specs.Entry.{tx_of, Writes, Clash}
 use Rattle.sgt_names.specs.declared.draft.Touch.{Touch}
+use Rattle.sgt_names.specs.declared.entry.Change.{Change}
+use Rattle.sgt_names.specs.declared.entry.Change.TheVariants.{Put, Add}
 use Rattle.sgt_names.specs.declared.entry.Entry.{Entry}
 use Rattle.sgt_names.specs.declared.entry.Entry.TheVariants.{Read, Write, Commit}
 use Rattle.sgt_names.specs.declared.entry.Kind.{Kind}
 use Rattle.sgt_names.specs.declared.entry.Kind.TheVariants.{Wr, Rw, Ww}
 use Rattle.sgt_names.proofs.Places.{Contains_at, Contains-from_at}
 use Rattle.sgt_arena.specs.declared.handle.Handle.{Handle}
-use Rattle.sgt_site.specs.Store.{Store, LogsRead, handle_of}
+use Rattle.sgt_site.specs.State.{SiteState, LogsRead, handle_of}
+use Rattle.sgt_site.specs.declared.cell.Reader.{Reader}
 use Rattle.sgt_site.specs.declared.cell.Writer.{Writer}
 use Rattle.sgt_site.proofs.Basics.{is_single}
-use Rattle.sgt_edges.specs.Edges.{IsWriter, HasReader, IsToWrite, wrote_before, wrote_after, wrote_too, read_it, IsOldEdge, JoinsCommitted, Walks, given, old, on, StandsForAll}
-use Rattle.sgt_edges.specs.Gathered.{edge}
+use Rattle.sgt_edges.specs.Edges.{IsWriter, HasReader, IsToChange, ConflictsWith, Precedes, wrote_before, wrote_after, wrote_too, read_it, IsOldEdge, JoinsCommitted, Walks, given, old, on, StandsForAll}
 use Rattle.sgt_edges.specs.declared.edge.Edge.{Edge}
 
 abbrev x : Name
@@ -29,7 +31,7 @@ handle n = record { index = n; generation = 0 }
 abbrev me : Handle
 me = handle 0
 
-abbrev site : Store
+abbrev site : SiteState
 site = record {
   number = 0;
   items = record { item = x; value = 5 } ∷ [];
@@ -39,7 +41,11 @@ site = record {
 }
 
 abbrev draft : List Touch
-draft = record { site = 0; item = x; seen = None; put = Some 9 } ∷ []
+draft = record { site = 0; item = x; seen = None; change = Some (Put 9) } ∷ []
+
+-- an edge at the site
+abbrev edge : ℕ → Handle → Handle → Name → Kind → Edge
+edge n f t x k = record { from = f; to = t; label = record { site = n; item = x; kind = k } }
 
 -- the edge from the reader alone
 abbrev from_reader : List Edge
@@ -49,13 +55,13 @@ from_reader = edge 0 (handle 3) me x Rw ∷ []
 abbrev from_writer : List Edge
 from_writer = edge 0 (handle 2) me x Ww ∷ []
 
-is_x : (z : Name) → IsToWrite site draft z → x ≡ z
-is_x z writes = ap (λ (w : Name × ℕ). w.0) (sym (is_single (x, 9) (z, writes.0) writes.1))
+is_x : (z : Name) (c : Change) → IsToChange site draft z c → x ≡ z
+is_x z c asks = ap (λ (d : Name × Change). d.0) (sym (is_single (x, Put 9) (z, c) asks))
 
 -- each writer walks to me over the reader
-over_reader : (k : ℕ) (g : Handle) → IsWriter site x k g → Walks site x from_reader g me
-over_reader zero g w =
-    let same : handle 1 ≡ g = ap (λ (u : Writer). u.handle) (same_Some (record { tx = 1; handle = handle 1 }) w.0 w.1) ∙ w.2 in
+over_reader : (k : ℕ) (w : Writer) → IsWriter site x k w → Walks site x from_reader w.handle me
+over_reader zero w is =
+    let same : handle 1 ≡ w.handle = ap (λ (u : Writer). u.handle) (same_Some (record { tx = 1; handle = handle 1; increment = false }) w is) in
     subst (λ h. Walks site x from_reader h me) same (on (handle 1) (handle 3) me (old (handle 1) (handle 3) from_first) (given (edge 0 (handle 3) me x Rw) (Contains-from_at from_reader 0 (edge 0 (handle 3) me x Rw) refl) refl))
   where
     from_first : IsOldEdge site x (handle 1) (handle 3)
@@ -79,8 +85,8 @@ over_reader zero g w =
         clash = (refl, refl);
       };
     }
-over_reader (suc zero) g w =
-    let same : handle 2 ≡ g = ap (λ (u : Writer). u.handle) (same_Some (record { tx = 2; handle = handle 2 }) w.0 w.1) ∙ w.2 in
+over_reader (suc zero) w is =
+    let same : handle 2 ≡ w.handle = ap (λ (u : Writer). u.handle) (same_Some (record { tx = 2; handle = handle 2; increment = false }) w is) in
     subst (λ h. Walks site x from_reader h me) same (on (handle 2) (handle 3) me (old (handle 2) (handle 3) from_second) (given (edge 0 (handle 3) me x Rw) (Contains-from_at from_reader 0 (edge 0 (handle 3) me x Rw) refl) refl))
   where
     from_second : IsOldEdge site x (handle 2) (handle 3)
@@ -104,33 +110,36 @@ over_reader (suc zero) g w =
         clash = (refl, refl);
       };
     }
-over_reader (suc (suc k)) g w = absurd cc
+over_reader (suc (suc k)) w is = absurd cc
 
 -- the only reader is 3
-reader_is : (g : Handle) → HasReader site x g → handle 3 ≡ g
-reader_is g r = by_place r.1.1.1.place r.1.1.1.at
+reader_is : (r : Reader) → HasReader site x r → handle 3 ≡ r.handle
+reader_is r is = by_place is.1.1.place is.1.1.at
   where
     is_third : (tx v : ℕ) → Read 3 x 7 ≡ Read tx x v → 3 ≡ tx
     is_third tx v e = ap tx_of e
 
-    by_place : (n : ℕ) → slice_get site.entries n ≡ Some (Read r.0.tx x r.1.1.0) → handle 3 ≡ g
+    by_place : (n : ℕ) → slice_get site.entries n ≡ Some (Read r.tx x is.1.0) → handle 3 ≡ r.handle
     by_place zero at = absurd cc
     by_place (suc zero) at = absurd cc
     by_place (suc (suc zero)) at = absurd cc
     by_place (suc (suc (suc zero))) at = absurd cc
-    by_place (suc (suc (suc (suc zero)))) at = same_Some (handle 3) g (ap (handle_of site.installed) (is_third r.0.tx r.1.1.0 (same_Some (Read 3 x 7) (Read r.0.tx x r.1.1.0) at)) ∙ r.1.0 ∙ ap Some r.2)
+    by_place (suc (suc (suc (suc zero)))) at = same_Some (handle 3) r.handle (ap (handle_of site.installed) (is_third r.tx is.1.0 (same_Some (Read 3 x 7) (Read r.tx x is.1.0) at)) ∙ is.0)
     by_place (suc (suc (suc (suc (suc zero))))) at = absurd cc
     by_place (suc (suc (suc (suc (suc (suc n)))))) at = absurd cc
 
 -- the edge from the reader of the present version stands for all: each writer walks over the reader
+by_case : (z : Name) (f t : Handle) (k : Kind) → Precedes site draft me z f t k → Walks site z from_reader f t
+by_case z f t k (wrote_before n m w saw less is) = absurd (omega (arith, saw.1.1))
+by_case z f t k (wrote_after n m w saw more is) = absurd (omega (arith, saw.1.1))
+by_case z f t k (wrote_too c m w asks is far) =
+    subst (λ (y : Name). Walks site y from_reader w.handle me) (is_x z c asks) (over_reader m w (subst (λ (y : Name). IsWriter site y m w) (sym (is_x z c asks)) is))
+by_case z f t k (read_it c r asks is) =
+    let same = reader_is r (subst (λ (y : Name). HasReader site y r) (sym (is_x z c asks)) is) in
+    subst (λ (y : Name). Walks site y from_reader r.handle me) (is_x z c asks) (subst (λ h. Walks site x from_reader h me) same (given (edge 0 (handle 3) me x Rw) (Contains-from_at from_reader 0 (edge 0 (handle 3) me x Rw) refl) refl))
+
 pub reader-stands_for_all : StandsForAll site draft me from_reader
-reader-stands_for_all z f t k (wrote_before n m g keeps less w) = absurd (omega (arith, keeps.1.1))
-reader-stands_for_all z f t k (wrote_after n m g keeps more w) = absurd (omega (arith, keeps.1.1))
-reader-stands_for_all z f t k (wrote_too m g writes w) =
-    subst (λ (y : Name). Walks site y from_reader g me) (is_x z writes) (over_reader m g (subst (λ (y : Name). IsWriter site y m g) (sym (is_x z writes)) w))
-reader-stands_for_all z f t k (read_it g writes r) =
-    let same = reader_is g (subst (λ (y : Name). HasReader site y g) (sym (is_x z writes)) r) in
-    subst (λ (y : Name). Walks site y from_reader g me) (is_x z writes) (subst (λ h. Walks site x from_reader h me) same (given (edge 0 (handle 3) me x Rw) (Contains-from_at from_reader 0 (edge 0 (handle 3) me x Rw) refl) refl))
+reader-stands_for_all z f t k is = by_case z f t k is.1
 
 other_handle : (m n : ℕ) → m ≢ n → handle m ≢ handle n
 other_handle m n apart same = apart (ap (λ (h : Handle). h.index) same)
@@ -188,34 +197,23 @@ no_walk f t (on g h i first second) same = no_walk g h first same
 -- the edge from the last writer doesn't: nothing leads on from the reader
 pub writer-does_not_stand_for_all : StandsForAll site draft me from_writer → ⊥
 writer-does_not_stand_for_all stands =
-    no_walk (handle 3) me (stands x (handle 3) me Rw (read_it (handle 3) (9, Contains-from_at ((x, 9) ∷ []) 0 (x, 9) refl) reader)) refl
+    no_walk (handle 3) me (stands x (handle 3) me Rw (other_handle 3 0 (eqb-false 3 0 refl), read_it (Put 9) (record { tx = 3; handle = handle 3; version = 2 }) (Contains-from_at ((x, Put 9) ∷ []) 0 (x, Put 9) refl) reader)) refl
   where
     reads : LogsRead site.entries 3 x 7 2
     reads = record { place = 4; at = refl; version = refl }
 
-    reader : HasReader site x (handle 3)
-    reader = (record { tx = 3; handle = handle 3; version = 2 }, (refl, (7, reads)), refl)
+    reader : HasReader site x (record { tx = 3; handle = handle 3; version = 2 })
+    reader = (refl, (7, reads))
 
--- no edge joins me and myself: nobody was installed under my handle
+-- no edge joins me and myself
 pub nobody-joins_itself : JoinsCommitted site me me me → ⊥
-nobody-joins_itself joins = by_side joins.ends
-  where
-    not_mine : (tx : ℕ) → handle_of site.installed tx ≢ Some me
-    not_mine zero has = absurd cc
-    not_mine (suc zero) has = absurd (other_handle 1 0 (eqb-false 1 0 refl) (same_Some (handle 1) me has))
-    not_mine (suc (suc zero)) has = absurd (other_handle 2 0 (eqb-false 2 0 refl) (same_Some (handle 2) me has))
-    not_mine (suc (suc (suc zero))) has = absurd (other_handle 3 0 (eqb-false 3 0 refl) (same_Some (handle 3) me has))
-    not_mine (suc (suc (suc (suc n)))) has = absurd (let e = sym (no_handle n) ∙ has in cc)
-
-    by_side : ((me ≡ joins.handle) × (me ≡ me)) ⊎ ((me ≡ me) × (me ≡ joins.handle)) → ⊥
-    by_side (inl a) = not_mine joins.other (joins.given ∙ ap Some (sym a.0))
-    by_side (inr a) = not_mine joins.other (joins.given ∙ ap Some (sym a.1))
+nobody-joins_itself joins = joins.apart refl
 
 -- another site: 1 and 2 read x and wrote y, and the draft is to write both
 abbrev y : Name
 y = codes "y"
 
-abbrev two_items : Store
+abbrev two_items : SiteState
 two_items = record {
   number = 0;
   items = record { item = x; value = 5 } ∷ record { item = y; value = 2 } ∷ [];
@@ -225,7 +223,7 @@ two_items = record {
 }
 
 abbrev both : List Touch
-both = record { site = 0; item = x; seen = None; put = Some 9 } ∷ record { site = 0; item = y; seen = None; put = Some 9 } ∷ []
+both = record { site = 0; item = x; seen = None; change = Some (Put 9) } ∷ record { site = 0; item = y; seen = None; change = Some (Put 9) } ∷ []
 
 abbrev over_y : Edge
 over_y = edge 0 (handle 1) me y Ww
@@ -273,10 +271,20 @@ no_walk_of_x f t (on g h i first second) same = no_walk_of_x g h first same
 -- a walk keeps to its item: neither the edge over y nor the conflict on y leads from 1 to me on x
 pub other_items-do_not_stand_for_all : StandsForAll two_items both me by_items → ⊥
 other_items-do_not_stand_for_all stands =
-    no_walk_of_x (handle 1) me (stands x (handle 1) me Rw (read_it (handle 1) (9, Contains-from_at ((x, 9) ∷ (y, 9) ∷ []) 0 (x, 9) refl) reader)) refl
+    no_walk_of_x (handle 1) me (stands x (handle 1) me Rw (other_handle 1 0 (eqb-false 1 0 refl), read_it (Put 9) (record { tx = 1; handle = handle 1; version = 0 }) (Contains-from_at ((x, Put 9) ∷ (y, Put 9) ∷ []) 0 (x, Put 9) refl) reader)) refl
   where
     reads : LogsRead two_items.entries 1 x 5 0
     reads = record { place = 0; at = refl; version = refl }
 
-    reader : HasReader two_items x (handle 1)
-    reader = (record { tx = 1; handle = handle 1; version = 0 }, (refl, (5, reads)), refl)
+    reader : HasReader two_items x (record { tx = 1; handle = handle 1; version = 0 })
+    reader = (refl, (5, reads))
+
+-- an increment has an edge from a write, and none from an increment
+pub write-conflicts_with_increment : ConflictsWith (Add 3) (record { tx = 1; handle = handle 1; increment = false })
+write-conflicts_with_increment = refl
+
+pub increments-do_not_conflict : ConflictsWith (Add 3) (record { tx = 1; handle = handle 1; increment = true }) → ⊥
+increments-do_not_conflict same = absurd cc
+
+pub increment-conflicts_with_write : ConflictsWith (Put 3) (record { tx = 1; handle = handle 1; increment = true })
+increment-conflicts_with_write = tt

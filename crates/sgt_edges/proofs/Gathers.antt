@@ -1,263 +1,323 @@
 -- The edges of each touched item together are those of the draft.
-use Rattle.std.proofs.Common.{◌≡◌, ℕ, ◌+◌, ◌-◌, ◌<◌, ◌≤◌, ◌⊎◌, List, [], ◌∷◌, ◌++◌, length, map, get_or, take, drop, Some, None, Result, Ok, Err, refl, sym, ap, ◌∙◌, subst, arith, inl, inr, All, Contains}
-use Rattle.std.specs.Prelude.{slice_get, OnOk, ◌↔◌, Any, option_map}
+use Rattle.std.proofs.Common.{◌≡◌, ◌≢◌, ℕ, ◌+◌, ◌-◌, ◌<◌, ◌≤◌, ◌⊎◌, List, [], ◌∷◌, ◌++◌, length, take, drop, Some, None, Result, Ok, Err, refl, sym, ap, ◌∙◌, subst, arith, inl, inr, All, Contains}
+use Rattle.std.specs.Prelude.{slice_get, OnOk, ◌↔◌, Any}
 use Rattle.std.proofs.lemmas.Bool.{cases_lt}
-use Rattle.std.proofs.lemmas.Option.{same_Some, slice_get-map, slice_get_read, slice_get_within}
+use Rattle.std.proofs.lemmas.Option.{same_Some, slice_get_within}
 use Rattle.std.proofs.lemmas.List.Elements.{Contains-append_left, Contains-append_right, Contains-append_cases}
 use Rattle.sgt_names.specs.Name.{Name}
 use Rattle.sgt_names.specs.Draft.{at_site, kept_in, writing_in}
 use Rattle.sgt_names.specs.declared.draft.Seen.{Seen}
 use Rattle.sgt_names.specs.declared.draft.Touch.{Touch}
+use Rattle.sgt_names.specs.declared.entry.Change.{Change}
 use Rattle.sgt_names.specs.declared.entry.Kind.{Kind}
 use Rattle.sgt_names.specs.declared.entry.Kind.TheVariants.{Wr, Rw, Ww}
+use Rattle.sgt_names.proofs.Lists.{element_at, Any_at, Any-from_at}
 use Rattle.sgt_names.proofs.Places.{Contains_at, Contains-from_at, slice_get-take, slice_get-take_at, slice_get-drop, All-from_at}
 use Rattle.sgt_arena.specs.declared.handle.Handle.{Handle}
-use Rattle.sgt_site.specs.Store.{Store, IsReader, version_at, writers_of}
+use Rattle.sgt_site.specs.State.{SiteState, version_at, writers_of}
 use Rattle.sgt_site.specs.declared.cell.Reader.{Reader}
 use Rattle.sgt_site.specs.declared.cell.Writer.{Writer}
-use Rattle.sgt_site.proofs.Appends.{Any_at, Any-from_at}
 use Rattle.sgt_site.proofs.Basics.{is_single}
-use Rattle.sgt_site.proofs.Found.{map_at}
-use Rattle.sgt_site.proofs.Pledges.{kept-from, kept-to, put-from, put-to}
-use Rattle.sgt_edges.specs.Edges.{Keeps, IsToWrite, IsEdge, wrote_before, wrote_after, wrote_too, read_it, IsGiven, given, StandsForAll, SeesTooNew}
-use Rattle.sgt_edges.specs.Gathered.{IsTooNew, edge, Adds, AddsOfRead, AddsOfWrite, AddsEdges, Gathers, label_at}
+use Rattle.sgt_site.proofs.Pledges.{kept-from, kept-to, change-from, change-to}
+use Rattle.sgt_edges.specs.Edges.{SawAt, IsToChange, ConflictsWith, IsWriter, HasReader, Precedes, wrote_before, wrote_after, wrote_too, read_it, IsEdge, IsGiven, given, StandsForAll, SeesTooNew}
+use Rattle.sgt_edges.specs.private.Gathered.{IsTooNew, IsBetween, AddsAll, FromWriter, ToWriter, FromConflicting, FromReader, IsOfRead, IsOfChange}
 use Rattle.sgt_edges.specs.declared.edge.Edge.{Edge}
 
 -- a list of one has it
 itself : {A : Type 0} (a : A) → Contains (a ∷ []) a
 itself a = Contains-from_at (a ∷ []) 0 a refl
 
-module _ (s : Store) where
-  -- what one touched item keeps, and is to write
-  keeps-one : (t : Touch) (x : Name) (n : ℕ) → Keeps s (t ∷ []) x n → (t.site ≡ s.number) × (t.item ≡ x) × ((v : ℕ) × (t.seen ≡ Some (record { value = v; version = n })))
-  keeps-one t x n keeps =
-      let k = kept-from s.number (t ∷ []) x keeps.0 n keeps.1 in
+-- nothing is added, one edge is, or edges of two sorts are
+pub adds-nothing : (P : Edge → Type 0) (es : List Edge) → ((e : Edge) → P e → ⊥) → AddsAll P es es
+adds-nothing P es none e = (λ has. inl has, λ which. by_side which)
+  where
+    by_side : Contains es e ⊎ P e → Contains es e
+    by_side (inl has) = has
+    by_side (inr p) = absurd (none e p)
+
+pub adds-one : (P : Edge → Type 0) (es : List Edge) (made : Edge) → P made → ((e : Edge) → P e → e ≡ made) → AddsAll P es (es ++ made ∷ [])
+adds-one P es made is only e = (λ has. there (Contains-append_cases es (made ∷ []) e has), λ which. back which)
+  where
+    there : Contains es e ⊎ Contains (made ∷ []) e → Contains es e ⊎ P e
+    there (inl has) = inl has
+    there (inr has) = inr (subst P (sym (is_single made e has)) is)
+
+    back : Contains es e ⊎ P e → Contains (es ++ made ∷ []) e
+    back (inl has) = Contains-append_left es (made ∷ []) e has
+    back (inr p) = Contains-append_right es (made ∷ []) e (subst (Contains (made ∷ [])) (sym (only e p)) (itself made))
+
+pub adds-both : (P Q R : Edge → Type 0) (old mid new : List Edge) → ((e : Edge) → R e ↔ (P e ⊎ Q e)) → AddsAll P old mid → AddsAll Q mid new → AddsAll R old new
+adds-both P Q R old mid new are first second e = (λ has. there ((second e).0 has), λ which. back which)
+  where
+    there_first : Contains old e ⊎ P e → Contains old e ⊎ R e
+    there_first (inl has) = inl has
+    there_first (inr p) = inr ((are e).1 (inl p))
+
+    there : Contains mid e ⊎ Q e → Contains old e ⊎ R e
+    there (inl has) = there_first ((first e).0 has)
+    there (inr q) = inr ((are e).1 (inr q))
+
+    back_side : P e ⊎ Q e → Contains new e
+    back_side (inl p) = (second e).1 (inl ((first e).1 (inr p)))
+    back_side (inr q) = (second e).1 (inr q)
+
+    back : Contains old e ⊎ R e → Contains new e
+    back (inl has) = (second e).1 (inl ((first e).1 (inl has)))
+    back (inr r) = back_side ((are e).0 r)
+
+-- the same edges, said otherwise
+pub adds-same : (P R : Edge → Type 0) (old new : List Edge) → ((e : Edge) → P e ↔ R e) → AddsAll P old new → AddsAll R old new
+adds-same P R old new same added e = (λ has. there ((added e).0 has), λ which. (added e).1 (back which))
+  where
+    there : Contains old e ⊎ P e → Contains old e ⊎ R e
+    there (inl has) = inl has
+    there (inr p) = inr ((same e).0 p)
+
+    back : Contains old e ⊎ R e → Contains old e ⊎ P e
+    back (inl has) = inl has
+    back (inr r) = inr ((same e).1 r)
+
+-- the edges of the first elements, of one more, and of all
+module _ {A : Type 0} (Q : A → Edge → Type 0) (xs : List A) where
+  pub each-none : (es : List Edge) → AddsAll (λ e. Any (λ a. Q a e) (take 0 xs)) es es
+  each-none es = adds-nothing (λ e. Any (λ a. Q a e) (take 0 xs)) es (λ e any. absurd (omega (arith, any.2)))
+
+  pub each-next : (i : ℕ) (a : A) (old mid new : List Edge) → slice_get xs i ≡ Some a → AddsAll (λ e. Any (λ b. Q b e) (take i xs)) old mid → AddsAll (Q a) mid new → AddsAll (λ e. Any (λ b. Q b e) (take (i + 1) xs)) old new
+  each-next i a old mid new at so_far added = adds-both (λ e. Any (λ b. Q b e) (take i xs)) (Q a) (λ e. Any (λ b. Q b e) (take (i + 1) xs)) old mid new (λ e. (λ any. apart e any, λ which. joined e which)) so_far added
+    where
+      apart : (e : Edge) → Any (λ b. Q b e) (take (i + 1) xs) → Any (λ b. Q b e) (take i xs) ⊎ Q a e
+      apart e any =
+          let b = Any_at (λ b. Q b e) (take (i + 1) xs) any in
+          let there = slice_get-take xs (i + 1) b.0 b.1 b.2 in
+          elim (cases_lt b.0 i) [
+            | inl lt ↦ inl (Any-from_at (λ b. Q b e) (take i xs) b.0 b.1 (slice_get-take_at xs i b.0 b.1 lt there.1) b.3)
+            | inr le ↦
+                let here : b.0 ≡ i = let lt = there.0 in omega (arith, lt, le) in
+                inr (subst (λ c. Q c e) (same_Some b.1 a (sym there.1 ∙ ap (slice_get xs) here ∙ at)) b.3)
+          ]
+
+      joined : (e : Edge) → Any (λ b. Q b e) (take i xs) ⊎ Q a e → Any (λ b. Q b e) (take (i + 1) xs)
+      joined e (inl any) =
+          let b = Any_at (λ b. Q b e) (take i xs) any in
+          let there = slice_get-take xs i b.0 b.1 b.2 in
+          Any-from_at (λ b. Q b e) (take (i + 1) xs) b.0 b.1 (slice_get-take_at xs (i + 1) b.0 b.1 (let lt = there.0 in omega (arith, lt)) there.1) b.3
+      joined e (inr q) = Any-from_at (λ b. Q b e) (take (i + 1) xs) i a (slice_get-take_at xs (i + 1) i a (omega arith) at) q
+
+  all-taken : (i : ℕ) (e : Edge) → length xs ≤ i → Any (λ b. Q b e) (take i xs) ↔ Any (λ b. Q b e) xs
+  all-taken i e end = (
+    λ any. let b = Any_at (λ b. Q b e) (take i xs) any in Any-from_at (λ b. Q b e) xs b.0 b.1 (slice_get-take xs i b.0 b.1 b.2).1 b.3,
+    λ any. let b = Any_at (λ b. Q b e) xs any in let lt = slice_get_within xs b.0 b.1 b.2 in Any-from_at (λ b. Q b e) (take i xs) b.0 b.1 (slice_get-take_at xs i b.0 b.1 (omega (arith, lt, end)) b.2) b.3,
+  )
+
+  pub each-all : (i : ℕ) (old new : List Edge) → length xs ≤ i → AddsAll (λ e. Any (λ b. Q b e) (take i xs)) old new → AddsAll (λ e. Any (λ b. Q b e) xs) old new
+  each-all i old new end so_far e = (λ has. there ((so_far e).0 has), λ which. (so_far e).1 (back which))
+    where
+      there : Contains old e ⊎ Any (λ b. Q b e) (take i xs) → Contains old e ⊎ Any (λ b. Q b e) xs
+      there (inl has) = inl has
+      there (inr any) = inr ((all-taken i e end).0 any)
+
+      back : Contains old e ⊎ Any (λ b. Q b e) xs → Contains old e ⊎ Any (λ b. Q b e) (take i xs)
+      back (inl has) = inl has
+      back (inr any) = inr ((all-taken i e end).1 any)
+
+module _ (s : SiteState) where
+  -- what one touched item keeps, and is to be changed by
+  saw-one : (t : Touch) (x : Name) (n : ℕ) → SawAt s (t ∷ []) x n → (t.site ≡ s.number) × (t.item ≡ x) × ((v : ℕ) × (t.seen ≡ Some (record { value = v; version = n })))
+  saw-one t x n saw =
+      let k = kept-from s.number (t ∷ []) x saw.0 n saw.1 in
       let same = is_single t k.0 k.1 in
-      (ap (λ (u : Touch). u.site) (sym same) ∙ k.2, ap (λ (u : Touch). u.item) (sym same) ∙ k.3, (keeps.0, ap (λ (u : Touch). u.seen) (sym same) ∙ k.4))
+      (ap (λ (u : Touch). u.site) (sym same) ∙ k.2, ap (λ (u : Touch). u.item) (sym same) ∙ k.3, (saw.0, ap (λ (u : Touch). u.seen) (sym same) ∙ k.4))
 
-  one-keeps : (t : Touch) (seen : Seen) → t.site ≡ s.number → t.seen ≡ Some seen → Keeps s (t ∷ []) t.item seen.version
-  one-keeps t seen here some = (seen.value, kept-to s.number (t ∷ []) t seen (itself t) here some)
+  one-saw : (t : Touch) (seen : Seen) → t.site ≡ s.number → t.seen ≡ Some seen → SawAt s (t ∷ []) t.item seen.version
+  one-saw t seen here some = (seen.value, kept-to s.number (t ∷ []) t seen (itself t) here some)
 
-  writes-one : (t : Touch) (x : Name) → IsToWrite s (t ∷ []) x → (t.site ≡ s.number) × (t.item ≡ x) × ((v : ℕ) × (t.put ≡ Some v))
-  writes-one t x writes =
-      let k = put-from s.number (t ∷ []) x writes.0 writes.1 in
+  changes-one : (t : Touch) (x : Name) (c : Change) → IsToChange s (t ∷ []) x c → (t.site ≡ s.number) × (t.item ≡ x) × (t.change ≡ Some c)
+  changes-one t x c asks =
+      let k = change-from s.number (t ∷ []) x c asks in
       let same = is_single t k.0 k.1 in
-      (ap (λ (u : Touch). u.site) (sym same) ∙ k.2, ap (λ (u : Touch). u.item) (sym same) ∙ k.3, (writes.0, ap (λ (u : Touch). u.put) (sym same) ∙ k.4))
+      (ap (λ (u : Touch). u.site) (sym same) ∙ k.2, ap (λ (u : Touch). u.item) (sym same) ∙ k.3, ap (λ (u : Touch). u.change) (sym same) ∙ k.4)
 
-  one-writes : (t : Touch) (v : ℕ) → t.site ≡ s.number → t.put ≡ Some v → IsToWrite s (t ∷ []) t.item
-  one-writes t v here some = (v, put-to s.number (t ∷ []) t v (itself t) here some)
+  one-changes : (t : Touch) (c : Change) → t.site ≡ s.number → t.change ≡ Some c → IsToChange s (t ∷ []) t.item c
+  one-changes t c here some = change-to s.number (t ∷ []) t c (itself t) here some
 
   -- the draft keeps what one of its items keeps, and the other way round
-  keeps-whole : (ts : List Touch) (t : Touch) (x : Name) (n : ℕ) → Contains ts t → Keeps s (t ∷ []) x n → Keeps s ts x n
-  keeps-whole ts t x n has keeps =
-      let k = keeps-one t x n keeps in
+  saw-whole : (ts : List Touch) (t : Touch) (x : Name) (n : ℕ) → Contains ts t → SawAt s (t ∷ []) x n → SawAt s ts x n
+  saw-whole ts t x n has saw =
+      let k = saw-one t x n saw in
       (k.2.0, subst (λ y. Contains (kept_in (at_site s.number ts)) (y, k.2.0, n)) k.1 (kept-to s.number ts t (record { value = k.2.0; version = n }) has k.0 k.2.1))
 
-  keeps-part : (ts : List Touch) (x : Name) (n : ℕ) → Keeps s ts x n → (t : Touch) × Contains ts t × Keeps s (t ∷ []) x n
-  keeps-part ts x n keeps =
-      let k = kept-from s.number ts x keeps.0 n keeps.1 in
-      (k.0, k.1, subst (λ y. Keeps s (k.0 ∷ []) y n) k.3 (one-keeps k.0 (record { value = keeps.0; version = n }) k.2 k.4))
+  saw-part : (ts : List Touch) (x : Name) (n : ℕ) → SawAt s ts x n → (t : Touch) × Contains ts t × SawAt s (t ∷ []) x n
+  saw-part ts x n saw =
+      let k = kept-from s.number ts x saw.0 n saw.1 in
+      (k.0, k.1, subst (λ y. SawAt s (k.0 ∷ []) y n) k.3 (one-saw k.0 (record { value = saw.0; version = n }) k.2 k.4))
 
-  writes-whole : (ts : List Touch) (t : Touch) (x : Name) → Contains ts t → IsToWrite s (t ∷ []) x → IsToWrite s ts x
-  writes-whole ts t x has writes =
-      let k = writes-one t x writes in
-      (k.2.0, subst (λ y. Contains (writing_in (at_site s.number ts)) (y, k.2.0)) k.1 (put-to s.number ts t k.2.0 has k.0 k.2.1))
+  changes-whole : (ts : List Touch) (t : Touch) (x : Name) (c : Change) → Contains ts t → IsToChange s (t ∷ []) x c → IsToChange s ts x c
+  changes-whole ts t x c has asks =
+      let k = changes-one t x c asks in
+      subst (λ y. IsToChange s ts y c) k.1 (change-to s.number ts t c has k.0 k.2)
 
-  writes-part : (ts : List Touch) (x : Name) → IsToWrite s ts x → (t : Touch) × Contains ts t × IsToWrite s (t ∷ []) x
-  writes-part ts x writes =
-      let k = put-from s.number ts x writes.0 writes.1 in
-      (k.0, k.1, subst (IsToWrite s (k.0 ∷ [])) k.3 (one-writes k.0 writes.0 k.2 k.4))
+  changes-part : (ts : List Touch) (x : Name) (c : Change) → IsToChange s ts x c → (t : Touch) × Contains ts t × IsToChange s (t ∷ []) x c
+  changes-part ts x c asks =
+      let k = change-from s.number ts x c asks in
+      (k.0, k.1, subst (λ y. IsToChange s (k.0 ∷ []) y c) k.3 (one-changes k.0 c k.2 k.4))
 
-module _ (s : Store) (me : Handle) where
-  -- so an edge of an item is one of the draft's, and each of the draft's is one of an item
-  pub edge-whole : (ts : List Touch) (t : Touch) (x : Name) (f h : Handle) (k : Kind) → Contains ts t → IsEdge s (t ∷ []) me x f h k → IsEdge s ts me x f h k
-  edge-whole ts t x f h k has (wrote_before n m g keeps less w) = wrote_before n m g (keeps-whole s ts t x n has keeps) less w
-  edge-whole ts t x f h k has (wrote_after n m g keeps more w) = wrote_after n m g (keeps-whole s ts t x n has keeps) more w
-  edge-whole ts t x f h k has (wrote_too m g writes w) = wrote_too m g (writes-whole s ts t x has writes) w
-  edge-whole ts t x f h k has (read_it g writes r) = read_it g (writes-whole s ts t x has writes) r
+module _ (s : SiteState) (me : Handle) where
+  -- so what precedes for an item does so for the draft, and the other way round
+  precedes-whole : (ts : List Touch) (t : Touch) (x : Name) (f h : Handle) (k : Kind) → Contains ts t → Precedes s (t ∷ []) me x f h k → Precedes s ts me x f h k
+  precedes-whole ts t x f h k has (wrote_before n m w saw less is) = wrote_before n m w (saw-whole s ts t x n has saw) less is
+  precedes-whole ts t x f h k has (wrote_after n m w saw more is) = wrote_after n m w (saw-whole s ts t x n has saw) more is
+  precedes-whole ts t x f h k has (wrote_too c m w asks is apart) = wrote_too c m w (changes-whole s ts t x c has asks) is apart
+  precedes-whole ts t x f h k has (read_it c r asks is) = read_it c r (changes-whole s ts t x c has asks) is
 
-  pub edge-part : (ts : List Touch) (x : Name) (f h : Handle) (k : Kind) → IsEdge s ts me x f h k → (t : Touch) × Contains ts t × IsEdge s (t ∷ []) me x f h k
-  edge-part ts x f h k (wrote_before n m g keeps less w) = let t = keeps-part s ts x n keeps in (t.0, t.1, wrote_before n m g t.2 less w)
-  edge-part ts x f h k (wrote_after n m g keeps more w) = let t = keeps-part s ts x n keeps in (t.0, t.1, wrote_after n m g t.2 more w)
-  edge-part ts x f h k (wrote_too m g writes w) = let t = writes-part s ts x writes in (t.0, t.1, wrote_too m g t.2 w)
-  edge-part ts x f h k (read_it g writes r) = let t = writes-part s ts x writes in (t.0, t.1, read_it g t.2 r)
+  precedes-part : (ts : List Touch) (x : Name) (f h : Handle) (k : Kind) → Precedes s ts me x f h k → (t : Touch) × Contains ts t × Precedes s (t ∷ []) me x f h k
+  precedes-part ts x f h k (wrote_before n m w saw less is) = let t = saw-part s ts x n saw in (t.0, t.1, wrote_before n m w t.2 less is)
+  precedes-part ts x f h k (wrote_after n m w saw more is) = let t = saw-part s ts x n saw in (t.0, t.1, wrote_after n m w t.2 more is)
+  precedes-part ts x f h k (wrote_too c m w asks is apart) = let t = changes-part s ts x c asks in (t.0, t.1, wrote_too c m w t.2 is apart)
+  precedes-part ts x f h k (read_it c r asks is) = let t = changes-part s ts x c asks in (t.0, t.1, read_it c r t.2 is)
 
-module _ (s : Store) (t : Touch) (me : Handle) where
-  nothing : (es : List Edge) → Adds s t me es es
-  nothing es = record { kept = λ e has. has; given = λ e has. inl has }
+  pub given-parts : (ts : List Touch) (e : Edge) → Any (λ t. IsGiven s (t ∷ []) me e) ts ↔ IsGiven s ts me e
+  given-parts ts e = (
+    λ any.
+        let t = Any_at (λ t. IsGiven s (t ∷ []) me e) ts any in
+        (t.3.0, (t.3.1.0, precedes-whole ts t.1 e.label.item e.from e.to e.label.kind (Contains-from_at ts t.0 t.1 t.2) t.3.1.1)),
+    λ is.
+        let t = precedes-part ts e.label.item e.from e.to e.label.kind is.1.1 in
+        let at = Contains_at ts t.0 t.1 in
+        Any-from_at (λ t. IsGiven s (t ∷ []) me e) ts at.0 t.0 at.1 (is.0, (is.1.0, t.2)),
+  )
 
-  two : (old mid new : List Edge) → Adds s t me old mid → Adds s t me mid new → Adds s t me old new
-  two old mid new first second = record {
-    kept = λ e has. second.kept e (first.kept e has);
-    given = λ e has. by_second e (second.given e has);
-  }
+module _ (s : SiteState) (t : Touch) (me : Handle) (here : t.site ≡ s.number) where
+  abbrev ws : List Writer
+  ws = writers_of s.installed s.entries t.item
+
+  -- an edge that is between two handles is given where the one's operation precedes the other's
+  between-given : (kind : Kind) (f h : Handle) (e : Edge) → IsBetween t kind f h e → Precedes s (t ∷ []) me t.item f h kind → IsGiven s (t ∷ []) me e
+  between-given kind f h e is precedes = subst (IsGiven s (t ∷ []) me) (sym is.1) (here, (is.0, precedes))
+
+  read-given : (e : Edge) → IsOfRead s t me e → IsGiven s (t ∷ []) me e
+  read-given e is = by_side is.which
     where
-      by_second : (e : Edge) → Contains mid e ⊎ IsGiven s (t ∷ []) me e → Contains old e ⊎ IsGiven s (t ∷ []) me e
-      by_second e (inl has) = first.given e has
-      by_second e (inr is) = inr is
+      by_side : Any (λ w. FromWriter t me w e) (take is.seen.version ws) ⊎ Any (λ w. ToWriter t me w e) (drop is.seen.version ws) → IsGiven s (t ∷ []) me e
+      by_side (inl any) =
+          let w = Any_at (λ w. FromWriter t me w e) (take is.seen.version ws) any in
+          let in_ws = slice_get-take ws is.seen.version w.0 w.1 w.2 in
+          between-given Wr w.1.handle me e w.3 (wrote_before is.seen.version w.0 w.1 (one-saw s t is.seen here is.keeps) in_ws.0 in_ws.1)
+      by_side (inr any) =
+          let w = Any_at (λ w. ToWriter t me w e) (drop is.seen.version ws) any in
+          between-given Rw me w.1.handle e w.3 (wrote_after is.seen.version (is.seen.version + w.0) w.1 (one-saw s t is.seen here is.keeps) (omega arith) (sym (slice_get-drop ws is.seen.version w.0) ∙ w.2))
 
-  -- edges put behind
-  adds-behind : (old more : List Edge) → ((e : Edge) → Contains more e → IsGiven s (t ∷ []) me e) → Adds s t me old (old ++ more)
-  adds-behind old more all = record {
-    kept = λ e has. Contains-append_left old more e has;
-    given = λ e has. by_side e (Contains-append_cases old more e has);
-  }
+  change-given : (e : Edge) → IsOfChange s t me e → IsGiven s (t ∷ []) me e
+  change-given e is = by_side is.which
     where
-      by_side : (e : Edge) → Contains old e ⊎ Contains more e → Contains old e ⊎ IsGiven s (t ∷ []) me e
-      by_side e (inl has) = inl has
-      by_side e (inr has) = inr (all e has)
+      by_side : Any (λ w. FromConflicting t me is.change w e) ws ⊎ ((r : Reader) × HasReader s t.item r × FromReader t me r e) → IsGiven s (t ∷ []) me e
+      by_side (inl any) =
+          let w = Any_at (λ w. FromConflicting t me is.change w e) ws any in
+          between-given Ww w.1.handle me e w.3.1 (wrote_too is.change w.0 w.1 (one-changes s t is.change here is.asks) w.2 w.3.0)
+      by_side (inr r) = between-given Rw r.0.handle me e r.2 (read_it is.change r.0 (one-changes s t is.change here is.asks) r.1)
 
-  -- an edge of the item, as it is labelled
-  label-same : (f h g : Handle) (x : Name) (k : Kind) → t.site ≡ s.number → t.item ≡ x → f ≡ g → record { from = f; to = h; label = label_at t k } ≡ edge s.number g h x k
-  label-same f h g x k here item same = λ i. record { from = same i; to = h; label = record { site = here i; item = item i; kind = k } }
-
-  label-same_to : (f h g : Handle) (x : Name) (k : Kind) → t.site ≡ s.number → t.item ≡ x → h ≡ g → record { from = f; to = h; label = label_at t k } ≡ edge s.number f g x k
-  label-same_to f h g x k here item same = λ i. record { from = f; to = same i; label = record { site = here i; item = item i; kind = k } }
-
-  -- the edges from writers, to writers, from readers
-  abbrev from_writers : Kind → List Writer → List Edge
-  from_writers k us = map (λ (w : Writer). record { from = w.handle; to = me; label = label_at t k }) us
-
-  abbrev to_writers : Kind → List Writer → List Edge
-  to_writers k us = map (λ (w : Writer). record { from = me; to = w.handle; label = label_at t k }) us
-
-  abbrev from_readers : Kind → List Reader → List Edge
-  from_readers k us = map (λ (r : Reader). record { from = r.handle; to = me; label = label_at t k }) us
-
-  -- what a mapped list contains
-  in_map : {A : Type 0} (f : A → Edge) (xs : List A) (n : ℕ) (a : A) (e : Edge) → slice_get xs n ≡ Some a → f a ≡ e → Contains (map f xs) e
-  in_map f xs n a e at is = Contains-from_at (map f xs) n e (slice_get-map f xs n ∙ ap (option_map f) at ∙ ap Some is)
-
-  pub adds-read : (seen : Seen) (ws : List Writer) (old new : List Edge) → t.site ≡ s.number → t.seen ≡ Some seen → ws ≡ writers_of s.installed s.entries t.item
-      → new ≡ (old ++ from_writers Wr (take seen.version ws)) ++ to_writers Rw (drop seen.version ws)
-      → AddsOfRead s t me old new
-  adds-read seen ws old new here some are is = rw is record {
-    adds = two old (old ++ (from_writers Wr (take seen.version ws))) ((old ++ (from_writers Wr (take seen.version ws))) ++ (to_writers Rw (drop seen.version ws)))
-        (adds-behind old (from_writers Wr (take seen.version ws)) (λ e has.
-        let at = Contains_at (from_writers Wr (take seen.version ws)) e has in
-        let w = map_at (λ (w : Writer). record { from = w.handle; to = me; label = label_at t Wr }) (take seen.version ws) at.0 e at.1 in
-        let in_ws = slice_get-take ws seen.version at.0 w.0 w.1 in
-        subst (IsGiven s (t ∷ []) me) w.2 (here, wrote_before seen.version at.0 w.0.handle (one-keeps s t seen here some) in_ws.0 (w.0, subst (λ us. slice_get us at.0 ≡ Some w.0) are in_ws.1, refl))))
-        (adds-behind (old ++ (from_writers Wr (take seen.version ws))) (to_writers Rw (drop seen.version ws)) (λ e has.
-        let at = Contains_at (to_writers Rw (drop seen.version ws)) e has in
-        let w = map_at (λ (w : Writer). record { from = me; to = w.handle; label = label_at t Rw }) (drop seen.version ws) at.0 e at.1 in
-        let in_ws = sym (slice_get-drop ws seen.version at.0) ∙ w.1 in
-        subst (IsGiven s (t ∷ []) me) w.2 (here, wrote_after seen.version (seen.version + at.0) w.0.handle (one-keeps s t seen here some) (omega arith) (w.0, subst (λ us. slice_get us (seen.version + at.0) ≡ Some w.0) are in_ws, refl))));
-    before = λ x n k h keeps less w.
-        let one = keeps-one s t x n keeps in
-        let version : seen.version ≡ n = ap (λ (u : Seen). u.version) (same_Some seen _ (sym some ∙ one.2.1)) in
-        let in_ws : slice_get ws k ≡ Some w.0 = ap (λ us. slice_get us k) (are ∙ ap (writers_of s.installed s.entries) one.1) ∙ w.1 in
-        Contains-append_left (old ++ (from_writers Wr (take seen.version ws))) (to_writers Rw (drop seen.version ws)) (edge s.number h me x Wr)
-        (Contains-append_right old (from_writers Wr (take seen.version ws)) (edge s.number h me x Wr)
-        (in_map (λ (w : Writer). record { from = w.handle; to = me; label = label_at t Wr }) (take seen.version ws) k w.0 (edge s.number h me x Wr) (slice_get-take_at ws seen.version k w.0 (omega (arith, version, less)) in_ws) (label-same w.0.handle me h x Wr one.0 one.1 w.2)));
-    after = λ x n k h keeps more w.
-        let one = keeps-one s t x n keeps in
-        let version : seen.version ≡ n = ap (λ (u : Seen). u.version) (same_Some seen _ (sym some ∙ one.2.1)) in
-        let in_ws : slice_get ws k ≡ Some w.0 = ap (λ us. slice_get us k) (are ∙ ap (writers_of s.installed s.entries) one.1) ∙ w.1 in
-        let place : seen.version + (k - seen.version) ≡ k = omega (arith, version, more) in
-        Contains-append_right (old ++ (from_writers Wr (take seen.version ws))) (to_writers Rw (drop seen.version ws)) (edge s.number me h x Rw)
-        (in_map (λ (w : Writer). record { from = me; to = w.handle; label = label_at t Rw }) (drop seen.version ws) (k - seen.version) w.0 (edge s.number me h x Rw) (slice_get-drop ws seen.version (k - seen.version) ∙ ap (slice_get ws) place ∙ in_ws) (label-same_to me w.0.handle h x Rw one.0 one.1 w.2));
-  }
-
-  pub adds-no_read : (es : List Edge) → t.seen ≡ None → AddsOfRead s t me es es
-  adds-no_read es none = record {
-    adds = nothing es;
-    before = λ x n k h keeps less w. absurd (let e = sym none ∙ (keeps-one s t x n keeps).2.1 in cc);
-    after = λ x n k h keeps more w. absurd (let e = sym none ∙ (keeps-one s t x n keeps).2.1 in cc);
-  }
-
-  pub adds-write : (v : ℕ) (ws : List Writer) (rs : List Reader) (old new : List Edge) → t.site ≡ s.number → t.put ≡ Some v → ws ≡ writers_of s.installed s.entries t.item → ((r : Reader) → Contains rs r ↔ IsReader s.installed s.entries t.item r)
-      → new ≡ (old ++ from_writers Ww ws) ++ from_readers Rw rs
-      → AddsOfWrite s t me old new
-  adds-write v ws rs old new here some are readers_are is = rw is record {
-    adds = two old (old ++ (from_writers Ww ws)) ((old ++ (from_writers Ww ws)) ++ (from_readers Rw rs))
-        (adds-behind old (from_writers Ww ws) (λ e has.
-        let at = Contains_at (from_writers Ww ws) e has in
-        let w = map_at (λ (w : Writer). record { from = w.handle; to = me; label = label_at t Ww }) ws at.0 e at.1 in
-        subst (IsGiven s (t ∷ []) me) w.2 (here, wrote_too at.0 w.0.handle (one-writes s t v here some) (w.0, subst (λ us. slice_get us at.0 ≡ Some w.0) are w.1, refl))))
-        (adds-behind (old ++ (from_writers Ww ws)) (from_readers Rw rs) (λ e has.
-        let at = Contains_at (from_readers Rw rs) e has in
-        let r = map_at (λ (r : Reader). record { from = r.handle; to = me; label = label_at t Rw }) rs at.0 e at.1 in
-        subst (IsGiven s (t ∷ []) me) r.2 (here, read_it r.0.handle (one-writes s t v here some) (r.0, (readers_are r.0).0 (Contains-from_at rs at.0 r.0 r.1), refl))));
-    writers = λ x k h writes w.
-        let one = writes-one s t x writes in
-        let in_ws : slice_get ws k ≡ Some w.0 = ap (λ us. slice_get us k) (are ∙ ap (writers_of s.installed s.entries) one.1) ∙ w.1 in
-        Contains-append_left (old ++ (from_writers Ww ws)) (from_readers Rw rs) (edge s.number h me x Ww)
-        (Contains-append_right old (from_writers Ww ws) (edge s.number h me x Ww)
-        (in_map (λ (w : Writer). record { from = w.handle; to = me; label = label_at t Ww }) ws k w.0 (edge s.number h me x Ww) in_ws (label-same w.0.handle me h x Ww one.0 one.1 w.2)));
-    readers = λ x h writes r.
-        let one = writes-one s t x writes in
-        let at = Contains_at rs r.0 ((readers_are r.0).1 (subst (λ y. IsReader s.installed s.entries y r.0) (sym one.1) r.1)) in
-        Contains-append_right (old ++ (from_writers Ww ws)) (from_readers Rw rs) (edge s.number h me x Rw)
-        (in_map (λ (r : Reader). record { from = r.handle; to = me; label = label_at t Rw }) rs at.0 r.0 (edge s.number h me x Rw) at.1 (label-same r.0.handle me h x Rw one.0 one.1 r.2));
-  }
-
-  pub adds-no_write : (es : List Edge) → t.put ≡ None → AddsOfWrite s t me es es
-  adds-no_write es none = record {
-    adds = nothing es;
-    writers = λ x k h writes w. absurd (let e = sym none ∙ (writes-one s t x writes).2.1 in cc);
-    readers = λ x h writes r. absurd (let e = sym none ∙ (writes-one s t x writes).2.1 in cc);
-  }
-
-  -- the read's and the write's are all
-  pub adds-both : (old mid new : List Edge) → AddsOfRead s t me old mid → AddsOfWrite s t me mid new → AddsEdges s t me old new
-  adds-both old mid new reads writes = record { adds = two old mid new reads.adds writes.adds; each = λ x f h k is. by_edge x f h k is }
+  given-one : (e : Edge) → IsGiven s (t ∷ []) me e → IsOfRead s t me e ⊎ IsOfChange s t me e
+  given-one e (site, (apart, precedes)) = by_case e.label.item e.from e.to e.label.kind refl refl refl refl apart precedes
     where
-      by_edge : (x : Name) (f h : Handle) (k : Kind) → IsEdge s (t ∷ []) me x f h k → Contains new (edge s.number f h x k)
-      by_edge x f h k (wrote_before n m g keeps less w) = writes.adds.kept (edge s.number g me x Wr) (reads.before x n m g keeps less w)
-      by_edge x f h k (wrote_after n m g keeps more w) = writes.adds.kept (edge s.number me g x Rw) (reads.after x n m g keeps more w)
-      by_edge x f h k (wrote_too m g puts w) = writes.writers x m g puts w
-      by_edge x f h k (read_it g puts r) = writes.readers x g puts r
+      edge_is : (x : Name) (f h : Handle) (k : Kind) → e.label.item ≡ x → e.from ≡ f → e.to ≡ h → e.label.kind ≡ k → t.item ≡ x → e ≡ record { from = f; to = h; label = record { site = t.site; item = t.item; kind = k } }
+      edge_is x f h k px pf ph pk item = λ i. record { from = pf i; to = ph i; label = record { site = (site ∙ sym here) i; item = (px ∙ sym item) i; kind = pk i } }
 
-  pub adds-elsewhere : (es : List Edge) → (t.site ≡ s.number → ⊥) → AddsEdges s t me es es
-  adds-elsewhere es elsewhere = record { adds = nothing es; each = λ x f h k is. by_edge x f h k is }
+      at_item : (x : Name) (k : ℕ) (w : Writer) → t.item ≡ x → IsWriter s x k w → slice_get ws k ≡ Some w
+      at_item x k w item is = subst (λ y. IsWriter s y k w) (sym item) is
+
+      by_case : (x : Name) (f h : Handle) (k : Kind) → e.label.item ≡ x → e.from ≡ f → e.to ≡ h → e.label.kind ≡ k → f ≢ h → Precedes s (t ∷ []) me x f h k → IsOfRead s t me e ⊎ IsOfChange s t me e
+      by_case x f h k px pf ph pk far (wrote_before n m w saw less is) =
+          let one = saw-one s t x n saw in
+          inl record {
+            seen = record { value = one.2.0; version = n };
+            keeps = one.2.1;
+            which = inl (Any-from_at (λ u. FromWriter t me u e) (take n ws) m w (slice_get-take_at ws n m w less (at_item x m w one.1 is)) (far, edge_is x w.handle me Wr px pf ph pk one.1));
+          }
+      by_case x f h k px pf ph pk far (wrote_after n m w saw more is) =
+          let one = saw-one s t x n saw in
+          let place : n + (m - n) ≡ m = omega (arith, more) in
+          inl record {
+            seen = record { value = one.2.0; version = n };
+            keeps = one.2.1;
+            which = inr (Any-from_at (λ u. ToWriter t me u e) (drop n ws) (m - n) w (slice_get-drop ws n (m - n) ∙ ap (slice_get ws) place ∙ at_item x m w one.1 is) (far, edge_is x me w.handle Rw px pf ph pk one.1));
+          }
+      by_case x f h k px pf ph pk far (wrote_too c m w asks is apart) =
+          let one = changes-one s t x c asks in
+          inr record {
+            change = c;
+            asks = one.2;
+            which = inl (Any-from_at (λ u. FromConflicting t me c u e) ws m w (at_item x m w one.1 is) (apart, (far, edge_is x w.handle me Ww px pf ph pk one.1)));
+          }
+      by_case x f h k px pf ph pk far (read_it c r asks is) =
+          let one = changes-one s t x c asks in
+          inr record {
+            change = c;
+            asks = one.2;
+            which = inr (r, subst (λ y. HasReader s y r) (sym one.1) is, (far, edge_is x r.handle me Rw px pf ph pk one.1));
+          }
+
+  -- the read's and the change's are all
+  pub one-parts : (e : Edge) → IsGiven s (t ∷ []) me e ↔ (IsOfRead s t me e ⊎ IsOfChange s t me e)
+  one-parts e = (given-one e, by_side)
     where
-      by_edge : (x : Name) (f h : Handle) (k : Kind) → IsEdge s (t ∷ []) me x f h k → Contains es (edge s.number f h x k)
-      by_edge x f h k (wrote_before n m g keeps less w) = absurd (elsewhere (keeps-one s t x n keeps).0)
-      by_edge x f h k (wrote_after n m g keeps more w) = absurd (elsewhere (keeps-one s t x n keeps).0)
-      by_edge x f h k (wrote_too m g puts w) = absurd (elsewhere (writes-one s t x puts).0)
-      by_edge x f h k (read_it g puts r) = absurd (elsewhere (writes-one s t x puts).0)
+      by_side : IsOfRead s t me e ⊎ IsOfChange s t me e → IsGiven s (t ∷ []) me e
+      by_side (inl is) = read-given e is
+      by_side (inr is) = change-given e is
 
-module _ (s : Store) (ts : List Touch) (me : Handle) where
-  pub gathers-none : Gathers s ts me 0 []
-  gathers-none = record { given = λ e has. absurd (omega (arith, has.1)); each = λ n t lt. absurd (omega arith) }
-
-  pub gathers-next : (i : ℕ) (t : Touch) (old new : List Edge) → i < length ts → t ≡ get_or ts i t → Gathers s ts me i old → AddsEdges s t me old new → Gathers s ts me (i + 1) new
-  gathers-next i t old new within read so_far added = record {
-    given = λ e has. by_side e (added.adds.given e has);
-    each = λ n u lt at x f h k is. elim (cases_lt n i) [
-      | inl less ↦ added.adds.kept (edge s.number f h x k) (so_far.each n u less at x f h k is)
-      | inr le ↦
-          let same : u ≡ t = same_Some u t (sym at ∙ ap (slice_get ts) (let here : n ≡ i = omega arith in here) ∙ here) in
-          added.each x f h k (subst (λ (v : Touch). IsEdge s (v ∷ []) me x f h k) same is)
-    ];
-  }
+module _ (s : SiteState) (t : Touch) (me : Handle) where
+  pub elsewhere-nothing : (t.site ≡ s.number → ⊥) → (e : Edge) → IsGiven s (t ∷ []) me e → ⊥
+  elsewhere-nothing elsewhere e (site, (apart, precedes)) = by_case e.label.item e.from e.to e.label.kind precedes
     where
-      here : slice_get ts i ≡ Some t
-      here = slice_get_read ts (length ts) i t refl within read
+      by_case : (x : Name) (f h : Handle) (k : Kind) → Precedes s (t ∷ []) me x f h k → ⊥
+      by_case x f h k (wrote_before n m w saw less is) = elsewhere (saw-one s t x n saw).0
+      by_case x f h k (wrote_after n m w saw more is) = elsewhere (saw-one s t x n saw).0
+      by_case x f h k (wrote_too c m w asks is far) = elsewhere (changes-one s t x c asks).0
+      by_case x f h k (read_it c r asks is) = elsewhere (changes-one s t x c asks).0
 
-      by_side : (e : Edge) → Contains old e ⊎ IsGiven s (t ∷ []) me e → IsGiven s ts me e
-      by_side e (inl has) = so_far.given e has
-      by_side e (inr is) = (is.0, edge-whole s me ts t e.label.item e.from e.to e.label.kind (Contains-from_at ts i t here) is.1)
+  pub no_read-nothing : t.seen ≡ None → (e : Edge) → IsOfRead s t me e → ⊥
+  no_read-nothing none e is = absurd (let same = sym none ∙ is.keeps in cc)
 
-  -- and in the end all of them
-  pub gathers-every : (i : ℕ) (edges : List Edge) → length ts ≤ i → Gathers s ts me i edges → (e : Edge) → Contains edges e ↔ IsGiven s ts me e
-  gathers-every i edges end so_far e = (so_far.given e, every)
+  pub no_change-nothing : t.change ≡ None → (e : Edge) → IsOfChange s t me e → ⊥
+  no_change-nothing none e is = absurd (let same = sym none ∙ is.asks in cc)
+
+  -- the edges of a read at this version, and of this change
+  pub read-parts : (seen : Seen) (us : List Writer) → t.seen ≡ Some seen → us ≡ writers_of s.installed s.entries t.item → (e : Edge) → IsOfRead s t me e ↔ (Any (λ w. FromWriter t me w e) (take seen.version us) ⊎ Any (λ w. ToWriter t me w e) (drop seen.version us))
+  read-parts seen us some are e = (
+    λ is. subst (λ n. Any (λ w. FromWriter t me w e) (take n us) ⊎ Any (λ w. ToWriter t me w e) (drop n us)) (ap (λ (u : Seen). u.version) (same_Some is.seen seen (sym is.keeps ∙ some))) (subst (λ vs. Any (λ w. FromWriter t me w e) (take is.seen.version vs) ⊎ Any (λ w. ToWriter t me w e) (drop is.seen.version vs)) (sym are) is.which),
+    λ which. record { seen = seen; keeps = some; which = subst (λ vs. Any (λ w. FromWriter t me w e) (take seen.version vs) ⊎ Any (λ w. ToWriter t me w e) (drop seen.version vs)) are which },
+  )
+
+  pub change-parts : (c : Change) (us : List Writer) (rs : List Reader) → t.change ≡ Some c → us ≡ writers_of s.installed s.entries t.item → ((r : Reader) → Contains rs r ↔ HasReader s t.item r)
+      → (e : Edge) → IsOfChange s t me e ↔ (Any (λ w. FromConflicting t me c w e) us ⊎ Any (λ r. FromReader t me r e) rs)
+  change-parts c us rs some are readers e = (
+    λ is. there (same_Some is.change c (sym is.asks ∙ some)) is.which,
+    λ which. record { change = c; asks = some; which = back which },
+  )
     where
-      every : IsGiven s ts me e → Contains edges e
-      every is =
-          let part = edge-part s me ts e.label.item e.from e.to e.label.kind is.1 in
-          let at = Contains_at ts part.0 part.1 in
-          let lt = slice_get_within ts at.0 part.0 at.1 in
-          let here : edge s.number e.from e.to e.label.item e.label.kind ≡ e = ap (λ n. edge n e.from e.to e.label.item e.label.kind) (sym is.0) in
-          subst (Contains edges) here (so_far.each at.0 part.0 (omega (arith, lt, end)) at.1 e.label.item e.from e.to e.label.kind part.2)
+      there : {d : Change} → d ≡ c → Any (λ w. FromConflicting t me d w e) (writers_of s.installed s.entries t.item) ⊎ ((r : Reader) × HasReader s t.item r × FromReader t me r e) → Any (λ w. FromConflicting t me c w e) us ⊎ Any (λ r. FromReader t me r e) rs
+      there {d} same (inl any) = inl (subst (λ vs. Any (λ w. FromConflicting t me c w e) vs) (sym are) (subst (λ b. Any (λ w. FromConflicting t me b w e) (writers_of s.installed s.entries t.item)) same any))
+      there {d} same (inr r) = let at = Contains_at rs r.0 ((readers r.0).1 r.1) in inr (Any-from_at (λ r. FromReader t me r e) rs at.0 r.0 at.1 r.2)
+
+      back : Any (λ w. FromConflicting t me c w e) us ⊎ Any (λ r. FromReader t me r e) rs → Any (λ w. FromConflicting t me c w e) (writers_of s.installed s.entries t.item) ⊎ ((r : Reader) × HasReader s t.item r × FromReader t me r e)
+      back (inl any) = inl (subst (λ vs. Any (λ w. FromConflicting t me c w e) vs) are any)
+      back (inr any) = let r = Any_at (λ r. FromReader t me r e) rs any in inr (r.1, (readers r.1).0 (Contains-from_at rs r.0 r.1 r.2), r.3)
+
+module _ (s : SiteState) (ts : List Touch) (me : Handle) where
+  -- in the end they are all
+  pub gathers-every : (i : ℕ) (edges : List Edge) → length ts ≤ i → AddsAll (λ e. Any (λ t. IsGiven s (t ∷ []) me e) (take i ts)) [] edges → (e : Edge) → Contains edges e ↔ IsGiven s ts me e
+  gathers-every i edges end so_far e = (λ has. there (((each-all (λ t d. IsGiven s (t ∷ []) me d) ts i [] edges end so_far) e).0 has), λ is. ((each-all (λ t d. IsGiven s (t ∷ []) me d) ts i [] edges end so_far) e).1 (inr ((given-parts s me ts e).1 is)))
+    where
+      there : Contains [] e ⊎ Any (λ t. IsGiven s (t ∷ []) me e) ts → IsGiven s ts me e
+      there (inl has) = absurd (omega (arith, has.1))
+      there (inr any) = (given-parts s me ts e).0 any
 
   -- where they are all and nothing else, each is one of the draft, and they stand for all
   pub every-given : (edges : List Edge) → ((e : Edge) → Contains edges e ↔ IsGiven s ts me e) → All (IsGiven s ts me) edges
   every-given edges every = All-from_at (IsGiven s ts me) edges (λ n e at. (every e).0 (Contains-from_at edges n e at))
 
   pub every-stands : (edges : List Edge) → ((e : Edge) → Contains edges e ↔ IsGiven s ts me e) → StandsForAll s ts me edges
-  every-stands edges every x f t k is = given (edge s.number f t x k) ((every (edge s.number f t x k)).1 (refl, is)) refl
+  every-stands edges every x f t k is =
+      let e : Edge = record { from = f; to = t; label = record { site = s.number; item = x; kind = k } } in
+      given e ((every e).1 (refl, is)) refl
 
   -- a version of an item that is too new is one of the draft
   pub item-new : Any (IsTooNew s) ts → SeesTooNew s ts
@@ -274,8 +334,8 @@ module _ (s : Store) (ts : List Touch) (me : Handle) where
       let at = Contains_at ts t.0 t.1 in
       Any-from_at (IsTooNew s) ts at.0 t.0 at.1 (t.2, (record { value = k.1.1; version = k.1.2 }, t.4, subst (λ y. version_at s.entries y < k.1.2) (sym t.3) k.3))
 
-  pub not-new : ¬ Any (IsTooNew s) ts → (i : ℕ) (t : Touch) → i < length ts → t ≡ get_or ts i t → ¬ IsTooNew s t
-  not-new none i t within read is = none (Any-from_at (IsTooNew s) ts i t (slice_get_read ts (length ts) i t refl within read) is)
+  pub not-new : (Any (IsTooNew s) ts → ⊥) → (i : ℕ) (t : Touch) → slice_get ts i ≡ Some t → IsTooNew s t → ⊥
+  not-new none i t at is = none (Any-from_at (IsTooNew s) ts i t at is)
 
 pub ok_then : {T E P Q : Type 0} (r : Result T E) → OnOk r P → (P → Q) → OnOk r Q
 ok_then (Ok x) p f = f p

@@ -1,5 +1,6 @@
-mod Logged
-mod Unlisted
-mod Gathers
-mod Joined
-mod Examples
+pub mod Examples
+pub mod Gathers
+pub mod Joined
+pub mod Leading
+pub mod Logged
+pub mod Unlisted

@@ -1,10 +1,12 @@
--- The definitions of a draft, shown on a small one: x was read and written at site 0, at site 1 y was read and z written.
+-- The definitions of a draft, shown on a small one: at site 0 x was read and written and w read and incremented, at site 1
+-- y was read, z written and w incremented alone.
 use Rattle.std.proofs.Common.{◌≡◌, ℕ, List, [], ◌∷◌, ◌++◌, Option, Some, None, refl, ap, subst, get_or, inl, inr}
 use Rattle.std.specs.Prelude.{codes, option_and_then, IfSome}
 use Rattle.std.proofs.lemmas.Bool.{eqb-false}
 use Rattle.std.specs.Option.{option_to_list}
 use Rattle.sgt_names.specs.Name.{Name}
-use Rattle.sgt_names.specs.Draft.{Place, place_of, at_site, kept_in, writing_in, touched_at, look_of, IsUsed, ChangesOnly}
+use Rattle.sgt_names.specs.Draft.{Place, place_of, at_site, kept_in, writing_in, touched_at, added_to, look_of, IsUsed, ChangesOnly}
+use Rattle.sgt_names.specs.declared.entry.Change.TheVariants.{Put, Add}
 use Rattle.sgt_names.specs.declared.draft.Touch.{Touch}
 
 abbrev x : Name
@@ -17,16 +19,25 @@ abbrev z : Name
 z = codes "z"
 
 abbrev on_x : Touch
-on_x = record { site = 0; item = x; seen = Some (record { value = 5; version = 0 }); put = Some 6 }
+on_x = record { site = 0; item = x; seen = Some (record { value = 5; version = 0 }); change = Some (Put 6) }
 
 abbrev on_y : Touch
-on_y = record { site = 1; item = y; seen = Some (record { value = 2; version = 3 }); put = None }
+on_y = record { site = 1; item = y; seen = Some (record { value = 2; version = 3 }); change = None }
 
 abbrev on_z : Touch
-on_z = record { site = 1; item = z; seen = None; put = Some 9 }
+on_z = record { site = 1; item = z; seen = None; change = Some (Put 9) }
+
+abbrev w : Name
+w = codes "w"
+
+abbrev on_w : Touch
+on_w = record { site = 0; item = w; seen = Some (record { value = 4; version = 1 }); change = Some (Add 3) }
+
+abbrev unread_w : Touch
+unread_w = record { site = 1; item = w; seen = None; change = Some (Add 8) }
 
 abbrev draft : List Touch
-draft = on_x ∷ on_y ∷ on_z ∷ []
+draft = on_w ∷ on_x ∷ unread_w ∷ on_y ∷ on_z ∷ []
 
 abbrev look : Place → Option ℕ
 look p = option_and_then look_of (touched_at draft p)
@@ -44,24 +55,47 @@ look-at_a_write = refl
 pub look-at_another_site : look (1, x) ≡ None
 look-at_another_site = refl
 
--- the kept reads and the private writes of each site
-pub kept-at_the_first : kept_in (at_site 0 draft) ≡ (x, 5, 0) ∷ []
+-- an increment shows behind a kept read, modulo 2^64, and alone it shows nothing
+pub look-at_an_increment : look (0, w) ≡ Some 7
+look-at_an_increment = refl
+
+pub look-at_an_increment_alone : look (1, w) ≡ None
+look-at_an_increment_alone = refl
+
+pub look-wraps : look_of (record { site = 0; item = w; seen = Some (record { value = 18446744073709551615; version = 1 }); change = Some (Add 3) }) ≡ Some 2
+look-wraps = refl
+
+-- an increment behind a write is a write of the sum, behind an increment an increment by the sum, each modulo 2^64
+pub add-alone : added_to None 3 ≡ Add 3
+add-alone = refl
+
+pub add-to_a_write : added_to (Some (Put 6)) 3 ≡ Put 9
+add-to_a_write = refl
+
+pub add-to_an_increment : added_to (Some (Add 6)) 3 ≡ Add 9
+add-to_an_increment = refl
+
+pub add-wraps : (added_to (Some (Put 18446744073709551615)) 3 ≡ Put 2) × (added_to (Some (Add 18446744073709551615)) 3 ≡ Add 2)
+add-wraps = (refl, refl)
+
+-- the kept reads and the private changes of each site
+pub kept-at_the_first : kept_in (at_site 0 draft) ≡ (w, 4, 1) ∷ (x, 5, 0) ∷ []
 kept-at_the_first = refl
 
 pub kept-at_the_second : kept_in (at_site 1 draft) ≡ (y, 2, 3) ∷ []
 kept-at_the_second = refl
 
-pub writing-at_the_first : writing_in (at_site 0 draft) ≡ (x, 6) ∷ []
+pub writing-at_the_first : writing_in (at_site 0 draft) ≡ (w, Add 3) ∷ (x, Put 6) ∷ []
 writing-at_the_first = refl
 
-pub writing-at_the_second : writing_in (at_site 1 draft) ≡ (z, 9) ∷ []
+pub writing-at_the_second : writing_in (at_site 1 draft) ≡ (w, Add 8) ∷ (z, Put 9) ∷ []
 writing-at_the_second = refl
 
 pub writing-elsewhere : writing_in (at_site 2 draft) ≡ []
 writing-elsewhere = refl
 
--- an item that was neither read nor written isn't used
-pub unused-not_used : IsUsed (record { site = 0; item = x; seen = None; put = None }) → ⊥
+-- an item that was neither read nor changed isn't used
+pub unused-not_used : IsUsed (record { site = 0; item = x; seen = None; change = None }) → ⊥
 unused-not_used (inl some) = absurd cc
 unused-not_used (inr some) = absurd cc
 

@@ -1,5 +1,5 @@
--- The definitions of a log, shown on three small logs.
-use Rattle.std.proofs.Common.{◌≡◌, ◌≢◌, ℕ, zero, suc, List, [], ◌∷◌, Some, refl, sym, ◌∙◌, ap, subst, lit<, get_or, arith, ◌<◌}
+-- The definitions of a log, shown on small logs.
+use Rattle.std.proofs.Common.{◌≡◌, ◌≢◌, ℕ, zero, suc, List, [], ◌∷◌, Some, refl, sym, ◌∙◌, ap, subst, lit<, get_or, arith, ◌<◌, None}
 use Rattle.std.specs.Prelude.{codes, slice_get}
 use Rattle.std.proofs.lemmas.Option.{same_Some}
 use Rattle.std.proofs.lemmas.Bool.{eqb-false}
@@ -11,8 +11,9 @@ use Rattle.std.proofs.Common.{inl, inr}
 use Rattle.std.specs.Option.{ForSome}
 use Rattle.std.proofs.lemmas.List.Elements.{All-from_recursion}
 use Rattle.sgt_names.specs.Entry.{item_of, IsEnd, IsOpen, Continues, Repeats}
+use Rattle.sgt_names.specs.Sums.{Overwrites}
 use Rattle.sgt_names.specs.declared.entry.Entry.{Entry}
-use Rattle.sgt_names.specs.declared.entry.Entry.TheVariants.{Read, Write, Want, Commit, Refuse, Withdraw}
+use Rattle.sgt_names.specs.declared.entry.Entry.TheVariants.{Read, Write, Add, Want, WantAdd, Commit, Refuse, Withdraw}
 use Rattle.sgt_names.specs.declared.entry.Holding.{Holding}
 use Rattle.sgt_names.specs.declared.entry.Kind.{Kind}
 use Rattle.sgt_names.specs.declared.entry.Kind.TheVariants.{Wr, Rw, Ww}
@@ -291,3 +292,93 @@ own_read-formed = (
   where
     by_1 : Any (λ f. IsEnd f × (tx_of f ≡ 1)) own_read
     by_1 = (2, Commit 1, lit< tt, refl, (tt, refl))
+
+-- ---- increments
+
+-- a value is the last one written, or else the first, plus what was added behind it
+pub adds-add : value_at items (Add 2 x 4 ∷ Commit 2 ∷ Add 1 x 3 ∷ Commit 1 ∷ []) x ≡ Some 12
+adds-add = refl
+
+pub write-forgets_adds : value_at items (Add 1 x 4 ∷ Commit 1 ∷ Write 2 x 7 ∷ Commit 2 ∷ Add 3 x 2 ∷ Commit 3 ∷ []) x ≡ Some 9
+write-forgets_adds = refl
+
+pub add-keeps_others : value_at items (Add 1 x 4 ∷ []) y ≡ Some 2
+add-keeps_others = refl
+
+pub asked_add-keeps : value_at items (WantAdd 1 x 4 ∷ []) x ≡ Some 5
+asked_add-keeps = refl
+
+-- an increment overwrites nothing, nor does what was only asked for
+pub add-overwrites_nothing : (Overwrites x (Add 1 x 3) → ⊥) × (Overwrites x (WantAdd 1 x 3) → ⊥) × (Overwrites x (Want 1 x 3) → ⊥)
+add-overwrites_nothing = ((λ h. h), (λ h. h), (λ h. h))
+
+-- the sum is taken modulo 2^64
+pub add-wraps : value_at (record { item = x; value = 18446744073709551615 } ∷ []) (Add 1 x 1 ∷ []) x ≡ Some 0
+add-wraps = refl
+
+-- an item that isn't there gets no value by an increment
+pub add-of_no_item : value_at [] (Add 1 x 1 ∷ []) x ≡ None
+add-of_no_item = refl
+
+-- an increment is in conflict with a read before it and a read behind it, and with a write; asked for, too
+pub add-clashes : Clash Wr x (Add 1 x 3) (Read 2 x 8) × Clash Rw x (Read 2 x 5) (Add 1 x 3) × Clash Ww x (Add 1 x 3) (Write 2 x 7) × Clash Ww x (Write 2 x 7) (Add 1 x 3)
+add-clashes = ((refl, refl), (refl, refl), (refl, refl, λ h g. absurd cc), (refl, refl, λ h g. absurd cc))
+
+pub asked_add-clashes : Clash Wr x (WantAdd 1 x 3) (Read 2 x 8) × Clash Rw x (Read 2 x 5) (WantAdd 1 x 3) × Clash Ww x (WantAdd 1 x 3) (Want 2 x 7) × Clash Ww x (Write 2 x 7) (WantAdd 1 x 3)
+asked_add-clashes = ((refl, refl), (refl, refl), (refl, refl, λ h g. absurd cc), (refl, refl, λ h g. absurd cc))
+
+-- two writes stay in conflict
+pub writes-clash : Clash Ww x (Write 1 x 3) (Write 2 x 3)
+writes-clash = (refl, refl, λ h g. absurd cc)
+
+-- two increments are in none, an asked one neither
+pub two_adds-no_clash : Clash Ww x (Add 1 x 3) (Add 2 x 4) → ⊥
+two_adds-no_clash c = c.2 refl refl
+
+pub add_and_asked-no_clash : Clash Ww x (Add 1 x 3) (WantAdd 2 x 4) → ⊥
+add_and_asked-no_clash c = c.2 refl refl
+
+pub asked_and_add-no_clash : Clash Ww x (WantAdd 1 x 3) (Add 2 x 4) → ⊥
+asked_and_add-no_clash c = c.2 refl refl
+
+-- a transaction changes an item at most once, of whatever kind
+pub add_twice-not_orderly : IsOrderly items (Add 1 x 3 ∷ Add 1 x 4 ∷ Commit 1 ∷ []) → ⊥
+add_twice-not_orderly o = o.once 0 1 (Commit 1) (lit< tt) (lit< tt) x (refl, inr (refl, refl))
+
+pub write_and_add-not_orderly : IsOrderly items (Write 1 x 3 ∷ Add 1 x 4 ∷ Commit 1 ∷ []) → ⊥
+write_and_add-not_orderly o = o.once 0 1 (Commit 1) (lit< tt) (lit< tt) x (refl, inr (refl, refl))
+
+pub want_and_asked_add-not_orderly : IsOrderly items (WantAdd 1 x 3 ∷ Want 1 x 4 ∷ Refuse 1 ∷ []) → ⊥
+want_and_asked_add-not_orderly o = o.once 0 1 (Refuse 1) (lit< tt) (lit< tt) x (refl, inr (refl, refl))
+
+-- a read and an increment of it by one transaction are no repetition
+pub read_and_add-once : (z : Name) → Repeats z (Read 1 x 5) (Add 1 x 3) → ⊥
+read_and_add-once z (same, inl both) = both.1
+read_and_add-once z (same, inr both) = both.0
+
+-- writes and increments share a block, and so do wants of both kinds
+pub changes-continue : Continues (Write 1 x 3) (Add 1 y 4) × Continues (Add 1 x 3) (Write 1 y 4) × Continues (Add 1 x 3) (Add 1 y 4) × Continues (Add 1 x 3) (Commit 1)
+changes-continue = (refl, refl, refl, refl)
+
+pub wants-continue : Continues (Want 1 x 3) (WantAdd 1 y 4) × Continues (WantAdd 1 x 3) (Want 1 y 4) × Continues (WantAdd 1 x 3) (WantAdd 1 y 4) × Continues (WantAdd 1 x 3) (Refuse 1)
+wants-continue = (refl, refl, refl, refl)
+
+pub add-not_refused : (Continues (Add 1 x 3) (Refuse 1) → ⊥) × (Continues (WantAdd 1 x 3) (Commit 1) → ⊥)
+add-not_refused = ((λ h. h), (λ h. h))
+
+pub add-no_want : (Continues (Add 1 x 3) (WantAdd 1 y 4) → ⊥) × (Continues (WantAdd 1 x 3) (Add 1 y 4) → ⊥)
+add-no_want = ((λ h. h), (λ h. h))
+
+pub add-by_one : Continues (Add 1 x 3) (Add 2 y 4) → ⊥
+add-by_one h = eqb-false 1 2 refl h
+
+pub add-opens : IsOpen (Add 1 x 3) × IsOpen (WantAdd 1 x 3)
+add-opens = (tt, tt)
+
+-- an increment is on an item of the site, made or asked for
+pub add-item : (item_of (Add 1 x 3) ≡ Some x) × (item_of (WantAdd 1 x 3) ≡ Some x)
+add-item = (refl, refl)
+
+-- an increment, and what was asked for, is by its transaction
+pub add-tx : (tx_of (Add 7 x 3) ≡ 7) × (tx_of (WantAdd 7 x 3) ≡ 7)
+add-tx = (refl, refl)

@@ -1,5 +1,8 @@
 pub mod Places
+pub mod Lists
+pub mod Devices
 pub mod Chosen
+pub mod Increments
 pub mod Stored
 pub mod Ranged
 pub mod Touched

@@ -1,4 +1,4 @@
--- At a site the touched items of a draft rise by name, and so do its kept reads and its private writes.
+-- At a site the touched items of a draft rise by name, and so do its kept reads and its private changes.
 use Rattle.std.proofs.Common.{◌≡◌, ℕ, true, List, [], ◌∷◌, Option, Some, None, refl, sym, ap, ◌∙◌, subst, arith, All}
 use Rattle.std.specs.Prelude.{◌==◌}
 use Rattle.std.specs.List.{filter_map, cons_option, AllByRecursion}
@@ -15,12 +15,13 @@ use Rattle.sgt_names.specs.Name.{Name}
 use Rattle.sgt_names.specs.Ordered.{IsRisingBy}
 use Rattle.sgt_names.specs.Draft.{AreRising, place_of, place_cmp, at_site, kept_of, kept_in, writing_of, writing_in}
 use Rattle.sgt_names.specs.declared.draft.Seen.{Seen}
+use Rattle.sgt_names.specs.declared.entry.Change.{Change}
 use Rattle.sgt_names.specs.declared.draft.Touch.{Touch}
 use Rattle.sgt_names.proofs.Places.{All_at, All-from_at, AllPairs_at, AllPairs-from_at, PairsByRecursion, AllPairs-from_recursion, recursion_from_AllPairs}
 
--- a private write is of its item, with its value
-pub writing_is : (t : Touch) (w : Name × ℕ) → writing_of t ≡ Some w → (t.item ≡ w.0) × (t.put ≡ Some w.1)
-writing_is t w h = option_and_then_some (λ v. Some (t.item, v)) t.put w h (λ v put is. (ap (λ (p : Name × ℕ). p.0) (same_Some _ w is), put ∙ ap Some (ap (λ (p : Name × ℕ). p.1) (same_Some _ w is))))
+-- a private write or increment is of its item
+pub writing_is : (t : Touch) (w : Name × Change) → writing_of t ≡ Some w → (t.item ≡ w.0) × (t.change ≡ Some w.1)
+writing_is t w h = option_and_then_some (λ c. Some (t.item, c)) t.change w h (λ c some is. (ap (λ (p : Name × Change). p.0) (same_Some _ w is), some ∙ ap Some (ap (λ (p : Name × Change). p.1) (same_Some _ w is))))
 
 -- a kept read is of its item, with its value and version
 pub kept_is : (t : Touch) (k : Name × ℕ × ℕ) → kept_of t ≡ Some k → (seen : Seen) × (t.seen ≡ Some seen) × ((t.item, seen.value, seen.version) ≡ k)
@@ -61,7 +62,7 @@ module _ {B : Type 0} (f : Touch → Option B) (key : B → Name) (of : (t : Tou
       items-rise n t u (All_at (λ (t : Touch). t.site ≡ n) part p t here at_p) (All_at (λ (t : Touch). t.site ≡ n) part q u here at_q) (AllPairs_at (λ t u. place_cmp (place_of t) (place_of u) ≡ Less) part p q t u rising lt at_p at_q)))))
 
 pub writings-rise : (n : ℕ) (part : List Touch) → All (λ t. t.site ≡ n) part → AreRising part → IsRisingBy (λ w. w.0) (slice_cmp nat_cmp) (writing_in part)
-writings-rise n part here rising = chosen-rise writing_of (λ (w : Name × ℕ). w.0) (λ t w h. (writing_is t w h).0) n part here rising
+writings-rise n part here rising = chosen-rise writing_of (λ (w : Name × Change). w.0) (λ t w h. (writing_is t w h).0) n part here rising
 
 keeps-rise : (n : ℕ) (part : List Touch) → All (λ t. t.site ≡ n) part → AreRising part → IsRisingBy (λ k. k.0) (slice_cmp nat_cmp) (kept_in part)
 keeps-rise n part here rising = chosen-rise kept_of (λ (k : Name × ℕ × ℕ). k.0) (λ t k h. ap (λ (p : Name × ℕ × ℕ). p.0) (kept_is t k h).2) n part here rising

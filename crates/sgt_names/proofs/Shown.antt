@@ -5,16 +5,13 @@ use Rattle.std.specs.Option.{option_to_list}
 use Rattle.std.proofs.lemmas.Option.{slice_get_within, same_Some}
 use Rattle.sgt_names.specs.Draft.{Place, place_of, AreRising, touched_at}
 use Rattle.sgt_names.specs.declared.draft.Touch.{Touch}
+use Rattle.sgt_names.proofs.Lists.{middle_at}
 use Rattle.sgt_names.proofs.Touched.{is_here, here_false, touched_found}
 
 module _ (t : Touch) (rest : List Touch) where
-  in_between : (front : List Touch) → slice_get (front ++ t ∷ rest) (length front) ≡ Some t
-  in_between [] = refl
-  in_between (f ∷ front) = in_between front
-
   pub shown_there : (new front : List Touch) → new ≡ front ++ t ∷ rest → AreRising new → touched_at new (place_of t) ≡ Some t
   shown_there new front is rising =
-      let here : slice_get new (length front) ≡ Some t = subst (λ ts. slice_get ts (length front) ≡ Some t) (sym is) (in_between front) in
+      let here : slice_get new (length front) ≡ Some t = subst (λ ts. slice_get ts (length front) ≡ Some t) (sym is) (middle_at front t rest) in
       touched_found new (place_of t) (length front) t rising (record { within = slice_get_within new (length front) t here; is = λ a at. ap place_of (same_Some a t (sym at ∙ here)) }) here
 
   module _ (p : Place) (apart : p ≢ place_of t) where

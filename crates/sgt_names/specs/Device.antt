@@ -1,5 +1,5 @@
 -- What a reader tells over one read, and a writer over one write: of its bytes, and of how often it has failed.
-use Rattle.std.specs.Prelude.{◌≡◌, ◌≤◌, ◌<◌, ℕ, ◌+◌, List, length, take, ⊤, Option, Some, None, Result, Ok, Err}
+use Rattle.std.specs.Prelude.{◌≡◌, ◌≤◌, ◌<◌, ℕ, ◌+◌, List, ◌++◌, length, take, ⊤, Option, Some, None, Result, Ok, Err}
 use Rattle.std.specs.Io.KnownBytes.{Consumes, Appends, IsAtEnd}
 
 -- over a failure: what was told before is told still, or nothing is
@@ -19,9 +19,19 @@ PutsBehind old new (Ok n) bytes = Appends old new (take n bytes)
 PutsBehind old new (Err e) bytes = KeepsOrForgets old new
 
 -- an Err alone raises the count of failures, by one
-abbrev pub Counts : {A E : Type 0} → Result A E → ℕ → ℕ → Type 0
-Counts (Ok a) old new = new ≡ old
-Counts (Err e) old new = new ≡ old + 1
+abbrev pub CountsFailures : {A E : Type 0} → Result A E → ℕ → ℕ → Type 0
+CountsFailures (Ok a) old new = new ≡ old
+CountsFailures (Err e) old new = new ≡ old + 1
+
+-- over several writes: what was told before is told with these bytes behind it, or nothing is
+abbrev pub AppendsOrForgets : Option (List ℕ) → Option (List ℕ) → List ℕ → Type 0
+AppendsOrForgets None new bytes = ⊤
+AppendsOrForgets (Some xs) None bytes = ⊤
+AppendsOrForgets (Some xs) (Some ys) bytes = ys ≡ xs ++ bytes
+
+-- a front of the bytes was written, and not all of them
+abbrev pub WritesFront : Option (List ℕ) → Option (List ℕ) → List ℕ → Type 0
+WritesFront old new bytes = (n : ℕ) × (n < length bytes) × AppendsOrForgets old new (take n bytes)
 
 -- an Ok has at most so many bytes
 abbrev pub AtMost : {E : Type 0} → Result ℕ E → ℕ → Type 0

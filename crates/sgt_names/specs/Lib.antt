@@ -1,8 +1,9 @@
 pub mod Limits
 pub mod Name
+pub mod Stored
 pub mod Entry
 pub mod Log
-pub mod Outcome
+pub mod Sums
 pub mod Device
 pub mod Memory
 pub mod Ordered

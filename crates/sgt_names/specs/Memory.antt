@@ -27,3 +27,12 @@ pub record Room : Type 0 where
 -- the next write of these bytes fails
 abbrev pub IsFull : Room → List ℕ → Type 0
 IsFull s bytes = (s.room ≡ 0) × (0 < length bytes) × (s.failures < 2 ^ 64 - 1)
+
+-- no room is left and no more failures are counted, so what comes is dropped
+abbrev pub IsSpent : Room → Type 0
+IsSpent s = (s.room ≡ 0) × (s.failures ≡ 2 ^ 64 - 1)
+
+-- a write takes the first n of the bytes: as many as there are, and as there is room for
+pub record Takes (old new : Room) (bytes : List ℕ) (n : ℕ) : Type 0 where
+  pub size : n ≡ min (length bytes) old.room
+  pub taken : new ≡ record old { bytes = old.bytes ++ take n bytes; room = old.room - n }

@@ -1,13 +1,11 @@
-//! Drafts: what a transaction has read and is to write. Its writes are private until it is certified.
+//! Drafts: what a transaction has read and is to change. Its writes and increments are private until it is certified.
 
 ghost use Rattle.std.specs.Prelude.{◌≡◌, ◌<◌, ◌≤◌, IfOk, IfErr, IsOk, OnOk, OnErr, slice_get, vec_len, vec_capacity, insert};
 ghost use Rattle.sgt_names.specs.Ordered.{IsAt, IsGapFor};
-ghost use Rattle.sgt_names.specs.Draft.{AreRising, place_of, place_cmp, kept_in, writing_in, at_site, look_of};
-
-#[cfg(test)]
-mod tests;
+ghost use Rattle.sgt_names.specs.Draft.{AreRising, place_of, place_cmp, kept_in, writing_in, at_site, added_to, look_of};
 
 use crate::Value;
+use crate::entry::Change;
 use crate::item::Item;
 use crate::site_no::SiteNo;
 use std::alloc::{AllocError, Global};
@@ -21,16 +19,16 @@ pub struct Seen {
     pub version: u64,
 }
 
-/// An item that a draft touches: the kept read, if there is one, and the private write, if there is one.
+/// An item that a draft touches: the kept read, if there is one, and the private write or increment, if there is one.
 #[derive(Clone, Copy, Debug, PartialEq, Eq)]
 pub struct Touch {
     pub site: SiteNo,
     pub item: Item,
     pub seen: Option<Seen>,
-    pub put: Option<Value>,
+    pub change: Option<Change>,
 }
 
-/// The kept reads and the private writes of a transaction.
+/// The kept reads of a transaction, and its private writes and increments, of which an item has at most one.
 #[derive(Drop)]
 pub struct Draft {
     touched: Vec<Touch>,
@@ -38,9 +36,9 @@ pub struct Draft {
 
 impl Model for Draft {
     ghost use Rattle.std.specs.Prelude.{All, nat_lt, vec_len, vec_capacity};
-    ghost use Rattle.sgt_names.specs.Draft.{Private, AreRising, IsUsed};
+    ghost use Rattle.sgt_names.specs.Draft.{DraftView, AreRising, IsUsed};
 
-    ghost Value = { Private };
+    ghost Value = { DraftView };
 
     ghost view = { λ d. record { touched = d.touched.items; has_room = nat_lt (vec_len d.touched) (vec_capacity d.touched) } };
 
@@ -52,9 +50,10 @@ impl Draft {
     ghost use Rattle.std.specs.Cmp.Lexicographic.{slice_cmp};
     ghost use Rattle.sgt_names.specs.Ordered.{IsRisingBy};
     ghost use Rattle.std.specs.Prelude.{◌≡◌, ◌↔◌, ◌⊎◌, [], true, IsTrue, IsSome, IsOk, OnOk, OnErr, Some, None, slice_get, option_and_then, All};
-    ghost use Rattle.sgt_names.specs.Draft.{place_of, AreRising, IsUsed, at_site, kept_in, writing_in, touched_at, seen_at, put_at, look_of, Touches, ChangesOnly};
+    ghost use Rattle.sgt_names.specs.declared.entry.Change.TheVariants.{Put};
+    ghost use Rattle.sgt_names.specs.Draft.{place_of, AreRising, IsUsed, at_site, kept_in, writing_in, touched_at, seen_at, change_at, added_to, look_of, Touches, ChangesOnly};
 
-    /// No reads and no writes. Takes no memory.
+    /// No reads and no changes. Takes no memory.
     pub fn new(alloc: Global) -> Draft
         ensures { result.touched ≡ [] }
     {
@@ -72,7 +71,7 @@ impl Draft {
         &self.touched
     }
 
-    /// Makes room, so that the next `seen` or `put` takes no memory and succeeds. Errs where there was no memory.
+    /// Makes room, so that the next `seen`, `put` or `add` takes no memory and succeeds. Errs where there was no memory.
     pub fn room(&mut self) -> Result<(), AllocError>
         ensures ok { OnOk result (self.new ≡ record self.old { has_room = true }) }
         ensures err { OnErr result (self.new ≡ self.old) }
@@ -80,7 +79,8 @@ impl Draft {
         self.touched.reserve(1)
     }
 
-    /// What this transaction sees of the item: its private write, or else its kept read. A binary search.
+    /// What this transaction sees of the item: its private write, or else its kept read with its private increment behind it.
+    /// None where it has an increment alone, or nothing. A binary search.
     pub fn look(&self, site: SiteNo, item: Item) -> Option<Value>
         ensures { result ≡ option_and_then look_of (touched_at self.now.touched (site, item)) }
     {
@@ -104,7 +104,7 @@ impl Draft {
           site = site;
           item = item;
           seen = Some (record { value = value; version = version });
-          put = put_at self.old.touched (site, item);
+          change = change_at self.old.touched (site, item);
         })) }
         ensures err { OnErr result (self.new ≡ self.old) }
         ensures succeeds { IsTrue self.old.has_room ⊎ IsSome (touched_at self.old.touched (site, item)) → IsOk result }
@@ -122,21 +122,62 @@ impl Draft {
                     site,
                     item,
                     seen,
-                    put: None,
+                    change: None,
                 };
-                add(&mut self.touched, at, touch)
+                insert_touch(&mut self.touched, at, touch)
             }
         }
     }
 
-    /// Keeps a private write, in place of an earlier one. Errs where there was no memory for an item that is new to it.
-    /// A binary search; a new item moves those of greater places.
+    /// Keeps a private write, in place of an earlier write or increment. Errs where there was no memory for an item that is new
+    /// to it. A binary search; a new item moves those of greater places.
     pub fn put(&mut self, site: SiteNo, item: Item, value: Value) -> Result<(), AllocError>
         ensures ok { OnOk result (ChangesOnly self.old.touched self.new.touched (record {
           site = site;
           item = item;
           seen = seen_at self.old.touched (site, item);
-          put = Some value;
+          change = Some (Put value);
+        })) }
+        ensures err { OnErr result (self.new ≡ self.old) }
+        ensures succeeds { IsTrue self.old.has_room ⊎ IsSome (touched_at self.old.touched (site, item)) → IsOk result }
+        ensures room { IsSome (touched_at self.old.touched (site, item)) → self.new.has_room ≡ self.old.has_room }
+    {
+        self.set_change(site, item, Change::Put(value))
+    }
+
+    /// Keeps a private increment. Behind an earlier write or increment it becomes one with it: a write of the sum, or an
+    /// increment by the sum, modulo 2^64. Errs where there was no memory for an item that is new to it.
+    /// Two binary searches; a new item moves those of greater places.
+    pub fn add(&mut self, site: SiteNo, item: Item, value: Value) -> Result<(), AllocError>
+        ensures ok { OnOk result (ChangesOnly self.old.touched self.new.touched (record {
+          site = site;
+          item = item;
+          seen = seen_at self.old.touched (site, item);
+          change = Some (added_to (change_at self.old.touched (site, item)) value);
+        })) }
+        ensures err { OnErr result (self.new ≡ self.old) }
+        ensures succeeds { IsTrue self.old.has_room ⊎ IsSome (touched_at self.old.touched (site, item)) → IsOk result }
+        ensures room { IsSome (touched_at self.old.touched (site, item)) → self.new.has_room ≡ self.old.has_room }
+    {
+        let change = sum(self.change(site, item), value);
+        self.set_change(site, item, change)
+    }
+
+    fn change(&self, site: SiteNo, item: Item) -> Option<Change>
+        ensures { result ≡ change_at self.now.touched (site, item) }
+    {
+        match search(self.touched.as_slice(), site, item) {
+            Ok(at) => self.touched[at].change,
+            Err(_) => None,
+        }
+    }
+
+    fn set_change(&mut self, site: SiteNo, item: Item, change: Change) -> Result<(), AllocError>
+        ensures ok { OnOk result (ChangesOnly self.old.touched self.new.touched (record {
+          site = site;
+          item = item;
+          seen = seen_at self.old.touched (site, item);
+          change = Some change;
         })) }
         ensures err { OnErr result (self.new ≡ self.old) }
         ensures succeeds { IsTrue self.old.has_room ⊎ IsSome (touched_at self.old.touched (site, item)) → IsOk result }
@@ -145,7 +186,7 @@ impl Draft {
         match search(self.touched.as_slice(), site, item) {
             Ok(at) => {
                 let touch = &mut self.touched[at];
-                touch.put = Some(value);
+                touch.change = Some(change);
                 Ok(())
             }
             Err(at) => {
@@ -153,14 +194,14 @@ impl Draft {
                     site,
                     item,
                     seen: None,
-                    put: Some(value),
+                    change: Some(change),
                 };
-                add(&mut self.touched, at, touch)
+                insert_touch(&mut self.touched, at, touch)
             }
         }
     }
 
-    /// Whether the site has a kept read or a private write. Goes over the draft.
+    /// Whether the site has a kept read, a private write or a private increment. Goes over the draft.
     pub fn touches(&self, site: SiteNo) -> bool
         ensures { IsTrue result ↔ Touches self.now.touched site }
     {
@@ -175,8 +216,8 @@ impl Draft {
         nth_kept(self.touched.as_slice(), site, n)
     }
 
-    /// The private write of this number at a site, counted from 0 by rising item: the item and its value. Goes over the draft.
-    pub fn writing(&self, site: SiteNo, n: usize) -> Option<(Item, Value)>
+    /// The private write or increment of this number at a site, counted from 0 by rising item. Goes over the draft.
+    pub fn writing(&self, site: SiteNo, n: usize) -> Option<(Item, Change)>
         ensures nth { result ≡ slice_get (writing_in (at_site site self.now.touched)) n }
         ensures rising { IsRisingBy (λ w. w.0) (slice_cmp nat_cmp) (writing_in (at_site site self.now.touched)) }
     {
@@ -216,15 +257,15 @@ fn nth_kept(touched: &[Touch], site: SiteNo, n: usize) -> Option<(Item, Value, u
     None
 }
 
-fn nth_writing(touched: &[Touch], site: SiteNo, n: usize) -> Option<(Item, Value)>
+fn nth_writing(touched: &[Touch], site: SiteNo, n: usize) -> Option<(Item, Change)>
     ensures { result ≡ slice_get (writing_in (at_site site touched.now)) n }
 {
     let mut left = n;
     for t in touched {
         if t.site == site {
-            if let Some(value) = t.put {
+            if let Some(change) = t.change {
                 if left == 0 {
-                    return Some((t.item, value));
+                    return Some((t.item, change));
                 }
                 left -= 1;
             }
@@ -233,23 +274,33 @@ fn nth_writing(touched: &[Touch], site: SiteNo, n: usize) -> Option<(Item, Value
     None
 }
 
+fn sum(change: Option<Change>, value: Value) -> Change
+    ensures { result ≡ added_to change value }
+{
+    match change {
+        None => Change::Add(value),
+        Some(Change::Put(put)) => Change::Put(put.wrapping_add(value)),
+        Some(Change::Add(added)) => Change::Add(added.wrapping_add(value)),
+    }
+}
+
 fn look_at(touch: &Touch) -> Option<Value>
     ensures { result ≡ look_of touch.now }
 {
-    match touch.put {
-        Some(value) => Some(value),
-        None => match touch.seen {
-            Some(seen) => Some(seen.value),
-            None => None,
-        },
+    let seen = touch.seen.map(|seen| seen.value);
+    match touch.change {
+        Some(Change::Put(value)) => Some(value),
+        Some(change) => seen.map(|seen| change.apply(seen)),
+        None => seen,
     }
 }
 
 // Inserts a touched item. Where no memory is had, nothing changes.
-fn add(touched: &mut Vec<Touch>, at: usize, touch: Touch) -> Result<(), AllocError>
+fn insert_touch(touched: &mut Vec<Touch>, at: usize, touch: Touch) -> Result<(), AllocError>
     requires { at ≤ vec_len touched.old }
     ensures ok { OnOk result (touched.new.items ≡ insert touched.old.items at touch) }
-    ensures err { OnErr result ((touched.new.items ≡ touched.old.items) × (vec_len touched.new ≡ vec_len touched.old) × (vec_capacity touched.new ≡ vec_capacity touched.old)) }
+    ensures err { OnErr result ((touched.new.items ≡ touched.old.items) × (vec_len touched.new ≡ vec_len touched.old)
+        × (vec_capacity touched.new ≡ vec_capacity touched.old)) }
     ensures succeeds { vec_len touched.old < vec_capacity touched.old → IsOk result }
 {
     touched.reserve(1)?;

@@ -9,7 +9,8 @@ ghost use Rattle.std.proofs.Common.{rules};
 ghost use Rattle.std.specs.Hash as fed;
 ghost use Rattle.std.specs.Cmp.Rules.{hashing};
 ghost use Rattle.std.specs.Cmp.Lexicographic.{slice_cmp, nat_list_eq_equiv, nat_list_cmp_total, texts_ties, texts_po};
-ghost use Rattle.sgt_names.specs.Name.{is_name_byte, is_small_letter, is_name};
+ghost use Rattle.sgt_names.specs.Name.{is_name_byte, is_small_letter};
+ghost use Rattle.sgt_names.specs.Stored.{is_name};
 
 use std::cmp::Ordering;
 use std::fmt::{self, Debug, Display, Formatter, Write};
@@ -39,15 +40,15 @@ impl Model for Item {
 
     ghost coded = { coded_list coded_ℕ };
 
-    ghost use Rattle.sgt_names.specs.Name.{name_of, IsStored, stored, stored-name_of};
+    ghost use Rattle.sgt_names.specs.Stored.{name_of, IsStored, stored_name, stored_name-name_of};
 
     ghost view = { name_of };
 
     ghost invariant = { IsStored };
 
-    ghost inverse = { stored };
+    ghost inverse = { stored_name };
 
-    ghost inverse_ok = { stored-name_of };
+    ghost inverse_ok = { stored_name-name_of };
 }
 
 impl Item {
@@ -129,11 +130,13 @@ impl Hash for Item {
 
 /// The name itself.
 impl Display for Item {
+    ghost output = { λ name. Some name };
+
     fn fmt<W: Write>(&self, f: &mut Formatter<W>) -> fmt::Result {
-        for byte in self.as_bytes() {
-            f.write_char(char::from(*byte))?;
+        match str::from_utf8(self.as_bytes()) {
+            Ok(name) => f.write_str(name),
+            Err(_) => unreachable!(),
         }
-        Ok(())
     }
 }
 

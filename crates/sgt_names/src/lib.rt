@@ -15,19 +15,20 @@ mod sink;
 mod site_no;
 mod source;
 mod standard;
-#[cfg(test)]
-mod tests;
 
 pub use draft::{Draft, Seen, Touch};
-pub use entry::{Entry, Holding, Kind, Label};
+pub use entry::{Change, Entry, Holding, Kind, Label};
 pub use item::{BadName, Item};
-pub use laws::changes_show_at_their_place;
+pub use laws::{
+    additions_sum_up, changes_show_at_their_place, increments_commute,
+    increments_conflict_with_others, increments_do_not_conflict, value_is_of_the_last_write,
+};
 pub use limits::{MAX_ITEMS, MAX_SITES};
 pub use listed::Listed;
 pub use memory::{MemSink, MemSource};
 pub use number::{BadNumber, Tx};
 pub use outcome::{EngineFail, Outcome};
-pub use sink::Sink;
+pub use sink::{Sink, write_all};
 pub use site_no::SiteNo;
 pub use source::{Failed, Source};
 pub use standard::{FromRead, ToWrite};

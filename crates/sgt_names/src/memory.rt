@@ -1,8 +1,8 @@
 //! Sources and sinks over memory, which fail where they are told to: for tests, and for callers that have their bytes.
 
 ghost use Rattle.std.specs.Prelude.{◌≡◌, ◌+◌, ◌-◌, ◌<◌, ◌≤◌, ◌^◌, ◌↔◌, [], ◌++◌, length, take, drop, min, Some, None, option_map, if◌then◌else◌, nat_lt, IsErr, IfOk, OnErr, vec_len, vec_capacity};
-ghost use Rattle.sgt_names.specs.Device.{AtMost, Counts, PutsBehind, TakesFront, TakesSome};
-ghost use Rattle.sgt_names.specs.Memory.{MustFail, IsFull, Supplies};
+ghost use Rattle.sgt_names.specs.Device.{AtMost, CountsFailures, PutsBehind, TakesFront, TakesSome};
+ghost use Rattle.sgt_names.specs.Memory.{MustFail, Supplies, IsFull, IsSpent, Takes};
 
 use crate::sink::Sink;
 use crate::source::{Failed, Source};
@@ -54,7 +54,7 @@ impl Source for MemSource<'_> {
     fn read(&mut self, buffer: &mut [u8]) -> Result<usize, Failed>
         ensures bytes { TakesFront (Some self.old.rest) (Some self.new.rest) result buffer.new }
         ensures count { AtMost result (length buffer.old) }
-        ensures fails { Counts result self.old.failures self.new.failures }
+        ensures fails { CountsFailures result self.old.failures self.new.failures }
 
         // and, of this source, exactly when it fails and what it gives
         ensures must_fail { IsErr result ↔ MustFail self.old }
@@ -75,7 +75,8 @@ impl Source for MemSource<'_> {
     }
 }
 
-/// Room in memory, made at once; what goes beyond it fails.
+/// Room in memory, made at once; what goes beyond it fails. From failure number 2^64 - 1 on it tells no bytes, and drops what
+/// comes once no room is left.
 #[derive(Drop)]
 pub struct MemSink {
     bytes: Vec<u8>,
@@ -125,13 +126,12 @@ impl Sink for MemSink {
             (if nat_lt self.new.failures (2 ^ 64 - 1) then Some self.new.bytes else None) result bytes.now }
         ensures count { AtMost result (length bytes.now) }
         ensures some { TakesSome result (length bytes.now) }
-        ensures fails { Counts result self.old.failures self.new.failures }
+        ensures fails { CountsFailures result self.old.failures self.new.failures }
 
         // and, of this sink, exactly when it fails and what it takes
         ensures is_full { IsErr result ↔ IsFull self.old bytes.now }
-        ensures ok { self.old.failures < 2 ^ 64 - 1 → IfOk result (λ n. (n ≡ min (length bytes.now) self.old.room)
-            × (self.new ≡ record self.old { bytes = self.old.bytes ++ take n bytes.now; room = self.old.room - n })) }
-        ensures spent { self.old.failures ≡ 2 ^ 64 - 1 → self.old.room ≡ 0 → IfOk result (λ n. (n ≡ length bytes.now) × (self.new ≡ self.old)) }
+        ensures ok { (IsSpent self.old → ⊥) → IfOk result (Takes self.old self.new bytes.now) }
+        ensures spent { IsSpent self.old → IfOk result (λ n. (n ≡ length bytes.now) × (self.new ≡ self.old)) }
         ensures err { OnErr result (self.new ≡ record self.old { failures = self.old.failures + 1 }) }
     {
         let n = bytes.len().min(self.room);

@@ -1,6 +1,7 @@
 //! The numbers of transactions.
 
-ghost use Rattle.std.specs.Prelude.{◌≡◌, ◌≤◌, ◌<◌, ◌^◌};
+ghost use Rattle.std.specs.Prelude.{◌≡◌, ◌≤◌, ◌<◌, ◌^◌, Some};
+ghost use Rattle.std.specs.Fmt.{decimal};
 ghost use Rattle.std.specs.Result.{OkIff};
 
 use std::fmt::{self, Display, Formatter, Write};
@@ -50,7 +51,10 @@ impl Tx {
     }
 }
 
+/// The number in decimal.
 impl Display for Tx {
+    ghost output = { λ t. Some (decimal t) };
+
     fn fmt<W: Write>(&self, f: &mut Formatter<W>) -> fmt::Result {
         Display::fmt(&self.number, f)
     }

@@ -1,8 +1,9 @@
 //! How an engine ends.
 
 ghost use Rattle.std.specs.Prelude.{◌≡◌};
-ghost use Rattle.sgt_names.specs.Outcome.{status_of};
+ghost use Rattle.sgt_names.specs.declared.outcome.EngineFail.TheVariants.{Memory};
 
+use std::alloc::AllocError;
 use thiserror::Error;
 
 /// Why an engine ended without an answer.
@@ -19,7 +20,15 @@ pub enum EngineFail {
     WriteFault,
 }
 
-/// What an engine answered, as far as the exit status tells it.
+impl From<AllocError> for EngineFail {
+    ghost from_gives = { λ _ fail. fail ≡ Memory };
+
+    fn from(_: AllocError) -> EngineFail {
+        EngineFail::Memory
+    }
+}
+
+/// What an engine answered, as far as an exit status tells it.
 #[derive(Clone, Copy, Debug, PartialEq, Eq)]
 pub enum Outcome {
     /// A yes, or the whole of what was asked for.
@@ -28,17 +37,4 @@ pub enum Outcome {
     No,
     /// The input could not be read as what it should be.
     Unreadable,
-}
-
-impl Outcome {
-    /// The exit status: 0, 1 or 2.
-    pub fn status(self) -> u8
-        ensures { result ≡ status_of self }
-    {
-        match self {
-            Outcome::Yes => 0,
-            Outcome::No => 1,
-            Outcome::Unreadable => 2,
-        }
-    }
 }

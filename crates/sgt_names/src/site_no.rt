@@ -1,6 +1,7 @@
 //! The numbers of sites.
 
-ghost use Rattle.std.specs.Prelude.{◌≡◌, ◌<◌};
+ghost use Rattle.std.specs.Prelude.{◌≡◌, ◌<◌, Some};
+ghost use Rattle.std.specs.Fmt.{decimal};
 ghost use Rattle.std.specs.Result.{OkIff};
 ghost use Rattle.sgt_names.specs.Limits.{max_sites};
 
@@ -9,7 +10,7 @@ use crate::number::BadNumber;
 use std::fmt::{self, Display, Formatter, Write};
 use std::marker::Model;
 
-/// The number of a site, from 0 to 15.
+/// The number of a site, from 0 to 63.
 #[derive(Clone, Copy, Debug, PartialEq, Eq, PartialOrd, Ord, Hash)]
 pub struct SiteNo {
     number: u8,
@@ -48,7 +49,10 @@ impl SiteNo {
     }
 }
 
+/// The number in decimal.
 impl Display for SiteNo {
+    ghost output = { λ s. Some (decimal s) };
+
     fn fmt<W: Write>(&self, f: &mut Formatter<W>) -> fmt::Result {
         Display::fmt(&self.number, f)
     }

@@ -1,7 +1,7 @@
 //! Where bytes come from.
 
 ghost use Rattle.std.specs.Prelude.{ℕ, List, Option, length};
-ghost use Rattle.sgt_names.specs.Device.{AtMost, Counts, TakesFront};
+ghost use Rattle.sgt_names.specs.Device.{AtMost, CountsFailures, TakesFront};
 
 use thiserror::Error;
 
@@ -23,5 +23,5 @@ pub trait Source {
     fn read(&mut self, buffer: &mut [u8]) -> Result<usize, Failed>
         ensures bytes { TakesFront (tells self.old) (tells self.new) result buffer.new }
         ensures count { AtMost result (length buffer.old) }
-        ensures fails { Counts result (failures self.old) (failures self.new) };
+        ensures fails { CountsFailures result (failures self.old) (failures self.new) };
 }

@@ -1,11 +1,12 @@
 -- The definitions of spellings and of lines, shown on examples.
-use Rattle.std.proofs.Common.{◌≡◌, ℕ, List, [], ◌∷◌, Some, None, refl, ap, arith, length, lit<}
+use Rattle.std.proofs.Common.{◌≡◌, ◌≢◌, ℕ, List, [], ◌∷◌, Some, None, refl, ap, arith, length, lit<}
 use Rattle.std.specs.Prelude.{codes}
 use Rattle.std.specs.Fmt.{digits}
 use Rattle.sgt_notation.specs.Spelling.{entry_text, line_text, text_of_lines, IsTx, IsValue, IsSite}
 use Rattle.sgt_names.specs.Name.{IsName}
-use Rattle.sgt_names.specs.declared.entry.Entry.TheVariants.{Read, Write, Want, Commit, Refuse, Withdraw}
-use Rattle.sgt_notation.specs.Lines.{Gives, Leaves, SpendsNext}
+use Rattle.sgt_names.specs.declared.entry.Entry.TheVariants.{Read, Write, Add, Want, WantAdd, Commit, Refuse, Withdraw}
+use Rattle.std.proofs.lemmas.List.Elements.{All-from_recursion, recursion_from_All}
+use Rattle.sgt_notation.specs.Lines.{Gives, IsLongerThan, Leaves, SpendsNext}
 use Rattle.sgt_notation.specs.Reading.{Refuses}
 use Rattle.sgt_notation.specs.declared.fault.NotationFault.TheVariants.{Memory}
 use Rattle.sgt_notation.specs.declared.lines.Next.TheVariants as next
@@ -25,6 +26,14 @@ pub want-is : entry_text (Want 2 (codes "y") 18446744073709551615) ≡ codes "p2
 unfolding digits
 want-is = refl
 
+pub add-is : entry_text (Add 1 (codes "x") 3) ≡ codes "d1[x]=3"
+unfolding digits
+add-is = refl
+
+pub asked_add-is : entry_text (WantAdd 2 (codes "x") 8) ≡ codes "q2[x]=8"
+unfolding digits
+asked_add-is = refl
+
 pub commit-is : entry_text (Commit 4294967295) ≡ codes "c4294967295"
 unfolding digits
 commit-is = refl
@@ -37,7 +46,7 @@ pub withdraw-is : entry_text (Withdraw 30) ≡ codes "a30"
 unfolding digits
 withdraw-is = refl
 
-pub site-is : line_text (Site 15) ≡ codes "site 15"
+pub site-is : line_text (Site 63) ≡ codes "site 63"
 unfolding digits
 site-is = refl
 
@@ -82,10 +91,10 @@ no_value_above h = omega (arith, h)
 pub site_0 : IsSite 0
 site_0 = lit< tt
 
-pub site_greatest : IsSite 15
+pub site_greatest : IsSite 63
 site_greatest = lit< tt
 
-pub no_site_above : IsSite 16 → ⊥
+pub no_site_above : IsSite 64 → ⊥
 no_site_above h = omega (arith, h)
 
 -- ---- a name has sixteen bytes at most
@@ -113,3 +122,13 @@ no_read_for_nothing h = omega (arith, h)
 -- want of memory is no refusal of a line
 pub never_memory : (line : List ℕ) → Refuses line Memory → ⊥
 never_memory line h = h
+
+-- a line that fits is no longer than the buffer: only more bytes, with no LF up to there, are
+pub fits-not_longer : IsLongerThan 2 (97 ∷ 98 ∷ 10 ∷ 99 ∷ []) → ⊥
+fits-not_longer h = (recursion_from_All (λ b. b ≢ 10) (97 ∷ 98 ∷ 10 ∷ []) h.1).1.1.0 refl
+
+pub all-not_longer : IsLongerThan 2 (97 ∷ 98 ∷ []) → ⊥
+all-not_longer h = omega (arith, h.0)
+
+pub one_more-longer : IsLongerThan 2 (97 ∷ 98 ∷ 99 ∷ [])
+one_more-longer = (lit< tt, All-from_recursion (λ b. b ≢ 10) (97 ∷ 98 ∷ 99 ∷ []) ((λ h. absurd (omega arith)), ((λ h. absurd (omega arith)), ((λ h. absurd (omega arith)), tt))))

@@ -8,7 +8,7 @@ use Rattle.sgt_notation.specs.Spelling.{HasNoLf}
 use Rattle.sgt_notation.specs.declared.lines.Next.{Next}
 use Rattle.sgt_notation.specs.declared.lines.Next.TheVariants.{Line, Cut, TooLong, End}
 use Rattle.sgt_notation.proofs.OneSpelling.{cut_at_byte}
-use Rattle.sgt_notation.proofs.Cuts.{never}
+use Rattle.sgt_notation.proofs.Unspelled.{never}
 
 -- an LF no later than the limit is seen
 seen : (limit : ℕ) (bytes l r : List ℕ) → length l ≤ limit → bytes ≡ l ++ 10 ∷ r → HasNoLf (take (limit + 1) bytes) → ⊥
@@ -24,17 +24,17 @@ size_of bytes l r e = ap length e ∙ (length-append l (10 ∷ r) ∙ simp unary
 pub next-one : (limit : ℕ) (bytes : List ℕ) (n m : Next) (l k r s : List ℕ) → IsNext limit bytes n l r → IsNext limit bytes m k s → (n ≡ m) × (n ≢ Next.TooLong → (l ≡ k) × (r ≡ s))
 next-one limit bytes Line Line l k r s h g = (refl, λ _. cut_at_byte 10 l k r s (recursion_from_All (λ b. b ≢ 10) l h.0) (recursion_from_All (λ b. b ≢ 10) k g.0) (sym h.2 ∙ g.2))
 next-one limit bytes Line Cut l k r s h g = absurd (never 10 k l r g.0 (sym g.3 ∙ h.2))
-next-one limit bytes Line TooLong l k r s h g = absurd (seen limit bytes l r h.1 h.2 g.1)
+next-one limit bytes Line TooLong l k r s h g = absurd (seen limit bytes l r h.1 h.2 g.0.1)
 next-one limit bytes Line End l k r s h g = let a = ap length g.0 in let b = size_of bytes l r h.2 in absurd (omega (arith, a, b))
 next-one limit bytes Cut Line l k r s h g = absurd (never 10 l k s h.0 (sym h.3 ∙ g.2))
 next-one limit bytes Cut Cut l k r s h g = (refl, λ _. (sym h.3 ∙ g.3, h.4 ∙ sym g.4))
-next-one limit bytes Cut TooLong l k r s h g = let a = ap length h.3 in absurd (omega (arith, a, h.2, g.0))
+next-one limit bytes Cut TooLong l k r s h g = let a = ap length h.3 in absurd (omega (arith, a, h.2, g.0.0))
 next-one limit bytes Cut End l k r s h g = let a = ap length h.3 in let b = ap length g.0 in absurd (omega (arith, a, b, h.1))
-next-one limit bytes TooLong Line l k r s h g = absurd (seen limit bytes k s g.1 g.2 h.1)
-next-one limit bytes TooLong Cut l k r s h g = let a = ap length g.3 in absurd (omega (arith, a, g.2, h.0))
+next-one limit bytes TooLong Line l k r s h g = absurd (seen limit bytes k s g.1 g.2 h.0.1)
+next-one limit bytes TooLong Cut l k r s h g = let a = ap length g.3 in absurd (omega (arith, a, g.2, h.0.0))
 next-one limit bytes TooLong TooLong l k r s h g = (refl, λ f. absurd (f refl))
-next-one limit bytes TooLong End l k r s h g = let b = ap length g.0 in absurd (omega (arith, b, h.0))
+next-one limit bytes TooLong End l k r s h g = let b = ap length g.0 in absurd (omega (arith, b, h.0.0))
 next-one limit bytes End Line l k r s h g = let a = ap length h.0 in let b = size_of bytes k s g.2 in absurd (omega (arith, a, b))
 next-one limit bytes End Cut l k r s h g = let a = ap length g.3 in let b = ap length h.0 in absurd (omega (arith, a, b, g.1))
-next-one limit bytes End TooLong l k r s h g = let b = ap length h.0 in absurd (omega (arith, b, g.0))
+next-one limit bytes End TooLong l k r s h g = let b = ap length h.0 in absurd (omega (arith, b, g.0.0))
 next-one limit bytes End End l k r s h g = (refl, λ _. (h.1 ∙ sym g.1, h.2 ∙ sym g.2))

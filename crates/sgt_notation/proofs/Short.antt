@@ -4,7 +4,7 @@ use Rattle.std.specs.Prelude.{codes, decimal}
 use Rattle.std.proofs.lemmas.Fmt.{length-decimal-le}
 use Rattle.std.proofs.lemmas.List.Elements.{All-from_recursion}
 use Rattle.sgt_names.specs.Name.{Name, IsName}
-use Rattle.sgt_names.specs.declared.entry.Entry.TheVariants.{Read, Write, Want, Commit, Refuse, Withdraw}
+use Rattle.sgt_names.specs.declared.entry.Entry.TheVariants.{Read, Write, Add, Want, WantAdd, Commit, Refuse, Withdraw}
 use Rattle.sgt_names.specs.declared.entry.Holding.{Holding}
 use Rattle.sgt_notation.specs.Spelling.{assignment, operation, line_text, HasNoLf, IsHolding, IsLine, IsTx, IsValue}
 use Rattle.sgt_notation.specs.declared.SectionLine.{SectionLine}
@@ -40,7 +40,9 @@ line-short (Final x) h = behind (codes "final ") (assignment x.item x.value) 37 
 line-short End h = lit≤ tt
 line-short (Logged (Read tx x v)) h = letter 114 (operation tx x v) (operation-short tx x v h)
 line-short (Logged (Write tx x v)) h = letter 119 (operation tx x v) (operation-short tx x v h)
+line-short (Logged (Add tx x v)) h = letter 100 (operation tx x v) (operation-short tx x v h)
 line-short (Logged (Want tx x v)) h = letter 112 (operation tx x v) (operation-short tx x v h)
+line-short (Logged (WantAdd tx x v)) h = letter 113 (operation tx x v) (operation-short tx x v h)
 line-short (Logged (Commit tx)) h = letter 99 (decimal tx) (omega (arith, tx-short tx h))
 line-short (Logged (Refuse tx)) h = letter 110 (decimal tx) (omega (arith, tx-short tx h))
 line-short (Logged (Withdraw tx)) h = letter 97 (decimal tx) (omega (arith, tx-short tx h))

@@ -1,7 +1,6 @@
--- What a reader of lines has ahead of it, and what comes next of it.
--- (From `Looks` on: used by private clauses alone.)
-use Rattle.std.specs.Prelude.{◌≡◌, ◌<◌, ◌≤◌, ℕ, ◌+◌, ◌*◌, List, [], ◌∷◌, ◌++◌, length, take, drop, ⊤, Option, Some, None}
-use Rattle.std.specs.Io.KnownBytes.{prepend_known}
+-- What a reader of lines has ahead of it, what comes next of it, and what a call that asks for it gives.
+use Rattle.std.specs.Prelude.{◌≡◌, ◌≢◌, ◌<◌, ◌≤◌, ℕ, ◌+◌, ◌-◌, ◌*◌, ◌^◌, ◌⊎◌, List, [], ◌∷◌, ◌++◌, length, take, ⊤, Option, Some, None, IfSome}
+use Rattle.std.specs.Io.KnownBytes.{prepend_known, Consumes}
 use Rattle.sgt_notation.specs.Limits.{buffer_size}
 use Rattle.sgt_notation.specs.Spelling.{HasNoLf}
 use Rattle.sgt_notation.specs.declared.lines.Next.{Next}
@@ -20,14 +19,20 @@ most_left ahead = ahead.reads * buffer_size + length ahead.held
 abbrev pub coming : Ahead → Option (List ℕ) → Option (List ℕ)
 coming ahead told = prepend_known ahead.held told
 
+-- ---- what comes next
+
+-- the line that comes is longer than this: there are more bytes, with no LF up to there
+abbrev pub IsLongerThan : ℕ → List ℕ → Type 0
+IsLongerThan size bytes = (size < length bytes) × HasNoLf (take (size + 1) bytes)
+
 -- What comes next of these bytes, which line it is, and what is left of them.
 abbrev pub IsNext : ℕ → List ℕ → Next → List ℕ → List ℕ → Type 0
 -- a line with its LF, which is left out
 IsNext limit bytes Line line rest = HasNoLf line × (length line ≤ limit) × (bytes ≡ line ++ 10 ∷ rest)
 -- the bytes after the last LF
 IsNext limit bytes Cut line rest = HasNoLf line × (0 < length line) × (length line ≤ limit) × (bytes ≡ line) × (rest ≡ [])
--- more bytes than the limit with no LF in them. Some of them stand in the line, the others are left
-IsNext limit bytes TooLong line rest = (limit < length bytes) × HasNoLf (take (limit + 1) bytes) × (bytes ≡ line ++ rest)
+-- a line that is longer than the limit. Some of its bytes stand in the line, the others are left
+IsNext limit bytes TooLong line rest = IsLongerThan limit bytes × (bytes ≡ line ++ rest)
 -- no bytes
 IsNext limit bytes End line rest = (bytes ≡ []) × (line ≡ []) × (rest ≡ [])
 
@@ -56,27 +61,47 @@ SpendsNext TooLong reads old reads' new = Spends reads old reads' new
 SpendsNext Cut reads old reads' new = Spends reads old (reads' + 1) new
 SpendsNext End reads old reads' new = Spends reads old (reads' + 1) new
 
--- What a look into the held bytes gave, and the line that it made longer by n of them: a whole line, too long a line
--- (of which it took nothing), or all of them with no LF.
-abbrev pub Looks : ℕ → List ℕ → List ℕ → Option Next → ℕ → List ℕ → Type 0
-Looks limit held line (Some Line) n line' = (n < length held) × HasNoLf (take n held) × (held ≡ take n held ++ 10 ∷ drop (n + 1) held) × (line' ≡ line ++ take n held) × (length line' ≤ limit)
-Looks limit held line (Some TooLong) n line' = (n ≤ length held) × HasNoLf (take n held) × (limit < length line + n) × (line' ≡ line)
-Looks limit held line (Some Cut) n line' = ⊥
-Looks limit held line (Some End) n line' = ⊥
-Looks limit held line None n line' = (n ≡ length held) × HasNoLf held × (line' ≡ line ++ held) × (length line' ≤ limit)
+-- ---- what a call gives
 
--- what is held after such a look: the LF is taken with its line
-abbrev pub IsLeft : List ℕ → Option Next → ℕ → List ℕ → Type 0
-IsLeft held (Some Line) n held' = held' ≡ drop (n + 1) held
-IsLeft held (Some TooLong) n held' = held' ≡ held
-IsLeft held (Some Cut) n held' = ⊤
-IsLeft held (Some End) n held' = ⊤
-IsLeft held None n held' = held' ≡ []
+-- a reader of lines with its source: what is ahead of it, what the source tells, and how often that has failed
+pub record Stream : Type 0 where
+  pub ahead : Ahead
+  pub told : Option (List ℕ)
+  pub failures : ℕ
 
--- how many bytes are held and in the line, before such a look and after it: the LF alone goes
-abbrev pub Moves : Option Next → ℕ → ℕ → Type 0
-Moves (Some Line) old new = old ≡ new + 1
-Moves (Some TooLong) old new = old ≡ new
-Moves (Some Cut) old new = ⊤
-Moves (Some End) old new = ⊤
-Moves None old new = old ≡ new
+abbrev pub stream : Ahead → Option (List ℕ) → ℕ → Stream
+stream ahead told failures = record { ahead = ahead; told = told; failures = failures }
+
+-- a call that told what comes next
+pub record GaveNext (limit : ℕ) (old : Stream) (next : Next) (line : List ℕ) (new : Stream) : Type 0 where
+  pub gives : Gives limit (coming old.ahead old.told) next line (coming new.ahead new.told)
+  pub quiet : new.failures ≡ old.failures
+  pub spends : SpendsNext next old.ahead.reads old.told new.ahead.reads new.told
+  pub falls : next ≡ Line → most_left new.ahead < most_left old.ahead
+  -- the end is met by a read that is counted
+  pub ended : (next ≡ Cut) ⊎ (next ≡ End) → new.ahead.reads < old.ahead.reads
+  pub unlimited : limit ≡ 2 ^ 64 - 1 → next ≢ TooLong
+
+-- the source failed, once, at a read that is counted
+abbrev pub Failed : Stream → Stream → Type 0
+Failed old new = (new.failures ≡ old.failures + 1) × (new.ahead.reads < old.ahead.reads)
+
+-- no read is left, and each of those that were made took a byte at least
+abbrev pub IsSpent : Stream → Stream → Type 0
+IsSpent old new = (new.ahead.reads ≡ 0) × (new.failures ≡ old.failures) × Spends old.ahead.reads old.told 0 new.told
+
+-- a call that met a failing read, or had no read left: all that was read stands in the line
+pub record MetReadFault (old : Stream) (line : List ℕ) (new : Stream) : Type 0 where
+  pub held : new.ahead.held ≡ []
+  pub left : Leaves (coming old.ahead old.told) line (coming new.ahead new.told)
+  pub cause : Failed old new ⊎ IsSpent old new
+
+-- a call whose line would not grow, where the buffer that was passed had room for so many bytes
+pub record WantedMemory (limit room : ℕ) (old : Stream) (line : List ℕ) (new : Stream) : Type 0 where
+  pub left : Consumes (coming old.ahead old.told) (coming new.ahead new.told) line
+  pub quiet : new.failures ≡ old.failures
+  pub short : room < limit
+  -- the line doesn't fit, by what was read of it
+  pub read : IsLongerThan room (line ++ new.ahead.held)
+  -- and so by what comes
+  pub wanted : IfSome (coming old.ahead old.told) (IsLongerThan room)

@@ -1,7 +1,5 @@
 -- What it is to read a spelling.
 use Rattle.std.specs.Prelude.{◌≡◌, ◌≢◌, ◌<◌, ◌≤◌, ℕ, List, length, Option, Some, None, Result, Ok, Err}
-use Rattle.sgt_names.specs.Name.{Name, IsName}
-use Rattle.sgt_notation.specs.Spelling.{operation, IsTx, IsValue}
 use Rattle.sgt_notation.specs.declared.fault.NotationFault.{NotationFault}
 use Rattle.sgt_notation.specs.declared.fault.NotationFault.TheVariants.{NotALine, TooLong, Memory}
 use Rattle.sgt_notation.specs.Limits.{max_line}
@@ -25,10 +23,3 @@ Refuses line Memory = ⊥
 abbrev pub Reads : {A : Type 0} → (A → Type 0) → (A → List ℕ) → List ℕ → Result A NotationFault → Type 0
 Reads Is text line (Ok a) = Is a × (line ≡ text a)
 Reads Is text line (Err e) = Refuses line e × SpellsNone Is text line
-
--- an operation, as a transaction, an item and a value
-abbrev pub IsOperation : ℕ × Name × ℕ → Type 0
-IsOperation o = IsTx o.0 × IsName o.1 × IsValue o.2
-
-abbrev pub operation_text : ℕ × Name × ℕ → List ℕ
-operation_text o = operation o.0 o.1 o.2

@@ -3,7 +3,8 @@
 ghost use Rattle.std.specs.Prelude.{◌≡◌, ◌≢◌, ◌+◌, ◌-◌, ◌<◌, ◌≤◌, ◌⊎◌, ◌^◌, [], ◌∷◌, ◌++◌, length, take, drop, Some, Ok, IfSome, IfNone, IfErr, IfOk, OnOk, OnErr, IsErrOf, vec_len, vec_capacity};
 ghost use Rattle.std.specs.Io.KnownBytes.{Consumes, IsAtEnd};
 ghost use Rattle.sgt_notation.specs.Limits.{buffer_size, most_reads};
-ghost use Rattle.sgt_notation.specs.Lines.{Ahead, Gives, IsLeft, Leaves, Looks, Moves, Spends, SpendsNext, coming, most_left};
+ghost use Rattle.sgt_notation.specs.Lines.{Ahead, GaveNext, Leaves, MetReadFault, WantedMemory, most_left, stream};
+ghost use Rattle.sgt_notation.specs.Private.{IsLeft, Looks, Moves, Outgrows};
 ghost use Rattle.sgt_notation.specs.Spelling.{HasNoLf};
 
 use memchr::memchr;
@@ -71,7 +72,7 @@ impl Model for Lines {
 }
 
 /// Where the first LF stands.
-fn find_feed(bytes: &[u8]) -> Option<usize>
+pub fn find_lf(bytes: &[u8]) -> Option<usize>
     ensures some { IfSome result (λ n. (n < length bytes.now) × HasNoLf (take n bytes.now)
         × (bytes.now ≡ take n bytes.now ++ 10 ∷ drop (n + 1) bytes.now)) }
     ensures none { IfNone result (HasNoLf bytes.now) }
@@ -94,11 +95,10 @@ fn look_in(
     ensures unlimited { length held.now ≤ buffer_size → limit ≡ 2 ^ 64 - 1 → IfOk result (λ r. r.0 ≢ Some Next.TooLong) }
     ensures err { IfErr result (λ e. e ≡ LinesFault.Memory) }
     ensures kept { OnErr result (line.new.items ≡ line.old.items) }
-    ensures room { limit ≤ vec_capacity line.old → result ≢ Err LinesFault.Memory }
-    ensures wanted { OnErr result (vec_capacity line.old < length line.old.items + length held.now) }
+    ensures wanted { OnErr result (Outgrows (vec_capacity line.old) limit line.old.items held.now) }
     ensures capacity { vec_capacity line.old ≤ vec_capacity line.new }
 {
-    match find_feed(held) {
+    match find_lf(held) {
         Some(n) => {
             if n > limit - line.len() {
                 return Ok((Some(Next::TooLong), n, 0));
@@ -120,7 +120,7 @@ fn append(line: &mut Vec<u8>, bytes: &[u8]) -> Result<(), LinesFault>
     ensures ok { OnOk result (line.new.items ≡ line.old.items ++ bytes.now) }
     ensures err { IfErr result (λ e. e ≡ LinesFault.Memory) }
     ensures kept { OnErr result (line.new.items ≡ line.old.items) }
-    ensures room { vec_len line.old + length bytes.now ≤ vec_capacity line.old → result ≢ Err LinesFault.Memory }
+    ensures wanted { OnErr result (vec_capacity line.old < vec_len line.old + length bytes.now) }
     ensures capacity { vec_capacity line.old ≤ vec_capacity line.new }
 {
     line.extend_from_slice(bytes)?;
@@ -153,12 +153,12 @@ impl Lines {
         ensures ok { IfOk result (λ n. Consumes (S.tells source.old) (S.tells source.new) self.new.held
             × (length self.new.held ≡ n) × (n ≤ buffer_size) × (n ≡ 0 → IsAtEnd (S.tells source.new))
             × (self.old.reads ≡ self.new.reads + 1) × (S.failures source.new ≡ S.failures source.old)) }
-        ensures fault { IsErrOf result LinesFault.ReadFault →
-            ((S.failures source.old < S.failures source.new) ⊎ ((self.old.reads ≡ 0) × (S.tells source.new ≡ S.tells source.old))) }
-        ensures reads { self.new.reads ≤ self.old.reads }
+        ensures fault { OnErr result (
+            ((S.failures source.new ≡ S.failures source.old + 1) × (self.old.reads ≡ self.new.reads + 1))
+            ⊎ ((self.old.reads ≡ 0) × (self.new.reads ≡ 0) × (source.new ≡ source.old))) }
         ensures counted { self.old.reads ≤ self.new.reads + 1 }
         ensures left { OnErr result ((self.new.held ≡ []) × Leaves (S.tells source.old) [] (S.tells source.new)) }
-        ensures memory { result ≢ Err LinesFault.Memory }
+        ensures err { IfErr result (λ e. e ≡ LinesFault.ReadFault) }
     {
         if self.reads == 0 {
             return Err(LinesFault::ReadFault);
@@ -190,8 +190,7 @@ impl Lines {
         ensures unlimited { limit ≡ 2 ^ 64 - 1 → IfOk result (λ r. r.0 ≢ Some Next.TooLong) }
         ensures err { IfErr result (λ e. e ≡ LinesFault.Memory) }
         ensures kept { OnErr result ((line.new.items ≡ line.old.items) × (self.new ≡ self.old)) }
-        ensures room { limit ≤ vec_capacity line.old → result ≢ Err LinesFault.Memory }
-        ensures wanted { OnErr result (vec_capacity line.old < length line.old.items + length self.old.held) }
+        ensures wanted { OnErr result (Outgrows (vec_capacity line.old) limit line.old.items self.old.held) }
         ensures capacity { vec_capacity line.old ≤ vec_capacity line.new }
     {
         let (found, n, used) = look_in(&self.buffer[self.start..self.end], line, limit)?;
@@ -203,37 +202,32 @@ impl Lines {
     /// `limit` is in bytes, without the LF; `usize::MAX` is none. A line longer than that is told as soon as one byte more
     /// was read. Some of its bytes then stand in `line`, and a further call goes on behind them.
     ///
-    /// Memory where a growth of the line was refused: what stands in `line` is not given again. ReadFault where the
-    /// reader failed during this call, or no read is left; all that was read then stands in `line`.
+    /// Memory where a growth of `line` was refused: never where the line fits the capacity that `line` came with. What
+    /// stands in `line` is not given again; the first bytes that did not fit are still held.
+    /// ReadFault where the reader failed during this call, or no read is left; all that was read then stands in `line`.
     pub fn next<S: Source>(
         &mut self,
         source: &mut S,
         line: &mut Vec<u8>,
         limit: usize,
     ) -> Result<Next, LinesFault>
-        ensures gives { IfOk result (λ next. Gives limit (coming self.old (S.tells source.old)) next
-            line.new.items (coming self.new (S.tells source.new))) }
-        ensures quiet { IfOk result (λ _. S.failures source.new ≡ S.failures source.old) }
-        ensures spends { IfOk result (λ next. SpendsNext next self.old.reads (S.tells source.old) self.new.reads (S.tells source.new)) }
-        ensures falls { result ≡ Ok Next.Line → most_left self.new < most_left self.old }
-        ensures unlimited { limit ≡ 2 ^ 64 - 1 → result ≢ Ok Next.TooLong }
-
+        ensures ok { let old = stream self.old (S.tells source.old) (S.failures source.old) in
+            let new = stream self.new (S.tells source.new) (S.failures source.new) in
+            IfOk result (λ next. GaveNext limit old next line.new.items new) }
+        ensures read_fault { let old = stream self.old (S.tells source.old) (S.failures source.old) in
+            let new = stream self.new (S.tells source.new) (S.failures source.new) in
+            IsErrOf result LinesFault.ReadFault → MetReadFault old line.new.items new }
+        ensures memory { let old = stream self.old (S.tells source.old) (S.failures source.old) in
+            let new = stream self.new (S.tells source.new) (S.failures source.new) in
+            IsErrOf result LinesFault.Memory → WantedMemory limit (vec_capacity line.old) old line.new.items new }
+        // of each of these
         ensures line { HasNoLf line.new.items × (length line.new.items ≤ limit) }
         ensures capacity { vec_capacity line.old ≤ vec_capacity line.new }
         ensures reads { self.new.reads ≤ self.old.reads }
         // each read that was counted gave a byte, but for the last; and a count gave no more bytes than the buffer holds
-        ensures counted { self.old.reads + length self.old.held ≤ self.new.reads + length self.new.held + length line.new.items + 1 }
+        ensures counted { self.old.reads + length self.old.held
+            ≤ self.new.reads + length self.new.held + length line.new.items + 1 }
         ensures bounded { most_left self.new + length line.new.items ≤ most_left self.old }
-
-        // of an Err
-        ensures err { OnErr result (Leaves (coming self.old (S.tells source.old)) line.new.items (coming self.new (S.tells source.new))) }
-        ensures read_fault { IsErrOf result LinesFault.ReadFault → (self.new.held ≡ [])
-            × ((S.failures source.old < S.failures source.new) ⊎ Spends self.old.reads (S.tells source.old) 0 (S.tells source.new)) }
-        ensures spent { IsErrOf result LinesFault.ReadFault → (S.failures source.old < S.failures source.new) ⊎ (self.new.reads ≡ 0) }
-        ensures memory { IsErrOf result LinesFault.Memory → (S.failures source.new ≡ S.failures source.old)
-            × Consumes (coming self.old (S.tells source.old)) (coming self.new (S.tells source.new)) line.new.items }
-        ensures room { limit ≤ vec_capacity line.old → result ≢ Err LinesFault.Memory }
-        ensures wanted { IsErrOf result LinesFault.Memory → IfSome (coming self.old (S.tells source.old)) (λ bytes. vec_capacity line.old < length bytes) }
     {
         line.clear();
         'reads: loop {

@@ -1,7 +1,8 @@
 //! Lines, read exactly where they are spelled.
 
 ghost use Rattle.std.specs.Prelude.{◌≡◌, ◌≢◌, ◌++◌, ◌∷◌, ℕ, List, All, IfSome, IfNone, MatchOption};
-ghost use Rattle.sgt_notation.specs.Reading.{Finds, IsOperation, Reads, Refuses, operation_text};
+ghost use Rattle.sgt_notation.specs.Private.{IsOperation, operation_text};
+ghost use Rattle.sgt_notation.specs.Reading.{Finds, Reads, Refuses};
 ghost use Rattle.sgt_notation.specs.Spelling.{IsEntry, IsHolding, IsLine, assignment, entry_text, line_text};
 
 use crate::SectionLine;
@@ -59,7 +60,9 @@ fn find_entry(line: &[u8]) -> Option<Entry>
     match *letter {
         b'r' => find_operation(rest).map(|(tx, item, value)| Entry::Read { tx, item, value }),
         b'w' => find_operation(rest).map(|(tx, item, value)| Entry::Write { tx, item, value }),
+        b'd' => find_operation(rest).map(|(tx, item, value)| Entry::Add { tx, item, value }),
         b'p' => find_operation(rest).map(|(tx, item, value)| Entry::Want { tx, item, value }),
+        b'q' => find_operation(rest).map(|(tx, item, value)| Entry::WantAdd { tx, item, value }),
         b'c' => find_tx(rest).map(|tx| Entry::Commit { tx }),
         b'n' => find_tx(rest).map(|tx| Entry::Refuse { tx }),
         b'a' => find_tx(rest).map(|tx| Entry::Withdraw { tx }),

@@ -1,7 +1,8 @@
 //! Lines, written as they are spelled.
 
 ghost use Rattle.std.specs.Prelude.{◌≡◌, ◌≤◌, ◌+◌, ◌++◌, length, take, decimal, vec_len, vec_capacity, IsOk, OnOk, OnErr};
-ghost use Rattle.sgt_notation.specs.Spelling.{assignment, entry_text, line_text, operation};
+ghost use Rattle.sgt_names.specs.Name.{IsName};
+ghost use Rattle.sgt_notation.specs.Spelling.{assignment, entry_text, line_text, operation, IsEntry, IsHolding, IsLine, IsTx, IsValue};
 
 use crate::SectionLine;
 use itoa::Buffer;
@@ -21,6 +22,7 @@ pub fn push_number(out: &mut Vec<u8>, number: u64) -> Result<(), AllocError>
 
 fn push_operation(out: &mut Vec<u8>, tx: Tx, item: &Item, value: Value) -> Result<(), AllocError>
     ensures ok { OnOk result (out.new.items ≡ out.old.items ++ operation tx item.now value) }
+    ensures in_range { OnOk result (IsTx tx × IsName item.now × IsValue value) }
     ensures err { OnErr result (take (vec_len out.old) out.new.items ≡ out.old.items) }
     ensures room { vec_len out.old + length (operation tx item.now value) ≤ vec_capacity out.old → IsOk result }
     ensures capacity { vec_capacity out.old ≤ vec_capacity out.new }
@@ -34,6 +36,7 @@ fn push_operation(out: &mut Vec<u8>, tx: Tx, item: &Item, value: Value) -> Resul
 
 fn push_assignment(out: &mut Vec<u8>, holding: &Holding) -> Result<(), AllocError>
     ensures ok { OnOk result (out.new.items ≡ out.old.items ++ assignment holding.now.item holding.now.value) }
+    ensures in_range { OnOk result (IsHolding holding.now) }
     ensures err { OnErr result (take (vec_len out.old) out.new.items ≡ out.old.items) }
     ensures room { vec_len out.old + length (assignment holding.now.item holding.now.value) ≤ vec_capacity out.old → IsOk result }
     ensures capacity { vec_capacity out.old ≤ vec_capacity out.new }
@@ -45,6 +48,7 @@ fn push_assignment(out: &mut Vec<u8>, holding: &Holding) -> Result<(), AllocErro
 
 fn push_entry(out: &mut Vec<u8>, entry: &Entry) -> Result<(), AllocError>
     ensures ok { OnOk result (out.new.items ≡ out.old.items ++ entry_text entry.now) }
+    ensures in_range { OnOk result (IsEntry entry.now) }
     ensures err { OnErr result (take (vec_len out.old) out.new.items ≡ out.old.items) }
     ensures room { vec_len out.old + length (entry_text entry.now) ≤ vec_capacity out.old → IsOk result }
     ensures capacity { vec_capacity out.old ≤ vec_capacity out.new }
@@ -58,8 +62,16 @@ fn push_entry(out: &mut Vec<u8>, entry: &Entry) -> Result<(), AllocError>
             out.extend_from_slice(b"w")?;
             push_operation(out, *tx, item, *value)
         }
+        Entry::Add { tx, item, value } => {
+            out.extend_from_slice(b"d")?;
+            push_operation(out, *tx, item, *value)
+        }
         Entry::Want { tx, item, value } => {
             out.extend_from_slice(b"p")?;
+            push_operation(out, *tx, item, *value)
+        }
+        Entry::WantAdd { tx, item, value } => {
+            out.extend_from_slice(b"q")?;
             push_operation(out, *tx, item, *value)
         }
         Entry::Commit { tx } => {
@@ -79,6 +91,7 @@ fn push_entry(out: &mut Vec<u8>, entry: &Entry) -> Result<(), AllocError>
 
 fn push_line(out: &mut Vec<u8>, line: &SectionLine) -> Result<(), AllocError>
     ensures ok { OnOk result (out.new.items ≡ out.old.items ++ line_text line.now) }
+    ensures in_range { OnOk result (IsLine line.now) }
     ensures err { OnErr result (take (vec_len out.old) out.new.items ≡ out.old.items) }
     ensures room { vec_len out.old + length (line_text line.now) ≤ vec_capacity out.old → IsOk result }
     ensures capacity { vec_capacity out.old ≤ vec_capacity out.new }
@@ -102,8 +115,10 @@ fn push_line(out: &mut Vec<u8>, line: &SectionLine) -> Result<(), AllocError>
 }
 
 /// Writes the line of the entry, without an LF, behind what is there. Where a growth is refused nothing is written.
+/// `read_entry` reads it again as this entry.
 pub fn write_entry(out: &mut Vec<u8>, entry: &Entry) -> Result<(), AllocError>
     ensures ok { OnOk result (out.new.items ≡ out.old.items ++ entry_text entry.now) }
+    ensures in_range { OnOk result (IsEntry entry.now) }
     ensures err { OnErr result (out.new.items ≡ out.old.items) }
     ensures room { vec_len out.old + length (entry_text entry.now) ≤ vec_capacity out.old → IsOk result }
     ensures capacity { vec_capacity out.old ≤ vec_capacity out.new }
@@ -112,8 +127,10 @@ pub fn write_entry(out: &mut Vec<u8>, entry: &Entry) -> Result<(), AllocError>
 }
 
 /// Writes the line, without an LF, behind what is there. Where a growth is refused nothing is written.
+/// `read_section` reads it again as this line.
 pub fn write_section(out: &mut Vec<u8>, line: &SectionLine) -> Result<(), AllocError>
     ensures ok { OnOk result (out.new.items ≡ out.old.items ++ line_text line.now) }
+    ensures in_range { OnOk result (IsLine line.now) }
     ensures err { OnErr result (out.new.items ≡ out.old.items) }
     ensures room { vec_len out.old + length (line_text line.now) ≤ vec_capacity out.old → IsOk result }
     ensures capacity { vec_capacity out.old ≤ vec_capacity out.new }

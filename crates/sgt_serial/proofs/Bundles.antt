@@ -13,9 +13,9 @@ use Rattle.sgt_cert.specs.declared.bundle.SiteLog.{SiteLog}
 use Rattle.sgt_serial.specs.declared.report.SiteValue.{SiteValue}
 use Rattle.sgt_serial.specs.Difference.{Has, IsFirstWithout, DiffersIn, AllRunOn, store_after_all, IsFirstDifference}
 use Rattle.sgt_serial.specs.Report.{finals_of}
-use Rattle.sgt_serial.specs.Values.{store_of}
+use Rattle.sgt_serial.specs.private.Values.{store_of}
 use Rattle.sgt_serial.proofs.Differences.{runs-serially}
-use Rattle.sgt_serial.proofs.Running.{at_place}
+use Rattle.sgt_serial.proofs.Running.{at_value}
 
 mapped : {A B C : Type 0} (f : B → Option C) (g : A → B) (o : Option A) → option_and_then f (option_map g o) ≡ option_and_then (λ a. f (g a)) o
 mapped f g None = refl
@@ -27,7 +27,7 @@ at_item sites s x =
     ∙ mapped (λ (items : List Holding). value_in items x) (λ (log : SiteLog). log.items) (slice_get sites s)
 
 -- the initial values
-pub first-store : (sites : List SiteLog) → store_of (map (λ (log : SiteLog). log.items) sites) ≡ initial_store sites
+first-store : (sites : List SiteLog) → store_of (map (λ (log : SiteLog). log.items) sites) ≡ initial_store sites
 first-store sites = λ i s x. at_item sites s x i
 
 -- what is run, from which store
@@ -63,7 +63,7 @@ module _ (b : Parts) (sites : List SiteLog) (txs : List ℕ) (values : List (Lis
         let at_end = subst (λ (store : Store). IsFirstWithout (Has store) finals a) end first in
         let listed = subst (λ (listed : List SiteValue). IsFirstWithout (Has (store_after_all sites txs (store_of values))) listed a) of_finals at_end in
         let moved = subst (λ (p : Start). AllRunOn p.0 p.1 p.2 × IsFirstWithout (Has (store_after_all p.0 p.1 p.2)) (finals_of p.0) a) start (all, listed) in
-        let placed = at_place (IsFirstWithout (Has (store_after_all b.sites (by_rank b.certificate.decisions) (initial_store b.sites))) (finals_of b.sites)) a s x site item moved.1 in
+        let placed = at_value (IsFirstWithout (Has (store_after_all b.sites (by_rank b.certificate.decisions) (initial_store b.sites))) (finals_of b.sites)) a s x site item moved.1 in
         subst (λ t. IsFirstDifference b t s x) is (a.value, moved.0, placed)
 
     -- no difference

@@ -12,7 +12,7 @@ use Rattle.sgt_cert.specs.Certificate.{IsCommitted, with_rank, rank_limit, by_ra
 use Rattle.sgt_cert.specs.declared.certificate.Decision.{Decision}
 use Rattle.sgt_cert.specs.declared.certificate.Decision.TheVariants.{Commit, Refuse, Withdraw}
 use Rattle.sgt_cert.proofs.Ranks.{rank-lt-limit}
-use Rattle.sgt_serial.specs.Order.{ranked_in}
+use Rattle.sgt_serial.specs.private.Order.{ranked_in}
 use Rattle.sgt_serial.specs.declared.order.Ranked.{Ranked}
 use Rattle.sgt_serial.proofs.Sorting.{of_number, by_number, stable-of_number, map-flat_map, flat_map-same}
 

@@ -1,20 +1,21 @@
 -- First differences: there are none in a run that agrees, and there is at most one.
 use Rattle.std.proofs.Common.{◌≡◌, ℕ, zero, suc, ◌<◌, List, [], ◌∷◌, length, take, map, Option, Some, None, Result, Ok, Err, refl, sym, ap, ◌∙◌, subst, arith, inl, inr, ◌⊎◌, All}
 use Rattle.std.specs.Prelude.{slice_get, IfOk, OnOk}
-use Rattle.std.specs.Option.{option_map}
 use Rattle.std.specs.List.{range_with_len}
 use Rattle.std.proofs.lemmas.Bool.{cases_lt}
 use Rattle.std.proofs.lemmas.List.{take-take}
 use Rattle.std.proofs.lemmas.List.Elements.{All-map, All-nil}
-use Rattle.std.proofs.lemmas.Option.{same_Some, slice_get-map, slice_get_within}
+use Rattle.std.proofs.lemmas.Option.{same_Some, slice_get_within}
 use Rattle.sgt_names.specs.Name.{Name}
 use Rattle.sgt_names.specs.declared.entry.Holding.{Holding}
-use Rattle.sgt_names.proofs.Places.{All_at, All-from_at, slice_get-take_at}
-use Rattle.sgt_names.proofs.Chosen.{option_cases}
+use Rattle.sgt_names.proofs.Lists as lists
+use Rattle.sgt_names.proofs.Lists.{option_cases}
+use Rattle.sgt_names.proofs.Places.{All_at, slice_get-take_at}
 use Rattle.sgt_cert.specs.Parts.{Parts}
 use Rattle.sgt_cert.specs.Certificate.{by_rank}
 use Rattle.sgt_cert.specs.Serial.{Store, initial_store, store_after, RunsOn, RunsSerially, SerialAgrees}
 use Rattle.sgt_cert.specs.declared.bundle.SiteLog.{SiteLog}
+use Rattle.sgt_serial.specs.declared.report.SiteChange.{SiteChange}
 use Rattle.sgt_serial.specs.declared.report.SiteValue.{SiteValue}
 use Rattle.sgt_serial.specs.declared.report.SerialReport.{SerialReport}
 use Rattle.sgt_serial.specs.declared.report.SerialFail.{SerialFail}
@@ -24,7 +25,7 @@ use Rattle.sgt_serial.specs.Report.{reads_of, writes_of, final_at, finals_at, fi
 use Rattle.sgt_serial.proofs.Logged.{All-flat_map, All-flat_map_at, range_at, has-reads, knows-writes}
 
 -- the transaction at a place runs as logged after those before it
-pub AllRunOn-at : (sites : List SiteLog) (txs : List ℕ) (n tx : ℕ) (store : Store) → AllRunOn sites txs store → slice_get txs n ≡ Some tx → RunsOn sites tx (store_after_all sites (take n txs) store)
+AllRunOn-at : (sites : List SiteLog) (txs : List ℕ) (n tx : ℕ) (store : Store) → AllRunOn sites txs store → slice_get txs n ≡ Some tx → RunsOn sites tx (store_after_all sites (take n txs) store)
 AllRunOn-at sites [] n tx store all at = absurd cc
 AllRunOn-at sites (t ∷ txs) zero tx store all at = subst (λ u. RunsOn sites u store) (same_Some t tx at) all.0
 AllRunOn-at sites (t ∷ txs) (suc n) tx store all at = AllRunOn-at sites txs n tx (store_after sites t store) all.1 at
@@ -37,12 +38,9 @@ finals-listed sites store each = All-flat_map (Has store) (λ s. map (final_at s
       | inr some ↦ subst (λ o. All (Has store) (map (final_at s) (finals_at o))) (sym some.1) (All-map (Has store) (final_at s) some.0.finals (each s some.0 some.1))
     ]) (range_with_len 0 (length sites))
 
-All-from_map : {A B : Type 0} (P : B → Type 0) (f : A → B) (xs : List A) → All P (map f xs) → All (λ x. P (f x)) xs
-All-from_map P f xs all = All-from_at (λ x. P (f x)) xs (λ n x at. All_at P (map f xs) n (f x) all (slice_get-map f xs n ∙ ap (option_map f) at))
-
 finals-each : (sites : List SiteLog) (store : Store) → All (Has store) (finals_of sites) → (s : ℕ) (log : SiteLog) → slice_get sites s ≡ Some log → All (λ (h : Holding). store s h.item ≡ Some h.value) log.finals
 finals-each sites store all s log at =
-    All-from_map (Has store) (final_at s) log.finals
+    lists.All-map (Has store) (final_at s) log.finals
     (subst (λ o. All (Has store) (map (final_at s) (finals_at o))) at
     (All-flat_map_at (Has store) (λ k. map (final_at k) (finals_at (slice_get sites k))) (range_with_len 0 (length sites)) s s (range_at (length sites) s (slice_get_within sites s log at)) all))
 
@@ -51,7 +49,7 @@ pub as_logged : (sites : List SiteLog) (txs : List ℕ) (store : Store) → Runs
 as_logged sites [] store runs = tt
 as_logged sites (t ∷ txs) store runs = (runs.0, as_logged sites txs (store_after sites t store) runs.1)
 
-pub has-finals : (sites : List SiteLog) (txs : List ℕ) (store : Store) → RunsSerially sites txs store → All (Has (store_after_all sites txs store)) (finals_of sites)
+has-finals : (sites : List SiteLog) (txs : List ℕ) (store : Store) → RunsSerially sites txs store → All (Has (store_after_all sites txs store)) (finals_of sites)
 has-finals sites [] store runs = finals-listed sites store runs
 has-finals sites (t ∷ txs) store runs = has-finals sites txs (store_after sites t store) runs.1
 
@@ -78,42 +76,47 @@ one-without P xs x y f g =
     ]
 
 -- a transaction that runs as logged doesn't differ
-none-from : (sites : List SiteLog) (tx : ℕ) (store : Store) (a : SiteValue) → RunsOn sites tx store → DiffersFrom store (reads_of sites tx) (writes_of sites tx) a → ⊥
-none-from sites tx store a runs (inl read) = none-without (Has store) (reads_of sites tx) a (has-reads sites tx store runs) read
-none-from sites tx store a runs (inr write) = none-without (Knows store) (writes_of sites tx) a (knows-writes sites tx store runs) write.1
+none-from : (sites : List SiteLog) (tx : ℕ) (store : Store) (s : ℕ) (x : Name) → RunsOn sites tx store → DiffersFrom store (reads_of sites tx) (writes_of sites tx) s x → ⊥
+none-from sites tx store s x runs (inl read) = none-without (Has store) (reads_of sites tx) (record { site = s; item = x; value = read.0 }) (has-reads sites tx store runs) read.1
+none-from sites tx store s x runs (inr write) =
+    none-without (Knows store) (writes_of sites tx) (record { site = s; item = x; change = write.1.0 }) (knows-writes sites tx store runs) write.1.1
 
-one-from : (store : Store) (reads writes : List SiteValue) (a b : SiteValue) → DiffersFrom store reads writes a → DiffersFrom store reads writes b → a ≡ b
-one-from store reads writes a b (inl f) (inl g) = one-without (Has store) reads a b f g
-one-from store reads writes a b (inl f) (inr g) = absurd (none-without (Has store) reads a g.0 f)
-one-from store reads writes a b (inr f) (inl g) = absurd (none-without (Has store) reads b f.0 g)
-one-from store reads writes a b (inr f) (inr g) = one-without (Knows store) writes a b f.1 g.1
+one-from : (store : Store) (reads : List SiteValue) (writes : List SiteChange) (s r : ℕ) (x y : Name)
+    → DiffersFrom store reads writes s x → DiffersFrom store reads writes r y → (s ≡ r) × (x ≡ y)
+one-from store reads writes s r x y (inl f) (inl g) =
+    let one = one-without (Has store) reads (record { site = s; item = x; value = f.0 }) (record { site = r; item = y; value = g.0 }) f.1 g.1 in
+    (ap (λ (a : SiteValue). a.site) one, ap (λ (a : SiteValue). a.item) one)
+one-from store reads writes s r x y (inl f) (inr g) = absurd (none-without (Has store) reads (record { site = s; item = x; value = f.0 }) g.0 f.1)
+one-from store reads writes s r x y (inr f) (inl g) = absurd (none-without (Has store) reads (record { site = r; item = y; value = g.0 }) f.0 g.1)
+one-from store reads writes s r x y (inr f) (inr g) =
+    let one = one-without (Knows store) writes (record { site = s; item = x; change = f.1.0 }) (record { site = r; item = y; change = g.1.0 }) f.1.1 g.1.1 in
+    (ap (λ (a : SiteChange). a.site) one, ap (λ (a : SiteChange). a.item) one)
 
 none-in : (sites : List SiteLog) (txs : List ℕ) (store : Store) (tx s : ℕ) (x : Name) → AllRunOn sites txs store → DiffersIn sites txs store tx s x → ⊥
-none-in sites txs store tx s x all d =
-    none-from sites tx (store_after_all sites (take d.0 txs) store) (record { site = s; item = x; value = d.1 }) (AllRunOn-at sites txs d.0 tx store all d.2) d.4
+none-in sites txs store tx s x all d = none-from sites tx (store_after_all sites (take d.0 txs) store) s x (AllRunOn-at sites txs d.0 tx store all d.1) d.3
 
 -- an earlier difference rules a later one out
 earlier : (sites : List SiteLog) (txs : List ℕ) (store : Store) (t s : ℕ) (x : Name) (d : DiffersIn sites txs store t s x) (m : ℕ) → AllRunOn sites (take m txs) store → d.0 < m → ⊥
 earlier sites txs store t s x d m all lt =
-    let runs = AllRunOn-at sites (take m txs) d.0 t store all (slice_get-take_at txs m d.0 t lt d.2) in
-    none-from sites t (store_after_all sites (take d.0 txs) store) (record { site = s; item = x; value = d.1 })
-    (subst (λ (us : List ℕ). RunsOn sites t (store_after_all sites us store)) (take-take d.0 m txs (omega arith)) runs) d.4
+    let runs = AllRunOn-at sites (take m txs) d.0 t store all (slice_get-take_at txs m d.0 t lt d.1) in
+    none-from sites t (store_after_all sites (take d.0 txs) store) s x
+    (subst (λ (us : List ℕ). RunsOn sites t (store_after_all sites us store)) (take-take d.0 m txs (omega arith)) runs) d.3
 
 -- two differences are at one place of the run
 one-in : (sites : List SiteLog) (txs : List ℕ) (store : Store) (t s : ℕ) (x : Name) (u r : ℕ) (y : Name) → DiffersIn sites txs store t s x → DiffersIn sites txs store u r y → (t ≡ u) × (s ≡ r) × (x ≡ y)
 one-in sites txs store t s x u r y d e =
     elim (cases_lt d.0 e.0) [
-      | inl before ↦ absurd (earlier sites txs store t s x d e.0 e.3 before)
+      | inl before ↦ absurd (earlier sites txs store t s x d e.0 e.2 before)
       | inr after ↦
           elim (cases_lt e.0 d.0) [
-            | inl later ↦ absurd (earlier sites txs store u r y e d.0 d.3 later)
+            | inl later ↦ absurd (earlier sites txs store u r y e d.0 d.2 later)
             | inr upto ↦
                 let place : e.0 ≡ d.0 = omega arith in
-                let same : u ≡ t = same_Some u t (sym e.2 ∙ ap (slice_get txs) place ∙ d.2) in
-                let there = λ (n v : ℕ). DiffersFrom (store_after_all sites (take n txs) store) (reads_of sites v) (writes_of sites v) (record { site = r; item = y; value = e.1 }) in
-                let here = subst (λ (n : ℕ). there n t) place (subst (λ (v : ℕ). there e.0 v) same e.4) in
-                let one = one-from (store_after_all sites (take d.0 txs) store) (reads_of sites t) (writes_of sites t) (record { site = s; item = x; value = d.1 }) (record { site = r; item = y; value = e.1 }) d.4 here in
-                (sym same, ap (λ (a : SiteValue). a.site) one, ap (λ (a : SiteValue). a.item) one)
+                let same : u ≡ t = same_Some u t (sym e.1 ∙ ap (slice_get txs) place ∙ d.1) in
+                let there = λ (n v : ℕ). DiffersFrom (store_after_all sites (take n txs) store) (reads_of sites v) (writes_of sites v) r y in
+                let here = subst (λ (n : ℕ). there n t) place (subst (λ (v : ℕ). there e.0 v) same e.3) in
+                let one = one-from (store_after_all sites (take d.0 txs) store) (reads_of sites t) (writes_of sites t) s r x y d.3 here in
+                (sym same, one.0, one.1)
           ]
     ]
 

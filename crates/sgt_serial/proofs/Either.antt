@@ -58,11 +58,11 @@ all-or-differs sites (t ∷ txs) store =
             | inl knows ↦
                 elim (all-or-differs sites txs (store_after sites t store)) [
                   | inl all ↦ inl (runs-on sites t store has knows, all)
-                  | inr d ↦ inr (d.0, d.1, d.2, (suc d.3.0, d.3.1, d.3.2, (runs-on sites t store has knows, d.3.3), d.3.4))
+                  | inr d ↦ inr (d.0, d.1, d.2, (suc d.3.0, d.3.1, (runs-on sites t store has knows, d.3.2), d.3.3))
                 ]
-            | inr first ↦ inr (t, first.0.site, first.0.item, (0, first.0.value, refl, tt, inr (has, first.1)))
+            | inr first ↦ inr (t, first.0.site, first.0.item, (0, refl, tt, inr (has, (first.0.change, first.1))))
           ]
-      | inr first ↦ inr (t, first.0.site, first.0.item, (0, first.0.value, refl, tt, inl first.1))
+      | inr first ↦ inr (t, first.0.site, first.0.item, (0, refl, tt, inl (first.0.value, first.1)))
     ]
 
 pub agrees-or-differs : (b : Parts) → SerialAgrees b ⊎ ((tx : Option ℕ) × (s : ℕ) × (x : Name) × IsFirstDifference b tx s x)

@@ -16,11 +16,12 @@ use Rattle.std.proofs.lemmas.Map.Lookups.{exact_bytes}
 use Rattle.std.proofs.lemmas.List.Sorted.{searchable_from_sorted}
 use Rattle.std.proofs.lemmas.Option.{same_Some, slice_get-map, slice_get-get_or, slice_get_within, get_or_from_slice_get}
 use Rattle.sgt_names.specs.Name.{Name}
-use Rattle.sgt_names.specs.Log.{names, value_in}
+use Rattle.sgt_names.specs.Log.{names, value_in, value_with}
+use Rattle.sgt_names.specs.declared.entry.Change.{Change}
 use Rattle.sgt_names.specs.declared.entry.Holding.{Holding}
 use Rattle.sgt_names.proofs.Places.{AllPairs_at, AllPairs-tail}
 use Rattle.sgt_cert.specs.Parts.{ComesBefore}
-use Rattle.sgt_serial.specs.Values.{IsRising}
+use Rattle.sgt_serial.specs.private.Values.{IsRising}
 
 -- how the bytes of two names compare
 abbrev name_cmp : Name → Name → Ordering
@@ -46,7 +47,7 @@ bytes_eq-other : (x y : Name) → x ≢ y → bytes_eq x y ≡ false
 bytes_eq-other x y other = elim (cases_Bool (bytes_eq x y)) [ inl hit ↦ absurd (other ((bytes_eq-Decides x y).0 hit)) | inr miss ↦ miss ]
 
 -- the value at the place of an item
-pub value_in-at : (hs : List Holding) → IsRising hs → (i : ℕ) (h : Holding) → slice_get hs i ≡ Some h → value_in hs h.item ≡ Some h.value
+value_in-at : (hs : List Holding) → IsRising hs → (i : ℕ) (h : Holding) → slice_get hs i ≡ Some h → value_in hs h.item ≡ Some h.value
 value_in-at [] rising i h at = absurd cc
 value_in-at (g ∷ hs) rising zero h at =
     let same = same_Some g h at in
@@ -56,7 +57,7 @@ value_in-at (g ∷ hs) rising (suc i) h at =
     ap (λ b. cond b (Some g.value) (value_in hs h.item)) (bytes_eq-other g.item h.item other) ∙ value_in-at hs (AllPairs-tail ComesBefore g.item (names hs) rising) i h at
 
 -- an item that stands nowhere has no value
-pub value_in-none : (hs : List Holding) (x : Name) → ((i : ℕ) (h : Holding) → slice_get hs i ≡ Some h → h.item ≢ x) → value_in hs x ≡ None
+value_in-none : (hs : List Holding) (x : Name) → ((i : ℕ) (h : Holding) → slice_get hs i ≡ Some h → h.item ≢ x) → value_in hs x ≡ None
 value_in-none [] x nowhere = refl
 value_in-none (g ∷ hs) x nowhere =
     ap (λ b. cond b (Some g.value) (value_in hs x)) (bytes_eq-other g.item x (nowhere 0 g refl)) ∙ value_in-none hs x (λ i h at. nowhere (suc i) h at)
@@ -112,6 +113,17 @@ value_in-set (g ∷ hs) rising (suc i) h v at y =
           let miss : bytes_eq h.item y ≡ false = bytes_eq-other h.item y (λ e. other (is ∙ sym e)) in
           rw (hit, miss) refl
       | inr miss ↦ rw miss rest
+    ]
+
+-- a change of an item that has a value
+pub change-where : (hs : List Holding) (y x : Name) (v w : ℕ) (c : Change) → value_in hs y ≡ Some v → value_with (Some v) c ≡ Some w
+    → cond (bytes_eq y x) (Some w) (value_in hs x) ≡ cond (bytes_eq y x) (value_with (value_in hs x) c) (value_in hs x)
+change-where hs y x v w c here after =
+    elim (cases_Bool (bytes_eq y x)) [
+      | inl hit ↦
+          let same = ap (value_in hs) (sym ((bytes_eq-Decides y x).0 hit)) ∙ here in
+          rw hit (sym (ap (λ o. value_with o c) same ∙ after))
+      | inr miss ↦ rw miss refl
     ]
 
 -- what is read at a place where something stands

@@ -1,13 +1,12 @@
 mod Bundles
 mod ByRank
+mod Changes
 mod Differences
 mod Either
 mod Examples
-mod Fronts
 mod Grouping
 mod Items
 mod Lines
 mod Logged
-mod Puts
 mod Running
 mod Sorting

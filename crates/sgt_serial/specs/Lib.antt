@@ -1,7 +1,5 @@
 pub mod Answer
 pub mod Difference
-pub mod Operations
-pub mod Order
 pub mod Report
 pub mod Text
-pub mod Values
+pub mod private

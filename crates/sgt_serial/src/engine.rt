@@ -1,19 +1,18 @@
 //! The serial run of all that a reader gives.
 
 ghost use Rattle.std.specs.Prelude.{◌≡◌, ◌≢◌, ◌⊎◌, ◌<◌, ◌≤◌, ℕ, List, Option, Err, length, OnErr, IfOk, IfSome, IsErrOf};
-ghost use Rattle.std.specs.Io.KnownBytes.{Appends};
 ghost use Rattle.sgt_notation.specs.Limits.{most_reads};
 ghost use Rattle.sgt_cert.specs.Valid.{IsValid};
 ghost use Rattle.sgt_audit.specs.Verdict.{IsAudited, HandsOutValid};
-ghost use Rattle.sgt_serial.specs.Answer.{IsAnswer, WroteFront};
+ghost use Rattle.sgt_serial.specs.Answer.{IsAnswer, WroteAnswer, WroteAnswerFront};
 ghost use Rattle.sgt_serial.specs.Report.{report_of};
 ghost use Rattle.sgt_serial.specs.Text.{report_text};
 
 use crate::report::SerialFail;
 use crate::run::serial_run;
-use sgt_audit::{Audited, Verdict, audit_bundle, write_all};
+use sgt_audit::{Audited, Verdict, audit_bundle};
 use sgt_cert::Bundle;
-use sgt_names::{EngineFail, Outcome, Sink, Source};
+use sgt_names::{EngineFail, Outcome, Sink, Source, write_all};
 use std::alloc::{AllocError, Global};
 
 /// The text of a valid bundle's run.
@@ -38,7 +37,8 @@ struct Answer {
 /// The answer to what was audited.
 fn answer_to(alloc: Global, audited: Audited) -> Result<Answer, AllocError>
     requires { HandsOutValid audited }
-    ensures { IfOk result (λ answer. (told : Option (List ℕ)) → IfSome told (λ bytes. IsAudited bytes audited) → IsAnswer told answer.outcome answer.text.items) }
+    ensures { IfOk result (λ answer. (told : Option (List ℕ)) → IfSome told (λ bytes. IsAudited bytes audited)
+        → IsAnswer told answer.outcome answer.text.items) }
 {
     match audited {
         Audited::Valid(bundle) => Ok(Answer {
@@ -56,9 +56,9 @@ fn answer_to(alloc: Global, audited: Audited) -> Result<Answer, AllocError>
 }
 
 /// Audits all that the reader gives, as `audit` does. A no is written as its line. For a yes the serial run of the bundle
-/// is written and no verdict: of each committed transaction by rank a line of its number, its reads and its writes, each by
-/// site and then in log order; then the final values by site and name. The reader is read once, and no further than the
-/// first line with a fault.
+/// is written and no verdict: of each committed transaction by rank a line of its number, its reads, and its writes and
+/// increments, each by site and then in log order; then the final values by site and name. The reader is read once, and no
+/// further than the first line with a fault.
 ///
 /// ReadFault where the reader failed, or no read is left, and Memory where a growth was refused: nothing was written.
 /// WriteFault where the writer failed: a front of the answer may have been written.
@@ -67,23 +67,20 @@ pub fn serial<R: Source, W: Sink>(
     reader: &mut R,
     writer: &mut W,
 ) -> Result<Outcome, EngineFail>
-    ensures answer { IfOk result (λ outcome. (text : List ℕ) × IsAnswer (R.tells reader.old) outcome text × Appends (W.holds writer.old) (W.holds writer.new) text) }
-    ensures front { OnErr result (WroteFront (R.tells reader.old) (W.holds writer.old) (W.holds writer.new)) }
+    ensures answer { IfOk result (λ outcome. WroteAnswer (R.tells reader.old) outcome (W.holds writer.old) (W.holds writer.new)) }
+    ensures front { OnErr result (WroteAnswerFront (R.tells reader.old) (W.holds writer.old) (W.holds writer.new)) }
     ensures unwritten { IsErrOf result EngineFail.ReadFault → writer.new ≡ writer.old }
     ensures untouched { IsErrOf result EngineFail.Memory → writer.new ≡ writer.old }
+
+    // A fault tells of its device, and no fault of a device is passed over.
     ensures read_fault { IsErrOf result EngineFail.ReadFault →
         ((R.failures reader.old < R.failures reader.new) ⊎ IfSome (R.tells reader.old) (λ bytes. most_reads ≤ length bytes)) }
     ensures write_fault { IsErrOf result EngineFail.WriteFault → W.failures writer.old < W.failures writer.new }
-
-    // A fault of a device isn't passed over.
-    ensures quiet_reader { IfOk result (λ _. R.failures reader.new ≡ R.failures reader.old) }
+    ensures quiet_reader { result ≢ Err EngineFail.ReadFault → R.failures reader.new ≡ R.failures reader.old }
     ensures quiet_writer { result ≢ Err EngineFail.WriteFault → W.failures writer.new ≡ W.failures writer.old }
 {
     let audited = audit_bundle(alloc, reader)?;
-    let answer = match answer_to(alloc, audited) {
-        Ok(answer) => answer,
-        Err(_) => return Err(EngineFail::Memory),
-    };
+    let answer = answer_to(alloc, audited)?;
     match write_all(writer, answer.text.as_slice()) {
         Ok(()) => Ok(answer.outcome),
         Err(_) => Err(EngineFail::WriteFault),

@@ -13,7 +13,8 @@ pub fn agreement_excludes_differences()
 
 /// A serial run has at most one first difference.
 pub fn first_differences_are_one()
-    ensures { (b : Parts) (t u : Option ℕ) (r s : ℕ) (x y : Name) → IsFirstDifference b t r x → IsFirstDifference b u s y → (t ≡ u) × (r ≡ s) × (x ≡ y) }
+    ensures { (b : Parts) (t u : Option ℕ) (r s : ℕ) (x y : Name) → IsFirstDifference b t r x → IsFirstDifference b u s y
+        → (t ≡ u) × (r ≡ s) × (x ≡ y) }
 {}
 
 /// A serial run agrees with the record or has a first difference.

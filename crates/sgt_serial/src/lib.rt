@@ -9,11 +9,9 @@ mod order;
 mod report;
 mod run;
 mod store;
-#[cfg(test)]
-mod tests;
 mod text;
 
 pub use engine::serial;
 pub use laws::{agreement_excludes_differences, first_differences_are_one, runs_agree_or_differ};
-pub use report::{SerialFail, SerialReport, SerialTx, SiteValue};
+pub use report::{SerialFail, SerialReport, SerialTx, SiteChange, SiteValue};
 pub use run::serial_run;

@@ -3,7 +3,7 @@
 ghost use Rattle.std.specs.Prelude.{◌≡◌, map, IfOk};
 ghost use Rattle.std.specs.List.{filter_map};
 ghost use Rattle.sgt_cert.specs.Certificate.{by_rank};
-ghost use Rattle.sgt_serial.specs.Order.{ranked_in};
+ghost use Rattle.sgt_serial.specs.private.Order.{ranked_in};
 
 use sgt_cert::Decision;
 use sgt_names::Tx;

@@ -3,11 +3,11 @@
 ghost use Rattle.std.specs.Prelude.{◌≡◌};
 ghost use Rattle.sgt_serial.specs.declared.report.SerialFail.TheVariants.{Memory};
 
-use sgt_names::{Item, Listed, SiteNo, Tx, Value};
+use sgt_names::{Change, Item, Listed, SiteNo, Tx, Value};
 use std::alloc::{AllocError, AllocFailed};
 use thiserror::Error;
 
-/// A value of an item at a site: one that was read, written or left there.
+/// A value of an item at a site: one that was read or left there.
 #[derive(Clone, Copy, Debug, PartialEq, Eq)]
 pub struct SiteValue {
     pub site: SiteNo,
@@ -15,12 +15,20 @@ pub struct SiteValue {
     pub value: Value,
 }
 
-/// A transaction of the run: its reads by site and then in log order, and its writes likewise.
+/// What is done to an item at a site.
+#[derive(Clone, Copy, Debug, PartialEq, Eq)]
+pub struct SiteChange {
+    pub site: SiteNo,
+    pub item: Item,
+    pub change: Change,
+}
+
+/// A transaction of the run: its reads by site and then in log order, and its writes and increments likewise.
 #[derive(Drop)]
 pub struct SerialTx {
     pub tx: Tx,
     pub reads: Listed<SiteValue>,
-    pub writes: Listed<SiteValue>,
+    pub writes: Listed<SiteChange>,
 }
 
 /// A serial run: its transactions in their order, and the values that they leave, by site and name.

@@ -7,7 +7,7 @@ ghost use Rattle.sgt_cert.specs.Serial.{SerialAgrees};
 ghost use Rattle.sgt_cert.specs.Valid.{IsValid};
 ghost use Rattle.sgt_serial.specs.Difference.{Has, Knows, DiffersFrom, DiffersIn, AllRunOn, store_after_all, IsFirstDifference};
 ghost use Rattle.sgt_serial.specs.Report.{run_of, report_of};
-ghost use Rattle.sgt_serial.specs.Values.{store_of, with_all};
+ghost use Rattle.sgt_serial.specs.private.Values.{store_of, with_all};
 
 use crate::finals::finals;
 use crate::operations::Operations;
@@ -18,18 +18,18 @@ use sgt_cert::{Bundle, SiteLog};
 use sgt_names::{Listed, Tx};
 use std::alloc::Global;
 
-/// Compares the transaction's reads with the store, and puts its writes into it.
+/// Compares the transaction's reads with the store, and makes its changes.
 fn run_one(store: &mut Store, run: &SerialTx) -> Result<(), SerialFail>
     ensures reads { OnOk result (All (Has (store_of store.old)) run.now.reads) }
     ensures writes { OnOk result (All (Knows (store_of store.old)) run.now.writes) }
     ensures after { OnOk result ((s : ℕ) (x : Name) → store_of store.new s x ≡ with_all run.now.writes (store_of store.old) s x) }
     ensures differs { (tx : Option ℕ) (s : ℕ) (x : Name) → result ≡ Err (SerialFail.Differs tx s x)
-        → (tx ≡ Some run.now.tx) × (v : ℕ) × DiffersFrom (store_of store.old) run.now.reads run.now.writes (record { site = s; item = x; value = v }) }
+        → (tx ≡ Some run.now.tx) × DiffersFrom (store_of store.old) run.now.reads run.now.writes s x }
 {
     if let Some(read) = store.first_other(run.reads.as_slice()) {
         return Err(SerialFail::Differs(Some(run.tx), read.site, read.item));
     }
-    if let Some(write) = store.put_all(run.writes.as_slice()) {
+    if let Some(write) = store.change_all(run.writes.as_slice()) {
         return Err(SerialFail::Differs(Some(run.tx), write.site, write.item));
     }
     Ok(())
@@ -45,7 +45,8 @@ fn run_all(
     requires { length sites.now ≤ max_sites }
     ensures runs { IfOk result (λ runs. runs.items ≡ map (run_of sites.now) order.now) }
     ensures as_logged { OnOk result (AllRunOn sites.now order.now (store_of store.old)) }
-    ensures after { OnOk result ((s : ℕ) (x : Name) → store_of store.new s x ≡ store_after_all sites.now order.now (store_of store.old) s x) }
+    ensures after { OnOk result ((s : ℕ) (x : Name)
+        → store_of store.new s x ≡ store_after_all sites.now order.now (store_of store.old) s x) }
     ensures differs { (tx : Option ℕ) (s : ℕ) (x : Name) → result ≡ Err (SerialFail.Differs tx s x)
         → (i : ℕ) × (tx ≡ Some i) × DiffersIn sites.now order.now (store_of store.old) i s x }
 {
@@ -81,8 +82,9 @@ fn run_bundle(alloc: Global, bundle: &Bundle) -> Result<SerialReport, SerialFail
 
 /// Runs the committed transactions of the bundle alone, one after another by rank (those of one rank in the order of their
 /// decisions), from the initial values: of each its logged reads are compared with the values so far, and then its logged
-/// writes are put into them. At the end the recorded final values are compared. Z1 names the first difference: in a
-/// transaction, or with `None` among the final values. Z2 comes only where a growth was refused.
+/// writes are put into them and its increments added, modulo 2^64. At the end the recorded final values are compared. Z1
+/// names the first difference: in a transaction, or with `None` among the final values. Z2 comes only where a growth was
+/// refused.
 pub fn serial_run(alloc: Global, bundle: &Bundle) -> Result<SerialReport, SerialFail>
     // What is said is so.
     ensures agrees { OnOk result (SerialAgrees bundle.now) }

@@ -3,14 +3,14 @@
 ghost use Rattle.std.specs.Prelude.{◌≡◌, ℕ, ◌&&◌, map, All, IfOk, IfNone, MatchOption, is_some, if◌then◌else◌, Some, slice_get};
 ghost use Rattle.std.specs.Str.{bytes_eq};
 ghost use Rattle.sgt_names.specs.Name.{Name};
-ghost use Rattle.sgt_names.specs.Log.{value_in};
+ghost use Rattle.sgt_names.specs.Log.{value_in, value_with};
 ghost use Rattle.sgt_cert.specs.Parts.{IsShapedLog};
 ghost use Rattle.sgt_serial.specs.Difference.{Has, Knows, IsFirstWithout};
-ghost use Rattle.sgt_serial.specs.Values.{IsRising, store_of, is_of, with_all};
+ghost use Rattle.sgt_serial.specs.private.Values.{IsRising, store_of, is_of, with_all};
 
-use crate::report::SiteValue;
+use crate::report::{SiteChange, SiteValue};
 use sgt_cert::SiteLog;
-use sgt_names::{Holding, Item, SiteNo, Value};
+use sgt_names::{Change, Holding, Item, SiteNo, Value};
 use std::alloc::{AllocError, Global};
 use std::marker::Model;
 
@@ -23,7 +23,7 @@ struct SiteStore {
 impl Model for SiteStore {
     ghost use Rattle.std.specs.Prelude.{List};
     ghost use Rattle.sgt_names.specs.declared.entry.Holding.{Holding};
-    ghost use Rattle.sgt_serial.specs.Values.{IsRising};
+    ghost use Rattle.sgt_serial.specs.private.Values.{IsRising};
 
     ghost Value = { List Holding };
 
@@ -62,14 +62,16 @@ impl SiteStore {
         }
     }
 
-    /// Sets the value of the item, if it is there.
-    fn put(&mut self, item: &Item, value: Value) -> bool
+    /// Changes the value of the item, if it is there.
+    fn change(&mut self, item: &Item, change: Change) -> bool
         ensures there { result ≡ is_some (value_in self.old item.now) }
-        ensures after { (x : Name) → value_in self.new x ≡ (if result && bytes_eq item.now x then Some value else value_in self.old x) }
+        ensures after { (x : Name) → value_in self.new x
+            ≡ (if result && bytes_eq item.now x then value_with (value_in self.old x) change else value_in self.old x) }
     {
         match self.place(item) {
             Some(place) => {
-                self.holdings[place].value = value;
+                let holding = &mut self.holdings[place];
+                holding.value = change.apply(holding.value);
                 true
             }
             None => false,
@@ -114,14 +116,15 @@ impl Store {
         }
     }
 
-    fn put(&mut self, write: &SiteValue) -> bool
+    /// Makes the change, if its item is there.
+    fn change(&mut self, write: &SiteChange) -> bool
         ensures known { result ≡ is_some (store_of self.old write.now.site write.now.item) }
         ensures after { (s : ℕ) (x : Name) → store_of self.new s x
-            ≡ (if result && is_of s x write.now then Some write.now.value else store_of self.old s x) }
+            ≡ (if result && is_of s x write.now then value_with (store_of self.old s x) write.now.change else store_of self.old s x) }
     {
         let site = write.site.number() as usize;
         if site < self.sites.len() {
-            self.sites[site].put(&write.item, write.value)
+            self.sites[site].change(&write.item, write.change)
         } else {
             false
         }
@@ -129,7 +132,9 @@ impl Store {
 
     /// The first of these values that the store hasn't.
     pub fn first_other(&self, values: &[SiteValue]) -> Option<SiteValue>
-        ensures { MatchOption result (All (Has (store_of self.now)) values.now) (IsFirstWithout (Has (store_of self.now)) values.now) }
+        ensures { MatchOption result
+            (All (Has (store_of self.now)) values.now)
+            (IsFirstWithout (Has (store_of self.now)) values.now) }
     {
         for value in values {
             if self.get(value.site, &value.item) != Some(value.value) {
@@ -139,13 +144,15 @@ impl Store {
         None
     }
 
-    /// Puts these values into their items, in order, up to the first whose item isn't there.
-    pub fn put_all(&mut self, writes: &[SiteValue]) -> Option<SiteValue>
-        ensures known { MatchOption result (All (Knows (store_of self.old)) writes.now) (IsFirstWithout (Knows (store_of self.old)) writes.now) }
+    /// Makes these changes, in order, up to the first whose item isn't there.
+    pub fn change_all(&mut self, writes: &[SiteChange]) -> Option<SiteChange>
+        ensures known { MatchOption result
+            (All (Knows (store_of self.old)) writes.now)
+            (IsFirstWithout (Knows (store_of self.old)) writes.now) }
         ensures after { IfNone result ((s : ℕ) (x : Name) → store_of self.new s x ≡ with_all writes.now (store_of self.old) s x) }
     {
         for write in writes {
-            if !self.put(write) {
+            if !self.change(write) {
                 return Some(*write);
             }
         }

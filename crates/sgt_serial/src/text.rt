@@ -1,11 +1,11 @@
 //! A serial run, written.
 
-ghost use Rattle.std.specs.Prelude.{◌≡◌, ◌++◌, map, OnOk, IfOk};
+ghost use Rattle.std.specs.Prelude.{◌≡◌, ◌++◌, map, codes, OnOk, IfOk};
 ghost use Rattle.sgt_notation.specs.Spelling.{text_of_lines};
-ghost use Rattle.sgt_serial.specs.Text.{place_text, operation_line, run_lines, final_line, report_text};
+ghost use Rattle.sgt_serial.specs.Text.{place_text, operation_line, change_line, run_lines, final_line, report_text};
 
-use crate::report::{SerialReport, SerialTx, SiteValue};
-use sgt_names::Tx;
+use crate::report::{SerialReport, SerialTx, SiteChange, SiteValue};
+use sgt_names::{Change, Tx};
 use sgt_notation::push_number;
 use std::alloc::{AllocError, Global};
 
@@ -33,16 +33,36 @@ fn push_operation(
     push_number(out, value.value)
 }
 
-fn push_operations(
-    out: &mut Vec<u8>,
-    letter: &[u8],
-    tx: Tx,
-    values: &[SiteValue],
-) -> Result<(), AllocError>
-    ensures { OnOk result (out.new.items ≡ out.old.items ++ text_of_lines (map (operation_line letter.now tx) values.now)) }
+fn push_reads(out: &mut Vec<u8>, tx: Tx, reads: &[SiteValue]) -> Result<(), AllocError>
+    ensures { OnOk result (out.new.items ≡ out.old.items ++ text_of_lines (map (operation_line (codes "r") tx) reads.now)) }
 {
-    for value in values {
-        push_operation(out, letter, tx, value)?;
+    for read in reads {
+        push_operation(out, b"r", tx, read)?;
+        out.extend_from_slice(b"\n")?;
+    }
+    Ok(())
+}
+
+fn push_change(out: &mut Vec<u8>, tx: Tx, write: &SiteChange) -> Result<(), AllocError>
+    ensures { OnOk result (out.new.items ≡ out.old.items ++ change_line tx write.now) }
+{
+    let (letter, value) = match write.change {
+        Change::Put(value) => (b"w", value),
+        Change::Add(value) => (b"d", value),
+    };
+    let value = SiteValue {
+        site: write.site,
+        item: write.item,
+        value,
+    };
+    push_operation(out, letter, tx, &value)
+}
+
+fn push_changes(out: &mut Vec<u8>, tx: Tx, writes: &[SiteChange]) -> Result<(), AllocError>
+    ensures { OnOk result (out.new.items ≡ out.old.items ++ text_of_lines (map (change_line tx) writes.now)) }
+{
+    for write in writes {
+        push_change(out, tx, write)?;
         out.extend_from_slice(b"\n")?;
     }
     Ok(())
@@ -54,8 +74,8 @@ fn push_run(out: &mut Vec<u8>, run: &SerialTx) -> Result<(), AllocError>
     out.extend_from_slice(b"t")?;
     push_number(out, u64::from(run.tx.number()))?;
     out.extend_from_slice(b"\n")?;
-    push_operations(out, b"r", run.tx, run.reads.as_slice())?;
-    push_operations(out, b"w", run.tx, run.writes.as_slice())
+    push_reads(out, run.tx, run.reads.as_slice())?;
+    push_changes(out, run.tx, run.writes.as_slice())
 }
 
 fn push_final(out: &mut Vec<u8>, value: &SiteValue) -> Result<(), AllocError>
@@ -78,7 +98,7 @@ fn push_finals(out: &mut Vec<u8>, values: &[SiteValue]) -> Result<(), AllocError
 }
 
 impl SerialReport {
-    /// The text of the run: of each transaction a line of its number, its reads and its writes; then the final values.
+    /// The text of the run: of each transaction a line of its number, its reads, and its writes and increments; then the final values.
     /// Err: memory ran out.
     pub fn to_text(&self, alloc: Global) -> Result<Vec<u8>, AllocError>
         ensures { IfOk result (λ text. text.items ≡ report_text self.now) }

@@ -1,30 +1,22 @@
 -- What entries added to a log keep.
 use Rattle.std.proofs.Common.{◌≡◌, ℕ, zero, suc, ◌+◌, ◌<◌, ◌≤◌, List, [], ◌∷◌, ◌++◌, length, take, Option, Some, None, refl, sym, ap, ◌∙◌, arith, AllPairs, Contains, length-append, append-nil}
-use Rattle.std.specs.Prelude.{slice_get, Any, ◌≢◌}
-use Rattle.std.specs.List.{filter_map, cons_option, last_or}
+use Rattle.std.specs.Prelude.{slice_get, ◌≢◌, fold}
+use Rattle.std.specs.List.{filter_map, cons_option}
 use Rattle.std.specs.Option.{ForSome}
 use Rattle.std.proofs.lemmas.Option.{slice_get_within, slice_get-get_or, get_or_from_slice_get}
 use Rattle.std.proofs.lemmas.List.{take-append-le}
 use Rattle.std.proofs.lemmas.List.Elements.{filter_map-append, All-append}
 use Rattle.sgt_names.specs.Name.{Name}
-use Rattle.sgt_names.specs.Entry.{tx_of, item_of, written, IsEnd, Repeats}
-use Rattle.sgt_names.specs.Log.{names, value_at, IsOrderly, ReadsAreLegal}
+use Rattle.sgt_names.specs.Entry.{tx_of, item_of, change_of, IsEnd, Repeats}
+use Rattle.sgt_names.specs.Log.{names, value_with, value_at, IsOrderly, ReadsAreLegal}
 use Rattle.sgt_names.specs.declared.entry.Entry.{Entry}
 use Rattle.sgt_names.specs.declared.entry.Entry.TheVariants.{Read}
 use Rattle.sgt_names.specs.declared.entry.Holding.{Holding}
+use Rattle.sgt_names.proofs.Lists.{front_at, back_at, Any_at, Any-from_at}
 use Rattle.sgt_names.proofs.Places.{AllPairs_at, AllPairs-from_at, Contains-from_at, take-next}
-use Rattle.sgt_site.specs.Store.{version_at, HasEnded, LogsRead}
+use Rattle.sgt_site.specs.State.{version_at, HasEnded, LogsRead}
 
 module _ {A : Type 0} where
-  pub get_front : (xs ys : List A) (n : ℕ) (a : A) → slice_get xs n ≡ Some a → slice_get (xs ++ ys) n ≡ Some a
-  get_front [] ys n a h = absurd cc
-  get_front (x ∷ xs) ys zero a h = h
-  get_front (x ∷ xs) ys (suc n) a h = get_front xs ys n a h
-
-  pub get_back : (xs ys : List A) (m : ℕ) → slice_get (xs ++ ys) (length xs + m) ≡ slice_get ys m
-  get_back [] ys m = ap (slice_get ys) (omega arith)
-  get_back (x ∷ xs) ys m = let e : suc (length xs) + m ≡ suc (length xs + m) = omega arith in ap (slice_get (x ∷ (xs ++ ys))) e ∙ get_back xs ys m
-
   pub get_cases : {P : Type 0} (xs ys : List A) (n : ℕ) (a : A) → slice_get (xs ++ ys) n ≡ Some a → (slice_get xs n ≡ Some a → P) → ((m : ℕ) → n ≡ length xs + m → slice_get ys m ≡ Some a → P) → P
   get_cases [] ys n a h front back = back n (omega arith) h
   get_cases (x ∷ xs) ys zero a h front back = front h
@@ -33,12 +25,6 @@ module _ {A : Type 0} where
   pub take_back : (xs ys : List A) (m : ℕ) → take (length xs + m) (xs ++ ys) ≡ xs ++ take m ys
   take_back [] ys m = ap (λ k. take k ys) (omega arith)
   take_back (x ∷ xs) ys m = let e : suc (length xs) + m ≡ suc (length xs + m) = omega arith in ap (λ k. take k (x ∷ (xs ++ ys))) e ∙ ap (λ zs. x ∷ zs) (take_back xs ys m)
-
-  pub Any_at : (P : A → Type 0) (xs : List A) → Any P xs → (n : ℕ) × (a : A) × (slice_get xs n ≡ Some a) × P a
-  Any_at P xs (n, a, lt, is, p) = (n, a, slice_get-get_or xs n a lt ∙ ap Some is, p)
-
-  pub Any-from_at : (P : A → Type 0) (xs : List A) (n : ℕ) (a : A) → slice_get xs n ≡ Some a → P a → Any P xs
-  Any-from_at P xs n a h p = (n, a, slice_get_within xs n a h, get_or_from_slice_get xs n a a h, p)
 
 -- the two lists of chosen values that begin with an optional one
 cons_cases : {B P : Type 0} (o : Option B) (bs : List B) (n : ℕ) (b : B) → slice_get (cons_option o bs) n ≡ Some b → ((o ≡ None) → slice_get bs n ≡ Some b → P) → ((m : ℕ) (c : B) → o ≡ Some c → n ≡ suc m → slice_get bs m ≡ Some b → P) → (n ≡ 0 → o ≡ Some b → P) → P
@@ -99,10 +85,10 @@ module _ (items : List Holding) (es bs : List Entry) where
     known = All-append (λ e. ForSome (item_of e) (Contains (names items))) es bs old.known new.known;
     once = pairs (λ e f. (x : Name) → Repeats x e f → ⊥) old.once new.once may.once;
     blocks = λ n e at opens. get_cases es bs n e at
-        (λ front. let next = old.blocks n e front opens in (next.0, get_front es bs (suc n) next.0 next.1, next.2))
+        (λ front. let next = old.blocks n e front opens in (next.0, front_at es bs (suc n) next.0 next.1, next.2))
         (λ m is back. let next = new.blocks m e back opens in
         let place : suc n ≡ length es + suc m = omega (arith, is) in
-        (next.0, ap (slice_get (es ++ bs)) place ∙ get_back es bs (suc m) ∙ next.1, next.2));
+        (next.0, ap (slice_get (es ++ bs)) place ∙ back_at es bs (suc m) ∙ next.1, next.2));
     closed = pairs (λ e f. IsEnd e → tx_of e ≢ tx_of f) old.closed new.closed may.closed;
   }
     where
@@ -122,15 +108,15 @@ module _ (items : List Holding) (es bs : List Entry) where
       ap (λ ds. value_at items ds x) (take-append-le n es bs within) ∙ old n tx x v front)
       (λ m is back. ap (λ ds. value_at items ds x) (ap (λ k. take k (es ++ bs)) is ∙ take_back es bs m) ∙ new m tx x v back)
 
-  -- the value of an item that the new entries don't write
-  pub value-kept : (x : Name) → filter_map (written x) bs ≡ [] → value_at items (es ++ bs) x ≡ value_at items es x
-  value-kept x none = ap (last_or _) (filter_map-append (written x) es bs ∙ ap (λ us. filter_map (written x) es ++ us) none ∙ append-nil (filter_map (written x) es))
+  -- the value of an item that the new entries don't change
+  pub value-kept : (x : Name) → filter_map (change_of x) bs ≡ [] → value_at items (es ++ bs) x ≡ value_at items es x
+  value-kept x none = ap (fold value_with _) (filter_map-append (change_of x) es bs ∙ ap (λ cs. filter_map (change_of x) es ++ cs) none ∙ append-nil (filter_map (change_of x) es))
 
 -- a read in the log stays there
 pub LogsRead-append : (es bs : List Entry) (tx : ℕ) (x : Name) (v n : ℕ) → LogsRead es tx x v n → LogsRead (es ++ bs) tx x v n
 LogsRead-append es bs tx x v n r =
     let within : r.place ≤ length es = let lt = slice_get_within es r.place (Read tx x v) r.at in omega (arith, lt) in
-    record { place = r.place; at = get_front es bs r.place (Read tx x v) r.at; version = ap (λ ds. version_at ds x) (take-append-le r.place es bs within) ∙ r.version }
+    record { place = r.place; at = front_at es bs r.place (Read tx x v) r.at; version = ap (λ ds. version_at ds x) (take-append-le r.place es bs within) ∙ r.version }
 
 -- and each read of the longer log is of the old one, or is new
 pub LogsRead-cases : {P : Type 0} (es bs : List Entry) (tx : ℕ) (x : Name) (v n : ℕ) → LogsRead (es ++ bs) tx x v n → (LogsRead es tx x v n → P) → ((m : ℕ) → slice_get bs m ≡ Some (Read tx x v) → version_at (es ++ take m bs) x ≡ n → P) → P
@@ -141,10 +127,10 @@ LogsRead-cases es bs tx x v n r front back = get_cases es bs r.place (Read tx x 
 
 -- an end stays, and each end of the longer log is of the old one, or is new
 pub HasEnded-append : (es bs : List Entry) (tx : ℕ) → HasEnded es tx → HasEnded (es ++ bs) tx
-HasEnded-append es bs tx h = let a = Any_at (λ e. (tx_of e ≡ tx) × IsEnd e) es h in Any-from_at (λ e. (tx_of e ≡ tx) × IsEnd e) (es ++ bs) a.0 a.1 (get_front es bs a.0 a.1 a.2) a.3
+HasEnded-append es bs tx h = let a = Any_at (λ e. (tx_of e ≡ tx) × IsEnd e) es h in Any-from_at (λ e. (tx_of e ≡ tx) × IsEnd e) (es ++ bs) a.0 a.1 (front_at es bs a.0 a.1 a.2) a.3
 
 pub HasEnded-append_right : (es bs : List Entry) (tx : ℕ) → HasEnded bs tx → HasEnded (es ++ bs) tx
-HasEnded-append_right es bs tx h = let a = Any_at (λ e. (tx_of e ≡ tx) × IsEnd e) bs h in Any-from_at (λ e. (tx_of e ≡ tx) × IsEnd e) (es ++ bs) (length es + a.0) a.1 (get_back es bs a.0 ∙ a.2) a.3
+HasEnded-append_right es bs tx h = let a = Any_at (λ e. (tx_of e ≡ tx) × IsEnd e) bs h in Any-from_at (λ e. (tx_of e ≡ tx) × IsEnd e) (es ++ bs) (length es + a.0) a.1 (back_at es bs a.0 ∙ a.2) a.3
 
 pub HasEnded-cases : {P : Type 0} (es bs : List Entry) (tx : ℕ) → HasEnded (es ++ bs) tx → (HasEnded es tx → P) → (HasEnded bs tx → P) → P
 HasEnded-cases es bs tx h front back =

@@ -1,22 +1,18 @@
 -- Loops over the cells, one place after another.
-use Rattle.std.proofs.Common.{◌≡◌, ℕ, zero, suc, ◌+◌, ◌<◌, ◌≤◌, false, List, [], ◌∷◌, length, get_or, set, drop, Some, refl, sym, ap, ◌∙◌, subst, arith, inl, inr, length-set, All}
+use Rattle.std.proofs.Common.{◌≡◌, ℕ, zero, suc, ◌+◌, ◌<◌, ◌≤◌, false, List, [], ◌∷◌, length, get_or, set, drop, Some, refl, sym, ap, ap₂, ◌∙◌, subst, arith, inl, inr, length-set, All}
 use mathlib.Core.Bool.{false≢true}
-use Rattle.std.specs.Prelude.{slice_get, IsTrue, ◌↔◌}
+use Rattle.std.specs.Prelude.{slice_get, IsTrue, ◌↔◌, option_map}
+use Rattle.std.specs.Ordering.{nat_cmp}
+use Rattle.std.specs.Cmp.Lexicographic.{slice_cmp}
+use Rattle.std.specs.declared.cmp.Ordering.TheVariants.{Less}
+use Rattle.sgt_names.specs.Name.{Name}
 use Rattle.std.proofs.lemmas.Bool.{cases_lt, cases_order}
-use Rattle.std.proofs.lemmas.Option.{same_Some, slice_get_within, slice_get-get_or}
+use Rattle.std.proofs.lemmas.Option.{same_Some, slice_get_within, slice_get-get_or, slice_get-map}
 use Rattle.sgt_names.specs.declared.draft.Touch.{Touch}
-use Rattle.sgt_names.proofs.Places.{All_at, All-from_at}
-use Rattle.sgt_site.specs.Stored.{Contents, IsTouched, AreChanged, ChangesAt, SameButRoom, HasPlace}
+use Rattle.sgt_names.proofs.Lists.{element_at, drop_next, map_at}
+use Rattle.sgt_names.proofs.Places.{All_at, All-from_at, AllPairs_at, AllPairs-from_at}
+use Rattle.sgt_site.specs.private.Cells.{Contents, items_of, CellsRise, IsTouched, AreChanged, ChangesAt, SameButRoom, HasPlace}
 use Rattle.sgt_site.proofs.Inserts.{get_set_same, get_set_other}
-
--- what is left of a list, from an element on
-drop_suc : {A : Type 0} (xs : List A) (n : ℕ) (a : A) → n < length xs → a ≡ get_or xs n a → drop n xs ≡ a ∷ drop (suc n) xs
-drop_suc [] n a lt is = absurd (omega arith)
-drop_suc (x ∷ xs) zero a lt is = ap (λ y. y ∷ xs) (sym is)
-drop_suc (x ∷ xs) (suc n) a lt is = drop_suc xs n a (omega arith) is
-
-drop_next : {A : Type 0} (xs : List A) (n : ℕ) (a : A) → n < length xs → a ≡ get_or xs n a → drop n xs ≡ a ∷ drop (n + 1) xs
-drop_next xs n a lt is = let next : suc n ≡ n + 1 = omega arith in drop_suc xs n a lt is ∙ ap (λ k. a ∷ drop k xs) next
 
 -- the cells below a place were changed so, and the others are as they were
 pub record Done (R : Contents → Contents → Type 0) (i : ℕ) (old now : List Contents) : Type 0 where
@@ -45,13 +41,16 @@ module _ (R : Contents → Contents → Type 0) where
         above = λ n le. ap (λ cs. slice_get cs n) change.others ∙ get_set_other now i n change.after (λ e. absurd (omega arith)) ∙ done.above n (omega arith);
       }
 
-  pub done-all : (old now : List Contents) → Done R (length old) old now → AreChanged R old now
-  done-all old now done = record { as_many = done.as_many; each = λ n c d at_old at_now. done.below n c d (slice_get_within old n c at_old) at_old at_now }
+  pub done-all : (i : ℕ) (old now : List Contents) → length old ≤ i → Done R i old now → AreChanged R old now
+  done-all i old now end done = record {
+    as_many = done.as_many;
+    each = λ n c d at_old at_now. let within = slice_get_within old n c at_old in done.below n c d (omega (arith, within, end)) at_old at_now;
+  }
 
 -- a test of all, one element after another: what is left passes exactly where the whole does
 module _ {A : Type 0} (P : A → Type 0) where
   All_next : (xs : List A) (n : ℕ) (a : A) → n < length xs → a ≡ get_or xs n a → All P (drop n xs) ↔ (P a × All P (drop (n + 1) xs))
-  All_next xs n a lt is = subst (λ ys. All P ys ↔ (P a × All P (drop (n + 1) xs))) (sym (drop_next xs n a lt is)) (
+  All_next xs n a lt is = subst (λ ys. All P ys ↔ (P a × All P (drop (n + 1) xs))) (sym (drop_next xs n a (element_at xs n a lt is))) (
     λ all. (All_at P (a ∷ drop (n + 1) xs) 0 a all refl, All-from_at P (drop (n + 1) xs) (λ k b at. All_at P (a ∷ drop (n + 1) xs) (suc k) b all at)),
     λ parts. All-from_at P (a ∷ drop (n + 1) xs) (λ k b at. by_place parts k b at),
   )
@@ -104,3 +103,23 @@ module _ (part : List Touch) where
       let within = slice_get_within now n d at in
       let was = slice_get-get_or old n d (let many = done.as_many in omega (arith, within, many)) in
       (done.below n (get_or old n d) d (let many = done.as_many in omega (arith, within, many, end)) was at).1)
+
+-- a change of the cells that leaves their items leaves their order
+module _ (R : Contents → Contents → Type 0) (same : (c d : Contents) → R c d → d.item ≡ c.item) where
+  pub changed-items : (old new : List Contents) → AreChanged R old new → items_of new ≡ items_of old
+  changed-items [] [] changed = refl
+  changed-items [] (d ∷ new) changed = absurd (omega (arith, changed.as_many))
+  changed-items (c ∷ old) [] changed = absurd (omega (arith, changed.as_many))
+  changed-items (c ∷ old) (d ∷ new) changed =
+      ap₂ (λ (x : Name) (xs : List Name). x ∷ xs) (same c d (changed.each 0 c d refl refl))
+      (changed-items old new (record { as_many = omega (arith, changed.as_many); each = λ n e f at_e at_f. changed.each (suc n) e f at_e at_f }))
+
+-- the order is that of the items
+item_at : (cells : List Contents) (n : ℕ) (c : Contents) → slice_get cells n ≡ Some c → slice_get (items_of cells) n ≡ Some c.item
+item_at cells n c at = slice_get-map (λ (c : Contents). c.item) cells n ∙ ap (option_map (λ (c : Contents). c.item)) at
+
+pub items-rise : (old new : List Contents) → items_of new ≡ items_of old → CellsRise old → CellsRise new
+items-rise old new same rising = AllPairs-from_at (λ (a b : Contents). slice_cmp nat_cmp a.item b.item ≡ Less) new (λ p q c d lt at_p at_q.
+    let b = map_at (λ (c : Contents). c.item) old p c.item (ap (λ xs. slice_get xs p) (sym same) ∙ item_at new p c at_p) in
+    let e = map_at (λ (c : Contents). c.item) old q d.item (ap (λ xs. slice_get xs q) (sym same) ∙ item_at new q d at_q) in
+    rw (sym b.2, sym e.2) (AllPairs_at (λ (a b : Contents). slice_cmp nat_cmp a.item b.item ≡ Less) old p q b.0 e.0 rising lt b.1 e.1))

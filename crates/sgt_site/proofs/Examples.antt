@@ -1,5 +1,5 @@
 -- The definitions of a site, shown on small logs: transaction 1 read x, wrote it, and was committed; then 2 read x.
-use Rattle.std.proofs.Common.{◌≡◌, ℕ, zero, suc, List, [], ◌∷◌, Some, refl, sym, ap, ◌∙◌, subst, lit<, arith, take, Contains}
+use Rattle.std.proofs.Common.{◌≡◌, ℕ, zero, suc, List, [], ◌∷◌, ◌++◌, true, false, Some, refl, sym, ap, ◌∙◌, subst, lit<, arith, take, Contains}
 use Rattle.std.specs.Prelude.{codes, slice_get}
 use Rattle.std.proofs.lemmas.Option.{same_Some}
 use Rattle.std.proofs.lemmas.Bool.{eqb-false}
@@ -9,13 +9,16 @@ use Rattle.std.specs.declared.cmp.Ordering.TheVariants.{Less}
 use Rattle.sgt_names.specs.Name.{Name}
 use Rattle.sgt_names.specs.Entry.{tx_of, IsEnd}
 use Rattle.sgt_names.specs.declared.entry.Entry.{Entry}
-use Rattle.sgt_names.specs.declared.entry.Entry.TheVariants.{Read, Write, Want, Commit, Refuse, Withdraw}
+use Rattle.sgt_names.specs.declared.entry.Entry.TheVariants.{Read, Write, Add, Want, WantAdd, Commit, Refuse, Withdraw}
+use Rattle.sgt_names.specs.declared.entry.Change.TheVariants.{Put}
+use Rattle.sgt_names.specs.declared.entry.Change.TheVariants as change
 use Rattle.sgt_names.specs.declared.entry.Holding.{Holding}
 use Rattle.sgt_names.proofs.Places.{Contains-from_at, AllPairs_at}
 use Rattle.sgt_arena.specs.declared.handle.Handle.{Handle}
-use Rattle.sgt_site.specs.Store.{version_at, HasRead, HasEnded, LogsRead, KeepsReads, writers_of, IsReader, commit_block, refuse_block, withdraw_block, AreItems}
+use Rattle.sgt_site.specs.State.{version_at, HasRead, HasEnded, LogsRead, KeepsReads, writers_of, IsReader, commit_block, refuse_block, withdraw_block, AreItems}
+use Rattle.sgt_site.specs.declared.cell.Install.{Install}
 use Rattle.sgt_site.specs.declared.cell.Writer.{Writer}
-use Rattle.sgt_site.proofs.Appends.{Any_at}
+use Rattle.sgt_names.proofs.Lists.{Any_at}
 use Rattle.sgt_site.proofs.Basics.{is_single}
 
 abbrev x : Name
@@ -30,7 +33,7 @@ log = Read 1 x 5 ∷ Write 1 x 6 ∷ Commit 1 ∷ Read 2 x 6 ∷ []
 abbrev handle : Handle
 handle = record { index = 7; generation = 0 }
 
-abbrev installed : List Writer
+abbrev installed : List Install
 installed = record { tx = 1; handle = handle } ∷ []
 
 -- a version counts the writes of its item, and no reads
@@ -44,17 +47,27 @@ pub version-counts_no_wants : version_at (Want 1 x 6 ∷ Refuse 1 ∷ []) x ≡ 
 version-counts_no_wants = refl
 
 -- the writer of x, and none of y
-pub writer-of_x : writers_of installed log x ≡ record { tx = 1; handle = handle } ∷ []
+pub writer-of_x : writers_of installed log x ≡ record { tx = 1; handle = handle; increment = false } ∷ []
 writer-of_x = refl
 
 pub writer-of_y : writers_of installed log y ≡ []
 writer-of_y = refl
 
+-- an increment is a writer, and counts for the version; one that was asked for is none
+abbrev adding : List Entry
+adding = Write 1 x 6 ∷ Commit 1 ∷ Add 2 x 3 ∷ Commit 2 ∷ WantAdd 3 x 4 ∷ Refuse 3 ∷ []
+
+pub version-counts_increments : version_at adding x ≡ 2
+version-counts_increments = refl
+
+pub writers-of_increments : writers_of (installed ++ record { tx = 2; handle = handle } ∷ []) adding x ≡ record { tx = 1; handle = handle; increment = false } ∷ record { tx = 2; handle = handle; increment = true } ∷ []
+writers-of_increments = refl
+
 -- the blocks
-pub block-of_a_commit : commit_block 1 ((x, 6) ∷ (y, 3) ∷ []) ≡ Write 1 x 6 ∷ Write 1 y 3 ∷ Commit 1 ∷ []
+pub block-of_a_commit : commit_block 1 ((x, Put 6) ∷ (y, change.Add 3) ∷ []) ≡ Write 1 x 6 ∷ Add 1 y 3 ∷ Commit 1 ∷ []
 block-of_a_commit = refl
 
-pub block-of_a_refusal : refuse_block 1 ((x, 6) ∷ (y, 3) ∷ []) ≡ Want 1 x 6 ∷ Want 1 y 3 ∷ Refuse 1 ∷ []
+pub block-of_a_refusal : refuse_block 1 ((x, change.Add 6) ∷ (y, Put 3) ∷ []) ≡ WantAdd 1 x 6 ∷ Want 1 y 3 ∷ Refuse 1 ∷ []
 block-of_a_refusal = refl
 
 pub block-of_a_withdrawal : withdraw_block 1 ≡ Withdraw 1 ∷ []

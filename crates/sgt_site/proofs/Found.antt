@@ -1,7 +1,7 @@
 -- What a search finds: an item among the cells, a transaction among the reads of an item and among those that have ended.
 use Rattle.std.proofs.Common.{◌≡◌, ℕ, ◌⊎◌, Bool, List, [], ◌∷◌, map, get_or, Option, Some, None, Result, Ok, Err, refl, sym, ap, ◌∙◌, subst, arith, inl, inr, Contains}
 use mathlib.Core.Bool.{false≢true}
-use Rattle.std.specs.Prelude.{slice_get, set, IsTrue, is_ok, OnOk, OnErr, IfOk, IfErr, option_map, ◌↔◌}
+use Rattle.std.specs.Prelude.{slice_get, set, IsTrue, is_some, is_ok, OnOk, OnErr, IfOk, IfErr, option_map, ◌↔◌}
 use Rattle.std.specs.List.{insert}
 use Rattle.std.specs.Ordering.{nat_cmp}
 use Rattle.std.specs.Cmp.{IsTotalOrder}
@@ -14,22 +14,14 @@ use Rattle.std.proofs.lemmas.Option.{slice_get-map, slice_get-get_or, same_Some}
 use Rattle.sgt_names.specs.Name.{Name}
 use Rattle.sgt_names.specs.Ordered.{IsRisingBy, IsAt, IsGapFor}
 use Rattle.sgt_names.specs.declared.draft.Seen.{Seen}
+use Rattle.sgt_names.proofs.Lists.{map_at, Any_at, Any-from_at}
 use Rattle.sgt_names.proofs.Places.{Contains_at, Contains-from_at, AllPairs_at}
 use Rattle.sgt_names.proofs.Ranged.{rising-insert}
-use Rattle.sgt_site.specs.Stored.{Contents, AreReadings, IsAnswered, AnswersAt, answer_of}
-use Rattle.sgt_site.specs.declared.cell.Reading.{Reading}
-use Rattle.sgt_site.proofs.Inserts.{Contains-insert}
-
--- an element that a mapped list has at a place comes from the one there
-pub map_at : {A B : Type 0} (f : A → B) (xs : List A) (n : ℕ) (b : B) → slice_get (map f xs) n ≡ Some b → (a : A) × (slice_get xs n ≡ Some a) × (f a ≡ b)
-map_at f xs n b h = by_value (slice_get xs n) refl
-  where
-    by_value : (o : Option _) → slice_get xs n ≡ o → (a : _) × (slice_get xs n ≡ Some a) × (f a ≡ b)
-    by_value None e = absurd (let g = sym (ap (option_map f) e) ∙ sym (slice_get-map f xs n) ∙ h in cc)
-    by_value (Some a) e = (a, e, let g = sym (ap (option_map f) e) ∙ sym (slice_get-map f xs n) ∙ h in cc)
+use Rattle.sgt_site.specs.private.Cells.{Contents, items_of, HasItem, InCells, AreReadings, IsAnswering, IsAnswered, AnswersAt, CellsRise, answer_of}
+use Rattle.sgt_site.specs.declared.readings.Reading.{Reading}
 
 -- where the search ends at a gap, the item is not there
-pub not_found : (cells : List Contents) (x : Name) {T : Type 0} (r : Result T ℕ) → IfErr r (IsGapFor (λ c. c.item) (slice_cmp nat_cmp) cells x) → OnErr r (¬ Contains (map (λ c. c.item) cells) x)
+pub not_found : (cells : List Contents) (x : Name) {T : Type 0} (r : Result T ℕ) → IfErr r (IsGapFor (λ c. c.item) (slice_cmp nat_cmp) cells x) → OnErr r (HasItem cells x → ⊥)
 not_found cells x (Ok n) gap = tt
 not_found cells x (Err n) gap = λ has.
     let at = Contains_at (map (λ (c : Contents). c.item) cells) x has in
@@ -54,6 +46,12 @@ no_key key cmp total xs k n gap a has same =
       | inr le ↦ let more = gap.after at.0 a le at.1 in absurd cc
     ]
 
+-- an item that was found is there
+pub item-there : (cells : List Contents) (x : Name) (n : ℕ) → IsAt (λ c. c.item) cells x n → HasItem cells x
+item-there cells x n at =
+    let c = has_key (λ (c : Contents). c.item) cells x n at in
+    Contains-from_at (items_of cells) n x (slice_get-map (λ (c : Contents). c.item) cells n ∙ ap (option_map (λ (c : Contents). c.item)) c.1 ∙ ap Some c.2)
+
 -- two elements of one key are one
 pub same_key : {A K : Type 0} (key : A → K) (cmp : K → K → Ordering) → IsTotalOrder cmp → (xs : List A) → IsRisingBy key cmp xs → (a b : A) → Contains xs a → Contains xs b → key a ≡ key b → a ≡ b
 same_key key cmp total xs rising a b has_a has_b same =
@@ -67,34 +65,67 @@ same_key key cmp total xs rising a b has_a has_b same =
       | inr (inr gt) ↦ let less = AllPairs_at (λ x y. cmp (key x) (key y) ≡ Less) xs at_b.0 at_a.0 b a rising gt at_b.1 at_a.1 in absurd cc
     ]
 
--- reads with one more
-pub answered : (old new : Contents) (tx n : ℕ) → AreReadings old.readings → IsGapFor (λ m. m.tx) nat_cmp old.readings tx n → new ≡ record old { readings = insert old.readings n (record { tx = tx; seen = answer_of old }) } → IsAnswered old new tx
-answered old new tx n rising gap is =
-    let made : Reading = record { tx = tx; seen = answer_of old } in
-    let readings : new.readings ≡ insert old.readings n made = ap (λ (c : Contents). c.readings) is in
-    record {
-      same = is ∙ ap (λ (rs : List Reading). record old { readings = rs }) (sym readings);
-      rising = subst AreReadings (sym readings) (rising-insert (λ (m : Reading). m.tx) nat_cmp nat_cmp_total old.readings n made gap rising);
-      reads = λ m. subst (λ (rs : List Reading). Contains rs m ↔ ((m ≡ made) ⊎ Contains old.readings m)) (sym readings) (Contains-insert old.readings n made m);
-    }
+-- what a search among the reads finds
+pub seen-found : (readings : List Reading) (tx n : ℕ) (m : Reading) → AreReadings readings → IsAt (λ m. m.tx) readings tx n → slice_get readings n ≡ Some m → (seen : Seen) → (Some m.seen ≡ Some seen) ↔ Contains readings (record { tx = tx; seen = seen })
+seen-found readings tx n m rising at here seen = (
+  λ same. Contains-from_at readings n (record { tx = tx; seen = seen }) (here ∙ ap Some (λ i. record { tx = own i; seen = (same_Some m.seen seen same) i })),
+  λ has. ap (λ (r : Reading). Some r.seen) (same_key (λ (r : Reading). r.tx) nat_cmp nat_cmp_total readings rising m (record { tx = tx; seen = seen }) (Contains-from_at readings n m here) has own),
+)
+  where
+    own : m.tx ≡ tx
+    own = at.is m here
 
--- a transaction that is found has read the item
-pub found_reading : (readings : List Reading) (tx n : ℕ) → IsAt (λ m. m.tx) readings tx n → (seen : Seen) × Contains readings (record { tx = tx; seen = seen })
+pub seen-nowhere : (readings : List Reading) (tx n : ℕ) → IsGapFor (λ m. m.tx) nat_cmp readings tx n → (seen : Seen) → (None ≡ Some seen) ↔ Contains readings (record { tx = tx; seen = seen })
+seen-nowhere readings tx n gap seen = (
+  λ e. absurd cc,
+  λ has. absurd (no_key (λ (m : Reading). m.tx) nat_cmp nat_cmp_total readings tx n gap (record { tx = tx; seen = seen }) has refl),
+)
+
+-- reads with one more
+pub readings-rise : (old : List Reading) (tx n : ℕ) (seen : Seen) → AreReadings old → IsGapFor (λ m. m.tx) nat_cmp old tx n → AreReadings (insert old n (record { tx = tx; seen = seen }))
+readings-rise old tx n seen rising gap = rising-insert (λ (m : Reading). m.tx) nat_cmp nat_cmp_total old n (record { tx = tx; seen = seen }) gap rising
+
+-- a transaction that is found has one of the reads
+pub found_reading : (readings : List Reading) (tx n : ℕ) → IsAt (λ m. m.tx) readings tx n → IsAnswering readings tx
 found_reading readings tx n at =
     let m = has_key (λ (m : Reading). m.tx) readings tx n at in
     let same : m.0 ≡ record { tx = tx; seen = m.0.seen } = λ i. record { tx = m.2 i; seen = m.0.seen } in
     (m.0.seen, subst (Contains readings) same (Contains-from_at readings n m.0 m.1))
+
+-- whether there is one
+pub tells_reading : (readings : List Reading) (tx : ℕ) (b : Bool) (o : Option Seen) → b ≡ is_some o → ((seen : Seen) → (o ≡ Some seen) ↔ Contains readings (record { tx = tx; seen = seen })) → IsTrue b ↔ IsAnswering readings tx
+tells_reading readings tx b None is tells = (λ h. absurd (false≢true (sym is ∙ h)), λ has. absurd (let e = (tells has.0).1 has.1 in cc))
+tells_reading readings tx b (Some seen) is tells = (λ h. (seen, (tells seen).0 refl), λ has. is)
 
 -- the cell at a place answers
 pub answers_at : {E : Type 0} (cells : List Contents) (n tx : ℕ) (new : Contents) (r : Result Seen E) {old : Contents} → slice_get cells n ≡ Some old → IfOk r (λ seen. seen ≡ answer_of old) → OnOk r (IsAnswered old new tx) → IfOk r (λ seen. AnswersAt cells (set cells n new) n tx seen)
 answers_at cells n tx new (Err e) at value ok = tt
 answers_at cells n tx new (Ok seen) {old} at value ok = record { cell = old; answered = new; at = at; is = value; reads = ok; others = refl }
 
--- a search tells whether the transaction has read the item, or has ended
-pub tells_reading : (readings : List Reading) (tx : ℕ) (b : Bool) (r : Result ℕ ℕ) → b ≡ is_ok r → IfOk r (IsAt (λ m. m.tx) readings tx) → IfErr r (IsGapFor (λ m. m.tx) nat_cmp readings tx) → IsTrue b ↔ ((seen : Seen) × Contains readings (record { tx = tx; seen = seen }))
-tells_reading readings tx b (Ok n) is at gap = (λ _. found_reading readings tx n at, λ _. is)
-tells_reading readings tx b (Err n) is at gap = (λ h. absurd (false≢true (sym is ∙ h)), λ has. absurd (no_key (λ (m : Reading). m.tx) nat_cmp nat_cmp_total readings tx n gap (record { tx = tx; seen = has.0 }) has.1 refl))
+-- a search tells whether the item is there, or the transaction has ended
+pub tells_item : (cells : List Contents) (x : Name) (b : Bool) (r : Result ℕ ℕ) → b ≡ is_ok r → IfOk r (IsAt (λ c. c.item) cells x) → OnErr r (HasItem cells x → ⊥) → IsTrue b ↔ HasItem cells x
+tells_item cells x b (Ok n) is at absent = (λ _. item-there cells x n at, λ _. is)
+tells_item cells x b (Err n) is at absent = (λ h. absurd (false≢true (sym is ∙ h)), λ has. absurd (absent has))
 
 pub tells_ended : (ended : List ℕ) (tx : ℕ) (b : Bool) (r : Result ℕ ℕ) → b ≡ is_ok r → IfOk r (IsAt (λ t. t) ended tx) → IfErr r (IsGapFor (λ t. t) nat_cmp ended tx) → IsTrue b ↔ Contains ended tx
 tells_ended ended tx b (Ok n) is at gap = (λ _. let t = has_key (λ (t : ℕ). t) ended tx n at in subst (Contains ended) t.2 (Contains-from_at ended n t.0 t.1), λ _. is)
 tells_ended ended tx b (Err n) is at gap = (λ h. absurd (false≢true (sym is ∙ h)), λ has. absurd (no_key (λ (t : ℕ). t) nat_cmp nat_cmp_total ended tx n gap tx has refl))
+
+-- what the transaction's read of an item that was found answered, and of one that isn't there
+pub cell-seen : (cells : List Contents) (tx : ℕ) (x : Name) (n : ℕ) (c : Contents) (r : Option Seen) → CellsRise cells → IsAt (λ c. c.item) cells x n → slice_get cells n ≡ Some c
+    → ((seen : Seen) → (r ≡ Some seen) ↔ Contains c.readings (record { tx = tx; seen = seen })) → (seen : Seen) → (r ≡ Some seen) ↔ InCells cells tx x seen
+cell-seen cells tx x n c r rising at here tells seen = (
+  λ is. Any-from_at (λ (d : Contents). (d.item ≡ x) × Contains d.readings (record { tx = tx; seen = seen })) cells n c here (at.is c here, (tells seen).0 is),
+  λ has.
+      let d = Any_at (λ (d : Contents). (d.item ≡ x) × Contains d.readings (record { tx = tx; seen = seen })) cells has in
+      let same = same_key (λ (e : Contents). e.item) (slice_cmp nat_cmp) nat_list_cmp_total cells rising d.1 c (Contains-from_at cells d.0 d.1 d.2) (Contains-from_at cells n c here) (d.3.0 ∙ sym (at.is c here)) in
+      (tells seen).1 (subst (λ (e : Contents). Contains e.readings (record { tx = tx; seen = seen })) same d.3.1),
+)
+
+pub cell-nowhere : (cells : List Contents) (tx : ℕ) (x : Name) → (HasItem cells x → ⊥) → (seen : Seen) → (None ≡ Some seen) ↔ InCells cells tx x seen
+cell-nowhere cells tx x absent seen = (
+  λ e. absurd cc,
+  λ has.
+      let d = Any_at (λ (d : Contents). (d.item ≡ x) × Contains d.readings (record { tx = tx; seen = seen })) cells has in
+      absurd (absent (Contains-from_at (items_of cells) d.0 x (slice_get-map (λ (c : Contents). c.item) cells d.0 ∙ ap (option_map (λ (c : Contents). c.item)) d.2 ∙ ap Some d.3.0))),
+)

@@ -10,12 +10,14 @@ use Rattle.std.proofs.lemmas.Cmp.{nat_list_cmp_total, tied_itself}
 use Rattle.std.proofs.lemmas.Option.{slice_get-get_or, slice_get_within, slice_get-map, same_Some, slice_get_read}
 use Rattle.std.proofs.lemmas.Slice.Eq.{bytes_eq-Decides}
 use Rattle.sgt_names.specs.Ordered.{IsRisingBy}
-use Rattle.sgt_names.specs.Log.{value_in}
+use Rattle.sgt_names.specs.Log.{names, value_in}
 use Rattle.sgt_names.specs.declared.entry.Holding.{Holding}
 use Rattle.sgt_names.proofs.Places.{AllPairs_at, AllPairs-from_at, AllPairs-tail, All_at, All-from_at}
 use Rattle.sgt_site.specs.declared.cell.Reader.{Reader}
-use Rattle.sgt_site.specs.Store.{AreItems, opened}
-use Rattle.sgt_site.specs.Stored.{Contents, Spare, AreReadings, items_of, IsCell, IsFresh, IsKept}
+use Rattle.sgt_site.specs.State.{AreItems, opened}
+use Rattle.sgt_site.specs.private.Cells.{Contents, CellsRise, values_of, IsFresh}
+use Rattle.sgt_site.specs.private.Kept.{Spare, IsCell, IsKept}
+use Rattle.sgt_site.proofs.Keeps.{names-values}
 
 -- names that rise from each to the next rise from each to every later one
 pub rising_from_next : (xs : List Holding) → ((k : ℕ) (a b : Holding) → slice_get xs k ≡ Some a → slice_get xs (suc k) ≡ Some b → slice_cmp nat_cmp a.item b.item ≡ Less) → IsRisingBy (λ h. h.item) (slice_cmp nat_cmp) xs
@@ -44,35 +46,44 @@ listed (g ∷ hs) (suc n) h rising at = elim (cases_Bool (bytes_eq g.item h.item
   | inr miss ↦ rw miss (listed hs n h (AllPairs-tail (λ (a b : Holding). slice_cmp nat_cmp a.item b.item ≡ Less) g hs rising) at)
 ]
 
-item_at : (cells : List Contents) (n : ℕ) (c : Contents) → slice_get cells n ≡ Some c → slice_get (items_of cells) n ≡ Some (record { item = c.item; value = c.first })
-item_at cells n c at = slice_get-map (λ (c : Contents). record { item = c.item; value = c.first }) cells n ∙ ap (option_map (λ (c : Contents). record { item = c.item; value = c.first })) at
-
 -- what every site keeps, where nothing has been logged
-pub kept-fresh : (number : ℕ) (cells : List Contents) (spare : Spare) → AreItems (items_of cells) → All IsFresh cells → IsKept (opened number (items_of cells)) cells [] spare
-kept-fresh number cells spare items fresh = record {
+pub kept-fresh : (number : ℕ) (items : List Holding) (cells : List Contents) (spare : Spare) → AreItems items → values_of cells ≡ items → All IsFresh cells → IsKept (opened number items) cells [] spare
+kept-fresh number items cells spare are values fresh = record {
   site = record {
-    items = items;
+    items = are;
     orderly = record { known = λ k d lt. absurd (omega arith); once = λ i j d lt within. absurd (omega arith); blocks = λ n e at opens. absurd cc; closed = λ i j d lt within. absurd (omega arith) };
     legal = λ n tx x v at. absurd cc;
     given = refl;
-    writes = λ tx x v has. absurd (omega (arith, has.1));
-    wants = λ tx x v has. absurd (omega (arith, has.1));
+    changes = λ e x c has is. absurd (omega (arith, has.1));
+    wants = λ e has want. absurd (omega (arith, has.1));
     pledged = λ p is. absurd cc;
   };
-  rising = AllPairs-from_at (λ a b. slice_cmp nat_cmp a.item b.item ≡ Less) cells (λ p q a b lt at_p at_q.
-      AllPairs_at (λ (a b : Holding). slice_cmp nat_cmp a.item b.item ≡ Less) (items_of cells) p q (record { item = a.item; value = a.first }) (record { item = b.item; value = b.first }) items.rising lt (item_at cells p a at_p) (item_at cells q b at_q));
-  each = All-from_at (IsCell (items_of cells) [] []) cells (λ n c at. let is = All_at IsFresh cells n c fresh at in record {
-    value = listed (items_of cells) n (record { item = c.item; value = c.first }) items.rising (item_at cells n c at) ∙ ap Some (sym is.value);
-    writers = is.writers;
-    readers = λ r. (λ has. absurd (let lt : length c.readers ≡ 0 = ap length is.readers in omega (arith, lt, has.1)), λ reads. let none = reads.0 in absurd cc);
-    readers_once = subst (AllPairs (λ (a b : Reader). a.tx ≢ b.tx)) (sym is.readers) (λ i j d lt within. absurd (omega arith));
-    rising = subst AreReadings (sym is.readings) (λ i j d lt within. absurd (omega arith));
-    readings = λ m. (λ has. absurd (let lt : length c.readings ≡ 0 = ap length is.readings in omega (arith, lt, has.1)), λ read. let none = read.at in absurd cc);
-  });
+  names_same = sym (names-values cells) ∙ ap names values;
+  each = All-from_at (IsCell items [] []) cells (λ n c at.
+      let is = All_at IsFresh cells n c fresh at in
+      let here : slice_get items n ≡ Some (record { item = c.item; value = c.value }) = ap (λ (hs : List Holding). slice_get hs n) (sym values) ∙ value_at_cell cells n c at in
+      record {
+        value = listed items n (record { item = c.item; value = c.value }) are.rising here;
+        writers = is.writers;
+        readers = λ r. (λ has. absurd (let lt : length c.readers ≡ 0 = ap length is.readers in omega (arith, lt, has.1)), λ reads. let none = reads.0 in absurd cc);
+        readers_once = subst (AllPairs (λ (a b : Reader). a.tx ≢ b.tx)) (sym is.readers) (λ i j d lt within. absurd (omega arith));
+        readings = λ m. (λ has. absurd (let lt : length c.readings ≡ 0 = ap length is.readings in omega (arith, lt, has.1)), λ read. let none = read.at in absurd cc);
+      });
   ends_rise = λ i j d lt within. absurd (omega arith);
   ends = λ tx. (λ has. absurd (omega (arith, has.1)), λ has. absurd (omega (arith, has.2)));
   room = λ p is. absurd cc;
 }
+  where
+    value_at_cell : (cells : List Contents) (n : ℕ) (c : Contents) → slice_get cells n ≡ Some c → slice_get (values_of cells) n ≡ Some (record { item = c.item; value = c.value })
+    value_at_cell cells n c at = slice_get-map (λ (c : Contents). record { item = c.item; value = c.value }) cells n ∙ ap (option_map (λ (c : Contents). record { item = c.item; value = c.value })) at
+
+-- cells of items that rise, rise
+pub fresh-rise : (items : List Holding) (cells : List Contents) → IsRisingBy (λ h. h.item) (slice_cmp nat_cmp) items → values_of cells ≡ items → CellsRise cells
+fresh-rise items cells rising values = AllPairs-from_at (λ (a b : Contents). slice_cmp nat_cmp a.item b.item ≡ Less) cells (λ p q a b lt at_p at_q.
+    AllPairs_at (λ (a b : Holding). slice_cmp nat_cmp a.item b.item ≡ Less) items p q (record { item = a.item; value = a.value }) (record { item = b.item; value = b.value }) rising lt (there p a at_p) (there q b at_q))
+  where
+    there : (n : ℕ) (c : Contents) → slice_get cells n ≡ Some c → slice_get items n ≡ Some (record { item = c.item; value = c.value })
+    there n c at = ap (λ (hs : List Holding). slice_get hs n) (sym values) ∙ slice_get-map (λ (c : Contents). record { item = c.item; value = c.value }) cells n ∙ ap (option_map (λ (c : Contents). record { item = c.item; value = c.value })) at
 
 -- one more pair of names that rises
 pub next_more : (xs : List Holding) (i : ℕ) (x y : Holding) → 1 ≤ i → i < length xs → x ≡ get_or xs (i - 1) x → y ≡ get_or xs i y → slice_cmp nat_cmp x.item y.item ≡ Less

@@ -1,6 +1,6 @@
--- What a site keeps when entries are logged that write nothing.
+-- What a site keeps when entries are logged that change nothing.
 use Rattle.std.proofs.Common.{◌≡◌, ℕ, zero, suc, ◌+◌, ◌<◌, ◌≤◌, ◌⊎◌, List, [], ◌∷◌, ◌++◌, length, map, get_or, set, take, true, false, Option, Some, None, refl, sym, ap, ap₂, ◌∙◌, subst, arith, inl, inr, ◌≢◌, All, AllPairs, Contains, append-nil}
-use Rattle.std.specs.Prelude.{slice_get, is_some, ◌↔◌, ◌==◌}
+use Rattle.std.specs.Prelude.{slice_get, is_some, option_map, ◌↔◌, ◌==◌}
 use Rattle.std.specs.List.{filter_map}
 use Rattle.std.specs.Option.{ForSome}
 use Rattle.std.specs.Ordering.{nat_cmp}
@@ -13,65 +13,61 @@ use Rattle.std.proofs.lemmas.List.Elements.{filter_map-append, Contains-append_l
 use Rattle.std.proofs.Math.Seq.{take-append_seam}
 use Rattle.sgt_names.specs.Name.{Name}
 use Rattle.sgt_names.specs.Ordered.{IsAt, IsRisingBy}
-use Rattle.sgt_names.specs.Entry.{tx_of, item_of, written, Reads, IsEnd, IsOpen, Repeats}
+use Rattle.sgt_names.specs.Entry.{tx_of, item_of, change_of, Reads, IsEnd, IsOpen, Repeats}
 use Rattle.sgt_names.specs.Log.{names, value_at, FinalsAreLegal, IsOrderly}
 use Rattle.sgt_names.specs.declared.draft.Seen.{Seen}
 use Rattle.sgt_names.specs.declared.draft.Touch.{Touch}
+use Rattle.sgt_names.specs.declared.entry.Change.{Change}
 use Rattle.sgt_names.specs.declared.entry.Entry.{Entry}
-use Rattle.sgt_names.specs.declared.entry.Entry.TheVariants.{Read, Write, Want, Commit, Refuse, Withdraw}
+use Rattle.sgt_names.specs.declared.entry.Entry.TheVariants.{Read, Commit, Refuse, Withdraw}
 use Rattle.sgt_names.specs.declared.entry.Holding.{Holding}
+use Rattle.sgt_names.proofs.Lists.{option_cases, back_at, map_at, Any_at, Any-from_at, filter_map-none}
 use Rattle.sgt_names.proofs.Places.{Contains_at, Contains-from_at, All_at, All-from_at, AllPairs_at}
-use Rattle.sgt_names.proofs.Ranged.{rising-set}
+use Rattle.sgt_site.specs.declared.cell.Install.{Install}
 use Rattle.sgt_site.specs.declared.cell.Writer.{Writer}
 use Rattle.sgt_site.specs.declared.cell.Reader.{Reader}
-use Rattle.sgt_site.specs.declared.cell.Reading.{Reading}
-use Rattle.sgt_site.specs.Store.{Store, Pledge, IsSite, IsCovered, IsReader, HasRead, HasEnded, LogsRead, version_at, writer, writers_of, committed}
+use Rattle.sgt_site.specs.declared.readings.Reading.{Reading}
+use Rattle.sgt_site.specs.State.{SiteState, Pledge, IsSite, IsCovered, IsReader, IsWant, HasRead, HasEnded, LogsRead, version_at, writer, writers_of, committed_in}
 use Rattle.sgt_site.specs.Refused.{MayRead}
-use Rattle.sgt_site.specs.Stored.{Contents, IsTouched, Spare, IsAnswering, IsAnswered, AnswersAt, HasRoom, answer_of, items_of, IsCell, IsKept, pledge_of}
-use Rattle.sgt_site.proofs.Appends.{get_cases, get_back, Any_at, Any-from_at, MayFollow, orderly-append, legal-append, value-kept, LogsRead-append, LogsRead-cases, HasEnded-append, HasEnded-append_right, HasEnded-cases}
+use Rattle.sgt_site.specs.private.Cells.{Contents, CellsRise, HasItem, IsTouched, IsAnswering, IsAnswered, AnswersAt, answer_of, items_of, values_of}
+use Rattle.sgt_site.specs.private.Kept.{Spare, HasRoom, IsCell, IsKept, pledge_of}
+use Rattle.sgt_site.proofs.Appends.{get_cases, chosen_from, count_before, MayFollow, orderly-append, legal-append, value-kept, LogsRead-append, LogsRead-cases, HasEnded-append, HasEnded-append_right, HasEnded-cases}
+use Rattle.sgt_site.proofs.Entries.{read_is}
 use Rattle.sgt_site.proofs.Projections.{ended_with_handle, length-writers, all_given}
 use Rattle.sgt_site.proofs.Basics.{less_apart, is_single}
-use Rattle.sgt_site.proofs.Found.{map_at}
+use Rattle.sgt_site.proofs.Found.{item-there}
 use Rattle.sgt_site.proofs.Inserts.{get_set_same, get_set_other}
 
--- the names of the items are those of the cells
-pub names_items : (cells : List Contents) → names (items_of cells) ≡ map (λ c. c.item) cells
-names_items [] = refl
-names_items (c ∷ cells) = ap (λ xs. c.item ∷ xs) (names_items cells)
-
-slice_get-names : (cells : List Contents) (n : ℕ) (c : Contents) → slice_get cells n ≡ Some c → slice_get (names (items_of cells)) n ≡ Some c.item
-slice_get-names [] n c at = absurd cc
-slice_get-names (d ∷ cells) zero c at = ap Some (ap (λ (e : Contents). e.item) (same_Some d c at))
-slice_get-names (d ∷ cells) (suc n) c at = slice_get-names cells n c at
+-- the names of the values are the items
+pub names-values : (cells : List Contents) → names (values_of cells) ≡ items_of cells
+names-values [] = refl
+names-values (c ∷ cells) = ap (λ xs. c.item ∷ xs) (names-values cells)
 
 -- the cell that a search found
-pub found_cell : (items : List Holding) (ws : List Writer) (es : List Entry) (cells : List Contents) (x : Name) (n : ℕ) (c : Contents) → All (IsCell items ws es) cells → IsAt (λ c. c.item) cells x n → c ≡ get_or cells n c → (c.item ≡ x) × IsCell items ws es c
+pub found_cell : (items : List Holding) (ws : List Install) (es : List Entry) (cells : List Contents) (x : Name) (n : ℕ) (c : Contents) → All (IsCell items ws es) cells → IsAt (λ c. c.item) cells x n → c ≡ get_or cells n c → (c.item ≡ x) × IsCell items ws es c
 found_cell items ws es cells x n c each at read =
     let here = slice_get_read cells (length cells) n c refl at.within read in
     (at.is c here, All_at (IsCell items ws es) cells n c each here)
 
 -- it is of an item of the site
-pub found_known : (cells : List Contents) (x : Name) (n : ℕ) → IsAt (λ c. c.item) cells x n → Contains (names (items_of cells)) x
-found_known [] x n at = absurd (omega (arith, at.within))
-found_known (d ∷ cells) x n at =
-    let here = slice_get-get_or (d ∷ cells) n d at.within in
-    Contains-from_at (names (items_of (d ∷ cells))) n x (slice_get-names (d ∷ cells) n (get_or (d ∷ cells) n d) here ∙ ap Some (at.is (get_or (d ∷ cells) n d) here))
+pub found_known : (items : List Holding) (cells : List Contents) (x : Name) (n : ℕ) → items_of cells ≡ names items → IsAt (λ c. c.item) cells x n → Contains (names items) x
+found_known items cells x n same at = subst (λ xs. Contains xs x) same (item-there cells x n at)
 
 -- the version of a cell's item is the number of its writers
-pub found_version : (s : Store) → IsSite s → (c : Contents) → IsCell s.items s.installed s.entries c → length c.writers ≡ version_at s.entries c.item
+pub found_version : (s : SiteState) → IsSite s → (c : Contents) → IsCell s.items s.installed s.entries c → length c.writers ≡ version_at s.entries c.item
 found_version s site c cell = ap length cell.writers ∙ length-writers s.installed s.entries c.item (all_given s site)
 
 -- the items stay where a cell of the same item takes the place of another
-items-set : (cells : List Contents) (n : ℕ) (c d : Contents) → slice_get cells n ≡ Some c → d.item ≡ c.item → d.first ≡ c.first → items_of (set cells n d) ≡ items_of cells
-items-set [] n c d at item first = refl
-items-set (e ∷ cells) zero c d at item first = let same : e ≡ c = same_Some e c at in λ i. record { item = (item ∙ ap (λ (g : Contents). g.item) (sym same)) i; value = (first ∙ ap (λ (g : Contents). g.first) (sym same)) i } ∷ items_of cells
-items-set (e ∷ cells) (suc n) c d at item first = ap (λ hs. record { item = e.item; value = e.first } ∷ hs) (items-set cells n c d at item first)
+items-set : (cells : List Contents) (n : ℕ) (c d : Contents) → slice_get cells n ≡ Some c → d.item ≡ c.item → items_of (set cells n d) ≡ items_of cells
+items-set [] n c d at item = refl
+items-set (e ∷ cells) zero c d at item = ap (λ x. x ∷ items_of cells) (item ∙ ap (λ (g : Contents). g.item) (sym (same_Some e c at)))
+items-set (e ∷ cells) (suc n) c d at item = ap (λ xs. e.item ∷ xs) (items-set cells n c d at item)
 
 pub answered-items : (cells new : List Contents) (n tx : ℕ) (seen : Seen) → AnswersAt cells new n tx seen → items_of new ≡ items_of cells
-answered-items cells new n tx seen answers = ap items_of answers.others ∙ items-set cells n answers.cell answers.answered answers.at (ap (λ (c : Contents). c.item) answers.reads.same) (ap (λ (c : Contents). c.first) answers.reads.same)
+answered-items cells new n tx seen answers = ap items_of answers.others ∙ items-set cells n answers.cell answers.answered answers.at (ap (λ (c : Contents). c.item) answers.reads.same)
 
 -- what a read answers
-pub answered-value : (s : Store) → IsSite s → (cells new : List Contents) (x : Name) (n tx : ℕ) (seen : Seen) → All (IsCell s.items s.installed s.entries) cells → IsAt (λ c. c.item) cells x n → AnswersAt cells new n tx seen → (value_at s.items s.entries x ≡ Some seen.value) × (seen.version ≡ version_at s.entries x)
+pub answered-value : (s : SiteState) → IsSite s → (cells new : List Contents) (x : Name) (n tx : ℕ) (seen : Seen) → All (IsCell s.items s.installed s.entries) cells → IsAt (λ c. c.item) cells x n → AnswersAt cells new n tx seen → (value_at s.items s.entries x ≡ Some seen.value) × (seen.version ≡ version_at s.entries x)
 answered-value s site cells new x n tx seen each at answers =
     let of = at.is answers.cell answers.at in
     let cell = All_at (IsCell s.items s.installed s.entries) cells n answers.cell each answers.at in (
@@ -96,24 +92,34 @@ single_orderly items e known shut = record {
     only zero f at = sym (same_Some e f at)
     only (suc n) f at = absurd cc
 
--- entries of a transaction that write nothing and commit nothing
-pub record IsQuiet (ws : List Writer) (bs : List Entry) (tx : ℕ) : Type 0 where
-  pub values : (x : Name) → filter_map (written x) bs ≡ []
-  pub writers : (x : Name) → filter_map (writer ws x) bs ≡ []
-  pub commits : filter_map committed bs ≡ []
+-- entries of a transaction that change nothing and commit nothing
+pub record IsQuiet (bs : List Entry) (tx : ℕ) : Type 0 where
+  pub values : (x : Name) → filter_map (change_of x) bs ≡ []
+  pub commits : filter_map committed_in bs ≡ []
   pub reads : (m t : ℕ) (x : Name) (v : ℕ) → slice_get bs m ≡ Some (Read t x v) → t ≡ tx
-  pub writes : (m t : ℕ) (x : Name) (v : ℕ) → slice_get bs m ≡ Some (Write t x v) → ⊥
+
+-- none of them changes an item, so there are no writers
+quiet-changes : (bs : List Entry) (tx m : ℕ) (e : Entry) (x : Name) (c : Change) → IsQuiet bs tx → slice_get bs m ≡ Some e → change_of x e ≡ Some c → ⊥
+quiet-changes bs tx m e x c quiet at is =
+    let has : slice_get [] (count_before (change_of x) bs m) ≡ Some c = ap (λ (cs : List Change). slice_get cs (count_before (change_of x) bs m)) (sym (quiet.values x)) ∙ chosen_from (change_of x) bs m e c at is in
+    absurd cc
+
+quiet-writers : (ws : List Install) (bs : List Entry) (tx : ℕ) (x : Name) → IsQuiet bs tx → filter_map (writer ws x) bs ≡ []
+quiet-writers ws bs tx x quiet = filter_map-none (writer ws x) bs (λ m e at. elim (option_cases (change_of x e)) [
+  | inl none ↦ rw none refl
+  | inr some ↦ absurd (quiet-changes bs tx m e x some.0 quiet at some.1)
+])
 
 none-append : {A B : Type 0} (f : A → Option B) (xs ys : List A) → filter_map f ys ≡ [] → filter_map f (xs ++ ys) ≡ filter_map f xs
 none-append f xs ys none = filter_map-append f xs ys ∙ ap (λ us. filter_map f xs ++ us) none ∙ append-nil (filter_map f xs)
 
-module _ (s : Store) (bs : List Entry) (tx : ℕ) (site : IsSite s) (active : HasEnded s.entries tx → ⊥) (quiet : IsQuiet s.installed bs tx) where
+module _ (s : SiteState) (bs : List Entry) (tx : ℕ) (site : IsSite s) (active : HasEnded s.entries tx → ⊥) (quiet : IsQuiet bs tx) where
   -- a cell keeps its value, its writers and its committed readers
   pub value-quiet : (c : Contents) → IsCell s.items s.installed s.entries c → value_at s.items (s.entries ++ bs) c.item ≡ Some c.value
   value-quiet c cell = value-kept s.items s.entries bs c.item (quiet.values c.item) ∙ cell.value
 
   pub writers-quiet : (c : Contents) → IsCell s.items s.installed s.entries c → c.writers ≡ writers_of s.installed (s.entries ++ bs) c.item
-  writers-quiet c cell = cell.writers ∙ sym (none-append (writer s.installed c.item) s.entries bs (quiet.writers c.item))
+  writers-quiet c cell = cell.writers ∙ sym (none-append (writer s.installed c.item) s.entries bs (quiet-writers s.installed bs tx c.item quiet))
 
   pub readers-quiet : (c : Contents) → IsCell s.items s.installed s.entries c → (r : Reader) → Contains c.readers r ↔ IsReader s.installed (s.entries ++ bs) c.item r
   readers-quiet c cell r = (
@@ -136,7 +142,6 @@ module _ (s : Store) (bs : List Entry) (tx : ℕ) (site : IsSite s) (active : Ha
     writers = writers-quiet c cell;
     readers = readers-quiet c cell;
     readers_once = cell.readers_once;
-    rising = cell.rising;
     readings = λ m. (
       λ has. LogsRead-append s.entries bs m.tx c.item m.seen.value m.seen.version ((cell.readings m).0 has),
       λ read. (cell.readings m).1 (LogsRead-cases s.entries bs m.tx c.item m.seen.value m.seen.version read (λ old. old) (λ k at version. absurd (none k m.tx c.item m.seen.value at))),
@@ -149,37 +154,34 @@ module _ (s : Store) (bs : List Entry) (tx : ℕ) (site : IsSite s) (active : Ha
   -- and the site keeps what every site keeps, apart from its pledge
   pub site-quiet : (pledge : Option Pledge) → IsOrderly s.items bs → MayFollow s.entries bs
       → ((m t : ℕ) (x : Name) (v : ℕ) → slice_get bs m ≡ Some (Read t x v) → value_at s.items (s.entries ++ take m bs) x ≡ Some v)
-      → ((m t : ℕ) (x : Name) (v : ℕ) → slice_get bs m ≡ Some (Want t x v) → Contains bs (Refuse t))
+      → ((m : ℕ) (e : Entry) → slice_get bs m ≡ Some e → IsWant e → Contains bs (Refuse (tx_of e)))
       → ForSome pledge (IsCovered (record s { entries = s.entries ++ bs; pledge = pledge }))
       → IsSite (record s { entries = s.entries ++ bs; pledge = pledge })
   site-quiet pledge orderly may legal wants covered = record {
     items = site.items;
     orderly = orderly-append s.items s.entries bs site.orderly orderly may;
     legal = legal-append s.items s.entries bs site.legal legal;
-    given = site.given ∙ sym (none-append committed s.entries bs quiet.commits);
-    writes = λ t x v has. let w = Contains_at (s.entries ++ bs) (Write t x v) has in get_cases s.entries bs w.0 (Write t x v) w.1
-        (λ front. Contains-append_left s.entries bs (Commit t) (site.writes t x v (Contains-from_at s.entries w.0 (Write t x v) front)))
-        (λ m is back. absurd (quiet.writes m t x v back));
-    wants = λ t x v has. let w = Contains_at (s.entries ++ bs) (Want t x v) has in get_cases s.entries bs w.0 (Want t x v) w.1
-        (λ front. Contains-append_left s.entries bs (Refuse t) (site.wants t x v (Contains-from_at s.entries w.0 (Want t x v) front)))
-        (λ m is back. Contains-append_right s.entries bs (Refuse t) (wants m t x v back));
+    given = site.given ∙ sym (none-append committed_in s.entries bs quiet.commits);
+    changes = λ e x c has is. let w = Contains_at (s.entries ++ bs) e has in get_cases s.entries bs w.0 e w.1
+        (λ front. Contains-append_left s.entries bs (Commit (tx_of e)) (site.changes e x c (Contains-from_at s.entries w.0 e front) is))
+        (λ m there back. absurd (quiet-changes bs tx m e x c quiet back is));
+    wants = λ e has want. let w = Contains_at (s.entries ++ bs) e has in get_cases s.entries bs w.0 e w.1
+        (λ front. Contains-append_left s.entries bs (Refuse (tx_of e)) (site.wants e (Contains-from_at s.entries w.0 e front) want))
+        (λ m there back. Contains-append_right s.entries bs (Refuse (tx_of e)) (wants m e back want));
     pledged = covered;
   }
 
 -- who has read the cell's item has read it in the log
-pub reads-here : (s : Store) → IsSite s → (c : Contents) → IsCell s.items s.installed s.entries c → (tx : ℕ) → IsAnswering c tx ↔ HasRead s.entries tx c.item
+pub reads-here : (s : SiteState) → IsSite s → (c : Contents) → IsCell s.items s.installed s.entries c → (tx : ℕ) → IsAnswering c.readings tx ↔ HasRead s.entries tx c.item
 reads-here s site c cell tx = (
   λ has. let read = (cell.readings (record { tx = tx; seen = has.0 })).0 has.1 in Any-from_at (λ e. (tx_of e ≡ tx) × Reads c.item e) s.entries read.place (Read tx c.item has.0.value) read.at (refl, refl),
-  λ has. let a = Any_at (λ e. (tx_of e ≡ tx) × Reads c.item e) s.entries has in by_entry a.0 a.1 a.2 a.3,
+  λ has. let a = Any_at (λ e. (tx_of e ≡ tx) × Reads c.item e) s.entries has in by_entry a.0 a.1 a.2 a.3.0 (read_is c.item a.1 a.3.1),
 )
   where
-    by_entry : (n : ℕ) (e : Entry) → slice_get s.entries n ≡ Some e → (tx_of e ≡ tx) × Reads c.item e → IsAnswering c tx
-    by_entry n (Read t y v) at (own, reads) = (record { value = v; version = version_at (take n s.entries) c.item }, (cell.readings (record { tx = tx; seen = record { value = v; version = version_at (take n s.entries) c.item } })).1 (record { place = n; at = at ∙ ap Some (ap₂ (λ (u : ℕ) (z : Name). Read u z v) own reads); version = refl }))
-    by_entry n (Write t y v) at (own, reads) = absurd reads
-    by_entry n (Want t y v) at (own, reads) = absurd reads
-    by_entry n (Commit t) at (own, reads) = absurd reads
-    by_entry n (Refuse t) at (own, reads) = absurd reads
-    by_entry n (Withdraw t) at (own, reads) = absurd reads
+    by_entry : (n : ℕ) (e : Entry) → slice_get s.entries n ≡ Some e → tx_of e ≡ tx → (v : ℕ) × (e ≡ Read (tx_of e) c.item v) → IsAnswering c.readings tx
+    by_entry n e at own read =
+        let seen : Seen = record { value = read.0; version = version_at (take n s.entries) c.item } in
+        (seen, (cell.readings (record { tx = tx; seen = seen })).1 (record { place = n; at = at ∙ ap Some (read.1 ∙ ap (λ (t : ℕ). Read t c.item read.0) own); version = refl }))
 
 -- the transactions that have ended, with one more
 pub record Ends (old new : List ℕ) (tx : ℕ) : Type 0 where
@@ -198,7 +200,7 @@ ended-one es bs tx ended ends kept ending here alone t = (
     from (inr has) = HasEnded-append es bs t ((kept t).0 has)
 
 -- a read that is not refused
-module _ (s : Store) (tx : ℕ) (x : Name) (v : ℕ) (site : IsSite s) (may : MayRead s tx x) (legal : value_at s.items s.entries x ≡ Some v) where
+module _ (s : SiteState) (tx : ℕ) (x : Name) (v : ℕ) (site : IsSite s) (may : MayRead s tx x) (legal : value_at s.items s.entries x ≡ Some v) where
   abbrev one : List Entry
   one = Read tx x v ∷ []
 
@@ -215,13 +217,11 @@ module _ (s : Store) (tx : ℕ) (x : Name) (v : ℕ) (site : IsSite s) (may : Ma
       has_ended : (e : Entry) → Contains s.entries e → IsEnd e → tx_of e ≡ tx → HasEnded s.entries tx
       has_ended e in_es ends same = let at = Contains_at s.entries e in_es in Any-from_at (λ e. (tx_of e ≡ tx) × IsEnd e) s.entries at.0 e at.1 (same, ends)
 
-  read_quiet : IsQuiet s.installed one tx
+  read_quiet : IsQuiet one tx
   read_quiet = record {
     values = λ y. refl;
-    writers = λ y. refl;
     commits = refl;
     reads = λ m t y w at. ap tx_of (is_single (Read tx x v) (Read t y w) (Contains-from_at one m (Read t y w) at));
-    writes = λ m t y w at. let e = is_single (Read tx x v) (Write t y w) (Contains-from_at one m (Write t y w) at) in absurd cc;
   }
 
   covered-read : (p : Pledge) → (p.tx ≡ tx → ⊥) → IsCovered s p → IsCovered (record s { entries = s.entries ++ one }) p
@@ -248,7 +248,6 @@ module _ (s : Store) (tx : ℕ) (x : Name) (v : ℕ) (site : IsSite s) (may : Ma
     writers = writers-quiet s one tx site may.active read_quiet c cell;
     readers = readers-quiet s one tx site may.active read_quiet c cell;
     readers_once = cell.readers_once;
-    rising = cell.rising;
     readings = λ m. (
       λ has. LogsRead-append s.entries one m.tx c.item m.seen.value m.seen.version ((cell.readings m).0 has),
       λ read. (cell.readings m).1 (LogsRead-cases s.entries one m.tx c.item m.seen.value m.seen.version read (λ old. old) (λ k at version. absurd (apart (item_read k m.tx c.item m.seen.value at)))),
@@ -271,7 +270,6 @@ module _ (s : Store) (tx : ℕ) (x : Name) (v : ℕ) (site : IsSite s) (may : Ma
         writers = writers ∙ writers-quiet s one tx site may.active read_quiet c cell ∙ ap (writers_of s.installed (s.entries ++ one)) (sym item);
         readers = λ r. subst (λ (rs : List Reader). Contains rs r ↔ IsReader s.installed (s.entries ++ one) d.item r) (sym readers) (subst (λ (y : Name). Contains c.readers r ↔ IsReader s.installed (s.entries ++ one) y r) (sym item) (readers-quiet s one tx site may.active read_quiet c cell r));
         readers_once = subst (AllPairs (λ (a b : Reader). a.tx ≢ b.tx)) (sym readers) cell.readers_once;
-        rising = answered.rising;
         readings = λ m. subst (λ (y : Name). Contains d.readings m ↔ LogsRead (s.entries ++ one) m.tx y m.seen.value m.seen.version) (sym (item ∙ of)) (
           λ has. logged version m ((answered.reads m).0 has),
           λ read. (answered.reads m).1 (LogsRead-cases s.entries one m.tx x m.seen.value m.seen.version read
@@ -283,7 +281,7 @@ module _ (s : Store) (tx : ℕ) (x : Name) (v : ℕ) (site : IsSite s) (may : Ma
       logged : version_at s.entries x ≡ length c.writers → (m : Reading) → (m ≡ record { tx = tx; seen = answer_of c }) ⊎ Contains c.readings m → LogsRead (s.entries ++ one) m.tx x m.seen.value m.seen.version
       logged version m (inl new) = rw new record {
         place = length s.entries;
-        at = subst (λ k. slice_get (s.entries ++ one) k ≡ Some (Read tx x c.value)) (let e : length s.entries + 0 ≡ length s.entries = omega arith in e) (get_back s.entries one 0 ∙ ap (λ (w : ℕ). Some (Read tx x w)) value);
+        at = subst (λ k. slice_get (s.entries ++ one) k ≡ Some (Read tx x c.value)) (let e : length s.entries + 0 ≡ length s.entries = omega arith in e) (back_at s.entries one 0 ∙ ap (λ (w : ℕ). Some (Read tx x w)) value);
         version = ap (λ (es : List Entry). version_at es x) (take-append_seam s.entries one) ∙ version;
       }
       logged version m (inr has) = LogsRead-append s.entries one m.tx x m.seen.value m.seen.version (subst (λ (y : Name). LogsRead s.entries m.tx y m.seen.value m.seen.version) of ((cell.readings m).0 has))
@@ -296,24 +294,20 @@ module _ (s : Store) (tx : ℕ) (x : Name) (v : ℕ) (site : IsSite s) (may : Ma
           λ i. record { tx = of_tx i; seen = record { value = of_value i; version = of_version i } }
       newest version m (suc k) at is = absurd cc
 
-  read_cells : (cells new : List Contents) (n : ℕ) (seen : Seen) → IsRisingBy (λ c. c.item) (slice_cmp nat_cmp) cells → All (IsCell s.items s.installed s.entries) cells → IsAt (λ c. c.item) cells x n → v ≡ seen.value → AnswersAt cells new n tx seen
-      → IsRisingBy (λ c. c.item) (slice_cmp nat_cmp) new × All (IsCell s.items s.installed (s.entries ++ one)) new
+  read_cells : (cells new : List Contents) (n : ℕ) (seen : Seen) → CellsRise cells → All (IsCell s.items s.installed s.entries) cells → IsAt (λ c. c.item) cells x n → v ≡ seen.value → AnswersAt cells new n tx seen
+      → All (IsCell s.items s.installed (s.entries ++ one)) new
   read_cells cells new n seen rising each at value answers =
       let of = at.is answers.cell answers.at in
-      let item : answers.answered.item ≡ answers.cell.item = ap (λ (e : Contents). e.item) answers.reads.same in
       let is_value : v ≡ answers.cell.value = value ∙ ap (λ (e : Seen). e.value) answers.is in
-      let placed : IsAt (λ (c : Contents). c.item) cells answers.answered.item n = record { within = at.within; is = λ c here. at.is c here ∙ sym (item ∙ of) } in (
-        subst (IsRisingBy (λ (c : Contents). c.item) (slice_cmp nat_cmp)) (sym answers.others) (rising-set (λ (c : Contents). c.item) (slice_cmp nat_cmp) cells n answers.answered placed rising),
-        subst (All (IsCell s.items s.installed (s.entries ++ one))) (sym answers.others) (All-from_at (IsCell s.items s.installed (s.entries ++ one)) (set cells n answers.answered) (λ k c here. elim (cases_order k n) [
-          | inl same ↦ subst (IsCell s.items s.installed (s.entries ++ one)) (set_here k c same here) (read_cell answers.cell answers.answered of answers.reads is_value (All_at (IsCell s.items s.installed s.entries) cells n answers.cell each answers.at))
-          | inr (inl lt) ↦
-              let old = set_other k c (λ e. absurd (omega arith)) here in
-              other_cell c (λ same. less_apart c.item x (subst (λ y. slice_cmp nat_cmp c.item y ≡ Less) of (AllPairs_at (λ (a b : Contents). slice_cmp nat_cmp a.item b.item ≡ Less) cells k n c answers.cell rising lt old answers.at)) same) (All_at (IsCell s.items s.installed s.entries) cells k c each old)
-          | inr (inr gt) ↦
-              let old = set_other k c (λ e. absurd (omega arith)) here in
-              other_cell c (λ same. less_apart x c.item (subst (λ y. slice_cmp nat_cmp y c.item ≡ Less) of (AllPairs_at (λ (a b : Contents). slice_cmp nat_cmp a.item b.item ≡ Less) cells n k answers.cell c rising gt answers.at old)) (sym same)) (All_at (IsCell s.items s.installed s.entries) cells k c each old)
-        ])),
-      )
+      subst (All (IsCell s.items s.installed (s.entries ++ one))) (sym answers.others) (All-from_at (IsCell s.items s.installed (s.entries ++ one)) (set cells n answers.answered) (λ k c here. elim (cases_order k n) [
+        | inl same ↦ subst (IsCell s.items s.installed (s.entries ++ one)) (set_here k c same here) (read_cell answers.cell answers.answered of answers.reads is_value (All_at (IsCell s.items s.installed s.entries) cells n answers.cell each answers.at))
+        | inr (inl lt) ↦
+            let old = set_other k c (λ e. absurd (omega arith)) here in
+            other_cell c (λ same. less_apart c.item x (subst (λ y. slice_cmp nat_cmp c.item y ≡ Less) of (AllPairs_at (λ (a b : Contents). slice_cmp nat_cmp a.item b.item ≡ Less) cells k n c answers.cell rising lt old answers.at)) same) (All_at (IsCell s.items s.installed s.entries) cells k c each old)
+        | inr (inr gt) ↦
+            let old = set_other k c (λ e. absurd (omega arith)) here in
+            other_cell c (λ same. less_apart x c.item (subst (λ y. slice_cmp nat_cmp y c.item ≡ Less) of (AllPairs_at (λ (a b : Contents). slice_cmp nat_cmp a.item b.item ≡ Less) cells n k answers.cell c rising gt answers.at old)) (sym same)) (All_at (IsCell s.items s.installed s.entries) cells k c each old)
+      ]))
     where
       set_here : (k : ℕ) (c : Contents) → k ≡ n → slice_get (set cells n answers.answered) k ≡ Some c → answers.answered ≡ c
       set_here k c same here = same_Some answers.answered c (sym (get_set_same cells n answers.answered at.within) ∙ ap (slice_get (set cells n answers.answered)) (sym same) ∙ here)
@@ -326,18 +320,18 @@ module _ (s : Store) (tx : ℕ) (x : Name) (v : ℕ) (site : IsSite s) (may : Ma
       let a = Any_at (λ e. (tx_of e ≡ t) × IsEnd e) one has in
       subst IsEnd (is_single (Read tx x v) a.1 (Contains-from_at one a.0 a.1 a.2)) a.3.1
 
-  pub kept-read : (cells new : List Contents) (ended : List ℕ) (spare more : Spare) (n : ℕ) (seen : Seen) → IsKept s cells ended spare → IsAt (λ c. c.item) cells x n → v ≡ seen.value → AnswersAt cells new n tx seen
+  pub kept-read : (cells new : List Contents) (ended : List ℕ) (spare more : Spare) (n : ℕ) (seen : Seen) → CellsRise cells → IsKept s cells ended spare → IsAt (λ c. c.item) cells x n → v ≡ seen.value → AnswersAt cells new n tx seen
       → ForSome s.pledge (λ p. length p.part < more.log) → spare.installed ≤ more.installed → spare.ended ≤ more.ended
       → IsKept (record s { entries = s.entries ++ one }) new ended more
-  kept-read cells new ended spare more n seen kept at value answers log installed ends =
-      let after = read_cells cells new n seen kept.rising kept.each at value answers in
+  kept-read cells new ended spare more n seen rising kept at value answers log installed ends =
+      let after = read_cells cells new n seen rising kept.each at value answers in
       record {
         site = site-quiet s one tx site may.active read_quiet s.pledge (single_orderly s.items (Read tx x v) (λ y is. subst (Contains (names s.items)) (same_Some x y is) may.known) (λ o. o)) read_follows
             legal_one
-            (λ m t y w at. let e = is_single (Read tx x v) (Want t y w) (Contains-from_at one m (Want t y w) at) in absurd cc)
+            (λ m e at want. absurd (subst IsWant (is_single (Read tx x v) e (Contains-from_at one m e at)) want))
             (λ p is. covered-read p (λ same. may.free (p.part, is ∙ ap Some (same_pledge p same))) (site.pledged p is));
-        rising = after.0;
-        each = after.1;
+        names_same = answered-items cells new n tx seen answers ∙ kept.names_same;
+        each = after;
         ends_rise = kept.ends_rise;
         ends = λ t. (λ has. HasEnded-append s.entries one t ((kept.ends t).0 has), λ has. (kept.ends t).1 (HasEnded-cases s.entries one t has (λ old. old) (λ new. absurd (no_end t new))));
         room = λ p is. let old = kept.room p is in record { log = log p is; installed = omega (arith, old.installed, installed); ended = omega (arith, old.ended, ends); touched = touched-set p old };
@@ -366,7 +360,7 @@ module _ (s : Store) (tx : ℕ) (x : Name) (v : ℕ) (site : IsSite s) (may : Ma
       legal_one (suc m) t y w at = absurd cc
 
 -- a withdrawal, under the transaction's pledge
-module _ (s : Store) (tx : ℕ) (site : IsSite s) (active : HasEnded s.entries tx → ⊥) where
+module _ (s : SiteState) (tx : ℕ) (site : IsSite s) (active : HasEnded s.entries tx → ⊥) where
   abbrev gone : List Entry
   gone = Withdraw tx ∷ []
 
@@ -383,22 +377,20 @@ module _ (s : Store) (tx : ℕ) (site : IsSite s) (active : HasEnded s.entries t
       has_ended : (e : Entry) → Contains s.entries e → IsEnd e → tx_of e ≡ tx → HasEnded s.entries tx
       has_ended e in_es ends same = let at = Contains_at s.entries e in_es in Any-from_at (λ e. (tx_of e ≡ tx) × IsEnd e) s.entries at.0 e at.1 (same, ends)
 
-  gone_quiet : IsQuiet s.installed gone tx
+  gone_quiet : IsQuiet gone tx
   gone_quiet = record {
     values = λ y. refl;
-    writers = λ y. refl;
     commits = refl;
     reads = λ m t y w at. let e = is_single (Withdraw tx) (Read t y w) (Contains-from_at gone m (Read t y w) at) in absurd cc;
-    writes = λ m t y w at. let e = is_single (Withdraw tx) (Write t y w) (Contains-from_at gone m (Write t y w) at) in absurd cc;
   }
 
   pub kept-withdraw : (cells : List Contents) (ended ends : List ℕ) (spare more : Spare) → IsKept s cells ended spare → Ends ended ends tx → IsKept (record s { entries = s.entries ++ gone; pledge = None }) cells ends more
   kept-withdraw cells ended ends spare more kept ending = record {
     site = site-quiet s gone tx site active gone_quiet None (single_orderly s.items (Withdraw tx) (λ y is. absurd cc) (λ o. o)) gone_follows
         (λ m t y w at. let e = is_single (Withdraw tx) (Read t y w) (Contains-from_at gone m (Read t y w) at) in absurd cc)
-        (λ m t y w at. let e = is_single (Withdraw tx) (Want t y w) (Contains-from_at gone m (Want t y w) at) in absurd cc)
+        (λ m e at want. absurd (subst IsWant (is_single (Withdraw tx) e (Contains-from_at gone m e at)) want))
         (λ p is. absurd cc);
-    rising = kept.rising;
+    names_same = kept.names_same;
     each = cells-quiet s gone tx site active gone_quiet (λ m t y w at. let e = is_single (Withdraw tx) (Read t y w) (Contains-from_at gone m (Read t y w) at) in absurd cc) cells kept.each;
     ends_rise = ending.rising;
     ends = ended-one s.entries gone tx ended ends kept.ends ending (Any-from_at (λ e. (tx_of e ≡ tx) × IsEnd e) gone 0 (Withdraw tx) refl (refl, tt)) (λ t has. let a = Any_at (λ e. (tx_of e ≡ t) × IsEnd e) gone has in sym a.3.0 ∙ ap tx_of (is_single (Withdraw tx) a.1 (Contains-from_at gone a.0 a.1 a.2)));
@@ -430,10 +422,10 @@ pledged_part None part p h = absurd cc
 pledged_part (Some t) part p h = ap (λ (q : Pledge). q.part) (same_Some _ p h)
 
 -- more room changes nothing
-pub kept-roomier : (s : Store) (cells : List Contents) (ended : List ℕ) (spare more : Spare) → IsKept s cells ended spare → spare.log ≤ more.log → spare.installed ≤ more.installed → spare.ended ≤ more.ended → IsKept s cells ended more
+pub kept-roomier : (s : SiteState) (cells : List Contents) (ended : List ℕ) (spare more : Spare) → IsKept s cells ended spare → spare.log ≤ more.log → spare.installed ≤ more.installed → spare.ended ≤ more.ended → IsKept s cells ended more
 kept-roomier s cells ended spare more kept log installed ends = record {
   site = kept.site;
-  rising = kept.rising;
+  names_same = kept.names_same;
   each = kept.each;
   ends_rise = kept.ends_rise;
   ends = kept.ends;
@@ -441,14 +433,7 @@ kept-roomier s cells ended spare more kept log installed ends = record {
 }
 
 -- the cells' values are those at the end of the log
-abbrev pub finals_of : List Contents → List Holding
-finals_of cells = map (λ c. record { item = c.item; value = c.value }) cells
-
-pub names_finals : (cells : List Contents) → names (finals_of cells) ≡ names (items_of cells)
-names_finals [] = refl
-names_finals (c ∷ cells) = ap (λ xs. c.item ∷ xs) (names_finals cells)
-
-pub finals-legal : (items : List Holding) (ws : List Writer) (es : List Entry) (cells : List Contents) → All (IsCell items ws es) cells → FinalsAreLegal items es (finals_of cells)
-finals-legal items ws es cells each = All-from_at (λ h. value_at items es h.item ≡ Some h.value) (finals_of cells) (λ n h at.
+pub finals-legal : (items : List Holding) (ws : List Install) (es : List Entry) (cells : List Contents) → All (IsCell items ws es) cells → FinalsAreLegal items es (values_of cells)
+finals-legal items ws es cells each = All-from_at (λ h. value_at items es h.item ≡ Some h.value) (values_of cells) (λ n h at.
     let from = map_at (λ (c : Contents). record { item = c.item; value = c.value }) cells n h at in
     subst (λ (g : Holding). value_at items es g.item ≡ Some g.value) from.2 (All_at (IsCell items ws es) cells n from.0 each from.1).value)

@@ -1,5 +1,6 @@
 pub mod Basics
 pub mod Appends
+pub mod Entries
 pub mod Found
 pub mod Projections
 pub mod Changes

@@ -16,12 +16,13 @@ use Rattle.sgt_names.specs.Draft.{AreRising, place_of, place_cmp, writing_in, ke
 use Rattle.sgt_names.specs.declared.draft.Seen.{Seen}
 use Rattle.sgt_names.specs.declared.draft.Touch.{Touch}
 use Rattle.sgt_names.specs.declared.entry.Entry.{Entry}
-use Rattle.sgt_names.specs.declared.entry.Entry.TheVariants.{Write, Commit}
+use Rattle.sgt_names.specs.declared.entry.Entry.TheVariants.{Commit}
+use Rattle.sgt_names.specs.declared.entry.Change.{Change}
 use Rattle.sgt_names.proofs.Places.{Contains_at, Contains-from_at, All_at, AllPairs_at, AllPairs-from_at, AllPairs-tail}
 use Rattle.sgt_names.proofs.Ranged.{find_first, find_none}
 use Rattle.sgt_names.proofs.Rising.{items-rise, kept_is}
-use Rattle.sgt_site.specs.Store.{commit_block}
-use Rattle.sgt_site.specs.Stored.{touch_in}
+use Rattle.sgt_site.specs.State.{change_entry, commit_block}
+use Rattle.sgt_site.specs.private.Cells.{touch_in, change_in}
 use Rattle.sgt_site.proofs.Appends.{chosen_at, chosen_from, count_before}
 use Rattle.sgt_site.proofs.Basics.{less_apart, apart_false}
 
@@ -52,35 +53,35 @@ touch-later : (t : Touch) (part : List Touch) (x : Name) → ItemsRise (t ∷ pa
 touch-later t part x rises hit = find_none (λ (u : Touch). bytes_eq u.item x) part (λ m u here.
     apart_false u.item x (λ same. less_apart t.item u.item (AllPairs_at (λ (a b : Touch). slice_cmp nat_cmp a.item b.item ≡ Less) (t ∷ part) 0 (suc m) t u rises (omega arith) refl here) ((bytes_eq-Decides t.item x).0 hit ∙ sym same)))
 
--- what is chosen of a commit's block by the writes of an item
-module _ {B : Type 0} (f : Entry → Option B) (g : ℕ → Option B) (x : Name) (tx : ℕ)
-    (hits : (y : Name) (v : ℕ) → bytes_eq y x ≡ true → f (Write tx y v) ≡ g v) (misses : (y : Name) (v : ℕ) → bytes_eq y x ≡ false → f (Write tx y v) ≡ None) (last : f (Commit tx) ≡ None) where
+-- what is chosen of a commit's block by the changes of an item
+module _ {B : Type 0} (f : Entry → Option B) (g : Change → Option B) (x : Name) (tx : ℕ)
+    (hits : (y : Name) (c : Change) → bytes_eq y x ≡ true → f (change_entry tx y c) ≡ g c) (misses : (y : Name) (c : Change) → bytes_eq y x ≡ false → f (change_entry tx y c) ≡ None) (last : f (Commit tx) ≡ None) where
   to_list : (o : Option B) → cons_option o [] ≡ option_to_list o
   to_list None = refl
   to_list (Some b) = refl
 
-  abbrev put_of : Option Touch → List B
-  put_of o = option_to_list (option_and_then g (option_and_then (λ (t : Touch). t.put) o))
+  abbrev chosen_of : Option Touch → List B
+  chosen_of o = option_to_list (option_and_then g (change_in o))
 
-  -- the block of what is left, with this private write or none in front
-  abbrev chosen : Option (Name × ℕ) → List Touch → List B
+  -- the block of what is left, with this private change or none in front
+  abbrev chosen : Option (Name × Change) → List Touch → List B
   chosen o part = filter_map f (commit_block tx (cons_option o (writing_in part)))
 
-  by_put : (t : Touch) (part : List Touch) (o : Option ℕ) → ItemsRise (t ∷ part) → filter_map f (commit_block tx (writing_in part)) ≡ put_of (touch_in part x) → (b : Bool) → bytes_eq t.item x ≡ b
-      → chosen (option_and_then (λ v. Some (t.item, v)) o) part ≡ (if b then option_to_list (option_and_then g o) else put_of (touch_in part x))
-  by_put t part None rises rest true is = rest ∙ ap put_of (touch-later t part x rises is)
-  by_put t part None rises rest false is = rest
-  by_put t part (Some v) rises rest true is = ap (λ o. cons_option o (filter_map f (commit_block tx (writing_in part)))) (hits t.item v is) ∙ ap (cons_option (g v)) (rest ∙ ap put_of (touch-later t part x rises is)) ∙ to_list (g v)
-  by_put t part (Some v) rises rest false is = ap (λ o. cons_option o (filter_map f (commit_block tx (writing_in part)))) (misses t.item v is) ∙ rest
+  by_change : (t : Touch) (part : List Touch) (o : Option Change) → ItemsRise (t ∷ part) → filter_map f (commit_block tx (writing_in part)) ≡ chosen_of (touch_in part x) → (b : Bool) → bytes_eq t.item x ≡ b
+      → chosen (option_and_then (λ c. Some (t.item, c)) o) part ≡ (if b then option_to_list (option_and_then g o) else chosen_of (touch_in part x))
+  by_change t part None rises rest true is = rest ∙ ap chosen_of (touch-later t part x rises is)
+  by_change t part None rises rest false is = rest
+  by_change t part (Some c) rises rest true is = ap (λ o. cons_option o (filter_map f (commit_block tx (writing_in part)))) (hits t.item c is) ∙ ap (cons_option (g c)) (rest ∙ ap chosen_of (touch-later t part x rises is)) ∙ to_list (g c)
+  by_change t part (Some c) rises rest false is = ap (λ o. cons_option o (filter_map f (commit_block tx (writing_in part)))) (misses t.item c is) ∙ rest
 
-  from_test : (t : Touch) (o : Option Touch) (b : Bool) → (if b then option_to_list (option_and_then g t.put) else put_of o) ≡ put_of (if b then Some t else o)
+  from_test : (t : Touch) (o : Option Touch) (b : Bool) → (if b then option_to_list (option_and_then g t.change) else chosen_of o) ≡ chosen_of (if b then Some t else o)
   from_test t o true = refl
   from_test t o false = refl
 
-  pub chosen_writes : (part : List Touch) → ItemsRise part → filter_map f (commit_block tx (writing_in part)) ≡ put_of (touch_in part x)
-  chosen_writes [] rises = ap (λ o. cons_option o []) last
-  chosen_writes (t ∷ part) rises =
-      by_put t part t.put rises (chosen_writes part (AllPairs-tail (λ (a b : Touch). slice_cmp nat_cmp a.item b.item ≡ Less) t part rises)) (bytes_eq t.item x) refl ∙ from_test t (touch_in part x) (bytes_eq t.item x)
+  pub chosen_changes : (part : List Touch) → ItemsRise part → filter_map f (commit_block tx (writing_in part)) ≡ chosen_of (touch_in part x)
+  chosen_changes [] rises = ap (λ o. cons_option o []) last
+  chosen_changes (t ∷ part) rises =
+      by_change t part t.change rises (chosen_changes part (AllPairs-tail (λ (a b : Touch). slice_cmp nat_cmp a.item b.item ≡ Less) t part rises)) (bytes_eq t.item x) refl ∙ from_test t (touch_in part x) (bytes_eq t.item x)
 
 -- a kept read is of a touched item
 pub kept-touch : (part : List Touch) (x : Name) (v n : ℕ) → ItemsRise part → Contains (kept_in part) (x, v, n) → (t : Touch) × (touch_in part x ≡ Some t) × (t.seen ≡ Some (record { value = v; version = n }))

@@ -1,85 +1,35 @@
 -- What a pledge asks of a draft, and what its room leaves.
 use mathlib.Core.Bool.{false≢true}
-use Rattle.std.proofs.Common.{◌≡◌, ℕ, zero, suc, List, [], ◌∷◌, map, get_or, Bool, true, false, Option, Some, None, refl, sym, ap, ap₂, ◌∙◌, subst, arith, All, Contains}
-use Rattle.std.specs.Prelude.{slice_get, ◌↔◌, ◌==◌, if◌then◌else◌, IsSome, IfSome, IfNone, option_map, option_and_then}
+use Rattle.std.proofs.Common.{◌≡◌, ℕ, zero, suc, List, [], ◌∷◌, get_or, take, Bool, true, false, Option, Some, None, refl, sym, ap, ◌∙◌, subst, arith, inl, inr, All, Contains}
+use Rattle.std.specs.Prelude.{slice_get, ◌↔◌, ◌==◌, if◌then◌else◌, IsSome, option_and_then}
 use Rattle.std.specs.Option.{ForSome}
-use Rattle.std.specs.Ordering.{nat_cmp}
-use Rattle.std.specs.Cmp.Lexicographic.{slice_cmp}
-use Rattle.std.specs.declared.cmp.Ordering.TheVariants.{Less}
-use Rattle.std.proofs.lemmas.Bool.{eqb-true, eq-eqb}
-use Rattle.std.proofs.lemmas.Cmp.{nat_cmp_total, nat_list_cmp_total}
-use Rattle.std.proofs.lemmas.Option.{same_Some, slice_get-map, slice_get_within, slice_get-get_or}
+use Rattle.std.proofs.lemmas.Bool.{eqb-true, eq-eqb, cases_order}
+use Rattle.std.proofs.lemmas.Option.{same_Some, slice_get_within, slice_get-get_or}
 use Rattle.sgt_names.specs.Name.{Name}
-use Rattle.sgt_names.specs.Ordered.{IsRisingBy, IsAt}
 use Rattle.sgt_names.specs.declared.draft.Seen.{Seen}
 use Rattle.sgt_names.specs.declared.draft.Touch.{Touch}
 use Rattle.sgt_names.specs.Draft.{AreRising, at_site, kept_of, kept_in, writing_of, writing_in}
-use Rattle.sgt_names.specs.Entry.{item_of}
-use Rattle.sgt_names.specs.Log.{names}
+use Rattle.sgt_names.specs.Entry.{item_of, Repeats}
+use Rattle.sgt_names.specs.Log.{names, IsOrderly}
+use Rattle.sgt_names.specs.declared.entry.Change.{Change}
+use Rattle.sgt_names.specs.declared.entry.Entry.{Entry}
 use Rattle.sgt_names.specs.declared.entry.Entry.TheVariants.{Read}
 use Rattle.sgt_names.specs.declared.entry.Holding.{Holding}
+use Rattle.sgt_names.proofs.Lists.{IsSome-value, All_in, map_at, Any_at, Any-from_at}
+use Rattle.sgt_names.proofs.Places.{AllPairs_at, Contains_at, Contains-from_at, All_at, All-from_at}
 use Rattle.sgt_names.proofs.Rising.{writing_is, kept_is, site-here, site-rising}
-use Rattle.sgt_site.specs.Store.{Store, Pledge, IsSite, IsCovered, LogsRead, KeepsReads}
+use Rattle.sgt_site.specs.State.{SiteState, Pledge, IsSite, IsCovered, LogsRead, KeepsReads, version_at}
 use Rattle.sgt_site.specs.Refused.{MayPledge}
-use Rattle.sgt_names.proofs.Places.{AllPairs_at, AllPairs-from_at, Contains_at, Contains-from_at, All_at, All-from_at}
-use Rattle.sgt_site.specs.declared.cell.Reading.{Reading}
-use Rattle.sgt_site.specs.Stored.{Contents, Spare, AreReadings, IsAnswering, HasItem, InCells, KeepsItem, SameButRoom, AreChanged, HasRoom, IsCell, IsKept, items_of}
-use Rattle.sgt_site.proofs.Appends.{Any_at, Any-from_at, chosen_at, chosen_from, count_before}
+use Rattle.sgt_site.specs.private.Cells.{Contents, IsAnswering, InCells, KeepsItem, SameButRoom, AreChanged, items_of}
+use Rattle.sgt_site.specs.private.Kept.{Spare, HasRoom, IsCell, IsKept}
+use Rattle.sgt_site.proofs.Appends.{chosen_at, chosen_from, count_before}
 use Rattle.sgt_site.proofs.Inserts.{Contains-later}
-use Rattle.sgt_site.proofs.Keeps.{names_items}
-use Rattle.sgt_site.proofs.Found.{has_key, same_key, map_at}
+use Rattle.sgt_site.proofs.Changes.{changed-items}
 
 -- a value that is there
 some_is : {A : Type 0} (o : Option A) (a : A) → o ≡ Some a → IsSome o
 some_is None a h = absurd cc
 some_is (Some b) a h = refl
-
-is_some_of : {A : Type 0} (o : Option A) → IsSome o → (a : A) × (o ≡ Some a)
-is_some_of None some = absurd (false≢true some)
-is_some_of (Some a) some = (a, refl)
-
-All-Contains : {A : Type 0} (P : A → Type 0) (xs : List A) (a : A) → All P xs → Contains xs a → P a
-All-Contains P xs a all has = let at = Contains_at xs a has in All_at P xs at.0 a all at.1
-
--- an item that was found is there
-pub item-there : (cells : List Contents) (x : Name) (n : ℕ) → IsAt (λ c. c.item) cells x n → HasItem cells x
-item-there cells x n at =
-    let c = has_key (λ (c : Contents). c.item) cells x n at in
-    Contains-from_at (map (λ (c : Contents). c.item) cells) n x (slice_get-map (λ (c : Contents). c.item) cells n ∙ ap (option_map (λ (c : Contents). c.item)) c.1 ∙ ap Some c.2)
-
--- what the transaction's read of the item answered
-pub seen-there : (cells : List Contents) (tx : ℕ) (x : Name) (n : ℕ) (c : Contents) (r : Option Seen) → IsRisingBy (λ c. c.item) (slice_cmp nat_cmp) cells → AreReadings c.readings → IsAt (λ c. c.item) cells x n → slice_get cells n ≡ Some c
-    → IfSome r (λ seen. Contains c.readings (record { tx = tx; seen = seen })) → IfNone r ((seen : Seen) → ¬ Contains c.readings (record { tx = tx; seen = seen }))
-    → (seen : Seen) → (r ≡ Some seen) ↔ InCells cells tx x seen
-seen-there cells tx x n c r rising readings at here some none seen = (
-  λ is. Any-from_at (λ (d : Contents). (d.item ≡ x) × Contains d.readings (record { tx = tx; seen = seen })) cells n c here (at.is c here, found r some is),
-  λ has. from r some none has,
-)
-  where
-    found : (o : Option Seen) → IfSome o (λ s. Contains c.readings (record { tx = tx; seen = s })) → o ≡ Some seen → Contains c.readings (record { tx = tx; seen = seen })
-    found None has is = absurd cc
-    found (Some s) has is = subst (λ (u : Seen). Contains c.readings (record { tx = tx; seen = u })) (same_Some s seen is) has
-
-    in_cell : InCells cells tx x seen → Contains c.readings (record { tx = tx; seen = seen })
-    in_cell has =
-        let d = Any_at (λ (d : Contents). (d.item ≡ x) × Contains d.readings (record { tx = tx; seen = seen })) cells has in
-        let same = same_key (λ (e : Contents). e.item) (slice_cmp nat_cmp) nat_list_cmp_total cells rising d.1 c (Contains-from_at cells d.0 d.1 d.2) (Contains-from_at cells n c here) (d.3.0 ∙ sym (at.is c here)) in
-        subst (λ (e : Contents). Contains e.readings (record { tx = tx; seen = seen })) same d.3.1
-
-    from : (o : Option Seen) → IfSome o (λ s. Contains c.readings (record { tx = tx; seen = s })) → IfNone o ((s : Seen) → ¬ Contains c.readings (record { tx = tx; seen = s })) → InCells cells tx x seen → o ≡ Some seen
-    from None one all has = absurd (all seen (in_cell has))
-    from (Some s) one all has =
-        let same = same_key (λ (m : Reading). m.tx) nat_cmp nat_cmp_total c.readings readings (record { tx = tx; seen = s }) (record { tx = tx; seen = seen }) one (in_cell has) refl in
-        ap Some (ap (λ (m : Reading). m.seen) same)
-
--- an item that isn't there has not been read
-pub seen-nowhere : (cells : List Contents) (tx : ℕ) (x : Name) → ¬ HasItem cells x → (seen : Seen) → (None ≡ Some seen) ↔ InCells cells tx x seen
-seen-nowhere cells tx x absent seen = (
-  λ e. absurd cc,
-  λ has.
-      let d = Any_at (λ (d : Contents). (d.item ≡ x) × Contains d.readings (record { tx = tx; seen = seen })) cells has in
-      absurd (absent (Contains-from_at (map (λ (c : Contents). c.item) cells) d.0 x (slice_get-map (λ (c : Contents). c.item) cells d.0 ∙ ap (option_map (λ (c : Contents). c.item)) d.2 ∙ ap Some d.3.0))),
-)
 
 -- the part of a draft at a site
 module _ (n : ℕ) where
@@ -112,20 +62,20 @@ module _ (n : ℕ) where
   pub of_site : (ts : List Touch) (t : Touch) → Contains ts t → t.site ≡ n → Contains (at_site n ts) t
   of_site ts t has here = let at = Contains_at ts t has in at_filter ts at.0 t at.1 here
 
-  -- what the writes of the part ask, and what they ask of the whole draft
-  pub known-part : (P : Name → Type 0) (ts : List Touch) → All (λ t. t.site ≡ n → IsSome t.put → P t.item) ts → All (λ w. P w.0) (writing_in (at_site n ts))
-  known-part P ts all = All-from_at (λ (w : Name × ℕ). P w.0) (writing_in (at_site n ts)) (λ k w at.
+  -- what the changes of the part ask, and what they ask of the whole draft
+  pub known-part : (P : Name → Type 0) (ts : List Touch) → All (λ t. t.site ≡ n → IsSome t.change → P t.item) ts → All (λ w. P w.0) (writing_in (at_site n ts))
+  known-part P ts all = All-from_at (λ (w : Name × Change). P w.0) (writing_in (at_site n ts)) (λ k w at.
       let from = chosen_at writing_of (at_site n ts) k w at in
       let is = writing_is from.1 w from.3 in
       let has = filter_at ts from.0 from.1 from.2 in
-      subst P is.0 (All-Contains (λ (t : Touch). t.site ≡ n → IsSome t.put → P t.item) ts from.1 all has.0 has.1 (some_is from.1.put w.1 is.1)))
+      subst P is.0 (All_in (λ (t : Touch). t.site ≡ n → IsSome t.change → P t.item) ts from.1 all has.0 has.1 (some_is from.1.change w.1 is.1)))
 
-  pub known-whole : (P : Name → Type 0) (ts : List Touch) → All (λ w. P w.0) (writing_in (at_site n ts)) → All (λ t. t.site ≡ n → IsSome t.put → P t.item) ts
-  known-whole P ts all = All-from_at (λ (t : Touch). t.site ≡ n → IsSome t.put → P t.item) ts (λ k t at here some.
-      let v = is_some_of t.put some in
+  pub known-whole : (P : Name → Type 0) (ts : List Touch) → All (λ w. P w.0) (writing_in (at_site n ts)) → All (λ t. t.site ≡ n → IsSome t.change → P t.item) ts
+  known-whole P ts all = All-from_at (λ (t : Touch). t.site ≡ n → IsSome t.change → P t.item) ts (λ k t at here some.
+      let v = IsSome-value t.change some in
       let has = Contains_at (at_site n ts) t (at_filter ts k t at here) in
       let of : writing_of t ≡ Some (t.item, v.0) = ap (option_and_then (λ u. Some (t.item, u))) v.1 in
-      All_at (λ (w : Name × ℕ). P w.0) (writing_in (at_site n ts)) (count_before writing_of (at_site n ts) has.0) (t.item, v.0) all (chosen_from writing_of (at_site n ts) has.0 t (t.item, v.0) has.1 of))
+      All_at (λ (w : Name × Change). P w.0) (writing_in (at_site n ts)) (count_before writing_of (at_site n ts) has.0) (t.item, v.0) all (chosen_from writing_of (at_site n ts) has.0 t (t.item, v.0) has.1 of))
 
   -- a kept read of the part, and one of the draft
   pub kept-from : (ts : List Touch) (x : Name) (v m : ℕ) → Contains (kept_in (at_site n ts)) (x, v, m) → (t : Touch) × Contains ts t × (t.site ≡ n) × (t.item ≡ x) × (t.seen ≡ Some (record { value = v; version = m }))
@@ -145,23 +95,33 @@ module _ (n : ℕ) where
       let of : kept_of t ≡ Some (t.item, seen.value, seen.version) = ap (option_and_then (λ (s : Seen). Some (t.item, s.value, s.version))) some in
       Contains-from_at (kept_in (at_site n ts)) (count_before kept_of (at_site n ts) at.0) (t.item, seen.value, seen.version) (chosen_from kept_of (at_site n ts) at.0 t (t.item, seen.value, seen.version) at.1 of)
 
-  -- and so for a private write
-  pub put-from : (ts : List Touch) (x : Name) (v : ℕ) → Contains (writing_in (at_site n ts)) (x, v) → (t : Touch) × Contains ts t × (t.site ≡ n) × (t.item ≡ x) × (t.put ≡ Some v)
-  put-from ts x v has =
-      let at = Contains_at (writing_in (at_site n ts)) (x, v) has in
-      let from = chosen_at writing_of (at_site n ts) at.0 (x, v) at.1 in
-      let is = writing_is from.1 (x, v) from.3 in
+  -- and so for a private change
+  pub change-from : (ts : List Touch) (x : Name) (c : Change) → Contains (writing_in (at_site n ts)) (x, c) → (t : Touch) × Contains ts t × (t.site ≡ n) × (t.item ≡ x) × (t.change ≡ Some c)
+  change-from ts x c has =
+      let at = Contains_at (writing_in (at_site n ts)) (x, c) has in
+      let from = chosen_at writing_of (at_site n ts) at.0 (x, c) at.1 in
+      let is = writing_is from.1 (x, c) from.3 in
       let there = filter_at ts from.0 from.1 from.2 in
       (from.1, there.0, there.1, is.0, is.1)
 
-  pub put-to : (ts : List Touch) (t : Touch) (v : ℕ) → Contains ts t → t.site ≡ n → t.put ≡ Some v → Contains (writing_in (at_site n ts)) (t.item, v)
-  put-to ts t v has here some =
+  pub change-to : (ts : List Touch) (t : Touch) (c : Change) → Contains ts t → t.site ≡ n → t.change ≡ Some c → Contains (writing_in (at_site n ts)) (t.item, c)
+  change-to ts t c has here some =
       let at = Contains_at (at_site n ts) t (of_site ts t has here) in
-      let of : writing_of t ≡ Some (t.item, v) = ap (option_and_then (λ u. Some (t.item, u))) some in
-      Contains-from_at (writing_in (at_site n ts)) (count_before writing_of (at_site n ts) at.0) (t.item, v) (chosen_from writing_of (at_site n ts) at.0 t (t.item, v) at.1 of)
+      let of : writing_of t ≡ Some (t.item, c) = ap (option_and_then (λ d. Some (t.item, d))) some in
+      Contains-from_at (writing_in (at_site n ts)) (count_before writing_of (at_site n ts) at.0) (t.item, c) (chosen_from writing_of (at_site n ts) at.0 t (t.item, c) at.1 of)
+
+-- a transaction reads an item once
+pub one_read : (items : List Holding) (es : List Entry) (tx : ℕ) (x : Name) (v w m n : ℕ) → IsOrderly items es → LogsRead es tx x v m → LogsRead es tx x w n → (v ≡ w) × (m ≡ n)
+one_read items es tx x v w m n orderly a b = elim (cases_order a.place b.place) [
+  | inl same ↦
+      let is : Read tx x v ≡ Read tx x w = same_Some (Read tx x v) (Read tx x w) (sym a.at ∙ ap (slice_get es) same ∙ b.at) in
+      (cc, sym a.version ∙ ap (λ k. version_at (take k es) x) same ∙ b.version)
+  | inr (inl lt) ↦ absurd (AllPairs_at (λ e f. (y : Name) → Repeats y e f → ⊥) es a.place b.place (Read tx x v) (Read tx x w) orderly.once lt a.at b.at x (refl, inl (refl, refl)))
+  | inr (inr gt) ↦ absurd (AllPairs_at (λ e f. (y : Name) → Repeats y e f → ⊥) es b.place a.place (Read tx x w) (Read tx x v) orderly.once gt b.at a.at x (refl, inl (refl, refl)))
+]
 
 -- what is kept of the transaction's reads is what the log has of them
-module _ (s : Store) (cells : List Contents) (items : s.items ≡ items_of cells) (site : IsSite s) (rising : IsRisingBy (λ c. c.item) (slice_cmp nat_cmp) cells) (each : All (IsCell s.items s.installed s.entries) cells) (tx : ℕ) (touched : List Touch) where
+module _ (s : SiteState) (cells : List Contents) (site : IsSite s) (same : items_of cells ≡ names s.items) (each : All (IsCell s.items s.installed s.entries) cells) (tx : ℕ) (touched : List Touch) where
   logged : (x : Name) (seen : Seen) → InCells cells tx x seen → LogsRead s.entries tx x seen.value seen.version
   logged x seen has =
       let c = Any_at (λ (c : Contents). (c.item ≡ x) × Contains c.readings (record { tx = tx; seen = seen })) cells has in
@@ -170,83 +130,58 @@ module _ (s : Store) (cells : List Contents) (items : s.items ≡ items_of cells
   in_cells : (x : Name) (v n : ℕ) → LogsRead s.entries tx x v n → InCells cells tx x (record { value = v; version = n })
   in_cells x v n read =
       let known : Contains (names s.items) x = All_at (λ e. ForSome (item_of e) (Contains (names s.items))) s.entries read.place (Read tx x v) site.orderly.known read.at x refl in
-      let at = Contains_at (names (items_of cells)) x (subst (λ hs. Contains (names hs) x) items known) in
-      let from = map_at (λ (c : Contents). c.item) cells at.0 x (ap (λ xs. slice_get xs at.0) (sym (names_items cells)) ∙ at.1) in
+      let at = Contains_at (items_of cells) x (subst (λ xs. Contains xs x) (sym same) known) in
+      let from = map_at (λ (c : Contents). c.item) cells at.0 x at.1 in
       let cell = All_at (IsCell s.items s.installed s.entries) cells at.0 from.0 each from.1 in
       Any-from_at (λ (c : Contents). (c.item ≡ x) × Contains c.readings (record { tx = tx; seen = record { value = v; version = n } })) cells at.0 from.0 from.1
       (from.2, (cell.readings (record { tx = tx; seen = record { value = v; version = n } })).1 (subst (λ y. LogsRead s.entries tx y v n) (sym from.2) read))
 
-  -- two answers of one read are one
-  one_answer : (x : Name) (a b : Seen) → InCells cells tx x a → InCells cells tx x b → a ≡ b
-  one_answer x a b has_a has_b =
-      let c = Any_at (λ (c : Contents). (c.item ≡ x) × Contains c.readings (record { tx = tx; seen = a })) cells has_a in
-      let d = Any_at (λ (c : Contents). (c.item ≡ x) × Contains c.readings (record { tx = tx; seen = b })) cells has_b in
-      let same = same_key (λ (e : Contents). e.item) (slice_cmp nat_cmp) nat_list_cmp_total cells rising d.1 c.1 (Contains-from_at cells d.0 d.1 d.2) (Contains-from_at cells c.0 c.1 c.2) (d.3.0 ∙ sym c.3.0) in
-      let in_c = subst (λ (e : Contents). Contains e.readings (record { tx = tx; seen = b })) same d.3.1 in
-      ap (λ (m : Reading). m.seen) (same_key (λ (m : Reading). m.tx) nat_cmp nat_cmp_total c.1.readings (All_at (IsCell s.items s.installed s.entries) cells c.0 c.1 each c.2).rising (record { tx = tx; seen = a }) (record { tx = tx; seen = b }) c.3.1 in_c refl)
-
-  pub keeps-from : All (λ t. t.site ≡ s.number → ForSome t.seen (InCells cells tx t.item)) touched → All (λ c. IsAnswering c tx → KeepsItem touched s.number c.item) cells → KeepsReads s.entries tx (kept_in (at_site s.number touched))
+  pub keeps-from : All (λ t. t.site ≡ s.number → ForSome t.seen (InCells cells tx t.item)) touched → All (λ c. IsAnswering c.readings tx → KeepsItem touched s.number c.item) cells → KeepsReads s.entries tx (kept_in (at_site s.number touched))
   keeps-from all_logged all_kept x v n = (kept_logged x v n, logged_kept)
     where
       kept_logged : (y : Name) (w m : ℕ) → Contains (kept_in (at_site s.number touched)) (y, w, m) → LogsRead s.entries tx y w m
       kept_logged y w m has =
           let t = kept-from s.number touched y w m has in
-          let here = All-Contains (λ (t : Touch). t.site ≡ s.number → ForSome t.seen (InCells cells tx t.item)) touched t.0 all_logged t.1 t.2 (record { value = w; version = m }) t.4 in
+          let here = All_in (λ (t : Touch). t.site ≡ s.number → ForSome t.seen (InCells cells tx t.item)) touched t.0 all_logged t.1 t.2 (record { value = w; version = m }) t.4 in
           logged y (record { value = w; version = m }) (subst (λ z. InCells cells tx z (record { value = w; version = m })) t.3 here)
 
       logged_kept : LogsRead s.entries tx x v n → Contains (kept_in (at_site s.number touched)) (x, v, n)
       logged_kept read =
           let has = in_cells x v n read in
           let c = Any_at (λ (c : Contents). (c.item ≡ x) × Contains c.readings (record { tx = tx; seen = record { value = v; version = n } })) cells has in
-          let kept = All_at (λ (c : Contents). IsAnswering c tx → KeepsItem touched s.number c.item) cells c.0 c.1 all_kept c.2 (record { value = v; version = n }, c.3.1) in
+          let kept = All_at (λ (c : Contents). IsAnswering c.readings tx → KeepsItem touched s.number c.item) cells c.0 c.1 all_kept c.2 (record { value = v; version = n }, c.3.1) in
           let t = Any_at (λ (t : Touch). (t.site ≡ s.number) × IsSome t.seen × (t.item ≡ c.1.item)) touched kept in
-          let seen = is_some_of t.1.seen t.3.1 in
+          let seen = IsSome-value t.1.seen t.3.1 in
           let item : t.1.item ≡ x = t.3.2 ∙ c.3.0 in
           let is_kept = kept-to s.number touched t.1 seen.0 (Contains-from_at touched t.0 t.1 t.2) t.3.0 seen.1 in
           let in_x = subst (λ y. Contains (kept_in (at_site s.number touched)) (y, seen.0.value, seen.0.version)) item is_kept in
-          let other = in_cells x seen.0.value seen.0.version (kept_logged x seen.0.value seen.0.version in_x) in
-          let same : seen.0 ≡ record { value = v; version = n } = one_answer x seen.0 (record { value = v; version = n }) other has in
+          let one = one_read s.items s.entries tx x seen.0.value v seen.0.version n site.orderly (kept_logged x seen.0.value seen.0.version in_x) read in
+          let same : seen.0 ≡ record { value = v; version = n } = λ i. record { value = one.0 i; version = one.1 i } in
           subst (λ (u : Seen). Contains (kept_in (at_site s.number touched)) (x, u.value, u.version)) same in_x
 
   pub keeps-logged : KeepsReads s.entries tx (kept_in (at_site s.number touched)) → All (λ t. t.site ≡ s.number → ForSome t.seen (InCells cells tx t.item)) touched
   keeps-logged keeps = All-from_at (λ (t : Touch). t.site ≡ s.number → ForSome t.seen (InCells cells tx t.item)) touched (λ k t at here seen some.
       in_cells t.item seen.value seen.version ((keeps t.item seen.value seen.version).0 (kept-to s.number touched t seen (Contains-from_at touched k t at) here some)))
 
-  pub keeps-kept : KeepsReads s.entries tx (kept_in (at_site s.number touched)) → All (λ c. IsAnswering c tx → KeepsItem touched s.number c.item) cells
-  keeps-kept keeps = All-from_at (λ (c : Contents). IsAnswering c tx → KeepsItem touched s.number c.item) cells (λ k c at answering.
+  pub keeps-kept : KeepsReads s.entries tx (kept_in (at_site s.number touched)) → All (λ c. IsAnswering c.readings tx → KeepsItem touched s.number c.item) cells
+  keeps-kept keeps = All-from_at (λ (c : Contents). IsAnswering c.readings tx → KeepsItem touched s.number c.item) cells (λ k c at answering.
       let read = ((All_at (IsCell s.items s.installed s.entries) cells k c each at).readings (record { tx = tx; seen = answering.0 })).0 answering.1 in
       let t = kept-from s.number touched c.item answering.0.value answering.0.version ((keeps c.item answering.0.value answering.0.version).1 read) in
       let place = Contains_at touched t.0 t.1 in
       Any-from_at (λ (t : Touch). (t.site ≡ s.number) × IsSome t.seen × (t.item ≡ c.item)) touched place.0 t.0 place.1 (t.2, some_is t.0.seen (record { value = answering.0.value; version = answering.0.version }) t.4, t.3))
 
--- cells with other room are of the same items, and have what the log says
-pub roomier-items : (cells new : List Contents) → AreChanged SameButRoom cells new → items_of new ≡ items_of cells
-roomier-items [] [] changed = refl
-roomier-items [] (d ∷ new) changed = absurd (omega (arith, changed.as_many))
-roomier-items (c ∷ cells) [] changed = absurd (omega (arith, changed.as_many))
-roomier-items (c ∷ cells) (d ∷ new) changed =
-    let here = (changed.each 0 c d refl refl).0 in
-    ap₂ (λ (h : Holding) (hs : List Holding). h ∷ hs)
-    (λ i. record { item = (ap (λ (e : Contents). e.item) here) i; value = (ap (λ (e : Contents). e.first) here) i })
-    (roomier-items cells new (record { as_many = omega (arith, changed.as_many); each = λ n e f at_e at_f. changed.each (suc n) e f at_e at_f }))
-
-module _ (s : Store) (cells new : List Contents) (ended : List ℕ) (spare more : Spare) (kept : IsKept s cells ended spare) (changed : AreChanged SameButRoom cells new) where
+module _ (s : SiteState) (cells new : List Contents) (ended : List ℕ) (spare more : Spare) (kept : IsKept s cells ended spare) (changed : AreChanged SameButRoom cells new) where
   old_at : (n : ℕ) (d : Contents) → slice_get new n ≡ Some d → (c : Contents) × (slice_get cells n ≡ Some c)
   old_at n d at = (get_or cells n d, slice_get-get_or cells n d (let lt = slice_get_within new n d at in omega (arith, lt, changed.as_many)))
 
-  roomier-rising : IsRisingBy (λ c. c.item) (slice_cmp nat_cmp) new
-  roomier-rising = AllPairs-from_at (λ (a b : Contents). slice_cmp nat_cmp a.item b.item ≡ Less) new (λ i j d e lt at_i at_j.
-      let c = old_at i d at_i in
-      let b = old_at j e at_j in
-      let item_d : d.item ≡ c.0.item = ap (λ (f : Contents). f.item) (changed.each i c.0 d c.1 at_i).0 in
-      let item_e : e.item ≡ b.0.item = ap (λ (f : Contents). f.item) (changed.each j b.0 e b.1 at_j).0 in
-      rw (item_d, item_e) (AllPairs_at (λ (x y : Contents). slice_cmp nat_cmp x.item y.item ≡ Less) cells i j c.0 b.0 kept.rising lt c.1 b.1))
+  roomier-items : items_of new ≡ names s.items
+  roomier-items = changed-items SameButRoom (λ c d room. ap (λ (e : Contents). e.item) room.0) cells new changed ∙ kept.names_same
 
   roomier-each : All (IsCell s.items s.installed s.entries) new
   roomier-each = All-from_at (IsCell s.items s.installed s.entries) new (λ n d at.
       let c = old_at n d at in
       let cell = All_at (IsCell s.items s.installed s.entries) cells n c.0 kept.each c.1 in
-      subst (IsCell s.items s.installed s.entries) (sym (changed.each n c.0 d c.1 at).0) (record { value = cell.value; writers = cell.writers; readers = cell.readers; readers_once = cell.readers_once; rising = cell.rising; readings = cell.readings }))
+      subst (IsCell s.items s.installed s.entries) (sym (changed.each n c.0 d c.1 at).0) (record { value = cell.value; writers = cell.writers; readers = cell.readers; readers_once = cell.readers_once; readings = cell.readings }))
 
   -- with no pledge, room is as it may be
   pub kept-open : (p : Option Pledge) → p ≡ None → IsKept (record s { pledge = p }) new ended more
@@ -256,11 +191,11 @@ module _ (s : Store) (cells new : List Contents) (ended : List ℕ) (spare more 
       orderly = kept.site.orderly;
       legal = kept.site.legal;
       given = kept.site.given;
-      writes = kept.site.writes;
+      changes = kept.site.changes;
       wants = kept.site.wants;
       pledged = λ q is. absurd (let e = sym none ∙ is in cc);
     };
-    rising = roomier-rising;
+    names_same = roomier-items;
     each = roomier-each;
     ends_rise = kept.ends_rise;
     ends = kept.ends;
@@ -275,11 +210,11 @@ module _ (s : Store) (cells new : List Contents) (ended : List ℕ) (spare more 
       orderly = kept.site.orderly;
       legal = kept.site.legal;
       given = kept.site.given;
-      writes = kept.site.writes;
+      changes = kept.site.changes;
       wants = kept.site.wants;
       pledged = λ p is. subst (IsCovered (record s { pledge = Some (record { tx = tx; part = at_site s.number touched }) })) (same_Some (record { tx = tx; part = at_site s.number touched }) p is) covered;
     };
-    rising = roomier-rising;
+    names_same = roomier-items;
     each = roomier-each;
     ends_rise = kept.ends_rise;
     ends = kept.ends;

@@ -1,140 +1,145 @@
 -- The writers and versions of an item, as chosen from the log.
-use Rattle.std.proofs.Common.{◌≡◌, ℕ, zero, suc, Bool, true, false, List, [], ◌∷◌, length, map, take, Option, Some, None, refl, sym, ap, ap₂, ◌∙◌, arith, inl, inr, Contains}
-use Rattle.std.specs.Prelude.{slice_get, ◌==◌, if◌then◌else◌, option_and_then, ◌≢◌}
-use Rattle.std.specs.Str.{bytes_eq}
+use Rattle.std.proofs.Common.{◌≡◌, ℕ, zero, suc, Bool, true, List, [], ◌∷◌, length, map, take, Option, Some, None, refl, sym, ap, ap₂, ◌∙◌, subst, arith, inl, inr, Contains}
+use Rattle.std.specs.Prelude.{slice_get, ◌==◌, if◌then◌else◌, option_map, option_and_then, ◌≢◌}
 use Rattle.std.proofs.lemmas.Bool.{cases_Bool, cases_order}
 use Rattle.std.proofs.lemmas.Bool.Decides.{nat_tests}
-use Rattle.std.proofs.lemmas.Slice.Eq.{bytes_eq-Decides}
-use Rattle.std.proofs.lemmas.Option.{same_Some, option_and_then_some}
+use Rattle.std.proofs.lemmas.Option.{same_Some}
 use Rattle.sgt_names.specs.Name.{Name}
-use Rattle.sgt_names.specs.Entry.{tx_of, Writes, IsEnd}
+use Rattle.sgt_names.specs.Entry.{tx_of, change_of, is_increment, Writes, IsEnd}
+use Rattle.sgt_names.specs.declared.entry.Change.{Change}
 use Rattle.sgt_names.specs.declared.entry.Entry.{Entry}
-use Rattle.sgt_names.specs.declared.entry.Entry.TheVariants.{Read, Write, Want, Commit, Refuse, Withdraw}
+use Rattle.sgt_names.specs.declared.entry.Entry.TheVariants.{Read, Write, Add, Want, WantAdd, Commit, Refuse, Withdraw}
+use Rattle.sgt_names.proofs.Lists.{option_cases, Any-from_at}
 use Rattle.sgt_names.proofs.Places.{Contains_at, Contains-from_at, slice_get-take, AllPairs_at}
 use Rattle.sgt_arena.specs.declared.handle.Handle.{Handle}
+use Rattle.sgt_site.specs.declared.cell.Install.{Install}
 use Rattle.sgt_site.specs.declared.cell.Writer.{Writer}
-use Rattle.sgt_site.specs.Store.{Store, IsSite, HasEnded, version_at, handle_of, writer, writers_of, committed}
-use Rattle.sgt_site.proofs.Appends.{chosen_at, chosen_from, count_before, Any-from_at}
+use Rattle.sgt_site.specs.State.{SiteState, IsSite, HasEnded, IsWant, version_at, handle_of, writer, writers_of, committed_in}
+use Rattle.sgt_site.proofs.Appends.{chosen_at, chosen_from, count_before}
+use Rattle.sgt_site.proofs.Entries.{change_or_want}
 
 -- who has a handle is among the installed
-pub handle_given : (ws : List Writer) (tx : ℕ) (h : Handle) → handle_of ws tx ≡ Some h → Contains (map (λ w. w.tx) ws) tx
+handle_given : (is : List Install) (tx : ℕ) (h : Handle) → handle_of is tx ≡ Some h → Contains (map (λ i. i.tx) is) tx
 handle_given [] tx h e = absurd cc
-handle_given (w ∷ ws) tx h e = elim (cases_Bool (w.tx == tx)) [
-  | inl hit ↦ let same : w.tx ≡ tx = grind (arith, nat_tests) in Contains-from_at (map (λ (v : Writer). v.tx) (w ∷ ws)) 0 tx (ap Some same)
+handle_given (i ∷ is) tx h e = elim (cases_Bool (i.tx == tx)) [
+  | inl hit ↦ let same : i.tx ≡ tx = grind (arith, nat_tests) in Contains-from_at (map (λ (j : Install). j.tx) (i ∷ is)) 0 tx (ap Some same)
   | inr miss ↦
-      let rest : handle_of ws tx ≡ Some h = sym (ap (λ b. if b then Some w.handle else handle_of ws tx) miss) ∙ e in
-      let at = Contains_at (map (λ (v : Writer). v.tx) ws) tx (handle_given ws tx h rest) in
-      Contains-from_at (map (λ (v : Writer). v.tx) (w ∷ ws)) (suc at.0) tx at.1
+      let rest : handle_of is tx ≡ Some h = sym (ap (λ b. if b then Some i.handle else handle_of is tx) miss) ∙ e in
+      let at = Contains_at (map (λ (j : Install). j.tx) is) tx (handle_given is tx h rest) in
+      Contains-from_at (map (λ (j : Install). j.tx) (i ∷ is)) (suc at.0) tx at.1
 ]
 
 -- and who is among them has one
-pub given_handle : (ws : List Writer) (n tx : ℕ) → slice_get (map (λ w. w.tx) ws) n ≡ Some tx → (h : Handle) × (handle_of ws tx ≡ Some h)
+given_handle : (is : List Install) (n tx : ℕ) → slice_get (map (λ i. i.tx) is) n ≡ Some tx → (h : Handle) × (handle_of is tx ≡ Some h)
 given_handle [] n tx at = absurd cc
-given_handle (w ∷ ws) zero tx at = let hit : (w.tx == tx) ≡ true = let same : w.tx ≡ tx = cc in grind (arith, nat_tests) in (w.handle, ap (λ b. if b then Some w.handle else handle_of ws tx) hit)
-given_handle (w ∷ ws) (suc n) tx at = elim (cases_Bool (w.tx == tx)) [
-  | inl hit ↦ (w.handle, ap (λ b. if b then Some w.handle else handle_of ws tx) hit)
-  | inr miss ↦ let r = given_handle ws n tx at in (r.0, ap (λ b. if b then Some w.handle else handle_of ws tx) miss ∙ r.1)
+given_handle (i ∷ is) zero tx at = let hit : (i.tx == tx) ≡ true = let same : i.tx ≡ tx = cc in grind (arith, nat_tests) in (i.handle, ap (λ b. if b then Some i.handle else handle_of is tx) hit)
+given_handle (i ∷ is) (suc n) tx at = elim (cases_Bool (i.tx == tx)) [
+  | inl hit ↦ (i.handle, ap (λ b. if b then Some i.handle else handle_of is tx) hit)
+  | inr miss ↦ let r = given_handle is n tx at in (r.0, ap (λ b. if b then Some i.handle else handle_of is tx) miss ∙ r.1)
 ]
 
--- each writer has a handle
-abbrev pub AllGiven : List Writer → List Entry → Type 0
-AllGiven ws es = (n tx : ℕ) (x : Name) (v : ℕ) → slice_get es n ≡ Some (Write tx x v) → (h : Handle) × (handle_of ws tx ≡ Some h)
+-- each transaction that changes an item has a handle
+abbrev pub AllGiven : List Install → List Entry → Type 0
+AllGiven is es = (n : ℕ) (e : Entry) (x : Name) (c : Change) → slice_get es n ≡ Some e → change_of x e ≡ Some c → (h : Handle) × (handle_of is (tx_of e) ≡ Some h)
 
 -- so the versions count the writers
-pub length-writers : (ws : List Writer) (es : List Entry) (x : Name) → AllGiven ws es → length (writers_of ws es x) ≡ version_at es x
-length-writers ws [] x all = refl
-length-writers ws (Read tx y v ∷ es) x all = length-writers ws es x (λ n. all (suc n))
-length-writers ws (Want tx y v ∷ es) x all = length-writers ws es x (λ n. all (suc n))
-length-writers ws (Commit tx ∷ es) x all = length-writers ws es x (λ n. all (suc n))
-length-writers ws (Refuse tx ∷ es) x all = length-writers ws es x (λ n. all (suc n))
-length-writers ws (Withdraw tx ∷ es) x all = length-writers ws es x (λ n. all (suc n))
-length-writers ws (Write tx y v ∷ es) x all =
-    let rest = length-writers ws es x (λ n. all (suc n)) in
-    let given = all 0 tx y v refl in
-    elim (cases_Bool (bytes_eq y x)) [
-      | inl hit ↦ rw (hit, given.1) (ap suc rest)
-      | inr miss ↦ rw miss rest
+pub length-writers : (is : List Install) (es : List Entry) (x : Name) → AllGiven is es → length (writers_of is es x) ≡ version_at es x
+length-writers is [] x all = refl
+length-writers is (e ∷ es) x all =
+    let rest = length-writers is es x (λ n. all (suc n)) in
+    elim (option_cases (change_of x e)) [
+      | inl none ↦ rw none rest
+      | inr some ↦ let given = all 0 e x some.0 refl some.1 in rw (some.1, given.1) (ap suc rest)
     ]
 
-pub writer_is : (ws : List Writer) (x : Name) (e : Entry) (w : Writer) → writer ws x e ≡ Some w → (v : ℕ) × (e ≡ Write w.tx x v) × (handle_of ws w.tx ≡ Some w.handle)
-writer_is ws x (Write tx y v) w h =
-    let c = if_some (bytes_eq y x) (option_and_then (λ k. Some (record { tx = tx; handle = k })) (handle_of ws tx)) w h in
-    option_and_then_some (λ k. Some (record { tx = tx; handle = k })) (handle_of ws tx) w c.1 (λ k given same.
-    let as_tx : tx ≡ w.tx = ap (λ (u : Writer). u.tx) (same_Some _ w same) in
-    let as_handle : k ≡ w.handle = ap (λ (u : Writer). u.handle) (same_Some _ w same) in
-    (v, ap₂ (λ t z. Write t z v) as_tx ((bytes_eq-Decides y x).0 c.0), ap (handle_of ws) (sym as_tx) ∙ given ∙ ap Some as_handle))
-  where
-    if_some : {B : Type 0} (b : Bool) (o : Option B) (u : B) → (if b then o else None) ≡ Some u → (b ≡ true) × (o ≡ Some u)
-    if_some true o u h = (refl, h)
-    if_some false o u h = absurd cc
-writer_is ws x (Read tx y v) w h = absurd cc
-writer_is ws x (Want tx y v) w h = absurd cc
-writer_is ws x (Commit tx) w h = absurd cc
-writer_is ws x (Refuse tx) w h = absurd cc
-writer_is ws x (Withdraw tx) w h = absurd cc
+-- a writer, as the log has it
+pub record IsWriting (is : List Install) (x : Name) (e : Entry) (w : Writer) : Type 0 where
+  pub change : Change
+  pub changes : change_of x e ≡ Some change
+  pub tx : tx_of e ≡ w.tx
+  pub adds : is_increment e ≡ w.increment
+  pub given : handle_of is w.tx ≡ Some w.handle
 
-commit_is : (e : Entry) (tx : ℕ) → committed e ≡ Some tx → e ≡ Commit tx
+pub writer_is : (is : List Install) (x : Name) (e : Entry) (w : Writer) → writer is x e ≡ Some w → IsWriting is x e w
+writer_is is x e w h = elim (option_cases (change_of x e)) [
+  | inl none ↦ absurd (let q = rw none at h in cc)
+  | inr some ↦ elim (option_cases (handle_of is (tx_of e))) [
+    | inl none ↦ absurd (let q = rw (some.1, none) at h in cc)
+    | inr given ↦
+        let same : record { tx = tx_of e; handle = given.0; increment = is_increment e } ≡ w = same_Some _ w (rw (some.1, given.1) at h) in
+        let tx : tx_of e ≡ w.tx = ap (λ (u : Writer). u.tx) same in
+        record { change = some.0; changes = some.1; tx = tx; adds = ap (λ (u : Writer). u.increment) same; given = ap (handle_of is) (sym tx) ∙ given.1 ∙ ap Some (ap (λ (u : Writer). u.handle) same) }
+  ]
+]
+
+commit_is : (e : Entry) (tx : ℕ) → committed_in e ≡ Some tx → e ≡ Commit tx
 commit_is (Commit t) tx h = ap Commit (same_Some t tx h)
-commit_is (Write t y v) tx h = absurd cc
-commit_is (Read t y v) tx h = absurd cc
-commit_is (Want t y v) tx h = absurd cc
-commit_is (Refuse t) tx h = absurd cc
-commit_is (Withdraw t) tx h = absurd cc
+commit_is _ tx h = absurd cc
 
--- the entries of a transaction that has not ended write nothing
-pub no_write : (s : Store) → IsSite s → (tx : ℕ) → (HasEnded s.entries tx → ⊥) → (p : ℕ) (x : Name) (e : Entry) → slice_get s.entries p ≡ Some e → tx_of e ≡ tx → Writes x e → ⊥
-no_write s site tx active p x (Write t y v) at own w = active (let c = Contains_at s.entries (Commit t) (site.writes t y v (Contains-from_at s.entries p (Write t y v) at)) in Any-from_at (λ e. (tx_of e ≡ tx) × IsEnd e) s.entries c.0 (Commit t) c.1 (own, tt))
-no_write s site tx active p x (Want t y v) at own w = active (let c = Contains_at s.entries (Refuse t) (site.wants t y v (Contains-from_at s.entries p (Want t y v) at)) in Any-from_at (λ e. (tx_of e ≡ tx) × IsEnd e) s.entries c.0 (Refuse t) c.1 (own, tt))
-no_write s site tx active p x (Read t y v) at own w = w
-no_write s site tx active p x (Commit t) at own w = w
-no_write s site tx active p x (Refuse t) at own w = w
-no_write s site tx active p x (Withdraw t) at own w = w
+-- the change of number k: where it is in the log
+pub record WriterAt (s : SiteState) (x : Name) (k : ℕ) (w : Writer) : Type 0 where
+  pub place : ℕ
+  pub entry : Entry
+  pub at : slice_get s.entries place ≡ Some entry
+  pub number : version_at (take place s.entries) x ≡ k
+  pub is : IsWriting s.installed x entry w
 
-module _ (s : Store) (site : IsSite s) where
+module _ (s : SiteState) (site : IsSite s) where
+  -- who has a commit or a refusal in the log has ended
+  pub ended-commit : (tx : ℕ) → Contains s.entries (Commit tx) → HasEnded s.entries tx
+  ended-commit tx has = let at = Contains_at s.entries (Commit tx) has in Any-from_at (λ e. (tx_of e ≡ tx) × IsEnd e) s.entries at.0 (Commit tx) at.1 (refl, tt)
+
+  ended-refuse : (tx : ℕ) → Contains s.entries (Refuse tx) → HasEnded s.entries tx
+  ended-refuse tx has = let at = Contains_at s.entries (Refuse tx) has in Any-from_at (λ e. (tx_of e ≡ tx) × IsEnd e) s.entries at.0 (Refuse tx) at.1 (refl, tt)
+
+  -- who has not ended has written nothing here
+  pub no_write : (tx : ℕ) → (HasEnded s.entries tx → ⊥) → (p : ℕ) (x : Name) (e : Entry) → slice_get s.entries p ≡ Some e → tx_of e ≡ tx → Writes x e → ⊥
+  no_write tx active p x e at own writes =
+      let has = Contains-from_at s.entries p e at in
+      change_or_want x e writes
+      (λ c is. active (subst (HasEnded s.entries) own (ended-commit (tx_of e) (site.changes e x c has is))))
+      (λ want. active (subst (HasEnded s.entries) own (ended-refuse (tx_of e) (site.wants e has want))))
+
   -- who is committed has a handle, and who has a handle is committed
-  pub committed_of : (tx : ℕ) → Contains s.entries (Commit tx) → (h : Handle) × (handle_of s.installed tx ≡ Some h)
+  committed_of : (tx : ℕ) → Contains s.entries (Commit tx) → (h : Handle) × (handle_of s.installed tx ≡ Some h)
   committed_of tx has =
       let at = Contains_at s.entries (Commit tx) has in
-      given_handle s.installed (count_before committed s.entries at.0) tx (ap (λ (us : List ℕ). slice_get us (count_before committed s.entries at.0)) site.given ∙ chosen_from committed s.entries at.0 (Commit tx) tx at.1 refl)
+      given_handle s.installed (count_before committed_in s.entries at.0) tx (ap (λ (us : List ℕ). slice_get us (count_before committed_in s.entries at.0)) site.given ∙ chosen_from committed_in s.entries at.0 (Commit tx) tx at.1 refl)
 
   pub commit_with_handle : (tx : ℕ) (h : Handle) → handle_of s.installed tx ≡ Some h → Contains s.entries (Commit tx)
   commit_with_handle tx h given =
-      let at = Contains_at (map (λ (w : Writer). w.tx) s.installed) tx (handle_given s.installed tx h given) in
-      let from = chosen_at committed s.entries at.0 tx (sym (ap (λ (us : List ℕ). slice_get us at.0) site.given) ∙ at.1) in
+      let at = Contains_at (map (λ (i : Install). i.tx) s.installed) tx (handle_given s.installed tx h given) in
+      let from = chosen_at committed_in s.entries at.0 tx (sym (ap (λ (us : List ℕ). slice_get us at.0) site.given) ∙ at.1) in
       Contains-from_at s.entries from.0 (Commit tx) (from.2 ∙ ap Some (commit_is from.1 tx from.3))
 
   pub ended_with_handle : (tx : ℕ) (h : Handle) → handle_of s.installed tx ≡ Some h → HasEnded s.entries tx
-  ended_with_handle tx h given =
-      let at = Contains_at s.entries (Commit tx) (commit_with_handle tx h given) in
-      Any-from_at (λ e. (tx_of e ≡ tx) × IsEnd e) s.entries at.0 (Commit tx) at.1 (refl, tt)
+  ended_with_handle tx h given = ended-commit tx (commit_with_handle tx h given)
 
-  -- a committed transaction has asked for no write in vain
-  pub wanted_no_handle : (tx : ℕ) (h : Handle) (p : ℕ) (x : Name) (v : ℕ) → handle_of s.installed tx ≡ Some h → slice_get s.entries p ≡ Some (Want tx x v) → ⊥
-  wanted_no_handle tx h p x v given wants =
-      let c = Contains_at s.entries (Commit tx) (commit_with_handle tx h given) in
-      let r = Contains_at s.entries (Refuse tx) (site.wants tx x v (Contains-from_at s.entries p (Want tx x v) wants)) in
+  -- a committed transaction has asked for nothing in vain
+  pub wanted_no_handle : (e : Entry) (h : Handle) (p : ℕ) → handle_of s.installed (tx_of e) ≡ Some h → slice_get s.entries p ≡ Some e → IsWant e → ⊥
+  wanted_no_handle e h p given at wants =
+      let c = Contains_at s.entries (Commit (tx_of e)) (commit_with_handle (tx_of e) h given) in
+      let r = Contains_at s.entries (Refuse (tx_of e)) (site.wants e (Contains-from_at s.entries p e at) wants) in
       elim (cases_order c.0 r.0) [
-        | inl same ↦ let e : ◌≡◌ {A = Option Entry} (Some (Commit tx)) (Some (Refuse tx)) = sym c.1 ∙ ap (slice_get s.entries) same ∙ r.1 in absurd cc
-        | inr (inl lt) ↦ AllPairs_at (λ e f. IsEnd e → tx_of e ≢ tx_of f) s.entries c.0 r.0 (Commit tx) (Refuse tx) site.orderly.closed lt c.1 r.1 tt refl
-        | inr (inr gt) ↦ AllPairs_at (λ e f. IsEnd e → tx_of e ≢ tx_of f) s.entries r.0 c.0 (Refuse tx) (Commit tx) site.orderly.closed gt r.1 c.1 tt refl
+        | inl same ↦ let q : ◌≡◌ {A = Option Entry} (Some (Commit (tx_of e))) (Some (Refuse (tx_of e))) = sym c.1 ∙ ap (slice_get s.entries) same ∙ r.1 in absurd cc
+        | inr (inl lt) ↦ AllPairs_at (λ e f. IsEnd e → tx_of e ≢ tx_of f) s.entries c.0 r.0 (Commit (tx_of e)) (Refuse (tx_of e)) site.orderly.closed lt c.1 r.1 tt refl
+        | inr (inr gt) ↦ AllPairs_at (λ e f. IsEnd e → tx_of e ≢ tx_of f) s.entries r.0 c.0 (Refuse (tx_of e)) (Commit (tx_of e)) site.orderly.closed gt r.1 c.1 tt refl
       ]
 
   pub all_given : AllGiven s.installed s.entries
-  all_given n tx x v at = committed_of tx (site.writes tx x v (Contains-from_at s.entries n (Write tx x v) at))
+  all_given n e x c at is = committed_of (tx_of e) (site.changes e x c (Contains-from_at s.entries n e at) is)
 
   version_of : (x : Name) (q : ℕ) → count_before (writer s.installed x) s.entries q ≡ version_at (take q s.entries) x
-  version_of x q = length-writers s.installed (take q s.entries) x (λ n tx y v at. all_given n tx y v (slice_get-take s.entries q n (Write tx y v) at).1)
+  version_of x q = length-writers s.installed (take q s.entries) x (λ n e y c at. all_given n e y c (slice_get-take s.entries q n e at).1)
 
-  -- the write of number k
-  pub writer_at : (x : Name) (k : ℕ) (w : Writer) → slice_get (writers_of s.installed s.entries x) k ≡ Some w → (q : ℕ) × (v : ℕ) × (slice_get s.entries q ≡ Some (Write w.tx x v)) × (version_at (take q s.entries) x ≡ k) × (handle_of s.installed w.tx ≡ Some w.handle)
+  pub writer_at : (x : Name) (k : ℕ) (w : Writer) → slice_get (writers_of s.installed s.entries x) k ≡ Some w → WriterAt s x k w
   writer_at x k w at =
       let c = chosen_at (writer s.installed x) s.entries k w at in
-      let i = writer_is s.installed x c.1 w c.3 in
-      (c.0, i.0, c.2 ∙ ap Some i.1, sym (version_of x c.0) ∙ c.4, i.2)
+      record { place = c.0; entry = c.1; at = c.2; number = sym (version_of x c.0) ∙ c.4; is = writer_is s.installed x c.1 w c.3 }
 
-  -- and which number a write has
-  pub writer_from : (x : Name) (q tx v : ℕ) (h : Handle) → slice_get s.entries q ≡ Some (Write tx x v) → handle_of s.installed tx ≡ Some h → slice_get (writers_of s.installed s.entries x) (version_at (take q s.entries) x) ≡ Some (record { tx = tx; handle = h })
-  writer_from x q tx v h at given =
-      let same : bytes_eq x x ≡ true = (bytes_eq-Decides x x).1 refl in
-      let is : writer s.installed x (Write tx x v) ≡ Some (record { tx = tx; handle = h }) = rw (same, given) refl in
-      ap (slice_get (writers_of s.installed s.entries x)) (sym (version_of x q)) ∙ chosen_from (writer s.installed x) s.entries q (Write tx x v) (record { tx = tx; handle = h }) at is
+  -- and which number a change has
+  pub writer_from : (x : Name) (q : ℕ) (e : Entry) (c : Change) (h : Handle) → slice_get s.entries q ≡ Some e → change_of x e ≡ Some c → handle_of s.installed (tx_of e) ≡ Some h
+      → slice_get (writers_of s.installed s.entries x) (version_at (take q s.entries) x) ≡ Some (record { tx = tx_of e; handle = h; increment = is_increment e })
+  writer_from x q e c h at changes given =
+      let is : writer s.installed x e ≡ Some (record { tx = tx_of e; handle = h; increment = is_increment e }) = rw (changes, given) refl in
+      ap (slice_get (writers_of s.installed s.entries x)) (sym (version_of x q)) ∙ chosen_from (writer s.installed x) s.entries q e (record { tx = tx_of e; handle = h; increment = is_increment e }) at is

@@ -20,8 +20,8 @@ pub enum SiteFault {
     /// No pledge of the transaction stands, or it is not for this draft.
     #[error("S5: no such pledge stands")]
     NotPledged,
-    /// The names of the items don't rise, or there are more than 256.
-    #[error("S6: the names of the items do not rise, or there are more than 256")]
+    /// The names of the items don't rise, or there are more than 1,024.
+    #[error("S6: the names of the items do not rise, or there are more than 1,024")]
     BadItems,
     /// A pledge stands.
     #[error("S7: a pledge stands")]

@@ -2,13 +2,13 @@
 #![tactic(auto)]
 
 mod cell;
+mod cells;
 mod fault;
 mod laws;
+mod readings;
 mod site;
-#[cfg(test)]
-mod tests;
 
-pub use cell::{Reader, Writer};
+pub use cell::{Install, Reader, Writer};
 pub use fault::SiteFault;
 pub use laws::{items_are_refused_once, pledges_are_refused_once, reads_are_refused_once};
 pub use site::Site;

@@ -4,19 +4,21 @@
 //! Logs, conflicts and "reads from" are those of Bernstein, Hadzilacos and Goodman, Concurrency Control and Recovery in Database
 //! Systems (1987), chapter 2.
 
-ghost use Rattle.std.specs.Prelude.{◌≡◌, ◌↔◌, ◌⊎◌, ℕ, ◌+◌, ◌<◌, ◌≤◌, [], Some, length, map, slice_get, vec_len, vec_capacity, All, Contains, IsTrue, IfOk, IfErr, OnErr};
+ghost use Rattle.std.specs.Prelude.{◌≡◌, ◌↔◌, ◌⊎◌, ℕ, ◌+◌, ◌<◌, ◌≤◌, Some, vec_len, vec_capacity, Contains, IsTrue, IfOk, IfErr};
 ghost use Rattle.std.specs.Ordering.{nat_cmp};
 ghost use Rattle.std.specs.declared.cmp.Ordering.TheVariants.{Less};
 ghost use Rattle.std.specs.Cmp.Lexicographic.{slice_cmp};
 ghost use Rattle.sgt_names.specs.Ordered.{IsRisingBy, IsAt, IsGapFor};
-ghost use Rattle.sgt_site.specs.Store.{AreItems};
-ghost use Rattle.sgt_site.specs.Stored.{Contents, items_of, IsFresh, AreReadings, IsAnswering, AnswersAt};
+ghost use Rattle.sgt_site.specs.State.{AreItems};
+ghost use Rattle.sgt_site.specs.private.Cells.{values_of};
 
 mod blocks;
 mod pledges;
 
-use crate::cell::{Cell, Reader, Writer, insert};
+use crate::cell::{Cell, Install, Reader, Writer};
+use crate::cells::Cells;
 use crate::fault::SiteFault;
+use crate::readings::insert;
 use sgt_names::{Entry, Holding, Item, MAX_ITEMS, Seen, SiteNo, Touch, Tx};
 use std::alloc::{AllocError, Global};
 use std::cmp::Ordering;
@@ -26,10 +28,10 @@ use std::marker::Model;
 #[derive(Drop)]
 pub struct Site {
     number: SiteNo,
-    // by rising name
-    cells: Vec<Cell>,
+    items: Vec<Holding>,
+    cells: Cells,
     log: Vec<Entry>,
-    installed: Vec<Writer>,
+    installed: Vec<Install>,
     // the transactions that have their end here, rising
     ended: Vec<Tx>,
     // whose pledge stands, and what its draft touches here
@@ -39,14 +41,30 @@ pub struct Site {
 
 impl Model for Site {
     ghost use Rattle.std.specs.Prelude.{◌-◌, vec_len, vec_capacity};
-    ghost use Rattle.sgt_site.specs.Store.{Store};
-    ghost use Rattle.sgt_site.specs.Stored.{items_of, pledge_of, IsKept};
+    ghost use Rattle.sgt_site.specs.State.{SiteState};
+    ghost use Rattle.sgt_site.specs.private.Kept.{pledge_of, IsKept};
 
-    ghost Value = { Store };
+    ghost Value = { SiteState };
 
-    ghost view = { λ s. record { number = s.number; items = items_of s.cells.items; entries = s.log.items; installed = s.installed.items; pledge = pledge_of s.pledged s.part.items } };
+    ghost view = { λ s. record {
+      number = s.number;
+      items = s.items.items;
+      entries = s.log.items;
+      installed = s.installed.items;
+      pledge = pledge_of s.pledged s.part.items;
+    } };
 
-    ghost invariant = { λ s. IsKept (record { number = s.number; items = items_of s.cells.items; entries = s.log.items; installed = s.installed.items; pledge = pledge_of s.pledged s.part.items }) s.cells.items s.ended.items (record { log = vec_capacity s.log - vec_len s.log; installed = vec_capacity s.installed - vec_len s.installed; ended = vec_capacity s.ended - vec_len s.ended }) };
+    ghost invariant = { λ s. IsKept (record {
+      number = s.number;
+      items = s.items.items;
+      entries = s.log.items;
+      installed = s.installed.items;
+      pledge = pledge_of s.pledged s.part.items;
+    }) s.cells s.ended.items (record {
+      log = vec_capacity s.log - vec_len s.log;
+      installed = vec_capacity s.installed - vec_len s.installed;
+      ended = vec_capacity s.ended - vec_len s.ended;
+    }) };
 }
 
 impl Site {
@@ -56,12 +74,12 @@ impl Site {
     ghost use Rattle.sgt_names.specs.Log.{names, value_at, FinalsAreLegal, IsOrderly, ReadsAreLegal};
     ghost use Rattle.sgt_names.specs.Draft.{at_site, kept_in, writing_in};
     ghost use Rattle.sgt_names.specs.declared.entry.Entry.TheVariants.{Read};
-    ghost use Rattle.sgt_site.specs.Store.{opened, version_at, writers_of, IsReader, AreItems, IsSite, IsPledged, IsPledgedFor, commit_block, refuse_block, withdraw_block};
-    ghost use Rattle.sgt_site.specs.Refused.{RefusesItems, RefusesRead, RefusesPledge, MayRead, MayPledge};
+    ghost use Rattle.sgt_site.specs.State.{opened, version_at, writers_of, IsReader, AreItems, IsSite, IsPledged, IsPledgedFor, commit_block, refuse_block, withdraw_block};
+    ghost use Rattle.sgt_site.specs.Refused.{IsHere, RefusesItems, RefusesRead, MayRead};
 
     /// A site with these items, each with its listed value, and no entries. The cost is the number of items.
     ///
-    /// - S6: the names don't rise, or there are more than 256.
+    /// - S6: the names don't rise, or there are more than 1,024.
     /// - S4: there was no memory.
     pub fn new(alloc: Global, number: SiteNo, items: &[Holding]) -> Result<Site, SiteFault>
         ensures ok { IfOk result (λ s. s ≡ opened number items.now) }
@@ -71,13 +89,15 @@ impl Site {
         if !are_items(items) {
             return Err(SiteFault::BadItems);
         }
-        let mut cells = Vec::new(alloc);
-        if cells.reserve(items.len()).is_err() {
+        let Ok(kept) = copies(alloc, items) else {
             return Err(SiteFault::Memory);
-        }
-        add_cells(alloc, &mut cells, items);
+        };
+        let Ok(cells) = Cells::new(alloc, items) else {
+            return Err(SiteFault::Memory);
+        };
         Ok(Site {
             number,
+            items: kept,
             cells,
             log: Vec::new(alloc),
             installed: Vec::new(alloc),
@@ -93,6 +113,14 @@ impl Site {
         ensures site { IsSite self.now }
     {
         self.number
+    }
+
+    /// The items with their first values, by rising name.
+    pub fn items(&self) -> &[Holding]
+        ensures items { result.now ≡ self.now.items }
+        ensures site { IsSite self.now }
+    {
+        self.items.as_slice()
     }
 
     /// The entries of the log, the oldest first.
@@ -127,11 +155,10 @@ impl Site {
         ensures allowed { OnOk result (MayRead self.old tx item) }
         ensures refused { IfErr result (RefusesRead self.old tx item) }
     {
-        let at = match find(self.cells.as_slice(), item) {
-            Ok(at) => at,
-            Err(_) => return Err(SiteFault::UnknownItem),
+        let Some(at) = self.cells.find(item) else {
+            return Err(SiteFault::UnknownItem);
         };
-        if self.cells[at].has_read(tx) {
+        if self.cells.as_slice()[at].has_read(tx) {
             return Err(SiteFault::ReadTwice);
         }
         if has_ended(self.ended.as_slice(), tx) {
@@ -145,7 +172,7 @@ impl Site {
         if !make_room(&mut self.log, room) {
             return Err(SiteFault::Memory);
         }
-        match answer(&mut self.cells, at, tx) {
+        match self.cells.answer(at, tx) {
             Ok(seen) => {
                 let value = seen.value;
                 self.log.push_reserved(Entry::Read { tx, item, value });
@@ -175,18 +202,18 @@ impl Site {
         Ok(())
     }
 
-    /// The committed transactions that wrote the item, in the order of the log. Searches the items, and copies nothing.
+    /// The committed transactions that wrote the item or added to it, in the order of the log. Searches the items, and copies nothing.
     ///
     /// - S1: the item isn't at this site.
     pub fn writers(&self, item: Item) -> Result<&[Writer], SiteFault>
         ensures ok { IfOk result (λ ws. ws.now ≡ writers_of self.now.installed self.now.entries item) }
         ensures site { IsSite self.now }
-        ensures allowed { OnOk result (Contains (names self.now.items) item) }
-        ensures refused { IfErr result (λ f. (f ≡ SiteFault.UnknownItem) × (¬ Contains (names self.now.items) item)) }
+        ensures allowed { OnOk result (IsHere self.now item) }
+        ensures refused { IfErr result (λ f. (f ≡ SiteFault.UnknownItem) × (IsHere self.now item → ⊥)) }
     {
-        match find(self.cells.as_slice(), item) {
-            Ok(at) => Ok(self.cells[at].writers()),
-            Err(_) => Err(SiteFault::UnknownItem),
+        match self.cells.find(item) {
+            Some(at) => Ok(self.cells.as_slice()[at].writers()),
+            None => Err(SiteFault::UnknownItem),
         }
     }
 
@@ -198,12 +225,12 @@ impl Site {
         ensures ok { IfOk result (λ rs. (r : Reader) → Contains rs.now r ↔ IsReader self.now.installed self.now.entries item r) }
         ensures once { IfOk result (λ rs. AllPairs (λ a b. a.tx ≢ b.tx) rs.now) }
         ensures site { IsSite self.now }
-        ensures allowed { OnOk result (Contains (names self.now.items) item) }
-        ensures refused { IfErr result (λ f. (f ≡ SiteFault.UnknownItem) × (¬ Contains (names self.now.items) item)) }
+        ensures allowed { OnOk result (IsHere self.now item) }
+        ensures refused { IfErr result (λ f. (f ≡ SiteFault.UnknownItem) × (IsHere self.now item → ⊥)) }
     {
-        match find(self.cells.as_slice(), item) {
-            Ok(at) => Ok(self.cells[at].readers()),
-            Err(_) => Err(SiteFault::UnknownItem),
+        match self.cells.find(item) {
+            Some(at) => Ok(self.cells.as_slice()[at].readers()),
+            None => Err(SiteFault::UnknownItem),
         }
     }
 
@@ -222,9 +249,15 @@ impl Site {
     }
 }
 
+fn copies(alloc: Global, items: &[Holding]) -> Result<Vec<Holding>, AllocError>
+    ensures { IfOk result (λ kept. kept.items ≡ items.now) }
+{
+    items.iter().copied().collect(alloc)
+}
+
 // The items with their present values.
 fn holdings(alloc: Global, cells: &[Cell]) -> Result<Vec<Holding>, AllocError>
-    ensures { IfOk result (λ finals. finals.items ≡ map (λ c. record { item = c.item; value = c.value }) cells.now) }
+    ensures { IfOk result (λ finals. finals.items ≡ values_of cells.now) }
 {
     cells.iter().map(Cell::holding).collect(alloc)
 }
@@ -247,21 +280,6 @@ fn make_room<T>(items: &mut Vec<T>, more: usize) -> bool
     ensures capacity { vec_capacity items.old ≤ vec_capacity items.new }
 {
     items.reserve(more).is_ok()
-}
-
-// Where the item is.
-fn find(cells: &[Cell], item: Item) -> Result<usize, usize>
-    requires { IsRisingBy (λ c. c.item) (slice_cmp nat_cmp) cells.now }
-    ensures found { IfOk result (IsAt (λ c. c.item) cells.now item) }
-    ensures absent { OnErr result (¬ Contains (map (λ c. c.item) cells.now) item) }
-{
-    cells.binary_search_by(|c| order(c, &item))
-}
-
-fn order(cell: &Cell, item: &Item) -> Ordering
-    ensures { result ≡ slice_cmp nat_cmp cell.now.item item.now }
-{
-    cell.item().cmp(item)
 }
 
 fn are_items(items: &[Holding]) -> bool
@@ -287,17 +305,6 @@ fn comes_before(a: &Holding, b: &Holding) -> bool
     }
 }
 
-fn add_cells(alloc: Global, cells: &mut Vec<Cell>, items: &[Holding])
-    requires empty { cells.old.items ≡ [] }
-    requires room { vec_len cells.old + length items.now ≤ vec_capacity cells.old }
-    ensures items { items_of cells.new.items ≡ items.now }
-    ensures fresh { All IsFresh cells.new.items }
-{
-    for holding in items {
-        cells.push_reserved(Cell::new(alloc, *holding));
-    }
-}
-
 // Where the transaction is among those that have ended, or where it would go.
 fn search(ended: &[Tx], tx: Tx) -> Result<usize, usize>
     requires { IsRisingBy (λ t. t) nat_cmp ended.now }
@@ -318,7 +325,7 @@ fn has_ended(ended: &[Tx], tx: Tx) -> bool
 // The transaction has its end.
 fn add_ended(ended: &mut Vec<Tx>, tx: Tx)
     requires rising { IsRisingBy (λ t. t) nat_cmp ended.old.items }
-    requires first { ¬ Contains ended.old.items tx }
+    requires first { Contains ended.old.items tx → ⊥ }
     requires room { vec_len ended.old < vec_capacity ended.old }
     ensures rising { IsRisingBy (λ t. t) nat_cmp ended.new.items }
     ensures each { (t : ℕ) → Contains ended.new.items t ↔ ((t ≡ tx) ⊎ Contains ended.old.items t) }
@@ -327,15 +334,4 @@ fn add_ended(ended: &mut Vec<Tx>, tx: Tx)
     if let Err(at) = search(ended.as_slice(), tx) {
         insert(ended, at, tx);
     }
-}
-
-// Answers a transaction that has not read the item of this cell.
-fn answer(cells: &mut Vec<Cell>, at: usize, tx: Tx) -> Result<Seen, AllocError>
-    requires within { at < length cells.old.items }
-    requires rising { All (λ c. AreReadings c.readings) cells.old.items }
-    requires first { (c : Contents) → slice_get cells.old.items at ≡ Some c → ¬ IsAnswering c tx }
-    ensures ok { IfOk result (λ seen. AnswersAt cells.old.items cells.new.items at tx seen) }
-    ensures err { OnErr result (cells.new.items ≡ cells.old.items) }
-{
-    cells[at].answer(tx)
 }

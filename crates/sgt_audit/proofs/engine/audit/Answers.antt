@@ -1,8 +1,8 @@
 use Rattle.std.proofs.Common.{inl}
 use Rattle.sgt_audit.specs.Verdict.{IsVerdict, SaysHeadline}
-use Rattle.sgt_audit.specs.Reads.{IsJudged}
+use Rattle.sgt_audit.specs.private.Stops.{IsJudged}
 use Rattle.sgt_audit.proofs.Verdicts.{told-map, verdict-headline}
-use Rattle.sgt_audit.proofs.Writing.{wrote_nothing}
+use Rattle.sgt_names.proofs.Devices.{wrote_nothing}
 use Rattle.sgt_audit.proofs.engine.audit.Goals as goal
 
 pub returns-in-Err-clause-front : goal.returns-in-Err-clause-front

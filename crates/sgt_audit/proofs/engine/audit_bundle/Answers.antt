@@ -1,19 +1,19 @@
 use Rattle.std.proofs.Common.{List, refl, subst, sym, ap, ◌∙◌}
 use Rattle.sgt_notation.specs.Spelling.{text_of_lines}
-use Rattle.sgt_cert.specs.Parts.{Parts}
-use Rattle.sgt_cert.specs.Text.{IsBundle, Spells}
+use Rattle.sgt_cert.specs.Parts.{FitTogether, Parts}
+use Rattle.sgt_cert.specs.Text.{Spells}
 use Rattle.sgt_cert.specs.Valid.{IsValid}
 use Rattle.sgt_cert.specs.declared.bundle.SiteLog.{SiteLog}
 use Rattle.sgt_audit.specs.Faults.{complete, lines_so_far}
-use Rattle.sgt_audit.specs.Reads.{IsJudged}
+use Rattle.sgt_audit.specs.private.Stops.{IsJudged}
 use Rattle.sgt_audit.specs.declared.reading.Judged.TheVariants as judged
-use Rattle.sgt_audit.proofs.Verdicts.{kept-is_bundle, kept-spelled, kept-valid, told-map}
+use Rattle.sgt_audit.proofs.Verdicts.{kept-fit, kept-spelled, kept-valid, told-map}
 use Rattle.sgt_audit.proofs.engine.audit_bundle.Goals as goal
 
 pub unreachable-requires : goal.unreachable-requires
 unreachable-requires g c =
     let all = rw c.in-Ok-Whole.field-0-is at c.in-Ok-Whole.ensures.all in
-    c.in-None.ensures (subst (λ logs. IsBundle (record { certificate = c.in-Ok-Whole.kept.certificate; sites = logs })) (sym c.into_logs-logs.ensures) (kept-is_bundle c.in-Ok-Whole.kept all.0 all.1 all.2))
+    c.in-None.ensures (subst (λ logs. FitTogether (record { certificate = c.in-Ok-Whole.kept.certificate; sites = logs })) (sym c.into_logs-logs.ensures) (kept-fit c.in-Ok-Whole.kept all.0 all.1 all.2))
 
 pub returns-in-Some-clause-audited : goal.returns-in-Some-clause-audited
 returns-in-Some-clause-audited g c =
@@ -27,4 +27,4 @@ returns-in-Some-clause-valid g c =
     let all = rw c.in-Ok-Whole.field-0-is at c.in-Ok-Whole.ensures.all in
     let k = c.in-Ok-Whole.kept in
     let parts : List SiteLog → Parts = λ logs. record { certificate = k.certificate; sites = logs } in
-    subst IsValid (sym (c.in-Some.ensures.1 ∙ ap parts c.into_logs-logs.ensures)) (kept-valid k all.0 all.1 all.2 (text_of_lines (lines_so_far (complete k.certificate all.0))) refl)
+    subst IsValid (sym (c.in-Some.ensures.1 ∙ ap parts c.into_logs-logs.ensures)) (kept-valid k all.0 all.1 all.2 (text_of_lines (lines_so_far (complete k.second k.certificate all.0))) refl)

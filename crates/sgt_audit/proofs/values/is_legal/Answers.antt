@@ -1,6 +1,6 @@
 use Rattle.std.proofs.Common.{subst, sym, IsTrue}
 use Rattle.std.specs.Prelude.{◌↔◌}
-use Rattle.sgt_audit.specs.Judging.{IsLegalRead}
+use Rattle.sgt_audit.specs.private.Judging.{IsLegalRead}
 use Rattle.sgt_audit.proofs.values.is_legal.Goals as goal
 
 pub returns-in-Read : goal.returns-in-Read

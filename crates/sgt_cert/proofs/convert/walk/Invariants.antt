@@ -1,6 +1,6 @@
 use Rattle.std.proofs.Common.{◌≡◌, ◌++◌, drop, option_map, map}
 use Rattle.serde_json.specs.View.{view}
-use Rattle.sgt_cert.specs.Line.{walk_in}
+use Rattle.sgt_cert.specs.Private.{walk_in}
 use Rattle.sgt_cert.proofs.convert.walk.Given as goal
 
 -- what was found, before what the rest gives, is what all give

@@ -1,7 +1,7 @@
 use Rattle.std.proofs.Common.{refl, ap, subst, sym, AllPairs}
 use Rattle.sgt_names.specs.Log.{names}
 use Rattle.sgt_cert.specs.Parts.{ComesBefore}
-use Rattle.sgt_cert.proofs.Loops.{rise-more, rise-not, rise-end}
+use Rattle.sgt_cert.proofs.Rising.{rise-more, rise-not, rise-end}
 use Rattle.sgt_cert.proofs.fits.rise.Goals as goal
 
 pub loop-holding-init : goal.loop-holding-init

@@ -2,14 +2,15 @@ use Rattle.std.proofs.Common.{arith}
 use Rattle.std.proofs.lemmas.Grind.{common_steps}
 use Rattle.sgt_names.specs.Limits.{max_sites}
 use Rattle.sgt_cert.specs.Text.{IsDecision}
-use Rattle.sgt_cert.proofs.Loops.{all-behind, all-none, all-step, on_ok-anyway}
+use Rattle.sgt_names.proofs.Lists.{All-next, element_at}
+use Rattle.sgt_cert.proofs.InRange.{all-behind, all-none, on_ok-anyway}
 use Rattle.sgt_cert.proofs.line.push_decisions.Goals as goal
 use Rattle.sgt_cert.proofs.line.push_decisions.Goals.{in-Some+in_ok-push_decision+else-loop-decision-test, in_default}
 
 pub loop-decision-preserved : goal.loop-decision-preserved
 loop-decision-preserved c = (
   grind (arith, common_steps),
-  all-step (IsDecision max_sites) c.in-Some.further.now c.loop-decision.decision-index c.decision-item.result (omega arith) c.loop-decision.invariant.1 c.decision-item.is c.in_ok-push_decision-2.ensures.in_range,
+  All-next (IsDecision max_sites) c.in-Some.further.now c.loop-decision.decision-index c.decision-item.result (element_at c.in-Some.further.now c.loop-decision.decision-index c.decision-item.result (omega arith) c.decision-item.is) c.in_ok-push_decision-2.ensures.in_range c.loop-decision.invariant.1,
 )
 
 pub returns-clause-in_range : goal.returns-clause-in_range

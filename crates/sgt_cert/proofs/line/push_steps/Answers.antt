@@ -2,14 +2,15 @@ use Rattle.std.proofs.Common.{arith}
 use Rattle.std.proofs.lemmas.Grind.{common_steps}
 use Rattle.sgt_names.specs.Limits.{max_sites}
 use Rattle.sgt_cert.specs.Text.{IsStep}
-use Rattle.sgt_cert.proofs.Loops.{all-behind, all-none, all-step, on_ok-anyway}
+use Rattle.sgt_names.proofs.Lists.{All-next, element_at}
+use Rattle.sgt_cert.proofs.InRange.{all-behind, all-none, on_ok-anyway}
 use Rattle.sgt_cert.proofs.line.push_steps.Goals as goal
 use Rattle.sgt_cert.proofs.line.push_steps.Goals.{in-Some+in_ok-push_step+else-loop-step-test, in_default}
 
 pub loop-step-preserved : goal.loop-step-preserved
 loop-step-preserved c = (
   grind (arith, common_steps),
-  all-step (IsStep max_sites) c.in-Some.further.now c.loop-step.step-index c.step-item.result (omega arith) c.loop-step.invariant.1 c.step-item.is c.push_step-in-loop-step.ensures.in_range,
+  All-next (IsStep max_sites) c.in-Some.further.now c.loop-step.step-index c.step-item.result (element_at c.in-Some.further.now c.loop-step.step-index c.step-item.result (omega arith) c.step-item.is) c.push_step-in-loop-step.ensures.in_range c.loop-step.invariant.1,
 )
 
 pub returns-clause-in_range : goal.returns-clause-in_range

@@ -1,7 +1,7 @@
 use Rattle.std.proofs.Common.{sym, ◌∙◌, subst}
 use Rattle.sgt_names.specs.Name.{IsName}
 use Rattle.sgt_notation.proofs.Numbers.{not_ok}
-use Rattle.sgt_notation.proofs.Cuts.{sides_of}
+use Rattle.sgt_notation.proofs.Unspelled.{sides_of}
 use Rattle.sgt_notation.proofs.reading.find_holding.Goals as goal
 
 pub returns-in_err-item : goal.returns-in_err-item

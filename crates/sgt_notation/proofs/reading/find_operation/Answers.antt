@@ -1,8 +1,8 @@
 use Rattle.std.proofs.Common.{sym, ◌∙◌, subst}
 use Rattle.sgt_names.specs.Name.{IsName}
-use Rattle.sgt_notation.proofs.OneSpelling.{heads, tails}
+use Rattle.sgt_names.proofs.Lists.{heads, tails}
 use Rattle.sgt_notation.proofs.Numbers.{not_ok}
-use Rattle.sgt_notation.proofs.Cuts.{first_of, never, parts_of, some_byte}
+use Rattle.sgt_notation.proofs.Unspelled.{first_of, never, parts_of, some_byte}
 use Rattle.sgt_notation.proofs.reading.find_operation.Goals as goal
 
 pub returns-in_err-name : goal.returns-in_err-name

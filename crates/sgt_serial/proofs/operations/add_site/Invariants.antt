@@ -1,11 +1,6 @@
-use Rattle.std.proofs.Common.{◌≡◌, ◌++◌, take}
-use Rattle.std.specs.List.{filter_map}
-use Rattle.sgt_serial.specs.Report.{read_at, write_at}
-use Rattle.sgt_serial.specs.Operations.{owned}
+use Rattle.std.proofs.Common.{◌≡◌, ◌++◌, map, take}
+use Rattle.sgt_serial.specs.private.Operations.{entry_at}
 use Rattle.sgt_serial.proofs.operations.add_site.Given as goal
 
 abbrev pub invariant-loop-entry : goal.invariant-loop-entry
-invariant-loop-entry l = record {
-  reads : l.reads.items ≡ l.fn.reads.items ++ filter_map (owned read_at l.site) (take l.entry-index l.entries);
-  writes : l.writes.items ≡ l.fn.writes.items ++ filter_map (owned write_at l.site) (take l.entry-index l.entries);
-}
+invariant-loop-entry l = l.entries.items ≡ l.fn.entries.items ++ map (entry_at l.site) (take l.entry-index l.logged)

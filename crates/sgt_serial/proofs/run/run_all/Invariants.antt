@@ -2,7 +2,7 @@ use Rattle.std.proofs.Common.{◌≡◌, ℕ, map, take}
 use Rattle.sgt_names.specs.Name.{Name}
 use Rattle.sgt_serial.specs.Difference.{AllRunOn, store_after_all}
 use Rattle.sgt_serial.specs.Report.{run_of}
-use Rattle.sgt_serial.specs.Values.{store_of}
+use Rattle.sgt_serial.specs.private.Values.{store_of}
 use Rattle.sgt_serial.proofs.run.run_all.Given as goal
 
 abbrev pub invariant-loop-tx : goal.invariant-loop-tx

@@ -5,7 +5,7 @@ use Rattle.sgt_cert.specs.declared.certificate.Certificate.{Certificate}
 use Rattle.sgt_serial.specs.declared.report.SiteValue.{SiteValue}
 use Rattle.sgt_serial.specs.declared.report.SerialFail.TheVariants.{Differs}
 use Rattle.sgt_serial.specs.Difference.{Has, IsFirstWithout}
-use Rattle.sgt_serial.specs.Values.{store_of}
+use Rattle.sgt_serial.specs.private.Values.{store_of}
 use Rattle.sgt_serial.proofs.Running.{same-fail, same-tx, same-site, same-item}
 use Rattle.sgt_serial.proofs.Bundles.{differs-bundle, differs-final, agrees-bundle}
 use Rattle.sgt_serial.proofs.run.run_bundle.Goals as goal

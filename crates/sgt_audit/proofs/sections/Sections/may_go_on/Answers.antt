@@ -1,6 +1,6 @@
 use Rattle.std.proofs.Common.{◌≡◌, ◌<◌, sym, subst, ◌∙◌, IsTrue}
 use Rattle.std.specs.Prelude.{◌↔◌}
-use Rattle.sgt_audit.specs.Reading.{FitsBetween}
+use Rattle.sgt_audit.specs.private.Following.{FitsBetween}
 use Rattle.sgt_audit.proofs.Adding.{begun, goes-on-inside, goes-on-between, not-between}
 use Rattle.sgt_audit.proofs.sections.Sections.may_go_on.Goals as goal
 

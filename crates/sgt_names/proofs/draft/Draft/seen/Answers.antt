@@ -12,16 +12,16 @@ returns-in-Ok-clause-ok c =
 pub invariant_of-self-in-Err : goal.invariant_of-self-in-Err
 invariant_of-self-in-Err c =
     let gap = rw c.as_slice.ensures.value at c.in-Err.ensures.absent in
-    tried _ _ c.add.result _ _ c.in-Err.at _ c.add.ensures.ok c.add.ensures.err gap (inl refl) c.self.invariant
+    tried _ _ c.insert_touch.result _ _ c.in-Err.at _ c.insert_touch.ensures.ok c.insert_touch.ensures.err gap (inl refl) c.self.invariant
 
 pub returns-in-Err-clause-ok : goal.returns-in-Err-clause-ok
 returns-in-Err-clause-ok c =
     let gap = rw c.as_slice.ensures.value at c.in-Err.ensures.absent in
-    rw (← c.self.view_is) (OnOk_then c.add.result c.add.ensures.ok (λ is. rw is (adds_seen c.self.inside.touched.items c.self.invariant.0 (c.args.site, c.args.item) c.in-Err.at _ gap)))
+    rw (← c.self.view_is) (OnOk_then c.insert_touch.result c.insert_touch.ensures.ok (λ is. rw is (adds_seen c.self.inside.touched.items c.self.invariant.0 (c.args.site, c.args.item) c.in-Err.at _ gap)))
 
 pub returns-in-Err-clause-succeeds : goal.returns-in-Err-clause-succeeds
 returns-in-Err-clause-succeeds c = rw (← c.self.view_is) (λ room. elim room [
-  | inl fits ↦ c.add.ensures.succeeds (grind (arith, nat_tests, fits))
+  | inl fits ↦ c.insert_touch.ensures.succeeds (grind (arith, nat_tests, fits))
   | inr touched ↦ absurd (not_touched _ _ _ (rw c.as_slice.ensures.value at c.in-Err.ensures.absent) touched)
 ])
 

@@ -1,7 +1,7 @@
 use Rattle.std.proofs.Common.{subst}
-use Rattle.sgt_names.specs.Draft.{Private, AreRising}
+use Rattle.sgt_names.specs.Draft.{DraftView, AreRising}
 use Rattle.sgt_names.proofs.Rising.{writing-by_item}
 use Rattle.sgt_names.proofs.draft.Draft.writing.Goals as goal
 
 pub returns-clause-rising : goal.returns-clause-rising
-returns-clause-rising c = writing-by_item c.args.site c.args.self.now.touched (subst (λ (p : Private). AreRising p.touched) c.self.view_is c.self.invariant.0)
+returns-clause-rising c = writing-by_item c.args.site c.args.self.now.touched (subst (λ (p : DraftView). AreRising p.touched) c.self.view_is c.self.invariant.0)

@@ -1,4 +1,4 @@
-use Rattle.sgt_notation.proofs.LineLemmas.{moves_found, window_later}
+use Rattle.sgt_notation.proofs.Looking.{moves_found, window_later}
 use Rattle.sgt_notation.proofs.lines.Lines.look.Goals as goal
 
 pub returns-clause-left : goal.returns-clause-left

@@ -1,8 +1,7 @@
-use Rattle.std.proofs.Common.{refl, sym, subst}
-use Rattle.sgt_site.specs.Store.{AreItems}
+use Rattle.std.proofs.Common.{refl}
 use Rattle.sgt_site.proofs.Fresh.{kept-fresh}
 use Rattle.sgt_site.proofs.site.Site.new.Goals as goal
 
 pub invariant_of-result : goal.invariant_of-result
 invariant_of-result c =
-    rw (c.new.ensures.items, c.new-2.ensures.items, c.new-3.ensures.items) (kept-fresh c.args.number c.add_cells.new.cells.items _ (subst AreItems (sym c.add_cells.ensures.items) (c.if-not-are_items.ensures.0 refl)) c.add_cells.ensures.fresh)
+    rw (c.in-Ok.ensures, c.new-2.ensures.items, c.new-3.ensures.items, c.new-4.ensures.items) (kept-fresh c.args.number c.args.items.now c.in-Ok-new.cells _ (c.if-not-are_items.ensures.0 refl) c.in-Ok-new.ensures.items c.in-Ok-new.ensures.fresh)

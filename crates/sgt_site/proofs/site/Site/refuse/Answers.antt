@@ -32,4 +32,4 @@ pub invariant_of-self : goal.invariant_of-self
 invariant_of-self c =
     let pledge = pledged_is c.self.inside.pledged c.self.inside.part.items c.args.tx (c.if-not-is_pledged.ensures.0 refl) in
     let covered = c.self.invariant.site.pledged _ pledge in
-    rw (c.push_reserved.ensures.items, c.log_wants.ensures.entries, append_assoc, c.as_slice-2.ensures.value) (kept-refuse _ _ covered c.self.inside.cells.items _ _ _ _ c.self.invariant record { rising = c.add_ended.ensures.rising; each = c.add_ended.ensures.each })
+    rw (c.push_reserved.ensures.items, c.log_wants.ensures.entries, append_assoc, c.as_slice-2.ensures.value) (kept-refuse _ _ covered c.self.inside.cells _ _ _ _ c.self.invariant record { rising = c.add_ended.ensures.rising; each = c.add_ended.ensures.each })

@@ -23,4 +23,4 @@ pub invariant_of-self : goal.invariant_of-self
 invariant_of-self c =
     let pledge = pledged_is c.self.inside.pledged c.self.inside.part.items c.args.tx (c.if-not-is_pledged.ensures.0 refl) in
     let covered = c.self.invariant.site.pledged _ pledge in
-    rw c.push_reserved.ensures.items (kept-withdraw _ c.args.tx c.self.invariant.site covered.active c.self.inside.cells.items _ _ _ _ c.self.invariant record { rising = c.add_ended.ensures.rising; each = c.add_ended.ensures.each })
+    rw c.push_reserved.ensures.items (kept-withdraw _ c.args.tx c.self.invariant.site covered.active c.self.inside.cells _ _ _ _ c.self.invariant record { rising = c.add_ended.ensures.rising; each = c.add_ended.ensures.each })

@@ -1,16 +1,15 @@
 use Rattle.std.proofs.Common.{ap, ◌∙◌, refl}
-use Rattle.sgt_site.specs.Store.{writers_of}
-use Rattle.sgt_site.proofs.Keeps.{found_cell, found_known, names_items}
+use Rattle.sgt_site.specs.State.{writers_of}
+use Rattle.sgt_site.proofs.Keeps.{found_cell, found_known}
 use Rattle.sgt_site.proofs.site.Site.writers.Goals as goal
 
-pub returns-in-Ok-clause-ok : goal.returns-in-Ok-clause-ok
-returns-in-Ok-clause-ok c =
-    let at = rw c.as_slice.ensures.value at c.in-Ok.ensures.found in
-    let cell = found_cell _ _ _ _ _ _ _ c.self.invariant.each at c.index.ensures in
+pub returns-in-Some-clause-ok : goal.returns-in-Some-clause-ok
+returns-in-Some-clause-ok c =
+    let cell = found_cell _ _ _ _ _ _ _ c.self.invariant.each c.in-Some.ensures.found (rw c.as_slice.ensures.cells at c.index-as_slice-at.is) in
     rw (← c.self.view_is) (c.writers.ensures ∙ cell.1.writers ∙ ap (writers_of c.self.inside.installed.items c.self.inside.log.items) cell.0)
 
-pub returns-in-Ok-clause-allowed : goal.returns-in-Ok-clause-allowed
-returns-in-Ok-clause-allowed c = rw (← c.self.view_is) (found_known _ _ _ (rw c.as_slice.ensures.value at c.in-Ok.ensures.found))
+pub returns-in-Some-clause-allowed : goal.returns-in-Some-clause-allowed
+returns-in-Some-clause-allowed c = rw (← c.self.view_is) (found_known _ _ _ _ c.self.invariant.names_same c.in-Some.ensures.found)
 
-pub returns-in-Err-clause-refused : goal.returns-in-Err-clause-refused
-returns-in-Err-clause-refused c = (refl, rw (← c.self.view_is, names_items c.self.inside.cells.items) (rw c.as_slice.ensures.value at c.in-Err.ensures.absent))
+pub returns-in-None-clause-refused : goal.returns-in-None-clause-refused
+returns-in-None-clause-refused c = (refl, rw (← c.self.view_is, ← c.self.invariant.names_same) c.in-None.ensures.absent)

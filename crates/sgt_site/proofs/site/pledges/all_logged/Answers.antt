@@ -2,7 +2,7 @@ use mathlib.Core.Bool.{false≢true}
 use Rattle.std.proofs.Common.{◌≡◌, refl}
 use Rattle.std.specs.Option.{ForSome}
 use Rattle.sgt_names.specs.declared.draft.Touch.{Touch}
-use Rattle.sgt_site.specs.Stored.{InCells}
+use Rattle.sgt_site.specs.private.Cells.{InCells}
 use Rattle.sgt_site.proofs.Changes.{all-pass, all-fail}
 use Rattle.sgt_site.proofs.site.pledges.all_logged.Goals as goal
 

@@ -2,7 +2,7 @@ use Rattle.std.proofs.Common.{◌≡◌, drop, All}
 use Rattle.std.specs.Prelude.{◌↔◌}
 use Rattle.std.specs.Option.{ForSome}
 use Rattle.sgt_names.specs.declared.draft.Touch.{Touch}
-use Rattle.sgt_site.specs.Stored.{InCells}
+use Rattle.sgt_site.specs.private.Cells.{InCells}
 use Rattle.sgt_site.proofs.site.pledges.all_logged.Given as goal
 
 -- what is left is logged exactly where the whole is

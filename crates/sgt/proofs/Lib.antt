@@ -1,3 +1,0 @@
-pub mod OneWord
-pub mod Said
-pub mod Told

@@ -1,9 +1,0 @@
-use Rattle.std.proofs.Common.{length}
-use Rattle.sgt_audit.proofs.SpelledLines.{IsAhead}
-use Rattle.sgt_audit.proofs.bundles.read_sections.Given as goal
-
-abbrev pub invariant-lines : goal.invariant-lines
-invariant-lines l = IsAhead l.sites l.bytes l.sections l.rest
-
-abbrev pub decreases-lines : goal.decreases-lines
-decreases-lines l = length l.rest

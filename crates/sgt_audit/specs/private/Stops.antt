@@ -1,0 +1,36 @@
+-- What was judged of a text that a reader tells.
+use Rattle.std.specs.Prelude.{◌≡◌, ◌≤◌, ◌+◌, ℕ, List, [], ◌++◌, length, Option, IfSome}
+use Rattle.sgt_notation.specs.Spelling.{text_of_lines, HasNoLf}
+use Rattle.sgt_notation.specs.declared.SectionLine.{SectionLine}
+use Rattle.sgt_cert.specs.Text.{AreSections}
+use Rattle.sgt_audit.specs.declared.machine.Progress.{Progress}
+use Rattle.sgt_audit.specs.declared.reading.Stop.{Stop}
+use Rattle.sgt_audit.specs.declared.reading.Stop.TheVariants as stop
+use Rattle.sgt_audit.specs.declared.reading.Judged.{Judged}
+use Rattle.sgt_audit.specs.declared.reading.Judged.TheVariants as judged
+use Rattle.sgt_audit.specs.Faults.{Stage, FirstFault, complete, last, lines_so_far, Rule, Breaks}
+use Rattle.sgt_audit.specs.Kept.{Means}
+use Rattle.sgt_audit.specs.private.Ending.{limit_of}
+use Rattle.sgt_audit.specs.Progress.{Stands}
+
+-- where reading stopped, with these bytes behind the last LF: at the first fault of the text that was told, or at its end
+abbrev pub IsStop : Option (List ℕ) → Stop → Progress → List ℕ → Type 0
+IsStop told (stop.Faulty n f) p l = IfSome told (λ bytes. FirstFault bytes n f)
+IsStop told (stop.Ended n) p l = (s : Stage) × Stands p s × (length l ≤ limit_of s) × HasNoLf l
+    × IfSome told (λ bytes. (bytes ≡ text_of_lines (lines_so_far s) ++ l) × (n ≡ length (lines_so_far s) + 1))
+
+-- what is kept is all of the lines of a text with no fault
+abbrev pub IsAll : Judged → Type 0
+IsAll (judged.Whole k) = (before : List SectionLine) × Means k.second k.certificate k.sections before × AreSections k.certificate.sites before
+IsAll (judged.Faulty line f) = Unit {0}
+
+-- the text has no fault, and is this; or it has this first fault
+abbrev pub IsJudged : Judged → List ℕ → Type 0
+IsJudged (judged.Whole k) bytes = (before : List SectionLine) × Means k.second k.certificate k.sections before × AreSections k.certificate.sites before
+    × (bytes ≡ text_of_lines (lines_so_far (complete k.second k.certificate before)))
+IsJudged (judged.Faulty line f) bytes = FirstFault bytes line f
+
+-- the end of the input at a stage, with these bytes behind the last LF
+abbrev pub IsEnded : Stage → List ℕ → ℕ → Judged → Type 0
+IsEnded s l n (judged.Whole k) = ((before : List SectionLine) × Means k.second k.certificate k.sections before × AreSections k.certificate.sites before × (s ≡ complete k.second k.certificate before)) × (l ≡ [])
+IsEnded s l n (judged.Faulty line f) = (line ≡ n) × Breaks (Rule s (last l)) f

@@ -1,0 +1,135 @@
+//! Lines, read and written.
+
+use sgt_names::{Entry, Item, SiteNo, Tx};
+use sgt_notation::{
+    NotationFault, SectionLine, lines_are_read_back, lines_are_short, lines_have_no_lf,
+    lines_have_one_reading, push_number, read_entry, read_section, write_entry, write_section,
+};
+use std::alloc::AllocError;
+use std::test::Fail;
+
+/// Whether the line is read, and written again as it was.
+fn is_read(out: &mut Vec<u8>, line: &str) -> Result<bool, AllocError> {
+    out.clear();
+    let Ok(found) = read_section(line.as_bytes()) else {
+        return Ok(false);
+    };
+    write_section(out, &found)?;
+    Ok(out.as_slice() == line.as_bytes())
+}
+
+#[test]
+fn lines_are_read_and_written(rt: HostRuntime) -> Result<(), Fail> {
+    let mut out = Vec::new(rt.alloc());
+    for line in [
+        "site 0",
+        "site 63",
+        "item a_b2c3d4e5f6g7_=18446744073709551615",
+        "final x=7",
+        "end",
+        "r12[x_1]=5",
+        "w4294967295[abcdefghijklmnop]=18446744073709551615",
+        "d1[x]=3",
+        "p1[r2]=10",
+        "q2[x]=18446744073709551615",
+        "c1",
+        "n20",
+        "a4294967295",
+    ] {
+        assert!(rt; is_read(&mut out, line)?, "{line}");
+    }
+    lines_are_read_back();
+    lines_are_short();
+    lines_have_no_lf();
+    lines_have_one_reading();
+    Ok(())
+}
+
+#[test]
+fn each_kind_of_line(rt: HostRuntime) -> Result<(), Fail> {
+    let tx = Tx::new(12)?;
+    let item = Item::new(b"x_1")?;
+    let value = 5;
+    for (line, entry) in [
+        ("r12[x_1]=5", Entry::Read { tx, item, value }),
+        ("w12[x_1]=5", Entry::Write { tx, item, value }),
+        ("d12[x_1]=5", Entry::Add { tx, item, value }),
+        ("p12[x_1]=5", Entry::Want { tx, item, value }),
+        ("q12[x_1]=5", Entry::WantAdd { tx, item, value }),
+        ("c12", Entry::Commit { tx }),
+        ("n12", Entry::Refuse { tx }),
+        ("a12", Entry::Withdraw { tx }),
+    ] {
+        assert!(rt; read_entry(line.as_bytes()) == Ok(entry), "{line}");
+    }
+    let site = SectionLine::Site(SiteNo::new(16)?);
+    assert!(rt; read_section(b"site 16") == Ok(site));
+    Ok(())
+}
+
+#[test]
+fn other_bytes_are_refused(rt: HostRuntime) -> Result<(), Fail> {
+    for line in [
+        "",
+        "end\n",
+        "end ",
+        "End",
+        "sgt 1",
+        "c1\r",
+        "c+1",
+        "c0",
+        "c01",
+        "d1",
+        "q1[x]=",
+        "c4294967296",
+        "r1[x]=05",
+        "r1[x]= 5",
+        "r1[x]=18446744073709551616",
+        "r1[X]=5",
+        "r1[1x]=5",
+        "r1[abcdefghijklmnopq]=5",
+        "item  x=5",
+        "final x==5",
+        "site 64",
+        "site 00",
+        "site 256",
+    ] {
+        assert!(rt;
+            read_section(line.as_bytes()) == Err(NotationFault::NotALine),
+            "{line}"
+        );
+    }
+    Ok(())
+}
+
+#[test]
+fn lines_that_are_too_long(rt: HostRuntime) -> Result<(), Fail> {
+    let mut long = vec![in rt.alloc(); b'1'; 1_048_576]?;
+    assert!(rt; read_entry(&long) == Err(NotationFault::NotALine));
+    long.push(b'1')?;
+    assert!(rt; read_entry(&long) == Err(NotationFault::TooLong));
+    assert!(rt; read_section(&long) == Err(NotationFault::TooLong));
+    Ok(())
+}
+
+#[test]
+fn numbers_and_entries_are_written_behind_what_is_there(rt: HostRuntime) -> Result<(), Fail> {
+    let mut out = Vec::new(rt.alloc());
+    push_number(&mut out, 0)?;
+    push_number(&mut out, u64::MAX)?;
+    write_entry(&mut out, &Entry::Commit { tx: Tx::new(7)? })?;
+    assert!(rt; out.as_slice() == b"018446744073709551615c7".as_slice());
+    Ok(())
+}
+
+#[test]
+fn refusals_as_text(rt: HostRuntime) -> Result<(), Fail> {
+    for (fault, text) in [
+        (NotationFault::NotALine, "L1: not a line"),
+        (NotationFault::TooLong, "L2: the line is too long"),
+        (NotationFault::Memory, "L3: memory"),
+    ] {
+        assert_eq!(rt; format!(in rt.alloc(); "{fault}")?.as_str(), text);
+    }
+    Ok(())
+}

@@ -1,0 +1,5 @@
+-- Words of the graph's own model and of clauses of private functions.
+pub mod Parts
+pub mod Search
+pub mod Growth
+pub mod Admission

@@ -1,0 +1,26 @@
+//! The nodes of a window with their edges and their order.
+
+ghost use Rattle.std.specs.Prelude.{◌≡◌, ◌↔◌, ℕ, Some, slice_get};
+ghost use Rattle.sgt_order.specs.private.Parts.{IsSound};
+
+use crate::node::Node;
+use sgt_arena::{Arena, Handle};
+use sgt_edges::Edge;
+
+/// The nodes of a window, the edges between the admitted ones, and these in a topological order.
+#[derive(Drop)]
+pub struct Dag {
+    pub nodes: Arena<Node>,
+    pub edges: Vec<Edge>,
+    pub order: Vec<Handle>,
+}
+
+impl Dag {
+    /// Where the node stands in the order, or None where it isn't admitted.
+    pub(crate) fn place_of(&self, node: Handle) -> Option<usize>
+        requires { IsSound self.now }
+        ensures { (p : ℕ) → (result ≡ Some p) ↔ (slice_get self.now.order.items p ≡ Some node) }
+    {
+        self.nodes.get(node)?.place
+    }
+}

@@ -1,0 +1,71 @@
+-- What the engines' answers say, by the status.
+use Rattle.std.proofs.Common.{◌≡◌, ℕ, List, [], ◌∷◌, Option, Result, Ok, Err, subst, arith}
+use Rattle.std.specs.Prelude.{IfSome, IfOk, OnErr}
+use Rattle.std.specs.Io.KnownBytes.{Appends}
+use Rattle.sgt_names.specs.declared.outcome.EngineFail.{EngineFail}
+use Rattle.sgt_names.specs.declared.outcome.EngineFail.TheVariants.{Memory, ReadFault, WriteFault}
+use Rattle.sgt_names.specs.declared.outcome.Outcome.{Outcome}
+use Rattle.sgt_names.specs.declared.outcome.Outcome.TheVariants as Outcome_
+use Rattle.sgt_names.proofs.Devices.{wrote_nothing}
+use Rattle.sgt_audit.specs.Verdict.{IsVerdict, SaysHeadline, text_of}
+use Rattle.sgt_audit.specs.declared.verdict.Verdict.{Verdict}
+use Rattle.sgt_audit.specs.declared.verdict.Verdict.TheVariants.{Yes, No}
+use Rattle.sgt_serial.specs.Answer.{WroteAnswer, WroteAnswerFront}
+use Rattle.sgt_program.specs.Commands.{AnswersAudit, AnswersSerial, AnswersOthers, outcome}
+use Rattle.sgt_program.specs.Ending.{status_of}
+
+pub verdict-answers : (told old new : Option (List ℕ)) (v : Verdict) → IfSome told (λ bytes. IsVerdict bytes v) → IfSome told (λ bytes. SaysHeadline bytes v) → Appends old new (text_of v)
+    → AnswersAudit (status_of (Ok (outcome v))) told old new
+verdict-answers told old new (Yes c r w) is headline wrote = record {
+  yes = λ e. (headline, (c, r, w, (is, wrote)));
+  no = λ e. absurd (omega arith);
+  known = λ e. absurd (omega arith);
+  front = λ le. absurd (omega arith);
+}
+verdict-answers told old new (No line fault) is headline wrote = record {
+  yes = λ e. absurd (omega arith);
+  no = λ e. (line, fault, (is, wrote));
+  known = λ e. absurd (omega arith);
+  front = λ le. absurd (omega arith);
+}
+
+pub run-answers : (told old new : Option (List ℕ)) (r : Result Outcome EngineFail) → IfOk r (λ o. WroteAnswer told o old new) → OnErr r (WroteAnswerFront told old new) → AnswersSerial (status_of r) told old new
+run-answers told old new (Ok Outcome_.Yes) wrote front = record {
+  run = λ e. wrote;
+  no = λ e. absurd (omega arith);
+  known = λ e. absurd (omega arith);
+  front = λ le. absurd (omega arith);
+}
+run-answers told old new (Ok Outcome_.No) wrote front = record {
+  run = λ e. absurd (omega arith);
+  no = λ e. (wrote.1.0, wrote.1.1, (wrote.1.2, subst (Appends old new) wrote.1.3 wrote.2));
+  known = λ e. absurd (omega arith);
+  front = λ le. absurd (omega arith);
+}
+run-answers told old new (Ok Outcome_.Unreadable) wrote front = absurd wrote.1
+run-answers told old new (Err Memory) wrote front = record {
+  run = λ e. absurd (omega arith);
+  no = λ e. absurd (omega arith);
+  known = λ e. absurd (omega arith);
+  front = λ le. front;
+}
+run-answers told old new (Err ReadFault) wrote front = record {
+  run = λ e. absurd (omega arith);
+  no = λ e. absurd (omega arith);
+  known = λ e. absurd (omega arith);
+  front = λ le. front;
+}
+run-answers told old new (Err WriteFault) wrote front = record {
+  run = λ e. absurd (omega arith);
+  no = λ e. absurd (omega arith);
+  known = λ e. absurd (omega arith);
+  front = λ le. front;
+}
+
+-- nothing was written for want of memory
+pub memory-answers : (status : ℕ) (held : Option (List ℕ)) → status ≡ 3 → AnswersOthers status held held
+memory-answers status held is = record {
+  help = λ e. absurd (omega arith);
+  known = λ e. absurd (omega arith);
+  front = λ le. (0 ∷ [], (0, omega arith, wrote_nothing held));
+}

@@ -1,0 +1,59 @@
+-- What each command answers, by the exit status.
+use Rattle.std.specs.Prelude.{◌≡◌, ◌≢◌, ◌<◌, ◌≤◌, ℕ, List, Option, length, IfSome}
+use Rattle.std.specs.Io.KnownBytes.{Appends}
+use Rattle.sgt_names.specs.Device.{WritesFront}
+use Rattle.sgt_names.specs.declared.outcome.Outcome.{Outcome}
+use Rattle.sgt_names.specs.declared.outcome.Outcome.TheVariants as Outcome_
+use Rattle.sgt_audit.specs.Verdict as audit
+use Rattle.sgt_audit.specs.Verdict.{IsVerdict, HoldsHeadline, text_of}
+use Rattle.sgt_audit.specs.declared.faults.Fault.{Fault}
+use Rattle.sgt_audit.specs.declared.verdict.Verdict.{Verdict}
+use Rattle.sgt_audit.specs.declared.verdict.Verdict.TheVariants.{Yes, No}
+use Rattle.sgt_serial.specs.Answer as serial
+use Rattle.sgt_serial.specs.Answer.{IsAnswer}
+
+abbrev pub outcome : Verdict → Outcome
+outcome (Yes c r w) = Outcome_.Yes
+outcome (No line fault) = Outcome_.No
+
+-- this verdict was written, and it is that of the bytes told
+abbrev pub Says : Verdict → (told written written' : Option (List ℕ)) → Type 0
+Says verdict told written written' = IfSome told (λ bytes. IsVerdict bytes verdict) × Appends written written' (text_of verdict)
+
+-- a yes was said, and the headline holds of the bytes told
+abbrev pub SaysYes : (told written written' : Option (List ℕ)) → Type 0
+SaysYes told written written' =
+    IfSome told HoldsHeadline × ((committed refused withdrawn : ℕ) × Says (Yes committed refused withdrawn) told written written')
+
+-- a no was said, and it names the first fault of the bytes told
+abbrev pub SaysNo : (told written written' : Option (List ℕ)) → Type 0
+SaysNo told written written' = (line : ℕ) × (fault : Fault) × Says (No line fault) told written written'
+
+-- the serial run of the valid bundle that the bytes told spell was written
+abbrev pub ShowsRun : (told written written' : Option (List ℕ)) → Type 0
+ShowsRun told written written' = (text : List ℕ) × IsAnswer told Outcome_.Yes text × Appends written written' text
+
+-- some text was written: the help
+abbrev pub ShowsHelp : (written written' : Option (List ℕ)) → Type 0
+ShowsHelp written written' = (text : List ℕ) × (0 < length text) × Appends written written' text
+
+-- the audit
+pub record AnswersAudit (status : ℕ) (told written written' : Option (List ℕ)) : Type 0 where
+  pub yes : status ≡ 0 → SaysYes told written written'
+  pub no : status ≡ 1 → SaysNo told written written'
+  pub known : status ≢ 2
+  pub front : 3 ≤ status → audit.WroteFront told written written'
+
+-- the serial run
+pub record AnswersSerial (status : ℕ) (told written written' : Option (List ℕ)) : Type 0 where
+  pub run : status ≡ 0 → ShowsRun told written written'
+  pub no : status ≡ 1 → SaysNo told written written'
+  pub known : status ≢ 2
+  pub front : 3 ≤ status → serial.WroteAnswerFront told written written'
+
+-- words that ask for neither: help, or no command
+pub record AnswersOthers (status : ℕ) (written written' : Option (List ℕ)) : Type 0 where
+  pub help : status ≡ 0 → ShowsHelp written written'
+  pub known : status ≢ 1
+  -- what was written before stays
+  pub front : 3 ≤ status → (text : List ℕ) × WritesFront written written' text

@@ -1,0 +1,119 @@
+//! What the words of the command line ask for.
+
+ghost use Rattle.std.specs.Prelude.{◌≡◌, ◌<◌, Ok, IfOk, IfErr, map, length, string_bytes};
+ghost use Rattle.sgt_program.specs.Words.{AsksAudit, AsksSerial, AsksFor, HasText};
+
+use clap::error::ErrorKind;
+use clap::{Command, Error};
+use std::alloc::{AllocError, Global};
+
+/// What the words ask for.
+#[derive(Clone, Copy, Debug, PartialEq, Eq)]
+pub enum Choice {
+    /// Judge a bundle.
+    Audit,
+    /// Judge a bundle, and run it serially where it is valid.
+    Serial,
+}
+
+/// Why there is nothing to run. A text is never empty.
+#[derive(Drop)]
+pub enum NoChoice {
+    /// Help was asked for: its text, for standard output.
+    Help(String),
+    /// The words are no command: the usage text, for the error stream.
+    Usage(String),
+    /// A growth was refused.
+    Memory,
+}
+
+impl From<AllocError> for NoChoice {
+    ghost use Rattle.std.specs.Prelude.{◌≡◌};
+    ghost use Rattle.sgt_program.specs.declared.choice.NoChoice.TheVariants.{Memory};
+
+    ghost from_gives = { λ _ e. e ≡ Memory };
+
+    fn from(_error: AllocError) -> NoChoice {
+        NoChoice::Memory
+    }
+}
+
+const ABOUT: &str =
+    "Audits the logs of a certified run. Reads a bundle from standard input and writes to standard output.";
+
+const AUDIT: &str =
+    "Writes `yes C committed R refused W withdrawn` for a valid bundle, else `no line L FN` (the default)";
+
+const SERIAL: &str =
+    "Runs a valid bundle's committed transactions one after another by rank, else writes audit's `no` line";
+
+const MORE: &str = "L is the first line with a fault and FN the fault: docs/FORMAT.md has the faults and the formats of a bundle.
+
+Exit status:
+  0  yes, or help was asked for
+  1  no: the bundle is not valid
+  2  the words are no command; nothing was read
+  3  want of memory
+  4  a read or a write failed";
+
+fn command<'a>(alloc: Global) -> Result<Command<'a>, AllocError> {
+    let audit = Command::new(alloc, "audit").about(AUDIT).after_help(MORE);
+    let serial = Command::new(alloc, "serial").about(SERIAL).after_help(MORE);
+    Command::new(alloc, "sgt")
+        .about(ABOUT)
+        .after_help(MORE)
+        .disable_help_subcommand(true)
+        .subcommand(audit)?
+        .subcommand(serial)
+}
+
+// What clap says, or this where it says nothing.
+fn message(alloc: Global, error: &Error) -> Result<String, AllocError>
+    ensures { IfOk result (λ text. 0 < length (string_bytes text)) }
+{
+    let text = error.to_string(alloc)?;
+    if text.is_empty() {
+        return String::from_str(alloc, "sgt: see --help\n");
+    }
+    Ok(text)
+}
+
+fn refused(alloc: Global, error: &Error) -> NoChoice
+    ensures { HasText result }
+{
+    if error.kind() == ErrorKind::OutOfMemory {
+        return NoChoice::Memory;
+    }
+    match message(alloc, error) {
+        Ok(text) if error.use_stderr() => NoChoice::Usage(text),
+        Ok(text) => NoChoice::Help(text),
+        Err(_) => NoChoice::Memory,
+    }
+}
+
+// The help or the usage text for words that are not plain. What clap would take for a command here, as `audit --`, is none.
+fn explain(alloc: Global, words: &[String]) -> Result<NoChoice, AllocError>
+    ensures { IfOk result HasText }
+{
+    let mut command = command(alloc)?;
+    let error = match command.try_get_matches_from_mut(words) {
+        Ok(_) => command.error(ErrorKind::UnknownArgument, "the words are no command")?,
+        Err(error) => error,
+    };
+    Ok(refused(alloc, &error))
+}
+
+/// What the words ask for; the first word is the program's name. Other words than the plain ones are help or no command.
+pub(crate) fn choose(alloc: Global, words: &[String]) -> Result<Choice, NoChoice>
+    ensures audit { AsksAudit (map string_bytes words.now) → result ≡ Ok Choice.Audit }
+    ensures serial { AsksSerial (map string_bytes words.now) → result ≡ Ok Choice.Serial }
+    ensures only { IfOk result (AsksFor (map string_bytes words.now)) }
+    ensures text { IfErr result HasText }
+{
+    match words {
+        [] | [_] => Ok(Choice::Audit),
+        [_, word] if word.as_str() == "audit" => Ok(Choice::Audit),
+        [_, word] if word.as_str() == "serial" => Ok(Choice::Serial),
+        _ => Err(explain(alloc, words)?),
+    }
+}

@@ -1,0 +1,227 @@
+//! Expected values are those of the worked rows.
+
+use crate::rows::Row;
+use crate::rows::bundles::BUNDLES;
+use crate::rows::certificates::CERTIFICATES;
+use crate::rows::increments::INCREMENTS;
+use crate::rows::lines_doubled::LINES_DOUBLED;
+use crate::rows::lines_left_out::LINES_LEFT_OUT;
+use crate::rows::serial_runs::SERIAL_RUNS;
+use crate::rows::walks::WALKS;
+use sgt_names::{MemSink, MemSource};
+use sgt_program::program;
+use std::alloc::{AllocError, Global};
+use std::test::Fail;
+
+const HELP: &str = "Audits the logs of a certified run. Reads a bundle from standard input and writes to standard output.
+
+Usage: sgt [COMMAND]
+
+Commands:
+  audit   Writes `yes C committed R refused W withdrawn` for a valid bundle, else `no line L FN` (the default)
+  serial  Runs a valid bundle's committed transactions one after another by rank, else writes audit's `no` line
+
+Options:
+  -h, --help  Print help
+
+L is the first line with a fault and FN the fault: docs/FORMAT.md has the faults and the formats of a bundle.
+
+Exit status:
+  0  yes, or help was asked for
+  1  no: the bundle is not valid
+  2  the words are no command; nothing was read
+  3  want of memory
+  4  a read or a write failed
+";
+
+/// The words of the command line, the program's name first.
+fn words_of(alloc: Global, texts: &[&str]) -> Result<Vec<String>, AllocError> {
+    let mut words = Vec::new(alloc);
+    words.push(String::from_str(alloc, "sgt")?)?;
+    for text in texts {
+        words.push(String::from_str(alloc, *text)?)?;
+    }
+    Ok(words)
+}
+
+/// Runs the program, and gives its status.
+fn run(
+    alloc: Global,
+    texts: &[&str],
+    input: &mut MemSource<'_>,
+    output: &mut MemSink,
+    errors: &mut MemSink,
+) -> Result<u8, Fail> {
+    let words = words_of(alloc, texts)?;
+    Ok(program(alloc, words.as_slice(), input, output, errors))
+}
+
+/// Whether the program, which reads so many bytes at once, answers as the row says.
+fn answers(alloc: Global, row: &Row, per_read: usize) -> Result<bool, Fail> {
+    let mut input = MemSource::new(row.input.as_bytes(), per_read, None);
+    let mut output = MemSink::new(alloc, 1000)?;
+    let mut errors = MemSink::new(alloc, 100)?;
+    let status = run(alloc, row.words, &mut input, &mut output, &mut errors)?;
+    Ok(status == row.status
+        && output.bytes() == row.output.as_bytes()
+        && errors.bytes().is_empty())
+}
+
+#[test]
+fn worked_rows(rt: HostRuntime) -> Result<(), Fail> {
+    for rows in [
+        BUNDLES.as_slice(),
+        CERTIFICATES.as_slice(),
+        INCREMENTS.as_slice(),
+        LINES_DOUBLED.as_slice(),
+        LINES_LEFT_OUT.as_slice(),
+        SERIAL_RUNS.as_slice(),
+        WALKS.as_slice(),
+    ] {
+        for row in rows {
+            for per_read in [1usize, 3, 65_536] {
+                let as_said = answers(rt.alloc(), row, per_read)?;
+                assert!(rt; as_said, "{} in pieces of {per_read}", row.name);
+            }
+        }
+    }
+    Ok(())
+}
+
+/// A bundle of so many sites without items.
+fn of_sites(alloc: Global, count: usize) -> Result<String, AllocError> {
+    let mut text = format!(in alloc; "sgt 1\n{{\"decisions\":[],\"sites\":{count}}}\n")?;
+    for site in 0..count {
+        let section = format!(in alloc; "site {site}\nend\n")?;
+        text.push_str(section.as_str())?;
+    }
+    Ok(text)
+}
+
+/// A bundle of one site with so many items and no entries.
+fn of_items(alloc: Global, count: usize) -> Result<String, AllocError> {
+    let mut text = String::from_str(alloc, "sgt 1\n{\"decisions\":[],\"sites\":1}\nsite 0\n")?;
+    for kind in ["item", "final"] {
+        for n in 0..count {
+            let line = format!(in alloc; "{kind} i{n:04}=0\n")?;
+            text.push_str(line.as_str())?;
+        }
+    }
+    text.push_str("end\n")?;
+    Ok(text)
+}
+
+/// Whether the audit of the text says this.
+fn audits(alloc: Global, text: &str, says: &str) -> Result<bool, Fail> {
+    let mut input = MemSource::new(text.as_bytes(), 65_536, None);
+    let mut output = MemSink::new(alloc, 100)?;
+    let mut errors = MemSink::new(alloc, 100)?;
+    run(alloc, [].as_slice(), &mut input, &mut output, &mut errors)?;
+    Ok(output.bytes() == says.as_bytes())
+}
+
+#[test]
+fn limits(rt: HostRuntime) -> Result<(), Fail> {
+    const YES: &str = "yes 0 committed 0 refused 0 withdrawn\n";
+    for (count, says) in [(17, YES), (64, YES), (65, "no line 2 F3\n")] {
+        let text = of_sites(rt.alloc(), count)?;
+        assert!(rt; audits(rt.alloc(), text.as_str(), says)?, "{count} sites");
+    }
+    for (count, says) in [(256, YES), (257, YES), (1024, YES), (1025, "no line 1028 F7\n")] {
+        let text = of_items(rt.alloc(), count)?;
+        assert!(rt; audits(rt.alloc(), text.as_str(), says)?, "{count} items");
+    }
+    Ok(())
+}
+
+#[test]
+fn words_are_judged_first(rt: HostRuntime) -> Result<(), Fail> {
+    for (words, status) in [
+        (["--help"].as_slice(), 0),
+        (["-h"].as_slice(), 0),
+        (["audit", "--help"].as_slice(), 0),
+        (["serial", "--help"].as_slice(), 0),
+        (["frobnicate"].as_slice(), 2),
+        (["run", "--workers", "17"].as_slice(), 2),
+        (["help"].as_slice(), 2),
+        (["--version"].as_slice(), 2),
+        (["audit", "x"].as_slice(), 2),
+        (["serial", "--all"].as_slice(), 2),
+        (["--"].as_slice(), 2),
+        (["audit", "--"].as_slice(), 2),
+        (["serial", "--"].as_slice(), 2),
+        (["audit", "serial"].as_slice(), 2),
+    ] {
+        // the first read would fail
+        let mut input = MemSource::new(b"sgt 1\n", 9, Some(1));
+        let mut output = MemSink::new(rt.alloc(), 2000)?;
+        let mut errors = MemSink::new(rt.alloc(), 2000)?;
+        let found = run(rt.alloc(), words, &mut input, &mut output, &mut errors)?;
+        let told = (output.bytes().is_empty(), errors.bytes().is_empty());
+        assert!(rt; (found, told) == (status, (status == 2, status == 0)), "{words:?}");
+    }
+    Ok(())
+}
+
+// The text of help, and a writer that fails in it.
+#[test]
+fn help(rt: HostRuntime) -> Result<(), Fail> {
+    let words = ["--help"].as_slice();
+    for (takes, status, told) in [(2000, 0, ""), (100, 4, "sgt: write fault\n"), (0, 4, "sgt: write fault\n")] {
+        let mut input = MemSource::new(b"", 1, Some(1));
+        let mut output = MemSink::new(rt.alloc(), takes)?;
+        let mut errors = MemSink::new(rt.alloc(), 100)?;
+        let found = run(rt.alloc(), words, &mut input, &mut output, &mut errors)?;
+        assert!(rt; HELP.as_bytes().starts_with(output.bytes()), "{takes}");
+        assert_eq!(rt; output.bytes().len() == HELP.len(), status == 0, "{takes}");
+        assert!(rt; found == status && errors.bytes() == told.as_bytes(), "{takes}");
+    }
+    Ok(())
+}
+
+/// Whether the program says that a device failed, having written no more than a front of the row's output.
+fn gives_up(
+    alloc: Global,
+    row: &Row,
+    fail_at: Option<u64>,
+    takes: usize,
+    told: &str,
+) -> Result<bool, Fail> {
+    let mut input = MemSource::new(row.input.as_bytes(), 1, fail_at);
+    let mut output = MemSink::new(alloc, takes)?;
+    let mut errors = MemSink::new(alloc, 100)?;
+    let status = run(alloc, row.words, &mut input, &mut output, &mut errors)?;
+    Ok(status == 4
+        && errors.bytes() == told.as_bytes()
+        && output.bytes().len() == if fail_at.is_some() { 0 } else { takes }
+        && row.output.as_bytes().starts_with(output.bytes()))
+}
+
+// One byte a read, and each of them fails in turn; then the writer takes ever more bytes, and not all.
+#[test]
+fn devices_that_fail(rt: HostRuntime) -> Result<(), Fail> {
+    for row in [&BUNDLES[1], &INCREMENTS[10]] {
+        for at in 1..=row.input.len() as u64 {
+            let gave_up = gives_up(rt.alloc(), row, Some(at), 1000, "sgt: read fault\n")?;
+            assert!(rt; gave_up, "{} read {at}", row.name);
+        }
+        for takes in 0..row.output.len() {
+            let gave_up = gives_up(rt.alloc(), row, None, takes, "sgt: write fault\n")?;
+            assert!(rt; gave_up, "{} {takes} bytes", row.name);
+        }
+    }
+    Ok(())
+}
+
+// An error stream that fails leaves the status as it is.
+#[test]
+fn errors_that_cannot_be_told(rt: HostRuntime) -> Result<(), Fail> {
+    for (words, status) in [(["audit"].as_slice(), 4), (["x"].as_slice(), 2)] {
+        let mut input = MemSource::new(b"", 1, Some(1));
+        let mut output = MemSink::new(rt.alloc(), 0)?;
+        let mut errors = MemSink::new(rt.alloc(), 0)?;
+        let found = run(rt.alloc(), words, &mut input, &mut output, &mut errors)?;
+        assert_eq!(rt; found, status);
+    }
+    Ok(())
+}

@@ -1,0 +1,24 @@
+use Rattle.std.proofs.Common.{◌≡◌, ◌+◌, true, false, nat_lt, take, drop, List, ℕ, ap, ◌∙◌, subst}
+use Rattle.std.specs.List.{filter}
+use Rattle.std.specs.List.Sorted.{IsPartitionPoint}
+use Rattle.std.proofs.lemmas.List.{take_rest}
+use Rattle.sgt_serial.specs.private.Operations.{owner, is_by}
+use Rattle.sgt_serial.specs.declared.operations.SiteEntry.{SiteEntry}
+use Rattle.sgt_serial.proofs.Sorting.{of_number-between}
+use Rattle.sgt_serial.proofs.operations.Operations.of.Goals as goal
+
+-- where the entries below a number end
+abbrev Splits : List SiteEntry → ℕ → ℕ → Type 0
+Splits ys t i = IsPartitionPoint (λ e. nat_lt (owner e) t ≡ true) (λ e. nat_lt (owner e) t ≡ false) ys i
+
+pub returns : goal.returns
+returns c =
+    let tx = c.args.tx in
+    let ys = c.as_slice-entries.result.now in
+    let from = c.count_below.result in
+    let to = c.count_below-2.result in
+    let number : c.from-number.result ≡ tx = c.from-number.ensures ∙ c.number.ensures.is in
+    let later = take_rest ys from in
+    let low = subst (λ t. Splits ys t from) number c.count_below.ensures.point in
+    let high = subst (λ t. Splits (drop from ys) (t + 1) to) number (subst (λ (zs : List SiteEntry). Splits zs (c.from-number.result + 1) to) later c.count_below-2.ensures.point) in
+    ap (take to) later ∙ of_number-between owner ys tx from to low high ∙ ap (filter (is_by tx)) (c.as_slice-entries.ensures.value ∙ c.self.view_is)

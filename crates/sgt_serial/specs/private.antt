@@ -1,0 +1,4 @@
+-- Words of private clauses.
+pub mod Operations
+pub mod Order
+pub mod Values

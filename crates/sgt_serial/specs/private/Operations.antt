@@ -1,0 +1,32 @@
+-- The entries of all logs, each with its site.
+use Rattle.std.specs.Prelude.{ℕ, List, map, Bool, ◌==◌}
+use Rattle.std.specs.List.{filter, filter_map}
+use Rattle.sgt_names.specs.Entry.{tx_of}
+use Rattle.sgt_names.specs.declared.entry.Entry.{Entry}
+use Rattle.sgt_cert.specs.Serial.{entries_of}
+use Rattle.sgt_cert.specs.declared.bundle.SiteLog.{SiteLog}
+use Rattle.sgt_serial.specs.declared.operations.SiteEntry.{SiteEntry}
+use Rattle.sgt_serial.specs.declared.report.SerialTx.{SerialTx}
+use Rattle.sgt_serial.specs.Report.{by_site, read_at, write_at}
+
+abbrev pub entry_at : ℕ → Entry → SiteEntry
+entry_at s e = record { site = s; entry = e }
+
+-- by site, then in log order
+abbrev pub all_entries : List SiteLog → List SiteEntry
+all_entries sites = by_site (λ s. map (entry_at s) (entries_of sites s)) sites
+
+-- the transaction whose entry it is
+abbrev pub owner : SiteEntry → ℕ
+owner e = tx_of e.entry
+
+abbrev pub is_by : ℕ → SiteEntry → Bool
+is_by tx e = owner e == tx
+
+-- the transaction with its reads and changes among these entries
+abbrev pub run_in : List SiteEntry → ℕ → SerialTx
+run_in entries tx = record {
+  tx = tx;
+  reads = filter_map (λ (e : SiteEntry). read_at e.site e.entry) (filter (is_by tx) entries);
+  writes = filter_map (λ (e : SiteEntry). write_at e.site e.entry) (filter (is_by tx) entries);
+}

@@ -1,0 +1,5 @@
+//! Tests of the serial run.
+#![tactic(auto)]
+
+#[cfg(test)]
+mod tests;

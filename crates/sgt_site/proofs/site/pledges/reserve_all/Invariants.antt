@@ -1,7 +1,0 @@
-use Rattle.sgt_site.specs.Stored.{HasPlace}
-use Rattle.sgt_site.proofs.Changes.{Done}
-use Rattle.sgt_site.proofs.site.pledges.reserve_all.Given as goal
-
--- the cells so far have room
-abbrev pub invariant-loop-i : goal.invariant-loop-i
-invariant-loop-i l = Done (HasPlace l.part) l.i l.fn.cells.items l.cells.items

@@ -1,0 +1,92 @@
+//! The reads of an item.
+
+ghost use Rattle.std.specs.Prelude.{◌≡◌, ◌<◌, ◌≤◌, IfOk, IfErr, vec_len, vec_capacity};
+ghost use Rattle.std.specs.List.{insert as inserted};
+ghost use Rattle.std.specs.Ordering.{nat_cmp};
+ghost use Rattle.sgt_names.specs.Ordered.{IsRisingBy, IsAt, IsGapFor};
+
+use sgt_names::{Seen, Tx};
+use std::alloc::{AllocError, Global};
+use std::marker::Model;
+
+/// A read in the log: the transaction, and what the read answered.
+#[derive(Clone, Copy, Debug, PartialEq, Eq)]
+pub(crate) struct Reading {
+    pub(crate) tx: Tx,
+    pub(crate) seen: Seen,
+}
+
+/// The reads of an item, by rising transaction.
+#[derive(Drop)]
+pub(crate) struct Readings {
+    readings: Vec<Reading>,
+}
+
+impl Model for Readings {
+    ghost use Rattle.std.specs.Prelude.{List};
+    ghost use Rattle.sgt_site.specs.declared.readings.Reading.{Reading as Member};
+
+    ghost Value = { List Member };
+
+    ghost use Rattle.sgt_site.specs.private.Cells.{AreReadings};
+
+    ghost view = { λ r. r.readings.items };
+
+    ghost invariant = { λ r. AreReadings r.readings.items };
+}
+
+impl Readings {
+    ghost use Rattle.std.specs.Prelude.{◌≡◌, [], ◌↔◌, Some, OnOk, OnErr, Contains};
+    ghost use Rattle.sgt_names.specs.declared.draft.Seen.{Seen as Answer};
+    ghost use Rattle.sgt_site.specs.private.Cells.{IsAnswering, ReadsAlso};
+
+    pub(crate) fn new(alloc: Global) -> Readings
+        ensures { result ≡ [] }
+    {
+        Readings {
+            readings: Vec::new(alloc),
+        }
+    }
+
+    /// What the transaction's read answered, if there is one.
+    pub(crate) fn seen_by(&self, tx: Tx) -> Option<Seen>
+        ensures { (seen : Answer) → (result ≡ Some seen) ↔ Contains self.now (record { tx = tx; seen = seen }) }
+    {
+        match search(self.readings.as_slice(), tx) {
+            Ok(at) => Some(self.readings[at].seen),
+            Err(_) => None,
+        }
+    }
+
+    /// Keeps the read of a transaction that has none yet.
+    pub(crate) fn add(&mut self, tx: Tx, seen: Seen) -> Result<(), AllocError>
+        requires { IsAnswering self.old tx → ⊥ }
+        ensures ok { OnOk result (ReadsAlso self.old self.new (record { tx = tx; seen = seen })) }
+        ensures err { OnErr result (self.new ≡ self.old) }
+    {
+        self.readings.reserve(1)?;
+        if let Err(at) = search(self.readings.as_slice(), tx) {
+            insert(&mut self.readings, at, Reading { tx, seen });
+        }
+        Ok(())
+    }
+}
+
+// Where the transaction's read is, or where it would go.
+fn search(readings: &[Reading], tx: Tx) -> Result<usize, usize>
+    requires { IsRisingBy (λ m. m.tx) nat_cmp readings.now }
+    ensures found { IfOk result (IsAt (λ m. m.tx) readings.now tx) }
+    ensures absent { IfErr result (IsGapFor (λ m. m.tx) nat_cmp readings.now tx) }
+{
+    readings.binary_search_by(|m| m.tx.number().cmp(&tx.number()))
+}
+
+/// Inserts an element where there is room for it.
+pub(crate) fn insert<T: Drop>(items: &mut Vec<T>, at: usize, item: T)
+    requires within { at ≤ vec_len items.old }
+    requires room { vec_len items.old < vec_capacity items.old }
+    ensures items { items.new.items ≡ inserted items.old.items at item }
+    ensures capacity { vec_capacity items.new ≡ vec_capacity items.old }
+{
+    let _ = items.insert(at, item);
+}

@@ -1,0 +1,5 @@
+pub mod Ends
+pub mod Lists
+pub mod Moves
+pub mod Numbered
+pub mod Told

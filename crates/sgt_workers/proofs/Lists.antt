@@ -1,0 +1,67 @@
+-- Lists place by place.
+use Rattle.std.proofs.Common.{◌≡◌, ℕ, zero, suc, ◌<◌, List, [], ◌∷◌, ◌++◌, length, map, All, Ok, Err, IfOk, IfErr, Result, arith, slice_index_or}
+use Rattle.std.specs.List.{AllZip, flat_map}
+use Rattle.std.proofs.lemmas.List.Elements.{All-append}
+
+pub zip_push : {A B : Type 0} (R : A → B → Type 0) (xs : List A) (ys : List B) (x : A) (y : B) → AllZip R xs ys → R x y → AllZip R (xs ++ x ∷ []) (ys ++ y ∷ [])
+zip_push R [] [] x y h r = (r, tt)
+zip_push R [] (b ∷ ys) x y h r = absurd h
+zip_push R (a ∷ xs) [] x y h r = absurd h
+zip_push R (a ∷ xs) (b ∷ ys) x y h r = (h.0, zip_push R xs ys x y h.1 r)
+
+pub zip_by : {A B : Type 0} (R : A → B → Type 0) (xs : List A) (ys : List B) → length ys ≡ length xs → ((i : ℕ) (a : A) (b : B) → i < length xs → R (slice_index_or xs i a) (slice_index_or ys i b)) → AllZip R xs ys
+zip_by R [] [] e f = tt
+zip_by R [] (y ∷ ys) e f = absurd (omega (arith, e))
+zip_by R (x ∷ xs) [] e f = absurd (omega (arith, e))
+zip_by R (x ∷ xs) (y ∷ ys) e f =
+    (f 0 x y (omega arith), zip_by R xs ys (omega (arith, e)) (λ i a b h. f (suc i) a b (omega (arith, h))))
+
+pub zip_then : {A B C : Type 0} (R : A → B → Type 0) (S : B → C → Type 0) (T : A → C → Type 0) (xs : List A) (ys : List B) (zs : List C) → AllZip R xs ys → AllZip S ys zs → ((a : A) (b : B) (c : C) → R a b → S b c → T a c) → AllZip T xs zs
+zip_then R S T [] [] [] r s f = tt
+zip_then R S T [] [] (z ∷ zs) r s f = absurd s
+zip_then R S T [] (y ∷ ys) zs r s f = absurd r
+zip_then R S T (x ∷ xs) [] zs r s f = absurd r
+zip_then R S T (x ∷ xs) (y ∷ ys) [] r s f = absurd s
+zip_then R S T (x ∷ xs) (y ∷ ys) (z ∷ zs) r s f = (f x y z r.0 s.0, zip_then R S T xs ys zs r.1 s.1 f)
+
+pub zip_all : {A B : Type 0} (R : A → B → Type 0) (P : B → Type 0) (xs : List A) (ys : List B) → AllZip R xs ys → ((a : A) (b : B) → R a b → P b) → All P ys
+zip_all R P [] [] z f k d h = absurd (omega (arith, h))
+zip_all R P [] (y ∷ ys) z f k d h = absurd z
+zip_all R P (x ∷ xs) [] z f k d h = absurd z
+zip_all R P (x ∷ xs) (y ∷ ys) z f zero d h = f x y z.0
+zip_all R P (x ∷ xs) (y ∷ ys) z f (suc k) d h = zip_all R P xs ys z.1 f k d (omega (arith, h))
+
+pub if_ok_both : {X E : Type 0} (r : Result X E) (P Q R : X → Type 0) → IfOk r P → IfOk r Q → ((x : X) → P x → Q x → R x) → IfOk r R
+if_ok_both (Ok x) P Q R p q f = f x p q
+if_ok_both (Err e) P Q R p q f = tt
+
+pub if_ok_then : {X E : Type 0} (r : Result X E) (P Q : X → Type 0) → IfOk r P → ((x : X) → P x → Q x) → IfOk r Q
+if_ok_then (Ok x) P Q p f = f x p
+if_ok_then (Err e) P Q p f = tt
+
+pub if_err_both : {X E : Type 0} (r : Result X E) (P Q : E → Type 0) → IfErr r P → ((e : E) → P e → Q e) → IfErr r Q
+if_err_both (Ok x) P Q p f = tt
+if_err_both (Err e) P Q p f = f e p
+
+-- the results that are Ok, without it
+pub zip_ok : {A B : Type 0} (E : Type 0) (R : A → B → Type 0) (xs : List A) (ys : List B) → AllZip (λ x (r : Result B E). IfOk r (R x)) xs (map Ok ys) → AllZip R xs ys
+zip_ok E R [] [] z = tt
+zip_ok E R [] (y ∷ ys) z = absurd z
+zip_ok E R (x ∷ xs) [] z = absurd z
+zip_ok E R (x ∷ xs) (y ∷ ys) z = (z.0, zip_ok E R xs ys z.1)
+
+pub all_ok : {B : Type 0} (E : Type 0) (P : B → Type 0) (ys : List B) → All (λ (r : Result B E). IfOk r P) (map Ok ys) → All P ys
+all_ok E P [] a k d h = absurd (omega (arith, h))
+all_ok E P (y ∷ ys) a zero d h = a 0 (Ok d) (omega arith)
+all_ok E P (y ∷ ys) a (suc k) d h = all_ok E P ys (λ i r j. a (suc i) r (omega (arith, j))) k d (omega (arith, h))
+
+pub zip_map : {A B C : Type 0} (R : A → C → Type 0) (f : B → C) (xs : List A) (ys : List B) → AllZip (λ x y. R x (f y)) xs ys → AllZip R xs (map f ys)
+zip_map R f [] [] z = tt
+zip_map R f [] (y ∷ ys) z = absurd z
+zip_map R f (x ∷ xs) [] z = absurd z
+zip_map R f (x ∷ xs) (y ∷ ys) z = (z.0, zip_map R f xs ys z.1)
+
+pub all_flat : {A B : Type 0} (P : B → Type 0) (f : A → List B) (xs : List A) → All (λ x. All P (f x)) xs → All P (flat_map f xs)
+all_flat P f [] a = λ k d h. absurd (omega (arith, h))
+all_flat P f (x ∷ xs) a =
+    All-append P (f x) (flat_map f xs) (a 0 x (omega arith)) (all_flat P f xs (λ k d h. a (suc k) d (omega (arith, h))))
