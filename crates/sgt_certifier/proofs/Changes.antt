@@ -11,7 +11,7 @@ use Rattle.sgt_certifier.specs.declared.install.Prepared.{Prepared}
 use Rattle.sgt_certifier.specs.Kept.{changed_at}
 
 abbrev pub is_changed : ℕ → Touch → Bool
-is_changed site t = (t.site == site) && is_some t.put
+is_changed site t = (t.site == site) && is_some t.change
 
 abbrev item_of : Touch → Name
 item_of t = t.item

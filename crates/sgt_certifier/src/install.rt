@@ -17,9 +17,9 @@ pub struct Prepared {
 
 // Whether the draft changes the item, at this site.
 fn is_changed(touch: &Touch, site: SiteNo) -> bool
-    ensures { result ≡ ((touch.now.site == site) && is_some touch.now.put) }
+    ensures { result ≡ ((touch.now.site == site) && is_some touch.now.change) }
 {
-    touch.site == site && touch.put.is_some()
+    touch.site == site && touch.change.is_some()
 }
 
 // The items that the draft changes at the site.

@@ -9,4 +9,7 @@ mod ranking;
 
 pub use call::{Call, CertifierFault, Decided};
 pub use certifier::Certifier;
-pub use laws::{histories_are_sound, installs_are_counted, installs_are_noted_once};
+pub use laws::{
+    histories_are_sound, installs_are_counted, installs_are_noted_once,
+    serial_orders_are_topological,
+};

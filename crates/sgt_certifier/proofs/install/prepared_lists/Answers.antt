@@ -1,7 +1,7 @@
 use Rattle.std.proofs.Common.{◌≡◌, ◌+◌, ◌++◌, ◌∷◌, [], ℕ, refl, Any, Contains, inl, inr, sym, ap, ◌∙◌, subst}
 use Rattle.std.proofs.lemmas.Bool.{true≢false}
 use Rattle.std.proofs.lemmas.List.Elements.{Contains-append_cases, Contains-append_left, Contains-append_right}
-use Rattle.sgt_order.proofs.Lists.{read}
+use Rattle.sgt_names.proofs.Lists.{element_at}
 use Rattle.sgt_certifier.specs.declared.install.Prepared.{Prepared}
 use Rattle.sgt_certifier.specs.Kept.{changed_at}
 use Rattle.sgt_certifier.proofs.Members.{cons_cases, cons_here, nil_none}
@@ -15,7 +15,7 @@ loop-touch-preserved c =
     let lists = c.loop-touch.lists.items in
     let n = c.loop-touch.touch-index in
     let t = c.touch-item.result in
-    let here = read touched n t c.loop-touch-test.true c.touch-item.is in
+    let here = element_at touched n t c.loop-touch-test.true c.touch-item.is in
     elim c.if-is_changed.branch [
       | then-is_changed+then-not-has_site+in_ok-items+in_ok-push w ↦
           let one : Prepared = listed touched t.site in
