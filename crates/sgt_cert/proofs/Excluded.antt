@@ -22,7 +22,6 @@ use Rattle.sgt_cert.proofs.Examples.{no_step-no_cycle, of_x, twice-not_once, fro
 
 -- ---- the shape of a log
 
-
 -- names that fall, or are equal
 pub falling-not_shaped : (entries : List Entry) (finals : List Holding) → IsShapedLog (record { items = record { item = y; value = 2 } ∷ record { item = x; value = 5 } ∷ []; entries = entries; finals = finals }) → ⊥
 falling-not_shaped entries finals s = let wrong = AllPairs_at ComesBefore (y ∷ x ∷ []) 0 1 y x s.rising (lit< tt) refl refl in absurd cc
