@@ -117,7 +117,7 @@ refusal to = object (member (codes "refuse") (num 2) (member (codes "walk") (arr
 pub step-decision : is_decision_object (refusal (member (codes "to") (num 1) no_members)) ≡ true
 step-decision = refl
 
-pub no_target-no_decision : is_decision_object (refusal no_members) ≡ false
+pub no_target-no_decision : is_decision_object (refusal (member (codes "at") (num 1) no_members)) ≡ false
 no_target-no_decision = refl
 
 pub withdraw_with_rank-no_decision : is_decision_object (object (member (codes "withdraw") (num 1) (member (codes "rank") (num 0) no_members))) ≡ false

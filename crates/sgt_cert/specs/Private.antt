@@ -40,7 +40,8 @@ name_at key d = option_and_then name_if (text_at key d)
 
 abbrev pub kind_if : List ℕ → Option Kind
 kind_if s =
-    if bytes_eq s (codes "wr") then Some Wr else (if bytes_eq s (codes "rw") then Some Rw else (if bytes_eq s (codes "ww") then Some Ww else None))
+    if bytes_eq s (codes "wr") then Some Wr else (if bytes_eq s (codes "rw") then Some Rw else
+    (if bytes_eq s (codes "ww") then Some Ww else None))
 
 abbrev pub kind_at : List ℕ → Data → Option Kind
 kind_at key d = option_and_then kind_if (text_at key d)
@@ -63,7 +64,8 @@ commit_in d = option_and_then (λ tx. option_map (λ rank. Commit tx rank) (whol
 
 abbrev pub refuse_in : ℕ → Data → Option Decision
 refuse_in sites d =
-    option_and_then (λ tx. option_map (λ walk. Refuse tx walk) (option_and_then (walk_in sites) (list_at (codes "walk") d))) (tx_at (codes "refuse") d)
+    option_and_then (λ tx. option_map (λ walk. Refuse tx walk)
+    (option_and_then (walk_in sites) (list_at (codes "walk") d))) (tx_at (codes "refuse") d)
 
 abbrev pub withdraw_in : Data → Option Decision
 withdraw_in d = option_map (λ tx. Withdraw tx) (tx_at (codes "withdraw") d)

@@ -103,7 +103,8 @@ fn push_commit(out: &mut Vec<u8>, tx: u64, rank: u64) -> Result<(), AllocError>
 
 fn push_refuse(out: &mut Vec<u8>, tx: u64, walk: &[Step]) -> Result<(), AllocError>
     ensures text { OnOk result (out.new.items
-        ≡ out.old.items ++ (codes "{\"refuse\":" ++ (decimal tx ++ (codes ",\"walk\":[" ++ (items_text false (walk_data walk.now) ++ codes "}"))))) }
+        ≡ out.old.items ++ (codes "{\"refuse\":" ++ (decimal tx
+        ++ (codes ",\"walk\":[" ++ (items_text false (walk_data walk.now) ++ codes "}"))))) }
     ensures in_range { OnOk result (All (IsStep max_sites) walk.now) }
 {
     push_member(out, b"{\"refuse\":", tx)?;
@@ -147,7 +148,8 @@ fn push_decisions(out: &mut Vec<u8>, decisions: &[Decision]) -> Result<(), Alloc
 
 fn push_certificate(out: &mut Vec<u8>, decisions: &[Decision], sites: u64) -> Result<(), AllocError>
     ensures text { OnOk result (out.new.items ≡ out.old.items
-        ++ (codes "{\"decisions\":[" ++ (items_text false (decisions_data decisions.now) ++ (codes ",\"sites\":" ++ (decimal sites ++ codes "}"))))) }
+        ++ (codes "{\"decisions\":[" ++ (items_text false (decisions_data decisions.now)
+        ++ (codes ",\"sites\":" ++ (decimal sites ++ codes "}"))))) }
     ensures in_range { OnOk result (All (IsDecision max_sites) decisions.now) }
 {
     out.extend_from_slice(b"{\"decisions\":[")?;

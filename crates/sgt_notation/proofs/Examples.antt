@@ -8,7 +8,7 @@ use Rattle.sgt_names.specs.declared.entry.Entry.TheVariants.{Read, Write, Add, W
 use Rattle.std.proofs.lemmas.List.Elements.{All-from_recursion, recursion_from_All}
 use Rattle.sgt_notation.specs.Lines.{Ahead, Failed, GaveNext, Gives, IsLongerThan, IsNext, IsSpent, Leaves, MetReadFault, SpendsNext, Stream, WantedMemory, stream}
 use Rattle.sgt_notation.specs.Reading.{Refuses}
-use Rattle.sgt_notation.specs.declared.fault.NotationFault.TheVariants.{Memory}
+use Rattle.sgt_notation.specs.declared.fault.NotationFault.TheVariants.{NotALine, TooLong, Memory}
 use Rattle.sgt_notation.specs.declared.lines.Next.TheVariants as next
 use Rattle.sgt_notation.specs.declared.SectionLine.TheVariants.{Site, Initial, Logged, Final, End}
 
@@ -123,6 +123,13 @@ no_read_for_nothing h = omega (arith, h)
 pub never_memory : (line : List ℕ) → Refuses line Memory → ⊥
 never_memory line h = h
 
+-- too long a line is told as that, and no other is
+pub too_long-no_other : (line : List ℕ) → length line ≡ 1048577 → Refuses line NotALine → ⊥
+too_long-no_other line long h = omega (arith, long, h)
+
+pub longest-not_too_long : (line : List ℕ) → length line ≡ 1048576 → Refuses line TooLong → ⊥
+longest-not_too_long line long h = omega (arith, long, h)
+
 -- a line that fits is no longer than the buffer: only more bytes, with no LF up to there, are
 pub fits-not_longer : IsLongerThan 2 (97 ∷ 98 ∷ 10 ∷ 99 ∷ []) → ⊥
 fits-not_longer h = (recursion_from_All (λ b. b ≢ 10) (97 ∷ 98 ∷ 10 ∷ []) h.1).1.1.0 refl
@@ -222,3 +229,11 @@ lost-not_wanted w = let sizes = ap length w.left in absurd (omega (arith, sizes)
 
 pub short-not_wanted : (new : Stream) (line : List ℕ) → WantedMemory 9 2 (stream held_a (Some []) 7) line new → ⊥
 short-not_wanted new line w = omega (arith, w.wanted.0)
+
+-- a line over the limit
+pub over_limit-no_line : IsNext 1 (97 ∷ 98 ∷ 10 ∷ []) next.Line (97 ∷ 98 ∷ []) [] → ⊥
+over_limit-no_line h = omega (arith, h.1)
+
+-- a line of no bytes that had no LF
+pub nothing-no_cut : IsNext 6 [] next.Cut [] [] → ⊥
+nothing-no_cut h = omega (arith, h.1)
