@@ -52,7 +52,8 @@ is_array_of test d = all_pass test (as_array d)
 
 -- a step of a walk: just these four members, each of its JSON type
 abbrev pub is_step_object : Data → Bool
-is_step_object d = (count d == 4) && (has (codes "item") is_string d && (has (codes "kind") is_string d && (has (codes "site") is_number d && has (codes "to") is_number d)))
+is_step_object d = (count d == 4) && (has (codes "item") is_string d && (has (codes "kind") is_string d
+    && (has (codes "site") is_number d && has (codes "to") is_number d)))
 
 -- the three shapes of a decision
 abbrev pub is_commit_object : Data → Bool
@@ -80,5 +81,6 @@ Refuses bytes NotJson = (d : Data) → ReadsAs bytes d → ⊥
 -- the value read has another shape
 Refuses bytes Shape = (d : Data) × ReadsAs bytes d × (is_certificate_object d ≡ false)
 -- it has the shape, and the bytes are the text of no certificate
-Refuses bytes Range = ((d : Data) × ReadsAs bytes d × (is_certificate_object d ≡ true)) × ((c : Certificate) → IsCertificate c → bytes ≡ certificate_text c → ⊥)
+Refuses bytes Range = ((d : Data) × ReadsAs bytes d × (is_certificate_object d ≡ true))
+    × ((c : Certificate) → IsCertificate c → bytes ≡ certificate_text c → ⊥)
 Refuses bytes Memory = Unit {0}

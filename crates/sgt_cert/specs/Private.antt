@@ -1,5 +1,6 @@
 -- Words of private clauses alone: the certificate in a JSON value that has the shape of one, and the answer to a line.
-use Rattle.std.specs.Prelude.{◌≡◌, ℕ, ◌+◌, ◌^◌, List, [], ◌∷◌, ◌&&◌, nat_le, nat_lt, if◌then◌else◌, Option, Some, None, option_map, option_and_then, codes, Result, Ok, Err}
+use Rattle.std.specs.Prelude.{◌≡◌, ℕ, ◌+◌, ◌^◌, List, [], ◌∷◌, ◌&&◌, nat_le, nat_lt, if◌then◌else◌}
+use Rattle.std.specs.Prelude.{Option, Some, None, option_map, option_and_then, codes, Result, Ok, Err}
 use Rattle.std.specs.Str.{bytes_eq}
 use Rattle.serde_json.specs.Data.{Data}
 use Rattle.serde_json.specs.Find.{get, as_number, as_str, as_array, as_u64}
@@ -21,7 +22,9 @@ use Rattle.sgt_cert.specs.Line.{items_list, is_commit_object, is_refuse_object, 
 
 -- the whole number of the member, from the least one to below the limit
 abbrev pub whole_at : List ℕ → (least limit : ℕ) → Data → Option ℕ
-whole_at key least limit d = option_and_then (λ n. if nat_le least n && nat_lt n limit then Some n else None) (option_and_then as_u64 (option_and_then as_number (get key d)))
+whole_at key least limit d =
+    option_and_then (λ n. if nat_le least n && nat_lt n limit then Some n else None)
+    (option_and_then as_u64 (option_and_then as_number (get key d)))
 
 abbrev pub tx_at : List ℕ → Data → Option ℕ
 tx_at key d = whole_at key 1 (2 ^ 32) d
@@ -36,7 +39,9 @@ abbrev pub name_at : List ℕ → Data → Option Name
 name_at key d = option_and_then name_if (text_at key d)
 
 abbrev pub kind_if : List ℕ → Option Kind
-kind_if s = if bytes_eq s (codes "wr") then Some Wr else (if bytes_eq s (codes "rw") then Some Rw else (if bytes_eq s (codes "ww") then Some Ww else None))
+kind_if s =
+    if bytes_eq s (codes "wr") then Some Wr else (if bytes_eq s (codes "rw") then Some Rw else
+    (if bytes_eq s (codes "ww") then Some Ww else None))
 
 abbrev pub kind_at : List ℕ → Data → Option Kind
 kind_at key d = option_and_then kind_if (text_at key d)
@@ -46,7 +51,8 @@ list_at key d = option_map items_list (option_and_then as_array (get key d))
 
 abbrev pub step_in : ℕ → Data → Option Step
 step_in sites d =
-    option_and_then (λ x. option_and_then (λ k. option_and_then (λ s. option_map (λ to. record { label = record { site = s; item = x; kind = k }; to = to }) (tx_at (codes "to") d))
+    option_and_then (λ x. option_and_then (λ k. option_and_then (λ s. option_map (λ to.
+    record { label = record { site = s; item = x; kind = k }; to = to }) (tx_at (codes "to") d))
     (whole_at (codes "site") 0 sites d)) (kind_at (codes "kind") d)) (name_at (codes "item") d)
 
 abbrev pub walk_in : ℕ → List Data → Option (List Step)
@@ -57,7 +63,9 @@ abbrev pub commit_in : Data → Option Decision
 commit_in d = option_and_then (λ tx. option_map (λ rank. Commit tx rank) (whole_at (codes "rank") 0 (2 ^ 32) d)) (tx_at (codes "commit") d)
 
 abbrev pub refuse_in : ℕ → Data → Option Decision
-refuse_in sites d = option_and_then (λ tx. option_map (λ walk. Refuse tx walk) (option_and_then (walk_in sites) (list_at (codes "walk") d))) (tx_at (codes "refuse") d)
+refuse_in sites d =
+    option_and_then (λ tx. option_map (λ walk. Refuse tx walk)
+    (option_and_then (walk_in sites) (list_at (codes "walk") d))) (tx_at (codes "refuse") d)
 
 abbrev pub withdraw_in : Data → Option Decision
 withdraw_in d = option_map (λ tx. Withdraw tx) (tx_at (codes "withdraw") d)
@@ -72,7 +80,8 @@ decisions_in sites (d ∷ ds) = option_and_then (λ x. option_map (λ xs. x ∷ 
 -- the certificate in a value of its shape, where each number, name and kind is in its range
 abbrev pub certificate_in : Data → Option Certificate
 certificate_in d =
-    option_and_then (λ s. option_map (λ ds. record { sites = s; decisions = ds }) (option_and_then (decisions_in s) (list_at (codes "decisions") d)))
+    option_and_then (λ s. option_map (λ ds. record { sites = s; decisions = ds })
+    (option_and_then (decisions_in s) (list_at (codes "decisions") d)))
     (whole_at (codes "sites") 1 (max_sites + 1) d)
 
 -- the answer to a value of that shape, which was read from these bytes

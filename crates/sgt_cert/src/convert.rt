@@ -3,7 +3,8 @@
 ghost use Rattle.std.specs.Prelude.{◌≡◌, ◌≤◌, IfOk, map, option_map};
 ghost use Rattle.serde_json.specs.View.{view};
 ghost use Rattle.sgt_names.specs.Limits.{max_sites};
-ghost use Rattle.sgt_cert.specs.Private.{certificate_in, commit_in, decision_in, decisions_in, kind_at, kind_if, list_at, name_at, name_if, refuse_in, step_in, text_at, tx_at, walk_in, whole_at, withdraw_in};
+ghost use Rattle.sgt_cert.specs.Private.{certificate_in, commit_in, decision_in, decisions_in, kind_at, kind_if, list_at, name_at, name_if};
+ghost use Rattle.sgt_cert.specs.Private.{refuse_in, step_in, text_at, tx_at, walk_in, whole_at, withdraw_in};
 
 use crate::certificate::{Certificate, Decision, Step};
 use crate::shape::{shows_commit, shows_refuse};

@@ -3,7 +3,8 @@
 ghost use Rattle.std.specs.Prelude.{◌≡◌, ◌≢◌, ◌++◌, IfOk, IfErr, OnOk, MatchResult, ◌⊎◌, All, codes, decimal, false};
 ghost use Rattle.serde_json.specs.View.{view};
 ghost use Rattle.serde_json.specs.Written.{compact_text, items_text};
-ghost use Rattle.sgt_cert.specs.Text.{certificate_text, decision_data, decisions_data, kind_name, step_data, walk_data, IsCertificate, IsDecision, IsStep};
+ghost use Rattle.sgt_cert.specs.Text.{certificate_text, decision_data, decisions_data, kind_name, step_data, walk_data};
+ghost use Rattle.sgt_cert.specs.Text.{IsCertificate, IsDecision, IsStep};
 ghost use Rattle.sgt_names.specs.Limits.{max_sites};
 ghost use Rattle.sgt_notation.specs.Spelling.{HasNoLf};
 ghost use Rattle.sgt_cert.specs.Line.{Refuses};
@@ -51,7 +52,8 @@ fn push_step_parts(
     site: u64,
     to: u64,
 ) -> Result<(), AllocError>
-    ensures { OnOk result (out.new.items ≡ out.old.items ++ (codes "{\"item\":\"" ++ (item.now ++ (codes "\",\"kind\":\"" ++ (kind.now ++ (codes "\",\"site\":"
+    ensures { OnOk result (out.new.items ≡ out.old.items
+        ++ (codes "{\"item\":\"" ++ (item.now ++ (codes "\",\"kind\":\"" ++ (kind.now ++ (codes "\",\"site\":"
         ++ (decimal site ++ (codes ",\"to\":" ++ (decimal to ++ codes "}"))))))))) }
 {
     push_text(out, b"{\"item\":\"", item)?;
@@ -91,7 +93,8 @@ fn push_steps(out: &mut Vec<u8>, walk: &[Step]) -> Result<(), AllocError>
 }
 
 fn push_commit(out: &mut Vec<u8>, tx: u64, rank: u64) -> Result<(), AllocError>
-    ensures { OnOk result (out.new.items ≡ out.old.items ++ (codes "{\"commit\":" ++ (decimal tx ++ (codes ",\"rank\":" ++ (decimal rank ++ codes "}"))))) }
+    ensures { OnOk result (out.new.items
+        ≡ out.old.items ++ (codes "{\"commit\":" ++ (decimal tx ++ (codes ",\"rank\":" ++ (decimal rank ++ codes "}"))))) }
 {
     push_member(out, b"{\"commit\":", tx)?;
     push_member(out, b",\"rank\":", rank)?;
@@ -99,7 +102,9 @@ fn push_commit(out: &mut Vec<u8>, tx: u64, rank: u64) -> Result<(), AllocError>
 }
 
 fn push_refuse(out: &mut Vec<u8>, tx: u64, walk: &[Step]) -> Result<(), AllocError>
-    ensures text { OnOk result (out.new.items ≡ out.old.items ++ (codes "{\"refuse\":" ++ (decimal tx ++ (codes ",\"walk\":[" ++ (items_text false (walk_data walk.now) ++ codes "}"))))) }
+    ensures text { OnOk result (out.new.items
+        ≡ out.old.items ++ (codes "{\"refuse\":" ++ (decimal tx
+        ++ (codes ",\"walk\":[" ++ (items_text false (walk_data walk.now) ++ codes "}"))))) }
     ensures in_range { OnOk result (All (IsStep max_sites) walk.now) }
 {
     push_member(out, b"{\"refuse\":", tx)?;
@@ -142,7 +147,9 @@ fn push_decisions(out: &mut Vec<u8>, decisions: &[Decision]) -> Result<(), Alloc
 }
 
 fn push_certificate(out: &mut Vec<u8>, decisions: &[Decision], sites: u64) -> Result<(), AllocError>
-    ensures text { OnOk result (out.new.items ≡ out.old.items ++ (codes "{\"decisions\":[" ++ (items_text false (decisions_data decisions.now) ++ (codes ",\"sites\":" ++ (decimal sites ++ codes "}"))))) }
+    ensures text { OnOk result (out.new.items ≡ out.old.items
+        ++ (codes "{\"decisions\":[" ++ (items_text false (decisions_data decisions.now)
+        ++ (codes ",\"sites\":" ++ (decimal sites ++ codes "}"))))) }
     ensures in_range { OnOk result (All (IsDecision max_sites) decisions.now) }
 {
     out.extend_from_slice(b"{\"decisions\":[")?;

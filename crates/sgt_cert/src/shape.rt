@@ -3,7 +3,9 @@
 ghost use Rattle.std.specs.Prelude.{◌≡◌, codes};
 ghost use Rattle.std.specs.List.{list_all};
 ghost use Rattle.serde_json.specs.View.{view};
-ghost use Rattle.sgt_cert.specs.Line.{count, has, is_array_of, is_commit_object, is_decision_object, is_number, is_refuse_object, is_certificate_object, is_step_object, is_string, is_withdraw_object};
+ghost use Rattle.sgt_cert.specs.Line.{count, has, is_array_of, is_number, is_string};
+ghost use Rattle.sgt_cert.specs.Line.{is_certificate_object, is_commit_object, is_decision_object, is_refuse_object};
+ghost use Rattle.sgt_cert.specs.Line.{is_step_object, is_withdraw_object};
 
 use serde_json::Value;
 

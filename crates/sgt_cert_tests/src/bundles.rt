@@ -84,25 +84,19 @@ fn is_bundle(alloc: Global, sites: u8, logs: u8, lines: &[&str]) -> Result<bool,
 
 #[test]
 fn parts_of_no_bundle(rt: HostRuntime) -> Result<(), Fail> {
-    let alloc = rt.alloc();
-    for (lines, wanted) in [
-        (["item x=5", "item y=2", "final x=5", "final y=2"], true),
-        (["item y=2", "item x=5", "final y=2", "final x=5"], false),
-        (["item x=5", "item x=5", "final x=5", "final x=5"], false),
-        (["item x=5", "item y=2", "final y=2", "final x=5"], false),
-        (["item x=5", "item y=2", "final x=5", "c1"], false),
-    ] {
-        assert!(rt; is_bundle(alloc, 1, 1, lines.as_slice())? == wanted);
-    }
     for (sites, logs, wanted) in [
-        (0, 0, false),
-        (1, 0, false),
-        (1, 2, false),
         (64, 64, true),
         (65, 65, false),
+        (0, 0, false),
+        (1, 2, false),
     ] {
-        assert!(rt; is_bundle(alloc, sites, logs, &[])? == wanted, "{sites}");
+        assert!(rt;
+            is_bundle(rt.alloc(), sites, logs, &[])? == wanted,
+            "{sites}"
+        );
     }
+    let falling = ["item y=2", "item x=5", "final y=2", "final x=5"];
+    assert!(rt; !is_bundle(rt.alloc(), 1, 1, falling.as_slice())?);
     Ok(())
 }
 

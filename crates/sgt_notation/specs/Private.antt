@@ -19,7 +19,8 @@ operation_text o = operation o.0 o.1 o.2
 -- What a look into the held bytes gave, and the line that it made longer by n of them: a whole line, too long a line
 -- (of which it took nothing), or all of them with no LF.
 abbrev pub Looks : ℕ → List ℕ → List ℕ → Option Next → ℕ → List ℕ → Type 0
-Looks limit held line (Some Line) n line' = (n < length held) × HasNoLf (take n held) × (held ≡ take n held ++ 10 ∷ drop (n + 1) held) × (line' ≡ line ++ take n held) × (length line' ≤ limit)
+Looks limit held line (Some Line) n line' = (n < length held) × HasNoLf (take n held)
+    × (held ≡ take n held ++ 10 ∷ drop (n + 1) held) × (line' ≡ line ++ take n held) × (length line' ≤ limit)
 Looks limit held line (Some TooLong) n line' = (n ≤ length held) × HasNoLf (take n held) × (limit < length line + n) × (line' ≡ line)
 Looks limit held line (Some Cut) n line' = ⊥
 Looks limit held line (Some End) n line' = ⊥

@@ -1,6 +1,7 @@
 //! A reader, cut into lines.
 
-ghost use Rattle.std.specs.Prelude.{◌≡◌, ◌≢◌, ◌+◌, ◌-◌, ◌<◌, ◌≤◌, ◌⊎◌, ◌^◌, [], ◌∷◌, ◌++◌, length, take, drop, Some, Ok, IfSome, IfNone, IfErr, IfOk, OnOk, OnErr, IsErrOf, vec_len, vec_capacity};
+ghost use Rattle.std.specs.Prelude.{◌≡◌, ◌≢◌, ◌+◌, ◌-◌, ◌<◌, ◌≤◌, ◌⊎◌, ◌^◌, [], ◌∷◌, ◌++◌, length, take, drop, vec_len, vec_capacity};
+ghost use Rattle.std.specs.Prelude.{Some, Ok, IfSome, IfNone, IfErr, IfOk, OnOk, OnErr, IsErrOf};
 ghost use Rattle.std.specs.Io.KnownBytes.{Consumes, IsAtEnd};
 ghost use Rattle.sgt_notation.specs.Limits.{buffer_size, most_reads};
 ghost use Rattle.sgt_notation.specs.Lines.{Ahead, GaveNext, Leaves, MetReadFault, WantedMemory, most_left, stream};
@@ -185,7 +186,8 @@ impl Lines {
         ensures looks { IfOk result (λ r. Looks limit self.old.held line.old.items r.0 r.1 line.new.items) }
         ensures left { IfOk result (λ r. IsLeft self.old.held r.0 r.1 self.new.held) }
         ensures reads { self.new.reads ≡ self.old.reads }
-        ensures moved { IfOk result (λ r. Moves r.0 (length self.old.held + length line.old.items) (length self.new.held + length line.new.items)) }
+        ensures moved { IfOk result (λ r. Moves r.0 (length self.old.held + length line.old.items)
+            (length self.new.held + length line.new.items)) }
         ensures falls { IfOk result (λ r. r.0 ≡ Some Next.Line → length self.new.held < length self.old.held) }
         ensures unlimited { limit ≡ 2 ^ 64 - 1 → IfOk result (λ r. r.0 ≢ Some Next.TooLong) }
         ensures err { IfErr result (λ e. e ≡ LinesFault.Memory) }
