@@ -1,3 +1,6 @@
+ghost use Rattle.std.specs.Prelude.{◌≡◌, ◌∷◌, ◌++◌, IfSome, IfNone};
+ghost use Rattle.sgt_notation.specs.Spelling.{HasNoLf};
+
 use sgt_audit::{Audited, Auditor, Fault, Verdict, audit_bundle, read_bundle};
 use sgt_cert::from_line;
 use sgt_names::MemSource;
@@ -11,13 +14,26 @@ const OWN_READ: &str =
 const INCREMENTS: &str =
     "sgt 2\n{\"decisions\":[{\"commit\":2,\"rank\":0},{\"commit\":1,\"rank\":1}],\"sites\":1}\nsite 0\nitem x=5\nd2[x]=4\nc2\nd1[x]=3\nc1\nfinal x=12\nend\n";
 
+// The first line, without its LF, and the bytes behind it.
+fn split_line(bytes: &[u8]) -> Option<(&[u8], &[u8])>
+    ensures some { IfSome result (λ r. HasNoLf r.0.now × (bytes.now ≡ r.0.now ++ 10 ∷ r.1.now)) }
+    ensures none { IfNone result (HasNoLf bytes.now) }
+{
+    match find_lf(bytes) {
+        Some(n) => Some((&bytes[..n], &bytes[n + 1..])),
+        None => None,
+    }
+}
+
 // What an auditor of one of the two formats says that is fed the lines of this text, from line 3 on.
 fn fed(alloc: Global, second: bool, text: &[u8]) -> Result<Option<Verdict>, Fail> {
-    let mut rest = &text[6..];
-    let Some(end) = find_lf(rest) else {
+    let Some((_, behind)) = split_line(text) else {
         return Ok(None);
     };
-    let Ok(certificate) = from_line(alloc, &rest[..end]) else {
+    let Some((line, mut rest)) = split_line(behind) else {
+        return Ok(None);
+    };
+    let Ok(certificate) = from_line(alloc, line) else {
         return Ok(None);
     };
     let mut auditor = if second {
@@ -25,10 +41,9 @@ fn fed(alloc: Global, second: bool, text: &[u8]) -> Result<Option<Verdict>, Fail
     } else {
         Auditor::new(alloc, certificate)?
     };
-    rest = &rest[end + 1..];
-    'lines: while let Some(end) = find_lf(rest) {
-        auditor.feed(&rest[..end])?;
-        rest = &rest[end + 1..];
+    'lines: while let Some((line, more)) = split_line(rest) {
+        auditor.feed(line)?;
+        rest = more;
     }
     Ok(Some(auditor.end()?))
 }
