@@ -1,5 +1,7 @@
 //! Expected values are those of the worked rows.
 
+ghost use Rattle.std.specs.Prelude.{◌<◌};
+
 use crate::rows::Row;
 use crate::rows::bundles::BUNDLES;
 use crate::rows::certificates::CERTIFICATES;
@@ -58,7 +60,9 @@ fn run(
 }
 
 /// Whether the program, which reads so many bytes at once, answers as the row says.
-fn answers(alloc: Global, row: &Row, per_read: usize) -> Result<bool, Fail> {
+fn answers(alloc: Global, row: &Row, per_read: usize) -> Result<bool, Fail>
+    requires { 0 < per_read }
+{
     let mut input = MemSource::new(row.input.as_bytes(), per_read, None);
     let mut output = MemSink::new(alloc, 1000)?;
     let mut errors = MemSink::new(alloc, 100)?;
