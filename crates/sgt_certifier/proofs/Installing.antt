@@ -22,8 +22,8 @@ installed_allowed s tx site is_open new fault.Stale f = f
 installed_allowed s tx site is_open new fault.GenerationsSpent f = f
 
 pub installed_serves : (p q : Parts) (tx site : ℕ) (items : List Name) → Replays p.calls (state_of p) → IsInstalling (state_of p) tx → (IsNoted (state_of p) tx site → ⊥)
-  → q.begun ≡ p.begun → q.before ≡ p.before → q.generation ≡ p.generation → q.flags ≡ p.flags → q.past ≡ p.past → q.order ≡ p.order → q.edges ≡ p.edges → q.step ≡ p.step → q.calls ≡ p.calls ++ call.Installed tx site items ∷ []
-  → Serves (state_of p) (call.Installed tx site items) (state_of q)
+    → q.begun ≡ p.begun → q.before ≡ p.before → q.generation ≡ p.generation → q.flags ≡ p.flags → q.past ≡ p.past → q.order ≡ p.order → q.edges ≡ p.edges → q.step ≡ p.step → q.calls ≡ p.calls ++ call.Installed tx site items ∷ []
+    → Serves (state_of p) (call.Installed tx site items) (state_of q)
 installed_serves p q tx site items r is_open new b bf g fl pa o e st calls =
     let s = state_of p in
     let active : flagged q.before q.flags ≡ flagged p.before p.flags = ap (λ n. flagged n q.flags) bf ∙ ap (flagged p.before) fl in
@@ -33,8 +33,8 @@ installed_serves p q tx site items r is_open new b bf g fl pa o e st calls =
     (λ rulings installs. same_state (state_of q) (with_install s tx site items) b bf g active pa order arcs st (sym rulings) (sym installs))
 
 pub installed_kept : (p q : Parts) (tx site : ℕ) (items : List Name) (sites sites2 : List ℕ) (n a r room sites_room room2 sites_room2 : ℕ) → IsKept (state_of p) p.calls p.flags sites n a r room sites_room → Serves (state_of p) (call.Installed tx site items) (state_of q) → q.calls ≡ p.calls ++ call.Installed tx site items ∷ []
-  → IsInstalling (state_of p) tx → (IsNoted (state_of p) tx site → ⊥) → site < max_sites → q.begun ≡ p.begun → q.before ≡ p.before → q.flags ≡ p.flags → sites2 ≡ sites ++ site ∷ [] → room2 ≡ room → sites_room2 ≡ sites_room
-  → IsKept (state_of q) q.calls q.flags sites2 n a r room2 sites_room2
+    → IsInstalling (state_of p) tx → (IsNoted (state_of p) tx site → ⊥) → site < max_sites → q.begun ≡ p.begun → q.before ≡ p.before → q.flags ≡ p.flags → sites2 ≡ sites ++ site ∷ [] → room2 ≡ room → sites_room2 ≡ sites_room
+    → IsKept (state_of q) q.calls q.flags sites2 n a r room2 sites_room2
 installed_kept p q tx site items sites sites2 n a r room sites_room room2 sites_room2 kept serves calls is_open new below b bf flags sites_is room_is sites_room_is =
     let next = serves.1 in
     record {
@@ -53,7 +53,7 @@ installed_kept p q tx site items sites sites2 n a r room sites_room room2 sites_
 
 -- there is room for one more install
 pub installed_room : (p : Parts) (tx site : ℕ) (items : List Name) (sites : List ℕ) (n a r room sites_room : ℕ) → IsKept (state_of p) p.calls p.flags sites n a r room sites_room → IsInstalling (state_of p) tx → (IsNoted (state_of p) tx site → ⊥) → site < max_sites
-  → (length sites < sites_room) × (length p.calls < room)
+    → (length sites < sites_room) × (length p.calls < room)
 installed_room p tx site items sites n a r room sites_room kept is_open new below =
     let s = state_of p in
     let few = noted_few (with_install s tx site items) (sites ++ site ∷ []) (added_noted s (with_install s tx site items) tx site items sites is_open.0 refl below new kept.noted) in

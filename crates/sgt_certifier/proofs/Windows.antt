@@ -146,7 +146,7 @@ NotBack edge a b = edge b a → ⊥
 pub serial_topological : (edge : ℕ → ℕ → Type 0) (s : State) → IsGoodState s → IsForward edge s → IsTopological edge (serial s)
 serial_topological edge s g f =
     let here : IsTopological edge s.order = AllPairs-from_at (NotBack edge) s.order (λ p q a b lt at_a at_b e.
-        AllPairs_at (NotBack (Joins s.arcs)) s.order p q a b g.sound.topological lt at_a at_b (f.here b a e (Contains-from_at s.order q b at_b) (Contains-from_at s.order p a at_a))) in
+    AllPairs_at (NotBack (Joins s.arcs)) s.order p q a b g.sound.topological lt at_a at_b (f.here b a e (Contains-from_at s.order q b at_b) (Contains-from_at s.order p a at_a))) in
     AllPairs-append (NotBack edge) s.past s.order f.past here (λ a b ca cb e. f.back b a e cb ca)
 
 -- ---- edges that were handed before, after one more call
@@ -320,8 +320,8 @@ new_edge seen s h edges e a b n allowed active c from to =
 
 -- the edges of a decision lead forward after it
 new_forward : (edge : ℕ → ℕ → Type 0) (s t : State) (arcs : List Arc) (i : ℕ) → IsGoodState s → s.step ≡ None → Contains s.active i → ((a b : ℕ) → edge a b → IsNew s arcs i a b)
-  → t.active ≡ s.active → t.step ≡ Some i → t.begun ≡ s.begun → t.past ≡ s.past → ((a : ℕ) → Contains t.order a → (a ≡ i) ⊎ Contains s.order a) → ((a b : ℕ) → Joins arcs a b → Contains t.order i → Joins t.arcs a b)
-  → IsForward edge t
+    → t.active ≡ s.active → t.step ≡ Some i → t.begun ≡ s.begun → t.past ≡ s.past → ((a : ℕ) → Contains t.order a → (a ≡ i) ⊎ Contains s.order a) → ((a b : ℕ) → Joins arcs a b → Contains t.order i → Joins t.arcs a b)
+    → IsForward edge t
 new_forward edge s t arcs i g idle active new same_active step begun past member joins =
     let w = g.sound.active_here i active in
     let out : Contains s.order i → ⊥ = uncommitted s i g.sound idle active in

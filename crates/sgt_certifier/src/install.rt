@@ -23,11 +23,7 @@ fn is_changed(touch: &Touch, site: SiteNo) -> bool
 }
 
 // The items that the draft changes at the site.
-fn changed_items(
-    alloc: Global,
-    touched: &[Touch],
-    site: SiteNo,
-) -> Result<Listed<Item>, AllocError>
+fn changed_items(alloc: Global, touched: &[Touch], site: SiteNo) -> Result<Listed<Item>, AllocError>
     ensures ok { IfOk result (λ items. items ≡ changed_at touched.now site) }
     ensures err { OnErr result (changed_at touched.now site ≢ []) }
 {

@@ -27,6 +27,6 @@ returns c =
     let table = c.in_ok-ranks.ranks.items in
     let is_table : IsTable (serial s) table = subst (λ (v : Kept). IsTable (serial v.state) table) (sym c.self.view_is) c.in_ok-ranks.ensures.ranks in
     let decisions : c.new.result ≡ map (ranked (serial s)) s.rulings =
-        c.new.ensures ∙ (c.in_ok-decisions.ensures ∙ (ap (λ t. map (with_rank_in t) (rulings_from 0 0 c.as_slice.result.now)) c.as_slice-2.ensures.value ∙ (ap (λ xs. map (with_rank_in table) (rulings_from 0 0 xs)) c.as_slice.ensures.value ∙ table_ranks s table good.ruled is_table))) in
+    c.new.ensures ∙ (c.in_ok-decisions.ensures ∙ (ap (λ t. map (with_rank_in t) (rulings_from 0 0 c.as_slice.result.now)) c.as_slice-2.ensures.value ∙ (ap (λ xs. map (with_rank_in table) (rulings_from 0 0 xs)) c.as_slice.ensures.value ∙ table_ranks s table good.ruled is_table))) in
     let mine : record { sites = c.args.sites; decisions = c.new.result } ≡ certificate_of s c.args.sites = ap (λ ds. record { sites = c.args.sites; decisions = ds }) decisions in
     mine ∙ ap (λ (v : Kept). certificate_of v.state c.args.sites) c.self.view_is
