@@ -1,17 +1,16 @@
 -- The edges of each touched item together are those of the draft.
-use Rattle.std.proofs.Common.{◌≡◌, ◌≢◌, ℕ, ◌+◌, ◌-◌, ◌<◌, ◌≤◌, ◌⊎◌, List, [], ◌∷◌, ◌++◌, length, take, drop, Some, None, Result, Ok, Err, refl, sym, ap, ◌∙◌, subst, arith, inl, inr, All, Contains}
+use Rattle.std.proofs.Common.{◌≡◌, ◌≢◌, ℕ, ◌+◌, ◌-◌, ◌<◌, ◌≤◌, ◌⊎◌, List, [], ◌∷◌, length, take, drop, Some, Result, Ok, Err, refl, sym, ap, ◌∙◌, subst, arith, inl, inr, All, Contains}
 use Rattle.std.specs.Prelude.{slice_get, OnOk, ◌↔◌, Any}
 use Rattle.std.proofs.lemmas.Bool.{cases_lt}
 use Rattle.std.proofs.lemmas.Option.{same_Some, slice_get_within}
-use Rattle.std.proofs.lemmas.List.Elements.{Contains-append_left, Contains-append_right, Contains-append_cases}
 use Rattle.sgt_names.specs.Name.{Name}
-use Rattle.sgt_names.specs.Draft.{at_site, kept_in, writing_in}
+use Rattle.sgt_names.specs.Draft.{at_site, kept_in}
 use Rattle.sgt_names.specs.declared.draft.Seen.{Seen}
 use Rattle.sgt_names.specs.declared.draft.Touch.{Touch}
 use Rattle.sgt_names.specs.declared.entry.Change.{Change}
 use Rattle.sgt_names.specs.declared.entry.Kind.{Kind}
 use Rattle.sgt_names.specs.declared.entry.Kind.TheVariants.{Wr, Rw, Ww}
-use Rattle.sgt_names.proofs.Lists.{element_at, Any_at, Any-from_at}
+use Rattle.sgt_names.proofs.Lists.{Any_at, Any-from_at}
 use Rattle.sgt_names.proofs.Places.{Contains_at, Contains-from_at, slice_get-take, slice_get-take_at, slice_get-drop, All-from_at}
 use Rattle.sgt_arena.specs.declared.handle.Handle.{Handle}
 use Rattle.sgt_site.specs.State.{SiteState, version_at, writers_of}
@@ -19,7 +18,7 @@ use Rattle.sgt_site.specs.declared.cell.Reader.{Reader}
 use Rattle.sgt_site.specs.declared.cell.Writer.{Writer}
 use Rattle.sgt_site.proofs.Basics.{is_single}
 use Rattle.sgt_site.proofs.Pledges.{kept-from, kept-to, change-from, change-to}
-use Rattle.sgt_edges.specs.Edges.{SawAt, IsToChange, ConflictsWith, IsWriter, HasReader, Precedes, wrote_before, wrote_after, wrote_too, read_it, IsEdge, IsGiven, given, StandsForAll, SeesTooNew}
+use Rattle.sgt_edges.specs.Edges.{SawAt, IsToChange, IsWriter, HasReader, Precedes, wrote_before, wrote_after, wrote_too, read_it, IsGiven, given, StandsForAll, SeesTooNew}
 use Rattle.sgt_edges.specs.private.Gathered.{IsTooNew, IsBetween, AddsAll, FromWriter, ToWriter, FromConflicting, FromReader, IsOfRead, IsOfChange}
 use Rattle.sgt_edges.specs.declared.edge.Edge.{Edge}
 
@@ -27,24 +26,13 @@ use Rattle.sgt_edges.specs.declared.edge.Edge.{Edge}
 itself : {A : Type 0} (a : A) → Contains (a ∷ []) a
 itself a = Contains-from_at (a ∷ []) 0 a refl
 
--- nothing is added, one edge is, or edges of two sorts are
+-- nothing is added, or edges of two sorts are
 pub adds-nothing : (P : Edge → Type 0) (es : List Edge) → ((e : Edge) → P e → ⊥) → AddsAll P es es
 adds-nothing P es none e = (λ has. inl has, λ which. by_side which)
   where
     by_side : Contains es e ⊎ P e → Contains es e
     by_side (inl has) = has
     by_side (inr p) = absurd (none e p)
-
-pub adds-one : (P : Edge → Type 0) (es : List Edge) (made : Edge) → P made → ((e : Edge) → P e → e ≡ made) → AddsAll P es (es ++ made ∷ [])
-adds-one P es made is only e = (λ has. there (Contains-append_cases es (made ∷ []) e has), λ which. back which)
-  where
-    there : Contains es e ⊎ Contains (made ∷ []) e → Contains es e ⊎ P e
-    there (inl has) = inl has
-    there (inr has) = inr (subst P (sym (is_single made e has)) is)
-
-    back : Contains es e ⊎ P e → Contains (es ++ made ∷ []) e
-    back (inl has) = Contains-append_left es (made ∷ []) e has
-    back (inr p) = Contains-append_right es (made ∷ []) e (subst (Contains (made ∷ [])) (sym (only e p)) (itself made))
 
 pub adds-both : (P Q R : Edge → Type 0) (old mid new : List Edge) → ((e : Edge) → R e ↔ (P e ⊎ Q e)) → AddsAll P old mid → AddsAll Q mid new → AddsAll R old new
 adds-both P Q R old mid new are first second e = (λ has. there ((second e).0 has), λ which. back which)
@@ -264,21 +252,6 @@ module _ (s : SiteState) (t : Touch) (me : Handle) (here : t.site ≡ s.number) 
       by_side (inr is) = change-given e is
 
 module _ (s : SiteState) (t : Touch) (me : Handle) where
-  pub elsewhere-nothing : (t.site ≡ s.number → ⊥) → (e : Edge) → IsGiven s (t ∷ []) me e → ⊥
-  elsewhere-nothing elsewhere e (site, (apart, precedes)) = by_case e.label.item e.from e.to e.label.kind precedes
-    where
-      by_case : (x : Name) (f h : Handle) (k : Kind) → Precedes s (t ∷ []) me x f h k → ⊥
-      by_case x f h k (wrote_before n m w saw less is) = elsewhere (saw-one s t x n saw).0
-      by_case x f h k (wrote_after n m w saw more is) = elsewhere (saw-one s t x n saw).0
-      by_case x f h k (wrote_too c m w asks is far) = elsewhere (changes-one s t x c asks).0
-      by_case x f h k (read_it c r asks is) = elsewhere (changes-one s t x c asks).0
-
-  pub no_read-nothing : t.seen ≡ None → (e : Edge) → IsOfRead s t me e → ⊥
-  no_read-nothing none e is = absurd (let same = sym none ∙ is.keeps in cc)
-
-  pub no_change-nothing : t.change ≡ None → (e : Edge) → IsOfChange s t me e → ⊥
-  no_change-nothing none e is = absurd (let same = sym none ∙ is.asks in cc)
-
   -- the edges of a read at this version, and of this change
   pub read-parts : (seen : Seen) (us : List Writer) → t.seen ≡ Some seen → us ≡ writers_of s.installed s.entries t.item → (e : Edge) → IsOfRead s t me e ↔ (Any (λ w. FromWriter t me w e) (take seen.version us) ⊎ Any (λ w. ToWriter t me w e) (drop seen.version us))
   read-parts seen us some are e = (

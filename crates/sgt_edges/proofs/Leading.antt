@@ -1,5 +1,5 @@
 -- What the edges given at several sites lead to.
-use Rattle.std.proofs.Common.{◌≡◌, ℕ, List, Some, refl, sym, ap, ◌∙◌, subst, inl, inr, ◌⊎◌, All, Contains}
+use Rattle.std.proofs.Common.{◌≡◌, ℕ, List, Some, refl, subst, inl, inr, All}
 use Rattle.std.specs.Prelude.{Any, slice_get, ◌↔◌}
 use Rattle.sgt_names.specs.Name.{Name}
 use Rattle.sgt_names.specs.declared.draft.Touch.{Touch}
@@ -8,7 +8,7 @@ use Rattle.sgt_names.proofs.Lists.{Any_at, Any-from_at}
 use Rattle.sgt_names.proofs.Places.{All_at, Contains_at}
 use Rattle.sgt_arena.specs.declared.handle.Handle.{Handle}
 use Rattle.sgt_edges.specs.declared.edge.Edge.{Edge}
-use Rattle.sgt_edges.specs.Edges.{IsEdge, IsOldEdge, IsGiven, Walks, given, old, on, StandsForAll}
+use Rattle.sgt_edges.specs.Edges.{IsEdge, IsOldEdge, IsGiven, Walks, given, old, on}
 use Rattle.sgt_edges.specs.Sites.{Gathering, IsGathered, IsLogged, IsGivenStep, IsStep, Leads, step}
 use Rattle.sgt_edges.specs.Sites as sites
 

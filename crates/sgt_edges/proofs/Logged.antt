@@ -1,5 +1,5 @@
 -- The edges of a draft are conflicts in the log followed by its changes, and each such conflict is an edge.
-use Rattle.std.proofs.Common.{◌≡◌, ℕ, Bool, true, false, ◌+◌, ◌<◌, ◌≤◌, List, length, map, take, Option, Some, None, refl, sym, ap, ap₂, ◌∙◌, subst, arith, inl, inr, ◌⊎◌, Contains}
+use Rattle.std.proofs.Common.{◌≡◌, ℕ, ◌+◌, ◌<◌, ◌≤◌, List, length, map, take, Some, refl, sym, ap, ◌∙◌, subst, arith, inl, inr, ◌⊎◌, Contains}
 use Rattle.std.specs.Prelude.{slice_get, ◌≢◌, option_map}
 use Rattle.std.proofs.lemmas.Bool.{cases_lt, cases_order, cases_Bool}
 use Rattle.std.proofs.lemmas.Option.{slice_get_within, slice_get-map, same_Some}
@@ -18,13 +18,11 @@ use Rattle.sgt_names.proofs.Increments.{change-writes}
 use Rattle.sgt_names.proofs.Lists.{front_at, back_at, map_at}
 use Rattle.sgt_names.proofs.Places.{Contains_at, Contains-from_at}
 use Rattle.sgt_arena.specs.declared.handle.Handle.{Handle}
-use Rattle.sgt_site.specs.declared.cell.Reader.{Reader}
 use Rattle.sgt_site.specs.declared.cell.Writer.{Writer}
 use Rattle.sgt_site.specs.State.{SiteState, IsSite, HasEnded, version_at, handle_of, change_entry}
 use Rattle.sgt_site.proofs.Appends.{get_cases, count-rises, count-next}
-use Rattle.sgt_site.proofs.Entries.{change_or_want, read_is, tx_of-change_entry, Writes-change_entry, is_increment-change_entry, writes_one}
+use Rattle.sgt_site.proofs.Entries.{change_or_want, read_is, tx_of-change_entry, Writes-change_entry, writes_one}
 use Rattle.sgt_site.proofs.Projections.{writer_at, writer_from, ended_with_handle, no_write, wanted_no_handle}
-use Rattle.sgt_site.specs.private.Cells.{adds}
 use Rattle.sgt_edges.specs.Edges.{IsWriter, HasReader, SawAt, IsToChange, ConflictsWith, IsEdge, Precedes, wrote_before, wrote_after, wrote_too, read_it, IsActive, IsConflict, followed}
 
 -- a change and a writer in conflict are not two increments, and the other way round

@@ -1,9 +1,9 @@
 -- An item that isn't at the site has no writers and no readers.
-use Rattle.std.proofs.Common.{◌≡◌, ℕ, List, [], length, Some, None, refl, sym, ap, ◌∙◌, inl, inr, Contains}
+use Rattle.std.proofs.Common.{◌≡◌, ℕ, [], length, Some, refl, sym, ap, ◌∙◌, inl, inr, Contains}
 use Rattle.std.specs.Prelude.{slice_get}
 use Rattle.std.specs.Option.{ForSome}
 use Rattle.sgt_names.specs.Name.{Name}
-use Rattle.sgt_names.specs.Entry.{tx_of, item_of, change_of}
+use Rattle.sgt_names.specs.Entry.{item_of, change_of}
 use Rattle.sgt_names.specs.Log.{names}
 use Rattle.sgt_names.specs.declared.entry.Entry.{Entry}
 use Rattle.sgt_names.specs.declared.entry.Entry.TheVariants.{Read}

@@ -1,5 +1,5 @@
 -- The edges of one draft at several sites.
-use Rattle.std.specs.Prelude.{◌≡◌, ◌⊎◌, List, Any, All, Contains}
+use Rattle.std.specs.Prelude.{◌≡◌, ◌⊎◌, List, Any, All}
 use Rattle.sgt_names.specs.Name.{Name}
 use Rattle.sgt_names.specs.declared.draft.Touch.{Touch}
 use Rattle.sgt_names.specs.declared.entry.Kind.{Kind}

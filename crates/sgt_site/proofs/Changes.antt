@@ -21,9 +21,6 @@ pub record Done (R : Contents → Contents → Type 0) (i : ℕ) (old now : List
   pub above : (n : ℕ) → i ≤ n → slice_get now n ≡ slice_get old n
 
 module _ (R : Contents → Contents → Type 0) where
-  pub done-none : (cells : List Contents) → Done R 0 cells cells
-  done-none cells = record { as_many = refl; below = λ n c d lt. absurd (omega arith); above = λ n le. refl }
-
   pub done-next : (i : ℕ) (old now next : List Contents) → Done R i old now → ChangesAt R i now next → Done R (i + 1) old next
   done-next i old now next done change =
       let within = slice_get_within now i change.before change.at in

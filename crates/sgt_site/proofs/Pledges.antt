@@ -43,9 +43,6 @@ module _ (n : ℕ) where
       by_test later true hit (suc j) here = let r = later j here in (Contains-later u ts t r.0, r.1)
       by_test later false miss j here = let r = later j here in (Contains-later u ts t r.0, r.1)
 
-  pub in_site : (ts : List Touch) (t : Touch) → Contains (at_site n ts) t → Contains ts t × (t.site ≡ n)
-  in_site ts t has = let at = Contains_at (at_site n ts) t has in filter_at ts at.0 t at.1
-
   at_filter : (ts : List Touch) (k : ℕ) (t : Touch) → slice_get ts k ≡ Some t → t.site ≡ n → Contains (at_site n ts) t
   at_filter [] k t at here = absurd cc
   at_filter (u ∷ ts) zero t at here =

@@ -1,5 +1,5 @@
 -- The edges of one touched item.
-use Rattle.std.specs.Prelude.{◌≡◌, ◌≢◌, ◌⊎◌, ◌↔◌, ℕ, ◌<◌, List, [], ◌∷◌, take, drop, Some, Any, Contains}
+use Rattle.std.specs.Prelude.{◌≡◌, ◌≢◌, ◌⊎◌, ◌↔◌, ◌<◌, List, take, drop, Some, Any, Contains}
 use Rattle.sgt_names.specs.declared.draft.Seen.{Seen}
 use Rattle.sgt_names.specs.declared.draft.Touch.{Touch}
 use Rattle.sgt_names.specs.declared.entry.Change.{Change}
