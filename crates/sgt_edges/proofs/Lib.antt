@@ -4,3 +4,4 @@ pub mod Joined
 pub mod Leading
 pub mod Logged
 pub mod Unlisted
+pub mod Neighbours

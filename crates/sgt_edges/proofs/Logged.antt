@@ -38,7 +38,7 @@ far_changes (Add v) w e tx x adding apart = elim (cases_Bool (is_increment e)) [
 ]
 
 -- no read changes an item
-read-changes_nothing : (x : Name) (e : Entry) (c : Change) (tx : ℕ) (y : Name) (v : ℕ) → change_of x e ≡ Some c → e ≡ Read tx y v → ⊥
+pub read-changes_nothing : (x : Name) (e : Entry) (c : Change) (tx : ℕ) (y : Name) (v : ℕ) → change_of x e ≡ Some c → e ≡ Read tx y v → ⊥
 read-changes_nothing x e c tx y v changes is = absurd (let none = ap (change_of x) (sym is) ∙ changes in cc)
 
 module _ (s : SiteState) (tx : ℕ) (touched : List Touch) (me : Handle) (site : IsSite s) (is : IsActive s tx touched) where

@@ -1,12 +1,14 @@
 //! What the edges mean.
 
-ghost use Rattle.std.specs.Prelude.{◌≡◌, ℕ, List, All, ◌↔◌};
+ghost use Rattle.std.specs.Prelude.{◌≡◌, ◌≢◌, ℕ, List, All, ◌↔◌};
 ghost use Rattle.sgt_names.specs.Name.{Name};
 ghost use Rattle.sgt_names.specs.declared.draft.Touch.{Touch};
 ghost use Rattle.sgt_names.specs.declared.entry.Kind.{Kind};
 ghost use Rattle.sgt_arena.specs.declared.handle.Handle.{Handle};
 ghost use Rattle.sgt_site.specs.State.{SiteState, IsSite, IsPledgedFor};
-ghost use Rattle.sgt_edges.specs.Edges.{IsActive, IsEdge, IsConflict, JoinsCommitted, RefusesEdges};
+ghost use Rattle.sgt_edges.specs.Edges.{IsActive, IsEdge, IsConflict, JoinsCommitted, StandsForAll, SeesTooNew, RefusesEdges};
+ghost use Rattle.sgt_edges.specs.Neighbours.{IsNeighbour, HaveNeighbours};
+ghost use Rattle.sgt_edges.specs.declared.edge.Edge.{Edge};
 ghost use Rattle.sgt_edges.specs.Sites.{Gathering, IsGathered, IsGivenStep, IsStep, Leads};
 ghost use Rattle.sgt_edges.specs.declared.fault.EdgeFault.{EdgeFault};
 
@@ -41,4 +43,13 @@ pub fn gathers_are_refused_once()
 pub fn given_edges_lead_as_all_do()
     ensures { (touched : List Touch) (me : Handle) (gs : List Gathering) → All (IsGathered touched me) gs
         → (from to : Handle) → Leads (IsStep touched me gs) from to ↔ Leads (IsGivenStep gs) from to }
+{}
+
+/// Edges to neighbours carry every conflict: where they are all given, they stand for all edges of the draft at the site.
+/// Each of them is one.
+pub fn neighbours_carry_every_conflict()
+    ensures carry { (s : SiteState) (touched : List Touch) (me : Handle) (edges : List Edge) → IsSite s → (SeesTooNew s touched → ⊥)
+        → HaveNeighbours s touched me edges → StandsForAll s touched me edges }
+    ensures edges { (s : SiteState) (touched : List Touch) (me : Handle) (x : Name) (from to : Handle) (kind : Kind)
+        → from ≢ to → IsNeighbour s touched me x from to kind → IsEdge s touched me x from to kind }
 {}
