@@ -1,5 +1,5 @@
 -- What was told, by how the writing ended.
-use Rattle.std.proofs.Common.{ℕ, ◌+◌, ◌<◌, Result, Ok, Err, inl, inr, ◌⊎◌, arith}
+use Rattle.std.proofs.Common.{ℕ, ◌<◌, Result, Ok, Err, inl, inr, ◌⊎◌, arith}
 use Rattle.std.specs.Prelude.{OnOk, OnErr}
 use Rattle.sgt_names.specs.Device.{CountsFailures}
 

@@ -20,7 +20,6 @@ use Rattle.sgt_names.proofs.Lists.{option_cases}
 use Rattle.sgt_cert.specs.Serial.{Store, entries_at, entries_of, own_entries, store_after, RunsOn}
 use Rattle.sgt_cert.specs.declared.bundle.SiteLog.{SiteLog}
 use Rattle.sgt_serial.specs.declared.report.SiteChange.{SiteChange}
-use Rattle.sgt_serial.specs.declared.report.SiteValue.{SiteValue}
 use Rattle.sgt_serial.specs.Report.{read_at, write_at, picked_of, reads_of, writes_of}
 use Rattle.sgt_serial.specs.Difference.{Has, Knows}
 use Rattle.sgt_serial.specs.private.Values.{is_of, change_in, with_all}

@@ -1,4 +1,4 @@
-use Rattle.std.proofs.Common.{take, sym, ap, ◌∙◌, Some, cond, arith}
+use Rattle.std.proofs.Common.{take, sym, ap, ◌∙◌, cond, arith}
 use Rattle.std.proofs.lemmas.Bool.{false≢true}
 use Rattle.std.specs.Prelude.{is_some}
 use Rattle.sgt_names.specs.Log.{value_with}
