@@ -83,7 +83,8 @@ pub fn take_items(
     site: SiteNo,
 ) -> Result<Listed<Item>, AllocError>
     ensures items { IfOk result (λ items. items ≡ changed_at touched.now site) }
-    ensures others { (other : List Touched) (s : ℕ) → s ≢ site → IsExpected expected.old.items other s → IsExpected expected.new.items other s }
+    ensures others { (other : List Touched) (s : ℕ)
+        → s ≢ site → IsExpected expected.old.items other s → IsExpected expected.new.items other s }
     ensures err { OnErr result (expected.new.items ≡ expected.old.items) }
     ensures wants { OnErr result (IsExpected expected.old.items touched.now site → ⊥) }
 {
