@@ -67,7 +67,8 @@ pub record Spread (edges : List Edge) (old new : List (Option Edge)) : Type 0 wh
   pub closed : (n : ℕ) (e : Edge) → slice_get edges n ≡ Some e → IsMarked new e.from.index → IsMarked new e.to.index
 
 -- a finished search from h, over the edges and those that are offered with h
-pub record Searched (generation : ℕ) (order : List Handle) (edges given : List Edge) (h : Handle) (marks : List (Option Edge)) : Type 0 where
+pub record Searched (generation : ℕ) (order : List Handle) (edges given : List Edge) (h : Handle)
+    (marks : List (Option Edge)) : Type 0 where
   pub forward : IsForward generation order edges
   pub window : h.generation ≡ generation
   pub fresh : (p : ℕ) → slice_get order p ≡ Some h → ⊥
