@@ -1,8 +1,9 @@
 //! One site, a transaction that is committed there, and the edges of the next one's drafts.
 
+use crate::common::{Names, is_read_by, is_written_by, opened};
 use sgt_arena::Handle;
 use sgt_edges::{Edge, EdgeFault, gather};
-use sgt_names::{Draft, Entry, Holding, Item, Kind, Label, Seen, SiteNo, Tx};
+use sgt_names::{Draft, Entry, Item, Kind, Label, Seen};
 use sgt_site::{Reader, Site, SiteFault, Writer};
 use std::alloc::Global;
 use std::test::Fail;
@@ -22,170 +23,184 @@ const ME: Handle = Handle {
     generation: 0,
 };
 
-// Site 0 with x=5 and y=2.
-fn opened(alloc: Global) -> Result<Site, Fail> {
-    let items = [
-        Holding {
-            item: Item::new(b"x")?,
-            value: 5,
-        },
-        Holding {
-            item: Item::new(b"y")?,
-            value: 2,
-        },
-    ];
-    Ok(Site::new(alloc, SiteNo::new(0)?, &items)?)
-}
-
-// There transaction 1 reads x, puts x=6, and is installed under h1.
-fn install(site: &mut Site, draft: &mut Draft) -> Result<(), Fail> {
-    let (number, x, one) = (SiteNo::new(0)?, Item::new(b"x")?, Tx::new(1)?);
-    let seen = site.read(one, x)?;
-    draft.seen(number, x, seen.value, seen.version)?;
-    draft.put(number, x, 6)?;
-    site.pledge(one, draft)?;
-    site.install(one, H1, draft)?;
-    Ok(())
-}
-
-// A draft that saw x = 6 at this version.
-fn saw(alloc: Global, version: u64) -> Result<Draft, Fail> {
+// Site 0 has x=5 and y=2. There transaction 1 reads x, puts x=6, and is installed under h1: what the read, the pledge and the
+// install answered.
+fn install(alloc: Global, site: &mut Site, names: &Names) -> (Result<Seen, SiteFault>, bool) {
+    let read = site.read(names.one, names.x);
     let mut draft = Draft::new(alloc);
-    draft.seen(SiteNo::new(0)?, Item::new(b"x")?, 6, version)?;
-    Ok(draft)
+    let _ = draft.seen(names.site, names.x, 5, 0);
+    let _ = draft.put(names.site, names.x, 6);
+    let pledged = site.pledge(names.one, &draft).is_ok();
+    let installed = site.install(names.one, H1, &draft).is_ok();
+    (read, pledged && installed)
 }
 
-// An edge on x at site 0.
-fn edge(from: Handle, to: Handle, kind: Kind) -> Result<Edge, Fail> {
-    let label = Label {
-        site: SiteNo::new(0)?,
-        item: Item::new(b"x")?,
-        kind,
+#[test]
+fn what_the_site_holds(rt: HostRuntime) -> Result<(), Fail> {
+    let names = Names::at(0)?;
+    let (item, tx) = (names.x, names.one);
+    let mut site = opened(rt.alloc(), &names, 2)?;
+    let first = Seen {
+        value: 5,
+        version: 0,
     };
-    Ok(Edge { from, to, label })
-}
-
-#[test]
-fn the_first_read(rt: HostRuntime) -> Result<(), Fail> {
-    let mut site = opened(rt.alloc())?;
-    assert_eq!(rt;
-        site.read(Tx::new(1)?, Item::new(b"x")?)?,
-        Seen {
-            value: 5,
-            version: 0
-        }
-    );
-    Ok(())
-}
-
-#[test]
-fn lists_of_the_log(rt: HostRuntime) -> Result<(), Fail> {
-    let mut site = opened(rt.alloc())?;
-    install(&mut site, &mut Draft::new(rt.alloc()))?;
-    let (x, one) = (Item::new(b"x")?, Tx::new(1)?);
+    assert_eq!(rt; install(rt.alloc(), &mut site, &names), (Ok(first), true));
     let log = [
-        Entry::Read {
-            tx: one,
-            item: x,
-            value: 5,
-        },
-        Entry::Write {
-            tx: one,
-            item: x,
-            value: 6,
-        },
-        Entry::Commit { tx: one },
+        Entry::Read { tx, item, value: 5 },
+        Entry::Write { tx, item, value: 6 },
+        Entry::Commit { tx },
     ];
-    assert_eq!(rt; site.log(), log.as_slice());
     let writer = Writer {
-        tx: one,
+        tx,
         handle: H1,
         increment: false,
     };
-    assert_eq!(rt; site.writers(x)?, [writer].as_slice());
     let reader = Reader {
-        tx: one,
+        tx,
         handle: H1,
         version: 0,
     };
-    assert_eq!(rt; site.readers(x)?, [reader].as_slice());
+    assert!(rt; site.log() == log.as_slice());
+    assert!(rt; is_written_by(&site, item, &[writer]));
+    assert!(rt; is_read_by(&site, item, &[reader]));
     Ok(())
+}
+
+// What 2, 1, and twice 2 again are answered, who read x, y, x and q.
+fn reads(site: &mut Site, names: &Names, q: Item) -> [Result<Seen, SiteFault>; 4] {
+    let of_two = site.read(names.two, names.x);
+    let of_one = site.read(names.one, names.y);
+    let again = site.read(names.two, names.x);
+    let unknown = site.read(names.two, q);
+    [of_two, of_one, again, unknown]
+}
+
+// Whether the pledge of 2 answers so, where its draft saw x=6 at this version.
+fn pledge_answers(
+    alloc: Global,
+    site: &mut Site,
+    names: &Names,
+    version: u64,
+    answer: Result<(), SiteFault>,
+) -> bool {
+    let mut draft = Draft::new(alloc);
+    draft.seen(names.site, names.x, 6, version).is_ok() && site.pledge(names.two, &draft) == answer
 }
 
 #[test]
 fn reads_and_refusals(rt: HostRuntime) -> Result<(), Fail> {
-    let mut site = opened(rt.alloc())?;
-    install(&mut site, &mut Draft::new(rt.alloc()))?;
-    let (x, one, two) = (Item::new(b"x")?, Tx::new(1)?, Tx::new(2)?);
-    assert_eq!(rt;
-        site.read(two, x)?,
-        Seen {
-            value: 6,
-            version: 1
-        }
-    );
-    assert_eq!(rt; site.read(one, Item::new(b"y")?), Err(SiteFault::Ended));
-    assert_eq!(rt; site.read(two, x), Err(SiteFault::ReadTwice));
-    assert_eq!(rt;
-        site.read(two, Item::new(b"q")?),
-        Err(SiteFault::UnknownItem)
-    );
-    assert_eq!(rt;
-        site.pledge(two, &saw(rt.alloc(), 0)?),
-        Err(SiteFault::DraftDiffers)
-    );
-    site.pledge(two, &saw(rt.alloc(), 1)?)?;
-    assert_eq!(rt;
-        site.read(two, Item::new(b"y")?),
-        Err(SiteFault::PledgeOpen)
-    );
+    let alloc = rt.alloc();
+    let (names, q) = (Names::at(0)?, Item::new(b"q")?);
+    let mut site = opened(alloc, &names, 2)?;
+    let after = Seen {
+        value: 6,
+        version: 1,
+    };
+    let answers = [
+        Ok(after),
+        Err(SiteFault::Ended),
+        Err(SiteFault::ReadTwice),
+        Err(SiteFault::UnknownItem),
+    ];
+    assert!(rt; install(alloc, &mut site, &names).1);
+    assert_eq!(rt; reads(&mut site, &names, q), answers);
+    for (version, answer) in [(0, Err(SiteFault::DraftDiffers)), (1, Ok(()))] {
+        assert!(rt; pledge_answers(alloc, &mut site, &names, version, answer));
+    }
+    assert_eq!(rt; site.read(names.two, names.y), Err(SiteFault::PledgeOpen));
     Ok(())
+}
+
+// An edge on x.
+fn edge(names: &Names, from: Handle, to: Handle, kind: Kind) -> Edge {
+    let label = Label {
+        site: names.site,
+        item: names.x,
+        kind,
+    };
+    Edge { from, to, label }
+}
+
+// The only edge of my draft, which saw x=6 at this version.
+fn edge_of_read(
+    alloc: Global,
+    site: &Site,
+    names: &Names,
+    version: u64,
+) -> Result<Option<Edge>, EdgeFault> {
+    let mut draft = Draft::new(alloc);
+    if draft.seen(names.site, names.x, 6, version).is_err() {
+        return Err(EdgeFault::Memory);
+    }
+    match gather(alloc, site, &draft, ME) {
+        Ok(edges) => Ok(match edges.as_slice() {
+            [edge] => Some(*edge),
+            _ => None,
+        }),
+        Err(fault) => Err(fault),
+    }
 }
 
 #[test]
 fn edges_of_reads(rt: HostRuntime) -> Result<(), Fail> {
     let alloc = rt.alloc();
-    let mut site = opened(alloc)?;
-    install(&mut site, &mut Draft::new(alloc))?;
-    let new = gather(alloc, &site, &saw(alloc, 1)?, ME)?;
-    assert_eq!(rt; new.as_slice(), [edge(H1, ME, Kind::Wr)?].as_slice());
-    let old = gather(alloc, &site, &saw(alloc, 0)?, ME)?;
-    assert_eq!(rt; old.as_slice(), [edge(ME, H1, Kind::Rw)?].as_slice());
-    let invented = gather(alloc, &site, &saw(alloc, 2)?, ME);
-    assert_eq!(rt; invented.err(), Some(EdgeFault::SeenTooNew));
+    let names = Names::at(0)?;
+    let mut site = opened(alloc, &names, 2)?;
+    assert!(rt; install(alloc, &mut site, &names).1);
+    for (version, answer) in [
+        (1, Ok(Some(edge(&names, H1, ME, Kind::Wr)))),
+        (0, Ok(Some(edge(&names, ME, H1, Kind::Rw)))),
+        (2, Err(EdgeFault::SeenTooNew)),
+    ] {
+        assert!(rt;
+            edge_of_read(alloc, &site, &names, version) == answer,
+            "{version}"
+        );
+    }
     Ok(())
+}
+
+// Whether the draft has two edges, both from h1 to me: of a write and a write, and of a read and a write.
+fn follows_a_write(alloc: Global, site: &Site, draft: &Draft, names: &Names) -> bool {
+    let ww = edge(names, H1, ME, Kind::Ww);
+    let rw = edge(names, H1, ME, Kind::Rw);
+    match gather(alloc, site, draft, ME) {
+        Ok(edges) => match edges.as_slice() {
+            [one, other] => *one == ww && *other == rw || *one == rw && *other == ww,
+            _ => false,
+        },
+        Err(_) => false,
+    }
 }
 
 #[test]
 fn edges_of_a_write(rt: HostRuntime) -> Result<(), Fail> {
     let alloc = rt.alloc();
-    let mut site = opened(alloc)?;
-    install(&mut site, &mut Draft::new(alloc))?;
+    let names = Names::at(0)?;
+    let mut site = opened(alloc, &names, 2)?;
     let mut draft = Draft::new(alloc);
-    draft.put(SiteNo::new(0)?, Item::new(b"x")?, 9)?;
-    let edges = gather(alloc, &site, &draft, ME)?;
-    let [first, second] = edges.as_slice() else {
-        return Err(Fail::new("two edges"));
-    };
-    let (ww, rw) = (edge(H1, ME, Kind::Ww)?, edge(H1, ME, Kind::Rw)?);
-    assert!(rt; *first == ww && *second == rw || *first == rw && *second == ww);
+    assert!(rt; install(alloc, &mut site, &names).1);
+    assert!(rt; draft.put(names.site, names.x, 9).is_ok());
+    assert!(rt; follows_a_write(alloc, &site, &draft, &names));
     Ok(())
 }
 
-// A draft of mine adds to x, after 1 wrote x and 2 added to it: of the two it has an edge from the write alone.
+// The draft adds 4 to x, and 2 is installed with it: whether it was.
+fn install_addition(site: &mut Site, draft: &mut Draft, names: &Names) -> bool {
+    draft.add(names.site, names.x, 4).is_ok()
+        && site.pledge(names.two, draft).is_ok()
+        && site.install(names.two, H2, draft).is_ok()
+}
+
+// A draft of mine adds to x, after 1 wrote x and 2 added to it: of the two it has edges from 1 alone.
 #[test]
 fn edges_of_an_increment(rt: HostRuntime) -> Result<(), Fail> {
     let alloc = rt.alloc();
-    let (number, x, two) = (SiteNo::new(0)?, Item::new(b"x")?, Tx::new(2)?);
-    let mut site = opened(alloc)?;
-    install(&mut site, &mut Draft::new(alloc))?;
+    let names = Names::at(0)?;
+    let mut site = opened(alloc, &names, 2)?;
     let mut draft = Draft::new(alloc);
-    draft.add(number, x, 4)?;
-    site.pledge(two, &draft)?;
-    site.install(two, H2, &draft)?;
-    let edges = gather(alloc, &site, &draft, ME)?;
-    let (ww, rw) = (edge(H1, ME, Kind::Ww)?, edge(H1, ME, Kind::Rw)?);
-    assert_eq!(rt; edges.as_slice(), [ww, rw].as_slice());
-    assert_eq!(rt; gather(alloc, &site, &draft, H1)?.as_slice().len(), 0);
+    assert!(rt; install(alloc, &mut site, &names).1);
+    assert!(rt; install_addition(&mut site, &mut draft, &names));
+    assert!(rt; follows_a_write(alloc, &site, &draft, &names));
     Ok(())
 }
