@@ -75,16 +75,13 @@ fn reads(site: &mut Site, names: &Names, q: Item) -> [Result<Seen, SiteFault>; 4
     [of_two, of_one, again, unknown]
 }
 
-// Whether the pledge of 2 answers so, where its draft saw x=6 at this version.
-fn pledge_answers(
-    alloc: Global,
-    site: &mut Site,
-    names: &Names,
-    version: u64,
-    answer: Result<(), SiteFault>,
-) -> bool {
+// What the pledge of 2 is answered, whose draft saw x=6 at this version.
+fn pledge(alloc: Global, site: &mut Site, names: &Names, version: u64) -> Result<(), SiteFault> {
     let mut draft = Draft::new(alloc);
-    draft.seen(names.site, names.x, 6, version).is_ok() && site.pledge(names.two, &draft) == answer
+    match draft.seen(names.site, names.x, 6, version) {
+        Ok(()) => site.pledge(names.two, &draft),
+        Err(_) => Err(SiteFault::Memory),
+    }
 }
 
 #[test]
@@ -104,9 +101,9 @@ fn reads_and_refusals(rt: HostRuntime) -> Result<(), Fail> {
     ];
     assert!(rt; install(alloc, &mut site, &names).1);
     assert_eq!(rt; reads(&mut site, &names, q), answers);
-    for (version, answer) in [(0, Err(SiteFault::DraftDiffers)), (1, Ok(()))] {
-        assert!(rt; pledge_answers(alloc, &mut site, &names, version, answer));
-    }
+    let early = pledge(alloc, &mut site, &names, 0);
+    let pledged = pledge(alloc, &mut site, &names, 1);
+    assert_eq!(rt; (early, pledged), (Err(SiteFault::DraftDiffers), Ok(())));
     assert_eq!(rt; site.read(names.two, names.y), Err(SiteFault::PledgeOpen));
     Ok(())
 }
