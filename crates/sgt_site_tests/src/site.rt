@@ -62,29 +62,6 @@ fn a_committed_transaction(rt: HostRuntime) -> Result<(), Fail> {
 }
 
 #[test]
-fn writers_and_readers(rt: HostRuntime) -> Result<(), Fail> {
-    let names = Names::at(3)?;
-    let tx = names.one;
-    let mut site = opened(rt.alloc(), &names, u64::MAX)?;
-    let draft = drafted(rt.alloc(), &names);
-    assert!(rt; pledge(&mut site, &draft, &names));
-    assert!(rt; site.install(tx, HANDLE, &draft).is_ok());
-    let writer = Writer {
-        tx,
-        handle: HANDLE,
-        increment: true,
-    };
-    let reader = Reader {
-        tx,
-        handle: HANDLE,
-        version: 0,
-    };
-    assert!(rt; is_written_by(&site, names.y, &[writer]));
-    assert!(rt; is_read_by(&site, names.x, &[reader]));
-    Ok(())
-}
-
-#[test]
 fn a_refused_transaction(rt: HostRuntime) -> Result<(), Fail> {
     let names = Names::at(3)?;
     let (x, y, tx) = (names.x, names.y, names.one);
@@ -155,12 +132,23 @@ fn read_by_many(site: &mut Site, y: Item, end: u64) -> bool {
 #[test]
 fn a_thousand_reads_under_a_pledge(rt: HostRuntime) -> Result<(), Fail> {
     let names = Names::at(3)?;
+    let (tx, handle) = (names.one, HANDLE);
     let mut site = opened(rt.alloc(), &names, u64::MAX)?;
     let draft = drafted(rt.alloc(), &names);
-    assert!(rt; pledge(&mut site, &draft, &names));
-    assert!(rt; read_by_many(&mut site, names.y, 1002));
-    assert!(rt; site.install(names.one, HANDLE, &draft).is_ok());
-    assert_eq!(rt; site.log().len(), 1003);
+    assert!(rt; pledge(&mut site, &draft, &names) && read_by_many(&mut site, names.y, 1002));
+    assert!(rt; site.install(tx, handle, &draft).is_ok() && site.log().len() == 1003);
+    let writer = Writer {
+        tx,
+        handle,
+        increment: true,
+    };
+    let reader = Reader {
+        tx,
+        handle,
+        version: 0,
+    };
+    assert!(rt; is_written_by(&site, names.y, &[writer]));
+    assert!(rt; is_read_by(&site, names.x, &[reader]));
     Ok(())
 }
 

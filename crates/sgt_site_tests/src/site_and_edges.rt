@@ -75,16 +75,13 @@ fn reads(site: &mut Site, names: &Names, q: Item) -> [Result<Seen, SiteFault>; 4
     [of_two, of_one, again, unknown]
 }
 
-// Whether the pledge of 2 answers so, where its draft saw x=6 at this version.
-fn pledge_answers(
-    alloc: Global,
-    site: &mut Site,
-    names: &Names,
-    version: u64,
-    answer: Result<(), SiteFault>,
-) -> bool {
+// What the pledge of 2 is answered, whose draft saw x=6 at this version.
+fn pledge(alloc: Global, site: &mut Site, names: &Names, version: u64) -> Result<(), SiteFault> {
     let mut draft = Draft::new(alloc);
-    draft.seen(names.site, names.x, 6, version).is_ok() && site.pledge(names.two, &draft) == answer
+    match draft.seen(names.site, names.x, 6, version) {
+        Ok(()) => site.pledge(names.two, &draft),
+        Err(_) => Err(SiteFault::Memory),
+    }
 }
 
 #[test]
@@ -104,9 +101,9 @@ fn reads_and_refusals(rt: HostRuntime) -> Result<(), Fail> {
     ];
     assert!(rt; install(alloc, &mut site, &names).1);
     assert_eq!(rt; reads(&mut site, &names, q), answers);
-    for (version, answer) in [(0, Err(SiteFault::DraftDiffers)), (1, Ok(()))] {
-        assert!(rt; pledge_answers(alloc, &mut site, &names, version, answer));
-    }
+    let early = pledge(alloc, &mut site, &names, 0);
+    let pledged = pledge(alloc, &mut site, &names, 1);
+    assert_eq!(rt; (early, pledged), (Err(SiteFault::DraftDiffers), Ok(())));
     assert_eq!(rt; site.read(names.two, names.y), Err(SiteFault::PledgeOpen));
     Ok(())
 }
@@ -141,8 +138,27 @@ fn edge_of_read(
     }
 }
 
+// Whether the draft has two edges, both from h1 to me: of a write and a write, and of a read and a write.
+fn follows_a_write(alloc: Global, site: &Site, draft: &Draft, names: &Names) -> bool {
+    let ww = edge(names, H1, ME, Kind::Ww);
+    let rw = edge(names, H1, ME, Kind::Rw);
+    match gather(alloc, site, draft, ME) {
+        Ok(edges) => match edges.as_slice() {
+            [one, other] => *one == ww && *other == rw || *one == rw && *other == ww,
+            _ => false,
+        },
+        Err(_) => false,
+    }
+}
+
+// Whether a draft of mine that puts x=9 has those edges.
+fn write_follows(alloc: Global, site: &Site, names: &Names) -> bool {
+    let mut draft = Draft::new(alloc);
+    draft.put(names.site, names.x, 9).is_ok() && follows_a_write(alloc, site, &draft, names)
+}
+
 #[test]
-fn edges_of_reads(rt: HostRuntime) -> Result<(), Fail> {
+fn edges_of_reads_and_of_a_write(rt: HostRuntime) -> Result<(), Fail> {
     let alloc = rt.alloc();
     let names = Names::at(0)?;
     let mut site = opened(alloc, &names, 2)?;
@@ -157,31 +173,7 @@ fn edges_of_reads(rt: HostRuntime) -> Result<(), Fail> {
             "{version}"
         );
     }
-    Ok(())
-}
-
-// Whether the draft has two edges, both from h1 to me: of a write and a write, and of a read and a write.
-fn follows_a_write(alloc: Global, site: &Site, draft: &Draft, names: &Names) -> bool {
-    let ww = edge(names, H1, ME, Kind::Ww);
-    let rw = edge(names, H1, ME, Kind::Rw);
-    match gather(alloc, site, draft, ME) {
-        Ok(edges) => match edges.as_slice() {
-            [one, other] => *one == ww && *other == rw || *one == rw && *other == ww,
-            _ => false,
-        },
-        Err(_) => false,
-    }
-}
-
-#[test]
-fn edges_of_a_write(rt: HostRuntime) -> Result<(), Fail> {
-    let alloc = rt.alloc();
-    let names = Names::at(0)?;
-    let mut site = opened(alloc, &names, 2)?;
-    let mut draft = Draft::new(alloc);
-    assert!(rt; install(alloc, &mut site, &names).1);
-    assert!(rt; draft.put(names.site, names.x, 9).is_ok());
-    assert!(rt; follows_a_write(alloc, &site, &draft, &names));
+    assert!(rt; write_follows(alloc, &site, &names));
     Ok(())
 }
 
