@@ -1,0 +1,7 @@
+mod Arenas
+mod Laid
+mod Lent
+mod Parts
+mod Places
+mod Row
+mod Threads

@@ -1,38 +1,58 @@
 //! An arena: the values of a window, in the order of placing.
 
+use crate::block::Block;
 use crate::fault::{ArenaFault, Refused};
 use crate::handle::Handle;
-use crate::limits::MAX_PLACES;
+use crate::limits::{BLOCK_PLACES, MAX_PLACES};
 use std::alloc::Global;
 use std::marker::Model;
 
-/// The values of a window, placed one after another, at most `MAX_PLACES`. Closing the window drops them all and begins
-/// the next one.
-#[derive(Drop)]
+/// The values of a window, placed one after another, at most `MAX_PLACES`, in blocks of 64 places each. A block is allocated
+/// when its first place is asked for, and no value moves after it was placed. Closing the window drops them all, frees the
+/// blocks and begins the next window.
 pub struct Arena<T> {
-    values: Vec<T>,
+    blocks: Vec<Block<T>>,
+    len: usize,
     generation: u32,
 }
 
 impl<T> Model for Arena<T> {
-    ghost use Rattle.std.specs.Prelude.{length, ◌-◌, ◌≤◌, vec_capacity};
-    ghost use Rattle.sgt_arena.specs.Arena.{Arena as Window, arena_code, max_places};
+    ghost use Rattle.std.specs.Prelude.{length, ◌-◌, ◌*◌};
+    ghost use Rattle.sgt_arena.specs.Arena.{Arena as Window, arena_code};
+    ghost use Rattle.sgt_arena.specs.Places.{block_places, joined};
 
     ghost Value = { Window T };
 
     ghost coded = { arena_code T.code };
 
+    ghost use Rattle.sgt_arena.specs.Inside.{IsArena};
+
     ghost view = { λ a. record {
       generation = a.generation;
-      items = a.values.items;
-      room = vec_capacity a.values - length a.values.items;
+      items = joined a.blocks.items;
+      room = block_places * length a.blocks.items - length (joined a.blocks.items);
     } };
 
-    ghost invariant = { λ a. length a.values.items ≤ max_places };
+    ghost invariant = { IsArena };
+}
+
+// Drops the values in the order of placing, and then frees each block.
+impl<T: Drop> Drop for Arena<T> {
+    fn drop(self) {
+        let Arena {
+            mut blocks,
+            len: _,
+            generation: _,
+        } = self;
+        drop_values(&mut blocks);
+        free_blocks(&mut blocks);
+        blocks.destroy_empty();
+    }
 }
 
 impl<T> Arena<T> {
-    ghost use Rattle.std.specs.Prelude.{◌≡◌, ◌==◌, ◌+◌, ◌<◌, ◌≤◌, ◌↔◌, [], ◌∷◌, ◌++◌, length, IsErr, IsSome, IfOk, IfErr, OnOk, OnErr, Some, Err, option_copied};
+    ghost use Rattle.std.specs.Prelude.{◌≡◌, ◌==◌, ◌+◌, ◌<◌, ◌≤◌, ◌↔◌, [], ◌∷◌, ◌++◌, length, option_copied};
+    ghost use Rattle.std.specs.Prelude.{IsErr, IsSome, IfOk, IfErr, OnOk, OnErr, Some, Err};
     ghost use Rattle.std.specs.Option.{option_copied_mut};
     ghost use Rattle.std.specs.Borrow.{sem};
     ghost use Rattle.sgt_arena.specs.Arena.{get, SameValues, Lacks, max_places, last_generation};
@@ -42,6 +62,7 @@ impl<T> Arena<T> {
     pub fn new(alloc: Global) -> Self
         ensures empty { result.items ≡ [] }
         ensures first { result.generation ≡ 0 }
+        ensures room { result.room ≡ 0 }
     {
         Arena::new_at(alloc, 0)
     }
@@ -50,9 +71,11 @@ impl<T> Arena<T> {
     pub fn new_at(alloc: Global, generation: u32) -> Self
         ensures empty { result.items ≡ [] }
         ensures window { result.generation ≡ generation }
+        ensures room { result.room ≡ 0 }
     {
         Arena {
-            values: Vec::new(alloc),
+            blocks: Vec::new(alloc),
+            len: 0,
             generation,
         }
     }
@@ -62,14 +85,14 @@ impl<T> Arena<T> {
         ensures is { result ≡ length self.now.items }
         ensures in_range { result ≤ max_places }
     {
-        self.values.len()
+        self.len
     }
 
     /// Whether it holds none.
     pub fn is_empty(&self) -> bool
         ensures { result ≡ (length self.now.items == 0) }
     {
-        self.values.is_empty()
+        self.len == 0
     }
 
     /// The number of the present window.
@@ -89,18 +112,26 @@ impl<T> Arena<T> {
         ensures err { OnErr result (self.new ≡ self.old) }
         ensures fault { IfErr result (Lacks self.old more) }
     {
-        if more > MAX_PLACES - self.values.len() {
+        if more > MAX_PLACES - self.len {
             return Err(ArenaFault::Full);
         }
-        if self.values.reserve(more).is_err() {
+        let blocks = self.blocks.len();
+        let wanted = (self.len + more).div_ceil(BLOCK_PLACES);
+        if wanted <= blocks {
+            return Ok(());
+        }
+        if self.blocks.reserve(wanted - blocks).is_err() {
+            return Err(ArenaFault::Memory);
+        }
+        if !add_blocks(&mut self.blocks, wanted - blocks) {
             return Err(ArenaFault::Memory);
         }
         Ok(())
     }
 
     /// Places a value behind the others and gives its handle. It errs with G1 where the window is full, else with G2 where
-    /// no room is left and memory is refused; the Err hands the value back, and the arena is as it was. In the long run a
-    /// call takes constant time; one that has to grow moves all values.
+    /// no room is left and memory is refused; the Err hands the value back, and the arena is as it was. A call takes
+    /// constant time but where it allocates a block.
     pub fn place(&mut self, value: T) -> Result<Handle, Refused<T>>
         ensures ok { OnOk result (self.new.items ≡ self.old.items ++ value ∷ []) }
         ensures handle { IfOk result (λ h. (h.index ≡ length self.old.items) × (h.generation ≡ self.old.generation)) }
@@ -114,10 +145,12 @@ impl<T> Arena<T> {
         if let Err(fault) = self.reserve(1) {
             return Err(Refused { value, fault });
         }
-        let index = self.values.len() as u32;
-        self.values.push_reserved(value);
+        let index = self.len;
+        let block = &mut self.blocks[index / BLOCK_PLACES];
+        block.push(value);
+        self.len = index + 1;
         Ok(Handle {
-            index,
+            index: index as u32,
             generation: self.generation,
         })
     }
@@ -129,7 +162,9 @@ impl<T> Arena<T> {
         if handle.generation != self.generation {
             return None;
         }
-        self.values.get(handle.index as usize)
+        let index = handle.index as usize;
+        let block = self.blocks.get(index / BLOCK_PLACES)?;
+        block.get(index % BLOCK_PLACES)
     }
 
     /// The value under a handle, where there is one in the present window, for writing; no other value changes. Constant
@@ -151,16 +186,19 @@ impl<T> Arena<T> {
         ensures* writes_back { sem 𝓛 (lends_value T.row self.entry handle result) }
         ensures value { get self.old handle ≡ Some result.now }
     {
-        &mut self.values[handle.index as usize]
+        let index = handle.index as usize;
+        let block = &mut self.blocks[index / BLOCK_PLACES];
+        block.get_mut(index % BLOCK_PLACES)
     }
 
-    /// Drops all values, gives their memory back and begins the next window, in which no handle that was given before shows
-    /// anything. It errs with G3 in the window of the greatest number, 4,294,967,295, and the arena is then as it was. That
-    /// each value is dropped once, and in the order of placing, is tested and no clause.
+    /// Drops all values in the order of placing, frees the blocks and begins the next window, in which no handle that was
+    /// given before shows anything. It errs with G3 in the window of the greatest number, 4,294,967,295, and the arena is
+    /// then as it was.
     pub fn close(&mut self) -> Result<(), ArenaFault>
     where
         T: Drop,
         ensures ok { OnOk result ((self.new.items ≡ []) × (self.new.generation ≡ self.old.generation + 1)) }
+        ensures room { OnOk result (self.new.room ≡ 0) }
         ensures last { IsErr result ↔ (self.old.generation ≡ last_generation) }
         ensures err { OnErr result (self.new ≡ self.old) }
         ensures fault { IfErr result (λ fault. fault ≡ ArenaFault.GenerationsSpent) }
@@ -168,8 +206,58 @@ impl<T> Arena<T> {
         if self.generation == u32::MAX {
             return Err(ArenaFault::GenerationsSpent);
         }
-        self.values = Vec::new(*self.values.allocator());
+        drop_values(&mut self.blocks);
+        free_blocks(&mut self.blocks);
+        self.len = 0;
         self.generation += 1;
         Ok(())
     }
+}
+
+ghost use Rattle.std.specs.Prelude.{◌≡◌, ◌+◌, ◌≤◌, [], ◌++◌, length, replicate, if◌then◌else◌, vec_len, vec_capacity};
+ghost use Rattle.sgt_arena.specs.Places.{AllEmpty};
+
+// Allocates so many blocks, or none where memory is refused.
+fn add_blocks<T>(blocks: &mut Vec<Block<T>>, more: usize) -> bool
+    requires { vec_len blocks.old + more ≤ vec_capacity blocks.old }
+    ensures { blocks.new.items ≡ (if result then blocks.old.items ++ replicate more [] else blocks.old.items) }
+{
+    if more == 0 {
+        return true;
+    }
+    match Block::new(*blocks.allocator()) {
+        Ok(block) => {
+            blocks.push_reserved(block);
+            if add_blocks(blocks, more - 1) {
+                return true;
+            }
+            blocks.take_last().free();
+            false
+        }
+        Err(_) => false,
+    }
+}
+
+// Drops the values of all blocks, in their order.
+fn drop_values<T: Drop>(blocks: &mut Vec<Block<T>>)
+    ensures { AllEmpty blocks.new.items }
+{
+    let mut at = 0;
+    while at < blocks.len() {
+        let block = &mut blocks[at];
+        block.clear();
+        at += 1;
+    }
+}
+
+// Frees all blocks, which hold no values.
+fn free_blocks<T>(blocks: &mut Vec<Block<T>>)
+    requires { AllEmpty blocks.old.items }
+    ensures items { blocks.new.items ≡ [] }
+    ensures len { vec_len blocks.new ≡ 0 }
+{
+    while !blocks.is_empty() {
+        blocks.take_last().free();
+    }
+    blocks.shrink_to_fit();
 }

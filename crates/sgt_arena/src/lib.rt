@@ -5,11 +5,17 @@
 #![tactic(auto)]
 
 mod arena;
+mod block;
+mod cells;
 mod fault;
 mod handle;
 mod limits;
 
 pub use arena::Arena;
+#[doc(hidden)]
+pub use block::Block;
+#[doc(hidden)]
+pub use cells::{Base, Cells, Deed};
 pub use fault::{ArenaFault, Refused};
 pub use handle::Handle;
 pub use limits::MAX_PLACES;

@@ -8,7 +8,7 @@ use Rattle.sgt_notation.specs.declared.SectionLine.TheVariants.{Site, Initial, L
 use Rattle.sgt_cert.specs.Text.{Begins, AreSections}
 use Rattle.sgt_cert.specs.declared.bundle.SiteLog.{SiteLog}
 use Rattle.sgt_audit.specs.Reading.{Begun, lines_read, IsBegun}
-use Rattle.sgt_audit.specs.private.Following.{MayFollow, FitsBetween, Fits, with_line, no_log, next_current, next_whole}
+use Rattle.sgt_audit.specs.private.Following.{MayFollow, FitsBetween, Fits, with_line, with_next, no_log, next_current, next_whole}
 use Rattle.sgt_audit.proofs.MayFollow.{follow-decides, added-begun, added-lines, whole-sections, are-sections}
 
 -- a line that isn't the end stays in the open section
@@ -54,6 +54,13 @@ module _ (sites : ℕ) (whole : List SiteLog) (current : Option SiteLog) (value 
     opened-lines here log new =
         behind (begun sites whole (Some log)) (ap (λ l. lines_read (begun sites whole (Some l))) new ∙ added-lines (begun sites whole current) is line here-begins None here)
 
+    -- the value behind the line
+    next-is : (o : Option SiteLog) → current ≡ o → (b : Begun) → b ≡ with_next (begun sites whole current) o line → b ≡ with_next value value.current line
+    next-is o here b e = e ∙ ap (λ p. with_next (begun sites whole current) p line) (sym here) ∙ ap (λ (b : Begun). with_next b b.current line) view
+
+    pub opened-next : current ≡ None → (log : SiteLog) → log ≡ no_log → begun sites whole (Some log) ≡ with_next value value.current line
+    opened-next here log new = next-is None here (begun sites whole (Some log)) (ap (λ l. begun sites whole (Some l)) new)
+
     module _ (log : SiteLog) (here : current ≡ Some log) where
       added : IsBegun (begun sites (next_whole whole log line) (next_current log line))
       added = added-begun (begun sites whole current) is line here-begins (Some log) here
@@ -71,6 +78,9 @@ module _ (sites : ℕ) (whole : List SiteLog) (current : Option SiteLog) (value 
         pub ended-lines : lines_read (begun sites items after) ≡ lines_read value ++ line ∷ []
         ended-lines = ap lines_read closed ∙ lines
 
+        pub ended-next : begun sites items after ≡ with_next value value.current line
+        ended-next = next-is (Some log) here (begun sites items after) closed
+
       module _ (goes : line ≡ End → ⊥) where
         longer : begun sites whole (Some (with_line log line)) ≡ begun sites (next_whole whole log line) (next_current log line)
         longer = ap₂ (λ ls o. begun sites ls o) (sym (same_whole whole log line goes)) (sym (inside log line goes))
@@ -85,6 +95,10 @@ module _ (sites : ℕ) (whole : List SiteLog) (current : Option SiteLog) (value 
         pub longer-lines : {A E : Type 0} (r : Result A E) (new : SiteLog) → OnOk r (new ≡ with_line log line) → OnOk r (lines_read (begun sites whole (Some new)) ≡ lines_read value ++ line ∷ [])
         longer-lines (Ok a) new ok = ap (λ l. lines_read (begun sites whole (Some l))) ok ∙ ap lines_read longer ∙ lines
         longer-lines (Err e) new ok = tt
+
+        pub longer-next : {A E : Type 0} (r : Result A E) (new : SiteLog) → OnOk r (new ≡ with_line log line) → OnOk r (begun sites whole (Some new) ≡ with_next value value.current line)
+        longer-next (Ok a) new ok = next-is (Some log) here (begun sites whole (Some new)) (ap (λ l. begun sites whole (Some l)) ok ∙ longer)
+        longer-next (Err e) new ok = tt
 
 pub not-between : (b : Begun) (line : SectionLine) → ((k : ℕ) → line ≡ Site k → ⊥) → IsTrue false ↔ FitsBetween b line
 not-between b (Site k) h = absurd (h k refl)

@@ -13,7 +13,7 @@ use Rattle.sgt_audit.specs.Faults.{Stage, headed, whole, last, lines_so_far, Rul
 use Rattle.sgt_audit.specs.Progress.{Stands}
 use Rattle.sgt_audit.specs.private.NextLine.{Follows}
 use Rattle.sgt_audit.specs.Verdict.{IsVerdict, yes_of}
-use Rattle.sgt_audit.specs.Fed.{HasRead, bundle_lines}
+use Rattle.sgt_audit.specs.Fed.{HasRead, HaveNoFault, bundle_lines}
 use Rattle.sgt_audit.specs.private.Ending.{EndsWith}
 use Rattle.sgt_audit.proofs.ReaderAtStage.{faultless, one-line}
 use Rattle.sgt_audit.proofs.Verdicts.{kept-verdict}
@@ -71,3 +71,11 @@ first-read second m l c same (t, stands, lines) = (t, stands, lines ∙ ap (λ x
 pub first-fault : (second : Bool) (m : Machine) (l : List ℕ) (c : Certificate) (f : Fault) → m.progress ≡ at.Headed second → HasNoLf (certificate_text c) → l ≡ certificate_text c → ((s : Stage) → Stands m.progress s → Breaks (Rule s (whole l)) f) → HasRead (Found 2 f) (bundle_lines second c [])
 first-fault second m l c f here none same breaks =
     fault-read m 2 (format_line second ∷ []) (certificate_text c) f none (headed second, subst (λ p. Stands p (headed second)) (sym here) refl, refl, λ _. refl) (λ s stands. subst (λ l. Breaks (Rule s (whole l)) f) same (breaks s stands))
+
+-- ---- the fault that is known
+
+pub known-first : (line : ℕ) (f : Fault) (lines : List (List ℕ)) → HasRead (Found line f) lines → length lines + 1 < 2 ^ 64 → (rest : List ℕ) → FirstFault (text_of_lines lines ++ rest) line f
+known-first line f lines (m, first, few, numbered) long rest = subst (λ n. FirstFault (text_of_lines lines ++ rest) n f) (sym (numbered (omega (arith, few, long)))) (first rest)
+
+pub known-none : (m : Machine) (n : ℕ) (lines : List (List ℕ)) → HasRead (Going m n) lines → HaveNoFault lines
+known-none m n lines (s, stands, same, numbered) = (s, faultless m.progress s stands, same)

@@ -1,5 +1,5 @@
 -- The parts of a bundle that is spelled fit together.
-use Rattle.std.proofs.Common.{ℕ, ◌<◌, List, All}
+use Rattle.std.proofs.Common.{ℕ, ◌<◌, List}
 use Rattle.sgt_names.proofs.Lists.{All-weaken}
 use Rattle.sgt_cert.specs.Parts.{FitTogether, HasStepsWithin, IsShaped}
 use Rattle.sgt_cert.specs.Text.{IsCertificate, IsDecision, IsStep}

@@ -11,7 +11,7 @@ use Rattle.sgt_names.proofs.Places.{All_at, All-from_at}
 use Rattle.sgt_names.proofs.Lists.{AllByRecursion-append, Any_at, Any-from_at}
 use Rattle.sgt_notation.specs.Spelling.{IsLine}
 use Rattle.sgt_notation.specs.declared.SectionLine.{SectionLine}
-use Rattle.sgt_notation.specs.declared.SectionLine.TheVariants.{Site, Initial, Logged, Final, End}
+use Rattle.sgt_notation.specs.declared.SectionLine.TheVariants.{Initial, Logged, Final, End}
 use Rattle.sgt_cert.specs.Text.{format_line, has_increments, section_lines, sections_from}
 use Rattle.sgt_cert.specs.declared.bundle.SiteLog.{SiteLog}
 use Rattle.sgt_audit.specs.Faults.{Allows, IsLineIn}

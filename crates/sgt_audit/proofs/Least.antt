@@ -116,6 +116,9 @@ module _ (c : Certificate) (ds : List Decision) (before : List SectionLine) (e :
   upto-8 : KeptBelow rule 8
   upto-8 = kept-next rule 7 fault.Section refl (logged-7 c before e) begins
 
+  pub item-broken : (ForSome (item_of e) (Contains (names items)) → ⊥) → Breaks rule fault.Item
+  item-broken miss = least-at rule 8 fault.Item refl upto-8 (λ r. miss (subst (λ items. ForSome (item_of e) (Contains (names items))) at_items r))
+
   abbrev FirstIn : List Entry → Type 0
   FirstIn entries = All (λ f. (x : Name) → Repeats x f e → ⊥) entries
 

@@ -9,7 +9,6 @@ use Rattle.sgt_notation.specs.Spelling.{text_of_lines, HasNoLf}
 use Rattle.sgt_notation.specs.Lines.{Gives, Spends}
 use Rattle.sgt_notation.specs.declared.lines.Next.TheVariants.{Line, Cut, TooLong, End}
 use Rattle.sgt_notation.specs.declared.SectionLine.{SectionLine}
-use Rattle.sgt_cert.specs.Text.{AreSections}
 use Rattle.sgt_audit.specs.declared.faults.Fault.{Fault}
 use Rattle.sgt_audit.specs.declared.kept.Kept.{Kept}
 use Rattle.sgt_audit.specs.declared.machine.Progress.{Progress}
@@ -17,7 +16,7 @@ use Rattle.sgt_audit.specs.declared.machine.Progress.TheVariants as at
 use Rattle.sgt_audit.specs.declared.reading.Stop.TheVariants as stop
 use Rattle.sgt_audit.specs.declared.reading.Judged.{Judged}
 use Rattle.sgt_audit.specs.declared.reading.Judged.TheVariants as judged
-use Rattle.sgt_audit.specs.Faults.{Stage, complete, lines_so_far, IsFaultless, Piece, whole, last, ComesNext, Rule, Breaks, FirstFault}
+use Rattle.sgt_audit.specs.Faults.{Stage, lines_so_far, IsFaultless, Piece, whole, last, ComesNext, Rule, Breaks, FirstFault}
 use Rattle.sgt_audit.specs.Kept.{Means, IsStageOf}
 use Rattle.sgt_audit.specs.Progress.{Stands}
 use Rattle.sgt_audit.specs.private.NextLine.{Follows, bytes_of}
@@ -42,7 +41,7 @@ stage-faultless k before s m (inr done) = subst IsFaultless (sym done.0) (m.kept
 pub faultless : (p : Progress) (s : Stage) → Stands p s → IsFaultless s
 faultless at.Start s stands = subst IsFaultless (sym stands) tt
 faultless (at.Headed second) s stands = subst IsFaultless (sym stands) tt
-faultless (at.Reading k) s (before, m, stage) = stage-faultless k before s m stage
+faultless (at.Reading k) s (before, m, stage) = stage-faultless k before s m.means stage
 
 text-append : (xs ys : List (List ℕ)) → text_of_lines (xs ++ ys) ≡ text_of_lines xs ++ text_of_lines ys
 text-append [] ys = refl

@@ -1,12 +1,13 @@
 -- What an auditor was fed.
-use Rattle.std.specs.Prelude.{◌≡◌, ℕ, ◌+◌, ◌<◌, ◌≤◌, ◌^◌, Bool, List, ◌∷◌, ◌++◌, length}
+use Rattle.std.specs.Prelude.{◌≡◌, ℕ, ◌+◌, ◌<◌, ◌≤◌, ◌^◌, Bool, List, ◌∷◌, ◌++◌, length, Option, Some, None}
 use Rattle.sgt_notation.specs.Spelling.{text_of_lines}
 use Rattle.sgt_cert.specs.Text.{certificate_text, format_line}
 use Rattle.sgt_cert.specs.declared.certificate.Certificate.{Certificate}
+use Rattle.sgt_audit.specs.declared.faults.Fault.{Fault}
 use Rattle.sgt_audit.specs.declared.auditor.Auditor.{Auditor}
 use Rattle.sgt_audit.specs.declared.auditor.Standing.{Standing}
 use Rattle.sgt_audit.specs.declared.auditor.Standing.TheVariants.{Going, Found, Spent}
-use Rattle.sgt_audit.specs.Faults.{Stage, FirstFault, lines_so_far}
+use Rattle.sgt_audit.specs.Faults.{Stage, FirstFault, IsFaultless, lines_so_far}
 use Rattle.sgt_audit.specs.Progress.{Stands}
 
 -- the number is m, as far as it can tell
@@ -35,3 +36,15 @@ IsSpent _ = ⊥
 
 abbrev pub HasFailed : Auditor → Type 0
 HasFailed auditor = IsSpent auditor.standing
+
+-- the first fault that is known, with its line
+abbrev pub fault_in : Standing → Option (ℕ × Fault)
+fault_in (Found line f) = Some (line, f)
+fault_in _ = None
+
+abbrev pub known_fault : Auditor → Option (ℕ × Fault)
+known_fault auditor = fault_in auditor.standing
+
+-- none of these lines has a fault
+abbrev pub HaveNoFault : List (List ℕ) → Type 0
+HaveNoFault lines = (s : Stage) × IsFaultless s × (lines_so_far s ≡ lines)

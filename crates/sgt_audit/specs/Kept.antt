@@ -1,12 +1,14 @@
 -- What is kept of a text: the lines read so far, which have no fault.
 -- (Of public clauses those alone use these words that say what an auditor was fed.)
-use Rattle.std.specs.Prelude.{◌≡◌, ◌⊎◌, ℕ, Bool, List, [], ◌∷◌, ◌++◌, Option, Some, None}
-use Rattle.sgt_notation.specs.Spelling.{line_text}
+use Rattle.std.specs.Prelude.{◌≡◌, ◌⊎◌, ℕ, ◌+◌, Bool, List, length, Option, Some, None}
 use Rattle.sgt_notation.specs.declared.SectionLine.{SectionLine}
 use Rattle.sgt_cert.specs.Text.{AreSections}
 use Rattle.sgt_cert.specs.declared.certificate.Certificate.{Certificate}
-use Rattle.sgt_audit.specs.declared.faults.Fault.{Fault}
-use Rattle.sgt_audit.specs.Faults.{AllKept, Stage, within, complete, whole, Rule, Breaks}
+use Rattle.sgt_cert.specs.declared.bundle.SiteLog.{SiteLog}
+use Rattle.sgt_cert.specs.declared.certificate.Decision.{Decision}
+use Rattle.sgt_cells.specs.Tracks.{TracksOpen, IsReadyFor}
+use Rattle.sgt_cells.specs.declared.state.SiteState.{SiteState}
+use Rattle.sgt_audit.specs.Faults.{AllKept, Stage, within, complete}
 use Rattle.sgt_audit.specs.Reading.{Begun, IsBegun, lines_read}
 
 -- the certificate and the sections are what these lines say, none of which has a fault
@@ -20,3 +22,16 @@ pub record Means (second : Bool) (c : Certificate) (b : Begun) (before : List Se
 abbrev pub IsStageOf : Bool → Certificate → List SectionLine → Stage → Type 0
 IsStageOf second c before s = ((s ≡ within second c before) × (AreSections c.sites before → ⊥))
     ⊎ ((s ≡ complete second c before) × AreSections c.sites before)
+
+-- what is kept of the sites: nothing of a section that is still to come, or what the open log means
+abbrev pub TracksCurrent : List Decision → (whole : ℕ) → Option SiteLog → SiteState → Type 0
+TracksCurrent decisions whole None s = IsReadyFor decisions (whole + 1) s
+TracksCurrent decisions whole (Some log) s = (s.section ≡ whole + 1) × TracksOpen decisions log.items log.entries s
+
+abbrev pub Tracks : List Decision → Begun → SiteState → Type 0
+Tracks decisions b s = TracksCurrent decisions (length b.whole) b.current s
+
+-- all that is kept is what these lines say, none of which has a fault
+pub record Holds (second : Bool) (c : Certificate) (b : Begun) (s : SiteState) (before : List SectionLine) : Type 0 where
+  pub means : Means second c b before
+  pub tracks : Tracks c.decisions b s

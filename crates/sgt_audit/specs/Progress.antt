@@ -1,18 +1,15 @@
 -- How far the auditor has come in a text.
 -- (Of public clauses those alone use these words that say what an auditor was fed.)
-use Rattle.std.specs.Prelude.{◌≡◌, ℕ, Bool, List, [], ◌∷◌, ◌++◌, Option, Some, None, Result, Ok, Err}
+use Rattle.std.specs.Prelude.{◌≡◌, List}
 use Rattle.sgt_notation.specs.declared.SectionLine.{SectionLine}
-use Rattle.sgt_cert.specs.Text.{certificate_text}
-use Rattle.sgt_audit.specs.declared.faults.Fault.{Fault}
-use Rattle.sgt_audit.specs.declared.kept.Kept.{Kept}
 use Rattle.sgt_audit.specs.declared.machine.Progress.{Progress}
 use Rattle.sgt_audit.specs.declared.machine.Progress.TheVariants as at
-use Rattle.sgt_audit.specs.Faults.{Stage, start, headed, lines_so_far, Piece, whole, last, Rule, Breaks}
-use Rattle.sgt_audit.specs.Kept.{Means, IsStageOf}
+use Rattle.sgt_audit.specs.Faults.{Stage, start, headed}
+use Rattle.sgt_audit.specs.Kept.{Holds, IsStageOf}
 
 -- what is kept means this stage
 abbrev pub Stands : Progress → Stage → Type 0
 Stands at.Start s = s ≡ start
 Stands (at.Headed second) s = s ≡ headed second
-Stands (at.Reading k) s = (before : List SectionLine) × Means k.second k.certificate k.sections before
+Stands (at.Reading k) s = (before : List SectionLine) × Holds k.second k.certificate k.sections k.state before
     × IsStageOf k.second k.certificate before s

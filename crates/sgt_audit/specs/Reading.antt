@@ -4,7 +4,7 @@ use Rattle.std.specs.Prelude.{◌≡◌, ℕ, ◌<◌, ◌≤◌, List, [], ◌�
 use Rattle.sgt_names.specs.Limits.{max_items, max_sites}
 use Rattle.sgt_names.specs.Log.{names}
 use Rattle.sgt_notation.specs.declared.SectionLine.{SectionLine}
-use Rattle.sgt_notation.specs.declared.SectionLine.TheVariants.{Site, Initial, Logged, Final, End}
+use Rattle.sgt_notation.specs.declared.SectionLine.TheVariants.{Site, Initial, Logged, Final}
 use Rattle.sgt_cert.specs.Parts.{ComesBefore, IsShapedLog}
 use Rattle.sgt_cert.specs.Text.{sections_from}
 use Rattle.sgt_cert.specs.declared.bundle.SiteLog.{SiteLog}

@@ -26,13 +26,15 @@ IsVerdict bytes (No line f) = FirstFault bytes line f
 -- its line, with the LF
 abbrev pub text_of : Verdict → List ℕ
 text_of (Yes committed refused withdrawn) =
-    codes "yes " ++ (decimal committed ++ (codes " committed " ++ (decimal refused ++ (codes " refused " ++ (decimal withdrawn ++ codes " withdrawn\n")))))
+    codes "yes " ++ (decimal committed ++ (codes " committed "
+    ++ (decimal refused ++ (codes " refused " ++ (decimal withdrawn ++ codes " withdrawn\n")))))
 text_of (No line f) = codes "no line " ++ (decimal line ++ (codes " F" ++ (decimal (fault_number f) ++ codes "\n")))
 
 -- nothing was written, or a front of the line of the verdict on the bytes told, and less than the whole line
 abbrev pub WroteFront : (told old new : Option (List ℕ)) → Type 0
 WroteFront told old new = AppendsOrForgets old new []
-    ⊎ ((v : Verdict) × (n : ℕ) × (n < length (text_of v)) × IfSome told (λ bytes. IsVerdict bytes v) × AppendsOrForgets old new (take n (text_of v)))
+    ⊎ ((v : Verdict) × (n : ℕ) × (n < length (text_of v))
+        × IfSome told (λ bytes. IsVerdict bytes v) × AppendsOrForgets old new (take n (text_of v)))
 
 -- what a text was found to spell: a valid bundle, or its first fault
 abbrev pub IsAudited : List ℕ → Audited → Type 0

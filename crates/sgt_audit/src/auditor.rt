@@ -4,6 +4,7 @@ ghost use Rattle.std.specs.Prelude.{◌≡◌, ℕ, ◌+◌, ◌<◌, ◌^◌, L
 ghost use Rattle.sgt_notation.specs.Spelling.{HasNoLf, text_of_lines};
 ghost use Rattle.sgt_cert.specs.declared.certificate.Certificate.{Certificate};
 ghost use Rattle.sgt_audit.specs.Verdict.{IsVerdict};
+ghost use Rattle.sgt_audit.specs.declared.faults.Fault.{Fault};
 
 use crate::faults::Fault;
 use crate::machine::{Machine, Progress};
@@ -31,7 +32,9 @@ pub struct Auditor {
 }
 
 impl Auditor {
-    ghost use Rattle.sgt_audit.specs.Fed.{HasFed, HasFailed, bundle_lines};
+    ghost use Rattle.std.specs.Prelude.{Some, IfSome, IfNone};
+    ghost use Rattle.sgt_audit.specs.Faults.{FirstFault};
+    ghost use Rattle.sgt_audit.specs.Fed.{HasFed, HasFailed, HaveNoFault, bundle_lines, known_fault};
 
     /// An auditor of a bundle in the first format, `sgt 1`, with this certificate, which it judges. A fault of the
     /// certificate is no Err: `end` answers it. An Err is Memory.
@@ -85,6 +88,8 @@ impl Auditor {
         ensures going { OnOk result (HasFailed self.new → ⊥) }
         ensures err { IfErr result (λ e. (e ≡ EngineFail.Memory) × HasFailed self.new) }
         ensures spent { HasFailed self.old → result ≡ Err EngineFail.Memory }
+        ensures stays { (found : ℕ × Fault) → known_fault self.old ≡ Some found → known_fault self.new ≡ Some found }
+        ensures same { OnErr result (known_fault self.new ≡ known_fault self.old) }
     {
         match &mut self.standing {
             Standing::Going(machine, number) => match machine.line(line) {
@@ -106,6 +111,22 @@ impl Auditor {
         }
     }
 
+    /// The first fault of the certificate's line and the lines fed, with its line, whatever follows: it doesn't change. That more
+    /// lines are wanted is no fault. After Memory it answers as before.
+    pub fn fault(&self) -> Option<(u64, Fault)>
+        ensures known { result ≡ known_fault self.now }
+        ensures first { (second : Bool) (c : Certificate) (fed : List (List ℕ)) → HasFed self.now second c fed → length fed + 3 < 2 ^ 64
+            → IfSome result (λ found. (rest : List ℕ) → FirstFault (text_of_lines (bundle_lines second c fed) ++ rest) found.0 found.1) }
+        ensures none { (second : Bool) (c : Certificate) (fed : List (List ℕ)) → HasFed self.now second c fed → (HasFailed self.now → ⊥)
+            → IfNone result (HaveNoFault (bundle_lines second c fed)) }
+    {
+        match &self.standing {
+            Standing::Found(line, fault) => Some((*line, *fault)),
+            Standing::Going(_, _) => None,
+            Standing::Spent => None,
+        }
+    }
+
     /// The verdict on the lines fed, which are all. An Err is Memory, and comes only where `feed` answered it.
     pub fn end(self) -> Result<Verdict, EngineFail>
         ensures verdict { (second : Bool) (c : Certificate) (fed : List (List ℕ)) → HasFed self second c fed → length fed + 3 < 2 ^ 64
@@ -116,7 +137,7 @@ impl Auditor {
         let Auditor { standing } = self;
         match standing {
             Standing::Going(machine, line) => match machine.end(&[]) {
-                Ok(kept) => Ok(yes_to(kept.certificate.decisions.as_slice())),
+                Ok(kept) => Ok(yes_to(kept.certificate.decisions())),
                 Err(fault) => Ok(Verdict::No { line, fault }),
             },
             Standing::Found(line, fault) => Ok(Verdict::No { line, fault }),

@@ -38,7 +38,8 @@ pub fn audit_bundle<R: Source>(alloc: Global, reader: &mut R) -> Result<Audited,
     match judge(alloc, reader) {
         Ok(Judged::Whole(kept)) => {
             let logs = kept.sections.into_logs();
-            match Bundle::new(kept.certificate, logs) {
+            let certificate = kept.certificate.into_certificate();
+            match Bundle::new(certificate, logs) {
                 Some(bundle) => Ok(Audited::Valid(bundle)),
                 None => unreachable!(),
             }
@@ -53,7 +54,7 @@ fn verdict_on(judged: Judged) -> Verdict
     ensures { (bytes : List ℕ) → IsJudged judged bytes → IsVerdict bytes result }
 {
     match judged {
-        Judged::Whole(kept) => yes_to(kept.certificate.decisions.as_slice()),
+        Judged::Whole(kept) => yes_to(kept.certificate.decisions()),
         Judged::Faulty { line, fault } => Verdict::No { line, fault },
     }
 }

@@ -1,8 +1,7 @@
 //! What entries do, and how one bears on another.
 
-ghost use Rattle.std.specs.Prelude.{◌≡◌, ◌↔◌, IsTrue, Any};
-ghost use Rattle.sgt_names.specs.Entry.{tx_of, GoesOn, GoesOnAsking, IsEnd, IsOpen, Continues, Clash};
-ghost use Rattle.sgt_names.specs.Log.{AllEnded};
+ghost use Rattle.std.specs.Prelude.{◌≡◌, ◌↔◌, IsTrue};
+ghost use Rattle.sgt_names.specs.Entry.{GoesOn, GoesOnAsking, IsOpen, Continues, Clash};
 
 use sgt_names::{Entry, Item, Kind, Tx};
 
@@ -62,20 +61,4 @@ pub(crate) fn clashes(kind: Kind, item: &Item, first: &Entry, second: &Entry) ->
                 && !(first.is_increment() && second.is_increment())
         }
     }
-}
-
-/// Whether the transaction has an end among these.
-pub(crate) fn has_ended(entries: &[Entry], tx: Tx) -> bool
-    ensures { IsTrue result ↔ Any (λ f. IsEnd f × (tx_of f ≡ tx)) entries.now }
-{
-    entries
-        .iter()
-        .any(|entry| entry.is_end() && entry.tx() == tx)
-}
-
-/// Whether each transaction with an entry has an end.
-pub(crate) fn all_ended(entries: &[Entry]) -> bool
-    ensures { IsTrue result ↔ AllEnded entries.now }
-{
-    entries.iter().all(|entry| has_ended(entries, entry.tx()))
 }

@@ -8,8 +8,11 @@ use crate::faults::Fault;
 use crate::format::read_line;
 use crate::judging::judge_line;
 use crate::sections::Sections;
+use crate::tracked::enter_line;
 use crate::walks::have_logged_walks;
-use sgt_cert::{Certificate, SiteLog};
+use sgt_cells::SiteState;
+use sgt_cert::SiteLog;
+use sgt_decided::Decided;
 use sgt_notation::SectionLine;
 use std::alloc::AllocError;
 
@@ -18,13 +21,15 @@ use std::alloc::AllocError;
 pub struct Kept {
     /// Whether the format is the second.
     pub second: bool,
-    pub certificate: Certificate,
+    pub certificate: Decided,
     pub sections: Sections,
+    /// What is kept of the open section, by which a line is judged.
+    pub state: SiteState,
 }
 
 impl Kept {
     ghost use Rattle.sgt_audit.specs.Faults.{Stage};
-    ghost use Rattle.sgt_audit.specs.Kept.{IsStageOf, Means};
+    ghost use Rattle.sgt_audit.specs.Kept.{Holds, IsStageOf, Means};
     ghost use Rattle.sgt_audit.specs.private.NextLine.{AnswersLine};
     ghost use Rattle.sgt_audit.specs.private.Ending.{EndsWith, limit_of};
     ghost use Rattle.sgt_audit.specs.Reading.{lines_read};
@@ -41,8 +46,8 @@ impl Kept {
     pub(crate) fn next(&mut self, line: &[u8]) -> Result<Option<Fault>, AllocError>
         ensures second { self.new.second ≡ self.old.second }
         ensures certificate { self.new.certificate ≡ self.old.certificate }
-        ensures answers { (before : List SectionLine) → Means self.old.second self.old.certificate self.old.sections before
-            → IfOk result (AnswersLine self.old.second self.old.certificate self.new.sections before line.now) }
+        ensures answers { (before : List SectionLine) → Holds self.old.second self.old.certificate self.old.sections self.old.state before
+            → IfOk result (AnswersLine self.old.second self.old.certificate self.new.sections self.new.state before line.now) }
     {
         if self.sections.are_all() {
             return Ok(Some(Fault::Trailing));
@@ -50,12 +55,14 @@ impl Kept {
         let Some(read) = read_line(self.second, line) else {
             return Ok(Some(Fault::Notation));
         };
-        let decisions = self.certificate.decisions.as_slice();
-        if let Some(fault) = judge_line(decisions, &self.sections, &read) {
+        if let Some(fault) = judge_line(&self.certificate, &self.state, &self.sections, &read) {
             return Ok(Some(fault));
         }
+        enter_line(&mut self.state, &self.certificate, &read)?;
         self.sections.add(read)?;
-        if self.sections.are_all() && !have_logged_walks(decisions, self.sections.whole()) {
+        if self.sections.are_all()
+            && !have_logged_walks(self.certificate.decisions(), self.sections.whole())
+        {
             return Ok(Some(Fault::WalkStep));
         }
         Ok(None)

@@ -7,6 +7,7 @@ use crate::format::read_format;
 use crate::judging::judge_certificate;
 use crate::kept::Kept;
 use crate::sections::Sections;
+use sgt_cells::SiteState;
 use sgt_cert::{CertFault, from_line};
 use sgt_names::EngineFail;
 use sgt_notation::MAX_LINE;
@@ -66,16 +67,21 @@ impl Machine {
             Err(CertFault::Memory) => return Err(EngineFail::Memory),
             Err(_) => return Ok(Err(Fault::Certificate)),
         };
-        match judge_certificate(alloc, &certificate) {
-            Ok(None) => {
-                let sections = Sections::new(alloc, certificate.sites);
+        let sites = certificate.sites;
+        match judge_certificate(alloc, certificate) {
+            Ok(Ok(certificate)) => {
+                let Ok(state) = SiteState::new(alloc, certificate.decisions().len()) else {
+                    return Err(EngineFail::Memory);
+                };
+                let sections = Sections::new(alloc, sites);
                 Ok(Ok(Kept {
                     second,
                     certificate,
                     sections,
+                    state,
                 }))
             }
-            Ok(Some(fault)) => Ok(Err(fault)),
+            Ok(Err(fault)) => Ok(Err(fault)),
             Err(_) => Err(EngineFail::Memory),
         }
     }

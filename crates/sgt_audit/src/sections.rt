@@ -62,20 +62,6 @@ impl OpenLog {
         }
     }
 
-    /// The items with their initial values.
-    pub(crate) fn items(&self) -> &[Holding]
-        ensures { result.now ≡ self.now.items }
-    {
-        self.items.as_slice()
-    }
-
-    /// The entries.
-    pub(crate) fn entries(&self) -> &[Entry]
-        ensures { result.now ≡ self.now.entries }
-    {
-        self.entries.as_slice()
-    }
-
     /// The entry that was read last, if no final stands behind it.
     pub(crate) fn last_entry(&self) -> Option<Entry>
         ensures some { IfSome result (λ e. (self.now.finals ≡ []) × (slice_get self.now.entries (length self.now.entries - 1) ≡ Some e)) }
@@ -159,7 +145,7 @@ impl Model for Sections {
 
 impl Sections {
     ghost use Rattle.sgt_audit.specs.Reading.{IsBegun, lines_read};
-    ghost use Rattle.sgt_audit.specs.private.Following.{MayFollow};
+    ghost use Rattle.sgt_audit.specs.private.Following.{MayFollow, with_next};
 
     /// No line, of the sections of so many sites.
     pub(crate) fn new(alloc: Global, sites: u8) -> Sections
@@ -221,6 +207,7 @@ impl Sections {
         requires { Begins self.old.sites (lines_read self.old ++ line ∷ []) }
         ensures sites { self.new.sites ≡ self.old.sites }
         ensures lines { OnOk result (lines_read self.new ≡ lines_read self.old ++ line ∷ []) }
+        ensures next { OnOk result (self.new ≡ with_next self.old self.old.current line) }
     {
         match self.current.take() {
             None => {

@@ -48,6 +48,42 @@ fn fed(alloc: Global, second: bool, text: &[u8]) -> Result<Option<Verdict>, Fail
     Ok(Some(auditor.end()?))
 }
 
+// The line behind which an auditor of the first format first tells a fault, and what it tells when all lines were fed.
+fn told(alloc: Global, text: &[u8]) -> Result<Option<(u64, u64, Fault)>, Fail> {
+    let Some((_, behind)) = split_line(text) else {
+        return Ok(None);
+    };
+    let Some((line, mut rest)) = split_line(behind) else {
+        return Ok(None);
+    };
+    let Ok(certificate) = from_line(alloc, line) else {
+        return Ok(None);
+    };
+    let mut auditor = Auditor::new(alloc, certificate)?;
+    let mut without = 2u64;
+    'lines: while let Some((line, more)) = split_line(rest) {
+        auditor.feed(line)?;
+        if auditor.fault().is_none() {
+            without = without.saturating_add(1);
+        }
+        rest = more;
+    }
+    Ok(
+        auditor
+            .fault()
+            .map(|found| (without.saturating_add(1), found.0, found.1)),
+    )
+}
+
+#[test]
+fn faults_are_told_at_once(rt: HostRuntime) -> Result<(), Fail> {
+    let values_agree: &str =
+        "sgt 1\n{\"decisions\":[{\"commit\":1,\"rank\":1},{\"commit\":2,\"rank\":0}],\"sites\":1}\nsite 0\nitem x=5\nw1[x]=7\nc1\nw2[x]=7\nc2\nfinal x=7\nend\n";
+    assert!(rt; told(rt.alloc(), values_agree.as_bytes())? == Some((7, 7, Fault::RankOrder)));
+    assert!(rt; told(rt.alloc(), OWN_READ.as_bytes())?.is_none());
+    Ok(())
+}
+
 #[test]
 fn bundles_are_handed_out(rt: HostRuntime) -> Result<(), Fail> {
     let alloc = rt.alloc();

@@ -23,7 +23,7 @@ use Rattle.sgt_cert.specs.declared.certificate.Decision.{Decision}
 use Rattle.sgt_cert.specs.declared.certificate.Decision.TheVariants.{Commit, Refuse, Withdraw}
 use Rattle.sgt_cert.specs.declared.certificate.Certificate.{Certificate}
 use Rattle.sgt_names.specs.Limits.{max_sites}
-use Rattle.sgt_cert.specs.Text.{kind_name, step_data, walk_data, decision_data, decisions_data, certificate_data, certificate_text, IsStep, IsDecision, IsCertificate}
+use Rattle.sgt_cert.specs.Text.{kind_name, step_data, decision_data, certificate_data, certificate_text, IsStep, IsDecision, IsCertificate, items_data}
 use Rattle.sgt_cert.specs.Line.{ReadsAs, Refuses, is_commit_object, is_decision_object, is_refuse_object, is_certificate_object, is_step_object, items_list}
 use Rattle.sgt_cert.specs.Private.{Answers, answer_of, certificate_in, commit_in, decision_in, decisions_in, judged_as, kind_at, kind_if, list_at, name_at, name_if, refuse_in, step_in, text_at, tx_at, walk_in, whole_at, withdraw_in}
 use Rattle.sgt_cert.proofs.Reading.{read-certificate_text, certificate-one}
@@ -31,7 +31,7 @@ use Rattle.sgt_cert.proofs.OneLine.{certificate-utf8}
 
 -- ---- the data of a certificate has its shape
 
-walk-shaped : (walk : List Step) → list_all is_step_object (items_list (walk_data walk)) ≡ true
+walk-shaped : (walk : List Step) → list_all is_step_object (items_list (items_data step_data walk)) ≡ true
 walk-shaped [] = refl
 walk-shaped (s ∷ walk) = walk-shaped walk
 
@@ -40,7 +40,7 @@ decision-shaped (Commit tx rank) = refl
 decision-shaped (Refuse tx walk) = rw (walk-shaped walk) refl
 decision-shaped (Withdraw tx) = refl
 
-decisions-shaped : (ds : List Decision) → list_all is_decision_object (items_list (decisions_data ds)) ≡ true
+decisions-shaped : (ds : List Decision) → list_all is_decision_object (items_list (items_data decision_data ds)) ≡ true
 decisions-shaped [] = refl
 decisions-shaped (d ∷ ds) = rw (decision-shaped d, decisions-shaped ds) refl
 
@@ -68,7 +68,7 @@ step-back sites s h =
     let to_high = lt-ltb s.to 4294967296 h.2.1 in
     rw (name, kind-back s.label.kind, site_low, site_high, to_low, to_high) refl
 
-walk-back : (sites : ℕ) (walk : List Step) → All (IsStep sites) walk → walk_in sites (items_list (walk_data walk)) ≡ Some walk
+walk-back : (sites : ℕ) (walk : List Step) → All (IsStep sites) walk → walk_in sites (items_list (items_data step_data walk)) ≡ Some walk
 walk-back sites [] h = refl
 walk-back sites (s ∷ walk) h = rw (step-back sites s (All-head (IsStep sites) s walk h), walk-back sites walk (All-tail (IsStep sites) s walk h)) refl
 
@@ -88,7 +88,7 @@ decision-back sites (Withdraw tx) h =
     let high = lt-ltb tx 4294967296 h.1 in
     rw (low, high) refl
 
-decisions-back : (sites : ℕ) (ds : List Decision) → All (IsDecision sites) ds → decisions_in sites (items_list (decisions_data ds)) ≡ Some ds
+decisions-back : (sites : ℕ) (ds : List Decision) → All (IsDecision sites) ds → decisions_in sites (items_list (items_data decision_data ds)) ≡ Some ds
 decisions-back sites [] h = refl
 decisions-back sites (d ∷ ds) h = rw (decision-back sites d (All-head (IsDecision sites) d ds h), decisions-back sites ds (All-tail (IsDecision sites) d ds h)) refl
 

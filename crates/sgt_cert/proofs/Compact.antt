@@ -10,7 +10,7 @@ use Rattle.serde_json.proofs.OnLiterals.{serde_json_on_literals}
 use Rattle.sgt_names.specs.Name.{Name, IsName, is_name_byte, is_small_letter}
 use Rattle.sgt_names.specs.declared.entry.Kind.{Kind}
 use Rattle.sgt_names.specs.declared.entry.Kind.TheVariants.{Wr, Rw, Ww}
-use Rattle.sgt_cert.specs.Text.{kind_name, step_data, walk_data, decision_data, decisions_data, certificate_text}
+use Rattle.sgt_cert.specs.Text.{kind_name, step_data, decision_data, certificate_text, items_data}
 use Rattle.sgt_cert.specs.declared.certificate.Step.{Step}
 use Rattle.sgt_cert.specs.declared.certificate.Decision.{Decision}
 use Rattle.sgt_cert.specs.declared.certificate.Decision.TheVariants.{Commit, Refuse, Withdraw}
@@ -67,7 +67,7 @@ unfolding serde_json_on_literals
 commit-pieces d tx t rank is same = rw (is, same) refl
 
 pub refuse-pieces : (d : Decision) (tx t : ℕ) (walk steps : List Step) → d ≡ Refuse tx walk → t ≡ tx → steps ≡ walk
-    → codes "{\"refuse\":" ++ (decimal t ++ (codes ",\"walk\":[" ++ (items_text false (walk_data steps) ++ codes "}"))) ≡ compact_text (decision_data d)
+    → codes "{\"refuse\":" ++ (decimal t ++ (codes ",\"walk\":[" ++ (items_text false (items_data step_data steps) ++ codes "}"))) ≡ compact_text (decision_data d)
 unfolding serde_json_on_literals
 refuse-pieces d tx t walk steps is same all = rw (is, same, all) refl
 
@@ -75,12 +75,12 @@ pub withdraw-pieces : (d : Decision) (tx t : ℕ) → d ≡ Withdraw tx → t �
 unfolding serde_json_on_literals
 withdraw-pieces d tx t is same = rw (is, same) refl
 
-pub certificate-text : (c : Certificate) → certificate_text c ≡ codes "{\"decisions\":[" ++ (items_text false (decisions_data c.decisions) ++ (codes ",\"sites\":" ++ (decimal c.sites ++ codes "}")))
+pub certificate-text : (c : Certificate) → certificate_text c ≡ codes "{\"decisions\":[" ++ (items_text false (items_data decision_data c.decisions) ++ (codes ",\"sites\":" ++ (decimal c.sites ++ codes "}")))
 unfolding serde_json_on_literals
 certificate-text c = refl
 
 pub certificate-pieces : (c : Certificate) (line start : List ℕ) (decisions : List Decision)
-    → line ≡ start ++ (codes "{\"decisions\":[" ++ (items_text false (decisions_data decisions) ++ (codes ",\"sites\":" ++ (decimal c.sites ++ codes "}"))))
+    → line ≡ start ++ (codes "{\"decisions\":[" ++ (items_text false (items_data decision_data decisions) ++ (codes ",\"sites\":" ++ (decimal c.sites ++ codes "}"))))
     → start ≡ [] → decisions ≡ c.decisions → line ≡ certificate_text c
 certificate-pieces c line start decisions e none all =
-    e ∙ ap₂ (λ (front : List ℕ) (ds : List Decision). front ++ (codes "{\"decisions\":[" ++ (items_text false (decisions_data ds) ++ (codes ",\"sites\":" ++ (decimal c.sites ++ codes "}"))))) none all ∙ sym (certificate-text c)
+    e ∙ ap₂ (λ (front : List ℕ) (ds : List Decision). front ++ (codes "{\"decisions\":[" ++ (items_text false (items_data decision_data ds) ++ (codes ",\"sites\":" ++ (decimal c.sites ++ codes "}"))))) none all ∙ sym (certificate-text c)

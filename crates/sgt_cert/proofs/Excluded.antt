@@ -1,17 +1,16 @@
 -- Logs, bundles and JSON values that the definitions exclude, each by one of their parts alone.
-use Rattle.std.proofs.Common.{◌≡◌, ℕ, true, false, List, [], ◌∷◌, length, refl, ap, get_or, Some, arith, lit<}
+use Rattle.std.proofs.Common.{◌≡◌, ℕ, true, false, List, [], ◌∷◌, length, refl, ap, get_or, arith, lit<}
 use Rattle.std.specs.Prelude.{codes}
 use Rattle.std.proofs.lemmas.Option.{same_Some}
-use Rattle.serde_json.specs.Data.{Data, string, array, object, no_items, item, Members, no_members, member}
+use Rattle.serde_json.specs.Data.{Data, number, unsigned, string, array, object, no_items, item, Members, no_members, member}
 use Rattle.sgt_names.specs.Name.{Name}
 use Rattle.sgt_names.specs.declared.entry.Entry.{Entry}
 use Rattle.sgt_names.specs.declared.entry.Entry.TheVariants as e
 use Rattle.sgt_names.specs.declared.entry.Holding.{Holding}
 use Rattle.sgt_names.specs.declared.entry.Kind.TheVariants.{Rw, Ww}
 use Rattle.sgt_names.proofs.Places.{All_at, AllPairs_at}
-use Rattle.sgt_cert.specs.Parts.{ComesBefore, IsShapedLog, Parts}
+use Rattle.sgt_cert.specs.Parts.{ComesBefore, IsShapedLog}
 use Rattle.sgt_cert.specs.Valid.{IsValid, IsValidLog}
-use Rattle.sgt_cert.specs.Text.{num}
 use Rattle.sgt_cert.specs.Line.{is_certificate_object, is_decision_object}
 use Rattle.sgt_cert.specs.declared.bundle.SiteLog.{SiteLog}
 use Rattle.sgt_cert.specs.declared.certificate.Step.{Step}
@@ -78,6 +77,10 @@ wrong_final-not_valid v =
     absurd (omega (arith, same))
 
 -- ---- the shape of a certificate
+
+-- a number, as JSON
+abbrev num : ℕ → Data
+num n = number (unsigned n)
 
 abbrev certificate_of : Data → Members → Data
 certificate_of decisions more = object (member (codes "decisions") decisions (member (codes "sites") (num 1) more))

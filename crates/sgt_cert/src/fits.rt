@@ -81,7 +81,7 @@ fn decision_fits(decision: &Decision, sites: u8) -> bool
     }
 }
 
-fn decisions_fit(decisions: &[Decision], sites: u8) -> bool
+pub(crate) fn decisions_fit(decisions: &[Decision], sites: u8) -> bool
     ensures { IsTrue result ↔ All (HasStepsWithin sites) decisions.now }
 {
     decisions

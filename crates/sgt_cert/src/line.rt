@@ -1,9 +1,9 @@
 //! The line of a certificate, written and read.
 
-ghost use Rattle.std.specs.Prelude.{◌≡◌, ◌≢◌, ◌++◌, IfOk, IfErr, OnOk, MatchResult, ◌⊎◌, All, codes, decimal, false};
+ghost use Rattle.std.specs.Prelude.{◌≡◌, ◌≢◌, ◌++◌, IfOk, IfErr, IfSome, OnOk, MatchResult, ◌⊎◌, All, codes, decimal, false};
 ghost use Rattle.serde_json.specs.View.{view};
 ghost use Rattle.serde_json.specs.Written.{compact_text, items_text};
-ghost use Rattle.sgt_cert.specs.Text.{certificate_text, decision_data, decisions_data, kind_name, step_data, walk_data};
+ghost use Rattle.sgt_cert.specs.Text.{certificate_text, decision_data, kind_name, step_data, items_data};
 ghost use Rattle.sgt_cert.specs.Text.{IsCertificate, IsDecision, IsStep};
 ghost use Rattle.sgt_names.specs.Limits.{max_sites};
 ghost use Rattle.sgt_notation.specs.Spelling.{HasNoLf};
@@ -14,10 +14,12 @@ ghost use Rattle.sgt_cert.specs.declared.fault.CertFault.{CertFault};
 
 use crate::certificate::{Certificate, Decision, Step};
 use crate::convert::certificate;
+use crate::direct::seeming;
 use crate::fault::CertFault;
+use crate::fits::decisions_fit;
 use crate::shape::has_shape;
 use serde_json::Value;
-use sgt_names::Kind;
+use sgt_names::{Kind, MAX_SITES};
 use sgt_notation::push_number;
 use std::alloc::{AllocError, Global};
 
@@ -79,7 +81,7 @@ fn push_step(out: &mut Vec<u8>, step: &Step) -> Result<(), AllocError>
 
 /// The steps with commas between, and the closing bracket.
 fn push_steps(out: &mut Vec<u8>, walk: &[Step]) -> Result<(), AllocError>
-    ensures text { OnOk result (out.new.items ≡ out.old.items ++ items_text false (walk_data walk.now)) }
+    ensures text { OnOk result (out.new.items ≡ out.old.items ++ items_text false (items_data step_data walk.now)) }
     ensures in_range { OnOk result (All (IsStep max_sites) walk.now) }
 {
     if let Some((first, further)) = walk.split_first() {
@@ -104,7 +106,7 @@ fn push_commit(out: &mut Vec<u8>, tx: u64, rank: u64) -> Result<(), AllocError>
 fn push_refuse(out: &mut Vec<u8>, tx: u64, walk: &[Step]) -> Result<(), AllocError>
     ensures text { OnOk result (out.new.items
         ≡ out.old.items ++ (codes "{\"refuse\":" ++ (decimal tx
-        ++ (codes ",\"walk\":[" ++ (items_text false (walk_data walk.now) ++ codes "}"))))) }
+        ++ (codes ",\"walk\":[" ++ (items_text false (items_data step_data walk.now) ++ codes "}"))))) }
     ensures in_range { OnOk result (All (IsStep max_sites) walk.now) }
 {
     push_member(out, b"{\"refuse\":", tx)?;
@@ -133,7 +135,7 @@ fn push_decision(out: &mut Vec<u8>, decision: &Decision) -> Result<(), AllocErro
 
 /// The decisions with commas between, and the closing bracket.
 fn push_decisions(out: &mut Vec<u8>, decisions: &[Decision]) -> Result<(), AllocError>
-    ensures text { OnOk result (out.new.items ≡ out.old.items ++ items_text false (decisions_data decisions.now)) }
+    ensures text { OnOk result (out.new.items ≡ out.old.items ++ items_text false (items_data decision_data decisions.now)) }
     ensures in_range { OnOk result (All (IsDecision max_sites) decisions.now) }
 {
     if let Some((first, further)) = decisions.split_first() {
@@ -148,7 +150,7 @@ fn push_decisions(out: &mut Vec<u8>, decisions: &[Decision]) -> Result<(), Alloc
 
 fn push_certificate(out: &mut Vec<u8>, decisions: &[Decision], sites: u64) -> Result<(), AllocError>
     ensures text { OnOk result (out.new.items ≡ out.old.items
-        ++ (codes "{\"decisions\":[" ++ (items_text false (decisions_data decisions.now)
+        ++ (codes "{\"decisions\":[" ++ (items_text false (items_data decision_data decisions.now)
         ++ (codes ",\"sites\":" ++ (decimal sites ++ codes "}"))))) }
     ensures in_range { OnOk result (All (IsDecision max_sites) decisions.now) }
 {
@@ -189,11 +191,29 @@ fn judge(alloc: Global, value: &Value, line: &[u8]) -> Result<Certificate, CertF
     }
 }
 
-/// Reads the line of a certificate, which is given without its LF. Ok exactly for the text that `to_line` gives of a
-/// certificate whose sites are 1 to `MAX_SITES`, with each step at one of them. Any other line is refused: with K1 where no JSON
-/// value is read from it, else with K2 where the value's members are not those of a certificate, else with K3. K4 where
-/// memory ran out stands in place of any answer.
-pub fn from_line(alloc: Global, line: &[u8]) -> Result<Certificate, CertFault>
+/// The certificate that the line spells, where that is seen without a tree.
+fn read_directly(alloc: Global, line: &[u8]) -> Result<Option<Certificate>, AllocError>
+    ensures { IfOk result (λ found. IfSome found (λ c. IsCertificate c × (line.now ≡ certificate_text c))) }
+{
+    let Some(found) = seeming(alloc, line)? else {
+        return Ok(None);
+    };
+    if found.sites == 0
+        || found.sites > MAX_SITES
+        || !decisions_fit(found.decisions(), found.sites)
+    {
+        return Ok(None);
+    }
+    let spelled = to_line(alloc, &found)?;
+    if spelled.as_slice() == line {
+        Ok(Some(found))
+    } else {
+        Ok(None)
+    }
+}
+
+/// What `from_line` answers, by the JSON value that is read from the line.
+fn read_value(alloc: Global, line: &[u8]) -> Result<Certificate, CertFault>
     ensures ok { IfOk result (λ c. IsCertificate c × (line.now ≡ certificate_text c)) }
     ensures only { (c : Certificate) → IsCertificate c → line.now ≡ certificate_text c
         → MatchResult result (λ found. found ≡ c) (λ e. e ≡ CertFault.Memory) }
@@ -210,5 +230,24 @@ pub fn from_line(alloc: Global, line: &[u8]) -> Result<Certificate, CertFault>
                 Err(CertFault::NotJson)
             }
         }
+    }
+}
+
+/// Reads the line of a certificate, which is given without its LF. Ok exactly for the text that `to_line` gives of a
+/// certificate whose sites are 1 to `MAX_SITES`, with each step at one of them. Any other line is refused: with K1 where no JSON
+/// value is read from it, else with K2 where the value's members are not those of a certificate, else with K3. K4 where
+/// memory ran out stands in place of any answer.
+pub fn from_line(alloc: Global, line: &[u8]) -> Result<Certificate, CertFault>
+    ensures ok { IfOk result (λ c. IsCertificate c × (line.now ≡ certificate_text c)) }
+    ensures only { (c : Certificate) → IsCertificate c → line.now ≡ certificate_text c
+        → MatchResult result (λ found. found ≡ c) (λ e. e ≡ CertFault.Memory) }
+    ensures refuses { IfErr result (Refuses line.now) }
+    ensures each { (e : CertFault) → e ≢ CertFault.Memory → Refuses line.now e
+        → MatchResult result (λ _. ⊥) (λ f. (f ≡ e) ⊎ (f ≡ CertFault.Memory)) }
+{
+    match read_directly(alloc, line) {
+        Ok(Some(certificate)) => Ok(certificate),
+        Ok(None) => read_value(alloc, line),
+        Err(_) => Err(CertFault::Memory),
     }
 }

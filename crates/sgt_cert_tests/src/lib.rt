@@ -6,6 +6,8 @@ mod bundles;
 #[cfg(test)]
 mod certificates;
 #[cfg(test)]
+mod events;
+#[cfg(test)]
 mod lines;
 #[cfg(test)]
 mod readers;

@@ -1,8 +1,8 @@
 -- The decisions of a history, call by call, and their ranks.
-use Rattle.std.proofs.Common.{◌≡◌, ◌≢◌, ◌<◌, ◌≤◌, ◌+◌, ℕ, suc, List, [], ◌∷◌, ◌++◌, length, map, get_or, drop, refl, sym, ◌∙◌, ap, subst, arith, add-one, append_assoc, inl, inr, All, AllPairs, Contains, Some}
+use Rattle.std.proofs.Common.{◌≡◌, ◌≢◌, ◌<◌, ◌≤◌, ◌+◌, ℕ, suc, List, [], ◌∷◌, ◌++◌, length, map, refl, sym, ◌∙◌, ap, subst, arith, add-one, append_assoc, inl, inr, All, AllPairs, Contains, Some}
 use Rattle.std.specs.Prelude.{slice_get, slice_index}
 use Rattle.std.proofs.lemmas.List.{map-append}
-use Rattle.std.proofs.lemmas.Option.{get_or_from_slice_get, slice_get_within}
+use Rattle.std.proofs.lemmas.Option.{get_or_from_slice_get}
 use Rattle.std.proofs.lemmas.List.Elements.{Contains-append_cases}
 use Rattle.sgt_names.proofs.Places.{All-from_at, All_at, Contains_at, Contains-from_at}
 use Rattle.sgt_cert.specs.declared.certificate.Decision.{Decision}
@@ -11,9 +11,8 @@ use Rattle.sgt_certifier.specs.declared.call.Call.{Call}
 use Rattle.sgt_certifier.specs.declared.call.Call.TheVariants as call
 use Rattle.sgt_certifier.specs.Certifier.{State, Ruling, committed, refused, withdrawn, ruled, serial, ranked, place_in}
 use Rattle.sgt_certifier.specs.Sound.{IsSoundCertifier, IsRuled}
-use Rattle.sgt_certifier.specs.Kept.{ruling_of, rulings_from, windows_after, with_rank_in}
-use Rattle.sgt_certifier.proofs.Members.{place_left, place_right, cons_cases, cons_here, cons_later, nil_none}
-use Rattle.sgt_certifier.proofs.Distinct.{Apart}
+use Rattle.sgt_certifier.specs.Kept.{rulings_from, windows_after, with_rank_in}
+use Rattle.sgt_certifier.proofs.Members.{place_left, place_right, cons_here, cons_later}
 use Rattle.sgt_certifier.proofs.Keeping.{distinct-append}
 use Rattle.sgt_certifier.proofs.Installs.{distinct_few}
 use Rattle.sgt_certifier.proofs.Ruling.{place_in_at}

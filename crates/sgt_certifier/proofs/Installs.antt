@@ -1,6 +1,6 @@
 -- The installs of a history, and the sites that are noted in the open step.
-use Rattle.std.proofs.Common.{◌≡◌, ◌≢◌, ◌<◌, ◌≤◌, ◌+◌, ◌⊎◌, ℕ, zero, suc, Bool, true, false, eqb, List, [], ◌∷◌, ◌++◌, length, get_or, refl, sym, ◌∙◌, ap, subst, arith, inl, inr, All, AllPairs, Any, Contains, Some, None}
-use Rattle.std.specs.Prelude.{slice_get, filter, count_by, ◌↔◌, ◌==◌, ◌&&◌}
+use Rattle.std.proofs.Common.{◌≡◌, ◌≢◌, ◌<◌, ◌≤◌, ◌+◌, ℕ, suc, true, false, eqb, List, [], ◌∷◌, ◌++◌, length, get_or, refl, sym, ◌∙◌, ap, subst, arith, inl, inr, All, AllPairs, Any, Contains, Some, None}
+use Rattle.std.specs.Prelude.{filter, ◌↔◌}
 use Rattle.std.specs.List.{list_any, filter_map}
 use Rattle.std.specs.Str.{bytes_eq}
 use Rattle.std.proofs.lemmas.Slice.Eq.{bytes_eq-Decides}
@@ -11,11 +11,10 @@ use Rattle.std.proofs.lemmas.Option.{same_Some}
 use Rattle.std.proofs.lemmas.Map.Keys.{IsDistinct-from_apart}
 use Rattle.std.proofs.lemmas.Map.Steps.{length-le_from_distinct_below}
 use Rattle.std.proofs.lemmas.List.Elements.{Contains-append_cases, Contains-append_left, Contains-append_right, filter_map-append, filter-append}
-use Rattle.sgt_names.proofs.Places.{Contains_at, Contains-from_at, All-from_at, All_at}
+use Rattle.sgt_names.proofs.Places.{All-from_at, All_at}
 use Rattle.sgt_names.specs.Limits.{max_sites}
 use Rattle.sgt_names.specs.Name.{Name}
-use Rattle.sgt_order.specs.Graph.{placed}
-use Rattle.sgt_certifier.specs.Certifier.{State, Arc, Install, committed, Commits, opening, serial, with_install, with_closed}
+use Rattle.sgt_certifier.specs.Certifier.{State, Arc, Install, committed, Commits, opening, serial, with_install}
 use Rattle.sgt_certifier.specs.History.{IsNoted, install_in, installs_in, changes_item, counted}
 use Rattle.sgt_certifier.specs.declared.call.Call.{Call}
 use Rattle.sgt_certifier.specs.declared.call.Call.TheVariants as call

@@ -1,5 +1,5 @@
 -- The edges that decisions were handed lead forward in the serial order, across closed windows too.
-use Rattle.std.proofs.Common.{◌≡◌, ◌≢◌, ◌<◌, ◌≤◌, ◌-◌, ◌+◌, ◌⊎◌, ℕ, suc, true, List, [], ◌∷◌, ◌++◌, append-nil, refl, sym, ◌∙◌, ap, subst, arith, inl, inr, Any, AllPairs, Contains, Some, None}
+use Rattle.std.proofs.Common.{◌≡◌, ◌≢◌, ◌≤◌, ◌+◌, ◌⊎◌, ℕ, suc, List, [], ◌∷◌, ◌++◌, refl, sym, ◌∙◌, ap, subst, arith, inl, inr, Contains, Some, None}
 use Rattle.std.specs.Prelude.{not, ◌==◌, filter}
 use Rattle.std.proofs.lemmas.Bool.{true≢false, eq-eqb, cases_eq, cases_lt}
 use Rattle.std.proofs.lemmas.Option.{same_Some}
@@ -17,7 +17,7 @@ use Rattle.sgt_certifier.specs.declared.call.CertifierFault.TheVariants as fault
 use Rattle.sgt_certifier.specs.Certifier.{State, Arc, Joins, opening, serial, with_begun, with_finished, with_withdrawn, with_install, with_closed, Commits}
 use Rattle.sgt_certifier.specs.History.{tx_under, IsHere, IsOlder, IsActive, IsKnown, Fits, arcs_of, next_handle, decide, IsAllowed, Serves, RunsFrom, Replays}
 use Rattle.sgt_certifier.specs.Handed.{HandsAt, HandsFrom, Hands, HandsCommitted}
-use Rattle.sgt_certifier.proofs.Members.{AllPairs-append, cons_cases, nil_none, filter_member, member_filter, placed_member, AreWithin, topological_is_acyclic}
+use Rattle.sgt_certifier.proofs.Members.{AllPairs-append, cons_cases, nil_none, filter_member, member_filter, placed_member, topological_is_acyclic}
 use Rattle.sgt_certifier.proofs.Keeping.{uncommitted}
 use Rattle.sgt_certifier.proofs.Transfer.{contains_map}
 use Rattle.sgt_certifier.proofs.Replaying.{IsGoodState, contains_cases, no_step, open_step, no_active, active_under, serves-good, replays-good}

@@ -166,8 +166,8 @@ fn are_commits(decisions: &[Decision], told: &[(u32, u32)]) -> bool {
     true
 }
 
-// A cycle is refused; and handles of two windows before: nobody is decided under one, no edge leads to one, an edge from one
-// is left out.
+// A cycle is refused. Handles of two windows before: nobody is decided under one, no edge leads to one, an edge from one is
+// left out, also if it is told twice. A handle that was never given, an edge to oneself, and one between two others are refused.
 #[test]
 fn refusals(rt: HostRuntime) -> Result<(), Fail> {
     let (h0, h1, h2, k) = (handle(0, 0), handle(1, 0), handle(2, 0), handle(0, 2));
@@ -193,17 +193,30 @@ fn refusals(rt: HostRuntime) -> Result<(), Fail> {
         ),
         (Asked::Withdraw(h0), Answer::Fault(CertifierFault::Unknown)),
         (
+            Asked::Withdraw(handle(9, 2)),
+            Answer::Fault(CertifierFault::Unknown),
+        ),
+        (
+            Asked::Decide(k, edge(k, k, rw), None),
+            Answer::Fault(CertifierFault::Unknown),
+        ),
+        (
+            Asked::Decide(k, edge(h0, h1, wr), None),
+            Answer::Fault(CertifierFault::Unknown),
+        ),
+        (
             Asked::Decide(k, edge(k, h0, rw), None),
             Answer::Fault(CertifierFault::Stale),
         ),
         (
-            Asked::Decide(k, edge(h0, k, wr), None),
+            Asked::Decide(k, edge(h0, k, wr), edge(h0, k, wr)),
             Answer::Committed(3),
         ),
     ];
     let alloc = rt.alloc();
     let mut certifier = Certifier::new(alloc);
     assert!(rt; answers(alloc, &mut certifier, &rows)?);
+    assert_eq!(rt; certifier.history().len(), 12);
     Ok(())
 }
 
@@ -235,5 +248,40 @@ fn installs(rt: HostRuntime) -> Result<(), Fail> {
         Err(CertifierFault::Unknown)
     );
     assert_eq!(rt; certifier.history().len(), 3);
+    Ok(())
+}
+
+#[test]
+fn what_the_faults_say(rt: HostRuntime) -> Result<(), Fail> {
+    let alloc = rt.alloc();
+    let said = [
+        (CertifierFault::WindowFull, "C1: the window is full"),
+        (
+            CertifierFault::Unknown,
+            "C2: no such transaction is active, or an edge does not join it and a committed one",
+        ),
+        (
+            CertifierFault::StepOpen(Tx::new(2)?),
+            "C3: the step of a transaction is open",
+        ),
+        (CertifierFault::ActiveLeft(3), "C4: transactions are active"),
+        (CertifierFault::Memory, "C5: out of memory"),
+        (
+            CertifierFault::Stale,
+            "C6: an edge leads to a transaction of a closed window",
+        ),
+        (
+            CertifierFault::GenerationsSpent,
+            "C7: the generations are spent",
+        ),
+        (
+            CertifierFault::NumbersSpent,
+            "C8: the numbers of transactions are spent",
+        ),
+    ];
+    for (fault, wanted) in said {
+        let text = format!(in alloc; "{fault}")?;
+        assert_eq!(rt; text.as_str(), wanted);
+    }
     Ok(())
 }

@@ -1,5 +1,5 @@
 -- The edges of each touched item together are those of the draft.
-use Rattle.std.proofs.Common.{◌≡◌, ◌≢◌, ℕ, ◌+◌, ◌-◌, ◌<◌, ◌≤◌, ◌⊎◌, List, [], ◌∷◌, length, take, drop, Some, Result, Ok, Err, refl, sym, ap, ◌∙◌, subst, arith, inl, inr, All, Contains}
+use Rattle.std.proofs.Common.{◌≡◌, ◌≢◌, ℕ, ◌+◌, ◌<◌, ◌≤◌, ◌⊎◌, List, [], ◌∷◌, length, take, Some, Result, Ok, Err, refl, sym, ap, ◌∙◌, subst, arith, inl, inr, All, Contains}
 use Rattle.std.specs.Prelude.{slice_get, OnOk, ◌↔◌, Any}
 use Rattle.std.proofs.lemmas.Bool.{cases_lt}
 use Rattle.std.proofs.lemmas.Option.{same_Some, slice_get_within}
@@ -8,18 +8,21 @@ use Rattle.sgt_names.specs.Draft.{at_site, kept_in}
 use Rattle.sgt_names.specs.declared.draft.Seen.{Seen}
 use Rattle.sgt_names.specs.declared.draft.Touch.{Touch}
 use Rattle.sgt_names.specs.declared.entry.Change.{Change}
+use Rattle.sgt_names.specs.declared.entry.Change.TheVariants.{Put, Add}
 use Rattle.sgt_names.specs.declared.entry.Kind.{Kind}
 use Rattle.sgt_names.specs.declared.entry.Kind.TheVariants.{Wr, Rw, Ww}
 use Rattle.sgt_names.proofs.Lists.{Any_at, Any-from_at}
-use Rattle.sgt_names.proofs.Places.{Contains_at, Contains-from_at, slice_get-take, slice_get-take_at, slice_get-drop, All-from_at}
+use Rattle.sgt_names.proofs.Places.{Contains_at, Contains-from_at, slice_get-take, slice_get-take_at, All-from_at}
 use Rattle.sgt_arena.specs.declared.handle.Handle.{Handle}
-use Rattle.sgt_site.specs.State.{SiteState, version_at, writers_of}
+use Rattle.sgt_site.specs.State.{SiteState, IsSite, version_at}
 use Rattle.sgt_site.specs.declared.cell.Reader.{Reader}
 use Rattle.sgt_site.specs.declared.cell.Writer.{Writer}
 use Rattle.sgt_site.proofs.Basics.{is_single}
 use Rattle.sgt_site.proofs.Pledges.{kept-from, kept-to, change-from, change-to}
-use Rattle.sgt_edges.specs.Edges.{SawAt, IsToChange, IsWriter, HasReader, Precedes, wrote_before, wrote_after, wrote_too, read_it, IsGiven, given, StandsForAll, SeesTooNew}
-use Rattle.sgt_edges.specs.private.Gathered.{IsTooNew, IsBetween, AddsAll, FromWriter, ToWriter, FromConflicting, FromReader, IsOfRead, IsOfChange}
+use Rattle.sgt_edges.specs.Edges.{SawAt, IsToChange, IsGiven, StandsForAll, SeesTooNew}
+use Rattle.sgt_edges.specs.Neighbours.{IsInFront, IsBehind, IsNeighbour, in_front, behind, put_last, add_last, put_read, add_read}
+use Rattle.sgt_edges.specs.private.Gathered.{IsTooNew, IsNear, IsBetween, AddsAll, FromWriter, ToWriter, FromReader, ChangesBefore, ReadsBefore, IsOfRead, IsOfChange}
+use Rattle.sgt_edges.proofs.Neighbours.{neighbours-carry, neighbour-edge}
 use Rattle.sgt_edges.specs.declared.edge.Edge.{Edge}
 
 -- a list of one has it
@@ -150,147 +153,172 @@ module _ (s : SiteState) where
       (k.0, k.1, subst (λ y. IsToChange s (k.0 ∷ []) y c) k.3 (one-changes k.0 c k.2 k.4))
 
 module _ (s : SiteState) (me : Handle) where
-  -- so what precedes for an item does so for the draft, and the other way round
-  precedes-whole : (ts : List Touch) (t : Touch) (x : Name) (f h : Handle) (k : Kind) → Contains ts t → Precedes s (t ∷ []) me x f h k → Precedes s ts me x f h k
-  precedes-whole ts t x f h k has (wrote_before n m w saw less is) = wrote_before n m w (saw-whole s ts t x n has saw) less is
-  precedes-whole ts t x f h k has (wrote_after n m w saw more is) = wrote_after n m w (saw-whole s ts t x n has saw) more is
-  precedes-whole ts t x f h k has (wrote_too c m w asks is apart) = wrote_too c m w (changes-whole s ts t x c has asks) is apart
-  precedes-whole ts t x f h k has (read_it c r asks is) = read_it c r (changes-whole s ts t x c has asks) is
+  -- so the neighbours of an item's operations are those of the draft's, and the other way round
+  neighbour-whole : (ts : List Touch) (t : Touch) (x : Name) (f h : Handle) (k : Kind) → Contains ts t → IsNeighbour s (t ∷ []) me x f h k → IsNeighbour s ts me x f h k
+  neighbour-whole ts t x f h k has (in_front n m w saw near) = in_front n m w (saw-whole s ts t x n has saw) near
+  neighbour-whole ts t x f h k has (behind n m w saw near) = behind n m w (saw-whole s ts t x n has saw) near
+  neighbour-whole ts t x f h k has (put_last v m w asks near) = put_last v m w (changes-whole s ts t x (Put v) has asks) near
+  neighbour-whole ts t x f h k has (add_last v m w asks near) = add_last v m w (changes-whole s ts t x (Add v) has asks) near
+  neighbour-whole ts t x f h k has (put_read v r asks is near) = put_read v r (changes-whole s ts t x (Put v) has asks) is near
+  neighbour-whole ts t x f h k has (add_read v r asks is near) = add_read v r (changes-whole s ts t x (Add v) has asks) is near
 
-  precedes-part : (ts : List Touch) (x : Name) (f h : Handle) (k : Kind) → Precedes s ts me x f h k → (t : Touch) × Contains ts t × Precedes s (t ∷ []) me x f h k
-  precedes-part ts x f h k (wrote_before n m w saw less is) = let t = saw-part s ts x n saw in (t.0, t.1, wrote_before n m w t.2 less is)
-  precedes-part ts x f h k (wrote_after n m w saw more is) = let t = saw-part s ts x n saw in (t.0, t.1, wrote_after n m w t.2 more is)
-  precedes-part ts x f h k (wrote_too c m w asks is apart) = let t = changes-part s ts x c asks in (t.0, t.1, wrote_too c m w t.2 is apart)
-  precedes-part ts x f h k (read_it c r asks is) = let t = changes-part s ts x c asks in (t.0, t.1, read_it c r t.2 is)
+  neighbour-part : (ts : List Touch) (x : Name) (f h : Handle) (k : Kind) → IsNeighbour s ts me x f h k → (t : Touch) × Contains ts t × IsNeighbour s (t ∷ []) me x f h k
+  neighbour-part ts x f h k (in_front n m w saw near) = let t = saw-part s ts x n saw in (t.0, t.1, in_front n m w t.2 near)
+  neighbour-part ts x f h k (behind n m w saw near) = let t = saw-part s ts x n saw in (t.0, t.1, behind n m w t.2 near)
+  neighbour-part ts x f h k (put_last v m w asks near) = let t = changes-part s ts x (Put v) asks in (t.0, t.1, put_last v m w t.2 near)
+  neighbour-part ts x f h k (add_last v m w asks near) = let t = changes-part s ts x (Add v) asks in (t.0, t.1, add_last v m w t.2 near)
+  neighbour-part ts x f h k (put_read v r asks is near) = let t = changes-part s ts x (Put v) asks in (t.0, t.1, put_read v r t.2 is near)
+  neighbour-part ts x f h k (add_read v r asks is near) = let t = changes-part s ts x (Add v) asks in (t.0, t.1, add_read v r t.2 is near)
 
-  pub given-parts : (ts : List Touch) (e : Edge) → Any (λ t. IsGiven s (t ∷ []) me e) ts ↔ IsGiven s ts me e
-  given-parts ts e = (
+  pub near-parts : (ts : List Touch) (e : Edge) → Any (λ t. IsNear s (t ∷ []) me e) ts ↔ IsNear s ts me e
+  near-parts ts e = (
     λ any.
-        let t = Any_at (λ t. IsGiven s (t ∷ []) me e) ts any in
-        (t.3.0, (t.3.1.0, precedes-whole ts t.1 e.label.item e.from e.to e.label.kind (Contains-from_at ts t.0 t.1 t.2) t.3.1.1)),
+        let t = Any_at (λ t. IsNear s (t ∷ []) me e) ts any in
+        (t.3.0, t.3.1, neighbour-whole ts t.1 e.label.item e.from e.to e.label.kind (Contains-from_at ts t.0 t.1 t.2) t.3.2),
     λ is.
-        let t = precedes-part ts e.label.item e.from e.to e.label.kind is.1.1 in
+        let t = neighbour-part ts e.label.item e.from e.to e.label.kind is.2 in
         let at = Contains_at ts t.0 t.1 in
-        Any-from_at (λ t. IsGiven s (t ∷ []) me e) ts at.0 t.0 at.1 (is.0, (is.1.0, t.2)),
+        Any-from_at (λ t. IsNear s (t ∷ []) me e) ts at.0 t.0 at.1 (is.0, is.1, t.2),
   )
 
 module _ (s : SiteState) (t : Touch) (me : Handle) (here : t.site ≡ s.number) where
-  abbrev ws : List Writer
-  ws = writers_of s.installed s.entries t.item
+  -- an edge that is between two handles is near where they are neighbours
+  between-near : (kind : Kind) (f h : Handle) (e : Edge) → IsBetween t kind f h e → IsNeighbour s (t ∷ []) me t.item f h kind → IsNear s (t ∷ []) me e
+  between-near kind f h e is near = subst (IsNear s (t ∷ []) me) (sym is.1) (here, is.0, near)
 
-  -- an edge that is between two handles is given where the one's operation precedes the other's
-  between-given : (kind : Kind) (f h : Handle) (e : Edge) → IsBetween t kind f h e → Precedes s (t ∷ []) me t.item f h kind → IsGiven s (t ∷ []) me e
-  between-given kind f h e is precedes = subst (IsGiven s (t ∷ []) me) (sym is.1) (here, (is.0, precedes))
-
-  read-given : (e : Edge) → IsOfRead s t me e → IsGiven s (t ∷ []) me e
-  read-given e is = by_side is.which
+  read-near : (e : Edge) → IsOfRead s t me e → IsNear s (t ∷ []) me e
+  read-near e is = by_side is.which
     where
-      by_side : Any (λ w. FromWriter t me w e) (take is.seen.version ws) ⊎ Any (λ w. ToWriter t me w e) (drop is.seen.version ws) → IsGiven s (t ∷ []) me e
-      by_side (inl any) =
-          let w = Any_at (λ w. FromWriter t me w e) (take is.seen.version ws) any in
-          let in_ws = slice_get-take ws is.seen.version w.0 w.1 w.2 in
-          between-given Wr w.1.handle me e w.3 (wrote_before is.seen.version w.0 w.1 (one-saw s t is.seen here is.keeps) in_ws.0 in_ws.1)
-      by_side (inr any) =
-          let w = Any_at (λ w. ToWriter t me w e) (drop is.seen.version ws) any in
-          between-given Rw me w.1.handle e w.3 (wrote_after is.seen.version (is.seen.version + w.0) w.1 (one-saw s t is.seen here is.keeps) (omega arith) (sym (slice_get-drop ws is.seen.version w.0) ∙ w.2))
+      by_side : ((w : Writer) × ((k : ℕ) × IsInFront s t.item is.seen.version k w) × FromWriter t Wr me w e) ⊎ ((w : Writer) × ((k : ℕ) × IsBehind s t.item is.seen.version k w) × ToWriter t me w e) → IsNear s (t ∷ []) me e
+      by_side (inl w) = between-near Wr w.0.handle me e w.2 (in_front is.seen.version w.1.0 w.0 (one-saw s t is.seen here is.keeps) w.1.1)
+      by_side (inr w) = between-near Rw me w.0.handle e w.2 (behind is.seen.version w.1.0 w.0 (one-saw s t is.seen here is.keeps) w.1.1)
 
-  change-given : (e : Edge) → IsOfChange s t me e → IsGiven s (t ∷ []) me e
-  change-given e is = by_side is.which
+  change-near : (e : Edge) → IsOfChange s t me e → IsNear s (t ∷ []) me e
+  change-near e is = by_change is.change (one-changes s t is.change here is.asks) is.which
     where
-      by_side : Any (λ w. FromConflicting t me is.change w e) ws ⊎ ((r : Reader) × HasReader s t.item r × FromReader t me r e) → IsGiven s (t ∷ []) me e
-      by_side (inl any) =
-          let w = Any_at (λ w. FromConflicting t me is.change w e) ws any in
-          between-given Ww w.1.handle me e w.3.1 (wrote_too is.change w.0 w.1 (one-changes s t is.change here is.asks) w.2 w.3.0)
-      by_side (inr r) = between-given Rw r.0.handle me e r.2 (read_it is.change r.0 (one-changes s t is.change here is.asks) r.1)
+      by_change : (c : Change) → IsToChange s (t ∷ []) t.item c → ((w : Writer) × ChangesBefore s t.item c w × FromWriter t Ww me w e) ⊎ ((r : Reader) × ReadsBefore s t.item c r × FromReader t me r e) → IsNear s (t ∷ []) me e
+      by_change (Put v) asks (inl w) = between-near Ww w.0.handle me e w.2 (put_last v w.1.0 w.0 asks w.1.1)
+      by_change (Put v) asks (inr r) = between-near Rw r.0.handle me e r.2 (put_read v r.0 asks r.1.0 r.1.1)
+      by_change (Add v) asks (inl w) = between-near Ww w.0.handle me e w.2 (add_last v w.1.0 w.0 asks w.1.1)
+      by_change (Add v) asks (inr r) = between-near Rw r.0.handle me e r.2 (add_read v r.0 asks r.1.0 r.1.1)
 
-  given-one : (e : Edge) → IsGiven s (t ∷ []) me e → IsOfRead s t me e ⊎ IsOfChange s t me e
-  given-one e (site, (apart, precedes)) = by_case e.label.item e.from e.to e.label.kind refl refl refl refl apart precedes
+  near-one : (e : Edge) → IsNear s (t ∷ []) me e → IsOfRead s t me e ⊎ IsOfChange s t me e
+  near-one e (site, apart, near) = by_case e.label.item e.from e.to e.label.kind refl refl refl refl apart near
     where
       edge_is : (x : Name) (f h : Handle) (k : Kind) → e.label.item ≡ x → e.from ≡ f → e.to ≡ h → e.label.kind ≡ k → t.item ≡ x → e ≡ record { from = f; to = h; label = record { site = t.site; item = t.item; kind = k } }
       edge_is x f h k px pf ph pk item = λ i. record { from = pf i; to = ph i; label = record { site = (site ∙ sym here) i; item = (px ∙ sym item) i; kind = pk i } }
 
-      at_item : (x : Name) (k : ℕ) (w : Writer) → t.item ≡ x → IsWriter s x k w → slice_get ws k ≡ Some w
-      at_item x k w item is = subst (λ y. IsWriter s y k w) (sym item) is
-
-      by_case : (x : Name) (f h : Handle) (k : Kind) → e.label.item ≡ x → e.from ≡ f → e.to ≡ h → e.label.kind ≡ k → f ≢ h → Precedes s (t ∷ []) me x f h k → IsOfRead s t me e ⊎ IsOfChange s t me e
-      by_case x f h k px pf ph pk far (wrote_before n m w saw less is) =
+      by_case : (x : Name) (f h : Handle) (k : Kind) → e.label.item ≡ x → e.from ≡ f → e.to ≡ h → e.label.kind ≡ k → f ≢ h → IsNeighbour s (t ∷ []) me x f h k → IsOfRead s t me e ⊎ IsOfChange s t me e
+      by_case x f h k px pf ph pk far (in_front n m w saw near) =
           let one = saw-one s t x n saw in
           inl record {
             seen = record { value = one.2.0; version = n };
             keeps = one.2.1;
-            which = inl (Any-from_at (λ u. FromWriter t me u e) (take n ws) m w (slice_get-take_at ws n m w less (at_item x m w one.1 is)) (far, edge_is x w.handle me Wr px pf ph pk one.1));
+            which = inl (w, (m, subst (λ y. IsInFront s y n m w) (sym one.1) near), (far, edge_is x w.handle me Wr px pf ph pk one.1));
           }
-      by_case x f h k px pf ph pk far (wrote_after n m w saw more is) =
+      by_case x f h k px pf ph pk far (behind n m w saw near) =
           let one = saw-one s t x n saw in
-          let place : n + (m - n) ≡ m = omega (arith, more) in
           inl record {
             seen = record { value = one.2.0; version = n };
             keeps = one.2.1;
-            which = inr (Any-from_at (λ u. ToWriter t me u e) (drop n ws) (m - n) w (slice_get-drop ws n (m - n) ∙ ap (slice_get ws) place ∙ at_item x m w one.1 is) (far, edge_is x me w.handle Rw px pf ph pk one.1));
+            which = inr (w, (m, subst (λ y. IsBehind s y n m w) (sym one.1) near), (far, edge_is x me w.handle Rw px pf ph pk one.1));
           }
-      by_case x f h k px pf ph pk far (wrote_too c m w asks is apart) =
-          let one = changes-one s t x c asks in
+      by_case x f h k px pf ph pk far (put_last v m w asks near) =
+          let one = changes-one s t x (Put v) asks in
           inr record {
-            change = c;
+            change = Put v;
             asks = one.2;
-            which = inl (Any-from_at (λ u. FromConflicting t me c u e) ws m w (at_item x m w one.1 is) (apart, (far, edge_is x w.handle me Ww px pf ph pk one.1)));
+            which = inl (w, subst (λ y. ChangesBefore s y (Put v) w) (sym one.1) (m, near), (far, edge_is x w.handle me Ww px pf ph pk one.1));
           }
-      by_case x f h k px pf ph pk far (read_it c r asks is) =
-          let one = changes-one s t x c asks in
+      by_case x f h k px pf ph pk far (add_last v m w asks near) =
+          let one = changes-one s t x (Add v) asks in
           inr record {
-            change = c;
+            change = Add v;
             asks = one.2;
-            which = inr (r, subst (λ y. HasReader s y r) (sym one.1) is, (far, edge_is x r.handle me Rw px pf ph pk one.1));
+            which = inl (w, subst (λ y. ChangesBefore s y (Add v) w) (sym one.1) (m, near), (far, edge_is x w.handle me Ww px pf ph pk one.1));
+          }
+      by_case x f h k px pf ph pk far (put_read v r asks is near) =
+          let one = changes-one s t x (Put v) asks in
+          inr record {
+            change = Put v;
+            asks = one.2;
+            which = inr (r, subst (λ y. ReadsBefore s y (Put v) r) (sym one.1) (is, near), (far, edge_is x r.handle me Rw px pf ph pk one.1));
+          }
+      by_case x f h k px pf ph pk far (add_read v r asks is near) =
+          let one = changes-one s t x (Add v) asks in
+          inr record {
+            change = Add v;
+            asks = one.2;
+            which = inr (r, subst (λ y. ReadsBefore s y (Add v) r) (sym one.1) (is, near), (far, edge_is x r.handle me Rw px pf ph pk one.1));
           }
 
   -- the read's and the change's are all
-  pub one-parts : (e : Edge) → IsGiven s (t ∷ []) me e ↔ (IsOfRead s t me e ⊎ IsOfChange s t me e)
-  one-parts e = (given-one e, by_side)
+  pub one-parts : (e : Edge) → IsNear s (t ∷ []) me e ↔ (IsOfRead s t me e ⊎ IsOfChange s t me e)
+  one-parts e = (near-one e, by_side)
     where
-      by_side : IsOfRead s t me e ⊎ IsOfChange s t me e → IsGiven s (t ∷ []) me e
-      by_side (inl is) = read-given e is
-      by_side (inr is) = change-given e is
+      by_side : IsOfRead s t me e ⊎ IsOfChange s t me e → IsNear s (t ∷ []) me e
+      by_side (inl is) = read-near e is
+      by_side (inr is) = change-near e is
+
+-- of one of the listed elements, where the list has all that are so
+any-of : {A : Type 0} (P Q : A → Type 0) (xs : List A) → ((a : A) → Contains xs a ↔ P a) → Any Q xs ↔ ((a : A) × P a × Q a)
+any-of P Q xs all = (
+  λ any. let a = Any_at Q xs any in (a.1, (all a.1).0 (Contains-from_at xs a.0 a.1 a.2), a.3),
+  λ one. let at = Contains_at xs one.0 ((all one.0).1 one.1) in Any-from_at Q xs at.0 one.0 at.1 one.2,
+)
 
 module _ (s : SiteState) (t : Touch) (me : Handle) where
   -- the edges of a read at this version, and of this change
-  pub read-parts : (seen : Seen) (us : List Writer) → t.seen ≡ Some seen → us ≡ writers_of s.installed s.entries t.item → (e : Edge) → IsOfRead s t me e ↔ (Any (λ w. FromWriter t me w e) (take seen.version us) ⊎ Any (λ w. ToWriter t me w e) (drop seen.version us))
-  read-parts seen us some are e = (
-    λ is. subst (λ n. Any (λ w. FromWriter t me w e) (take n us) ⊎ Any (λ w. ToWriter t me w e) (drop n us)) (ap (λ (u : Seen). u.version) (same_Some is.seen seen (sym is.keeps ∙ some))) (subst (λ vs. Any (λ w. FromWriter t me w e) (take is.seen.version vs) ⊎ Any (λ w. ToWriter t me w e) (drop is.seen.version vs)) (sym are) is.which),
-    λ which. record { seen = seen; keeps = some; which = subst (λ vs. Any (λ w. FromWriter t me w e) (take seen.version vs) ⊎ Any (λ w. ToWriter t me w e) (drop seen.version vs)) are which },
+  pub read-parts : (seen : Seen) (us vs : List Writer) → t.seen ≡ Some seen → ((w : Writer) → Contains us w ↔ ((k : ℕ) × IsInFront s t.item seen.version k w)) → ((w : Writer) → Contains vs w ↔ ((k : ℕ) × IsBehind s t.item seen.version k w))
+      → (e : Edge) → IsOfRead s t me e ↔ (Any (λ w. FromWriter t Wr me w e) us ⊎ Any (λ w. ToWriter t me w e) vs)
+  read-parts seen us vs some fronts backs e = (
+    λ is. there is.seen (same_Some is.seen seen (sym is.keeps ∙ some)) is.which,
+    λ which. record { seen = seen; keeps = some; which = back which },
   )
+    where
+      there : (d : Seen) → d ≡ seen → ((w : Writer) × ((k : ℕ) × IsInFront s t.item d.version k w) × FromWriter t Wr me w e) ⊎ ((w : Writer) × ((k : ℕ) × IsBehind s t.item d.version k w) × ToWriter t me w e) → Any (λ w. FromWriter t Wr me w e) us ⊎ Any (λ w. ToWriter t me w e) vs
+      there d same (inl w) = inl ((any-of (λ w. (k : ℕ) × IsInFront s t.item seen.version k w) (λ w. FromWriter t Wr me w e) us fronts).1 (w.0, subst (λ (b : Seen). (k : ℕ) × IsInFront s t.item b.version k w.0) same w.1, w.2))
+      there d same (inr w) = inr ((any-of (λ w. (k : ℕ) × IsBehind s t.item seen.version k w) (λ w. ToWriter t me w e) vs backs).1 (w.0, subst (λ (b : Seen). (k : ℕ) × IsBehind s t.item b.version k w.0) same w.1, w.2))
 
-  pub change-parts : (c : Change) (us : List Writer) (rs : List Reader) → t.change ≡ Some c → us ≡ writers_of s.installed s.entries t.item → ((r : Reader) → Contains rs r ↔ HasReader s t.item r)
-      → (e : Edge) → IsOfChange s t me e ↔ (Any (λ w. FromConflicting t me c w e) us ⊎ Any (λ r. FromReader t me r e) rs)
-  change-parts c us rs some are readers e = (
-    λ is. there (same_Some is.change c (sym is.asks ∙ some)) is.which,
+      back : Any (λ w. FromWriter t Wr me w e) us ⊎ Any (λ w. ToWriter t me w e) vs → ((w : Writer) × ((k : ℕ) × IsInFront s t.item seen.version k w) × FromWriter t Wr me w e) ⊎ ((w : Writer) × ((k : ℕ) × IsBehind s t.item seen.version k w) × ToWriter t me w e)
+      back (inl any) = inl ((any-of (λ w. (k : ℕ) × IsInFront s t.item seen.version k w) (λ w. FromWriter t Wr me w e) us fronts).0 any)
+      back (inr any) = inr ((any-of (λ w. (k : ℕ) × IsBehind s t.item seen.version k w) (λ w. ToWriter t me w e) vs backs).0 any)
+
+  pub change-parts : (c : Change) (us : List Writer) (rs : List Reader) → t.change ≡ Some c → ((w : Writer) → Contains us w ↔ ChangesBefore s t.item c w) → ((r : Reader) → Contains rs r ↔ ReadsBefore s t.item c r)
+      → (e : Edge) → IsOfChange s t me e ↔ (Any (λ w. FromWriter t Ww me w e) us ⊎ Any (λ r. FromReader t me r e) rs)
+  change-parts c us rs some writers readers e = (
+    λ is. there is.change (same_Some is.change c (sym is.asks ∙ some)) is.which,
     λ which. record { change = c; asks = some; which = back which },
   )
     where
-      there : {d : Change} → d ≡ c → Any (λ w. FromConflicting t me d w e) (writers_of s.installed s.entries t.item) ⊎ ((r : Reader) × HasReader s t.item r × FromReader t me r e) → Any (λ w. FromConflicting t me c w e) us ⊎ Any (λ r. FromReader t me r e) rs
-      there {d} same (inl any) = inl (subst (λ vs. Any (λ w. FromConflicting t me c w e) vs) (sym are) (subst (λ b. Any (λ w. FromConflicting t me b w e) (writers_of s.installed s.entries t.item)) same any))
-      there {d} same (inr r) = let at = Contains_at rs r.0 ((readers r.0).1 r.1) in inr (Any-from_at (λ r. FromReader t me r e) rs at.0 r.0 at.1 r.2)
+      there : (d : Change) → d ≡ c → ((w : Writer) × ChangesBefore s t.item d w × FromWriter t Ww me w e) ⊎ ((r : Reader) × ReadsBefore s t.item d r × FromReader t me r e) → Any (λ w. FromWriter t Ww me w e) us ⊎ Any (λ r. FromReader t me r e) rs
+      there d same (inl w) = inl ((any-of (ChangesBefore s t.item c) (λ w. FromWriter t Ww me w e) us writers).1 (w.0, subst (λ b. ChangesBefore s t.item b w.0) same w.1, w.2))
+      there d same (inr r) = inr ((any-of (ReadsBefore s t.item c) (λ r. FromReader t me r e) rs readers).1 (r.0, subst (λ b. ReadsBefore s t.item b r.0) same r.1, r.2))
 
-      back : Any (λ w. FromConflicting t me c w e) us ⊎ Any (λ r. FromReader t me r e) rs → Any (λ w. FromConflicting t me c w e) (writers_of s.installed s.entries t.item) ⊎ ((r : Reader) × HasReader s t.item r × FromReader t me r e)
-      back (inl any) = inl (subst (λ vs. Any (λ w. FromConflicting t me c w e) vs) are any)
-      back (inr any) = let r = Any_at (λ r. FromReader t me r e) rs any in inr (r.1, (readers r.1).0 (Contains-from_at rs r.0 r.1 r.2), r.3)
+      back : Any (λ w. FromWriter t Ww me w e) us ⊎ Any (λ r. FromReader t me r e) rs → ((w : Writer) × ChangesBefore s t.item c w × FromWriter t Ww me w e) ⊎ ((r : Reader) × ReadsBefore s t.item c r × FromReader t me r e)
+      back (inl any) = inl ((any-of (ChangesBefore s t.item c) (λ w. FromWriter t Ww me w e) us writers).0 any)
+      back (inr any) = inr ((any-of (ReadsBefore s t.item c) (λ r. FromReader t me r e) rs readers).0 any)
 
 module _ (s : SiteState) (ts : List Touch) (me : Handle) where
   -- in the end they are all
-  pub gathers-every : (i : ℕ) (edges : List Edge) → length ts ≤ i → AddsAll (λ e. Any (λ t. IsGiven s (t ∷ []) me e) (take i ts)) [] edges → (e : Edge) → Contains edges e ↔ IsGiven s ts me e
-  gathers-every i edges end so_far e = (λ has. there (((each-all (λ t d. IsGiven s (t ∷ []) me d) ts i [] edges end so_far) e).0 has), λ is. ((each-all (λ t d. IsGiven s (t ∷ []) me d) ts i [] edges end so_far) e).1 (inr ((given-parts s me ts e).1 is)))
+  pub gathers-near : (i : ℕ) (edges : List Edge) → length ts ≤ i → AddsAll (λ e. Any (λ t. IsNear s (t ∷ []) me e) (take i ts)) [] edges → (e : Edge) → Contains edges e ↔ IsNear s ts me e
+  gathers-near i edges end so_far e = (λ has. there ((all e).0 has), λ is. (all e).1 (inr ((near-parts s me ts e).1 is)))
     where
-      there : Contains [] e ⊎ Any (λ t. IsGiven s (t ∷ []) me e) ts → IsGiven s ts me e
+      all : AddsAll (λ d. Any (λ t. IsNear s (t ∷ []) me d) ts) [] edges
+      all = each-all (λ t d. IsNear s (t ∷ []) me d) ts i [] edges end so_far
+
+      there : Contains [] e ⊎ Any (λ t. IsNear s (t ∷ []) me e) ts → IsNear s ts me e
       there (inl has) = absurd (omega (arith, has.1))
-      there (inr any) = (given-parts s me ts e).0 any
+      there (inr any) = (near-parts s me ts e).0 any
 
-  -- where they are all and nothing else, each is one of the draft, and they stand for all
-  pub every-given : (edges : List Edge) → ((e : Edge) → Contains edges e ↔ IsGiven s ts me e) → All (IsGiven s ts me) edges
-  every-given edges every = All-from_at (IsGiven s ts me) edges (λ n e at. (every e).0 (Contains-from_at edges n e at))
+  -- where they are all the neighbours' and nothing else, each is one of the draft, and they stand for all
+  pub near-given : (edges : List Edge) → ((e : Edge) → Contains edges e ↔ IsNear s ts me e) → All (IsGiven s ts me) edges
+  near-given edges near = All-from_at (IsGiven s ts me) edges (λ n e at.
+      let is = (near e).0 (Contains-from_at edges n e at) in
+      (is.0, neighbour-edge s ts me e.label.item e.from e.to e.label.kind is.1 is.2))
 
-  pub every-stands : (edges : List Edge) → ((e : Edge) → Contains edges e ↔ IsGiven s ts me e) → StandsForAll s ts me edges
-  every-stands edges every x f t k is =
-      let e : Edge = record { from = f; to = t; label = record { site = s.number; item = x; kind = k } } in
-      given e ((every e).1 (refl, is)) refl
+  pub near-stands : (edges : List Edge) → IsSite s → (SeesTooNew s ts → ⊥) → ((e : Edge) → Contains edges e ↔ IsNear s ts me e) → StandsForAll s ts me edges
+  near-stands edges site fine near = neighbours-carry s ts me edges site fine (λ x f h k apart is. (near (record { from = f; to = h; label = record { site = s.number; item = x; kind = k } })).1 (refl, apart, is))
 
   -- a version of an item that is too new is one of the draft
   pub item-new : Any (IsTooNew s) ts → SeesTooNew s ts
@@ -309,6 +337,13 @@ module _ (s : SiteState) (ts : List Touch) (me : Handle) where
 
   pub not-new : (Any (IsTooNew s) ts → ⊥) → (i : ℕ) (t : Touch) → slice_get ts i ≡ Some t → IsTooNew s t → ⊥
   not-new none i t at is = none (Any-from_at (IsTooNew s) ts i t at is)
+
+-- a version that is not too new is one that the item has had
+pub seen-known : (s : SiteState) (t : Touch) (seen : Seen) → t.site ≡ s.number → t.seen ≡ Some seen → (IsTooNew s t → ⊥) → seen.version ≤ version_at s.entries t.item
+seen-known s t seen here some fine = elim (cases_lt (version_at s.entries t.item) seen.version) [
+  | inl lt ↦ absurd (fine (here, (seen, some, lt)))
+  | inr le ↦ le
+]
 
 pub ok_then : {T E P Q : Type 0} (r : Result T E) → OnOk r P → (P → Q) → OnOk r Q
 ok_then (Ok x) p f = f p

@@ -5,3 +5,4 @@ pub mod Leading
 pub mod Logged
 pub mod Unlisted
 pub mod Neighbours
+pub mod Slices

@@ -141,7 +141,7 @@ module _ (s : SiteState) (x : Name) (site : IsSite s) where
   same_handle : (r : Reader) (m : ℕ) (u : Writer) → HasReader s x r → IsWriter s x m u → r.tx ≡ u.tx → r.handle ≡ u.handle
   same_handle r m u reads is same = same_Some r.handle u.handle (sym reads.0 ∙ ap (handle_of s.installed) same ∙ (writer_at s site x m u is).is.given)
 
-  reader_below : (r : Reader) → HasReader s x r → r.version ≤ last
+  pub reader_below : (r : Reader) → HasReader s x r → r.version ≤ last
   reader_below r reads =
       let l = reads.1.1 in
       let lt = slice_get_within s.entries l.place (Read r.tx x reads.1.0) l.at in

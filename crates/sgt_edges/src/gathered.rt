@@ -1,23 +1,25 @@
 //! The edges of a draft at a site.
 
-ghost use Rattle.std.specs.Prelude.{◌≡◌, ◌↔◌, ◌≤◌, ◌∷◌, ◌⊎◌, [], ℕ, length, take, drop, All, Any, Contains, IsTrue, IfOk, IfErr, OnOk};
-ghost use Rattle.sgt_names.specs.declared.entry.Kind.{Kind};
-ghost use Rattle.sgt_site.specs.State.{IsReader, version_at, writers_of};
-ghost use Rattle.sgt_site.specs.declared.cell.Reader.{Reader as CommittedReader};
-ghost use Rattle.sgt_edges.specs.Edges.{IsGiven, StandsForAll, SeesTooNew, RefusesEdges, ConflictsWith};
+ghost use Rattle.std.specs.Prelude.{◌≡◌, ◌↔◌, ◌+◌, ◌≤◌, ◌∷◌, [], length, All, Any, Contains, IsTrue, IfOk, IfErr, OnOk};
+ghost use Rattle.sgt_site.specs.State.{IsSite};
+ghost use Rattle.sgt_edges.specs.Edges.{IsGiven, StandsForAll, SeesTooNew, RefusesEdges};
 ghost use Rattle.sgt_edges.specs.declared.edge.Edge.{Edge as AnEdge};
-ghost use Rattle.sgt_edges.specs.private.Gathered.{IsTooNew, IsBetween, AddsAll, FromWriter, ToWriter, FromConflicting, FromReader, IsOfRead, IsOfChange};
+ghost use Rattle.sgt_edges.specs.private.Gathered.{IsTooNew, IsNear, IsBetween, AddsAll, FromWriter, ToWriter, FromReader, IsOfRead, IsOfChange};
 
 use crate::edge::{Edge, EdgeList};
 use crate::fault::EdgeFault;
+use crate::runs::{behind, changes_before, in_front, reads_before, writers_at};
 use sgt_arena::Handle;
-use sgt_names::{Change, Draft, Item, Kind, Label, Touch};
+use sgt_names::{Draft, Kind, Label, SiteNo, Touch};
 use sgt_site::{Reader, Site, Writer};
 use std::alloc::{AllocError, Global};
 
 /// The conflicts of a draft's reads and changes at a site with the committed transactions there, as edges to and from this
-/// node: never to itself. Their order is not fixed. The source of the rule: Bernstein, Hadzilacos and Goodman 1987, ch. 2 and
-/// 4.4.
+/// node: never to itself, and to neighbours alone, over which walks lead to the others. Their order is not fixed. The source of
+/// the rule: Bernstein, Hadzilacos and Goodman 1987, ch. 2 and 4.4.
+///
+/// Searches the site's items for each item of the draft, and then goes over the writers and readers that it gives edges of and
+/// at most one more in each direction.
 pub fn gather(alloc: Global, site: &Site, draft: &Draft, me: Handle) -> Result<EdgeList, EdgeFault>
     ensures given { IfOk result (λ edges. All (IsGiven site.now draft.now.touched me) edges) }
     ensures stands { IfOk result (StandsForAll site.now draft.now.touched me) }
@@ -28,25 +30,27 @@ pub fn gather(alloc: Global, site: &Site, draft: &Draft, me: Handle) -> Result<E
     if sees_too_new(site, touched) {
         return Err(EdgeFault::SeenTooNew);
     }
-    match every_edge(alloc, site, touched, me) {
+    match to_neighbours(alloc, site, touched, me) {
         Ok(edges) => Ok(edges),
         Err(_) => Err(EdgeFault::Memory),
     }
 }
 
-// The edges of the draft here: all of them, and nothing else.
-fn every_edge(
+// The draft's edges here to and from neighbours: all of them, and nothing else.
+fn to_neighbours(
     alloc: Global,
     site: &Site,
     touched: &[Touch],
     me: Handle,
 ) -> Result<EdgeList, AllocError>
     requires { Any (IsTooNew site.now) touched.now → ⊥ }
-    ensures { IfOk result (λ edges. (e : AnEdge) → Contains edges e ↔ IsGiven site.now touched.now me e) }
+    ensures near { IfOk result (λ edges. (e : AnEdge) → Contains edges e ↔ IsNear site.now touched.now me e) }
+    ensures site { IsSite site.now }
 {
+    let here = site.number();
     let mut edges = EdgeList::new(alloc);
     for t in touched {
-        add_edges(&mut edges, site, t, me)?;
+        add_edges(&mut edges, site, here, t, me)?;
     }
     Ok(edges)
 }
@@ -69,33 +73,19 @@ fn is_too_new(site: &Site, touch: &Touch) -> bool
     }
 }
 
-// The writers of the item. One that isn't at the site has none.
-fn writers_at(site: &Site, item: Item) -> &[Writer]
-    ensures writers { result.now ≡ writers_of site.now.installed site.now.entries item }
-    ensures versions { length result.now ≡ version_at site.now.entries item }
-{
-    match site.writers(item) {
-        Ok(writers) => writers,
-        Err(_) => &[],
-    }
-}
-
-// The committed readers of the item. One that isn't at the site has none.
-fn readers_at(site: &Site, item: Item) -> &[Reader]
-    ensures { (r : CommittedReader) → Contains result.now r ↔ IsReader site.now.installed site.now.entries item r }
-{
-    match site.readers(item) {
-        Ok(readers) => readers,
-        Err(_) => &[],
-    }
-}
-
 // Adds the edges of one touched item, if it is at the site.
-fn add_edges(edges: &mut EdgeList, site: &Site, touch: &Touch, me: Handle) -> Result<(), AllocError>
-    requires { IsTooNew site.now touch.now → ⊥ }
-    ensures { OnOk result (AddsAll (IsGiven site.now (touch.now ∷ []) me) edges.old edges.new) }
+fn add_edges(
+    edges: &mut EdgeList,
+    site: &Site,
+    here: SiteNo,
+    touch: &Touch,
+    me: Handle,
+) -> Result<(), AllocError>
+    requires number { here ≡ site.now.number }
+    requires seen { IsTooNew site.now touch.now → ⊥ }
+    ensures { OnOk result (AddsAll (IsNear site.now (touch.now ∷ []) me) edges.old edges.new) }
 {
-    if touch.site != site.number() {
+    if touch.site != here {
         return Ok(());
     }
     add_of_read(edges, site, touch, me)?;
@@ -116,9 +106,9 @@ fn add_of_read(
     let Some(seen) = touch.seen else {
         return Ok(());
     };
-    let (before, after) = writers_at(site, touch.item).split_at(seen.version as usize);
-    add_before(edges, touch, before, me)?;
-    add_after(edges, touch, after, me)
+    let before = in_front(site, touch.item, seen.version);
+    add_before(edges, touch, Kind::Wr, before, me)?;
+    add_after(edges, touch, behind(site, touch.item, seen.version), me)
 }
 
 // Adds the edges of a touched item's change, if there is one.
@@ -128,39 +118,42 @@ fn add_of_change(
     touch: &Touch,
     me: Handle,
 ) -> Result<(), AllocError>
-    requires { touch.now.site ≡ site.now.number }
     ensures { OnOk result (AddsAll (IsOfChange site.now touch.now me) edges.old edges.new) }
 {
     let Some(change) = touch.change else {
         return Ok(());
     };
-    add_conflicting(edges, touch, change, writers_at(site, touch.item), me)?;
-    add_readers(edges, touch, readers_at(site, touch.item), me)
+    let before = changes_before(site, touch.item, change);
+    add_before(edges, touch, Kind::Ww, before, me)?;
+    add_readers(edges, touch, reads_before(site, touch.item, change), me)
 }
 
-// Adds the edges to a read from the writers before it.
+// Adds the edges of this kind from writers.
 fn add_before(
     edges: &mut EdgeList,
     touch: &Touch,
+    kind: Kind,
     writers: &[Writer],
     me: Handle,
 ) -> Result<(), AllocError>
-    ensures { OnOk result (AddsAll (λ e. Any (λ w. FromWriter touch.now me w e) writers.now) edges.old edges.new) }
+    ensures all { OnOk result (AddsAll (λ e. Any (λ w. FromWriter touch.now kind me w e) writers.now) edges.old edges.new) }
+    ensures once { OnOk result (length edges.new ≤ length edges.old + length writers.now) }
 {
     for w in writers {
-        add(edges, touch, Kind::Wr, w.handle, me)?;
+        add(edges, touch, kind, w.handle, me)?;
     }
     Ok(())
 }
 
-// Adds the edges from a read to the writers after it.
+// Adds the edges from a read to writers.
 fn add_after(
     edges: &mut EdgeList,
     touch: &Touch,
     writers: &[Writer],
     me: Handle,
 ) -> Result<(), AllocError>
-    ensures { OnOk result (AddsAll (λ e. Any (λ w. ToWriter touch.now me w e) writers.now) edges.old edges.new) }
+    ensures all { OnOk result (AddsAll (λ e. Any (λ w. ToWriter touch.now me w e) writers.now) edges.old edges.new) }
+    ensures once { OnOk result (length edges.new ≤ length edges.old + length writers.now) }
 {
     for w in writers {
         add(edges, touch, Kind::Rw, me, w.handle)?;
@@ -168,55 +161,15 @@ fn add_after(
     Ok(())
 }
 
-// Adds the edges to a change from the writers that are in conflict with it.
-fn add_conflicting(
-    edges: &mut EdgeList,
-    touch: &Touch,
-    change: Change,
-    writers: &[Writer],
-    me: Handle,
-) -> Result<(), AllocError>
-    ensures { OnOk result (AddsAll (λ e. Any (λ w. FromConflicting touch.now me change w e) writers.now) edges.old edges.new) }
-{
-    for w in writers {
-        add_if_conflicting(edges, touch, change, w, me)?;
-    }
-    Ok(())
-}
-
-fn add_if_conflicting(
-    edges: &mut EdgeList,
-    touch: &Touch,
-    change: Change,
-    writer: &Writer,
-    me: Handle,
-) -> Result<(), AllocError>
-    ensures { OnOk result (AddsAll (FromConflicting touch.now me change writer.now) edges.old edges.new) }
-{
-    if !conflict(change, writer) {
-        return Ok(());
-    }
-    add(edges, touch, Kind::Ww, writer.handle, me)
-}
-
-// Whether the two are no two increments.
-fn conflict(change: Change, writer: &Writer) -> bool
-    ensures { IsTrue result ↔ ConflictsWith change writer.now }
-{
-    match change {
-        Change::Put(_) => true,
-        Change::Add(_) => !writer.increment,
-    }
-}
-
-// Adds the edges to a change from the readers.
+// Adds the edges to a change from readers.
 fn add_readers(
     edges: &mut EdgeList,
     touch: &Touch,
     readers: &[Reader],
     me: Handle,
 ) -> Result<(), AllocError>
-    ensures { OnOk result (AddsAll (λ e. Any (λ r. FromReader touch.now me r e) readers.now) edges.old edges.new) }
+    ensures all { OnOk result (AddsAll (λ e. Any (λ r. FromReader touch.now me r e) readers.now) edges.old edges.new) }
+    ensures once { OnOk result (length edges.new ≤ length edges.old + length readers.now) }
 {
     for r in readers {
         add(edges, touch, Kind::Rw, r.handle, me)?;
@@ -232,7 +185,8 @@ fn add(
     from: Handle,
     to: Handle,
 ) -> Result<(), AllocError>
-    ensures { OnOk result (AddsAll (IsBetween touch.now kind from to) edges.old edges.new) }
+    ensures all { OnOk result (AddsAll (IsBetween touch.now kind from to) edges.old edges.new) }
+    ensures once { OnOk result (length edges.new ≤ length edges.old + 1) }
 {
     if from == to {
         return Ok(());

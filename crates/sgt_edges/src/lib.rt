@@ -5,6 +5,7 @@ mod edge;
 mod fault;
 mod gathered;
 mod laws;
+mod runs;
 
 pub use edge::{Edge, EdgeList};
 pub use fault::EdgeFault;

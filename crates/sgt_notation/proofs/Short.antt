@@ -11,13 +11,13 @@ use Rattle.sgt_notation.specs.declared.SectionLine.{SectionLine}
 use Rattle.sgt_notation.specs.declared.SectionLine.TheVariants.{Site, Initial, Logged, Final, End}
 use Rattle.sgt_notation.proofs.OneSpelling.{line-one_line}
 
-tx-short : (n : ℕ) → IsTx n → length (decimal n) ≤ 10
+pub tx-short : (n : ℕ) → IsTx n → length (decimal n) ≤ 10
 tx-short n h = length-decimal-le 10 n (lit< tt) (omega (arith, h.1)) (omega (arith, h.1))
 
-value-short : (n : ℕ) → IsValue n → length (decimal n) ≤ 20
+pub value-short : (n : ℕ) → IsValue n → length (decimal n) ≤ 20
 value-short n h = length-decimal-le 20 n (lit< tt) (omega (arith, h)) h
 
-name-short : (x : Name) → IsName x → length x ≤ 16
+pub name-short : (x : Name) → IsName x → length x ≤ 16
 name-short [] h = absurd h
 name-short (c ∷ cs) h = omega (arith, h.2)
 

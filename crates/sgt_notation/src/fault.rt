@@ -14,7 +14,7 @@ pub enum NotationFault {
     /// They are more than 1048576.
     #[error("L2: the line is too long")]
     TooLong,
-    /// A growth was refused. Never of an entry or a line of a section, which take no memory.
+    /// A growth was refused. Only the items of a site take memory: never of an entry, an event or a line of a section.
     #[error("L3: memory")]
     Memory,
 }

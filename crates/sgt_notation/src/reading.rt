@@ -11,7 +11,7 @@ use crate::number::{find_site, find_tx, find_value};
 use sgt_names::{Entry, Holding, Item, Tx, Value};
 
 /// What stands before the first such byte, and what after it.
-fn cut(bytes: &[u8], at: u8) -> Option<(&[u8], &[u8])>
+pub(crate) fn cut(bytes: &[u8], at: u8) -> Option<(&[u8], &[u8])>
     ensures some { IfSome result (λ r. (bytes.now ≡ r.0.now ++ at ∷ r.1.now) × All (λ b. b ≢ at) r.0.now) }
     ensures none { IfNone result (All (λ b. b ≢ at) bytes.now) }
 {
@@ -20,7 +20,7 @@ fn cut(bytes: &[u8], at: u8) -> Option<(&[u8], &[u8])>
 }
 
 /// What stands behind this word at the front.
-fn behind<'a>(bytes: &'a [u8], word: &[u8]) -> Option<&'a [u8]>
+pub(crate) fn behind<'a>(bytes: &'a [u8], word: &[u8]) -> Option<&'a [u8]>
     ensures { MatchOption result ((rest : List ℕ) → bytes.entry.now ≢ word.now ++ rest) (λ r. bytes.entry.now ≡ word.now ++ r.now) }
 {
     bytes.strip_prefix(word)
@@ -43,7 +43,7 @@ fn find_operation(bytes: &[u8]) -> Option<(Tx, Item, Value)>
 }
 
 /// Reads `NAME=NUM`.
-fn find_holding(bytes: &[u8]) -> Option<Holding>
+pub(crate) fn find_holding(bytes: &[u8]) -> Option<Holding>
     ensures { Finds IsHolding (λ h. assignment h.item h.value) bytes.now result }
 {
     let (name, value_text) = cut(bytes, b'=')?;
@@ -94,7 +94,7 @@ fn find_line(line: &[u8]) -> Option<SectionLine>
 }
 
 /// Why a line that spells nothing is refused.
-fn refusal(line: &[u8]) -> NotationFault
+pub(crate) fn refusal(line: &[u8]) -> NotationFault
     ensures { Refuses line.now result }
 {
     if line.len() > MAX_LINE {

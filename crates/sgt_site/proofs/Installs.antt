@@ -1,5 +1,5 @@
 -- What a site keeps when it logs the block of a committed transaction.
-use Rattle.std.proofs.Common.{◌≡◌, ℕ, suc, ◌<◌, ◌≢◌, ◌⊎◌, AllPairs, List, [], ◌∷◌, ◌++◌, length, get_or, true, false, Option, Some, None, refl, sym, ap, ap₂, ◌∙◌, subst, arith, inl, inr, Contains, append-nil}
+use Rattle.std.proofs.Common.{◌≡◌, ℕ, suc, ◌≢◌, ◌⊎◌, AllPairs, List, [], ◌∷◌, ◌++◌, length, get_or, true, false, Option, Some, None, refl, sym, ap, ap₂, ◌∙◌, subst, arith, inl, inr, Contains}
 use Rattle.std.specs.Prelude.{slice_get, fold, ◌↔◌, ◌==◌, option_and_then}
 use Rattle.std.specs.List.{filter_map, cons_option}
 use Rattle.std.specs.Option.{option_to_list}
@@ -8,8 +8,7 @@ use Rattle.std.proofs.lemmas.Bool.{cases_Bool}
 use Rattle.std.proofs.lemmas.Bool.Decides.{nat_tests}
 use Rattle.std.proofs.lemmas.Option.{same_Some, slice_get_within, slice_get-get_or}
 use Rattle.std.proofs.lemmas.List.{map-append}
-use Rattle.std.proofs.lemmas.List.Elements.{filter_map-append, Contains-append_left, Contains-append_right, Contains-append_cases}
-use Rattle.std.proofs.lemmas.List.Quantifiers.{all_pairs_push}
+use Rattle.std.proofs.lemmas.List.Elements.{filter_map-append, Contains-append_left, Contains-append_right}
 use Rattle.std.proofs.lemmas.List.Sums.{fold-append}
 use Rattle.sgt_names.specs.Name.{Name}
 use Rattle.sgt_names.specs.Entry.{tx_of, change_of}
@@ -30,11 +29,11 @@ use Rattle.sgt_site.specs.declared.cell.Writer.{Writer}
 use Rattle.sgt_site.specs.declared.cell.Reader.{Reader}
 use Rattle.sgt_site.specs.declared.readings.Reading.{Reading}
 use Rattle.sgt_site.specs.State.{SiteState, Pledge, IsSite, IsCovered, IsReader, IsWant, LogsRead, handle_of, writer, writers_of, committed_in, change_entry, commit_block}
-use Rattle.sgt_site.specs.private.Cells.{Contents, AreChanged, IsNoted, touch_in, change_in, seen_in, adds, noted_writers, noted_readers}
+use Rattle.sgt_site.specs.private.Cells.{Contents, AreChanged, IsNoted, touch_in, change_in, seen_in, adds, noted_writers, AddsReader}
 use Rattle.sgt_site.specs.private.Kept.{Spare, IsCell, IsKept}
 use Rattle.sgt_site.proofs.Appends.{get_cases, orderly-append, legal-append, LogsRead-append, LogsRead-cases}
 use Rattle.sgt_site.proofs.Projections.{all_given, ended_with_handle}
-use Rattle.sgt_site.proofs.Basics.{is_single}
+use Rattle.sgt_site.proofs.Inserts.{Contains-insert, AllPairs-insert}
 use Rattle.sgt_site.proofs.Changes.{changed-items}
 use Rattle.sgt_site.proofs.Keeps.{Ends, ended-one}
 use Rattle.sgt_site.proofs.Blocks.{commits-blocks, in_block, block_tx, at_end, block_ends, block_alone, block_orderly, block_follows, no_reads}
@@ -150,58 +149,63 @@ module _ (s : SiteState) (p : Pledge) (handle : Handle) (site : IsSite s) (cover
       by_change None = refl
       by_change (Some d) = refl
 
-  readers_noted : (c : Contents) → IsCell s.items s.installed s.entries c → (r : Reader) → Contains (c.readers ++ noted_readers by (seen_in (touch_in p.part c.item))) r ↔ IsReader ws (s.entries ++ bs) c.item r
-  readers_noted c cell r = (
-    λ has. from (Contains-append_cases c.readers (noted_readers by (seen_in (touch_in p.part c.item))) r has),
-    λ is. handle_cases s.installed by r.tx r.handle is.0
-        (λ had. Contains-append_left c.readers (noted_readers by (seen_in (touch_in p.part c.item))) r ((cell.readers r).1 (had, (is.1.0, logged is.1.0 is.1.1))))
-        (λ own same. Contains-append_right c.readers (noted_readers by (seen_in (touch_in p.part c.item))) r (new_reader own same is.1.0 (subst (λ t. LogsRead s.entries t c.item is.1.0 r.version) own (logged is.1.0 is.1.1)))),
-  )
-    where
-      logged : (v : ℕ) → LogsRead (s.entries ++ bs) r.tx c.item v r.version → LogsRead s.entries r.tx c.item v r.version
-      logged v read = LogsRead-cases s.entries bs r.tx c.item v r.version read (λ old. old) (λ m at is. absurd (no_reads change_entry Commit commits-blocks p.tx (writing_in p.part) m r.tx c.item v at))
+  -- the readers of a cell, with the one that a kept read makes
+  module _ (c d : Contents) (cell : IsCell s.items s.installed s.entries c) (added : AddsReader by (seen_in (touch_in p.part c.item)) c.readers d.readers) where
+    readers_noted : (r : Reader) → Contains d.readers r ↔ IsReader ws (s.entries ++ bs) c.item r
+    readers_noted r = (
+      λ has. from (seen_in (touch_in p.part c.item)) refl added has,
+      λ is. handle_cases s.installed by r.tx r.handle is.0
+          (λ had. kept (seen_in (touch_in p.part c.item)) added ((cell.readers r).1 (had, (is.1.0, logged is.1.0 is.1.1))))
+          (λ own same. new_reader own same is.1.0 (subst (λ t. LogsRead s.entries t c.item is.1.0 r.version) own (logged is.1.0 is.1.1))),
+    )
+      where
+        logged : (v : ℕ) → LogsRead (s.entries ++ bs) r.tx c.item v r.version → LogsRead s.entries r.tx c.item v r.version
+        logged v read = LogsRead-cases s.entries bs r.tx c.item v r.version read (λ old. old) (λ m at is. absurd (no_reads change_entry Commit commits-blocks p.tx (writing_in p.part) m r.tx c.item v at))
 
-      of_touch : (o : Option Touch) → touch_in p.part c.item ≡ o → Contains (noted_readers by (seen_in o)) r → IsReader ws (s.entries ++ bs) c.item r
-      of_touch None is has = absurd (omega (arith, has.1))
-      of_touch (Some t) is has = of_seen t.seen refl has
-        where
-          of_seen : (q : Option Seen) → t.seen ≡ q → Contains (noted_readers by q) r → IsReader ws (s.entries ++ bs) c.item r
-          of_seen None none in_it = absurd (omega (arith, in_it.1))
-          of_seen (Some seen) some in_it =
-              let same = is_single (record { tx = by.tx; handle = by.handle; version = seen.version }) r in_it in
-              rw same (given, (seen.value, LogsRead-append s.entries bs p.tx c.item seen.value seen.version ((covered.reads c.item seen.value seen.version).0 (touch-kept p.part c.item t seen is some))))
+        old_reader : Contains c.readers r → IsReader ws (s.entries ++ bs) c.item r
+        old_reader has = let is = (cell.readers r).0 has in (handle_kept s.installed (by ∷ []) r.tx r.handle is.0, (is.1.0, LogsRead-append s.entries bs r.tx c.item is.1.0 r.version is.1.1))
 
-      from : Contains c.readers r ⊎ Contains (noted_readers by (seen_in (touch_in p.part c.item))) r → IsReader ws (s.entries ++ bs) c.item r
-      from (inl old) = let is = (cell.readers r).0 old in (handle_kept s.installed (by ∷ []) r.tx r.handle is.0, (is.1.0, LogsRead-append s.entries bs r.tx c.item is.1.0 r.version is.1.1))
-      from (inr new) = of_touch (touch_in p.part c.item) refl new
+        of_touch : (o : Option Touch) (seen : Seen) → touch_in p.part c.item ≡ o → seen_in o ≡ Some seen → r ≡ record { tx = by.tx; handle = by.handle; version = seen.version } → IsReader ws (s.entries ++ bs) c.item r
+        of_touch None seen is none same = absurd cc
+        of_touch (Some t) seen is some same = rw same (given, (seen.value, LogsRead-append s.entries bs p.tx c.item seen.value seen.version ((covered.reads c.item seen.value seen.version).0 (touch-kept p.part c.item t seen is some))))
 
-      new_reader : r.tx ≡ p.tx → r.handle ≡ handle → (v : ℕ) → LogsRead s.entries p.tx c.item v r.version → Contains (noted_readers by (seen_in (touch_in p.part c.item))) r
-      new_reader own same v read =
-          let t = kept-touch p.part c.item v r.version rises ((covered.reads c.item v r.version).1 read) in
-          let is : record { tx = p.tx; handle = handle; version = r.version } ≡ r = λ i. record { tx = sym own i; handle = sym same i; version = r.version } in
-          rw t.1 (rw t.2 (Contains-from_at (record { tx = p.tx; handle = handle; version = r.version } ∷ []) 0 r (ap Some is)))
+        from : (q : Option Seen) → seen_in (touch_in p.part c.item) ≡ q → AddsReader by q c.readers d.readers → Contains d.readers r → IsReader ws (s.entries ++ bs) c.item r
+        from None is same has = old_reader (subst (λ (rs : List Reader). Contains rs r) same has)
+        from (Some seen) is at has = by_side ((Contains-insert c.readers at.0 (record { tx = by.tx; handle = by.handle; version = seen.version }) r).0 (subst (λ (rs : List Reader). Contains rs r) at.1 has))
+          where
+            by_side : (r ≡ record { tx = by.tx; handle = by.handle; version = seen.version }) ⊎ Contains c.readers r → IsReader ws (s.entries ++ bs) c.item r
+            by_side (inl same) = of_touch (touch_in p.part c.item) seen refl is same
+            by_side (inr old) = old_reader old
 
-  -- who ends now has not read as a committed transaction before
-  once_noted : (c : Contents) → IsCell s.items s.installed s.entries c → AllPairs (λ (a b : Reader). a.tx ≢ b.tx) (c.readers ++ noted_readers by (seen_in (touch_in p.part c.item)))
-  once_noted c cell = by_seen (seen_in (touch_in p.part c.item))
-    where
-      apart : (k : ℕ) (d : Reader) → k < length c.readers → (get_or c.readers k d).tx ≢ p.tx
-      apart k d lt same =
-          let r = get_or c.readers k d in
-          let has = Contains-from_at c.readers k r (slice_get-get_or c.readers k d lt) in
-          covered.active (ended_with_handle s site p.tx r.handle (subst (λ t. handle_of s.installed t ≡ Some r.handle) same ((cell.readers r).0 has).0))
+        kept : (q : Option Seen) → AddsReader by q c.readers d.readers → Contains c.readers r → Contains d.readers r
+        kept None same has = subst (λ (rs : List Reader). Contains rs r) (sym same) has
+        kept (Some seen) at has = subst (λ (rs : List Reader). Contains rs r) (sym at.1) ((Contains-insert c.readers at.0 (record { tx = by.tx; handle = by.handle; version = seen.version }) r).1 (inr has))
 
-      by_seen : (q : Option Seen) → AllPairs (λ (a b : Reader). a.tx ≢ b.tx) (c.readers ++ noted_readers by q)
-      by_seen None = subst (AllPairs (λ (a b : Reader). a.tx ≢ b.tx)) (sym (append-nil c.readers)) cell.readers_once
-      by_seen (Some seen) = all_pairs_push (λ (a b : Reader). a.tx ≢ b.tx) c.readers (record { tx = by.tx; handle = by.handle; version = seen.version }) cell.readers_once apart
+        new_reader : r.tx ≡ p.tx → r.handle ≡ handle → (v : ℕ) → LogsRead s.entries p.tx c.item v r.version → Contains d.readers r
+        new_reader own same v read =
+            let t = kept-touch p.part c.item v r.version rises ((covered.reads c.item v r.version).1 read) in
+            let at : AddsReader by (Some (record { value = v; version = r.version })) c.readers d.readers = subst (λ q. AddsReader by q c.readers d.readers) (ap seen_in t.1 ∙ t.2) added in
+            let is : r ≡ record { tx = p.tx; handle = handle; version = r.version } = λ i. record { tx = own i; handle = same i; version = r.version } in
+            subst (λ (rs : List Reader). Contains rs r) (sym at.1) ((Contains-insert c.readers at.0 (record { tx = p.tx; handle = handle; version = r.version }) r).1 (inl is))
+
+    -- who ends now has not read as a committed transaction before
+    once_noted : AllPairs (λ (a b : Reader). a.tx ≢ b.tx) d.readers
+    once_noted = by_seen (seen_in (touch_in p.part c.item)) added
+      where
+        apart : (k : ℕ) (r : Reader) → slice_get c.readers k ≡ Some r → r.tx ≢ p.tx
+        apart k r at same = covered.active (ended_with_handle s site p.tx r.handle (subst (λ t. handle_of s.installed t ≡ Some r.handle) same ((cell.readers r).0 (Contains-from_at c.readers k r at)).0))
+
+        by_seen : (q : Option Seen) → AddsReader by q c.readers d.readers → AllPairs (λ (a b : Reader). a.tx ≢ b.tx) d.readers
+        by_seen None same = subst (AllPairs (λ (a b : Reader). a.tx ≢ b.tx)) (sym same) cell.readers_once
+        by_seen (Some seen) at = subst (AllPairs (λ (a b : Reader). a.tx ≢ b.tx)) (sym at.1) (AllPairs-insert (λ (a b : Reader). a.tx ≢ b.tx) c.readers at.0 (record { tx = by.tx; handle = by.handle; version = seen.version }) (λ m r lt is. apart m r is) (λ m r le is own. apart m r is (sym own)) cell.readers_once)
 
   -- a cell that is noted has what the log says of its item
   cell_noted : (c d : Contents) → IsCell s.items s.installed s.entries c → IsNoted by (touch_in p.part c.item) c d → IsCell s.items ws (s.entries ++ bs) d
   cell_noted c d cell noted = record {
     value = ap (value_at s.items (s.entries ++ bs)) noted.item ∙ value_noted c cell ∙ sym noted.value;
     writers = noted.writers ∙ writers_noted c cell ∙ ap (writers_of ws (s.entries ++ bs)) (sym noted.item);
-    readers = λ r. subst (λ (rs : List Reader). Contains rs r ↔ IsReader ws (s.entries ++ bs) d.item r) (sym noted.readers) (subst (λ (y : Name). Contains (c.readers ++ noted_readers by (seen_in (touch_in p.part c.item))) r ↔ IsReader ws (s.entries ++ bs) y r) (sym noted.item) (readers_noted c cell r));
-    readers_once = subst (AllPairs (λ (a b : Reader). a.tx ≢ b.tx)) (sym noted.readers) (once_noted c cell);
+    readers = λ r. subst (λ (y : Name). Contains d.readers r ↔ IsReader ws (s.entries ++ bs) y r) (sym noted.item) (readers_noted c d cell noted.readers r);
+    readers_once = once_noted c d cell noted.readers;
     readings = λ m. subst (λ (ms : List Reading). Contains ms m ↔ LogsRead (s.entries ++ bs) m.tx d.item m.seen.value m.seen.version) (sym noted.readings) (subst (λ (y : Name). Contains c.readings m ↔ LogsRead (s.entries ++ bs) m.tx y m.seen.value m.seen.version) (sym noted.item) (
       λ has. LogsRead-append s.entries bs m.tx c.item m.seen.value m.seen.version ((cell.readings m).0 has),
       λ read. (cell.readings m).1 (LogsRead-cases s.entries bs m.tx c.item m.seen.value m.seen.version read (λ old. old) (λ k at is. absurd (no_reads change_entry Commit commits-blocks p.tx (writing_in p.part) k m.tx c.item m.seen.value at))),

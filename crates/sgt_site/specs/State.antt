@@ -1,5 +1,5 @@
 -- A site as contracts see it: its items, its log, the handles of its committed transactions and the pledge that stands.
-use Rattle.std.specs.Prelude.{◌≡◌, ℕ, ◌==◌, List, [], ◌∷◌, ◌++◌, length, map, take, Option, Some, None, if◌then◌else◌, All, Any, Contains, slice_get, ◌↔◌, ◌≤◌, option_map, option_and_then}
+use Rattle.std.specs.Prelude.{◌≡◌, ℕ, suc, true, false, ◌==◌, List, [], ◌∷◌, ◌++◌, length, map, take, Option, Some, None, if◌then◌else◌, All, Any, Contains, slice_get, ◌↔◌, ◌≤◌, option_map, option_and_then}
 use Rattle.std.specs.List.{filter_map}
 use Rattle.std.specs.Option.{ForSome}
 use Rattle.std.specs.Ordering.{nat_cmp}
@@ -80,6 +80,12 @@ writer installed x e =
 -- who wrote an item or added to it, with their handles, in the order of the log
 abbrev pub writers_of : List Install → List Entry → Name → List Writer
 writers_of installed entries x = filter_map (writer installed x) entries
+
+-- the version that the last write of an item made, of these writers: 0 where none of them wrote. Those since then only added to it
+pub record IsVersionWritten (ws : List Writer) (n : ℕ) : Type 0 where
+  pub within : n ≤ length ws
+  pub write : (k : ℕ) (w : Writer) → suc k ≡ n → slice_get ws k ≡ Some w → w.increment ≡ false
+  pub since : (k : ℕ) (w : Writer) → n ≤ k → slice_get ws k ≡ Some w → w.increment ≡ true
 
 -- a committed transaction with its handle, which read the item at this version
 abbrev pub IsReader : List Install → List Entry → Name → Reader → Type 0

@@ -1,9 +1,11 @@
 //! What a site keeps of an item.
 
-ghost use Rattle.std.specs.Prelude.{◌≡◌};
+ghost use Rattle.std.specs.Prelude.{◌≡◌, ◌≤◌, ◌<◌, ◌∷◌, ◌++◌, [], ℕ, AllPairs, vec_len, vec_capacity};
+ghost use Rattle.std.specs.List.{insert as inserted};
+ghost use Rattle.sgt_site.specs.State.{IsVersionWritten};
 ghost use Rattle.sgt_site.specs.private.Cells.{adds};
 
-use crate::readings::Readings;
+use crate::readings::{Readings, insert};
 use sgt_arena::Handle;
 use sgt_names::{Change, Holding, Item, Seen, Touch, Tx, Value};
 use std::alloc::{AllocError, Global};
@@ -39,13 +41,16 @@ pub(crate) struct Cell {
     item: Item,
     value: Value,
     writers: Vec<Writer>,
+    // the version that the last write made
+    written: u64,
+    // by rising version
     readers: Vec<Reader>,
     readings: Readings,
 }
 
 impl Model for Cell {
     ghost use Rattle.std.specs.Prelude.{◌-◌, vec_len, vec_capacity, min};
-    ghost use Rattle.sgt_site.specs.private.Cells.{Contents};
+    ghost use Rattle.sgt_site.specs.private.Cells.{Contents, IsOrdered};
 
     ghost Value = { Contents };
 
@@ -57,10 +62,13 @@ impl Model for Cell {
       readings = c.readings;
       has_room = min (vec_capacity c.writers - vec_len c.writers) (vec_capacity c.readers - vec_len c.readers);
     } };
+
+    ghost invariant = { λ c. IsOrdered c.writers.items c.written c.readers.items };
 }
 
 impl Cell {
-    ghost use Rattle.std.specs.Prelude.{◌≡◌, ◌<◌, ◌≤◌, [], length, ◌↔◌, IsTrue, OnOk, OnErr, IfOk, Some, Contains};
+    ghost use Rattle.std.specs.Prelude.{◌≡◌, ◌<◌, ◌≤◌, [], length, ◌↔◌, IsTrue, OnOk, OnErr, IfOk, Some, Contains, AllPairs};
+    ghost use Rattle.sgt_site.specs.State.{IsVersionWritten};
     ghost use Rattle.sgt_names.specs.declared.draft.Seen.{Seen as Answer};
     ghost use Rattle.sgt_site.specs.private.Cells.{answer_of, IsAnswering, IsAnswered, IsNoted};
 
@@ -76,6 +84,7 @@ impl Cell {
             item: holding.item,
             value: holding.value,
             writers: Vec::new(alloc),
+            written: 0,
             readers: Vec::new(alloc),
             readings: Readings::new(alloc),
         }
@@ -110,8 +119,16 @@ impl Cell {
         self.writers.as_slice()
     }
 
+    /// The version that the last write made.
+    pub(crate) fn version_written(&self) -> u64
+        ensures { IsVersionWritten self.now.writers result }
+    {
+        self.written
+    }
+
     pub(crate) fn readers(&self) -> &[Reader]
-        ensures { result.now ≡ self.now.readers }
+        ensures readers { result.now ≡ self.now.readers }
+        ensures by_version { AllPairs (λ a b. a.version ≤ b.version) self.now.readers }
     {
         self.readers.as_slice()
     }
@@ -161,20 +178,47 @@ impl Cell {
         ensures { IsNoted by.now (Some touch.now) self.old self.new }
     {
         if let Some(seen) = touch.seen {
-            self.readers.push_reserved(Reader {
+            let reader = Reader {
                 tx: by.tx,
                 handle: by.handle,
                 version: seen.version,
-            });
+            };
+            add_reader(&mut self.readers, reader);
         }
         if let Some(change) = touch.change {
             self.value = change.apply(self.value);
-            self.writers.push_reserved(Writer {
+            let writer = Writer {
                 tx: by.tx,
                 handle: by.handle,
                 increment: is_increment(change),
-            });
+            };
+            add_writer(&mut self.writers, &mut self.written, writer);
         }
+    }
+}
+
+// Adds a reader behind all that read its version or an older one.
+fn add_reader(readers: &mut Vec<Reader>, reader: Reader)
+    requires sorted { AllPairs (λ a b. a.version ≤ b.version) readers.old.items }
+    requires room { vec_len readers.old < vec_capacity readers.old }
+    ensures items { (n : ℕ) × (readers.new.items ≡ inserted readers.old.items n reader) }
+    ensures by_version { AllPairs (λ a b. a.version ≤ b.version) readers.new.items }
+{
+    let at = readers.partition_point(|r| r.version <= reader.version);
+    insert(readers, at, reader);
+}
+
+// Adds a writer. Where it writes, the version that it makes is the last written one.
+fn add_writer(writers: &mut Vec<Writer>, written: &mut u64, writer: Writer)
+    requires last { IsVersionWritten writers.old.items written.old }
+    requires room { vec_len writers.old < vec_capacity writers.old }
+    ensures items { writers.new.items ≡ writers.old.items ++ writer ∷ [] }
+    ensures last { IsVersionWritten writers.new.items written.new }
+{
+    let write = !writer.increment;
+    writers.push_reserved(writer);
+    if write {
+        *written = writers.len() as u64;
     }
 }
 

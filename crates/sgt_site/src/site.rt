@@ -74,7 +74,7 @@ impl Site {
     ghost use Rattle.sgt_names.specs.Log.{names, value_at, FinalsAreLegal, IsOrderly, ReadsAreLegal};
     ghost use Rattle.sgt_names.specs.Draft.{at_site, kept_in, writing_in};
     ghost use Rattle.sgt_names.specs.declared.entry.Entry.TheVariants.{Read};
-    ghost use Rattle.sgt_site.specs.State.{opened, version_at, writers_of, IsReader, AreItems, IsSite, IsPledged, IsPledgedFor, commit_block, refuse_block, withdraw_block};
+    ghost use Rattle.sgt_site.specs.State.{opened, version_at, writers_of, IsVersionWritten, IsReader, AreItems, IsSite, IsPledged, IsPledgedFor, commit_block, refuse_block, withdraw_block};
     ghost use Rattle.sgt_site.specs.Refused.{IsHere, RefusesItems, RefusesRead, MayRead};
 
     /// A site with these items, each with its listed value, and no entries. The cost is the number of items.
@@ -219,13 +219,29 @@ impl Site {
         }
     }
 
-    /// The committed transactions that read the item, with the versions that they read, in no fixed order.
-    /// Searches the items, and copies nothing.
+    /// The version that the last write of the item made, 0 where there is none: from there on it was only added to. Searches
+    /// the items.
+    ///
+    /// - S1: the item isn't at this site.
+    pub fn version_written(&self, item: Item) -> Result<u64, SiteFault>
+        ensures ok { IfOk result (IsVersionWritten (writers_of self.now.installed self.now.entries item)) }
+        ensures site { IsSite self.now }
+        ensures allowed { OnOk result (IsHere self.now item) }
+        ensures refused { IfErr result (λ f. (f ≡ SiteFault.UnknownItem) × (IsHere self.now item → ⊥)) }
+    {
+        match self.cells.find(item) {
+            Some(at) => Ok(self.cells.as_slice()[at].version_written()),
+            None => Err(SiteFault::UnknownItem),
+        }
+    }
+
+    /// The committed transactions that read the item, by rising version that they read. Searches the items, and copies nothing.
     ///
     /// - S1: the item isn't at this site.
     pub fn readers(&self, item: Item) -> Result<&[Reader], SiteFault>
         ensures ok { IfOk result (λ rs. (r : Reader) → Contains rs.now r ↔ IsReader self.now.installed self.now.entries item r) }
         ensures once { IfOk result (λ rs. AllPairs (λ a b. a.tx ≢ b.tx) rs.now) }
+        ensures by_version { IfOk result (λ rs. AllPairs (λ a b. a.version ≤ b.version) rs.now) }
         ensures site { IsSite self.now }
         ensures allowed { OnOk result (IsHere self.now item) }
         ensures refused { IfErr result (λ f. (f ≡ SiteFault.UnknownItem) × (IsHere self.now item → ⊥)) }

@@ -6,6 +6,8 @@ mod common;
 #[cfg(test)]
 mod edges;
 #[cfg(test)]
+mod random_drafts;
+#[cfg(test)]
 mod site;
 #[cfg(test)]
 mod site_and_edges;

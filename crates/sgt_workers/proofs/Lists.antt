@@ -1,5 +1,5 @@
 -- Lists place by place.
-use Rattle.std.proofs.Common.{◌≡◌, ℕ, zero, suc, ◌<◌, List, [], ◌∷◌, ◌++◌, length, map, All, Ok, Err, IfOk, IfErr, Result, arith, slice_index_or}
+use Rattle.std.proofs.Common.{◌≡◌, ℕ, zero, suc, ◌<◌, List, [], ◌∷◌, ◌++◌, length, map, All, Ok, Err, IfOk, Result, arith, refl, ap, slice_index_or}
 use Rattle.std.specs.List.{AllZip, flat_map}
 use Rattle.std.proofs.lemmas.List.Elements.{All-append}
 
@@ -24,24 +24,19 @@ zip_then R S T (x ∷ xs) [] zs r s f = absurd r
 zip_then R S T (x ∷ xs) (y ∷ ys) [] r s f = absurd s
 zip_then R S T (x ∷ xs) (y ∷ ys) (z ∷ zs) r s f = (f x y z r.0 s.0, zip_then R S T xs ys zs r.1 s.1 f)
 
-pub zip_all : {A B : Type 0} (R : A → B → Type 0) (P : B → Type 0) (xs : List A) (ys : List B) → AllZip R xs ys → ((a : A) (b : B) → R a b → P b) → All P ys
-zip_all R P [] [] z f k d h = absurd (omega (arith, h))
-zip_all R P [] (y ∷ ys) z f k d h = absurd z
-zip_all R P (x ∷ xs) [] z f k d h = absurd z
-zip_all R P (x ∷ xs) (y ∷ ys) z f zero d h = f x y z.0
-zip_all R P (x ∷ xs) (y ∷ ys) z f (suc k) d h = zip_all R P xs ys z.1 f k d (omega (arith, h))
+pub zip_same : {A : Type 0} (R : A → A → Type 0) (xs : List A) → ((a : A) → R a a) → AllZip R xs xs
+zip_same R [] f = tt
+zip_same R (x ∷ xs) f = (f x, zip_same R xs f)
+
+pub zip_length : {A B : Type 0} (R : A → B → Type 0) (xs : List A) (ys : List B) → AllZip R xs ys → length xs ≡ length ys
+zip_length R [] [] z = refl
+zip_length R [] (y ∷ ys) z = absurd z
+zip_length R (x ∷ xs) [] z = absurd z
+zip_length R (x ∷ xs) (y ∷ ys) z = ap suc (zip_length R xs ys z.1)
 
 pub if_ok_both : {X E : Type 0} (r : Result X E) (P Q R : X → Type 0) → IfOk r P → IfOk r Q → ((x : X) → P x → Q x → R x) → IfOk r R
 if_ok_both (Ok x) P Q R p q f = f x p q
 if_ok_both (Err e) P Q R p q f = tt
-
-pub if_ok_then : {X E : Type 0} (r : Result X E) (P Q : X → Type 0) → IfOk r P → ((x : X) → P x → Q x) → IfOk r Q
-if_ok_then (Ok x) P Q p f = f x p
-if_ok_then (Err e) P Q p f = tt
-
-pub if_err_both : {X E : Type 0} (r : Result X E) (P Q : E → Type 0) → IfErr r P → ((e : E) → P e → Q e) → IfErr r Q
-if_err_both (Ok x) P Q p f = tt
-if_err_both (Err e) P Q p f = f e p
 
 -- the results that are Ok, without it
 pub zip_ok : {A B : Type 0} (E : Type 0) (R : A → B → Type 0) (xs : List A) (ys : List B) → AllZip (λ x (r : Result B E). IfOk r (R x)) xs (map Ok ys) → AllZip R xs ys

@@ -1,11 +1,13 @@
 -- What a pool answers.
-use Rattle.std.specs.Prelude.{◌≡◌, ℕ, ◌-◌, ◌<◌, ◌≤◌, List, Some, slice_get, map, ⊤}
-use Rattle.std.specs.List.{All, AllPairs}
+use Rattle.std.specs.Prelude.{◌≡◌, ℕ, ◌-◌, ◌<◌, ◌≤◌, List, [], ◌∷◌, Some, slice_get, map, ⊤}
+use Rattle.std.specs.List.{All, AllPairs, AllZip, flat_map}
+use Rattle.std.specs.List.Sorted.{IsPermutation}
 use Rattle.sgt_workers.specs.declared.fault.PoolFail.{PoolFail}
 use Rattle.sgt_workers.specs.declared.fault.PoolFail.TheVariants.{Work, Pool}
 use Rattle.sgt_workers.specs.declared.fault.PoolFault.{PoolFault}
 use Rattle.sgt_workers.specs.declared.fault.PoolFault.TheVariants.{Memory, Unrun, Doubled}
 use Rattle.sgt_workers.specs.declared.ticket.Done.{Done}
+use Rattle.sgt_workers.specs.declared.worker.Report.{Report}
 
 abbrev pub jobs_of : List Done → List ℕ
 jobs_of = map (λ d. d.job)
@@ -22,6 +24,29 @@ IsJob count n = (0 < n) × (n ≤ count)
 abbrev pub IsAnswer : {C : Type 0} → (ℕ → C → Done → Type 0) → List C → Done → Type 0
 IsAnswer {C} answers scripts d = (0 < d.job) × ((c : C) × (slice_get scripts (d.job - 1) ≡ Some c) × answers d.job c d)
 
+-- one call for each of these Dones, in this order, leads from the state `s` to `t`
+abbrev pub Runs : {S C : Type 0} → (S → ℕ → C → Done → S → Type 0) → List C → S → List Done → S → Type 0
+Runs does scripts s [] t = s ≡ t
+Runs {S} {C} does scripts s (d ∷ ds) t =
+    (c : C) × (u : S) × (slice_get scripts (d.job - 1) ≡ Some c) × does s d.job c d u × Runs does scripts u ds t
+
+-- Dones that go up by number, and lead from the state `s` to `t`
+abbrev pub IsShare : {S C : Type 0} → (S → ℕ → C → Done → S → Type 0) → List C → S → List Done → S → Type 0
+IsShare does scripts s dones t = JobsRise dones × Runs does scripts s dones t
+
+-- what a worker that began at the state `s` left
+abbrev pub IsReport : {S C : Type 0} → (S → ℕ → C → Done → S → Type 0) → List C → S → Report S → Type 0
+IsReport does scripts s r = IsShare does scripts s r.dones.items r.state
+
+-- each state has a share of the Dones that leads from it to the one of its place after, and all shares together are just
+-- these Dones
+abbrev pub AreShared : {S C : Type 0} → (S → ℕ → C → Done → S → Type 0) → List C → List S → List Done → List S → Type 0
+AreShared {S} does scripts states dones after =
+    (shares : List (List Done × S))
+    × AllZip (λ s share. IsShare does scripts s share.0 share.1) states shares
+    × (map (λ share. share.1) shares ≡ after)
+    × IsPermutation (flat_map (λ share. share.0) shares) dones
+
 -- no Done is of a job that has none; one with two Dones has them at two places
 abbrev pub IsTold : ℕ → List Done → PoolFault → Type 0
 IsTold count dones Memory = ⊥
@@ -35,13 +60,13 @@ abbrev pub IsOwn : {E : Type 0} → PoolFail E → Type 0
 IsOwn (Work e) = ⊥
 IsOwn (Pool f) = ⊤
 
--- it names one of the jobs, if it names one
-abbrev pub NamesJob : ℕ → PoolFault → Type 0
-NamesJob count Memory = ⊤
-NamesJob count (Unrun n) = IsJob count n
-NamesJob count (Doubled n) = IsJob count n
+-- one that a pool gives: want of memory, or one of the jobs that has no Done; none is ever run twice
+abbrev pub IsMet : ℕ → PoolFault → Type 0
+IsMet count Memory = ⊤
+IsMet count (Unrun n) = IsJob count n
+IsMet count (Doubled n) = ⊥
 
 -- a fault that the work may end with, or one of the pool
 abbrev pub IsFault : {E : Type 0} → (E → Type 0) → ℕ → PoolFail E → Type 0
 IsFault faults count (Work e) = faults e
-IsFault faults count (Pool f) = NamesJob count f
+IsFault faults count (Pool f) = IsMet count f

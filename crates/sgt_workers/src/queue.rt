@@ -1,16 +1,17 @@
 //! The queue of jobs: their numbers in rising order, and then a stop for each worker. The front is taken.
 
-ghost use Rattle.std.specs.Prelude.{◌≡◌, ◌+◌, ◌-◌, ◌<◌, ◌⊎◌, true, false, length, IfOk, IfErr, IfNone, IfSome, OnOk, Some, slice_get, ⊤};
+ghost use Rattle.std.specs.Prelude.{◌≡◌, ◌+◌, ◌-◌, ◌<◌, ◌⊎◌, length, IfNone, IfSome, IfOk, OnOk, OnErr, Some, slice_get, ⊤, true};
+ghost use Rattle.std.specs.List.{All};
 ghost use Rattle.crossbeam_channel.specs.Claims.{view, IsSeatAt};
-ghost use Rattle.crossbeam_channel.specs.Ends.{sends_on, receives_on};
-ghost use Rattle.sgt_workers.specs.Queue.{hold, Kept, Takes};
-ghost use Rattle.sgt_workers.specs.declared.fault.PoolFault.TheVariants.{Unrun};
+ghost use Rattle.crossbeam_channel.specs.Ends.{sends_on, receives_on, ruled_capacity};
+ghost use Rattle.sgt_workers.specs.Queue.{sender_of, newcomer, spent_hold, with_job, with_stop, took, at_stop, joined};
+ghost use Rattle.sgt_workers.specs.Queue.{IsFilled, Kept, Takes, OnceAtMost, HasRoom};
 
-use crate::fault::PoolFault;
 use crate::work::Job;
-use crossbeam_channel::protocol::{Lesson, Outcome, Protocol, Split};
+use crossbeam_channel::protocol::{Join, Lesson, Outcome, Protocol, Split};
 use crossbeam_channel::{Pass, RuledReceiver, RuledSender, bounded_with};
 use std::alloc::{AllocError, Global};
+use std::collections::LinkedList;
 use std::sync::Wait;
 
 /// What a worker takes from the queue.
@@ -22,40 +23,45 @@ pub enum Task {
     Stop,
 }
 
-/// What a pass to the queue knows: whether it is the sender's, the number of the last job that it sent, whether it has
-/// sent a stop, and the number of the last job that it took. No value of it is made.
+/// What a pass to the queue knows: whether it is the sender's, how many jobs and stops it knows to be sent, the numbers of
+/// the jobs that it took, and whether it took a stop. No value of it is made.
 pub struct Hold {
     pub sends: bool,
     pub sent: u64,
-    pub stopping: bool,
-    pub taken: u64,
+    pub stops: u64,
+    pub taken: LinkedList<u64>,
+    pub stopped: bool,
 }
 
-/// The rule of the queue: the numbers rise, the stops come last, and the front is taken.
+/// The rule of the queue: the numbers go up by one, the stops come last, the front is taken, and each job once.
 pub struct Rising;
 
 impl Protocol<Task, Hold> for Rising {
     ghost holds = { Kept };
 
-    ghost first = { hold true 0 false 0 };
+    ghost first = { sender_of 0 0 };
 }
 
-/// A worker's pass is cut from the sender's.
+/// A worker's pass is cut from the sender's, and joined to it again.
 pub struct ForWorker;
 
 impl Split<Hold> for ForWorker {
     ghost left = { λ v. v };
 
-    ghost right = { λ v. hold false 0 false 0 };
+    ghost right = { newcomer };
+}
+
+impl Join<Hold> for ForWorker {
+    ghost both = { joined };
+
+    ghost spent = { spent_hold };
 }
 
 /// The next job is sent.
 pub struct SendsJob;
 
 impl Outcome<Task, Hold> for SendsJob {
-    ghost use Rattle.sgt_workers.specs.Queue.{hold, number_of};
-
-    ghost then = { λ v x w. w ≡ hold true (number_of x) false v.taken };
+    ghost then = { λ v x w. w ≡ with_job v };
 }
 
 impl Lesson<Task, Hold> for SendsJob {
@@ -66,7 +72,7 @@ impl Lesson<Task, Hold> for SendsJob {
 pub struct SendsStop;
 
 impl Outcome<Task, Hold> for SendsStop {
-    ghost then = { λ v x w. w ≡ hold true v.sent true v.taken };
+    ghost then = { λ v x w. w ≡ with_stop v };
 }
 
 impl Lesson<Task, Hold> for SendsStop {
@@ -84,16 +90,29 @@ impl Lesson<Task, Hold> for TakesFront {
     ghost fact = { λ v items. ⊤ };
 }
 
+/// What a pass knows to be taken was taken once.
+pub struct TakenOnce;
+
+impl Lesson<Task, Hold> for TakenOnce {
+    ghost fact = { λ v items. OnceAtMost v.sent v.taken };
+}
+
 pub type Sender = RuledSender<Task, Hold, Rising>;
 
 pub type Receiver = RuledReceiver<Task, Hold, Rising>;
 
 pub type QueuePass = Pass<Task, Hold>;
 
+/// A task couldn't be sent, since the queue has no receiver.
+#[derive(Clone, Copy)]
+pub struct Unsent;
+
 /// The two ends of a queue with room for this many tasks, and the sender's pass.
 pub fn open(alloc: Global, capacity: usize) -> Result<(Sender, Receiver, QueuePass), AllocError>
     requires { 0 < capacity }
-    ensures { IfOk result (λ r. (receives_on r.1 ≡ sends_on r.0) × IsSeatAt (sends_on r.0) r.2 × (view r.2 ≡ hold true 0 false 0)) }
+    ensures ends { IfOk result (λ r. receives_on r.1 ≡ sends_on r.0) }
+    ensures pass { IfOk result (λ r. IsSeatAt (sends_on r.0) r.2 × (view r.2 ≡ sender_of 0 0)) }
+    ensures room { IfOk result (λ r. ruled_capacity (sends_on r.0) ≡ capacity) }
 {
     bounded_with::<Task, Hold, Rising, Global>(alloc, capacity)
 }
@@ -102,80 +121,149 @@ pub fn open(alloc: Global, capacity: usize) -> Result<(Sender, Receiver, QueuePa
 pub fn cut(sender: &Sender, pass: &mut QueuePass) -> QueuePass
     requires { IsSeatAt (sends_on sender.now) pass.old }
     ensures old { IsSeatAt (sends_on sender.now) pass.new × (view pass.new ≡ view pass.old) }
-    ensures new { IsSeatAt (sends_on sender.now) result × (view result ≡ hold false 0 false 0) }
+    ensures new { IsSeatAt (sends_on sender.now) result × (view result ≡ newcomer (view pass.old)) }
 {
     sender.another::<ForWorker>(pass)
 }
 
-/// Sends the jobs 1 to `jobs` and then a stop for each worker. P2 with the first job that couldn't be sent.
+/// Takes in what a worker's pass knows.
+pub fn join(sender: &Sender, pass: &mut QueuePass, other: QueuePass)
+    requires { IsSeatAt (sends_on sender.now) pass.old × IsSeatAt (sends_on sender.now) other }
+    ensures seat { IsSeatAt (sends_on sender.now) pass.new }
+    ensures both { view pass.new ≡ joined (view pass.old) (view other) }
+{
+    sender.absorb::<ForWorker>(pass, other)
+}
+
+/// No job that the sender's pass knows to be taken was taken twice, and each was sent.
+pub fn learn_once(sender: &Sender, pass: &mut QueuePass)
+    requires { IsSeatAt (sends_on sender.now) pass.old × ((view pass.old).sends ≡ true) }
+    ensures same { view pass.new ≡ view pass.old }
+    ensures once { OnceAtMost (view pass.old).sent (view pass.old).taken }
+{
+    sender.learn_as::<TakenOnce>(pass)
+}
+
+/// Sends the jobs 1 to `jobs` and then a stop for each worker. The queue has room for all of them.
 pub fn fill<R: Wait>(
     rt: &R,
     sender: &Sender,
     pass: &mut QueuePass,
     jobs: u64,
     workers: usize,
-) -> Result<(), PoolFault>
+) -> Result<(), Unsent>
     requires seat { IsSeatAt (sends_on sender.now) pass.old }
-    requires view { view pass.old ≡ hold true 0 false 0 }
-    ensures sent { OnOk result ((view pass.new).sent ≡ jobs) }
-    ensures fault { IfErr result (λ f. ((view pass.new).sent < jobs) × (f ≡ Unrun ((view pass.new).sent + 1))) }
+    requires view { view pass.old ≡ sender_of 0 0 }
+    requires room { HasRoom (jobs + workers) (ruled_capacity (sends_on sender.now)) }
+    ensures seat { IsSeatAt (sends_on sender.now) pass.new }
+    ensures sent { OnOk result (view pass.new ≡ sender_of jobs workers) }
+    ensures unsent { OnErr result (((view pass.new).sent < jobs) ⊎ ((view pass.new).stops < workers)) }
+{
+    send_jobs(rt, sender, pass, jobs)?;
+    send_stops(rt, sender, pass, workers)
+}
+
+fn send_jobs<R: Wait>(
+    rt: &R,
+    sender: &Sender,
+    pass: &mut QueuePass,
+    jobs: u64,
+) -> Result<(), Unsent>
+    requires seat { IsSeatAt (sends_on sender.now) pass.old }
+    requires view { view pass.old ≡ sender_of 0 0 }
+    ensures seat { IsSeatAt (sends_on sender.now) pass.new }
+    ensures sent { OnOk result (view pass.new ≡ sender_of jobs 0) }
+    ensures unsent { OnErr result ((view pass.new).sent < jobs) }
 {
     for k in 0..jobs {
-        let job = Task::Run(k + 1);
-        if sender.send_as::<SendsJob, R>(rt, pass, job).is_err() {
-            return Err(PoolFault::Unrun(k + 1));
-        }
+        send_job(rt, sender, pass, k + 1)?;
     }
-    send_stops(rt, sender, pass, workers);
     Ok(())
 }
 
-// Sends a stop for each worker. A worker whose stop couldn't be sent stops where the queue is empty and its sender gone.
-fn send_stops<R: Wait>(rt: &R, sender: &Sender, pass: &mut QueuePass, workers: usize)
+fn send_stops<R: Wait>(
+    rt: &R,
+    sender: &Sender,
+    pass: &mut QueuePass,
+    workers: usize,
+) -> Result<(), Unsent>
     requires seat { IsSeatAt (sends_on sender.now) pass.old }
-    requires sends { (view pass.old).sends ≡ true }
+    requires view { view pass.old ≡ sender_of (view pass.old).sent 0 }
     ensures seat { IsSeatAt (sends_on sender.now) pass.new }
-    ensures sent { ((view pass.new).sends ≡ true) × ((view pass.new).sent ≡ (view pass.old).sent) }
+    ensures sent { OnOk result (view pass.new ≡ sender_of (view pass.old).sent workers) }
+    ensures unsent { OnErr result ((view pass.new).stops < workers) }
 {
-    for _ in 0..workers {
-        if sender
-            .send_as::<SendsStop, R>(rt, pass, Task::Stop)
-            .is_err()
-        {
-            return;
-        }
+    for _k in 0..workers {
+        send_stop(rt, sender, pass)?;
+    }
+    Ok(())
+}
+
+// Sends the next job, before any stop.
+fn send_job<R: Wait>(
+    rt: &R,
+    sender: &Sender,
+    pass: &mut QueuePass,
+    number: u64,
+) -> Result<(), Unsent>
+    requires seat { IsSeatAt (sends_on sender.now) pass.old }
+    requires sends { ((view pass.old).sends ≡ true) × ((view pass.old).stops ≡ 0) }
+    requires next { number ≡ (view pass.old).sent + 1 }
+    ensures seat { IsSeatAt (sends_on sender.now) pass.new }
+    ensures sent { OnOk result (view pass.new ≡ with_job (view pass.old)) }
+    ensures same { OnErr result (view pass.new ≡ view pass.old) }
+{
+    match sender.send_as::<SendsJob, R>(rt, pass, Task::Run(number)) {
+        Ok(()) => Ok(()),
+        Err(_) => Err(Unsent),
     }
 }
 
-/// Takes the front: the next job, or None at a stop. Also None where the queue is empty and its sender gone, or where no
-/// script has the number, which isn't met.
+fn send_stop<R: Wait>(rt: &R, sender: &Sender, pass: &mut QueuePass) -> Result<(), Unsent>
+    requires seat { IsSeatAt (sends_on sender.now) pass.old }
+    requires sends { (view pass.old).sends ≡ true }
+    ensures seat { IsSeatAt (sends_on sender.now) pass.new }
+    ensures sent { OnOk result (view pass.new ≡ with_stop (view pass.old)) }
+    ensures same { OnErr result (view pass.new ≡ view pass.old) }
+{
+    match sender.send_as::<SendsStop, R>(rt, pass, Task::Stop) {
+        Ok(()) => Ok(()),
+        Err(_) => Err(Unsent),
+    }
+}
+
+/// Takes the front: the next job, or None at a stop.
 pub fn take_job<'a, C, R: Wait>(
     rt: &R,
     receiver: &Receiver,
     pass: &mut QueuePass,
     scripts: &'a [C],
 ) -> Option<Job<&'a C>>
-    requires { IsSeatAt (receives_on receiver.now) pass.old }
+    requires seat { IsSeatAt (receives_on receiver.now) pass.old }
+    requires filled { IsFilled (length scripts.now) (view pass.old) }
     ensures seat { IsSeatAt (receives_on receiver.now) pass.new }
-    ensures rising { IfSome result (λ j. ((view pass.old).taken < j.number) × ((view pass.new).taken ≡ j.number)) }
+    ensures job { IfSome result (λ j. view pass.new ≡ took j.number (view pass.old)) }
+    ensures rising { IfSome result (λ j. (0 < j.number) × All (λ n. n < j.number) (view pass.old).taken) }
     ensures script { IfSome result (λ j. slice_get scripts.now (j.number - 1) ≡ Some j.script.now) }
-    ensures none { IfNone result ((view pass.new ≡ view pass.old) ⊎ (length scripts.now < (view pass.new).taken)) }
+    ensures stop { IfNone result (view pass.new ≡ at_stop (view pass.old)) }
 {
     let Task::Run(number) = take(rt, receiver, pass) else {
         return None;
     };
-    let script = scripts.get(number.checked_sub(1)? as usize)?;
+    let script = &scripts[(number - 1) as usize];
     Some(Job { number, script })
 }
 
-// Takes the front, whose number is above all that this pass took before.
+// Takes the front. An empty queue is no answer: a worker takes until its stop.
 fn take<R: Wait>(rt: &R, receiver: &Receiver, pass: &mut QueuePass) -> Task
     requires { IsSeatAt (receives_on receiver.now) pass.old }
     ensures seat { IsSeatAt (receives_on receiver.now) pass.new }
-    ensures rising { Takes (view pass.old) result (view pass.new) }
+    ensures front { Takes (view pass.old) result (view pass.new) }
 {
-    match receiver.recv_as::<TakesFront, R>(rt, pass) {
-        Ok(task) => task,
-        Err(_) => Task::Stop,
+    for _ in rt.forever() {
+        if let Ok(task) = receiver.recv_as::<TakesFront, R>(rt, pass) {
+            return task;
+        }
     }
+    unreachable!()
 }

@@ -1,16 +1,17 @@
 //! The pool: one worker for each state, and a Done for each script.
 
-ghost use Rattle.std.specs.Prelude.{◌≡◌, ◌<◌, ◌⊎◌, Ok, Err, IfOk, IfErr, length, map, vec_len};
+ghost use Rattle.std.specs.Prelude.{◌≡◌, ◌<◌, ◌⊎◌, [], Ok, Err, IfOk, IfErr, length, map, vec_len};
 ghost use Rattle.std.specs.List.{All, AllZip, Contains, flat_map, range_with_len};
 ghost use Rattle.crossbeam_channel.specs.Claims.{view, IsSeatAt};
 ghost use Rattle.crossbeam_channel.specs.Ends.{sends_on, receives_on};
 ghost use Rattle.sgt_workers.specs.declared.fault.PoolFail.TheVariants.{Pool};
 ghost use Rattle.sgt_workers.specs.declared.fault.PoolFault.TheVariants.{Memory};
-ghost use Rattle.sgt_workers.specs.Answers.{jobs_of, IsAnswer, IsFault, IsOwn};
+ghost use Rattle.sgt_workers.specs.Answers.{jobs_of, AreShared, IsAnswer, IsFault, IsOwn, IsReport};
+ghost use Rattle.sgt_workers.specs.Queue.{newcomer, HasStops, IsBegun, IsEnded, OnceAtMost};
 
 use crate::fault::{PoolFail, PoolFault};
 use crate::order::in_order;
-use crate::queue::{QueuePass, Receiver, Sender, cut, fill, open};
+use crate::queue::{QueuePass, Receiver, Sender, cut, fill, join, learn_once, open};
 use crate::ticket::Done;
 use crate::work::Work;
 use crate::worker::{Kit, Report, run_worker};
@@ -37,18 +38,35 @@ pub fn pool<
     requires { 0 < vec_len states }
     ensures jobs { IfOk result (λ r. jobs_of r.0.items ≡ range_with_len 1 (length scripts.now)) }
     ensures answers { IfOk result (λ r. All (IsAnswer (W.answers work.now) scripts.now) r.0.items) }
+    ensures shares { IfOk result (λ r. AreShared (W.does work.now) scripts.now states.items r.0.items r.1.items) }
     ensures states { IfOk result (λ r. AllZip W.keeps states.items r.1.items) }
     ensures fault { IfErr result (IsFault (W.faults work.now) (length scripts.now)) }
 {
-    let reports = run_all(rt, alloc, scripts, states, work)?;
-    let (dones, states) = collect(alloc, reports)?;
+    if scripts.is_empty() {
+        return Ok(no_jobs(alloc, states, work));
+    }
+    let (dones, states) = run_all(rt, alloc, scripts, states, work)?;
     match in_order(dones, scripts.len() as u64) {
         Ok(dones) => Ok((dones, states)),
         Err(fault) => Err(PoolFail::Pool(fault)),
     }
 }
 
-// The report of each worker, once all are joined.
+// Without a script there is no Done, and the states stay as they are.
+fn no_jobs<S, C, E, W: Work<S, C, E>>(
+    alloc: Global,
+    states: Vec<S>,
+    _work: &W,
+) -> (Vec<Done>, Vec<S>)
+    ensures dones { result.0.items ≡ [] }
+    ensures same { result.1.items ≡ states.items }
+    ensures states { AllZip W.keeps states.items result.1.items }
+{
+    (Vec::new(alloc), states)
+}
+
+// What the workers leave once all are joined: their Dones, and the states. P2 where the queue has no room for all tasks, so
+// that no worker starts.
 fn run_all<
     S: Send + Drop,
     C: Sync,
@@ -61,20 +79,26 @@ fn run_all<
     scripts: &[C],
     states: Vec<S>,
     work: &W,
-) -> Result<Vec<Report<S>>, PoolFail<E>>
-    requires { 0 < vec_len states }
-    ensures keeps { IfOk result (λ v. AllZip (λ s r. W.keeps s r.state) states.items v.items) }
-    ensures answers { IfOk result (λ v. All (λ r. All (IsAnswer (W.answers work.now) scripts.now) r.dones.items) v.items) }
+) -> Result<(Vec<Done>, Vec<S>), PoolFail<E>>
+    requires { (0 < vec_len states) × (0 < length scripts.now) }
+    ensures once { IfOk result (λ r. OnceAtMost (length scripts.now) (jobs_of r.0.items)) }
+    ensures answers { IfOk result (λ r. All (IsAnswer (W.answers work.now) scripts.now) r.0.items) }
+    ensures keeps { IfOk result (λ r. AllZip W.keeps states.items r.1.items) }
+    ensures shares { IfOk result (λ r. AreShared (W.does work.now) scripts.now states.items r.0.items r.1.items) }
     ensures fault { IfErr result (IsFault (W.faults work.now) (length scripts.now)) }
 {
     let workers = states.len();
     let room = scripts.len().saturating_add(workers);
     let (sender, receiver, mut pass) = open(alloc, room)?;
+    let Ok(()) = fill(rt, &sender, &mut pass, scripts.len() as u64, workers) else {
+        return Err(PoolFail::Pool(PoolFault::Unrun(1)));
+    };
     let kits = make_kits(alloc, &sender, &mut pass, states)?;
-    fill(rt, &sender, &mut pass, scripts.len() as u64, workers)?;
-    drop(sender);
     let ends = run_workers(rt, alloc, &receiver, kits, scripts, work)?;
-    all_ended(alloc, ends)
+    let reports = all_ended(alloc, ends)?;
+    let left = collect(alloc, &sender, &mut pass, reports)?;
+    learn_once(&sender, &mut pass);
+    Ok(left)
 }
 
 // What each worker begins with: a state, and a pass of its own.
@@ -86,7 +110,8 @@ fn make_kits<S: Drop>(
 ) -> Result<Vec<Kit<S>>, AllocError>
     requires { IsSeatAt (sends_on sender.now) pass.old }
     ensures seat { IsSeatAt (sends_on sender.now) pass.new × (view pass.new ≡ view pass.old) }
-    ensures kits { IfOk result (λ v. AllZip (λ s k. (k.state ≡ s) × IsSeatAt (sends_on sender.now) k.pass) states.items v.items) }
+    ensures kits { IfOk result (λ v. AllZip (λ s k. k.state ≡ s) states.items v.items) }
+    ensures cut { IfOk result (λ v. All (λ k. IsSeatAt (sends_on sender.now) k.pass × (view k.pass ≡ newcomer (view pass.old))) v.items) }
 {
     let mut kits = Vec::new(alloc);
     for state in states {
@@ -96,7 +121,7 @@ fn make_kits<S: Drop>(
     Ok(kits)
 }
 
-// Runs a worker for each kit, and joins them all.
+// Runs a worker for each kit, of which there is a stop for each, and joins them all.
 fn run_workers<
     S: Send + Drop,
     C: Sync,
@@ -111,14 +136,19 @@ fn run_workers<
     scripts: &[C],
     work: &W,
 ) -> Result<Vec<Result<Report<S>, PoolFail<E>>>, AllocError>
-    requires { All (λ k. IsSeatAt (receives_on receiver.now) k.pass) kits.items }
+    requires begun { All (λ k. IsBegun (receives_on receiver.now) (length scripts.now) k.pass) kits.items }
+    requires stops { All (λ k. HasStops (vec_len kits) k.pass) kits.items }
+    ensures taken { IfOk result (λ v. All (λ e. IfOk e (λ r. IsEnded (receives_on receiver.now) r.pass (jobs_of r.dones.items))) v.items) }
     ensures keeps { IfOk result (λ v. AllZip (λ k e. IfOk e (λ r. W.keeps k.state r.state)) kits.items v.items) }
+    ensures reports { IfOk result (λ v. AllZip (λ k e. IfOk e (IsReport (W.does work.now) scripts.now k.state)) kits.items v.items) }
     ensures answers { IfOk result (λ v. All (λ e. IfOk e (λ r. All (IsAnswer (W.answers work.now) scripts.now) r.dones.items)) v.items) }
     ensures fault { IfOk result (λ v. All (λ e. IfErr e (IsFault (W.faults work.now) (length scripts.now))) v.items) }
 {
     let one = |kit: Kit<S>| -> Result<Report<S>, PoolFail<E>>
-        requires { IsSeatAt (receives_on receiver.now) kit.pass }
+        requires { IsBegun (receives_on receiver.now) (length scripts.now) kit.pass }
+        ensures taken { IfOk result (λ r. IsEnded (receives_on receiver.entry.now) r.pass (jobs_of r.dones.items)) }
         ensures keeps { IfOk result (λ r. W.keeps kit.state r.state) }
+        ensures reports { IfOk result (IsReport (W.does work.entry.now) scripts.entry.now kit.state) }
         ensures answers { IfOk result (λ r. All (IsAnswer (W.answers work.entry.now) scripts.entry.now) r.dones.items) }
         ensures fault { IfErr result (IsFault (W.faults work.entry.now) (length scripts.entry.now)) }
     { run_worker(rt, alloc, receiver, kit, scripts, work) };
@@ -153,18 +183,30 @@ fn all_ended<S: Drop, E: Drop>(
     }
 }
 
-// The Dones of all workers, and the states as they left them.
+// The Dones of all workers, and the states as they left them. Their passes are joined to the sender's.
 fn collect<S: Drop>(
     alloc: Global,
+    sender: &Sender,
+    pass: &mut QueuePass,
     reports: Vec<Report<S>>,
 ) -> Result<(Vec<Done>, Vec<S>), AllocError>
+    requires pass { IsSeatAt (sends_on sender.now) pass.old × ((view pass.old).taken ≡ []) }
+    requires reports { All (λ w. IsEnded (sends_on sender.now) w.pass (jobs_of w.dones.items)) reports.items }
+    ensures seat { IsSeatAt (sends_on sender.now) pass.new }
     ensures dones { IfOk result (λ r. r.0.items ≡ flat_map (λ w. w.dones.items) reports.items) }
     ensures states { IfOk result (λ r. r.1.items ≡ map (λ w. w.state) reports.items) }
+    ensures taken { IfOk result (λ r. (view pass.new).taken ≡ jobs_of r.0.items) }
+    ensures sent { ((view pass.new).sends ≡ (view pass.old).sends) × ((view pass.new).sent ≡ (view pass.old).sent) }
 {
     let mut all = Vec::new(alloc);
     let mut states = Vec::new(alloc);
     for report in reports {
-        let Report { state, mut dones } = report;
+        let Report {
+            state,
+            pass: theirs,
+            mut dones,
+        } = report;
+        join(sender, pass, theirs);
         all.append(&mut dones)?;
         states.push(state)?;
     }

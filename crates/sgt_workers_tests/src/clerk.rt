@@ -1,5 +1,7 @@
 //! The work of the tests.
 
+ghost use Rattle.std.specs.Prelude.{◌≡◌};
+
 use sgt_names::SiteNo;
 use sgt_workers::{Done, Gate, Job, Place, PoolFail, PoolFault, Work, pool};
 use std::alloc::{AllocError, Global};
@@ -75,6 +77,8 @@ impl<'a, G: Gate> Work<usize, Errand, Mishap> for Clerk<'a, G> {
     ghost faults = { λ clerk mishap. Unit {0} };
 
     ghost keeps = { λ s t. Unit {0} };
+
+    ghost does = { λ clerk s number errand done t. t ≡ s };
 
     fn work<R: Wait>(
         &self,

@@ -3,7 +3,7 @@
 use crate::clerk::{Clerk, Errand, Mishap, run};
 use crate::hold::HoldUntil;
 use sgt_names::SiteNo;
-use sgt_workers::{Done, NoGate, Place, PoolFail};
+use sgt_workers::{Done, NoGate, Place, PoolFail, PoolFault};
 use std::test::Fail;
 
 #[test]
@@ -71,6 +71,20 @@ fn each_job_is_run_once(rt: HostRuntime) -> Result<(), Fail> {
         assert_eq!(rt; (dones.len(), states.len()), (jobs, workers));
         assert!(rt; are_answers(dones));
         assert_eq!(rt; clerk.calls(), (jobs as u64, jobs as u64));
+    }
+    Ok(())
+}
+
+#[test]
+fn faults_begin_with_their_names(rt: HostRuntime) -> Result<(), Fail> {
+    let faults = [
+        (PoolFault::Memory, "P1: "),
+        (PoolFault::Unrun(7), "P2: job 7 "),
+        (PoolFault::Doubled(7), "P3: job 7 "),
+    ];
+    for (fault, start) in faults {
+        let text = format!(in rt.alloc(); "{fault}")?;
+        assert!(rt; text.as_str().starts_with(start), "{text}");
     }
     Ok(())
 }

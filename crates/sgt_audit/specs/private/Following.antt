@@ -1,5 +1,5 @@
 -- What may follow the lines of sections that were read, and what they are with it.
-use Rattle.std.specs.Prelude.{◌≡◌, ℕ, ◌<◌, List, [], ◌∷◌, ◌++◌, length, All, Option, Some, None, slice_get}
+use Rattle.std.specs.Prelude.{◌≡◌, ◌<◌, List, [], ◌∷◌, ◌++◌, length, All, Option, Some, None, slice_get}
 use Rattle.sgt_names.specs.Limits.{max_items}
 use Rattle.sgt_names.specs.Log.{names}
 use Rattle.sgt_notation.specs.declared.SectionLine.{SectionLine}

@@ -1,14 +1,17 @@
 -- What each rule asks of a line, in terms of the open section's items and entries.
-use Rattle.std.specs.Prelude.{◌≡◌, ℕ, ◌-◌, ◌<◌, List, [], length, Option, Some, None, slice_get}
+use Rattle.std.specs.Prelude.{◌≡◌, ℕ, ◌-◌, ◌<◌, List, [], length, Contains, Option, Some, None, Result, Ok, Err, slice_get}
 use Rattle.std.specs.List.{last_or}
-use Rattle.sgt_names.specs.Entry.{IsOpen, Continues}
-use Rattle.sgt_names.specs.Log.{value_at}
+use Rattle.std.specs.Option.{ForSome}
+use Rattle.sgt_names.specs.Entry.{item_of, IsOpen, Continues}
+use Rattle.sgt_names.specs.Log.{names, value_at}
 use Rattle.sgt_names.specs.declared.entry.Entry.{Entry}
 use Rattle.sgt_names.specs.declared.entry.Entry.TheVariants.{Read}
 use Rattle.sgt_names.specs.declared.entry.Holding.{Holding}
 use Rattle.sgt_notation.specs.declared.SectionLine.{SectionLine}
 use Rattle.sgt_notation.specs.declared.SectionLine.TheVariants as Line
+use Rattle.sgt_cert.specs.Valid.{IsDecided}
 use Rattle.sgt_cert.specs.declared.bundle.SiteLog.{SiteLog}
+use Rattle.sgt_cert.specs.declared.certificate.Certificate.{Certificate}
 use Rattle.sgt_cert.specs.declared.certificate.Decision.{Decision}
 use Rattle.sgt_audit.specs.Faults.{fault_number, items_in, entries_in, KeepsItself, Breaks}
 use Rattle.sgt_audit.specs.declared.faults.Fault.{Fault}
@@ -35,6 +38,12 @@ pub record HasOpen (before : List SectionLine) (log : SiteLog) : Type 0 where
   pub entry_last : (f : Entry) → log.finals ≡ [] → slice_get log.entries (length log.entries - 1) ≡ Some f
       → last_or None before ≡ Some (Line.Logged f)
 
+-- what what is kept asks of a line: an entry's item is listed, and its transaction is decided as it says
+abbrev pub AdmitsLine : List Decision → Option SiteLog → SectionLine → Type 0
+AdmitsLine decisions (Some log) (Line.Logged e) = ForSome (item_of e) (Contains (names log.items))
+    × ((number : ℕ) × IsDecided decisions e number)
+AdmitsLine decisions _ _ = Unit {0}
+
 -- every rule of smaller number is kept
 abbrev pub KeptBelow : (Fault → Type 0) → ℕ → Type 0
 KeptBelow rule n = (g : Fault) → fault_number g < n → rule g
@@ -44,7 +53,7 @@ abbrev pub JudgedLine : (Fault → Type 0) → Option Fault → Type 0
 JudgedLine rule None = KeptBelow rule 17
 JudgedLine rule (Some f) = Breaks rule f
 
--- a certificate keeps its rules, or this is the least that is broken
-abbrev pub JudgedItself : List Decision → Option Fault → Type 0
-JudgedItself ds None = (f : Fault) → KeepsItself ds f
-JudgedItself ds (Some f) = Breaks (KeepsItself ds) f
+-- the certificate, which keeps its rules, or the least that is broken
+abbrev pub AnswersItself : Certificate → Result Certificate Fault → Type 0
+AnswersItself certificate (Ok c) = (c ≡ certificate) × ((f : Fault) → KeepsItself c.decisions f)
+AnswersItself certificate (Err f) = Breaks (KeepsItself certificate.decisions) f

@@ -42,6 +42,10 @@ pub record Marked (P : Edge → Type 0) (old new : List (Option Edge)) : Type 0 
 abbrev pub IsFrom : Handle → List Edge → Edge → Type 0
 IsFrom from edges e = (n : ℕ) × (slice_get edges n ≡ Some e) × (e.from ≡ from)
 
+-- the place is the order's end, or one of these edges leads from there to the member at it
+abbrev pub IsTargetOrEnd : List Handle → Handle → List Edge → ℕ → Type 0
+IsTargetOrEnd order from edges p = (p ≡ length order) ⊎ ((e : Edge) × IsFrom from edges e × (slice_get order p ≡ Some e.to))
+
 -- the edge has one of these numbers
 abbrev pub IsListed : List Edge → List ℕ → Edge → Type 0
 IsListed edges listed e = (j n : ℕ) × (slice_get listed j ≡ Some n) × (slice_get edges n ≡ Some e)

@@ -1,5 +1,6 @@
 -- What a site keeps of each item.
-use Rattle.std.specs.Prelude.{◌≡◌, ◌↔◌, ◌⊎◌, ℕ, Bool, true, false, ◌<◌, ◌≤◌, List, [], ◌++◌, length, map, Option, Some, Any, Contains, IsSome, find, option_map, option_and_then, slice_get, set}
+use Rattle.std.specs.Prelude.{◌≡◌, ◌↔◌, ◌⊎◌, ℕ, Bool, true, false, ◌<◌, ◌≤◌, List, [], ◌++◌, length, map, Option, Some, None, Any, AllPairs, Contains, IsSome, find, option_map, option_and_then, slice_get, set}
+use Rattle.std.specs.List.{insert}
 use Rattle.std.specs.Option.{option_to_list}
 use Rattle.std.specs.Str.{bytes_eq}
 use Rattle.std.specs.Ordering.{nat_cmp}
@@ -12,6 +13,7 @@ use Rattle.sgt_names.specs.declared.draft.Touch.{Touch}
 use Rattle.sgt_names.specs.declared.entry.Change.{Change}
 use Rattle.sgt_names.specs.declared.entry.Change.TheVariants.{Put, Add}
 use Rattle.sgt_names.specs.declared.entry.Holding.{Holding}
+use Rattle.sgt_site.specs.State.{IsVersionWritten}
 use Rattle.sgt_site.specs.declared.cell.Install.{Install}
 use Rattle.sgt_site.specs.declared.cell.Writer.{Writer}
 use Rattle.sgt_site.specs.declared.cell.Reader.{Reader}
@@ -26,6 +28,11 @@ pub record Contents : Type 0 where
   pub readers : List Reader
   pub readings : List Reading
   pub has_room : ℕ
+
+-- the version that the last write made is known, and the readers stand by rising version
+pub record IsOrdered (writers : List Writer) (written : ℕ) (readers : List Reader) : Type 0 where
+  pub last : IsVersionWritten writers written
+  pub by_version : AllPairs (λ a b. a.version ≤ b.version) readers
 
 -- the items of the cells, and these with their present values
 abbrev pub items_of : List Contents → List Name
@@ -126,17 +133,19 @@ change_in touch = option_and_then (λ t. t.change) touch
 abbrev pub seen_in : Option Touch → Option Seen
 seen_in touch = option_and_then (λ t. t.seen) touch
 
--- the writer that a change makes, and the reader that a kept read makes
+-- the writer that a change makes
 abbrev pub noted_writers : Install → Option Change → List Writer
 noted_writers i change = option_to_list (option_map (λ c. record { tx = i.tx; handle = i.handle; increment = adds c }) change)
 
-abbrev pub noted_readers : Install → Option Seen → List Reader
-noted_readers i seen = option_to_list (option_map (λ s. record { tx = i.tx; handle = i.handle; version = s.version }) seen)
+-- a kept read makes a reader, somewhere among the others
+abbrev pub AddsReader : Install → Option Seen → List Reader → List Reader → Type 0
+AddsReader i None old new = new ≡ old
+AddsReader i (Some s) old new = (n : ℕ) × (new ≡ insert old n (record { tx = i.tx; handle = i.handle; version = s.version }))
 
 -- the new cell is the old one after the commit, which touches its item so
 pub record IsNoted (i : Install) (touch : Option Touch) (old new : Contents) : Type 0 where
   pub item : new.item ≡ old.item
   pub value : Some new.value ≡ value_with_any (Some old.value) (change_in touch)
   pub writers : new.writers ≡ old.writers ++ noted_writers i (change_in touch)
-  pub readers : new.readers ≡ old.readers ++ noted_readers i (seen_in touch)
+  pub readers : AddsReader i (seen_in touch) old.readers new.readers
   pub readings : new.readings ≡ old.readings

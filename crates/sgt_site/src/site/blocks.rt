@@ -21,7 +21,8 @@ impl Site {
     ///
     /// - S5: no pledge of the transaction stands, or the draft reads or writes otherwise here than the one that was pledged.
     ///
-    /// Goes over the draft and, for each item of the site, over what the draft touches here.
+    /// Goes over the draft and, for each item of the site, over what the draft touches here. Where it read an item, the committed
+    /// readers of newer versions move by a place.
     pub fn install(&mut self, tx: Tx, handle: Handle, draft: &Draft) -> Result<(), SiteFault>
         ensures ok { OnOk result (self.new ≡ record self.old {
           entries = self.old.entries ++ commit_block tx (writing_in (at_site self.old.number draft.now.touched));

@@ -6,4 +6,4 @@ use Rattle.sgt_audit.proofs.engine.verdict_on.Goals as goal
 
 pub returns-in-Whole : goal.returns-in-Whole
 returns-in-Whole k bytes j =
-    subst (IsVerdict bytes) (sym (k.yes_to.ensures ∙ ap yes_of k.as_slice.ensures)) (kept-verdict k.in-Whole.kept bytes (subst (λ q. IsJudged q bytes) k.in-Whole.is j))
+    subst (IsVerdict bytes) (sym (k.yes_to.ensures ∙ ap yes_of k.decisions.ensures.same)) (kept-verdict k.in-Whole.kept bytes (subst (λ q. IsJudged q bytes) k.in-Whole.is j))

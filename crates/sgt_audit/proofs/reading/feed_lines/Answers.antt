@@ -1,4 +1,4 @@
-use Rattle.std.proofs.Common.{◌∙◌, ◌<◌, ◌≤◌, List, Some, None, ℕ, length, sym, ap, subst, arith, refl}
+use Rattle.std.proofs.Common.{◌∙◌, ◌<◌, ◌≤◌, List, Some, None, ℕ, length, ap, subst, arith, refl}
 use Rattle.sgt_audit.specs.private.Ending.{limit_of}
 use Rattle.sgt_audit.specs.private.NextLine.{Follows, bytes_of}
 use Rattle.sgt_audit.proofs.ReaderAtStage.{after-line, fault-line, stops-cut, stops-end, at-long, spends_on}

@@ -1,5 +1,5 @@
 use Rattle.sgt_audit.proofs.LoggedConflicts.{step-fails, step-holds, steps-end}
-use Rattle.sgt_audit.proofs.Slices.{refuted}
+use Rattle.sgt_decided.proofs.Loops.{refuted}
 use Rattle.sgt_audit.proofs.walks.are_logged.Goals as goal
 
 pub loop-step-init : goal.loop-step-init

@@ -1,7 +1,7 @@
 use Rattle.std.proofs.Common.{refl, sym, ◌∙◌, eq-eqb}
 use Rattle.std.proofs.lemmas.Bool.{true≢false}
 use Rattle.sgt_audit.proofs.LoggedConflicts.{met, met-next, none-met}
-use Rattle.sgt_audit.proofs.Slices.{refuted}
+use Rattle.sgt_decided.proofs.Loops.{refuted}
 use Rattle.sgt_audit.proofs.walks.have_conflict.Goals as goal
 use Rattle.sgt_names.proofs.Lists.{element_at}
 

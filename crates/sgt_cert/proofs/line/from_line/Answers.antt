@@ -1,20 +1,14 @@
-use Rattle.serde_json.specs.View.{view}
-use Rattle.sgt_cert.proofs.Answered.{answers-ok, answers-refuses, only-answer, each-fault, unread}
+use Rattle.std.proofs.Common.{sym, ◌∙◌}
+use Rattle.sgt_cert.proofs.Answered.{not_refused}
+use Rattle.sgt_cert.proofs.Reading.{certificate-one}
 use Rattle.sgt_cert.proofs.line.from_line.Goals as goal
 
-pub returns-in-Ok-clause-ok : goal.returns-in-Ok-clause-ok
-returns-in-Ok-clause-ok c = answers-ok c.judge.result (view c.in-Ok.value) c.args.line.now c.judge.ensures
+pub returns-in-Ok-Some-clause-only : goal.returns-in-Ok-Some-clause-only
+returns-in-Ok-Some-clause-only c = λ d is same.
+    let found = rw c.in-Ok-Some.field-0-is at c.in-Ok-Some.ensures in
+    certificate-one c.in-Ok-Some.certificate d found.0 is (sym found.1 ∙ same)
 
-pub returns-in-Ok-clause-only : goal.returns-in-Ok-clause-only
-returns-in-Ok-clause-only c =
-    only-answer c.judge.result c.args.line.now (answers-ok c.judge.result (view c.in-Ok.value) c.args.line.now c.judge.ensures) (answers-refuses c.judge.result (view c.in-Ok.value) c.args.line.now c.judge.ensures c.in-Ok.ensures.ok)
-
-pub returns-in-Ok-clause-refuses : goal.returns-in-Ok-clause-refuses
-returns-in-Ok-clause-refuses c = answers-refuses c.judge.result (view c.in-Ok.value) c.args.line.now c.judge.ensures c.in-Ok.ensures.ok
-
-pub returns-in-Ok-clause-each : goal.returns-in-Ok-clause-each
-returns-in-Ok-clause-each c =
-    each-fault c.judge.result c.args.line.now (answers-ok c.judge.result (view c.in-Ok.value) c.args.line.now c.judge.ensures) (answers-refuses c.judge.result (view c.in-Ok.value) c.args.line.now c.judge.ensures c.in-Ok.ensures.ok)
-
-pub returns-else-is_memory-clause-only : goal.returns-else-is_memory-clause-only
-returns-else-is_memory-clause-only c = λ d h is. absurd (unread c.args.line.now d (c.in-Err.ensures.err (λ m. let t = c.if-is_memory.ensures.1 m in cc t)) h is)
+pub returns-in-Ok-Some-clause-each : goal.returns-in-Ok-Some-clause-each
+returns-in-Ok-Some-clause-each c = λ e other refused.
+    let found = rw c.in-Ok-Some.field-0-is at c.in-Ok-Some.ensures in
+    not_refused c.args.line.now c.in-Ok-Some.certificate e found.0 found.1 other refused

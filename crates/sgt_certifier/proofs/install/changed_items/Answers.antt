@@ -1,4 +1,4 @@
-use Rattle.std.proofs.Common.{rules, ◌≡◌, sym, ◌∙◌}
+use Rattle.std.proofs.Common.{rules, sym, ◌∙◌}
 use Rattle.sgt_names.proofs.Lists.{element_at}
 use Rattle.sgt_certifier.proofs.Changes.{changed_some}
 use Rattle.sgt_certifier.proofs.install.changed_items.Goals as goal

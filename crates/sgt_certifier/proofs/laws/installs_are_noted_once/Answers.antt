@@ -1,4 +1,4 @@
-use Rattle.std.proofs.Common.{◌≡◌, AllPairs, Contains, sym, subst}
+use Rattle.std.proofs.Common.{AllPairs, Contains, sym, subst}
 use Rattle.sgt_certifier.specs.Certifier.{opening}
 use Rattle.sgt_certifier.specs.Sound.{AreTwice}
 use Rattle.sgt_certifier.proofs.Extending.{runs_installs}

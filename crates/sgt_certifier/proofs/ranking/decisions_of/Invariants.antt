@@ -1,4 +1,4 @@
-use Rattle.std.proofs.Common.{◌≡◌, ◌<◌, ◌≤◌, ◌++◌, ℕ, All, length, map, drop}
+use Rattle.std.proofs.Common.{◌≡◌, ◌<◌, ◌≤◌, ◌++◌, All, length, map, drop}
 use Rattle.sgt_certifier.specs.Certifier.{ruled}
 use Rattle.sgt_certifier.specs.Kept.{rulings_from, with_rank_in}
 use Rattle.sgt_certifier.proofs.ranking.decisions_of.Given as goal

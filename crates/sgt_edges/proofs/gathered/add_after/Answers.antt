@@ -1,13 +1,14 @@
+use Rattle.std.proofs.Common.{arith}
 use Rattle.sgt_names.proofs.Lists.{element_at}
 use Rattle.sgt_edges.specs.private.Gathered.{ToWriter}
 use Rattle.sgt_edges.proofs.Gathers.{each-none, each-next, each-all}
 use Rattle.sgt_edges.proofs.gathered.add_after.Goals as goal
 
 pub loop-w-init : goal.loop-w-init
-loop-w-init c = each-none (λ w e. ToWriter c.args.touch.now c.args.me w e) c.args.writers.now c.args.edges.now
+loop-w-init c = (each-none (λ w e. ToWriter c.args.touch.now c.args.me w e) c.args.writers.now c.args.edges.now, omega arith)
 
 pub loop-w-preserved : goal.loop-w-preserved
-loop-w-preserved c = each-next (λ w e. ToWriter c.args.touch.now c.args.me w e) c.args.writers.now _ _ _ _ _ (element_at _ _ _ c.loop-w-test.true c.w-item.is) c.loop-w.invariant c.in_ok-add.ensures
+loop-w-preserved c = (each-next (λ w e. ToWriter c.args.touch.now c.args.me w e) c.args.writers.now _ _ _ _ _ (element_at _ _ _ c.loop-w-test.true c.w-item.is) c.loop-w.invariant.0 c.in_ok-add.ensures.all, omega (arith, c.loop-w.invariant.1, c.in_ok-add.ensures.once))
 
-pub returns : goal.returns
-returns c = each-all (λ w e. ToWriter c.args.touch.now c.args.me w e) c.args.writers.now _ _ _ c.loop-w-test.false c.loop-w.invariant
+pub returns-clause-all : goal.returns-clause-all
+returns-clause-all c = each-all (λ w e. ToWriter c.args.touch.now c.args.me w e) c.args.writers.now _ _ _ c.loop-w-test.false c.loop-w.invariant.0

@@ -1,5 +1,11 @@
-use Rattle.sgt_edges.proofs.Gathers.{adds-both, read-parts, ok_then}
+use Rattle.sgt_edges.proofs.Gathers.{adds-both, read-parts, ok_then, seen-known}
 use Rattle.sgt_edges.proofs.gathered.add_of_read.Goals as goal
 
+pub in_front-before-requires : goal.in_front-before-requires
+in_front-before-requires c = seen-known c.args.site.now c.args.touch.now _ c.requires.here c.in-Some.is c.requires.seen
+
+pub behind-requires : goal.behind-requires
+behind-requires c = seen-known c.args.site.now c.args.touch.now _ c.requires.here c.in-Some.is c.requires.seen
+
 pub returns : goal.returns
-returns c = ok_then c.add_after.result c.add_after.ensures (λ after. adds-both _ _ _ _ _ _ (read-parts c.args.site.now c.args.touch.now c.args.me c.in-Some.seen c.writers_at.result.now c.in-Some.is c.writers_at.ensures.writers) (rw c.split_at.ensures.front at c.in_ok-add_before.ensures) (rw c.split_at.ensures.back at after))
+returns c = ok_then c.add_after.result c.add_after.ensures.all (λ after. adds-both _ _ _ _ _ _ (read-parts c.args.site.now c.args.touch.now c.args.me c.in-Some.seen _ _ c.in-Some.is c.in_front-before.ensures c.behind.ensures) c.in_ok-add_before.ensures.all after)

@@ -1,10 +1,15 @@
-use Rattle.std.proofs.Common.{◌≡◌, ◌<◌, ◌≤◌, ◌-◌, Some, [], ◌∷◌, ◌++◌, refl, sym, subst, arith}
+use Rattle.std.proofs.Common.{◌≡◌, ◌<◌, ◌-◌, Some, All, [], ◌∷◌, ◌++◌, length, refl, sym, ap, ◌∙◌, subst, arith}
 use Rattle.std.specs.Prelude.{slice_get}
+use Rattle.std.proofs.lemmas.List.{map-append}
 use Rattle.std.proofs.lemmas.List.Elements.{All-push}
 use Rattle.std.proofs.lemmas.List.Quantifiers.{all_pairs_push}
 use Rattle.crossbeam_channel.specs.Claims.{view}
-use Rattle.sgt_workers.specs.Answers.{IsAnswer}
+use Rattle.sgt_workers.specs.Answers.{jobs_of, IsAnswer}
+use Rattle.sgt_workers.specs.Queue.{IsFilled}
 use Rattle.sgt_workers.specs.declared.ticket.Done.{Done}
+use Rattle.sgt_workers.specs.declared.queue.Hold.{Hold}
+use Rattle.sgt_workers.proofs.Told.{below_jobs}
+use Rattle.sgt_workers.proofs.Runs.{runs_push}
 use Rattle.sgt_workers.proofs.worker.run_jobs.Goals as goal
 
 pub loop-preserved : goal.loop-preserved
@@ -12,21 +17,29 @@ loop-preserved g c =
     let P = IsAnswer (g.W.Work.answers c.args.work.now) c.args.scripts.now in
     let done = c.in-Ok.done in
     let told = c.in-Some-take_job.ensures in
+    let number = c.in-Some-take_job.job.number in
     let said = c.in-Ok.ensures in
     let before = c.loop.dones.items in
     let same : c.push_reserved.new.self.items ≡ before ++ done ∷ [] = rw c.push_reserved.ensures.items (rw c.in_ok-reserve.ensures.items refl) in
     let right : P done =
     subst (λ n. (0 < n) × ((x : g.row.C.Denot) × (slice_get c.args.scripts.now (n - 1) ≡ Some x) × g.W.Work.answers c.args.work.now n x done)) (sym said.job)
-    (omega (arith, told.rising.0), (c.in-Some-take_job.job.script.now, told.script, said.answer)) in
+    (told.rising.0, (c.in-Some-take_job.job.script.now, told.script, said.answer)) in
+    let below : All (λ n. n < number) (jobs_of before) = subst (All (λ n. n < number)) (sym c.loop.invariant.taken) told.rising.1 in
+    let jobs : jobs_of (before ++ done ∷ []) ≡ jobs_of before ++ done.job ∷ [] = map-append (λ (d : Done). d.job) before (done ∷ []) in
+    let D = g.W.Work.does c.args.work.now in
+    let script = c.in-Some-take_job.job.script.now in
+    let at : slice_get c.args.scripts.now (done.job - 1) ≡ Some script = subst (λ n. slice_get c.args.scripts.now (n - 1) ≡ Some script) (sym said.job) told.script in
+    let did : D c.loop.state done.job script done c.work.new.state = subst (λ n. D c.loop.state n script done c.work.new.state) (sym said.job) said.does in
+    let with_it : jobs_of (before ++ done ∷ []) ≡ (view c.take_job.new.pass).taken =
+    jobs ∙ ap (λ l. l ++ done.job ∷ []) c.loop.invariant.taken ∙ ap (λ n. (view c.loop.pass).taken ++ n ∷ []) said.job ∙ ap (λ (h : Hold). h.taken) (sym told.job) in
     record {
       can = tt;
       ends = tt;
-      pass = told.seat;
+      seat = told.seat;
+      filled = subst (λ (h : Hold). IsFilled (length c.args.scripts.now) h) (sym told.job) c.loop.invariant.filled;
+      taken = rw same with_it;
       keeps = g.met.W.Work.keeps_on _ _ _ c.loop.invariant.keeps said.keeps;
       answers = rw same (All-push P before done c.loop.invariant.answers right);
-      taken = rw same (All-push (λ (d : Done). d.job ≤ (view c.take_job.new.pass).taken) before done (λ k d h. omega (arith, c.loop.invariant.taken k d h, told.rising.0, told.rising.1)) (omega (arith, said.job, told.rising.1)));
-      rising = rw same (all_pairs_push (λ (d e : Done). d.job < e.job) before done c.loop.invariant.rising (λ k d h. omega (arith, c.loop.invariant.taken k d h, told.rising.0, said.job)));
+      runs = rw same (runs_push D c.args.scripts.now _ _ _ done before c.loop.invariant.runs (script, at, did));
+      rising = rw same (all_pairs_push (λ (d e : Done). d.job < e.job) before done c.loop.invariant.rising (λ k d h. omega (arith, below_jobs number before below k d h, said.job)));
     }
-
-pub returns-in-Err-clause-answers : goal.returns-in-Err-clause-answers
-returns-in-Err-clause-answers g c = rw c.in_ok-reserve.ensures.items c.loop.invariant.answers

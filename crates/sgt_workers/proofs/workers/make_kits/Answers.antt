@@ -1,4 +1,8 @@
-use Rattle.std.proofs.Common.{refl, ◌∙◌}
+use Rattle.std.proofs.Common.{◌≡◌, refl, ap, ◌∙◌}
+use Rattle.std.proofs.lemmas.List.Elements.{All-push}
+use Rattle.crossbeam_channel.specs.Claims.{view, IsSeatAt}
+use Rattle.crossbeam_channel.specs.Ends.{sends_on}
+use Rattle.sgt_workers.specs.Queue.{newcomer}
 use Rattle.sgt_workers.proofs.Lists.{zip_push}
 use Rattle.sgt_workers.proofs.workers.make_kits.Goals as goal
 
@@ -8,5 +12,6 @@ loop-state-preserved g c = record {
   ends = tt;
   seat = c.cut-mine.ensures.old.0;
   same = c.cut-mine.ensures.old.1 ∙ c.loop-state.invariant.same;
-  kits = rw c.in_ok-push.ensures.items (zip_push _ _ _ _ _ c.loop-state.invariant.kits (refl, c.cut-mine.ensures.new.0));
+  kits = rw c.in_ok-push.ensures.items (zip_push _ _ _ _ _ c.loop-state.invariant.kits refl);
+  passes = rw c.in_ok-push.ensures.items (All-push (λ k. IsSeatAt (sends_on c.args.sender.now) k.pass × (view k.pass ≡ newcomer (view c.args.pass.now))) _ _ c.loop-state.invariant.passes (c.cut-mine.ensures.new.0, c.cut-mine.ensures.new.1 ∙ ap newcomer c.loop-state.invariant.same));
 }

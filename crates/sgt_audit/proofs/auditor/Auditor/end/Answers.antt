@@ -8,7 +8,7 @@ use Rattle.sgt_audit.proofs.auditor.Auditor.end.Goals as goal
 pub returns-in-Ok-clause-verdict : goal.returns-in-Ok-clause-verdict
 returns-in-Ok-clause-verdict k second c fed read few =
     let lines = bundle_lines second c fed in
-    subst (IsVerdict (text_of_lines lines)) (sym (k.yes_to.ensures ∙ ap yes_of k.as_slice.ensures))
+    subst (IsVerdict (text_of_lines lines)) (sym (k.yes_to.ensures ∙ ap yes_of k.decisions.ensures.same))
     (whole-verdict k.in-Going.machine k.in-Going.line k.in-Ok.kept lines (subst (λ q. HasRead q lines) k.in-Going.is read) (λ s stands. k.in-Ok.ensures s stands (omega arith)))
 
 pub returns-in-Err-clause-verdict : goal.returns-in-Err-clause-verdict

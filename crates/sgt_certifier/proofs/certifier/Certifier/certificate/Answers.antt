@@ -1,7 +1,7 @@
-use Rattle.std.proofs.Common.{◌≡◌, ◌<◌, ◌≤◌, suc, length, map, sym, ap, ◌∙◌, subst, arith, All}
+use Rattle.std.proofs.Common.{◌≡◌, ◌<◌, length, map, sym, ap, ◌∙◌, subst, arith, All}
 use Rattle.sgt_certifier.specs.Certifier.{ruled, serial, ranked, certificate_of}
 use Rattle.sgt_certifier.specs.Kept.{Kept, rulings_from, with_rank_in}
-use Rattle.sgt_certifier.proofs.Extending.{Parts, state_of}
+use Rattle.sgt_certifier.proofs.Extending.{parts_of, state_of}
 use Rattle.sgt_certifier.proofs.Replaying.{replays-good}
 use Rattle.sgt_certifier.proofs.Certifying.{IsTable, table_ranks, rulings_below}
 use Rattle.sgt_certifier.proofs.certifier.Certifier.certificate.Goals as goal
@@ -12,7 +12,7 @@ decisions_of-requires-clause-table c =
 
 pub decisions_of-requires-clause-ranked : goal.decisions_of-requires-clause-ranked
 decisions_of-requires-clause-ranked c =
-    let p : Parts = record { begun = c.self.inside.begun; before = c.self.inside.before; generation = c.self.inside.graph.generation; flags = c.self.inside.flags.items; past = c.self.inside.past.items; order = c.self.inside.graph.order; edges = c.self.inside.graph.edges; step = c.self.inside.step; calls = c.self.inside.history.items } in
+    let p = parts_of c.self.inside in
     let s = state_of p in
     let good = replays-good p.calls s c.self.invariant.replays in
     let begun = ap (λ (v : Kept). v.state.begun) c.self.view_is in
@@ -21,7 +21,7 @@ decisions_of-requires-clause-ranked c =
 
 pub returns : goal.returns
 returns c =
-    let p : Parts = record { begun = c.self.inside.begun; before = c.self.inside.before; generation = c.self.inside.graph.generation; flags = c.self.inside.flags.items; past = c.self.inside.past.items; order = c.self.inside.graph.order; edges = c.self.inside.graph.edges; step = c.self.inside.step; calls = c.self.inside.history.items } in
+    let p = parts_of c.self.inside in
     let s = state_of p in
     let good = replays-good p.calls s c.self.invariant.replays in
     let table = c.in_ok-ranks.ranks.items in

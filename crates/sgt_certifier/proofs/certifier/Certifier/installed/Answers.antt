@@ -4,13 +4,13 @@ use Rattle.sgt_names.specs.Limits.{max_sites}
 use Rattle.sgt_certifier.specs.declared.call.Call.TheVariants as call
 use Rattle.sgt_certifier.specs.History.{IsInstalling, IsNoted}
 use Rattle.sgt_certifier.specs.Kept.{Kept, Adds, changed_at}
-use Rattle.sgt_certifier.proofs.Extending.{Parts, state_of}
+use Rattle.sgt_certifier.proofs.Extending.{parts_of, Parts, state_of}
 use Rattle.sgt_certifier.proofs.Installing.{installed_serves, installed_kept, installed_room}
 use Rattle.sgt_certifier.proofs.certifier.Certifier.installed.Goals as goal
 
 pub push_reserved-requires : goal.push_reserved-requires
 push_reserved-requires c =
-    let p : Parts = record { begun = c.self.inside.begun; before = c.self.inside.before; generation = c.self.inside.graph.generation; flags = c.self.inside.flags.items; past = c.self.inside.past.items; order = c.self.inside.graph.order; edges = c.self.inside.graph.edges; step = c.self.inside.step; calls = c.self.inside.history.items } in
+    let p = parts_of c.self.inside in
     let is_open : IsInstalling (state_of p) c.args.tx = subst (λ (v : Kept). IsInstalling v.state c.args.tx) (sym c.self.view_is) (c.is_installing.ensures.0 c.if-not-is_installing.false) in
     let new : IsNoted (state_of p) c.args.tx c.args.site → ⊥ = λ noted. true≢false (sym (c.is_noted.ensures.1 (subst (λ (v : Kept). IsNoted v.state c.args.tx c.args.site) c.self.view_is noted)) ∙ c.if-is_noted.false) in
     let below : c.args.site < max_sites = omega arith in
@@ -19,7 +19,7 @@ push_reserved-requires c =
 
 pub push_reserved-requires-2 : goal.push_reserved-requires-2
 push_reserved-requires-2 c =
-    let p : Parts = record { begun = c.self.inside.begun; before = c.self.inside.before; generation = c.self.inside.graph.generation; flags = c.self.inside.flags.items; past = c.self.inside.past.items; order = c.self.inside.graph.order; edges = c.self.inside.graph.edges; step = c.self.inside.step; calls = c.self.inside.history.items } in
+    let p = parts_of c.self.inside in
     let is_open : IsInstalling (state_of p) c.args.tx = subst (λ (v : Kept). IsInstalling v.state c.args.tx) (sym c.self.view_is) (c.is_installing.ensures.0 c.if-not-is_installing.false) in
     let new : IsNoted (state_of p) c.args.tx c.args.site → ⊥ = λ noted. true≢false (sym (c.is_noted.ensures.1 (subst (λ (v : Kept). IsNoted v.state c.args.tx c.args.site) c.self.view_is noted)) ∙ c.if-is_noted.false) in
     let below : c.args.site < max_sites = omega arith in
@@ -28,8 +28,8 @@ push_reserved-requires-2 c =
 
 pub invariant_of-self-2 : goal.invariant_of-self-2
 invariant_of-self-2 c =
-    let p : Parts = record { begun = c.self.inside.begun; before = c.self.inside.before; generation = c.self.inside.graph.generation; flags = c.self.inside.flags.items; past = c.self.inside.past.items; order = c.self.inside.graph.order; edges = c.self.inside.graph.edges; step = c.self.inside.step; calls = c.self.inside.history.items } in
-    let q : Parts = record { begun = c.self.inside.begun; before = c.self.inside.before; generation = c.self.inside.graph.generation; flags = c.self.inside.flags.items; past = c.self.inside.past.items; order = c.self.inside.graph.order; edges = c.self.inside.graph.edges; step = c.self.inside.step; calls = c.push_reserved-2.new.self.items } in
+    let p = parts_of c.self.inside in
+    let q : Parts = record p { calls = c.push_reserved-2.new.self.items } in
     let items = changed_at c.args.draft.now.touched c.args.site in
     let items_is : c.in_ok-items.items ≡ items = c.in_ok-items.ensures.items ∙ ap (λ ts. changed_at ts c.args.site) c.touched.ensures.all in
     let is_open : IsInstalling (state_of p) c.args.tx = subst (λ (v : Kept). IsInstalling v.state c.args.tx) (sym c.self.view_is) (c.is_installing.ensures.0 c.if-not-is_installing.false) in
@@ -41,8 +41,8 @@ invariant_of-self-2 c =
 
 pub returns-clause-ok : goal.returns-clause-ok
 returns-clause-ok c =
-    let p : Parts = record { begun = c.self.inside.begun; before = c.self.inside.before; generation = c.self.inside.graph.generation; flags = c.self.inside.flags.items; past = c.self.inside.past.items; order = c.self.inside.graph.order; edges = c.self.inside.graph.edges; step = c.self.inside.step; calls = c.self.inside.history.items } in
-    let q : Parts = record { begun = c.self.inside.begun; before = c.self.inside.before; generation = c.self.inside.graph.generation; flags = c.self.inside.flags.items; past = c.self.inside.past.items; order = c.self.inside.graph.order; edges = c.self.inside.graph.edges; step = c.self.inside.step; calls = c.push_reserved-2.new.self.items } in
+    let p = parts_of c.self.inside in
+    let q : Parts = record p { calls = c.push_reserved-2.new.self.items } in
     let items = changed_at c.args.draft.now.touched c.args.site in
     let items_is : c.in_ok-items.items ≡ items = c.in_ok-items.ensures.items ∙ ap (λ ts. changed_at ts c.args.site) c.touched.ensures.all in
     let is_open : IsInstalling (state_of p) c.args.tx = subst (λ (v : Kept). IsInstalling v.state c.args.tx) (sym c.self.view_is) (c.is_installing.ensures.0 c.if-not-is_installing.false) in

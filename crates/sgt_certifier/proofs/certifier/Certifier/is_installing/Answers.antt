@@ -1,28 +1,28 @@
-use Rattle.std.proofs.Common.{◌≡◌, ◌+◌, ◌-◌, ◌≤◌, map, suc, sym, ap, ◌∙◌, subst, arith, Some, Contains}
+use Rattle.std.proofs.Common.{◌≡◌, ◌-◌, map, sym, ap, ◌∙◌, subst, arith, Some, Contains}
 use Rattle.sgt_arena.specs.declared.handle.Handle.{Handle}
 use Rattle.sgt_certifier.specs.History.{IsInstalling}
 use Rattle.sgt_certifier.specs.Kept.{Kept, tx_at}
-use Rattle.sgt_certifier.proofs.Extending.{Parts, state_of, open_place}
+use Rattle.sgt_certifier.proofs.Extending.{parts_of, state_of, open_place}
 use Rattle.sgt_certifier.proofs.Transfer.{member_known, known_member, member_here}
 use Rattle.sgt_certifier.proofs.certifier.Certifier.is_installing.Goals as goal
 
 pub overflow_sub-index : goal.overflow_sub-index
 overflow_sub-index c =
-    let p : Parts = record { begun = c.self.inside.begun; before = c.self.inside.before; generation = c.self.inside.graph.generation; flags = c.self.inside.flags.items; past = c.self.inside.past.items; order = c.self.inside.graph.order; edges = c.self.inside.graph.edges; step = c.self.inside.step; calls = c.self.inside.history.items } in
+    let p = parts_of c.self.inside in
     let open_tx : p.step ≡ Some c.args.tx = c.in-Some.is ∙ ap Some (sym c.number.ensures.is ∙ (c.if-number.false ∙ c.number-2.ensures.is)) in
     let place = open_place p c.args.tx c.self.invariant.replays open_tx in
     omega (arith, place.1, c.number-3.ensures.is)
 
 pub overflow_sub-index-2 : goal.overflow_sub-index-2
 overflow_sub-index-2 c =
-    let p : Parts = record { begun = c.self.inside.begun; before = c.self.inside.before; generation = c.self.inside.graph.generation; flags = c.self.inside.flags.items; past = c.self.inside.past.items; order = c.self.inside.graph.order; edges = c.self.inside.graph.edges; step = c.self.inside.step; calls = c.self.inside.history.items } in
+    let p = parts_of c.self.inside in
     let open_tx : p.step ≡ Some c.args.tx = c.in-Some.is ∙ ap Some (sym c.number.ensures.is ∙ (c.if-number.false ∙ c.number-2.ensures.is)) in
     let place = open_place p c.args.tx c.self.invariant.replays open_tx in
     omega (arith, place.1, c.number-3.ensures.is)
 
 pub returns : goal.returns
 returns c =
-    let p : Parts = record { begun = c.self.inside.begun; before = c.self.inside.before; generation = c.self.inside.graph.generation; flags = c.self.inside.flags.items; past = c.self.inside.past.items; order = c.self.inside.graph.order; edges = c.self.inside.graph.edges; step = c.self.inside.step; calls = c.self.inside.history.items } in
+    let p = parts_of c.self.inside in
     let open_tx : p.step ≡ Some c.args.tx = c.in-Some.is ∙ ap Some (sym c.number.ensures.is ∙ (c.if-number.false ∙ c.number-2.ensures.is)) in
     let place = open_place p c.args.tx c.self.invariant.replays open_tx in
     let before = c.self.inside.before in

@@ -1,13 +1,12 @@
 use Rattle.std.proofs.Common.{◌≡◌, sym, subst, Some, Contains}
-use Rattle.std.specs.Prelude.{◌↔◌}
 use Rattle.sgt_certifier.specs.History.{IsNoted}
 use Rattle.sgt_certifier.specs.Kept.{Kept}
-use Rattle.sgt_certifier.proofs.Extending.{Parts, state_of}
+use Rattle.sgt_certifier.proofs.Extending.{parts_of, state_of}
 use Rattle.sgt_certifier.proofs.certifier.Certifier.is_noted.Goals as goal
 
 pub returns : goal.returns
 returns c =
-    let p : Parts = record { begun = c.self.inside.begun; before = c.self.inside.before; generation = c.self.inside.graph.generation; flags = c.self.inside.flags.items; past = c.self.inside.past.items; order = c.self.inside.graph.order; edges = c.self.inside.graph.edges; step = c.self.inside.step; calls = c.self.inside.history.items } in
+    let p = parts_of c.self.inside in
     let open_tx : p.step ≡ Some c.args.tx = subst (λ (v : Kept). v.state.step ≡ Some c.args.tx) (sym c.self.view_is) c.requires in
     let noted = c.self.invariant.noted.sites c.args.tx open_tx c.args.site in (
       λ told.

@@ -1,9 +1,9 @@
-use Rattle.std.proofs.Common.{◌≡◌, ◌≢◌, ◌<◌, ◌≤◌, ◌++◌, ℕ, suc, length, map, sym, ap, ◌∙◌, subst, arith, All, AllPairs, Some}
+use Rattle.std.proofs.Common.{◌≡◌, ◌≢◌, ◌<◌, ◌++◌, suc, length, map, sym, ap, ◌∙◌, subst, arith, All, AllPairs, Some}
 use Rattle.std.specs.Prelude.{slice_get}
 use Rattle.sgt_names.proofs.Places.{Contains-from_at}
 use Rattle.sgt_certifier.specs.Certifier.{serial}
 use Rattle.sgt_certifier.specs.Kept.{tx_at}
-use Rattle.sgt_certifier.proofs.Extending.{Parts, state_of}
+use Rattle.sgt_certifier.proofs.Extending.{parts_of, state_of}
 use Rattle.sgt_certifier.proofs.Replaying.{replays-good}
 use Rattle.sgt_certifier.proofs.Transfer.{contains_map}
 use Rattle.sgt_certifier.proofs.Certifying.{serial-distinct, serial-below, serial-few}
@@ -11,7 +11,7 @@ use Rattle.sgt_certifier.proofs.certifier.Certifier.ranks.Goals as goal
 
 pub push_all-requires-clause-numbers : goal.push_all-requires-clause-numbers
 push_all-requires-clause-numbers c n h at =
-    let p : Parts = record { begun = c.self.inside.begun; before = c.self.inside.before; generation = c.self.inside.graph.generation; flags = c.self.inside.flags.items; past = c.self.inside.past.items; order = c.self.inside.graph.order; edges = c.self.inside.graph.edges; step = c.self.inside.step; calls = c.self.inside.history.items } in
+    let p = parts_of c.self.inside in
     let s = state_of p in
     let good = replays-good p.calls s c.self.invariant.replays in
     let member = Contains-from_at c.self.inside.graph.order n h (subst (λ xs. slice_get xs n ≡ Some h) c.order-order.ensures.is at) in
@@ -20,7 +20,7 @@ push_all-requires-clause-numbers c n h at =
 
 pub rank_all-requires-clause-within : goal.rank_all-requires-clause-within
 rank_all-requires-clause-within c k d lt =
-    let p : Parts = record { begun = c.self.inside.begun; before = c.self.inside.before; generation = c.self.inside.graph.generation; flags = c.self.inside.flags.items; past = c.self.inside.past.items; order = c.self.inside.graph.order; edges = c.self.inside.graph.edges; step = c.self.inside.step; calls = c.self.inside.history.items } in
+    let p = parts_of c.self.inside in
     let s = state_of p in
     let good = replays-good p.calls s c.self.invariant.replays in
     let before = c.self.inside.before in
@@ -30,7 +30,7 @@ rank_all-requires-clause-within c k d lt =
 
 pub rank_all-requires-clause-distinct : goal.rank_all-requires-clause-distinct
 rank_all-requires-clause-distinct c =
-    let p : Parts = record { begun = c.self.inside.begun; before = c.self.inside.before; generation = c.self.inside.graph.generation; flags = c.self.inside.flags.items; past = c.self.inside.past.items; order = c.self.inside.graph.order; edges = c.self.inside.graph.edges; step = c.self.inside.step; calls = c.self.inside.history.items } in
+    let p = parts_of c.self.inside in
     let s = state_of p in
     let good = replays-good p.calls s c.self.invariant.replays in
     let before = c.self.inside.before in
@@ -39,7 +39,7 @@ rank_all-requires-clause-distinct c =
 
 pub rank_all-requires-clause-few : goal.rank_all-requires-clause-few
 rank_all-requires-clause-few c =
-    let p : Parts = record { begun = c.self.inside.begun; before = c.self.inside.before; generation = c.self.inside.graph.generation; flags = c.self.inside.flags.items; past = c.self.inside.past.items; order = c.self.inside.graph.order; edges = c.self.inside.graph.edges; step = c.self.inside.step; calls = c.self.inside.history.items } in
+    let p = parts_of c.self.inside in
     let s = state_of p in
     let good = replays-good p.calls s c.self.invariant.replays in
     let before = c.self.inside.before in

@@ -1,0 +1,179 @@
+-- What is kept of the sites, against the rules of a line, and after one more line.
+use Rattle.std.proofs.Common.{◌≡◌, ◌≢◌, ℕ, ◌+◌, List, [], ◌∷◌, ◌++◌, length, Option, Some, None, Bool, true, IsTrue, refl, sym, ap, ◌∙◌, subst, arith, inl, inr, All, AllPairs, Contains}
+use Rattle.std.specs.Prelude.{◌↔◌, slice_get, is_some, IfSome, IfNone}
+use Rattle.std.specs.Option.{ForSome}
+use Rattle.std.specs.Ordering.{nat_cmp}
+use Rattle.std.specs.Cmp.Lexicographic.{slice_cmp}
+use Rattle.std.specs.declared.cmp.Ordering.TheVariants.{Less, Equal}
+use Rattle.std.proofs.lemmas.Bool.{false≢true}
+use Rattle.std.proofs.lemmas.Cmp.{nat_list_cmp_total, tied_itself}
+use Rattle.std.proofs.lemmas.List.{length_push}
+use Rattle.std.proofs.lemmas.Option.{none-some, same_Some}
+use Rattle.sgt_names.proofs.Places.{All_at, All-from_at, AllPairs_at, AllPairs-from_at, Contains-from_at}
+use Rattle.sgt_names.specs.Name.{Name}
+use Rattle.sgt_names.specs.Entry.{item_of, Reads, Writes, Repeats, Clash}
+use Rattle.sgt_names.specs.Log.{names}
+use Rattle.sgt_names.specs.declared.entry.Entry.{Entry}
+use Rattle.sgt_names.specs.declared.entry.Entry.TheVariants as entry
+use Rattle.sgt_names.specs.declared.entry.Holding.{Holding}
+use Rattle.sgt_names.specs.declared.entry.Kind.{Kind}
+use Rattle.sgt_names.specs.declared.entry.Kind.TheVariants.{Wr, Rw, Ww}
+use Rattle.sgt_notation.specs.declared.SectionLine.{SectionLine}
+use Rattle.sgt_notation.specs.declared.SectionLine.TheVariants.{Site, Initial, Logged, Final, End}
+use Rattle.sgt_cert.specs.Parts.{ComesBefore}
+use Rattle.sgt_cert.specs.Valid.{IsDecided, RiseInRank, EndInOrder}
+use Rattle.sgt_cert.specs.declared.bundle.SiteLog.{SiteLog}
+use Rattle.sgt_cert.specs.declared.certificate.Decision.{Decision}
+use Rattle.sgt_cells.specs.Tracks.{TracksOpen, IsReadyFor, DecidesOn, IsNumberOf}
+use Rattle.sgt_cells.specs.Cells.{IsRankOf}
+use Rattle.sgt_cells.specs.declared.state.SiteState.{SiteState}
+use Rattle.sgt_cells.proofs.Tracking.{ready-next}
+use Rattle.sgt_cert.specs.Certificate.{IsDecidedOnce}
+use Rattle.sgt_cert.specs.Text.{Begins}
+use Rattle.sgt_cert.specs.declared.certificate.Certificate.{Certificate}
+use Rattle.sgt_audit.specs.declared.faults.Fault.TheVariants as fault
+use Rattle.sgt_audit.specs.Faults.{Keeps}
+use Rattle.sgt_audit.specs.Kept.{Means, TracksCurrent, Tracks}
+use Rattle.sgt_audit.proofs.MayFollow.{begins-follow}
+use Rattle.sgt_audit.proofs.OpenLogs.{has_open}
+use Rattle.sgt_audit.specs.Reading.{Begun, IsBegun, HasRoomFor, lines_read}
+use Rattle.sgt_audit.specs.private.Following.{Fits, MayFollow, with_next}
+use Rattle.sgt_audit.specs.private.Judging.{AdmitsLine, KeptBelow}
+
+-- ---- the rules
+
+-- what a look-up of an item finds
+abbrev pub Finds : SiteState → Name → Option ℕ → Type 0
+Finds s x o = IfSome o (λ place. (ds : List Decision) (items : List Holding) (entries : List Entry) → TracksOpen ds items entries s → slice_get (names items) place ≡ Some x)
+    × IfNone o ((ds : List Decision) (items : List Holding) (entries : List Entry) → TracksOpen ds items entries s → Contains (names items) x → ⊥)
+
+listed-by : (ds : List Decision) (items : List Holding) (entries : List Entry) (s : SiteState) (x : Name) (item : Option Name) (o : Option ℕ) → TracksOpen ds items entries s → Finds s x o → item ≡ Some x
+    → IsTrue (is_some o) ↔ ForSome item (Contains (names items))
+listed-by ds items entries s x item (Some place) t finds on = (
+  λ h y is. subst (Contains (names items)) (same_Some x y (sym on ∙ is)) (Contains-from_at (names items) place x (finds.0 ds items entries t)),
+  λ h. refl,
+)
+listed-by ds items entries s x item None t finds on = (λ h. absurd (false≢true h), λ h. absurd (finds.1 ds items entries t (h x on)))
+
+pub listed-decides : (ds : List Decision) (items : List Holding) (entries : List Entry) (s : SiteState) (x : Name) (item : Option Name) (o : Option ℕ) (r : Bool) → r ≡ is_some o → TracksOpen ds items entries s → Finds s x o → item ≡ Some x
+    → IsTrue r ↔ ForSome item (Contains (names items))
+listed-decides ds items entries s x item o r is t finds on = subst (λ b. IsTrue b ↔ ForSome item (Contains (names items))) (sym is) (listed-by ds items entries s x item o t finds on)
+
+pub end-listed : (ns : List Name) (item : Option Name) → item ≡ None → IsTrue true ↔ ForSome item (Contains ns)
+end-listed ns item none = (λ h x is. absurd (none-some x (sym none ∙ is)), λ h. refl)
+
+-- an end repeats nothing and conflicts with nothing
+end-no_read : (e : Entry) (x : Name) → item_of e ≡ None → Reads x e → ⊥
+end-no_read (entry.Read t y v) x none r = absurd cc
+end-no_read _ x none r = r
+
+end-no_write : (e : Entry) (x : Name) → item_of e ≡ None → Writes x e → ⊥
+end-no_write (entry.Write t y v) x none w = absurd cc
+end-no_write (entry.Add t y v) x none w = absurd cc
+end-no_write (entry.Want t y v) x none w = absurd cc
+end-no_write (entry.WantAdd t y v) x none w = absurd cc
+end-no_write _ x none w = w
+
+pub end-first : (entries : List Entry) (e : Entry) → item_of e ≡ None → IsTrue true ↔ All (λ f. (x : Name) → Repeats x f e → ⊥) entries
+end-first entries e none = (
+  λ h. All-from_at (λ f. (x : Name) → Repeats x f e → ⊥) entries (λ n f at x r. elim r.1 [ inl reads ↦ end-no_read e x none reads.1 | inr writes ↦ end-no_write e x none writes.1 ]),
+  λ h. refl,
+)
+
+no-clash : (kind : Kind) (x : Name) (f e : Entry) → item_of e ≡ None → Clash kind x f e → ⊥
+no-clash Wr x f e none c = end-no_read e x none c.1
+no-clash Rw x f e none c = end-no_write e x none c.1
+no-clash Ww x f e none c = end-no_write e x none c.1
+
+pub end-in_rank : (ds : List Decision) (entries : List Entry) (e : Entry) → item_of e ≡ None → IsTrue true ↔ All (λ f. RiseInRank ds f e) entries
+end-in_rank ds entries e none = (
+  λ h. All-from_at (λ f. RiseInRank ds f e) entries (λ n f at kind x i j r s clash. absurd (no-clash kind x f e none clash)),
+  λ h. refl,
+)
+
+pub order-free : (ds : List Decision) (entries : List Entry) (e : Entry) → ((number : ℕ) → IsDecided ds e number → ⊥) → IsTrue true ↔ All (λ f. EndInOrder ds f e) entries
+order-free ds entries e none = (
+  λ h. All-from_at (λ f. EndInOrder ds f e) entries (λ n f at ends_f ends_e i j by_f by_e. absurd (none j by_e)),
+  λ h. refl,
+)
+
+pub number-is : (ds : List Decision) (tx : ℕ) (o : Option ℕ) → IfSome o (λ number. DecidesOn ds number tx) → IfNone o ((number : ℕ) → DecidesOn ds number tx → ⊥) → IsNumberOf ds tx o
+number-is ds tx None some none = none
+number-is ds tx (Some number) some none = some
+
+pub rank-is : (ds : List Decision) (tx : ℕ) (o : Option ℕ) → IfSome o (λ rank. IsRankOf ds tx (Some rank)) → IfNone o (IsRankOf ds tx None) → IsRankOf ds tx o
+rank-is ds tx None some none = none
+rank-is ds tx (Some rank) some none = some
+
+pub final-listed : (log : SiteLog) (h : Holding) → Fits log (Final h) → Contains (names log.items) h.item
+final-listed log h fits = Contains-from_at (names log.items) (length log.finals) h.item fits
+
+pub open-tracked : (ds : List Decision) (b : Begun) (s : SiteState) (log : SiteLog) → b.current ≡ Some log → Tracks ds b s → TracksOpen ds log.items log.entries s
+open-tracked ds b s log here t = (subst (λ o. TracksCurrent ds (length b.whole) o s) here t).1
+
+-- ---- names that rise are apart
+
+less-equal : Less ≡ Equal → ⊥
+less-equal e = cc
+
+pub before-apart : (x y : Name) → ComesBefore x y → x ≢ y
+before-apart x y less same = less-equal (sym less ∙ ap (slice_cmp nat_cmp x) (sym same) ∙ tied_itself nat_list_cmp_total x)
+
+pub names-apart : (ns : List Name) → AllPairs ComesBefore ns → AllPairs (λ x y. x ≢ y) ns
+names-apart ns rise = AllPairs-from_at (λ x y. x ≢ y) ns (λ p q x y lt at_p at_q. before-apart x y (AllPairs_at ComesBefore ns p q x y rise lt at_p at_q))
+
+-- ---- one more line
+
+module _ (ds : List Decision) (b : Begun) (old new : SiteState) where
+  -- of the open section, or of none
+  abbrev pub Enters : Option SiteLog → SectionLine → Type 0
+  Enters o line = HasRoomFor b o → MayFollow b o line → AdmitsLine ds o line → TracksCurrent ds (length b.whole) o old → Tracks ds (with_next b o line) new
+
+  pub site-entered : (o : Option SiteLog) (k : ℕ) → new.section ≡ k + 1 → (IsReadyFor ds (k + 1) old → TracksOpen ds [] [] new) → Enters o (Site k)
+  site-entered None k section tracks room fits admits ready = (section ∙ ap (λ n. n + 1) fits.0, tracks (subst (λ n. IsReadyFor ds (n + 1) old) (sym fits.0) ready))
+  site-entered (Some log) k section tracks room fits admits before = absurd fits
+
+  pub item-entered : (o : Option SiteLog) (h : Holding) → new.section ≡ old.section → ((items : List Holding) → All (λ x. x ≢ h.item) (names items) → TracksOpen ds items [] old → TracksOpen ds (items ++ h ∷ []) [] new) → Enters o (Initial h)
+  item-entered None h section tracks room fits admits ready = absurd fits
+  item-entered (Some log) h section tracks room fits admits before = (
+    section ∙ before.0,
+    subst (λ es. TracksOpen ds (log.items ++ h ∷ []) es new) (sym fits.0)
+        (tracks log.items (All-from_at (λ x. x ≢ h.item) (names log.items) (λ n x at. before-apart x h.item (All_at (λ x. ComesBefore x h.item) (names log.items) n x fits.3 at))) (subst (λ es. TracksOpen ds log.items es old) fits.0 before.1)),
+  )
+
+  pub entry-entered : (o : Option SiteLog) (e : Entry) → new.section ≡ old.section
+      → ((items : List Holding) (entries : List Entry) → AllPairs (λ x y. x ≢ y) (names items) → ForSome (item_of e) (Contains (names items)) → ((number : ℕ) × IsDecided ds e number) → TracksOpen ds items entries old → TracksOpen ds items (entries ++ e ∷ []) new)
+      → Enters o (Logged e)
+  entry-entered None e section tracks room fits admits ready = absurd fits
+  entry-entered (Some log) e section tracks room fits admits before = (section ∙ before.0, tracks log.items log.entries (names-apart (names log.items) room.1.rising) admits.0 admits.1 before.1)
+
+  pub final-entered : (o : Option SiteLog) (h : Holding) → new ≡ old → Enters o (Final h)
+  final-entered None h same room fits admits ready = absurd fits
+  final-entered (Some log) h same room fits admits before = (ap (λ s. s.section) same ∙ before.0, subst (TracksOpen ds log.items log.entries) (sym same) before.1)
+
+  pub end-entered : (o : Option SiteLog) → new ≡ old → Enters o End
+  end-entered None same room fits admits ready = absurd fits
+  end-entered (Some log) same room fits admits before =
+      subst (IsReadyFor ds (length (b.whole ++ log ∷ []) + 1)) (sym same)
+      (subst (λ n. IsReadyFor ds n old) (ap (λ n. n + 1) (before.0 ∙ sym (length_push b.whole log))) (ready-next ds log.items log.entries old before.1))
+
+-- ---- the next line of a text
+
+admits : (c : Certificate) (b : Begun) (o : Option SiteLog) (line : SectionLine) → b.current ≡ o → KeptBelow (Keeps c (lines_read b) line) 17 → AdmitsLine c.decisions o line
+admits c b (Some log) (Logged e) here kept =
+    (subst (λ items. ForSome (item_of e) (Contains (names items))) (has_open b log here).items (kept fault.Item (omega arith)), (kept fault.End (omega arith)).0)
+admits c b (Some log) (Site k) here kept = tt
+admits c b (Some log) (Initial h) here kept = tt
+admits c b (Some log) (Final h) here kept = tt
+admits c b (Some log) End here kept = tt
+admits c b None line here kept = tt
+
+pub line-tracked : (second : Bool) (c : Certificate) (b next : Begun) (old new : SiteState) (before : List SectionLine) (line : SectionLine) → Means second c b before → KeptBelow (Keeps c (lines_read b) line) 17
+    → Begins b.sites (lines_read b ++ line ∷ [])
+    → ((a : Begun) → IsDecidedOnce c.decisions → IsBegun a → MayFollow a a.current line → AdmitsLine c.decisions a.current line → Tracks c.decisions a old → Tracks c.decisions (with_next a a.current line) new)
+    → next ≡ with_next b b.current line → Tracks c.decisions b old → Tracks c.decisions next new
+line-tracked second c b next old new before line m kept begins enters is t =
+    subst (λ a. Tracks c.decisions a new) (sym is) (enters b (m.kept.itself fault.DecidedTwice) m.begun (begins-follow b line begins) (admits c b b.current line refl kept) t)
+
+pub fresh-tracked : (c : Certificate) (b : Begun) (s : SiteState) → b ≡ record { sites = c.sites; whole = []; current = None } → IsReadyFor c.decisions 1 s → Tracks c.decisions b s
+fresh-tracked c b s is ready = subst (λ a. Tracks c.decisions a s) (sym is) ready

@@ -1,0 +1,42 @@
+-- What is kept of the site whose section is open, in place of its entries.
+use Rattle.std.specs.Prelude.{◌≡◌, ℕ, ◌<◌, ◌≤◌, List, length, All, Contains, Option, Some, None, slice_get}
+use Rattle.sgt_names.specs.Entry.{IsEnd}
+use Rattle.sgt_names.specs.Log.{names}
+use Rattle.sgt_names.specs.declared.entry.Entry.{Entry}
+use Rattle.sgt_names.specs.declared.entry.Holding.{Holding}
+use Rattle.sgt_cert.specs.Certificate.{decided_tx}
+use Rattle.sgt_cert.specs.Valid.{IsDecided}
+use Rattle.sgt_cert.specs.declared.certificate.Decision.{Decision}
+use Rattle.sgt_cells.specs.Cells.{IsGreatest, AreCells}
+use Rattle.sgt_cells.specs.Records.{IsRecord, live_among}
+use Rattle.sgt_cells.specs.declared.record.Record.{Record}
+use Rattle.sgt_cells.specs.declared.state.SiteState.{SiteState}
+
+-- the decision of this number is on the transaction
+abbrev pub DecidesOn : List Decision → ℕ → ℕ → Type 0
+DecidesOn ds number tx = (d : Decision) × (slice_get ds number ≡ Some d) × (decided_tx d ≡ tx)
+
+-- the number of a decision on the transaction, if there is one
+abbrev pub IsNumberOf : List Decision → ℕ → Option ℕ → Type 0
+IsNumberOf ds tx None = (number : ℕ) → DecidesOn ds number tx → ⊥
+IsNumberOf ds tx (Some number) = DecidesOn ds number tx
+
+-- the entry is an end, by the decision of this number
+abbrev pub EndsBy : List Decision → Entry → ℕ → Type 0
+EndsBy ds e number = IsEnd e × IsDecided ds e number
+
+-- what is kept means these items and these entries of the open section, each of them decided
+pub record TracksOpen (ds : List Decision) (items : List Holding) (entries : List Entry) (s : SiteState) : Type 0 where
+  pub cells : AreCells ds items entries s.cells.items
+  pub many : length s.records.items ≡ length ds
+  pub records : (k : ℕ) (d : Decision) (r : Record) → slice_get ds k ≡ Some d → slice_get s.records.items k ≡ Some r
+      → IsRecord s.section (names items) entries (decided_tx d) r
+  pub stamps : All (λ r. r.section ≤ s.section) s.records.items
+  pub live : s.live ≡ live_among s.section s.records.items
+  pub order : IsGreatest (EndsBy ds) entries s.last_end
+  pub decided : (f : Entry) → Contains entries f → (number : ℕ) × IsDecided ds f number
+
+-- no section of this number or a later one was met
+pub record IsReadyFor (ds : List Decision) (section : ℕ) (s : SiteState) : Type 0 where
+  pub many : length s.records.items ≡ length ds
+  pub stamps : All (λ r. r.section < section) s.records.items

@@ -1,0 +1,8 @@
+//! What is kept of the site whose section is open, in place of its entries, and the rules of a line judged by it.
+#![tactic(auto)]
+
+mod cell;
+mod record;
+mod state;
+
+pub use state::SiteState;

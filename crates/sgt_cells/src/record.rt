@@ -1,0 +1,181 @@
+//! What a transaction did at the site whose section is open.
+
+ghost use Rattle.std.specs.Prelude.{◌≡◌, ◌↔◌, ◌++◌, ◌<◌, ◌+◌, ◌-◌, true, false, List, length, IsTrue, IfOk, OnOk, Some, All, Contains, slice_get, slice_set};
+ghost use Rattle.std.specs.Option.{option_to_list};
+ghost use Rattle.sgt_names.specs.Name.{Name};
+ghost use Rattle.sgt_names.specs.Entry.{tx_of, item_of, Repeats};
+ghost use Rattle.sgt_names.specs.declared.entry.Entry.{Entry};
+ghost use Rattle.sgt_cells.specs.Records.{AreActs, IsTouched, act, acts_in, has_ended_in, is_live_in};
+ghost use Rattle.sgt_cells.specs.declared.record.Record.{Record};
+
+use sgt_names::Entry;
+use std::alloc::{AllocError, Global};
+
+/// A read of the item at a place, or a change of it, made or asked for.
+#[derive(Clone, Copy, Debug, PartialEq, Eq)]
+pub struct Act {
+    pub place: usize,
+    pub changes: bool,
+}
+
+/// What a transaction did in the section in which it came last, by its number; and whether it ended there.
+#[derive(Drop)]
+pub struct Record {
+    pub section: usize,
+    pub ended: bool,
+    pub acts: Vec<Act>,
+}
+
+/// What the entry does, on the item at this place.
+pub(crate) fn act_of(place: usize, entry: &Entry) -> Act
+    ensures { result ≡ act place entry.now }
+{
+    match entry {
+        Entry::Read { .. } => Act {
+            place,
+            changes: false,
+        },
+        _ => Act {
+            place,
+            changes: true,
+        },
+    }
+}
+
+impl Record {
+    /// A transaction that no section has met.
+    pub(crate) fn new(alloc: Global) -> Record
+        ensures { result.section ≡ 0 }
+    {
+        Record {
+            section: 0,
+            ended: false,
+            acts: Vec::new(alloc),
+        }
+    }
+
+    /// Whether it did this in the section.
+    fn has_done(&self, section: usize, act: &Act) -> bool
+        ensures { IsTrue result ↔ Contains (acts_in section self.now) act.now }
+    {
+        if self.section == section {
+            self.acts.contains(act)
+        } else {
+            false
+        }
+    }
+
+    /// Whether the entry, on the item at this place, is not its transaction's second read of the item, nor its second change,
+    /// made or asked for.
+    pub(crate) fn is_first(&self, section: usize, place: usize, entry: &Entry) -> bool
+        ensures { (ns : List Name) (entries : List Entry) (x : Name) → slice_get ns place ≡ Some x → item_of entry.now ≡ Some x
+            → AreActs ns entries (tx_of entry.now) (acts_in section self.now)
+            → (IsTrue result ↔ All (λ f. (y : Name) → Repeats y f entry.now → ⊥) entries) }
+    {
+        !self.has_done(section, &act_of(place, entry))
+    }
+
+    /// Whether it ended in the section.
+    pub(crate) fn has_ended(&self, section: usize) -> bool
+        ensures { result ≡ has_ended_in section self.now }
+    {
+        self.section == section && self.ended
+    }
+
+    /// Whether it came in the section and did not end.
+    pub(crate) fn is_live(&self, section: usize) -> bool
+        ensures { result ≡ is_live_in section self.now }
+    {
+        self.section == section && !self.ended
+    }
+
+    /// Nothing done so far in this section, if it was last touched in another.
+    fn begin(&mut self, section: usize)
+        ensures section { self.new.section ≡ section }
+        ensures ended { self.new.ended ≡ has_ended_in section self.old }
+        ensures acts { self.new.acts.items ≡ acts_in section self.old }
+    {
+        if self.section != section {
+            self.section = section;
+            self.ended = false;
+            self.acts.clear();
+        }
+    }
+
+    /// One more act, if there is one.
+    fn add(&mut self, act: Option<Act>) -> Result<(), AllocError>
+        ensures section { self.new.section ≡ self.old.section }
+        ensures ended { self.new.ended ≡ self.old.ended }
+        ensures acts { OnOk result (self.new.acts.items ≡ self.old.acts.items ++ option_to_list act) }
+    {
+        if let Some(act) = act {
+            self.acts.push(act)?;
+        }
+        Ok(())
+    }
+
+    /// One more entry in the section, which did this, and ended the transaction or not.
+    fn touch(&mut self, section: usize, act: Option<Act>, ends: bool) -> Result<(), AllocError>
+        ensures { OnOk result (IsTouched section (option_to_list act) ends self.old self.new) }
+    {
+        self.begin(section);
+        self.add(act)?;
+        self.ended = self.ended || ends;
+        Ok(())
+    }
+}
+
+/// One more entry of the transaction of this number.
+pub(crate) fn enter(
+    records: &mut [Record],
+    number: usize,
+    section: usize,
+    act: Option<Act>,
+    ends: bool,
+) -> Result<(), AllocError>
+    ensures { OnOk result ((r : Record) → slice_get records.old number ≡ Some r
+        → (s : Record) × (records.new ≡ slice_set records.old number s) × IsTouched section (option_to_list act) ends r s) }
+{
+    if number >= records.len() {
+        return Ok(());
+    }
+    records[number].touch(section, act, ends)
+}
+
+/// Whether the transaction of this number came in the section and did not end.
+pub(crate) fn is_live(records: &[Record], number: usize, section: usize) -> bool
+    ensures { (r : Record) → slice_get records.now number ≡ Some r → result ≡ is_live_in section r }
+{
+    match records.get(number) {
+        Some(record) => record.is_live(section),
+        None => false,
+    }
+}
+
+/// How many are live, where so many of at most so many were, and one of them was live or not and is live or not.
+pub(crate) fn live_after(live: usize, most: usize, was: bool, is: bool) -> usize
+    ensures same { was ≡ is → result ≡ live }
+    ensures more { was ≡ false → is ≡ true → live < most → result ≡ live + 1 }
+    ensures less { was ≡ true → is ≡ false → result ≡ live - 1 }
+{
+    if was == is {
+        live
+    } else if was {
+        live.saturating_sub(1)
+    } else if live < most {
+        live + 1
+    } else {
+        live
+    }
+}
+
+/// The records of so many transactions that no section has met.
+pub(crate) fn fresh(alloc: Global, count: usize) -> Result<Vec<Record>, AllocError>
+    ensures { IfOk result (λ records. (length records.items ≡ count) × All (λ r. r.section < 1) records.items) }
+{
+    let mut records = Vec::new(alloc);
+    for _ in 0..count {
+        records.push(Record::new(alloc))?;
+    }
+    Ok(records)
+}

@@ -1,0 +1,281 @@
+//! What is kept of the site whose section is open, in place of its entries.
+
+ghost use Rattle.std.specs.Prelude.{◌≡◌, ◌≢◌, ◌↔◌, ◌∷◌, ◌++◌, ◌<◌, [], ℕ, List, IsTrue, IfSome, IfNone, IfOk, OnOk, Some, None, All, AllPairs, Contains, length, slice_get, option_map};
+ghost use Rattle.sgt_names.specs.Name.{Name};
+ghost use Rattle.sgt_names.specs.Entry.{tx_of, item_of, IsEnd, Repeats};
+ghost use Rattle.sgt_names.specs.Log.{names, value_at, AllEnded};
+ghost use Rattle.sgt_names.specs.declared.entry.Entry.{Entry};
+ghost use Rattle.sgt_names.specs.declared.entry.Holding.{Holding};
+ghost use Rattle.std.specs.Option.{ForSome};
+ghost use Rattle.sgt_cert.specs.Certificate.{IsDecidedOnce, AreRanks, ranks};
+ghost use Rattle.sgt_cert.specs.Valid.{IsDecided, EndInOrder, RiseInRank};
+ghost use Rattle.sgt_cert.specs.declared.certificate.Decision.{Decision};
+ghost use Rattle.sgt_cells.specs.Cells.{AreCells, IsPlaceOf, IsRankOf, IsUpTo, raised};
+ghost use Rattle.sgt_cells.specs.Records.{act};
+ghost use Rattle.sgt_cells.specs.Tracks.{TracksOpen, IsReadyFor, IsNumberOf, DecidesOn};
+
+use crate::cell::{self, Cell};
+use crate::record::{self, Act, Record};
+use sgt_names::{Entry, Holding, Item, Value};
+use std::alloc::{AllocError, Global};
+
+/// How many hints there are.
+const HINTS: usize = 4096;
+
+/// What is kept of the site whose section is open: a cell for each item, a record for each decision's transaction, how many
+/// transactions have an entry there and no end, and the greatest number of a decision that ended one there.
+#[derive(Drop)]
+pub struct SiteState {
+    /// The number of the section, from 1.
+    pub section: usize,
+    pub cells: Vec<Cell>,
+    /// Where the cell of an item may be, by a hash of its name.
+    pub hints: Vec<u16>,
+    pub records: Vec<Record>,
+    pub live: usize,
+    pub last_end: Option<usize>,
+}
+
+/// Where the hint for an item is.
+fn slot_of(item: &Item) -> usize {
+    let mut hash: usize = 0;
+    for byte in item.as_bytes() {
+        hash = hash.wrapping_mul(31).wrapping_add(*byte as usize);
+    }
+    hash % HINTS
+}
+
+/// The place that is hinted for an item.
+fn hint_of(hints: &[u16], item: &Item) -> usize {
+    match hints.get(slot_of(item)) {
+        Some(hint) => *hint as usize,
+        None => 0,
+    }
+}
+
+/// Hints this place for an item.
+fn set_hint(hints: &mut [u16], item: &Item, place: usize) {
+    if let Some(hint) = hints.get_mut(slot_of(item)) {
+        if let Ok(short) = u16::try_from(place) {
+            *hint = short;
+        }
+    }
+}
+
+/// The item without an entry.
+fn fresh_cell(holding: &Holding) -> Cell
+    ensures { result ≡ record { name = holding.now.item; value = holding.now.value; reader = None; writer = None; adder = None } }
+{
+    Cell {
+        name: holding.item,
+        value: holding.value,
+        reader: None,
+        writer: None,
+        adder: None,
+    }
+}
+
+/// What the entry does on the item at this place, if it has one.
+fn act_at(place: Option<usize>, entry: &Entry) -> Option<Act>
+    ensures { result ≡ option_map (λ i. act i entry.now) place }
+{
+    match place {
+        Some(place) => Some(record::act_of(place, entry)),
+        None => None,
+    }
+}
+
+/// One more entry, on the item at this place, if it has one.
+fn enter_cell(cells: &mut [Cell], place: Option<usize>, entry: &Entry, rank: Option<u32>)
+    ensures { (ds : List Decision) (items : List Holding) (entries : List Entry) → IsDecidedOnce ds
+        → AllPairs (λ x y. x ≢ y) (names items) → AreCells ds items entries cells.old → IsPlaceOf (names items) entry.now place
+        → IsRankOf ds (tx_of entry.now) rank → AreCells ds items (entries ++ entry.now ∷ []) cells.new }
+{
+    if let Some(place) = place {
+        if place < cells.len() {
+            cell::enter(cells, place, entry, rank);
+        }
+    }
+}
+
+/// The greatest number of a decision that ended a transaction, after one more entry, decided by this number.
+fn later_end(last: Option<usize>, entry: &Entry, number: usize) -> Option<usize>
+    ensures end { IsEnd entry.now → result ≡ raised last (Some number) }
+    ensures other { (IsEnd entry.now → ⊥) → result ≡ last }
+{
+    if !entry.is_end() {
+        return last;
+    }
+    match last {
+        Some(last) => Some(last.max(number)),
+        None => Some(number),
+    }
+}
+
+/// Whether the greatest number is no greater than this one.
+fn is_up_to(last: Option<usize>, number: usize) -> bool
+    ensures { IsTrue result ↔ IsUpTo number last }
+{
+    match last {
+        Some(last) => last <= number,
+        None => true,
+    }
+}
+
+impl SiteState {
+    /// Before the first section, for the transactions of so many decisions.
+    pub fn new(alloc: Global, count: usize) -> Result<SiteState, AllocError>
+        ensures { IfOk result (λ s. (ds : List Decision) → length ds ≡ count → IsReadyFor ds 1 s) }
+    {
+        Ok(SiteState {
+            section: 0,
+            cells: Vec::new(alloc),
+            hints: vec![in alloc; 0u16; HINTS]?,
+            records: record::fresh(alloc, count)?,
+            live: 0,
+            last_end: None,
+        })
+    }
+
+    /// The section of this number begins.
+    pub fn begin(&mut self, section: usize)
+        ensures section { self.new.section ≡ section }
+        ensures tracks { (ds : List Decision) → IsReadyFor ds section self.old → TracksOpen ds [] [] self.new }
+    {
+        self.section = section;
+        self.cells.clear();
+        self.live = 0;
+        self.last_end = None;
+    }
+
+    /// One more item, before any entry.
+    pub fn list(&mut self, holding: &Holding) -> Result<(), AllocError>
+        ensures section { self.new.section ≡ self.old.section }
+        ensures tracks { OnOk result ((ds : List Decision) (items : List Holding) → All (λ x. x ≢ holding.now.item) (names items)
+            → TracksOpen ds items [] self.old → TracksOpen ds (items ++ holding.now ∷ []) [] self.new) }
+    {
+        set_hint(self.hints.as_mut_slice(), &holding.item, self.cells.len());
+        self.cells.push(fresh_cell(holding))?;
+        Ok(())
+    }
+
+    /// The place of the item.
+    pub fn place_of(&self, item: &Item) -> Option<usize>
+        ensures some { IfSome result (λ place. (ds : List Decision) (items : List Holding) (entries : List Entry)
+            → TracksOpen ds items entries self.now → slice_get (names items) place ≡ Some item.now) }
+        ensures none { IfNone result ((ds : List Decision) (items : List Holding) (entries : List Entry)
+            → TracksOpen ds items entries self.now → Contains (names items) item.now → ⊥) }
+    {
+        let hint = hint_of(self.hints.as_slice(), item);
+        cell::place_of(self.cells.as_slice(), hint, item)
+    }
+
+    /// The place of the entry's item, if it has one.
+    fn place_of_entry(&self, entry: &Entry) -> Option<usize>
+        ensures { (ds : List Decision) (items : List Holding) (entries : List Entry) → TracksOpen ds items entries self.now
+            → ForSome (item_of entry.now) (Contains (names items)) → IsPlaceOf (names items) entry.now result }
+    {
+        match entry.item() {
+            Some(item) => self.place_of(&item),
+            None => None,
+        }
+    }
+
+    /// Whether the item at this place has this value.
+    pub fn has_value(&self, place: usize, value: Value) -> bool
+        ensures { (ds : List Decision) (items : List Holding) (entries : List Entry) (x : Name) → TracksOpen ds items entries self.now
+            → slice_get (names items) place ≡ Some x → (IsTrue result ↔ (value_at items entries x ≡ Some value)) }
+    {
+        match self.cells.get(place) {
+            Some(cell) => cell::has_value(cell, value),
+            None => false,
+        }
+    }
+
+    /// Whether the entry, on the item at this place, is not its transaction's second read of the item, nor its second change,
+    /// made or asked for. The transaction is decided by this number, if it is.
+    pub fn is_first(&self, place: usize, entry: &Entry, number: Option<usize>) -> bool
+        ensures { (ds : List Decision) (items : List Holding) (entries : List Entry) (x : Name) → TracksOpen ds items entries self.now
+            → slice_get (names items) place ≡ Some x → item_of entry.now ≡ Some x → IsNumberOf ds (tx_of entry.now) number
+            → (IsTrue result ↔ All (λ f. (y : Name) → Repeats y f entry.now → ⊥) entries) }
+    {
+        let Some(number) = number else {
+            return true;
+        };
+        match self.records.get(number) {
+            Some(record) => record.is_first(self.section, place, entry),
+            None => false,
+        }
+    }
+
+    /// Whether the entry, on the item at this place, conflicts with no entry before it of a committed transaction of greater
+    /// rank, if its own is committed with this one.
+    pub fn is_in_rank(&self, place: usize, entry: &Entry, rank: Option<u32>) -> bool
+        ensures { (ds : List Decision) (items : List Holding) (entries : List Entry) (x : Name) → IsDecidedOnce ds → AreRanks (ranks ds)
+            → TracksOpen ds items entries self.now → slice_get (names items) place ≡ Some x → item_of entry.now ≡ Some x
+            → IsRankOf ds (tx_of entry.now) rank → (IsTrue result ↔ All (λ f. RiseInRank ds f entry.now) entries) }
+    {
+        match self.cells.get(place) {
+            Some(cell) => cell::is_in_rank(cell, entry, rank),
+            None => false,
+        }
+    }
+
+    /// Whether the transaction, decided by this number, has no end yet.
+    pub fn is_active(&self, number: usize) -> bool
+        ensures { (ds : List Decision) (items : List Holding) (entries : List Entry) (tx : ℕ) → TracksOpen ds items entries self.now
+            → DecidesOn ds number tx → (IsTrue result ↔ All (λ f. IsEnd f → tx_of f ≢ tx) entries) }
+    {
+        match self.records.get(number) {
+            Some(record) => !record.has_ended(self.section),
+            None => false,
+        }
+    }
+
+    /// Whether no end before the entry, if it is one, was decided later. The entry is decided by this number.
+    pub fn is_in_order(&self, entry: &Entry, number: usize) -> bool
+        ensures { (ds : List Decision) (items : List Holding) (entries : List Entry) → IsDecidedOnce ds
+            → TracksOpen ds items entries self.now → IsDecided ds entry.now number
+            → (IsTrue result ↔ All (λ f. EndInOrder ds f entry.now) entries) }
+    {
+        !entry.is_end() || is_up_to(self.last_end, number)
+    }
+
+    /// Whether each transaction with an entry has an end.
+    pub fn have_all_ended(&self) -> bool
+        ensures { (ds : List Decision) (items : List Holding) (entries : List Entry) → TracksOpen ds items entries self.now
+            → (IsTrue result ↔ AllEnded entries) }
+    {
+        self.live == 0
+    }
+
+    /// One more entry, decided by this number, of a transaction that is committed with this rank or isn't.
+    pub fn enter(
+        &mut self,
+        entry: &Entry,
+        number: usize,
+        rank: Option<u32>,
+    ) -> Result<(), AllocError>
+        ensures section { self.new.section ≡ self.old.section }
+        ensures tracks { OnOk result ((ds : List Decision) (items : List Holding) (entries : List Entry) → IsDecidedOnce ds
+            → AllPairs (λ x y. x ≢ y) (names items) → ForSome (item_of entry.now) (Contains (names items))
+            → IsDecided ds entry.now number → IsRankOf ds (tx_of entry.now) rank
+            → TracksOpen ds items entries self.old → TracksOpen ds items (entries ++ entry.now ∷ []) self.new) }
+    {
+        let place = self.place_of_entry(entry);
+        let was = record::is_live(self.records.as_slice(), number, self.section);
+        let act = act_at(place, entry);
+        record::enter(
+            self.records.as_mut_slice(),
+            number,
+            self.section,
+            act,
+            entry.is_end(),
+        )?;
+        let is = record::is_live(self.records.as_slice(), number, self.section);
+        self.live = record::live_after(self.live, self.records.len(), was, is);
+        enter_cell(self.cells.as_mut_slice(), place, entry, rank);
+        self.last_end = later_end(self.last_end, entry, number);
+        Ok(())
+    }
+}

@@ -1,0 +1,72 @@
+-- Each event has an answer, and so each list of events a run.
+use Rattle.std.proofs.Common.{List, [], ◌∷◌, refl, inl, inr}
+use Rattle.sgt_names.specs.declared.entry.Holding.{Holding}
+use Rattle.sgt_notation.specs.declared.event.Event.{Event}
+use Rattle.sgt_notation.specs.declared.event.Event.TheVariants.{Begin, Read, Put, Add, Gather, Decide, Install, Commit, Withdraw, Close}
+use Rattle.sgt_core.specs.declared.reply.Reply.{Reply}
+use Rattle.sgt_core.specs.declared.reply.Reply.TheVariants.{Fault}
+use Rattle.sgt_core.specs.declared.reply.CoreFault.{CoreFault}
+use Rattle.sgt_core.specs.declared.reply.CoreFault.TheVariants as fault
+use Rattle.sgt_core.specs.Core.{CoreState, fresh}
+use Rattle.sgt_core.specs.Step.{IsRefused, IsAllowed, Serves, MayStep, Run}
+use Rattle.sgt_core.specs.Runs.{IsAnswer}
+use Rattle.sgt_core.proofs.Kept.{IsKept}
+use Rattle.sgt_core.proofs.Runs.{may_step-kept, fresh-kept}
+use Rattle.sgt_core.proofs.Faults.{allowed_or_refused, no_memory}
+use Rattle.sgt_core.proofs.Going.{IsPart, goes_on}
+use Rattle.sgt_core.proofs.Committing.{commits}
+
+pub no_fault : (c : CoreState) (event : Event) (f : CoreFault) (new : CoreState) → Serves c event (Fault f) new → ⊥
+no_fault c Begin f new s = s.1
+no_fault c (Read tx n x) f new s = s.1
+no_fault c (Put tx n x v) f new s = s.1
+no_fault c (Add tx n x v) f new s = s.1
+no_fault c (Gather tx n) f new s = s.1
+no_fault c (Decide tx) f new s = s.1
+no_fault c (Install tx n) f new s = s.1
+no_fault c (Commit tx) f new s = s.1
+no_fault c (Withdraw tx) f new s = s.1
+no_fault c Close f new s = s.1
+
+unfoldable pub served_answer : (c : CoreState) (event : Event) (reply : Reply) (new : CoreState) → Serves c event reply new → IsAnswer reply
+served_answer c event (Fault f) new s = no_fault c event f new s
+served_answer c event _ new s = tt
+
+unfoldable pub part-may : (c : CoreState) (event : Event) (reply : Reply) (new : CoreState) → IsPart event → Serves c event reply new → MayStep c event reply new
+part-may c (Commit tx) reply new part s = absurd part
+part-may c event (Fault f) new part s = absurd (no_fault c event f new s)
+part-may c event reply new part s = s
+
+unfoldable pub part-answered : (c : CoreState) (event : Event) → IsKept c → IsPart event → IsAllowed c event
+    → (reply : Reply) × (new : CoreState) × MayStep c event reply new × IsAnswer reply
+part-answered c event k part allowed =
+    let r = goes_on c event k part allowed in
+    (r.0, r.1, part-may c event r.0 r.1 part r.2, served_answer c event r.0 r.1 r.2)
+
+-- an allowed event has an answer that is no refusal
+unfoldable pub allowed-answered : (c : CoreState) (event : Event) → IsKept c → IsAllowed c event
+    → (reply : Reply) × (new : CoreState) × MayStep c event reply new × IsAnswer reply
+allowed-answered c (Commit tx) k allowed = commits c tx k allowed
+allowed-answered c event k allowed = part-answered c event k tt allowed
+
+unfoldable pub refused-answered : (c : CoreState) (event : Event) (f : CoreFault) → IsRefused c event f → MayStep c event (Fault f) c
+refused-answered c event fault.Memory r = absurd (no_memory c event r.0)
+refused-answered c event f r = (r, refl)
+
+unfoldable pub answered : (c : CoreState) (event : Event) → IsKept c → (reply : Reply) × (new : CoreState) × MayStep c event reply new
+answered c event k = elim (allowed_or_refused c event) [
+  | inl allowed ↦ let r = allowed-answered c event k allowed in (r.0, r.1, r.2)
+  | inr refused ↦ (Fault refused.0, c, refused-answered c event refused.0 refused.1)
+]
+
+-- each list of events has a run
+unfoldable pub plays : (c : CoreState) (events : List Event) → IsKept c → (replies : List Reply) × (new : CoreState) × Run c events replies new
+plays c [] k = ([], c, refl)
+plays c (event ∷ events) k =
+    let r = answered c event k in
+    let rest = plays r.1 events (may_step-kept c event r.0 r.1 k r.2) in
+    (r.0 ∷ rest.0, rest.1, (r.1, r.2, rest.2))
+
+-- from sites where nothing has happened
+unfoldable pub played : (items : List (List Holding)) (events : List Event) → (replies : List Reply) × (new : CoreState) × Run (fresh items) events replies new
+played items events = plays (fresh items) events (fresh-kept items)

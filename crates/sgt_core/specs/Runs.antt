@@ -1,0 +1,32 @@
+-- What the laws of runs say of the items, the logs and the replies.
+use Rattle.std.specs.Prelude.{ℕ, ◌≤◌, List, length, All}
+use Rattle.sgt_names.specs.Limits.{max_sites}
+use Rattle.sgt_names.specs.Name.{Name}
+use Rattle.sgt_names.specs.Log.{Conflicts}
+use Rattle.sgt_names.specs.declared.entry.Entry.{Entry}
+use Rattle.sgt_names.specs.declared.entry.Holding.{Holding}
+use Rattle.sgt_names.specs.declared.entry.Kind.{Kind}
+use Rattle.sgt_site.specs.State.{AreItems}
+use Rattle.sgt_core.specs.declared.reply.Reply.{Reply}
+use Rattle.sgt_core.specs.declared.reply.Reply.TheVariants.{Fault}
+use Rattle.sgt_core.specs.declared.reply.CoreFault.TheVariants as fault
+
+-- an entry of a precedes and conflicts with one of b, in the log of some site
+abbrev pub IsLoggedConflict : (ℕ → List Entry) → ℕ → ℕ → Type 0
+IsLoggedConflict logs a b = (s : ℕ) × (kind : Kind) × (x : Name) × Conflicts (logs s) kind x a b
+
+-- the reply is no refusal
+abbrev pub IsAnswer : Reply → Type 0
+IsAnswer (Fault f) = ⊥
+IsAnswer _ = Unit {0}
+
+-- the reply is want of memory
+abbrev pub IsMemory : Reply → Type 0
+IsMemory (Fault fault.Memory) = Unit {0}
+IsMemory _ = ⊥
+
+-- the items that the core may be made of: those of one site at least, and of at most so many, each with its items by rising name
+pub record AreSites (items : List (List Holding)) : Type 0 where
+  pub some : 1 ≤ length items
+  pub few : length items ≤ max_sites
+  pub each : All AreItems items

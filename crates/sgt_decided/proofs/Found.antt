@@ -1,0 +1,43 @@
+-- The one decision on a transaction.
+use Rattle.std.proofs.Common.{◌≡◌, ℕ, ◌<◌, ◌≤◌, Bool, IsTrue, List, Option, Some, None, refl, sym, ap, subst, ◌∙◌, arith}
+use Rattle.std.specs.Prelude.{◌↔◌, slice_get, IfNone}
+use Rattle.std.proofs.lemmas.Bool.{true≢false}
+use Rattle.std.proofs.lemmas.Option.{same_Some}
+use Rattle.sgt_names.specs.Entry.{tx_of}
+use Rattle.sgt_names.specs.declared.entry.Entry.{Entry}
+use Rattle.sgt_cert.specs.Certificate.{decided_tx, is_commit, rank_in, IsCommitted, Suits}
+use Rattle.sgt_cert.specs.Valid.{IsDecided}
+use Rattle.sgt_cert.specs.declared.certificate.Decision.{Decision}
+use Rattle.sgt_cert.specs.declared.certificate.Decision.TheVariants.{Commit, Refuse, Withdraw}
+use Rattle.sgt_decided.specs.Decided.{Decides}
+
+module _ (ds : List Decision) (tx n : ℕ) (d : Decision) (at : slice_get ds n ≡ Some d) (of : decided_tx d ≡ tx) (only : (m : ℕ) → Decides ds m tx → m ≡ n) where
+  pub the-commit : (m rank : ℕ) → IsCommitted ds m tx rank → (m ≡ n) × (d ≡ Commit tx rank)
+  the-commit m rank by =
+      let e = only m (Commit tx rank, by, refl) in
+      (e, same_Some d (Commit tx rank) (sym at ∙ ap (slice_get ds) (sym e) ∙ by))
+
+  pub the-suiting : (e : Entry) → tx_of e ≡ tx → (m : ℕ) → IsDecided ds e m → Suits e d
+  the-suiting e same m (f, at_m, f-of, suits) =
+      let here = only m (f, at_m, f-of ∙ same) in
+      subst (Suits e) (same_Some f d (sym at_m ∙ ap (slice_get ds) here ∙ at)) suits
+
+  pub committed-late : (number : ℕ) → number ≤ n → ((m rank : ℕ) × (m < number) × IsCommitted ds m tx rank) → ⊥
+  committed-late number le (m, rank, lt, by) = let e = (the-commit m rank by).0 in omega arith
+
+module _ (ds : List Decision) (tx n : ℕ) where
+  pub ranked-none : (d : Decision) (o : Option ℕ) → slice_get ds n ≡ Some d → decided_tx d ≡ tx → ((m : ℕ) → Decides ds m tx → m ≡ n) → o ≡ rank_in d → IfNone o ((number rank : ℕ) → IsCommitted ds number tx rank → ⊥)
+  ranked-none d (Some r) at of only is = tt
+  ranked-none d None at of only is = λ number rank by. let one = (the-commit ds tx n d at of only number rank by).1 in let e : None ≡ Some rank = is ∙ ap rank_in one in absurd cc
+
+  pub commits-before : (d : Decision) (r : Bool) (number : ℕ) → slice_get ds n ≡ Some d → decided_tx d ≡ tx → ((m : ℕ) → Decides ds m tx → m ≡ n) → n < number → r ≡ is_commit d
+      → IsTrue r ↔ ((m rank : ℕ) × (m < number) × IsCommitted ds m tx rank)
+  commits-before (Commit i rank) r number at of only lt is = (λ _. (n, rank, lt, at ∙ ap (λ j. Some (Commit j rank)) of), λ _. is)
+  commits-before (Refuse i walk) r number at of only lt is = (
+    λ yes. absurd (true≢false (sym yes ∙ is)),
+    λ (m, rank, less, by). let one = (the-commit ds tx n (Refuse i walk) at of only m rank by).1 in absurd cc,
+  )
+  commits-before (Withdraw i) r number at of only lt is = (
+    λ yes. absurd (true≢false (sym yes ∙ is)),
+    λ (m, rank, less, by). let one = (the-commit ds tx n (Withdraw i) at of only m rank by).1 in absurd cc,
+  )

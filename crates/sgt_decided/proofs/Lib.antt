@@ -1,0 +1,7 @@
+pub mod Found
+pub mod Keys
+pub mod Loops
+pub mod MetRanks
+pub mod Stops
+pub mod Tables
+pub mod Walks

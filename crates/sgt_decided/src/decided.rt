@@ -1,0 +1,139 @@
+//! A certificate whose decisions are found by their transactions.
+
+ghost use Rattle.std.specs.Prelude.{◌≡◌, ◌<◌, ◌↔◌, ℕ, [], IfOk, IfSome, IfNone, IsSome, IsTrue, Some, slice_get};
+ghost use Rattle.sgt_cert.specs.Certificate.{decided_tx, IsCommitted, IsDecidedOnce, Suits};
+ghost use Rattle.sgt_cert.specs.Valid.{IsDecided};
+ghost use Rattle.sgt_decided.specs.Decided.{Decides};
+
+use crate::table::Table;
+use sgt_cert::{Certificate, Decision};
+use sgt_names::{Entry, Tx};
+use std::alloc::{AllocError, Global};
+use std::marker::Model;
+
+/// A certificate in which each transaction is decided at most once, with a table of the transactions.
+#[derive(Drop)]
+pub struct Decided {
+    certificate: Certificate,
+    table: Table,
+}
+
+impl Model for Decided {
+    ghost use Rattle.sgt_cert.specs.declared.certificate.Certificate.{Certificate};
+    ghost use Rattle.sgt_decided.specs.private.Table.{IsTableOf};
+
+    ghost Value = { Certificate };
+
+    ghost view = { λ d. d.certificate };
+
+    ghost invariant = { λ d. IsTableOf d.certificate.decisions d.table };
+}
+
+/// Whether the decision suits an entry of its transaction.
+fn suits(entry: &Entry, decision: &Decision) -> bool
+    ensures { IsTrue result ↔ Suits entry.now decision.now }
+{
+    match entry {
+        Entry::Read { .. } => true,
+        Entry::Write { .. } | Entry::Add { .. } | Entry::Commit { .. } => matches!(
+            decision,
+            Decision::Commit { .. }
+        ),
+        Entry::Want { .. } | Entry::WantAdd { .. } | Entry::Refuse { .. } => matches!(
+            decision,
+            Decision::Refuse { .. }
+        ),
+        Entry::Withdraw { .. } => matches!(decision, Decision::Withdraw { .. }),
+    }
+}
+
+impl Decided {
+    /// The certificate with its table. None where a transaction is in two decisions. Err: memory ran out.
+    pub fn new(alloc: Global, certificate: Certificate) -> Result<Option<Decided>, AllocError>
+        ensures once { IfOk result (λ found. IsSome found ↔ IsDecidedOnce certificate.decisions) }
+        ensures same { IfOk result (λ found. IfSome found (λ decided. decided ≡ certificate)) }
+    {
+        match Table::new(alloc, certificate.decisions())? {
+            Some(table) => Ok(Some(Decided { certificate, table })),
+            None => Ok(None),
+        }
+    }
+
+    /// The decisions. The place of one, from 0, is its number.
+    pub fn decisions(&self) -> &[Decision]
+        ensures same { result.now ≡ self.now.decisions }
+        ensures once { IsDecidedOnce self.now.decisions }
+    {
+        self.certificate.decisions()
+    }
+
+    /// The certificate alone.
+    pub fn into_certificate(self) -> Certificate
+        ensures { result ≡ self }
+    {
+        let Decided { certificate, .. } = self;
+        certificate
+    }
+
+    /// The decision on the transaction, with its number.
+    fn decision_of(&self, tx: Tx) -> Option<(usize, &Decision)>
+        ensures some { IfSome result (λ found. (slice_get self.now.decisions found.0 ≡ Some found.1.now) × (decided_tx found.1.now ≡ tx)
+            × ((number : ℕ) → Decides self.now.decisions number tx → number ≡ found.0)) }
+        ensures none { IfNone result ((number : ℕ) → Decides self.now.decisions number tx → ⊥) }
+    {
+        match self.table.get(tx) {
+            Some(number) => match self.decisions().get(number) {
+                Some(decision) => Some((number, decision)),
+                None => None,
+            },
+            None => None,
+        }
+    }
+
+    /// The number of the decision on the transaction.
+    pub fn number_of(&self, tx: Tx) -> Option<usize>
+        ensures some { IfSome result (λ number. Decides self.now.decisions number tx) }
+        ensures none { IfNone result ((number : ℕ) → Decides self.now.decisions number tx → ⊥) }
+    {
+        match self.decision_of(tx) {
+            Some((number, _)) => Some(number),
+            None => None,
+        }
+    }
+
+    /// The rank of the transaction, if it is committed.
+    pub fn rank_of(&self, tx: Tx) -> Option<u32>
+        ensures some { IfSome result (λ rank. (number : ℕ) × IsCommitted self.now.decisions number tx rank) }
+        ensures none { IfNone result ((number rank : ℕ) → IsCommitted self.now.decisions number tx rank → ⊥) }
+    {
+        let Some((_, decision)) = self.decision_of(tx) else {
+            return None;
+        };
+        decision.rank()
+    }
+
+    /// The number of the decision on the entry's transaction, if that suits the entry.
+    pub fn decision_on(&self, entry: &Entry) -> Option<usize>
+        ensures some { IfSome result (λ number. IsDecided self.now.decisions entry.now number) }
+        ensures none { IfNone result ((number : ℕ) → IsDecided self.now.decisions entry.now number → ⊥) }
+    {
+        match self.decision_of(entry.tx()) {
+            Some((number, decision)) => if suits(entry, decision) {
+                Some(number)
+            } else {
+                None
+            },
+            None => None,
+        }
+    }
+
+    /// Whether the transaction is committed by a decision of smaller number.
+    pub(crate) fn is_committed_before(&self, number: usize, tx: Tx) -> bool
+        ensures { IsTrue result ↔ ((m rank : ℕ) × (m < number) × IsCommitted self.now.decisions m tx rank) }
+    {
+        match self.decision_of(tx) {
+            Some((earlier, decision)) => earlier < number && decision.is_commit(),
+            None => false,
+        }
+    }
+}

@@ -1,0 +1,11 @@
+//! The decisions of a certificate: looked up by their transactions, and judged by themselves.
+#![tactic(auto)]
+
+mod cycles;
+mod decided;
+mod ranks;
+mod table;
+
+pub use cycles::are_cycles;
+pub use decided::Decided;
+pub use ranks::are_ranks;

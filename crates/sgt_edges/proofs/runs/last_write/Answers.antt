@@ -1,0 +1,7 @@
+use Rattle.sgt_edges.proofs.Slices.{last-slice}
+use Rattle.sgt_edges.proofs.runs.last_write.Goals as goal
+
+pub returns : goal.returns
+returns c = λ w.
+    let last = rw (← c.writers_at.ensures.writers) at c.version_written_at-written.ensures.version in
+    rw c.saturating_sub.ensures (last-slice c.args.site.now c.args.item c.writers_at.result.now c.writers_at.ensures.writers _ last c.writers_at.ensures.versions w)
