@@ -1,10 +1,9 @@
 -- Each text has a verdict: read line by line, it comes to its end or to a line that breaks a rule, since of each rule it is known whether it is kept.
-use Rattle.std.proofs.Common.{◌≡◌, ℕ, zero, suc, ◌+◌, ◌<◌, ◌≤◌, lit<, Bool, List, [], ◌∷◌, ◌++◌, length, map, refl, sym, ap, ◌∙◌, subst, arith, inl, inr, ◌⊎◌}
-use Rattle.std.proofs.lemmas.Bool.{cases_order}
+use Rattle.std.proofs.Common.{◌≡◌, ℕ, zero, suc, ◌+◌, ◌<◌, ◌≤◌, lit<, Bool, List, [], ◌∷◌, ◌++◌, length, map, refl, sym, ap, ◌∙◌, arith, inl, inr, ◌⊎◌}
 use Rattle.std.proofs.lemmas.List.{append-nil, map-append, length-append}
 use Rattle.sgt_notation.specs.Spelling.{line_text, text_of_lines}
 use Rattle.sgt_notation.specs.declared.SectionLine.{SectionLine}
-use Rattle.sgt_notation.proofs.Decisions.{Decided}
+use Rattle.sgt_notation.proofs.Decidable.{Decidable}
 use Rattle.sgt_cert.specs.Text.{certificate_text, format_line, IsCertificate}
 use Rattle.sgt_cert.specs.declared.certificate.Certificate.{Certificate}
 use Rattle.sgt_audit.specs.declared.faults.Fault.{Fault}
@@ -13,36 +12,29 @@ use Rattle.sgt_audit.specs.declared.verdict.Verdict.{Verdict}
 use Rattle.sgt_audit.specs.declared.verdict.Verdict.TheVariants.{No}
 use Rattle.sgt_audit.specs.Faults.{fault_number, Keeps, KeepsItself, AllKept, IsLineIn, Stage, start, headed, within, complete, lines_so_far, IsFaultless, Piece, whole, last, ComesNext, Rule, Breaks}
 use Rattle.sgt_audit.specs.Verdict.{IsVerdict, yes_of}
-use Rattle.sgt_audit.proofs.FaultNumbers.{number-one}
+use Rattle.sgt_audit.specs.private.Judging.{KeptBelow}
+use Rattle.sgt_audit.proofs.Least.{kept-next}
 use Rattle.sgt_audit.proofs.LinePlaces.{no_cons}
 use Rattle.sgt_audit.proofs.NoFault.{no_fault-valid}
 use Rattle.sgt_audit.proofs.ReaderAtStage.{one-line, piece}
 use Rattle.sgt_audit.proofs.NextLine.{no_notation, kept-more}
-use Rattle.sgt_audit.proofs.decidable.Sections.{HasBegun, none-begun, more-begun, decided-sections}
-use Rattle.sgt_audit.proofs.decidable.Pieces.{HoldsBegun, decided-rule}
+use Rattle.sgt_audit.proofs.decidable.Sections.{HasBegun, none-begun, more-begun, decidable-sections}
+use Rattle.sgt_audit.proofs.decidable.Pieces.{HoldsBegun, decidable-rule}
 
 -- ---- the rules of one place: all are kept, or one is the least that is broken
 
-module _ (rule : Fault → Type 0) (decide : (f : Fault) → ((g : Fault) → fault_number g < fault_number f → rule g) → Decided (rule f)) where
+module _ (rule : Fault → Type 0) (decide : (f : Fault) → KeptBelow rule (fault_number f) → Decidable (rule f)) where
   abbrev KeptOrBroken : ℕ → Type 0
-  KeptOrBroken n = ((g : Fault) → fault_number g < n → rule g) ⊎ ((f : Fault) × Breaks rule f)
+  KeptOrBroken n = KeptBelow rule n ⊎ ((f : Fault) × Breaks rule f)
 
-  none-below : (g : Fault) → fault_number g < 1 → rule g
+  none-below : KeptBelow rule 1
   none-below fault.Format lt = absurd (omega arith)
   none-below _ lt = absurd (omega arith)
-
-  one-further : (f : Fault) → rule f → ((g : Fault) → fault_number g < fault_number f → rule g) → (g : Fault) → fault_number g < fault_number f + 1 → rule g
-  one-further f r kept g lt =
-      elim (cases_order (fault_number g) (fault_number f)) [
-        | inl same ↦ subst rule (sym (number-one g f same)) r
-        | inr (inl less) ↦ kept g less
-        | inr (inr more) ↦ absurd (omega arith)
-      ]
 
   judge-next : (f : Fault) → KeptOrBroken (fault_number f) → KeptOrBroken (fault_number f + 1)
   judge-next f (inr broken) = inr broken
   judge-next f (inl kept) = elim (decide f kept) [
-    | inl r ↦ inl (one-further f r kept)
+    | inl r ↦ inl (kept-next rule (fault_number f) f refl kept r)
     | inr never ↦ inr (f, record { broken = never; least = kept })
   ]
 
@@ -81,7 +73,7 @@ pub record Reached (s : Stage) : Type 0 where
 some-or-all : (second : Bool) (c : Certificate) (before : List SectionLine) → AllKept second c before → HasBegun c before
     → (s : Stage) × Reached s × (lines_so_far s ≡ lines_so_far (within second c before))
 some-or-all second c before kept held =
-    elim (decided-sections c before held) [
+    elim (decidable-sections c before held) [
       | inl all ↦ (complete second c before, record { faultless = (kept, all); begun = tt }, refl)
       | inr more ↦ (within second c before, record { faultless = (kept, more); begun = held }, refl)
     ]
@@ -147,7 +139,7 @@ module _ (bytes : List ℕ) (s : Stage) (rest : List ℕ) (good : Reached s) (te
   at-rest : HasVerdict bytes
   at-rest =
       let next = piece rest in
-      elim (all-or-least (Rule s next.0) (decided-rule s next.0 good.begun)) [
+      elim (all-or-least (Rule s next.0) (decidable-rule s next.0 good.begun)) [
         | inl rules ↦ at-piece next.0 next.1 rules
         | inr broken ↦ (
           No (length (lines_so_far s) + 1) broken.0,

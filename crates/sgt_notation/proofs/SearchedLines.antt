@@ -13,13 +13,13 @@ use Rattle.sgt_notation.specs.Spelling.{IsTx, IsValue, IsSite, IsHolding, IsEntr
 use Rattle.sgt_notation.specs.Private.{IsOperation}
 use Rattle.sgt_notation.specs.declared.SectionLine.{SectionLine}
 use Rattle.sgt_notation.specs.declared.SectionLine.TheVariants.{Site, Initial, Logged, Final, End}
-use Rattle.sgt_notation.proofs.Decisions.{Decided, decided-three, decided-test, decided-less, decided-most, or_else, IsSearched, searched-below, searched-where, searched-both, searched-made, IsWithin, searched-lists}
+use Rattle.sgt_notation.proofs.Decidable.{Decidable, decidable-three, decidable-test, decidable-less, decidable-most, or_else, IsSearched, searched-below, searched-where, searched-both, searched-made, IsWithin, searched-lists}
 
 -- ---- names
 
-decided-name : (x : Name) → Decided (IsName x)
-decided-name [] = inr (λ h. h)
-decided-name (c ∷ cs) = decided-three (decided-test (is_small_letter c)) (decided-test (list_all is_name_byte cs)) (decided-less (length cs) 16)
+decidable-name : (x : Name) → Decidable (IsName x)
+decidable-name [] = inr (λ h. h)
+decidable-name (c ∷ cs) = decidable-three (decidable-test (is_small_letter c)) (decidable-test (list_all is_name_byte cs)) (decidable-less (length cs) 16)
 
 bytes-within : (most : ℕ) (cs : List ℕ) → list_all is_name_byte cs ≡ true → length cs ≤ most → IsWithin 128 most cs
 bytes-within most [] all short = tt
@@ -34,15 +34,15 @@ name-within (c ∷ cs) h =
     (name_byte-low c (or_left (is_small_letter c || (nat_le 48 c && nat_le c 57)) (c == 95) (or_left (is_small_letter c) (nat_le 48 c && nat_le c 57) h.0)), bytes-within 15 cs h.1 (omega (arith, h.2)))
 
 searched-names : IsSearched Name IsName
-searched-names = searched-where (IsWithin 128 16) IsName (searched-lists 128 16) decided-name name-within
+searched-names = searched-where (IsWithin 128 16) IsName (searched-lists 128 16) decidable-name name-within
 
 -- ---- numbers
 
 searched-txs : IsSearched ℕ IsTx
 searched-txs =
     searched-where (λ n. n < 2 ^ 32) IsTx (searched-below (2 ^ 32))
-    (λ n. elim (decided-most 1 n) [
-      | inl le ↦ elim (decided-less n (2 ^ 32)) [ inl lt ↦ inl (le, lt) | inr never ↦ inr (λ h. never h.1) ]
+    (λ n. elim (decidable-most 1 n) [
+      | inl le ↦ elim (decidable-less n (2 ^ 32)) [ inl lt ↦ inl (le, lt) | inr never ↦ inr (λ h. never h.1) ]
       | inr never ↦ inr (λ h. never h.0)
     ])
     (λ n h. h.1)
@@ -74,14 +74,14 @@ module _ (Q : Entry → Type 0) where
   no-entry r w d p q c n a (Refuse tx) is h = n (tx, is, h)
   no-entry r w d p q c n a (Withdraw tx) is h = a (tx, is, h)
 
-  module _ (each : (e : Entry) → Decided (Q e)) where
-    operation-of : (make : ℕ → Name → ℕ → Entry) → Decided ((o : ℕ × Name × ℕ) × IsOperation o × Q (make o.0 o.1 o.2))
+  module _ (each : (e : Entry) → Decidable (Q e)) where
+    operation-of : (make : ℕ → Name → ℕ → Entry) → Decidable ((o : ℕ × Name × ℕ) × IsOperation o × Q (make o.0 o.1 o.2))
     operation-of make = searched-operations (λ o. Q (make o.0 o.1 o.2)) (λ o. each (make o.0 o.1 o.2))
 
-    end-of : (make : ℕ → Entry) → Decided ((tx : ℕ) × IsTx tx × Q (make tx))
+    end-of : (make : ℕ → Entry) → Decidable ((tx : ℕ) × IsTx tx × Q (make tx))
     end-of make = searched-txs (λ tx. Q (make tx)) (λ tx. each (make tx))
 
-    entry-found : Decided ((e : Entry) × IsEntry e × Q e)
+    entry-found : Decidable ((e : Entry) × IsEntry e × Q e)
     entry-found =
         or_else (operation-of Read) (λ h. (Read h.0.0 h.0.1 h.0.2, h.1, h.2)) (λ r.
         or_else (operation-of Write) (λ h. (Write h.0.0 h.0.1 h.0.2, h.1, h.2)) (λ w.
@@ -112,7 +112,7 @@ module _ (Q : SectionLine → Type 0) where
   no-line s i e f n (Final x) is h = f (x, is, h)
   no-line s i e f n End is h = n h
 
-  line-found : ((l : SectionLine) → Decided (Q l)) → Decided ((l : SectionLine) × IsLine l × Q l)
+  line-found : ((l : SectionLine) → Decidable (Q l)) → Decidable ((l : SectionLine) × IsLine l × Q l)
   line-found each =
       or_else (searched-below max_sites (λ k. Q (Site k)) (λ k. each (Site k))) (λ h. (Site h.0, h.1, h.2)) (λ s.
       or_else (searched-holdings (λ h. Q (Initial h)) (λ h. each (Initial h))) (λ h. (Initial h.0, h.1, h.2)) (λ i.

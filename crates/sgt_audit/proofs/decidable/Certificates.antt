@@ -2,7 +2,7 @@
 use Rattle.std.proofs.Common.{◌≡◌, ◌≢◌, ℕ, ◌<◌, ◌≤◌, List, [], ◌∷◌, ◌++◌, length, Some, refl, sym, ap, ◌∙◌, subst, arith, inl, inr, ◌⊎◌, All, AllPairs}
 use Rattle.std.proofs.lemmas.Bool.{cases_eq}
 use Rattle.std.proofs.lemmas.List.{length-append}
-use Rattle.sgt_notation.proofs.Decisions.{Decided, decided-as, decided-both, decided-not, decided-less, decided-most, decided-All, decided-AllPairs, decided-each, decided-found}
+use Rattle.sgt_notation.proofs.Decidable.{Decidable, decidable-as, decidable-both, decidable-not, decidable-less, decidable-most, decidable-All, decidable-AllPairs, decidable-each, decidable-found}
 use Rattle.sgt_cert.specs.Certificate.{decided_tx, IsCommitted, ranks, AreRanks, stops, IsCycle}
 use Rattle.sgt_cert.specs.Text.{certificate_text, IsCertificate}
 use Rattle.sgt_cert.specs.declared.certificate.Certificate.{Certificate}
@@ -15,28 +15,28 @@ use Rattle.sgt_audit.specs.declared.faults.Fault.{Fault}
 use Rattle.sgt_audit.specs.declared.faults.Fault.TheVariants as fault
 use Rattle.sgt_audit.specs.Faults.{KeepsItself}
 
-pub decided-certificate : (line : List ℕ) → Decided ((c : Certificate) × IsCertificate c × (line ≡ certificate_text c))
-decided-certificate line = elim (read_or_refused line) [
+pub decidable-certificate : (line : List ℕ) → Decidable ((c : Certificate) × IsCertificate c × (line ≡ certificate_text c))
+decidable-certificate line = elim (read_or_refused line) [
   | inl read ↦ inl read
   | inr refused ↦ inr (λ c. not_refused line c.0 refused.0 c.1 c.2 refused.1 refused.2)
 ]
 
-decided-ranks : (rs : List ℕ) → Decided (AreRanks rs)
-decided-ranks rs =
-    decided-as (λ both. record { below = both.0; apart = both.1 }) (λ (are : AreRanks rs). (are.below, are.apart))
-    (decided-both (decided-All (λ r. r < length rs) (λ r. decided-less r (length rs)) rs) (decided-AllPairs (λ r s. r ≢ s) (λ r s. decided-not (cases_eq r s)) rs))
+decidable-ranks : (rs : List ℕ) → Decidable (AreRanks rs)
+decidable-ranks rs =
+    decidable-as (λ both. record { below = both.0; apart = both.1 }) (λ (are : AreRanks rs). (are.below, are.apart))
+    (decidable-both (decidable-All (λ r. r < length rs) (λ r. decidable-less r (length rs)) rs) (decidable-AllPairs (λ r s. r ≢ s) (λ r s. decidable-not (cases_eq r s)) rs))
 
 -- the decision commits the transaction
-decided-commit : (a : ℕ) (d : Decision) → Decided ((rank : ℕ) × (d ≡ Commit a rank))
-decided-commit a (Commit tx r) = decided-as (λ e. (r, ap (λ t. Commit t r) e)) (λ h. let same = h.1 in cc) (cases_eq tx a)
-decided-commit a (Refuse tx walk) = inr (λ h. let same = h.1 in cc)
-decided-commit a (Withdraw tx) = inr (λ h. let same = h.1 in cc)
+decidable-commit : (a : ℕ) (d : Decision) → Decidable ((rank : ℕ) × (d ≡ Commit a rank))
+decidable-commit a (Commit tx r) = decidable-as (λ e. (r, ap (λ t. Commit t r) e)) (λ h. let same = h.1 in cc) (cases_eq tx a)
+decidable-commit a (Refuse tx walk) = inr (λ h. let same = h.1 in cc)
+decidable-commit a (Withdraw tx) = inr (λ h. let same = h.1 in cc)
 
 -- it was committed by an earlier decision
-decided-earlier : (ds : List Decision) (number a : ℕ) → Decided ((m : ℕ) × (rank : ℕ) × (m < number) × IsCommitted ds m a rank)
-decided-earlier ds number a =
-    decided-as (λ h. (h.0, h.3.1.0, h.3.0, h.2 ∙ ap Some h.3.1.1)) (λ h. (h.0, Commit a h.1, h.3, (h.2, (h.1, refl))))
-    (decided-found (λ n d. (n < number) × ((rank : ℕ) × (d ≡ Commit a rank))) (λ n d. decided-both (decided-less n number) (decided-commit a d)) ds)
+decidable-earlier : (ds : List Decision) (number a : ℕ) → Decidable ((m : ℕ) × (rank : ℕ) × (m < number) × IsCommitted ds m a rank)
+decidable-earlier ds number a =
+    decidable-as (λ h. (h.0, h.3.1.0, h.3.0, h.2 ∙ ap Some h.3.1.1)) (λ h. (h.0, Commit a h.1, h.3, (h.2, (h.1, refl))))
+    (decidable-found (λ n d. (n < number) × ((rank : ℕ) × (d ≡ Commit a rank))) (λ n d. decidable-both (decidable-less n number) (decidable-commit a d)) ds)
 
 -- ---- walks
 
@@ -55,36 +55,36 @@ module _ (ds : List Decision) (number tx : ℕ) (walk : List Step) where
   IsBetween between = ((1 ≤ length between) × AllPairs (λ a b. a ≢ b) between)
       × (All (λ a. a ≢ tx) between × All (λ a. (m : ℕ) × (rank : ℕ) × (m < number) × IsCommitted ds m a rank) between)
 
-  decided-between : (between : List ℕ) → Decided (IsBetween between)
-  decided-between between =
-      decided-both
-      (decided-both (decided-most 1 (length between)) (decided-AllPairs (λ a b. a ≢ b) (λ a b. decided-not (cases_eq a b)) between))
-      (decided-both (decided-All (λ a. a ≢ tx) (λ a. decided-not (cases_eq a tx)) between)
-      (decided-All (λ a. (m : ℕ) × (rank : ℕ) × (m < number) × IsCommitted ds m a rank) (λ a. decided-earlier ds number a) between))
+  decidable-between : (between : List ℕ) → Decidable (IsBetween between)
+  decidable-between between =
+      decidable-both
+      (decidable-both (decidable-most 1 (length between)) (decidable-AllPairs (λ a b. a ≢ b) (λ a b. decidable-not (cases_eq a b)) between))
+      (decidable-both (decidable-All (λ a. a ≢ tx) (λ a. decidable-not (cases_eq a tx)) between)
+      (decidable-All (λ a. (m : ℕ) × (rank : ℕ) × (m < number) × IsCommitted ds m a rank) (λ a. decidable-earlier ds number a) between))
 
-  decided-cycle : Decided (IsCycle ds number tx walk)
-  decided-cycle = elim (unpushed (stops walk)) [
+  decidable-cycle : Decidable (IsCycle ds number tx walk)
+  decidable-cycle = elim (unpushed (stops walk)) [
     | inl none ↦ inr (λ (cycle : IsCycle ds number tx walk). let size = length-append cycle.between (tx ∷ []) in let same = ap length (sym none ∙ cycle.closed) in absurd (omega arith))
-    | inr (between, to, closed) ↦ decided-as
+    | inr (between, to, closed) ↦ decidable-as
         (λ both. record { between = between; long = both.1.0.0; closed = closed ∙ ap (λ t. between ++ t ∷ []) both.0; distinct = both.1.0.1; others = both.1.1.0; earlier = both.1.1.1 })
         (λ (cycle : IsCycle ds number tx walk).
         let same = push-one between cycle.between to tx (sym closed ∙ cycle.closed) in
         (same.1, subst IsBetween (sym same.0) ((cycle.long, cycle.distinct), (cycle.others, cycle.earlier))))
-        (decided-both (cases_eq to tx) (decided-between between))
+        (decidable-both (cases_eq to tx) (decidable-between between))
   ]
 
-decided-walk : (ds : List Decision) (number : ℕ) (d : Decision) → Decided ((tx : ℕ) (walk : List Step) → d ≡ Refuse tx walk → IsCycle ds number tx walk)
-decided-walk ds number (Refuse tx walk) =
-    decided-as (λ cycle i w e. let same : tx ≡ i = cc in let steps : walk ≡ w = cc in subst (IsCycle ds number i) steps (subst (λ t. IsCycle ds number t walk) same cycle))
-    (λ all. all tx walk refl) (decided-cycle ds number tx walk)
-decided-walk ds number (Commit i rank) = inl (λ tx walk e. absurd cc)
-decided-walk ds number (Withdraw i) = inl (λ tx walk e. absurd cc)
+decidable-walk : (ds : List Decision) (number : ℕ) (d : Decision) → Decidable ((tx : ℕ) (walk : List Step) → d ≡ Refuse tx walk → IsCycle ds number tx walk)
+decidable-walk ds number (Refuse tx walk) =
+    decidable-as (λ cycle i w e. let same : tx ≡ i = cc in let steps : walk ≡ w = cc in subst (IsCycle ds number i) steps (subst (λ t. IsCycle ds number t walk) same cycle))
+    (λ all. all tx walk refl) (decidable-cycle ds number tx walk)
+decidable-walk ds number (Commit i rank) = inl (λ tx walk e. absurd cc)
+decidable-walk ds number (Withdraw i) = inl (λ tx walk e. absurd cc)
 
 -- each rule of a certificate by itself
-pub decided-itself : (ds : List Decision) (f : Fault) → Decided (KeepsItself ds f)
-decided-itself ds fault.Ranks = decided-ranks (ranks ds)
-decided-itself ds fault.DecidedTwice = decided-AllPairs (λ d e. decided_tx d ≢ decided_tx e) (λ d e. decided-not (cases_eq (decided_tx d) (decided_tx e))) ds
-decided-itself ds fault.WalkShape =
-    decided-as (λ all number tx walk at. all number (Refuse tx walk) at tx walk refl) (λ all number d at tx walk is. all number tx walk (at ∙ ap Some is))
-    (decided-each (λ number d. (tx : ℕ) (walk : List Step) → d ≡ Refuse tx walk → IsCycle ds number tx walk) (decided-walk ds) ds)
-decided-itself ds _ = inl tt
+pub decidable-itself : (ds : List Decision) (f : Fault) → Decidable (KeepsItself ds f)
+decidable-itself ds fault.Ranks = decidable-ranks (ranks ds)
+decidable-itself ds fault.DecidedTwice = decidable-AllPairs (λ d e. decided_tx d ≢ decided_tx e) (λ d e. decidable-not (cases_eq (decided_tx d) (decided_tx e))) ds
+decidable-itself ds fault.WalkShape =
+    decidable-as (λ all number tx walk at. all number (Refuse tx walk) at tx walk refl) (λ all number d at tx walk is. all number tx walk (at ∙ ap Some is))
+    (decidable-each (λ number d. (tx : ℕ) (walk : List Step) → d ≡ Refuse tx walk → IsCycle ds number tx walk) (decidable-walk ds) ds)
+decidable-itself ds _ = inl tt

@@ -12,7 +12,7 @@ use Rattle.sgt_names.specs.Limits.{max_items}
 use Rattle.sgt_names.specs.Log.{names}
 use Rattle.sgt_notation.specs.declared.SectionLine.{SectionLine}
 use Rattle.sgt_notation.specs.declared.SectionLine.TheVariants.{Site, Initial, Logged, Final, End}
-use Rattle.sgt_notation.proofs.Decisions.{Decided, decided-as, decided-both, decided-less, decided-text, decided-value, decided-All}
+use Rattle.sgt_notation.proofs.Decidable.{Decidable, decidable-as, decidable-both, decidable-less, decidable-text, decidable-value, decidable-All}
 use Rattle.sgt_cert.specs.Parts.{ComesBefore, IsShapedLog}
 use Rattle.sgt_cert.specs.Text.{Begins, AreSections, IsCertificate, sections_from}
 use Rattle.sgt_cert.specs.declared.certificate.Certificate.{Certificate}
@@ -21,39 +21,39 @@ use Rattle.sgt_audit.specs.Reading.{Begun, open_lines, lines_read, IsBegun}
 use Rattle.sgt_audit.specs.private.Following.{Fits, FitsBetween, MayFollow, with_next}
 use Rattle.sgt_audit.proofs.NextLine.{WalksOf}
 use Rattle.sgt_audit.proofs.MayFollow.{follow-decides, added-begun, added-lines, whole-sections, sections-whole, are-sections}
-use Rattle.sgt_audit.proofs.decidable.Entries.{decided-walks}
+use Rattle.sgt_audit.proofs.decidable.Entries.{decidable-walks}
 
-decided-empty : {A : Type 0} (xs : List A) → Decided (xs ≡ [])
-decided-empty [] = inl refl
-decided-empty (x ∷ xs) = inr (λ e. cc)
+decidable-empty : {A : Type 0} (xs : List A) → Decidable (xs ≡ [])
+decidable-empty [] = inl refl
+decidable-empty (x ∷ xs) = inr (λ e. cc)
 
-decided-Less : (o : Ordering) → Decided (o ≡ Less)
-decided-Less Less = inl refl
-decided-Less Equal = inr (λ e. cc)
-decided-Less Greater = inr (λ e. cc)
+decidable-Less : (o : Ordering) → Decidable (o ≡ Less)
+decidable-Less Less = inl refl
+decidable-Less Equal = inr (λ e. cc)
+decidable-Less Greater = inr (λ e. cc)
 
 -- ---- one line more
 
-decided-fits : (log : SiteLog) (line : SectionLine) → Decided (Fits log line)
-decided-fits log (Site k) = inr (λ h. h)
-decided-fits log (Initial h) =
-    decided-as (λ f. (f.0.0, f.0.1, f.1.0, f.1.1)) (λ (f : Fits log (Initial h)). ((f.0, f.1), (f.2, f.3)))
-    (decided-both (decided-both (decided-empty log.entries) (decided-empty log.finals))
-    (decided-both (decided-less (length log.items) max_items) (decided-All (λ x. ComesBefore x h.item) (λ x. decided-Less (slice_cmp nat_cmp x h.item)) (names log.items))))
-decided-fits log (Logged e) = decided-empty log.finals
-decided-fits log (Final h) = decided-value decided-text (slice_get (names log.items) (length log.finals)) h.item
-decided-fits log End = cases_eq (length log.finals) (length log.items)
+decidable-fits : (log : SiteLog) (line : SectionLine) → Decidable (Fits log line)
+decidable-fits log (Site k) = inr (λ h. h)
+decidable-fits log (Initial h) =
+    decidable-as (λ f. (f.0.0, f.0.1, f.1.0, f.1.1)) (λ (f : Fits log (Initial h)). ((f.0, f.1), (f.2, f.3)))
+    (decidable-both (decidable-both (decidable-empty log.entries) (decidable-empty log.finals))
+    (decidable-both (decidable-less (length log.items) max_items) (decidable-All (λ x. ComesBefore x h.item) (λ x. decidable-Less (slice_cmp nat_cmp x h.item)) (names log.items))))
+decidable-fits log (Logged e) = decidable-empty log.finals
+decidable-fits log (Final h) = decidable-value decidable-text (slice_get (names log.items) (length log.finals)) h.item
+decidable-fits log End = cases_eq (length log.finals) (length log.items)
 
-decided-between : (b : Begun) (line : SectionLine) → Decided (FitsBetween b line)
-decided-between b (Site k) = decided-both (cases_eq k (length b.whole)) (decided-less k b.sites)
-decided-between b _ = inr (λ h. h)
+decidable-between : (b : Begun) (line : SectionLine) → Decidable (FitsBetween b line)
+decidable-between b (Site k) = decidable-both (cases_eq k (length b.whole)) (decidable-less k b.sites)
+decidable-between b _ = inr (λ h. h)
 
-decided-follows : (b : Begun) (current : Option SiteLog) (line : SectionLine) → Decided (MayFollow b current line)
-decided-follows b None line = decided-between b line
-decided-follows b (Some log) line = decided-fits log line
+decidable-follows : (b : Begun) (current : Option SiteLog) (line : SectionLine) → Decidable (MayFollow b current line)
+decidable-follows b None line = decidable-between b line
+decidable-follows b (Some log) line = decidable-fits log line
 
 -- what follows begins some sections with what was read
-begins-follows : (b : Begun) → IsBegun b → (line : SectionLine) → Decided (MayFollow b b.current line) → Decided (Begins b.sites (lines_read b ++ line ∷ []))
+begins-follows : (b : Begun) → IsBegun b → (line : SectionLine) → Decidable (MayFollow b b.current line) → Decidable (Begins b.sites (lines_read b ++ line ∷ []))
 begins-follows b is line (inl may) = inl ((follow-decides b is line true (λ e. may, λ f. refl)).0 refl)
 begins-follows b is line (inr never) = inr (λ begins. false≢true ((follow-decides b is line false (λ e. absurd (false≢true e), λ f. absurd (never f))).1 begins))
 
@@ -86,10 +86,10 @@ module _ (c : Certificate) (before : List SectionLine) (held : HasBegun c before
   to_begun : (P : ℕ → List SectionLine → Type 0) → P c.sites before → P held.begun.sites (lines_read held.begun)
   to_begun P p = subst (λ ls. P held.begun.sites ls) held.lines (subst (λ n. P n before) (sym held.sites) p)
 
-  pub decided-begins : (line : SectionLine) → Decided (Begins c.sites (before ++ line ∷ []))
-  decided-begins line =
-      from_begun (λ n ls. Decided (Begins n (ls ++ line ∷ [])))
-      (begins-follows held.begun held.is line (decided-follows held.begun held.begun.current line))
+  pub decidable-begins : (line : SectionLine) → Decidable (Begins c.sites (before ++ line ∷ []))
+  decidable-begins line =
+      from_begun (λ n ls. Decidable (Begins n (ls ++ line ∷ [])))
+      (begins-follows held.begun held.is line (decidable-follows held.begun held.begun.current line))
 
   -- one line more
   pub more-begun : (line : SectionLine) → Begins c.sites (before ++ line ∷ []) → HasBegun c (before ++ line ∷ [])
@@ -103,16 +103,16 @@ module _ (c : Certificate) (before : List SectionLine) (held : HasBegun c before
         lines = ap (λ (ls : List SectionLine). ls ++ line ∷ []) held.lines ∙ sym (added-lines b held.is line here b.current refl);
       }
 
-  decided-whole : (current : Option SiteLog) → held.begun.current ≡ current → Decided (AreSections held.begun.sites (lines_read held.begun))
-  decided-whole None here = elim (cases_eq (length held.begun.whole) held.begun.sites) [
+  decidable-whole : (current : Option SiteLog) → held.begun.current ≡ current → Decidable (AreSections held.begun.sites (lines_read held.begun))
+  decidable-whole None here = elim (cases_eq (length held.begun.whole) held.begun.sites) [
     | inl all ↦ inl (whole-sections held.begun held.is here all)
     | inr never ↦ inr (λ all. never (are-sections held.begun all).1)
   ]
-  decided-whole (Some log) here = inr (λ all. let both : None ≡ Some log = sym (are-sections held.begun all).0 ∙ here in cc)
+  decidable-whole (Some log) here = inr (λ all. let both : None ≡ Some log = sym (are-sections held.begun all).0 ∙ here in cc)
 
   -- these lines are all the sections
-  pub decided-sections : Decided (AreSections c.sites before)
-  decided-sections = from_begun (λ n ls. Decided (AreSections n ls)) (decided-whole held.begun.current refl)
+  pub decidable-sections : Decidable (AreSections c.sites before)
+  decidable-sections = from_begun (λ n ls. Decidable (AreSections n ls)) (decidable-whole held.begun.current refl)
 
   -- ---- the walks behind these lines
 
@@ -126,12 +126,12 @@ module _ (c : Certificate) (before : List SectionLine) (held : HasBegun c before
       whole-lines : (b : Begun) → b.current ≡ None → lines_read b ≡ sections_from 0 b.whole
       whole-lines b none = ap (λ o. sections_from 0 b.whole ++ open_lines (length b.whole) o) none ∙ append-nil (sections_from 0 b.whole)
 
-  walks-behind : (current : Option SiteLog) → held.begun.current ≡ current → Decided (length held.begun.whole ≡ c.sites) → Decided WalksBehind
+  walks-behind : (current : Option SiteLog) → held.begun.current ≡ current → Decidable (length held.begun.whole ≡ c.sites) → Decidable WalksBehind
   walks-behind (Some log) here count = inl (λ logs each e. let both : None ≡ Some log = sym (sections-whole held.begun logs (e ∙ held.lines)).0 ∙ here in cc)
   walks-behind None here (inr never) = inl (λ logs each e. absurd (never (ap length (sections-whole held.begun logs (e ∙ held.lines)).1 ∙ each)))
   walks-behind None here (inl all) =
-      decided-as (λ walks logs each e. subst (WalksOf c.decisions) (sections-whole held.begun logs (e ∙ held.lines)).1 walks) (λ behind. behind held.begun.whole all (sections-of here))
-      (decided-walks c.decisions held.begun.whole)
+      decidable-as (λ walks logs each e. subst (WalksOf c.decisions) (sections-whole held.begun logs (e ∙ held.lines)).1 walks) (λ behind. behind held.begun.whole all (sections-of here))
+      (decidable-walks c.decisions held.begun.whole)
 
-  pub decided-behind : Decided WalksBehind
-  decided-behind = walks-behind held.begun.current refl (cases_eq (length held.begun.whole) c.sites)
+  pub decidable-behind : Decidable WalksBehind
+  decidable-behind = walks-behind held.begun.current refl (cases_eq (length held.begun.whole) c.sites)
