@@ -1,11 +1,10 @@
--- No text is without a verdict: read line by line, it comes to its end or to a line that breaks a rule.
--- (What is shown of each rule is that it is not both broken and kept, so that the verdict is not found but can't be missing.)
-use Rattle.std.proofs.Common.{◌≡◌, ℕ, zero, suc, ◌+◌, ◌<◌, ◌≤◌, lit<, Bool, List, [], ◌∷◌, ◌++◌, length, map, refl, sym, ap, ◌∙◌, subst, arith, inl, inr, ◌⊎◌}
-use Rattle.std.proofs.lemmas.Bool.{cases_order}
+-- Each text has a verdict: read line by line, it comes to its end or to a line that breaks a rule, since of each rule it is known whether it is kept.
+use Rattle.std.proofs.Common.{◌≡◌, ℕ, zero, suc, ◌+◌, ◌<◌, ◌≤◌, lit<, Bool, List, [], ◌∷◌, ◌++◌, length, map, refl, sym, ap, ◌∙◌, arith, inl, inr, ◌⊎◌}
 use Rattle.std.proofs.lemmas.List.{append-nil, map-append, length-append}
 use Rattle.sgt_notation.specs.Spelling.{line_text, text_of_lines}
 use Rattle.sgt_notation.specs.declared.SectionLine.{SectionLine}
-use Rattle.sgt_cert.specs.Text.{certificate_text, format_line, IsCertificate, AreSections}
+use Rattle.sgt_notation.proofs.Decidable.{Decidable}
+use Rattle.sgt_cert.specs.Text.{certificate_text, format_line, IsCertificate}
 use Rattle.sgt_cert.specs.declared.certificate.Certificate.{Certificate}
 use Rattle.sgt_audit.specs.declared.faults.Fault.{Fault}
 use Rattle.sgt_audit.specs.declared.faults.Fault.TheVariants as fault
@@ -13,79 +12,71 @@ use Rattle.sgt_audit.specs.declared.verdict.Verdict.{Verdict}
 use Rattle.sgt_audit.specs.declared.verdict.Verdict.TheVariants.{No}
 use Rattle.sgt_audit.specs.Faults.{fault_number, Keeps, KeepsItself, AllKept, IsLineIn, Stage, start, headed, within, complete, lines_so_far, IsFaultless, Piece, whole, last, ComesNext, Rule, Breaks}
 use Rattle.sgt_audit.specs.Verdict.{IsVerdict, yes_of}
-use Rattle.sgt_audit.proofs.FaultNumbers.{number-one}
+use Rattle.sgt_audit.specs.private.Judging.{KeptBelow}
+use Rattle.sgt_audit.proofs.Least.{kept-next}
 use Rattle.sgt_audit.proofs.LinePlaces.{no_cons}
 use Rattle.sgt_audit.proofs.NoFault.{no_fault-valid}
 use Rattle.sgt_audit.proofs.ReaderAtStage.{one-line, piece}
 use Rattle.sgt_audit.proofs.NextLine.{no_notation, kept-more}
-
--- ---- what can't be refuted
-
-abbrev Unrefuted : Type 0 → Type 0
-Unrefuted A = (A → ⊥) → ⊥
-
-either : (A : Type 0) → Unrefuted (A ⊎ (A → ⊥))
-either A k = k (inr (λ a. k (inl a)))
-
-and_then : {A B : Type 0} → Unrefuted A → (A → Unrefuted B) → Unrefuted B
-and_then a f k = a (λ x. f x k)
+use Rattle.sgt_audit.proofs.decidable.Sections.{HasBegun, none-begun, more-begun, decidable-sections}
+use Rattle.sgt_audit.proofs.decidable.Pieces.{HoldsBegun, decidable-rule}
 
 -- ---- the rules of one place: all are kept, or one is the least that is broken
 
-module _ (rule : Fault → Type 0) where
+module _ (rule : Fault → Type 0) (decide : (f : Fault) → KeptBelow rule (fault_number f) → Decidable (rule f)) where
   abbrev KeptOrBroken : ℕ → Type 0
-  KeptOrBroken n = ((g : Fault) → fault_number g < n → rule g) ⊎ ((f : Fault) × Breaks rule f)
+  KeptOrBroken n = KeptBelow rule n ⊎ ((f : Fault) × Breaks rule f)
 
-  none-below : (g : Fault) → fault_number g < 1 → rule g
+  none-below : KeptBelow rule 1
   none-below fault.Format lt = absurd (omega arith)
   none-below _ lt = absurd (omega arith)
 
-  one-further : (f : Fault) → rule f → ((g : Fault) → fault_number g < fault_number f → rule g) → (g : Fault) → fault_number g < fault_number f + 1 → rule g
-  one-further f r kept g lt =
-      elim (cases_order (fault_number g) (fault_number f)) [
-        | inl same ↦ subst rule (sym (number-one g f same)) r
-        | inr (inl less) ↦ kept g less
-        | inr (inr more) ↦ absurd (omega arith)
-      ]
+  judge-next : (f : Fault) → KeptOrBroken (fault_number f) → KeptOrBroken (fault_number f + 1)
+  judge-next f (inr broken) = inr broken
+  judge-next f (inl kept) = elim (decide f kept) [
+    | inl r ↦ inl (kept-next rule (fault_number f) f refl kept r)
+    | inr never ↦ inr (f, record { broken = never; least = kept })
+  ]
 
-  judge-next : (f : Fault) → KeptOrBroken (fault_number f) → Unrefuted (KeptOrBroken (fault_number f + 1))
-  judge-next f (inr broken) = λ k. k (inr broken)
-  judge-next f (inl kept) =
-      and_then (either (rule f)) (elim [
-        | inl r ↦ λ k. k (inl (one-further f r kept))
-        | inr b ↦ λ k. k (inr (f, record { broken = b; least = kept }))
-      ])
+  judged-6 : KeptOrBroken 7
+  judged-6 =
+      judge-next fault.WalkShape (judge-next fault.DecidedTwice (judge-next fault.Ranks
+      (judge-next fault.Certificate (judge-next fault.Notation (judge-next fault.Format (inl none-below))))))
 
-  judged-up : Unrefuted (KeptOrBroken 20)
-  judged-up =
-      and_then (judge-next fault.Format (inl none-below)) (λ k1. and_then (judge-next fault.Notation k1) (λ k2. and_then (judge-next fault.Certificate k2) (λ k3.
-      and_then (judge-next fault.Ranks k3) (λ k4. and_then (judge-next fault.DecidedTwice k4) (λ k5. and_then (judge-next fault.WalkShape k5) (λ k6.
-      and_then (judge-next fault.Section k6) (λ k7. and_then (judge-next fault.Item k7) (λ k8. and_then (judge-next fault.Twice k8) (λ k9.
-      and_then (judge-next fault.ReadValue k9) (λ k10. and_then (judge-next fault.RankOrder k10) (λ k11. and_then (judge-next fault.Block k11) (λ k12.
-      and_then (judge-next fault.End k12) (λ k13. and_then (judge-next fault.DecisionOrder k13) (λ k14. and_then (judge-next fault.NotEnded k14) (λ k15.
-      and_then (judge-next fault.Final k15) (λ k16. and_then (judge-next fault.WalkStep k16) (λ k17. and_then (judge-next fault.Truncated k17) (λ k18.
-      judge-next fault.Trailing k18))))))))))))))))))
+  judged-12 : KeptOrBroken 13
+  judged-12 =
+      judge-next fault.Block (judge-next fault.RankOrder (judge-next fault.ReadValue (judge-next fault.Twice (judge-next fault.Item (judge-next fault.Section judged-6)))))
+
+  judged-19 : KeptOrBroken 20
+  judged-19 =
+      judge-next fault.Trailing (judge-next fault.Truncated (judge-next fault.WalkStep (judge-next fault.Final
+      (judge-next fault.NotEnded (judge-next fault.DecisionOrder (judge-next fault.End judged-12))))))
 
   number-below : (f : Fault) → fault_number f < 20
   number-below fault.Format = lit< tt
   number-below _ = lit< tt
 
-  all-or-least : Unrefuted (((f : Fault) → rule f) ⊎ ((f : Fault) × Breaks rule f))
-  all-or-least = and_then judged-up (elim [
-    | inl kept ↦ λ k. k (inl (λ f. kept f (number-below f)))
-    | inr broken ↦ λ k. k (inr broken)
-  ])
+  all-or-least : ((f : Fault) → rule f) ⊎ ((f : Fault) × Breaks rule f)
+  all-or-least = elim judged-19 [
+    | inl kept ↦ inl (λ f. kept f (number-below f))
+    | inr broken ↦ inr broken
+  ]
 
 -- ---- what stands behind lines that keep every rule
 
+-- a stage with no fault, and what was read of its sections
+pub record Reached (s : Stage) : Type 0 where
+  pub faultless : IsFaultless s
+  pub begun : HoldsBegun s
+
 -- the lines of a certificate and of sections are some of them, or all
-either-stage : (second : Bool) (c : Certificate) (before : List SectionLine) → AllKept second c before
-    → Unrefuted ((s : Stage) × IsFaultless s × (lines_so_far s ≡ lines_so_far (within second c before)))
-either-stage second c before kept =
-    and_then (either (AreSections c.sites before)) (elim [
-      | inl all ↦ λ k. k (complete second c before, (kept, all), refl)
-      | inr more ↦ λ k. k (within second c before, (kept, more), refl)
-    ])
+some-or-all : (second : Bool) (c : Certificate) (before : List SectionLine) → AllKept second c before → HasBegun c before
+    → (s : Stage) × Reached s × (lines_so_far s ≡ lines_so_far (within second c before))
+some-or-all second c before kept held =
+    elim (decidable-sections c before held) [
+      | inl all ↦ (complete second c before, record { faultless = (kept, all); begun = tt }, refl)
+      | inr more ↦ (within second c before, record { faultless = (kept, more); begun = held }, refl)
+    ]
 
 keeps-itself : (second : Bool) (c : Certificate) (l : List ℕ) → IsCertificate c → l ≡ certificate_text c → ((f : Fault) → Rule (headed second) (whole l) f) → (f : Fault) → KeepsItself c.decisions f
 keeps-itself second c l is same rules fault.Certificate = tt
@@ -97,9 +88,9 @@ keeps-each second c before line l is same rules fault.Notation = no_notation c b
 keeps-each second c before line l is same rules f = rules f line is same
 
 -- the next stage, behind a line that keeps every rule
-next-stage : (s : Stage) (l : List ℕ) → IsFaultless s → ((f : Fault) → Rule s (whole l) f) → Unrefuted ((t : Stage) × IsFaultless t × (lines_so_far t ≡ lines_so_far s ++ l ∷ []))
+next-stage : (s : Stage) (l : List ℕ) → Reached s → ((f : Fault) → Rule s (whole l) f) → (t : Stage) × Reached t × (lines_so_far t ≡ lines_so_far s ++ l ∷ [])
 next-stage start l good rules =
-    let first = rules fault.Format in λ k. k (headed first.0, tt, ap (λ x. x ∷ []) (sym first.1))
+    let first = rules fault.Format in (headed first.0, record { faultless = tt; begun = tt }, ap (λ x. x ∷ []) (sym first.1))
 next-stage (headed second) l good rules =
     let certified = rules fault.Certificate in
     let c = certified.0 in
@@ -108,14 +99,17 @@ next-stage (headed second) l good rules =
       itself = keeps-itself second c l certified.1 certified.2 rules;
       lines = λ earlier later line e. absurd (no_cons earlier later line e);
     } in
-    and_then (either-stage second c [] kept) (λ t k. k (t.0, t.1, t.2 ∙ ap (λ x. format_line second ∷ x ∷ []) (sym certified.2)))
+    let t = some-or-all second c [] kept (none-begun c certified.1) in
+    (t.0, t.1, t.2 ∙ ap (λ x. format_line second ∷ x ∷ []) (sym certified.2))
 next-stage (within second c before) l good rules =
     let noted = rules fault.Notation in
     let line = noted.0 in
-    let kept = kept-more second c before line good.0 noted.1 (keeps-each second c before line l noted.1 noted.2 rules) in
+    let kept = kept-more second c before line good.faultless.0 noted.1 (keeps-each second c before line l noted.1 noted.2 rules) in
+    let held = more-begun c before good.begun line (rules fault.Section line noted.1 noted.2) in
     let spelled = map-append line_text before (line ∷ []) ∙ ap (λ x. map line_text before ++ x ∷ []) (sym noted.2) in
-    and_then (either-stage second c (before ++ line ∷ []) kept) (λ t k. k (t.0, t.1, t.2 ∙ ap (λ (ls : List (List ℕ)). format_line second ∷ certificate_text c ∷ ls) spelled))
-next-stage (complete second c before) l good rules = λ k. rules fault.Trailing
+    let t = some-or-all second c (before ++ line ∷ []) kept held in
+    (t.0, t.1, t.2 ∙ ap (λ (ls : List (List ℕ)). format_line second ∷ certificate_text c ∷ ls) spelled)
+next-stage (complete second c before) l good rules = absurd (rules fault.Trailing)
 
 -- ---- the verdict
 
@@ -133,29 +127,29 @@ ends-well bytes (complete second c before) l good text rules =
     (yes_of valid.0.certificate.decisions, (valid.0, valid.1, valid.2, refl))
 
 -- behind a stage of the text, where what is shorter comes to a verdict
-module _ (bytes : List ℕ) (s : Stage) (rest : List ℕ) (good : IsFaultless s) (text : bytes ≡ text_of_lines (lines_so_far s) ++ rest)
-    (further : (t : Stage) (more : List ℕ) → length more < length rest → IsFaultless t → bytes ≡ text_of_lines (lines_so_far t) ++ more → Unrefuted (HasVerdict bytes)) where
-  at-piece : (next : Piece) → ComesNext rest next → ((f : Fault) → Rule s next f) → Unrefuted (HasVerdict bytes)
-  at-piece (last l) comes rules = λ k. k (ends-well bytes s l good (text ∙ ap (λ (t : List ℕ). text_of_lines (lines_so_far s) ++ t) comes.0) rules)
+module _ (bytes : List ℕ) (s : Stage) (rest : List ℕ) (good : Reached s) (text : bytes ≡ text_of_lines (lines_so_far s) ++ rest)
+    (further : (t : Stage) (more : List ℕ) → length more < length rest → Reached t → bytes ≡ text_of_lines (lines_so_far t) ++ more → HasVerdict bytes) where
+  at-piece : (next : Piece) → ComesNext rest next → ((f : Fault) → Rule s next f) → HasVerdict bytes
+  at-piece (last l) comes rules = ends-well bytes s l good.faultless (text ∙ ap (λ (t : List ℕ). text_of_lines (lines_so_far s) ++ t) comes.0) rules
   at-piece (whole l) (more, is, one) rules =
-      and_then (next-stage s l good rules) (λ t.
+      let t = next-stage s l good rules in
       further t.0 more (omega (arith, ap length is, length-append l (10 ∷ more))) t.1
-      (text ∙ ap (λ (x : List ℕ). text_of_lines (lines_so_far s) ++ x) is ∙ sym (one-line (lines_so_far s) l more) ∙ ap (λ ls. text_of_lines ls ++ more) (sym t.2)))
+      (text ∙ ap (λ (x : List ℕ). text_of_lines (lines_so_far s) ++ x) is ∙ sym (one-line (lines_so_far s) l more) ∙ ap (λ ls. text_of_lines ls ++ more) (sym t.2))
 
-  at-rest : Unrefuted (HasVerdict bytes)
+  at-rest : HasVerdict bytes
   at-rest =
       let next = piece rest in
-      and_then (all-or-least (Rule s next.0)) (elim [
+      elim (all-or-least (Rule s next.0) (decidable-rule s next.0 good.begun)) [
         | inl rules ↦ at-piece next.0 next.1 rules
-        | inr broken ↦ λ k. k (
+        | inr broken ↦ (
           No (length (lines_so_far s) + 1) broken.0,
-          record { stage = s; rest = rest; next = next.0; text = text; faultless = good; number = refl; comes = next.1; breaks = broken.1 },
+          record { stage = s; rest = rest; next = next.0; text = text; faultless = good.faultless; number = refl; comes = next.1; breaks = broken.1 },
         )
-      ])
+      ]
 
-from-stage : (n : ℕ) (bytes : List ℕ) (s : Stage) (rest : List ℕ) → length rest ≤ n → IsFaultless s → bytes ≡ text_of_lines (lines_so_far s) ++ rest → Unrefuted (HasVerdict bytes)
+from-stage : (n : ℕ) (bytes : List ℕ) (s : Stage) (rest : List ℕ) → length rest ≤ n → Reached s → bytes ≡ text_of_lines (lines_so_far s) ++ rest → HasVerdict bytes
 from-stage zero bytes s rest le good text = at-rest bytes s rest good text (λ t more lt g e. absurd (omega arith))
 from-stage (suc n) bytes s rest le good text = at-rest bytes s rest good text (λ t more lt g e. from-stage n bytes t more (omega arith) g e)
 
-pub verdict-unrefuted : (bytes : List ℕ) → ((v : Verdict) → IsVerdict bytes v → ⊥) → ⊥
-verdict-unrefuted bytes none = from-stage (length bytes) bytes start bytes (omega arith) tt refl (λ v. none v.0 v.1)
+pub some-verdict : (bytes : List ℕ) → (v : Verdict) × IsVerdict bytes v
+some-verdict bytes = from-stage (length bytes) bytes start bytes (omega arith) (record { faultless = tt; begun = tt }) refl
