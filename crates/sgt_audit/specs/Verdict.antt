@@ -34,7 +34,7 @@ text_of (No line f) = codes "no line " ++ (decimal line ++ (codes " F" ++ (decim
 abbrev pub WroteFront : (told old new : Option (List ℕ)) → Type 0
 WroteFront told old new = AppendsOrForgets old new []
     ⊎ ((v : Verdict) × (n : ℕ) × (n < length (text_of v))
-        × IfSome told (λ bytes. IsVerdict bytes v) × AppendsOrForgets old new (take n (text_of v)))
+    × IfSome told (λ bytes. IsVerdict bytes v) × AppendsOrForgets old new (take n (text_of v)))
 
 -- what a text was found to spell: a valid bundle, or its first fault
 abbrev pub IsAudited : List ℕ → Audited → Type 0

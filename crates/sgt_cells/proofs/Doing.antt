@@ -155,7 +155,7 @@ module _ (entries : List Entry) (tx : ℕ) (e : Entry) (Does : Entry → Type 0)
 -- ---- operations
 
 module _ {A : Type 0} where
-  get_cases : (xs : List A) (y : A) (n : ℕ) (a : A) → slice_get (xs ++ y ∷ []) n ≡ Some a → (slice_get xs n ≡ Some a) ⊎ ((n ≡ length xs) × (y ≡ a))
+  pub get_cases : (xs : List A) (y : A) (n : ℕ) (a : A) → slice_get (xs ++ y ∷ []) n ≡ Some a → (slice_get xs n ≡ Some a) ⊎ ((n ≡ length xs) × (y ≡ a))
   get_cases [] y zero a h = inr (refl, same_Some y a h)
   get_cases [] y (suc n) a h = absurd (none-some a h)
   get_cases (x ∷ xs) y zero a h = inl h
