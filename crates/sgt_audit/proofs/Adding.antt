@@ -19,7 +19,7 @@ inside log (Logged x) h = refl
 inside log (Final x) h = refl
 inside log End h = absurd (h refl)
 
-same_whole : (whole : List SiteLog) (log : SiteLog) (line : SectionLine) → (line ≡ End → ⊥) → next_whole whole log line ≡ whole
+pub same_whole : (whole : List SiteLog) (log : SiteLog) (line : SectionLine) → (line ≡ End → ⊥) → next_whole whole log line ≡ whole
 same_whole whole log (Site k) h = refl
 same_whole whole log (Initial x) h = refl
 same_whole whole log (Logged x) h = refl

@@ -1,74 +1,125 @@
--- Conflicts among the entries up to a place.
-use Rattle.std.proofs.Common.{◌≡◌, ◌≢◌, ℕ, ◌+◌, ◌<◌, ◌≤◌, List, length, get_or, take, drop, Some, true, false, refl, sym, ap, ◌∙◌, subst, arith, inl, inr, IsTrue, Any}
+-- The steps of walks, against the logs that are whole.
+use Rattle.std.proofs.Common.{◌≡◌, ℕ, ◌+◌, ◌-◌, ◌<◌, List, [], ◌∷◌, ◌++◌, length, Option, Some, None, Bool, true, false, refl, sym, ap, ◌∙◌, subst, arith, inl, inr, IsTrue, All, Contains}
 use Rattle.std.specs.Prelude.{◌↔◌, slice_get}
-use Rattle.std.proofs.lemmas.Bool.{cases_order, false≢true}
-use Rattle.std.proofs.lemmas.List.{take_all, drop_all}
-use Rattle.std.proofs.lemmas.Option.{same_Some}
-use Rattle.sgt_names.proofs.Places.{slice_get-take, slice_get-take_at}
-use Rattle.sgt_names.specs.Name.{Name}
-use Rattle.sgt_names.specs.Entry.{tx_of, Clash}
-use Rattle.sgt_names.specs.Log.{Conflicts}
-use Rattle.sgt_names.specs.declared.entry.Entry.{Entry}
-use Rattle.sgt_names.specs.declared.entry.Kind.{Kind}
-use Rattle.sgt_names.proofs.Lists.{Any_at, Any-from_at, drop_next, element_at}
+use Rattle.std.proofs.lemmas.Bool.{false≢true}
+use Rattle.std.proofs.lemmas.Option.{same_Some, none-some}
+use Rattle.sgt_names.proofs.Places.{All-from_at, All_at, Contains-from_at}
+use Rattle.sgt_names.proofs.Lists.{All_in, front_at, middle_at, within_at}
+use Rattle.sgt_notation.specs.declared.SectionLine.{SectionLine}
+use Rattle.sgt_notation.specs.declared.SectionLine.TheVariants.{End}
+use Rattle.sgt_cert.specs.Text.{IsCertificate}
 use Rattle.sgt_cert.specs.Valid.{IsLogged, AreLogged}
 use Rattle.sgt_cert.specs.declared.bundle.SiteLog.{SiteLog}
+use Rattle.sgt_cert.specs.declared.certificate.Certificate.{Certificate}
+use Rattle.sgt_cert.specs.declared.certificate.Decision.{Decision}
+use Rattle.sgt_cert.specs.declared.certificate.Decision.TheVariants.{Refuse}
 use Rattle.sgt_cert.specs.declared.certificate.Step.{Step}
+use Rattle.sgt_decided.specs.Steps.{AreStepsAt, AreStepsOf, edges_from, edges_in}
+use Rattle.sgt_decided.specs.declared.steps.Edge.{Edge}
+use Rattle.sgt_decided.proofs.Grouping.{cons-cases, cons-first, cons-rest, edge-found, edge-there, certificate-within}
+use Rattle.sgt_cells.proofs.Doing.{get_cases}
+use Rattle.sgt_cells.specs.Tracks.{TracksOpen}
+use Rattle.sgt_cells.specs.declared.state.SiteState.{SiteState}
+use Rattle.sgt_audit.specs.declared.walks.Walks.{Walks}
+use Rattle.sgt_audit.specs.Kept.{IsMet, AreMet, MeansMet, TracksCurrent, Tracks}
+use Rattle.sgt_audit.specs.Reading.{Begun}
+use Rattle.sgt_audit.specs.private.Following.{MayFollow, with_next}
+use Rattle.sgt_audit.proofs.Adding.{same_whole}
 
--- the entry is of b, and one of these of a clashes with it
-abbrev pub Meets : List Entry → Kind → Name → (a b : ℕ) → Entry → Type 0
-Meets earlier kind x a b f = (tx_of f ≡ b) × Any (λ e. (tx_of e ≡ a) × Clash kind x e f) earlier
+-- ---- one more log is whole
 
-module _ (entries : List Entry) (kind : Kind) (x : Name) (a b : ℕ) (n : ℕ) (f : Entry) (at : slice_get entries n ≡ Some f) where
-  pub met : a ≢ b → Meets (take n entries) kind x a b f → Conflicts entries kind x a b
-  met apart (to, found) =
-      let first = Any_at (λ e. (tx_of e ≡ a) × Clash kind x e f) (take n entries) found in
-      let place = slice_get-take entries n first.0 first.1 first.2 in
-      record { p = first.0; q = n; e = first.1; f = f; before = place.0; first = place.1; second = at; from = first.3.0; to = to; apart = apart; clash = first.3.1 }
+module _ (ds : List Decision) (whole : List SiteLog) (log : SiteLog) (here : List Edge) (are : AreStepsAt ds (length whole) here) where
+  abbrev Holds : List SiteLog → Edge → Type 0
+  Holds logs e = (log : SiteLog) → slice_get logs e.step.label.site ≡ Some log → IsMet log.entries e
 
-  pub met-next : (Meets (take n entries) kind x a b f → ⊥) → (Conflicts (take n entries) kind x a b → ⊥) → Conflicts (take (n + 1) entries) kind x a b → ⊥
-  met-next miss none c =
-      let first = slice_get-take entries (n + 1) c.p c.e c.first in
-      let second = slice_get-take entries (n + 1) c.q c.f c.second in
-      let before = c.before in
-      elim (cases_order c.q n) [
-        | inl here ↦
-            let same = same_Some c.f f (sym second.1 ∙ ap (slice_get entries) here ∙ at) in
-            let lt : c.p < n = omega (arith, before) in
-            miss (subst (λ g. tx_of g ≡ b) same c.to, Any-from_at (λ e. (tx_of e ≡ a) × Clash kind x e f) (take n entries) c.p c.e (slice_get-take_at entries n c.p c.e lt first.1) (c.from, subst (Clash kind x c.e) same c.clash))
-        | inr (inl less) ↦
-            let lt : c.p < n = omega (arith, before) in
-            none (record {
-              p = c.p;
-              q = c.q;
-              e = c.e;
-              f = c.f;
-              before = c.before;
-              first = slice_get-take_at entries n c.p c.e lt first.1;
-              second = slice_get-take_at entries n c.q c.f less second.1;
-              from = c.from;
-              to = c.to;
-              apart = c.apart;
-              clash = c.clash;
-            })
-        | inr (inr more) ↦ let lt = second.0 in absurd (omega arith)
-      ]
+  met-more : AreMet (edges_in ds) whole → All (IsMet log.entries) here → AreMet (edges_in ds) (whole ++ log ∷ [])
+  met-more before now = All-from_at (Holds (whole ++ log ∷ [])) (edges_in ds) (λ n e at l found.
+      let has = Contains-from_at (edges_in ds) n e at in
+      elim (get_cases whole log e.step.label.site l found) [
+        | inl old ↦ All_at (Holds whole) (edges_in ds) n e before at l old
+        | inr new ↦ subst (λ (g : SiteLog). IsMet g.entries e) new.1 (All_in (IsMet log.entries) here e now ((are e).1 (has, new.0)))
+      ])
 
-pub none-met : (entries : List Entry) (kind : Kind) (x : Name) (a b n : ℕ) → length entries ≤ n → (Conflicts (take n entries) kind x a b → ⊥) → IsTrue false ↔ Conflicts entries kind x a b
-none-met entries kind x a b n le none = (λ e. absurd (false≢true e), λ c. absurd (none (subst (λ es. Conflicts es kind x a b) (sym (take_all n entries le)) c)))
+  met-front : AreMet (edges_in ds) (whole ++ log ∷ []) → AreMet (edges_in ds) whole
+  met-front all = All-from_at (Holds whole) (edges_in ds) (λ n e at l found. All_at (Holds (whole ++ log ∷ [])) (edges_in ds) n e all at l (front_at whole (log ∷ []) e.step.label.site l found))
 
--- ---- the steps of a walk, one by one
+  met-here : AreMet (edges_in ds) (whole ++ log ∷ []) → All (IsMet log.entries) here
+  met-here all = All-from_at (IsMet log.entries) here (λ n e at.
+      let both = (are e).0 (Contains-from_at here n e at) in
+      All_in (Holds (whole ++ log ∷ [])) (edges_in ds) e all both.0 log (ap (slice_get (whole ++ log ∷ [])) both.1 ∙ middle_at whole log []))
 
-module _ (sites : List SiteLog) (from at : ℕ) (walk : List Step) (n : ℕ) (before : AreLogged sites at (drop n walk) ↔ AreLogged sites from walk) where
-  module _ (step : Step) (lt : n < length walk) (is : step ≡ get_or walk n step) where
-    opened : AreLogged sites at (drop n walk) → IsLogged sites at step × AreLogged sites step.to (drop (n + 1) walk)
-    opened h = subst (AreLogged sites at) (drop_next walk n step (element_at walk n step lt is)) h
+pub none-met : (ds : List Decision) (w : Walks) → AreStepsOf ds w.steps → w.met ≡ true → MeansMet ds [] w
+none-met ds w steps met = record {
+  steps = steps;
+  met = (λ h. All-from_at (λ (e : Edge). (log : SiteLog) → slice_get [] e.step.label.site ≡ Some log → IsMet log.entries e) (edges_in ds) (λ n e at log found. absurd (none-some log found)), λ h. met);
+}
 
-    pub step-fails : (IsLogged sites at step → ⊥) → IsTrue false ↔ AreLogged sites from walk
-    step-fails miss = (λ e. absurd (false≢true e), λ h. absurd (miss (opened (before.1 h)).0))
+-- ---- one more line
 
-    pub step-holds : IsLogged sites at step → AreLogged sites step.to (drop (n + 1) walk) ↔ AreLogged sites from walk
-    step-holds hit = (λ h. before.0 (subst (AreLogged sites at) (sym (drop_next walk n step (element_at walk n step lt is))) (hit, h)), λ h. (opened (before.1 h)).1)
+-- no log more is whole
+pub met-left : (ds : List Decision) (b : Begun) (o : Option SiteLog) (line : SectionLine) (w : Walks) → (line ≡ End → ⊥) → MeansMet ds b.whole w → MeansMet ds (with_next b o line).whole w
+met-left ds b None line w goes is = is
+met-left ds b (Some log) line w goes is = subst (λ ls. MeansMet ds ls w) (sym (same_whole b.whole log line goes)) is
 
-  pub steps-end : length walk ≤ n → IsTrue true ↔ AreLogged sites from walk
-  steps-end le = (λ _. before.0 (subst (AreLogged sites at) (sym (drop_all n walk le)) tt), λ _. refl)
+-- the open log is whole with the end of its section
+module _ (ds : List Decision) (b : Begun) (s : SiteState) (old new : Walks) (here : List Edge) (are : (site : ℕ) → s.section - 1 ≡ site → AreStepsAt ds site here) (same : new.steps ≡ old.steps) (is : MeansMet ds b.whole old) where
+  section-at : (log : SiteLog) → TracksCurrent ds (length b.whole) (Some log) s → AreStepsAt ds (length b.whole) here
+  section-at log t = let n = t.0 in are (length b.whole) (omega arith)
+
+  steps-same : AreStepsOf ds new.steps
+  steps-same = subst (AreStepsOf ds) (sym same) is.steps
+
+  pub met-ended : (o : Option SiteLog) → MayFollow b o End → TracksCurrent ds (length b.whole) o s → new.met ≡ old.met → ((log : SiteLog) → TracksOpen ds log.items log.entries s → All (IsMet log.entries) here) → MeansMet ds (with_next b o End).whole new
+  met-ended None fits t met all = absurd fits
+  met-ended (Some log) fits t met all =
+      let at = section-at log t in
+      record {
+        steps = steps-same;
+        met = (
+          λ h. met-more ds b.whole log here at (is.met.0 (sym met ∙ h)) (all log t.1),
+          λ m. met ∙ is.met.1 (met-front ds b.whole log here at m),
+        );
+      }
+
+  pub met-missed : (o : Option SiteLog) → MayFollow b o End → TracksCurrent ds (length b.whole) o s → new.met ≡ false → ((log : SiteLog) → TracksOpen ds log.items log.entries s → All (IsMet log.entries) here → ⊥) → MeansMet ds (with_next b o End).whole new
+  met-missed None fits t met miss = absurd fits
+  met-missed (Some log) fits t met miss =
+      let at = section-at log t in
+      record {
+        steps = steps-same;
+        met = (λ h. absurd (false≢true (sym met ∙ h)), λ m. absurd (miss log t.1 (met-here ds b.whole log here at m)));
+      }
+
+-- ---- all logs are whole
+
+abbrev IsThere : List SiteLog → Edge → Type 0
+IsThere logs e = (log : SiteLog) × (slice_get logs e.step.label.site ≡ Some log) × IsMet log.entries e
+
+walk-logged : (logs : List SiteLog) (a : ℕ) (walk : List Step) → ((e : Edge) → Contains (edges_from a walk) e → IsThere logs e) → AreLogged logs a walk
+walk-logged logs a [] all = tt
+walk-logged logs a (s ∷ walk) all = (
+  all (record { from = a; step = s }) (cons-first (record { from = a; step = s }) (edges_from s.to walk)),
+  walk-logged logs s.to walk (λ e has. all e (cons-rest (record { from = a; step = s }) (edges_from s.to walk) e has)),
+)
+
+logged-there : (logs : List SiteLog) (a : ℕ) (walk : List Step) → AreLogged logs a walk → (e : Edge) → Contains (edges_from a walk) e → IsThere logs e
+logged-there logs a [] logged e has = absurd (omega (arith, has.1))
+logged-there logs a (s ∷ walk) logged e has =
+    elim (cons-cases (record { from = a; step = s }) (edges_from s.to walk) e has) [
+      | inl same ↦ subst (IsThere logs) same logged.0
+      | inr rest ↦ logged-there logs s.to walk logged.1 e rest
+    ]
+
+pub walks-decide : (c : Certificate) (logs : List SiteLog) (w : Walks) → IsCertificate c → length logs ≡ c.sites → MeansMet c.decisions logs w
+    → IsTrue w.met ↔ ((tx : ℕ) (walk : List Step) → Contains c.decisions (Refuse tx walk) → AreLogged logs tx walk)
+walks-decide c logs w spelled each is = (
+  λ h tx walk here. walk-logged logs tx walk (λ e has.
+      let there = edge-there c.decisions tx walk e here has in
+      let within = All_in (λ (f : Edge). f.step.label.site < c.sites) (edges_in c.decisions) e (certificate-within c spelled) there in
+      let log = within_at logs e.step.label.site (omega arith) in
+      (log.0, log.1, All_in (λ (f : Edge). (l : SiteLog) → slice_get logs f.step.label.site ≡ Some l → IsMet l.entries f) (edges_in c.decisions) e (is.met.0 h) there log.0 log.1)),
+  λ walks. is.met.1 (All-from_at (λ (f : Edge). (l : SiteLog) → slice_get logs f.step.label.site ≡ Some l → IsMet l.entries f) (edges_in c.decisions) (λ n e at log found.
+      let by = edge-found c.decisions e (Contains-from_at (edges_in c.decisions) n e at) in
+      let there = logged-there logs by.0 by.1 (walks by.0 by.1 by.2) e by.3 in
+      subst (λ (l : SiteLog). IsMet l.entries e) (same_Some there.0 log (sym there.1 ∙ found)) there.2)),
+)

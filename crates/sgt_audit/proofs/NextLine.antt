@@ -71,13 +71,6 @@ line-breaks second c b before line l f m open_yet is same breaks s stage =
     subst (λ t. Breaks (Rule t (whole l)) f) (sym (stage-within second c b before s m open_yet stage))
     (subst (λ m. Breaks (Rule (within second c before) (whole m)) f) (sym same) (within-breaks second c before line is f (subst (λ ls. Breaks (Keeps c ls line) f) (sym m.lines) breaks)))
 
--- each walk of these decisions is logged
-abbrev pub WalksOf : List Decision → List SiteLog → Type 0
-WalksOf ds logs = (tx : ℕ) (walk : List Step) → Contains ds (Refuse tx walk) → AreLogged logs tx walk
-
-pub walks-at : (ds es : List Decision) (xs ys : List SiteLog) → ds ≡ es → xs ≡ ys → WalksOf ds xs → WalksOf es ys
-walks-at ds es xs ys i j walks = subst (WalksOf es) j (subst (λ d. WalksOf d xs) i walks)
-
 -- ---- the line is added
 
 module _ (second : Bool) (c : Certificate) (b new : Begun) (before : List SectionLine) (line : SectionLine) (m : Means second c b before) (sites : new.sites ≡ b.sites) (lines : lines_read new ≡ lines_read b ++ line ∷ []) where

@@ -11,11 +11,11 @@ use Rattle.sgt_notation.proofs.Short.{line-short}
 use Rattle.sgt_cert.specs.Text.{certificate_text, format_line, IsCertificate, AreSections}
 use Rattle.sgt_cert.specs.declared.certificate.Certificate.{Certificate}
 use Rattle.sgt_cert.proofs.Reading.{certificate-one}
-use Rattle.sgt_cells.specs.declared.state.SiteState.{SiteState}
 use Rattle.sgt_audit.specs.declared.faults.Fault.{Fault}
 use Rattle.sgt_audit.specs.declared.faults.Fault.TheVariants as fault
 use Rattle.sgt_audit.specs.declared.kept.Kept.{Kept}
 use Rattle.sgt_audit.specs.declared.machine.Progress.TheVariants as at
+use Rattle.sgt_audit.specs.declared.tracked.Tracked.{Tracked}
 use Rattle.sgt_audit.specs.Faults.{fault_number, Keeps, KeepsItself, Stage, headed, within, complete, lines_so_far, Piece, whole, last, Rule, Breaks}
 use Rattle.sgt_audit.specs.Reading.{Begun, IsBegun, lines_read}
 use Rattle.sgt_audit.specs.Kept.{Means, Holds, IsStageOf}
@@ -55,16 +55,16 @@ stage-lines second c before s (inl here) = ap lines_so_far here.0
 stage-lines second c before s (inr done) = ap lines_so_far done.0
 
 -- a line behind the certificate
-pub reading-follows : (second other : Bool) (c d : Certificate) (old new : Begun) (kept state : SiteState) (l : List ℕ) (answer : Option Fault) → other ≡ second → d ≡ c → ((before : List SectionLine) → Holds second c old kept before → AnswersLine second c new state before l answer)
-    → (s : Stage) → Stands (at.Reading (record { second = second; certificate = c; sections = old; state = kept })) s → Follows s l (at.Reading (record { second = other; certificate = d; sections = new; state = state })) answer
-reading-follows second other c d old new kept state l None format same answers s (before, m, stage) =
+pub reading-follows : (second other : Bool) (c d : Certificate) (old new : Begun) (kept tracked : Tracked) (l : List ℕ) (answer : Option Fault) → other ≡ second → d ≡ c → ((before : List SectionLine) → Holds second c old kept before → AnswersLine second c new tracked before l answer)
+    → (s : Stage) → Stands (at.Reading (record { second = second; certificate = c; sections = old; tracked = kept })) s → Follows s l (at.Reading (record { second = other; certificate = d; sections = new; tracked = tracked })) answer
+reading-follows second other c d old new kept tracked l None format same answers s (before, m, stage) =
     let next = answers before m in
     let t = stage-of second c new (before ++ next.0 ∷ []) next.2.means in
-    (t.0, subst (λ k. Stands (at.Reading (record { second = other; certificate = k; sections = new; state = state })) t.0) (sym same) (subst (λ f. Stands (at.Reading (record { second = f; certificate = c; sections = new; state = state })) t.0) (sym format) (before ++ next.0 ∷ [], next.2, t.1)), t.2 ∙ one-more second c before next.0 l next.1 ∙ ap (λ (ls : List (List ℕ)). ls ++ l ∷ []) (sym (stage-lines second c before s stage)))
-reading-follows second other c d old new kept state l (Some f) format same answers s (before, m, stage) = answers before m s stage
+    (t.0, subst (λ k. Stands (at.Reading (record { second = other; certificate = k; sections = new; tracked = tracked })) t.0) (sym same) (subst (λ f. Stands (at.Reading (record { second = f; certificate = c; sections = new; tracked = tracked })) t.0) (sym format) (before ++ next.0 ∷ [], next.2, t.1)), t.2 ∙ one-more second c before next.0 l next.1 ∙ ap (λ (ls : List (List ℕ)). ls ++ l ∷ []) (sym (stage-lines second c before s stage)))
+reading-follows second other c d old new kept tracked l (Some f) format same answers s (before, m, stage) = answers before m s stage
 
 -- the certificate's line
-pub headed-follows : (second : Bool) (k : Kept) (l : List ℕ) → k.second ≡ second → l ≡ certificate_text k.certificate → Holds k.second k.certificate k.sections k.state [] → (s : Stage) → s ≡ headed second → Follows s l (at.Reading k) None
+pub headed-follows : (second : Bool) (k : Kept) (l : List ℕ) → k.second ≡ second → l ≡ certificate_text k.certificate → Holds k.second k.certificate k.sections k.tracked [] → (s : Stage) → s ≡ headed second → Follows s l (at.Reading k) None
 headed-follows second k l format same m s here =
     let t = stage-of k.second k.certificate k.sections [] m.means in
     (t.0, ([], m, t.1), t.2 ∙ ap₂ (λ f x. format_line f ∷ x ∷ []) format (sym same) ∙ ap (λ s. lines_so_far s ++ l ∷ []) (sym here))

@@ -1,13 +1,19 @@
 -- What is kept of a text: the lines read so far, which have no fault.
 -- (Of public clauses those alone use these words that say what an auditor was fed.)
-use Rattle.std.specs.Prelude.{◌≡◌, ◌⊎◌, ℕ, ◌+◌, Bool, List, length, Option, Some, None}
+use Rattle.std.specs.Prelude.{◌≡◌, ◌↔◌, ◌⊎◌, ℕ, ◌+◌, Bool, IsTrue, List, length, All, Option, Some, None, slice_get}
+use Rattle.sgt_names.specs.Log.{Conflicts}
+use Rattle.sgt_names.specs.declared.entry.Entry.{Entry}
 use Rattle.sgt_notation.specs.declared.SectionLine.{SectionLine}
 use Rattle.sgt_cert.specs.Text.{AreSections}
 use Rattle.sgt_cert.specs.declared.certificate.Certificate.{Certificate}
 use Rattle.sgt_cert.specs.declared.bundle.SiteLog.{SiteLog}
 use Rattle.sgt_cert.specs.declared.certificate.Decision.{Decision}
+use Rattle.sgt_decided.specs.Steps.{AreStepsOf, edges_in}
+use Rattle.sgt_decided.specs.declared.steps.Edge.{Edge}
 use Rattle.sgt_cells.specs.Tracks.{TracksOpen, IsReadyFor}
 use Rattle.sgt_cells.specs.declared.state.SiteState.{SiteState}
+use Rattle.sgt_audit.specs.declared.tracked.Tracked.{Tracked}
+use Rattle.sgt_audit.specs.declared.walks.Walks.{Walks}
 use Rattle.sgt_audit.specs.Faults.{AllKept, Stage, within, complete}
 use Rattle.sgt_audit.specs.Reading.{Begun, IsBegun, lines_read}
 
@@ -31,7 +37,25 @@ TracksCurrent decisions whole (Some log) s = (s.section ≡ whole + 1) × Tracks
 abbrev pub Tracks : List Decision → Begun → SiteState → Type 0
 Tracks decisions b s = TracksCurrent decisions (length b.whole) b.current s
 
+-- the step of a walk is a conflict among these entries
+abbrev pub IsMet : List Entry → Edge → Type 0
+IsMet entries e = Conflicts entries e.step.label.kind e.step.label.item e.from e.step.to
+
+-- each step at a site whose log is whole is a conflict there
+abbrev pub AreMet : List Edge → List SiteLog → Type 0
+AreMet edges whole = All (λ e. (log : SiteLog) → slice_get whole e.step.label.site ≡ Some log → IsMet log.entries e) edges
+
+-- what is kept of the walks, where these logs are whole
+pub record MeansMet (decisions : List Decision) (whole : List SiteLog) (w : Walks) : Type 0 where
+  pub steps : AreStepsOf decisions w.steps
+  pub met : IsTrue w.met ↔ AreMet (edges_in decisions) whole
+
+-- what is kept of the sites and of the walks
+pub record IsTracked (decisions : List Decision) (b : Begun) (t : Tracked) : Type 0 where
+  pub open_site : Tracks decisions b t.state
+  pub walks : MeansMet decisions b.whole t.walks
+
 -- all that is kept is what these lines say, none of which has a fault
-pub record Holds (second : Bool) (c : Certificate) (b : Begun) (s : SiteState) (before : List SectionLine) : Type 0 where
+pub record Holds (second : Bool) (c : Certificate) (b : Begun) (t : Tracked) (before : List SectionLine) : Type 0 where
   pub means : Means second c b before
-  pub tracks : Tracks c.decisions b s
+  pub tracks : IsTracked c.decisions b t

@@ -11,5 +11,5 @@ use Rattle.sgt_audit.specs.Kept.{Holds, IsStageOf}
 abbrev pub Stands : Progress → Stage → Type 0
 Stands at.Start s = s ≡ start
 Stands (at.Headed second) s = s ≡ headed second
-Stands (at.Reading k) s = (before : List SectionLine) × Holds k.second k.certificate k.sections k.state before
+Stands (at.Reading k) s = (before : List SectionLine) × Holds k.second k.certificate k.sections k.tracked before
     × IsStageOf k.second k.certificate before s

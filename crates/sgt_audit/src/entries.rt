@@ -1,9 +1,9 @@
 //! What entries do, and how one bears on another.
 
 ghost use Rattle.std.specs.Prelude.{◌≡◌, ◌↔◌, IsTrue};
-ghost use Rattle.sgt_names.specs.Entry.{GoesOn, GoesOnAsking, IsOpen, Continues, Clash};
+ghost use Rattle.sgt_names.specs.Entry.{GoesOn, GoesOnAsking, IsOpen, Continues};
 
-use sgt_names::{Entry, Item, Kind, Tx};
+use sgt_names::{Entry, Tx};
 
 /// Whether it changes an item or asks to, so that another entry of its block has to follow directly.
 pub(crate) fn is_open(entry: &Entry) -> bool
@@ -45,20 +45,5 @@ pub(crate) fn continues(first: &Entry, second: &Entry) -> bool
         Entry::Write { tx, .. } | Entry::Add { tx, .. } => goes_on(tx, second),
         Entry::Want { tx, .. } | Entry::WantAdd { tx, .. } => goes_on_asking(tx, second),
         _ => false,
-    }
-}
-
-/// Whether the two are operations on the item that clash as this kind.
-pub(crate) fn clashes(kind: Kind, item: &Item, first: &Entry, second: &Entry) -> bool
-    ensures { IsTrue result ↔ Clash kind item.now first.now second.now }
-{
-    match kind {
-        Kind::Wr => first.writes(item) && second.reads(item),
-        Kind::Rw => first.reads(item) && second.writes(item),
-        Kind::Ww => {
-            first.writes(item)
-                && second.writes(item)
-                && !(first.is_increment() && second.is_increment())
-        }
     }
 }

@@ -8,10 +8,7 @@ use crate::faults::Fault;
 use crate::format::read_line;
 use crate::judging::judge_line;
 use crate::sections::Sections;
-use crate::tracked::enter_line;
-use crate::walks::have_logged_walks;
-use sgt_cells::SiteState;
-use sgt_cert::SiteLog;
+use crate::tracked::Tracked;
 use sgt_decided::Decided;
 use sgt_notation::SectionLine;
 use std::alloc::AllocError;
@@ -23,8 +20,8 @@ pub struct Kept {
     pub second: bool,
     pub certificate: Decided,
     pub sections: Sections,
-    /// What is kept of the open section, by which a line is judged.
-    pub state: SiteState,
+    /// What is kept of these sections, by which a line is judged.
+    pub tracked: Tracked,
 }
 
 impl Kept {
@@ -46,8 +43,8 @@ impl Kept {
     pub(crate) fn next(&mut self, line: &[u8]) -> Result<Option<Fault>, AllocError>
         ensures second { self.new.second ≡ self.old.second }
         ensures certificate { self.new.certificate ≡ self.old.certificate }
-        ensures answers { (before : List SectionLine) → Holds self.old.second self.old.certificate self.old.sections self.old.state before
-            → IfOk result (AnswersLine self.old.second self.old.certificate self.new.sections self.new.state before line.now) }
+        ensures answers { (before : List SectionLine) → Holds self.old.second self.old.certificate self.old.sections self.old.tracked before
+            → IfOk result (AnswersLine self.old.second self.old.certificate self.new.sections self.new.tracked before line.now) }
     {
         if self.sections.are_all() {
             return Ok(Some(Fault::Trailing));
@@ -55,14 +52,17 @@ impl Kept {
         let Some(read) = read_line(self.second, line) else {
             return Ok(Some(Fault::Notation));
         };
-        if let Some(fault) = judge_line(&self.certificate, &self.state, &self.sections, &read) {
+        if let Some(fault) = judge_line(
+            &self.certificate,
+            &self.tracked.state,
+            &self.sections,
+            &read,
+        ) {
             return Ok(Some(fault));
         }
-        enter_line(&mut self.state, &self.certificate, &read)?;
+        self.tracked.enter(&self.certificate, &read)?;
         self.sections.add(read)?;
-        if self.sections.are_all()
-            && !have_logged_walks(self.certificate.decisions(), self.sections.whole())
-        {
+        if self.sections.are_all() && !self.tracked.walks.are_logged() {
             return Ok(Some(Fault::WalkStep));
         }
         Ok(None)

@@ -7,7 +7,7 @@ use crate::format::read_format;
 use crate::judging::judge_certificate;
 use crate::kept::Kept;
 use crate::sections::Sections;
-use sgt_cells::SiteState;
+use crate::tracked::Tracked;
 use sgt_cert::{CertFault, from_line};
 use sgt_names::EngineFail;
 use sgt_notation::MAX_LINE;
@@ -70,7 +70,7 @@ impl Machine {
         let sites = certificate.sites;
         match judge_certificate(alloc, certificate) {
             Ok(Ok(certificate)) => {
-                let Ok(state) = SiteState::new(alloc, certificate.decisions().len()) else {
+                let Ok(tracked) = Tracked::new(alloc, &certificate) else {
                     return Err(EngineFail::Memory);
                 };
                 let sections = Sections::new(alloc, sites);
@@ -78,7 +78,7 @@ impl Machine {
                     second,
                     certificate,
                     sections,
-                    state,
+                    tracked,
                 }))
             }
             Ok(Err(fault)) => Ok(Err(fault)),

@@ -171,13 +171,6 @@ impl Sections {
         self.current.as_ref()
     }
 
-    /// The logs that are whole.
-    pub(crate) fn whole(&self) -> &[SiteLog]
-        ensures { result.now ≡ self.now.whole }
-    {
-        self.whole.as_slice()
-    }
-
     /// Whether these are all sections, and none is open.
     pub(crate) fn are_all(&self) -> bool
         ensures all { IsTrue result ↔ AreSections self.now.sites (lines_read self.now) }

@@ -1,6 +1,6 @@
 //! The rules of a line, by what is kept of the open section.
 
-ghost use Rattle.std.specs.Prelude.{◌≡◌, ◌≢◌, ◌↔◌, ◌∷◌, ◌++◌, [], ℕ, List, IsTrue, OnOk, All, AllPairs, Contains, Some};
+ghost use Rattle.std.specs.Prelude.{◌≡◌, ◌≢◌, ◌↔◌, ◌∷◌, ◌++◌, [], ℕ, List, IsTrue, IfOk, OnOk, None, All, AllPairs, Contains, Some};
 ghost use Rattle.std.specs.Option.{ForSome};
 ghost use Rattle.sgt_names.specs.Name.{Name};
 ghost use Rattle.sgt_names.specs.Entry.{tx_of, item_of, IsEnd, Repeats};
@@ -11,16 +11,25 @@ ghost use Rattle.sgt_cert.specs.Certificate.{IsDecidedOnce, AreRanks, ranks};
 ghost use Rattle.sgt_cert.specs.Valid.{IsDecided, EndInOrder, RiseInRank};
 ghost use Rattle.sgt_cert.specs.declared.certificate.Decision.{Decision};
 ghost use Rattle.sgt_cells.specs.Tracks.{TracksOpen};
-ghost use Rattle.sgt_audit.specs.Kept.{Tracks};
+ghost use Rattle.sgt_cert.specs.Text.{IsCertificate};
+ghost use Rattle.sgt_audit.specs.Kept.{Tracks, IsTracked};
 ghost use Rattle.sgt_audit.specs.Reading.{Begun, IsBegun};
 ghost use Rattle.sgt_audit.specs.private.Following.{MayFollow, with_next};
 ghost use Rattle.sgt_audit.specs.private.Judging.{IsLegalRead, AdmitsLine};
 
+use crate::walks::Walks;
 use sgt_cells::SiteState;
 use sgt_decided::Decided;
 use sgt_names::{Entry, Holding};
 use sgt_notation::SectionLine;
-use std::alloc::AllocError;
+use std::alloc::{AllocError, Global};
+
+/// What is kept of the lines of the sections, by which a line is judged: of the open site, and of the walks.
+#[derive(Drop)]
+pub struct Tracked {
+    pub state: SiteState,
+    pub walks: Walks,
+}
 
 /// Whether the entry's item is listed. An end has none.
 pub(crate) fn is_listed(state: &SiteState, entry: &Entry) -> bool
@@ -126,7 +135,7 @@ fn enter(state: &mut SiteState, certificate: &Decided, entry: &Entry) -> Result<
 }
 
 /// One more line, which has no fault but perhaps one of a walk.
-pub(crate) fn enter_line(
+fn enter_line(
     state: &mut SiteState,
     certificate: &Decided,
     line: &SectionLine,
@@ -144,5 +153,32 @@ pub(crate) fn enter_line(
         SectionLine::Logged(entry) => enter(state, certificate, entry),
         SectionLine::Final(_) => Ok(()),
         SectionLine::End => Ok(()),
+    }
+}
+
+impl Tracked {
+    /// Before the first section.
+    pub(crate) fn new(alloc: Global, certificate: &Decided) -> Result<Tracked, AllocError>
+        ensures { IfOk result (λ t. (b : Begun) → IsCertificate certificate.now
+            → b ≡ record { sites = certificate.now.sites; whole = []; current = None } → IsTracked certificate.now.decisions b t) }
+    {
+        let state = SiteState::new(alloc, certificate.decisions().len())?;
+        let walks = Walks::new(certificate.steps(alloc)?);
+        Ok(Tracked { state, walks })
+    }
+
+    /// One more line, which has no fault but perhaps one of a walk.
+    pub(crate) fn enter(
+        &mut self,
+        certificate: &Decided,
+        line: &SectionLine,
+    ) -> Result<(), AllocError>
+        ensures { OnOk result ((b : Begun) → IsDecidedOnce certificate.now.decisions → IsBegun b
+            → MayFollow b b.current line.now → AdmitsLine certificate.now.decisions b.current line.now
+            → IsTracked certificate.now.decisions b self.old
+            → IsTracked certificate.now.decisions (with_next b b.current line.now) self.new) }
+    {
+        self.walks.pass(certificate, &self.state, line);
+        enter_line(&mut self.state, certificate, line)
     }
 }

@@ -1,93 +1,89 @@
 //! The walks of refused transactions, against the logs.
 
-ghost use Rattle.std.specs.Prelude.{◌≡◌, ◌↔◌, ℕ, List, IsTrue, Any, Contains};
-ghost use Rattle.sgt_names.specs.Entry.{tx_of, Clash};
-ghost use Rattle.sgt_names.specs.Log.{Conflicts};
-ghost use Rattle.sgt_cert.specs.Valid.{IsLogged, AreLogged};
+ghost use Rattle.std.specs.Prelude.{◌≡◌, ◌↔◌, ℕ, [], List, length, IsTrue, All, Contains};
+ghost use Rattle.sgt_names.specs.declared.entry.Entry.{Entry};
+ghost use Rattle.sgt_names.specs.declared.entry.Holding.{Holding};
+ghost use Rattle.sgt_cert.specs.Text.{IsCertificate};
+ghost use Rattle.sgt_cert.specs.Valid.{AreLogged};
+ghost use Rattle.sgt_cert.specs.declared.bundle.SiteLog.{SiteLog};
+ghost use Rattle.sgt_cert.specs.declared.certificate.Certificate.{Certificate};
+ghost use Rattle.sgt_cert.specs.declared.certificate.Decision.{Decision};
 ghost use Rattle.sgt_cert.specs.declared.certificate.Decision.TheVariants.{Refuse};
 ghost use Rattle.sgt_cert.specs.declared.certificate.Step.{Step};
+ghost use Rattle.sgt_decided.specs.Steps.{AreStepsOf};
+ghost use Rattle.sgt_cells.specs.Tracks.{TracksOpen};
+ghost use Rattle.sgt_audit.specs.Kept.{IsMet, MeansMet, Tracks};
+ghost use Rattle.sgt_audit.specs.Reading.{Begun};
+ghost use Rattle.sgt_audit.specs.private.Following.{MayFollow, with_next};
 
-use crate::entries::clashes;
-use sgt_cert::{Decision, SiteLog, Step};
-use sgt_names::{Entry, Item, Kind, Tx};
+use sgt_cells::SiteState;
+use sgt_decided::{Decided, Edge, Steps};
+use sgt_notation::SectionLine;
 
-/// Whether one of the entries is of the transaction and clashes with the later one.
-fn is_met(entries: &[Entry], kind: Kind, item: &Item, from: Tx, later: &Entry) -> bool
-    ensures { IsTrue result ↔ Any (λ e. (tx_of e ≡ from) × Clash kind item.now e later.now) entries.now }
-{
-    entries.iter().any(|entry| entry.tx() == from && clashes(kind, item, entry, later))
+/// The steps of all walks, and whether each at a site whose log is whole is a conflict there.
+#[derive(Drop)]
+pub struct Walks {
+    pub steps: Steps,
+    pub met: bool,
 }
 
-/// Whether the entry is of the one transaction, and an entry before it is of the other and clashes with it.
-fn meets(earlier: &[Entry], kind: Kind, item: &Item, from: Tx, to: Tx, entry: &Entry) -> bool
-    ensures { IsTrue result ↔ ((tx_of entry.now ≡ to) × Any (λ e. (tx_of e ≡ from) × Clash kind item.now e entry.now) earlier.now) }
+/// Whether the step is a conflict in the open log.
+fn is_met(certificate: &Decided, state: &SiteState, edge: &Edge) -> bool
+    ensures { (items : List Holding) (entries : List Entry) → TracksOpen certificate.now.decisions items entries state.now
+        → (IsTrue result ↔ IsMet entries edge.now) }
 {
-    entry.tx() == to && is_met(earlier, kind, item, from, entry)
-}
-
-/// Whether an entry of the one transaction precedes and conflicts with one of the other.
-fn have_conflict(entries: &[Entry], kind: Kind, item: &Item, from: Tx, to: Tx) -> bool
-    ensures { IsTrue result ↔ Conflicts entries.now kind item.now from to }
-{
+    let from = edge.from;
+    let to = edge.step.to;
     if from == to {
         return false;
     }
-    for (n, entry) in entries.iter().enumerate() {
-        if meets(&entries[..n], kind, item, from, to, entry) {
-            return true;
-        }
-    }
-    false
+    let label = edge.step.label;
+    let first = certificate.number_of(from);
+    let second = certificate.number_of(to);
+    state.have_conflict(label.kind, &label.item, first, second)
 }
 
-/// Whether the step is a conflict in the log of its site.
-fn is_logged(sites: &[SiteLog], from: Tx, step: &Step) -> bool
-    ensures { IsTrue result ↔ IsLogged sites.now from step.now }
+/// Whether each of the steps is a conflict in the open log.
+fn are_met(certificate: &Decided, state: &SiteState, edges: &[Edge]) -> bool
+    ensures { (items : List Holding) (entries : List Entry) → TracksOpen certificate.now.decisions items entries state.now
+        → (IsTrue result ↔ All (IsMet entries) edges.now) }
 {
-    match sites.get(step.label.site.number() as usize) {
-        Some(log) => have_conflict(
-            log.entries.as_slice(),
-            step.label.kind,
-            &step.label.item,
-            from,
-            step.to,
-        ),
-        None => false,
-    }
-}
-
-/// Whether each step of the walk is a conflict in the logs.
-fn are_logged(sites: &[SiteLog], from: Tx, walk: &[Step]) -> bool
-    ensures { IsTrue result ↔ AreLogged sites.now from walk.now }
-{
-    let mut at = from;
-    for step in walk {
-        if !is_logged(sites, at, step) {
-            return false;
-        }
-        at = step.to;
-    }
-    true
-}
-
-/// Whether the decision, if it refuses, has a walk of conflicts in the logs.
-fn has_logged_walk(sites: &[SiteLog], decision: &Decision) -> bool
-    ensures { IsTrue result ↔ ((tx : ℕ) (walk : List Step) → decision.now ≡ Refuse tx walk → AreLogged sites.now tx walk) }
-{
-    match decision {
-        Decision::Refuse { tx, walk } => are_logged(sites, *tx, walk.as_slice()),
-        _ => true,
-    }
-}
-
-/// Whether the walk of each refused transaction is one of conflicts in the logs.
-pub(crate) fn have_logged_walks(decisions: &[Decision], sites: &[SiteLog]) -> bool
-    ensures { IsTrue result ↔ ((tx : ℕ) (walk : List Step) → Contains decisions.now (Refuse tx walk) → AreLogged sites.now tx walk) }
-{
-    for decision in decisions {
-        if !has_logged_walk(sites, decision) {
+    for edge in edges {
+        if !is_met(certificate, state, edge) {
             return false;
         }
     }
     true
+}
+
+impl Walks {
+    /// Before the first section.
+    pub(crate) fn new(steps: Steps) -> Walks
+        ensures { (decisions : List Decision) → AreStepsOf decisions steps → MeansMet decisions [] result }
+    {
+        Walks { steps, met: true }
+    }
+
+    /// One more line. The end of a section makes its log whole.
+    pub(crate) fn pass(&mut self, certificate: &Decided, state: &SiteState, line: &SectionLine)
+        ensures { (b : Begun) → MayFollow b b.current line.now → Tracks certificate.now.decisions b state.now
+            → MeansMet certificate.now.decisions b.whole self.old
+            → MeansMet certificate.now.decisions (with_next b b.current line.now).whole self.new }
+    {
+        let SectionLine::End = line else {
+            return;
+        };
+        let edges = self.steps.at(state.section.saturating_sub(1));
+        if !are_met(certificate, state, edges) {
+            self.met = false;
+        }
+    }
+
+    /// Whether the walk of each refused transaction is one of conflicts in the logs, which are those of all sites.
+    pub(crate) fn are_logged(&self) -> bool
+        ensures { (c : Certificate) (logs : List SiteLog) → IsCertificate c → length logs ≡ c.sites → MeansMet c.decisions logs self.now
+            → (IsTrue result ↔ ((tx : ℕ) (walk : List Step) → Contains c.decisions (Refuse tx walk) → AreLogged logs tx walk)) }
+    {
+        self.met
+    }
 }

@@ -1,19 +1,21 @@
 -- What a transaction did, against the rule on pairs of entries, and after one more entry.
-use Rattle.std.proofs.Common.{◌≡◌, ◌≢◌, ℕ, List, [], ◌∷◌, ◌++◌, Option, Some, None, Bool, true, false, cond, IsTrue, refl, sym, ap, ◌∙◌, subst, arith, inl, inr, ◌⊎◌, All, AllPairs, Contains, option_map}
+use Rattle.std.proofs.Common.{◌≡◌, ◌≢◌, ℕ, zero, suc, List, [], ◌∷◌, ◌++◌, length, Option, Some, None, Bool, true, false, cond, IsTrue, refl, sym, ap, ◌∙◌, subst, arith, inl, inr, ◌⊎◌, All, AllPairs, Any, Contains, option_map}
 use Rattle.std.specs.Prelude.{◌↔◌, slice_get, not, ◌&&◌, ◌||◌}
 use Rattle.std.specs.Option.{option_to_list}
-use Rattle.std.proofs.lemmas.Bool.{cases_order, false≢true, true≢false, eq-eqb, ne_eqb}
-use Rattle.std.proofs.lemmas.Option.{same_Some}
+use Rattle.std.proofs.lemmas.Bool.{cases_Bool, cases_order, false≢true, true≢false, eq-eqb, ne_eqb}
+use Rattle.std.proofs.lemmas.Option.{same_Some, none-some}
 use Rattle.std.proofs.lemmas.List.{append-nil}
 use Rattle.std.proofs.lemmas.List.Elements.{Contains-push, Contains-append_left, Contains-push_cases}
 use Rattle.sgt_names.proofs.Places.{All_at, All-from_at, AllPairs_at, Contains_at, Contains-from_at}
+use Rattle.sgt_names.proofs.Lists.{Any_at, Any-from_at, front_at, middle_at}
 use Rattle.sgt_names.specs.Name.{Name}
-use Rattle.sgt_names.specs.Entry.{tx_of, item_of, IsEnd, Reads, Writes, Repeats}
+use Rattle.sgt_names.specs.Entry.{tx_of, item_of, is_increment, IsEnd, Reads, Writes, Repeats}
 use Rattle.sgt_names.specs.declared.entry.Entry.{Entry}
 use Rattle.sgt_names.specs.declared.entry.Entry.TheVariants.{Read, Write, Add, Want, WantAdd, Commit, Refuse, Withdraw}
 use Rattle.sgt_cells.specs.Cells.{IsPlaceOf}
-use Rattle.sgt_cells.specs.Records.{Did, AreActs, IsRecord, IsTouched, act, acts_in, has_ended_in}
-use Rattle.sgt_cells.specs.declared.record.Act.{Act}
+use Rattle.sgt_cells.specs.Records.{Did, IsAct, AreActs, IsRecord, IsTouched, IsOf, act, deed_of, changes, adds, acts_in, has_ended_in}
+use Rattle.sgt_cells.specs.declared.act.Act.{Act}
+use Rattle.sgt_cells.specs.declared.act.Deed.{Deed}
 use Rattle.sgt_cells.specs.declared.record.Record.{Record}
 
 -- ---- the rule
@@ -27,35 +29,87 @@ each-new entries e f all here = let at = Contains_at entries f here in All_at (I
 pub all-new : (entries : List Entry) (e : Entry) → ((f : Entry) → Contains entries f → IsNew e f) → All (IsNew e) entries
 all-new entries e h = All-from_at (IsNew e) entries (λ n f at. h f (Contains-from_at entries n f at))
 
-abbrev made : Bool → ℕ → Act
-made b i = record { place = i; changes = b }
+-- ---- deeds
+
+pub change-written : (e : Entry) (x : Name) → Writes x e → (item_of e ≡ Some x) × (changes (deed_of e) ≡ true)
+change-written (Write t z v) x w = (ap Some w, refl)
+change-written (Add t z v) x w = (ap Some w, refl)
+change-written (Want t z v) x w = (ap Some w, refl)
+change-written (WantAdd t z v) x w = (ap Some w, refl)
+change-written (Read t z v) x w = absurd w
+change-written (Commit t) x w = absurd w
+change-written (Refuse t) x w = absurd w
+change-written (Withdraw t) x w = absurd w
+
+pub read-read : (e : Entry) (x : Name) → Reads x e → (item_of e ≡ Some x) × (changes (deed_of e) ≡ false)
+read-read (Read t z v) x r = (ap Some r, refl)
+read-read (Write t z v) x r = absurd r
+read-read (Add t z v) x r = absurd r
+read-read (Want t z v) x r = absurd r
+read-read (WantAdd t z v) x r = absurd r
+read-read (Commit t) x r = absurd r
+read-read (Refuse t) x r = absurd r
+read-read (Withdraw t) x r = absurd r
+
+pub deed-written : (e : Entry) (x : Name) → item_of e ≡ Some x → changes (deed_of e) ≡ true → Writes x e
+deed-written (Write t z v) x on is = same_Some z x on
+deed-written (Add t z v) x on is = same_Some z x on
+deed-written (Want t z v) x on is = same_Some z x on
+deed-written (WantAdd t z v) x on is = same_Some z x on
+deed-written (Read t z v) x on is = absurd (false≢true is)
+deed-written (Commit t) x on is = absurd cc
+deed-written (Refuse t) x on is = absurd cc
+deed-written (Withdraw t) x on is = absurd cc
+
+pub deed-read : (e : Entry) (x : Name) → item_of e ≡ Some x → changes (deed_of e) ≡ false → Reads x e
+deed-read (Read t z v) x on is = same_Some z x on
+deed-read (Write t z v) x on is = absurd (true≢false is)
+deed-read (Add t z v) x on is = absurd (true≢false is)
+deed-read (Want t z v) x on is = absurd (true≢false is)
+deed-read (WantAdd t z v) x on is = absurd (true≢false is)
+deed-read (Commit t) x on is = absurd cc
+deed-read (Refuse t) x on is = absurd cc
+deed-read (Withdraw t) x on is = absurd cc
+
+pub adds-is : (e : Entry) → adds (deed_of e) ≡ is_increment e
+adds-is (Read t z v) = refl
+adds-is (Write t z v) = refl
+adds-is (Add t z v) = refl
+adds-is (Want t z v) = refl
+adds-is (WantAdd t z v) = refl
+adds-is (Commit t) = refl
+adds-is (Refuse t) = refl
+adds-is (Withdraw t) = refl
+
+-- both read the item, or both change it
+repeats : (f e : Entry) (x : Name) → item_of f ≡ Some x → item_of e ≡ Some x → changes (deed_of f) ≡ changes (deed_of e) → (Reads x f × Reads x e) ⊎ (Writes x f × Writes x e)
+repeats f e x on_f on_e same =
+    elim (cases_Bool (changes (deed_of e))) [
+      | inl change ↦ inr (deed-written f x on_f (same ∙ change), deed-written e x on_e change)
+      | inr none ↦ inl (deed-read f x on_f (same ∙ none), deed-read e x on_e none)
+    ]
+
+repeated : (f e : Entry) (y : Name) → (Reads y f × Reads y e) ⊎ (Writes y f × Writes y e) → (item_of f ≡ Some y) × (item_of e ≡ Some y) × (changes (deed_of f) ≡ changes (deed_of e))
+repeated f e y (inl reads) = let p = read-read f y reads.0 in let q = read-read e y reads.1 in (p.0, q.0, p.1 ∙ sym q.1)
+repeated f e y (inr writes) = let p = change-written f y writes.0 in let q = change-written e y writes.1 in (p.0, q.0, p.1 ∙ sym q.1)
 
 module _ (ns : List Name) (entries : List Entry) (acts : List Act) (i : ℕ) (x : Name) (at : slice_get ns i ≡ Some x) where
-  change-first : (e : Entry) → AreActs ns entries (tx_of e) acts → Writes x e → ((y : Name) → Writes y e → x ≡ y) → ((y : Name) → Reads y e → ⊥) → (Contains acts (made true i) → ⊥) ↔ All (IsNew e) entries
-  change-first e is here alone none = (
-    λ miss. all-new entries e (λ f in_it y r. elim r.1 [
-      | inl reads ↦ none y reads.1
-      | inr writes ↦ miss ((is.changed i x at).1 (f, in_it, r.0, subst (λ z. Writes z f) (sym (alone y writes.1)) writes.0))
-    ]),
-    λ all has. let d = (is.changed i x at).0 has in each-new entries e d.0 all d.1 x (d.2, inr (d.3, here)),
+  pub first-decides : (e : Entry) → item_of e ≡ Some x → AreActs ns entries (tx_of e) acts → (Any (IsOf i (changes (deed_of e))) acts → ⊥) ↔ All (IsNew e) entries
+  first-decides e on is = (
+    λ miss. all-new entries e (λ f in_it y r.
+        let place = Contains_at entries f in_it in
+        let both = repeated f e y r.1 in
+        let name : y ≡ x = same_Some y x (sym both.1 ∙ on) in
+        let c : Act = act place.0 i f in
+        let has = (is c).1 (record { entry = f; name = x; here = place.1; of = r.0; item = at; on = both.0 ∙ ap Some name; deed = refl }) in
+        let there = Contains_at acts c has in
+        miss (Any-from_at (IsOf i (changes (deed_of e))) acts there.0 c there.1 (refl, both.2))),
+    λ all has.
+        let found = Any_at (IsOf i (changes (deed_of e))) acts has in
+        let w = (is found.1).0 (Contains-from_at acts found.0 found.1 found.2) in
+        let name : w.name ≡ x = same_Some w.name x (sym w.item ∙ ap (slice_get ns) found.3.0 ∙ at) in
+        each-new entries e w.entry all (Contains-from_at entries found.1.at w.entry w.here) x (w.of, repeats w.entry e x (w.on ∙ ap Some name) on (ap changes (sym w.deed) ∙ found.3.1)),
   )
-
-  pub first-decides : (e : Entry) → item_of e ≡ Some x → AreActs ns entries (tx_of e) acts → (Contains acts (act i e) → ⊥) ↔ All (IsNew e) entries
-  first-decides (Read t z v) on is =
-      let same : z ≡ x = same_Some z x on in (
-        λ miss. all-new entries (Read t z v) (λ f in_it y r. elim r.1 [
-          | inl reads ↦ miss ((is.read i x at).1 (f, in_it, r.0, subst (λ z. Reads z f) (sym reads.1 ∙ same) reads.0))
-          | inr writes ↦ writes.1
-        ]),
-        λ all has. let d = (is.read i x at).0 has in each-new entries (Read t z v) d.0 all d.1 x (d.2, inl (d.3, same)),
-      )
-  first-decides (Write t z v) on is = change-first (Write t z v) is (same_Some z x on) (λ y w. sym (same_Some z x on) ∙ w) (λ y r. r)
-  first-decides (Add t z v) on is = change-first (Add t z v) is (same_Some z x on) (λ y w. sym (same_Some z x on) ∙ w) (λ y r. r)
-  first-decides (Want t z v) on is = change-first (Want t z v) is (same_Some z x on) (λ y w. sym (same_Some z x on) ∙ w) (λ y r. r)
-  first-decides (WantAdd t z v) on is = change-first (WantAdd t z v) is (same_Some z x on) (λ y w. sym (same_Some z x on) ∙ w) (λ y r. r)
-  first-decides (Commit t) on is = absurd cc
-  first-decides (Refuse t) on is = absurd cc
-  first-decides (Withdraw t) on is = absurd cc
 
 pub not-decides : (b : Bool) (P Q : Type 0) → IsTrue b ↔ P → (P → ⊥) ↔ Q → IsTrue (not b) ↔ Q
 not-decides true P Q p q = (λ h. absurd (false≢true h), λ r. absurd (q.1 r (p.0 refl)))
@@ -98,77 +152,63 @@ module _ (entries : List Entry) (tx : ℕ) (e : Entry) (Does : Entry → Type 0)
   pub did-left : {P : Type 0} → (tx_of e ≡ tx → Does e → ⊥) → P ↔ Did entries tx Does → P ↔ Did (entries ++ e ∷ []) tx Does
   did-left other before = (λ h. did-more (before.0 h), λ d. before.1 (did-back other d))
 
-  -- one act and one entry more, where the act stands for the entry
-  pushed : (acts : List Act) (c k : Act) → tx_of e ≡ tx → (c ≡ k) ↔ Does e → Contains acts k ↔ Did entries tx Does → Contains (acts ++ c ∷ []) k ↔ Did (entries ++ e ∷ []) tx Does
-  pushed acts c k of same before = (
-    λ h. elim (Contains-push_cases acts c k h) [
-      | inl old ↦ did-more (before.0 old)
-      | inr new ↦ (e, Contains-push entries e, of, same.0 new)
+-- ---- operations
+
+module _ {A : Type 0} where
+  pub get_cases : (xs : List A) (y : A) (n : ℕ) (a : A) → slice_get (xs ++ y ∷ []) n ≡ Some a → (slice_get xs n ≡ Some a) ⊎ ((n ≡ length xs) × (y ≡ a))
+  get_cases [] y zero a h = inr (refl, same_Some y a h)
+  get_cases [] y (suc n) a h = absurd (none-some a h)
+  get_cases (x ∷ xs) y zero a h = inl h
+  get_cases (x ∷ xs) y (suc n) a h = elim (get_cases xs y n a h) [ inl old ↦ inl old | inr new ↦ inr (ap suc new.0, new.1) ]
+
+abbrev made : ℕ → Deed → ℕ → Act
+made i d n = record { place = i; deed = d; at = n }
+
+module _ (ns : List Name) (entries : List Entry) (tx : ℕ) (e : Entry) where
+  act-more : (a : Act) → IsAct ns entries tx a → IsAct ns (entries ++ e ∷ []) tx a
+  act-more a w = record { entry = w.entry; name = w.name; here = front_at entries (e ∷ []) a.at w.entry w.here; of = w.of; item = w.item; on = w.on; deed = w.deed }
+
+  -- it stands for the new entry
+  abbrev IsLast : Act → Type 0
+  IsLast a = (a.at ≡ length entries) × (tx_of e ≡ tx) × ((x : Name) × (slice_get ns a.place ≡ Some x) × (item_of e ≡ Some x)) × (a.deed ≡ deed_of e)
+
+  act-cases : (a : Act) → IsAct ns (entries ++ e ∷ []) tx a → IsAct ns entries tx a ⊎ IsLast a
+  act-cases a w =
+      elim (get_cases entries e a.at w.entry w.here) [
+        | inl old ↦ inl (record { entry = w.entry; name = w.name; here = old; of = w.of; item = w.item; on = w.on; deed = w.deed })
+        | inr new ↦ inr (new.0, ap tx_of new.1 ∙ w.of, (w.name, w.item, ap item_of new.1 ∙ w.on), w.deed ∙ ap deed_of (sym new.1))
+      ]
+
+  same-acts : (acts : List Act) → ((a : Act) → IsLast a → ⊥) → AreActs ns entries tx acts → AreActs ns (entries ++ e ∷ []) tx acts
+  same-acts acts none is a = (λ has. act-more a ((is a).0 has), λ w. elim (act-cases a w) [ inl old ↦ (is a).1 old | inr new ↦ absurd (none a new) ])
+
+  pub acts-left : (acts : List Act) → (tx_of e ≡ tx → ⊥) → AreActs ns entries tx acts → AreActs ns (entries ++ e ∷ []) tx acts
+  acts-left acts other is = same-acts acts (λ a new. other new.1) is
+
+  pub acts-ended : (acts : List Act) → item_of e ≡ None → AreActs ns entries tx acts → AreActs ns (entries ++ e ∷ []) tx acts
+  acts-ended acts none is = same-acts acts (λ a new. none-some new.2.0 (sym none ∙ new.2.2)) is
+
+  pub acts-entered : (acts : List Act) (i : ℕ) (x : Name) → AllPairs Apart ns → AreActs ns entries tx acts → tx_of e ≡ tx → slice_get ns i ≡ Some x → item_of e ≡ Some x → AreActs ns (entries ++ e ∷ []) tx (acts ++ act (length entries) i e ∷ [])
+  acts-entered acts i x apart is of at on a = (
+    λ has. elim (Contains-push_cases acts c a has) [
+      | inl old ↦ act-more a ((is a).0 old)
+      | inr new ↦ subst (IsAct ns (entries ++ e ∷ []) tx) new (record { entry = e; name = x; here = middle_at entries e []; of = of; item = at; on = on; deed = refl })
     ],
-    λ d. elim (did-cases d) [
-      | inl old ↦ Contains-append_left acts (c ∷ []) k (before.1 old)
-      | inr new ↦ subst (Contains (acts ++ c ∷ [])) (same.1 new.1) (Contains-push acts c)
+    λ w. elim (act-cases a w) [
+      | inl old ↦ Contains-append_left acts (c ∷ []) a ((is a).1 old)
+      | inr new ↦
+          let place = place-one ns i a.place x new.2.0 apart at new.2.1 (same_Some x new.2.0 (sym on ∙ new.2.2)) in
+          let same : c ≡ a = ap (λ p. made p (deed_of e) (length entries)) place ∙ ap (λ n. made a.place (deed_of e) n) (sym new.0) ∙ ap (λ d. made a.place d a.at) (sym new.3) in
+          subst (Contains (acts ++ c ∷ [])) same (Contains-push acts c)
     ],
   )
+    where
+      c : Act
+      c = act (length entries) i e
 
-pub acts-left : (ns : List Name) (entries : List Entry) (tx : ℕ) (acts : List Act) (e : Entry) → (tx_of e ≡ tx → ⊥) → AreActs ns entries tx acts → AreActs ns (entries ++ e ∷ []) tx acts
-acts-left ns entries tx acts e other is = record {
-  read = λ i x at. did-left entries tx e (Reads x) (λ of does. other of) (is.read i x at);
-  changed = λ i x at. did-left entries tx e (Writes x) (λ of does. other of) (is.changed i x at);
-}
-
-module _ (ns : List Name) (entries : List Entry) (tx : ℕ) (acts : List Act) (apart : AllPairs Apart ns) (is : AreActs ns entries tx acts) where
-  acts-changed : (e : Entry) (i : ℕ) (x : Name) → tx_of e ≡ tx → slice_get ns i ≡ Some x → Writes x e → ((y : Name) → Writes y e → x ≡ y) → ((y : Name) → Reads y e → ⊥) → AreActs ns (entries ++ e ∷ []) tx (acts ++ made true i ∷ [])
-  acts-changed e i x of at writes alone none = record {
-    read = λ j y at_j. pushed entries tx e (Reads y) acts (made true i) (made false j) of (
-      λ eq. absurd (true≢false (ap (λ (a : Act). a.changes) eq)),
-      λ r. absurd (none y r),
-    ) (is.read j y at_j);
-    changed = λ j y at_j. pushed entries tx e (Writes y) acts (made true i) (made true j) of (
-      λ eq. subst (λ z. Writes z e) (place-name ns i j x y at at_j (ap (λ (a : Act). a.place) eq)) writes,
-      λ w. ap (made true) (place-one ns i j x y apart at at_j (alone y w)),
-    ) (is.changed j y at_j);
-  }
-
-  acts-entered : (e : Entry) (i : ℕ) (x : Name) → tx_of e ≡ tx → slice_get ns i ≡ Some x → item_of e ≡ Some x → AreActs ns (entries ++ e ∷ []) tx (acts ++ act i e ∷ [])
-  acts-entered (Read t z v) i x of at on = record {
-    read = λ j y at_j. pushed entries tx (Read t z v) (Reads y) acts (made false i) (made false j) of (
-      λ eq. same_Some z x on ∙ place-name ns i j x y at at_j (ap (λ (a : Act). a.place) eq),
-      λ z-y. ap (made false) (place-one ns i j x y apart at at_j (sym (same_Some z x on) ∙ z-y)),
-    ) (is.read j y at_j);
-    changed = λ j y at_j. pushed entries tx (Read t z v) (Writes y) acts (made false i) (made true j) of (
-      λ eq. absurd (false≢true (ap (λ (a : Act). a.changes) eq)),
-      λ w. absurd w,
-    ) (is.changed j y at_j);
-  }
-  acts-entered (Write t z v) i x of at on = acts-changed (Write t z v) i x of at (same_Some z x on) (λ y w. sym (same_Some z x on) ∙ w) (λ y r. r)
-  acts-entered (Add t z v) i x of at on = acts-changed (Add t z v) i x of at (same_Some z x on) (λ y w. sym (same_Some z x on) ∙ w) (λ y r. r)
-  acts-entered (Want t z v) i x of at on = acts-changed (Want t z v) i x of at (same_Some z x on) (λ y w. sym (same_Some z x on) ∙ w) (λ y r. r)
-  acts-entered (WantAdd t z v) i x of at on = acts-changed (WantAdd t z v) i x of at (same_Some z x on) (λ y w. sym (same_Some z x on) ∙ w) (λ y r. r)
-  acts-entered (Commit t) i x of at on = absurd cc
-  acts-entered (Refuse t) i x of at on = absurd cc
-  acts-entered (Withdraw t) i x of at on = absurd cc
-
-  no-read : (e : Entry) (y : Name) → item_of e ≡ None → Reads y e → ⊥
-  no-read (Read t z v) y none r = absurd cc
-  no-read _ y none r = r
-
-  no-write : (e : Entry) (y : Name) → item_of e ≡ None → Writes y e → ⊥
-  no-write (Write t z v) y none w = absurd cc
-  no-write (Add t z v) y none w = absurd cc
-  no-write (Want t z v) y none w = absurd cc
-  no-write (WantAdd t z v) y none w = absurd cc
-  no-write _ y none w = w
-
-  acts-ended : (e : Entry) → item_of e ≡ None → AreActs ns (entries ++ e ∷ []) tx acts
-  acts-ended e none = record {
-    read = λ i x at. did-left entries tx e (Reads x) (λ of does. no-read e x none does) (is.read i x at);
-    changed = λ i x at. did-left entries tx e (Writes x) (λ of does. no-write e x none does) (is.changed i x at);
-  }
-
-  pub acts-next : (e : Entry) (place : Option ℕ) → tx_of e ≡ tx → IsPlaceOf ns e place → AreActs ns (entries ++ e ∷ []) tx (acts ++ option_to_list (option_map (λ i. act i e) place))
-  acts-next e None of on = subst (AreActs ns (entries ++ e ∷ []) tx) (sym (append-nil acts)) (acts-ended e on)
-  acts-next e (Some i) of on = acts-entered e i on.0 of on.1 on.2
+  pub acts-next : (acts : List Act) (place : Option ℕ) → AllPairs Apart ns → AreActs ns entries tx acts → tx_of e ≡ tx → IsPlaceOf ns e place → AreActs ns (entries ++ e ∷ []) tx (acts ++ option_to_list (option_map (λ i. act (length entries) i e) place))
+  acts-next acts None apart is of on = subst (AreActs ns (entries ++ e ∷ []) tx) (sym (append-nil acts)) (acts-ended acts on is)
+  acts-next acts (Some i) apart is of on = acts-entered acts i on.0 apart is of on.1 on.2
 
 -- ---- a record
 
@@ -183,18 +223,18 @@ pub record-left : (section : ℕ) (ns : List Name) (entries : List Entry) (tx : 
 record-left section ns entries tx r e other is = record {
   touched = did-left entries tx e (λ f. Unit {0}) (λ of does. other of) is.touched;
   ended = did-left entries tx e IsEnd (λ of does. other of) is.ended;
-  acts = acts-left ns entries tx (acts_in section r) e other is.acts;
+  acts = acts-left ns entries tx e (acts_in section r) other is.acts;
 }
 
 -- its next entry
 pub record-entered : (section : ℕ) (ns : List Name) (entries : List Entry) (tx : ℕ) (old new : Record) (e : Entry) (place : Option ℕ) (ends : Bool) → AllPairs Apart ns → tx_of e ≡ tx → IsPlaceOf ns e place → IsTrue ends ↔ IsEnd e
-    → IsRecord section ns entries tx old → IsTouched section (option_to_list (option_map (λ i. act i e) place)) ends old new → IsRecord section ns (entries ++ e ∷ []) tx new
+    → IsRecord section ns entries tx old → IsTouched section (option_to_list (option_map (λ i. act (length entries) i e) place)) ends old new → IsRecord section ns (entries ++ e ∷ []) tx new
 record-entered section ns entries tx old new e place ends apart of on ending is to = record {
   touched = (λ _. (e, Contains-push entries e, of, tt), λ _. to.stamp);
   ended = subst (λ b. IsTrue b ↔ Did (entries ++ e ∷ []) tx IsEnd) (sym (ended_in-same section new to.stamp ∙ to.end))
       (or-decides (has_ended_in section old) ends (Did entries tx IsEnd) (IsEnd e) (Did (entries ++ e ∷ []) tx IsEnd) is.ended ending (did-more entries tx e IsEnd) (λ h. (e, Contains-push entries e, of, h))
       (λ d. elim (did-cases entries tx e IsEnd d) [ inl before ↦ inl before | inr now ↦ inr now.1 ]));
-  acts = subst (AreActs ns (entries ++ e ∷ []) tx) (sym (acts_in-same section new to.stamp ∙ to.did)) (acts-next ns entries tx (acts_in section old) apart is.acts e place of on);
+  acts = subst (AreActs ns (entries ++ e ∷ []) tx) (sym (acts_in-same section new to.stamp ∙ to.did)) (acts-next ns entries tx e (acts_in section old) place apart is.acts of on);
 }
 
 no-entry : (f : Entry) → Contains [] f → ⊥
@@ -205,10 +245,7 @@ pub record-none : (section : ℕ) (ns : List Name) (tx : ℕ) (r : Record) → (
 record-none section ns tx r apart = record {
   touched = (λ same. absurd (apart same), λ d. absurd (no-entry d.0 d.1));
   ended = (λ h. absurd (false≢true (sym (ap (λ b. b && r.ended) (ne_eqb r.section section apart)) ∙ h)), λ d. absurd (no-entry d.0 d.1));
-  acts = subst (AreActs ns [] tx) (sym (ap (λ b. cond b r.acts.items []) (ne_eqb r.section section apart))) (record {
-    read = λ i x at. (λ h. absurd (no-act (made false i) h), λ d. absurd (no-entry d.0 d.1));
-    changed = λ i x at. (λ h. absurd (no-act (made true i) h), λ d. absurd (no-entry d.0 d.1));
-  });
+  acts = subst (AreActs ns [] tx) (sym (ap (λ b. cond b r.acts.items []) (ne_eqb r.section section apart))) (λ a. (λ h. absurd (no-act a h), λ w. absurd (none-some w.entry w.here)));
 }
   where
     no-act : (a : Act) → Contains [] a → ⊥

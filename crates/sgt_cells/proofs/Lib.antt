@@ -5,3 +5,4 @@ pub mod Live
 pub mod Tracking
 pub mod Entering
 pub mod Listing
+pub mod Clashing

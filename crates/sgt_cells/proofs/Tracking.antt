@@ -1,15 +1,15 @@
 -- What is kept of an open section, against the rules of a line, and after one more entry.
 use Rattle.std.proofs.Common.{◌≡◌, ◌≢◌, ℕ, zero, suc, ◌+◌, ◌-◌, ◌<◌, ◌≤◌, List, [], ◌∷◌, ◌++◌, Option, Some, None, Bool, true, false, IsTrue, refl, sym, ap, ◌∙◌, subst, arith, inl, inr, All, AllPairs, Any, Contains, length, set, map, option_map, get_or}
 use Rattle.std.specs.Prelude.{◌↔◌, slice_get, ◌&&◌, ◌==◌, nat_lt, not}
-use Rattle.std.specs.Option.{option_to_list}
+use Rattle.std.specs.Option.{option_to_list, ForSome}
 use Rattle.std.proofs.lemmas.Bool.{cases_Bool, cases_order, cases_eq, false≢true, true≢false, eq-eqb, eqb-true, ne_eqb, ltb-true, ltb-false}
-use Rattle.std.proofs.lemmas.List.{length-set}
+use Rattle.std.proofs.lemmas.List.{length-set, length_push}
 use Rattle.std.proofs.lemmas.List.Elements.{Contains-push_cases}
 use Rattle.std.proofs.lemmas.Option.{same_Some, none-some, slice_get-map, slice_get_within}
 use Rattle.sgt_names.proofs.Places.{All_at, All-from_at, AllPairs_at, Contains_at, Contains-from_at}
 use Rattle.sgt_names.proofs.Lists.{Any_at, Any-from_at, element_at, option_cases}
 use Rattle.sgt_names.specs.Name.{Name}
-use Rattle.sgt_names.specs.Entry.{tx_of, IsEnd, Repeats}
+use Rattle.sgt_names.specs.Entry.{tx_of, item_of, IsEnd, Repeats}
 use Rattle.sgt_names.specs.Log.{names, value_at, AllEnded}
 use Rattle.sgt_names.specs.declared.entry.Entry.{Entry}
 use Rattle.sgt_names.specs.declared.entry.Holding.{Holding}
@@ -206,7 +206,10 @@ module _ (ds : List Decision) (items : List Holding) (entries : List Entry) (old
       subst (IsGreatest (EndsBy ds) (entries ++ e ∷ [])) (sym (other not)) (greatest-left (EndsBy ds) entries old.last_end e (λ r has. not has.0) t.order)
 
   module _ (place : Option ℕ) (on : IsPlaceOf (names items) e place) (apart : AllPairs Apart (names items)) (ends : Bool) (ending : IsTrue ends ↔ IsEnd e) (r v : Record) (at : slice_get old.records.items number ≡ Some r)
-      (records : new.records.items ≡ set old.records.items number v) (to : IsTouched old.section (option_to_list (option_map (λ i. act i e) place)) ends r v) where
+      (records : new.records.items ≡ set old.records.items number v) (told : IsTouched old.section (option_to_list (option_map (λ i. act old.count i e) place)) ends r v) where
+    to : IsTouched old.section (option_to_list (option_map (λ i. act (length entries) i e) place)) ends r v
+    to = subst (λ n. IsTouched old.section (option_to_list (option_map (λ i. act n i e) place)) ends r v) t.count told
+
     new-at : (k : ℕ) (d : Decision) (q : Record) → slice_get ds k ≡ Some d → slice_get new.records.items k ≡ Some q → IsRecord old.section (names items) (entries ++ e ∷ []) (decided_tx d) q
     new-at k d q at_k at_q =
         let there : slice_get (set old.records.items number v) k ≡ Some q = ap (λ rs. slice_get rs k) (sym records) ∙ at_q in
@@ -239,23 +242,36 @@ module _ (ds : List Decision) (items : List Holding) (entries : List Entry) (old
         let room : was ≡ false → old.live < most = λ idle. let fewer = live-fewer old.section old.records.items number r at (sym was_is ∙ idle) in omega (arith, fewer, long, told) in
         live-counted old.live most live (live_among old.section (set old.records.items number v)) was is step room same more less ∙ ap (live_among old.section) (sym records)
 
-    pub tracks-next : new.section ≡ old.section → AreCells ds items (entries ++ e ∷ []) new.cells.items → IsGreatest (EndsBy ds) (entries ++ e ∷ []) new.last_end
+    listed-more : (f : Entry) → Contains (entries ++ e ∷ []) f → ForSome (item_of f) (Contains (names items))
+    listed-more f here =
+        elim (Contains-push_cases entries e f here) [
+          | inl before ↦ t.listed f before
+          | inr now ↦ subst (λ g. ForSome (item_of g) (Contains (names items))) now (placed place on)
+        ]
+      where
+        placed : (place : Option ℕ) → IsPlaceOf (names items) e place → ForSome (item_of e) (Contains (names items))
+        placed None none x is = absurd (none-some x (sym none ∙ is))
+        placed (Some i) is_at x is = subst (Contains (names items)) (same_Some is_at.0 x (sym is_at.2 ∙ is)) (Contains-from_at (names items) i is_at.0 is_at.1)
+
+    pub tracks-next : new.section ≡ old.section → new.count ≡ old.count + 1 → AreCells ds items (entries ++ e ∷ []) new.cells.items → IsGreatest (EndsBy ds) (entries ++ e ∷ []) new.last_end
         → (was is : Bool) (most : ℕ) → was ≡ is_live_in old.section r → is ≡ is_live_in old.section v → most ≡ length new.records.items
         → (was ≡ is → new.live ≡ old.live) → (was ≡ false → is ≡ true → old.live < most → new.live ≡ old.live + 1) → (was ≡ true → is ≡ false → new.live ≡ old.live - 1) → TracksOpen ds items (entries ++ e ∷ []) new
-    tracks-next section cells order was is most was_is is_is many same more less = record {
+    tracks-next section count cells order was is most was_is is_is many same more less = record {
       cells = cells;
       many = ap length records ∙ length-set old.records.items number v ∙ t.many;
       records = λ k d q at_k at_q. subst (λ n. IsRecord n (names items) (entries ++ e ∷ []) (decided_tx d) q) (sym section) (new-at k d q at_k at_q);
       stamps = subst (λ n. All (λ q. q.section ≤ n) new.records.items) (sym section) new-stamps;
       live = new-live was is new.live most was_is is_is many same more less ∙ ap (λ n. live_among n new.records.items) (sym section);
+      count = count ∙ ap (λ n. n + 1) t.count ∙ sym (length_push entries e);
       order = order;
       decided = decided-more;
+      listed = listed-more;
     }
 
 -- ---- a section begins
 
-pub begun : (ds : List Decision) (section : ℕ) (old new : SiteState) → IsReadyFor ds section old → new.section ≡ section → new.records.items ≡ old.records.items → new.cells.items ≡ [] → new.live ≡ 0 → new.last_end ≡ None → TracksOpen ds [] [] new
-begun ds section old new ready same records cells live order = record {
+pub begun : (ds : List Decision) (section : ℕ) (old new : SiteState) → IsReadyFor ds section old → new.section ≡ section → new.records.items ≡ old.records.items → new.cells.items ≡ [] → new.count ≡ 0 → new.live ≡ 0 → new.last_end ≡ None → TracksOpen ds [] [] new
+begun ds section old new ready same records cells count live order = record {
   cells = record {
     names = ap (map (λ (c : Cell). c.name)) cells;
     each = subst (All (IsCell ds [] [])) (sym cells) (λ k d lt. absurd (omega (arith, lt)));
@@ -263,9 +279,11 @@ begun ds section old new ready same records cells live order = record {
   many = ap length records ∙ ready.many;
   records = λ k d r at_k at_r. record-none new.section [] (decided_tx d) r (earlier k r at_r);
   stamps = All-from_at (λ r. r.section ≤ new.section) new.records.items (λ k r at. let lt = before k r at in omega (arith, lt, same));
+  count = count;
   live = live ∙ sym (none-live new.section new.records.items (λ k r at. ap (λ b. b && not r.ended) (ne_eqb r.section new.section (earlier k r at))));
   order = subst (IsGreatest (EndsBy ds) []) (sym order) (λ f r here has. absurd (omega (arith, here.1)));
   decided = λ f here. absurd (omega (arith, here.1));
+  listed = λ f here. absurd (omega (arith, here.1));
 }
   where
     before : (k : ℕ) (r : Record) → slice_get new.records.items k ≡ Some r → r.section < section

@@ -1,6 +1,7 @@
 //! What is kept of the site whose section is open, in place of its entries, and the rules of a line judged by it.
 #![tactic(auto)]
 
+mod act;
 mod cell;
 mod record;
 mod state;

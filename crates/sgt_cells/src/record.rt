@@ -1,22 +1,16 @@
 //! What a transaction did at the site whose section is open.
 
-ghost use Rattle.std.specs.Prelude.{◌≡◌, ◌↔◌, ◌++◌, ◌<◌, ◌+◌, ◌-◌, true, false, List, length, IsTrue, IfOk, OnOk, Some, All, Contains, slice_get, slice_set};
+ghost use Rattle.std.specs.Prelude.{◌≡◌, ◌↔◌, ◌++◌, ◌<◌, ◌+◌, ◌-◌, true, false, List, length, IsTrue, IfOk, OnOk, Some, All, Any, slice_get, slice_set};
 ghost use Rattle.std.specs.Option.{option_to_list};
 ghost use Rattle.sgt_names.specs.Name.{Name};
 ghost use Rattle.sgt_names.specs.Entry.{tx_of, item_of, Repeats};
 ghost use Rattle.sgt_names.specs.declared.entry.Entry.{Entry};
-ghost use Rattle.sgt_cells.specs.Records.{AreActs, IsTouched, act, acts_in, has_ended_in, is_live_in};
+ghost use Rattle.sgt_cells.specs.Records.{AreActs, IsOf, IsTouched, deed_of, changes, acts_in, has_ended_in, is_live_in};
 ghost use Rattle.sgt_cells.specs.declared.record.Record.{Record};
 
+use crate::act::{Act, Deed, deed_of};
 use sgt_names::Entry;
 use std::alloc::{AllocError, Global};
-
-/// A read of the item at a place, or a change of it, made or asked for.
-#[derive(Clone, Copy, Debug, PartialEq, Eq)]
-pub struct Act {
-    pub place: usize,
-    pub changes: bool,
-}
 
 /// What a transaction did in the section in which it came last, by its number; and whether it ended there.
 #[derive(Drop)]
@@ -24,22 +18,6 @@ pub struct Record {
     pub section: usize,
     pub ended: bool,
     pub acts: Vec<Act>,
-}
-
-/// What the entry does, on the item at this place.
-pub(crate) fn act_of(place: usize, entry: &Entry) -> Act
-    ensures { result ≡ act place entry.now }
-{
-    match entry {
-        Entry::Read { .. } => Act {
-            place,
-            changes: false,
-        },
-        _ => Act {
-            place,
-            changes: true,
-        },
-    }
 }
 
 impl Record {
@@ -54,15 +32,24 @@ impl Record {
         }
     }
 
-    /// Whether it did this in the section.
-    fn has_done(&self, section: usize, act: &Act) -> bool
-        ensures { IsTrue result ↔ Contains (acts_in section self.now) act.now }
+    /// What it did in the section.
+    pub(crate) fn acts_in(&self, section: usize) -> &[Act]
+        ensures { result.now ≡ acts_in section self.now }
     {
         if self.section == section {
-            self.acts.contains(act)
+            self.acts.as_slice()
         } else {
-            false
+            &[]
         }
+    }
+
+    /// Whether it did such a thing to the item at this place in the section: read it, or changed it.
+    fn has_done(&self, section: usize, place: usize, deed: Deed) -> bool
+        ensures { IsTrue result ↔ Any (IsOf place (changes deed)) (acts_in section self.now) }
+    {
+        self.acts_in(section)
+            .iter()
+            .any(|act| act.is_of(place, deed))
     }
 
     /// Whether the entry, on the item at this place, is not its transaction's second read of the item, nor its second change,
@@ -72,7 +59,7 @@ impl Record {
             → AreActs ns entries (tx_of entry.now) (acts_in section self.now)
             → (IsTrue result ↔ All (λ f. (y : Name) → Repeats y f entry.now → ⊥) entries) }
     {
-        !self.has_done(section, &act_of(place, entry))
+        !self.has_done(section, place, deed_of(entry))
     }
 
     /// Whether it ended in the section.

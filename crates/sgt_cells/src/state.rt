@@ -1,9 +1,9 @@
 //! What is kept of the site whose section is open, in place of its entries.
 
-ghost use Rattle.std.specs.Prelude.{◌≡◌, ◌≢◌, ◌↔◌, ◌∷◌, ◌++◌, ◌<◌, [], ℕ, List, IsTrue, IfSome, IfNone, IfOk, OnOk, Some, None, All, AllPairs, Contains, length, slice_get, option_map};
+ghost use Rattle.std.specs.Prelude.{◌≡◌, ◌≢◌, ◌↔◌, ◌∷◌, ◌++◌, ◌<◌, ◌+◌, [], ℕ, List, IsTrue, IfSome, IfNone, IfOk, OnOk, Some, None, All, AllPairs, Contains, length, slice_get, option_map};
 ghost use Rattle.sgt_names.specs.Name.{Name};
 ghost use Rattle.sgt_names.specs.Entry.{tx_of, item_of, IsEnd, Repeats};
-ghost use Rattle.sgt_names.specs.Log.{names, value_at, AllEnded};
+ghost use Rattle.sgt_names.specs.Log.{names, value_at, AllEnded, Conflicts};
 ghost use Rattle.sgt_names.specs.declared.entry.Entry.{Entry};
 ghost use Rattle.sgt_names.specs.declared.entry.Holding.{Holding};
 ghost use Rattle.std.specs.Option.{ForSome};
@@ -11,19 +11,20 @@ ghost use Rattle.sgt_cert.specs.Certificate.{IsDecidedOnce, AreRanks, ranks};
 ghost use Rattle.sgt_cert.specs.Valid.{IsDecided, EndInOrder, RiseInRank};
 ghost use Rattle.sgt_cert.specs.declared.certificate.Decision.{Decision};
 ghost use Rattle.sgt_cells.specs.Cells.{AreCells, IsPlaceOf, IsRankOf, IsUpTo, raised};
-ghost use Rattle.sgt_cells.specs.Records.{act};
+ghost use Rattle.sgt_cells.specs.Records.{act, AreActs};
 ghost use Rattle.sgt_cells.specs.Tracks.{TracksOpen, IsReadyFor, IsNumberOf, DecidesOn};
 
+use crate::act::{self, Act};
 use crate::cell::{self, Cell};
-use crate::record::{self, Act, Record};
-use sgt_names::{Entry, Holding, Item, Value};
+use crate::record::{self, Record};
+use sgt_names::{Entry, Holding, Item, Kind, Value};
 use std::alloc::{AllocError, Global};
 
 /// How many hints there are.
 const HINTS: usize = 4096;
 
 /// What is kept of the site whose section is open: a cell for each item, a record for each decision's transaction, how many
-/// transactions have an entry there and no end, and the greatest number of a decision that ended one there.
+/// entries there are, how many transactions have an entry there and no end, and the greatest number of a decision that ended one there.
 #[derive(Drop)]
 pub struct SiteState {
     /// The number of the section, from 1.
@@ -32,6 +33,8 @@ pub struct SiteState {
     /// Where the cell of an item may be, by a hash of its name.
     pub hints: Vec<u16>,
     pub records: Vec<Record>,
+    /// How many entries there are.
+    pub count: usize,
     pub live: usize,
     pub last_end: Option<usize>,
 }
@@ -75,13 +78,23 @@ fn fresh_cell(holding: &Holding) -> Cell
     }
 }
 
-/// What the entry does on the item at this place, if it has one.
-fn act_at(place: Option<usize>, entry: &Entry) -> Option<Act>
-    ensures { result ≡ option_map (λ i. act i entry.now) place }
+/// The entry at this place, on the item at that place, if it has one.
+fn act_at(at: usize, place: Option<usize>, entry: &Entry) -> Option<Act>
+    ensures { result ≡ option_map (λ i. act at i entry.now) place }
 {
     match place {
-        Some(place) => Some(record::act_of(place, entry)),
+        Some(place) => Some(act::act_of(at, place, entry)),
         None => None,
+    }
+}
+
+/// One more, if there is a number for it.
+fn one_more(count: usize) -> Result<usize, AllocError>
+    ensures { IfOk result (λ next. next ≡ count + 1) }
+{
+    match count.checked_add(1) {
+        Some(next) => Ok(next),
+        None => Err(AllocError),
     }
 }
 
@@ -132,6 +145,7 @@ impl SiteState {
             cells: Vec::new(alloc),
             hints: vec![in alloc; 0u16; HINTS]?,
             records: record::fresh(alloc, count)?,
+            count: 0,
             live: 0,
             last_end: None,
         })
@@ -144,6 +158,7 @@ impl SiteState {
     {
         self.section = section;
         self.cells.clear();
+        self.count = 0;
         self.live = 0;
         self.last_end = None;
     }
@@ -241,6 +256,40 @@ impl SiteState {
         !entry.is_end() || is_up_to(self.last_end, number)
     }
 
+    /// What the transaction did that is decided by this number, if it is.
+    fn acts_of(&self, number: Option<usize>) -> &[Act]
+        ensures { (ds : List Decision) (items : List Holding) (entries : List Entry) (tx : ℕ) → TracksOpen ds items entries self.now
+            → IsNumberOf ds tx number → AreActs (names items) entries tx result.now }
+    {
+        let Some(number) = number else {
+            return &[];
+        };
+        match self.records.get(number) {
+            Some(record) => record.acts_in(self.section),
+            None => &[],
+        }
+    }
+
+    /// Whether an entry of one transaction precedes and conflicts with one of another, as operations of this kind on the item.
+    /// The two are decided by these numbers, if they are.
+    pub fn have_conflict(
+        &self,
+        kind: Kind,
+        item: &Item,
+        from: Option<usize>,
+        to: Option<usize>,
+    ) -> bool
+        ensures { (ds : List Decision) (items : List Holding) (entries : List Entry) (a b : ℕ) → TracksOpen ds items entries self.now
+            → IsNumberOf ds a from → IsNumberOf ds b to → a ≢ b → (IsTrue result ↔ Conflicts entries kind item.now a b) }
+    {
+        let acts = self.acts_of(from);
+        let others = self.acts_of(to);
+        match self.place_of(item) {
+            Some(place) => act::have_clash(acts, others, kind, place),
+            None => false,
+        }
+    }
+
     /// Whether each transaction with an entry has an end.
     pub fn have_all_ended(&self) -> bool
         ensures { (ds : List Decision) (items : List Holding) (entries : List Entry) → TracksOpen ds items entries self.now
@@ -263,8 +312,9 @@ impl SiteState {
             → TracksOpen ds items entries self.old → TracksOpen ds items (entries ++ entry.now ∷ []) self.new) }
     {
         let place = self.place_of_entry(entry);
+        let next = one_more(self.count)?;
         let was = record::is_live(self.records.as_slice(), number, self.section);
-        let act = act_at(place, entry);
+        let act = act_at(self.count, place, entry);
         record::enter(
             self.records.as_mut_slice(),
             number,
@@ -276,6 +326,7 @@ impl SiteState {
         self.live = record::live_after(self.live, self.records.len(), was, is);
         enter_cell(self.cells.as_mut_slice(), place, entry, rank);
         self.last_end = later_end(self.last_end, entry, number);
+        self.count = next;
         Ok(())
     }
 }

@@ -1,7 +1,7 @@
 //! Sections worked out by hand. Transactions 1 to 3 are decided by the numbers 0 to 2, and committed with the ranks 2, 0 and 1.
 
 use sgt_cells::SiteState;
-use sgt_names::{Entry, Holding, Item, Tx};
+use sgt_names::{Entry, Holding, Item, Kind, Tx};
 use std::test::Fail;
 
 /// What is found of the entry, on an item of this value: that the item has it, and that the entry is in rank and the first.
@@ -84,5 +84,42 @@ fn ends_and_sections(rt: HostRuntime) -> Result<(), Fail> {
         ),
         (None, true, true)
     );
+    Ok(())
+}
+
+#[test]
+fn conflicts(rt: HostRuntime) -> Result<(), Fail> {
+    let mut state = SiteState::new(rt.alloc(), 3)?;
+    let item = Item::new(b"a")?;
+    let (first, second, third) = (Tx::new(1)?, Tx::new(2)?, Tx::new(3)?);
+    state.begin(1);
+    state.list(&Holding { item, value: 5 })?;
+    let write = Entry::Write {
+        tx: first,
+        item,
+        value: 6,
+    };
+    state.enter(&write, 0, Some(2))?;
+    let read = Entry::Read {
+        tx: second,
+        item,
+        value: 6,
+    };
+    state.enter(&read, 1, Some(0))?;
+    let add = Entry::Add {
+        tx: third,
+        item,
+        value: 1,
+    };
+    state.enter(&add, 2, Some(1))?;
+    for (kind, from, to, wanted) in [
+        (Kind::Wr, Some(0), Some(1), true),
+        (Kind::Rw, Some(1), Some(0), false),
+        (Kind::Rw, Some(1), Some(2), true),
+        (Kind::Ww, Some(0), Some(2), true),
+        (Kind::Wr, None, Some(1), false),
+    ] {
+        assert_eq!(rt; state.have_conflict(kind, &item, from, to), wanted);
+    }
     Ok(())
 }

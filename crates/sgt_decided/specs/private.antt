@@ -1,2 +1,3 @@
 -- Words that private clauses alone use.
 pub mod Table
+pub mod Grouped

@@ -3,8 +3,11 @@
 ghost use Rattle.std.specs.Prelude.{◌≡◌, ◌<◌, ◌↔◌, ℕ, [], IfOk, IfSome, IfNone, IsSome, IsTrue, Some, slice_get};
 ghost use Rattle.sgt_cert.specs.Certificate.{decided_tx, IsCommitted, IsDecidedOnce, Suits};
 ghost use Rattle.sgt_cert.specs.Valid.{IsDecided};
+ghost use Rattle.sgt_cert.specs.Text.{IsCertificate};
 ghost use Rattle.sgt_decided.specs.Decided.{Decides};
+ghost use Rattle.sgt_decided.specs.Steps.{AreStepsOf};
 
+use crate::steps::Steps;
 use crate::table::Table;
 use sgt_cert::{Certificate, Decision};
 use sgt_names::{Entry, Tx};
@@ -65,6 +68,13 @@ impl Decided {
         ensures once { IsDecidedOnce self.now.decisions }
     {
         self.certificate.decisions()
+    }
+
+    /// The steps of all walks, by their sites. Err: memory ran out.
+    pub fn steps(&self, alloc: Global) -> Result<Steps, AllocError>
+        ensures { IfOk result (λ steps. IsCertificate self.now → AreStepsOf self.now.decisions steps) }
+    {
+        Steps::new(alloc, self.certificate.sites as usize, self.decisions())
     }
 
     /// The certificate alone.

@@ -4,8 +4,10 @@
 mod cycles;
 mod decided;
 mod ranks;
+mod steps;
 mod table;
 
 pub use cycles::are_cycles;
 pub use decided::Decided;
 pub use ranks::are_ranks;
+pub use steps::{Edge, Steps};

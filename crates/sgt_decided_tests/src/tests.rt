@@ -1,7 +1,7 @@
 //! Certificates with their tables.
 
 use sgt_cert::from_line;
-use sgt_decided::{Decided, are_cycles, are_ranks};
+use sgt_decided::{Decided, Steps, are_cycles, are_ranks};
 use sgt_names::{Entry, Tx};
 use std::alloc::{AllocError, Global};
 use std::test::Fail;
@@ -103,6 +103,31 @@ fn look_ups(rt: HostRuntime) -> Result<(), Fail> {
             (decided.decisions().len(), decided.into_certificate().sites),
             (2, 3)
         );
+    } else {
+        assert!(rt; false);
+    }
+    Ok(())
+}
+
+/// How many steps stand at the site, and which transaction the first comes from.
+fn at(steps: &Steps, site: usize) -> (usize, Option<u32>) {
+    let edges = steps.at(site);
+    (edges.len(), edges.first().map(|edge| edge.from.number()))
+}
+
+#[test]
+fn steps_by_site(rt: HostRuntime) -> Result<(), Fail> {
+    let alloc = rt.alloc();
+    let back = r#"{"item":"x","kind":"ww","site":1,"to":2}"#;
+    let line = format!(in alloc;
+        "{{\"decisions\":[{FIRST},{SECOND_REFUSED}{TO_1},{back}]}}],\"sites\":2}}"
+    )?;
+    let found = Decided::new(alloc, from_line(alloc, line.as_bytes())?)?;
+    if let Some(decided) = &found {
+        let steps = decided.steps(alloc)?;
+        assert_eq!(rt; at(&steps, 0), (1, Some(2)));
+        assert_eq!(rt; at(&steps, 1), (1, Some(1)));
+        assert_eq!(rt; at(&steps, 2), (0, None));
     } else {
         assert!(rt; false);
     }

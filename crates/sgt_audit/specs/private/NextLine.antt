@@ -4,24 +4,24 @@ use Rattle.sgt_notation.specs.Spelling.{line_text}
 use Rattle.sgt_notation.specs.declared.SectionLine.{SectionLine}
 use Rattle.sgt_cert.specs.Text.{certificate_text}
 use Rattle.sgt_cert.specs.declared.certificate.Certificate.{Certificate}
-use Rattle.sgt_cells.specs.declared.state.SiteState.{SiteState}
 use Rattle.sgt_audit.specs.declared.faults.Fault.{Fault}
 use Rattle.sgt_audit.specs.declared.kept.Kept.{Kept}
 use Rattle.sgt_audit.specs.declared.machine.Progress.{Progress}
+use Rattle.sgt_audit.specs.declared.tracked.Tracked.{Tracked}
 use Rattle.sgt_audit.specs.Faults.{Stage, headed, lines_so_far, Piece, whole, last, Rule, Breaks}
 use Rattle.sgt_audit.specs.Kept.{Holds, IsStageOf}
 use Rattle.sgt_audit.specs.Progress.{Stands}
 use Rattle.sgt_audit.specs.Reading.{Begun}
 
 -- one more line is kept, or this is its least fault
-abbrev pub AnswersLine : Bool → Certificate → Begun → SiteState → List SectionLine → List ℕ → Option Fault → Type 0
+abbrev pub AnswersLine : Bool → Certificate → Begun → Tracked → List SectionLine → List ℕ → Option Fault → Type 0
 AnswersLine second c new s before l None = (line : SectionLine) × (l ≡ line_text line) × Holds second c new s (before ++ line ∷ [])
 AnswersLine second c new s before l (Some f) = (stage : Stage) → IsStageOf second c before stage → Breaks (Rule stage (whole l)) f
 
 -- the second line is this certificate's, which keeps its rules, or this is its least fault
 abbrev pub AnswersCertificate : Bool → List ℕ → Result Kept Fault → Type 0
 AnswersCertificate second l (Ok k) =
-    (k.second ≡ second) × (l ≡ certificate_text k.certificate) × Holds k.second k.certificate k.sections k.state []
+    (k.second ≡ second) × (l ≡ certificate_text k.certificate) × Holds k.second k.certificate k.sections k.tracked []
 AnswersCertificate second l (Err f) = Breaks (Rule (headed second) (whole l)) f
 
 -- after a line with its LF: the next stage, or the least fault of this one

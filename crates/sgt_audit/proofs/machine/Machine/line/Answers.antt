@@ -10,5 +10,5 @@ returns-in-Ok-Ok-clause-follows k s stands =
 
 pub returns-in-Ok-clause-follows : goal.returns-in-Ok-clause-follows
 returns-in-Ok-clause-follows k s stands =
-    reading-follows k.in-Reading.kept.second k.next.new.self.second k.in-Reading.kept.certificate k.next.new.self.certificate k.in-Reading.kept.sections k.next.new.self.sections k.in-Reading.kept.state k.next.new.self.state k.args.line.now k.in-Ok.fault k.in-Ok.ensures.second k.in-Ok.ensures.certificate k.in-Ok.ensures.answers s
+    reading-follows k.in-Reading.kept.second k.next.new.self.second k.in-Reading.kept.certificate k.next.new.self.certificate k.in-Reading.kept.sections k.next.new.self.sections k.in-Reading.kept.tracked k.next.new.self.tracked k.args.line.now k.in-Ok.fault k.in-Ok.ensures.second k.in-Ok.ensures.certificate k.in-Ok.ensures.answers s
     (subst (λ q. Stands q s) k.in-Reading.is stands)

@@ -25,5 +25,5 @@ returns-clause-tracks c ds items entries once apart listed by ranked t =
     let same_cells = with_items_is old.cells c.enter_cell.new.cells (c.enter_cell.auto.cells ∙ c.as_mut_slice-2.ensures.len) in
     let cells = subst (AreCells ds items (entries ++ e ∷ [])) (sym same_cells) (c.enter_cell.ensures ds items entries once apart (subst (AreCells ds items entries) (sym c.as_mut_slice-2.ensures.value) t.cells) on ranked) in
     let order = order-next ds items entries old old t e number by once c.later_end-self.result c.is_end.result c.is_end.ensures c.later_end-self.ensures.end c.later_end-self.ensures.other in
-    tracks-next ds items entries old _ t e number by once c.place_of_entry-place.result on apart c.is_end.result c.is_end.ensures r v before.1 records to refl cells order
+    tracks-next ds items entries old _ t e number by once c.place_of_entry-place.result on apart c.is_end.result c.is_end.ensures r v before.1 records to refl c.in_ok-next.ensures cells order
     c.is_live-was.result c.is_live-is.result c.len.result was is (c.len.ensures ∙ old.records.ok.0 ∙ sym (ap length records ∙ length-set old.records.items number v)) c.live_after-self.ensures.same c.live_after-self.ensures.more c.live_after-self.ensures.less
