@@ -1,0 +1,207 @@
+//! A line of a section, read at the front of bytes that hold more: its LF is not looked for first.
+
+ghost use Rattle.std.specs.Prelude.{◌≡◌, ◌≤◌, ◌++◌, ◌∷◌, [], length, take, drop, IfSome, decimal};
+ghost use Rattle.sgt_names.specs.Name.{IsName};
+ghost use Rattle.sgt_notation.specs.Private.{ReadDigits, Spans};
+ghost use Rattle.sgt_notation.specs.Spelling.{IsEntry, IsHolding, IsLine, IsTx, IsValue, assignment, entry_text, line_text, operation};
+
+use crate::SectionLine;
+use crate::number::find_value;
+use crate::reading::behind;
+use sgt_names::{Entry, Holding, Item, SiteNo, Tx, Value};
+
+/// The place behind this byte.
+fn byte_at(bytes: &[u8], from: usize, byte: u8) -> Option<usize>
+    ensures { IfSome result (Spans bytes.now from (byte ∷ [])) }
+{
+    if *bytes.get(from)? == byte {
+        Some(from + 1)
+    } else {
+        None
+    }
+}
+
+/// What stands from this place on.
+fn from_place(bytes: &[u8], from: usize) -> Option<&[u8]>
+    ensures { IfSome result (λ rest. (from ≤ length bytes.now) × (rest.now ≡ drop from bytes.now)) }
+{
+    let (_, rest) = bytes.split_at_checked(from)?;
+    Some(rest)
+}
+
+/// What stands up to this place.
+fn up_to_place(bytes: &[u8], to: usize) -> Option<&[u8]>
+    ensures { IfSome result (λ front. (to ≤ length bytes.now) × (front.now ≡ take to bytes.now)) }
+{
+    let (front, _) = bytes.split_at_checked(to)?;
+    Some(front)
+}
+
+/// The place behind this word.
+fn word_at(bytes: &[u8], from: usize, word: &[u8]) -> Option<usize>
+    ensures { IfSome result (Spans bytes.now from word.now) }
+{
+    let rest = from_place(bytes, from)?;
+    let _last = behind(rest, word)?;
+    Some(from + word.len())
+}
+
+/// The digits at the front, as many as there are: the number that they write, as far as it fits, and how many they are.
+fn read_digits(bytes: &[u8]) -> (u64, usize)
+    ensures { (result.1 ≤ length bytes.now) × ReadDigits bytes.now result.1 result.0 }
+{
+    let mut value = 0u64;
+    let mut n = 0;
+    for byte in bytes {
+        let digit = byte.wrapping_sub(b'0');
+        if digit > 9 {
+            break;
+        }
+        value = value.wrapping_mul(10).wrapping_add(digit as u64);
+        n += 1;
+    }
+    (value, n)
+}
+
+/// The number of the first bytes, which are so many.
+#[inline(never)]
+fn long_value(bytes: &[u8], n: usize) -> Option<(Value, usize)>
+    ensures { IfSome result (λ r. IsValue r.0 × Spans bytes.now 0 (decimal r.0) r.1) }
+{
+    let value = find_value(up_to_place(bytes, n)?)?;
+    Some((value, n))
+}
+
+/// The number at the front, and how many digits it has.
+fn front_value(bytes: &[u8]) -> Option<(Value, usize)>
+    ensures { IfSome result (λ r. IsValue r.0 × Spans bytes.now 0 (decimal r.0) r.1) }
+{
+    let (value, n) = read_digits(bytes);
+    if n == 0 || n > 19 || (n > 1 && bytes[0] == b'0') {
+        return long_value(bytes, n);
+    }
+    Some((value, n))
+}
+
+/// A number, and the place behind it.
+fn value_at(bytes: &[u8], from: usize) -> Option<(Value, usize)>
+    ensures { IfSome result (λ r. IsValue r.0 × Spans bytes.now from (decimal r.0) r.1) }
+{
+    let (value, n) = front_value(from_place(bytes, from)?)?;
+    Some((value, from + n))
+}
+
+/// The number of a transaction, and the place behind it.
+fn tx_at(bytes: &[u8], from: usize) -> Option<(Tx, usize)>
+    ensures { IfSome result (λ r. IsTx r.0 × Spans bytes.now from (decimal r.0) r.1) }
+{
+    let (number, to) = value_at(bytes, from)?;
+    let tx = Tx::new(number).ok()?;
+    Some((tx, to))
+}
+
+/// How many bytes of the first seventeen stand before the first such byte. Nothing rests on it: it is only tried.
+fn guess_end(bytes: &[u8], byte: u8) -> usize {
+    let front = bytes.get(..17).unwrap_or(bytes);
+    front.iter().position(|other| *other == byte).unwrap_or(0)
+}
+
+/// A name, and the place behind it, where the name ends before this byte.
+fn name_at(bytes: &[u8], from: usize, end: u8) -> Option<(Item, usize)>
+    ensures { IfSome result (λ r. IsName r.0 × Spans bytes.now from r.0 r.1) }
+{
+    let rest = from_place(bytes, from)?;
+    let n = guess_end(rest, end);
+    let item = Item::new(up_to_place(rest, n)?).ok()?;
+    Some((item, from + n))
+}
+
+/// `NAME=NUM`, and the place behind it.
+fn holding_at(bytes: &[u8], from: usize) -> Option<(Holding, usize)>
+    ensures { IfSome result (λ r. IsHolding r.0 × Spans bytes.now from (assignment r.0.item r.0.value) r.1) }
+{
+    let (item, to) = name_at(bytes, from, b'=')?;
+    let (value, to) = value_at(bytes, byte_at(bytes, to, b'=')?)?;
+    Some((Holding { item, value }, to))
+}
+
+/// The entry that this letter and an operation spell.
+fn of_operation(letter: u8, tx: Tx, item: Item, value: Value) -> Option<Entry>
+    ensures { IfSome result (λ e. (entry_text e ≡ letter ∷ operation tx item value)
+        × (IsTx tx → IsName item → IsValue value → IsEntry e)) }
+{
+    match letter {
+        b'r' => Some(Entry::Read { tx, item, value }),
+        b'w' => Some(Entry::Write { tx, item, value }),
+        b'd' => Some(Entry::Add { tx, item, value }),
+        b'p' => Some(Entry::Want { tx, item, value }),
+        b'q' => Some(Entry::WantAdd { tx, item, value }),
+        _ => None,
+    }
+}
+
+/// The end that this letter and a transaction's number spell.
+fn of_tx(letter: u8, tx: Tx) -> Option<Entry>
+    ensures { IfSome result (λ e. (entry_text e ≡ letter ∷ decimal tx) × (IsTx tx → IsEntry e)) }
+{
+    match letter {
+        b'c' => Some(Entry::Commit { tx }),
+        b'n' => Some(Entry::Refuse { tx }),
+        b'a' => Some(Entry::Withdraw { tx }),
+        _ => None,
+    }
+}
+
+/// The line of an entry at the front, and the place behind it.
+fn front_entry(bytes: &[u8]) -> Option<(Entry, usize)>
+    ensures { IfSome result (λ r. IsEntry r.0 × Spans bytes.now 0 (entry_text r.0) r.1) }
+{
+    let letter = *bytes.first()?;
+    let (tx, to) = tx_at(bytes, 1)?;
+    if *bytes.get(to)? != b'[' {
+        return Some((of_tx(letter, tx)?, to));
+    }
+    let (item, to) = name_at(bytes, to + 1, b']')?;
+    let (value, to) = value_at(bytes, byte_at(bytes, byte_at(bytes, to, b']')?, b'=')?)?;
+    Some((of_operation(letter, tx, item, value)?, to))
+}
+
+/// The line at the front that is no entry's, and the place behind it.
+fn front_word(bytes: &[u8]) -> Option<(SectionLine, usize)>
+    ensures { IfSome result (λ r. IsLine r.0 × Spans bytes.now 0 (line_text r.0) r.1) }
+{
+    if let Some(from) = word_at(bytes, 0, b"item ") {
+        let (holding, to) = holding_at(bytes, from)?;
+        return Some((SectionLine::Initial(holding), to));
+    }
+    if let Some(from) = word_at(bytes, 0, b"final ") {
+        let (holding, to) = holding_at(bytes, from)?;
+        return Some((SectionLine::Final(holding), to));
+    }
+    if let Some(from) = word_at(bytes, 0, b"site ") {
+        let (number, to) = value_at(bytes, from)?;
+        let site = SiteNo::new(number).ok()?;
+        return Some((SectionLine::Site(site), to));
+    }
+    let to = word_at(bytes, 0, b"end")?;
+    Some((SectionLine::End, to))
+}
+
+/// The line of a section at the front, and the place behind it.
+fn front_section(bytes: &[u8]) -> Option<(SectionLine, usize)>
+    ensures { IfSome result (λ r. IsLine r.0 × Spans bytes.now 0 (line_text r.0) r.1) }
+{
+    match front_entry(bytes) {
+        Some((entry, to)) => Some((SectionLine::Logged(entry), to)),
+        None => front_word(bytes),
+    }
+}
+
+/// The line of a section that stands at the front with its LF, and how many bytes both have. They are read once.
+/// None says nothing of the bytes: there may be such a line, but this function doesn't find it.
+pub fn front_line(bytes: &[u8]) -> Option<(SectionLine, usize)>
+    ensures { IfSome result (λ r. IsLine r.0 × (r.1 ≤ length bytes.now) × (take r.1 bytes.now ≡ line_text r.0 ++ 10 ∷ [])) }
+{
+    let (line, to) = front_section(bytes)?;
+    Some((line, byte_at(bytes, to, b'\n')?))
+}
