@@ -3,14 +3,16 @@
 ghost use Rattle.std.specs.Prelude.{◌≡◌, ◌≤◌, ◌++◌, ◌∷◌, [], length, take, drop, IfSome, decimal};
 ghost use Rattle.sgt_names.specs.Name.{IsName};
 ghost use Rattle.sgt_notation.specs.Private.{ReadDigits, Spans};
-ghost use Rattle.sgt_notation.specs.Spelling.{IsEntry, IsHolding, IsLine, IsTx, IsValue, assignment, entry_text, line_text, operation};
+ghost use Rattle.sgt_notation.specs.Spelling.{IsHolding, IsLine, IsTx, IsValue, assignment, line_text, operation};
 
 use crate::SectionLine;
 use crate::number::find_value;
 use crate::reading::behind;
 use sgt_names::{Entry, Holding, Item, SiteNo, Tx, Value};
+use std::simd::prelude::*;
 
 /// The place behind this byte.
+#[inline(always)]
 fn byte_at(bytes: &[u8], from: usize, byte: u8) -> Option<usize>
     ensures { IfSome result (Spans bytes.now from (byte ∷ [])) }
 {
@@ -22,6 +24,7 @@ fn byte_at(bytes: &[u8], from: usize, byte: u8) -> Option<usize>
 }
 
 /// What stands from this place on.
+#[inline(always)]
 fn from_place(bytes: &[u8], from: usize) -> Option<&[u8]>
     ensures { IfSome result (λ rest. (from ≤ length bytes.now) × (rest.now ≡ drop from bytes.now)) }
 {
@@ -30,6 +33,7 @@ fn from_place(bytes: &[u8], from: usize) -> Option<&[u8]>
 }
 
 /// What stands up to this place.
+#[inline(always)]
 fn up_to_place(bytes: &[u8], to: usize) -> Option<&[u8]>
     ensures { IfSome result (λ front. (to ≤ length bytes.now) × (front.now ≡ take to bytes.now)) }
 {
@@ -47,6 +51,7 @@ fn word_at(bytes: &[u8], from: usize, word: &[u8]) -> Option<usize>
 }
 
 /// The digits at the front, as many as there are: the number that they write, as far as it fits, and how many they are.
+#[inline(always)]
 fn read_digits(bytes: &[u8]) -> (u64, usize)
     ensures { (result.1 ≤ length bytes.now) × ReadDigits bytes.now result.1 result.0 }
 {
@@ -73,6 +78,7 @@ fn long_value(bytes: &[u8], n: usize) -> Option<(Value, usize)>
 }
 
 /// The number at the front, and how many digits it has.
+#[inline(always)]
 fn front_value(bytes: &[u8]) -> Option<(Value, usize)>
     ensures { IfSome result (λ r. IsValue r.0 × Spans bytes.now 0 (decimal r.0) r.1) }
 {
@@ -84,6 +90,7 @@ fn front_value(bytes: &[u8]) -> Option<(Value, usize)>
 }
 
 /// A number, and the place behind it.
+#[inline(always)]
 fn value_at(bytes: &[u8], from: usize) -> Option<(Value, usize)>
     ensures { IfSome result (λ r. IsValue r.0 × Spans bytes.now from (decimal r.0) r.1) }
 {
@@ -92,6 +99,7 @@ fn value_at(bytes: &[u8], from: usize) -> Option<(Value, usize)>
 }
 
 /// The number of a transaction, and the place behind it.
+#[inline(always)]
 fn tx_at(bytes: &[u8], from: usize) -> Option<(Tx, usize)>
     ensures { IfSome result (λ r. IsTx r.0 × Spans bytes.now from (decimal r.0) r.1) }
 {
@@ -100,13 +108,20 @@ fn tx_at(bytes: &[u8], from: usize) -> Option<(Tx, usize)>
     Some((tx, to))
 }
 
-/// How many bytes of the first seventeen stand before the first such byte. Nothing rests on it: it is only tried.
+/// How many bytes of the first sixteen stand before the first such byte. Nothing rests on it: it is only tried.
+#[inline(always)]
 fn guess_end(bytes: &[u8], byte: u8) -> usize {
-    let front = bytes.get(..17).unwrap_or(bytes);
-    front.iter().position(|other| *other == byte).unwrap_or(0)
+    match bytes.first_chunk::<16>() {
+        Some(chunk) => {
+            let same = u8x16::from_array(*chunk).simd_eq(u8x16::splat(byte));
+            same.to_bitmask().trailing_zeros() as usize
+        }
+        None => bytes.iter().position(|other| *other == byte).unwrap_or(0),
+    }
 }
 
 /// A name, and the place behind it, where the name ends before this byte.
+#[inline(always)]
 fn name_at(bytes: &[u8], from: usize, end: u8) -> Option<(Item, usize)>
     ensures { IfSome result (λ r. IsName r.0 × Spans bytes.now from r.0 r.1) }
 {
@@ -125,49 +140,57 @@ fn holding_at(bytes: &[u8], from: usize) -> Option<(Holding, usize)>
     Some((Holding { item, value }, to))
 }
 
-/// The entry that this letter and an operation spell.
-fn of_operation(letter: u8, tx: Tx, item: Item, value: Value) -> Option<Entry>
-    ensures { IfSome result (λ e. (entry_text e ≡ letter ∷ operation tx item value)
-        × (IsTx tx → IsName item → IsValue value → IsEntry e)) }
+/// The line of an entry that this letter and an operation spell.
+#[inline(always)]
+fn of_operation(letter: u8, tx: Tx, item: Item, value: Value) -> Option<SectionLine>
+    ensures { IfSome result (λ l. (line_text l ≡ letter ∷ operation tx item value)
+        × (IsTx tx → IsName item → IsValue value → IsLine l)) }
 {
     match letter {
-        b'r' => Some(Entry::Read { tx, item, value }),
-        b'w' => Some(Entry::Write { tx, item, value }),
-        b'd' => Some(Entry::Add { tx, item, value }),
-        b'p' => Some(Entry::Want { tx, item, value }),
-        b'q' => Some(Entry::WantAdd { tx, item, value }),
+        b'r' => Some(SectionLine::Logged(Entry::Read { tx, item, value })),
+        b'w' => Some(SectionLine::Logged(Entry::Write { tx, item, value })),
+        b'd' => Some(SectionLine::Logged(Entry::Add { tx, item, value })),
+        b'p' => Some(SectionLine::Logged(Entry::Want { tx, item, value })),
+        b'q' => Some(SectionLine::Logged(Entry::WantAdd { tx, item, value })),
         _ => None,
     }
 }
 
-/// The end that this letter and a transaction's number spell.
-fn of_tx(letter: u8, tx: Tx) -> Option<Entry>
-    ensures { IfSome result (λ e. (entry_text e ≡ letter ∷ decimal tx) × (IsTx tx → IsEntry e)) }
+/// The line of an end that this letter and a transaction's number spell.
+#[inline(always)]
+fn of_tx(letter: u8, tx: Tx) -> Option<SectionLine>
+    ensures { IfSome result (λ l. (line_text l ≡ letter ∷ decimal tx) × (IsTx tx → IsLine l)) }
 {
     match letter {
-        b'c' => Some(Entry::Commit { tx }),
-        b'n' => Some(Entry::Refuse { tx }),
-        b'a' => Some(Entry::Withdraw { tx }),
+        b'c' => Some(SectionLine::Logged(Entry::Commit { tx })),
+        b'n' => Some(SectionLine::Logged(Entry::Refuse { tx })),
+        b'a' => Some(SectionLine::Logged(Entry::Withdraw { tx })),
         _ => None,
     }
 }
 
-/// The line of an entry at the front, and the place behind it.
-fn front_entry(bytes: &[u8]) -> Option<(Entry, usize)>
-    ensures { IfSome result (λ r. IsEntry r.0 × Spans bytes.now 0 (entry_text r.0) r.1) }
+/// The line of an entry with its LF at the front, and the place behind it.
+#[inline(always)]
+fn front_entry(bytes: &[u8]) -> Option<(SectionLine, usize)>
+    ensures { IfSome result (λ r. IsLine r.0 × Spans bytes.now 0 (line_text r.0 ++ 10 ∷ []) r.1) }
 {
     let letter = *bytes.first()?;
     let (tx, to) = tx_at(bytes, 1)?;
-    if *bytes.get(to)? != b'[' {
-        return Some((of_tx(letter, tx)?, to));
+    let next = *bytes.get(to)?;
+    if next == b'\n' {
+        return Some((of_tx(letter, tx)?, to + 1));
+    }
+    if next != b'[' {
+        return None;
     }
     let (item, to) = name_at(bytes, to + 1, b']')?;
     let (value, to) = value_at(bytes, byte_at(bytes, byte_at(bytes, to, b']')?, b'=')?)?;
+    let to = byte_at(bytes, to, b'\n')?;
     Some((of_operation(letter, tx, item, value)?, to))
 }
 
 /// The line at the front that is no entry's, and the place behind it.
-fn front_word(bytes: &[u8]) -> Option<(SectionLine, usize)>
+fn word_line(bytes: &[u8]) -> Option<(SectionLine, usize)>
     ensures { IfSome result (λ r. IsLine r.0 × Spans bytes.now 0 (line_text r.0) r.1) }
 {
     if let Some(from) = word_at(bytes, 0, b"item ") {
@@ -187,21 +210,23 @@ fn front_word(bytes: &[u8]) -> Option<(SectionLine, usize)>
     Some((SectionLine::End, to))
 }
 
-/// The line of a section at the front, and the place behind it.
-fn front_section(bytes: &[u8]) -> Option<(SectionLine, usize)>
-    ensures { IfSome result (λ r. IsLine r.0 × Spans bytes.now 0 (line_text r.0) r.1) }
+/// The same with its LF.
+#[inline(never)]
+fn front_word(bytes: &[u8]) -> Option<(SectionLine, usize)>
+    ensures { IfSome result (λ r. IsLine r.0 × Spans bytes.now 0 (line_text r.0 ++ 10 ∷ []) r.1) }
 {
-    match front_entry(bytes) {
-        Some((entry, to)) => Some((SectionLine::Logged(entry), to)),
-        None => front_word(bytes),
-    }
+    let (line, to) = word_line(bytes)?;
+    Some((line, byte_at(bytes, to, b'\n')?))
 }
 
 /// The line of a section that stands at the front with its LF, and how many bytes both have. They are read once.
 /// None says nothing of the bytes: there may be such a line, but this function doesn't find it.
+#[inline(always)]
 pub fn front_line(bytes: &[u8]) -> Option<(SectionLine, usize)>
     ensures { IfSome result (λ r. IsLine r.0 × (r.1 ≤ length bytes.now) × (take r.1 bytes.now ≡ line_text r.0 ++ 10 ∷ [])) }
 {
-    let (line, to) = front_section(bytes)?;
-    Some((line, byte_at(bytes, to, b'\n')?))
+    match front_entry(bytes) {
+        Some(found) => Some(found),
+        None => front_word(bytes),
+    }
 }

@@ -151,6 +151,7 @@ impl Lines {
     }
 
     /// The bytes that were read and not yet given out.
+    #[inline(always)]
     pub fn held(&self) -> &[u8]
         ensures { result.now ≡ self.now.held }
     {
@@ -158,6 +159,7 @@ impl Lines {
     }
 
     /// Passes over so many of the held bytes, as if they had been given out.
+    #[inline(always)]
     pub fn pass(&mut self, n: usize)
         requires { n ≤ length self.old.held }
         ensures { self.new ≡ passed n self.old }
@@ -167,6 +169,7 @@ impl Lines {
 
     /// The line of a section that comes next, where it is held whole; it is passed over. It makes no read and copies no
     /// bytes. None says nothing of what comes: `next` tells that.
+    #[inline(always)]
     pub fn next_held(&mut self) -> Option<SectionLine>
         ensures some { (limit : ℕ) (told : Option (List ℕ)) (failures : ℕ) → 50 ≤ limit → IfSome result (λ l. IsLine l
             × GaveNext limit (stream self.old told failures) Next.Line (line_text l) (stream self.new told failures)) }
