@@ -3,16 +3,16 @@ use Rattle.std.proofs.Common.{◌≡◌, inl, inr, ℕ, ◌+◌, ◌-◌, ◌*�
 use Rattle.std.proofs.Math.Seq.{drop-append_seam}
 use Rattle.std.proofs.lemmas.Fmt.{decimal-digits_value}
 use Rattle.std.proofs.lemmas.Int.Digits.{digits_push, digits_value_push}
-use Rattle.std.proofs.lemmas.List.{append_cancel_right, drop-drop, drop_more, take-append-drop, take_more, get_or-take}
+use Rattle.std.proofs.lemmas.List.{drop-drop, take-append-drop, take_more, get_or-take}
 use Rattle.std.proofs.lemmas.Str.{digit_value_digit}
 use Rattle.std.proofs.lemmas.Str.Parse.{digits_value_short}
 use Rattle.std.specs.Char.{digit_value}
 use Rattle.std.specs.Str.Parse.{AllDigits, digits_value}
 use Rattle.std.specs.Result.{OkIff, result_ok}
-use Rattle.sgt_names.specs.Name.{IsName, Name}
+use Rattle.sgt_names.specs.Name.{IsName}
 use Rattle.sgt_notation.specs.Lines.{Ahead, GaveNext, Spends, coming, passed, stream, Gives}
 use Rattle.sgt_notation.specs.Private.{ReadDigits, Spans}
-use Rattle.sgt_notation.specs.Spelling.{HasNoLf, IsValue, operation}
+use Rattle.sgt_notation.specs.Spelling.{HasNoLf, IsValue}
 use Rattle.sgt_notation.specs.declared.lines.Next.TheVariants.{Line}
 use Rattle.sgt_notation.proofs.Numbers.{own}
 
@@ -20,9 +20,6 @@ use Rattle.sgt_notation.proofs.Numbers.{own}
 
 pub spans_front : (bytes : List ℕ) (n : ℕ) (text : List ℕ) → n ≤ length bytes → take n bytes ≡ text → Spans bytes 0 text n
 spans_front bytes n text within e = record { within = within; reads = sym (take-append-drop n bytes) ∙ ap (λ t. t ++ drop n bytes) e }
-
-pub spans_join : {bytes s t : List ℕ} {i j k : ℕ} → Spans bytes i s j → Spans bytes j t k → Spans bytes i (s ++ t) k
-spans_join {bytes} {s} {t} {i} {j} {k} a b = record { within = b.within; reads = a.reads ∙ (ap (λ r. s ++ r) b.reads ∙ sym (append_assoc s t (drop k bytes))) }
 
 pub spans_later : (bytes : List ℕ) (from : ℕ) (text : List ℕ) (n : ℕ) → from ≤ length bytes → Spans (drop from bytes) 0 text n → Spans bytes from text (from + n)
 spans_later bytes from text n within s = record {
@@ -47,24 +44,7 @@ spans_word bytes from word rest last within is starts =
     let behind : drop (from + length word) bytes ≡ last = sym (drop-drop (length word) from bytes) ∙ (ap (drop (length word)) (sym is ∙ starts) ∙ drop-append_seam word last) in
     record { within = omega arith; reads = sym is ∙ (starts ∙ ap (λ r. word ++ r) (sym behind)) }
 
-pub spans_byte : (bytes : List ℕ) (from c : ℕ) → from < length bytes → get_or bytes from c ≡ c → Spans bytes from (c ∷ []) (from + 1)
-spans_byte bytes from c within is = record { within = omega arith; reads = drop_more bytes from c within ∙ ap (λ x. x ∷ drop (from + 1) bytes) is }
-
--- a text from the front on is what so many bytes are
-pub spans_taken : {bytes text : List ℕ} {n : ℕ} → Spans bytes 0 text n → (n ≤ length bytes) × (take n bytes ≡ text)
-spans_taken {bytes} {text} {n} s = (s.within, append_cancel_right (take n bytes) text (drop n bytes) (take-append-drop n bytes ∙ s.reads))
-
--- an operation, by its parts
-pub operation_spans : {bytes : List ℕ} {a b d e f g n : ℕ} (c tx v : ℕ) (x : Name) → Spans bytes 0 (c ∷ []) a → Spans bytes a (decimal tx) b → Spans bytes b (91 ∷ []) d → Spans bytes d x e
-    → Spans bytes e (93 ∷ []) f → Spans bytes f (61 ∷ []) g → Spans bytes g (decimal v) n → Spans bytes 0 (c ∷ operation tx x v) n
-operation_spans {bytes} {n = n} c tx v x s0 s1 s2 s3 s4 s5 s6 =
-    let whole : (c ∷ []) ++ decimal tx ++ 91 ∷ [] ++ x ++ 93 ∷ [] ++ 61 ∷ [] ++ decimal v ≡ c ∷ operation tx x v = simp append_assoc in
-    subst (λ t. Spans bytes 0 t n) whole (spans_join (spans_join (spans_join (spans_join (spans_join (spans_join s0 s1) s2) s3) s4) s5) s6)
-
 -- ---- numbers
-
-pub read_none : (bytes : List ℕ) → ReadDigits bytes 0 0
-read_none bytes = record { digits = tt; number = λ _. refl }
 
 -- what subtracting the code of 0 leaves of a digit
 pub digit_left : (c d : ℕ) → c < 256 → d ≡ (c + (256 - 48)) % 256 → d ≤ 9 → c ≡ d + 48

@@ -1,5 +1,5 @@
 -- Words of private clauses alone: parts of a line as they are read, and a look into the bytes that are held.
-use Rattle.std.specs.Prelude.{◌≡◌, ◌<◌, ◌≤◌, ℕ, ◌+◌, List, [], ◌∷◌, ◌++◌, length, take, drop, ⊤, Option, Some, None}
+use Rattle.std.specs.Prelude.{◌≡◌, ◌<◌, ◌≤◌, ℕ, ◌+◌, List, [], ◌∷◌, ◌++◌, length, take, drop, ⊤, Bool, true, false, Option, Some, None}
 use Rattle.std.specs.Str.Parse.{AllDigits, digits_value}
 use Rattle.sgt_names.specs.Name.{Name, IsName}
 use Rattle.sgt_notation.specs.Spelling.{operation, HasNoLf, IsTx, IsValue}
@@ -53,6 +53,11 @@ Outgrows room limit line held = (n : ℕ) × (n ≤ length held) × HasNoLf (tak
 pub record Spans (bytes : List ℕ) (from : ℕ) (text : List ℕ) (to : ℕ) : Type 0 where
   pub within : to ≤ length bytes
   pub reads : drop from bytes ≡ text ++ drop to bytes
+
+-- the LF of a line, where it is wanted
+abbrev pub ending : Bool → List ℕ
+ending true = 10 ∷ []
+ending false = []
 
 -- so many bytes at the front are digits, and this is the number that they write, as far as it fits
 pub record ReadDigits (bytes : List ℕ) (n value : ℕ) : Type 0 where

@@ -2,7 +2,7 @@
 
 ghost use Rattle.std.specs.Prelude.{◌≡◌, ◌≤◌, ◌++◌, ◌∷◌, [], length, take, drop, IfSome, decimal};
 ghost use Rattle.sgt_names.specs.Name.{IsName};
-ghost use Rattle.sgt_notation.specs.Private.{ReadDigits, Spans};
+ghost use Rattle.sgt_notation.specs.Private.{ReadDigits, Spans, ending};
 ghost use Rattle.sgt_notation.specs.Spelling.{IsHolding, IsLine, IsTx, IsValue, assignment, line_text, operation};
 
 use crate::SectionLine;
@@ -140,53 +140,67 @@ fn holding_at(bytes: &[u8], from: usize) -> Option<(Holding, usize)>
     Some((Holding { item, value }, to))
 }
 
-/// The line of an entry that this letter and an operation spell.
+/// The line of an entry that this letter and an operation spell, with this number.
 #[inline(always)]
-fn of_operation(letter: u8, tx: Tx, item: Item, value: Value) -> Option<SectionLine>
-    ensures { IfSome result (λ l. (line_text l ≡ letter ∷ operation tx item value)
-        × (IsTx tx → IsName item → IsValue value → IsLine l)) }
+fn of_operation(
+    letter: u8,
+    tx: Tx,
+    item: Item,
+    value: Value,
+    to: usize,
+) -> Option<(SectionLine, usize)>
+    ensures { IfSome result (λ r. (line_text r.0 ≡ letter ∷ operation tx item value) × (r.1 ≡ to)
+        × (IsTx tx → IsName item → IsValue value → IsLine r.0)) }
 {
     match letter {
-        b'r' => Some(SectionLine::Logged(Entry::Read { tx, item, value })),
-        b'w' => Some(SectionLine::Logged(Entry::Write { tx, item, value })),
-        b'd' => Some(SectionLine::Logged(Entry::Add { tx, item, value })),
-        b'p' => Some(SectionLine::Logged(Entry::Want { tx, item, value })),
-        b'q' => Some(SectionLine::Logged(Entry::WantAdd { tx, item, value })),
+        b'r' => Some((SectionLine::Logged(Entry::Read { tx, item, value }), to)),
+        b'w' => Some((SectionLine::Logged(Entry::Write { tx, item, value }), to)),
+        b'd' => Some((SectionLine::Logged(Entry::Add { tx, item, value }), to)),
+        b'p' => Some((SectionLine::Logged(Entry::Want { tx, item, value }), to)),
+        b'q' => Some((SectionLine::Logged(Entry::WantAdd { tx, item, value }), to)),
         _ => None,
     }
 }
 
-/// The line of an end that this letter and a transaction's number spell.
+/// The line of an end that this letter and a transaction's number spell, with this number.
 #[inline(always)]
-fn of_tx(letter: u8, tx: Tx) -> Option<SectionLine>
-    ensures { IfSome result (λ l. (line_text l ≡ letter ∷ decimal tx) × (IsTx tx → IsLine l)) }
+fn of_tx(letter: u8, tx: Tx, to: usize) -> Option<(SectionLine, usize)>
+    ensures { IfSome result (λ r. (line_text r.0 ≡ letter ∷ decimal tx) × (r.1 ≡ to) × (IsTx tx → IsLine r.0)) }
 {
     match letter {
-        b'c' => Some(SectionLine::Logged(Entry::Commit { tx })),
-        b'n' => Some(SectionLine::Logged(Entry::Refuse { tx })),
-        b'a' => Some(SectionLine::Logged(Entry::Withdraw { tx })),
+        b'c' => Some((SectionLine::Logged(Entry::Commit { tx }), to)),
+        b'n' => Some((SectionLine::Logged(Entry::Refuse { tx }), to)),
+        b'a' => Some((SectionLine::Logged(Entry::Withdraw { tx }), to)),
         _ => None,
     }
 }
 
-/// The line of an entry with its LF at the front, and the place behind it.
+/// The place behind the LF, or the same place where none is wanted.
 #[inline(always)]
-fn front_entry(bytes: &[u8]) -> Option<(SectionLine, usize)>
-    ensures { IfSome result (λ r. IsLine r.0 × Spans bytes.now 0 (line_text r.0 ++ 10 ∷ []) r.1) }
+fn line_end(bytes: &[u8], from: usize, wants_lf: bool) -> Option<usize>
+    requires { from ≤ length bytes.now }
+    ensures { IfSome result (Spans bytes.now from (ending wants_lf)) }
+{
+    if wants_lf {
+        byte_at(bytes, from, b'\n')
+    } else {
+        Some(from)
+    }
+}
+
+/// The line of an entry at the front, and the place behind it, or behind its LF.
+#[inline(always)]
+fn front_entry(bytes: &[u8], wants_lf: bool) -> Option<(SectionLine, usize)>
+    ensures { IfSome result (λ r. IsLine r.0 × Spans bytes.now 0 (line_text r.0 ++ ending wants_lf) r.1) }
 {
     let letter = *bytes.first()?;
     let (tx, to) = tx_at(bytes, 1)?;
-    let next = *bytes.get(to)?;
-    if next == b'\n' {
-        return Some((of_tx(letter, tx)?, to + 1));
-    }
-    if next != b'[' {
-        return None;
+    if bytes.get(to) != Some(&b'[') {
+        return of_tx(letter, tx, line_end(bytes, to, wants_lf)?);
     }
     let (item, to) = name_at(bytes, to + 1, b']')?;
     let (value, to) = value_at(bytes, byte_at(bytes, byte_at(bytes, to, b']')?, b'=')?)?;
-    let to = byte_at(bytes, to, b'\n')?;
-    Some((of_operation(letter, tx, item, value)?, to))
+    of_operation(letter, tx, item, value, line_end(bytes, to, wants_lf)?)
 }
 
 /// The line at the front that is no entry's, and the place behind it.
@@ -210,13 +224,24 @@ fn word_line(bytes: &[u8]) -> Option<(SectionLine, usize)>
     Some((SectionLine::End, to))
 }
 
-/// The same with its LF.
+/// The same, or the place behind its LF.
 #[inline(never)]
-fn front_word(bytes: &[u8]) -> Option<(SectionLine, usize)>
-    ensures { IfSome result (λ r. IsLine r.0 × Spans bytes.now 0 (line_text r.0 ++ 10 ∷ []) r.1) }
+fn front_word(bytes: &[u8], wants_lf: bool) -> Option<(SectionLine, usize)>
+    ensures { IfSome result (λ r. IsLine r.0 × Spans bytes.now 0 (line_text r.0 ++ ending wants_lf) r.1) }
 {
     let (line, to) = word_line(bytes)?;
-    Some((line, byte_at(bytes, to, b'\n')?))
+    Some((line, line_end(bytes, to, wants_lf)?))
+}
+
+/// The line of a section at the front, and the place behind it, or behind its LF.
+#[inline(always)]
+pub(crate) fn front_section(bytes: &[u8], wants_lf: bool) -> Option<(SectionLine, usize)>
+    ensures { IfSome result (λ r. IsLine r.0 × Spans bytes.now 0 (line_text r.0 ++ ending wants_lf) r.1) }
+{
+    match front_entry(bytes, wants_lf) {
+        Some(found) => Some(found),
+        None => front_word(bytes, wants_lf),
+    }
 }
 
 /// The line of a section that stands at the front with its LF, and how many bytes both have. They are read once.
@@ -225,8 +250,5 @@ fn front_word(bytes: &[u8]) -> Option<(SectionLine, usize)>
 pub fn front_line(bytes: &[u8]) -> Option<(SectionLine, usize)>
     ensures { IfSome result (λ r. IsLine r.0 × (r.1 ≤ length bytes.now) × (take r.1 bytes.now ≡ line_text r.0 ++ 10 ∷ [])) }
 {
-    match front_entry(bytes) {
-        Some(found) => Some(found),
-        None => front_word(bytes),
-    }
+    front_section(bytes, true)
 }
