@@ -238,9 +238,9 @@ fn front_word(bytes: &[u8], wants_lf: bool) -> Option<(SectionLine, usize)>
 pub(crate) fn front_section(bytes: &[u8], wants_lf: bool) -> Option<(SectionLine, usize)>
     ensures { IfSome result (λ r. IsLine r.0 × Spans bytes.now 0 (line_text r.0 ++ ending wants_lf) r.1) }
 {
-    match front_entry(bytes, wants_lf) {
-        Some(found) => Some(found),
-        None => front_word(bytes, wants_lf),
+    match bytes.first() {
+        Some(b'e' | b'f' | b'i' | b's') => front_word(bytes, wants_lf),
+        _ => front_entry(bytes, wants_lf),
     }
 }
 
