@@ -7,7 +7,7 @@ use Rattle.std.specs.Result.{OkIff, result_ok}
 use Rattle.sgt_notation.specs.Spelling.{IsValue}
 use Rattle.sgt_notation.specs.Reading.{Finds}
 
-own : IsNumeralModel (AllDigits 10) (digits_value 10)
+pub own : IsNumeralModel (AllDigits 10) (digits_value 10)
 own = numerals_by_value (AllDigits 10) tells_digits
 
 first_low : (n : ℕ) → IsValue n → 48 ≤ get_or (decimal n) 0 0

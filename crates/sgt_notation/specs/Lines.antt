@@ -1,6 +1,6 @@
 -- What a reader of lines has ahead of it, what comes next of it, and what a call that asks for it gives.
 use Rattle.std.specs.Prelude.{◌≡◌, ◌≢◌, ◌<◌, ◌≤◌, ℕ, ◌+◌, ◌-◌, ◌*◌, ◌^◌, ◌⊎◌, ⊤}
-use Rattle.std.specs.Prelude.{List, [], ◌∷◌, ◌++◌, length, take, Option, Some, None, IfSome}
+use Rattle.std.specs.Prelude.{List, [], ◌∷◌, ◌++◌, length, take, drop, Option, Some, None, IfSome}
 use Rattle.std.specs.Io.KnownBytes.{prepend_known, Consumes}
 use Rattle.sgt_notation.specs.Limits.{buffer_size}
 use Rattle.sgt_notation.specs.Spelling.{HasNoLf}
@@ -15,6 +15,10 @@ pub record Ahead : Type 0 where
 -- how many bytes may still come out
 abbrev pub most_left : Ahead → ℕ
 most_left ahead = ahead.reads * buffer_size + length ahead.held
+
+-- so many of the held bytes are passed over
+abbrev pub passed : ℕ → Ahead → Ahead
+passed n ahead = record { held = drop n ahead.held; reads = ahead.reads }
 
 -- all that comes: what is held, and then what the source has left
 abbrev pub coming : Ahead → Option (List ℕ) → Option (List ℕ)

@@ -1,13 +1,15 @@
 //! A reader, cut into lines.
 
-ghost use Rattle.std.specs.Prelude.{◌≡◌, ◌≢◌, ◌+◌, ◌-◌, ◌<◌, ◌≤◌, ◌⊎◌, ◌^◌, [], ◌∷◌, ◌++◌, length, take, drop, vec_len, vec_capacity};
+ghost use Rattle.std.specs.Prelude.{ℕ, List, Option, ◌≡◌, ◌≢◌, ◌+◌, ◌-◌, ◌<◌, ◌≤◌, ◌⊎◌, ◌^◌, [], ◌∷◌, ◌++◌, length, take, drop, vec_len, vec_capacity};
 ghost use Rattle.std.specs.Prelude.{Some, Ok, IfSome, IfNone, IfErr, IfOk, OnOk, OnErr, IsErrOf};
 ghost use Rattle.std.specs.Io.KnownBytes.{Consumes, IsAtEnd};
 ghost use Rattle.sgt_notation.specs.Limits.{buffer_size, most_reads};
-ghost use Rattle.sgt_notation.specs.Lines.{Ahead, GaveNext, Leaves, MetReadFault, WantedMemory, most_left, stream};
+ghost use Rattle.sgt_notation.specs.Lines.{Ahead, GaveNext, Leaves, MetReadFault, WantedMemory, most_left, passed, stream};
 ghost use Rattle.sgt_notation.specs.Private.{IsLeft, Looks, Moves, Outgrows};
-ghost use Rattle.sgt_notation.specs.Spelling.{HasNoLf};
+ghost use Rattle.sgt_notation.specs.Spelling.{HasNoLf, IsLine, line_text};
 
+use crate::SectionLine;
+use crate::front::front_line;
 use memchr::memchr;
 use sgt_names::Source;
 use std::alloc::{AllocError, Global};
@@ -146,6 +148,36 @@ impl Lines {
             end: 0,
             reads: MOST_READS,
         })
+    }
+
+    /// The bytes that were read and not yet given out.
+    #[inline(always)]
+    pub fn held(&self) -> &[u8]
+        ensures { result.now ≡ self.now.held }
+    {
+        &self.buffer[self.start..self.end]
+    }
+
+    /// Passes over so many of the held bytes, as if they had been given out.
+    #[inline(always)]
+    pub fn pass(&mut self, n: usize)
+        requires { n ≤ length self.old.held }
+        ensures { self.new ≡ passed n self.old }
+    {
+        self.start += n;
+    }
+
+    /// The line of a section that comes next, where it is held whole; it is passed over. It makes no read and copies no
+    /// bytes. None says nothing of what comes: `next` tells that.
+    #[inline(always)]
+    pub fn next_held(&mut self) -> Option<SectionLine>
+        ensures some { (limit : ℕ) (told : Option (List ℕ)) (failures : ℕ) → 50 ≤ limit → IfSome result (λ l. IsLine l
+            × GaveNext limit (stream self.old told failures) Next.Line (line_text l) (stream self.new told failures)) }
+        ensures none { IfNone result (self.new ≡ self.old) }
+    {
+        let (line, n) = front_line(self.held())?;
+        self.pass(n);
+        Some(line)
     }
 
     /// Reads once into the empty buffer; 0 is the end.

@@ -7,6 +7,7 @@ ghost use Rattle.sgt_notation.specs.Spelling.{IsEntry, IsHolding, IsLine, assign
 
 use crate::SectionLine;
 use crate::fault::{MAX_LINE, NotationFault};
+use crate::front::front_section;
 use crate::number::{find_site, find_tx, find_value};
 use sgt_names::{Entry, Holding, Item, Tx, Value};
 
@@ -70,10 +71,23 @@ fn find_entry(line: &[u8]) -> Option<Entry>
     }
 }
 
+/// The line of a section that these bytes spell, as far as a look at their front finds it.
+fn whole_line(line: &[u8]) -> Option<SectionLine>
+    ensures { IfSome result (λ l. IsLine l × (line.now ≡ line_text l)) }
+{
+    match front_section(line, false) {
+        Some((found, to)) if to == line.len() => Some(found),
+        _ => None,
+    }
+}
+
 /// Reads a line of a section.
 fn find_line(line: &[u8]) -> Option<SectionLine>
     ensures { Finds IsLine line_text line.now result }
 {
+    if let Some(found) = whole_line(line) {
+        return Some(found);
+    }
     if let Some(entry) = find_entry(line) {
         return Some(SectionLine::Logged(entry));
     }

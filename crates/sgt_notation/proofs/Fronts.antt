@@ -1,0 +1,110 @@
+-- What stands at the front of bytes, and what is behind it.
+use Rattle.std.proofs.Common.{◌≡◌, inl, inr, ℕ, ◌+◌, ◌-◌, ◌*◌, ◌%◌, ◌<◌, ◌≤◌, ◌^◌, List, [], ◌∷◌, ◌++◌, length, take, drop, get_or, Option, Some, None, Result, Ok, Err, refl, sym, ap, ◌∙◌, subst, decimal, append_assoc, length-append, length-take, length-drop, arith}
+use Rattle.std.proofs.Math.Seq.{drop-append_seam}
+use Rattle.std.proofs.lemmas.Fmt.{decimal-digits_value}
+use Rattle.std.proofs.lemmas.Int.Digits.{digits_push, digits_value_push}
+use Rattle.std.proofs.lemmas.List.{drop-drop, take-append-drop, take_more, get_or-take}
+use Rattle.std.proofs.lemmas.Str.{digit_value_digit}
+use Rattle.std.proofs.lemmas.Str.Parse.{digits_value_short}
+use Rattle.std.specs.Char.{digit_value}
+use Rattle.std.specs.Str.Parse.{AllDigits, digits_value}
+use Rattle.std.specs.Result.{OkIff, result_ok}
+use Rattle.sgt_names.specs.Name.{IsName}
+use Rattle.sgt_notation.specs.Lines.{Ahead, GaveNext, Spends, coming, passed, stream, Gives}
+use Rattle.sgt_notation.specs.Private.{ReadDigits, Spans}
+use Rattle.sgt_notation.specs.Spelling.{HasNoLf, IsValue}
+use Rattle.sgt_notation.specs.declared.lines.Next.TheVariants.{Line}
+use Rattle.sgt_notation.proofs.Numbers.{own}
+
+-- ---- places
+
+pub spans_front : (bytes : List ℕ) (n : ℕ) (text : List ℕ) → n ≤ length bytes → take n bytes ≡ text → Spans bytes 0 text n
+spans_front bytes n text within e = record { within = within; reads = sym (take-append-drop n bytes) ∙ ap (λ t. t ++ drop n bytes) e }
+
+pub spans_later : (bytes : List ℕ) (from : ℕ) (text : List ℕ) (n : ℕ) → from ≤ length bytes → Spans (drop from bytes) 0 text n → Spans bytes from text (from + n)
+spans_later bytes from text n within s = record {
+  within = let left = length-drop from bytes in let short = s.within in omega arith;
+  reads = s.reads ∙ ap (λ r. text ++ r) (drop-drop n from bytes);
+}
+
+-- the first bytes behind a place
+pub spans_part : (bytes : List ℕ) (from : ℕ) (rest front text : List ℕ) (n : ℕ) → (from ≤ length bytes) × (rest ≡ drop from bytes) → (n ≤ length rest) × (front ≡ take n rest) → front ≡ text → Spans bytes from text (from + n)
+spans_part bytes from rest front text n behind some is =
+    let short : n ≤ length (drop from bytes) = subst (λ (r : List ℕ). n ≤ length r) behind.1 some.0 in
+    spans_later bytes from text n behind.0 (spans_front (drop from bytes) n text short (ap (take n) (sym behind.1) ∙ (sym some.1 ∙ is)))
+
+pub name_found : {E : Type 0} (t x : List ℕ) (r : Result (List ℕ) E) → OkIff r (IsName t) t → Some x ≡ result_ok r → IsName x × (t ≡ x)
+name_found t x (Ok y) is e = let same : x ≡ y = cc in (subst IsName (sym is.1 ∙ sym same) is.0, cc)
+name_found t x (Err y) is e = absurd cc
+
+pub spans_word : (bytes : List ℕ) (from : ℕ) (word rest last : List ℕ) → from ≤ length bytes → rest ≡ drop from bytes → rest ≡ word ++ last → Spans bytes from word (from + length word)
+spans_word bytes from word rest last within is starts =
+    let size : length rest ≡ length word + length last = ap length starts ∙ length-append word last in
+    let left : length rest ≡ length bytes - from = ap length is ∙ length-drop from bytes in
+    let behind : drop (from + length word) bytes ≡ last = sym (drop-drop (length word) from bytes) ∙ (ap (drop (length word)) (sym is ∙ starts) ∙ drop-append_seam word last) in
+    record { within = omega arith; reads = sym is ∙ (starts ∙ ap (λ r. word ++ r) (sym behind)) }
+
+-- ---- numbers
+
+-- what subtracting the code of 0 leaves of a digit
+pub digit_left : (c d : ℕ) → c < 256 → d ≡ (c + (256 - 48)) % 256 → d ≤ 9 → c ≡ d + 48
+digit_left c d small e low = omega arith
+
+-- one more digit
+pub read_more : (bytes : List ℕ) (n value c d value' : ℕ) → n < length bytes → c ≡ get_or bytes n 0 → c ≡ d + 48 → d ≤ 9
+    → value' ≡ ((value * 10) % 2 ^ 64 + d) % 2 ^ 64 → ReadDigits bytes n value → ReadDigits bytes (n + 1) value'
+read_more bytes n value c d value' within is code low e so_far =
+    let digit : digit_value c + 48 ≡ c = digit_value_digit c (omega arith, omega arith) in
+    let front = take n bytes in
+    let more : take (n + 1) bytes ≡ front ++ c ∷ [] = take_more bytes n 0 within ∙ ap (λ x. front ++ x ∷ []) (sym is) in
+    let size : length front ≤ n = rw length-take (omega arith) in
+    record {
+      digits = subst (AllDigits 10) (sym more) (digits_push 10 front c so_far.digits (omega arith));
+      number = λ short.
+          let was : value ≡ digits_value 10 front = so_far.number (omega arith) in
+          let small : digits_value 10 front < 10 ^ 18 = digits_value_short own front 18 so_far.digits (omega arith) in
+          let next : digits_value 10 (front ++ c ∷ []) ≡ digits_value 10 front * 10 + digit_value c = digits_value_push 10 front c in
+          let same : value' ≡ digits_value 10 (front ++ c ∷ []) = omega arith in
+          same ∙ ap (digits_value 10) (sym more);
+    }
+
+-- digits with no leading zero are the number that they write
+pub front_number : (bytes : List ℕ) (n value : ℕ) → ReadDigits bytes n value → 0 < n → n ≤ 19 → n ≤ length bytes → (get_or bytes 0 0 ≡ 48 → n ≤ 1)
+    → IsValue value × Spans bytes 0 (decimal value) n
+front_number bytes n value so_far some short within plain =
+    let front = take n bytes in
+    let size : length front ≡ n = rw length-take (omega arith) in
+    let was : value ≡ digits_value 10 front = so_far.number short in
+    let small : digits_value 10 front < 10 ^ 19 = digits_value_short own front 19 so_far.digits (omega arith) in
+    let first : get_or front 0 0 ≡ get_or bytes 0 0 = get_or-take n bytes 0 0 some in
+    let text : decimal (digits_value 10 front) ≡ front = decimal-digits_value own front so_far.digits (omega arith) (λ z. let one = plain (sym first ∙ z) in omega arith) (omega arith) in
+    (omega arith, spans_front bytes n (decimal value) within (sym text ∙ ap decimal (sym was)))
+
+-- ---- lines that are held
+
+held_splits : (n : ℕ) (held line : List ℕ) → n ≤ length held → take n held ≡ line ++ 10 ∷ [] → held ≡ line ++ 10 ∷ drop n held
+held_splits n held line within e = sym (take-append-drop n held) ∙ (ap (λ t. t ++ drop n held) e ∙ append_assoc line (10 ∷ []) (drop n held))
+
+gives_held : (limit n : ℕ) (old : Ahead) (told : Option (List ℕ)) (line : List ℕ) → HasNoLf line → length line ≤ limit → n ≤ length old.held → take n old.held ≡ line ++ 10 ∷ []
+    → Gives limit (coming old told) Line line (coming (passed n old) told)
+gives_held limit n old None line plain short within e = tt
+gives_held limit n old (Some xs) line plain short within e =
+    (plain, short, ap (λ h. h ++ xs) (held_splits n old.held line within e) ∙ append_assoc line (10 ∷ drop n old.held) xs)
+
+spends_none : (reads : ℕ) (told : Option (List ℕ)) → Spends reads told reads told
+spends_none reads None = tt
+spends_none reads (Some xs) = omega arith
+
+-- a held line that is passed over is what comes next
+pub passed-next : (limit n : ℕ) (old : Ahead) (told : Option (List ℕ)) (failures : ℕ) (line : List ℕ) → HasNoLf line → length line ≤ limit → n ≤ length old.held → take n old.held ≡ line ++ 10 ∷ []
+    → GaveNext limit (stream old told failures) Line line (stream (passed n old) told failures)
+passed-next limit n old told failures line plain short within e =
+    let some : length old.held ≡ length line + (1 + length (drop n old.held)) = ap length (held_splits n old.held line within e) ∙ (length-append line (10 ∷ drop n old.held) ∙ omega arith) in
+    record {
+      gives = gives_held limit n old told line plain short within e;
+      quiet = refl;
+      spends = spends_none old.reads told;
+      falls = λ _. omega arith;
+      ended = λ w. elim w [ inl c ↦ absurd cc | inr c ↦ absurd cc ];
+      unlimited = λ _ c. absurd cc;
+    }

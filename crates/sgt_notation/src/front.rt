@@ -1,0 +1,254 @@
+//! A line of a section, read at the front of bytes that hold more: its LF is not looked for first.
+
+ghost use Rattle.std.specs.Prelude.{◌≡◌, ◌≤◌, ◌++◌, ◌∷◌, [], length, take, drop, IfSome, decimal};
+ghost use Rattle.sgt_names.specs.Name.{IsName};
+ghost use Rattle.sgt_notation.specs.Private.{ReadDigits, Spans, ending};
+ghost use Rattle.sgt_notation.specs.Spelling.{IsHolding, IsLine, IsTx, IsValue, assignment, line_text, operation};
+
+use crate::SectionLine;
+use crate::number::find_value;
+use crate::reading::behind;
+use sgt_names::{Entry, Holding, Item, SiteNo, Tx, Value};
+use std::simd::prelude::*;
+
+/// The place behind this byte.
+#[inline(always)]
+fn byte_at(bytes: &[u8], from: usize, byte: u8) -> Option<usize>
+    ensures { IfSome result (Spans bytes.now from (byte ∷ [])) }
+{
+    if *bytes.get(from)? == byte {
+        Some(from + 1)
+    } else {
+        None
+    }
+}
+
+/// What stands from this place on.
+#[inline(always)]
+fn from_place(bytes: &[u8], from: usize) -> Option<&[u8]>
+    ensures { IfSome result (λ rest. (from ≤ length bytes.now) × (rest.now ≡ drop from bytes.now)) }
+{
+    let (_, rest) = bytes.split_at_checked(from)?;
+    Some(rest)
+}
+
+/// What stands up to this place.
+#[inline(always)]
+fn up_to_place(bytes: &[u8], to: usize) -> Option<&[u8]>
+    ensures { IfSome result (λ front. (to ≤ length bytes.now) × (front.now ≡ take to bytes.now)) }
+{
+    let (front, _) = bytes.split_at_checked(to)?;
+    Some(front)
+}
+
+/// The place behind this word.
+fn word_at(bytes: &[u8], from: usize, word: &[u8]) -> Option<usize>
+    ensures { IfSome result (Spans bytes.now from word.now) }
+{
+    let rest = from_place(bytes, from)?;
+    let _last = behind(rest, word)?;
+    Some(from + word.len())
+}
+
+/// The digits at the front, as many as there are: the number that they write, as far as it fits, and how many they are.
+#[inline(always)]
+fn read_digits(bytes: &[u8]) -> (u64, usize)
+    ensures { (result.1 ≤ length bytes.now) × ReadDigits bytes.now result.1 result.0 }
+{
+    let mut value = 0u64;
+    let mut n = 0;
+    for byte in bytes {
+        let digit = byte.wrapping_sub(b'0');
+        if digit > 9 {
+            break;
+        }
+        value = value.wrapping_mul(10).wrapping_add(digit as u64);
+        n += 1;
+    }
+    (value, n)
+}
+
+/// The number of the first bytes, which are so many.
+#[inline(never)]
+fn long_value(bytes: &[u8], n: usize) -> Option<(Value, usize)>
+    ensures { IfSome result (λ r. IsValue r.0 × Spans bytes.now 0 (decimal r.0) r.1) }
+{
+    let value = find_value(up_to_place(bytes, n)?)?;
+    Some((value, n))
+}
+
+/// The number at the front, and how many digits it has.
+#[inline(always)]
+fn front_value(bytes: &[u8]) -> Option<(Value, usize)>
+    ensures { IfSome result (λ r. IsValue r.0 × Spans bytes.now 0 (decimal r.0) r.1) }
+{
+    let (value, n) = read_digits(bytes);
+    if n == 0 || n > 19 || (n > 1 && bytes[0] == b'0') {
+        return long_value(bytes, n);
+    }
+    Some((value, n))
+}
+
+/// A number, and the place behind it.
+#[inline(always)]
+fn value_at(bytes: &[u8], from: usize) -> Option<(Value, usize)>
+    ensures { IfSome result (λ r. IsValue r.0 × Spans bytes.now from (decimal r.0) r.1) }
+{
+    let (value, n) = front_value(from_place(bytes, from)?)?;
+    Some((value, from + n))
+}
+
+/// The number of a transaction, and the place behind it.
+#[inline(always)]
+fn tx_at(bytes: &[u8], from: usize) -> Option<(Tx, usize)>
+    ensures { IfSome result (λ r. IsTx r.0 × Spans bytes.now from (decimal r.0) r.1) }
+{
+    let (number, to) = value_at(bytes, from)?;
+    let tx = Tx::new(number).ok()?;
+    Some((tx, to))
+}
+
+/// How many bytes of the first sixteen stand before the first such byte. Nothing rests on it: it is only tried.
+#[inline(always)]
+fn guess_end(bytes: &[u8], byte: u8) -> usize {
+    match bytes.first_chunk::<16>() {
+        Some(chunk) => {
+            let same = u8x16::from_array(*chunk).simd_eq(u8x16::splat(byte));
+            same.to_bitmask().trailing_zeros() as usize
+        }
+        None => bytes.iter().position(|other| *other == byte).unwrap_or(0),
+    }
+}
+
+/// A name, and the place behind it, where the name ends before this byte.
+#[inline(always)]
+fn name_at(bytes: &[u8], from: usize, end: u8) -> Option<(Item, usize)>
+    ensures { IfSome result (λ r. IsName r.0 × Spans bytes.now from r.0 r.1) }
+{
+    let rest = from_place(bytes, from)?;
+    let n = guess_end(rest, end);
+    let item = Item::new(up_to_place(rest, n)?).ok()?;
+    Some((item, from + n))
+}
+
+/// `NAME=NUM`, and the place behind it.
+fn holding_at(bytes: &[u8], from: usize) -> Option<(Holding, usize)>
+    ensures { IfSome result (λ r. IsHolding r.0 × Spans bytes.now from (assignment r.0.item r.0.value) r.1) }
+{
+    let (item, to) = name_at(bytes, from, b'=')?;
+    let (value, to) = value_at(bytes, byte_at(bytes, to, b'=')?)?;
+    Some((Holding { item, value }, to))
+}
+
+/// The line of an entry that this letter and an operation spell, with this number.
+#[inline(always)]
+fn of_operation(
+    letter: u8,
+    tx: Tx,
+    item: Item,
+    value: Value,
+    to: usize,
+) -> Option<(SectionLine, usize)>
+    ensures { IfSome result (λ r. (line_text r.0 ≡ letter ∷ operation tx item value) × (r.1 ≡ to)
+        × (IsTx tx → IsName item → IsValue value → IsLine r.0)) }
+{
+    match letter {
+        b'r' => Some((SectionLine::Logged(Entry::Read { tx, item, value }), to)),
+        b'w' => Some((SectionLine::Logged(Entry::Write { tx, item, value }), to)),
+        b'd' => Some((SectionLine::Logged(Entry::Add { tx, item, value }), to)),
+        b'p' => Some((SectionLine::Logged(Entry::Want { tx, item, value }), to)),
+        b'q' => Some((SectionLine::Logged(Entry::WantAdd { tx, item, value }), to)),
+        _ => None,
+    }
+}
+
+/// The line of an end that this letter and a transaction's number spell, with this number.
+#[inline(always)]
+fn of_tx(letter: u8, tx: Tx, to: usize) -> Option<(SectionLine, usize)>
+    ensures { IfSome result (λ r. (line_text r.0 ≡ letter ∷ decimal tx) × (r.1 ≡ to) × (IsTx tx → IsLine r.0)) }
+{
+    match letter {
+        b'c' => Some((SectionLine::Logged(Entry::Commit { tx }), to)),
+        b'n' => Some((SectionLine::Logged(Entry::Refuse { tx }), to)),
+        b'a' => Some((SectionLine::Logged(Entry::Withdraw { tx }), to)),
+        _ => None,
+    }
+}
+
+/// The place behind the LF, or the same place where none is wanted.
+#[inline(always)]
+fn line_end(bytes: &[u8], from: usize, wants_lf: bool) -> Option<usize>
+    requires { from ≤ length bytes.now }
+    ensures { IfSome result (Spans bytes.now from (ending wants_lf)) }
+{
+    if wants_lf {
+        byte_at(bytes, from, b'\n')
+    } else {
+        Some(from)
+    }
+}
+
+/// The line of an entry at the front, and the place behind it, or behind its LF.
+#[inline(always)]
+fn front_entry(bytes: &[u8], wants_lf: bool) -> Option<(SectionLine, usize)>
+    ensures { IfSome result (λ r. IsLine r.0 × Spans bytes.now 0 (line_text r.0 ++ ending wants_lf) r.1) }
+{
+    let letter = *bytes.first()?;
+    let (tx, to) = tx_at(bytes, 1)?;
+    if bytes.get(to) != Some(&b'[') {
+        return of_tx(letter, tx, line_end(bytes, to, wants_lf)?);
+    }
+    let (item, to) = name_at(bytes, to + 1, b']')?;
+    let (value, to) = value_at(bytes, byte_at(bytes, byte_at(bytes, to, b']')?, b'=')?)?;
+    of_operation(letter, tx, item, value, line_end(bytes, to, wants_lf)?)
+}
+
+/// The line at the front that is no entry's, and the place behind it.
+fn word_line(bytes: &[u8]) -> Option<(SectionLine, usize)>
+    ensures { IfSome result (λ r. IsLine r.0 × Spans bytes.now 0 (line_text r.0) r.1) }
+{
+    if let Some(from) = word_at(bytes, 0, b"item ") {
+        let (holding, to) = holding_at(bytes, from)?;
+        return Some((SectionLine::Initial(holding), to));
+    }
+    if let Some(from) = word_at(bytes, 0, b"final ") {
+        let (holding, to) = holding_at(bytes, from)?;
+        return Some((SectionLine::Final(holding), to));
+    }
+    if let Some(from) = word_at(bytes, 0, b"site ") {
+        let (number, to) = value_at(bytes, from)?;
+        let site = SiteNo::new(number).ok()?;
+        return Some((SectionLine::Site(site), to));
+    }
+    let to = word_at(bytes, 0, b"end")?;
+    Some((SectionLine::End, to))
+}
+
+/// The same, or the place behind its LF.
+#[inline(never)]
+fn front_word(bytes: &[u8], wants_lf: bool) -> Option<(SectionLine, usize)>
+    ensures { IfSome result (λ r. IsLine r.0 × Spans bytes.now 0 (line_text r.0 ++ ending wants_lf) r.1) }
+{
+    let (line, to) = word_line(bytes)?;
+    Some((line, line_end(bytes, to, wants_lf)?))
+}
+
+/// The line of a section at the front, and the place behind it, or behind its LF.
+#[inline(always)]
+pub(crate) fn front_section(bytes: &[u8], wants_lf: bool) -> Option<(SectionLine, usize)>
+    ensures { IfSome result (λ r. IsLine r.0 × Spans bytes.now 0 (line_text r.0 ++ ending wants_lf) r.1) }
+{
+    match bytes.first() {
+        Some(b'e' | b'f' | b'i' | b's') => front_word(bytes, wants_lf),
+        _ => front_entry(bytes, wants_lf),
+    }
+}
+
+/// The line of a section that stands at the front with its LF, and how many bytes both have. They are read once.
+/// None says nothing of the bytes: there may be such a line, but this function doesn't find it.
+#[inline(always)]
+pub fn front_line(bytes: &[u8]) -> Option<(SectionLine, usize)>
+    ensures { IfSome result (λ r. IsLine r.0 × (r.1 ≤ length bytes.now) × (take r.1 bytes.now ≡ line_text r.0 ++ 10 ∷ [])) }
+{
+    front_section(bytes, true)
+}

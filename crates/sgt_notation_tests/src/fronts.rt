@@ -1,0 +1,56 @@
+//! Lines at the front of bytes that hold more.
+
+use sgt_names::{Entry, Holding, Item, MemSource, SiteNo, Tx};
+use sgt_notation::{Lines, Next, SectionLine, front_line, held_lines_come_next};
+use std::test::Fail;
+
+#[test]
+fn each_kind_of_line_is_found(rt: HostRuntime) -> Result<(), Fail> {
+    let tx = Tx::new(12)?;
+    let item = Item::new(b"x_1")?;
+    let value = u64::MAX;
+    for (text, entry, n) in [
+        (
+            "r12[x_1]=18446744073709551615\nc12\n",
+            Entry::Read { tx, item, value },
+            30,
+        ),
+        ("w12[x_1]=0\n", Entry::Write { tx, item, value: 0 }, 11),
+        ("c12\nn", Entry::Commit { tx }, 4),
+        ("a12\n", Entry::Withdraw { tx }, 4),
+    ] {
+        assert!(rt;
+            front_line(text.as_bytes()) == Some((SectionLine::Logged(entry), n)),
+            "{text}"
+        );
+    }
+    let holding = Holding { item, value: 70 };
+    for (text, line, n) in [
+        ("item x_1=70\nitem y=1", SectionLine::Initial(holding), 12),
+        ("final x_1=70\n", SectionLine::Final(holding), 13),
+        ("site 16\n", SectionLine::Site(SiteNo::new(16)?), 8),
+        ("end\nsite 17\n", SectionLine::End, 4),
+    ] {
+        assert!(rt; front_line(text.as_bytes()) == Some((line, n)), "{text}");
+    }
+    Ok(())
+}
+
+#[test]
+fn held_lines_are_passed_over(rt: HostRuntime) -> Result<(), Fail> {
+    let mut source = MemSource::new(b"site 0\nend\nc1\nla", 65_536, None);
+    let mut lines = Lines::new(rt.alloc())?;
+    let mut line = Vec::new(rt.alloc());
+    assert!(rt; lines.next_held().is_none());
+    assert!(rt; lines.next(&mut source, &mut line, 50) == Ok(Next::Line));
+    assert!(rt; lines.next_held() == Some(SectionLine::End));
+    assert!(rt; lines.held() == b"c1\nla".as_slice());
+    let n = lines.held().len();
+    assert_eq!(rt; n, 5);
+    lines.pass(3);
+    assert!(rt; lines.next_held().is_none());
+    assert!(rt; lines.next(&mut source, &mut line, 50) == Ok(Next::Cut));
+    assert!(rt; line.as_slice() == b"la".as_slice());
+    held_lines_come_next();
+    Ok(())
+}
