@@ -79,7 +79,8 @@ pub fn gather_agreed(
     ensures err { OnErr result (site.new ≡ site.old) }
     ensures refused { IfErr result (RefusesAgreed certifier.now.history site.old tx draft.now.touched) }
 {
-    if !agrees(certifier, site) {
+    let agreed = agrees(certifier, site);
+    if !agreed {
         return Err(ServiceFault::NotPledged(site.number()));
     }
     site.pledge(tx, draft)?;

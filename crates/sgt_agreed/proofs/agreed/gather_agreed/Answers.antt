@@ -7,12 +7,12 @@ use Rattle.sgt_agreed.proofs.agreed.gather_agreed.Goals as goal
 pub returns-in_err-pledge-clause-refused : goal.returns-in_err-pledge-clause-refused
 returns-in_err-pledge-clause-refused c =
     let history = c.args.certifier.now.history in
-    let agree = c.agrees.ensures.0 c.if-not-agrees.false in
+    let agree = c.agrees-agreed.ensures.0 c.if-not-agreed.false in
     handed-on c.from_residual.result history c.args.site.now c.args.tx c.args.draft.now.touched c.in_err-pledge.field-0.0
     c.from_residual.ensures.1 agree c.in_err-pledge.ensures.refused
 
 pub returns-in-Ok-clause-agreed : goal.returns-in-Ok-clause-agreed
-returns-in-Ok-clause-agreed c = c.agrees.ensures.0 c.if-not-agrees.false
+returns-in-Ok-clause-agreed c = c.agrees-agreed.ensures.0 c.if-not-agreed.false
 
 pub returns-in-Err-Memory-clause-err : goal.returns-in-Err-Memory-clause-err
 returns-in-Err-Memory-clause-err c =
@@ -20,7 +20,7 @@ returns-in-Err-Memory-clause-err c =
     c.unpledge.ensures.succeeds.1
 
 pub returns-in-Err-Memory-clause-refused : goal.returns-in-Err-Memory-clause-refused
-returns-in-Err-Memory-clause-refused c = (c.agrees.ensures.0 c.if-not-agrees.false, c.in_ok-pledge.ensures.allowed)
+returns-in-Err-Memory-clause-refused c = (c.agrees-agreed.ensures.0 c.if-not-agreed.false, c.in_ok-pledge.ensures.allowed)
 
 pub unreachable-requires : goal.unreachable-requires
 unreachable-requires c =
@@ -30,10 +30,10 @@ unreachable-requires c =
     (subst (λ (s : SiteState). SeesTooNew s draft) c.in_ok-pledge.ensures.ok fault)
 
 pub returns-in_err-pledge-clause-differs : goal.returns-in_err-pledge-clause-differs
-returns-in_err-pledge-clause-differs c = λ none. absurd (none (c.agrees.ensures.0 c.if-not-agrees.false))
+returns-in_err-pledge-clause-differs c = λ none. absurd (none (c.agrees-agreed.ensures.0 c.if-not-agreed.false))
 
 pub returns-in-Ok-clause-differs : goal.returns-in-Ok-clause-differs
-returns-in-Ok-clause-differs c = λ none. absurd (none (c.agrees.ensures.0 c.if-not-agrees.false))
+returns-in-Ok-clause-differs c = λ none. absurd (none (c.agrees-agreed.ensures.0 c.if-not-agreed.false))
 
 pub returns-in-Err-Memory-clause-differs : goal.returns-in-Err-Memory-clause-differs
-returns-in-Err-Memory-clause-differs c = λ none. absurd (none (c.agrees.ensures.0 c.if-not-agrees.false))
+returns-in-Err-Memory-clause-differs c = λ none. absurd (none (c.agrees-agreed.ensures.0 c.if-not-agreed.false))
