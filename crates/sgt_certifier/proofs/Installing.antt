@@ -11,7 +11,7 @@ use Rattle.sgt_certifier.specs.Kept.{tx_at, arc_at, flagged, IsKept, AreNoted}
 use Rattle.sgt_certifier.proofs.Installs.{added_noted, noted_few}
 use Rattle.sgt_certifier.proofs.Extending.{Parts, state_of, served, replayed, same_state}
 
-installed_allowed : (s : State) (tx site : ℕ) → IsInstalling s tx → (IsNoted s tx site → ⊥) → IsAllowed s (installed tx site)
+pub installed_allowed : (s : State) (tx site : ℕ) → IsInstalling s tx → (IsNoted s tx site → ⊥) → IsAllowed s (installed tx site)
 installed_allowed s tx site is_open new fault.WindowFull f = f
 installed_allowed s tx site is_open new (fault.StepOpen t) f = f
 installed_allowed s tx site is_open new fault.NumbersSpent f = f

@@ -1,6 +1,6 @@
 //! The items that a draft changes at a site, listed for the history.
 
-ghost use Rattle.std.specs.Prelude.{◌≡◌, ◌≢◌, ◌↔◌, ◌==◌, ◌&&◌, ℕ, List, [], Contains, IsTrue, is_some, IfOk, OnErr, IfSome, IfNone, Any, slice_get};
+ghost use Rattle.std.specs.Prelude.{◌≡◌, ◌≢◌, ◌⊎◌, ◌↔◌, ◌==◌, ◌&&◌, ℕ, List, [], Contains, IsTrue, is_some, IfOk, OnErr, IfSome, IfNone, Any, slice_get};
 ghost use Rattle.sgt_names.specs.declared.draft.Touch.{Touch as Touched};
 ghost use Rattle.sgt_certifier.specs.declared.install.Prepared.{Prepared as APrepared};
 ghost use Rattle.sgt_certifier.specs.Kept.{changed_at, IsExpected};
@@ -85,6 +85,9 @@ pub fn take_items(
     ensures items { IfOk result (λ items. items ≡ changed_at touched.now site) }
     ensures others { (other : List Touched) (s : ℕ)
         → s ≢ site → IsExpected expected.old.items other s → IsExpected expected.new.items other s }
+    ensures fewer { (p : APrepared) → Contains expected.new.items p → Contains expected.old.items p }
+    ensures taken { (expected.new.items ≡ expected.old.items)
+        ⊎ Contains expected.old.items (record { site = site; items = changed_at touched.now site }) }
     ensures err { OnErr result (expected.new.items ≡ expected.old.items) }
     ensures wants { OnErr result (IsExpected expected.old.items touched.now site → ⊥) }
 {

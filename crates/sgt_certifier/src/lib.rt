@@ -3,6 +3,7 @@
 
 mod call;
 mod certifier;
+mod counts;
 mod install;
 mod laws;
 mod ranking;

@@ -52,7 +52,7 @@ site-plain s h = decimal-above 46 s (lit< tt) (small-site s h)
 opened-plain : IsPlain 91 IsTx decimal
 opened-plain tx h = decimal-without 91 tx (lit< tt) (small-tx tx h)
 
-closed-plain : IsPlain 93 IsPlace place_text
+pub closed-plain : IsPlain 93 IsPlace place_text
 closed-plain = place-without 93 (λ n. decimal-without 93 n (lit< tt)) refl refl
 
 pub access-plain : IsPlain 61 IsAccess access_text
@@ -106,10 +106,10 @@ tx-one t u h g e = decimal_injective t u (small-tx t h) (small-tx u g) e
 pub site-one : IsOne IsSite decimal
 site-one t u h g e = decimal_injective t u (small-site t h) (small-site u g) e
 
-value-one : IsOne IsValue decimal
+pub value-one : IsOne IsValue decimal
 value-one = decimal_injective
 
-place-one : IsOne IsPlace place_text
+pub place-one : IsOne IsPlace place_text
 place-one = joined-one IsSite decimal 46 IsName (λ x. x) site-plain site-one (λ x y h g e. e)
 
 closed-one : IsOne IsClosed closed

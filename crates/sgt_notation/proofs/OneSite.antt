@@ -39,7 +39,7 @@ site-back l (Err Memory) is h = inr refl
 site-back l (Err NotALine) is h = absurd (h.1 l is refl)
 site-back l (Err TooLong) is h = absurd (h.1 l is refl)
 
-join-one_line : (w : List ℕ) (ws : List (List ℕ)) → HasNot 10 w → AllByRecursion (HasNot 10) ws → HasNot 10 (join_with_byte 32 (w ∷ ws))
+pub join-one_line : (w : List ℕ) (ws : List (List ℕ)) → HasNot 10 w → AllByRecursion (HasNot 10) ws → HasNot 10 (join_with_byte 32 (w ∷ ws))
 join-one_line w [] h all = h
 join-one_line w (v ∷ ws) h all =
     HasNot-append 10 w (32 ∷ join_with_byte 32 (v ∷ ws)) h (eqb-false 32 10 refl, join-one_line v ws all.0 all.1)

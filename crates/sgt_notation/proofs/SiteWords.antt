@@ -41,14 +41,14 @@ words-first text word rest cut = ap words cut.0 ∙ slice_split_at (λ b. b == 3
 pub words-only : (text : List ℕ) → All (λ b. b ≢ 32) text → words text ≡ text ∷ []
 words-only text h = slice_split_none (λ b. b == 32) text (tested text h)
 
-words-join : (w : List ℕ) (ws : List (List ℕ)) → HasNot 32 w → AllByRecursion (HasNot 32) ws
+pub words-join : (w : List ℕ) (ws : List (List ℕ)) → HasNot 32 w → AllByRecursion (HasNot 32) ws
     → words (join_with_byte 32 (w ∷ ws)) ≡ w ∷ ws
 words-join w [] h all = words-only w (All-from_recursion (λ b. b ≢ 32) w h)
 words-join w (v ∷ ws) h all =
     words-first (join_with_byte 32 (w ∷ v ∷ ws)) w (join_with_byte 32 (v ∷ ws)) (refl, All-from_recursion (λ b. b ≢ 32) w h)
     ∙ ap (λ t. w ∷ t) (words-join v ws all.0 all.1)
 
-join-words : (text : List ℕ) (ws : List (List ℕ)) → words text ≡ ws → text ≡ join_with_byte 32 ws
+pub join-words : (text : List ℕ) (ws : List (List ℕ)) → words text ≡ ws → text ≡ join_with_byte 32 ws
 join-words text ws e = sym (join_with_byte-slice_split 32 text) ∙ ap (join_with_byte 32) e
 
 pub unnumbered : (line : List ℕ) → ((rest : List ℕ) → line ≢ codes "site " ++ rest) → (k : ℕ) (ws : List (List ℕ))
@@ -246,7 +246,7 @@ pub smaller : (r old : Option (Bor (List ℕ))) (t : Bor (List ℕ)) → old ≡
 smaller r old t e h =
     subst (λ (o : Option (Bor (List ℕ))). size (option_map (λ t. t.now) r) < size (option_map (λ t. t.now) o)) (sym e) (shorter r t h)
 
-pub pushed : {A E : Type 0} (r : Result A E) (items items' : List Holding) (h : Holding)
+pub pushed : {A E T : Type 0} (r : Result A E) (items items' : List T) (h : T)
     → items' ≡ (if is_ok r then items ++ h ∷ [] else items) → is_err r ≡ false → items' ≡ items ++ h ∷ []
 pushed (Ok a) items items' h e ok = e
 pushed (Err f) items items' h e ok = absurd cc

@@ -12,10 +12,10 @@ use crate::reading::{cut, refusal};
 use sgt_names::{Item, SiteNo, Tx, Value};
 
 /// An item at a site.
-type Place = (SiteNo, Item);
+pub(crate) type Place = (SiteNo, Item);
 
 /// Reads `SITE.NAME`.
-fn find_place(bytes: &[u8]) -> Option<Place>
+pub(crate) fn find_place(bytes: &[u8]) -> Option<Place>
     ensures { Finds IsPlace place_text bytes.now result }
 {
     let (number, name) = cut(bytes, b'.')?;

@@ -16,7 +16,7 @@ use sgt_names::{Holding, Item, Listed, MAX_ITEMS, SiteNo};
 use std::alloc::Global;
 
 /// The first word, and what stands behind its space, if it has one.
-fn first_word(text: &[u8]) -> (&[u8], Option<&[u8]>)
+pub(crate) fn first_word(text: &[u8]) -> (&[u8], Option<&[u8]>)
     ensures words { words text.now ≡ result.0.now ∷ words_behind (option_map (λ r. r.now) result.1) }
     ensures shorter { IfSome result.1 (λ r. length r.now < length text.now) }
 {

@@ -14,7 +14,7 @@ pub decisions_of-requires-clause-ranked : goal.decisions_of-requires-clause-rank
 decisions_of-requires-clause-ranked c =
     let p = parts_of c.self.inside in
     let s = state_of p in
-    let good = replays-good p.calls s c.self.invariant.replays in
+    let good = replays-good p.calls s c.self.invariant.0.replays in
     let begun = ap (λ (v : Kept). v.state.begun) c.self.view_is in
     let less : s.begun < length c.as_slice-2.result.now = omega (arith, c.as_slice-2.ensures.len, c.in_ok-ranks.ensures.len, begun) in
     subst (λ xs. All (λ r. ruled r < length c.as_slice-2.result.now) (rulings_from 0 0 xs)) (sym c.as_slice.ensures.value) (rulings_below s (length c.as_slice-2.result.now) good.ruled less)
@@ -23,7 +23,7 @@ pub returns : goal.returns
 returns c =
     let p = parts_of c.self.inside in
     let s = state_of p in
-    let good = replays-good p.calls s c.self.invariant.replays in
+    let good = replays-good p.calls s c.self.invariant.0.replays in
     let table = c.in_ok-ranks.ranks.items in
     let is_table : IsTable (serial s) table = subst (λ (v : Kept). IsTable (serial v.state) table) (sym c.self.view_is) c.in_ok-ranks.ensures.ranks in
     let decisions : c.new.result ≡ map (ranked (serial s)) s.rulings =

@@ -10,21 +10,21 @@ pub overflow_sub-index : goal.overflow_sub-index
 overflow_sub-index c =
     let p = parts_of c.self.inside in
     let open_tx : p.step ≡ Some c.args.tx = c.in-Some.is ∙ ap Some (sym c.number.ensures.is ∙ (c.if-number.false ∙ c.number-2.ensures.is)) in
-    let place = open_place p c.args.tx c.self.invariant.replays open_tx in
+    let place = open_place p c.args.tx c.self.invariant.0.replays open_tx in
     omega (arith, place.1, c.number-3.ensures.is)
 
 pub overflow_sub-index-2 : goal.overflow_sub-index-2
 overflow_sub-index-2 c =
     let p = parts_of c.self.inside in
     let open_tx : p.step ≡ Some c.args.tx = c.in-Some.is ∙ ap Some (sym c.number.ensures.is ∙ (c.if-number.false ∙ c.number-2.ensures.is)) in
-    let place = open_place p c.args.tx c.self.invariant.replays open_tx in
+    let place = open_place p c.args.tx c.self.invariant.0.replays open_tx in
     omega (arith, place.1, c.number-3.ensures.is)
 
 pub returns : goal.returns
 returns c =
     let p = parts_of c.self.inside in
     let open_tx : p.step ≡ Some c.args.tx = c.in-Some.is ∙ ap Some (sym c.number.ensures.is ∙ (c.if-number.false ∙ c.number-2.ensures.is)) in
-    let place = open_place p c.args.tx c.self.invariant.replays open_tx in
+    let place = open_place p c.args.tx c.self.invariant.0.replays open_tx in
     let before = c.self.inside.before in
     let graph = c.self.inside.graph in
     let here = member_here graph c.order-order.ensures.ordered in

@@ -13,7 +13,7 @@ pub push_all-requires-clause-numbers : goal.push_all-requires-clause-numbers
 push_all-requires-clause-numbers c n h at =
     let p = parts_of c.self.inside in
     let s = state_of p in
-    let good = replays-good p.calls s c.self.invariant.replays in
+    let good = replays-good p.calls s c.self.invariant.0.replays in
     let member = Contains-from_at c.self.inside.graph.order n h (subst (λ xs. slice_get xs n ≡ Some h) c.order-order.ensures.is at) in
     let small = (good.sound.order_here (tx_at c.self.inside.before h) (contains_map (tx_at c.self.inside.before) c.self.inside.graph.order h member)).1 in
     omega (arith, small)
@@ -22,7 +22,7 @@ pub rank_all-requires-clause-within : goal.rank_all-requires-clause-within
 rank_all-requires-clause-within c k d lt =
     let p = parts_of c.self.inside in
     let s = state_of p in
-    let good = replays-good p.calls s c.self.invariant.replays in
+    let good = replays-good p.calls s c.self.invariant.0.replays in
     let before = c.self.inside.before in
     let is : c.as_slice-2.result.now ≡ serial s = c.as_slice-2.ensures.value ∙ (c.push_all.ensures ∙ (ap (λ z. z ++ map (tx_at before) c.order-order.result.now) (c.in_ok-reserve.ensures.items ∙ (c.in_ok-serial.ensures.items ∙ c.as_slice.ensures.value)) ∙ ap (λ o. c.self.inside.past.items ++ map (tx_at before) o) c.order-order.ensures.is)) in
     let below = subst (All (λ tx. tx < suc s.begun)) (sym is) (serial-below s good.sound) in
@@ -32,7 +32,7 @@ pub rank_all-requires-clause-distinct : goal.rank_all-requires-clause-distinct
 rank_all-requires-clause-distinct c =
     let p = parts_of c.self.inside in
     let s = state_of p in
-    let good = replays-good p.calls s c.self.invariant.replays in
+    let good = replays-good p.calls s c.self.invariant.0.replays in
     let before = c.self.inside.before in
     let is : c.as_slice-2.result.now ≡ serial s = c.as_slice-2.ensures.value ∙ (c.push_all.ensures ∙ (ap (λ z. z ++ map (tx_at before) c.order-order.result.now) (c.in_ok-reserve.ensures.items ∙ (c.in_ok-serial.ensures.items ∙ c.as_slice.ensures.value)) ∙ ap (λ o. c.self.inside.past.items ++ map (tx_at before) o) c.order-order.ensures.is)) in
     subst (AllPairs (λ a b. a ≢ b)) (sym is) (serial-distinct s good.sound)
@@ -41,7 +41,7 @@ pub rank_all-requires-clause-few : goal.rank_all-requires-clause-few
 rank_all-requires-clause-few c =
     let p = parts_of c.self.inside in
     let s = state_of p in
-    let good = replays-good p.calls s c.self.invariant.replays in
+    let good = replays-good p.calls s c.self.invariant.0.replays in
     let before = c.self.inside.before in
     let is : c.as_slice-2.result.now ≡ serial s = c.as_slice-2.ensures.value ∙ (c.push_all.ensures ∙ (ap (λ z. z ++ map (tx_at before) c.order-order.result.now) (c.in_ok-reserve.ensures.items ∙ (c.in_ok-serial.ensures.items ∙ c.as_slice.ensures.value)) ∙ ap (λ o. c.self.inside.past.items ++ map (tx_at before) o) c.order-order.ensures.is)) in
     omega (arith, ap length is, serial-few s good.sound)

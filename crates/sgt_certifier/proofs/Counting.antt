@@ -1,0 +1,322 @@
+-- The table of counts: what a change of it does to each count.
+use Rattle.std.proofs.Common.{◌≡◌, ◌≢◌, ℕ, suc, true, false, List, [], ◌∷◌, ◌++◌, Option, Some, None, IsSome, Result, Ok, Err, OnErr, refl, sym, ◌∙◌, ap, subst, arith, cond, inl, inr, ◌⊎◌, All, AllPairs, take, Contains, OnOk, IfErr, is_err, ap₂}
+use Rattle.std.specs.Prelude.{is_some, slice_get, map, ◌==◌, ◌≤◌, length}
+use Rattle.std.specs.List.{list_any, AllByRecursion}
+use Rattle.std.specs.Str.{bytes_eq}
+use Rattle.std.proofs.lemmas.Slice.Eq.{bytes_eq-Decides}
+use Rattle.std.specs.BTreeMap.{Updates}
+use Rattle.std.specs.Ordering.{nat_cmp, is_eq, ordering_reverse, ordering_then}
+use Rattle.std.specs.Cmp.Lexicographic.{slice_cmp, nat_list_cmp_total}
+use Rattle.std.specs.declared.cmp.Ordering.{Ordering}
+use Rattle.std.specs.declared.cmp.Ordering.TheVariants.{Less, Equal, Greater}
+use Rattle.std.proofs.lemmas.Cmp.{nat_cmp_total}
+use Rattle.std.proofs.lemmas.Bool.{cases_Bool, eqb-true, eqb-false, true≢false}
+use Rattle.std.proofs.lemmas.List.Elements.{Contains-append_cases, Contains-append_left, Contains-append_right}
+use Rattle.std.proofs.lemmas.Map.Lookups.{CmpEqualImpliesEq, exact_bytes, exact_pairs, exact_unsigned}
+use Rattle.sgt_names.proofs.Lists.{All-weaken, option_cases}
+use Rattle.sgt_names.proofs.Places.{All_at, All-from_at, AllPairs_at, AllPairs-from_recursion, PairsByRecursion, recursion_from_AllPairs, Contains_at, Contains-from_at, slice_get-take}
+use Rattle.sgt_names.proofs.Rising.{writing-by_item}
+use Rattle.std.proofs.lemmas.List.Sums.{sum_by-cons}
+use Rattle.sgt_certifier.specs.Certifier.{Install}
+use Rattle.sgt_certifier.proofs.Members.{cons_cases, cons_here, cons_later, nil_none}
+use Rattle.sgt_certifier.proofs.Installs.{any_member, counted_hit, counted_miss, counted_other}
+use Rattle.sgt_certifier.specs.History.{changes_item, counted, install_in, installs_in, IsAllowed, Request}
+use Rattle.sgt_certifier.specs.Kept.{changed_at, Declines, IsExpected, Kept}
+use Rattle.std.specs.Result.{IsErrAnd}
+use Rattle.sgt_certifier.specs.declared.call.CertifierFault.{CertifierFault}
+use Rattle.sgt_certifier.specs.declared.call.CertifierFault.TheVariants as fault
+use Rattle.sgt_certifier.specs.declared.call.Call.{Call}
+use Rattle.sgt_certifier.specs.declared.call.Call.TheVariants as call
+use Rattle.sgt_names.specs.declared.draft.Touch.{Touch}
+use Rattle.sgt_names.specs.declared.entry.Change.{Change}
+use Rattle.sgt_names.specs.Draft.{AreRising, at_site, writing_in}
+use Rattle.sgt_certifier.specs.declared.install.Prepared.{Prepared}
+use Rattle.sgt_names.specs.Name.{Name}
+use Rattle.sgt_names.specs.Draft.{Place, place_cmp}
+use Rattle.sgt_certifier.specs.Counted.{AreCounted, CountsEach, HasPlace, HavePlaces, Widens, count_at, or_zero, stands_at}
+use Rattle.sgt_certifier.specs.declared.counts.Counts.{Counts}
+
+exact : CmpEqualImpliesEq place_cmp
+exact = exact_pairs nat_cmp (slice_cmp nat_cmp) exact_unsigned exact_bytes
+
+ties : (o : Ordering) → is_eq o ≡ true → o ≡ Equal
+ties Less e = absurd cc
+ties Equal e = refl
+ties Greater e = absurd cc
+
+even : (o : Ordering) → o ≡ ordering_reverse o → o ≡ Equal
+even Less e = absurd cc
+even Equal e = refl
+even Greater e = absurd cc
+
+tied : (p : Place) → is_eq (place_cmp p p) ≡ true
+tied p =
+    let a : nat_cmp p.0 p.0 ≡ Equal = even (nat_cmp p.0 p.0) (nat_cmp_total.antisymm p.0 p.0) in
+    let b : slice_cmp nat_cmp p.1 p.1 ≡ Equal = even (slice_cmp nat_cmp p.1 p.1) (nat_list_cmp_total.antisymm p.1 p.1) in
+    ap₂ (λ u v. is_eq (ordering_then u v)) a b
+
+-- another place doesn't tie
+apart : (p q : Place) → (p ≡ q → ⊥) → is_eq (place_cmp p q) ≡ false
+apart p q other = elim (cases_Bool (is_eq (place_cmp p q))) [
+  | inl tie ↦ absurd (other (exact p q (ties (place_cmp p q) tie)))
+  | inr none ↦ none
+]
+
+module _ (old new : Counts) (s : ℕ) (x : Name) (v : ℕ) (updates : Updates place_cmp old.table new.table (s, x) (Some v)) where
+  pub put-here : stands_at new s x ≡ Some v
+  put-here = updates.1
+
+  pub put-other : (t : ℕ) (y : Name) → ((t ≡ s) × (y ≡ x) → ⊥) → stands_at new t y ≡ stands_at old t y
+  put-other t y other =
+      updates.2 (t, y) (apart (s, x) (t, y) (λ e. other (sym (ap (λ (p : Place). p.0) e), sym (ap (λ (p : Place). p.1) e))))
+
+-- two places are the same or not
+same_place : (s t : ℕ) (x y : Name) → ((s ≡ t) × (x ≡ y)) ⊎ ((s ≡ t) × (x ≡ y) → ⊥)
+same_place s t x y = elim (cases_Bool (is_eq (place_cmp (s, x) (t, y)))) [
+  | inl tie ↦
+      let at : (s, x) ≡ (t, y) = exact (s, x) (t, y) (ties (place_cmp (s, x) (t, y)) tie) in
+      inl (ap (λ (p : Place). p.0) at, ap (λ (p : Place). p.1) at)
+  | inr none ↦ inr (λ e. true≢false (sym (tied (s, x)) ∙ ap₂ (λ a b. is_eq (place_cmp (s, x) (a, b))) e.0 e.1 ∙ none))
+]
+
+-- a place is added where nothing stands
+pub placed-widens : (old new : Counts) (s : ℕ) (x : Name) → stands_at old s x ≡ None
+    → Updates place_cmp old.table new.table (s, x) (Some 0) → Widens old new
+placed-widens old new s x none updates = record {
+  same = λ t y. elim (cases_Bool (is_eq (place_cmp (s, x) (t, y)))) [
+    | inl tie ↦
+        let at : (s, x) ≡ (t, y) = exact (s, x) (t, y) (ties (place_cmp (s, x) (t, y)) tie) in
+        let now : stands_at new t y ≡ Some 0 = subst (λ (p : Place). stands_at new p.0 p.1 ≡ Some 0) at updates.1 in
+        let was : stands_at old t y ≡ None = subst (λ (p : Place). stands_at old p.0 p.1 ≡ None) at none in
+        ap or_zero now ∙ sym (ap or_zero was)
+    | inr other ↦ ap or_zero (updates.2 (t, y) other)
+  ];
+  kept = λ t y has. elim (cases_Bool (is_eq (place_cmp (s, x) (t, y)))) [
+    | inl tie ↦
+        let at : (s, x) ≡ (t, y) = exact (s, x) (t, y) (ties (place_cmp (s, x) (t, y)) tie) in
+        let now : stands_at new t y ≡ Some 0 = subst (λ (p : Place). stands_at new p.0 p.1 ≡ Some 0) at updates.1 in
+        subst IsSome (sym now) refl
+    | inr other ↦ subst IsSome (sym (updates.2 (t, y) other)) has
+  ];
+}
+
+pub none-stands : (o : Option ℕ) → is_some o ≡ false → o ≡ None
+none-stands None e = refl
+none-stands (Some n) e = absurd cc
+
+pub ok-holds : {A E : Type 0} (r : Result A E) (X : Type 0) → is_err r ≡ false → OnOk r X → X
+ok-holds (Ok a) X e x = x
+ok-holds (Err e) X f x = absurd cc
+
+pub on-err : {A E : Type 0} (r : Result A E) (X : Type 0) → X → OnErr r X
+on-err (Ok a) X x = tt
+on-err (Err e) X x = x
+
+-- ---- over lists
+
+-- no element stands in front of itself
+pub fresh-at : (xs : List Name) (n : ℕ) (x : Name) → AllPairs (λ a b. a ≢ b) xs → slice_get xs n ≡ Some x → Contains (take n xs) x → ⊥
+fresh-at xs n x once at c =
+    let early = Contains_at (take n xs) x c in
+    let where_at = slice_get-take xs n early.0 x early.1 in
+    AllPairs_at (λ a b. a ≢ b) xs early.0 n x x once where_at.0 where_at.1 at refl
+
+pub widens-none : (counts : Counts) → Widens counts counts
+widens-none counts = record { same = λ s x. refl; kept = λ s x has. has }
+
+pub widens-more : (old mid new : Counts) → Widens old mid → Widens mid new → Widens old new
+widens-more old mid new a b = record { same = λ s x. b.same s x ∙ a.same s x; kept = λ s x has. b.kept s x (a.kept s x has) }
+
+pub places-kept : (old new : Counts) (lists : List Prepared) → Widens old new → All (HavePlaces old) lists → All (HavePlaces new) lists
+places-kept old new lists w = All-weaken (HavePlaces old) (HavePlaces new) lists
+    (λ p all. All-weaken (HasPlace old p.site) (HasPlace new p.site) p.items (λ x has. w.kept p.site x has) all)
+
+pub counts-none : (s : ℕ) (counts : Counts) → CountsEach s [] counts counts
+counts-none s counts = record {
+  hit = λ x c. absurd (nil_none x c);
+  miss = λ x none. refl;
+  other = λ t x apart. refl;
+  kept = λ t x has. has;
+}
+
+pub counts-next : (site : ℕ) (xs : List Name) (x : Name) (old mid new : Counts) → CountsEach site xs old mid → (Contains xs x → ⊥)
+    → stands_at new site x ≡ Some (suc (count_at mid site x))
+    → ((s : ℕ) (y : Name) → ((s ≡ site) × (y ≡ x) → ⊥) → stands_at new s y ≡ stands_at mid s y) → CountsEach site (xs ++ x ∷ []) old new
+counts-next site xs x old mid new each fresh here others = record {
+  hit = λ y c. elim (Contains-append_cases xs (x ∷ []) y c) [
+    | inl early ↦
+        let differs : (site ≡ site) × (y ≡ x) → ⊥ = λ e. fresh (subst (Contains xs) e.1 early) in
+        ap or_zero (others site y differs) ∙ each.hit y early
+    | inr last ↦ elim (cons_cases x [] y last) [
+      | inl e ↦
+          let now : count_at new site x ≡ suc (count_at old site x) = ap or_zero here ∙ ap suc (each.miss x fresh) in
+          subst (λ z. count_at new site z ≡ suc (count_at old site z)) e now
+      | inr none ↦ absurd (nil_none y none)
+    ]
+  ];
+  miss = λ y none.
+      let differs : (site ≡ site) × (y ≡ x) → ⊥ =
+      λ e. none (Contains-append_right xs (x ∷ []) y (subst (Contains (x ∷ [])) (sym e.1) (cons_here x []))) in
+      ap or_zero (others site y differs) ∙ each.miss y (λ c. none (Contains-append_left xs (x ∷ []) y c));
+  other = λ s y apart. ap or_zero (others s y (λ e. apart e.0)) ∙ each.other s y apart;
+  kept = λ s y has. elim (same_place s site y x) [
+    | inl e ↦ subst IsSome (sym (ap₂ (stands_at new) e.0 e.1 ∙ here)) refl
+    | inr differs ↦ subst IsSome (sym (others s y differs)) (each.kept s y has)
+  ];
+}
+
+-- ---- the counts of a history
+
+pub counted-none : (counts : Counts) → ((s : ℕ) (x : Name) → stands_at counts s x ≡ None) → AreCounted counts [] []
+counted-none counts none = record { exact = λ s x. ap or_zero (none s x); placed = λ k d within. absurd (omega (arith, within)) }
+
+-- a call that notes no install
+pub counted-on : (counts : Counts) (history longer : List Call) (expected : List Prepared) (c : Call) → longer ≡ history ++ c ∷ []
+    → install_in c ≡ None → AreCounted counts history expected → AreCounted counts longer expected
+counted-on counts history longer expected c is none h = record {
+  exact = λ s x. h.exact s x ∙ sym (ap (λ cs. counted cs s x) is ∙ counted_other history c s x none);
+  placed = h.placed;
+}
+
+-- places are made
+pub counted-wider : (old new : Counts) (history : List Call) (expected : List Prepared) → Widens old new → AreCounted old history expected
+    → AreCounted new history expected
+counted-wider old new history expected w h = record {
+  exact = λ s x. w.same s x ∙ h.exact s x;
+  placed = places-kept old new expected w h.placed;
+}
+
+pub counted-lists : (old new : Counts) (history : List Call) (expected lists : List Prepared) → Widens old new → All (HavePlaces new) lists
+    → AreCounted old history expected → AreCounted new history lists
+counted-lists old new history expected lists w all h = record { exact = λ s x. w.same s x ∙ h.exact s x; placed = all }
+
+fewer-placed : (counts : Counts) (expected rest : List Prepared) → ((p : Prepared) → Contains rest p → Contains expected p)
+    → All (HavePlaces counts) expected → All (HavePlaces counts) rest
+fewer-placed counts expected rest fewer all = All-from_at (HavePlaces counts) rest (λ n p at.
+    let was = Contains_at expected p (fewer p (Contains-from_at rest n p at)) in
+    All_at (HavePlaces counts) expected was.0 p all was.1)
+
+-- some lists are taken away
+pub counted-fewer : (counts : Counts) (history : List Call) (expected rest : List Prepared)
+    → ((p : Prepared) → Contains rest p → Contains expected p) → AreCounted counts history expected → AreCounted counts history rest
+counted-fewer counts history expected rest fewer h = record {
+  exact = h.exact;
+  placed = fewer-placed counts expected rest fewer h.placed;
+}
+
+any_true : (x : Name) (items : List Name) → list_any (bytes_eq x) items ≡ true → Contains items x
+any_true x [] e = absurd (true≢false (sym e))
+any_true x (y ∷ ys) e = elim (cases_Bool (bytes_eq x y)) [
+  | inl hit ↦ subst (Contains (y ∷ ys)) (sym ((bytes_eq-Decides x y).0 hit)) (cons_here y ys)
+  | inr miss ↦ cons_later y ys x (any_true x ys (rw miss at e))
+]
+
+-- an install is noted
+pub counted-installed : (old new : Counts) (history longer : List Call) (expected : List Prepared) (tx site : ℕ) (items : List Name)
+    → longer ≡ history ++ call.Installed tx site items ∷ [] → CountsEach site items old new → AreCounted old history expected
+    → AreCounted new longer expected
+counted-installed old new history longer expected tx site items is each h = record {
+  exact = λ s x.
+      let noted = ap (λ cs. counted cs s x) is in
+      elim (cases_Bool (site == s)) [
+        | inl here ↦
+            let same : site ≡ s = eqb-true site s here in
+            elim (cases_Bool (list_any (bytes_eq x) items)) [
+              | inl hit ↦
+                  let changes : changes_item s x (record { tx = tx; site = site; items = items }) ≡ true = rw (here, hit) refl in
+                  let now : count_at new s x ≡ suc (count_at old s x) =
+                  subst (λ t. count_at new t x ≡ suc (count_at old t x)) same (each.hit x (any_true x items hit)) in
+                  now ∙ ap suc (h.exact s x) ∙ sym (noted ∙ counted_hit history tx site s items x changes)
+              | inr miss ↦
+                  let changes : changes_item s x (record { tx = tx; site = site; items = items }) ≡ false = rw (here, miss) refl in
+                  let now : count_at new s x ≡ count_at old s x = subst (λ t. count_at new t x ≡ count_at old t x) same
+                  (each.miss x (λ c. true≢false (sym (any_member x items c) ∙ miss))) in
+                  now ∙ h.exact s x ∙ sym (noted ∙ counted_miss history tx site s items x changes)
+            ]
+        | inr other ↦
+            let changes : changes_item s x (record { tx = tx; site = site; items = items }) ≡ false = rw other refl in
+            each.other s x (λ e. eqb-false site s other (sym e)) ∙ h.exact s x
+            ∙ sym (noted ∙ counted_miss history tx site s items x changes)
+      ];
+  placed = All-weaken (HavePlaces old) (HavePlaces new) expected
+      (λ p all. All-weaken (HasPlace old p.site) (HasPlace new p.site) p.items (λ x has. each.kept p.site x has) all) h.placed;
+}
+
+-- the items of a list that was made in advance have their places
+pub expected-placed : (counts : Counts) (history : List Call) (expected : List Prepared) (p : Prepared) → AreCounted counts history expected
+    → Contains expected p → All (HasPlace counts p.site) p.items
+expected-placed counts history expected p h c = let at = Contains_at expected p c in All_at (HavePlaces counts) expected at.0 p h.placed at.1
+
+-- ---- the items of a draft
+
+changed-written : (n : ℕ) (ts : List Touch) → changed_at ts n ≡ map (λ (w : Name × Change). w.0) (writing_in (at_site n ts))
+changed-written n [] = refl
+changed-written n (t ∷ ts) = elim (cases_Bool (t.site == n)) [
+  | inl here ↦ elim (option_cases t.change) [
+    | inl none ↦ rw (here, none) (changed-written n ts)
+    | inr some ↦ rw (here, some.1) (ap (λ xs. t.item ∷ xs) (changed-written n ts))
+  ]
+  | inr other ↦ rw other (changed-written n ts)
+]
+
+less-apart : (x y : Name) → slice_cmp nat_cmp x y ≡ Less → x ≢ y
+less-apart x y less same =
+    let own : slice_cmp nat_cmp x x ≡ Equal = even (slice_cmp nat_cmp x x) (nat_list_cmp_total.antisymm x x) in
+    let f : Less ≡ Equal = sym less ∙ sym (ap (slice_cmp nat_cmp x) same) ∙ own in
+    absurd cc
+
+all-apart : (x : Name) (ws : List (Name × Change)) → AllByRecursion (λ w. slice_cmp nat_cmp x w.0 ≡ Less) ws
+    → AllByRecursion (λ y. x ≢ y) (map (λ (w : Name × Change). w.0) ws)
+all-apart x [] all = tt
+all-apart x (w ∷ ws) all = (less-apart x w.0 all.0, all-apart x ws all.1)
+
+pairs-apart : (ws : List (Name × Change)) → PairsByRecursion (λ a b. slice_cmp nat_cmp a.0 b.0 ≡ Less) ws
+    → PairsByRecursion (λ a b. a ≢ b) (map (λ (w : Name × Change). w.0) ws)
+pairs-apart [] pairs = tt
+pairs-apart (w ∷ ws) pairs = (all-apart w.0 ws pairs.0, pairs-apart ws pairs.1)
+
+-- no two of the items that a draft changes at a site are the same
+pub changed-once : (n : ℕ) (ts : List Touch) → AreRising ts → AllPairs (λ a b. a ≢ b) (changed_at ts n)
+changed-once n ts rising =
+    let ws = writing_in (at_site n ts) in
+    let rises = recursion_from_AllPairs (λ (a b : Name × Change). slice_cmp nat_cmp a.0 b.0 ≡ Less) ws (writing-by_item n ts rising) in
+    let apart_all = AllPairs-from_recursion (λ (a b : Name). a ≢ b) (map (λ (w : Name × Change). w.0) ws) (pairs-apart ws rises) in
+    subst (AllPairs (λ a b. a ≢ b)) (sym (changed-written n ts)) apart_all
+
+-- a count is no more than the calls
+pub counted-few : (history : List Call) (site : ℕ) (item : Name) → counted history site item ≤ length history
+counted-few [] site item = omega arith
+counted-few (call.Installed tx at items ∷ cs) site item =
+    let one : Install = record { tx = tx; site = at; items = items } in
+    let sum = sum_by-cons (λ (x : Install). cond (changes_item site item x) 1 0) one (installs_in cs) in
+    let rest = counted-few cs site item in
+    elim (cases_Bool (changes_item site item one)) [
+      | inl hit ↦ let more : cond {A = ℕ} (changes_item site item one) 1 0 ≡ 1 = rw hit refl in omega (arith, sum, rest, more)
+      | inr miss ↦ let more : cond {A = ℕ} (changes_item site item one) 1 0 ≡ 0 = rw miss refl in omega (arith, sum, rest, more)
+    ]
+counted-few (call.Begin tx h ∷ cs) site item = let rest = counted-few cs site item in omega (arith, rest)
+counted-few (call.Decide h edges reply ∷ cs) site item = let rest = counted-few cs site item in omega (arith, rest)
+counted-few (call.Finish tx ∷ cs) site item = let rest = counted-few cs site item in omega (arith, rest)
+counted-few (call.Withdraw h number ∷ cs) site item = let rest = counted-few cs site item in omega (arith, rest)
+counted-few (call.Close ranks ∷ cs) site item = let rest = counted-few cs site item in omega (arith, rest)
+
+-- ---- a place that can't be made
+
+-- where no place can be made for the items, no list of them was made in advance
+pub none-expected : (counts : Counts) (history : List Call) (expected : List Prepared) (touched : List Touch) (site : ℕ)
+    → AreCounted counts history expected → (All (HasPlace counts site) (changed_at touched site) → ⊥)
+    → Contains expected (record { site = site; items = changed_at touched site }) → ⊥
+none-expected counts history expected touched site h none c =
+    none (expected-placed counts history expected (record { site = site; items = changed_at touched site }) h c)
+
+pub not-expected : (counts : Counts) (history : List Call) (expected : List Prepared) (touched : List Touch) (site : ℕ)
+    → AreCounted counts history expected → (All (HasPlace counts site) (changed_at touched site) → ⊥) → IsExpected expected touched site → ⊥
+not-expected counts history expected touched site h none (inl empty) =
+    none (subst (All (HasPlace counts site)) (sym empty) (λ k d within. absurd (omega (arith, within))))
+not-expected counts history expected touched site h none (inr c) = none-expected counts history expected touched site h none c
+
+pub wants-memory : {A : Type 0} (r : Result A CertifierFault) (old new : Kept) (request : Request) → IsErrAnd r (λ e. e ≡ fault.Memory)
+    → IsAllowed old.state request → new ≡ old → IfErr r (λ f. Declines old request f new)
+wants-memory (Ok a) old new request told allowed same = tt
+wants-memory (Err e) old new request told allowed same =
+    subst (λ f. Declines old request f new) (sym told) (record { told = allowed; same = same })
