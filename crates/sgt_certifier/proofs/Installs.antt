@@ -1,11 +1,11 @@
 -- The installs of a history, and the sites that are noted in the open step.
 use Rattle.std.proofs.Common.{◌≡◌, ◌≢◌, ◌<◌, ◌≤◌, ◌+◌, ℕ, suc, true, false, eqb, List, [], ◌∷◌, ◌++◌, length, get_or, refl, sym, ◌∙◌, ap, subst, arith, inl, inr, All, AllPairs, Any, Contains, Some, None}
-use Rattle.std.specs.Prelude.{filter, ◌↔◌}
+use Rattle.std.specs.Prelude.{filter, count_by, ◌↔◌, ◌&&◌, ◌==◌, cond}
 use Rattle.std.specs.List.{list_any, filter_map}
 use Rattle.std.specs.Str.{bytes_eq}
 use Rattle.std.proofs.lemmas.Slice.Eq.{bytes_eq-Decides}
 use Rattle.std.proofs.lemmas.List.{length-append}
-use Rattle.std.proofs.lemmas.List.Sums.{length-filter}
+use Rattle.std.proofs.lemmas.List.Sums.{length-filter, sum_by-cons}
 use Rattle.std.proofs.lemmas.Bool.{cases_Bool, ne_eqb, eqb-true, true≢false}
 use Rattle.std.proofs.lemmas.Option.{same_Some}
 use Rattle.std.proofs.lemmas.Map.Keys.{IsDistinct-from_apart}
@@ -18,7 +18,7 @@ use Rattle.sgt_certifier.specs.Certifier.{State, Arc, Install, committed, Commit
 use Rattle.sgt_certifier.specs.History.{IsNoted, install_in, installs_in, changes_item, counted}
 use Rattle.sgt_certifier.specs.declared.call.Call.{Call}
 use Rattle.sgt_certifier.specs.declared.call.Call.TheVariants as call
-use Rattle.sgt_certifier.specs.Kept.{AreNoted}
+use Rattle.sgt_certifier.specs.Kept.{AreNoted, is_install_of}
 use Rattle.sgt_certifier.specs.Sound.{IsRuled, IsInstalled, AreTwice}
 use Rattle.sgt_certifier.proofs.Members.{cons_cases, cons_here, cons_later, nil_none, placed_old}
 use Rattle.sgt_certifier.proofs.Ruling.{AllPairs-push, push_cases}
@@ -189,6 +189,20 @@ counted_other history c site item none =
     let empty : filter_map install_in (c ∷ []) ≡ [] = rw none refl in
     let zero_more : length (filter (changes_item site item) (filter_map install_in (c ∷ []))) ≡ 0 = ap (λ xs. length (filter (changes_item site item) xs)) empty in
     omega (arith, counted_push history c site item, zero_more)
+
+-- the installs that a history counts are the calls that note one
+pub counted-calls : (history : List Call) (site : ℕ) (item : Name) → count_by (is_install_of site item) history ≡ counted history site item
+counted-calls [] site item = refl
+counted-calls (call.Installed tx at items ∷ cs) site item =
+    let one : Install = record { tx = tx; site = at; items = items } in
+    let left = sum_by-cons (λ c. cond (is_install_of site item c) 1 0) (call.Installed tx at items) cs in
+    let right = sum_by-cons (λ (x : Install). cond (changes_item site item x) 1 0) one (installs_in cs) in
+    left ∙ ap (λ n. cond ((at == site) && list_any (bytes_eq item) items) 1 0 + n) (counted-calls cs site item) ∙ sym right
+counted-calls (call.Begin tx h ∷ cs) site item = counted-calls cs site item
+counted-calls (call.Decide h edges reply ∷ cs) site item = counted-calls cs site item
+counted-calls (call.Finish tx ∷ cs) site item = counted-calls cs site item
+counted-calls (call.Withdraw h number ∷ cs) site item = counted-calls cs site item
+counted-calls (call.Close ranks ∷ cs) site item = counted-calls cs site item
 
 pub any_member : (item : Name) (items : List Name) → Contains items item → list_any (bytes_eq item) items ≡ true
 any_member item [] c = absurd (nil_none item c)
