@@ -1,3 +1,4 @@
+pub mod Adding
 pub mod Counting
 pub mod Decisions
 pub mod Faults

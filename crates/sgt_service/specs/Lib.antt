@@ -4,3 +4,4 @@ pub mod Reads
 pub mod Refused
 pub mod Seats
 pub mod Stops
+pub mod Together

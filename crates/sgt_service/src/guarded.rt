@@ -264,6 +264,8 @@ impl<L: Ledger> Guarded<L> {
         requires { verdict ≡ Committed → AwaitsInstalls self.old.certifier active.now.tx active.now.draft.touched here }
         ensures awaits { IsTrue result → verdict ≡ Committed
             → AwaitsInstalls self.new.certifier active.now.tx active.now.draft.touched (here + 1) }
+        ensures noted { IsTrue result → verdict ≡ Committed → Adds self.old.certifier
+            (call.Installed active.now.tx here (changed_at active.now.draft.touched here)) self.new.certifier }
         ensures ended { IsTrue result → IsEnded verdict active.now site.old site.new }
         ensures lost { result ≡ false → (site.new ≡ site.old) × (self.new.certifier ≡ self.old.certifier) }
         ensures step { self.new.certifier.state.step ≡ self.old.certifier.state.step }
@@ -279,6 +281,8 @@ impl<L: Ledger> Guarded<L> {
     fn install(&mut self, site: &mut Site, here: SiteNo, active: &Active) -> bool
         requires { AwaitsInstalls self.old.certifier active.now.tx active.now.draft.touched here }
         ensures awaits { IsTrue result → AwaitsInstalls self.new.certifier active.now.tx active.now.draft.touched (here + 1) }
+        ensures noted { IsTrue result → Adds self.old.certifier
+            (call.Installed active.now.tx here (changed_at active.now.draft.touched here)) self.new.certifier }
         ensures ended { IsTrue result → IsEnded Committed active.now site.old site.new }
         ensures lost { result ≡ false → (site.new ≡ site.old) × (self.new.certifier ≡ self.old.certifier) }
         ensures step { self.new.certifier.state.step ≡ self.old.certifier.state.step }

@@ -5,11 +5,13 @@
 mod active;
 mod ending;
 mod guarded;
+mod opened;
 mod pledging;
 mod read;
 mod seat;
 mod service;
 
 pub use active::{Active, Back};
+pub use opened::Opened;
 pub use seat::{Counts, Seat};
 pub use service::Service;
