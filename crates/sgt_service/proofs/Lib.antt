@@ -1,0 +1,7 @@
+pub mod Adding
+pub mod Counting
+pub mod Decisions
+pub mod Faults
+pub mod Items
+pub mod Reading
+pub mod Stopping

@@ -1,0 +1,9 @@
+use Rattle.std.proofs.Common.{◌≢◌}
+use Rattle.sgt_workers.specs.declared.ticket.Ending.{Ending}
+use Rattle.sgt_workers.specs.declared.ticket.Ending.TheVariants.{Withdrawn}
+use Rattle.sgt_service.proofs.Stopping.{stop_back}
+use Rattle.sgt_service.proofs.service.Service.commit_at.Goals as goal
+
+pub returns-in-Err-clause-back : goal.returns-in-Err-clause-back
+returns-in-Err-clause-back g c =
+    rw c.back_of.ensures (stop_back (λ (v : Ending). v ≢ Withdrawn) c.args.active c.args.seat.now c.certify.new.seat c.in-Err.stop c.in-Err.ensures.stop)

@@ -1,0 +1,31 @@
+use Rattle.std.proofs.Common.{◌+◌, ◌∙◌, subst, arith}
+use Rattle.sgt_names.specs.Draft.{at_site}
+use Rattle.sgt_service.specs.Counts.{AreCounted, only_at, with_others, blocks_of}
+use Rattle.sgt_service.specs.Guarded.{AwaitsInstalls}
+use Rattle.sgt_service.proofs.Counting.{gains_next, gains_all, block_none}
+use Rattle.sgt_service.proofs.service.Service.end_all.Goals as goal
+
+pub loop-place-preserved : goal.loop-place-preserved
+loop-place-preserved g c =
+    let verdict = c.args.verdict in
+    let touched = c.args.active.now.draft.touched in
+    let seat = c.loop-place.seat in
+    let here = c.number_at-here.ensures in
+    let one = c.end_one.ensures in
+    let counted = one.counted c.if-not-end_one.false in record {
+      awaits = λ v. subst (λ n. AwaitsInstalls c.end_one.new.guarded.certifier c.args.active.now.tx touched (n + 1)) here (one.awaits c.if-not-end_one.false v);
+      step = one.step ∙ c.loop-place.invariant.step;
+      share = one.share ∙ c.loop-place.invariant.share;
+      counts = gains_next (blocks_of verdict touched) c.loop-place.place c.args.seat.now.counts.items seat.counts.items c.end_one.new.seat.counts.items
+          c.loop-place.invariant.counts
+          (subst (λ n. AreCounted (only_at n (with_others (blocks_of verdict touched n))) seat.counts.items c.end_one.new.seat.counts.items) here counted);
+    }
+
+pub returns-clause-ok : goal.returns-clause-ok
+returns-clause-ok g c =
+    let verdict = c.args.verdict in
+    let touched = c.args.active.now.draft.touched in
+    let past = c.loop-place-test.false in
+    gains_all (blocks_of verdict touched) c.loop-place.place c.args.seat.now.counts.items c.loop-place.seat.counts.items
+    (λ s above. block_none verdict (at_site s touched) (c.requires.sites s (omega (arith, above, past, c.args.self.now.sites.ok.0))))
+    c.loop-place.invariant.counts

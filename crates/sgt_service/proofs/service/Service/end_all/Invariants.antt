@@ -1,0 +1,13 @@
+use Rattle.std.proofs.Common.{◌≡◌}
+use Rattle.sgt_workers.specs.declared.ticket.Ending.TheVariants.{Committed}
+use Rattle.sgt_service.specs.Counts.{AreCounted, with_others, blocks_of, below}
+use Rattle.sgt_service.specs.Guarded.{AwaitsInstalls}
+use Rattle.sgt_service.proofs.service.Service.end_all.Given as goal
+
+abbrev pub invariant-loop-place : goal.invariant-loop-place
+invariant-loop-place g l = record {
+  awaits : l.verdict ≡ Committed → AwaitsInstalls l.guarded.certifier l.active.tx l.active.draft.touched l.place;
+  step : l.guarded.certifier.state.step ≡ l.fn.guarded.certifier.state.step;
+  share : l.seat.share ≡ l.fn.seat.share;
+  counts : AreCounted (λ s. with_others (below l.place (blocks_of l.verdict l.active.draft.touched) s)) l.fn.seat.counts.items l.seat.counts.items;
+}

@@ -1,0 +1,20 @@
+use Rattle.std.proofs.Common.{◌∙◌, ap, sym, subst, arith, ◌+◌}
+use Rattle.sgt_names.specs.Draft.{at_site}
+use Rattle.sgt_service.specs.Counts.{AreCounted, only_at, with_others, block_length}
+use Rattle.sgt_service.proofs.Counting.{gains_zero}
+use Rattle.sgt_service.proofs.Decisions.{later}
+use Rattle.sgt_service.proofs.service.Service.end_one.Goals as goal
+
+pub returns-then-entries-eq0-clause-awaits : goal.returns-then-entries-eq0-clause-awaits
+returns-then-entries-eq0-clause-awaits g c _ verdict =
+    later c.args.guarded.now.certifier c.args.active.now.tx c.args.active.now.draft.touched c.args.here (c.args.here + 1) (omega arith) (c.requires.awaits verdict)
+
+pub returns-then-entries-eq0-clause-counted : goal.returns-then-entries-eq0-clause-counted
+returns-then-entries-eq0-clause-counted g c _ =
+    let is = c.block_at-entries.ensures ∙ ap (λ ts. block_length c.args.verdict (at_site c.args.here ts)) c.touched.ensures.all in
+    gains_zero c.args.seat.now.counts.items c.args.here _ (sym is ∙ c.if-entries-eq0.true)
+
+pub returns-clause-counted : goal.returns-clause-counted
+returns-clause-counted g c _ =
+    let is = c.block_at-entries.ensures ∙ ap (λ ts. block_length c.args.verdict (at_site c.args.here ts)) c.touched.ensures.all in
+    subst (λ n. AreCounted (only_at c.args.here (with_others n)) c.args.seat.now.counts.items c.count_others.new.self.counts.items) is c.count_others.ensures.counts

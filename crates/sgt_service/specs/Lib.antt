@@ -1,0 +1,7 @@
+pub mod Counts
+pub mod Guarded
+pub mod Reads
+pub mod Refused
+pub mod Seats
+pub mod Stops
+pub mod Together

@@ -1,0 +1,54 @@
+-- When the calls of a service are refused.
+use Rattle.std.specs.Prelude.{◌≡◌, ◌≢◌, ◌⊎◌, ℕ, List, All, Contains, Option, Some, None, slice_get}
+use Rattle.sgt_names.specs.Name.{Name}
+use Rattle.sgt_names.specs.declared.entry.Holding.{Holding}
+use Rattle.sgt_site.specs.State.{AreItems}
+use Rattle.sgt_site.specs.declared.fault.SiteFault.TheVariants as site
+use Rattle.sgt_certifier.specs.Certifier.{State}
+use Rattle.sgt_certifier.specs.History.{Request}
+use Rattle.sgt_certifier.specs.Kept.{IsTold}
+use Rattle.sgt_certifier.specs.declared.call.CertifierFault.{CertifierFault}
+use Rattle.sgt_certifier.specs.declared.call.CertifierFault.TheVariants as certifier
+use Rattle.sgt_agreed.specs.Fault.{of_certifier}
+use Rattle.sgt_agreed.specs.declared.fault.ServiceFault.{ServiceFault}
+use Rattle.sgt_agreed.specs.declared.fault.ServiceFault.TheVariants.{Memory, Site, Certifier, NotPledged}
+
+-- the certifier refuses the request, and its fault is handed on
+abbrev pub HandsOn : State → Request → ServiceFault → Type 0
+HandsOn s request f = (told : CertifierFault) × IsTold s request told × (f ≡ of_certifier told)
+
+-- the request is refused: by the site that has lost its pledge before all else
+abbrev pub IsRefusedBy : Option ℕ → State → Request → ServiceFault → Type 0
+IsRefusedBy (Some lost) s request f = f ≡ NotPledged lost
+IsRefusedBy None s request f = HandsOn s request f
+
+-- the site has an item of this name
+abbrev pub HasItem : List (List Name) → ℕ → Name → Type 0
+HasItem names s x = (here : List Name) × (slice_get names s ≡ Some here) × Contains here x
+
+-- a change of an item that is refused: it isn't there, or memory is wanted
+abbrev pub RefusesItem : List (List Name) → ℕ → Name → ServiceFault → Type 0
+RefusesItem names s x (Site site.UnknownItem) = HasItem names s x → ⊥
+RefusesItem names s x Memory = HasItem names s x
+RefusesItem names s x _ = ⊥
+
+-- sites that can't be opened: one has names that don't rise, or too many; or memory is wanted
+abbrev pub RefusesSites : List (List Holding) → ServiceFault → Type 0
+RefusesSites sites (Site site.BadItems) = All AreItems sites → ⊥
+RefusesSites sites Memory = All AreItems sites
+RefusesSites sites _ = ⊥
+
+-- a fault of a site, a fault of the certifier, or want of memory, which is neither
+abbrev pub IsOfSite : ServiceFault → Type 0
+IsOfSite (Site f) = f ≢ site.Memory
+IsOfSite Memory = Unit {0}
+IsOfSite _ = ⊥
+
+abbrev pub IsOfCertifier : ServiceFault → Type 0
+IsOfCertifier (Certifier f) = f ≢ certifier.Memory
+IsOfCertifier (NotPledged lost) = Unit {0}
+IsOfCertifier Memory = Unit {0}
+IsOfCertifier _ = ⊥
+
+abbrev pub IsOfCall : ServiceFault → Type 0
+IsOfCall f = IsOfSite f ⊎ IsOfCertifier f

@@ -1,0 +1,338 @@
+//! What the certifier's lock keeps: the certifier, with the book of its decisions.
+
+ghost use Rattle.std.specs.Prelude.{◌≡◌, ◌++◌, OnOk};
+ghost use Rattle.sgt_service.specs.Guarded.{decision_count, ticket_of};
+
+use crate::active::Active;
+use sgt_agreed::{ServiceFault, gather_agreed};
+use sgt_arena::Handle;
+use sgt_certifier::{Certifier, CertifierFault, Decided};
+use sgt_edges::EdgeList;
+use sgt_names::{SiteNo, Tx};
+use sgt_site::Site;
+use sgt_workers::{Ending, Ticket};
+use std::alloc::{AllocError, Global};
+use std::sync::ledger::{Book, Ledger, Share};
+
+/// The certifier beside the book of its decisions.
+#[derive(Drop)]
+pub struct Guarded<L: Ledger> {
+    pub certifier: Certifier,
+    // how many transactions were begun, and how many of them before this window
+    begun: u32,
+    before: u32,
+    /// The site that was found to have lost its pledge.
+    pub lost: Option<SiteNo>,
+    pub book: Book<L>,
+    /// A share with no part, into which the seats' shares are put together at the end.
+    pub none: Share<L>,
+    pub ghost counted: { book.total ≡ decision_count certifier },
+    pub ghost window: { (begun ≡ certifier.state.begun) × (before ≡ certifier.state.before) },
+    pub ghost empty: { (none.parts ≡ 0) × (none.amount ≡ 0) },
+}
+
+impl<L: Ledger> Guarded<L> {
+    ghost use Rattle.std.specs.Prelude.{◌≡◌, ◌↔◌, ◌<◌, ◌+◌, ◌++◌, ℕ, List, All, false, None, Some, Err, IsTrue, IfOk, IfErr, IfSome, OnOk, OnErr};
+    ghost use Rattle.sgt_certifier.specs.declared.call.Call.TheVariants as call;
+    ghost use Rattle.sgt_certifier.specs.declared.call.Decided.{Decided as Reply};
+    ghost use Rattle.sgt_certifier.specs.History.{begin, decide, withdraw, close, expect, tx_under, IsAllowed};
+    ghost use Rattle.sgt_certifier.specs.Kept.{Adds, IsExpected, changed_at};
+    ghost use Rattle.sgt_names.specs.Draft.{at_site};
+    ghost use Rattle.sgt_edges.specs.declared.edge.Edge.{Edge as AnEdge};
+    ghost use Rattle.sgt_edges.specs.Edges.{IsGiven, StandsForAll};
+    ghost use Rattle.sgt_agreed.specs.Agreed.{VersionsAgree};
+    ghost use Rattle.sgt_agreed.specs.declared.fault.ServiceFault.TheVariants.{NotPledged, Certifier as OfCertifier};
+    ghost use Rattle.sgt_certifier.specs.declared.call.CertifierFault.TheVariants.{Unknown as NotKnown};
+    ghost use Rattle.sgt_workers.specs.declared.ticket.Ending.TheVariants.{Committed};
+    ghost use Rattle.sgt_service.specs.Guarded.{ticket_of, AwaitsInstalls, IsEnded};
+    ghost use Rattle.sgt_service.specs.Refused.{HandsOn, IsRefusedBy, IsOfCertifier, IsOfCall};
+
+    /// A certifier to which nothing has happened, with its empty book.
+    pub fn new(alloc: Global, book: Book<L>, none: Share<L>) -> Guarded<L>
+        requires book { book.total ≡ 0 }
+        requires none { (none.parts ≡ 0) × (none.amount ≡ 0) }
+    {
+        Guarded {
+            certifier: Certifier::new(alloc),
+            begun: 0,
+            before: 0,
+            lost: None,
+            book,
+            none,
+        }
+    }
+
+    /// Begins the next transaction.
+    pub fn begin(&mut self) -> Result<(Tx, Handle), ServiceFault>
+        ensures ok { IfOk result (λ r. (self.old.lost ≡ None)
+            × Adds self.old.certifier (call.Begin r.0 r.1) self.new.certifier) }
+        ensures err { IfErr result (λ f. IsRefusedBy self.old.lost self.old.certifier.state begin f
+            × (self.new.certifier ≡ self.old.certifier)) }
+        ensures lost { self.new.lost ≡ self.old.lost }
+    {
+        if let Some(site) = self.lost {
+            return Err(ServiceFault::NotPledged(site));
+        }
+        let Guarded {
+            certifier,
+            begun,
+            ..
+        } = self;
+        let (tx, handle) = certifier.begin()?;
+        *begun = tx.number();
+        Ok((tx, handle))
+    }
+
+    /// Closes the window.
+    pub fn close(&mut self) -> Result<u64, ServiceFault>
+        ensures ok { IfOk result (λ ranks. (self.old.lost ≡ None)
+            × Adds self.old.certifier (call.Close ranks) self.new.certifier) }
+        ensures err { IfErr result (λ f. IsRefusedBy self.old.lost self.old.certifier.state close f
+            × (self.new.certifier ≡ self.old.certifier)) }
+        ensures lost { self.new.lost ≡ self.old.lost }
+    {
+        if let Some(site) = self.lost {
+            return Err(ServiceFault::NotPledged(site));
+        }
+        let Guarded {
+            certifier,
+            begun,
+            before,
+            ..
+        } = self;
+        let ranks = certifier.close()?;
+        *before = *begun;
+        Ok(ranks)
+    }
+
+    /// Withdraws the transaction of the handle, and counts the decision in the book and in the share.
+    pub fn withdraw(&mut self, handle: Handle, share: &mut Share<L>) -> Result<u64, ServiceFault>
+        requires { 0 < share.old.parts }
+        ensures ok { IfOk result (λ number. Adds self.old.certifier (call.Withdraw handle number) self.new.certifier) }
+        ensures counted { OnOk result (share.new.amount ≡ share.old.amount + 1) }
+        ensures err { IfErr result (λ f. HandsOn self.old.certifier.state (withdraw handle) f
+            × (self.new.certifier ≡ self.old.certifier) × (share.new ≡ share.old)) }
+        ensures parts { share.new.parts ≡ share.old.parts }
+        ensures lost { self.new.lost ≡ self.old.lost }
+    {
+        let Guarded {
+            certifier,
+            book,
+            ..
+        } = self;
+        let number = certifier.withdraw(handle)?;
+        book.add(share, 1);
+        Ok(number)
+    }
+
+    /// Decides the transaction, with its edges, and counts the decision in the book and in the share.
+    pub fn decide(
+        &mut self,
+        active: &Active,
+        edges: EdgeList,
+        share: &mut Share<L>,
+    ) -> Result<Ticket, ServiceFault>
+        requires part { 0 < share.old.parts }
+        requires named { tx_under self.old.certifier.state active.now.handle ≡ active.now.tx }
+        requires room { (site : ℕ) → IsExpected self.old.certifier.expected active.now.draft.touched site }
+        ensures ok { IfOk result (λ t. (reply : Reply) × (t ≡ ticket_of active.now.tx reply)
+            × Adds self.old.certifier (call.Decide active.now.handle edges reply) self.new.certifier) }
+        ensures counted { OnOk result (share.new.amount ≡ share.old.amount + 1) }
+        ensures err { IfErr result (λ f. HandsOn self.old.certifier.state (decide active.now.handle edges) f
+            × (self.new.certifier ≡ self.old.certifier) × (share.new ≡ share.old)) }
+        ensures step { OnOk result (self.new.certifier.state.step ≡ Some active.now.tx) }
+        ensures awaits { IfOk result (λ t. t.verdict ≡ Committed
+            → AwaitsInstalls self.new.certifier active.now.tx active.now.draft.touched 0) }
+        ensures parts { share.new.parts ≡ share.old.parts }
+        ensures lost { self.new.lost ≡ self.old.lost }
+    {
+        let tx = active.tx;
+        let Guarded {
+            certifier,
+            book,
+            ..
+        } = self;
+        let _history = certifier.history();
+        let reply = certifier.decide(active.handle, edges)?;
+        book.add(share, 1);
+        Ok(ticket_of(tx, reply))
+    }
+
+    /// Ends the open step.
+    pub fn finish(&mut self, tx: Tx)
+        requires { self.old.certifier.state.step ≡ Some tx }
+        ensures { Adds self.old.certifier (call.Finish tx) self.new.certifier }
+    {
+        let Guarded { certifier, .. } = self;
+        match certifier.finish_step(tx) {
+            Ok(()) => {}
+            Err(_) => unreachable!(),
+        }
+    }
+
+    /// Notes that a site was found to have lost its pledge.
+    pub fn lose(&mut self, site: SiteNo)
+        ensures certifier { self.new.certifier ≡ self.old.certifier }
+        ensures lost { self.new.lost ≡ Some site }
+    {
+        self.lost = Some(site);
+    }
+
+    /// Whether a transaction may be decided here at all: no site was found to have lost its pledge, and the certifier has its
+    /// number under its handle.
+    pub fn check(&self, active: &Active) -> Result<(), ServiceFault>
+        ensures ok { OnOk result ((self.now.lost ≡ None) × (tx_under self.now.certifier.state active.now.handle ≡ active.now.tx)) }
+        ensures refused { IfErr result IsOfCertifier }
+        ensures lost { IfSome self.now.lost (λ site. result ≡ Err (NotPledged site)) }
+    {
+        if let Some(site) = self.lost {
+            return Err(ServiceFault::NotPledged(site));
+        }
+        if !self.is_of(active) {
+            return Err(ServiceFault::Certifier(CertifierFault::Unknown));
+        }
+        Ok(())
+    }
+
+    /// Makes room for the installs of a transaction that is to be decided.
+    pub fn expect(&mut self, active: &Active) -> Result<(), ServiceFault>
+        ensures ok { OnOk result ((self.old.lost ≡ None)
+            × (tx_under self.new.certifier.state active.now.handle ≡ active.now.tx)) }
+        ensures room { OnOk result ((site : ℕ) → IsExpected self.new.certifier.expected active.now.draft.touched site) }
+        ensures state { (self.new.certifier.state ≡ self.old.certifier.state)
+            × (self.new.certifier.history ≡ self.old.certifier.history) }
+        ensures refused { IfErr result IsOfCertifier }
+        ensures lost { self.new.lost ≡ self.old.lost }
+    {
+        self.check(active)?;
+        let Guarded { certifier, .. } = self;
+        certifier.expect(active.handle, &active.draft)?;
+        Ok(())
+    }
+
+    /// Pledges a transaction at a site and adds its edges there, under both locks.
+    #[tactic(auto, using(crate::proofs::Faults::agreed_of_call))]
+    pub fn gather(
+        &self,
+        alloc: Global,
+        site: &mut Site,
+        active: &Active,
+        edges: &mut EdgeList,
+    ) -> Result<(), ServiceFault>
+        ensures agreed { OnOk result (VersionsAgree self.now.certifier.history site.old) }
+        ensures pledged { OnOk result (site.new ≡ record site.old {
+          pledge = Some (record { tx = active.now.tx; part = at_site site.old.number active.now.draft.touched });
+        }) }
+        ensures edges { OnOk result ((more : List AnEdge) × (edges.new ≡ edges.old ++ more)
+            × All (IsGiven site.new active.now.draft.touched active.now.handle) more
+            × StandsForAll site.new active.now.draft.touched active.now.handle more) }
+        ensures refused { IfErr result IsOfCall }
+    {
+        let more = gather_agreed(
+            alloc,
+            &self.certifier,
+            site,
+            active.tx,
+            &active.draft,
+            active.handle,
+        )?;
+        if append(edges, &more).is_err() {
+            let _ = site.unpledge(active.tx);
+            return Err(ServiceFault::Memory);
+        }
+        Ok(())
+    }
+
+    /// The fault again. The site of a V7 is noted.
+    pub fn noted(&mut self, fault: ServiceFault) -> ServiceFault
+        ensures same { result ≡ fault }
+        ensures certifier { self.new.certifier ≡ self.old.certifier }
+        ensures lost { (number : ℕ) → fault ≡ NotPledged number → self.new.lost ≡ Some number }
+    {
+        match fault {
+            ServiceFault::NotPledged(site) => {
+                self.lost = Some(site);
+                ServiceFault::NotPledged(site)
+            }
+            other => other,
+        }
+    }
+
+    /// Writes the block of a transaction that is decided so at a site, under both locks; an install is noted in the history. False
+    /// where the pledge is lost, and then nothing changes.
+    pub fn end(&mut self, site: &mut Site, here: SiteNo, active: &Active, verdict: Ending) -> bool
+        requires { verdict ≡ Committed → AwaitsInstalls self.old.certifier active.now.tx active.now.draft.touched here }
+        ensures awaits { IsTrue result → verdict ≡ Committed
+            → AwaitsInstalls self.new.certifier active.now.tx active.now.draft.touched (here + 1) }
+        ensures noted { IsTrue result → verdict ≡ Committed → Adds self.old.certifier
+            (call.Installed active.now.tx here (changed_at active.now.draft.touched here)) self.new.certifier }
+        ensures ended { IsTrue result → IsEnded verdict active.now site.old site.new }
+        ensures lost { result ≡ false → (site.new ≡ site.old) × (self.new.certifier ≡ self.old.certifier) }
+        ensures step { self.new.certifier.state.step ≡ self.old.certifier.state.step }
+        ensures same { self.new.lost ≡ self.old.lost }
+    {
+        match verdict {
+            Ending::Committed => self.install(site, here, active),
+            Ending::Refused => site.refuse(active.tx, &active.draft).is_ok(),
+            Ending::Withdrawn => site.withdraw(active.tx).is_ok(),
+        }
+    }
+
+    fn install(&mut self, site: &mut Site, here: SiteNo, active: &Active) -> bool
+        requires { AwaitsInstalls self.old.certifier active.now.tx active.now.draft.touched here }
+        ensures awaits { IsTrue result → AwaitsInstalls self.new.certifier active.now.tx active.now.draft.touched (here + 1) }
+        ensures noted { IsTrue result → Adds self.old.certifier
+            (call.Installed active.now.tx here (changed_at active.now.draft.touched here)) self.new.certifier }
+        ensures ended { IsTrue result → IsEnded Committed active.now site.old site.new }
+        ensures lost { result ≡ false → (site.new ≡ site.old) × (self.new.certifier ≡ self.old.certifier) }
+        ensures step { self.new.certifier.state.step ≡ self.old.certifier.state.step }
+        ensures same { self.new.lost ≡ self.old.lost }
+    {
+        if site
+            .install(active.tx, active.handle, &active.draft)
+            .is_err()
+        {
+            return false;
+        }
+        let Guarded { certifier, .. } = self;
+        match certifier.installed(active.tx, here, &active.draft) {
+            Ok(()) => true,
+            Err(_) => unreachable!(),
+        }
+    }
+
+    // Whether the certifier has the transaction's number under its handle.
+    fn is_of(&self, active: &Active) -> bool
+        ensures { IsTrue result ↔ (tx_under self.now.certifier.state active.now.handle ≡ active.now.tx) }
+    {
+        self.before as u64 + active.handle.index as u64 + 1 == active.tx.number() as u64
+    }
+}
+
+// Adds the edges of another list.
+fn append(edges: &mut EdgeList, more: &EdgeList) -> Result<(), AllocError>
+    ensures { OnOk result (edges.new ≡ edges.old ++ more.now) }
+{
+    let all = more.as_slice();
+    for edge in all {
+        edges.push(*edge)?;
+    }
+    Ok(())
+}
+
+fn ticket_of(tx: Tx, reply: Decided) -> Ticket
+    ensures { result ≡ ticket_of tx reply }
+{
+    match reply {
+        Decided::Committed { number } => Ticket {
+            number,
+            tx,
+            verdict: Ending::Committed,
+        },
+        Decided::Refused { number, walk: _ } => Ticket {
+            number,
+            tx,
+            verdict: Ending::Refused,
+        },
+    }
+}

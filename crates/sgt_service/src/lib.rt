@@ -1,0 +1,17 @@
+//! A service of one certifier and its sites for many threads: the certifier under one lock, each site under its own, and a
+//! ledger that ties the history's decisions to what the threads were told.
+#![tactic(auto)]
+
+mod active;
+mod ending;
+mod guarded;
+mod opened;
+mod pledging;
+mod read;
+mod seat;
+mod service;
+
+pub use active::{Active, Back};
+pub use opened::Opened;
+pub use seat::{Counts, Seat};
+pub use service::Service;

@@ -1,0 +1,298 @@
+//! The sites of a transaction, one after another, while the certifier's lock is held.
+
+ghost use Rattle.std.specs.Prelude.{◌≡◌, ◌↔◌, ◌<◌, All, IsTrue, count_by};
+ghost use Rattle.sgt_service.specs.Counts.{block_length, is_at, is_changed_at};
+ghost use Rattle.sgt_names.specs.Draft.{at_site};
+
+use crate::active::Active;
+use crate::guarded::Guarded;
+use crate::seat::Seat;
+use crate::service::Service;
+use sgt_agreed::ServiceFault;
+use sgt_edges::EdgeList;
+use sgt_names::{Draft, SiteNo, Touch};
+use sgt_site::SiteFault;
+use sgt_workers::{Ending, Gate, Place};
+use std::alloc::Global;
+use std::sync::Wait;
+use std::sync::ledger::Ledger;
+
+/// This site was found to have lost its pledge.
+#[derive(Clone, Copy)]
+pub struct Lost {
+    pub site: SiteNo,
+}
+
+impl<L: Ledger> Service<L> {
+    ghost use Rattle.std.specs.Prelude.{◌≡◌, ◌<◌, ◌≤◌, ◌+◌, [], ℕ, false, IsTrue, IfOk, IfErr, OnOk, OnErr, vec_len};
+    ghost use Rattle.sgt_names.specs.Draft.{at_site};
+    ghost use Rattle.sgt_workers.specs.declared.ticket.Ending.TheVariants.{Committed};
+    ghost use Rattle.sgt_certifier.specs.History.{tx_under};
+    ghost use Rattle.sgt_certifier.specs.Kept.{IsExpected};
+    ghost use Rattle.sgt_service.specs.Counts.{AreCounted, only_at, with_others, blocks_of, below};
+    ghost use Rattle.sgt_service.specs.Guarded.{AwaitsInstalls};
+    ghost use Rattle.sgt_service.specs.Refused.{IsOfCall};
+
+    // The number of the site at this place.
+    fn number_at(&self, place: usize) -> SiteNo
+        requires { place < vec_len self.now.sites }
+        ensures { result ≡ place }
+    {
+        match SiteNo::new(place as u64) {
+            Ok(number) => number,
+            Err(_) => unreachable!(),
+        }
+    }
+
+    // Whether each site that the draft touches is there.
+    #[tactic(auto, using(crate::proofs::Counting::none_above))]
+    fn has_sites(&self, draft: &Draft) -> bool
+        ensures { IsTrue result → (site : ℕ) → vec_len self.now.sites ≤ site → at_site site draft.now.touched ≡ [] }
+    {
+        are_below(draft.touched(), self.sites.len())
+    }
+
+    // Gives back the pledges of the transaction at the sites below `end` that its draft touches.
+    pub(crate) fn unpledge_below<R: Wait>(&self, rt: &R, active: &Active, end: usize)
+        requires { end ≤ vec_len self.now.sites }
+    {
+        for place in 0..end {
+            if active.draft.touches(self.number_at(place)) {
+                let _ = self.sites[place].lock(rt).unpledge(active.tx);
+            }
+        }
+    }
+
+    // Pledges at each site that the draft touches. Where a site refuses, none of these pledges is left.
+    fn pledge_all<R: Wait>(&self, rt: &R, active: &Active) -> Result<(), ServiceFault>
+        ensures { IfErr result IsOfCall }
+    {
+        for place in 0..self.sites.len() {
+            if active.draft.touches(self.number_at(place)) {
+                if let Err(fault) = self.sites[place].lock(rt).pledge(active.tx, &active.draft) {
+                    self.unpledge_below(rt, active, place);
+                    return Err(ServiceFault::from(fault));
+                }
+            }
+        }
+        Ok(())
+    }
+
+    // Pledges a transaction that may be withdrawn at each of its sites.
+    pub(crate) fn pledged<R: Wait>(
+        &self,
+        rt: &R,
+        guarded: &Guarded<L>,
+        active: &Active,
+    ) -> Result<(), ServiceFault>
+        ensures named { OnOk result (tx_under guarded.now.certifier.state active.now.handle ≡ active.now.tx) }
+        ensures sites { OnOk result ((site : ℕ) → vec_len self.now.sites ≤ site → at_site site active.now.draft.touched ≡ []) }
+        ensures refused { IfErr result IsOfCall }
+    {
+        guarded.check(active)?;
+        if !self.has_sites(&active.draft) {
+            return Err(ServiceFault::Site(SiteFault::UnknownItem));
+        }
+        self.pledge_all(rt, active)
+    }
+
+    // Pledges a transaction that may be decided at each of its sites, and gathers its edges.
+    pub(crate) fn gathered<R: Wait>(
+        &self,
+        rt: &R,
+        alloc: Global,
+        guarded: &mut Guarded<L>,
+        active: &Active,
+    ) -> Result<EdgeList, ServiceFault>
+        ensures named { OnOk result (tx_under guarded.new.certifier.state active.now.handle ≡ active.now.tx) }
+        ensures room { OnOk result ((site : ℕ) → IsExpected guarded.new.certifier.expected active.now.draft.touched site) }
+        ensures sites { OnOk result ((site : ℕ) → vec_len self.now.sites ≤ site → at_site site active.now.draft.touched ≡ []) }
+        ensures refused { IfErr result IsOfCall }
+    {
+        guarded.expect(active)?;
+        if !self.has_sites(&active.draft) {
+            return Err(ServiceFault::Site(SiteFault::UnknownItem));
+        }
+        let mut edges = EdgeList::new(alloc);
+        self.gather_all(rt, alloc, guarded, active, &mut edges)?;
+        Ok(edges)
+    }
+
+    // Gathers the edges at each site that the draft touches, and pledges there. Where this is refused, none of these pledges is
+    // left, and a site whose versions don't agree is noted.
+    fn gather_all<R: Wait>(
+        &self,
+        rt: &R,
+        alloc: Global,
+        guarded: &mut Guarded<L>,
+        active: &Active,
+        edges: &mut EdgeList,
+    ) -> Result<(), ServiceFault>
+        ensures certifier { guarded.new.certifier ≡ guarded.old.certifier }
+        ensures refused { IfErr result IsOfCall }
+    {
+        for place in 0..self.sites.len() {
+            if active.draft.touches(self.number_at(place)) {
+                let gathered = guarded.gather(
+                    alloc,
+                    &mut self.sites[place].lock(rt),
+                    active,
+                    edges,
+                );
+                if let Err(fault) = gathered {
+                    self.unpledge_below(rt, active, place);
+                    return Err(guarded.noted(fault));
+                }
+            }
+        }
+        Ok(())
+    }
+
+    // Writes the block of a transaction that is decided so at each site that its draft touches, and counts it. A site that has
+    // lost its pledge is noted, and no further block is written.
+    pub(crate) fn end_all<R: Wait, G: Gate>(
+        &self,
+        rt: &R,
+        guarded: &mut Guarded<L>,
+        seat: &mut Seat<L>,
+        active: &Active,
+        verdict: Ending,
+        worker: usize,
+        gate: &G,
+    ) -> Result<(), Lost>
+        requires awaits { verdict ≡ Committed
+            → AwaitsInstalls guarded.old.certifier active.now.tx active.now.draft.touched 0 }
+        requires sites { (site : ℕ) → vec_len self.now.sites ≤ site → at_site site active.now.draft.touched ≡ [] }
+        ensures step { guarded.new.certifier.state.step ≡ guarded.old.certifier.state.step }
+        ensures share { seat.new.share ≡ seat.old.share }
+        ensures ok { OnOk result (AreCounted (λ site. with_others (blocks_of verdict active.now.draft.touched site))
+            seat.old.counts.items seat.new.counts.items) }
+        ensures lost { IfErr result (λ e. AreCounted
+            (λ site. with_others (below e.site (blocks_of verdict active.now.draft.touched) site))
+            seat.old.counts.items seat.new.counts.items) }
+    {
+        for place in 0..self.sites.len() {
+            let here = self.number_at(place);
+            if !self.end_one(rt, guarded, seat, here, active, verdict, worker, gate) {
+                return Err(Lost { site: here });
+            }
+        }
+        Ok(())
+    }
+
+    // Writes the block at one site, if the draft touches it, and counts it. False where it has lost the pledge, which is noted.
+    fn end_one<R: Wait, G: Gate>(
+        &self,
+        rt: &R,
+        guarded: &mut Guarded<L>,
+        seat: &mut Seat<L>,
+        here: SiteNo,
+        active: &Active,
+        verdict: Ending,
+        worker: usize,
+        gate: &G,
+    ) -> bool
+        requires place { here < vec_len self.now.sites }
+        requires awaits { verdict ≡ Committed
+            → AwaitsInstalls guarded.old.certifier active.now.tx active.now.draft.touched here }
+        ensures awaits { IsTrue result → verdict ≡ Committed
+            → AwaitsInstalls guarded.new.certifier active.now.tx active.now.draft.touched (here + 1) }
+        ensures step { guarded.new.certifier.state.step ≡ guarded.old.certifier.state.step }
+        ensures share { seat.new.share ≡ seat.old.share }
+        ensures counted { IsTrue result → AreCounted
+            (only_at here (with_others (blocks_of verdict active.now.draft.touched here)))
+            seat.old.counts.items seat.new.counts.items }
+        ensures same { result ≡ false → seat.new.counts.items ≡ seat.old.counts.items }
+    {
+        let entries = block_at(active.draft.touched(), here, verdict);
+        if entries == 0 {
+            return true;
+        }
+        if !self.end_at(rt, guarded, here, active, verdict, worker, gate) {
+            guarded.lose(here);
+            return false;
+        }
+        seat.count_others(here, entries);
+        true
+    }
+
+    // Writes the block at a site, under its lock. False where it has lost the pledge.
+    fn end_at<R: Wait, G: Gate>(
+        &self,
+        rt: &R,
+        guarded: &mut Guarded<L>,
+        here: SiteNo,
+        active: &Active,
+        verdict: Ending,
+        worker: usize,
+        gate: &G,
+    ) -> bool
+        requires place { here < vec_len self.now.sites }
+        requires awaits { verdict ≡ Committed
+            → AwaitsInstalls guarded.old.certifier active.now.tx active.now.draft.touched here }
+        ensures awaits { IsTrue result → verdict ≡ Committed
+            → AwaitsInstalls guarded.new.certifier active.now.tx active.now.draft.touched (here + 1) }
+        ensures step { guarded.new.certifier.state.step ≡ guarded.old.certifier.state.step }
+    {
+        let mut guard = self.sites[here.number() as usize].lock(rt);
+        let site = &mut *guard;
+        gate.arrive(worker, Place::InInstall(here));
+        guarded.end(site, here, active, verdict)
+    }
+}
+
+// Whether the touched items are at sites of smaller numbers alone.
+fn are_below(touched: &[Touch], sites: usize) -> bool
+    ensures { IsTrue result ↔ All (λ t. t.site < sites) touched.now }
+{
+    touched.iter().all(|touch| is_below(touch, sites))
+}
+
+fn is_below(touch: &Touch, sites: usize) -> bool
+    ensures { IsTrue result ↔ (touch.now.site < sites) }
+{
+    (touch.site.number() as usize) < sites
+}
+
+// How many entries the block of a transaction that is decided so has at the site.
+#[tactic(auto, using(crate::proofs::Counting::block_at_none, crate::proofs::Counting::block_at_end, crate::proofs::Counting::block_at_some))]
+fn block_at(touched: &[Touch], site: SiteNo, verdict: Ending) -> u64
+    ensures { result ≡ block_length verdict (at_site site touched.now) }
+{
+    let items = items_at(touched, site);
+    if items == 0 {
+        return 0;
+    }
+    match verdict {
+        Ending::Withdrawn => 1,
+        _ => changes_at(touched, site) + 1,
+    }
+}
+
+// How many items are touched at the site, and how many are changed.
+fn items_at(touched: &[Touch], site: SiteNo) -> u64
+    ensures { result ≡ count_by (is_at site) touched.now }
+{
+    touched.iter().filter(|touch| is_at(touch, site)).count() as u64
+}
+
+fn changes_at(touched: &[Touch], site: SiteNo) -> u64
+    ensures { result ≡ count_by (is_changed_at site) touched.now }
+{
+    touched
+        .iter()
+        .filter(|touch| is_changed_at(touch, site))
+        .count() as u64
+}
+
+fn is_at(touch: &Touch, site: SiteNo) -> bool
+    ensures { result ≡ is_at site touch.now }
+{
+    touch.site == site
+}
+
+fn is_changed_at(touch: &Touch, site: SiteNo) -> bool
+    ensures { result ≡ is_changed_at site touch.now }
+{
+    touch.site == site && touch.change.is_some()
+}

@@ -1,0 +1,126 @@
+//! Reads at a site, under its lock.
+
+ghost use Rattle.std.specs.Prelude.{◌≡◌, None, Some, IsTrue};
+ghost use Rattle.sgt_service.specs.Reads.{look_in, GainsRead};
+
+use crate::active::Active;
+use crate::seat::Seat;
+use crate::service::Service;
+use sgt_agreed::ServiceFault;
+use sgt_names::{Draft, Item, Seen, SiteNo, Tx, Value, changes_show_at_their_place};
+use sgt_site::SiteFault;
+use sgt_workers::{Gate, NoGate, Place};
+use std::sync::Wait;
+use std::sync::ledger::Ledger;
+
+impl<L: Ledger> Service<L> {
+    ghost use Rattle.std.specs.Prelude.{◌≡◌, None, Some, IsSome, IsOk, IfOk, IfErr, OnOk, OnErr, vec_len};
+    ghost use Rattle.sgt_service.specs.Counts.{AreCounted, only_at, with_read};
+    ghost use Rattle.sgt_service.specs.Reads.{look_in, GainsRead, IsOfActive, SameActive};
+    ghost use Rattle.sgt_service.specs.Refused.{HasItem, IsOfSite};
+    ghost use Rattle.sgt_service.specs.Seats.{SameSeat};
+
+    /// `read_at`, with a gate that holds nobody.
+    pub fn read<R: Wait>(
+        &self,
+        rt: &R,
+        seat: &mut Seat<L>,
+        active: &mut Active,
+        site: SiteNo,
+        item: Item,
+    ) -> Result<Value, ServiceFault>
+        ensures value { IfOk result (λ v. look_in active.new.draft.touched site item ≡ Some v) }
+        ensures kept { IsSome (look_in active.old.draft.touched site item)
+            → IsOk result × SameActive active.old active.new × SameSeat seat.old seat.new }
+        ensures gained { OnOk result (look_in active.old.draft.touched site item ≡ None
+            → GainsRead site item active.old.draft.touched active.new.draft.touched
+            × AreCounted (only_at site with_read) seat.old.counts.items seat.new.counts.items) }
+        ensures named { IsOfActive active.old active.new × (seat.new.share ≡ seat.old.share) }
+        ensures err { OnErr result (SameActive active.old active.new × SameSeat seat.old seat.new) }
+        ensures allowed { OnOk result (look_in active.old.draft.touched site item ≡ None → HasItem self.now.names.items site item) }
+        ensures refused { IfErr result IsOfSite }
+    {
+        self.read_at(rt, seat, active, site, item, 0, &NoGate)
+    }
+
+    /// Reads an item. What the transaction wrote or read before is answered from its draft. Else the item is read and logged at
+    /// its site, under the site's lock, and kept in the draft, for which there is room before the lock is taken.
+    ///
+    /// - V4 with S1: the site or the item isn't there.
+    /// - V3: there was no memory.
+    /// - V4 with S2, S3 or S7, as the site refuses.
+    ///
+    /// The gate is told of `InRead` and `AfterRead`, of a read at the site alone.
+    pub fn read_at<R: Wait, G: Gate>(
+        &self,
+        rt: &R,
+        seat: &mut Seat<L>,
+        active: &mut Active,
+        site: SiteNo,
+        item: Item,
+        worker: usize,
+        gate: &G,
+    ) -> Result<Value, ServiceFault>
+        ensures value { IfOk result (λ v. look_in active.new.draft.touched site item ≡ Some v) }
+        ensures kept { IsSome (look_in active.old.draft.touched site item)
+            → IsOk result × SameActive active.old active.new × SameSeat seat.old seat.new }
+        ensures gained { OnOk result (look_in active.old.draft.touched site item ≡ None
+            → GainsRead site item active.old.draft.touched active.new.draft.touched
+            × AreCounted (only_at site with_read) seat.old.counts.items seat.new.counts.items) }
+        ensures named { IsOfActive active.old active.new × (seat.new.share ≡ seat.old.share) }
+        ensures err { OnErr result (SameActive active.old active.new × SameSeat seat.old seat.new) }
+        ensures allowed { OnOk result (look_in active.old.draft.touched site item ≡ None → HasItem self.now.names.items site item) }
+        ensures refused { IfErr result IsOfSite }
+    {
+        if let Some(value) = active.draft.look(site, item) {
+            return Ok(value);
+        }
+        if !self.has_item(site, item) {
+            return Err(ServiceFault::Site(SiteFault::UnknownItem));
+        }
+        active.draft.room()?;
+        let seen = self.read_site(rt, active.tx, site, item, worker, gate)?;
+        gate.arrive(worker, Place::AfterRead(site));
+        seat.count_read(site);
+        Ok(keep(&mut active.draft, site, item, seen))
+    }
+
+    // Reads at the site, under its lock.
+    fn read_site<R: Wait, G: Gate>(
+        &self,
+        rt: &R,
+        tx: Tx,
+        site: SiteNo,
+        item: Item,
+        worker: usize,
+        gate: &G,
+    ) -> Result<Seen, ServiceFault>
+        requires { HasItem self.now.names.items site item }
+        ensures { IfErr result IsOfSite }
+    {
+        let mut guard = self.sites[site.number() as usize].lock(rt);
+        let held = &mut *guard;
+        gate.arrive(worker, Place::InRead(site));
+        let seen = held.read(tx, item)?;
+        Ok(seen)
+    }
+}
+
+#[tactic(auto, using(crate::proofs::Reading::seen_shows))]
+// Keeps what was read, and answers what the transaction sees of it now.
+fn keep(draft: &mut Draft, site: SiteNo, item: Item, seen: Seen) -> Value
+    requires room { IsTrue draft.old.has_room }
+    requires unread { look_in draft.old.touched site item ≡ None }
+    ensures gained { GainsRead site item draft.old.touched draft.new.touched }
+    ensures value { look_in draft.new.touched site item ≡ Some result }
+{
+    let Ok(()) = draft.seen(site, item, seen.value, seen.version) else {
+        unreachable!()
+    };
+    let _touched = draft.touched();
+    changes_show_at_their_place();
+    match draft.look(site, item) {
+        Some(value) => value,
+        None => unreachable!(),
+    }
+}

@@ -1,0 +1,280 @@
+//! The locks of a certifier and its sites, and the calls that take one of them.
+
+ghost use Rattle.std.specs.Prelude.{◌≡◌, ◌↔◌, ◌≤◌, ◌+◌, length, map, All, Contains, IsTrue, IfOk, IfErr, OnOk, vec_len};
+ghost use Rattle.sgt_names.specs.Limits.{max_sites};
+ghost use Rattle.sgt_names.specs.Log.{names};
+ghost use Rattle.sgt_site.specs.State.{AreItems};
+ghost use Rattle.sgt_site.specs.declared.fault.SiteFault.TheVariants.{BadItems};
+ghost use Rattle.sgt_agreed.specs.declared.fault.ServiceFault.TheVariants.{Site as AtSite};
+ghost use Rattle.sgt_service.specs.Refused.{RefusesSites};
+
+use crate::active::Active;
+use crate::guarded::Guarded;
+use crate::seat::{Counts, Seat};
+use sgt_agreed::ServiceFault;
+use sgt_names::{Draft, Holding, Item, Listed, SiteNo, Value};
+use sgt_site::{Site, SiteFault};
+use std::alloc::{AllocError, Global};
+use std::sync::ledger::{Blank, Ledger, Share};
+use std::sync::{Mutex, Wait};
+
+/// A certifier and its sites, each under a lock of its own. A thread that holds the certifier's lock may take a site's, one
+/// after another; one that holds a site's takes none.
+#[derive(Drop)]
+pub struct Service<L: Ledger> {
+    pub(crate) certifier: Mutex<Guarded<L>>,
+    pub(crate) sites: Vec<Mutex<Site>>,
+    /// The names of the sites' items, which never change.
+    pub(crate) names: Vec<Listed<Item>>,
+    pub ghost named: { vec_len names ≡ vec_len sites },
+    pub ghost few: { vec_len sites ≤ max_sites },
+}
+
+impl<L: Ledger> Service<L> {
+    ghost use Rattle.std.specs.Prelude.{◌≡◌, ◌↔◌, ◌≤◌, [], Some, length, map, replicate, All, IsTrue, IfOk, IfErr, OnOk, OnErr, vec_len};
+    ghost use Rattle.sgt_names.specs.Limits.{max_sites};
+    ghost use Rattle.sgt_names.specs.Log.{names};
+    ghost use Rattle.sgt_names.specs.Draft.{seen_at, change_at, added_to, ChangesOnly};
+    ghost use Rattle.sgt_names.specs.declared.entry.Change.TheVariants.{Put};
+    ghost use Rattle.sgt_site.specs.State.{AreItems};
+    ghost use Rattle.sgt_service.specs.Seats.{IsNew, SameSeat};
+    ghost use Rattle.sgt_service.specs.Refused.{HasItem, RefusesItem, RefusesSites, IsOfCertifier};
+
+    /// A service of these sites, none of which has an entry yet, and all its seats. The blank of the ledger has a part for each
+    /// seat. A site is named by its place.
+    ///
+    /// - V4 with S6: the names of a site's items don't rise, or there are more than 1,024.
+    /// - V3: there was no memory.
+    pub fn new(
+        alloc: Global,
+        blank: Blank,
+        sites: &[Listed<Holding>],
+        seats: u64,
+    ) -> Result<(Service<L>, Vec<Seat<L>>), ServiceFault>
+        requires ledger { (blank.name ≡ L.name) × (blank.parts ≡ L.parts) × (blank.parts ≡ seats) }
+        requires sites { length sites.now ≤ max_sites }
+        ensures seats { IfOk result (λ r. (vec_len r.1 ≡ seats) × All (IsNew (length sites.now)) r.1.items) }
+        ensures names { IfOk result (λ r. r.0.names.items ≡ map names sites.now) }
+        ensures allowed { OnOk result (All AreItems sites.now) }
+        ensures refused { IfErr result (RefusesSites sites.now) }
+    {
+        let (book, mut share) = blank.open::<L>();
+        let none = share.empty();
+        let locks = open_sites(alloc, sites)?;
+        let names = names_of_all(alloc, sites)?;
+        let seats = Service::new_seats(alloc, share, seats, sites.len())?;
+        let service = Service {
+            certifier: Mutex::new(Guarded::new(alloc, book, none)),
+            sites: locks,
+            names,
+        };
+        Ok((service, seats))
+    }
+
+    // Seats with nothing counted, one for each part of the share.
+    fn new_seats(
+        alloc: Global,
+        mut rest: Share<L>,
+        count: u64,
+        sites: usize,
+    ) -> Result<Vec<Seat<L>>, AllocError>
+        requires { (rest.parts ≡ count) × (rest.amount ≡ 0) }
+        ensures { IfOk result (λ seats. (vec_len seats ≡ count) × All (IsNew sites) seats.items) }
+    {
+        let nothing = Counts {
+            reads: 0,
+            others: 0,
+        };
+        let mut seats = Vec::new(alloc);
+        for _ in 0..count {
+            let counts = Vec::from_elem(alloc, nothing, sites)?;
+            let share = rest.split_off(1, 0);
+            seats.push(Seat { share, counts })?;
+        }
+        Ok(seats)
+    }
+
+    /// How many sites there are.
+    pub fn sites(&self) -> usize
+        ensures { result ≡ vec_len self.now.names }
+    {
+        self.sites.len()
+    }
+
+    // Whether the site has an item of this name.
+    pub(crate) fn has_item(&self, site: SiteNo, item: Item) -> bool
+        ensures { IsTrue result ↔ HasItem self.now.names.items site item }
+    {
+        let place = site.number() as usize;
+        if place >= self.names.len() {
+            return false;
+        }
+        contains(self.names[place].as_slice(), item)
+    }
+
+    /// Begins the next transaction, with an empty draft. It takes the certifier's lock.
+    ///
+    /// - V7: a site was found to have lost its pledge.
+    /// - V4 with C1, C3 or C8, as the certifier refuses.
+    /// - V3: there was no memory.
+    pub fn begin<R: Wait>(
+        &self,
+        rt: &R,
+        alloc: Global,
+        seat: &mut Seat<L>,
+    ) -> Result<Active, ServiceFault>
+        ensures seat { SameSeat seat.old seat.new }
+        ensures draft { IfOk result (λ a. a.draft.touched ≡ []) }
+        ensures refused { IfErr result IsOfCertifier }
+    {
+        let _ = seat;
+        let (tx, handle) = self.certifier.lock(rt).begin()?;
+        Ok(Active {
+            tx,
+            handle,
+            draft: Draft::new(alloc),
+        })
+    }
+
+    /// Keeps a private write. Nobody else sees it before the transaction is committed. It takes no lock.
+    ///
+    /// - V4 with S1: the site or the item isn't there.
+    /// - V3: there was no memory.
+    pub fn put(
+        &self,
+        active: &mut Active,
+        site: SiteNo,
+        item: Item,
+        value: Value,
+    ) -> Result<(), ServiceFault>
+        ensures ok { OnOk result (ChangesOnly active.old.draft.touched active.new.draft.touched (record {
+          site = site;
+          item = item;
+          seen = seen_at active.old.draft.touched (site, item);
+          change = Some (Put value);
+        })) }
+        ensures named { (active.new.tx ≡ active.old.tx) × (active.new.handle ≡ active.old.handle) }
+        ensures err { OnErr result (active.new ≡ active.old) }
+        ensures allowed { OnOk result (HasItem self.now.names.items site item) }
+        ensures refused { IfErr result (RefusesItem self.now.names.items site item) }
+    {
+        if !self.has_item(site, item) {
+            return Err(ServiceFault::Site(SiteFault::UnknownItem));
+        }
+        active.draft.put(site, item, value)?;
+        Ok(())
+    }
+
+    /// Keeps a private increment, which becomes one with an earlier write or increment. It takes no lock.
+    ///
+    /// - V4 with S1: the site or the item isn't there.
+    /// - V3: there was no memory.
+    pub fn add(
+        &self,
+        active: &mut Active,
+        site: SiteNo,
+        item: Item,
+        value: Value,
+    ) -> Result<(), ServiceFault>
+        ensures ok { OnOk result (ChangesOnly active.old.draft.touched active.new.draft.touched (record {
+          site = site;
+          item = item;
+          seen = seen_at active.old.draft.touched (site, item);
+          change = Some (added_to (change_at active.old.draft.touched (site, item)) value);
+        })) }
+        ensures named { (active.new.tx ≡ active.old.tx) × (active.new.handle ≡ active.old.handle) }
+        ensures err { OnErr result (active.new ≡ active.old) }
+        ensures allowed { OnOk result (HasItem self.now.names.items site item) }
+        ensures refused { IfErr result (RefusesItem self.now.names.items site item) }
+    {
+        if !self.has_item(site, item) {
+            return Err(ServiceFault::Site(SiteFault::UnknownItem));
+        }
+        active.draft.add(site, item, value)?;
+        Ok(())
+    }
+
+    /// Closes the window, in which no transaction may be active, and answers how many ranks were given until now. It takes the
+    /// certifier's lock.
+    ///
+    /// - V7: a site was found to have lost its pledge.
+    /// - V4 with C3, C4 or C7, as the certifier refuses.
+    /// - V3: there was no memory.
+    pub fn close<R: Wait>(&self, rt: &R) -> Result<u64, ServiceFault>
+        ensures refused { IfErr result IsOfCertifier }
+    {
+        self.certifier.lock(rt).close()
+    }
+}
+
+// The sites, each under its lock.
+fn open_sites(alloc: Global, sites: &[Listed<Holding>]) -> Result<Vec<Mutex<Site>>, ServiceFault>
+    requires { length sites.now ≤ max_sites }
+    ensures len { IfOk result (λ locks. vec_len locks ≡ length sites.now) }
+    ensures allowed { OnOk result (All AreItems sites.now) }
+    ensures refused { IfErr result (RefusesSites sites.now) }
+{
+    let mut locks = Vec::new(alloc);
+    let mut has_room = true;
+    for place in 0..sites.len() {
+        let Ok(number) = SiteNo::new(place as u64) else {
+            unreachable!()
+        };
+        let opened = open_site(alloc, number, sites[place].as_slice())?;
+        has_room = add_lock(&mut locks, opened) && has_room;
+    }
+    if !has_room {
+        return Err(ServiceFault::Memory);
+    }
+    Ok(locks)
+}
+
+// A site with these items. None where there was no memory.
+fn open_site(alloc: Global, number: SiteNo, items: &[Holding]) -> Result<Option<Site>, ServiceFault>
+    ensures allowed { OnOk result (AreItems items.now) }
+    ensures refused { IfErr result (λ f. (f ≡ AtSite BadItems) × (AreItems items.now → ⊥)) }
+{
+    match Site::new(alloc, number, items) {
+        Ok(site) => Ok(Some(site)),
+        Err(SiteFault::Memory) => Ok(None),
+        Err(fault) => Err(ServiceFault::Site(fault)),
+    }
+}
+
+// Adds the lock of a site, and says whether it is there and there was memory.
+fn add_lock(locks: &mut Vec<Mutex<Site>>, site: Option<Site>) -> bool
+    ensures { IsTrue result → vec_len locks.new ≡ vec_len locks.old + 1 }
+{
+    match site {
+        Some(site) => locks.push(Mutex::new(site)).is_ok(),
+        None => false,
+    }
+}
+
+// Whether the name is among these.
+fn contains(names: &[Item], name: Item) -> bool
+    ensures { IsTrue result ↔ Contains names.now name }
+{
+    names.contains(&name)
+}
+
+// The names of each site's items.
+fn names_of_all(alloc: Global, sites: &[Listed<Holding>]) -> Result<Vec<Listed<Item>>, AllocError>
+    ensures { IfOk result (λ all. all.items ≡ map names sites.now) }
+{
+    let mut all = Vec::new(alloc);
+    for items in sites {
+        all.push(names_of(alloc, items.as_slice())?)?;
+    }
+    Ok(all)
+}
+
+fn names_of(alloc: Global, items: &[Holding]) -> Result<Listed<Item>, AllocError>
+    ensures { IfOk result (λ all. all ≡ names items.now) }
+{
+    let mut all = Vec::new(alloc);
+    for held in items {
+        all.push(held.item)?;
+    }
+    Ok(Listed::new(all))
+}
