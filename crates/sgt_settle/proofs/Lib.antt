@@ -6,3 +6,5 @@ pub mod Naming
 pub mod Committing
 pub mod Carrying
 pub mod Linking
+pub mod Leasts
+pub mod Ticketing

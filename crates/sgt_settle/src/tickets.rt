@@ -1,9 +1,9 @@
 //! Whether the tickets are the decisions of the history, each once and those of each script in order.
 
-ghost use Rattle.std.specs.Prelude.{◌≡◌, ◌↔◌, ◌<◌, ◌≤◌, ◌++◌, [], ℕ, min, List, IsTrue, length, count_by, AllPairs, OnOk, IfErr, IfNone, IfSome, ◌==◌};
+ghost use Rattle.std.specs.Prelude.{◌≡◌, ◌↔◌, ◌<◌, ◌≤◌, ◌+◌, ◌^◌, ◌++◌, [], ℕ, min, List, IsTrue, length, count_by, AllPairs, OnOk, IfErr, IfNone, IfSome, ◌==◌};
 ghost use Rattle.sgt_workers.specs.declared.ticket.Ticket.{Ticket as ATicket};
 ghost use Rattle.sgt_workers.specs.declared.ticket.Done.{Done as ADone};
-ghost use Rattle.sgt_certifier.specs.Kept.{rulings_from, tx_at};
+ghost use Rattle.sgt_certifier.specs.Kept.{rulings_from, windows_after, tx_at};
 ghost use Rattle.sgt_settle.specs.Settled.{AreTickets, IsGood, Rises, Run, count_of, tickets_of};
 ghost use Rattle.sgt_settle.specs.Fault.{IsUnsettled};
 ghost use Rattle.sgt_settle.specs.private.Words.{IsLeastOf};
@@ -57,6 +57,18 @@ fn decisions_in(history: &[Call]) -> usize
     history.iter().filter(|call| is_decision(call)).count()
 }
 
+// How many transactions were begun after a call, and how many of them before its window.
+fn windows_after(begun: u64, before: u64, call: &Call) -> (u64, u64)
+    requires { begun + 1 < 2 ^ 64 }
+    ensures { result ≡ windows_after begun before call.now }
+{
+    match call {
+        Call::Begin { .. } => (begun + 1, before),
+        Call::Close { .. } => (begun, begun),
+        _ => (begun, before),
+    }
+}
+
 // Whether the ticket tells the decision of its number.
 fn is_good(history: &[Call], ticket: Ticket) -> bool
     ensures { IsTrue result ↔ IsGood (rulings_from 0 0 history.now) ticket }
@@ -71,11 +83,7 @@ fn is_good(history: &[Call], ticket: Ticket) -> bool
             }
             number += 1;
         }
-        match call {
-            Call::Begin { .. } => begun += 1,
-            Call::Close { .. } => before = begun,
-            _ => {}
-        }
+        (begun, before) = windows_after(begun, before, call);
     }
     false
 }

@@ -7,6 +7,7 @@ use Rattle.sgt_names.specs.Name.{Name}
 use Rattle.sgt_settle.specs.declared.link.Cut.{Cut as ACut}
 use Rattle.sgt_settle.specs.private.Index.{IsIn, IsPlaceCarried}
 use Rattle.sgt_settle.proofs.Lists.{read, before_or_here}
+use Rattle.sgt_settle.proofs.Rowing.{written_back}
 use Rattle.sgt_settle.proofs.Carrying.{carried_place, places_carried}
 use Rattle.sgt_settle.proofs.carried.are_carried.Goals as goal
 use Rattle.sgt_settle.proofs.carried.are_carried.Goals.{in-Some+in_ok-carried+else-not-carried, in_default}
@@ -42,9 +43,11 @@ loop-place-preserved c =
       | in-Some+in_ok-carried+else-not-carried w ↦
           let cut : ACut = w.in-Some.cut in
           let mine : IsPlaceCarried index c.args.log.now cut n seen = w.in_ok-carried.ensures.0 w.if-not-carried.false in
+          let forward : length w.is_place_carried.new.forward ≡ c.len-all.result = w.is_place_carried.auto.forward ∙ (ap length w.as_mut_slice.ensures.value ∙ c.loop-place.invariant.forward) in
+          let backward : length w.is_place_carried.new.backward ≡ c.len-all.result = w.is_place_carried.auto.backward ∙ (ap length w.as_mut_slice-in-Some.ensures.value ∙ c.loop-place.invariant.backward) in
           record {
-            forward = rw w.forward-is (let z = w.as_mut_slice in let y = w.is_place_carried in ?);
-            backward = rw w.backward-is ?;
+            forward = rw w.forward-is (ap length (written_back c.loop-place.forward.items w.is_place_carried.new.forward c.loop-place.forward.len (omega (arith, c.loop-place.forward.ok.0, c.loop-place.invariant.forward, forward))) ∙ forward);
+            backward = rw w.backward-is (ap length (written_back c.loop-place.backward.items w.is_place_carried.new.backward c.loop-place.backward.len (omega (arith, c.loop-place.backward.ok.0, c.loop-place.invariant.backward, backward))) ∙ backward);
             carried = λ p m e x low at item commit.
                 elim (before_or_here c.args.log.now n p seen e here at low) [
                   | inl early ↦ c.loop-place.invariant.carried p m e x early at item commit
