@@ -8,3 +8,6 @@ pub mod Carrying
 pub mod Linking
 pub mod Leasts
 pub mod Ticketing
+pub mod Rising
+pub mod Fitting
+pub mod Tallying

@@ -31,12 +31,12 @@ walk_opens history sought = record { met = []; whole = refl; many = refl; early 
 
 -- a call that decides nothing, and one that decides
 pub not_decision : (begun before : ℕ) (c : Call) → is_decision c ≡ false → rulings_from 0 before (c ∷ []) ≡ []
-not_decision begun before (call.Begin tx h) no = refl
-not_decision begun before (call.Decide h edges reply) no = absurd cc
-not_decision begun before (call.Finish tx) no = refl
-not_decision begun before (call.Withdraw h number) no = absurd cc
-not_decision begun before (call.Close ranks) no = refl
-not_decision begun before (call.Installed tx site items) no = refl
+not_decision begun before (call.Begin tx h) other = refl
+not_decision begun before (call.Decide h edges reply) other = absurd cc
+not_decision begun before (call.Finish tx) other = refl
+not_decision begun before (call.Withdraw h number) other = absurd cc
+not_decision begun before (call.Close ranks) other = refl
+not_decision begun before (call.Installed tx site items) other = refl
 
 -- the decision of a call
 abbrev pub Rules : ℕ → Call → Ruling → Type 0
@@ -98,13 +98,13 @@ walk_decided history n begun before number sought c w at is early =
     }
 
 pub walk_on : (history : List Call) (n begun before number sought : ℕ) (c : Call) → IsWalked history n begun before number sought → slice_get history n ≡ Some c → is_decision c ≡ false → IsWalked history (n + 1) (windows_after begun before c).0 (windows_after begun before c).1 number sought
-walk_on history n begun before number sought c w at no =
+walk_on history n begun before number sought c w at other =
     let step = step_whole history n begun before number sought c w at in
     let few = windows_few begun before c in
     let rest = rulings_from (windows_after begun before c).0 (windows_after begun before c).1 (drop (n + 1) history) in
     record {
       met = step.0;
-      whole = step.1 ∙ (ap (λ xs. (step.0 ++ xs) ++ rest) (not_decision begun before c no) ∙ ap (λ xs. xs ++ rest) (append-nil step.0));
+      whole = step.1 ∙ (ap (λ xs. (step.0 ++ xs) ++ rest) (not_decision begun before c other) ∙ ap (λ xs. xs ++ rest) (append-nil step.0));
       many = step.2;
       early = w.early;
       few = omega (arith, few, w.few);

@@ -45,7 +45,8 @@ fn is_log_fit(
     if !are_logged(index.windows.as_slice(), index.handed.as_slice(), site, log) {
         return Ok(false);
     }
-    are_carried(alloc, index, site, log)
+    let carried = are_carried(alloc, index, site, log)?;
+    Ok(carried)
 }
 
 /// The least site, of those that there are, whose log isn't fit.
@@ -67,7 +68,8 @@ pub(crate) fn first_unfit(
         let Ok(site) = SiteNo::new(k as u64) else {
             unreachable!();
         };
-        if !is_log_fit(alloc, index, site, counts[k], sites[k].log())? {
+        let fit = is_log_fit(alloc, index, site, counts[k], sites[k].log())?;
+        if !fit {
             return Ok(Some(site));
         }
     }
