@@ -35,7 +35,7 @@ least_hit key Q xs a (Some k) q old =
     )
 
 pub least_miss : {A : Type 0} (key : A → ℕ) (Q : A → Type 0) (xs : List A) (a : A) (r : Option ℕ) → (Q a → ⊥) → IsLeastOf key Q xs r → IsLeastOf key Q (xs ++ a ∷ []) r
-least_miss key Q xs a None q old b c qb = elim (push_contains xs a b c) [
+least_miss key Q xs a None q old = λ b c qb. elim (push_contains xs a b c) [
   | inl early ↦ old b early qb
   | inr last ↦ q (subst Q (sym last) qb)
 ]

@@ -11,3 +11,4 @@ pub mod Ticketing
 pub mod Rising
 pub mod Fitting
 pub mod Tallying
+pub mod Telling

@@ -1,5 +1,5 @@
 -- Tickets that rise from each to the next rise throughout.
-use Rattle.std.proofs.Common.{◌≡◌, ◌∙◌, ◌<◌, ◌+◌, ℕ, suc, zero, List, Some, sym, ap, subst, arith, inl, inr, get_or}
+use Rattle.std.proofs.Common.{◌≡◌, ◌∙◌, ◌<◌, ◌+◌, ◌-◌, ℕ, suc, zero, List, Some, sym, ap, subst, arith, inl, inr, get_or}
 use Rattle.std.specs.Prelude.{slice_get, AllPairs, length}
 use Rattle.std.proofs.lemmas.Option.{slice_get-get_or, slice_get_within, same_Some}
 use Rattle.std.proofs.lemmas.Bool.{cases_eq}

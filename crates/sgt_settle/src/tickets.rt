@@ -1,6 +1,6 @@
 //! Whether the tickets are the decisions of the history, each once and those of each script in order.
 
-ghost use Rattle.std.specs.Prelude.{◌≡◌, ◌↔◌, ◌<◌, ◌≤◌, ◌+◌, ◌^◌, ◌++◌, [], ℕ, min, List, IsTrue, length, count_by, AllPairs, OnOk, IfErr, IfNone, IfSome, ◌==◌};
+ghost use Rattle.std.specs.Prelude.{◌≡◌, ◌↔◌, ◌<◌, ◌≤◌, ◌+◌, ◌^◌, ◌++◌, [], ℕ, min, List, IsTrue, count_by, AllPairs, OnOk, IfErr, IfNone, IfSome, ◌==◌};
 ghost use Rattle.sgt_workers.specs.declared.ticket.Ticket.{Ticket as ATicket};
 ghost use Rattle.sgt_workers.specs.declared.ticket.Done.{Done as ADone};
 ghost use Rattle.sgt_certifier.specs.Kept.{rulings_from, windows_after, tx_at};
@@ -52,7 +52,7 @@ fn is_decision(call: &Call) -> bool
 
 // How many decisions the history has.
 fn decisions_in(history: &[Call]) -> usize
-    ensures { result ≡ length (rulings_from 0 0 history.now) }
+    ensures { result ≡ count_by is_decision history.now }
 {
     history.iter().filter(|call| is_decision(call)).count()
 }
