@@ -12,3 +12,5 @@ pub mod Rising
 pub mod Fitting
 pub mod Tallying
 pub mod Telling
+pub mod Settling
+pub mod Counting

@@ -1,11 +1,13 @@
 -- From what the looks at the tickets found to the fault that is told.
-use Rattle.std.proofs.Common.{◌≡◌, ◌⊎◌, ◌∙◌, ◌≤◌, ◌<◌, ℕ, List, length, Option, Some, None, refl, sym, ap, subst, arith, inl, inr, Contains, All, get_or}
-use Rattle.std.specs.Prelude.{slice_get, AllPairs}
+use Rattle.std.proofs.Common.{◌≡◌, ◌⊎◌, ◌∙◌, ◌≤◌, ◌<◌, ℕ, List, [], length, Option, Some, None, refl, sym, ap, subst, arith, inl, inr, Contains, All, get_or}
+use Rattle.std.specs.Prelude.{slice_get, AllPairs, count_by}
 use Rattle.std.proofs.lemmas.Bool.{cases_eq, cases_lt}
 use Rattle.std.proofs.lemmas.Option.{same_Some, none-some, slice_get_within}
 use Rattle.std.proofs.lemmas.List.Elements.{All-contains}
 use Rattle.sgt_names.proofs.Places.{All-from_at, Contains-from_at}
-use Rattle.sgt_certifier.specs.Certifier.{Ruling, committed, refused, withdrawn}
+use Rattle.sgt_certifier.specs.Certifier.{Ruling, committed, refused, withdrawn, opening}
+use Rattle.sgt_certifier.specs.Kept.{rulings_from}
+use Rattle.sgt_certifier.specs.declared.call.Call.{Call}
 use Rattle.sgt_workers.specs.declared.ticket.Ticket.{Ticket}
 use Rattle.sgt_workers.specs.declared.ticket.Done.{Done}
 use Rattle.sgt_workers.specs.declared.ticket.Ending.{Ending}
@@ -15,6 +17,8 @@ use Rattle.sgt_settle.specs.Fault.{Shows, IsFirst, kind_place, fault_at}
 use Rattle.sgt_settle.specs.declared.fault.SettleFail.{SettleFail}
 use Rattle.sgt_settle.specs.declared.fault.SettleFail.TheVariants as fault
 use Rattle.sgt_settle.specs.private.Words.{IsLeastOf}
+use Rattle.sgt_settle.specs.private.Tickets.{IsRunOf, IsStray, is_decision}
+use Rattle.sgt_settle.proofs.Ticketing.{many_decisions}
 use Rattle.sgt_settle.proofs.Tallying.{count_of-some}
 
 -- ---- what isn't wrong is right
@@ -201,3 +205,31 @@ first_unordered_told r k good two missing least = record {
   first = before_order r good two missing;
   least = least_unordered r k (λ d c not_so. least.1 d c not_so);
 }
+
+-- ---- from the history and the Dones to the run
+
+pub stray_of : (r : Run) (history : List Call) (dones : List Done) (k : Option ℕ) → IsRunOf r history dones → IsLeastOf (λ (t : Ticket). t.number) (IsStray history) (tickets_of dones) k → IsLeastOf (λ (t : Ticket). t.number) (λ (t : Ticket). IsGood r.certifier.state.rulings t → ⊥) (tickets_of r.dones) k
+stray_of r history dones k is least =
+    subst (λ ds. IsLeastOf (λ (t : Ticket). t.number) (λ (t : Ticket). IsGood r.certifier.state.rulings t → ⊥) (tickets_of ds) k) (sym is.answers)
+    (subst (λ rs. IsLeastOf (λ (t : Ticket). t.number) (λ (t : Ticket). IsGood rs t → ⊥) (tickets_of dones) k) (sym is.told) least)
+
+pub order_of : (r : Run) (history : List Call) (dones : List Done) (k : Option ℕ) → IsRunOf r history dones → IsLeastOf (λ (d : Done). d.job) (λ (d : Done). Rises d → ⊥) dones k → IsLeastOf (λ (d : Done). d.job) (λ (d : Done). Rises d → ⊥) r.dones k
+order_of r history dones k is least = subst (λ ds. IsLeastOf (λ (d : Done). d.job) (λ (d : Done). Rises d → ⊥) ds k) (sym is.answers) least
+
+pub count_in_run : (r : Run) (history : List Call) (dones : List Done) (k : ℕ) → IsRunOf r history dones → count_of k (tickets_of r.dones) ≡ count_of k (tickets_of dones)
+count_in_run r history dones k is = ap (λ ds. count_of k (tickets_of ds)) is.answers
+
+pub decisions_of_run : (r : Run) (history : List Call) (dones : List Done) → IsRunOf r history dones → length r.certifier.state.rulings ≡ count_by is_decision history
+decisions_of_run r history dones is = ap length is.told ∙ many_decisions history
+
+-- a run of this history and these Dones
+abbrev pub run_of : List Call → List Done → Run
+run_of history dones = record {
+  certifier = record { state = record opening { rulings = rulings_from 0 0 history }; history = history; expected = [] };
+  sites = [];
+  counts = [];
+  dones = dones;
+}
+
+pub is_run_of : (history : List Call) (dones : List Done) → IsRunOf (run_of history dones) history dones
+is_run_of history dones = record { told = refl; answers = refl }

@@ -4,3 +4,4 @@ pub mod Search
 pub mod Index
 pub mod Tickets
 pub mod Sites
+pub mod Versions

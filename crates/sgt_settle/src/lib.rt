@@ -17,7 +17,9 @@ mod rows;
 mod search;
 mod sites;
 mod tickets;
+mod versions;
 
+pub use check::check_settled;
 pub use counts::EntryCounts;
 pub use fault::SettleFail;
 pub use handed::Handed;
