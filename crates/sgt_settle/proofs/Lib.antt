@@ -14,3 +14,4 @@ pub mod Tallying
 pub mod Telling
 pub mod Settling
 pub mod Counting
+pub mod Whole

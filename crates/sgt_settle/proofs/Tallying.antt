@@ -26,6 +26,11 @@ counted_is : {A : Type 0} (p : A → Bool) (xs : List A) → counted p xs ≡ co
 unfolding counted
 counted_is p xs = is_count_by (counted p) p refl (λ x ys. refl) xs
 
+-- one more is counted, or not
+pub count_next : {A : Type 0} (p : A → Bool) (x : A) (xs : List A) → count_by p (x ∷ xs) ≡ cond (p x) (1 + count_by p xs) (count_by p xs)
+unfolding counted
+count_next p x xs = sym (counted_is p (x ∷ xs)) ∙ ap (λ k. cond (p x) (1 + k) k) (counted_is p xs)
+
 counted-append : {A : Type 0} (p : A → Bool) (xs ys : List A) → counted p (xs ++ ys) ≡ counted p xs + counted p ys
 unfolding counted
 counted-append p [] ys = omega arith
