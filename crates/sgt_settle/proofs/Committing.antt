@@ -1,5 +1,5 @@
 -- The table of commits, as it is written.
-use Rattle.std.proofs.Common.{◌≡◌, ◌≢◌, ◌⊎◌, ◌↔◌, ◌<◌, ◌+◌, ℕ, List, Option, Some, refl, sym, ap, ◌∙◌, subst, arith, inl, inr, length}
+use Rattle.std.proofs.Common.{◌≡◌, ◌≢◌, ◌↔◌, ◌<◌, ◌+◌, ℕ, List, Option, Some, refl, sym, ap, ◌∙◌, subst, arith, inl, inr, length}
 use Rattle.std.specs.Prelude.{slice_get, slice_set, map}
 use Rattle.std.proofs.lemmas.Bool.{cases_eq, cases_lt}
 use Rattle.std.proofs.lemmas.Option.{same_Some}
@@ -11,7 +11,6 @@ use Rattle.sgt_cert.specs.declared.certificate.Decision.TheVariants.{Commit}
 use Rattle.sgt_certifier.specs.Certifier.{State, Ruling, committed, refused, withdrawn, ranked, place_in, serial, certificate_of}
 use Rattle.sgt_certifier.proofs.Ruling.{map_place, place_map}
 use Rattle.sgt_settle.specs.private.Index.{IsIn, AreCommits}
-use Rattle.sgt_settle.proofs.Lists.{before_or_here}
 
 -- the commits of the first n decisions are in the table
 abbrev pub AreNoted : List Decision → ℕ → List (Option ℕ) → Type 0

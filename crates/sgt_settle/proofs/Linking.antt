@@ -1,22 +1,20 @@
 -- The edges between committed transactions, and what the history says of them.
-use Rattle.std.proofs.Common.{◌≡◌, ◌⊎◌, ◌↔◌, ◌<◌, ◌≤◌, ◌+◌, ℕ, List, [], ◌∷◌, ◌++◌, take, length, Option, Some, refl, sym, ap, ◌∙◌, subst, arith, inl, inr, Contains}
+use Rattle.std.proofs.Common.{◌≡◌, ◌↔◌, ◌<◌, ◌+◌, ℕ, List, [], ◌∷◌, ◌++◌, take, length, Option, Some, refl, sym, ap, ◌∙◌, subst, inl, inr, Contains}
 use Rattle.std.specs.Prelude.{slice_get, Vec}
 use Rattle.std.specs.declared.alloc.Global.{Global}
-use Rattle.std.proofs.lemmas.Option.{same_Some, slice_get_within, none-some}
+use Rattle.std.proofs.lemmas.Option.{same_Some, slice_get_within}
 use Rattle.sgt_names.proofs.Places.{Contains_at, Contains-from_at}
 use Rattle.sgt_arena.specs.declared.handle.Handle.{Handle}
 use Rattle.sgt_certifier.specs.Certifier.{Ruling}
 use Rattle.sgt_certifier.specs.declared.call.Call.{Call}
 use Rattle.sgt_certifier.proofs.Members.{nil_none}
 use Rattle.sgt_settle.specs.Told.{handed_in}
-use Rattle.sgt_settle.specs.Settled.{Carries}
 use Rattle.sgt_settle.specs.declared.handed.Handed.{Handed}
-use Rattle.sgt_settle.specs.declared.link.Arc.{Arc}
 use Rattle.sgt_settle.specs.declared.link.Cut.{Cut}
 use Rattle.sgt_settle.specs.declared.link.Link.{Link}
 use Rattle.sgt_settle.specs.declared.index.Index.{Index}
-use Rattle.sgt_settle.specs.private.Search.{InRows, Hold, LinksBy, AreEnds, Passes}
-use Rattle.sgt_settle.specs.private.Index.{Names, AreNamed, IsIn, AreCommits, IsEnd, IsLinkOf, AreLinks, CarriesBy, IsPaired, IsIndex}
+use Rattle.sgt_settle.specs.private.Search.{Hold, LinksBy, AreEnds, Passes}
+use Rattle.sgt_settle.specs.private.Index.{Names, AreNamed, AreCommits, IsEnd, IsLinkOf, AreLinks, CarriesBy, IsIndex}
 use Rattle.sgt_settle.proofs.Lists.{take_on, push_contains, push_old, push_new}
 
 pub names_same : (windows : List (Vec ℕ Global)) (h : Handle) (a b : ℕ) → Names windows h a → Names windows h b → a ≡ b

@@ -1,9 +1,8 @@
 -- The names that a history gives, window by window.
-use Rattle.std.proofs.Common.{◌≡◌, ◌⊎◌, ◌↔◌, ◌≤◌, ℕ, suc, ◌+◌, ◌<◌, List, [], ◌∷◌, ◌++◌, length, take, drop, Some, None, refl, sym, ap, ◌∙◌, subst, arith, inl, inr, Contains, length-append}
+use Rattle.std.proofs.Common.{◌≡◌, ◌≤◌, ℕ, suc, ◌+◌, List, [], ◌∷◌, ◌++◌, length, take, drop, Some, refl, sym, ap, ◌∙◌, subst, arith, inl, inr, Contains}
 use Rattle.std.specs.Prelude.{slice_get, Vec}
 use Rattle.std.specs.declared.alloc.Global.{Global}
-use Rattle.std.proofs.lemmas.Bool.{cases_eq}
-use Rattle.std.proofs.lemmas.Option.{same_Some, none-some, slice_get_within}
+use Rattle.std.proofs.lemmas.Option.{same_Some, none-some}
 use Rattle.std.proofs.lemmas.List.{length_push}
 use Rattle.sgt_arena.specs.declared.handle.Handle.{Handle}
 use Rattle.sgt_order.proofs.Handles.{same_handle}
@@ -14,9 +13,8 @@ use Rattle.sgt_certifier.specs.declared.call.Call.TheVariants as call
 use Rattle.sgt_certifier.specs.Certifier.{State, opening}
 use Rattle.sgt_certifier.specs.History.{Serves, RunsFrom}
 use Rattle.sgt_certifier.proofs.Members.{nil_none, place_left}
-use Rattle.sgt_settle.specs.Told.{IsNamed}
 use Rattle.sgt_settle.specs.private.Words.{At, Pushed}
-use Rattle.sgt_settle.specs.private.Index.{Names, AreNamed}
+use Rattle.sgt_settle.specs.private.Index.{AreNamed}
 use Rattle.sgt_settle.proofs.Lists.{take_on, drop_on, push_contains, push_old, push_new}
 use Rattle.sgt_settle.proofs.Rowing.{at_pushed, pushed_old, pushed_last}
 

@@ -1,8 +1,7 @@
 -- Tickets that rise from each to the next rise throughout.
-use Rattle.std.proofs.Common.{◌≡◌, ◌∙◌, ◌<◌, ◌+◌, ◌-◌, ℕ, suc, zero, List, Some, sym, ap, subst, arith, inl, inr, get_or}
-use Rattle.std.specs.Prelude.{slice_get, AllPairs, length}
-use Rattle.std.proofs.lemmas.Option.{slice_get-get_or, slice_get_within, same_Some}
-use Rattle.std.proofs.lemmas.Bool.{cases_eq}
+use Rattle.std.proofs.Common.{◌≡◌, ◌∙◌, ◌<◌, ◌+◌, ◌-◌, ℕ, suc, zero, List, Some, ap, arith, get_or}
+use Rattle.std.specs.Prelude.{slice_get, AllPairs}
+use Rattle.std.proofs.lemmas.Option.{slice_get-get_or, slice_get_within}
 use Rattle.sgt_names.proofs.Places.{AllPairs-from_at}
 use Rattle.sgt_workers.specs.declared.ticket.Ticket.{Ticket}
 

@@ -1,5 +1,5 @@
 -- Rows as elements are added.
-use Rattle.std.proofs.Common.{◌≡◌, ◌⊎◌, ◌↔◌, ℕ, ◌+◌, ◌≤◌, List, [], ◌∷◌, ◌++◌, length, take, drop, Some, sym, ap, ◌∙◌, subst, inl, inr}
+use Rattle.std.proofs.Common.{◌≡◌, ◌⊎◌, ℕ, ◌+◌, List, [], ◌∷◌, ◌++◌, length, take, drop, Some, sym, ap, ◌∙◌, subst, inl, inr}
 use Rattle.std.specs.Prelude.{slice_get, slice_set, Vec}
 use Rattle.std.specs.declared.alloc.Global.{Global}
 use Rattle.std.proofs.lemmas.Bool.{cases_eq}
@@ -11,7 +11,7 @@ use Rattle.sgt_settle.specs.declared.link.Arc.{Arc}
 use Rattle.sgt_settle.specs.declared.link.Cut.{Cut}
 use Rattle.sgt_settle.specs.declared.link.Link.{Link}
 use Rattle.sgt_settle.specs.private.Words.{At, Pushed}
-use Rattle.sgt_settle.specs.private.Search.{IsTarget, InRows, Adds, Hold, LinksBy, Passes}
+use Rattle.sgt_settle.specs.private.Search.{InRows, Adds, Hold, LinksBy, Passes}
 
 pub pushed_row : {T : Type 0} (rows : List (Vec T Global)) (k : ℕ) (x : T) (old row : Vec T Global) → slice_get rows k ≡ Some old → row.items ≡ old.items ++ x ∷ [] → Pushed rows k x (slice_set rows k row)
 pushed_row rows k x old row here more = record {

@@ -1,14 +1,13 @@
 -- From the index of a history to what it says of the sites.
-use Rattle.std.proofs.Common.{◌≡◌, ◌⊎◌, ◌∙◌, ◌↔◌, ◌≤◌, ◌<◌, ℕ, List, length, Option, Some, None, refl, sym, ap, subst, arith, inl, inr, Contains, get_or}
+use Rattle.std.proofs.Common.{◌≡◌, ◌∙◌, ◌≤◌, ◌<◌, ℕ, List, length, Option, Some, None, refl, sym, subst, arith, inl, inr, Contains, get_or}
 use Rattle.std.specs.Prelude.{slice_get, MatchOption, max}
 use Rattle.std.proofs.lemmas.Bool.{cases_lt}
-use Rattle.std.proofs.lemmas.Option.{same_Some, none-some, slice_get-get_or, slice_get_within}
+use Rattle.std.proofs.lemmas.Option.{same_Some, slice_get-get_or, slice_get_within}
 use Rattle.sgt_names.proofs.Places.{slice_get-none}
 use Rattle.sgt_names.specs.declared.entry.Entry.{Entry}
 use Rattle.sgt_site.specs.State.{SiteState}
 use Rattle.sgt_certifier.specs.Certifier.{Ruling}
 use Rattle.sgt_certifier.specs.declared.call.Call.{Call}
-use Rattle.sgt_settle.specs.Told.{handed_in}
 use Rattle.sgt_settle.specs.Settled.{Carries, IsLogSettled, IsSiteSettled}
 use Rattle.sgt_settle.specs.declared.counts.EntryCounts.{EntryCounts}
 use Rattle.sgt_settle.specs.declared.handed.Handed.{Handed}

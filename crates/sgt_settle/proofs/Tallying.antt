@@ -1,7 +1,6 @@
 -- The tickets of the Dones, and how many of them have a number.
-use Rattle.std.proofs.Common.{◌≡◌, ◌∙◌, ◌++◌, ◌∷◌, [], ◌+◌, ◌≤◌, ◌<◌, ℕ, suc, List, take, sym, ap, subst, arith, Some, Bool, true, false, refl, inl, inr, Contains}
-use Rattle.std.specs.Prelude.{slice_get, count_by, cond, ◌==◌, min}
-use Rattle.std.specs.List.{flat_map}
+use Rattle.std.proofs.Common.{◌≡◌, ◌∙◌, ◌++◌, ◌∷◌, [], ◌+◌, ◌≤◌, ℕ, List, take, sym, ap, arith, Some, Bool, true, refl, inl, inr, Contains}
+use Rattle.std.specs.Prelude.{slice_get, count_by, cond, ◌==◌}
 use Rattle.std.proofs.lemmas.Grind.{flat_map-append}
 use Rattle.std.proofs.lemmas.List.{append-nil}
 use Rattle.std.proofs.lemmas.List.Recursion.{is_count_by}

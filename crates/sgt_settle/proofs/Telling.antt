@@ -1,9 +1,8 @@
 -- From what the looks at the tickets found to the fault that is told.
 use Rattle.std.proofs.Common.{◌≡◌, ◌⊎◌, ◌∙◌, ◌≤◌, ◌<◌, ℕ, List, [], length, Option, Some, None, refl, sym, ap, subst, arith, inl, inr, Contains, All, get_or}
-use Rattle.std.specs.Prelude.{slice_get, AllPairs, count_by}
+use Rattle.std.specs.Prelude.{slice_get, count_by}
 use Rattle.std.proofs.lemmas.Bool.{cases_eq, cases_lt}
 use Rattle.std.proofs.lemmas.Option.{same_Some, none-some, slice_get_within}
-use Rattle.std.proofs.lemmas.List.Elements.{All-contains}
 use Rattle.sgt_names.proofs.Places.{All-from_at, Contains-from_at}
 use Rattle.sgt_certifier.specs.Certifier.{Ruling, committed, refused, withdrawn, opening}
 use Rattle.sgt_certifier.specs.Kept.{rulings_from}

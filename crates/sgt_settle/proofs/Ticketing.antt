@@ -1,18 +1,17 @@
 -- The decisions of a history, as a walk over its calls meets them.
-use Rattle.std.proofs.Common.{◌≡◌, ◌⊎◌, ◌↔◌, ◌≤◌, ◌<◌, ◌+◌, ℕ, suc, zero, List, [], ◌∷◌, ◌++◌, drop, take, length, Bool, true, false, Some, None, refl, sym, ap, ◌∙◌, subst, arith, inl, inr, length-append, append_assoc}
+use Rattle.std.proofs.Common.{◌≡◌, ◌↔◌, ◌≤◌, ◌<◌, ◌+◌, ℕ, suc, List, [], ◌∷◌, ◌++◌, drop, length, true, false, Some, refl, sym, ap, ◌∙◌, subst, arith, append_assoc}
 use Rattle.std.specs.Prelude.{slice_get, count_by, cond}
-use Rattle.std.proofs.lemmas.Option.{same_Some, none-some, slice_get_within}
+use Rattle.std.proofs.lemmas.Option.{same_Some, slice_get_within}
 use Rattle.sgt_certifier.specs.declared.call.Call.{Call}
 use Rattle.sgt_certifier.specs.declared.call.Call.TheVariants as call
-use Rattle.sgt_certifier.specs.declared.call.Decided.{Decided}
 use Rattle.sgt_certifier.specs.declared.call.Decided.TheVariants as decided
-use Rattle.sgt_certifier.specs.Certifier.{Ruling, committed, refused, withdrawn}
+use Rattle.sgt_certifier.specs.Certifier.{Ruling, withdrawn}
 use Rattle.sgt_certifier.specs.Kept.{rulings_from, windows_after, ruling_of, tx_at}
 use Rattle.std.proofs.lemmas.List.{length_push, append-nil, drop_all}
 use Rattle.std.proofs.lemmas.List.Recursion.{is_count_by}
 use Rattle.sgt_order.proofs.Lists.{get_push_last}
 use Rattle.sgt_certifier.proofs.Certifying.{rulings_split, windows_few}
-use Rattle.sgt_certifier.proofs.Members.{place_cases, place_left, place_right}
+use Rattle.sgt_certifier.proofs.Members.{place_left}
 use Rattle.sgt_workers.specs.declared.ticket.Ticket.{Ticket}
 use Rattle.sgt_settle.specs.Settled.{Tells, IsGood}
 use Rattle.sgt_settle.specs.private.Tickets.{IsToldBy, is_decision}

@@ -1,16 +1,19 @@
 -- The whole run: what is settled, and what is told of one that isn't.
-use Rattle.std.proofs.Common.{◌≡◌, ◌⊎◌, ◌∙◌, ◌≤◌, ◌<◌, ℕ, List, length, Some, refl, sym, ap, subst, arith, inl, inr, Contains, All}
+use Rattle.std.proofs.Common.{◌≡◌, ◌∙◌, ◌<◌, ℕ, List, Some, sym, ap, subst, arith}
 use Rattle.std.specs.Prelude.{slice_get}
-use Rattle.std.proofs.lemmas.Bool.{cases_lt}
-use Rattle.std.proofs.lemmas.Option.{slice_get_within}
 use Rattle.std.proofs.lemmas.List.Elements.{All-contains}
 use Rattle.sgt_names.proofs.Places.{All_at}
 use Rattle.sgt_site.specs.State.{SiteState}
-use Rattle.sgt_settle.specs.Settled.{Run, IsSettled, IsSettledAt, AreTickets, AreVersionsCounted, IsGood, Rises, tickets_of, count_of}
+use Rattle.sgt_certifier.specs.Certifier.{State, opening}
+use Rattle.sgt_certifier.specs.History.{Replays}
+use Rattle.sgt_certifier.specs.Kept.{rulings_from}
+use Rattle.sgt_certifier.specs.declared.call.Call.{Call}
+use Rattle.sgt_certifier.proofs.Extending.{runs_rulings}
+use Rattle.sgt_workers.specs.declared.ticket.Done.{Done}
+use Rattle.sgt_settle.specs.Settled.{Run, IsSettled, IsSettledAt, AreTickets, AreVersionsCounted, IsGood, Rises, tickets_of}
 use Rattle.sgt_settle.specs.Fault.{Shows, IsFirst, kind_place, fault_at}
 use Rattle.sgt_settle.specs.declared.fault.SettleFail.{SettleFail}
 use Rattle.sgt_settle.specs.declared.fault.SettleFail.TheVariants as fault
-use Rattle.sgt_settle.proofs.Tallying.{count_of-some}
 use Rattle.sgt_settle.proofs.Telling.{NoStray, NoTwo, NoMissing, NoDisorder, no_two, before_sites}
 
 abbrev pub TicketsOf : Run → Type 0
@@ -73,3 +76,11 @@ least_version r k each fault.Memory same lt shown = shown
 
 pub version_told : (r : Run) (k : ℕ) → TicketsOf r → ((j : ℕ) → IsSettledAt r j) → Shows r (fault.VersionsDiffer k) → ((j : ℕ) (s : SiteState) → j < k → slice_get r.sites j ≡ Some s → AreVersionsCounted r.certifier.history s) → IsFirst r (fault.VersionsDiffer k)
 version_told r k tickets sites shown each = record { shown = shown; first = before_versions r tickets sites; least = least_version r k each }
+
+-- the rulings of the certifier are those of its calls
+pub rulings_told : (history seen : List Call) (s : State) → Replays history s → seen ≡ history → s.rulings ≡ rulings_from 0 0 seen
+rulings_told history seen s replays same = runs_rulings opening history s replays ∙ ap (rulings_from 0 0) (sym same)
+
+-- so the tickets that are its calls' are its own
+pub tickets_told : (history seen : List Call) (s : State) (dones : List Done) → Replays history s → seen ≡ history → AreTickets (rulings_from 0 0 seen) dones → AreTickets s.rulings dones
+tickets_told history seen s dones replays same tickets = subst (λ rs. AreTickets rs dones) (sym (rulings_told history seen s replays same)) tickets

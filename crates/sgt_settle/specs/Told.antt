@@ -1,5 +1,5 @@
 -- What a history tells of edges, names and commits.
-use Rattle.std.specs.Prelude.{◌≡◌, ℕ, List, [], ◌∷◌, map, Contains, Some, slice_get}
+use Rattle.std.specs.Prelude.{◌≡◌, ℕ, List, [], map, Contains, Some, slice_get}
 use Rattle.std.specs.List.{flat_map}
 use Rattle.sgt_arena.specs.declared.handle.Handle.{Handle}
 use Rattle.sgt_certifier.specs.Certifier.{Ruling, committed}

@@ -79,8 +79,12 @@ pub fn check_settled(
     })) }
 {
     let history = certifier.history();
-    check_tickets(history, dones)?;
-    let differing = first_differing(alloc, certifier, sites, counts)?;
+    if let Err(fault) = check_tickets(history, dones) {
+        return Err(fault);
+    }
+    let Ok(differing) = first_differing(alloc, certifier, sites, counts) else {
+        return Err(SettleFail::Memory);
+    };
     if let Some(site) = differing {
         return Err(SettleFail::LogDiffers(site));
     }

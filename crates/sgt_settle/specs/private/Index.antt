@@ -1,5 +1,5 @@
 -- What is looked up in a history.
-use Rattle.std.specs.Prelude.{◌≡◌, ◌≢◌, ◌⊎◌, ◌↔◌, ◌≤◌, ◌<◌, ℕ, max, Bool, List, Option, Some, Contains, Vec, slice_get, length}
+use Rattle.std.specs.Prelude.{◌≡◌, ◌≢◌, ◌↔◌, ◌≤◌, ◌<◌, ℕ, max, Bool, List, Option, Some, Contains, Vec, slice_get, length}
 use Rattle.std.specs.declared.alloc.Global.{Global}
 use Rattle.sgt_names.specs.Name.{Name}
 use Rattle.sgt_names.specs.Log.{Conflicts}
@@ -11,15 +11,14 @@ use Rattle.sgt_edges.specs.declared.edge.Edge.{Edge}
 use Rattle.sgt_order.specs.Graph.{Reaches}
 use Rattle.sgt_certifier.specs.Certifier.{Ruling}
 use Rattle.sgt_certifier.specs.declared.call.Call.{Call}
-use Rattle.sgt_settle.specs.Told.{handed_in, IsNamed, IsCommittedBy, IsCommitted}
+use Rattle.sgt_settle.specs.Told.{handed_in, IsNamed, IsCommittedBy}
 use Rattle.sgt_settle.specs.Settled.{Carries}
 use Rattle.sgt_settle.specs.declared.handed.Handed.{Handed}
-use Rattle.sgt_settle.specs.declared.link.Arc.{Arc}
 use Rattle.sgt_settle.specs.declared.link.Cut.{Cut}
 use Rattle.sgt_settle.specs.declared.link.Link.{Link}
 use Rattle.sgt_settle.specs.declared.index.Index.{Index}
 use Rattle.sgt_settle.specs.private.Words.{At}
-use Rattle.sgt_settle.specs.private.Search.{InRows, Hold, LinksBy, IsMarked}
+use Rattle.sgt_settle.specs.private.Search.{InRows, Hold, IsMarked}
 
 -- the windows name the transaction under the handle
 abbrev pub Names : List (Vec ℕ Global) → Handle → ℕ → Type 0

@@ -1,5 +1,5 @@
 -- The logs of the sites against an index of the history.
-use Rattle.std.specs.Prelude.{◌≡◌, ◌↔◌, ℕ, List, Contains, Some, slice_get, count_by, not}
+use Rattle.std.specs.Prelude.{◌≡◌, ℕ, List, Contains, Some, slice_get, count_by, not}
 use Rattle.std.specs.Prelude.{Vec}
 use Rattle.std.specs.declared.alloc.Global.{Global}
 use Rattle.sgt_names.specs.declared.entry.Entry.{Entry}

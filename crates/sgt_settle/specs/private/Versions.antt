@@ -1,9 +1,8 @@
 -- The installs that a history counts, call by call.
-use Rattle.std.specs.Prelude.{ℕ, Bool, true, false, Option, Some, None, is_some}
+use Rattle.std.specs.Prelude.{ℕ, Bool, false, Option, Some, None, is_some}
 use Rattle.sgt_names.specs.Name.{Name}
 use Rattle.sgt_names.specs.Entry.{change_of}
 use Rattle.sgt_names.specs.declared.entry.Entry.{Entry}
-use Rattle.sgt_certifier.specs.Certifier.{Install}
 use Rattle.sgt_certifier.specs.History.{install_in, changes_item}
 use Rattle.sgt_certifier.specs.declared.call.Call.{Call}
 

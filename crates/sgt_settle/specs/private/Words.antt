@@ -1,5 +1,5 @@
 -- Rows, and the least of the elements that something holds of.
-use Rattle.std.specs.Prelude.{◌≡◌, ◌≤◌, ◌⊎◌, ◌++◌, ◌∷◌, [], ℕ, min, List, Option, Some, None, Contains, Vec, slice_get, length}
+use Rattle.std.specs.Prelude.{◌≡◌, ◌≤◌, ◌++◌, ◌∷◌, [], ℕ, min, List, Option, Some, None, Contains, Vec, slice_get}
 use Rattle.std.specs.declared.alloc.Global.{Global}
 use Rattle.sgt_edges.specs.declared.edge.Edge.{Edge}
 use Rattle.sgt_settle.specs.declared.handed.Handed.{Handed}

@@ -1,8 +1,8 @@
-use Rattle.std.proofs.Common.{◌≡◌, ◌∙◌, ◌≤◌, Some, None, refl, sym, ap, subst, arith, inl, inr, true, false, Bool}
+use Rattle.std.proofs.Common.{◌≡◌, ◌∙◌, Some, sym, ap, subst, arith, inl, inr}
 use Rattle.std.specs.Prelude.{not}
 use Rattle.std.proofs.lemmas.Bool.{true≢false, eq-eqb, ne_eqb, leb-true, cases_Bool, cases_eq}
 use Rattle.std.proofs.lemmas.Option.{same_Some, none-some}
-use Rattle.sgt_settle.specs.private.Index.{IsIn, IsDue}
+use Rattle.sgt_settle.specs.private.Index.{IsIn}
 use Rattle.sgt_settle.proofs.carried.is_due.Goals as goal
 
 pub returns-then-number-last : goal.returns-then-number-last

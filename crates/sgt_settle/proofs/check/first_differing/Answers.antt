@@ -1,9 +1,6 @@
-use Rattle.std.proofs.Common.{◌≡◌, ◌∙◌, ◌<◌, ◌≤◌, ℕ, length, sym, ap, subst, arith, None, Some}
-use Rattle.std.specs.Prelude.{slice_get}
+use Rattle.std.proofs.Common.{◌≤◌, length, subst, arith}
 use Rattle.sgt_settle.specs.declared.handed.Handed.{Handed as AHanded}
 use Rattle.sgt_settle.specs.private.Words.{IsLeastOf}
-use Rattle.sgt_settle.specs.private.Sites.{IsFitAt}
-use Rattle.sgt_settle.specs.Settled.{IsSiteSettled}
 use Rattle.sgt_settle.proofs.Settling.{fit_settled, settled_fit, beyond_found}
 use Rattle.sgt_settle.proofs.check.first_differing.Goals as goal
 

@@ -1,4 +1,4 @@
-use Rattle.std.proofs.Common.{◌≡◌, ◌∙◌, ◌↔◌, ℕ, sym, ap, subst, arith, length, List, Option}
+use Rattle.std.proofs.Common.{◌≡◌, ◌↔◌, ℕ, sym, ap, subst, arith, length, List, Option}
 use Rattle.sgt_cert.specs.Certificate.{IsCommitted}
 use Rattle.sgt_settle.specs.private.Index.{IsIn}
 use Rattle.sgt_settle.proofs.Rowing.{written_back}

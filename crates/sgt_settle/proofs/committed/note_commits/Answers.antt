@@ -1,9 +1,8 @@
-use Rattle.std.proofs.Common.{◌≡◌, ◌∙◌, ℕ, Some, sym, ap, subst, arith, length}
-use Rattle.std.specs.Prelude.{slice_get}
+use Rattle.std.proofs.Common.{◌∙◌, Some, sym, ap, arith}
 use Rattle.std.proofs.lemmas.Option.{slice_get_within, same_Some}
 use Rattle.sgt_cert.specs.Certificate.{IsCommitted}
 use Rattle.sgt_settle.proofs.Lists.{read}
-use Rattle.sgt_settle.proofs.Committing.{AreNoted, noted_next, noted_other}
+use Rattle.sgt_settle.proofs.Committing.{noted_next, noted_other}
 use Rattle.sgt_settle.proofs.committed.note_commits.Goals as goal
 use Rattle.sgt_settle.proofs.committed.note_commits.Goals.{in-Commit, in_default}
 

@@ -1,7 +1,6 @@
-use Rattle.std.proofs.Common.{◌≡◌, ◌∙◌, sym, ap, subst, arith, Some, length}
+use Rattle.std.proofs.Common.{◌≡◌, ◌∙◌, ap, subst, arith, Some}
 use Rattle.std.specs.Prelude.{slice_get}
 use Rattle.sgt_settle.specs.Told.{handed_in}
-use Rattle.sgt_settle.specs.private.Index.{AreLinks}
 use Rattle.sgt_settle.proofs.Linking.{are_ends, whole_index}
 use Rattle.sgt_settle.proofs.index.index_of.Goals as goal
 

@@ -1,5 +1,5 @@
-use Rattle.std.proofs.Common.{◌≡◌, ◌∙◌, Some, refl, sym, ap, subst}
-use Rattle.std.proofs.lemmas.Option.{same_Some, none-some}
+use Rattle.std.proofs.Common.{◌∙◌, refl, sym}
+use Rattle.std.proofs.lemmas.Option.{none-some}
 use Rattle.sgt_settle.proofs.index.link_of.Goals as goal
 
 pub returns-in_default-clause-none : goal.returns-in_default-clause-none

@@ -1,4 +1,4 @@
-use Rattle.std.proofs.Common.{◌≡◌, ◌∙◌, Some, sym, ap, subst, arith}
+use Rattle.std.proofs.Common.{◌∙◌, sym, ap, arith}
 use Rattle.std.specs.Prelude.{slice_get}
 use Rattle.std.proofs.lemmas.Option.{same_Some, none-some, slice_get_within}
 use Rattle.sgt_settle.proofs.Lists.{read}

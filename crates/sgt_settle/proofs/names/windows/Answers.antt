@@ -1,4 +1,4 @@
-use Rattle.std.proofs.Common.{◌≡◌, ◌∙◌, sym, ap, subst, arith, refl, length, take, drop, [], ◌∷◌, ◌++◌, ◌+◌, ◌-◌}
+use Rattle.std.proofs.Common.{◌≡◌, ◌∙◌, sym, ap, subst, arith, length, take, [], ◌∷◌, ◌++◌, ◌+◌, ◌-◌}
 use Rattle.std.proofs.lemmas.List.{take_all}
 use Rattle.sgt_certifier.specs.History.{Replays}
 use Rattle.sgt_settle.specs.private.Index.{AreNamed}

@@ -1,4 +1,4 @@
-use Rattle.std.proofs.Common.{arith, refl, true, false, sym, ◌∙◌}
+use Rattle.std.proofs.Common.{arith, refl, sym, ◌∙◌}
 use Rattle.std.proofs.lemmas.Bool.{true≢false}
 use Rattle.sgt_settle.specs.declared.link.Arc.{Arc as Far}
 use Rattle.sgt_settle.proofs.Lists.{read}

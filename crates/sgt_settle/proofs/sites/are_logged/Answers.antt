@@ -1,5 +1,5 @@
-use Rattle.std.proofs.Common.{◌≡◌, ◌∙◌, sym, ap, subst, arith, inl, inr, refl, Contains, true, false}
-use Rattle.std.proofs.lemmas.Bool.{true≢false, eqb-false}
+use Rattle.std.proofs.Common.{◌∙◌, sym, ap, subst, inl, inr, Contains}
+use Rattle.std.proofs.lemmas.Bool.{eqb-false}
 use Rattle.sgt_settle.specs.declared.handed.Handed.{Handed as AHanded}
 use Rattle.sgt_settle.specs.private.Index.{IsLoggedBy}
 use Rattle.sgt_settle.proofs.Lists.{read, take_on, push_contains}

@@ -1,4 +1,4 @@
-use Rattle.std.proofs.Common.{◌≡◌, ◌∙◌, ◌≤◌, sym, ap, subst, arith, Option, ℕ}
+use Rattle.std.proofs.Common.{◌≤◌, subst, arith}
 use Rattle.std.proofs.lemmas.List.{take_all}
 use Rattle.sgt_settle.specs.declared.handed.Handed.{Handed as AHanded}
 use Rattle.sgt_settle.specs.private.Words.{IsLeastOf}

@@ -1,6 +1,6 @@
-use Rattle.std.proofs.Common.{◌≡◌, ◌∙◌, ◌<◌, sym, ap, subst, arith, inl, inr, ℕ, true, false, get_or, length}
+use Rattle.std.proofs.Common.{◌≡◌, ◌∙◌, ◌<◌, sym, subst, arith, inl, inr, get_or, length}
 use Rattle.std.proofs.lemmas.Bool.{true≢false, cases_lt}
-use Rattle.std.proofs.lemmas.Option.{slice_get-get_or, slice_get_within}
+use Rattle.std.proofs.lemmas.Option.{slice_get-get_or}
 use Rattle.sgt_settle.specs.declared.counts.EntryCounts.{EntryCounts as Counted}
 use Rattle.sgt_settle.specs.private.Sites.{IsFitAt}
 use Rattle.sgt_settle.proofs.Lists.{read}

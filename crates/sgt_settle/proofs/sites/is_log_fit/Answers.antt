@@ -1,6 +1,5 @@
-use Rattle.std.proofs.Common.{◌≡◌, ◌∙◌, sym, ap, subst, true, false}
+use Rattle.std.proofs.Common.{◌∙◌, sym}
 use Rattle.std.proofs.lemmas.Bool.{true≢false}
-use Rattle.sgt_settle.specs.private.Sites.{AreLogged}
 use Rattle.sgt_settle.proofs.sites.is_log_fit.Goals as goal
 
 pub returns-then-not-are_logged : goal.returns-then-not-are_logged

@@ -1,5 +1,5 @@
-use Rattle.std.proofs.Common.{◌≡◌, ◌∙◌, ◌≤◌, ◌<◌, ℕ, length, sym, ap, subst, arith, None, Some}
-use Rattle.sgt_settle.specs.Settled.{Run, tickets_of, count_of}
+use Rattle.std.proofs.Common.{◌≡◌, ◌∙◌, length, arith, None, Some}
+use Rattle.sgt_settle.specs.Settled.{Run}
 use Rattle.sgt_settle.specs.private.Tickets.{IsRunOf, is_decision}
 use Rattle.std.specs.Prelude.{count_by}
 use Rattle.sgt_settle.proofs.Telling.{NoStray, NoTwo, NoMissing, NoDisorder, no_stray, no_two, no_disorder, are_tickets, first_stray_told, first_two_told, first_missing_told, first_unordered_told, stray_of, order_of, count_in_run, decisions_of_run, run_of, is_run_of}

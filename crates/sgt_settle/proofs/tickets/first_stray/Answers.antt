@@ -1,4 +1,4 @@
-use Rattle.std.proofs.Common.{◌≡◌, ◌∙◌, ◌++◌, ◌∷◌, [], ◌+◌, sym, ap, subst, arith, take}
+use Rattle.std.proofs.Common.{◌++◌, sym, subst, arith, take}
 use Rattle.std.proofs.lemmas.List.{take_all}
 use Rattle.sgt_workers.specs.declared.ticket.Ticket.{Ticket as ATicket}
 use Rattle.sgt_settle.specs.Settled.{tickets_of}

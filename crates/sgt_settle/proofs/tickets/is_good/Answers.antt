@@ -1,7 +1,7 @@
-use Rattle.std.proofs.Common.{◌≡◌, ◌∙◌, ◌↔◌, ◌<◌, sym, ap, subst, arith, inl, inr, refl, ℕ, true, false}
+use Rattle.std.proofs.Common.{◌∙◌, ◌<◌, sym, arith}
 use Rattle.std.proofs.lemmas.Bool.{true≢false}
 use Rattle.sgt_settle.proofs.Lists.{read}
-use Rattle.sgt_settle.proofs.Ticketing.{IsWalked, walk_hit, walk_decided, walk_on, walk_ends}
+use Rattle.sgt_settle.proofs.Ticketing.{walk_hit, walk_decided, walk_on, walk_ends}
 use Rattle.sgt_settle.proofs.tickets.is_good.Goals as goal
 use Rattle.sgt_settle.proofs.tickets.is_good.Goals.{then-is_decision+else-number-ticket, else-is_decision}
 

@@ -1,4 +1,4 @@
-use Rattle.std.proofs.Common.{◌≡◌, ◌∙◌, ◌<◌, refl, arith, Some, ℕ, suc}
+use Rattle.std.proofs.Common.{refl, arith, suc}
 use Rattle.std.proofs.lemmas.Option.{slice_get_within}
 use Rattle.sgt_settle.proofs.Rising.{rises_throughout}
 use Rattle.sgt_settle.proofs.tickets.rise.Goals as goal
