@@ -1,0 +1,17 @@
+pub mod Marking
+pub mod Searching
+pub mod Rowing
+pub mod Lists
+pub mod Naming
+pub mod Committing
+pub mod Carrying
+pub mod Linking
+pub mod Leasts
+pub mod Ticketing
+pub mod Rising
+pub mod Fitting
+pub mod Tallying
+pub mod Telling
+pub mod Settling
+pub mod Counting
+pub mod Whole

@@ -1,0 +1,4 @@
+pub mod Told
+pub mod Settled
+pub mod Fault
+pub mod private

@@ -1,0 +1,7 @@
+-- Words of private clauses.
+pub mod Words
+pub mod Search
+pub mod Index
+pub mod Tickets
+pub mod Sites
+pub mod Versions

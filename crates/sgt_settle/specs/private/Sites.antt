@@ -1,0 +1,26 @@
+-- The logs of the sites against an index of the history.
+use Rattle.std.specs.Prelude.{◌≡◌, ℕ, List, Contains, Some, slice_get, count_by, not}
+use Rattle.std.specs.Prelude.{Vec}
+use Rattle.std.specs.declared.alloc.Global.{Global}
+use Rattle.sgt_names.specs.declared.entry.Entry.{Entry}
+use Rattle.sgt_site.specs.State.{SiteState}
+use Rattle.sgt_settle.specs.Settled.{is_read}
+use Rattle.sgt_settle.specs.declared.counts.EntryCounts.{EntryCounts}
+use Rattle.sgt_settle.specs.declared.handed.Handed.{Handed}
+use Rattle.sgt_settle.specs.declared.index.Index.{Index}
+use Rattle.sgt_settle.specs.private.Index.{IsLoggedBy, AreCarried}
+
+-- each edge on the site is a conflict of its log
+abbrev pub AreLogged : List (Vec ℕ Global) → List Handed → ℕ → List Entry → Type 0
+AreLogged windows handed site log = (h : Handed) → Contains handed h → h.edge.label.site ≡ site → IsLoggedBy windows log h.edge
+
+-- the log of the site has the counted entries, and its conflicts are those that the decisions were handed
+pub record IsLogFit (index : Index) (site : ℕ) (counts : EntryCounts) (log : List Entry) : Type 0 where
+  pub reads : count_by is_read log ≡ counts.reads
+  pub others : count_by (λ e. not (is_read e)) log ≡ counts.others
+  pub edges : AreLogged index.windows.items index.handed.items site log
+  pub conflicts : AreCarried index site log
+
+abbrev pub IsFitAt : Index → List SiteState → List EntryCounts → ℕ → Type 0
+IsFitAt index sites counts k =
+    (s : SiteState) (c : EntryCounts) → slice_get sites k ≡ Some s → slice_get counts k ≡ Some c → IsLogFit index k c s.entries

@@ -1,0 +1,95 @@
+//! Whether a run is settled.
+
+ghost use Rattle.std.specs.Prelude.{◌≡◌, ◌≤◌, ◌<◌, ℕ, IfOk, IfErr, OnOk, MatchOption, length, slice_get};
+ghost use Rattle.sgt_names.specs.Limits.{max_sites};
+ghost use Rattle.sgt_settle.specs.Settled.{IsSettled, IsSiteSettled};
+ghost use Rattle.sgt_settle.specs.Fault.{IsUnsettled};
+
+use crate::counts::EntryCounts;
+use crate::fault::SettleFail;
+use crate::index::index_of;
+use crate::sites::{first_beyond, first_unfit};
+use crate::tickets::check_tickets;
+use crate::versions::first_uncounted;
+use sgt_certifier::Certifier;
+use sgt_names::SiteNo;
+use sgt_site::Site;
+use sgt_workers::Done;
+use std::alloc::{AllocError, Global};
+
+// The least site that doesn't agree with the history.
+fn first_differing(
+    alloc: Global,
+    certifier: &Certifier,
+    sites: &[Site],
+    counts: &[EntryCounts],
+) -> Result<Option<SiteNo>, AllocError>
+    requires few { length sites.now ≤ max_sites }
+    requires counts { length counts.now ≡ length sites.now }
+    ensures { IfOk result (λ found. MatchOption found
+        ((k : ℕ) → IsSiteSettled certifier.now.history certifier.now.state.rulings counts.now k (slice_get sites.now k))
+        (λ site. (IsSiteSettled certifier.now.history certifier.now.state.rulings counts.now site (slice_get sites.now site) → ⊥)
+          × ((k : ℕ) → k < site
+            → IsSiteSettled certifier.now.history certifier.now.state.rulings counts.now k (slice_get sites.now k)))) }
+{
+    let index = index_of(alloc, certifier)?;
+    let unfit = first_unfit(alloc, &index, sites, counts)?;
+    if let Some(site) = unfit {
+        return Ok(Some(site));
+    }
+    Ok(first_beyond(index.handed.as_slice(), sites.len()))
+}
+
+/// Whether a run is settled: its tickets are the decisions of the certifier's history, each once and those of each job in order; the
+/// log of each site has the entries that were counted there, and its conflicts are those that the decisions were handed; and each
+/// version is the number of installs that the history counts. The k-th site and the k-th counts are those of the site k.
+///
+/// The first that holds is answered, each with the least number of its kind:
+/// - V1: a ticket has no decision of its number, transaction and verdict.
+/// - V2: two tickets have one number.
+/// - V6: a decision has no ticket.
+/// - V8: the tickets of a job don't rise.
+/// - V3: a log can't be judged, since there was no memory.
+/// - V9: a site, of a log or of an edge that was handed, isn't so.
+/// - V10: a version at a site isn't so.
+///
+/// Memory is linear in the history with its edges and in the committed transactions. The time is that of the tickets times the
+/// history, of the edges times the log of their site, and for each operation of a committed transaction that of its site's log and
+/// of the edges that lead to it or from it.
+pub fn check_settled(
+    alloc: Global,
+    certifier: &Certifier,
+    sites: &[Site],
+    counts: &[EntryCounts],
+    dones: &[Done],
+) -> Result<(), SettleFail>
+    requires few { length sites.now ≤ max_sites }
+    requires counts { length counts.now ≡ length sites.now }
+    ensures ok { OnOk result (IsSettled (record {
+      certifier = certifier.now;
+      sites = sites.now;
+      counts = counts.now;
+      dones = dones.now;
+    })) }
+    ensures err { IfErr result (IsUnsettled (record {
+      certifier = certifier.now;
+      sites = sites.now;
+      counts = counts.now;
+      dones = dones.now;
+    })) }
+{
+    let history = certifier.history();
+    if let Err(fault) = check_tickets(history, dones) {
+        return Err(fault);
+    }
+    let Ok(differing) = first_differing(alloc, certifier, sites, counts) else {
+        return Err(SettleFail::Memory);
+    };
+    if let Some(site) = differing {
+        return Err(SettleFail::LogDiffers(site));
+    }
+    if let Some(site) = first_uncounted(history, sites) {
+        return Err(SettleFail::VersionsDiffer(site));
+    }
+    Ok(())
+}

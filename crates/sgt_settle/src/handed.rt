@@ -1,0 +1,60 @@
+//! The edges that decisions were handed.
+
+ghost use Rattle.std.specs.Prelude.{◌≡◌, ◌++◌, map, IfOk, OnOk};
+ghost use Rattle.sgt_edges.specs.declared.edge.Edge.{Edge as AnEdge};
+ghost use Rattle.sgt_settle.specs.Told.{number_of, handed_by, handed_in};
+ghost use Rattle.sgt_settle.specs.private.Words.{with_number};
+
+use sgt_certifier::{Call, Decided};
+use sgt_edges::Edge;
+use std::alloc::{AllocError, Global};
+
+/// An edge, with the number of the decision that it was handed to.
+#[derive(Clone, Copy, Debug, PartialEq, Eq)]
+pub struct Handed {
+    pub edge: Edge,
+    pub number: u64,
+}
+
+fn number_of(reply: &Decided) -> u64
+    ensures { result ≡ number_of reply.now }
+{
+    match reply {
+        Decided::Committed { number } => *number,
+        Decided::Refused { number, .. } => *number,
+    }
+}
+
+// Adds these edges with the number.
+fn add_edges(handed: &mut Vec<Handed>, edges: &[Edge], number: u64) -> Result<(), AllocError>
+    ensures { OnOk result (handed.new.items ≡ handed.old.items ++ map (with_number number) edges.now) }
+{
+    for edge in edges {
+        handed.push(Handed {
+            edge: *edge,
+            number,
+        })?;
+    }
+    Ok(())
+}
+
+// Adds the edges that the call hands to a decision.
+fn add_handed(handed: &mut Vec<Handed>, call: &Call) -> Result<(), AllocError>
+    ensures { OnOk result (handed.new.items ≡ handed.old.items ++ handed_by call.now) }
+{
+    match call {
+        Call::Decide { edges, reply, .. } => add_edges(handed, edges.as_slice(), number_of(reply)),
+        _ => Ok(()),
+    }
+}
+
+/// The edges that the decisions of the history were handed, in their order.
+pub(crate) fn all_handed(alloc: Global, history: &[Call]) -> Result<Vec<Handed>, AllocError>
+    ensures { IfOk result (λ handed. handed.items ≡ handed_in history.now) }
+{
+    let mut handed = Vec::new(alloc);
+    for call in history {
+        add_handed(&mut handed, call)?;
+    }
+    Ok(handed)
+}

@@ -1,0 +1,10 @@
+//! A law of what is settled.
+
+ghost use Rattle.sgt_settle.specs.Settled.{Run, IsSettled};
+ghost use Rattle.sgt_settle.specs.Fault.{Shows};
+ghost use Rattle.sgt_settle.specs.declared.fault.SettleFail.{SettleFail};
+
+/// What is settled shows no fault. So a run is refused, memory aside, exactly where it isn't settled.
+pub fn settled_has_no_fault()
+    ensures { (r : Run) (f : SettleFail) → IsSettled r → Shows r f → ⊥ }
+{}

@@ -1,0 +1,26 @@
+//! Whether the tickets of a run, the history of its certifier and the logs of its sites hold together.
+#![tactic(auto)]
+
+mod carried;
+mod check;
+mod committed;
+mod counts;
+mod fault;
+mod handed;
+mod index;
+mod laws;
+mod least;
+mod link;
+mod logged;
+mod names;
+mod rows;
+mod search;
+mod sites;
+mod tickets;
+mod versions;
+
+pub use check::check_settled;
+pub use counts::EntryCounts;
+pub use fault::SettleFail;
+pub use handed::Handed;
+pub use laws::settled_has_no_fault;

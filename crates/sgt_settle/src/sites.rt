@@ -1,0 +1,101 @@
+//! Whether the logs of the sites agree with the history.
+
+ghost use Rattle.std.specs.Prelude.{◌≡◌, ◌↔◌, ◌≤◌, ◌<◌, ◌++◌, ℕ, List, IsTrue, Contains, IfOk, MatchOption, length, slice_get, Some};
+ghost use Rattle.sgt_names.specs.Limits.{max_sites};
+ghost use Rattle.sgt_settle.specs.declared.handed.Handed.{Handed as AHanded};
+ghost use Rattle.sgt_settle.specs.private.Words.{IsLeastOf, lesser};
+ghost use Rattle.sgt_settle.specs.private.Index.{IsPaired};
+ghost use Rattle.sgt_settle.specs.private.Sites.{AreLogged, IsLogFit, IsFitAt};
+
+use crate::carried::are_carried;
+use crate::counts::{EntryCounts, has_counts};
+use crate::handed::Handed;
+use crate::index::Index;
+use crate::logged::is_logged;
+use sgt_names::{Entry, SiteNo, Tx};
+use sgt_site::Site;
+use std::alloc::{AllocError, Global};
+
+// Whether each edge on the site is a conflict of its log.
+fn are_logged(windows: &[Vec<Tx>], handed: &[Handed], site: SiteNo, log: &[Entry]) -> bool
+    ensures { IsTrue result ↔ AreLogged windows.now handed.now site log.now }
+{
+    for one in handed {
+        if one.edge.label.site == site && !is_logged(windows, log, &one.edge) {
+            return false;
+        }
+    }
+    true
+}
+
+// Whether the log of the site has the counted entries, and its conflicts are those that the decisions were handed.
+fn is_log_fit(
+    alloc: Global,
+    index: &Index,
+    site: SiteNo,
+    counts: EntryCounts,
+    log: &[Entry],
+) -> Result<bool, AllocError>
+    requires { IsPaired index.now }
+    ensures { IfOk result (λ yes. IsTrue yes ↔ IsLogFit index.now site counts log.now) }
+{
+    if !has_counts(log, counts) {
+        return Ok(false);
+    }
+    if !are_logged(index.windows.as_slice(), index.handed.as_slice(), site, log) {
+        return Ok(false);
+    }
+    let carried = are_carried(alloc, index, site, log)?;
+    Ok(carried)
+}
+
+/// The least site, of those that there are, whose log isn't fit.
+pub(crate) fn first_unfit(
+    alloc: Global,
+    index: &Index,
+    sites: &[Site],
+    counts: &[EntryCounts],
+) -> Result<Option<SiteNo>, AllocError>
+    requires paired { IsPaired index.now }
+    requires few { length sites.now ≤ max_sites }
+    requires counts { length counts.now ≡ length sites.now }
+    ensures { IfOk result (λ found. MatchOption found
+        ((k : ℕ) → k < length sites.now → IsFitAt index.now sites.now counts.now k)
+        (λ site. (site < length sites.now) × (IsFitAt index.now sites.now counts.now site → ⊥)
+          × ((k : ℕ) → k < site → IsFitAt index.now sites.now counts.now k))) }
+{
+    for k in 0..sites.len() {
+        let Ok(site) = SiteNo::new(k as u64) else {
+            unreachable!();
+        };
+        let fit = is_log_fit(alloc, index, site, counts[k], sites[k].log())?;
+        if !fit {
+            return Ok(Some(site));
+        }
+    }
+    Ok(None)
+}
+
+// The lesser, where there is a first.
+fn lesser(least: Option<SiteNo>, site: SiteNo) -> SiteNo
+    ensures { result ≡ lesser least site }
+{
+    match least {
+        Some(least) if least.number() < site.number() => least,
+        _ => site,
+    }
+}
+
+/// The least site of an edge that is beyond those that there are.
+pub(crate) fn first_beyond(handed: &[Handed], sites: usize) -> Option<SiteNo>
+    ensures { IsLeastOf (λ (h : AHanded). h.edge.label.site) (λ (h : AHanded). sites ≤ h.edge.label.site) handed.now result }
+{
+    let mut least = None;
+    for one in handed {
+        let site = one.edge.label.site;
+        if sites <= site.number() as usize {
+            least = Some(lesser(least, site));
+        }
+    }
+    least
+}
