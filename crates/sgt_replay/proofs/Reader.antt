@@ -30,7 +30,7 @@ pub record Goes (told : Option (List ℕ)) (input : Input) (coming : Option (Lis
   pub rest : IsRest (input_lines input) told coming
   pub number : n ≡ length (input_lines input) + 1
 
-text-append : (xs ys : List (List ℕ)) → text_of_lines (xs ++ ys) ≡ text_of_lines xs ++ text_of_lines ys
+pub text-append : (xs ys : List (List ℕ)) → text_of_lines (xs ++ ys) ≡ text_of_lines xs ++ text_of_lines ys
 text-append [] ys = refl
 text-append (x ∷ xs) ys = ap (λ (t : List ℕ). (x ++ 10 ∷ []) ++ t) (text-append xs ys) ∙ sym (append_assoc (x ++ 10 ∷ []) (text_of_lines xs) (text_of_lines ys))
 

@@ -1,4 +1,4 @@
-//! The replay of a file of events through the core.
+//! The input of a replay, and its replies as lines.
 #![tactic(auto)]
 
 mod input;
