@@ -1,0 +1,2 @@
+pub mod OneInput
+pub mod Reader

@@ -1,0 +1,82 @@
+//! Replies, written.
+
+ghost use Rattle.std.specs.Prelude.{◌≡◌, ◌++◌, take, vec_len, OnOk, OnErr};
+ghost use Rattle.sgt_notation.specs.Events.{HasLine};
+ghost use Rattle.sgt_replay.specs.Reply.{fault_number, reply_text};
+
+use sgt_core::{CoreFault, Reply};
+use sgt_notation::{EventLine, push_number, write_event};
+use std::alloc::AllocError;
+
+/// The number that a refusal is written with.
+pub fn number_of(fault: CoreFault) -> u64
+    ensures { result ≡ fault_number fault }
+{
+    match fault {
+        CoreFault::Unknown => 1,
+        CoreFault::Ended => 2,
+        CoreFault::StepOpen => 3,
+        CoreFault::UnknownItem => 4,
+        CoreFault::NotGathered => 5,
+        CoreFault::AlreadyDone => 6,
+        CoreFault::WindowFull => 7,
+        CoreFault::ActiveLeft => 8,
+        CoreFault::Memory => 9,
+        CoreFault::GenerationsSpent => 10,
+        CoreFault::NumbersSpent => 11,
+        CoreFault::NotTouched => 12,
+    }
+}
+
+fn push_answer(out: &mut Vec<u8>, line: &EventLine, reply: &Reply) -> Result<(), AllocError>
+    requires { HasLine line.now }
+    ensures ok { OnOk result (out.new.items ≡ out.old.items ++ reply_text line.now reply.now) }
+    ensures err { OnErr result (take (vec_len out.old) out.new.items ≡ out.old.items) }
+{
+    match reply {
+        Reply::Fault { fault } => {
+            out.extend_from_slice(b"! E")?;
+            push_number(out, number_of(*fault))
+        }
+        Reply::Begun { tx } => {
+            write_event(out, line)?;
+            push_number(out, u64::from(tx.number()))
+        }
+        Reply::Value { value } => {
+            write_event(out, line)?;
+            out.extend_from_slice(b"=")?;
+            push_number(out, *value)
+        }
+        Reply::Yes => {
+            write_event(out, line)?;
+            out.extend_from_slice(b" yes")
+        }
+        Reply::No => {
+            write_event(out, line)?;
+            out.extend_from_slice(b" no")
+        }
+        Reply::Closed { ranks } => {
+            write_event(out, line)?;
+            out.extend_from_slice(b" ")?;
+            push_number(out, *ranks)
+        }
+        Reply::Kept | Reply::Gathered | Reply::Installed | Reply::Withdrawn => {
+            write_event(out, line)
+        }
+    }
+}
+
+/// Writes the line of the reply, without an LF, behind what is there: `! EN` of a refusal, and else the event's own line with
+/// what the answer tells behind it. Where a growth is refused nothing is written.
+pub fn write_reply(out: &mut Vec<u8>, line: &EventLine, reply: &Reply) -> Result<(), AllocError>
+    requires { HasLine line.now }
+    ensures ok { OnOk result (out.new.items ≡ out.old.items ++ reply_text line.now reply.now) }
+    ensures err { OnErr result (out.new.items ≡ out.old.items) }
+{
+    let before = out.len();
+    let written = push_answer(out, line, reply);
+    if written.is_err() {
+        out.truncate(before);
+    }
+    written
+}

@@ -1,0 +1,5 @@
+//! Tests of the replay.
+#![tactic(auto)]
+
+#[cfg(test)]
+mod tests;
