@@ -1,7 +1,8 @@
 -- Sources and sinks over memory.
 use Rattle.std.specs.Prelude.{◌≡◌, ℕ, ◌-◌, ◌<◌, ◌^◌, List, ◌++◌, length, take, drop, min, Option, Some, option_map}
 
--- what contracts see of a source: the bytes that are left, how many it gives at a read at most, how many more reads succeed where not all do, and how often it has failed
+-- what contracts see of a source: the bytes that are left, how many it gives at a read at most, how many more reads succeed where not
+-- all do, and how often it has failed
 pub record Supply : Type 0 where
   pub rest : List ℕ
   pub per_read : ℕ

@@ -16,8 +16,8 @@ impl Site {
     ghost use Rattle.sgt_site.specs.declared.fault.SiteFault.{SiteFault};
     ghost use Rattle.sgt_site.specs.State.{IsPledgedFor, commit_block, refuse_block};
 
-    /// Commits a transaction here, under its pledge for this draft: its writes and increments by rising item, and its end. The handle is kept as it
-    /// is given; that no other transaction was given it is for the caller to see to. Takes no memory.
+    /// Commits a transaction here, under its pledge for this draft: its writes and increments by rising item, and its end. The
+    /// handle is kept as it is given; that no other transaction was given it is for the caller to see to. Takes no memory.
     ///
     /// - S5: no pledge of the transaction stands, or the draft reads or writes otherwise here than the one that was pledged.
     ///
