@@ -2,16 +2,17 @@
 use Rattle.std.proofs.Common.{◌≡◌, inl, inr, ℕ, ◌+◌, ◌-◌, ◌*◌, ◌%◌, ◌<◌, ◌≤◌, ◌^◌, List, [], ◌∷◌, ◌++◌, length, take, drop, get_or, Option, Some, None, Result, Ok, Err, refl, sym, ap, ◌∙◌, subst, decimal, append_assoc, length-append, length-take, length-drop, arith}
 use Rattle.std.proofs.Math.Seq.{drop-append_seam}
 use Rattle.std.proofs.lemmas.Fmt.{decimal-digits_value}
-use Rattle.std.proofs.lemmas.Int.Digits.{digits_push, digits_value_push}
-use Rattle.std.proofs.lemmas.List.{drop-drop, take-append-drop, take_more, get_or-take}
-use Rattle.std.proofs.lemmas.Str.{digit_value_digit}
+use Rattle.core.proofs.dec2flt.Rows.{AllDigits-digits_len}
+use Rattle.std.proofs.lemmas.List.{drop-drop, take-append-drop, get_or-take}
+use Rattle.std.proofs.lemmas.Slice.{between_from_start}
 use Rattle.std.proofs.lemmas.Str.Parse.{digits_value_short}
-use Rattle.std.specs.Char.{digit_value}
+use Rattle.std.specs.Float.Numeral.{digits_len}
+use Rattle.std.specs.Prelude.{slice_range}
 use Rattle.std.specs.Str.Parse.{AllDigits, digits_value}
 use Rattle.std.specs.Result.{OkIff, result_ok}
 use Rattle.sgt_names.specs.Name.{IsName}
 use Rattle.sgt_notation.specs.Lines.{Ahead, GaveNext, Spends, coming, passed, stream, Gives}
-use Rattle.sgt_notation.specs.Private.{ReadDigits, Spans}
+use Rattle.sgt_notation.specs.Private.{Spans}
 use Rattle.sgt_notation.specs.Spelling.{HasNoLf, IsValue}
 use Rattle.sgt_notation.specs.declared.lines.Next.TheVariants.{Line}
 use Rattle.sgt_notation.proofs.Numbers.{own}
@@ -46,38 +47,18 @@ spans_word bytes from word rest last within is starts =
 
 -- ---- numbers
 
--- what subtracting the code of 0 leaves of a digit
-pub digit_left : (c d : ℕ) → c < 256 → d ≡ (c + (256 - 48)) % 256 → d ≤ 9 → c ≡ d + 48
-digit_left c d small e low = omega arith
-
--- one more digit
-pub read_more : (bytes : List ℕ) (n value c d value' : ℕ) → n < length bytes → c ≡ get_or bytes n 0 → c ≡ d + 48 → d ≤ 9
-    → value' ≡ ((value * 10) % 2 ^ 64 + d) % 2 ^ 64 → ReadDigits bytes n value → ReadDigits bytes (n + 1) value'
-read_more bytes n value c d value' within is code low e so_far =
-    let digit : digit_value c + 48 ≡ c = digit_value_digit c (omega arith, omega arith) in
-    let front = take n bytes in
-    let more : take (n + 1) bytes ≡ front ++ c ∷ [] = take_more bytes n 0 within ∙ ap (λ x. front ++ x ∷ []) (sym is) in
-    let size : length front ≤ n = rw length-take (omega arith) in
-    record {
-      digits = subst (AllDigits 10) (sym more) (digits_push 10 front c so_far.digits (omega arith));
-      number = λ short.
-          let was : value ≡ digits_value 10 front = so_far.number (omega arith) in
-          let small : digits_value 10 front < 10 ^ 18 = digits_value_short own front 18 so_far.digits (omega arith) in
-          let next : digits_value 10 (front ++ c ∷ []) ≡ digits_value 10 front * 10 + digit_value c = digits_value_push 10 front c in
-          let same : value' ≡ digits_value 10 (front ++ c ∷ []) = omega arith in
-          same ∙ ap (digits_value 10) (sym more);
-    }
-
 -- digits with no leading zero are the number that they write
-pub front_number : (bytes : List ℕ) (n value : ℕ) → ReadDigits bytes n value → 0 < n → n ≤ 19 → n ≤ length bytes → (get_or bytes 0 0 ≡ 48 → n ≤ 1)
+pub front_number : (bytes : List ℕ) (n value k : ℕ) → n ≡ digits_len bytes → value ≡ (0 * k + digits_value 10 (slice_range bytes 0 n)) % 2 ^ 64 → 0 < n → n ≤ 19 → n ≤ length bytes → (get_or bytes 0 0 ≡ 48 → n ≤ 1)
     → IsValue value × Spans bytes 0 (decimal value) n
-front_number bytes n value so_far some short within plain =
+front_number bytes n value k end wrapped some short within plain =
     let front = take n bytes in
+    let digits : AllDigits 10 front = AllDigits-digits_len bytes n (omega arith) in
     let size : length front ≡ n = rw length-take (omega arith) in
-    let was : value ≡ digits_value 10 front = so_far.number short in
-    let small : digits_value 10 front < 10 ^ 19 = digits_value_short own front 19 so_far.digits (omega arith) in
+    let small : digits_value 10 front < 10 ^ 19 = digits_value_short own front 19 digits (omega arith) in
+    let range : digits_value 10 (slice_range bytes 0 n) ≡ digits_value 10 front = ap (digits_value 10) (between_from_start bytes n) in
+    let was : value ≡ digits_value 10 front = omega arith in
     let first : get_or front 0 0 ≡ get_or bytes 0 0 = get_or-take n bytes 0 0 some in
-    let text : decimal (digits_value 10 front) ≡ front = decimal-digits_value own front so_far.digits (omega arith) (λ z. let one = plain (sym first ∙ z) in omega arith) (omega arith) in
+    let text : decimal (digits_value 10 front) ≡ front = decimal-digits_value own front digits (omega arith) (λ z. let one = plain (sym first ∙ z) in omega arith) (omega arith) in
     (omega arith, spans_front bytes n (decimal value) within (sym text ∙ ap decimal (sym was)))
 
 -- ---- lines that are held

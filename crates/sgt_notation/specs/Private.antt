@@ -1,6 +1,5 @@
 -- Words of private clauses alone: parts of a line as they are read, and a look into the bytes that are held.
 use Rattle.std.specs.Prelude.{◌≡◌, ◌<◌, ◌≤◌, ℕ, ◌+◌, List, [], ◌∷◌, ◌++◌, length, take, drop, ⊤, Bool, true, false, Option, Some, None}
-use Rattle.std.specs.Str.Parse.{AllDigits, digits_value}
 use Rattle.sgt_names.specs.Name.{Name, IsName}
 use Rattle.sgt_notation.specs.Spelling.{operation, HasNoLf, IsTx, IsValue}
 use Rattle.sgt_notation.specs.declared.lines.Next.{Next}
@@ -58,8 +57,3 @@ pub record Spans (bytes : List ℕ) (from : ℕ) (text : List ℕ) (to : ℕ) : 
 abbrev pub ending : Bool → List ℕ
 ending true = 10 ∷ []
 ending false = []
-
--- so many bytes at the front are digits, and this is the number that they write, as far as it fits
-pub record ReadDigits (bytes : List ℕ) (n value : ℕ) : Type 0 where
-  pub digits : AllDigits 10 (take n bytes)
-  pub number : n ≤ 19 → value ≡ digits_value 10 (take n bytes)

@@ -2,12 +2,13 @@
 
 ghost use Rattle.std.specs.Prelude.{◌≡◌, ◌≤◌, ◌++◌, ◌∷◌, [], length, take, drop, IfSome, decimal};
 ghost use Rattle.sgt_names.specs.Name.{IsName};
-ghost use Rattle.sgt_notation.specs.Private.{ReadDigits, Spans, ending};
+ghost use Rattle.sgt_notation.specs.Private.{Spans, ending};
 ghost use Rattle.sgt_notation.specs.Spelling.{IsHolding, IsLine, IsTx, IsValue, assignment, line_text, operation};
 
 use crate::SectionLine;
 use crate::number::find_value;
 use crate::reading::behind;
+use core::dec2flt::read_digits;
 use sgt_names::{Entry, Holding, Item, SiteNo, Tx, Value};
 use std::simd::prelude::*;
 
@@ -50,24 +51,6 @@ fn word_at(bytes: &[u8], from: usize, word: &[u8]) -> Option<usize>
     Some(from + word.len())
 }
 
-/// The digits at the front, as many as there are: the number that they write, as far as it fits, and how many they are.
-#[inline(always)]
-fn read_digits(bytes: &[u8]) -> (u64, usize)
-    ensures { (result.1 ≤ length bytes.now) × ReadDigits bytes.now result.1 result.0 }
-{
-    let mut value = 0u64;
-    let mut n = 0;
-    for byte in bytes {
-        let digit = byte.wrapping_sub(b'0');
-        if digit > 9 {
-            break;
-        }
-        value = value.wrapping_mul(10).wrapping_add(digit as u64);
-        n += 1;
-    }
-    (value, n)
-}
-
 /// The number of the first bytes, which are so many.
 #[inline(never)]
 fn long_value(bytes: &[u8], n: usize) -> Option<(Value, usize)>
@@ -82,7 +65,7 @@ fn long_value(bytes: &[u8], n: usize) -> Option<(Value, usize)>
 fn front_value(bytes: &[u8]) -> Option<(Value, usize)>
     ensures { IfSome result (λ r. IsValue r.0 × Spans bytes.now 0 (decimal r.0) r.1) }
 {
-    let (value, n) = read_digits(bytes);
+    let (n, value) = read_digits(bytes, 0, 0);
     if n == 0 || n > 19 || (n > 1 && bytes[0] == b'0') {
         return long_value(bytes, n);
     }
