@@ -139,7 +139,10 @@ fn tickets_changed_one_at_a_time(rt: HostRuntime) -> Result<(), Fail> {
         verdict: Ending::Refused,
         ..SECOND
     };
-    let fifth = Told { number: 5, ..SECOND };
+    let fifth = Told {
+        number: 5,
+        ..SECOND
+    };
     let rows: [(&[Told], &[Told], Result<(), SettleFail>); 7] = [
         (&[FIRST], &[SECOND], Ok(())),
         (&[FIRST], &[refused], Err(SettleFail::StrayTicket(1))),
@@ -162,7 +165,10 @@ fn logs_edges_and_installs(rt: HostRuntime) -> Result<(), Fail> {
     let differs = Err(SettleFail::LogDiffers(SiteNo::new(0)?));
     let uncounted = Err(SettleFail::VersionsDiffer(SiteNo::new(0)?));
     let more = EntryCounts { reads: 2, ..COUNTS };
-    let fewer = EntryCounts { others: 3, ..COUNTS };
+    let fewer = EntryCounts {
+        others: 3,
+        ..COUNTS
+    };
     let rows = [
         (LeftOut::Nothing, COUNTS, Ok(())),
         (LeftOut::Nothing, more, differs),
