@@ -82,7 +82,7 @@ clash_items Ww x e f h = (writes_item x e h.0, writes_item x f h.1)
 recut : (index : Index) (cut : Cut) (site last a b : ℕ) → site ≡ cut.site → last ≡ cut.last → Reaches (InRows index.out.items (record { site = site; item = cut.item; last = last })) a b → Reaches (InRows index.out.items cut) a b
 recut index cut site last a b is_site is_last r =
     let at_site : Reaches (InRows index.out.items (record { site = cut.site; item = cut.item; last = last })) a b =
-        subst (λ k. Reaches (InRows index.out.items (record { site = k; item = cut.item; last = last })) a b) is_site r in
+    subst (λ k. Reaches (InRows index.out.items (record { site = k; item = cut.item; last = last })) a b) is_site r in
     subst (λ k. Reaches (InRows index.out.items (record { site = cut.site; item = cut.item; last = k })) a b) is_last at_site
 
 -- where all conflicts are carried, so are those of an entry
@@ -90,14 +90,34 @@ pub carried_place : (index : Index) (site : ℕ) (log : List Entry) (cut : Cut) 
 carried_place index site log cut p e here mine is_site all q f at due = record {
   before = λ lt kind clash.
       let c : Conflicts log kind cut.item (tx_of f) (tx_of e) = record {
-        p = q; q = p; e = f; f = e; before = lt; first = at; second = here; from = refl; to = refl; apart = λ same. due.apart (sym same); clash = clash;
+        p = q;
+        q = p;
+        e = f;
+        f = e;
+        before = lt;
+        first = at;
+        second = here;
+        from = refl;
+        to = refl;
+        apart = λ same. due.apart (sym same);
+        clash = clash;
       } in
       recut index cut site (max due.number cut.last) (tx_of f) (tx_of e) (sym is_site) (max-eq_right due.early) (all kind cut.item (tx_of f) (tx_of e) due.number cut.last c due.commit mine);
   after = λ le kind clash.
       let other : p ≡ q → ⊥ = λ same. due.apart (ap tx_of (same_Some e f (sym here ∙ (ap (slice_get log) same ∙ at)))) in
       let lt : p < q = elim (cases_eq p q) [ inl same ↦ absurd (other same) | inr apart ↦ omega (arith, apart, le) ] in
       let c : Conflicts log kind cut.item (tx_of e) (tx_of f) = record {
-        p = p; q = q; e = e; f = f; before = lt; first = here; second = at; from = refl; to = refl; apart = due.apart; clash = clash;
+        p = p;
+        q = q;
+        e = e;
+        f = f;
+        before = lt;
+        first = here;
+        second = at;
+        from = refl;
+        to = refl;
+        apart = due.apart;
+        clash = clash;
       } in
       recut index cut site (max cut.last due.number) (tx_of e) (tx_of f) (sym is_site) (max-eq_left due.early) (all kind cut.item (tx_of e) (tx_of f) cut.last due.number c mine due.commit);
 }

@@ -22,8 +22,7 @@ least_hit key Q xs a None q old = (
 )
 least_hit key Q xs a (Some k) q old =
     let low : min k (key a) ≤ k = omega arith in
-    let high : min k (key a) ≤ key a = omega arith in
-    (
+    let high : min k (key a) ≤ key a = omega arith in (
       elim (min_cases k (key a)) [
         | inl first ↦ (old.0.0, push_old xs a old.0.0 old.0.1, old.0.2 ∙ sym first, old.0.3)
         | inr second ↦ (a, push_new xs a, sym second, q)

@@ -80,7 +80,7 @@ begun_naming seen s next tx h windows new k serves n is_k p long =
               let is_tx : tx ≡ m = cc in
               let is_h : h ≡ g = cc in
               let here : At new h.generation h.index tx =
-                  subst (λ i. At new h.generation i tx) (sym index) (subst (λ j. At new j (length p.before.items) tx) (sym place) (pushed_last windows k tx new p)) in
+              subst (λ i. At new h.generation i tx) (sym index) (subst (λ j. At new j (length p.before.items) tx) (sym place) (pushed_last windows k tx new p)) in
               subst (λ x. At new g.generation g.index x) is_tx (subst (λ (x : Handle). At new x.generation x.index tx) is_h here)
         ],
       );

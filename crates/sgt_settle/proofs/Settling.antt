@@ -78,7 +78,7 @@ settled_with history rulings index sites counts k (Some s) at is high settled h 
 
 -- all sites that are there are settled; the least edge beyond them is the least that isn't
 pub beyond_found : (history : List Call) (rulings : List Ruling) (index : Index) (sites : List SiteState) (counts : List EntryCounts) (o : Option ℕ) → IsIndex history rulings index → ((k : ℕ) → k < length sites → IsSiteSettled history rulings counts k (slice_get sites k)) → IsLeastOf (λ (h : Handed). h.edge.label.site) (λ (h : Handed). length sites ≤ h.edge.label.site) index.handed.items o
-  → MatchOption o ((k : ℕ) → IsSiteSettled history rulings counts k (slice_get sites k)) (λ site. (IsSiteSettled history rulings counts site (slice_get sites site) → ⊥) × ((k : ℕ) → k < site → IsSiteSettled history rulings counts k (slice_get sites k)))
+    → MatchOption o ((k : ℕ) → IsSiteSettled history rulings counts k (slice_get sites k)) (λ site. (IsSiteSettled history rulings counts site (slice_get sites site) → ⊥) × ((k : ℕ) → k < site → IsSiteSettled history rulings counts k (slice_get sites k)))
 beyond_found history rulings index sites counts None is each least = λ k.
     elim (cases_lt k (length sites)) [
       | inl low ↦ each k low

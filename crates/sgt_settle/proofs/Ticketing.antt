@@ -52,7 +52,7 @@ decision_rules before (call.Installed tx site items) is = absurd cc
 step_whole : (history : List Call) (n begun before number sought : ℕ) (c : Call) → IsWalked history n begun before number sought → slice_get history n ≡ Some c → (met : List Ruling) × (rulings_from 0 0 history ≡ (met ++ rulings_from 0 before (c ∷ [])) ++ rulings_from (windows_after begun before c).0 (windows_after begun before c).1 (drop (n + 1) history)) × (length met ≡ number)
 step_whole history n begun before number sought c w at =
     let rest : rulings_from begun before (drop n history) ≡ rulings_from 0 before (c ∷ []) ++ rulings_from (windows_after begun before c).0 (windows_after begun before c).1 (drop (n + 1) history) =
-        ap (rulings_from begun before) (drop_on history n c at) ∙ rulings_split begun before c (drop (n + 1) history) in
+    ap (rulings_from begun before) (drop_on history n c at) ∙ rulings_split begun before c (drop (n + 1) history) in
     (w.met, w.whole ∙ (ap (λ xs. w.met ++ xs) rest ∙ sym (append_assoc w.met (rulings_from 0 before (c ∷ [])) _)), w.many)
 
 head_same : (a b : Ruling) → a ∷ [] ≡ b ∷ [] → a ≡ b
@@ -74,11 +74,10 @@ walk_hit history n begun before number t c w at is hit =
     let rule = decision_rules before c is in
     let rest = rulings_from (windows_after begun before c).0 (windows_after begun before c).1 (drop (n + 1) history) in
     let place : slice_get (rulings_from 0 0 history) t.number ≡ Some rule.0 =
-        ap (λ xs. slice_get xs t.number) (step.1 ∙ ap (λ xs. (step.0 ++ xs) ++ rest) rule.1)
-        ∙ place_left (step.0 ++ rule.0 ∷ []) rest t.number rule.0
-        (ap (slice_get (step.0 ++ rule.0 ∷ [])) (sym hit ∙ sym step.2) ∙ get_push_last step.0 rule.0) in
-    let told = told_by t before c rule.0 rule.1 in
-    (
+    ap (λ xs. slice_get xs t.number) (step.1 ∙ ap (λ xs. (step.0 ++ xs) ++ rest) rule.1)
+    ∙ place_left (step.0 ++ rule.0 ∷ []) rest t.number rule.0
+    (ap (slice_get (step.0 ++ rule.0 ∷ [])) (sym hit ∙ sym step.2) ∙ get_push_last step.0 rule.0) in
+    let told = told_by t before c rule.0 rule.1 in (
       λ k. (rule.0, place, told.0 k),
       λ good. told.1 (subst (Tells t) (same_Some good.0 rule.0 (sym good.1 ∙ place)) good.2),
     )

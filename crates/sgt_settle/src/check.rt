@@ -29,8 +29,8 @@ fn first_differing(
     ensures { IfOk result (λ found. MatchOption found
         ((k : ℕ) → IsSiteSettled certifier.now.history certifier.now.state.rulings counts.now k (slice_get sites.now k))
         (λ site. (IsSiteSettled certifier.now.history certifier.now.state.rulings counts.now site (slice_get sites.now site) → ⊥)
-          × ((k : ℕ) → k < site
-            → IsSiteSettled certifier.now.history certifier.now.state.rulings counts.now k (slice_get sites.now k)))) }
+        × ((k : ℕ) → k < site
+        → IsSiteSettled certifier.now.history certifier.now.state.rulings counts.now k (slice_get sites.now k)))) }
 {
     let index = index_of(alloc, certifier)?;
     let unfit = first_unfit(alloc, &index, sites, counts)?;

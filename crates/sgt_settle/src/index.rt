@@ -86,7 +86,12 @@ pub(crate) fn index_of(alloc: Global, certifier: &Certifier) -> Result<Index, Al
     let windows = windows(alloc, certifier)?;
     let commits = commits(alloc, certifier)?;
     let handed = all_handed(alloc, history)?;
-    let links = links_of(alloc, windows.as_slice(), commits.as_slice(), handed.as_slice())?;
+    let links = links_of(
+        alloc,
+        windows.as_slice(),
+        commits.as_slice(),
+        handed.as_slice(),
+    )?;
     let out = leaving(alloc, links.as_slice(), commits.len())?;
     let back = entering(alloc, links.as_slice(), commits.len())?;
     Ok(Index {

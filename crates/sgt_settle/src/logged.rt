@@ -26,14 +26,7 @@ pub(crate) fn clash(kind: Kind, item: &Item, first: &Entry, second: &Entry) -> b
 }
 
 // Whether an entry of the transaction that is in such a conflict with the one at the place stands behind it.
-fn is_followed(
-    log: &[Entry],
-    place: usize,
-    first: &Entry,
-    to: Tx,
-    kind: Kind,
-    item: &Item,
-) -> bool
+fn is_followed(log: &[Entry], place: usize, first: &Entry, to: Tx, kind: Kind, item: &Item) -> bool
     ensures { IsTrue result ↔ ((q : ℕ) × (f : AnEntry) × (place < q) × (slice_get log.now q ≡ Some f) × (tx_of f ≡ to)
         × Clash kind item.now first.now f) }
 {

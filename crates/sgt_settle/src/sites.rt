@@ -62,7 +62,7 @@ pub(crate) fn first_unfit(
     ensures { IfOk result (λ found. MatchOption found
         ((k : ℕ) → k < length sites.now → IsFitAt index.now sites.now counts.now k)
         (λ site. (site < length sites.now) × (IsFitAt index.now sites.now counts.now site → ⊥)
-          × ((k : ℕ) → k < site → IsFitAt index.now sites.now counts.now k))) }
+        × ((k : ℕ) → k < site → IsFitAt index.now sites.now counts.now k))) }
 {
     for k in 0..sites.len() {
         let Ok(site) = SiteNo::new(k as u64) else {

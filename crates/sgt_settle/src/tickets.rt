@@ -117,7 +117,10 @@ fn first_stray(history: &[Call], dones: &[Done]) -> Option<u64>
 fn count_in(tickets: &[Ticket], number: u64) -> usize
     ensures { result ≡ count_of number tickets.now }
 {
-    tickets.iter().filter(|ticket| ticket.number == number).count()
+    tickets
+        .iter()
+        .filter(|ticket| ticket.number == number)
+        .count()
 }
 
 // How many tickets have the number, 2 standing for more.

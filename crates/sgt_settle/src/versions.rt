@@ -25,7 +25,11 @@ fn counts(call: &Call, site: SiteNo, item: &Item) -> bool
     ensures { result ≡ counts_call site item.now call.now }
 {
     match call {
-        Call::Installed { site: at, items, .. } => *at == site && is_among(items.as_slice(), item),
+        Call::Installed {
+            site: at,
+            items,
+            ..
+        } => *at == site && is_among(items.as_slice(), item),
         _ => false,
     }
 }
@@ -76,7 +80,7 @@ pub(crate) fn first_uncounted(history: &[Call], sites: &[Site]) -> Option<SiteNo
     requires { length sites.now ≤ max_sites }
     ensures { MatchOption result (All (AreVersionsCounted history.now) sites.now)
         (λ site. ((s : SiteState) × (slice_get sites.now site ≡ Some s) × (AreVersionsCounted history.now s → ⊥))
-          × ((k : ℕ) (s : SiteState) → k < site → slice_get sites.now k ≡ Some s → AreVersionsCounted history.now s)) }
+        × ((k : ℕ) (s : SiteState) → k < site → slice_get sites.now k ≡ Some s → AreVersionsCounted history.now s)) }
 {
     for k in 0..sites.len() {
         let Ok(site) = SiteNo::new(k as u64) else {

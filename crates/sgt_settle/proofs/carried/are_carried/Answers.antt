@@ -24,8 +24,7 @@ returns-then-not-carried c =
     let here = read c.args.log.now c.loop-place.place c.index-log-place.result c.loop-place-test.true c.index-log-place.is in
     let k = (c.cut_at.ensures c.in-Some.cut).0 c.in-Some.is in
     let mine : IsIn index.commits.items (tx_of c.index-log-place.result) c.in-Some.cut.last =
-        subst (λ xs. IsIn xs (tx_of c.index-log-place.result) c.in-Some.cut.last) c.as_slice.ensures.value k.1 in
-    (
+    subst (λ xs. IsIn xs (tx_of c.index-log-place.result) c.in-Some.cut.last) c.as_slice.ensures.value k.1 in (
       λ told. absurd (true≢false (sym told)),
       λ all. absurd (true≢false (sym (c.in_ok-carried.ensures.1 (carried_place index c.args.site c.args.log.now c.in-Some.cut c.loop-place.place c.index-log-place.result here mine k.2 all)) ∙ c.if-not-carried.true)),
     )
@@ -37,8 +36,8 @@ loop-place-preserved c =
     let seen : AnEntry = c.index-log-place.result in
     let here = read c.args.log.now n seen c.loop-place-test.true c.index-log-place.is in
     let cut_of : (m : ℕ) (e : AnEntry) (x : Name) → seen ≡ e → item_of e ≡ Some x → IsIn index.commits.items (tx_of e) m → c.cut_at.result ≡ Some (record { site = c.args.site; item = x; last = m }) = λ m e x same item commit.
-        (c.cut_at.ensures (record { site = c.args.site; item = x; last = m })).1
-        (ap item_of same ∙ item, subst (λ xs. IsIn xs (tx_of seen) m) (sym c.as_slice.ensures.value) (subst (λ y. IsIn index.commits.items (tx_of y) m) (sym same) commit), refl) in
+    (c.cut_at.ensures (record { site = c.args.site; item = x; last = m })).1
+    (ap item_of same ∙ item, subst (λ xs. IsIn xs (tx_of seen) m) (sym c.as_slice.ensures.value) (subst (λ y. IsIn index.commits.items (tx_of y) m) (sym same) commit), refl) in
     elim c.match-cut_at.branch [
       | in-Some+in_ok-carried+else-not-carried w ↦
           let cut : ACut = w.in-Some.cut in
@@ -71,8 +70,7 @@ loop-place-preserved c =
 
 pub returns : goal.returns
 returns c =
-    let index = c.args.index.now in
-    (
+    let index = c.args.index.now in (
       λ told. places_carried index c.args.site c.args.log.now (λ p m e x at item commit. c.loop-place.invariant.carried p m e x (let low = slice_get_within c.args.log.now p e at in omega (arith, low, c.loop-place-test.false)) at item commit),
       λ all. refl,
     )

@@ -20,9 +20,8 @@ returns c cut =
     let commits = c.args.commits.now in
     let item : item_of e ≡ Some c.in-Some.item = sym c.item.ensures ∙ c.in-Some.is in
     let commit : IsIn commits (tx_of e) c.in-Some-number_of.last =
-        subst (λ t. IsIn commits t c.in-Some-number_of.last) c.tx.ensures ((c.number_of.ensures c.in-Some-number_of.last).0 c.in-Some-number_of.is) in
-    let P : ACut → Type 0 = λ x. (item_of e ≡ Some x.item) × IsIn commits (tx_of e) x.last × (x.site ≡ c.args.site) in
-    (
+    subst (λ t. IsIn commits t c.in-Some-number_of.last) c.tx.ensures ((c.number_of.ensures c.in-Some-number_of.last).0 c.in-Some-number_of.is) in
+    let P : ACut → Type 0 = λ x. (item_of e ≡ Some x.item) × IsIn commits (tx_of e) x.last × (x.site ≡ c.args.site) in (
       λ made. subst P (same_Some _ cut made) (item, commit, refl),
       λ k.
           let x = same_Some c.in-Some.item cut.item (sym item ∙ k.0) in

@@ -22,12 +22,11 @@ returns c =
     let cut = c.args.cut.now in
     let start : c.number-start.result ≡ tx_of c.args.entry.now = c.number-start.ensures.is ∙ c.tx.ensures in
     let out : Told index.out.items cut (tx_of c.args.entry.now) c.search.new.marks =
-        subst (λ t. Told index.out.items cut t c.search.new.marks) start (subst (λ rows. Told rows cut c.number-start.result c.search.new.marks) c.as_slice.ensures.value c.in_ok-search.ensures) in
+    subst (λ t. Told index.out.items cut t c.search.new.marks) start (subst (λ rows. Told rows cut c.number-start.result c.search.new.marks) c.as_slice.ensures.value c.in_ok-search.ensures) in
     let back : Told index.back.items cut (tx_of c.args.entry.now) c.search-2.new.marks =
-        subst (λ t. Told index.back.items cut t c.search-2.new.marks) start (subst (λ rows. Told rows cut c.number-start.result c.search-2.new.marks) c.as_slice-2.ensures.value c.in_ok-search-2.ensures) in
+    subst (λ t. Told index.back.items cut t c.search-2.new.marks) start (subst (λ rows. Told rows cut c.number-start.result c.search-2.new.marks) c.as_slice-2.ensures.value c.in_ok-search-2.ensures) in
     let whole = place_carried index cut c.args.log.now c.args.place c.args.entry.now c.search.new.marks c.search-2.new.marks c.requires.paired out back in
-    let commits = c.as_slice-commits.ensures.value in
-    (
+    let commits = c.as_slice-commits.ensures.value in (
       λ yes. whole.0 (subst (λ commits. AllSided c.args.log.now commits cut c.args.place c.args.entry.now c.search.new.marks c.search-2.new.marks) commits (c.all_sided.ensures.0 yes)),
       λ all. c.all_sided.ensures.1 (subst (λ commits. AllSided c.args.log.now commits cut c.args.place c.args.entry.now c.search.new.marks c.search-2.new.marks) (sym commits) (whole.1 all)),
     )

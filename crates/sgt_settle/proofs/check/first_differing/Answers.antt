@@ -14,8 +14,7 @@ returns-in-Some c =
     let sites = c.args.sites.now in
     let counts = c.args.counts.now in
     let index = c.in_ok-index.index in
-    let found = rw c.in-Some.is at c.in_ok-unfit.ensures in
-    (
+    let found = rw c.in-Some.is at c.in_ok-unfit.ensures in (
       λ settled. found.1 (settled_fit history rulings index sites counts c.in-Some.site c.in_ok-index.ensures settled),
       λ k lt. fit_settled history rulings index sites counts k c.in_ok-index.ensures c.requires.counts (omega (arith, lt, found.0)) (found.2 k lt),
     )

@@ -9,8 +9,7 @@ returns-in_default c tx = (λ e. absurd (none-some tx e), λ k. absurd (none-som
 
 pub returns-in_default-number_of : goal.returns-in_default-number_of
 returns-in_default-number_of c tx =
-    let name = (c.tx_under.ensures c.in-Some.tx).0 c.in-Some.is in
-    (
+    let name = (c.tx_under.ensures c.in-Some.tx).0 c.in-Some.is in (
       λ e. absurd (none-some tx e),
       λ k.
           let same = names_same c.args.windows.now c.args.handle tx c.in-Some.tx k.0 name in
@@ -20,8 +19,7 @@ returns-in_default-number_of c tx =
 pub returns : goal.returns
 returns c tx =
     let name = (c.tx_under.ensures c.in-Some.tx).0 c.in-Some.is in
-    let number = c.number.ensures.is in
-    (
+    let number = c.number.ensures.is in (
       λ e.
           let same = sym number ∙ same_Some c.number.result tx e in
           subst (IsEnd c.args.windows.now c.args.commits.now c.args.handle) same (name, (_, (c.number_of.ensures _).0 c.in-Some-number_of.is)),

@@ -10,8 +10,7 @@ use Rattle.sgt_settle.proofs.logged.is_between.Goals.{else-eq-2-via-then-eq-2+el
 pub returns-then-is_followed : goal.returns-then-is_followed
 returns-then-is_followed c =
     let k = c.is_followed.ensures.0 c.if-is_followed.true in
-    let here = read c.args.log.now c.loop-place.place c.index-log-place.result c.loop-place-test.true c.index-log-place.is in
-    (
+    let here = read c.args.log.now c.loop-place.place c.index-log-place.result c.loop-place-test.true c.index-log-place.is in (
       λ told. record {
         p = c.loop-place.place;
         q = k.0;

@@ -15,8 +15,7 @@ pub returns : goal.returns
 returns c =
     let from = (c.tx_under.ensures c.in-Some.from).0 c.in-Some.is in
     let to = (c.tx_under-2.ensures c.in-Some-tx_under.to).0 c.in-Some-tx_under.is in
-    let e = c.args.edge.now in
-    (
+    let e = c.args.edge.now in (
       λ told. (c.in-Some.from, c.in-Some-tx_under.to, from, to, c.is_between.ensures.0 told),
       λ k.
           let a = names_same c.args.windows.now e.from k.0 c.in-Some.from k.2 from in

@@ -8,8 +8,7 @@ pub returns-in-Some : goal.returns-in-Some
 returns-in-Some c tx =
     let h = c.in-Some.ensures.lookup in
     let here = read c.args.windows.now c.args.handle.generation c.in-Some.window.now h.3.0 h.1 in
-    let there = c.tx_at.ensures ∙ ap (λ xs. slice_get xs c.args.handle.index) c.as_slice.ensures.value in
-    (
+    let there = c.tx_at.ensures ∙ ap (λ xs. slice_get xs c.args.handle.index) c.as_slice.ensures.value in (
       λ e. (c.in-Some.window.now, here, sym there ∙ e),
       λ k.
           let same = same_Some k.0 c.in-Some.window.now (sym k.1 ∙ here) in

@@ -14,11 +14,10 @@ returns-then-not-fit c =
     let low : k < length c.args.counts.now = omega (arith, c.requires.counts, c.loop-k-test.true) in
     let here = read c.args.sites.now k c.index-sites-k.result c.loop-k-test.true c.index-sites-k.is in
     let counted = slice_get-get_or c.args.counts.now k none low in
-    let site = c.in-Ok.ensures.1 in
-    (
+    let site = c.in-Ok.ensures.1 in (
       omega (arith, site, c.loop-k-test.true),
       unfit_at c.args.index.now c.args.sites.now c.args.counts.now k c.in-Ok.site c.index-sites-k.result (get_or c.args.counts.now k none) c.log.result.now here counted site c.log.ensures.entries
-      (λ fit. true≢false (sym (c.in_ok-fit.ensures.1 fit) ∙ c.if-not-fit.true)),
+          (λ fit. true≢false (sym (c.in_ok-fit.ensures.1 fit) ∙ c.if-not-fit.true)),
       λ j lt. c.loop-k.invariant j (omega (arith, lt, site)),
     )
 

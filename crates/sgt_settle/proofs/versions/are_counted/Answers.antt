@@ -16,13 +16,12 @@ returns-then-not-is_counted c =
     let n = c.loop-holding.holding-index in
     let here = read c.items-items.result.now n c.holding-item.result c.loop-holding-test.true c.holding-item.is in
     let there = ap (λ xs. slice_get xs n) (sym c.items-items.ensures.items) ∙ here in
-    let P : Name → Type 0 = λ x. version_at s.entries x ≡ counted c.args.history.now s.number x in
-    (
+    let P : Name → Type 0 = λ x. version_at s.entries x ≡ counted c.args.history.now s.number x in (
       λ told. absurd (true≢false (sym told)),
       λ all.
           let one : P c.holding-item.result.item = names_all P s.items all n c.holding-item.result there in
           let same : version_at c.log-log.result.now c.holding-item.result.item ≡ counted c.args.history.now c.number-number.result c.holding-item.result.item =
-              ap (λ es. version_at es c.holding-item.result.item) c.log-log.ensures.entries ∙ (one ∙ ap (λ k. counted c.args.history.now k c.holding-item.result.item) (sym c.number-number.ensures.number)) in
+          ap (λ es. version_at es c.holding-item.result.item) c.log-log.ensures.entries ∙ (one ∙ ap (λ k. counted c.args.history.now k c.holding-item.result.item) (sym c.number-number.ensures.number)) in
           absurd (true≢false (sym (c.is_counted.ensures.1 same) ∙ c.if-not-is_counted.true)),
     )
 
@@ -39,8 +38,7 @@ loop-holding-preserved c n h low at =
 pub returns : goal.returns
 returns c =
     let s = c.args.site.now in
-    let P : Name → Type 0 = λ x. version_at s.entries x ≡ counted c.args.history.now s.number x in
-    (
+    let P : Name → Type 0 = λ x. version_at s.entries x ≡ counted c.args.history.now s.number x in (
       λ told. all_names P s.items (λ n h at.
           let there = ap (λ xs. slice_get xs n) c.items-items.ensures.items ∙ at in
           let low = slice_get_within c.items-items.result.now n h there in

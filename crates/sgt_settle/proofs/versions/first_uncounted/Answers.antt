@@ -10,8 +10,7 @@ use Rattle.sgt_settle.proofs.versions.first_uncounted.Goals as goal
 pub returns-then-not-are_counted : goal.returns-then-not-are_counted
 returns-then-not-are_counted c =
     let here = read c.args.sites.now c.loop-k.k c.index-sites-k.result c.loop-k-test.true c.index-sites-k.is in
-    let site = c.in-Ok.ensures.1 in
-    (
+    let site = c.in-Ok.ensures.1 in (
       (c.index-sites-k.result, ap (slice_get c.args.sites.now) site ∙ here, λ all. true≢false (sym (c.are_counted.ensures.1 all) ∙ c.if-not-are_counted.true)),
       λ j s lt at. c.loop-k.invariant j s (omega (arith, lt, site)) at,
     )

@@ -1,0 +1,5 @@
+//! Tests of the check whether a run is settled.
+#![tactic(auto)]
+
+#[cfg(test)]
+mod tests;
