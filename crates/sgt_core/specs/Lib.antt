@@ -1,3 +1,4 @@
 pub mod Core
 pub mod Step
 pub mod Runs
+pub mod Machine

@@ -2,6 +2,7 @@
 #![tactic(auto)]
 
 mod laws;
+mod machine;
 mod reply;
 
 pub use laws::{

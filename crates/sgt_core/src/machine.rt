@@ -1,0 +1,158 @@
+//! The parts of the core: its sites, its certifier, the drafts of its active transactions, and the open step.
+
+ghost use Rattle.std.specs.Prelude.{◌≡◌, Some, slice_get, IfOk, IfErr};
+ghost use Rattle.sgt_notation.specs.declared.event.Event.{Event as AnEvent};
+ghost use Rattle.sgt_notation.specs.declared.event.Event.TheVariants as event;
+ghost use Rattle.sgt_core.specs.Core.{CoreState};
+ghost use Rattle.sgt_core.specs.Step.{tx_in, IsRefused, MayStep};
+ghost use Rattle.sgt_core.specs.Machine.{parts_of, StandsFor, Stands, GoesOn, IsSlotOf, close_fault};
+
+use crate::reply::{CoreFault, Reply};
+use sgt_arena::{Handle, MAX_PLACES};
+use sgt_certifier::{Certifier, CertifierFault};
+use sgt_edges::EdgeList;
+use sgt_names::{Draft, Tx};
+use sgt_site::Site;
+use std::alloc::Global;
+
+/// The part of the open step at a site.
+#[derive(Clone, Copy, Debug, PartialEq, Eq)]
+pub enum Part {
+    /// There is none.
+    Idle,
+    /// It is gathered there, and its block is still to be written.
+    Due,
+    /// Its block is written.
+    Written,
+}
+
+/// A site, with the part of the open step there.
+#[derive(Drop)]
+pub struct Place {
+    pub site: Site,
+    pub part: Part,
+}
+
+/// An active transaction: the handle that the certifier gave it, and what it has read and is to change.
+#[derive(Drop)]
+pub struct Running {
+    pub handle: Handle,
+    pub draft: Draft,
+}
+
+/// How far a step has come.
+#[derive(Drop)]
+pub enum Phase {
+    /// It is being gathered, with these edges so far.
+    Gathering(EdgeList),
+    /// Its transaction is committed.
+    Committed,
+    /// Its transaction is refused.
+    Refused,
+}
+
+/// The open step.
+#[derive(Drop)]
+pub struct Open {
+    pub tx: Tx,
+    pub phase: Phase,
+}
+
+/// What a core consists of.
+#[derive(Drop)]
+pub struct Machine {
+    pub alloc: Global,
+    /// The sites, by number.
+    pub places: Vec<Place>,
+    pub certifier: Certifier,
+    /// How many transactions were begun, and how many of them before this window.
+    pub begun: u32,
+    pub before: u32,
+    /// The transactions of this window, by number. `None` for those that have ended.
+    pub running: Vec<Option<Running>>,
+    pub step: Option<Open>,
+}
+
+impl Machine {
+    /// The place of an active transaction in the window's table.
+    pub(crate) fn slot_of(&self, tx: Tx) -> Result<usize, CoreFault>
+        requires { Stands (parts_of self.now) }
+        ensures ok { IfOk result (λ slot. IsSlotOf (parts_of self.now) tx slot) }
+        ensures err { IfErr result (λ f. (c : CoreState) → StandsFor (parts_of self.now) c
+            → (e : AnEvent) → tx_in e ≡ Some tx → IsRefused c e f) }
+    {
+        let number = tx.number();
+        if number > self.begun {
+            return Err(CoreFault::Unknown);
+        }
+        if number <= self.before {
+            return Err(CoreFault::Ended);
+        }
+        let slot = (number - self.before - 1) as usize;
+        match &self.running[slot] {
+            Some(_) => Ok(slot),
+            None => Err(CoreFault::Ended),
+        }
+    }
+
+    /// The next transaction begins.
+    pub(crate) fn begin(&mut self) -> Reply
+        requires { Stands (parts_of self.old) }
+        ensures { GoesOn (λ c d. MayStep c event.Begin result d) (parts_of self.old) (parts_of self.new) }
+    {
+        if self.step.is_some() {
+            return refused(CoreFault::StepOpen);
+        }
+        if self.running.len() >= MAX_PLACES {
+            return refused(CoreFault::WindowFull);
+        }
+        if self.begun == u32::MAX {
+            return refused(CoreFault::NumbersSpent);
+        }
+        if self.running.reserve(1).is_err() {
+            return refused(CoreFault::Memory);
+        }
+        let Ok((tx, handle)) = self.certifier.begin() else {
+            return refused(CoreFault::Memory);
+        };
+        let draft = Draft::new(self.alloc);
+        self.running.push_reserved(Some(Running { handle, draft }));
+        self.begun += 1;
+        Reply::Begun { tx }
+    }
+
+    /// The window is closed.
+    pub(crate) fn close(&mut self) -> Reply
+        requires { Stands (parts_of self.old) }
+        ensures { GoesOn (λ c d. MayStep c event.Close result d) (parts_of self.old) (parts_of self.new) }
+    {
+        if self.step.is_some() {
+            return refused(CoreFault::StepOpen);
+        }
+        match self.certifier.close() {
+            Ok(ranks) => {
+                self.running.clear();
+                self.before = self.begun;
+                Reply::Closed { ranks }
+            }
+            Err(fault) => refused(fault_of_close(fault)),
+        }
+    }
+}
+
+fn refused(fault: CoreFault) -> Reply
+    ensures { result ≡ Reply.Fault fault }
+{
+    Reply::Fault { fault }
+}
+
+// How the core tells that the certifier doesn't close the window, while no step is open.
+fn fault_of_close(fault: CertifierFault) -> CoreFault
+    ensures { result ≡ close_fault fault }
+{
+    match fault {
+        CertifierFault::ActiveLeft(_) => CoreFault::ActiveLeft,
+        CertifierFault::GenerationsSpent => CoreFault::GenerationsSpent,
+        _ => CoreFault::Memory,
+    }
+}
