@@ -22,3 +22,5 @@ pub mod Committing
 pub mod Total
 pub mod Examples
 pub mod Refusals
+pub mod Standing
+pub mod Windows

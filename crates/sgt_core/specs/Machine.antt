@@ -84,20 +84,20 @@ IsDueBy c tx Committed s = c.due s ≡ commit_block tx (c.changes tx s)
 IsDueBy c tx Refused s = c.due s ≡ refuse_block tx (c.changes tx s)
 
 -- the pledge of the open step's transaction stands at the site, and its block is due by it
-pub record IsDueAt (m : Parts) (c : CoreState) (s : ℕ) (p : Place) (open : Open) : Type 0 where
-  pub open_step : m.step ≡ Some open
+pub record IsDueAt (m : Parts) (c : CoreState) (s : ℕ) (p : Place) (o : Open) : Type 0 where
+  pub open_step : m.step ≡ Some o
   pub place : ℕ
   pub running : Running
   pub there : slice_get m.table place ≡ Some (Some running)
-  pub tx : open.tx ≡ suc (m.before + place)
+  pub tx : o.tx ≡ suc (m.before + place)
   pub gathered : Contains (gathered_in c.step) s
-  pub pledge : p.site.pledge ≡ Some (record { tx = open.tx; part = at_site s running.draft.touched })
-  pub due : IsDueBy c open.tx open.phase s
+  pub pledge : p.site.pledge ≡ Some (record { tx = o.tx; part = at_site s running.draft.touched })
+  pub due : IsDueBy c o.tx o.phase s
 
 -- the open step at a site: nothing, or gathered with its block due, or its block is written
 abbrev pub IsPart : Parts → CoreState → ℕ → Place → Part → Type 0
 IsPart m c s p Idle = (p.site.pledge ≡ None) × (c.due s ≡ []) × (Contains (gathered_in c.step) s → ⊥)
-IsPart m c s p Due = (open : Open) × IsDueAt m c s p open
+IsPart m c s p Due = (o : Open) × IsDueAt m c s p o
 IsPart m c s p Written = (p.site.pledge ≡ None) × (c.due s ≡ []) × Contains (gathered_in c.step) s
 
 -- a site with its part of the open step
@@ -120,13 +120,13 @@ pub record AreGathered (s : State) (c : CoreState) (tx : ℕ) (edges : List Edge
 
 -- how far the open step has come
 abbrev pub IsPhase : Parts → CoreState → Open → Phase → Type 0
-IsPhase m c open (Gathering edges) = (c.certifier.step ≡ None) × AreGathered m.certifier.state c open.tx edges
-IsPhase m c open Committed = (c.certifier.step ≡ Some open.tx) × Contains c.certifier.order open.tx
-IsPhase m c open Refused = (c.certifier.step ≡ Some open.tx) × (Contains c.certifier.order open.tx → ⊥)
+IsPhase m c o (Gathering edges) = (c.certifier.step ≡ None) × AreGathered m.certifier.state c o.tx edges
+IsPhase m c o Committed = (c.certifier.step ≡ Some o.tx) × Contains c.certifier.order o.tx
+IsPhase m c o Refused = (c.certifier.step ≡ Some o.tx) × (Contains c.certifier.order o.tx → ⊥)
 
 abbrev pub IsStep : Parts → CoreState → Option Open → Type 0
 IsStep m c None = c.step ≡ None
-IsStep m c (Some open) = (gathered : List ℕ) × (c.step ≡ Some (record { tx = open.tx; gathered = gathered })) × IsPhase m c open open.phase
+IsStep m c (Some o) = (gathered : List ℕ) × (c.step ≡ Some (record { tx = o.tx; gathered = gathered })) × IsPhase m c o o.phase
 
 -- the machine stands for this state of the model. The state may have edges that the machine's certifier was not handed
 pub record StandsFor (m : Parts) (c : CoreState) : Type 0 where

@@ -16,7 +16,7 @@ use sgt_site::Site;
 use std::alloc::Global;
 
 /// The part of the open step at a site.
-#[derive(Clone, Copy, Debug, PartialEq, Eq)]
+#[derive(Clone, Copy)]
 pub enum Part {
     /// There is none.
     Idle,
@@ -112,13 +112,14 @@ impl Machine {
         if self.running.reserve(1).is_err() {
             return refused(CoreFault::Memory);
         }
-        let Ok((tx, handle)) = self.certifier.begin() else {
+        let Ok(begun) = self.certifier.begin() else {
             return refused(CoreFault::Memory);
         };
         let draft = Draft::new(self.alloc);
+        let handle = begun.1;
         self.running.push_reserved(Some(Running { handle, draft }));
         self.begun += 1;
-        Reply::Begun { tx }
+        Reply::Begun { tx: begun.0 }
     }
 
     /// The window is closed.
