@@ -24,3 +24,7 @@ pub mod Examples
 pub mod Refusals
 pub mod Standing
 pub mod Windows
+pub mod Drafting
+pub mod Redrafting
+pub mod Changing
+pub mod Finding

@@ -1,15 +1,16 @@
 -- A transaction begins, and a window is closed.
-use Rattle.std.proofs.Common.{◌≡◌, ◌<◌, ◌≤◌, ◌+◌, ◌-◌, ◌^◌, ℕ, suc, zero, List, [], ◌∷◌, ◌++◌, length, refl, sym, ◌∙◌, arith, ◌⊎◌, inl, inr, Contains, Option, Some, None, subst, ap, ap₂, lit<}
+use Rattle.std.proofs.Common.{◌≡◌, ◌<◌, ◌≤◌, ◌+◌, ◌-◌, ◌^◌, ℕ, suc, zero, List, [], ◌∷◌, ◌++◌, length, refl, sym, ◌∙◌, arith, ◌⊎◌, inl, inr, All, Contains, Option, Some, None, subst, ap, ap₂, lit<}
 use Rattle.std.specs.Prelude.{slice_get}
+use Rattle.std.specs.declared.cmp.Ordering.TheVariants.{Less}
 use Rattle.std.proofs.lemmas.List.{length_push}
 use Rattle.std.proofs.lemmas.List.Elements.{Contains-append_cases, Contains-append_left, Contains-append_right}
 use Rattle.std.proofs.lemmas.Option.{same_Some}
-use Rattle.sgt_names.specs.Draft.{at_site, kept_in, writing_in}
+use Rattle.sgt_names.specs.Draft.{place_of, place_cmp, AreRising, IsUsed, at_site, kept_in, writing_in}
 use Rattle.sgt_names.specs.Entry.{tx_of}
 use Rattle.sgt_names.specs.declared.entry.Entry.TheVariants as entry
 use Rattle.sgt_names.specs.declared.draft.Touch.{Touch}
 use Rattle.sgt_names.proofs.Lists.{list_cases}
-use Rattle.sgt_names.proofs.Places.{Contains-from_at}
+use Rattle.sgt_names.proofs.Places.{Contains-from_at, All-from_at, AllPairs-from_at}
 use Rattle.sgt_arena.specs.declared.handle.Handle.{Handle}
 use Rattle.sgt_site.specs.State.{KeepsReads}
 use Rattle.sgt_site.specs.declared.cell.Install.{Install}
@@ -76,7 +77,7 @@ module _ (m : Parts) (c : CoreState) (s : StandsFor m c) (none : m.step ≡ None
         | inl was ↦ out was
         | inr n ↦ elim (cons_cases (suc c.certifier.begun) [] _ n) [ inl is ↦ omega (arith, is, lt) | inr none_left ↦ nil_none _ none_left ]
       ]
-  slot_stays k (Some q) lt h = record { active = Contains-append_left c.certifier.active _ _ h.active; handle = h.handle; changes = h.changes; reads = h.reads }
+  slot_stays k (Some q) lt h = record { active = Contains-append_left c.certifier.active _ _ h.active; handle = h.handle; rising = h.rising; used = h.used; changes = h.changes; reads = h.reads }
 
   begun_here : (k : ℕ) → k ≡ length m.table + 0 → IsRunning (begun_state c) m.before k r
   begun_here k is =
@@ -94,6 +95,8 @@ module _ (m : Parts) (c : CoreState) (s : StandsFor m c) (none : m.step ≡ None
       record {
         active = subst (Contains (c.certifier.active ++ suc c.certifier.begun ∷ [])) (sym number) (Contains-append_right c.certifier.active _ _ (cons_here (suc c.certifier.begun) []));
         handle = new_handle;
+        rising = subst AreRising (sym empty) (AllPairs-from_at (λ (a b : Touch). place_cmp (place_of a) (place_of b) ≡ Less) [] (λ p q a b lt at_p at_q. absurd cc));
+        used = subst (All IsUsed) (sym empty) (All-from_at IsUsed [] (λ n a at. absurd cc));
         changes = λ t. s.unborn (suc (m.before + k)) t (omega arith) ∙ sym (ap writing_in (bare t));
         reads = λ t. subst (λ (ts : List Touch). KeepsReads (c.entries t) (suc (m.before + k)) (kept_in ts)) (sym (bare t)) (unread_by c (reached_kept c s.reached) t (suc (m.before + k)) (omega arith));
       }

@@ -1,6 +1,9 @@
 -- The machine that serves the events, and the states of the model that it stands for.
-use Rattle.std.specs.Prelude.{◌≡◌, ◌≢◌, ◌⊎◌, ◌<◌, ◌≤◌, ◌+◌, ℕ, suc, true, false, List, [], map, Contains, All, Option, Some, None, slice_get, length}
-use Rattle.sgt_names.specs.Draft.{at_site, kept_in, writing_in}
+use Rattle.std.specs.Prelude.{◌≡◌, ◌≢◌, ◌⊎◌, ◌<◌, ◌≤◌, ◌+◌, ℕ, suc, true, false, List, [], map, Contains, All, Option, Some, None, slice_get, slice_set, length}
+use Rattle.sgt_names.specs.Draft.{AreRising, IsUsed, at_site, kept_in, writing_in, seen_at, change_at, ChangesOnly}
+use Rattle.sgt_names.specs.Name.{Name}
+use Rattle.sgt_names.specs.declared.draft.Touch.{Touch}
+use Rattle.sgt_names.specs.declared.entry.Change.{Change}
 use Rattle.sgt_names.specs.declared.entry.Holding.{Holding}
 use Rattle.sgt_arena.specs.declared.handle.Handle.{Handle}
 use Rattle.sgt_site.specs.State.{AreItems, KeepsReads, commit_block, refuse_block}
@@ -13,6 +16,7 @@ use Rattle.sgt_certifier.specs.Certifier.{State, Arc, Joins}
 use Rattle.sgt_certifier.specs.History.{arcs_of, Fits}
 use Rattle.sgt_certifier.specs.Kept.{Kept}
 use Rattle.sgt_notation.specs.declared.event.Event.{Event}
+use Rattle.sgt_notation.specs.declared.event.Event.TheVariants as event
 use Rattle.sgt_core.specs.declared.reply.Reply.{Reply}
 use Rattle.sgt_core.specs.declared.reply.CoreFault.{CoreFault}
 use Rattle.sgt_core.specs.declared.reply.CoreFault.TheVariants as core_fault
@@ -27,7 +31,7 @@ use Rattle.sgt_core.specs.declared.machine.Open.{Open}
 use Rattle.sgt_core.specs.declared.machine.Phase.{Phase}
 use Rattle.sgt_core.specs.declared.machine.Phase.TheVariants.{Gathering, Committed, Refused}
 use Rattle.sgt_core.specs.Core.{OpenStep, CoreState, fresh, IsEdgeOf}
-use Rattle.sgt_core.specs.Step.{gathered_in, Run}
+use Rattle.sgt_core.specs.Step.{gathered_in, IsRefused, Run}
 
 -- the parts of the machine: its sites, its certifier, the transactions of the window, and the open step
 pub record Parts : Type 0 where
@@ -62,6 +66,8 @@ pub record Carries (s t : State) : Type 0 where
 pub record IsRunning (c : CoreState) (before place : ℕ) (r : Running) : Type 0 where
   pub active : Contains c.certifier.active (suc (before + place))
   pub handle : r.handle ≡ record { index = place; generation = c.certifier.generation }
+  pub rising : AreRising r.draft.touched
+  pub used : All IsUsed r.draft.touched
   -- its changes, and its reads, each with value and version
   pub changes : (s : ℕ) → c.changes (suc (before + place)) s ≡ writing_in (at_site s r.draft.touched)
   pub reads : (s : ℕ) → KeepsReads (c.entries s) (suc (before + place)) (kept_in (at_site s r.draft.touched))
@@ -171,3 +177,28 @@ abbrev pub RefusesBundle : CoreState → CoreFault → Type 0
 RefusesBundle c core_fault.ActiveLeft = c.certifier.active ≢ []
 RefusesBundle c core_fault.Memory = c.certifier.active ≡ []
 RefusesBundle c _ = ⊥
+
+-- the reads and changes of an item are refused
+abbrev pub RefusesItem : CoreState → ℕ → ℕ → Name → CoreFault → Type 0
+RefusesItem c tx s x f =
+    IsRefused c (event.Read tx s x) f × ((v : ℕ) → IsRefused c (event.Put tx s x v) f) × ((v : ℕ) → IsRefused c (event.Add tx s x v) f)
+
+-- the transaction at a place of the table has another draft, and nothing else there changes
+pub record Redrafts (old new : List (Option Running)) (slot : ℕ) (P : List Touch → List Touch → Type 0) : Type 0 where
+  pub before : Running
+  pub after : Running
+  pub was : slice_get old slot ≡ Some (Some before)
+  pub is : new ≡ slice_set old slot (Some after)
+  pub handle : after.handle ≡ before.handle
+  pub rising : AreRising after.draft.touched
+  pub used : All IsUsed after.draft.touched
+  pub draft : P before.draft.touched after.draft.touched
+
+-- the private change of an item, as the draft has it afterwards
+abbrev pub ChangesTo : ℕ → Name → (Option Change → Change) → List Touch → List Touch → Type 0
+ChangesTo site item change old new = ChangesOnly old new (record {
+  site = site;
+  item = item;
+  seen = seen_at old (site, item);
+  change = Some (change (change_at old (site, item)));
+})

@@ -1,19 +1,22 @@
 //! The parts of the core: its sites, its certifier, the drafts of its active transactions, and the open step.
 
-ghost use Rattle.std.specs.Prelude.{◌≡◌, Some, slice_get, IfOk, IfErr};
+ghost use Rattle.std.specs.Prelude.{◌≡◌, ◌↔◌, Some, slice_get, IsTrue, IfOk, IfErr, OnOk, OnErr};
+ghost use Rattle.sgt_names.specs.Draft.{added_to};
+ghost use Rattle.sgt_names.specs.declared.entry.Change.TheVariants as change;
 ghost use Rattle.sgt_notation.specs.declared.event.Event.{Event as AnEvent};
 ghost use Rattle.sgt_notation.specs.declared.event.Event.TheVariants as event;
 ghost use Rattle.sgt_core.specs.Core.{CoreState};
-ghost use Rattle.sgt_core.specs.Step.{tx_in, IsRefused, MayStep};
-ghost use Rattle.sgt_core.specs.Machine.{parts_of, StandsFor, Stands, GoesOn, IsSlotOf, close_fault};
+ghost use Rattle.sgt_core.specs.Step.{IsOwnOpen, IsOfSite, tx_in, IsRefused, MayStep};
+ghost use Rattle.sgt_core.specs.Machine.{parts_of, StandsFor, Stands, GoesOn, IsSlotOf, RefusesItem, Redrafts, ChangesTo, close_fault};
+ghost use Rattle.sgt_core.specs.declared.machine.Running.{Running as ARunning};
 
 use crate::reply::{CoreFault, Reply};
 use sgt_arena::{Handle, MAX_PLACES};
 use sgt_certifier::{Certifier, CertifierFault};
 use sgt_edges::EdgeList;
-use sgt_names::{Draft, Tx};
+use sgt_names::{Draft, Item, SiteNo, Tx, Value};
 use sgt_site::Site;
-use std::alloc::Global;
+use std::alloc::{AllocError, Global};
 
 /// The part of the open step at a site.
 #[derive(Clone, Copy)]
@@ -95,6 +98,79 @@ impl Machine {
         }
     }
 
+    // Whether the open step is that of the transaction.
+    fn owns_step(&self, tx: Tx) -> bool
+        ensures { (c : CoreState) → StandsFor (parts_of self.now) c → IsTrue result ↔ IsOwnOpen c tx }
+    {
+        match &self.step {
+            Some(open) => open.tx == tx,
+            None => false,
+        }
+    }
+
+    // Whether the item is at the site.
+    fn has_item(&self, site: SiteNo, item: Item) -> bool
+        ensures { (c : CoreState) → StandsFor (parts_of self.now) c → IsTrue result ↔ IsOfSite c site item }
+    {
+        let at = site.number() as usize;
+        if at >= self.places.len() {
+            return false;
+        }
+        let place = &self.places[at];
+        place.site.writers(item).is_ok()
+    }
+
+    // The place of a transaction that may read and change the item now.
+    fn free_slot(&self, tx: Tx, site: SiteNo, item: Item) -> Result<usize, CoreFault>
+        requires { Stands (parts_of self.now) }
+        ensures ok { IfOk result (λ slot. IsSlotOf (parts_of self.now) tx slot) }
+        ensures closed { OnOk result ((c : CoreState) → StandsFor (parts_of self.now) c → IsOwnOpen c tx → ⊥) }
+        ensures known { OnOk result ((c : CoreState) → StandsFor (parts_of self.now) c → IsOfSite c site item) }
+        ensures err { IfErr result (λ f. (c : CoreState) → StandsFor (parts_of self.now) c → RefusesItem c tx site item f) }
+    {
+        let slot = match self.slot_of(tx) {
+            Ok(slot) => slot,
+            Err(fault) => return Err(fault),
+        };
+        if self.owns_step(tx) {
+            return Err(CoreFault::StepOpen);
+        }
+        if !self.has_item(site, item) {
+            return Err(CoreFault::UnknownItem);
+        }
+        Ok(slot)
+    }
+
+    /// The transaction is to write the value.
+    pub(crate) fn put(&mut self, tx: Tx, site: SiteNo, item: Item, value: Value) -> Reply
+        requires { Stands (parts_of self.old) }
+        ensures { GoesOn (λ c d. MayStep c (event.Put tx site item value) result d) (parts_of self.old) (parts_of self.new) }
+    {
+        let slot = match self.free_slot(tx, site, item) {
+            Ok(slot) => slot,
+            Err(fault) => return refused(fault),
+        };
+        match put_at(&mut self.running, slot, site, item, value) {
+            Ok(()) => Reply::Kept,
+            Err(_) => refused(CoreFault::Memory),
+        }
+    }
+
+    /// The transaction is to add the value.
+    pub(crate) fn add(&mut self, tx: Tx, site: SiteNo, item: Item, value: Value) -> Reply
+        requires { Stands (parts_of self.old) }
+        ensures { GoesOn (λ c d. MayStep c (event.Add tx site item value) result d) (parts_of self.old) (parts_of self.new) }
+    {
+        let slot = match self.free_slot(tx, site, item) {
+            Ok(slot) => slot,
+            Err(fault) => return refused(fault),
+        };
+        match add_at(&mut self.running, slot, site, item, value) {
+            Ok(()) => Reply::Kept,
+            Err(_) => refused(CoreFault::Memory),
+        }
+    }
+
     /// The next transaction begins.
     pub(crate) fn begin(&mut self) -> Reply
         requires { Stands (parts_of self.old) }
@@ -155,5 +231,49 @@ fn fault_of_close(fault: CertifierFault) -> CoreFault
         CertifierFault::ActiveLeft(_) => CoreFault::ActiveLeft,
         CertifierFault::GenerationsSpent => CoreFault::GenerationsSpent,
         _ => CoreFault::Memory,
+    }
+}
+
+// Keeps a private write in a draft of the table.
+fn put_at(
+    table: &mut Vec<Option<Running>>,
+    slot: usize,
+    site: SiteNo,
+    item: Item,
+    value: Value,
+) -> Result<(), AllocError>
+    requires { (r : ARunning) × (slice_get table.old.items slot ≡ Some (Some r)) }
+    ensures ok { OnOk result (Redrafts table.old.items table.new.items slot (ChangesTo site item (λ c. change.Put value))) }
+    ensures err { OnErr result (table.new.items ≡ table.old.items) }
+{
+    match &mut table[slot] {
+        Some(running) => {
+            let kept = running.draft.put(site, item, value);
+            let _touched = running.draft.touched();
+            kept
+        }
+        None => unreachable!(),
+    }
+}
+
+// Keeps a private increment in a draft of the table.
+fn add_at(
+    table: &mut Vec<Option<Running>>,
+    slot: usize,
+    site: SiteNo,
+    item: Item,
+    value: Value,
+) -> Result<(), AllocError>
+    requires { (r : ARunning) × (slice_get table.old.items slot ≡ Some (Some r)) }
+    ensures ok { OnOk result (Redrafts table.old.items table.new.items slot (ChangesTo site item (λ c. added_to c value))) }
+    ensures err { OnErr result (table.new.items ≡ table.old.items) }
+{
+    match &mut table[slot] {
+        Some(running) => {
+            let kept = running.draft.add(site, item, value);
+            let _touched = running.draft.touched();
+            kept
+        }
+        None => unreachable!(),
     }
 }
