@@ -28,3 +28,6 @@ pub mod Drafting
 pub mod Redrafting
 pub mod Changing
 pub mod Finding
+pub mod Reading
+pub mod Touching
+pub mod Refusing

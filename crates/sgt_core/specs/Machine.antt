@@ -1,12 +1,15 @@
 -- The machine that serves the events, and the states of the model that it stands for.
-use Rattle.std.specs.Prelude.{◌≡◌, ◌≢◌, ◌⊎◌, ◌<◌, ◌≤◌, ◌+◌, ℕ, suc, true, false, List, [], map, Contains, All, Option, Some, None, slice_get, slice_set, length}
+use Rattle.std.specs.Prelude.{◌≡◌, ◌≢◌, ◌⊎◌, ◌<◌, ◌≤◌, ◌+◌, ℕ, suc, true, false, List, [], ◌∷◌, ◌++◌, map, Contains, All, Option, Some, None, slice_get, slice_set, length}
 use Rattle.sgt_names.specs.Draft.{AreRising, IsUsed, at_site, kept_in, writing_in, seen_at, change_at, ChangesOnly}
 use Rattle.sgt_names.specs.Name.{Name}
+use Rattle.sgt_names.specs.Log.{value_at}
 use Rattle.sgt_names.specs.declared.draft.Touch.{Touch}
+use Rattle.sgt_names.specs.declared.draft.Seen.{Seen}
+use Rattle.sgt_names.specs.declared.entry.Entry.TheVariants as entry
 use Rattle.sgt_names.specs.declared.entry.Change.{Change}
 use Rattle.sgt_names.specs.declared.entry.Holding.{Holding}
 use Rattle.sgt_arena.specs.declared.handle.Handle.{Handle}
-use Rattle.sgt_site.specs.State.{AreItems, KeepsReads, commit_block, refuse_block}
+use Rattle.sgt_site.specs.State.{AreItems, KeepsReads, opened, version_at, commit_block, refuse_block}
 use Rattle.sgt_site.specs.declared.fault.SiteFault.{SiteFault}
 use Rattle.sgt_site.specs.declared.fault.SiteFault.TheVariants as site_fault
 use Rattle.sgt_site.specs.declared.cell.Install.{Install}
@@ -147,6 +150,8 @@ pub record StandsFor (m : Parts) (c : CoreState) : Type 0 where
   pub running : (k : ℕ) (slot : Option Running) → slice_get m.table k ≡ Some slot → RunsAt c m.before k slot
   pub places : (s : ℕ) (p : Place) → slice_get m.places s ≡ Some p → IsPlace m c s p
   pub step : IsStep m c m.step
+  -- no event opens a step yet
+  pub idle : m.step ≡ None
 
 -- it stands for some state
 abbrev pub Stands : Parts → Type 0
@@ -169,7 +174,7 @@ close_fault _ = core_fault.Memory
 -- why no core is made of these items, one site's after another's
 abbrev pub RefusesSites : List (List Holding) → SiteFault → Type 0
 RefusesSites sites site_fault.BadItems = All AreItems sites → ⊥
-RefusesSites sites site_fault.Memory = All AreItems sites
+RefusesSites sites site_fault.Memory = Unit {0}
 RefusesSites sites _ = ⊥
 
 -- why there is no bundle
@@ -202,3 +207,30 @@ ChangesTo site item change old new = ChangesOnly old new (record {
   seen = seen_at old (site, item);
   change = Some (change (change_at old (site, item)));
 })
+
+-- places of sites with these items, to which nothing has happened
+pub record AreOpened (sites : List (List Holding)) (places : List Place) : Type 0 where
+  pub long : length places ≡ length sites
+  pub each : (k : ℕ) (p : Place) → slice_get places k ≡ Some p
+      → (items : List Holding) × (slice_get sites k ≡ Some items) × AreItems items × (p ≡ record { site = opened k items; part = Idle })
+
+-- the draft at a place of the table has room, and nothing else changes
+pub record HasRoomAt (old new : List (Option Running)) (slot : ℕ) : Type 0 where
+  pub before : Running
+  pub was : slice_get old slot ≡ Some (Some before)
+  pub is : new ≡ slice_set old slot (Some (record before { draft = record { touched = before.draft.touched; has_room = true } }))
+
+-- the read of an item, as the draft has it afterwards
+abbrev pub ReadsTo : ℕ → Name → Seen → List Touch → List Touch → Type 0
+ReadsTo site item seen old new =
+    ChangesOnly old new (record { site = site; item = item; seen = Some seen; change = change_at old (site, item) })
+
+-- the item is read at its site, and the read is logged
+pub record ReadsAt (old new : List Place) (tx site : ℕ) (item : Name) (seen : Seen) : Type 0 where
+  pub place : Place
+  pub was : slice_get old site ≡ Some place
+  pub value : value_at place.site.items place.site.entries item ≡ Some seen.value
+  pub version : seen.version ≡ version_at place.site.entries item
+  pub is : new ≡ slice_set old site (record place {
+    site = record place.site { entries = place.site.entries ++ entry.Read tx item seen.value ∷ [] };
+  })

@@ -1,21 +1,25 @@
 //! The parts of the core: its sites, its certifier, the drafts of its active transactions, and the open step.
 
-ghost use Rattle.std.specs.Prelude.{◌≡◌, ◌↔◌, Some, slice_get, IsTrue, IfOk, IfErr, OnOk, OnErr};
-ghost use Rattle.sgt_names.specs.Draft.{added_to};
+ghost use Rattle.std.specs.Prelude.{◌≡◌, ◌↔◌, ◌<◌, ◌≤◌, true, None, Some, length, slice_get, option_and_then, All, IsTrue, IfOk, IfErr, OnOk, OnErr};
+ghost use Rattle.sgt_names.specs.Draft.{added_to, look_of, seen_at, touched_at, Touches};
 ghost use Rattle.sgt_names.specs.declared.entry.Change.TheVariants as change;
 ghost use Rattle.sgt_notation.specs.declared.event.Event.{Event as AnEvent};
 ghost use Rattle.sgt_notation.specs.declared.event.Event.TheVariants as event;
-ghost use Rattle.sgt_core.specs.Core.{CoreState};
-ghost use Rattle.sgt_core.specs.Step.{IsOwnOpen, IsOfSite, tx_in, IsRefused, MayStep};
-ghost use Rattle.sgt_core.specs.Machine.{parts_of, StandsFor, Stands, GoesOn, IsSlotOf, RefusesItem, Redrafts, ChangesTo, close_fault};
+ghost use Rattle.sgt_names.specs.Limits.{max_sites};
+ghost use Rattle.sgt_site.specs.State.{AreItems, opened};
+ghost use Rattle.sgt_site.specs.Refused.{RefusesItems};
+ghost use Rattle.sgt_core.specs.declared.machine.Part.TheVariants.{Idle};
+ghost use Rattle.sgt_core.specs.Core.{CoreState, fresh};
+ghost use Rattle.sgt_core.specs.Step.{IsOwnOpen, IsOfSite, tx_in, IsRefused, MayStep, MayDecide};
+ghost use Rattle.sgt_core.specs.Machine.{parts_of, StandsFor, Stands, GoesOn, IsSlotOf, RefusesItem, RefusesSites, AreOpened, Redrafts, ChangesTo, ReadsTo, ReadsAt, HasRoomAt, close_fault};
 ghost use Rattle.sgt_core.specs.declared.machine.Running.{Running as ARunning};
 
 use crate::reply::{CoreFault, Reply};
 use sgt_arena::{Handle, MAX_PLACES};
 use sgt_certifier::{Certifier, CertifierFault};
 use sgt_edges::EdgeList;
-use sgt_names::{Draft, Item, SiteNo, Tx, Value};
-use sgt_site::Site;
+use sgt_names::{Draft, Holding, Item, Listed, Seen, SiteNo, Tx, Value};
+use sgt_site::{Site, SiteFault};
 use std::alloc::{AllocError, Global};
 
 /// The part of the open step at a site.
@@ -77,6 +81,25 @@ pub struct Machine {
 }
 
 impl Machine {
+    /// A machine over sites with these items, to which nothing has happened.
+    pub(crate) fn new(alloc: Global, sites: &[Listed<Holding>]) -> Result<Machine, SiteFault>
+        requires { length sites.now ≤ max_sites }
+        ensures ok { IfOk result (λ m. StandsFor (parts_of m) (fresh sites.now)) }
+        ensures allowed { OnOk result (All AreItems sites.now) }
+        ensures refused { IfErr result (RefusesSites sites.now) }
+    {
+        let places = opened_places(alloc, sites)?;
+        Ok(Machine {
+            alloc,
+            places,
+            certifier: Certifier::new(alloc),
+            begun: 0,
+            before: 0,
+            running: Vec::new(alloc),
+            step: None,
+        })
+    }
+
     /// The place of an active transaction in the window's table.
     pub(crate) fn slot_of(&self, tx: Tx) -> Result<usize, CoreFault>
         requires { Stands (parts_of self.now) }
@@ -198,6 +221,112 @@ impl Machine {
         Reply::Begun { tx: begun.0 }
     }
 
+    /// The transaction is gathered at the site. It gives up with E9 for now.
+    pub(crate) fn gather(&mut self, tx: Tx, site: SiteNo) -> Reply
+        requires { Stands (parts_of self.old) }
+        ensures { GoesOn (λ c d. MayStep c (event.Gather tx site) result d) (parts_of self.old) (parts_of self.new) }
+    {
+        let slot = match self.slot_of(tx) {
+            Ok(slot) => slot,
+            Err(fault) => return refused(fault),
+        };
+        if site.number() as usize >= self.places.len() {
+            return refused(CoreFault::UnknownItem);
+        }
+        if !touches(self.running.as_slice(), slot, site) {
+            return refused(CoreFault::NotTouched);
+        }
+        refused(CoreFault::Memory)
+    }
+
+    /// The transaction is decided. It gives up with E9 for now.
+    pub(crate) fn decide(&mut self, tx: Tx) -> Reply
+        requires { Stands (parts_of self.old) }
+        ensures { GoesOn (λ c d. MayStep c (event.Decide tx) result d) (parts_of self.old) (parts_of self.new) }
+    {
+        let slot = match self.slot_of(tx) {
+            Ok(slot) => slot,
+            Err(fault) => return refused(fault),
+        };
+        if touches_any(self.running.as_slice(), slot) {
+            return refused(CoreFault::NotGathered);
+        }
+        refused(CoreFault::Memory)
+    }
+
+    /// The transaction's block is written at the site. None is decided yet.
+    pub(crate) fn install(&mut self, tx: Tx, site: SiteNo) -> Reply
+        requires { Stands (parts_of self.old) }
+        ensures { GoesOn (λ c d. MayStep c (event.Install tx site) result d) (parts_of self.old) (parts_of self.new) }
+    {
+        match self.slot_of(tx) {
+            Ok(_) => {}
+            Err(fault) => return refused(fault),
+        }
+        if site.number() as usize >= self.places.len() {
+            return refused(CoreFault::UnknownItem);
+        }
+        refused(CoreFault::NotGathered)
+    }
+
+    /// The transaction is committed or refused, as a whole. It gives up with E9 for now.
+    pub(crate) fn commit(&mut self, tx: Tx) -> Reply
+        requires { Stands (parts_of self.old) }
+        ensures { GoesOn (λ c d. MayStep c (event.Commit tx) result d) (parts_of self.old) (parts_of self.new) }
+    {
+        match self.slot_of(tx) {
+            Ok(_) => refused(CoreFault::Memory),
+            Err(fault) => refused(fault),
+        }
+    }
+
+    /// The transaction is gathered wherever it touches, and decided. It gives up with E9 for now.
+    pub(crate) fn to_decide(&mut self, tx: Tx) -> Reply
+        requires { Stands (parts_of self.old) }
+        ensures { GoesOn (λ c d. MayDecide c tx result d) (parts_of self.old) (parts_of self.new) }
+    {
+        match self.slot_of(tx) {
+            Ok(_) => refused(CoreFault::Memory),
+            Err(fault) => refused(fault),
+        }
+    }
+
+    /// The transaction is withdrawn. It gives up with E9 for now.
+    pub(crate) fn withdraw(&mut self, tx: Tx) -> Reply
+        requires { Stands (parts_of self.old) }
+        ensures { GoesOn (λ c d. MayStep c (event.Withdraw tx) result d) (parts_of self.old) (parts_of self.new) }
+    {
+        match self.slot_of(tx) {
+            Ok(_) => refused(CoreFault::Memory),
+            Err(fault) => refused(fault),
+        }
+    }
+
+    /// The transaction reads the item.
+    pub(crate) fn read(&mut self, tx: Tx, site: SiteNo, item: Item) -> Reply
+        requires { Stands (parts_of self.old) }
+        ensures { GoesOn (λ c d. MayStep c (event.Read tx site item) result d) (parts_of self.old) (parts_of self.new) }
+    {
+        let slot = match self.free_slot(tx, site, item) {
+            Ok(slot) => slot,
+            Err(fault) => return refused(fault),
+        };
+        if let Some(value) = look_at(self.running.as_slice(), slot, site, item) {
+            return Reply::Value { value };
+        }
+        if room_at(&mut self.running, slot).is_err() {
+            return refused(CoreFault::Memory);
+        }
+        let Ok(seen) = read_at(&mut self.places, tx, site, item) else {
+            return refused(CoreFault::Memory);
+        };
+        keep_at(&mut self.running, slot, site, item, seen);
+        match look_at(self.running.as_slice(), slot, site, item) {
+            Some(value) => Reply::Value { value },
+            None => refused(CoreFault::Memory),
+        }
+    }
+
     /// The window is closed.
     pub(crate) fn close(&mut self) -> Reply
         requires { Stands (parts_of self.old) }
@@ -276,4 +405,128 @@ fn add_at(
         }
         None => unreachable!(),
     }
+}
+
+// What the transaction at a place of the table sees of an item without the site.
+fn look_at(
+    table: &[Option<Running>],
+    slot: usize,
+    site: SiteNo,
+    item: Item,
+) -> Option<Value>
+    requires { slot < length table.now }
+    ensures { (r : ARunning) → slice_get table.now slot ≡ Some (Some r)
+        → result ≡ option_and_then look_of (touched_at r.draft.touched (site, item)) }
+{
+    match &table[slot] {
+        Some(running) => running.draft.look(site, item),
+        None => None,
+    }
+}
+
+// Makes room in a draft of the table for one more item.
+fn room_at(table: &mut Vec<Option<Running>>, slot: usize) -> Result<(), AllocError>
+    requires { (r : ARunning) × (slice_get table.old.items slot ≡ Some (Some r)) }
+    ensures ok { OnOk result (HasRoomAt table.old.items table.new.items slot) }
+    ensures err { OnErr result (table.new.items ≡ table.old.items) }
+{
+    match &mut table[slot] {
+        Some(running) => running.draft.room(),
+        None => unreachable!(),
+    }
+}
+
+// Reads an item at its site.
+fn read_at(
+    places: &mut Vec<Place>,
+    tx: Tx,
+    site: SiteNo,
+    item: Item,
+) -> Result<Seen, SiteFault>
+    requires { site < length places.old.items }
+    ensures ok { IfOk result (λ seen. ReadsAt places.old.items places.new.items tx site item seen) }
+    ensures err { OnErr result (places.new.items ≡ places.old.items) }
+{
+    let place = &mut places[site.number() as usize];
+    place.site.read(tx, item)
+}
+
+// Keeps a read in a draft of the table that has room for it.
+fn keep_at(table: &mut Vec<Option<Running>>, slot: usize, site: SiteNo, item: Item, seen: Seen)
+    requires { (r : ARunning) × (slice_get table.old.items slot ≡ Some (Some r)) × (r.draft.has_room ≡ true)
+        × (seen_at r.draft.touched (site, item) ≡ None) }
+    ensures { Redrafts table.old.items table.new.items slot (ReadsTo site item seen) }
+{
+    match &mut table[slot] {
+        Some(running) => {
+            let kept = running.draft.seen(site, item, seen.value, seen.version);
+            let _touched = running.draft.touched();
+            match kept {
+                Ok(()) => {}
+                Err(_) => unreachable!(),
+            }
+        }
+        None => unreachable!(),
+    }
+}
+
+// Whether the transaction at a place of the table touches the site.
+fn touches(table: &[Option<Running>], slot: usize, site: SiteNo) -> bool
+    requires { slot < length table.now }
+    ensures { (r : ARunning) → slice_get table.now slot ≡ Some (Some r) → IsTrue result ↔ Touches r.draft.touched site }
+{
+    match &table[slot] {
+        Some(running) => running.draft.touches(site),
+        None => false,
+    }
+}
+
+// Whether the transaction at a place of the table touches an item at all.
+fn touches_any(table: &[Option<Running>], slot: usize) -> bool
+    requires { slot < length table.now }
+    ensures { (r : ARunning) → slice_get table.now slot ≡ Some (Some r) → IsTrue result ↔ (0 < length r.draft.touched) }
+{
+    match &table[slot] {
+        Some(running) => running.draft.touched().len() > 0,
+        None => false,
+    }
+}
+
+// A site with these items, to which nothing has happened.
+fn opened_place(alloc: Global, number: usize, items: &[Holding]) -> Result<Place, SiteFault>
+    requires { number < max_sites }
+    ensures ok { IfOk result (λ p. p ≡ record { site = opened number items.now; part = Idle }) }
+    ensures allowed { OnOk result (AreItems items.now) }
+    ensures refused { IfErr result (RefusesItems items.now) }
+{
+    let Ok(number) = SiteNo::new(number as u64) else {
+        unreachable!();
+    };
+    match Site::new(alloc, number, items) {
+        Ok(site) => Ok(Place {
+            site,
+            part: Part::Idle,
+        }),
+        Err(fault) => Err(fault),
+    }
+}
+
+// Sites with these items, to which nothing has happened.
+fn opened_places(alloc: Global, sites: &[Listed<Holding>]) -> Result<Vec<Place>, SiteFault>
+    requires { length sites.now ≤ max_sites }
+    ensures ok { IfOk result (λ places. AreOpened sites.now places.items) }
+    ensures allowed { OnOk result (All AreItems sites.now) }
+    ensures refused { IfErr result (RefusesSites sites.now) }
+{
+    let mut places = Vec::new(alloc);
+    if places.reserve(sites.len()).is_err() {
+        return Err(SiteFault::Memory);
+    }
+    for i in 0..sites.len() {
+        match opened_place(alloc, i, sites[i].as_slice()) {
+            Ok(place) => places.push_reserved(place),
+            Err(fault) => return Err(fault),
+        }
+    }
+    Ok(places)
 }

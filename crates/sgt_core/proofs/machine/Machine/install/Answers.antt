@@ -1,0 +1,20 @@
+use Rattle.std.proofs.Common.{◌≡◌, ◌<◌, ◌≤◌, length, refl, sym, ◌∙◌, arith, subst, ap}
+use Rattle.std.proofs.lemmas.Option.{slice_get_within}
+use Rattle.sgt_notation.specs.declared.event.Event.TheVariants.{Install}
+use Rattle.sgt_core.specs.declared.reply.CoreFault.TheVariants as fault
+use Rattle.sgt_core.specs.Machine.{parts_of}
+use Rattle.sgt_core.proofs.Finding.{not_true}
+use Rattle.sgt_core.proofs.Refusing.{refused_goes, install_no_site, install_too_early}
+use Rattle.sgt_core.proofs.machine.Machine.install.Goals as goal
+
+pub returns-in-Err : goal.returns-in-Err
+returns-in-Err c = λ d s. let event = Install c.args.tx c.args.site in
+    refused_goes (parts_of c.args.self.now) d s event c.in-Err.fault _ c.refused.ensures (c.in-Err.ensures.err d s event refl)
+
+pub returns-then-number-len : goal.returns-then-number-len
+returns-then-number-len c = λ d s.
+    install_no_site (parts_of c.args.self.now) d s c.args.tx _ c.in-Ok.ensures.ok c.args.site _ (omega arith) c.refused-then-number-len.ensures
+
+pub returns : goal.returns
+returns c = λ d s.
+    install_too_early (parts_of c.args.self.now) d s c.args.tx _ c.in-Ok.ensures.ok c.args.site _ (omega arith) c.refused-2.ensures
