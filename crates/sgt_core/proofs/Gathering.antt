@@ -3,7 +3,7 @@ use Rattle.std.proofs.Common.{◌≡◌, ◌<◌, ◌≤◌, ◌+◌, ℕ, zero,
 use Rattle.std.specs.Prelude.{slice_get, filter, ◌==◌, ◌≢◌, if◌then◌else◌}
 use Rattle.std.specs.List.{filter_map}
 use Rattle.std.proofs.lemmas.Bool.{cases_Bool, cases_eq, cases_order, cases_lt, eq-eqb, ne_eqb, eqb-true}
-use Rattle.std.proofs.lemmas.List.{append_assoc}
+use Rattle.std.proofs.lemmas.List.{append_assoc, append-nil}
 use Rattle.std.proofs.lemmas.List.Elements.{Contains-append_cases, Contains-append_left, Contains-append_right}
 use Rattle.std.proofs.lemmas.Option.{same_Some}
 use Rattle.sgt_names.specs.Name.{Name}
@@ -39,7 +39,7 @@ use Rattle.sgt_core.specs.Core.{CoreState, OpenStep, IsEdgeOf, as_changes, follo
 use Rattle.sgt_core.specs.Step.{gathered_in}
 use Rattle.sgt_core.specs.Machine.{Parts, Carries, IsHandleOf, IsRunning, IsPlace, AreGathered}
 use Rattle.sgt_core.proofs.Kept.{AreOlderFirst, SuitsRuling, IsKept, written}
-use Rattle.sgt_core.proofs.Entries.{of_change, change_tx}
+use Rattle.sgt_core.proofs.Entries.{of_change, change_tx, read_no_end}
 use Rattle.sgt_core.proofs.Conflicting.{in_longer}
 use Rattle.sgt_core.proofs.Walks.{edge_site}
 
@@ -62,6 +62,9 @@ module _ (E : ℕ → ℕ → Type 0) where
   reaches_on a b d first second = (first.0 ++ b ∷ second.0, leads_on a first.0 b second.0 d first.1 second.1)
 
 -- ---- arcs of edges
+
+abbrev arc_between : ℕ → ℕ → Label → Arc
+arc_between a b label = record { from = a; to = b; label = label }
 
 abbrev arc_under : State → Edge → Arc
 arc_under s e = record { from = tx_under s e.from; to = tx_under s e.to; label = e.label }
@@ -321,3 +324,189 @@ module _ (m : Parts) (c : CoreState) (k : IsKept c) (carries : Carries m.certifi
       let one = walk_leads x a b first gen in
       let two = walk_leads x b d second one.0 in
       (two.0, reaches_on Step (tx_under s a) (tx_under s b) (tx_under s d) one.1 two.1)
+
+  -- ---- each edge of the transaction here is such a walk
+
+  due_none : c.due t ≡ []
+  due_none = empty (c.due t) (λ e m. let o : Some (tx_of e) ≡ None = sym (k.sound.ordered.due t e m) ∙ undecided in absurd cc)
+    where
+      empty : (es : List Entry) → ((e : Entry) → Contains es e → ⊥) → es ≡ []
+      empty [] g = refl
+      empty (e ∷ es) g = absurd (g e (cons_here e es))
+
+  inside : (e : Entry) → Contains (c.entries t) e → t < length c.items
+  inside e member = below (length c.items) t (λ out. nil_none e (subst (λ es. Contains es e) (k.sound.walked.outside t out) member))
+    where
+      below : (n u : ℕ) → (n ≤ u → ⊥) → u < n
+      below n u out = omega (arith, out)
+
+  commits_here : (e : Entry) → Contains (c.entries t) e → Contains s.order (tx_of e) → Contains (c.entries t) (entry.Commit (tx_of e))
+  commits_here e member ordered =
+      let legal = (k.sound.legal.sites t (inside e member)).log in
+      let log : (c.entries t ++ c.due t) ≡ c.entries t = ap (λ es. c.entries t ++ es) due_none ∙ append-nil (c.entries t) in
+      elim (legal.stands e (Contains-append_left (c.entries t) (c.due t) e member)) [
+        | inl free ↦
+            let o : Some (tx_of e) ≡ None = sym (k.sound.ordered.certifier.committed_open (tx_of e) free.1.0 ordered) ∙ undecided in
+            absurd cc
+        | inr done ↦
+            let f = done.1 in
+            let committed_at = k.sound.ruled.from_serial (tx_of e) (Contains-append_right s.past s.order (tx_of e) ordered) in
+            elim (legal.stands f.0 f.1) [
+              | inl free ↦ absurd (read_no_end f.0 free.0 f.2)
+              | inr ended ↦
+                  let by = ended.0.1 in
+                  let same = same_ruling s k.sound.ruled ended.0.0 committed_at.0 by.0 (committed (tx_of e)) by.1 committed_at.1 (by.2 ∙ f.3) in
+                  let is = commit_is f.0 (tx_of e) f.2 (subst (SuitsRuling f.0) same by.3) in
+                  subst (Contains (c.entries t)) (is ∙ ap entry.Commit f.3) (subst (λ es. Contains es f.0) log f.1)
+            ]
+      ]
+
+  has_handle : (e : Entry) → Contains (c.entries t) e → Contains s.order (tx_of e) → (h : Handle) × (handle_of p.site.installed (tx_of e) ≡ Some h)
+  has_handle e member ordered = commit_handle p.site site (tx_of e) (subst (λ es. Contains es (entry.Commit (tx_of e))) place.entries (commits_here e member ordered))
+
+  in_entries : (n : ℕ) (e : Entry) → slice_get (followed c tx t) n ≡ Some e → (tx_of e ≡ tx → ⊥) → Contains (c.entries t) e
+  in_entries n e at other = elim (place_cases (c.entries t) (as_changes tx (c.changes tx t)) n e at) [
+    | inl logged ↦ Contains-from_at (c.entries t) n e logged.1
+    | inr changed ↦ absurd (other (changes_tx tx (c.changes tx t) e (Contains-from_at _ changed.0 e changed.2)))
+  ]
+
+  lead_to : (o : ℕ) (kind : Kind) (x : Name) → Contains s.order o → Conflicts (followed c tx t) kind x tx o → Reaches Step tx o
+  lead_to o kind x ordered is =
+      let member = in_entries is.q is.f is.second (λ own_f. is.apart (sym own_f ∙ is.to)) in
+      let found = has_handle is.f member (subst (Contains s.order) (sym is.to) ordered) in
+      let h = found.0 in
+      let has : handle_of p.site.installed o ≡ Some h = ap (handle_of p.site.installed) (sym is.to) ∙ found.1 in
+      let here = here_after o h has (in_order o ordered) in
+      let apart : me ≢ h = λ same. is.apart (sym me_tx ∙ (ap (tx_under s) same ∙ sym here.1)) in
+      let edge = conflict_is p.site tx r.draft.touched me site active x me h kind (record {
+        other = o;
+        handle = h;
+        given = has;
+        which = inr (refl, refl, subst (λ es. Conflicts es kind x tx o) logs is);
+        apart = apart;
+      }) in
+      let lead = (walk_leads x me h (stand x me h kind edge) me_here).1 in
+      subst (Reaches Step tx) (sym here.1) (subst (λ a. Reaches Step a (tx_under s h)) me_tx lead)
+
+  lead_from : (o : ℕ) (kind : Kind) (x : Name) → Contains s.order o → Conflicts (followed c tx t) kind x o tx → Reaches Step o tx
+  lead_from o kind x ordered is =
+      let member = in_entries is.p is.e is.first (λ own_e. is.apart (sym is.from ∙ own_e)) in
+      let found = has_handle is.e member (subst (Contains s.order) (sym is.from) ordered) in
+      let h = found.0 in
+      let has : handle_of p.site.installed o ≡ Some h = ap (handle_of p.site.installed) (sym is.from) ∙ found.1 in
+      let here = here_after o h has (in_order o ordered) in
+      let apart : h ≢ me = λ same. is.apart (here.1 ∙ (ap (tx_under s) same ∙ me_tx)) in
+      let edge = conflict_is p.site tx r.draft.touched me site active x h me kind (record {
+        other = o;
+        handle = h;
+        given = has;
+        which = inl (refl, refl, subst (λ es. Conflicts es kind x o tx) logs is);
+        apart = apart;
+      }) in
+      let lead = (walk_leads x h me (stand x h me kind edge) here.0).1 in
+      subst (λ a. Reaches Step a tx) (sym here.1) (subst (Reaches Step (tx_under s h)) me_tx lead)
+
+  all_lead : (arc : Arc) → IsEdgeOf c tx arc → arc.label.site ≡ t → Reaches Step arc.from arc.to
+  all_lead arc is at =
+      let there : Conflicts (followed c tx t) arc.label.kind arc.label.item arc.from arc.to = subst (λ u. Conflicts (followed c tx u) arc.label.kind arc.label.item arc.from arc.to) at is.conflict in
+      elim is.ends [
+        | inl from ↦
+            let mine : Conflicts (followed c tx t) arc.label.kind arc.label.item tx arc.to = subst (λ a. Conflicts (followed c tx t) arc.label.kind arc.label.item a arc.to) from.0 there in
+            subst (λ a. Reaches Step a arc.to) (sym from.0) (lead_to arc.to arc.label.kind arc.label.item from.1 mine)
+        | inr to ↦
+            let mine : Conflicts (followed c tx t) arc.label.kind arc.label.item arc.from tx = subst (Conflicts (followed c tx t) arc.label.kind arc.label.item arc.from) to.0 there in
+            subst (Reaches Step arc.from) (sym to.0) (lead_from arc.from arc.label.kind arc.label.item to.1 mine)
+      ]
+
+  -- ---- with the edges that were gathered before
+
+  abbrev gathered_too : CoreState
+  gathered_too = record c { step = Some (record { tx = tx; gathered = t ∷ gathered_in c.step }) }
+
+  too : (arc : Arc) → IsEdgeOf c tx arc → IsEdgeOf gathered_too tx arc
+  too arc is = record { ends = is.ends; conflict = is.conflict }
+
+  back : (arc : Arc) → IsEdgeOf gathered_too tx arc → IsEdgeOf c tx arc
+  back arc is = record { ends = is.ends; conflict = is.conflict }
+
+  -- the certifier's own state is that of the model but for its arcs
+  module _ (before_edges : List Edge) (h : AreGathered m.certifier.state c tx before_edges) where
+    abbrev u : State
+    u = m.certifier.state
+
+    same_place : h.place ≡ slot
+    same_place =
+        let first = ap (λ (st : State). st.before) carries.same in
+        let window = h.window in
+        omega (arith, first, window, number, same_before)
+
+    arcs_same : (es : List Edge) → arcs_of s es ≡ arcs_of u es
+    arcs_same es = ap (λ st. arcs_of st es) carries.same
+
+    handle_is : me ≡ record { index = h.place; generation = u.generation }
+    handle_is =
+        own.handle
+        ∙ (ap (λ i. record { index = i; generation = s.generation }) (sym same_place) ∙ ap (λ (st : State). record { index = h.place; generation = st.generation }) carries.same)
+
+    arcs_both : (arc : Arc) → Contains (arcs_of u (before_edges ++ more)) arc → Contains (arcs_of u before_edges) arc ⊎ Contains (arcs_of u more) arc
+    arcs_both arc member =
+        let e = arc_from u (before_edges ++ more) arc member in
+        elim (Contains-append_cases before_edges more e.0 e.1) [
+          | inl old_edge ↦ inl (subst (Contains (arcs_of u before_edges)) e.3 (arc_of_edge u before_edges e.0 old_edge e.2))
+          | inr new_edge ↦ inr (subst (Contains (arcs_of u more)) e.3 (arc_of_edge u more e.0 new_edge e.2))
+        ]
+
+    arcs_left : (arc : Arc) → Contains (arcs_of u before_edges) arc → Contains (arcs_of u (before_edges ++ more)) arc
+    arcs_left arc member =
+        let e = arc_from u before_edges arc member in
+        subst (Contains (arcs_of u (before_edges ++ more))) e.3 (arc_of_edge u (before_edges ++ more) e.0 (Contains-append_left before_edges more e.0 e.1) e.2)
+
+    arcs_right : (arc : Arc) → Contains (arcs_of u more) arc → Contains (arcs_of u (before_edges ++ more)) arc
+    arcs_right arc member =
+        let e = arc_from u more arc member in
+        subst (Contains (arcs_of u (before_edges ++ more))) e.3 (arc_of_edge u (before_edges ++ more) e.0 (Contains-append_right before_edges more e.0 e.1) e.2)
+
+    pub gathered_more : AreGathered m.certifier.state (record c { step = Some (record { tx = tx; gathered = t ∷ gathered_in c.step }) }) tx (before_edges ++ more)
+    gathered_more = record {
+      place = h.place;
+      window = h.window;
+      fit = λ e member. elim (Contains-append_cases before_edges more e member) [
+        | inl old_edge ↦ h.fit e old_edge
+        | inr new_edge ↦ subst (λ g. Fits u g e) handle_is (subst (λ st. Fits st me e) carries.same (fits e new_edge))
+      ];
+      forward = λ e member from. elim (Contains-append_cases before_edges more e member) [
+        | inl old_edge ↦ h.forward e old_edge from
+        | inr new_edge ↦ forward_of e new_edge (from ∙ sym handle_is) ∙ ap (λ (st : State). st.generation) carries.same
+      ];
+      own = λ arc member. elim (arcs_both arc member) [
+        | inl old_arc ↦ too arc (h.own arc old_arc)
+        | inr new_arc ↦
+            let e = arc_from s more arc (subst (λ arcs. Contains arcs arc) (sym (arcs_same more)) new_arc) in
+            subst (IsEdgeOf gathered_too tx) e.3 (too (arc_under s e.0) (own_edge e.0 e.1 e.2))
+      ];
+      lead = λ arc is gathered. elim (cons_cases t (gathered_in c.step) arc.label.site gathered) [
+        | inl here ↦
+            reaches_alike Step (λ a b. Joins u.arcs a b ⊎ Joins (arcs_of u (before_edges ++ more)) a b)
+            (λ a b j. elim j [
+              | inl old_join ↦ inl old_join
+              | inr new_join ↦ inr (new_join.0, arcs_right (arc_between a b new_join.0) (subst (λ arcs. Contains arcs (arc_between a b new_join.0)) (arcs_same more) new_join.1))
+            ]) arc.from arc.to (all_lead arc (back arc is) (sym here))
+        | inr before ↦
+            reaches_alike (λ a b. Joins u.arcs a b ⊎ Joins (arcs_of u before_edges) a b) (λ a b. Joins u.arcs a b ⊎ Joins (arcs_of u (before_edges ++ more)) a b)
+            (λ a b j. elim j [
+              | inl old_join ↦ inl old_join
+              | inr new_join ↦ inr (new_join.0, arcs_left (arc_between a b new_join.0) new_join.1)
+            ]) arc.from arc.to (h.lead arc (back arc is) before)
+      ];
+    }
+
+-- nothing is gathered yet
+pub none_gathered : (s : State) (c : CoreState) (tx slot : ℕ) → tx ≡ suc (s.before + slot) → gathered_in c.step ≡ [] → AreGathered s c tx []
+none_gathered s c tx slot number none = record {
+  place = slot;
+  window = number;
+  fit = λ e member. absurd (nil_none e member);
+  forward = λ e member from. absurd (nil_none e member);
+  own = λ arc member. absurd (nil_none arc member);
+  lead = λ arc is gathered. absurd (nil_none arc.label.site (subst (λ ts. Contains ts arc.label.site) none gathered));
+}
