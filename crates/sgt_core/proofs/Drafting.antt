@@ -262,6 +262,10 @@ module _ (old new : List Touch) (touch : Touch) (h : ChangesOnly old new touch) 
             let item : u.item ≡ touch.item = ap (λ (p : ℕ × Name). p.1) place in
             subst (λ x. touch_in (F ++ (u ∷ [] ++ B)) x ≡ Some u) item (touch-there (F ++ (u ∷ [] ++ B)) (length F) u rise (middle_at F u B))
 
+    -- and what it has now
+    pub now_there : touched_at new (touch.site, touch.item) ≡ Some touch
+    now_there = touched_in new touch.site touch.item ∙ (ap (λ part. touch_in part touch.item) new_here ∙ touch-there (F ++ (touch ∷ [] ++ B)) (length F) touch new_rise (middle_at F touch B))
+
     pub was_seen : seen_at old (touch.site, touch.item) ≡ option_and_then (λ (t : Touch). t.seen) h.there
     was_seen = ap (option_and_then (λ (t : Touch). t.seen)) was_there
 
