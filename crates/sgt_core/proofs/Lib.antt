@@ -31,3 +31,4 @@ pub mod Finding
 pub mod Reading
 pub mod Touching
 pub mod Refusing
+pub mod Opening

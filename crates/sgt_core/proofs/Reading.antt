@@ -161,7 +161,7 @@ module _ (m : Parts) (c : CoreState) (stands : StandsFor m c) (tx slot s : ℕ) 
   other_reads i t kept ne k y w n = (
     λ member. LogsRead-append (c.entries t) (more t) i y w n ((k y w n).0 member),
     λ logged. (k y w n).1 (LogsRead-cases (c.entries t) (more t) i y w n logged (λ old. old) (λ j at is. absurd (
-      let same = only_this t (entry.Read i y w) (Contains-from_at (more t) j _ at) in ne (ap tx_of same)))),
+        let same = only_this t (entry.Read i y w) (Contains-from_at (more t) j _ at) in ne (ap tx_of same)))),
   )
 
   out : Contains c.certifier.order tx → ⊥
@@ -189,11 +189,11 @@ module _ (m : Parts) (c : CoreState) (stands : StandsFor m c) (tx slot s : ℕ) 
   shorter i arc ne is =
       let t = arc.label.site in
       let apart : (f : Entry) → Contains (more t) f → (tx_of f ≡ arc.from → ⊥) × (tx_of f ≡ arc.to → ⊥) = λ f member.
-          let same : tx_of f ≡ tx = ap tx_of (only_this t f member) in
-          elim is.ends [
-            | inl from ↦ (λ q. ne (sym from.0 ∙ (sym q ∙ same)), λ q. out (subst (Contains c.certifier.order) (sym q ∙ same) from.1))
-            | inr to ↦ (λ q. out (subst (Contains c.certifier.order) (sym q ∙ same) to.1), λ q. ne (sym to.0 ∙ (sym q ∙ same)))
-          ] in
+      let same : tx_of f ≡ tx = ap tx_of (only_this t f member) in
+      elim is.ends [
+        | inl from ↦ (λ q. ne (sym from.0 ∙ (sym q ∙ same)), λ q. out (subst (Contains c.certifier.order) (sym q ∙ same) from.1))
+        | inr to ↦ (λ q. out (subst (Contains c.certifier.order) (sym q ∙ same) to.1), λ q. ne (sym to.0 ∙ (sym q ∙ same)))
+      ] in
       record {
         ends = is.ends;
         conflict = without_others (c.entries t) (more t) (as_changes i (c.changes i t)) arc.label.kind arc.label.item arc.from arc.to (λ f member. (apart f member).0) (λ f member. (apart f member).1)
@@ -219,8 +219,7 @@ module _ (m : Parts) (c : CoreState) (stands : StandsFor m c) (tx slot s : ℕ) 
       here was y w n =
           let both = more_reads h.before.draft.touched h.after.draft.touched _ h.draft own.rising h.rising v refl unseen (y, w, n) in
           let one : more s ≡ e ∷ [] = only_here s (e ∷ []) in
-          let version : version_at (c.entries s) x ≡ v.version = ap (λ es. version_at es x) at_place ∙ sym r.version in
-          (
+          let version : version_at (c.entries s) x ≡ v.version = ap (λ es. version_at es x) at_place ∙ sym r.version in (
             λ member. elim (both.0 member) [
               | inl is ↦ subst (λ (k : Name × ℕ × ℕ). LogsRead (d.entries s) tx k.0 k.1 k.2) is (fresh_read one version)
               | inr old ↦ LogsRead-append (c.entries s) (more s) tx y w n ((was y w n).0 old)
@@ -290,7 +289,7 @@ module _ (m : Parts) (c : CoreState) (stands : StandsFor m c) (tx slot s : ℕ) 
   pub read_stands : IsReached (with_entries c (only_at s (entry.Read tx x v.value ∷ []))) → StandsFor (record m { places = places; table = table }) (with_entries c (only_at s (entry.Read tx x v.value ∷ [])))
   read_stands reached =
       let all = redraft_stands m c stands tx slot number h.before h.after h.was h.handle closed d.entries c.changes places (λ i t ne. refl) other_reads
-          (λ i arc ne. (longer i arc ne, shorter i arc ne)) like reached same_items own_running in
+      (λ i arc ne. (longer i arc ne, shorter i arc ne)) like reached same_items own_running in
       subst (λ ts. StandsFor (record m { places = places; table = ts }) d) (sym h.is) all
 
   -- what it finds then
@@ -300,9 +299,9 @@ module _ (m : Parts) (c : CoreState) (stands : StandsFor m c) (tx slot s : ℕ) 
   -- it finds the item
   pub read_finds : option_and_then look_of (touched_at h.after.draft.touched (s, x)) ≡ None → ⊥
   read_finds none = absurd (
-    let there = now_there h.before.draft.touched h.after.draft.touched _ h.draft own.rising h.rising in
-    let looks_on : option_and_then look_of (touched_at h.after.draft.touched (s, x)) ≡ value_with_any (Some v.value) (change_at h.before.draft.touched (s, x)) = ap (option_and_then look_of) there in
-    some_value v.value (change_at h.before.draft.touched (s, x)) (sym looks_on ∙ none))
+      let there = now_there h.before.draft.touched h.after.draft.touched _ h.draft own.rising h.rising in
+      let looks_on : option_and_then look_of (touched_at h.after.draft.touched (s, x)) ≡ value_with_any (Some v.value) (change_at h.before.draft.touched (s, x)) = ap (option_and_then look_of) there in
+      some_value v.value (change_at h.before.draft.touched (s, x)) (sym looks_on ∙ none))
     where
       some_value : (u : ℕ) (k : Option Change) → value_with_any (Some u) k ≡ None → ⊥
       some_value u None e = absurd cc
@@ -317,8 +316,8 @@ room_stands m c stands tx slot number closed table room =
     let r = stands.running slot (Some room.before) room.was in
     let q : Running = record room.before { draft = record { touched = room.before.draft.touched; has_room = true } } in
     let all = redraft_stands m c stands tx slot number room.before q room.was refl closed c.entries c.changes m.places (λ i t ne. refl) (λ i t kept ne k. k) (λ i arc ne. (λ is. is, λ is. is))
-        (λ t p at. (p, at, record { number = refl; entries = (stands.places t p at).entries; installed = refl; pledge = refl; part = refl })) stands.reached refl
-        (record { active = r.active; handle = r.handle; rising = r.rising; used = r.used; changes = r.changes; reads = r.reads }) in
+    (λ t p at. (p, at, record { number = refl; entries = (stands.places t p at).entries; installed = refl; pledge = refl; part = refl })) stands.reached refl
+    (record { active = r.active; handle = r.handle; rising = r.rising; used = r.used; changes = r.changes; reads = r.reads }) in
     subst (λ ts. StandsFor (record m { table = ts }) c) (sym room.is) all
 
 -- ---- the whole event
@@ -368,8 +367,8 @@ module _ (m : Parts) (c : CoreState) (stands : StandsFor m c) (tx slot s : ℕ) 
         read_goes value found =
             let d : CoreState = with_entries c (only_at s (entry.Read tx x v.value ∷ [])) in
             let logged : value_at (items_at c s) (c.entries s) x ≡ Some v.value =
-                ap (λ es. value_at (items_at c s) es x) (stands.places s r.place r.was).entries
-                ∙ (ap (λ is. value_at is r.place.site.entries x) (items_there m c s (Some r.place) stands r.was) ∙ r.value) in
+            ap (λ es. value_at (items_at c s) es x) (stands.places s r.place r.was).entries
+            ∙ (ap (λ is. value_at is r.place.site.entries x) (items_there m c s (Some r.place) stands r.was) ∙ r.value) in
             let finds : look d tx s x ≡ Some value = read_look n c roomy tx slot s x h.0 closed v places r last k was_unseen ∙ sym found in
             let reads : Reads c tx s x value None d = (v.value, logged, refl, finds) in
             let may : MayStep c (Read tx s x) (Value value) d = (allowed, subst (λ o. Reads c tx s x value o d) (none ∙ sym looked_up) reads) in

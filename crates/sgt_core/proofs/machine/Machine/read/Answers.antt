@@ -66,8 +66,7 @@ keep_at-requires c =
     let at = ap (λ t. slice_get t c.in-Ok.slot) c.as_slice.ensures.value ∙ h.1.1 in
     let none = sym c.in_default.is ∙ c.look_at.ensures _ at in
     let room : HasRoomAt m.table c.room_at.new.table.items c.in-Ok.slot = ok_by c.room_at.result (sym c.is_err.ensures.value ∙ c.if-is_err.false) c.room_at.ensures.ok in
-    let q : Running = record room.before { draft = record { touched = room.before.draft.touched; has_room = true } } in
-    (
+    let q : Running = record room.before { draft = record { touched = room.before.draft.touched; has_room = true } } in (
       q,
       ap (λ ts. slice_get ts c.in-Ok.slot) room.is ∙ get_set_same m.table c.in-Ok.slot (Some q) (slice_get_within m.table c.in-Ok.slot _ room.was),
       refl,
