@@ -138,7 +138,7 @@ module _ (m : Parts) (c : CoreState) (stands : StandsFor m c) (tx slot s : ℕ) 
         | inl is ↦
             let same : change ≡ ch (change_at old (s, x)) = ap ch (ap (λ cs. change_in cs x) (was s) ∙ change_there old s x r.rising) in
             let put : writing_in (at_site s h.after.draft.touched) ≡ put_in (x, ch (change_at old (s, x))) (writing_in (at_site s old))
-                = put_there old h.after.draft.touched _ h.draft r.rising h.rising (ch (change_at old (s, x))) refl in
+            = put_there old h.after.draft.touched _ h.draft r.rising h.rising (ch (change_at old (s, x))) refl in
             let now : d.changes tx s ≡ put_in (x, change) (c.changes tx s) = changed_here tx s (put_in (x, change) (c.changes tx s)) c.changes in
             ap (d.changes tx) is ∙ (now ∙ (ap (λ k. put_in (x, k) (c.changes tx s)) same ∙ (ap (put_in (x, ch (change_at old (s, x)))) (was s) ∙ (sym put ∙ ap (λ u. writing_in (at_site u h.after.draft.touched)) (sym is)))))
         | inr ne ↦ changed_there tx s (put_in (x, change) (c.changes tx s)) c.changes t ne ∙ (was t ∙ ap writing_in (sym (other_sites old h.after.draft.touched _ h.draft t ne)))
@@ -168,11 +168,11 @@ module _ (m : Parts) (c : CoreState) (stands : StandsFor m c) (tx slot s : ℕ) 
   pub changed_stands : IsReached (with_change c tx s x (ch (change_in (c.changes tx s) x))) → StandsFor (record m { table = table }) (with_change c tx s x (ch (change_in (c.changes tx s) x)))
   changed_stands reached =
       let all = redraft_stands m c stands tx slot number h.before h.after h.was h.handle closed c.entries d.changes m.places others
-          (λ i t kept ne k. k)
-          (λ i arc ne. (
-            like_edge c d i arc refl refl (others i arc.label.site ne),
-            like_edge d c i arc refl refl (sym (others i arc.label.site ne)),
-          ))
-          (λ t p at. (p, at, record { number = refl; entries = (stands.places t p at).entries; installed = refl; pledge = refl; part = refl }))
-          reached refl own_running in
+      (λ i t kept ne k. k)
+      (λ i arc ne. (
+        like_edge c d i arc refl refl (others i arc.label.site ne),
+        like_edge d c i arc refl refl (sym (others i arc.label.site ne)),
+      ))
+      (λ t p at. (p, at, record { number = refl; entries = (stands.places t p at).entries; installed = refl; pledge = refl; part = refl }))
+      reached refl own_running in
       subst (λ ts. StandsFor (record m { table = ts }) d) (sym h.is) all

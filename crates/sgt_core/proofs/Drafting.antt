@@ -125,9 +125,9 @@ before_true x y e = ap is_lt e
 before_false : (x y : Name) → slice_cmp nat_cmp x y ≡ Less → comes_before y x ≡ false
 before_false x y e = elim (cases_Bool (comes_before y x)) [
   | inl hit ↦ absurd (
-    let back : slice_cmp nat_cmp y x ≡ Less = less_of (slice_cmp nat_cmp y x) hit in
-    let loop = nat_list_cmp_total.trans x y x e back in
-    let same : Less ≡ Equal = sym loop ∙ tied_itself nat_list_cmp_total x in cc)
+      let back : slice_cmp nat_cmp y x ≡ Less = less_of (slice_cmp nat_cmp y x) hit in
+      let loop = nat_list_cmp_total.trans x y x e back in
+      let same : Less ≡ Equal = sym loop ∙ tied_itself nat_list_cmp_total x in cc)
   | inr miss ↦ miss
 ]
   where
@@ -229,17 +229,17 @@ module _ (old new : List Touch) (touch : Touch) (h : ChangesOnly old new touch) 
         let high = λ (f : Name × Change). comes_before x f.0 in
         let own : writing_in (touch ∷ []) ≡ (x, change) ∷ [] = ap (λ o. cons_option (option_and_then (λ (c : Change). Some (x, c)) o) []) is in
         let now : writing_in (at_site touch.site new) ≡ writing_in F ++ ((x, change) ∷ [] ++ writing_in B)
-            = ap writing_in new_here ∙ (chosen_three writing_of F (touch ∷ []) B ∙ ap (λ l. writing_in F ++ (l ++ writing_in B)) own) in
+        = ap writing_in new_here ∙ (chosen_three writing_of F (touch ∷ []) B ∙ ap (λ l. writing_in F ++ (l ++ writing_in B)) own) in
         let was : writing_in (at_site touch.site old) ≡ writing_in F ++ (T ++ writing_in B)
-            = ap writing_in old_here ∙ chosen_three writing_of F (option_to_list h.there) B in
+        = ap writing_in old_here ∙ chosen_three writing_of F (option_to_list h.there) B in
         let lows : filter low (writing_in F ++ (T ++ writing_in B)) ≡ writing_in F
-            = filter_three low (writing_in F) T (writing_in B)
-            ∙ (ap₂ (λ a b. a ++ (b ++ filter low (writing_in B))) (filter_all low (writing_in F) (λ d m. before_true d.0 x (in_front d m))) (filter_nothing low T (λ d m. before_itself d.0 x (there_item h.there h.place d m)))
-            ∙ (ap (λ b. writing_in F ++ b) (filter_nothing low (writing_in B) (λ d m. before_false x d.0 (behind d m))) ∙ nil_right (writing_in F))) in
+        = filter_three low (writing_in F) T (writing_in B)
+        ∙ (ap₂ (λ a b. a ++ (b ++ filter low (writing_in B))) (filter_all low (writing_in F) (λ d m. before_true d.0 x (in_front d m))) (filter_nothing low T (λ d m. before_itself d.0 x (there_item h.there h.place d m)))
+        ∙ (ap (λ b. writing_in F ++ b) (filter_nothing low (writing_in B) (λ d m. before_false x d.0 (behind d m))) ∙ nil_right (writing_in F))) in
         let highs : filter high (writing_in F ++ (T ++ writing_in B)) ≡ writing_in B
-            = filter_three high (writing_in F) T (writing_in B)
-            ∙ (ap₂ (λ a b. a ++ (b ++ filter high (writing_in B))) (filter_nothing high (writing_in F) (λ d m. before_false d.0 x (in_front d m))) (filter_nothing high T (λ d m. before_itself x d.0 (sym (there_item h.there h.place d m))))
-            ∙ filter_all high (writing_in B) (λ d m. before_true x d.0 (behind d m))) in
+        = filter_three high (writing_in F) T (writing_in B)
+        ∙ (ap₂ (λ a b. a ++ (b ++ filter high (writing_in B))) (filter_nothing high (writing_in F) (λ d m. before_false d.0 x (in_front d m))) (filter_nothing high T (λ d m. before_itself x d.0 (sym (there_item h.there h.place d m))))
+        ∙ filter_all high (writing_in B) (λ d m. before_true x d.0 (behind d m))) in
         now ∙ (ap₂ (λ a b. a ++ (x, change) ∷ b) (sym lows) (sym highs) ∙ ap (put_in (x, change)) (sym was))
       where
         nil_right : {A : Type 0} (xs : List A) → xs ++ [] ≡ xs
@@ -261,6 +261,10 @@ module _ (old new : List Touch) (touch : Touch) (h : ChangesOnly old new touch) 
         found (Some u) place rise =
             let item : u.item ≡ touch.item = ap (λ (p : ℕ × Name). p.1) place in
             subst (λ x. touch_in (F ++ (u ∷ [] ++ B)) x ≡ Some u) item (touch-there (F ++ (u ∷ [] ++ B)) (length F) u rise (middle_at F u B))
+
+    -- and what it has now
+    pub now_there : touched_at new (touch.site, touch.item) ≡ Some touch
+    now_there = touched_in new touch.site touch.item ∙ (ap (λ part. touch_in part touch.item) new_here ∙ touch-there (F ++ (touch ∷ [] ++ B)) (length F) touch new_rise (middle_at F touch B))
 
     pub was_seen : seen_at old (touch.site, touch.item) ≡ option_and_then (λ (t : Touch). t.seen) h.there
     was_seen = ap (option_and_then (λ (t : Touch). t.seen)) was_there
@@ -295,15 +299,14 @@ module _ (old new : List Touch) (touch : Touch) (h : ChangesOnly old new touch) 
     -- a read is added
     pub more_reads : (seen : Seen) → touch.seen ≡ Some seen → seen_at old (touch.site, touch.item) ≡ None
         → (k : Name × ℕ × ℕ) → (Contains (kept_in (at_site touch.site new)) k → (((touch.item, seen.value, seen.version) ≡ k) ⊎ Contains (kept_in (at_site touch.site old)) k))
-            × ((((touch.item, seen.value, seen.version) ≡ k) ⊎ Contains (kept_in (at_site touch.site old)) k) → Contains (kept_in (at_site touch.site new)) k)
+        × ((((touch.item, seen.value, seen.version) ≡ k) ⊎ Contains (kept_in (at_site touch.site old)) k) → Contains (kept_in (at_site touch.site new)) k)
     more_reads seen is none k =
         let own : kept_in (touch ∷ []) ≡ (touch.item, seen.value, seen.version) ∷ []
-            = ap (λ s. cons_option (option_and_then (λ (q : Seen). Some (touch.item, q.value, q.version)) s) []) is in
+        = ap (λ s. cons_option (option_and_then (λ (q : Seen). Some (touch.item, q.value, q.version)) s) []) is in
         let now : kept_in (at_site touch.site new) ≡ kept_in F ++ ((touch.item, seen.value, seen.version) ∷ kept_in B)
-            = ap kept_in new_here ∙ (chosen_three kept_of F (touch ∷ []) B ∙ ap (λ l. kept_in F ++ (l ++ kept_in B)) own) in
+        = ap kept_in new_here ∙ (chosen_three kept_of F (touch ∷ []) B ∙ ap (λ l. kept_in F ++ (l ++ kept_in B)) own) in
         let was : kept_in (at_site touch.site old) ≡ kept_in F ++ kept_in B
-            = ap kept_in old_here ∙ (chosen_three kept_of F (option_to_list h.there) B ∙ ap (λ l. kept_in F ++ (l ++ kept_in B)) (nothing h.there (sym was_seen ∙ none))) in
-        (
+        = ap kept_in old_here ∙ (chosen_three kept_of F (option_to_list h.there) B ∙ ap (λ l. kept_in F ++ (l ++ kept_in B)) (nothing h.there (sym was_seen ∙ none))) in (
           λ m. elim (Contains-append_cases (kept_in F) _ k (subst (λ l. Contains l k) now m)) [
             | inl front ↦ inr (subst (λ l. Contains l k) (sym was) (Contains-append_left (kept_in F) (kept_in B) k front))
             | inr back ↦ elim (cons_cases _ (kept_in B) k back) [

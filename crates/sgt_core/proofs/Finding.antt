@@ -1,6 +1,6 @@
 -- Where a site and its items are found.
 use Rattle.std.proofs.Common.{inl, inr, ◌≡◌, Bool, true, ◌<◌, ◌≤◌, ℕ, List, [], length, map, refl, sym, ◌∙◌, arith, Contains, Option, Some, None, subst, ap}
-use Rattle.std.specs.Prelude.{slice_get, slice_set, option_map, false, get_or, IsTrue, is_ok, Result, Ok, Err, OnOk, OnErr, IfErr}
+use Rattle.std.specs.Prelude.{slice_get, slice_set, option_map, false, get_or, IsTrue, is_ok, is_err, Result, Ok, Err, OnOk, OnErr, IfErr}
 use Rattle.std.proofs.lemmas.Bool.{true≢false}
 use Rattle.std.proofs.lemmas.Option.{slice_get-map, slice_get_read, slice_get_within}
 use Rattle.sgt_names.specs.Name.{Name}
@@ -54,3 +54,22 @@ beyond xs n le = elim (option_cases (slice_get xs n)) [
   | inl none ↦ none
   | inr some ↦ absurd (let lt = slice_get_within xs n some.0 some.1 in omega arith)
 ]
+
+pub ok_of : {A E : Type 0} {P : Type 0} (r : Result A E) (a : A) → r ≡ Ok a → OnOk r P → P
+ok_of (Ok b) a e p = p
+ok_of (Err f) a e p = absurd (let g = e in cc)
+
+pub err_of : {A E : Type 0} {P : Type 0} (r : Result A E) → is_err r ≡ true → OnErr r P → P
+err_of (Ok a) e p = absurd (true≢false (sym e))
+err_of (Err f) e p = p
+
+pub ok_by : {A E : Type 0} {P : Type 0} (r : Result A E) → is_err r ≡ false → OnOk r P → P
+ok_by (Ok a) e p = p
+ok_by (Err f) e p = absurd (true≢false e)
+
+-- an item's site is there
+pub item_inside : (m : Parts) (c : CoreState) → StandsFor m c → (s : ℕ) (x : Name) → IsOfSite c s x → s < length m.places
+item_inside m c stands s x known = below_all (length m.places) s (λ le. of_none m c s x stands (beyond m.places s le) known)
+  where
+    below_all : (n t : ℕ) → (n ≤ t → ⊥) → t < n
+    below_all n t out = omega (arith, out)

@@ -14,6 +14,7 @@ use Rattle.sgt_names.specs.Draft.{AreRising, at_site, kept_in, writing_in, touch
 use Rattle.sgt_names.specs.declared.draft.Touch.{Touch}
 use Rattle.sgt_names.specs.declared.draft.Seen.{Seen}
 use Rattle.sgt_names.specs.declared.entry.Change.{Change}
+use Rattle.sgt_names.specs.declared.entry.Change.TheVariants as change
 use Rattle.sgt_names.specs.declared.entry.Entry.{Entry}
 use Rattle.sgt_names.specs.declared.entry.Entry.TheVariants as entry
 use Rattle.sgt_names.proofs.Lists.{option_cases}
@@ -25,14 +26,19 @@ use Rattle.sgt_certifier.specs.Certifier.{Arc}
 use Rattle.sgt_certifier.proofs.Members.{cons_cases, nil_none}
 use Rattle.sgt_core.specs.declared.machine.Place.{Place}
 use Rattle.sgt_core.specs.declared.machine.Running.{Running}
-use Rattle.sgt_core.specs.Core.{CoreState, IsEdgeOf, as_changes, followed, change_in, only_at, with_entries, read_of, seen, look}
-use Rattle.sgt_core.specs.Step.{IsOwnOpen}
-use Rattle.sgt_core.specs.Machine.{Parts, IsReached, IsRunning, StandsFor, Redrafts, ReadsTo, ReadsAt}
+use Rattle.sgt_core.specs.Core.{CoreState, IsEdgeOf, as_changes, items_at, change_in, only_at, with_entries, read_of, seen, look}
+use Rattle.sgt_notation.specs.declared.event.Event.TheVariants.{Read}
+use Rattle.sgt_core.specs.declared.reply.Reply.TheVariants.{Value, Fault}
+use Rattle.sgt_core.specs.declared.reply.CoreFault.TheVariants as fault
+use Rattle.sgt_core.specs.Step.{IsOwnOpen, IsOfSite, IsAllowed, Reads, MayStep}
+use Rattle.sgt_core.specs.Machine.{Parts, IsReached, IsRunning, StandsFor, IsSlotOf, HasRoomAt, Redrafts, ReadsTo, ReadsAt}
 use Rattle.sgt_core.proofs.Conflicting.{without_others, with_others}
 use Rattle.sgt_core.proofs.LegalSteps.{only_here, only_there}
-use Rattle.sgt_core.proofs.Standing.{reached_kept}
-use Rattle.sgt_core.proofs.Drafting.{change_there, seen_kept, kept_seen, other_sites, same_changes, more_reads}
-use Rattle.sgt_core.proofs.Redrafting.{IsLike, redraft_stands}
+use Rattle.sgt_core.proofs.Standing.{reached_kept, reached_more}
+use Rattle.sgt_core.proofs.Drafting.{change_there, seen_kept, kept_seen, other_sites, same_changes, more_reads, now_there}
+use Rattle.sgt_core.proofs.Redrafting.{IsLike, slot_begun, slot_active, redraft_stands}
+use Rattle.sgt_core.proofs.Changing.{read_allowed}
+use Rattle.sgt_core.proofs.Finding.{items_there}
 
 -- ---- what a transaction finds
 
@@ -111,8 +117,8 @@ not_seen ts s x none = by_touch (touched_at ts (s, x)) none
     by_seen : (seen : Option ℕ) (change : Option Change) → value_with_any seen change ≡ None → seen ≡ None
     by_seen seen None e = e
     by_seen None (Some k) e = refl
-    by_seen (Some v) (Some (Rattle.sgt_names.specs.declared.entry.Change.TheVariants.Put u)) e = absurd cc
-    by_seen (Some v) (Some (Rattle.sgt_names.specs.declared.entry.Change.TheVariants.Add u)) e = absurd cc
+    by_seen (Some v) (Some (change.Put u)) e = absurd cc
+    by_seen (Some v) (Some (change.Add u)) e = absurd cc
 
     unmapped : (o : Option Seen) → option_map (λ (seen : Seen). seen.value) o ≡ None → o ≡ None
     unmapped None e = refl
@@ -155,7 +161,7 @@ module _ (m : Parts) (c : CoreState) (stands : StandsFor m c) (tx slot s : ℕ) 
   other_reads i t kept ne k y w n = (
     λ member. LogsRead-append (c.entries t) (more t) i y w n ((k y w n).0 member),
     λ logged. (k y w n).1 (LogsRead-cases (c.entries t) (more t) i y w n logged (λ old. old) (λ j at is. absurd (
-      let same = only_this t (entry.Read i y w) (Contains-from_at (more t) j _ at) in ne (ap tx_of same)))),
+        let same = only_this t (entry.Read i y w) (Contains-from_at (more t) j _ at) in ne (ap tx_of same)))),
   )
 
   out : Contains c.certifier.order tx → ⊥
@@ -183,11 +189,11 @@ module _ (m : Parts) (c : CoreState) (stands : StandsFor m c) (tx slot s : ℕ) 
   shorter i arc ne is =
       let t = arc.label.site in
       let apart : (f : Entry) → Contains (more t) f → (tx_of f ≡ arc.from → ⊥) × (tx_of f ≡ arc.to → ⊥) = λ f member.
-          let same : tx_of f ≡ tx = ap tx_of (only_this t f member) in
-          elim is.ends [
-            | inl from ↦ (λ q. ne (sym from.0 ∙ (sym q ∙ same)), λ q. out (subst (Contains c.certifier.order) (sym q ∙ same) from.1))
-            | inr to ↦ (λ q. out (subst (Contains c.certifier.order) (sym q ∙ same) to.1), λ q. ne (sym to.0 ∙ (sym q ∙ same)))
-          ] in
+      let same : tx_of f ≡ tx = ap tx_of (only_this t f member) in
+      elim is.ends [
+        | inl from ↦ (λ q. ne (sym from.0 ∙ (sym q ∙ same)), λ q. out (subst (Contains c.certifier.order) (sym q ∙ same) from.1))
+        | inr to ↦ (λ q. out (subst (Contains c.certifier.order) (sym q ∙ same) to.1), λ q. ne (sym to.0 ∙ (sym q ∙ same)))
+      ] in
       record {
         ends = is.ends;
         conflict = without_others (c.entries t) (more t) (as_changes i (c.changes i t)) arc.label.kind arc.label.item arc.from arc.to (λ f member. (apart f member).0) (λ f member. (apart f member).1)
@@ -213,8 +219,7 @@ module _ (m : Parts) (c : CoreState) (stands : StandsFor m c) (tx slot s : ℕ) 
       here was y w n =
           let both = more_reads h.before.draft.touched h.after.draft.touched _ h.draft own.rising h.rising v refl unseen (y, w, n) in
           let one : more s ≡ e ∷ [] = only_here s (e ∷ []) in
-          let version : version_at (c.entries s) x ≡ v.version = ap (λ es. version_at es x) at_place ∙ sym r.version in
-          (
+          let version : version_at (c.entries s) x ≡ v.version = ap (λ es. version_at es x) at_place ∙ sym r.version in (
             λ member. elim (both.0 member) [
               | inl is ↦ subst (λ (k : Name × ℕ × ℕ). LogsRead (d.entries s) tx k.0 k.1 k.2) is (fresh_read one version)
               | inr old ↦ LogsRead-append (c.entries s) (more s) tx y w n ((was y w n).0 old)
@@ -230,7 +235,7 @@ module _ (m : Parts) (c : CoreState) (stands : StandsFor m c) (tx slot s : ℕ) 
           }
 
           new_read : (j : ℕ) (y : Name) (w n : ℕ) → more s ≡ e ∷ [] → version_at (c.entries s) x ≡ v.version → slice_get (e ∷ []) j ≡ Some (entry.Read tx y w) → version_at (c.entries s ++ take j (e ∷ [])) y ≡ n
-              → (x, v.value, v.version) ≡ (y, w, n)
+              → ◌≡◌ {A = Name × ℕ × ℕ} (x, v.value, v.version) (y, w, n)
           new_read zero y w n one version at is =
               let same : e ≡ entry.Read tx y w = same_Some e _ at in
               let item : x ≡ y = cc in
@@ -284,5 +289,90 @@ module _ (m : Parts) (c : CoreState) (stands : StandsFor m c) (tx slot s : ℕ) 
   pub read_stands : IsReached (with_entries c (only_at s (entry.Read tx x v.value ∷ []))) → StandsFor (record m { places = places; table = table }) (with_entries c (only_at s (entry.Read tx x v.value ∷ [])))
   read_stands reached =
       let all = redraft_stands m c stands tx slot number h.before h.after h.was h.handle closed d.entries c.changes places (λ i t ne. refl) other_reads
-          (λ i arc ne. (longer i arc ne, shorter i arc ne)) like reached same_items own_running in
+      (λ i arc ne. (longer i arc ne, shorter i arc ne)) like reached same_items own_running in
       subst (λ ts. StandsFor (record m { places = places; table = ts }) d) (sym h.is) all
+
+  -- what it finds then
+  pub read_look : look (with_entries c (only_at s (entry.Read tx x v.value ∷ []))) tx s x ≡ option_and_then look_of (touched_at h.after.draft.touched (s, x))
+  read_look = subst (λ i. look d i s x ≡ option_and_then look_of (touched_at h.after.draft.touched (s, x))) (sym number) (look_there d m.before slot h.after s x own_running)
+
+  -- it finds the item
+  pub read_finds : option_and_then look_of (touched_at h.after.draft.touched (s, x)) ≡ None → ⊥
+  read_finds none = absurd (
+      let there = now_there h.before.draft.touched h.after.draft.touched _ h.draft own.rising h.rising in
+      let looks_on : option_and_then look_of (touched_at h.after.draft.touched (s, x)) ≡ value_with_any (Some v.value) (change_at h.before.draft.touched (s, x)) = ap (option_and_then look_of) there in
+      some_value v.value (change_at h.before.draft.touched (s, x)) (sym looks_on ∙ none))
+    where
+      some_value : (u : ℕ) (k : Option Change) → value_with_any (Some u) k ≡ None → ⊥
+      some_value u None e = absurd cc
+      some_value u (Some (change.Put w)) e = absurd cc
+      some_value u (Some (change.Add w)) e = absurd cc
+
+-- ---- room in the draft
+
+pub room_stands : (m : Parts) (c : CoreState) → StandsFor m c → (tx slot : ℕ) → tx ≡ suc (m.before + slot) → (IsOwnOpen c tx → ⊥) → (table : List (Option Running)) → HasRoomAt m.table table slot
+    → StandsFor (record m { table = table }) c
+room_stands m c stands tx slot number closed table room =
+    let r = stands.running slot (Some room.before) room.was in
+    let q : Running = record room.before { draft = record { touched = room.before.draft.touched; has_room = true } } in
+    let all = redraft_stands m c stands tx slot number room.before q room.was refl closed c.entries c.changes m.places (λ i t ne. refl) (λ i t kept ne k. k) (λ i arc ne. (λ is. is, λ is. is))
+    (λ t p at. (p, at, record { number = refl; entries = (stands.places t p at).entries; installed = refl; pledge = refl; part = refl })) stands.reached refl
+    (record { active = r.active; handle = r.handle; rising = r.rising; used = r.used; changes = r.changes; reads = r.reads }) in
+    subst (λ ts. StandsFor (record m { table = ts }) c) (sym room.is) all
+
+-- ---- the whole event
+
+module _ (m : Parts) (c : CoreState) (stands : StandsFor m c) (tx slot s : ℕ) (x : Name) (h : IsSlotOf m tx slot) (closed : IsOwnOpen c tx → ⊥) (known : IsOfSite c s x) where
+  allowed : IsAllowed c (Read tx s x)
+  allowed = read_allowed c tx (slot_begun m c tx slot stands h) (slot_active m c tx slot stands h) s x closed known
+
+  looked_up : look c tx s x ≡ option_and_then look_of (touched_at h.1.0.draft.touched (s, x))
+  looked_up = subst (λ i. look c i s x ≡ option_and_then look_of (touched_at h.1.0.draft.touched (s, x))) (sym h.0) (look_there c m.before slot h.1.0 s x (stands.running slot (Some h.1.0) h.1.1))
+
+  pub found_goes : (v : ℕ) → Some v ≡ option_and_then look_of (touched_at h.1.0.draft.touched (s, x)) → (d : CoreState) × MayStep c (Read tx s x) (Value v) d × StandsFor m d
+  found_goes v found = (c, (allowed, subst (λ o. Reads c tx s x v o c) (found ∙ sym looked_up) (refl, refl)), stands)
+
+  module _ (none : None ≡ option_and_then look_of (touched_at h.1.0.draft.touched (s, x))) where
+    pub no_room_goes : (d : CoreState) × MayStep c (Read tx s x) (Fault fault.Memory) d × StandsFor m d
+    no_room_goes = (c, (allowed, (looked_up ∙ sym none, refl)), stands)
+
+    module _ (table : List (Option Running)) (room : HasRoomAt m.table table slot) where
+      abbrev n : Parts
+      n = record m { table = table }
+
+      roomy : StandsFor n c
+      roomy = room_stands m c stands tx slot h.0 closed table room
+
+      pub unread_goes : (d : CoreState) × MayStep c (Read tx s x) (Fault fault.Memory) d × StandsFor (record m { table = table }) d
+      unread_goes = (c, (allowed, (looked_up ∙ sym none, refl)), roomy)
+
+      pub unseen_there : seen_at room.before.draft.touched (s, x) ≡ None
+      unseen_there =
+          let same : h.1.0 ≡ room.before = same_some (sym h.1.1 ∙ room.was) in
+          not_seen room.before.draft.touched s x (ap (λ (r : Running). option_and_then look_of (touched_at r.draft.touched (s, x))) (sym same) ∙ sym none)
+        where
+          same_some : {a b : Running} → Some (Some a) ≡ Some (Some b) → a ≡ b
+          same_some {a} {b} e = same_Some a b (same_Some (Some a) (Some b) e)
+
+      module _ (v : Seen) (places : List Place) (r : ReadsAt m.places places tx s x v) (last : List (Option Running)) (k : Redrafts table last slot (ReadsTo s x v)) where
+        was_unseen : seen_at k.before.draft.touched (s, x) ≡ None
+        was_unseen =
+            let q : Running = record room.before { draft = record { touched = room.before.draft.touched; has_room = true } } in
+            let at : slice_get table slot ≡ Some (Some q) = ap (λ ts. slice_get ts slot) room.is ∙ get_set_same m.table slot (Some q) (slice_get_within m.table slot _ room.was) in
+            let same : Some q ≡ Some k.before = same_Some (Some q) (Some k.before) (sym at ∙ k.was) in
+            ap (λ (w : Running). seen_at w.draft.touched (s, x)) (sym (same_Some q k.before same)) ∙ unseen_there
+
+        pub read_goes : (value : ℕ) → Some value ≡ option_and_then look_of (touched_at k.after.draft.touched (s, x))
+            → (d : CoreState) × MayStep c (Read tx s x) (Value value) d × StandsFor (record m { places = places; table = last }) d
+        read_goes value found =
+            let d : CoreState = with_entries c (only_at s (entry.Read tx x v.value ∷ [])) in
+            let logged : value_at (items_at c s) (c.entries s) x ≡ Some v.value =
+            ap (λ es. value_at (items_at c s) es x) (stands.places s r.place r.was).entries
+            ∙ (ap (λ is. value_at is r.place.site.entries x) (items_there m c s (Some r.place) stands r.was) ∙ r.value) in
+            let finds : look d tx s x ≡ Some value = read_look n c roomy tx slot s x h.0 closed v places r last k was_unseen ∙ sym found in
+            let reads : Reads c tx s x value None d = (v.value, logged, refl, finds) in
+            let may : MayStep c (Read tx s x) (Value value) d = (allowed, subst (λ o. Reads c tx s x value o d) (none ∙ sym looked_up) reads) in
+            (d, may, read_stands n c roomy tx slot s x h.0 closed v places r last k was_unseen (reached_more c (Read tx s x) (Value value) d stands.reached may))
+
+        pub must_find : None ≡ option_and_then look_of (touched_at k.after.draft.touched (s, x)) → ⊥
+        must_find e = read_finds n c roomy tx slot s x h.0 closed v places r last k was_unseen (sym e)

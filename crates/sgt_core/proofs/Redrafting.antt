@@ -85,17 +85,19 @@ module _ (m : Parts) (c : CoreState) (s : StandsFor m c) (tx slot : ℕ) (number
       let o = h.0 in
       let a = h.1 in
       let other = step_other o a.open_step in
-      let apart : a.place ≡ slot → ⊥ = λ e. other (a.tx ∙ (ap (λ k. suc (m.before + k)) e ∙ sym number)) in
-      (o, record {
-        open_step = a.open_step;
-        place = a.place;
-        running = a.running;
-        there = get_set_other m.table slot a.place (Some q) apart ∙ a.there;
-        tx = a.tx;
-        gathered = a.gathered;
-        pledge = l.pledge ∙ a.pledge;
-        due = redraft_due o other t o.phase a.due;
-      })
+      let apart : a.place ≡ slot → ⊥ = λ e. other (a.tx ∙ (ap (λ k. suc (m.before + k)) e ∙ sym number)) in (
+        o,
+        record {
+          open_step = a.open_step;
+          place = a.place;
+          running = a.running;
+          there = get_set_other m.table slot a.place (Some q) apart ∙ a.there;
+          tx = a.tx;
+          gathered = a.gathered;
+          pledge = l.pledge ∙ a.pledge;
+          due = redraft_due o other t o.phase a.due;
+        },
+      )
 
   redraft_place : (t : ℕ) (w : Place) → slice_get places t ≡ Some w → IsPlace n d t w
   redraft_place t w at =
@@ -124,14 +126,17 @@ module _ (m : Parts) (c : CoreState) (s : StandsFor m c) (tx slot : ℕ) (number
   redraft_phase : (o : Open) → (o.tx ≡ tx → ⊥) → (phase : Phase) → IsPhase m c o phase → IsPhase n d o phase
   redraft_phase o other Committed h = h
   redraft_phase o other Refused h = h
-  redraft_phase o other (Gathering edges) h = (h.0, record {
-    place = h.1.place;
-    window = h.1.window;
-    fit = h.1.fit;
-    forward = h.1.forward;
-    own = λ arc member. (other_edges o.tx arc other).0 (h.1.own arc member);
-    lead = λ arc is gathered. h.1.lead arc ((other_edges o.tx arc other).1 is) gathered;
-  })
+  redraft_phase o other (Gathering edges) h = (
+    h.0,
+    record {
+      place = h.1.place;
+      window = h.1.window;
+      fit = h.1.fit;
+      forward = h.1.forward;
+      own = λ arc member. (other_edges o.tx arc other).0 (h.1.own arc member);
+      lead = λ arc is gathered. h.1.lead arc ((other_edges o.tx arc other).1 is) gathered;
+    },
+  )
 
   redraft_step : (o : Option Open) → m.step ≡ o → IsStep m c o → IsStep n d o
   redraft_step None e h = h

@@ -56,8 +56,7 @@ module _ (m : Parts) (c : CoreState) (s : StandsFor m c) (tx slot : ℕ) (h : Is
   here : (t : ℕ) → (touches c tx t ≡ true → Touches h.1.0.draft.touched t) × (Touches h.1.0.draft.touched t → touches c tx t ≡ true)
   here t =
       let r = s.running slot (Some h.1.0) h.1.1 in
-      let k = reached_kept c s.reached in
-      (
+      let k = reached_kept c s.reached in (
         λ hit. touches_draft c k m.before slot t h.1.0 r idle (subst (λ i. touches c i t ≡ true) h.0 hit),
         λ any. subst (λ i. touches c i t ≡ true) (sym h.0) (draft_touches c k m.before slot t h.1.0 r idle any),
       )
@@ -94,9 +93,9 @@ module _ (m : Parts) (c : CoreState) (s : StandsFor m c) (tx slot : ℕ) (h : Is
   pub decide_gives_up : (reply : Reply) → (0 < length h.1.0.draft.touched → ⊥) → reply ≡ Fault fault.Memory → Goes m c (Decide tx) reply
   decide_gives_up reply none e = memory_goes m c s (Decide tx) reply e (
     decide_idle_allowed c tx begun active closed idle (λ t hit.
-      let a = Any_at (λ (u : Touch). (u.site ≡ t) × IsUsed u) h.1.0.draft.touched ((here t).0 hit) in
-      let lt = slice_get_within h.1.0.draft.touched a.0 a.1 a.2 in
-      none (omega (arith, lt))),
+        let a = Any_at (λ (u : Touch). (u.site ≡ t) × IsUsed u) h.1.0.draft.touched ((here t).0 hit) in
+        let lt = slice_get_within h.1.0.draft.touched a.0 a.1 a.2 in
+        none (omega (arith, lt))),
     no_step,
   )
 

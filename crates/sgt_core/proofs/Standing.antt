@@ -16,7 +16,7 @@ use Rattle.sgt_core.specs.declared.machine.Running.{Running}
 use Rattle.sgt_core.specs.declared.machine.Open.{Open}
 use Rattle.sgt_core.specs.Core.{CoreState, fresh}
 use Rattle.sgt_core.specs.Step.{gathered_in, tx_in, Fails, fault_place, IsRefused, MayStep, Run}
-use Rattle.sgt_core.specs.Machine.{Parts, IsReached, Carries, RunsAt, IsPart, IsStep, StandsFor}
+use Rattle.sgt_core.specs.Machine.{Parts, IsReached, Carries, RunsAt, IsPart, IsStep, StandsFor, Stands, GoesOn}
 use Rattle.sgt_core.proofs.Kept.{IsKept}
 use Rattle.sgt_core.proofs.Runs.{runs-kept, idle}
 
@@ -34,6 +34,16 @@ reached_more c event reply d r may = (r.0, (r.1.0 ++ event ∷ [], (r.1.1.0 ++ r
 
 pub reached_kept : (c : CoreState) → IsReached c → IsKept c
 reached_kept c r = runs-kept r.0 r.1.0 r.1.1.0 c r.1.1.1
+
+-- the new machine stands for a state too
+pub goes_stands : (P : CoreState → CoreState → Type 0) (old new : Parts) → Stands old → GoesOn P old new → Stands new
+goes_stands P old new s go = let r = go s.0 s.1 in (r.0, r.2)
+
+pub goes_same : (inside now new : Parts) (event same : Event) (reply : Reply) → inside ≡ now → event ≡ same → GoesOn (λ c d. MayStep c same reply d) inside new
+    → GoesOn (λ c d. MayStep c event reply d) now new
+goes_same inside now new event same reply view is go c s =
+    let r = go c (subst (λ v. StandsFor v c) (sym view) s) in
+    (r.0, subst (λ e. MayStep c e reply r.0) (sym is) r.1, r.2)
 
 -- ---- no step is open
 

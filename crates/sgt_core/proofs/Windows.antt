@@ -91,7 +91,7 @@ module _ (m : Parts) (c : CoreState) (s : StandsFor m c) (none : m.step ≡ None
       let index : m.certifier.state.begun - m.certifier.state.before ≡ k = omega arith in
       let bare : (t : ℕ) → at_site t r.draft.touched ≡ [] = λ t. ap (at_site t) empty in
       let new_handle : r.handle ≡ record { index = k; generation = c.certifier.generation } =
-          adds.serves.1.1 ∙ ap₂ (λ (a b : ℕ). record { index = a; generation = b }) index (sym gen) in
+      adds.serves.1.1 ∙ ap₂ (λ (a b : ℕ). record { index = a; generation = b }) index (sym gen) in
       record {
         active = subst (Contains (c.certifier.active ++ suc c.certifier.begun ∷ [])) (sym number) (Contains-append_right c.certifier.active _ _ (cons_here (suc c.certifier.begun) []));
         handle = new_handle;
@@ -122,20 +122,23 @@ module _ (m : Parts) (c : CoreState) (s : StandsFor m c) (none : m.step ≡ None
       let may : MayStep c Begin (Begun tx) (begun_state c) = (begin_allowed m c r.handle tx new s none adds, (begun_number, refl)) in
       let begun = s.begun in
       let window = s.window in
-      let long = length_push m.table (Some r) in
-      (begun_state c, may, record {
-        reached = reached_more c Begin (Begun tx) (begun_state c) s.reached may;
-        items = s.items;
-        certifier = subst (λ (st : State). Carries st (with_begun c.certifier)) (sym adds.serves.1.2) (carries_begun m.certifier.state c.certifier s.certifier);
-        before = s.before;
-        begun = omega arith;
-        window = omega arith;
-        unborn = λ t n lt. s.unborn t n (omega arith);
-        running = begun_slot;
-        places = begun_place;
-        step = subst (λ (o : Option Open). IsStep (begun_parts m new r) (begun_state c) o) (sym none) (core_closed m c s none);
-        idle = none;
-      })
+      let long = length_push m.table (Some r) in (
+        begun_state c,
+        may,
+        record {
+          reached = reached_more c Begin (Begun tx) (begun_state c) s.reached may;
+          items = s.items;
+          certifier = subst (λ (st : State). Carries st (with_begun c.certifier)) (sym adds.serves.1.2) (carries_begun m.certifier.state c.certifier s.certifier);
+          before = s.before;
+          begun = omega arith;
+          window = omega arith;
+          unborn = λ t n lt. s.unborn t n (omega arith);
+          running = begun_slot;
+          places = begun_place;
+          step = subst (λ (o : Option Open). IsStep (begun_parts m new r) (begun_state c) o) (sym none) (core_closed m c s none);
+          idle = none;
+        },
+      )
 
 -- ---- the window is closed
 
@@ -232,17 +235,20 @@ module _ (m : Parts) (c : CoreState) (s : StandsFor m c) (none : m.step ≡ None
   pub close_goes : (d : CoreState) × MayStep c Close (Closed ranks) d × StandsFor (closed_parts m new) d
   close_goes =
       let given = adds.serves.1.0 ∙ ap (λ (st : State). length (serial st)) (sym s.certifier.same) in
-      let may : MayStep c Close (Closed ranks) (closed_state c) = (close_allowed m c s none adds.serves.0, (given, refl)) in
-      (closed_state c, may, record {
-        reached = reached_more c Close (Closed ranks) (closed_state c) s.reached may;
-        items = s.items;
-        certifier = subst (λ (st : State). Carries st (with_closed c.certifier)) (sym adds.serves.1.1) (carries_closed m.certifier.state c.certifier s.certifier);
-        before = s.begun;
-        begun = s.begun;
-        window = omega arith;
-        unborn = s.unborn;
-        running = λ k slot at. absurd cc;
-        places = closed_place;
-        step = subst (λ (o : Option Open). IsStep (closed_parts m new) (closed_state c) o) (sym none) (core_closed m c s none);
-        idle = none;
-      })
+      let may : MayStep c Close (Closed ranks) (closed_state c) = (close_allowed m c s none adds.serves.0, (given, refl)) in (
+        closed_state c,
+        may,
+        record {
+          reached = reached_more c Close (Closed ranks) (closed_state c) s.reached may;
+          items = s.items;
+          certifier = subst (λ (st : State). Carries st (with_closed c.certifier)) (sym adds.serves.1.1) (carries_closed m.certifier.state c.certifier s.certifier);
+          before = s.begun;
+          begun = s.begun;
+          window = omega arith;
+          unborn = s.unborn;
+          running = λ k slot at. absurd cc;
+          places = closed_place;
+          step = subst (λ (o : Option Open). IsStep (closed_parts m new) (closed_state c) o) (sym none) (core_closed m c s none);
+          idle = none;
+        },
+      )

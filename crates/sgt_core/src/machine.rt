@@ -408,12 +408,7 @@ fn add_at(
 }
 
 // What the transaction at a place of the table sees of an item without the site.
-fn look_at(
-    table: &[Option<Running>],
-    slot: usize,
-    site: SiteNo,
-    item: Item,
-) -> Option<Value>
+fn look_at(table: &[Option<Running>], slot: usize, site: SiteNo, item: Item) -> Option<Value>
     requires { slot < length table.now }
     ensures { (r : ARunning) → slice_get table.now slot ≡ Some (Some r)
         → result ≡ option_and_then look_of (touched_at r.draft.touched (site, item)) }
@@ -437,12 +432,7 @@ fn room_at(table: &mut Vec<Option<Running>>, slot: usize) -> Result<(), AllocErr
 }
 
 // Reads an item at its site.
-fn read_at(
-    places: &mut Vec<Place>,
-    tx: Tx,
-    site: SiteNo,
-    item: Item,
-) -> Result<Seen, SiteFault>
+fn read_at(places: &mut Vec<Place>, tx: Tx, site: SiteNo, item: Item) -> Result<Seen, SiteFault>
     requires { site < length places.old.items }
     ensures ok { IfOk result (λ seen. ReadsAt places.old.items places.new.items tx site item seen) }
     ensures err { OnErr result (places.new.items ≡ places.old.items) }

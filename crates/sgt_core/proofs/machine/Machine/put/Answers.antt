@@ -40,8 +40,7 @@ returns-in-Err-put_at c = λ d s.
     let event = Put c.args.tx c.args.site c.args.item c.args.value in
     let slot = c.in-Ok.ensures.ok in
     let closed = c.in-Ok.ensures.closed d s in
-    let allowed = put_allowed d c.args.tx (slot_begun m d c.args.tx _ s slot) (slot_active m d c.args.tx _ s slot) c.args.site c.args.item c.args.value closed (c.in-Ok.ensures.known d s) in
-    (
+    let allowed = put_allowed d c.args.tx (slot_begun m d c.args.tx _ s slot) (slot_active m d c.args.tx _ s slot) c.args.site c.args.item c.args.value closed (c.in-Ok.ensures.known d s) in (
       d,
       subst (λ (r : Reply). MayStep d event r d) (sym c.refused-in-Err-put_at.ensures) (allowed, refl),
       subst (λ (t : List (Option Running)). StandsFor (record m { table = t }) d) (sym c.in-Err-put_at.ensures.err) s,
