@@ -31,5 +31,5 @@ pub mod Finding
 pub mod Reading
 pub mod Touching
 pub mod Refusing
-pub mod Gathering
+pub mod Leading
 pub mod Opening

@@ -2,3 +2,4 @@ pub mod Core
 pub mod Step
 pub mod Runs
 pub mod Machine
+pub mod Gathered

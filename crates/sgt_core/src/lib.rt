@@ -2,6 +2,7 @@
 #![tactic(auto)]
 
 mod driver;
+mod gathering;
 mod laws;
 mod machine;
 mod reply;
