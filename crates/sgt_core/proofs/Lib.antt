@@ -32,4 +32,5 @@ pub mod Reading
 pub mod Touching
 pub mod Refusing
 pub mod Leading
+pub mod Stepping
 pub mod Opening

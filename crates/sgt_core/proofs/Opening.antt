@@ -90,7 +90,7 @@ new_stands sites places certifier h is = record {
         part = (refl, refl, nil_none k);
       });
   step = refl;
-  idle = refl;
+  undecided = refl;
 }
 
 -- ---- runs

@@ -169,5 +169,5 @@ module _ (m : Parts) (c : CoreState) (s : StandsFor m c) (tx slot : ℕ) (number
           running = redraft_running;
           places = redraft_place;
           step = redraft_step m.step refl s.step;
-          idle = s.idle;
+          undecided = s.undecided;
         }

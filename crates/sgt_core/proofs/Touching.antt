@@ -17,16 +17,18 @@ use Rattle.sgt_names.proofs.Places.{Contains_at, Contains-from_at}
 use Rattle.sgt_site.specs.State.{version_at, LogsRead}
 use Rattle.sgt_site.proofs.Appends.{chosen_at, chosen_from, count_before}
 use Rattle.sgt_certifier.proofs.Members.{cons_cases, nil_none, filter_member, member_filter}
+use Rattle.sgt_notation.specs.declared.event.Event.{Event}
 use Rattle.sgt_notation.specs.declared.event.Event.TheVariants.{Gather, Decide, Install as Write, Commit, Withdraw}
 use Rattle.sgt_core.specs.declared.reply.CoreFault.{CoreFault}
 use Rattle.sgt_core.specs.declared.reply.CoreFault.TheVariants as fault
 use Rattle.sgt_core.specs.declared.machine.Running.{Running}
 use Rattle.sgt_core.specs.Core.{OpenStep, CoreState, touches, touched, is_some_change}
-use Rattle.sgt_core.specs.Step.{StepIs, IsOwnOpen, IsOtherOpen, IsDecided, Fails, fault_place, IsRefused, IsAllowed}
+use Rattle.sgt_core.specs.Step.{StepIs, IsOwnOpen, IsOtherOpen, IsGathered, IsDecided, tx_in, Fails, fault_place, IsRefused, IsAllowed}
 use Rattle.sgt_core.specs.Machine.{IsRunning}
 use Rattle.sgt_core.proofs.Kept.{IsKept, IsRead}
 use Rattle.sgt_core.proofs.LegalSteps.{touches_own}
 use Rattle.sgt_core.proofs.Runs.{is_site}
+use Rattle.sgt_core.proofs.Changing.{later}
 
 -- ---- what is touched
 
@@ -128,59 +130,70 @@ module _ (c : CoreState) (k : IsKept c) (before place s : ℕ) (r : Running) (h 
           let some : is_some_change (c.changes tx s) ≡ true = subst (λ cs. is_some_change cs ≡ true) (sym (h.changes s)) (member_some (writing_in part) (t.item, v.0) written) in
           ap (λ b. list_any (λ e. tx_of e == tx) (c.entries s) || b) some ∙ or_right (list_any (λ e. tx_of e == tx) (c.entries s))
 
--- ---- a step, while none is open
+-- ---- a step that isn't decided
 
-module _ (c : CoreState) (tx : ℕ) (begun : tx ≤ c.certifier.begun) (active : Contains c.certifier.active tx) (closed : c.step ≡ None) (idle : c.certifier.step ≡ None) where
+module _ (c : CoreState) (tx : ℕ) (begun : tx ≤ c.certifier.begun) (active : Contains c.certifier.active tx) (idle : c.certifier.step ≡ None) where
   known_tx : (t : ℕ) → Some tx ≡ Some t → c.certifier.begun < t → ⊥
   known_tx t e lt = let is = same_Some tx t e in omega arith
 
   active_tx : (t : ℕ) → Some tx ≡ Some t → (Contains c.certifier.active t → ⊥) → ⊥
   active_tx t e out = out (subst (Contains c.certifier.active) (same_Some tx t e) active)
 
-  no_other : IsOtherOpen c tx → ⊥
-  no_other h = subst (StepIs (λ t. t ≡ tx → ⊥)) closed h
-
-  no_own : IsOwnOpen c tx → ⊥
-  no_own h = subst (StepIs (λ t. t ≡ tx)) closed h
-
   not_decided : IsDecided c tx → ⊥
   not_decided h = let f : Some tx ≡ None = sym h ∙ idle in absurd cc
 
-  pub gather_beyond : (s : ℕ) → length c.items ≤ s → IsRefused c (Gather tx s) fault.UnknownItem
-  gather_beyond s out = (out, first)
+  pub step_refused : (event : Event) → tx_in event ≡ Some tx → Fails c event fault.StepOpen → IsRefused c event fault.StepOpen
+  step_refused event is h = (h, later c tx begun active event is)
+
+  pub gather_beyond : (IsOtherOpen c tx → ⊥) → (s : ℕ) → length c.items ≤ s → IsRefused c (Gather tx s) fault.UnknownItem
+  gather_beyond no_other s out = (out, first)
     where
       first : (g : CoreFault) → fault_place g < 4 → Fails c (Gather tx s) g → ⊥
       first fault.Unknown lt h = known_tx h.0 h.1 h.2
       first fault.Ended lt h = active_tx h.0 h.1 h.2.1
       first fault.StepOpen lt h = no_other h
       first fault.UnknownItem lt h = absurd (omega arith)
-      first fault.AlreadyDone lt h = no_own h.0
+      first fault.AlreadyDone lt h = absurd (omega arith)
       first fault.NotTouched lt h = absurd (omega arith)
       first _ lt h = h
 
-  pub gather_untouched : (s : ℕ) → s < length c.items → touches c tx s ≡ false → IsRefused c (Gather tx s) fault.NotTouched
-  gather_untouched s inside out = (out, first)
+  pub gather_again : (IsOtherOpen c tx → ⊥) → (s : ℕ) → s < length c.items → IsGathered c tx s → IsRefused c (Gather tx s) fault.AlreadyDone
+  gather_again no_other s inside done = (done, first)
+    where
+      first : (g : CoreFault) → fault_place g < 6 → Fails c (Gather tx s) g → ⊥
+      first fault.Unknown lt h = known_tx h.0 h.1 h.2
+      first fault.Ended lt h = active_tx h.0 h.1 h.2.1
+      first fault.StepOpen lt h = no_other h
+      first fault.UnknownItem lt h = absurd (omega (arith, inside, h))
+      first fault.AlreadyDone lt h = absurd (omega arith)
+      first fault.NotTouched lt h = absurd (omega arith)
+      first _ lt h = h
+
+  pub gather_untouched : (IsOtherOpen c tx → ⊥) → (s : ℕ) → s < length c.items → (IsGathered c tx s → ⊥) → touches c tx s ≡ false
+      → IsRefused c (Gather tx s) fault.NotTouched
+  gather_untouched no_other s inside fresh out = (out, first)
     where
       first : (g : CoreFault) → fault_place g < 12 → Fails c (Gather tx s) g → ⊥
       first fault.Unknown lt h = known_tx h.0 h.1 h.2
       first fault.Ended lt h = active_tx h.0 h.1 h.2.1
       first fault.StepOpen lt h = no_other h
       first fault.UnknownItem lt h = absurd (omega (arith, inside, h))
-      first fault.AlreadyDone lt h = no_own h.0
+      first fault.AlreadyDone lt h = fresh h
       first fault.NotTouched lt h = absurd (omega arith)
       first _ lt h = h
 
-  pub gather_idle_allowed : (s : ℕ) → s < length c.items → touches c tx s ≡ true → IsAllowed c (Gather tx s)
-  gather_idle_allowed s inside hit fault.Unknown h = known_tx h.0 h.1 h.2
-  gather_idle_allowed s inside hit fault.Ended h = active_tx h.0 h.1 h.2.1
-  gather_idle_allowed s inside hit fault.StepOpen h = no_other h
-  gather_idle_allowed s inside hit fault.UnknownItem h = absurd (omega (arith, inside, h))
-  gather_idle_allowed s inside hit fault.AlreadyDone h = no_own h.0
-  gather_idle_allowed s inside hit fault.NotTouched h = true≢false (sym hit ∙ h)
-  gather_idle_allowed s inside hit _ h = h
+  pub gather_allowed : (IsOtherOpen c tx → ⊥) → (s : ℕ) → s < length c.items → (IsGathered c tx s → ⊥) → touches c tx s ≡ true → IsAllowed c (Gather tx s)
+  gather_allowed no_other s inside fresh hit fault.Unknown h = known_tx h.0 h.1 h.2
+  gather_allowed no_other s inside fresh hit fault.Ended h = active_tx h.0 h.1 h.2.1
+  gather_allowed no_other s inside fresh hit fault.StepOpen h = no_other h
+  gather_allowed no_other s inside fresh hit fault.UnknownItem h = absurd (omega (arith, inside, h))
+  gather_allowed no_other s inside fresh hit fault.AlreadyDone h = fresh h
+  gather_allowed no_other s inside fresh hit fault.NotTouched h = true≢false (sym hit ∙ h)
+  gather_allowed no_other s inside fresh hit _ h = h
 
-  pub decide_untimely : (s : ℕ) → s < length c.items → touches c tx s ≡ true → IsRefused c (Decide tx) fault.NotGathered
-  decide_untimely s inside hit = ((s, member_filter (touches c tx) _ s (is_site c s inside) hit, λ g. no_own g.0), first)
+  pub decide_untimely : (IsOtherOpen c tx → ⊥) → (s : ℕ) → s < length c.items → touches c tx s ≡ true → (IsGathered c tx s → ⊥)
+      → IsRefused c (Decide tx) fault.NotGathered
+  decide_untimely no_other s inside hit out = ((s, member_filter (touches c tx) _ s (is_site c s inside) hit, out), first)
     where
       first : (g : CoreFault) → fault_place g < 5 → Fails c (Decide tx) g → ⊥
       first fault.Unknown lt h = known_tx h.0 h.1 h.2
@@ -190,16 +203,17 @@ module _ (c : CoreState) (tx : ℕ) (begun : tx ≤ c.certifier.begun) (active :
       first fault.AlreadyDone lt h = not_decided h
       first _ lt h = h
 
-  pub decide_idle_allowed : ((s : ℕ) → touches c tx s ≡ true → ⊥) → IsAllowed c (Decide tx)
-  decide_idle_allowed none fault.Unknown h = known_tx h.0 h.1 h.2
-  decide_idle_allowed none fault.Ended h = active_tx h.0 h.1 h.2.1
-  decide_idle_allowed none fault.StepOpen h = no_other h
-  decide_idle_allowed none fault.NotGathered h = none h.0 (filter_member (touches c tx) _ h.0 h.1).1
-  decide_idle_allowed none fault.AlreadyDone h = not_decided h
-  decide_idle_allowed none _ h = h
+  pub decide_allowed : (IsOtherOpen c tx → ⊥) → ((s : ℕ) → touches c tx s ≡ true → IsGathered c tx s) → IsAllowed c (Decide tx)
+  decide_allowed no_other all fault.Unknown h = known_tx h.0 h.1 h.2
+  decide_allowed no_other all fault.Ended h = active_tx h.0 h.1 h.2.1
+  decide_allowed no_other all fault.StepOpen h = no_other h
+  decide_allowed no_other all fault.NotGathered h =
+      h.2 (all h.0 (filter_member (touches c tx) _ h.0 h.1).1)
+  decide_allowed no_other all fault.AlreadyDone h = not_decided h
+  decide_allowed no_other all _ h = h
 
-  pub install_beyond : (s : ℕ) → length c.items ≤ s → IsRefused c (Write tx s) fault.UnknownItem
-  install_beyond s out = (out, first)
+  pub install_beyond : (IsOtherOpen c tx → ⊥) → (s : ℕ) → length c.items ≤ s → IsRefused c (Write tx s) fault.UnknownItem
+  install_beyond no_other s out = (out, first)
     where
       first : (g : CoreFault) → fault_place g < 4 → Fails c (Write tx s) g → ⊥
       first fault.Unknown lt h = known_tx h.0 h.1 h.2
@@ -211,8 +225,8 @@ module _ (c : CoreState) (tx : ℕ) (begun : tx ≤ c.certifier.begun) (active :
       first fault.NotTouched lt h = absurd (omega arith)
       first _ lt h = h
 
-  pub install_undecided : (s : ℕ) → s < length c.items → IsRefused c (Write tx s) fault.NotGathered
-  install_undecided s inside = (not_decided, first)
+  pub install_undecided : (IsOtherOpen c tx → ⊥) → (s : ℕ) → s < length c.items → IsRefused c (Write tx s) fault.NotGathered
+  install_undecided no_other s inside = (not_decided, first)
     where
       first : (g : CoreFault) → fault_place g < 5 → Fails c (Write tx s) g → ⊥
       first fault.Unknown lt h = known_tx h.0 h.1 h.2
@@ -224,14 +238,14 @@ module _ (c : CoreState) (tx : ℕ) (begun : tx ≤ c.certifier.begun) (active :
       first fault.NotTouched lt h = absurd (omega arith)
       first _ lt h = h
 
-  pub commit_allowed : IsAllowed c (Commit tx)
-  commit_allowed fault.Unknown h = known_tx h.0 h.1 h.2
-  commit_allowed fault.Ended h = active_tx h.0 h.1 h.2.1
-  commit_allowed fault.StepOpen h = h closed
-  commit_allowed _ h = h
+  pub commit_allowed : c.step ≡ None → IsAllowed c (Commit tx)
+  commit_allowed closed fault.Unknown h = known_tx h.0 h.1 h.2
+  commit_allowed closed fault.Ended h = active_tx h.0 h.1 h.2.1
+  commit_allowed closed fault.StepOpen h = h closed
+  commit_allowed closed _ h = h
 
-  pub withdraw_allowed : IsAllowed c (Withdraw tx)
-  withdraw_allowed fault.Unknown h = known_tx h.0 h.1 h.2
-  withdraw_allowed fault.Ended h = active_tx h.0 h.1 h.2.1
-  withdraw_allowed fault.StepOpen h = h closed
-  withdraw_allowed _ h = h
+  pub withdraw_allowed : c.step ≡ None → IsAllowed c (Withdraw tx)
+  withdraw_allowed closed fault.Unknown h = known_tx h.0 h.1 h.2
+  withdraw_allowed closed fault.Ended h = active_tx h.0 h.1 h.2.1
+  withdraw_allowed closed fault.StepOpen h = h closed
+  withdraw_allowed closed _ h = h

@@ -136,7 +136,7 @@ module _ (m : Parts) (c : CoreState) (s : StandsFor m c) (none : m.step ≡ None
           running = begun_slot;
           places = begun_place;
           step = subst (λ (o : Option Open). IsStep (begun_parts m new r) (begun_state c) o) (sym none) (core_closed m c s none);
-          idle = none;
+          undecided = s.undecided;
         },
       )
 
@@ -249,6 +249,6 @@ module _ (m : Parts) (c : CoreState) (s : StandsFor m c) (none : m.step ≡ None
           running = λ k slot at. absurd cc;
           places = closed_place;
           step = subst (λ (o : Option Open). IsStep (closed_parts m new) (closed_state c) o) (sym none) (core_closed m c s none);
-          idle = none;
+          undecided = s.undecided;
         },
       )

@@ -6,6 +6,7 @@ use Rattle.sgt_site.specs.State.{SiteState, IsSite, IsPledged}
 use Rattle.sgt_site.specs.Refused.{MayPledge}
 use Rattle.sgt_edges.specs.Edges.{IsGiven, StandsForAll}
 use Rattle.sgt_edges.specs.declared.edge.Edge.{Edge}
+use Rattle.sgt_core.specs.Machine.{Parts}
 use Rattle.sgt_core.specs.declared.machine.Place.{Place}
 use Rattle.sgt_core.specs.declared.machine.Part.TheVariants.{Idle, Due}
 use Rattle.sgt_core.specs.declared.machine.Running.{Running}
@@ -53,3 +54,14 @@ pub record IsReleased (tx : ℕ) (old new : Place) : Type 0 where
 pub record AreReleased (tx : ℕ) (old new : List Place) : Type 0 where
   pub long : length new ≡ length old
   pub each : (k : ℕ) (p q : Place) → slice_get old k ≡ Some p → slice_get new k ≡ Some q → IsReleased tx p q
+
+-- the touched item is of a site to which the open step hasn't come
+abbrev pub IsMissedAt : List Place → Touch → Type 0
+IsMissedAt places u = (p : Place) → slice_get places u.site ≡ Some p → p.part ≡ Idle
+
+-- the transaction at this place of the table is gathered at the site
+pub record GathersAt (old new : Parts) (tx slot site : ℕ) : Type 0 where
+  pub edges : List Edge
+  pub given : AreGiven old.places old.table site slot edges
+  pub pledge : PledgesAt old.places new.places old.table site slot tx
+  pub is : new ≡ record old { places = new.places; step = step_with old.step tx edges }

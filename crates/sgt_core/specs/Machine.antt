@@ -150,8 +150,8 @@ pub record StandsFor (m : Parts) (c : CoreState) : Type 0 where
   pub running : (k : ℕ) (slot : Option Running) → slice_get m.table k ≡ Some slot → RunsAt c m.before k slot
   pub places : (s : ℕ) (p : Place) → slice_get m.places s ≡ Some p → IsPlace m c s p
   pub step : IsStep m c m.step
-  -- no event opens a step yet
-  pub idle : m.step ≡ None
+  -- no step is decided yet
+  pub undecided : c.certifier.step ≡ None
 
 -- it stands for some state
 abbrev pub Stands : Parts → Type 0

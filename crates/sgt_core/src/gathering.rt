@@ -1,12 +1,14 @@
 //! A transaction is gathered at a site: its pledge there, and its edges.
 
-ghost use Rattle.std.specs.Prelude.{◌≡◌, ◌++◌, ◌<◌, Some, length, slice_get, IfOk, OnOk, OnErr};
-ghost use Rattle.sgt_core.specs.Gathered.{AreGiven, PledgesAt, step_with, IsReleased, AreReleased};
+ghost use Rattle.std.specs.Prelude.{◌≡◌, ◌≢◌, ◌↔◌, ◌++◌, ◌<◌, Some, Any, length, slice_get, IsTrue, IfOk, OnOk, OnErr};
+ghost use Rattle.sgt_core.specs.Gathered.{AreGiven, PledgesAt, step_with, IsReleased, AreReleased, IsMissedAt};
+ghost use Rattle.sgt_core.specs.declared.machine.Place.{Place as APlace};
+ghost use Rattle.sgt_core.specs.declared.machine.Part.TheVariants.{Idle};
 ghost use Rattle.sgt_core.specs.declared.machine.Running.{Running as ARunning};
 
 use crate::machine::{Open, Part, Phase, Place, Running};
 use sgt_edges::{EdgeFault, EdgeList, gather};
-use sgt_names::Tx;
+use sgt_names::{Touch, Tx};
 use sgt_site::SiteFault;
 use std::alloc::{AllocError, Global};
 
@@ -104,5 +106,41 @@ pub(crate) fn release_all(places: &mut Vec<Place>, tx: Tx)
 {
     for at in 0..places.len() {
         release(&mut places[at], tx);
+    }
+}
+
+// Whether the open step has come to the site.
+pub(crate) fn is_gathered(places: &[Place], at: usize) -> bool
+    requires { at < length places.now }
+    ensures { (p : APlace) → slice_get places.now at ≡ Some p → IsTrue result ↔ (p.part ≢ Idle) }
+{
+    match places[at].part {
+        Part::Idle => false,
+        _ => true,
+    }
+}
+
+// Whether the transaction at a place of the table touches a site to which the open step hasn't come.
+pub(crate) fn misses(places: &[Place], table: &[Option<Running>], slot: usize) -> bool
+    requires { slot < length table.now }
+    ensures { (r : ARunning) → slice_get table.now slot ≡ Some (Some r) → IsTrue result ↔ Any (IsMissedAt places.now) r.draft.touched }
+{
+    match &table[slot] {
+        Some(running) => running.draft.touched().iter().any(|t| is_missed(places, t)),
+        None => false,
+    }
+}
+
+// Whether the open step hasn't come to the site of the touched item.
+fn is_missed(places: &[Place], touch: &Touch) -> bool
+    ensures { IsTrue result ↔ IsMissedAt places.now touch.now }
+{
+    let at = touch.site.number() as usize;
+    match places.get(at) {
+        Some(place) => match place.part {
+            Part::Idle => true,
+            _ => false,
+        },
+        None => true,
     }
 }

@@ -10,10 +10,12 @@ ghost use Rattle.sgt_site.specs.State.{AreItems, opened};
 ghost use Rattle.sgt_site.specs.Refused.{RefusesItems};
 ghost use Rattle.sgt_core.specs.declared.machine.Part.TheVariants.{Idle};
 ghost use Rattle.sgt_core.specs.Core.{CoreState, fresh};
-ghost use Rattle.sgt_core.specs.Step.{IsOwnOpen, IsOfSite, tx_in, IsRefused, MayStep, MayDecide};
+ghost use Rattle.sgt_core.specs.Gathered.{GathersAt, AreReleased};
+ghost use Rattle.sgt_core.specs.Step.{IsOwnOpen, IsOtherOpen, IsOfSite, tx_in, IsRefused, MayStep, MayDecide};
 ghost use Rattle.sgt_core.specs.Machine.{parts_of, StandsFor, Stands, GoesOn, IsSlotOf, RefusesItem, RefusesSites, AreOpened, Redrafts, ChangesTo, ReadsTo, ReadsAt, HasRoomAt, close_fault};
 ghost use Rattle.sgt_core.specs.declared.machine.Running.{Running as ARunning};
 
+use crate::gathering::{add_edges, edges_at, is_gathered, misses, pledge_at, release_all};
 use crate::reply::{CoreFault, Reply};
 use sgt_arena::{Handle, MAX_PLACES};
 use sgt_certifier::{Certifier, CertifierFault};
@@ -131,6 +133,16 @@ impl Machine {
         }
     }
 
+    // Whether the open step is that of another transaction.
+    fn other_step(&self, tx: Tx) -> bool
+        ensures { (c : CoreState) → StandsFor (parts_of self.now) c → IsTrue result ↔ IsOtherOpen c tx }
+    {
+        match &self.step {
+            Some(open) => open.tx != tx,
+            None => false,
+        }
+    }
+
     // Whether the item is at the site.
     fn has_item(&self, site: SiteNo, item: Item) -> bool
         ensures { (c : CoreState) → StandsFor (parts_of self.now) c → IsTrue result ↔ IsOfSite c site item }
@@ -221,7 +233,7 @@ impl Machine {
         Reply::Begun { tx: begun.0 }
     }
 
-    /// The transaction is gathered at the site. It gives up with E9 for now.
+    /// The transaction is gathered at the site: its pledge there, and its edges.
     pub(crate) fn gather(&mut self, tx: Tx, site: SiteNo) -> Reply
         requires { Stands (parts_of self.old) }
         ensures { GoesOn (λ c d. MayStep c (event.Gather tx site) result d) (parts_of self.old) (parts_of self.new) }
@@ -230,16 +242,58 @@ impl Machine {
             Ok(slot) => slot,
             Err(fault) => return refused(fault),
         };
-        if site.number() as usize >= self.places.len() {
+        if self.other_step(tx) {
+            return refused(CoreFault::StepOpen);
+        }
+        let at = site.number() as usize;
+        if at >= self.places.len() {
             return refused(CoreFault::UnknownItem);
+        }
+        if is_gathered(self.places.as_slice(), at) {
+            return refused(CoreFault::AlreadyDone);
         }
         if !touches(self.running.as_slice(), slot, site) {
             return refused(CoreFault::NotTouched);
         }
-        refused(CoreFault::Memory)
+        match self.gather_at(tx, slot, at) {
+            Ok(()) => Reply::Gathered,
+            Err(_) => {
+                self.give_up(tx);
+                refused(CoreFault::Memory)
+            }
+        }
     }
 
-    /// The transaction is decided. It gives up with E9 for now.
+    // Gathers a transaction at a site that it touches and where it isn't gathered.
+    fn gather_at(&mut self, tx: Tx, slot: usize, at: usize) -> Result<(), CoreFault>
+        requires site { at < length self.old.places.items }
+        requires slot { (r : ARunning) × (slice_get self.old.running.items slot ≡ Some (Some r)) }
+        ensures ok { OnOk result (GathersAt (parts_of self.old) (parts_of self.new) tx slot at) }
+        ensures err { OnErr result (parts_of self.new ≡ record (parts_of self.old) { step = self.new.step }) }
+    {
+        let table = self.running.as_slice();
+        let Ok(more) = edges_at(self.alloc, self.places.as_slice(), table, at, slot) else {
+            return Err(CoreFault::Memory);
+        };
+        if add_edges(&mut self.step, tx, more).is_err() {
+            return Err(CoreFault::Memory);
+        }
+        match pledge_at(&mut self.places, table, at, slot, tx) {
+            Ok(()) => Ok(()),
+            Err(_) => Err(CoreFault::Memory),
+        }
+    }
+
+    // Closes the transaction's step as if it had never been opened.
+    fn give_up(&mut self, tx: Tx)
+        ensures places { AreReleased tx self.old.places.items self.new.places.items }
+        ensures rest { parts_of self.new ≡ record (parts_of self.old) { places = self.new.places.items; step = None } }
+    {
+        release_all(&mut self.places, tx);
+        self.step = None;
+    }
+
+    /// The transaction is decided. It gives up with E9 for now, where it is gathered wherever it touches.
     pub(crate) fn decide(&mut self, tx: Tx) -> Reply
         requires { Stands (parts_of self.old) }
         ensures { GoesOn (λ c d. MayStep c (event.Decide tx) result d) (parts_of self.old) (parts_of self.new) }
@@ -248,9 +302,13 @@ impl Machine {
             Ok(slot) => slot,
             Err(fault) => return refused(fault),
         };
-        if touches_any(self.running.as_slice(), slot) {
+        if self.other_step(tx) {
+            return refused(CoreFault::StepOpen);
+        }
+        if misses(self.places.as_slice(), self.running.as_slice(), slot) {
             return refused(CoreFault::NotGathered);
         }
+        self.give_up(tx);
         refused(CoreFault::Memory)
     }
 
@@ -262,6 +320,9 @@ impl Machine {
         match self.slot_of(tx) {
             Ok(_) => {}
             Err(fault) => return refused(fault),
+        }
+        if self.other_step(tx) {
+            return refused(CoreFault::StepOpen);
         }
         if site.number() as usize >= self.places.len() {
             return refused(CoreFault::UnknownItem);
@@ -275,9 +336,13 @@ impl Machine {
         ensures { GoesOn (λ c d. MayStep c (event.Commit tx) result d) (parts_of self.old) (parts_of self.new) }
     {
         match self.slot_of(tx) {
-            Ok(_) => refused(CoreFault::Memory),
-            Err(fault) => refused(fault),
+            Ok(_) => {}
+            Err(fault) => return refused(fault),
         }
+        if self.step.is_some() {
+            return refused(CoreFault::StepOpen);
+        }
+        refused(CoreFault::Memory)
     }
 
     /// The transaction is gathered wherever it touches, and decided. It gives up with E9 for now.
@@ -286,9 +351,13 @@ impl Machine {
         ensures { GoesOn (λ c d. MayDecide c tx result d) (parts_of self.old) (parts_of self.new) }
     {
         match self.slot_of(tx) {
-            Ok(_) => refused(CoreFault::Memory),
-            Err(fault) => refused(fault),
+            Ok(_) => {}
+            Err(fault) => return refused(fault),
         }
+        if self.step.is_some() {
+            return refused(CoreFault::StepOpen);
+        }
+        refused(CoreFault::Memory)
     }
 
     /// The transaction is withdrawn. It gives up with E9 for now.
@@ -297,9 +366,13 @@ impl Machine {
         ensures { GoesOn (λ c d. MayStep c (event.Withdraw tx) result d) (parts_of self.old) (parts_of self.new) }
     {
         match self.slot_of(tx) {
-            Ok(_) => refused(CoreFault::Memory),
-            Err(fault) => refused(fault),
+            Ok(_) => {}
+            Err(fault) => return refused(fault),
         }
+        if self.step.is_some() {
+            return refused(CoreFault::StepOpen);
+        }
+        refused(CoreFault::Memory)
     }
 
     /// The transaction reads the item.
@@ -467,17 +540,6 @@ fn touches(table: &[Option<Running>], slot: usize, site: SiteNo) -> bool
 {
     match &table[slot] {
         Some(running) => running.draft.touches(site),
-        None => false,
-    }
-}
-
-// Whether the transaction at a place of the table touches an item at all.
-fn touches_any(table: &[Option<Running>], slot: usize) -> bool
-    requires { slot < length table.now }
-    ensures { (r : ARunning) → slice_get table.now slot ≡ Some (Some r) → IsTrue result ↔ (0 < length r.draft.touched) }
-{
-    match &table[slot] {
-        Some(running) => running.draft.touched().len() > 0,
         None => false,
     }
 }
