@@ -32,3 +32,4 @@ pub mod Reading
 pub mod Touching
 pub mod Refusing
 pub mod Opening
+pub mod Bundles
