@@ -1,5 +1,5 @@
 -- The logs of the machine's sites, as those of the bundle.
-use Rattle.std.proofs.Common.{◌≡◌, ◌<◌, ◌≤◌, ◌+◌, ℕ, zero, suc, List, [], ◌∷◌, ◌++◌, length, map, refl, sym, ◌∙◌, arith, All, Contains, Option, Some, None, subst, ap, ap₂}
+use Rattle.std.proofs.Common.{◌≡◌, ◌≤◌, ◌+◌, ℕ, suc, List, [], ◌∷◌, length, map, refl, sym, ◌∙◌, arith, Option, Some, None, subst, ap, ap₂}
 use Rattle.std.specs.Prelude.{slice_get, unwrap_or, SomeIff, Result, Ok, Err, IfOk}
 use Rattle.std.specs.List.{enumerate_from}
 use Rattle.std.proofs.lemmas.List.{length-map}

@@ -1,6 +1,4 @@
-use Rattle.std.proofs.Common.{◌≡◌, List, sym, ◌∙◌, ap, subst}
-use Rattle.sgt_names.specs.declared.entry.Holding.{Holding}
-use Rattle.sgt_core.specs.Core.{finals_of}
+use Rattle.std.proofs.Common.{◌∙◌}
 use Rattle.sgt_core.proofs.Bundles.{same_log, finals_are}
 use Rattle.sgt_core.proofs.bundling.log_of.Goals as goal
 

@@ -1,4 +1,4 @@
-use Rattle.std.proofs.Common.{◌≡◌, ◌≤◌, length, refl, sym, ◌∙◌, ap, subst, arith}
+use Rattle.std.proofs.Common.{◌∙◌, ap, arith}
 use Rattle.sgt_certifier.specs.Certifier.{State}
 use Rattle.sgt_core.specs.Machine.{parts_of}
 use Rattle.sgt_core.proofs.Standing.{reached_kept}

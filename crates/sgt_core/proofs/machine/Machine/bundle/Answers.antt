@@ -1,5 +1,5 @@
-use Rattle.std.proofs.Common.{◌≡◌, ◌<◌, ◌≤◌, refl, sym, ◌∙◌, ap, subst, arith}
-use Rattle.std.proofs.Common.{List, map}
+use Rattle.std.proofs.Common.{sym, ◌∙◌, ap, subst, arith}
+use Rattle.std.proofs.Common.{map}
 use Rattle.sgt_cert.specs.Parts.{FitTogether}
 use Rattle.sgt_core.specs.Machine.{parts_of}
 use Rattle.sgt_core.specs.Core.{site_log}

@@ -2,7 +2,7 @@ use Rattle.std.proofs.Common.{sym, subst}
 use Rattle.std.proofs.Common.{List, Option}
 use Rattle.sgt_core.specs.declared.machine.Running.{Running}
 use Rattle.sgt_core.specs.Core.{fresh}
-use Rattle.sgt_core.specs.Machine.{Parts, StandsFor}
+use Rattle.sgt_core.specs.Machine.{StandsFor}
 use Rattle.sgt_core.proofs.Opening.{new_stands}
 use Rattle.sgt_core.proofs.machine.Machine.new.Goals as goal
 
