@@ -1,27 +1,23 @@
 -- An active transaction is to change an item.
-use Rattle.std.proofs.Common.{◌≡◌, ◌<◌, ◌≤◌, ◌+◌, ℕ, suc, List, [], ◌∷◌, ◌++◌, length, map, refl, sym, ◌∙◌, arith, ◌⊎◌, inl, inr, Contains, Option, Some, None, subst, ap}
-use Rattle.std.specs.Prelude.{slice_get, slice_set}
+use Rattle.std.proofs.Common.{◌≡◌, ◌<◌, ◌≤◌, ◌+◌, ℕ, suc, List, ◌++◌, refl, sym, ◌∙◌, arith, ◌⊎◌, inl, inr, Contains, Option, Some, subst, ap}
 use Rattle.std.proofs.lemmas.Bool.{cases_eq, eq-eqb, ne_eqb}
 use Rattle.std.proofs.lemmas.Option.{same_Some}
 use Rattle.sgt_names.specs.Name.{Name}
 use Rattle.sgt_names.specs.Draft.{at_site, kept_in, writing_in, change_at}
 use Rattle.sgt_names.specs.Log.{Conflicts}
-use Rattle.sgt_names.specs.declared.draft.Touch.{Touch}
 use Rattle.sgt_names.specs.declared.entry.Change.{Change}
-use Rattle.sgt_names.specs.declared.entry.Entry.{Entry}
 use Rattle.sgt_site.specs.State.{KeepsReads}
 use Rattle.sgt_certifier.specs.Certifier.{Arc}
 use Rattle.sgt_notation.specs.declared.event.Event.{Event}
 use Rattle.sgt_notation.specs.declared.event.Event.TheVariants.{Read, Put, Add}
 use Rattle.sgt_core.specs.declared.reply.CoreFault.{CoreFault}
 use Rattle.sgt_core.specs.declared.reply.CoreFault.TheVariants as fault
-use Rattle.sgt_core.specs.declared.machine.Place.{Place}
 use Rattle.sgt_core.specs.declared.machine.Running.{Running}
 use Rattle.sgt_core.specs.Core.{CoreState, IsEdgeOf, as_changes, change_in, changed_at, put_in, with_change}
-use Rattle.sgt_core.specs.Step.{IsOwnOpen, IsOfSite, tx_in, Fails, fault_place, IsRefused, IsAllowed}
-use Rattle.sgt_core.specs.Machine.{Parts, IsReached, IsRunning, StandsFor, IsSlotOf, RefusesItem, Redrafts, ChangesTo}
+use Rattle.sgt_core.specs.Step.{IsOwnOpen, IsOfSite, tx_in, Fails, fault_place, IsAllowed}
+use Rattle.sgt_core.specs.Machine.{Parts, IsReached, IsRunning, StandsFor, RefusesItem, Redrafts, ChangesTo}
 use Rattle.sgt_core.proofs.Drafting.{change_there, other_sites, put_there, same_reads}
-use Rattle.sgt_core.proofs.Redrafting.{IsLike, slot_begun, slot_active, redrafted, redraft_parts, redraft_stands}
+use Rattle.sgt_core.proofs.Redrafting.{redraft_stands}
 
 -- ---- refusals
 

@@ -1,13 +1,13 @@
 -- What a draft keeps at a site, as the model's changes and reads.
-use Rattle.std.proofs.Common.{◌≡◌, ◌<◌, ◌+◌, ℕ, zero, suc, Bool, true, false, cond, List, [], ◌∷◌, ◌++◌, length, refl, sym, ◌∙◌, arith, ◌⊎◌, inl, inr, All, AllPairs, Contains, Option, Some, None, subst, ap, ap₂}
-use Rattle.std.specs.Prelude.{filter, slice_get, option_and_then, option_map, find, IfSome, ◌==◌}
+use Rattle.std.proofs.Common.{◌≡◌, ◌<◌, ◌+◌, ℕ, zero, suc, Bool, true, false, cond, List, [], ◌∷◌, ◌++◌, length, refl, sym, ◌∙◌, arith, ◌⊎◌, inl, inr, Contains, Option, Some, None, subst, ap, ap₂}
+use Rattle.std.specs.Prelude.{filter, slice_get, option_and_then, IfSome, ◌==◌}
 use Rattle.std.specs.List.{filter_map, cons_option}
 use Rattle.std.specs.Option.{option_to_list}
 use Rattle.std.specs.Str.{bytes_eq}
 use Rattle.std.specs.Ordering.{nat_cmp, is_lt}
 use Rattle.std.specs.Cmp.Lexicographic.{slice_cmp}
 use Rattle.std.specs.declared.cmp.Ordering.TheVariants.{Less, Equal, Greater}
-use Rattle.std.proofs.lemmas.Bool.{cases_Bool, cases_eq, eq-eqb, ne_eqb, eqb-true, true≢false}
+use Rattle.std.proofs.lemmas.Bool.{cases_Bool, eq-eqb, ne_eqb, eqb-true}
 use Rattle.std.proofs.lemmas.Cmp.{nat_list_cmp_total, tied_itself}
 use Rattle.std.proofs.lemmas.List.Elements.{Contains-append_cases, Contains-append_left, Contains-append_right, filter-append, filter_map-append}
 use Rattle.std.proofs.lemmas.List.Kept.{AllPairs-filter}
@@ -24,7 +24,7 @@ use Rattle.sgt_names.proofs.Ranged.{find_none}
 use Rattle.sgt_site.specs.private.Cells.{touch_in}
 use Rattle.sgt_site.proofs.Appends.{chosen_at}
 use Rattle.sgt_site.proofs.Basics.{less_apart, apart_false}
-use Rattle.sgt_site.proofs.Parts.{ItemsRise, part-rises, touch-found, touch-there, kept-touch, touch-kept}
+use Rattle.sgt_site.proofs.Parts.{ItemsRise, part-rises, touch-there, kept-touch, touch-kept}
 use Rattle.sgt_certifier.proofs.Members.{cons_cases, cons_here, cons_later, nil_none, filter_member, place_cases, place_right}
 use Rattle.sgt_core.specs.Core.{comes_before, change_in, put_in}
 

@@ -1,11 +1,10 @@
 -- Where a site and its items are found.
-use Rattle.std.proofs.Common.{inl, inr, ◌≡◌, Bool, true, ◌<◌, ◌≤◌, ℕ, List, [], length, map, refl, sym, ◌∙◌, arith, Contains, Option, Some, None, subst, ap}
+use Rattle.std.proofs.Common.{inl, inr, ◌≡◌, Bool, true, ◌<◌, ◌≤◌, ℕ, List, length, refl, sym, ◌∙◌, arith, Contains, Option, Some, None, subst, ap}
 use Rattle.std.specs.Prelude.{slice_get, slice_set, option_map, false, get_or, IsTrue, is_ok, is_err, Result, Ok, Err, OnOk, OnErr, IfErr}
 use Rattle.std.proofs.lemmas.Bool.{true≢false}
 use Rattle.std.proofs.lemmas.Option.{slice_get-map, slice_get_read, slice_get_within}
 use Rattle.sgt_names.specs.Name.{Name}
 use Rattle.sgt_names.specs.Log.{names}
-use Rattle.sgt_names.specs.declared.entry.Holding.{Holding}
 use Rattle.sgt_names.proofs.Lists.{option_cases}
 use Rattle.sgt_certifier.proofs.Members.{nil_none}
 use Rattle.sgt_order.proofs.Lists.{set_same}

@@ -34,3 +34,4 @@ pub mod Refusing
 pub mod Leading
 pub mod Stepping
 pub mod Opening
+pub mod Bundles

@@ -3,6 +3,7 @@ use Rattle.std.proofs.Common.{◌≡◌, ◌<◌, ◌≤◌, ◌+◌, ℕ, zero,
 use Rattle.std.specs.Prelude.{slice_get}
 use Rattle.std.proofs.lemmas.List.{length_push, length-take-le, take_all, length-map}
 use Rattle.std.proofs.lemmas.Option.{same_Some, slice_get_within}
+use Rattle.sgt_names.specs.Limits.{max_sites}
 use Rattle.sgt_names.specs.declared.entry.Holding.{Holding}
 use Rattle.sgt_names.proofs.Lists.{front_at, take_next, middle_at, within_at, map_at}
 use Rattle.sgt_names.proofs.Places.{All-from_at}
@@ -55,7 +56,7 @@ opened_items sites places h = All-from_at AreItems sites (λ k items at.
     let e = h.each k p.0 p.1 in
     subst AreItems (same_Some e.0 items (sym e.1 ∙ at)) e.2)
 
-same_lists : {A : Type 0} (xs ys : List A) → length xs ≡ length ys → ((k : ℕ) (x : A) → slice_get ys k ≡ Some x → slice_get xs k ≡ Some x) → xs ≡ ys
+pub same_lists : {A : Type 0} (xs ys : List A) → length xs ≡ length ys → ((k : ℕ) (x : A) → slice_get ys k ≡ Some x → slice_get xs k ≡ Some x) → xs ≡ ys
 same_lists [] [] long h = refl
 same_lists [] (y ∷ ys) long h = absurd (omega (arith, long))
 same_lists (x ∷ xs) [] long h = absurd (omega (arith, long))
@@ -66,10 +67,11 @@ same_lists (x ∷ xs) (y ∷ ys) long h =
 abbrev start : List Place → Kept → Parts
 start places certifier = record { places = places; certifier = certifier; begun = 0; before = 0; table = []; step = None }
 
-pub new_stands : (sites : List (List Holding)) (places : List Place) (certifier : Kept) → AreOpened sites places → certifier.state ≡ opening
+pub new_stands : (sites : List (List Holding)) (places : List Place) (certifier : Kept) → AreOpened sites places → certifier.state ≡ opening → 1 ≤ length sites → length sites ≤ max_sites
     → StandsFor (record { places = places; certifier = certifier; begun = 0; before = 0; table = []; step = None }) (fresh sites)
-new_stands sites places certifier h is = record {
+new_stands sites places certifier h is some few = record {
   reached = (sites, ([], ([], refl)));
+  sites = record { some = some; few = few; each = opened_items sites places h };
   items = same_lists sites (map (λ (p : Place). p.site.items) places) (sym h.long ∙ sym (length-map places (λ (p : Place). p.site.items))) (λ k items at.
       let p = map_at (λ (q : Place). q.site.items) places k items at in
       let e = h.each k p.0 p.1 in

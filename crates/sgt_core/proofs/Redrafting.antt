@@ -160,6 +160,7 @@ module _ (m : Parts) (c : CoreState) (s : StandsFor m c) (tx slot : ℕ) (number
         let within = slice_get_within m.table slot (Some r) there in
         record {
           reached = reached;
+          sites = s.sites;
           items = s.items ∙ sym items;
           certifier = s.certifier;
           before = s.before;

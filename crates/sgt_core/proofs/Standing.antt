@@ -1,9 +1,6 @@
 -- A state that the machine stands for: runs that go on, and what the state says of the machine's parts.
-use Rattle.std.proofs.Common.{◌≡◌, ◌<◌, ◌≤◌, ◌+◌, ◌-◌, ℕ, suc, List, [], ◌∷◌, ◌++◌, length, refl, sym, ◌∙◌, arith, inl, inr, Contains, Option, Some, None, subst, ap}
+use Rattle.std.proofs.Common.{◌≡◌, ◌<◌, ◌≤◌, ◌+◌, ℕ, suc, List, [], ◌∷◌, ◌++◌, refl, sym, ◌∙◌, arith, Contains, Option, Some, None, subst}
 use Rattle.std.specs.Prelude.{slice_get, is_some, false}
-use Rattle.sgt_names.specs.declared.entry.Holding.{Holding}
-use Rattle.sgt_names.proofs.Lists.{option_cases}
-use Rattle.sgt_certifier.specs.Certifier.{State}
 use Rattle.sgt_certifier.proofs.Members.{nil_none}
 use Rattle.sgt_notation.specs.declared.event.Event.{Event}
 use Rattle.sgt_core.specs.declared.reply.Reply.{Reply}
@@ -12,11 +9,10 @@ use Rattle.sgt_core.specs.declared.reply.CoreFault.TheVariants as fault
 use Rattle.sgt_core.specs.declared.machine.Place.{Place}
 use Rattle.sgt_core.specs.declared.machine.Part.{Part}
 use Rattle.sgt_core.specs.declared.machine.Part.TheVariants.{Idle, Due, Written}
-use Rattle.sgt_core.specs.declared.machine.Running.{Running}
 use Rattle.sgt_core.specs.declared.machine.Open.{Open}
 use Rattle.sgt_core.specs.Core.{CoreState, fresh}
 use Rattle.sgt_core.specs.Step.{gathered_in, tx_in, Fails, fault_place, IsRefused, MayStep, Run}
-use Rattle.sgt_core.specs.Machine.{Parts, IsReached, Carries, RunsAt, IsPart, IsStep, StandsFor, Stands, GoesOn}
+use Rattle.sgt_core.specs.Machine.{Parts, IsReached, IsPart, IsStep, StandsFor, Stands, GoesOn}
 use Rattle.sgt_core.proofs.Kept.{IsKept}
 use Rattle.sgt_core.proofs.Runs.{runs-kept, idle}
 

@@ -127,6 +127,7 @@ module _ (m : Parts) (c : CoreState) (s : StandsFor m c) (none : m.step ≡ None
         may,
         record {
           reached = reached_more c Begin (Begun tx) (begun_state c) s.reached may;
+          sites = s.sites;
           items = s.items;
           certifier = subst (λ (st : State). Carries st (with_begun c.certifier)) (sym adds.serves.1.2) (carries_begun m.certifier.state c.certifier s.certifier);
           before = s.before;
@@ -240,6 +241,7 @@ module _ (m : Parts) (c : CoreState) (s : StandsFor m c) (none : m.step ≡ None
         may,
         record {
           reached = reached_more c Close (Closed ranks) (closed_state c) s.reached may;
+          sites = s.sites;
           items = s.items;
           certifier = subst (λ (st : State). Carries st (with_closed c.certifier)) (sym adds.serves.1.1) (carries_closed m.certifier.state c.certifier s.certifier);
           before = s.begun;

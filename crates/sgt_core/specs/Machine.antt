@@ -34,6 +34,7 @@ use Rattle.sgt_core.specs.declared.machine.Open.{Open}
 use Rattle.sgt_core.specs.declared.machine.Phase.{Phase}
 use Rattle.sgt_core.specs.declared.machine.Phase.TheVariants.{Gathering, Committed, Refused}
 use Rattle.sgt_core.specs.Core.{OpenStep, CoreState, fresh, IsEdgeOf}
+use Rattle.sgt_core.specs.Runs.{AreSites}
 use Rattle.sgt_core.specs.Step.{gathered_in, IsRefused, Run}
 
 -- the parts of the machine: its sites, its certifier, the transactions of the window, and the open step
@@ -140,6 +141,7 @@ IsStep m c (Some o) = (gathered : List ℕ) × (c.step ≡ Some (record { tx = o
 -- the machine stands for this state of the model. The state may have edges that the machine's certifier was not handed
 pub record StandsFor (m : Parts) (c : CoreState) : Type 0 where
   pub reached : IsReached c
+  pub sites : AreSites c.items
   pub items : c.items ≡ map (λ p. p.site.items) m.places
   pub certifier : Carries m.certifier.state c.certifier
   -- who was begun in this window, by its place there

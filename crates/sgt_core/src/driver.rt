@@ -2,13 +2,15 @@
 
 ghost use Rattle.std.specs.Prelude.{◌≡◌, ◌≢◌, ◌≤◌, [], length, IfOk, IfErr, OnOk, OnErr};
 ghost use Rattle.sgt_names.specs.Limits.{max_sites};
-ghost use Rattle.sgt_core.specs.Core.{CoreState, fresh};
+ghost use Rattle.sgt_cert.specs.Valid.{IsValid};
+ghost use Rattle.sgt_core.specs.Core.{CoreState, fresh, bundle_of};
 ghost use Rattle.sgt_core.specs.Step.{MayStep, MayDecide, Run};
 ghost use Rattle.sgt_core.specs.Runs.{AreSites};
-ghost use Rattle.sgt_core.specs.Machine.{StandsFor, Stands, GoesOn, RefusesSites};
+ghost use Rattle.sgt_core.specs.Machine.{StandsFor, Stands, GoesOn, RefusesSites, RefusesBundle};
 
 use crate::machine::Machine;
-use crate::reply::Reply;
+use crate::reply::{CoreFault, Reply};
+use sgt_cert::Bundle;
 use sgt_names::{Holding, Listed, Tx};
 use sgt_notation::Event;
 use sgt_site::SiteFault;
@@ -103,5 +105,20 @@ impl Core {
         ensures stands { Stands self.now }
     {
         self.machine.certifier.active()
+    }
+
+    /// The logs with the certificate. It errs with E8 where a transaction is active, and else with E9 where there is no memory.
+    /// Linear in the history and the logs.
+    pub fn bundle(&self, alloc: Global) -> Result<Bundle, CoreFault>
+        ensures ok { IfOk result (λ b. (c : CoreState) → StandsFor self.now c → b ≡ bundle_of c) }
+        ensures valid { IfOk result IsValid }
+        ensures idle { OnOk result ((c : CoreState) → StandsFor self.now c → c.certifier.active ≡ []) }
+        ensures refused { IfErr result (λ f. (c : CoreState) → StandsFor self.now c → RefusesBundle c f) }
+    {
+        let certifier = &self.machine.certifier;
+        if certifier.active() > 0 {
+            return Err(CoreFault::ActiveLeft);
+        }
+        self.machine.bundle(alloc)
     }
 }

@@ -1,6 +1,7 @@
 //! The certifier and its sites, driven by one thread: the model, and laws of all its runs.
 #![tactic(auto)]
 
+mod bundling;
 mod driver;
 mod gathering;
 mod laws;

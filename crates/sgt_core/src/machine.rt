@@ -85,7 +85,8 @@ pub struct Machine {
 impl Machine {
     /// A machine over sites with these items, to which nothing has happened.
     pub(crate) fn new(alloc: Global, sites: &[Listed<Holding>]) -> Result<Machine, SiteFault>
-        requires { length sites.now ≤ max_sites }
+        requires some { 1 ≤ length sites.now }
+        requires few { length sites.now ≤ max_sites }
         ensures ok { IfOk result (λ m. StandsFor (parts_of m) (fresh sites.now)) }
         ensures allowed { OnOk result (All AreItems sites.now) }
         ensures refused { IfErr result (RefusesSites sites.now) }

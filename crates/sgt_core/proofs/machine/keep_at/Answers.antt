@@ -1,5 +1,4 @@
-use Rattle.std.proofs.Common.{◌≡◌, Option, Some, length, refl, sym, ◌∙◌, ap, subst}
-use Rattle.std.specs.Prelude.{OnOk}
+use Rattle.std.proofs.Common.{Some, length, refl, ◌∙◌, ap}
 use Rattle.std.proofs.lemmas.Option.{slice_get_within, slice_get_read}
 use Rattle.sgt_core.proofs.Finding.{ok_of}
 use Rattle.sgt_core.proofs.machine.keep_at.Goals as goal

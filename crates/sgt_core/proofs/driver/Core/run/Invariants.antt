@@ -1,4 +1,4 @@
-use Rattle.std.proofs.Common.{◌≡◌, ◌≤◌, ◌+◌, length, take}
+use Rattle.std.proofs.Common.{◌≤◌, ◌+◌, length, take}
 use Rattle.std.specs.Prelude.{vec_len, vec_capacity}
 use Rattle.sgt_core.specs.Step.{Run}
 use Rattle.sgt_core.specs.Machine.{GoesOn}

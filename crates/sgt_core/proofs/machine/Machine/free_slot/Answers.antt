@@ -1,4 +1,4 @@
-use Rattle.std.proofs.Common.{◌≡◌, refl}
+use Rattle.std.proofs.Common.{refl}
 use Rattle.sgt_notation.specs.declared.event.Event.TheVariants.{Read, Put, Add}
 use Rattle.sgt_core.specs.Machine.{parts_of}
 use Rattle.sgt_core.proofs.Redrafting.{slot_begun, slot_active}

@@ -1,12 +1,10 @@
-use Rattle.std.proofs.Common.{◌≡◌, List, Option, refl, sym, subst, ◌∙◌, ap}
-use Rattle.sgt_names.specs.Draft.{added_to}
+use Rattle.std.proofs.Common.{List, Option, refl, sym, subst}
 use Rattle.sgt_names.specs.declared.entry.Change.{Change}
 use Rattle.sgt_names.specs.declared.entry.Change.TheVariants as change
 use Rattle.sgt_notation.specs.declared.event.Event.TheVariants.{Put}
 use Rattle.sgt_core.specs.declared.machine.Running.{Running}
 use Rattle.sgt_core.specs.declared.reply.Reply.{Reply}
 use Rattle.sgt_core.specs.declared.reply.Reply.TheVariants.{Kept}
-use Rattle.sgt_core.specs.declared.reply.CoreFault.TheVariants as fault
 use Rattle.sgt_core.specs.Core.{CoreState, change_in, with_change}
 use Rattle.sgt_core.specs.Step.{MayStep}
 use Rattle.sgt_core.specs.Machine.{parts_of, StandsFor}

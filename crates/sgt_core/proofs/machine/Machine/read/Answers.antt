@@ -1,11 +1,9 @@
-use Rattle.std.proofs.Common.{◌≡◌, ◌<◌, ◌≤◌, List, Option, Some, None, length, refl, sym, ◌∙◌, arith, subst, ap}
-use Rattle.std.specs.Prelude.{slice_get, slice_set, option_and_then, true, IsTrue}
+use Rattle.std.proofs.Common.{List, Option, Some, length, refl, sym, ◌∙◌, arith, subst, ap}
+use Rattle.std.specs.Prelude.{slice_get, true}
 use Rattle.std.proofs.lemmas.Option.{slice_get_within}
 use Rattle.sgt_order.proofs.Lists.{get_set_same}
-use Rattle.sgt_names.specs.Draft.{look_of, touched_at}
 use Rattle.sgt_notation.specs.declared.event.Event.TheVariants.{Read}
 use Rattle.sgt_core.specs.declared.reply.Reply.{Reply}
-use Rattle.sgt_core.specs.declared.reply.CoreFault.TheVariants as fault
 use Rattle.sgt_core.specs.declared.machine.Running.{Running}
 use Rattle.sgt_core.specs.declared.machine.Place.{Place}
 use Rattle.sgt_core.specs.Core.{CoreState}

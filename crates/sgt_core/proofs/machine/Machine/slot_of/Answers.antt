@@ -1,7 +1,5 @@
-use Rattle.std.proofs.Common.{◌≡◌, ◌-◌, ◌+◌, ◌<◌, Option, Some, None, suc, length, refl, sym, ◌∙◌, ap, arith}
-use Rattle.std.specs.Prelude.{slice_get}
+use Rattle.std.proofs.Common.{◌-◌, Some, length, refl, ◌∙◌, ap, arith}
 use Rattle.std.proofs.lemmas.Option.{slice_get_read}
-use Rattle.sgt_core.specs.declared.machine.Running.{Running}
 use Rattle.sgt_core.specs.Machine.{parts_of}
 use Rattle.sgt_core.proofs.Standing.{older_refused, free_refused}
 use Rattle.sgt_core.proofs.machine.Machine.slot_of.Goals as goal
