@@ -271,7 +271,7 @@ module _ (m : Parts) (c : CoreState) (k : IsKept c) (carries : Carries m.certifi
                   record {
                     ends = inr (to_is, subst (Contains s.order) from_is here.2);
                     conflict = joined e at (tx_under s e.from) (tx_under s e.to) (subst (λ a. Conflicts (edges.followed p.site tx r.draft.touched) e.label.kind e.label.item a (tx_under s e.to)) from_is
-                      (subst (Conflicts (edges.followed p.site tx r.draft.touched) e.label.kind e.label.item is.other) (sym to_is) to_me.2));
+                        (subst (Conflicts (edges.followed p.site tx r.draft.touched) e.label.kind e.label.item is.other) (sym to_is) to_me.2));
                   }
               | inr older ↦ absurd (omega (arith, older.0, here_gen))
             ]
@@ -283,7 +283,7 @@ module _ (m : Parts) (c : CoreState) (k : IsKept c) (carries : Carries m.certifi
             record {
               ends = inl (from_is, subst (Contains s.order) to_is here.2);
               conflict = joined e at (tx_under s e.from) (tx_under s e.to) (subst (Conflicts (edges.followed p.site tx r.draft.touched) e.label.kind e.label.item (tx_under s e.from)) to_is
-                (subst (λ a. Conflicts (edges.followed p.site tx r.draft.touched) e.label.kind e.label.item a is.other) (sym from_is) from_me.2));
+                  (subst (λ a. Conflicts (edges.followed p.site tx r.draft.touched) e.label.kind e.label.item a is.other) (sym from_is) from_me.2));
             }
       ]
     where

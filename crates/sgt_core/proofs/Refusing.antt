@@ -74,8 +74,7 @@ module _ (m : Parts) (c : CoreState) (s : StandsFor m c) (tx slot : ℕ) (h : Is
   pub here : (t : ℕ) → (touches c tx t ≡ true → Touches h.1.0.draft.touched t) × (Touches h.1.0.draft.touched t → touches c tx t ≡ true)
   here t =
       let r = s.running slot (Some h.1.0) h.1.1 in
-      let k = reached_kept c s.reached in
-      (
+      let k = reached_kept c s.reached in (
         λ hit. touches_draft c k m.before slot t h.1.0 r idle (subst (λ i. touches c i t ≡ true) h.0 hit),
         λ any. subst (λ i. touches c i t ≡ true) (sym h.0) (draft_touches c k m.before slot t h.1.0 r idle any),
       )
@@ -142,7 +141,7 @@ module _ (m : Parts) (c : CoreState) (s : StandsFor m c) (tx slot : ℕ) (h : Is
         let count = site_count m c s in
         let p = within_at m.places t (omega (arith, inside, count)) in
         gathered_there t p.0 p.1 (λ is. none (Any-from_at (λ (u : Touch). (p : Place) → slice_get m.places u.site ≡ Some p → p.part ≡ Idle) h.1.0.draft.touched a.0 a.1 a.2
-          (λ q at. ap (λ (w : Place). w.part) (same_Some q p.0 (sym at ∙ (ap (slice_get m.places) a.3.0 ∙ p.1))) ∙ is))))
+        (λ q at. ap (λ (w : Place). w.part) (same_Some q p.0 (sym at ∙ (ap (slice_get m.places) a.3.0 ∙ p.1))) ∙ is))))
       where
         below_all : (n t : ℕ) → (n ≤ t → ⊥) → t < n
         below_all n t out = omega (arith, out)
@@ -176,7 +175,7 @@ module _ (m : Parts) (c : CoreState) (s : StandsFor m c) (tx slot : ℕ) (h : Is
 -- a step is open where the machine has one
 pub some_open : (m : Parts) (c : CoreState) (o : Option Open) → is_some o ≡ true → IsStep m c o → c.step ≡ None → ⊥
 some_open m c None e h none = absurd cc
-some_open m c (Some o) e h none = let f : Some (record { tx = o.tx; gathered = h.0 }) ≡ None = sym h.1 ∙ none in absurd cc
+some_open m c (Some o) e h none = let f : ◌≡◌ {A = Option OpenStep} (Some (record { tx = o.tx; gathered = h.0 })) None = sym h.1 ∙ none in absurd cc
 
 pub untimely : (c : CoreState) (event : Event) → tx_in event ≡ None → Fails c event fault.StepOpen → IsRefused c event fault.StepOpen
 untimely c event is h = (h, first)

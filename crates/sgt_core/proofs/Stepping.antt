@@ -107,20 +107,24 @@ module _ (m : Parts) (c : CoreState) (s : StandsFor m c) (tx : ℕ) (no_other : 
 
   pub released_goes : (event : Event) (reply : Reply) → reply ≡ Fault fault.Memory → MayStep c event (Fault fault.Memory) (record c { step = None })
       → (e : CoreState) × MayStep c event reply e × StandsFor (record m { places = places; step = None }) e
-  released_goes event reply is may =
-      (closed_state, subst (λ q. MayStep c event q closed_state) (sym is) may, record {
-        reached = reached_more c event (Fault fault.Memory) closed_state s.reached may;
-        items = s.items ∙ sym same_items;
-        certifier = s.certifier;
-        before = s.before;
-        begun = s.begun;
-        window = s.window;
-        unborn = s.unborn;
-        running = λ k o at. running_stays c None m.before k o (s.running k o at);
-        places = released_place;
-        step = refl;
-        undecided = s.undecided;
-      })
+  released_goes event reply is may = (
+    closed_state,
+    subst (λ q. MayStep c event q closed_state) (sym is) may,
+    record {
+      reached = reached_more c event (Fault fault.Memory) closed_state s.reached may;
+      sites = s.sites;
+      items = s.items ∙ sym same_items;
+      certifier = s.certifier;
+      before = s.before;
+      begun = s.begun;
+      window = s.window;
+      unborn = s.unborn;
+      running = λ k o at. running_stays c None m.before k o (s.running k o at);
+      places = released_place;
+      step = refl;
+      undecided = s.undecided;
+    },
+  )
 
 pub gives_up : (m : Parts) (c : CoreState) → StandsFor m c → (tx : ℕ) → (IsOtherOpen c tx → ⊥) → (mid new : Parts) → mid ≡ record m { step = mid.step }
     → AreReleased tx mid.places new.places → new ≡ record mid { places = new.places; step = None } → (event : Event) (reply : Reply) → reply ≡ Fault fault.Memory
@@ -176,9 +180,9 @@ module _ (m : Parts) (c : CoreState) (s : StandsFor m c) (tx slot : ℕ) (number
   grows edges h = gathered_more m c k s.certifier s.before s.undecided tx slot number r own t p at_t
       (subst (λ (q : Place). Rattle.sgt_site.specs.State.IsSite q.site) same_place g.given.legal) g.pledge.may g.edges
       (subst (λ (q : Place). Rattle.std.specs.Prelude.All (Rattle.sgt_edges.specs.Edges.IsGiven q.site r.draft.touched r.handle) g.edges) same_place
-        (subst (λ (w : Running). Rattle.std.specs.Prelude.All (Rattle.sgt_edges.specs.Edges.IsGiven g.given.place.site w.draft.touched w.handle) g.edges) same_running g.given.given))
+      (subst (λ (w : Running). Rattle.std.specs.Prelude.All (Rattle.sgt_edges.specs.Edges.IsGiven g.given.place.site w.draft.touched w.handle) g.edges) same_running g.given.given))
       (subst (λ (q : Place). Rattle.sgt_edges.specs.Edges.StandsForAll q.site r.draft.touched r.handle g.edges) same_place
-        (subst (λ (w : Running). Rattle.sgt_edges.specs.Edges.StandsForAll g.given.place.site w.draft.touched w.handle g.edges) same_running g.given.stand))
+      (subst (λ (w : Running). Rattle.sgt_edges.specs.Edges.StandsForAll g.given.place.site w.draft.touched w.handle g.edges) same_running g.given.stand))
       edges h
 
   grown : (o : Option Open) → IsStep m c o → ((q : Open) → o ≡ Some q → q.tx ≡ tx) → IsGrown m d tx (step_with o tx g.edges)
@@ -217,17 +221,19 @@ module _ (m : Parts) (c : CoreState) (s : StandsFor m c) (tx slot : ℕ) (number
   other_part u q ne Due h =
       let a = h.1 in
       let same = step_own m c tx no_other m.step s.step h.0 a.open_step in
-      let o = all.open_step in
-      (o, record {
-        open_step = all.is;
-        place = a.place;
-        running = a.running;
-        there = a.there;
-        tx = all.own ∙ (sym same ∙ a.tx);
-        gathered = cons_later t (gathered_in c.step) u a.gathered;
-        pledge = a.pledge ∙ ap (λ i. Some (record { tx = i; part = at_site u a.running.draft.touched })) (same ∙ sym all.own);
-        due = subst (λ w. IsDueBy d o.tx w u) (sym all.phase) (due_none u);
-      })
+      let o = all.open_step in (
+        o,
+        record {
+          open_step = all.is;
+          place = a.place;
+          running = a.running;
+          there = a.there;
+          tx = all.own ∙ (sym same ∙ a.tx);
+          gathered = cons_later t (gathered_in c.step) u a.gathered;
+          pledge = a.pledge ∙ ap (λ i. Some (record { tx = i; part = at_site u a.running.draft.touched })) (same ∙ sym all.own);
+          due = subst (λ w. IsDueBy d o.tx w u) (sym all.phase) (due_none u);
+        },
+      )
 
   abbrev pledged : Place
   pledged = record { site = record p.site { pledge = Some (record { tx = tx; part = at_site p.site.number r.draft.touched }) }; part = Due }
@@ -239,16 +245,19 @@ module _ (m : Parts) (c : CoreState) (s : StandsFor m c) (tx slot : ℕ) (number
         number = at_t.number;
         entries = at_t.entries;
         handles = at_t.handles;
-        part = (o, record {
-          open_step = all.is;
-          place = slot;
-          running = r;
-          there = g.pledge.runs;
-          tx = all.own ∙ number;
-          gathered = cons_here t (gathered_in c.step);
-          pledge = ap (λ i. Some (record { tx = tx; part = at_site i r.draft.touched })) at_t.number ∙ ap (λ i. Some (record { tx = i; part = at_site t r.draft.touched })) (sym all.own);
-          due = subst (λ w. IsDueBy d o.tx w t) (sym all.phase) (due_none t);
-        });
+        part = (
+          o,
+          record {
+            open_step = all.is;
+            place = slot;
+            running = r;
+            there = g.pledge.runs;
+            tx = all.own ∙ number;
+            gathered = cons_here t (gathered_in c.step);
+            pledge = ap (λ i. Some (record { tx = tx; part = at_site i r.draft.touched })) at_t.number ∙ ap (λ i. Some (record { tx = i; part = at_site t r.draft.touched })) (sym all.own);
+            due = subst (λ w. IsDueBy d o.tx w t) (sym all.phase) (due_none t);
+          },
+        );
       }
 
   new_place : (u : ℕ) (q : Place) → slice_get new.places u ≡ Some q → IsPlace n d u q
@@ -276,6 +285,7 @@ module _ (m : Parts) (c : CoreState) (s : StandsFor m c) (tx slot : ℕ) (number
       let may : MayStep c (Gather tx t) Gathered d = (allowed, refl) in
       let stands : StandsFor n d = record {
         reached = reached_more c (Gather tx t) Gathered d s.reached may;
+        sites = s.sites;
         items = s.items ∙ sym same_list;
         certifier = s.certifier;
         before = s.before;

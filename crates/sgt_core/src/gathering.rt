@@ -69,11 +69,7 @@ fn extend(edges: &mut EdgeList, more: &EdgeList) -> Result<(), AllocError>
 }
 
 // Adds edges to the step of the transaction, which is opened where none is.
-pub(crate) fn add_edges(
-    step: &mut Option<Open>,
-    tx: Tx,
-    more: EdgeList,
-) -> Result<(), AllocError>
+pub(crate) fn add_edges(step: &mut Option<Open>, tx: Tx, more: EdgeList) -> Result<(), AllocError>
     ensures { OnOk result (step.new ≡ step_with step.old tx more) }
 {
     match step {

@@ -42,6 +42,10 @@ fn read_after_own_increment(rt: HostRuntime) -> Result<(), Fail> {
         item: x,
         value: 3,
     };
+    let gather = Event::Gather {
+        tx: one,
+        site: here,
+    };
     let rows = [
         (Event::Close, Reply::Closed { ranks: 0 }),
         (Event::Begin, Reply::Begun { tx: one }),
@@ -51,6 +55,9 @@ fn read_after_own_increment(rt: HostRuntime) -> Result<(), Fail> {
         (read(two, here, y), fault(CoreFault::Unknown)),
         (Event::Decide { tx: one }, fault(CoreFault::NotGathered)),
         (Event::Close, fault(CoreFault::ActiveLeft)),
+        (gather, Reply::Gathered),
+        (gather, fault(CoreFault::AlreadyDone)),
+        (Event::Close, fault(CoreFault::StepOpen)),
     ];
     let sites = vec![in alloc; site(alloc, 5)?]?;
     let mut core = Core::new(alloc, sites.as_slice())?;

@@ -36,5 +36,5 @@ returns c = λ d s.
     let m = parts_of c.args.self.now in
     let no_other : IsOtherOpen d c.args.tx → ⊥ = λ other. not_true _ c.if-other_step.false ((c.other_step.ensures d s).1 other) in
     let may = may_decide m d s c.args.tx _ c.in-Ok.ensures.ok no_other (λ some. not_true _ c.if-misses.false ((c.misses.ensures _ runs).1
-      (subst (λ ps. Rattle.std.specs.Prelude.Any (IsMissedAt ps) c.in-Ok.ensures.ok.1.0.draft.touched) (sym c.as_slice.ensures.value) some))) in
+    (subst (λ ps. Rattle.std.specs.Prelude.Any (IsMissedAt ps) c.in-Ok.ensures.ok.1.0.draft.touched) (sym c.as_slice.ensures.value) some))) in
     gives_up m d s c.args.tx no_other m (parts_of c.give_up.new.self) refl c.give_up.ensures.places c.give_up.ensures.rest (Decide c.args.tx) _ c.refused-2.ensures (may, refl)
