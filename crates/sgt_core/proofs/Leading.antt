@@ -1,8 +1,8 @@
 -- The edges that are handed at one more site: each is one of the transaction, and over them lead all of its edges there.
-use Rattle.std.proofs.Common.{◌≡◌, ◌<◌, ◌≤◌, ◌+◌, ℕ, zero, suc, Bool, true, List, [], ◌∷◌, ◌++◌, length, map, refl, sym, ◌∙◌, arith, ◌⊎◌, inl, inr, Contains, All, Option, Some, None, subst, ap}
+use Rattle.std.proofs.Common.{◌≡◌, ◌<◌, ◌≤◌, ◌+◌, ℕ, suc, List, [], ◌∷◌, ◌++◌, length, map, refl, sym, ◌∙◌, arith, ◌⊎◌, inl, inr, Contains, All, Some, None, subst, ap}
 use Rattle.std.specs.Prelude.{slice_get, filter, ◌==◌, ◌≢◌, if◌then◌else◌}
 use Rattle.std.specs.List.{filter_map}
-use Rattle.std.proofs.lemmas.Bool.{cases_Bool, cases_eq, cases_order, cases_lt, eq-eqb, ne_eqb, eqb-true}
+use Rattle.std.proofs.lemmas.Bool.{cases_eq, cases_order, eq-eqb, ne_eqb, eqb-true}
 use Rattle.std.proofs.lemmas.List.{append_assoc, append-nil}
 use Rattle.std.proofs.lemmas.List.Elements.{Contains-append_cases, Contains-append_left, Contains-append_right}
 use Rattle.std.proofs.lemmas.Option.{same_Some}
@@ -10,7 +10,6 @@ use Rattle.sgt_names.specs.Name.{Name}
 use Rattle.sgt_names.specs.Entry.{tx_of, IsEnd}
 use Rattle.sgt_names.specs.Log.{Conflicts}
 use Rattle.sgt_names.specs.Draft.{at_site, writing_in}
-use Rattle.sgt_names.specs.declared.draft.Touch.{Touch}
 use Rattle.sgt_names.specs.declared.entry.Change.{Change}
 use Rattle.sgt_names.specs.declared.entry.Entry.{Entry}
 use Rattle.sgt_names.specs.declared.entry.Entry.TheVariants as entry
@@ -28,20 +27,19 @@ use Rattle.sgt_edges.specs.declared.edge.Edge.{Edge}
 use Rattle.sgt_edges.specs.Edges.{IsEdge, IsOldEdge, IsGiven, Walks, given, old, on, StandsForAll, IsActive, IsConflict}
 use Rattle.sgt_edges.specs.Edges as edges
 use Rattle.sgt_edges.proofs.Logged.{edge_is, conflict_is}
-use Rattle.sgt_certifier.specs.Certifier.{State, Arc, Joins, Ruling, committed, refused, withdrawn, ruled, serial}
+use Rattle.sgt_certifier.specs.Certifier.{State, Arc, Joins, Ruling, committed, ruled}
 use Rattle.sgt_certifier.specs.History.{tx_under, arcs_of, IsKnown, Fits}
 use Rattle.sgt_certifier.specs.Sound.{IsRuled}
 use Rattle.sgt_certifier.proofs.Members.{cons_cases, cons_here, cons_later, nil_none, filter_member, member_filter, place_cases}
 use Rattle.sgt_certifier.proofs.Ruling.{map_place, place_map}
 use Rattle.sgt_core.specs.declared.machine.Place.{Place}
 use Rattle.sgt_core.specs.declared.machine.Running.{Running}
-use Rattle.sgt_core.specs.Core.{CoreState, OpenStep, IsEdgeOf, as_changes, followed}
+use Rattle.sgt_core.specs.Core.{CoreState, IsEdgeOf, as_changes, followed}
 use Rattle.sgt_core.specs.Step.{gathered_in}
 use Rattle.sgt_core.specs.Machine.{Parts, Carries, IsHandleOf, IsRunning, IsPlace, AreGathered}
-use Rattle.sgt_core.proofs.Kept.{AreOlderFirst, SuitsRuling, IsKept, written}
+use Rattle.sgt_core.proofs.Kept.{AreOlderFirst, SuitsRuling, IsKept}
 use Rattle.sgt_core.proofs.Entries.{of_change, change_tx, read_no_end}
 use Rattle.sgt_core.proofs.Conflicting.{in_longer}
-use Rattle.sgt_core.proofs.Walks.{edge_site}
 
 -- ---- walks
 

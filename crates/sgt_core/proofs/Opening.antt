@@ -1,7 +1,7 @@
 -- A machine over fresh sites, and runs of it.
-use Rattle.std.proofs.Common.{◌≡◌, ◌<◌, ◌≤◌, ◌+◌, ℕ, zero, suc, List, [], ◌∷◌, ◌++◌, length, map, refl, sym, ◌∙◌, arith, inl, inr, All, Contains, Option, Some, None, subst, ap, take}
+use Rattle.std.proofs.Common.{◌≡◌, ◌<◌, ◌≤◌, ◌+◌, ℕ, zero, suc, List, [], ◌∷◌, ◌++◌, length, map, refl, sym, ◌∙◌, arith, inl, inr, All, Some, None, subst, ap, take}
 use Rattle.std.specs.Prelude.{slice_get}
-use Rattle.std.proofs.lemmas.List.{length_push, length-take-le, take_all, length-map}
+use Rattle.std.proofs.lemmas.List.{length_push, length-take-le, length-map}
 use Rattle.std.proofs.lemmas.Option.{same_Some, slice_get_within}
 use Rattle.sgt_names.specs.Limits.{max_sites}
 use Rattle.sgt_names.specs.declared.entry.Holding.{Holding}
@@ -15,8 +15,7 @@ use Rattle.sgt_notation.specs.declared.event.Event.{Event}
 use Rattle.sgt_core.specs.declared.reply.Reply.{Reply}
 use Rattle.sgt_core.specs.declared.machine.Place.{Place}
 use Rattle.sgt_core.specs.declared.machine.Part.TheVariants.{Idle}
-use Rattle.sgt_core.specs.declared.machine.Running.{Running}
-use Rattle.sgt_core.specs.Core.{CoreState, fresh}
+use Rattle.sgt_core.specs.Core.{fresh}
 use Rattle.sgt_core.specs.Step.{MayStep, Run}
 use Rattle.sgt_core.specs.Machine.{Parts, Carries, IsPlace, AreOpened, StandsFor, GoesOn}
 use Rattle.sgt_core.proofs.Standing.{run_more}

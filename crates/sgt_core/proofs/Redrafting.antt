@@ -1,17 +1,16 @@
 -- An active transaction reads an item or is to change one: its draft and one log may grow, and nothing else changes.
-use Rattle.std.proofs.Common.{◌≡◌, ◌<◌, ◌≤◌, ◌+◌, ℕ, suc, List, [], ◌∷◌, ◌++◌, length, map, refl, sym, ◌∙◌, arith, ◌⊎◌, inl, inr, Contains, Option, Some, None, subst, ap}
+use Rattle.std.proofs.Common.{◌≡◌, ◌≤◌, ◌+◌, ℕ, suc, List, map, refl, sym, ◌∙◌, arith, inl, inr, Contains, Option, Some, None, subst, ap}
 use Rattle.std.specs.Prelude.{slice_get, slice_set}
 use Rattle.std.proofs.lemmas.Bool.{cases_eq}
 use Rattle.std.proofs.lemmas.List.{length-set}
 use Rattle.std.proofs.lemmas.Option.{same_Some, slice_get_within}
 use Rattle.sgt_names.specs.Name.{Name}
-use Rattle.sgt_names.specs.Draft.{at_site, kept_in, writing_in}
+use Rattle.sgt_names.specs.Draft.{at_site, kept_in}
 use Rattle.sgt_names.specs.declared.entry.Change.{Change}
 use Rattle.sgt_names.specs.declared.entry.Entry.{Entry}
 use Rattle.sgt_order.proofs.Lists.{get_set_same, get_set_other}
 use Rattle.sgt_site.specs.State.{KeepsReads}
-use Rattle.sgt_edges.specs.declared.edge.Edge.{Edge}
-use Rattle.sgt_certifier.specs.Certifier.{State, Arc}
+use Rattle.sgt_certifier.specs.Certifier.{Arc}
 use Rattle.sgt_core.specs.declared.machine.Place.{Place}
 use Rattle.sgt_core.specs.declared.machine.Part.{Part}
 use Rattle.sgt_core.specs.declared.machine.Part.TheVariants.{Idle, Due, Written}
@@ -21,7 +20,7 @@ use Rattle.sgt_core.specs.declared.machine.Phase.{Phase}
 use Rattle.sgt_core.specs.declared.machine.Phase.TheVariants.{Gathering, Committed, Refused}
 use Rattle.sgt_core.specs.Core.{CoreState, IsEdgeOf}
 use Rattle.sgt_core.specs.Step.{StepIs, IsOwnOpen}
-use Rattle.sgt_core.specs.Machine.{Parts, IsReached, IsRunning, RunsAt, IsDueBy, IsDueAt, IsPart, IsPlace, AreGathered, IsPhase, IsStep, StandsFor, IsSlotOf}
+use Rattle.sgt_core.specs.Machine.{Parts, IsReached, IsRunning, RunsAt, IsDueBy, IsPart, IsPlace, IsPhase, IsStep, StandsFor, IsSlotOf}
 
 -- an active transaction was begun and is active
 pub slot_begun : (m : Parts) (c : CoreState) (tx slot : ℕ) → StandsFor m c → IsSlotOf m tx slot → tx ≤ c.certifier.begun

@@ -1,6 +1,6 @@
 -- What is refused leaves the state that the machine stands for.
-use Rattle.std.proofs.Common.{◌≡◌, ◌<◌, ◌≤◌, ℕ, suc, List, length, map, refl, sym, ◌∙◌, arith, ◌+◌, inl, inr, Contains, Option, Some, None, subst, ap}
-use Rattle.std.specs.Prelude.{slice_get, IsTrue, is_some, true, false, Any}
+use Rattle.std.proofs.Common.{◌≡◌, ◌<◌, ◌≤◌, ℕ, length, refl, sym, ◌∙◌, arith, inl, inr, Contains, Option, Some, None, subst, ap}
+use Rattle.std.specs.Prelude.{slice_get, is_some, true, false, Any}
 use Rattle.std.proofs.lemmas.Bool.{cases_Bool, cases_eq, true≢false}
 use Rattle.std.proofs.lemmas.List.{length-map}
 use Rattle.std.proofs.lemmas.Option.{same_Some, slice_get_within}
@@ -19,7 +19,6 @@ use Rattle.sgt_core.specs.declared.reply.CoreFault.TheVariants as fault
 use Rattle.sgt_core.specs.declared.machine.Place.{Place}
 use Rattle.sgt_core.specs.declared.machine.Part.{Part}
 use Rattle.sgt_core.specs.declared.machine.Part.TheVariants.{Idle, Due, Written}
-use Rattle.sgt_core.specs.declared.machine.Running.{Running}
 use Rattle.sgt_core.specs.declared.machine.Open.{Open}
 use Rattle.sgt_core.specs.Core.{CoreState, OpenStep, touches}
 use Rattle.sgt_core.specs.Step.{StepIs, IsOtherOpen, IsGathered, gathered_in, tx_in, Fails, fault_place, IsRefused, IsAllowed, MayStep, MayDecide}

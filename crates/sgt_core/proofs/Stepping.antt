@@ -3,13 +3,12 @@ use Rattle.std.proofs.Common.{◌≡◌, ◌<◌, ◌≤◌, ◌+◌, ℕ, suc, 
 use Rattle.std.specs.Prelude.{slice_get, slice_set, true}
 use Rattle.std.proofs.lemmas.Bool.{cases_eq}
 use Rattle.std.proofs.lemmas.Option.{same_Some, slice_get_within}
-use Rattle.sgt_names.specs.Draft.{Touches, at_site}
+use Rattle.sgt_names.specs.Draft.{at_site}
 use Rattle.sgt_names.specs.declared.entry.Entry.{Entry}
 use Rattle.sgt_names.specs.Entry.{tx_of}
 use Rattle.sgt_names.proofs.Lists.{within_at}
 use Rattle.sgt_order.proofs.Lists.{get_set_same, get_set_other}
 use Rattle.sgt_site.specs.State.{Pledge, SiteState, IsPledged}
-use Rattle.sgt_site.specs.declared.cell.Install.{Install}
 use Rattle.sgt_edges.specs.declared.edge.Edge.{Edge}
 use Rattle.sgt_certifier.proofs.Members.{cons_cases, cons_here, cons_later, nil_none}
 use Rattle.sgt_notation.specs.declared.event.Event.{Event}
@@ -25,9 +24,9 @@ use Rattle.sgt_core.specs.declared.machine.Open.{Open}
 use Rattle.sgt_core.specs.declared.machine.Phase.{Phase}
 use Rattle.sgt_core.specs.declared.machine.Phase.TheVariants.{Gathering, Committed, Refused}
 use Rattle.sgt_core.specs.Core.{CoreState, OpenStep}
-use Rattle.sgt_core.specs.Step.{StepIs, IsOtherOpen, IsGathered, gathered_in, IsAllowed, MayStep}
+use Rattle.sgt_core.specs.Step.{StepIs, IsOtherOpen, gathered_in, IsAllowed, MayStep}
 use Rattle.sgt_core.specs.Machine.{Parts, IsRunning, RunsAt, IsDueBy, IsDueAt, IsPart, IsPlace, AreGathered, IsStep, StandsFor, IsSlotOf}
-use Rattle.sgt_core.specs.Gathered.{AreGiven, PledgesAt, phase_with, step_with, IsReleased, AreReleased, GathersAt}
+use Rattle.sgt_core.specs.Gathered.{phase_with, step_with, IsReleased, AreReleased, GathersAt}
 use Rattle.sgt_core.proofs.Kept.{IsKept}
 use Rattle.sgt_core.proofs.Standing.{reached_more, reached_kept}
 use Rattle.sgt_core.proofs.Leading.{gathered_more, none_gathered}

@@ -1,5 +1,5 @@
 -- What an active transaction touches, by its draft; and the events of a step, while none is open.
-use Rattle.std.proofs.Common.{◌≡◌, ◌<◌, ◌≤◌, ◌+◌, ℕ, zero, suc, Bool, true, false, List, [], ◌∷◌, ◌++◌, length, refl, sym, ◌∙◌, arith, ◌⊎◌, inl, inr, Contains, Option, Some, None, subst, ap, take}
+use Rattle.std.proofs.Common.{◌≡◌, ◌<◌, ◌≤◌, ◌+◌, ℕ, suc, Bool, true, false, List, [], ◌∷◌, length, refl, sym, ◌∙◌, arith, ◌⊎◌, inl, inr, Contains, Some, None, subst, ap, take}
 use Rattle.std.specs.Prelude.{slice_get, ◌==◌, ◌||◌, IsSome, Any}
 use Rattle.std.specs.List.{list_any, filter_map}
 use Rattle.std.proofs.lemmas.Bool.{cases_Bool, eq-eqb, eqb-true, true≢false}
@@ -14,7 +14,7 @@ use Rattle.sgt_names.specs.declared.entry.Entry.{Entry}
 use Rattle.sgt_names.specs.declared.entry.Entry.TheVariants as entry
 use Rattle.sgt_names.proofs.Lists.{IsSome-value, Any_at, Any-from_at, All_in}
 use Rattle.sgt_names.proofs.Places.{Contains_at, Contains-from_at}
-use Rattle.sgt_site.specs.State.{version_at, LogsRead}
+use Rattle.sgt_site.specs.State.{version_at}
 use Rattle.sgt_site.proofs.Appends.{chosen_at, chosen_from, count_before}
 use Rattle.sgt_certifier.proofs.Members.{cons_cases, nil_none, filter_member, member_filter}
 use Rattle.sgt_notation.specs.declared.event.Event.{Event}
@@ -22,8 +22,8 @@ use Rattle.sgt_notation.specs.declared.event.Event.TheVariants.{Gather, Decide, 
 use Rattle.sgt_core.specs.declared.reply.CoreFault.{CoreFault}
 use Rattle.sgt_core.specs.declared.reply.CoreFault.TheVariants as fault
 use Rattle.sgt_core.specs.declared.machine.Running.{Running}
-use Rattle.sgt_core.specs.Core.{OpenStep, CoreState, touches, touched, is_some_change}
-use Rattle.sgt_core.specs.Step.{StepIs, IsOwnOpen, IsOtherOpen, IsGathered, IsDecided, tx_in, Fails, fault_place, IsRefused, IsAllowed}
+use Rattle.sgt_core.specs.Core.{CoreState, touches, is_some_change}
+use Rattle.sgt_core.specs.Step.{IsOtherOpen, IsGathered, IsDecided, tx_in, Fails, fault_place, IsRefused, IsAllowed}
 use Rattle.sgt_core.specs.Machine.{IsRunning}
 use Rattle.sgt_core.proofs.Kept.{IsKept, IsRead}
 use Rattle.sgt_core.proofs.LegalSteps.{touches_own}

@@ -1,12 +1,11 @@
 -- A transaction begins, and a window is closed.
-use Rattle.std.proofs.Common.{◌≡◌, ◌<◌, ◌≤◌, ◌+◌, ◌-◌, ◌^◌, ℕ, suc, zero, List, [], ◌∷◌, ◌++◌, length, refl, sym, ◌∙◌, arith, ◌⊎◌, inl, inr, All, Contains, Option, Some, None, subst, ap, ap₂, lit<}
+use Rattle.std.proofs.Common.{◌≡◌, ◌<◌, ◌≤◌, ◌+◌, ◌-◌, ℕ, suc, zero, List, [], ◌∷◌, ◌++◌, length, refl, sym, ◌∙◌, arith, inl, inr, All, Contains, Option, Some, None, subst, ap, ap₂, lit<}
 use Rattle.std.specs.Prelude.{slice_get}
 use Rattle.std.specs.declared.cmp.Ordering.TheVariants.{Less}
 use Rattle.std.proofs.lemmas.List.{length_push}
 use Rattle.std.proofs.lemmas.List.Elements.{Contains-append_cases, Contains-append_left, Contains-append_right}
 use Rattle.std.proofs.lemmas.Option.{same_Some}
 use Rattle.sgt_names.specs.Draft.{place_of, place_cmp, AreRising, IsUsed, at_site, kept_in, writing_in}
-use Rattle.sgt_names.specs.Entry.{tx_of}
 use Rattle.sgt_names.specs.declared.entry.Entry.TheVariants as entry
 use Rattle.sgt_names.specs.declared.draft.Touch.{Touch}
 use Rattle.sgt_names.proofs.Lists.{list_cases}
@@ -14,7 +13,7 @@ use Rattle.sgt_names.proofs.Places.{Contains-from_at, All-from_at, AllPairs-from
 use Rattle.sgt_arena.specs.declared.handle.Handle.{Handle}
 use Rattle.sgt_site.specs.State.{KeepsReads}
 use Rattle.sgt_site.specs.declared.cell.Install.{Install}
-use Rattle.sgt_certifier.specs.Certifier.{State, Arc, with_begun, with_closed, serial}
+use Rattle.sgt_certifier.specs.Certifier.{State, with_begun, with_closed, serial}
 use Rattle.sgt_certifier.specs.History.{close, IsAllowed as IsRequestAllowed}
 use Rattle.sgt_certifier.specs.Kept.{Kept, Adds, IsTold}
 use Rattle.sgt_certifier.specs.declared.call.Call.TheVariants as call

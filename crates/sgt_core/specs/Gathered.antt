@@ -1,8 +1,8 @@
 -- A transaction is gathered at a site: what changes in the sites, and in the open step.
-use Rattle.std.specs.Prelude.{◌≡◌, ◌⊎◌, ℕ, List, [], ◌++◌, All, Option, Some, None, slice_get, slice_set, length}
+use Rattle.std.specs.Prelude.{◌≡◌, ◌⊎◌, ℕ, List, ◌++◌, All, Option, Some, None, slice_get, slice_set, length}
 use Rattle.sgt_names.specs.Draft.{at_site}
 use Rattle.sgt_names.specs.declared.draft.Touch.{Touch}
-use Rattle.sgt_site.specs.State.{SiteState, IsSite, IsPledged}
+use Rattle.sgt_site.specs.State.{IsSite, IsPledged}
 use Rattle.sgt_site.specs.Refused.{MayPledge}
 use Rattle.sgt_edges.specs.Edges.{IsGiven, StandsForAll}
 use Rattle.sgt_edges.specs.declared.edge.Edge.{Edge}
@@ -12,7 +12,7 @@ use Rattle.sgt_core.specs.declared.machine.Part.TheVariants.{Idle, Due}
 use Rattle.sgt_core.specs.declared.machine.Running.{Running}
 use Rattle.sgt_core.specs.declared.machine.Open.{Open}
 use Rattle.sgt_core.specs.declared.machine.Phase.{Phase}
-use Rattle.sgt_core.specs.declared.machine.Phase.TheVariants.{Gathering, Committed, Refused}
+use Rattle.sgt_core.specs.declared.machine.Phase.TheVariants.{Gathering}
 
 -- the edges are given of the transaction at this place of the table, and stand for all of its edges at the site
 pub record AreGiven (places : List Place) (table : List (Option Running)) (site slot : ℕ) (edges : List Edge) : Type 0 where

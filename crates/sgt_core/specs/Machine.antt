@@ -1,5 +1,5 @@
 -- The machine that serves the events, and the states of the model that it stands for.
-use Rattle.std.specs.Prelude.{◌≡◌, ◌≢◌, ◌⊎◌, ◌<◌, ◌≤◌, ◌+◌, ℕ, suc, true, false, List, [], ◌∷◌, ◌++◌, map, Contains, All, Option, Some, None, slice_get, slice_set, length}
+use Rattle.std.specs.Prelude.{◌≡◌, ◌≢◌, ◌⊎◌, ◌<◌, ◌≤◌, ◌+◌, ℕ, suc, true, List, [], ◌∷◌, ◌++◌, map, Contains, All, Option, Some, None, slice_get, slice_set, length}
 use Rattle.sgt_names.specs.Draft.{AreRising, IsUsed, at_site, kept_in, writing_in, seen_at, change_at, ChangesOnly}
 use Rattle.sgt_names.specs.Name.{Name}
 use Rattle.sgt_names.specs.Log.{value_at}
@@ -8,7 +8,6 @@ use Rattle.sgt_names.specs.declared.draft.Seen.{Seen}
 use Rattle.sgt_names.specs.declared.entry.Entry.TheVariants as entry
 use Rattle.sgt_names.specs.declared.entry.Change.{Change}
 use Rattle.sgt_names.specs.declared.entry.Holding.{Holding}
-use Rattle.sgt_arena.specs.declared.handle.Handle.{Handle}
 use Rattle.sgt_site.specs.State.{AreItems, KeepsReads, opened, version_at, commit_block, refuse_block}
 use Rattle.sgt_site.specs.declared.fault.SiteFault.{SiteFault}
 use Rattle.sgt_site.specs.declared.fault.SiteFault.TheVariants as site_fault
@@ -33,7 +32,7 @@ use Rattle.sgt_core.specs.declared.machine.Running.{Running}
 use Rattle.sgt_core.specs.declared.machine.Open.{Open}
 use Rattle.sgt_core.specs.declared.machine.Phase.{Phase}
 use Rattle.sgt_core.specs.declared.machine.Phase.TheVariants.{Gathering, Committed, Refused}
-use Rattle.sgt_core.specs.Core.{OpenStep, CoreState, fresh, IsEdgeOf}
+use Rattle.sgt_core.specs.Core.{CoreState, fresh, IsEdgeOf}
 use Rattle.sgt_core.specs.Runs.{AreSites}
 use Rattle.sgt_core.specs.Step.{gathered_in, IsRefused, Run}
 

@@ -6,7 +6,7 @@ use Rattle.sgt_core.specs.declared.reply.Reply.TheVariants.{Closed, Fault}
 use Rattle.sgt_core.specs.declared.machine.Running.{Running}
 use Rattle.sgt_core.specs.Core.{CoreState}
 use Rattle.sgt_core.specs.Step.{MayStep}
-use Rattle.sgt_core.specs.Machine.{Parts, parts_of, StandsFor}
+use Rattle.sgt_core.specs.Machine.{parts_of, StandsFor}
 use Rattle.sgt_core.proofs.Standing.{none_of}
 use Rattle.sgt_core.specs.declared.reply.CoreFault.TheVariants as core_fault
 use Rattle.sgt_core.proofs.Refusing.{refused_goes, some_open, untimely}

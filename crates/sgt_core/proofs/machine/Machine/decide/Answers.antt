@@ -1,4 +1,4 @@
-use Rattle.std.proofs.Common.{◌≡◌, ◌<◌, ◌≤◌, length, refl, sym, ◌∙◌, arith, subst, ap}
+use Rattle.std.proofs.Common.{length, refl, sym, ◌∙◌, arith, subst, ap}
 use Rattle.std.specs.Prelude.{slice_get}
 use Rattle.std.proofs.lemmas.Option.{slice_get_within}
 use Rattle.sgt_notation.specs.declared.event.Event.TheVariants.{Decide}

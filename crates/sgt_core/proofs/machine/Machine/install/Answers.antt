@@ -1,7 +1,5 @@
-use Rattle.std.proofs.Common.{◌≡◌, ◌<◌, ◌≤◌, length, refl, sym, ◌∙◌, arith, subst, ap}
-use Rattle.std.proofs.lemmas.Option.{slice_get_within}
+use Rattle.std.proofs.Common.{refl, arith}
 use Rattle.sgt_notation.specs.declared.event.Event.TheVariants.{Install}
-use Rattle.sgt_core.specs.declared.reply.CoreFault.TheVariants as fault
 use Rattle.sgt_core.specs.Machine.{parts_of}
 use Rattle.sgt_core.proofs.Finding.{not_true}
 use Rattle.sgt_core.proofs.Refusing.{refused_goes, step_open, install_no_site, install_too_early}

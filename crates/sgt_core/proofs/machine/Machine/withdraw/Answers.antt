@@ -1,4 +1,4 @@
-use Rattle.std.proofs.Common.{◌≡◌, refl, sym, ◌∙◌}
+use Rattle.std.proofs.Common.{refl, sym, ◌∙◌}
 use Rattle.sgt_notation.specs.declared.event.Event.TheVariants.{Withdraw}
 use Rattle.sgt_core.specs.Machine.{parts_of}
 use Rattle.sgt_core.proofs.Standing.{none_of}
