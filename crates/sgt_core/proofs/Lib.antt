@@ -22,3 +22,16 @@ pub mod Committing
 pub mod Total
 pub mod Examples
 pub mod Refusals
+pub mod Standing
+pub mod Windows
+pub mod Drafting
+pub mod Redrafting
+pub mod Changing
+pub mod Finding
+pub mod Reading
+pub mod Touching
+pub mod Refusing
+pub mod Leading
+pub mod Stepping
+pub mod Opening
+pub mod Bundles

@@ -1,3 +1,5 @@
 pub mod Core
 pub mod Step
 pub mod Runs
+pub mod Machine
+pub mod Gathered

@@ -190,6 +190,22 @@ replies_of_commit sites verdict = map (λ s. Gathered) sites ++ verdict ∷ map 
 abbrev pub CommitsWith : CoreState → ℕ → Reply → CoreState → Type 0
 CommitsWith old tx verdict new = ServesAll old (parts_of_commit (touched old tx) tx) (replies_of_commit (touched old tx) verdict) new
 
+-- a commit's gathers and its decision, without the installs
+abbrev pub parts_of_decision : List ℕ → ℕ → List Event
+parts_of_decision sites tx = map (Gather tx) sites ++ Decide tx ∷ []
+
+abbrev pub replies_of_decision : List ℕ → Reply → List Reply
+replies_of_decision sites verdict = map (λ s. Gathered) sites ++ verdict ∷ []
+
+abbrev pub DecidesWith : CoreState → ℕ → Reply → CoreState → Type 0
+DecidesWith old tx verdict new = ServesAll old (parts_of_decision (touched old tx) tx) (replies_of_decision (touched old tx) verdict) new
+
+-- tx is gathered wherever it touches and decided, refused where its commit is
+abbrev pub MayDecide : CoreState → ℕ → Reply → CoreState → Type 0
+MayDecide old tx (Fault fault.Memory) new = IsAllowed old (Commit tx) × AfterMemory old (Commit tx) new
+MayDecide old tx (Fault f) new = IsRefused old (Commit tx) f × (new ≡ old)
+MayDecide old tx verdict new = IsAllowed old (Commit tx) × DecidesWith old tx verdict new
+
 -- from old, the event may be given this reply, and leave new
 abbrev pub MayStep : CoreState → Event → Reply → CoreState → Type 0
 MayStep old event (Fault fault.Memory) new = IsAllowed old event × AfterMemory old event new

@@ -1,9 +1,14 @@
 //! The certifier and its sites, driven by one thread: the model, and laws of all its runs.
 #![tactic(auto)]
 
+mod bundling;
+mod driver;
+mod gathering;
 mod laws;
+mod machine;
 mod reply;
 
+pub use driver::Core;
 pub use laws::{
     installs_are_versions, refusals_are_determined, replies_are_determined, runs_are_serializable,
     runs_go_on,

@@ -1,0 +1,142 @@
+//! A transaction is gathered at a site: its pledge there, and its edges.
+
+ghost use Rattle.std.specs.Prelude.{◌≡◌, ◌≢◌, ◌↔◌, ◌++◌, ◌<◌, Some, Any, length, slice_get, IsTrue, IfOk, OnOk, OnErr};
+ghost use Rattle.sgt_core.specs.Gathered.{AreGiven, PledgesAt, step_with, IsReleased, AreReleased, IsMissedAt};
+ghost use Rattle.sgt_core.specs.declared.machine.Place.{Place as APlace};
+ghost use Rattle.sgt_core.specs.declared.machine.Part.TheVariants.{Idle};
+ghost use Rattle.sgt_core.specs.declared.machine.Running.{Running as ARunning};
+
+use crate::machine::{Open, Part, Phase, Place, Running};
+use sgt_edges::{EdgeFault, EdgeList, gather};
+use sgt_names::{Touch, Tx};
+use sgt_site::SiteFault;
+use std::alloc::{AllocError, Global};
+
+// The edges of the transaction at a place of the table, at a site.
+pub(crate) fn edges_at(
+    alloc: Global,
+    places: &[Place],
+    table: &[Option<Running>],
+    at: usize,
+    slot: usize,
+) -> Result<EdgeList, EdgeFault>
+    requires site { at < length places.now }
+    requires slot { (r : ARunning) × (slice_get table.now slot ≡ Some (Some r)) }
+    ensures { IfOk result (λ edges. AreGiven places.now table.now at slot edges) }
+{
+    let place = &places[at];
+    let _items = place.site.items();
+    match &table[slot] {
+        Some(running) => gather(alloc, &place.site, &running.draft, running.handle),
+        None => unreachable!(),
+    }
+}
+
+// Pledges the transaction at a place of the table at a site.
+pub(crate) fn pledge_at(
+    places: &mut Vec<Place>,
+    table: &[Option<Running>],
+    at: usize,
+    slot: usize,
+    tx: Tx,
+) -> Result<(), SiteFault>
+    requires site { at < length places.old.items }
+    requires slot { (r : ARunning) × (slice_get table.now slot ≡ Some (Some r)) }
+    ensures ok { OnOk result (PledgesAt places.old.items places.new.items table.now at slot tx) }
+    ensures err { OnErr result (places.new.items ≡ places.old.items) }
+{
+    let place = &mut places[at];
+    match &table[slot] {
+        Some(running) => {
+            let pledged = place.site.pledge(tx, &running.draft);
+            if pledged.is_ok() {
+                place.part = Part::Due;
+            }
+            pledged
+        }
+        None => unreachable!(),
+    }
+}
+
+// Adds edges behind others. After an Err there are some of them.
+fn extend(edges: &mut EdgeList, more: &EdgeList) -> Result<(), AllocError>
+    ensures { OnOk result (edges.new ≡ edges.old ++ more.now) }
+{
+    for edge in more.as_slice() {
+        edges.push(*edge)?;
+    }
+    Ok(())
+}
+
+// Adds edges to the step of the transaction, which is opened where none is.
+pub(crate) fn add_edges(step: &mut Option<Open>, tx: Tx, more: EdgeList) -> Result<(), AllocError>
+    ensures { OnOk result (step.new ≡ step_with step.old tx more) }
+{
+    match step {
+        Some(open) => match &mut open.phase {
+            Phase::Gathering(edges) => extend(edges, &more),
+            _ => Ok(()),
+        },
+        None => {
+            let phase = Phase::Gathering(more);
+            *step = Some(Open { tx, phase });
+            Ok(())
+        }
+    }
+}
+
+// Takes back the part of the step that the transaction has at a site.
+fn release(place: &mut Place, tx: Tx)
+    ensures { IsReleased tx place.old place.new }
+{
+    match place.site.unpledge(tx) {
+        Ok(()) => {}
+        Err(_) => {}
+    }
+    place.part = Part::Idle;
+}
+
+// Takes back each part of the transaction's step.
+pub(crate) fn release_all(places: &mut Vec<Place>, tx: Tx)
+    ensures { AreReleased tx places.old.items places.new.items }
+{
+    for at in 0..places.len() {
+        release(&mut places[at], tx);
+    }
+}
+
+// Whether the open step has come to the site.
+pub(crate) fn is_gathered(places: &[Place], at: usize) -> bool
+    requires { at < length places.now }
+    ensures { (p : APlace) → slice_get places.now at ≡ Some p → IsTrue result ↔ (p.part ≢ Idle) }
+{
+    match places[at].part {
+        Part::Idle => false,
+        _ => true,
+    }
+}
+
+// Whether the transaction at a place of the table touches a site to which the open step hasn't come.
+pub(crate) fn misses(places: &[Place], table: &[Option<Running>], slot: usize) -> bool
+    requires { slot < length table.now }
+    ensures { (r : ARunning) → slice_get table.now slot ≡ Some (Some r) → IsTrue result ↔ Any (IsMissedAt places.now) r.draft.touched }
+{
+    match &table[slot] {
+        Some(running) => running.draft.touched().iter().any(|t| is_missed(places, t)),
+        None => false,
+    }
+}
+
+// Whether the open step hasn't come to the site of the touched item.
+fn is_missed(places: &[Place], touch: &Touch) -> bool
+    ensures { IsTrue result ↔ IsMissedAt places.now touch.now }
+{
+    let at = touch.site.number() as usize;
+    match places.get(at) {
+        Some(place) => match place.part {
+            Part::Idle => true,
+            _ => false,
+        },
+        None => true,
+    }
+}

@@ -1,0 +1,585 @@
+//! The parts of the core: its sites, its certifier, the drafts of its active transactions, and the open step.
+
+ghost use Rattle.std.specs.Prelude.{◌≡◌, ◌↔◌, ◌<◌, ◌≤◌, true, None, Some, length, slice_get, option_and_then, All, IsTrue, IfOk, IfErr, OnOk, OnErr};
+ghost use Rattle.sgt_names.specs.Draft.{added_to, look_of, seen_at, touched_at, Touches};
+ghost use Rattle.sgt_names.specs.declared.entry.Change.TheVariants as change;
+ghost use Rattle.sgt_notation.specs.declared.event.Event.{Event as AnEvent};
+ghost use Rattle.sgt_notation.specs.declared.event.Event.TheVariants as event;
+ghost use Rattle.sgt_names.specs.Limits.{max_sites};
+ghost use Rattle.sgt_site.specs.State.{AreItems, opened};
+ghost use Rattle.sgt_site.specs.Refused.{RefusesItems};
+ghost use Rattle.sgt_core.specs.declared.machine.Part.TheVariants.{Idle};
+ghost use Rattle.sgt_core.specs.Core.{CoreState, fresh};
+ghost use Rattle.sgt_core.specs.Gathered.{GathersAt, AreReleased};
+ghost use Rattle.sgt_core.specs.Step.{IsOwnOpen, IsOtherOpen, IsOfSite, tx_in, IsRefused, MayStep, MayDecide};
+ghost use Rattle.sgt_core.specs.Machine.{parts_of, StandsFor, Stands, GoesOn, IsSlotOf, RefusesItem, RefusesSites, AreOpened, Redrafts, ChangesTo, ReadsTo, ReadsAt, HasRoomAt, close_fault};
+ghost use Rattle.sgt_core.specs.declared.machine.Running.{Running as ARunning};
+
+use crate::gathering::{add_edges, edges_at, is_gathered, misses, pledge_at, release_all};
+use crate::reply::{CoreFault, Reply};
+use sgt_arena::{Handle, MAX_PLACES};
+use sgt_certifier::{Certifier, CertifierFault};
+use sgt_edges::EdgeList;
+use sgt_names::{Draft, Holding, Item, Listed, Seen, SiteNo, Tx, Value};
+use sgt_site::{Site, SiteFault};
+use std::alloc::{AllocError, Global};
+
+/// The part of the open step at a site.
+#[derive(Clone, Copy)]
+pub enum Part {
+    /// There is none.
+    Idle,
+    /// It is gathered there, and its block is still to be written.
+    Due,
+    /// Its block is written.
+    Written,
+}
+
+/// A site, with the part of the open step there.
+#[derive(Drop)]
+pub struct Place {
+    pub site: Site,
+    pub part: Part,
+}
+
+/// An active transaction: the handle that the certifier gave it, and what it has read and is to change.
+#[derive(Drop)]
+pub struct Running {
+    pub handle: Handle,
+    pub draft: Draft,
+}
+
+/// How far a step has come.
+#[derive(Drop)]
+pub enum Phase {
+    /// It is being gathered, with these edges so far.
+    Gathering(EdgeList),
+    /// Its transaction is committed.
+    Committed,
+    /// Its transaction is refused.
+    Refused,
+}
+
+/// The open step.
+#[derive(Drop)]
+pub struct Open {
+    pub tx: Tx,
+    pub phase: Phase,
+}
+
+/// What a core consists of.
+#[derive(Drop)]
+pub struct Machine {
+    pub alloc: Global,
+    /// The sites, by number.
+    pub places: Vec<Place>,
+    pub certifier: Certifier,
+    /// How many transactions were begun, and how many of them before this window.
+    pub begun: u32,
+    pub before: u32,
+    /// The transactions of this window, by number. `None` for those that have ended.
+    pub running: Vec<Option<Running>>,
+    pub step: Option<Open>,
+}
+
+impl Machine {
+    /// A machine over sites with these items, to which nothing has happened.
+    pub(crate) fn new(alloc: Global, sites: &[Listed<Holding>]) -> Result<Machine, SiteFault>
+        requires some { 1 ≤ length sites.now }
+        requires few { length sites.now ≤ max_sites }
+        ensures ok { IfOk result (λ m. StandsFor (parts_of m) (fresh sites.now)) }
+        ensures allowed { OnOk result (All AreItems sites.now) }
+        ensures refused { IfErr result (RefusesSites sites.now) }
+    {
+        let places = opened_places(alloc, sites)?;
+        Ok(Machine {
+            alloc,
+            places,
+            certifier: Certifier::new(alloc),
+            begun: 0,
+            before: 0,
+            running: Vec::new(alloc),
+            step: None,
+        })
+    }
+
+    /// The place of an active transaction in the window's table.
+    pub(crate) fn slot_of(&self, tx: Tx) -> Result<usize, CoreFault>
+        requires { Stands (parts_of self.now) }
+        ensures ok { IfOk result (λ slot. IsSlotOf (parts_of self.now) tx slot) }
+        ensures err { IfErr result (λ f. (c : CoreState) → StandsFor (parts_of self.now) c
+            → (e : AnEvent) → tx_in e ≡ Some tx → IsRefused c e f) }
+    {
+        let number = tx.number();
+        if number > self.begun {
+            return Err(CoreFault::Unknown);
+        }
+        if number <= self.before {
+            return Err(CoreFault::Ended);
+        }
+        let slot = (number - self.before - 1) as usize;
+        match &self.running[slot] {
+            Some(_) => Ok(slot),
+            None => Err(CoreFault::Ended),
+        }
+    }
+
+    // Whether the open step is that of the transaction.
+    fn owns_step(&self, tx: Tx) -> bool
+        ensures { (c : CoreState) → StandsFor (parts_of self.now) c → IsTrue result ↔ IsOwnOpen c tx }
+    {
+        match &self.step {
+            Some(open) => open.tx == tx,
+            None => false,
+        }
+    }
+
+    // Whether the open step is that of another transaction.
+    fn other_step(&self, tx: Tx) -> bool
+        ensures { (c : CoreState) → StandsFor (parts_of self.now) c → IsTrue result ↔ IsOtherOpen c tx }
+    {
+        match &self.step {
+            Some(open) => open.tx != tx,
+            None => false,
+        }
+    }
+
+    // Whether the item is at the site.
+    fn has_item(&self, site: SiteNo, item: Item) -> bool
+        ensures { (c : CoreState) → StandsFor (parts_of self.now) c → IsTrue result ↔ IsOfSite c site item }
+    {
+        let at = site.number() as usize;
+        if at >= self.places.len() {
+            return false;
+        }
+        let place = &self.places[at];
+        place.site.writers(item).is_ok()
+    }
+
+    // The place of a transaction that may read and change the item now.
+    fn free_slot(&self, tx: Tx, site: SiteNo, item: Item) -> Result<usize, CoreFault>
+        requires { Stands (parts_of self.now) }
+        ensures ok { IfOk result (λ slot. IsSlotOf (parts_of self.now) tx slot) }
+        ensures closed { OnOk result ((c : CoreState) → StandsFor (parts_of self.now) c → IsOwnOpen c tx → ⊥) }
+        ensures known { OnOk result ((c : CoreState) → StandsFor (parts_of self.now) c → IsOfSite c site item) }
+        ensures err { IfErr result (λ f. (c : CoreState) → StandsFor (parts_of self.now) c → RefusesItem c tx site item f) }
+    {
+        let slot = match self.slot_of(tx) {
+            Ok(slot) => slot,
+            Err(fault) => return Err(fault),
+        };
+        if self.owns_step(tx) {
+            return Err(CoreFault::StepOpen);
+        }
+        if !self.has_item(site, item) {
+            return Err(CoreFault::UnknownItem);
+        }
+        Ok(slot)
+    }
+
+    /// The transaction is to write the value.
+    pub(crate) fn put(&mut self, tx: Tx, site: SiteNo, item: Item, value: Value) -> Reply
+        requires { Stands (parts_of self.old) }
+        ensures { GoesOn (λ c d. MayStep c (event.Put tx site item value) result d) (parts_of self.old) (parts_of self.new) }
+    {
+        let slot = match self.free_slot(tx, site, item) {
+            Ok(slot) => slot,
+            Err(fault) => return refused(fault),
+        };
+        match put_at(&mut self.running, slot, site, item, value) {
+            Ok(()) => Reply::Kept,
+            Err(_) => refused(CoreFault::Memory),
+        }
+    }
+
+    /// The transaction is to add the value.
+    pub(crate) fn add(&mut self, tx: Tx, site: SiteNo, item: Item, value: Value) -> Reply
+        requires { Stands (parts_of self.old) }
+        ensures { GoesOn (λ c d. MayStep c (event.Add tx site item value) result d) (parts_of self.old) (parts_of self.new) }
+    {
+        let slot = match self.free_slot(tx, site, item) {
+            Ok(slot) => slot,
+            Err(fault) => return refused(fault),
+        };
+        match add_at(&mut self.running, slot, site, item, value) {
+            Ok(()) => Reply::Kept,
+            Err(_) => refused(CoreFault::Memory),
+        }
+    }
+
+    /// The next transaction begins.
+    pub(crate) fn begin(&mut self) -> Reply
+        requires { Stands (parts_of self.old) }
+        ensures { GoesOn (λ c d. MayStep c event.Begin result d) (parts_of self.old) (parts_of self.new) }
+    {
+        if self.step.is_some() {
+            return refused(CoreFault::StepOpen);
+        }
+        if self.running.len() >= MAX_PLACES {
+            return refused(CoreFault::WindowFull);
+        }
+        if self.begun == u32::MAX {
+            return refused(CoreFault::NumbersSpent);
+        }
+        if self.running.reserve(1).is_err() {
+            return refused(CoreFault::Memory);
+        }
+        let Ok(begun) = self.certifier.begin() else {
+            return refused(CoreFault::Memory);
+        };
+        let draft = Draft::new(self.alloc);
+        let handle = begun.1;
+        self.running.push_reserved(Some(Running { handle, draft }));
+        self.begun += 1;
+        Reply::Begun { tx: begun.0 }
+    }
+
+    /// The transaction is gathered at the site: its pledge there, and its edges.
+    pub(crate) fn gather(&mut self, tx: Tx, site: SiteNo) -> Reply
+        requires { Stands (parts_of self.old) }
+        ensures { GoesOn (λ c d. MayStep c (event.Gather tx site) result d) (parts_of self.old) (parts_of self.new) }
+    {
+        let slot = match self.slot_of(tx) {
+            Ok(slot) => slot,
+            Err(fault) => return refused(fault),
+        };
+        if self.other_step(tx) {
+            return refused(CoreFault::StepOpen);
+        }
+        let at = site.number() as usize;
+        if at >= self.places.len() {
+            return refused(CoreFault::UnknownItem);
+        }
+        if is_gathered(self.places.as_slice(), at) {
+            return refused(CoreFault::AlreadyDone);
+        }
+        if !touches(self.running.as_slice(), slot, site) {
+            return refused(CoreFault::NotTouched);
+        }
+        match self.gather_at(tx, slot, at) {
+            Ok(()) => Reply::Gathered,
+            Err(_) => {
+                self.give_up(tx);
+                refused(CoreFault::Memory)
+            }
+        }
+    }
+
+    // Gathers a transaction at a site that it touches and where it isn't gathered.
+    fn gather_at(&mut self, tx: Tx, slot: usize, at: usize) -> Result<(), CoreFault>
+        requires site { at < length self.old.places.items }
+        requires slot { (r : ARunning) × (slice_get self.old.running.items slot ≡ Some (Some r)) }
+        ensures ok { OnOk result (GathersAt (parts_of self.old) (parts_of self.new) tx slot at) }
+        ensures err { OnErr result (parts_of self.new ≡ record (parts_of self.old) { step = self.new.step }) }
+    {
+        let table = self.running.as_slice();
+        let Ok(more) = edges_at(self.alloc, self.places.as_slice(), table, at, slot) else {
+            return Err(CoreFault::Memory);
+        };
+        if add_edges(&mut self.step, tx, more).is_err() {
+            return Err(CoreFault::Memory);
+        }
+        match pledge_at(&mut self.places, table, at, slot, tx) {
+            Ok(()) => Ok(()),
+            Err(_) => Err(CoreFault::Memory),
+        }
+    }
+
+    // Closes the transaction's step as if it had never been opened.
+    fn give_up(&mut self, tx: Tx)
+        ensures places { AreReleased tx self.old.places.items self.new.places.items }
+        ensures rest { parts_of self.new ≡ record (parts_of self.old) { places = self.new.places.items; step = None } }
+    {
+        release_all(&mut self.places, tx);
+        self.step = None;
+    }
+
+    /// The transaction is decided. It gives up with E9 for now, where it is gathered wherever it touches.
+    pub(crate) fn decide(&mut self, tx: Tx) -> Reply
+        requires { Stands (parts_of self.old) }
+        ensures { GoesOn (λ c d. MayStep c (event.Decide tx) result d) (parts_of self.old) (parts_of self.new) }
+    {
+        let slot = match self.slot_of(tx) {
+            Ok(slot) => slot,
+            Err(fault) => return refused(fault),
+        };
+        if self.other_step(tx) {
+            return refused(CoreFault::StepOpen);
+        }
+        if misses(self.places.as_slice(), self.running.as_slice(), slot) {
+            return refused(CoreFault::NotGathered);
+        }
+        self.give_up(tx);
+        refused(CoreFault::Memory)
+    }
+
+    /// The transaction's block is written at the site. None is decided yet.
+    pub(crate) fn install(&mut self, tx: Tx, site: SiteNo) -> Reply
+        requires { Stands (parts_of self.old) }
+        ensures { GoesOn (λ c d. MayStep c (event.Install tx site) result d) (parts_of self.old) (parts_of self.new) }
+    {
+        match self.slot_of(tx) {
+            Ok(_) => {}
+            Err(fault) => return refused(fault),
+        }
+        if self.other_step(tx) {
+            return refused(CoreFault::StepOpen);
+        }
+        if site.number() as usize >= self.places.len() {
+            return refused(CoreFault::UnknownItem);
+        }
+        refused(CoreFault::NotGathered)
+    }
+
+    /// The transaction is committed or refused, as a whole. It gives up with E9 for now.
+    pub(crate) fn commit(&mut self, tx: Tx) -> Reply
+        requires { Stands (parts_of self.old) }
+        ensures { GoesOn (λ c d. MayStep c (event.Commit tx) result d) (parts_of self.old) (parts_of self.new) }
+    {
+        match self.slot_of(tx) {
+            Ok(_) => {}
+            Err(fault) => return refused(fault),
+        }
+        if self.step.is_some() {
+            return refused(CoreFault::StepOpen);
+        }
+        refused(CoreFault::Memory)
+    }
+
+    /// The transaction is gathered wherever it touches, and decided. It gives up with E9 for now.
+    pub(crate) fn to_decide(&mut self, tx: Tx) -> Reply
+        requires { Stands (parts_of self.old) }
+        ensures { GoesOn (λ c d. MayDecide c tx result d) (parts_of self.old) (parts_of self.new) }
+    {
+        match self.slot_of(tx) {
+            Ok(_) => {}
+            Err(fault) => return refused(fault),
+        }
+        if self.step.is_some() {
+            return refused(CoreFault::StepOpen);
+        }
+        refused(CoreFault::Memory)
+    }
+
+    /// The transaction is withdrawn. It gives up with E9 for now.
+    pub(crate) fn withdraw(&mut self, tx: Tx) -> Reply
+        requires { Stands (parts_of self.old) }
+        ensures { GoesOn (λ c d. MayStep c (event.Withdraw tx) result d) (parts_of self.old) (parts_of self.new) }
+    {
+        match self.slot_of(tx) {
+            Ok(_) => {}
+            Err(fault) => return refused(fault),
+        }
+        if self.step.is_some() {
+            return refused(CoreFault::StepOpen);
+        }
+        refused(CoreFault::Memory)
+    }
+
+    /// The transaction reads the item.
+    pub(crate) fn read(&mut self, tx: Tx, site: SiteNo, item: Item) -> Reply
+        requires { Stands (parts_of self.old) }
+        ensures { GoesOn (λ c d. MayStep c (event.Read tx site item) result d) (parts_of self.old) (parts_of self.new) }
+    {
+        let slot = match self.free_slot(tx, site, item) {
+            Ok(slot) => slot,
+            Err(fault) => return refused(fault),
+        };
+        if let Some(value) = look_at(self.running.as_slice(), slot, site, item) {
+            return Reply::Value { value };
+        }
+        if room_at(&mut self.running, slot).is_err() {
+            return refused(CoreFault::Memory);
+        }
+        let Ok(seen) = read_at(&mut self.places, tx, site, item) else {
+            return refused(CoreFault::Memory);
+        };
+        keep_at(&mut self.running, slot, site, item, seen);
+        match look_at(self.running.as_slice(), slot, site, item) {
+            Some(value) => Reply::Value { value },
+            None => refused(CoreFault::Memory),
+        }
+    }
+
+    /// The window is closed.
+    pub(crate) fn close(&mut self) -> Reply
+        requires { Stands (parts_of self.old) }
+        ensures { GoesOn (λ c d. MayStep c event.Close result d) (parts_of self.old) (parts_of self.new) }
+    {
+        if self.step.is_some() {
+            return refused(CoreFault::StepOpen);
+        }
+        match self.certifier.close() {
+            Ok(ranks) => {
+                self.running.clear();
+                self.before = self.begun;
+                Reply::Closed { ranks }
+            }
+            Err(fault) => refused(fault_of_close(fault)),
+        }
+    }
+}
+
+fn refused(fault: CoreFault) -> Reply
+    ensures { result ≡ Reply.Fault fault }
+{
+    Reply::Fault { fault }
+}
+
+// How the core tells that the certifier doesn't close the window, while no step is open.
+fn fault_of_close(fault: CertifierFault) -> CoreFault
+    ensures { result ≡ close_fault fault }
+{
+    match fault {
+        CertifierFault::ActiveLeft(_) => CoreFault::ActiveLeft,
+        CertifierFault::GenerationsSpent => CoreFault::GenerationsSpent,
+        _ => CoreFault::Memory,
+    }
+}
+
+// Keeps a private write in a draft of the table.
+fn put_at(
+    table: &mut Vec<Option<Running>>,
+    slot: usize,
+    site: SiteNo,
+    item: Item,
+    value: Value,
+) -> Result<(), AllocError>
+    requires { (r : ARunning) × (slice_get table.old.items slot ≡ Some (Some r)) }
+    ensures ok { OnOk result (Redrafts table.old.items table.new.items slot (ChangesTo site item (λ c. change.Put value))) }
+    ensures err { OnErr result (table.new.items ≡ table.old.items) }
+{
+    match &mut table[slot] {
+        Some(running) => {
+            let kept = running.draft.put(site, item, value);
+            let _touched = running.draft.touched();
+            kept
+        }
+        None => unreachable!(),
+    }
+}
+
+// Keeps a private increment in a draft of the table.
+fn add_at(
+    table: &mut Vec<Option<Running>>,
+    slot: usize,
+    site: SiteNo,
+    item: Item,
+    value: Value,
+) -> Result<(), AllocError>
+    requires { (r : ARunning) × (slice_get table.old.items slot ≡ Some (Some r)) }
+    ensures ok { OnOk result (Redrafts table.old.items table.new.items slot (ChangesTo site item (λ c. added_to c value))) }
+    ensures err { OnErr result (table.new.items ≡ table.old.items) }
+{
+    match &mut table[slot] {
+        Some(running) => {
+            let kept = running.draft.add(site, item, value);
+            let _touched = running.draft.touched();
+            kept
+        }
+        None => unreachable!(),
+    }
+}
+
+// What the transaction at a place of the table sees of an item without the site.
+fn look_at(table: &[Option<Running>], slot: usize, site: SiteNo, item: Item) -> Option<Value>
+    requires { slot < length table.now }
+    ensures { (r : ARunning) → slice_get table.now slot ≡ Some (Some r)
+        → result ≡ option_and_then look_of (touched_at r.draft.touched (site, item)) }
+{
+    match &table[slot] {
+        Some(running) => running.draft.look(site, item),
+        None => None,
+    }
+}
+
+// Makes room in a draft of the table for one more item.
+fn room_at(table: &mut Vec<Option<Running>>, slot: usize) -> Result<(), AllocError>
+    requires { (r : ARunning) × (slice_get table.old.items slot ≡ Some (Some r)) }
+    ensures ok { OnOk result (HasRoomAt table.old.items table.new.items slot) }
+    ensures err { OnErr result (table.new.items ≡ table.old.items) }
+{
+    match &mut table[slot] {
+        Some(running) => running.draft.room(),
+        None => unreachable!(),
+    }
+}
+
+// Reads an item at its site.
+fn read_at(places: &mut Vec<Place>, tx: Tx, site: SiteNo, item: Item) -> Result<Seen, SiteFault>
+    requires { site < length places.old.items }
+    ensures ok { IfOk result (λ seen. ReadsAt places.old.items places.new.items tx site item seen) }
+    ensures err { OnErr result (places.new.items ≡ places.old.items) }
+{
+    let place = &mut places[site.number() as usize];
+    place.site.read(tx, item)
+}
+
+// Keeps a read in a draft of the table that has room for it.
+fn keep_at(table: &mut Vec<Option<Running>>, slot: usize, site: SiteNo, item: Item, seen: Seen)
+    requires { (r : ARunning) × (slice_get table.old.items slot ≡ Some (Some r)) × (r.draft.has_room ≡ true)
+        × (seen_at r.draft.touched (site, item) ≡ None) }
+    ensures { Redrafts table.old.items table.new.items slot (ReadsTo site item seen) }
+{
+    match &mut table[slot] {
+        Some(running) => {
+            let kept = running.draft.seen(site, item, seen.value, seen.version);
+            let _touched = running.draft.touched();
+            match kept {
+                Ok(()) => {}
+                Err(_) => unreachable!(),
+            }
+        }
+        None => unreachable!(),
+    }
+}
+
+// Whether the transaction at a place of the table touches the site.
+fn touches(table: &[Option<Running>], slot: usize, site: SiteNo) -> bool
+    requires { slot < length table.now }
+    ensures { (r : ARunning) → slice_get table.now slot ≡ Some (Some r) → IsTrue result ↔ Touches r.draft.touched site }
+{
+    match &table[slot] {
+        Some(running) => running.draft.touches(site),
+        None => false,
+    }
+}
+
+// A site with these items, to which nothing has happened.
+fn opened_place(alloc: Global, number: usize, items: &[Holding]) -> Result<Place, SiteFault>
+    requires { number < max_sites }
+    ensures ok { IfOk result (λ p. p ≡ record { site = opened number items.now; part = Idle }) }
+    ensures allowed { OnOk result (AreItems items.now) }
+    ensures refused { IfErr result (RefusesItems items.now) }
+{
+    let Ok(number) = SiteNo::new(number as u64) else {
+        unreachable!();
+    };
+    match Site::new(alloc, number, items) {
+        Ok(site) => Ok(Place {
+            site,
+            part: Part::Idle,
+        }),
+        Err(fault) => Err(fault),
+    }
+}
+
+// Sites with these items, to which nothing has happened.
+fn opened_places(alloc: Global, sites: &[Listed<Holding>]) -> Result<Vec<Place>, SiteFault>
+    requires { length sites.now ≤ max_sites }
+    ensures ok { IfOk result (λ places. AreOpened sites.now places.items) }
+    ensures allowed { OnOk result (All AreItems sites.now) }
+    ensures refused { IfErr result (RefusesSites sites.now) }
+{
+    let mut places = Vec::new(alloc);
+    if places.reserve(sites.len()).is_err() {
+        return Err(SiteFault::Memory);
+    }
+    for i in 0..sites.len() {
+        match opened_place(alloc, i, sites[i].as_slice()) {
+            Ok(place) => places.push_reserved(place),
+            Err(fault) => return Err(fault),
+        }
+    }
+    Ok(places)
+}

@@ -1,0 +1,5 @@
+//! Tests of the core.
+#![tactic(auto)]
+
+#[cfg(test)]
+mod tests;

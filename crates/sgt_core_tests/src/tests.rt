@@ -1,0 +1,67 @@
+//! What no contract of the core says: that calls succeed. The worked case of an increment before a read, up to its commit, and
+//! refusals of events.
+
+use sgt_core::{Core, CoreFault, Event, Reply};
+use sgt_names::{Holding, Item, Listed, SiteNo, Tx};
+use std::alloc::Global;
+use std::test::Fail;
+
+// Whether the core answers as the rows tell.
+fn answers(core: &mut Core, rows: &[(Event, Reply)]) -> bool {
+    for row in rows {
+        if core.step(row.0) != row.1 {
+            return false;
+        }
+    }
+    true
+}
+
+// One site, with an item x of this value.
+fn site(alloc: Global, value: u64) -> Result<Listed<Holding>, Fail> {
+    let item = Item::new(b"x")?;
+    let holdings = vec![in alloc; Holding { item, value }]?;
+    Ok(Listed::new(holdings))
+}
+
+fn read(tx: Tx, site: SiteNo, item: Item) -> Event {
+    Event::Read { tx, site, item }
+}
+
+fn fault(fault: CoreFault) -> Reply {
+    Reply::Fault { fault }
+}
+
+#[test]
+fn read_after_own_increment(rt: HostRuntime) -> Result<(), Fail> {
+    let alloc = rt.alloc();
+    let (one, two, here) = (Tx::new(1)?, Tx::new(2)?, SiteNo::new(0)?);
+    let (x, y) = (Item::new(b"x")?, Item::new(b"y")?);
+    let add = Event::Add {
+        tx: one,
+        site: here,
+        item: x,
+        value: 3,
+    };
+    let gather = Event::Gather {
+        tx: one,
+        site: here,
+    };
+    let rows = [
+        (Event::Close, Reply::Closed { ranks: 0 }),
+        (Event::Begin, Reply::Begun { tx: one }),
+        (add, Reply::Kept),
+        (read(one, here, x), Reply::Value { value: 8 }),
+        (read(one, here, y), fault(CoreFault::UnknownItem)),
+        (read(two, here, y), fault(CoreFault::Unknown)),
+        (Event::Decide { tx: one }, fault(CoreFault::NotGathered)),
+        (Event::Close, fault(CoreFault::ActiveLeft)),
+        (gather, Reply::Gathered),
+        (gather, fault(CoreFault::AlreadyDone)),
+        (Event::Close, fault(CoreFault::StepOpen)),
+    ];
+    let sites = vec![in alloc; site(alloc, 5)?]?;
+    let mut core = Core::new(alloc, sites.as_slice())?;
+    assert!(rt; answers(&mut core, &rows));
+    assert_eq!(rt; core.active(), 1);
+    Ok(())
+}
