@@ -1,2 +1,4 @@
 pub mod OneInput
 pub mod Reader
+pub mod Running
+pub mod OneText

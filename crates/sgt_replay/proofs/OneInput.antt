@@ -20,7 +20,7 @@ use Rattle.sgt_replay.specs.Input.{Begins, IsBegun, input_lines}
 use Rattle.sgt_replay.specs.private.Taking.{Takes, TakesEvent, TakesSite}
 
 -- no event is spelled like a site
-event-no_site : (l : SiteLine) (e : EventLine) → IsEventLine e → site_text l ≡ event_text e → ⊥
+pub event-no_site : (l : SiteLine) (e : EventLine) → IsEventLine e → site_text l ≡ event_text e → ⊥
 event-no_site l (One (Gather tx s)) is same = absurd is
 event-no_site l (One (Decide tx)) is same = absurd is
 event-no_site l e is same = absurd (apart (site_text l) (event_text e) refl same)

@@ -1,3 +1,4 @@
 pub mod Input
+pub mod Replay
 pub mod Reply
 pub mod private

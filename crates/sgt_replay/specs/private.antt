@@ -1,2 +1,3 @@
+pub mod Running
 pub mod Taking
 pub mod Stopping

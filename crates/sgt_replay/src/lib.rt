@@ -1,11 +1,15 @@
-//! The input of a replay, and its replies as lines.
+//! The replay of a file of events through the core.
 #![tactic(auto)]
 
+mod engine;
 mod input;
+mod laws;
 mod reading;
 mod reply;
 mod taking;
 
+pub use engine::replay;
 pub use input::{Input, Reading};
+pub use laws::inputs_have_one_reading;
 pub use reading::read_input;
 pub use reply::{number_of, write_reply};

@@ -1,0 +1,182 @@
+//! The replay of all that a reader gives.
+
+ghost use Rattle.std.specs.Prelude.{◌≡◌, ◌≢◌, ◌⊎◌, ◌<◌, ◌≤◌, ◌++◌, ℕ, List, Option, Err, All, length, map, OnOk, OnErr, IfOk, IfSome, IsErrOf};
+ghost use Rattle.sgt_names.specs.Limits.{max_sites};
+ghost use Rattle.sgt_notation.specs.Events.{IsEventLine, IsSiteLine};
+ghost use Rattle.sgt_notation.specs.Limits.{most_reads};
+ghost use Rattle.sgt_core.specs.Core.{CoreState, fresh};
+ghost use Rattle.sgt_core.specs.Machine.{StandsFor};
+ghost use Rattle.sgt_replay.specs.Input.{IsInput, IsRead, IsUsable};
+ghost use Rattle.sgt_replay.specs.Replay.{EndsWith, IsAnswer, IsRunText, WroteAnswer, WroteAnswerFront, unreadable_text};
+ghost use Rattle.sgt_replay.specs.private.Running.{AnswersLine, WritesReplies};
+
+use crate::input::{Input, Reading};
+use crate::reading::read_input;
+use crate::reply::write_reply;
+use sgt_core::{Core, CoreFault, Reply};
+use sgt_names::{EngineFail, Holding, Listed, Outcome, Sink, Source, write_all};
+use sgt_notation::{EventLine, NotationFault, SiteLine, push_number};
+use sgt_site::SiteFault;
+use std::alloc::{AllocError, Global};
+
+/// What the core replies to a line. Err: memory ran out.
+fn answer_line(core: &mut Core, line: &EventLine) -> Result<Reply, AllocError>
+    ensures { IfOk result (λ reply. AnswersLine core.old line.now reply core.new) }
+{
+    let reply = match line {
+        EventLine::One(event) => core.step(*event),
+        EventLine::ToDecide(tx) => core.to_decide(*tx),
+    };
+    match reply {
+        Reply::Fault {
+            fault: CoreFault::Memory,
+        } => Err(AllocError),
+        _ => Ok(reply),
+    }
+}
+
+/// Writes the core's replies to these lines. Err: memory ran out.
+fn write_replies(core: &mut Core, lines: &[EventLine], out: &mut Vec<u8>) -> Result<(), AllocError>
+    requires { All IsEventLine lines.now }
+    ensures { OnOk result (WritesReplies core.old lines.now core.new out.old.items out.new.items) }
+{
+    for line in lines {
+        let reply = answer_line(core, line)?;
+        write_reply(out, line, &reply)?;
+        out.extend_from_slice(b"\n")?;
+    }
+    Ok(())
+}
+
+/// Writes how the run ends. Err: memory ran out.
+fn write_ending(alloc: Global, core: &Core, out: &mut Vec<u8>) -> Result<Outcome, AllocError>
+    requires { (c : CoreState) × StandsFor core.now c }
+    ensures { IfOk result (λ outcome. (c : CoreState) → StandsFor core.now c
+        → (ending : List ℕ) × EndsWith c outcome ending × (out.new.items ≡ out.old.items ++ ending)) }
+{
+    match core.bundle(alloc) {
+        Ok(bundle) => {
+            let text = bundle.to_text(alloc)?;
+            out.extend_from_slice(b"---\n")?;
+            out.extend_from_slice(text.as_slice())?;
+            Ok(Outcome::Yes)
+        }
+        Err(CoreFault::ActiveLeft) => {
+            out.extend_from_slice(b"! E8\n")?;
+            Ok(Outcome::No)
+        }
+        Err(CoreFault::Memory) => Err(AllocError),
+        Err(_) => unreachable!(),
+    }
+}
+
+/// The items of the sites.
+fn items_of(alloc: Global, sites: Vec<SiteLine>) -> Result<Vec<Listed<Holding>>, AllocError>
+    ensures { IfOk result (λ items. items.items ≡ map (λ l. l.items) sites.items) }
+{
+    let mut items = Vec::new(alloc);
+    for site in sites {
+        items.push(site.items)?;
+    }
+    Ok(items)
+}
+
+/// An outcome, and what is to be written.
+#[derive(Drop)]
+struct Answer {
+    outcome: Outcome,
+    text: Vec<u8>,
+}
+
+/// A core over these sites. Err: memory ran out.
+fn core_of(alloc: Global, sites: Vec<SiteLine>) -> Result<Core, AllocError>
+    requires some { 1 ≤ length sites.items }
+    requires few { length sites.items ≤ max_sites }
+    requires each { All IsSiteLine sites.items }
+    ensures { IfOk result (λ core. StandsFor core (fresh (map (λ l. l.items) sites.items))) }
+{
+    let items = items_of(alloc, sites)?;
+    match Core::new(alloc, items.as_slice()) {
+        Ok(core) => Ok(core),
+        Err(fault) => match fault {
+            SiteFault::Memory => Err(AllocError),
+            _ => unreachable!(),
+        },
+    }
+}
+
+/// The text of a run over the input.
+fn run_text(alloc: Global, input: Input) -> Result<Answer, AllocError>
+    requires { IsInput input }
+    ensures { IfOk result (λ answer. IsRunText input answer.outcome answer.text.items) }
+{
+    let Input { sites, events } = input;
+    let mut core = core_of(alloc, sites.into_vec())?;
+    let mut text = Vec::new(alloc);
+    write_replies(&mut core, events.as_slice(), &mut text)?;
+    let outcome = write_ending(alloc, &core, &mut text)?;
+    Ok(Answer { outcome, text })
+}
+
+fn unreadable_line(alloc: Global, line: u64, fault: NotationFault) -> Result<Vec<u8>, AllocError>
+    ensures { IfOk result (λ text. text.items ≡ unreadable_text line fault) }
+{
+    let number = match fault {
+        NotationFault::NotALine => 1,
+        NotationFault::TooLong => 2,
+        NotationFault::Memory => 3,
+    };
+    let mut text = Vec::from_slice(alloc, b"! L")?;
+    push_number(&mut text, number)?;
+    text.extend_from_slice(b" line ")?;
+    push_number(&mut text, line)?;
+    text.extend_from_slice(b"\n")?;
+    Ok(text)
+}
+
+/// The answer to what was read.
+fn answer_to(alloc: Global, reading: Reading) -> Result<Answer, AllocError>
+    requires { IsUsable reading }
+    ensures { IfOk result (λ answer. (told : Option (List ℕ)) → IfSome told (λ bytes. IsRead bytes reading)
+        → IsAnswer told answer.outcome answer.text.items) }
+{
+    match reading {
+        Reading::Readable(input) => run_text(alloc, input),
+        Reading::Unreadable { line, fault } => Ok(Answer {
+            outcome: Outcome::Unreadable,
+            text: unreadable_line(alloc, line, fault)?,
+        }),
+    }
+}
+
+/// Runs the events that the reader gives through a new core with the sites that it gives before them, and writes a line for
+/// each reply. Then, where no transaction is active, the line `---` and the bundle are written, and else the line `! E8`: the
+/// outcomes are Yes and No. Where a line can't be read, `! L1 line N` or `! L2 line N` of the first such line is all that is
+/// written, and the outcome is Unreadable. The whole input is read and checked before the first event is served.
+///
+/// ReadFault where the reader failed, or no read is left, and Memory where a growth was refused (no reply `! E9` is ever
+/// written): nothing was written. WriteFault where the writer failed: a front of the answer may have been written.
+pub fn replay<R: Source, W: Sink>(
+    alloc: Global,
+    reader: &mut R,
+    writer: &mut W,
+) -> Result<Outcome, EngineFail>
+    ensures answer { IfOk result (λ outcome. WroteAnswer (R.tells reader.old) outcome (W.holds writer.old) (W.holds writer.new)) }
+    ensures front { OnErr result (WroteAnswerFront (R.tells reader.old) (W.holds writer.old) (W.holds writer.new)) }
+    ensures unwritten { IsErrOf result EngineFail.ReadFault → writer.new ≡ writer.old }
+    ensures untouched { IsErrOf result EngineFail.Memory → writer.new ≡ writer.old }
+
+    // A fault tells of its device, and no fault of a device is passed over.
+    ensures read_fault { IsErrOf result EngineFail.ReadFault →
+        ((R.failures reader.old < R.failures reader.new) ⊎ IfSome (R.tells reader.old) (λ bytes. most_reads ≤ length bytes)) }
+    ensures write_fault { IsErrOf result EngineFail.WriteFault → W.failures writer.old < W.failures writer.new }
+    ensures quiet_reader { result ≢ Err EngineFail.ReadFault → R.failures reader.new ≡ R.failures reader.old }
+    ensures quiet_writer { result ≢ Err EngineFail.WriteFault → W.failures writer.new ≡ W.failures writer.old }
+{
+    let reading = read_input(alloc, reader)?;
+    let answer = answer_to(alloc, reading)?;
+    match write_all(writer, answer.text.as_slice()) {
+        Ok(()) => Ok(answer.outcome),
+        Err(_) => Err(EngineFail::WriteFault),
+    }
+}
