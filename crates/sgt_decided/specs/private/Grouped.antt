@@ -5,4 +5,5 @@ use Rattle.sgt_decided.specs.declared.steps.Group.{Group}
 
 -- each group has the steps at its site
 abbrev pub AreGrouped : List Edge → List Group → Type 0
-AreGrouped edges groups = (site : ℕ) (g : Group) → slice_get groups site ≡ Some g → (e : Edge) → Contains g.edges.items e ↔ (Contains edges e × (e.step.label.site ≡ site))
+AreGrouped edges groups = (site : ℕ) (g : Group) → slice_get groups site ≡ Some g
+    → (e : Edge) → Contains g.edges.items e ↔ (Contains edges e × (e.step.label.site ≡ site))
