@@ -1,6 +1,6 @@
 -- An entry of a log agrees with the decisions or it doesn't, and a walk's steps are logged or they aren't.
 use Rattle.std.proofs.Common.{◌≡◌, ◌≢◌, ℕ, ◌<◌, ◌≤◌, List, [], ◌∷◌, Some, None, refl, sym, ap, ◌∙◌, subst, inl, inr}
-use Rattle.std.specs.Prelude.{slice_get}
+use Rattle.std.specs.Prelude.{slice_get, Contains}
 use Rattle.std.proofs.lemmas.Bool.{cases_eq}
 use Rattle.std.proofs.lemmas.Option.{same_Some}
 use Rattle.sgt_names.specs.Name.{Name}
@@ -19,7 +19,6 @@ use Rattle.sgt_cert.specs.declared.certificate.Step.{Step}
 use Rattle.sgt_cert.specs.declared.certificate.Decision.{Decision}
 use Rattle.sgt_cert.specs.declared.certificate.Decision.TheVariants.{Commit, Refuse, Withdraw}
 use Rattle.sgt_cert.specs.declared.bundle.SiteLog.{SiteLog}
-use Rattle.sgt_audit.proofs.NextLine.{WalksOf}
 
 -- ---- decisions
 
@@ -107,6 +106,9 @@ decidable-refusal sites (Commit i rank) = inl (λ tx walk e. absurd cc)
 decidable-refusal sites (Withdraw i) = inl (λ tx walk e. absurd cc)
 
 -- each walk of these decisions is logged
+abbrev pub WalksOf : List Decision → List SiteLog → Type 0
+WalksOf ds logs = (tx : ℕ) (walk : List Step) → Contains ds (Refuse tx walk) → AreLogged logs tx walk
+
 pub decidable-walks : (ds : List Decision) (sites : List SiteLog) → Decidable (WalksOf ds sites)
 decidable-walks ds sites =
     decidable-as (λ all tx walk c. let at = Contains_at ds (Refuse tx walk) c in all at.0 (Refuse tx walk) at.1 tx walk refl)

@@ -19,9 +19,8 @@ use Rattle.sgt_cert.specs.declared.certificate.Certificate.{Certificate}
 use Rattle.sgt_cert.specs.declared.bundle.SiteLog.{SiteLog}
 use Rattle.sgt_audit.specs.Reading.{Begun, open_lines, lines_read, IsBegun}
 use Rattle.sgt_audit.specs.private.Following.{Fits, FitsBetween, MayFollow, with_next}
-use Rattle.sgt_audit.proofs.NextLine.{WalksOf}
 use Rattle.sgt_audit.proofs.MayFollow.{follow-decides, added-begun, added-lines, whole-sections, sections-whole, are-sections}
-use Rattle.sgt_audit.proofs.decidable.Entries.{decidable-walks}
+use Rattle.sgt_audit.proofs.decidable.Entries.{WalksOf, decidable-walks}
 
 decidable-empty : {A : Type 0} (xs : List A) → Decidable (xs ≡ [])
 decidable-empty [] = inl refl
