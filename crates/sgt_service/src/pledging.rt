@@ -112,7 +112,6 @@ impl<L: Ledger> Service<L> {
         ensures room { OnOk result ((site : ℕ) → IsExpected guarded.new.certifier.expected active.now.draft.touched site) }
         ensures sites { OnOk result ((site : ℕ) → vec_len self.now.sites ≤ site → at_site site active.now.draft.touched ≡ []) }
         ensures first { IfSome guarded.old.lost (λ site. result ≡ Err (NotPledged site)) }
-        ensures noted { IfErr result (λ f. (site : ℕ) → f ≡ NotPledged site → guarded.new.lost ≡ Some site) }
         ensures refused { IfErr result IsOfCall }
     {
         guarded.expect(active)?;
