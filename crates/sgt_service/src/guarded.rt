@@ -32,7 +32,7 @@ pub struct Guarded<L: Ledger> {
 }
 
 impl<L: Ledger> Guarded<L> {
-    ghost use Rattle.std.specs.Prelude.{◌≡◌, ◌↔◌, ◌<◌, ◌+◌, ◌++◌, ℕ, List, All, false, None, Some, Err, IsTrue, IfOk, IfErr, IfSome, OnOk, OnErr};
+    ghost use Rattle.std.specs.Prelude.{◌≡◌, ◌↔◌, ◌<◌, ◌+◌, ◌++◌, [], ℕ, List, All, false, None, Some, Err, IsTrue, IfOk, IfErr, IfSome, OnOk, OnErr};
     ghost use Rattle.sgt_certifier.specs.declared.call.Call.TheVariants as call;
     ghost use Rattle.sgt_certifier.specs.declared.call.Decided.{Decided as Reply};
     ghost use Rattle.sgt_certifier.specs.History.{begin, decide, withdraw, close, expect, tx_under, IsAllowed};
@@ -43,7 +43,9 @@ impl<L: Ledger> Guarded<L> {
     ghost use Rattle.sgt_agreed.specs.Agreed.{VersionsAgree};
     ghost use Rattle.sgt_agreed.specs.declared.fault.ServiceFault.TheVariants.{NotPledged, Certifier as OfCertifier};
     ghost use Rattle.sgt_certifier.specs.declared.call.CertifierFault.TheVariants.{Unknown as NotKnown};
-    ghost use Rattle.sgt_workers.specs.declared.ticket.Ending.TheVariants.{Committed};
+    ghost use Rattle.sgt_workers.specs.declared.ticket.Ending.TheVariants.{Committed, Withdrawn};
+    ghost use Rattle.sgt_site.specs.State.{IsPledged, IsPledgedFor};
+    ghost use Rattle.sgt_certifier.specs.Certifier.{opening};
     ghost use Rattle.sgt_service.specs.Guarded.{ticket_of, AwaitsInstalls, IsEnded};
     ghost use Rattle.sgt_service.specs.Refused.{HandsOn, IsRefusedBy, IsOfCertifier, IsOfCall};
 
@@ -51,6 +53,7 @@ impl<L: Ledger> Guarded<L> {
     pub fn new(alloc: Global, book: Book<L>, none: Share<L>) -> Guarded<L>
         requires book { book.total ≡ 0 }
         requires none { (none.parts ≡ 0) × (none.amount ≡ 0) }
+        ensures { (result.certifier.state ≡ opening) × (result.certifier.history ≡ []) × (result.lost ≡ None) }
     {
         Guarded {
             certifier: Certifier::new(alloc),
@@ -201,6 +204,7 @@ impl<L: Ledger> Guarded<L> {
         ensures room { OnOk result ((site : ℕ) → IsExpected self.new.certifier.expected active.now.draft.touched site) }
         ensures state { (self.new.certifier.state ≡ self.old.certifier.state)
             × (self.new.certifier.history ≡ self.old.certifier.history) }
+        ensures first { IfSome self.old.lost (λ site. result ≡ Err (NotPledged site)) }
         ensures refused { IfErr result IsOfCertifier }
         ensures lost { self.new.lost ≡ self.old.lost }
     {
@@ -267,6 +271,9 @@ impl<L: Ledger> Guarded<L> {
         ensures noted { IsTrue result → verdict ≡ Committed → Adds self.old.certifier
             (call.Installed active.now.tx here (changed_at active.now.draft.touched here)) self.new.certifier }
         ensures ended { IsTrue result → IsEnded verdict active.now site.old site.new }
+        ensures stands { (verdict ≡ Withdrawn → ⊥)
+            → IsPledgedFor site.old active.now.tx active.now.draft.touched → IsTrue result }
+        ensures stands_withdrawn { verdict ≡ Withdrawn → IsPledged site.old active.now.tx → IsTrue result }
         ensures lost { result ≡ false → (site.new ≡ site.old) × (self.new.certifier ≡ self.old.certifier) }
         ensures step { self.new.certifier.state.step ≡ self.old.certifier.state.step }
         ensures same { self.new.lost ≡ self.old.lost }
@@ -284,6 +291,7 @@ impl<L: Ledger> Guarded<L> {
         ensures noted { IsTrue result → Adds self.old.certifier
             (call.Installed active.now.tx here (changed_at active.now.draft.touched here)) self.new.certifier }
         ensures ended { IsTrue result → IsEnded Committed active.now site.old site.new }
+        ensures stands { IsPledgedFor site.old active.now.tx active.now.draft.touched → IsTrue result }
         ensures lost { result ≡ false → (site.new ≡ site.old) × (self.new.certifier ≡ self.old.certifier) }
         ensures step { self.new.certifier.state.step ≡ self.old.certifier.state.step }
         ensures same { self.new.lost ≡ self.old.lost }

@@ -24,7 +24,8 @@ pub struct Lost {
 }
 
 impl<L: Ledger> Service<L> {
-    ghost use Rattle.std.specs.Prelude.{◌≡◌, ◌<◌, ◌≤◌, ◌+◌, [], ℕ, false, IsTrue, IfOk, IfErr, OnOk, OnErr, vec_len};
+    ghost use Rattle.std.specs.Prelude.{◌≡◌, ◌<◌, ◌≤◌, ◌+◌, [], ℕ, false, Some, Err, IsTrue, IfOk, IfErr, IfSome, OnOk, OnErr, vec_len};
+    ghost use Rattle.sgt_agreed.specs.declared.fault.ServiceFault.TheVariants.{NotPledged};
     ghost use Rattle.sgt_names.specs.Draft.{at_site};
     ghost use Rattle.sgt_workers.specs.declared.ticket.Ending.TheVariants.{Committed};
     ghost use Rattle.sgt_certifier.specs.History.{tx_under};
@@ -69,7 +70,9 @@ impl<L: Ledger> Service<L> {
     {
         for place in 0..self.sites.len() {
             if active.draft.touches(self.number_at(place)) {
-                if let Err(fault) = self.sites[place].lock(rt).pledge(active.tx, &active.draft) {
+                // (the lock is given back before another site's is taken)
+                let pledged = self.sites[place].lock(rt).pledge(active.tx, &active.draft);
+                if let Err(fault) = pledged {
                     self.unpledge_below(rt, active, place);
                     return Err(ServiceFault::from(fault));
                 }
@@ -87,6 +90,7 @@ impl<L: Ledger> Service<L> {
     ) -> Result<(), ServiceFault>
         ensures named { OnOk result (tx_under guarded.now.certifier.state active.now.handle ≡ active.now.tx) }
         ensures sites { OnOk result ((site : ℕ) → vec_len self.now.sites ≤ site → at_site site active.now.draft.touched ≡ []) }
+        ensures first { IfSome guarded.now.lost (λ site. result ≡ Err (NotPledged site)) }
         ensures refused { IfErr result IsOfCall }
     {
         guarded.check(active)?;
@@ -107,6 +111,7 @@ impl<L: Ledger> Service<L> {
         ensures named { OnOk result (tx_under guarded.new.certifier.state active.now.handle ≡ active.now.tx) }
         ensures room { OnOk result ((site : ℕ) → IsExpected guarded.new.certifier.expected active.now.draft.touched site) }
         ensures sites { OnOk result ((site : ℕ) → vec_len self.now.sites ≤ site → at_site site active.now.draft.touched ≡ []) }
+        ensures first { IfSome guarded.old.lost (λ site. result ≡ Err (NotPledged site)) }
         ensures refused { IfErr result IsOfCall }
     {
         guarded.expect(active)?;
@@ -129,6 +134,7 @@ impl<L: Ledger> Service<L> {
         edges: &mut EdgeList,
     ) -> Result<(), ServiceFault>
         ensures certifier { guarded.new.certifier ≡ guarded.old.certifier }
+        ensures noted { IfErr result (λ f. (site : ℕ) → f ≡ NotPledged site → guarded.new.lost ≡ Some site) }
         ensures refused { IfErr result IsOfCall }
     {
         for place in 0..self.sites.len() {
@@ -170,6 +176,7 @@ impl<L: Ledger> Service<L> {
         ensures lost { IfErr result (λ e. AreCounted
             (λ site. with_others (below e.site (blocks_of verdict active.now.draft.touched) site))
             seat.old.counts.items seat.new.counts.items) }
+        ensures noted { IfErr result (λ e. guarded.new.lost ≡ Some e.site) }
     {
         for place in 0..self.sites.len() {
             let here = self.number_at(place);
@@ -202,6 +209,7 @@ impl<L: Ledger> Service<L> {
         ensures counted { IsTrue result → AreCounted
             (only_at here (with_others (blocks_of verdict active.now.draft.touched here)))
             seat.old.counts.items seat.new.counts.items }
+        ensures noted { result ≡ false → guarded.new.lost ≡ Some here }
         ensures same { result ≡ false → seat.new.counts.items ≡ seat.old.counts.items }
     {
         let entries = block_at(active.draft.touched(), here, verdict);
