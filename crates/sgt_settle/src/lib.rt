@@ -1,6 +1,7 @@
 //! Whether the tickets of a run, the history of its certifier and the logs of its sites hold together.
 #![tactic(auto)]
 
+mod acts;
 mod carried;
 mod check;
 mod committed;

@@ -2,12 +2,15 @@
 
 ghost use Rattle.std.specs.Prelude.{◌≡◌, ◌↔◌, ◌≤◌, ◌<◌, ◌++◌, ℕ, List, IsTrue, Contains, IfOk, OnErr, MatchOption, length, slice_get, Some};
 ghost use Rattle.sgt_names.specs.Limits.{max_sites};
+ghost use Rattle.sgt_names.specs.declared.entry.Entry.{Entry as AnEntry};
 ghost use Rattle.sgt_settle.specs.Settled.{AreEntriesCounted, AreCountedAt};
 ghost use Rattle.sgt_settle.specs.declared.handed.Handed.{Handed as AHanded};
 ghost use Rattle.sgt_settle.specs.private.Words.{IsLeastOf, lesser};
 ghost use Rattle.sgt_settle.specs.private.Index.{IsPaired};
+ghost use Rattle.sgt_settle.specs.private.Acts.{AreActs, AreNamedBelow};
 ghost use Rattle.sgt_settle.specs.private.Sites.{AreLogged, IsLogFit, IsFitAt};
 
+use crate::acts::{Act, above_names, acts_of};
 use crate::carried::are_carried;
 use crate::counts::has_counts;
 use crate::handed::Handed;
@@ -19,11 +22,12 @@ use sgt_site::Site;
 use std::alloc::{AllocError, Global};
 
 // Whether each edge on the site is a conflict of its log.
-fn are_logged(windows: &[Vec<Tx>], handed: &[Handed], site: SiteNo, log: &[Entry]) -> bool
-    ensures { IsTrue result ↔ AreLogged windows.now handed.now site log.now }
+fn are_logged(windows: &[Vec<Tx>], acts: &[Vec<Act>], handed: &[Handed], site: SiteNo) -> bool
+    requires { AreNamedBelow windows.now (length acts.now) }
+    ensures { (log : List AnEntry) → AreActs log acts.now → IsTrue result ↔ AreLogged windows.now handed.now site log }
 {
     for one in handed {
-        if one.edge.label.site == site && !is_logged(windows, log, &one.edge) {
+        if one.edge.label.site == site && !is_logged(windows, acts, &one.edge) {
             return false;
         }
     }
@@ -45,7 +49,9 @@ fn is_log_fit(
     if !has_counts(log, counts) {
         return Ok(false);
     }
-    if !are_logged(index.windows.as_slice(), index.handed.as_slice(), site, log) {
+    let windows = index.windows.as_slice();
+    let acts = acts_of(alloc, log, above_names(windows))?;
+    if !are_logged(windows, acts.as_slice(), index.handed.as_slice(), site) {
         return Ok(false);
     }
     let carried = are_carried(alloc, index, site, log)?;
