@@ -88,7 +88,7 @@ pub fn check_settled(
     })) }
 {
     let history = certifier.history();
-    if let Err(fault) = check_tickets(history, dones) {
+    if let Err(fault) = check_tickets(alloc, history, dones) {
         return Err(fault);
     }
     let differing = first_differing(alloc, certifier, sites, counts)?;

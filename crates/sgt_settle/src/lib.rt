@@ -6,6 +6,7 @@ mod carried;
 mod check;
 mod committed;
 mod counts;
+mod decisions;
 mod handed;
 mod index;
 mod laws;
@@ -16,6 +17,7 @@ mod names;
 mod rows;
 mod search;
 mod sites;
+mod tallies;
 mod tickets;
 mod versions;
 
