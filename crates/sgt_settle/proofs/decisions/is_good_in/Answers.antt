@@ -2,8 +2,8 @@ use Rattle.std.proofs.Common.{◌∙◌, ◌<◌, sym, arith}
 use Rattle.std.proofs.lemmas.Bool.{true≢false}
 use Rattle.sgt_settle.proofs.Lists.{read}
 use Rattle.sgt_settle.proofs.Ticketing.{walk_hit, walk_decided, walk_on, walk_ends}
-use Rattle.sgt_settle.proofs.tickets.is_good.Goals as goal
-use Rattle.sgt_settle.proofs.tickets.is_good.Goals.{then-is_decision+else-number-ticket, else-is_decision}
+use Rattle.sgt_settle.proofs.decisions.is_good_in.Goals as goal
+use Rattle.sgt_settle.proofs.decisions.is_good_in.Goals.{then-is_decision+else-number-ticket, else-is_decision}
 
 pub returns-then-number-ticket : goal.returns-then-number-ticket
 returns-then-number-ticket c =
