@@ -1,0 +1,2 @@
+-- Words of clauses of private functions.
+pub mod Decided
