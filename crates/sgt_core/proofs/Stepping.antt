@@ -48,7 +48,7 @@ running_stays c step before k None h = h
 running_stays c step before k (Some r) h = record { active = h.active; handle = h.handle; rising = h.rising; used = h.used; changes = h.changes; reads = h.reads }
 
 -- the open step is the transaction's, where it isn't another's
-step_own : (m : Parts) (c : CoreState) (tx : ℕ) → (IsOtherOpen c tx → ⊥) → (o : Option Open) → IsStep m c o → (p : Open) → o ≡ Some p → p.tx ≡ tx
+pub step_own : (m : Parts) (c : CoreState) (tx : ℕ) → (IsOtherOpen c tx → ⊥) → (o : Option Open) → IsStep m c o → (p : Open) → o ≡ Some p → p.tx ≡ tx
 step_own m c tx out None h p e = absurd cc
 step_own m c tx out (Some o) h p e =
     let same : o ≡ p = same_Some o p e in
