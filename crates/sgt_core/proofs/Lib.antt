@@ -35,3 +35,6 @@ pub mod Leading
 pub mod Stepping
 pub mod Opening
 pub mod Bundles
+pub mod InstallingBlocks
+pub mod InstallingEnds
+pub mod Installing

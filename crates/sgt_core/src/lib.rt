@@ -4,6 +4,7 @@
 mod bundling;
 mod driver;
 mod gathering;
+mod installing;
 mod laws;
 mod machine;
 mod reply;

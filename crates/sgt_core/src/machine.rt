@@ -135,7 +135,7 @@ impl Machine {
     }
 
     // Whether the open step is that of another transaction.
-    fn other_step(&self, tx: Tx) -> bool
+    pub(crate) fn other_step(&self, tx: Tx) -> bool
         ensures { (c : CoreState) → StandsFor (parts_of self.now) c → IsTrue result ↔ IsOtherOpen c tx }
     {
         match &self.step {
@@ -313,24 +313,6 @@ impl Machine {
         refused(CoreFault::Memory)
     }
 
-    /// The transaction's block is written at the site. None is decided yet.
-    pub(crate) fn install(&mut self, tx: Tx, site: SiteNo) -> Reply
-        requires { Stands (parts_of self.old) }
-        ensures { GoesOn (λ c d. MayStep c (event.Install tx site) result d) (parts_of self.old) (parts_of self.new) }
-    {
-        match self.slot_of(tx) {
-            Ok(_) => {}
-            Err(fault) => return refused(fault),
-        }
-        if self.other_step(tx) {
-            return refused(CoreFault::StepOpen);
-        }
-        if site.number() as usize >= self.places.len() {
-            return refused(CoreFault::UnknownItem);
-        }
-        refused(CoreFault::NotGathered)
-    }
-
     /// The transaction is committed or refused, as a whole. It gives up with E9 for now.
     pub(crate) fn commit(&mut self, tx: Tx) -> Reply
         requires { Stands (parts_of self.old) }
@@ -420,7 +402,7 @@ impl Machine {
     }
 }
 
-fn refused(fault: CoreFault) -> Reply
+pub(crate) fn refused(fault: CoreFault) -> Reply
     ensures { result ≡ Reply.Fault fault }
 {
     Reply::Fault { fault }
