@@ -38,3 +38,7 @@ pub mod Bundles
 pub mod InstallingBlocks
 pub mod InstallingEnds
 pub mod Installing
+pub mod Deciding
+pub mod Decisions
+pub mod Ruled
+pub mod Awaiting

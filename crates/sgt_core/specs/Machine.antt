@@ -190,7 +190,7 @@ close_fault _ = core_fault.Memory
 -- why no core is made of these items, one site's after another's
 abbrev pub RefusesSites : List (List Holding) → SiteFault → Type 0
 RefusesSites sites site_fault.BadItems = All AreItems sites → ⊥
-RefusesSites sites site_fault.Memory = Unit {0}
+RefusesSites sites site_fault.Memory = All AreItems sites
 RefusesSites sites _ = ⊥
 
 -- why there is no bundle

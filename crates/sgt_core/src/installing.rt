@@ -1,9 +1,9 @@
 //! The blocks of a decided transaction are written, and its step ends behind the last.
 
-ghost use Rattle.std.specs.Prelude.{◌≡◌, ◌↔◌, Any, IsTrue};
-ghost use Rattle.sgt_core.specs.declared.machine.Part.TheVariants.{Due};
-ghost use Rattle.sgt_core.specs.private.Installing.{IsPledgedAt, WritesAt, AwaitsAt, IsNotedBy, IsDueThere, at_rest};
+ghost use Rattle.std.specs.Prelude.{◌≡◌};
+ghost use Rattle.sgt_core.specs.private.Installing.{IsPledgedAt, WritesAt, AwaitsAt, IsNotedBy, at_rest};
 
+use crate::deciding::is_due;
 use crate::machine::{Machine, Part, Phase, Place, Running, refused};
 use crate::reply::{CoreFault, Reply};
 use sgt_certifier::Certifier;
@@ -53,7 +53,7 @@ impl Machine {
                 if is_due(self.places.as_slice()) {
                     return Reply::Installed;
                 }
-                self.end(tx, slot);
+                self.end_step(tx, slot);
                 Reply::Installed
             }
         }
@@ -85,16 +85,12 @@ impl Machine {
     }
 
     // Ends the step, and its transaction with it.
-    fn end(&mut self, tx: Tx, slot: usize)
+    fn end_step(&mut self, tx: Tx, slot: usize)
         requires step { self.old.certifier.state.step ≡ Some tx }
         requires slot { slot < length self.old.running.items }
         ensures { Ends (parts_of self.old) (parts_of self.new) slot tx }
     {
-        match self.certifier.finish_step(tx) {
-            Ok(()) => {}
-            Err(_) => unreachable!(),
-        }
-        self.running[slot] = None;
+        self.end(tx, slot);
         rest_all(&mut self.places);
         self.step = None;
     }
@@ -149,22 +145,6 @@ fn write_at(
             }
         }
         None => unreachable!(),
-    }
-}
-
-// Whether a block of the open step is still due.
-fn is_due(places: &[Place]) -> bool
-    ensures { IsTrue result ↔ Any IsDueThere places.now }
-{
-    places.iter().any(is_due_there)
-}
-
-fn is_due_there(place: &Place) -> bool
-    ensures { IsTrue result ↔ IsDueThere place.now }
-{
-    match place.part {
-        Part::Due => true,
-        _ => false,
     }
 }
 

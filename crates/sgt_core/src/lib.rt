@@ -2,6 +2,7 @@
 #![tactic(auto)]
 
 mod bundling;
+mod deciding;
 mod driver;
 mod gathering;
 mod installing;

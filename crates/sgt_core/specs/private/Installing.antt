@@ -6,7 +6,7 @@ use Rattle.sgt_names.specs.declared.entry.Change.{Change}
 use Rattle.sgt_names.specs.declared.entry.Entry.{Entry}
 use Rattle.sgt_site.specs.State.{SiteState, IsPledgedFor, commit_block, refuse_block}
 use Rattle.sgt_site.specs.declared.cell.Install.{Install}
-use Rattle.sgt_certifier.specs.History.{IsInstalling}
+use Rattle.sgt_certifier.specs.History.{IsInstalling, Serves}
 use Rattle.sgt_certifier.specs.Kept.{Kept, Adds, changed_at}
 use Rattle.sgt_certifier.specs.declared.call.Call.TheVariants as call
 use Rattle.sgt_core.specs.declared.machine.Place.{Place}
@@ -91,5 +91,5 @@ at_rest places = map (λ p. record p { part = Idle }) places
 
 -- the step has ended, and its transaction with it
 pub record Ends (old new : Parts) (slot tx : ℕ) : Type 0 where
-  pub finishes : Adds old.certifier (call.Finish tx) new.certifier
+  pub serves : Serves old.certifier.state (call.Finish tx) new.certifier.state
   pub is : new ≡ record old { places = at_rest old.places; certifier = new.certifier; table = slice_set old.table slot None; step = None }
