@@ -1,7 +1,7 @@
 //! The blocks of a decided transaction are written, and its step ends behind the last.
 
 ghost use Rattle.std.specs.Prelude.{◌≡◌};
-ghost use Rattle.sgt_core.specs.private.Installing.{IsPledgedAt, WritesAt, AwaitsAt, IsNotedBy, at_rest};
+ghost use Rattle.sgt_core.specs.private.Installing.{IsPledgedAt, WritesAt, AwaitsAt, IsNotedBy, IsAtRest, AreAtRest};
 
 use crate::deciding::is_due;
 use crate::machine::{Machine, Part, Phase, Place, Running, refused};
@@ -21,7 +21,6 @@ pub enum Verdict {
 impl Machine {
     ghost use Rattle.std.specs.Prelude.{◌≡◌, ◌<◌, Some, length};
     ghost use Rattle.sgt_notation.specs.declared.event.Event.TheVariants as event;
-    ghost use Rattle.sgt_core.specs.declared.installing.Verdict.TheVariants as verdict;
     ghost use Rattle.sgt_core.specs.Step.{MayStep};
     ghost use Rattle.sgt_core.specs.Machine.{parts_of, Stands, GoesOn};
     ghost use Rattle.sgt_core.specs.private.Installing.{verdict_of, IsPledgedAt, AwaitsAt, Writes, Ends};
@@ -76,7 +75,7 @@ impl Machine {
     // Writes the block of the transaction that was decided so at the site, and notes its install.
     fn write(&mut self, tx: Tx, site: SiteNo, slot: usize, verdict: Verdict)
         requires pledge { IsPledgedAt self.old.places.items self.old.running.items site slot tx }
-        requires awaits { verdict ≡ verdict.Committed → AwaitsAt self.old.certifier self.old.running.items site slot tx }
+        requires awaits { verdict ≡ Verdict.Committed → AwaitsAt self.old.certifier self.old.running.items site slot tx }
         ensures { Writes verdict (parts_of self.old) (parts_of self.new) site slot tx }
     {
         let table = self.running.as_slice();
@@ -148,11 +147,17 @@ fn write_at(
     }
 }
 
-// No site has a part of a step any more.
+// The site has no part of a step any more.
+fn rest(place: &mut Place)
+    ensures { IsAtRest place.old place.new }
+{
+    place.part = Part::Idle;
+}
+
 fn rest_all(places: &mut Vec<Place>)
-    ensures { places.new.items ≡ at_rest places.old.items }
+    ensures { AreAtRest places.old.items places.new.items }
 {
     for at in 0..places.len() {
-        places[at].part = Part::Idle;
+        rest(&mut places[at]);
     }
 }

@@ -1,5 +1,5 @@
 -- A block of a decided transaction is written at a site, and its step ends behind the last.
-use Rattle.std.specs.Prelude.{◌≡◌, ℕ, List, [], ◌∷◌, ◌++◌, map, Option, Some, None, slice_get, slice_set}
+use Rattle.std.specs.Prelude.{◌≡◌, ℕ, List, [], ◌∷◌, ◌++◌, Option, Some, None, slice_get, slice_set, length}
 use Rattle.sgt_names.specs.Name.{Name}
 use Rattle.sgt_names.specs.Draft.{at_site, writing_in}
 use Rattle.sgt_names.specs.declared.entry.Change.{Change}
@@ -85,11 +85,16 @@ pub record Writes (verdict : Verdict) (old new : Parts) (site slot tx : ℕ) : T
 abbrev pub IsDueThere : Place → Type 0
 IsDueThere place = place.part ≡ Due
 
--- no site has a part of a step
-abbrev pub at_rest : List Place → List Place
-at_rest places = map (λ p. record p { part = Idle }) places
+-- the site has no part of a step any more
+abbrev pub IsAtRest : Place → Place → Type 0
+IsAtRest old new = new ≡ record old { part = Idle }
+
+pub record AreAtRest (old new : List Place) : Type 0 where
+  pub long : length new ≡ length old
+  pub each : (k : ℕ) (p q : Place) → slice_get old k ≡ Some p → slice_get new k ≡ Some q → IsAtRest p q
 
 -- the step has ended, and its transaction with it
 pub record Ends (old new : Parts) (slot tx : ℕ) : Type 0 where
   pub serves : Serves old.certifier.state (call.Finish tx) new.certifier.state
-  pub is : new ≡ record old { places = at_rest old.places; certifier = new.certifier; table = slice_set old.table slot None; step = None }
+  pub places : AreAtRest old.places new.places
+  pub is : new ≡ record old { places = new.places; certifier = new.certifier; table = slice_set old.table slot None; step = None }

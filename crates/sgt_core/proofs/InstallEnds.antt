@@ -1,11 +1,11 @@
 -- The open step ends behind its last block, and stays open before.
 use Rattle.std.proofs.Common.{◌≡◌, ◌<◌, ◌≤◌, ◌+◌, ℕ, suc, Bool, true, false, List, [], ◌∷◌, length, map, refl, sym, ◌∙◌, arith, inl, inr, Contains, Option, Some, None, subst, ap}
-use Rattle.std.specs.Prelude.{slice_get, slice_set, option_map, not, ◌==◌, ◌&&◌, Any}
+use Rattle.std.specs.Prelude.{slice_get, slice_set, not, ◌==◌, ◌&&◌, Any}
 use Rattle.std.specs.List.{list_all}
 use Rattle.std.proofs.lemmas.Bool.{cases_Bool, cases_eq, eq-eqb, ne_eqb, true≢false}
 use Rattle.std.proofs.lemmas.List.{length-map, length-set}
-use Rattle.std.proofs.lemmas.Option.{same_Some, slice_get-map, slice_get_within}
-use Rattle.sgt_names.proofs.Lists.{Any_at, Any-from_at, option_cases, within_at}
+use Rattle.std.proofs.lemmas.Option.{same_Some, slice_get_within}
+use Rattle.sgt_names.proofs.Lists.{Any_at, Any-from_at, within_at}
 use Rattle.sgt_order.proofs.Lists.{get_set_same, get_set_other}
 use Rattle.sgt_certifier.specs.Certifier.{State, with_finished}
 use Rattle.sgt_certifier.proofs.Members.{cons_here, cons_later, filter_member, member_filter, nil_none}
@@ -21,12 +21,12 @@ use Rattle.sgt_core.specs.declared.installing.Verdict.{Verdict}
 use Rattle.sgt_core.specs.Core.{CoreState, sites_of, is_empty, is_written, closed_if_written, noted, installed}
 use Rattle.sgt_core.specs.Step.{IsAllowed, MayStep}
 use Rattle.sgt_core.specs.Machine.{Parts, Carries, RunsAt, IsPart, IsPlace, IsStep, StandsFor}
-use Rattle.sgt_core.specs.private.Installing.{IsDueThere, at_rest, Writes, Ends}
+use Rattle.sgt_core.specs.private.Installing.{IsDueThere, Writes, Ends}
 use Rattle.sgt_core.proofs.Committing.{in_range}
 use Rattle.sgt_core.proofs.LegalSteps.{all_pass, empty_is}
 use Rattle.sgt_core.proofs.Runs.{is_site}
 use Rattle.sgt_core.proofs.Standing.{reached_more}
-use Rattle.sgt_core.proofs.InstallingBlocks.{written_state, IsToWrite, due_some, written_places, written_running, written_items, written_carries, written_stands}
+use Rattle.sgt_core.proofs.InstallBlocks.{written_state, IsToWrite, due_some, written_places, written_running, written_items, written_carries, written_stands}
 
 all_true : (p : ℕ → Bool) (xs : List ℕ) → ((x : ℕ) → Contains xs x → p x ≡ true) → list_all p xs ≡ true
 all_true p [] h = refl
@@ -96,23 +96,15 @@ module _ (m : Parts) (c : CoreState) (s : StandsFor m c) (verdict : Verdict) (tx
     f = record d { certifier = with_finished d.certifier tx; step = None; due = λ u. [] }
 
     module _ (e : Parts) (ends : Ends n e slot tx) where
-      rested : (u : ℕ) (v : Place) → slice_get (at_rest n.places) u ≡ Some v → IsPlace e f u v
-      rested u v at =
-          let mapped : option_map (λ (p : Place). record p { part = Idle }) (slice_get n.places u) ≡ Some v = sym (slice_get-map (λ (p : Place). record p { part = Idle }) n.places u) ∙ at in
-          elim (option_cases (slice_get n.places u)) [
-            | inl out ↦ absurd (let g : None ≡ Some v = sym (ap (option_map (λ (p : Place). record p { part = Idle })) out) ∙ mapped in cc)
-            | inr found ↦
-                let is : record found.0 { part = Idle } ≡ v = same_Some (record found.0 { part = Idle }) v (sym (ap (option_map (λ (p : Place). record p { part = Idle })) found.1) ∙ mapped) in
-                let g = places u found.0 found.1 in
-                let clear = nothing_due u found.0 found.0.part (not_due u found.0 found.1) g.part in
-                subst (IsPlace e f u) is (record { number = g.number; entries = g.entries; handles = g.handles; part = (clear.0, refl, λ member. nil_none u member) })
-          ]
-
       new_places : (u : ℕ) (v : Place) → slice_get e.places u ≡ Some v → IsPlace e f u v
-      new_places u v at = rested u v (ap (λ (x : Parts). slice_get x.places u) (sym ends.is) ∙ at)
-
-      abbrev number : tx ≡ suc (m.before + slot)
-      number = w.number
+      new_places u v at =
+          let lt = slice_get_within e.places u v at in
+          let long = ends.places.long in
+          let found = within_at n.places u (omega (arith, lt, long)) in
+          let is : v ≡ record found.0 { part = Idle } = ends.places.each u found.0 v found.1 at in
+          let g = places u found.0 found.1 in
+          let clear = nothing_due u found.0 found.0.part (not_due u found.0 found.1) g.part in
+          subst (IsPlace e f u) (sym is) (record { number = g.number; entries = g.entries; handles = g.handles; part = (clear.0, refl, λ member. nil_none u member) })
 
       freed : Contains f.certifier.active (suc (n.before + slot)) → ⊥
       freed member =
@@ -150,17 +142,22 @@ module _ (m : Parts) (c : CoreState) (s : StandsFor m c) (verdict : Verdict) (tx
       new_running : (j : ℕ) (x : Option Running) → slice_get e.table j ≡ Some x → RunsAt f e.before j x
       new_running j x at = subst (λ b. RunsAt f b j x) (ap (λ (v : Parts). v.before) (sym ends.is)) (in_table j x (ap (λ (v : Parts). slice_get v.table j) (sym ends.is) ∙ at))
 
-      same_items : map (λ (v : Place). v.site.items) (at_rest n.places) ≡ map (λ (v : Place). v.site.items) n.places
-      same_items = each n.places
+      same_items : map (λ (v : Place). v.site.items) e.places ≡ map (λ (v : Place). v.site.items) n.places
+      same_items = each_item e.places n.places ends.places.long (λ u p q at_p at_q. ap (λ (v : Place). v.site.items) (ends.places.each u p q at_p at_q))
         where
-          each : (ps : List Place) → map (λ (v : Place). v.site.items) (at_rest ps) ≡ map (λ (v : Place). v.site.items) ps
-          each [] = refl
-          each (p ∷ ps) = ap (λ is. p.site.items ∷ is) (each ps)
+          each_item : (ps qs : List Place) → length ps ≡ length qs → ((u : ℕ) (p q : Place) → slice_get qs u ≡ Some p → slice_get ps u ≡ Some q → q.site.items ≡ p.site.items)
+              → map (λ (v : Place). v.site.items) ps ≡ map (λ (v : Place). v.site.items) qs
+          each_item [] [] long each = refl
+          each_item (q ∷ ps) [] long each = absurd (omega (arith, long))
+          each_item [] (p ∷ qs) long each = absurd (omega (arith, long))
+          each_item (q ∷ ps) (p ∷ qs) long each =
+              ap (λ i. i ∷ map (λ (v : Place). v.site.items) ps) (each 0 p q refl refl)
+              ∙ ap (λ is. p.site.items ∷ is) (each_item ps qs (omega (arith, long)) (λ u. each (suc u)))
 
       pub ended_goes : IsAllowed c (Write tx t) → (g : CoreState) × MayStep c (Write tx t) Installed g × StandsFor e g
       ended_goes allowed =
           let done = all_written in
-          let state = Rattle.sgt_core.proofs.InstallingBlocks.noted-same c tx t in
+          let state = Rattle.sgt_core.proofs.InstallBlocks.noted-same c tx t in
           let is : f ≡ installed c tx t = rw done refl in
           let may : MayStep c (Write tx t) Installed f = (allowed, is) in
           let table = ap (λ (v : Parts). v.table) h.is in
@@ -173,7 +170,7 @@ module _ (m : Parts) (c : CoreState) (s : StandsFor m c) (verdict : Verdict) (tx
             record {
               reached = reached_more c (Write tx t) Installed f s.reached may;
               sites = s.sites;
-              items = written_items m c s verdict tx slot t w n h ∙ sym (ap (λ (v : Parts). map (λ (p : Place). p.site.items) v.places) ends.is ∙ same_items);
+              items = written_items m c s verdict tx slot t w n h ∙ sym same_items;
               certifier = subst (λ (st : State). Carries st (with_finished (noted c tx t) tx)) (sym ends.serves.1)
                   (carries_finished n.certifier.state (noted c tx t) tx (written_carries m c s verdict tx slot t w n h));
               before = ap (λ (st : State). st.before) state ∙ (s.before ∙ sym before);

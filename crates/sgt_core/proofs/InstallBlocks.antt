@@ -2,7 +2,7 @@
 use Rattle.std.proofs.Common.{◌≡◌, ◌<◌, ◌≤◌, ◌+◌, ℕ, suc, zero, true, false, List, [], ◌∷◌, ◌++◌, length, map, refl, sym, ◌∙◌, arith, ◌⊎◌, inl, inr, Contains, Option, Some, None, subst, ap}
 use Rattle.std.specs.Prelude.{slice_get, slice_set, ◌==◌}
 use Rattle.std.proofs.lemmas.Bool.{cases_Bool, cases_eq}
-use Rattle.std.proofs.lemmas.List.{append-nil}
+use Rattle.std.proofs.lemmas.List.{append-nil, length-map}
 use Rattle.std.proofs.lemmas.List.Elements.{Contains-append_cases}
 use Rattle.std.proofs.lemmas.Option.{same_Some, slice_get_within}
 use Rattle.sgt_names.specs.Name.{Name}
@@ -33,11 +33,12 @@ use Rattle.sgt_core.specs.declared.machine.Phase.{Phase}
 use Rattle.sgt_core.specs.declared.machine.Phase.TheVariants as phase
 use Rattle.sgt_core.specs.declared.installing.Verdict.{Verdict}
 use Rattle.sgt_core.specs.declared.installing.Verdict.TheVariants.{Committed, Refused}
-use Rattle.sgt_core.specs.Core.{CoreState, with_entries, only_at, changed_at, is_committed, noted}
+use Rattle.sgt_core.specs.Core.{CoreState, as_changes, with_entries, only_at, changed_at, is_committed, noted}
 use Rattle.sgt_core.specs.Step.{gathered_in}
 use Rattle.sgt_core.specs.Machine.{Parts, Carries, IsRunning, RunsAt, IsHandleOf, AwaitsInstall, IsDueBy, IsDueAt, IsWrittenAt, IsPart, IsPlace, IsPhase, IsStep, StandsFor, IsReached, IsSlotOf}
 use Rattle.sgt_core.specs.private.Installing.{verdict_in, verdict_of, block_by, installed_by, ended_by, WritesAt, IsNotedBy, Writes}
 use Rattle.sgt_core.proofs.Kept.{IsKept, IsRead}
+use Rattle.sgt_core.proofs.Entries.{as_wants}
 use Rattle.sgt_core.proofs.Faults.{is_in-Decides}
 use Rattle.sgt_core.proofs.LegalSteps.{only_here, only_there, cleared_here, cleared_there}
 use Rattle.sgt_core.proofs.Standing.{reached_kept}
@@ -53,7 +54,7 @@ pub record IsVerdict (c : CoreState) (verdict : Verdict) (tx : ℕ) : Type 0 whe
 pub committed-apart : Committed ≡ Refused → ⊥
 committed-apart e = cc
 
-pub verdict_phase : (m : Parts) (c : CoreState) (o : Open) (verdict : Verdict) (phase : Phase) → verdict_in phase ≡ Some verdict → IsPhase m c o phase → IsVerdict c verdict o.tx
+pub verdict_phase : (m : Parts) (c : CoreState) (o : Open) (verdict : Verdict) (x : Phase) → verdict_in x ≡ Some verdict → IsPhase m c o x → IsVerdict c verdict o.tx
 verdict_phase m c o verdict (phase.Gathering edges) e h = absurd cc
 verdict_phase m c o verdict phase.Committed e h =
     let is = same_Some Committed verdict e in
@@ -63,15 +64,15 @@ verdict_phase m c o verdict phase.Refused e h =
     record { decided = h.0; committed = λ v. absurd (committed-apart (sym (is ∙ v))); refused = λ v. h.1 }
 
 -- the block that is due by a decision
-due_phase : (m : Parts) (c : CoreState) (tx : ℕ) (touched : List Touch) (s : ℕ) (verdict : Verdict) (phase : Phase) → verdict_in phase ≡ Some verdict
-    → IsDueBy m c tx touched phase s → c.due s ≡ block_by verdict tx (c.changes tx s)
+due_phase : (m : Parts) (c : CoreState) (tx : ℕ) (touched : List Touch) (s : ℕ) (verdict : Verdict) (x : Phase) → verdict_in x ≡ Some verdict
+    → IsDueBy m c tx touched x s → c.due s ≡ block_by verdict tx (c.changes tx s)
 due_phase m c tx touched s verdict (phase.Gathering edges) e h = absurd cc
 due_phase m c tx touched s verdict phase.Committed e h = h.0 ∙ ap (λ v. block_by v tx (c.changes tx s)) (same_Some Committed verdict e)
 due_phase m c tx touched s verdict phase.Refused e h = h ∙ ap (λ v. block_by v tx (c.changes tx s)) (same_Some Refused verdict e)
 
 -- and what the certifier awaits of a commit
-pub awaits_phase : (m : Parts) (c : CoreState) (tx : ℕ) (touched : List Touch) (s : ℕ) (phase : Phase) → verdict_in phase ≡ Some Committed
-    → IsDueBy m c tx touched phase s → AwaitsInstall m.certifier tx touched s
+pub awaits_phase : (m : Parts) (c : CoreState) (tx : ℕ) (touched : List Touch) (s : ℕ) (x : Phase) → verdict_in x ≡ Some Committed
+    → IsDueBy m c tx touched x s → AwaitsInstall m.certifier tx touched s
 awaits_phase m c tx touched s (phase.Gathering edges) e h = absurd cc
 awaits_phase m c tx touched s phase.Committed e h = h.1
 awaits_phase m c tx touched s phase.Refused e h = absurd (committed-apart (sym (same_Some Refused Committed e)))
@@ -160,22 +161,18 @@ handles_by Committed s tx slot handle installed order number is h i m =
 
 -- ---- the block
 
+not_empty : (es : List Entry) (e : Entry) → es ++ e ∷ [] ≡ [] → ⊥
+not_empty [] e h = absurd cc
+not_empty (f ∷ es) e h = absurd cc
+
 block_some : (verdict : Verdict) (tx : ℕ) (cs : List (Name × Change)) → block_by verdict tx cs ≡ [] → ⊥
-block_some Committed tx cs e = not_empty (map (λ (d : Name × Change). Rattle.sgt_site.specs.State.change_entry tx d.0 d.1) cs) (entry.Commit tx) e
-  where
-    not_empty : (es : List Entry) (e : Entry) → es ++ e ∷ [] ≡ [] → ⊥
-    not_empty [] e h = absurd cc
-    not_empty (f ∷ es) e h = absurd cc
-block_some Refused tx cs e = not_empty (map (λ (d : Name × Change). Rattle.sgt_site.specs.State.want_entry tx d.0 d.1) cs) (entry.Refuse tx) e
-  where
-    not_empty : (es : List Entry) (e : Entry) → es ++ e ∷ [] ≡ [] → ⊥
-    not_empty [] e h = absurd cc
-    not_empty (f ∷ es) e h = absurd cc
+block_some Committed tx cs e = not_empty (as_changes tx cs) (entry.Commit tx) e
+block_some Refused tx cs e = not_empty (as_wants tx cs) (entry.Refuse tx) e
 
 -- a block is due where the machine says so
-pub due_some : (m : Parts) (c : CoreState) (tx : ℕ) (touched : List Touch) (s : ℕ) (verdict : Verdict) (phase : Phase) → verdict_in phase ≡ Some verdict
-    → IsDueBy m c tx touched phase s → c.due s ≡ [] → ⊥
-due_some m c tx touched s verdict phase e h none = block_some verdict tx (c.changes tx s) (sym (due_phase m c tx touched s verdict phase e h) ∙ none)
+pub due_some : (m : Parts) (c : CoreState) (tx : ℕ) (touched : List Touch) (s : ℕ) (verdict : Verdict) (x : Phase) → verdict_in x ≡ Some verdict
+    → IsDueBy m c tx touched x s → c.due s ≡ [] → ⊥
+due_some m c tx touched s verdict x e h none = block_some verdict tx (c.changes tx s) (sym (due_phase m c tx touched s verdict x e h) ∙ none)
 
 -- ---- the state behind the block
 
@@ -219,7 +216,7 @@ module _ (m : Parts) (c : CoreState) (s : StandsFor m c) (verdict : Verdict) (tx
   stepped = subst (IsStep m c) w.is s.step
 
   pub decided_so : IsVerdict c verdict tx
-  decided_so = subst (IsVerdict c verdict) w.own (verdict_phase m c o verdict o.phase w.verdict_is stepped.1.1)
+  decided_so = subst (IsVerdict c verdict) w.own (verdict_phase m c o verdict o.phase w.verdict_is stepped.2)
 
   at_t : IsPlace m c t p
   at_t = s.places t p w.there
@@ -267,7 +264,7 @@ module _ (m : Parts) (c : CoreState) (s : StandsFor m c) (verdict : Verdict) (tx
       ∙ (ap (block_by verdict tx) (changes t) ∙ ap (λ n. block_by verdict tx (writing_in (at_site n r.draft.touched))) (sym at_t.number))
 
   inside : t < length c.items
-  inside = subst (λ n. t < n) (sym (ap length s.items ∙ Rattle.std.proofs.lemmas.List.length-map m.places (λ (q : Place). q.site.items))) (slice_get_within m.places t p w.there)
+  inside = subst (λ n. t < n) (sym (ap length s.items ∙ length-map m.places (λ (q : Place). q.site.items))) (slice_get_within m.places t p w.there)
 
   -- the block reads nothing
   no_read : (u : ℕ) (e : Entry) → Contains (more u) e → IsRead e → ⊥
@@ -321,13 +318,13 @@ module _ (m : Parts) (c : CoreState) (s : StandsFor m c) (verdict : Verdict) (tx
     same_step = ap (λ (v : Parts). v.step) h.is
 
     -- at another site
-    due_elsewhere : (u : ℕ) → (u ≡ t → ⊥) → (x : ℕ) (touched : List Touch) (phase : Phase) → x ≡ tx → IsDueBy m c x touched phase u → IsDueBy n d x touched phase u
-    due_elsewhere u ne x touched (phase.Gathering edges) is g = cleared_there t c.due u ne ∙ g
-    due_elsewhere u ne x touched phase.Committed is g = (
+    due_elsewhere : (u : ℕ) → (u ≡ t → ⊥) → (i : ℕ) (touched : List Touch) (x : Phase) → i ≡ tx → IsDueBy m c i touched x u → IsDueBy n d i touched x u
+    due_elsewhere u ne i touched (phase.Gathering edges) is g = cleared_there t c.due u ne ∙ g
+    due_elsewhere u ne i touched phase.Committed is g = (
       cleared_there t c.due u ne ∙ g.0,
-      subst (λ i. AwaitsInstall n.certifier i touched u) (sym is) (awaits_stays verdict m.certifier n.certifier m.table t slot tx u touched h.noted ne (subst (λ i. AwaitsInstall m.certifier i touched u) is g.1)),
+      subst (λ j. AwaitsInstall n.certifier j touched u) (sym is) (awaits_stays verdict m.certifier n.certifier m.table t slot tx u touched h.noted ne (subst (λ j. AwaitsInstall m.certifier j touched u) is g.1)),
     )
-    due_elsewhere u ne x touched phase.Refused is g = cleared_there t c.due u ne ∙ g
+    due_elsewhere u ne i touched phase.Refused is g = cleared_there t c.due u ne ∙ g
 
     part_elsewhere : (u : ℕ) → (u ≡ t → ⊥) → (v : Place) (part : Part) → IsPart m c u v part → IsPart n d u v part
     part_elsewhere u ne v Idle g = (g.0, cleared_there t c.due u ne ∙ g.1, g.2)
@@ -426,5 +423,5 @@ module _ (m : Parts) (c : CoreState) (s : StandsFor m c) (verdict : Verdict) (tx
       unborn = λ i u lt. s.unborn i u (subst (λ b. b < i) (ap (λ (v : Parts). v.begun) h.is) lt);
       running = written_running;
       places = written_places;
-      step = subst (IsStep n d) (sym (same_step ∙ w.is)) (stepped.0, stepped.1.0, phase_stays o.phase w.verdict_is stepped.1.1);
+      step = subst (IsStep n d) (sym (same_step ∙ w.is)) (stepped.0, stepped.1, phase_stays o.phase w.verdict_is stepped.2);
     }

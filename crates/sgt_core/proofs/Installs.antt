@@ -33,8 +33,8 @@ use Rattle.sgt_core.proofs.Redrafting.{slot_begun, slot_active}
 use Rattle.sgt_core.proofs.Refusing.{Goes, refused_goes, site_count, here, install_too_early}
 use Rattle.sgt_core.proofs.Runs.{touching_there}
 use Rattle.sgt_core.proofs.Standing.{reached_kept}
-use Rattle.sgt_core.proofs.InstallingBlocks.{IsVerdict, verdict_phase, awaits_phase, due_some, IsToWrite, decided_so, due_of, touched_there, pledged_there}
-use Rattle.sgt_core.proofs.InstallingEnds.{open_goes, ended_goes}
+use Rattle.sgt_core.proofs.InstallBlocks.{IsVerdict, verdict_phase, awaits_phase, due_some, IsToWrite, decided_so, due_of, touched_there, pledged_there}
+use Rattle.sgt_core.proofs.InstallEnds.{open_goes, ended_goes}
 
 -- ---- refusals
 
@@ -85,7 +85,7 @@ undecided_in m c o phase.Refused e h = absurd cc
 
 undecided_by : (m : Parts) (c : CoreState) (o : Option Open) → verdict_of o ≡ None → IsStep m c o → c.certifier.step ≡ None
 undecided_by m c None e h = h.1
-undecided_by m c (Some o) e h = undecided_in m c o o.phase e h.1.1
+undecided_by m c (Some o) e h = undecided_in m c o o.phase e h.2
 
 -- the open step that was decided
 decided_step : (o : Option Open) (verdict : Verdict) → verdict_of o ≡ Some verdict → (p : Open) × (o ≡ Some p) × (verdict_in p.phase ≡ Some verdict)
@@ -95,7 +95,7 @@ decided_step (Some p) verdict e = (p, refl, e)
 own_step : (m : Parts) (c : CoreState) (tx : ℕ) → (IsOtherOpen c tx → ⊥) → (o : Open) → IsStep m c (Some o) → o.tx ≡ tx
 own_step m c tx no_other o h = elim (cases_eq o.tx tx) [
   | inl is ↦ is
-  | inr other ↦ absurd (no_other (subst (StepIs (λ i. i ≡ tx → ⊥)) (sym h.1.0) other))
+  | inr other ↦ absurd (no_other (subst (StepIs (λ i. i ≡ tx → ⊥)) (sym h.1) other))
 ]
 
 module _ (m : Parts) (c : CoreState) (s : StandsFor m c) (tx slot : ℕ) (h : IsSlotOf m tx slot) (no_other : IsOtherOpen c tx → ⊥) (t : ℕ) (p : Place) (at : slice_get m.places t ≡ Some p) where
@@ -130,7 +130,7 @@ module _ (m : Parts) (c : CoreState) (s : StandsFor m c) (tx slot : ℕ) (h : Is
     own = own_step m c tx no_other o stepped
 
     decided : IsVerdict c verdict tx
-    decided = subst (IsVerdict c verdict) own (verdict_phase m c o verdict o.phase verdict_is stepped.1.1)
+    decided = subst (IsVerdict c verdict) own (verdict_phase m c o verdict o.phase verdict_is stepped.2)
 
     pub untouched_goes : (reply : Reply) → p.part ≡ Idle → reply ≡ Fault fault.NotTouched → Goes m c (Write tx t) reply
     untouched_goes reply idle e =
@@ -186,7 +186,7 @@ module _ (m : Parts) (c : CoreState) (s : StandsFor m c) (tx slot : ℕ) (h : Is
       module _ (n : Parts) (wrote : Writes verdict m n t slot tx) where
         -- the certifier's step is still open
         pub open_certifier : n.certifier.state.step ≡ Some tx
-        open_certifier = ap (λ (st : State). st.step) (sym (Rattle.sgt_core.proofs.InstallingBlocks.written_carries m c s verdict tx slot t to_write n wrote).same)
+        open_certifier = ap (λ (st : State). st.step) (sym (Rattle.sgt_core.proofs.InstallBlocks.written_carries m c s verdict tx slot t to_write n wrote).same)
             ∙ (Rattle.sgt_core.proofs.Runs.noted-step c tx t ∙ decided.decided)
 
         pub still_goes : (reply : Reply) → Any IsDueThere n.places → reply ≡ Installed → (d : CoreState) × MayStep c (Write tx t) reply d × StandsFor n d
