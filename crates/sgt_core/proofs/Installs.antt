@@ -157,6 +157,7 @@ module _ (m : Parts) (c : CoreState) (s : StandsFor m c) (tx slot : ℕ) (h : Is
       to_write = record { open_step = o; is = is; own = own; verdict_is = verdict_is; number = h.0; running = h.1.0; runs = h.1.1; place = p; there = at; due = due }
 
       allowed : IsAllowed c (Write tx t)
+      unfolding to_write
       allowed =
           let hit = here m c s tx slot h t (touched_there m c s verdict tx slot t to_write) in
           install_allowed c tx t begun active no_other inside decided.decided hit
@@ -164,6 +165,7 @@ module _ (m : Parts) (c : CoreState) (s : StandsFor m c) (tx slot : ℕ) (h : Is
 
       -- what the block is written by
       pub pledged : IsPledgedAt m.places m.table t slot tx
+      unfolding to_write
       pledged = record {
         place = p;
         running = h.1.0;
@@ -173,6 +175,7 @@ module _ (m : Parts) (c : CoreState) (s : StandsFor m c) (tx slot : ℕ) (h : Is
       }
 
       pub awaited : verdict ≡ Committed → AwaitsAt m.certifier m.table t slot tx
+      unfolding decided_step to_write
       awaited committed =
           let step = ap (λ (st : State). st.step) s.certifier.same in
           let order = ap (λ (st : State). st.order) s.certifier.same in

@@ -1,6 +1,7 @@
 //! The blocks of a decided transaction are written, and its step ends behind the last.
 
-ghost use Rattle.std.specs.Prelude.{◌≡◌};
+ghost use Rattle.std.specs.Prelude.{◌≡◌, ◌<◌, Some, length, slice_get};
+ghost use Rattle.sgt_core.specs.declared.machine.Place.{Place as APlace};
 ghost use Rattle.sgt_core.specs.private.Installing.{IsPledgedAt, WritesAt, AwaitsAt, IsNotedBy, IsAtRest, AreAtRest};
 
 use crate::deciding::is_due;
@@ -19,7 +20,6 @@ pub enum Verdict {
 }
 
 impl Machine {
-    ghost use Rattle.std.specs.Prelude.{◌≡◌, ◌<◌, Some, length};
     ghost use Rattle.sgt_notation.specs.declared.event.Event.TheVariants as event;
     ghost use Rattle.sgt_core.specs.Step.{MayStep};
     ghost use Rattle.sgt_core.specs.Machine.{parts_of, Stands, GoesOn};
@@ -41,10 +41,11 @@ impl Machine {
         if at >= self.places.len() {
             return refused(CoreFault::UnknownItem);
         }
-        let Some(verdict) = self.verdict() else {
-            return refused(CoreFault::NotGathered);
+        let verdict = match self.verdict() {
+            Some(verdict) => verdict,
+            None => return refused(CoreFault::NotGathered),
         };
-        match self.places[at].part {
+        match part_at(self.places.as_slice(), at) {
             Part::Idle => refused(CoreFault::NotTouched),
             Part::Written => refused(CoreFault::AlreadyDone),
             Part::Due => {
@@ -93,6 +94,14 @@ impl Machine {
         rest_all(&mut self.places);
         self.step = None;
     }
+}
+
+// The part of the open step at a site.
+fn part_at(places: &[Place], at: usize) -> Part
+    requires { at < length places.now }
+    ensures { (p : APlace) → slice_get places.now at ≡ Some p → result ≡ p.part }
+{
+    places[at].part
 }
 
 // Notes the install of the transaction at a place of the table, if it is committed.
