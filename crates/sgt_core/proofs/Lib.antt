@@ -35,10 +35,10 @@ pub mod Leading
 pub mod Stepping
 pub mod Opening
 pub mod Bundles
-pub mod InstallBlocks
-pub mod InstallEnds
-pub mod Installs
-pub mod DecidingTmp
+pub mod AllEdges
 pub mod Decisions
 pub mod Ruled
 pub mod Awaiting
+pub mod InstallBlocks
+pub mod InstallEnds
+pub mod Installs

@@ -32,7 +32,7 @@ use Rattle.sgt_core.proofs.Leading.{none_gathered}
 use Rattle.sgt_core.proofs.Runs.{decide_idle, block_gathered, is_active}
 use Rattle.sgt_core.proofs.Standing.{reached_kept}
 use Rattle.sgt_core.proofs.Stepping.{step_own}
-use Rattle.sgt_core.proofs.DecidingTmp.{all_committed, all_refused, commits_all, committed_carries, refuses_all, refused_carries}
+use Rattle.sgt_core.proofs.AllEdges.{all_committed, all_refused, commits_all, committed_carries, refuses_all, refused_carries}
 use Rattle.sgt_core.proofs.Decisions.{IsDecision, decision_due, decision_ends}
 
 -- a decided step is the certifier's

@@ -146,8 +146,14 @@ fn reply_of(decided: &Decided) -> Reply
 pub(crate) fn is_due(places: &[Place]) -> bool
     ensures { IsTrue result ↔ Any (λ p. p.part ≡ Due) places.now }
 {
-    places.iter().any(|place| match place.part {
+    places.iter().any(|place| is_due_at(place))
+}
+
+fn is_due_at(place: &Place) -> bool
+    ensures { IsTrue result ↔ (place.now.part ≡ Due) }
+{
+    match place.part {
         Part::Due => true,
         _ => false,
-    })
+    }
 }
