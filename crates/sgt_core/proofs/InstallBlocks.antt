@@ -1,5 +1,5 @@
 -- A block of the open step is written at its site: what the machine stands for then, whether or not the step ends with it.
-use Rattle.std.proofs.Common.{◌≡◌, ◌<◌, ◌≤◌, ◌+◌, ℕ, suc, zero, true, false, List, [], ◌∷◌, ◌++◌, length, map, refl, sym, ◌∙◌, arith, ◌⊎◌, inl, inr, Contains, Option, Some, None, subst, ap}
+use Rattle.std.proofs.Common.{◌≡◌, ◌<◌, ◌+◌, ℕ, suc, zero, true, false, List, [], ◌∷◌, ◌++◌, length, map, refl, sym, ◌∙◌, arith, inl, inr, Contains, Option, Some, None, subst, ap}
 use Rattle.std.specs.Prelude.{slice_get, slice_set, ◌==◌}
 use Rattle.std.proofs.lemmas.Bool.{cases_Bool, cases_eq}
 use Rattle.std.proofs.lemmas.List.{append-nil, length-map}
@@ -15,14 +15,13 @@ use Rattle.sgt_names.proofs.Lists.{option_cases}
 use Rattle.sgt_names.proofs.Places.{Contains-from_at}
 use Rattle.sgt_order.proofs.Lists.{get_set_same, get_set_other}
 use Rattle.sgt_arena.specs.declared.handle.Handle.{Handle}
-use Rattle.sgt_site.specs.State.{SiteState, KeepsReads, commit_block, refuse_block}
+use Rattle.sgt_site.specs.State.{KeepsReads}
 use Rattle.sgt_site.specs.declared.cell.Install.{Install}
 use Rattle.sgt_site.proofs.Appends.{LogsRead-append, LogsRead-cases}
 use Rattle.sgt_certifier.specs.Certifier.{State, with_install}
 use Rattle.sgt_certifier.specs.Certifier.{Install as Noted}
 use Rattle.sgt_certifier.specs.History.{IsNoted}
-use Rattle.sgt_certifier.specs.Kept.{Kept, Adds, changed_at as changed_names}
-use Rattle.sgt_certifier.specs.declared.call.Call.TheVariants as call
+use Rattle.sgt_certifier.specs.Kept.{Kept, changed_at as changed_names}
 use Rattle.sgt_certifier.proofs.Members.{cons_cases, nil_none}
 use Rattle.sgt_core.specs.declared.machine.Place.{Place}
 use Rattle.sgt_core.specs.declared.machine.Part.{Part}
@@ -34,9 +33,8 @@ use Rattle.sgt_core.specs.declared.machine.Phase.TheVariants as phase
 use Rattle.sgt_core.specs.declared.installing.Verdict.{Verdict}
 use Rattle.sgt_core.specs.declared.installing.Verdict.TheVariants.{Committed, Refused}
 use Rattle.sgt_core.specs.Core.{CoreState, as_changes, with_entries, only_at, changed_at, is_committed, noted}
-use Rattle.sgt_core.specs.Step.{gathered_in}
-use Rattle.sgt_core.specs.Machine.{Parts, Carries, IsRunning, RunsAt, IsHandleOf, AwaitsInstall, IsDueBy, IsDueAt, IsWrittenAt, IsPart, IsPlace, IsPhase, IsStep, StandsFor, IsReached, IsSlotOf}
-use Rattle.sgt_core.specs.private.Installing.{verdict_in, verdict_of, block_by, installed_by, ended_by, WritesAt, IsNotedBy, Writes}
+use Rattle.sgt_core.specs.Machine.{Parts, Carries, IsRunning, RunsAt, IsHandleOf, AwaitsInstall, IsDueBy, IsDueAt, IsPart, IsPlace, IsPhase, IsStep, StandsFor, IsReached}
+use Rattle.sgt_core.specs.private.Installing.{verdict_in, block_by, installed_by, ended_by, IsNotedBy, Writes}
 use Rattle.sgt_core.proofs.Kept.{IsKept, IsRead}
 use Rattle.sgt_core.proofs.Entries.{as_wants}
 use Rattle.sgt_core.proofs.Faults.{is_in-Decides}

@@ -1,6 +1,6 @@
 -- The open step ends behind its last block, and stays open before.
-use Rattle.std.proofs.Common.{◌≡◌, ◌<◌, ◌≤◌, ◌+◌, ℕ, suc, Bool, true, false, List, [], ◌∷◌, length, map, refl, sym, ◌∙◌, arith, inl, inr, Contains, Option, Some, None, subst, ap}
-use Rattle.std.specs.Prelude.{slice_get, slice_set, not, ◌==◌, ◌&&◌, Any}
+use Rattle.std.proofs.Common.{◌≡◌, ◌<◌, ◌+◌, ℕ, suc, Bool, true, false, List, [], ◌∷◌, length, map, refl, sym, ◌∙◌, arith, inl, inr, Contains, Option, Some, None, subst, ap}
+use Rattle.std.specs.Prelude.{slice_get, slice_set, not, ◌==◌, Any}
 use Rattle.std.specs.List.{list_all}
 use Rattle.std.proofs.lemmas.Bool.{cases_Bool, cases_eq, eq-eqb, ne_eqb, true≢false}
 use Rattle.std.proofs.lemmas.List.{length-map, length-set}
@@ -10,7 +10,6 @@ use Rattle.sgt_order.proofs.Lists.{get_set_same, get_set_other}
 use Rattle.sgt_certifier.specs.Certifier.{State, with_finished}
 use Rattle.sgt_certifier.proofs.Members.{cons_here, cons_later, filter_member, member_filter, nil_none}
 use Rattle.sgt_notation.specs.declared.event.Event.TheVariants.{Install as Write}
-use Rattle.sgt_core.specs.declared.reply.Reply.{Reply}
 use Rattle.sgt_core.specs.declared.reply.Reply.TheVariants.{Installed}
 use Rattle.sgt_core.specs.declared.machine.Place.{Place}
 use Rattle.sgt_core.specs.declared.machine.Part.{Part}
@@ -18,7 +17,7 @@ use Rattle.sgt_core.specs.declared.machine.Part.TheVariants.{Idle, Due, Written}
 use Rattle.sgt_core.specs.declared.machine.Running.{Running}
 use Rattle.sgt_core.specs.declared.machine.Open.{Open}
 use Rattle.sgt_core.specs.declared.installing.Verdict.{Verdict}
-use Rattle.sgt_core.specs.Core.{CoreState, sites_of, is_empty, is_written, closed_if_written, noted, installed}
+use Rattle.sgt_core.specs.Core.{CoreState, sites_of, is_empty, is_written, noted, installed}
 use Rattle.sgt_core.specs.Step.{IsAllowed, MayStep}
 use Rattle.sgt_core.specs.Machine.{Parts, Carries, RunsAt, IsPart, IsPlace, IsStep, StandsFor}
 use Rattle.sgt_core.specs.private.Installing.{IsDueThere, Writes, Ends}

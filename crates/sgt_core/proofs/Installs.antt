@@ -4,12 +4,7 @@ use Rattle.std.specs.Prelude.{slice_get, Any}
 use Rattle.std.proofs.lemmas.Bool.{cases_Bool, cases_eq, true≢false}
 use Rattle.std.proofs.lemmas.Option.{same_Some, slice_get_within}
 use Rattle.sgt_names.specs.Draft.{at_site}
-use Rattle.sgt_site.specs.State.{IsPledgedFor}
 use Rattle.sgt_certifier.specs.Certifier.{State}
-use Rattle.sgt_certifier.specs.Kept.{Kept, Declines}
-use Rattle.sgt_certifier.specs.History.{IsInstalling, IsNoted, installed, finish}
-use Rattle.sgt_certifier.specs.declared.call.CertifierFault.{CertifierFault}
-use Rattle.sgt_certifier.specs.declared.call.CertifierFault.TheVariants as told
 use Rattle.sgt_notation.specs.declared.event.Event.TheVariants.{Install as Write}
 use Rattle.sgt_core.specs.declared.reply.Reply.{Reply}
 use Rattle.sgt_core.specs.declared.reply.Reply.TheVariants.{Installed, Fault}
@@ -25,9 +20,8 @@ use Rattle.sgt_core.specs.declared.installing.Verdict.{Verdict}
 use Rattle.sgt_core.specs.declared.installing.Verdict.TheVariants.{Committed}
 use Rattle.sgt_core.specs.Core.{CoreState, touches}
 use Rattle.sgt_core.specs.Step.{StepIs, IsOtherOpen, IsDecided, Fails, fault_place, IsRefused, IsAllowed, MayStep}
-use Rattle.sgt_core.specs.Machine.{Parts, AwaitsInstall, IsPart, IsPhase, IsStep, StandsFor, Stands, IsSlotOf}
+use Rattle.sgt_core.specs.Machine.{Parts, IsPart, IsPhase, IsStep, StandsFor, IsSlotOf}
 use Rattle.sgt_core.specs.private.Installing.{verdict_in, verdict_of, IsPledgedAt, AwaitsAt, IsDueThere, Writes, Ends}
-use Rattle.sgt_core.proofs.Kept.{IsKept}
 use Rattle.sgt_core.proofs.Changing.{behind_step}
 use Rattle.sgt_core.proofs.Redrafting.{slot_begun, slot_active}
 use Rattle.sgt_core.proofs.Refusing.{Goes, refused_goes, site_count, here, install_too_early}

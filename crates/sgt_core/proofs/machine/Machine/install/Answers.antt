@@ -1,4 +1,4 @@
-use Rattle.std.proofs.Common.{◌≡◌, Some, length, refl, sym, ◌∙◌, arith, ap, subst}
+use Rattle.std.proofs.Common.{◌≡◌, length, refl, sym, ◌∙◌, arith, ap, subst}
 use Rattle.std.specs.Prelude.{slice_get, Any}
 use Rattle.std.proofs.lemmas.Option.{slice_get_within}
 use Rattle.sgt_names.proofs.Lists.{within_at}
