@@ -149,9 +149,9 @@ handles_by Committed s tx slot handle installed order number is h i m =
       | inl was ↦ h i was
       | inr last ↦ elim (cons_cases one [] i last) [
         | inl same ↦ subst (IsHandleOf s) same (inl (
-            ap (λ (g : Handle). g.generation) is,
-            number ∙ ap (λ (g : Handle). suc (s.before + g.index)) (sym is),
-            order refl,
+          ap (λ (g : Handle). g.generation) is,
+          number ∙ ap (λ (g : Handle). suc (s.before + g.index)) (sym is),
+          order refl,
         ))
         | inr none ↦ absurd (nil_none i none)
       ]
