@@ -20,12 +20,16 @@ use Rattle.sgt_core.specs.declared.installing.Verdict.{Verdict}
 use Rattle.sgt_core.specs.Core.{CoreState, sites_of, is_empty, is_written, noted, installed}
 use Rattle.sgt_core.specs.Step.{IsAllowed, MayStep}
 use Rattle.sgt_core.specs.Machine.{Parts, Carries, RunsAt, IsPart, IsPlace, IsStep, StandsFor}
-use Rattle.sgt_core.specs.private.Installing.{IsDueThere, Writes, Ends}
+use Rattle.sgt_core.specs.private.Installing.{Writes, Ends}
 use Rattle.sgt_core.proofs.Committing.{in_range}
 use Rattle.sgt_core.proofs.LegalSteps.{all_pass, empty_is}
 use Rattle.sgt_core.proofs.Runs.{is_site}
 use Rattle.sgt_core.proofs.Standing.{reached_more}
 use Rattle.sgt_core.proofs.InstallBlocks.{written_state, IsToWrite, due_some, written_places, written_running, written_items, written_carries, written_stands}
+
+-- the block of the open step is still due at the site
+abbrev pub IsDueThere : Place → Type 0
+IsDueThere place = place.part ≡ Due
 
 all_true : (p : ℕ → Bool) (xs : List ℕ) → ((x : ℕ) → Contains xs x → p x ≡ true) → list_all p xs ≡ true
 all_true p [] h = refl

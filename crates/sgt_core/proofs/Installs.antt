@@ -21,14 +21,14 @@ use Rattle.sgt_core.specs.declared.installing.Verdict.TheVariants.{Committed}
 use Rattle.sgt_core.specs.Core.{CoreState, touches}
 use Rattle.sgt_core.specs.Step.{StepIs, IsOtherOpen, IsDecided, Fails, fault_place, IsRefused, IsAllowed, MayStep}
 use Rattle.sgt_core.specs.Machine.{Parts, IsPart, IsPhase, IsStep, StandsFor, IsSlotOf}
-use Rattle.sgt_core.specs.private.Installing.{verdict_in, verdict_of, IsPledgedAt, AwaitsAt, IsDueThere, Writes, Ends}
+use Rattle.sgt_core.specs.private.Installing.{verdict_in, verdict_of, IsPledgedAt, AwaitsAt, Writes, Ends}
 use Rattle.sgt_core.proofs.Changing.{behind_step}
 use Rattle.sgt_core.proofs.Redrafting.{slot_begun, slot_active}
 use Rattle.sgt_core.proofs.Refusing.{Goes, refused_goes, site_count, here, install_too_early}
 use Rattle.sgt_core.proofs.Runs.{touching_there}
 use Rattle.sgt_core.proofs.Standing.{reached_kept}
 use Rattle.sgt_core.proofs.InstallBlocks.{IsVerdict, verdict_phase, awaits_phase, due_some, IsToWrite, decided_so, due_of, touched_there, pledged_there}
-use Rattle.sgt_core.proofs.InstallEnds.{open_goes, ended_goes}
+use Rattle.sgt_core.proofs.InstallEnds.{IsDueThere, open_goes, ended_goes}
 
 -- ---- refusals
 

@@ -10,7 +10,7 @@ use Rattle.sgt_certifier.specs.History.{IsInstalling, Serves}
 use Rattle.sgt_certifier.specs.Kept.{Kept, Adds, changed_at}
 use Rattle.sgt_certifier.specs.declared.call.Call.TheVariants as call
 use Rattle.sgt_core.specs.declared.machine.Place.{Place}
-use Rattle.sgt_core.specs.declared.machine.Part.TheVariants.{Idle, Due, Written}
+use Rattle.sgt_core.specs.declared.machine.Part.TheVariants.{Idle, Written}
 use Rattle.sgt_core.specs.declared.machine.Running.{Running}
 use Rattle.sgt_core.specs.declared.machine.Open.{Open}
 use Rattle.sgt_core.specs.declared.machine.Phase.{Phase}
@@ -80,10 +80,6 @@ pub record Writes (verdict : Verdict) (old new : Parts) (site slot tx : ℕ) : T
   pub block : WritesAt verdict old.places new.places old.table site slot tx
   pub noted : IsNotedBy verdict old.certifier new.certifier old.table site slot tx
   pub is : new ≡ record old { places = new.places; certifier = new.certifier }
-
--- the block of the open step isn't written at the site
-abbrev pub IsDueThere : Place → Type 0
-IsDueThere place = place.part ≡ Due
 
 -- the site has no part of a step any more
 abbrev pub IsAtRest : Place → Place → Type 0

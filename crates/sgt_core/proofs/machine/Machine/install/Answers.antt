@@ -5,9 +5,9 @@ use Rattle.sgt_names.proofs.Lists.{within_at}
 use Rattle.sgt_notation.specs.declared.event.Event.TheVariants.{Install}
 use Rattle.sgt_core.specs.declared.reply.Reply.TheVariants.{Installed}
 use Rattle.sgt_core.specs.Machine.{Parts, parts_of}
-use Rattle.sgt_core.specs.private.Installing.{IsDueThere}
 use Rattle.sgt_core.proofs.Finding.{not_true}
 use Rattle.sgt_core.proofs.Refusing.{refused_goes, step_open, install_no_site}
+use Rattle.sgt_core.proofs.InstallEnds.{IsDueThere}
 use Rattle.sgt_core.proofs.Installs.{install_early, untouched_goes, again_goes, pledged, awaited, open_certifier, still_goes, last_goes}
 use Rattle.sgt_core.proofs.machine.Machine.install.Goals as goal
 
