@@ -39,3 +39,6 @@ pub mod AllEdges
 pub mod Decisions
 pub mod Ruled
 pub mod Awaiting
+pub mod InstallBlocks
+pub mod InstallEnds
+pub mod Installs

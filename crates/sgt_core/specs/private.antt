@@ -1,2 +1,3 @@
 -- Words of clauses of private functions.
 pub mod Decided
+pub mod Installing

@@ -64,7 +64,7 @@ impl Machine {
     }
 
     // Ends the transaction at a place of the table, of which no block is due.
-    fn end(&mut self, tx: Tx, slot: usize)
+    pub(crate) fn end(&mut self, tx: Tx, slot: usize)
         requires step { self.old.certifier.state.step ≡ Some tx }
         requires slot { slot < length self.old.running.items }
         ensures { EndsAt (parts_of self.old) (parts_of self.new) tx slot }
@@ -143,7 +143,7 @@ fn reply_of(decided: &Decided) -> Reply
 }
 
 // Whether a block of the open step is still due.
-fn is_due(places: &[Place]) -> bool
+pub(crate) fn is_due(places: &[Place]) -> bool
     ensures { IsTrue result ↔ Any (λ p. p.part ≡ Due) places.now }
 {
     places.iter().any(|place| is_due_at(place))
