@@ -23,9 +23,9 @@ reaches_flat E F each a b r = flat a r.0 b r.1
     flat a [] b h = each a b h
     flat a (c ∷ cs) b h = reaches_on F a c b (each a c h.0) (flat c cs b h.1)
 
-walks_more : (as bs : List Arc) → ((arc : Arc) → Contains as arc → Contains bs arc) → (a : ℕ) (walk : List Step) → Walks as a walk → Walks bs a walk
-walks_more as bs more a [] h = tt
-walks_more as bs more a (step ∷ steps) h = (more _ h.0, walks_more as bs more step.to steps h.1)
+walks_more : (xs ys : List Arc) → ((arc : Arc) → Contains xs arc → Contains ys arc) → (a : ℕ) (walk : List Step) → Walks xs a walk → Walks ys a walk
+walks_more xs ys more a [] h = tt
+walks_more xs ys more a (step ∷ steps) h = (more _ h.0, walks_more xs ys more step.to steps h.1)
 
 -- the model's certifier after the decision
 abbrev pub all_committed : CoreState → ℕ → List ℕ → State
