@@ -26,7 +26,7 @@ loop-i-preserved c =
             let was = c.loop-i.invariant.opened (subst IsTrue w.has_room-is t) in
             subst (λ (ps : List Place). AreOpened (take (i + 1) sites) ps) (sym added.2)
             (one_opened sites c.loop-i.places.items i items added.0 c.loop-i-test.true at was are (c.in_ok-opened.ensures.ok added.0 added.1))
-        | else-add_place w ↦ absurd (true≢false (sym t ∙ w.has_room-is))
+        | else-add_place w ↦ absurd (true≢false (sym t ∙ (w.has_room-is ∙ w.if-add_place.false)))
       ];
     }
 
