@@ -41,7 +41,7 @@ returns-then-is_ruled c = λ d s.
     decide_again m d s c.args.tx _ c.in-Ok.ensures.ok no_other (λ some. not_true _ c.if-misses.false ((c.misses.ensures _ runs).1
     (subst (λ ps. Any (IsMissedAt ps) c.in-Ok.ensures.ok.1.0.draft.touched) (sym c.as_slice.ensures.value) some))) (r.2 ∙ ap Rattle.std.proofs.Common.Some own) _ c.refused-then-is_ruled.ensures
 
-pub decide_gathered-requires-clause-allowed : goal.decide_gathered-requires-allowed
+pub decide_gathered-requires-clause-allowed : goal.decide_gathered-requires-clause-allowed
 decide_gathered-requires-clause-allowed c = λ d s.
     let runs = ap (λ t. slice_get t c.in-Ok.slot) c.as_slice-2.ensures.value ∙ c.in-Ok.ensures.ok.1.1 in
     let m = parts_of c.args.self.now in
