@@ -2,11 +2,13 @@
 #![tactic(auto)]
 
 mod bundling;
+mod committing;
 mod driver;
 mod gathering;
 mod laws;
 mod machine;
 mod reply;
+mod withdrawing;
 
 pub use driver::Core;
 pub use laws::{
