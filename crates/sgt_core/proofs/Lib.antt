@@ -39,3 +39,7 @@ pub mod Leading
 pub mod Stepping
 pub mod Opening
 pub mod Bundles
+pub mod Deciding
+pub mod Decisions
+pub mod Ruled
+pub mod Awaiting

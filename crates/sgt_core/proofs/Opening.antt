@@ -90,8 +90,7 @@ new_stands sites places certifier h is some few = record {
         handles = λ i m. absurd (nil_none i m);
         part = (refl, refl, nil_none k);
       });
-  step = refl;
-  undecided = refl;
+  step = (refl, refl);
 }
 
 -- ---- runs

@@ -3,6 +3,7 @@
 
 mod bundling;
 mod committing;
+mod deciding;
 mod driver;
 mod gathering;
 mod laws;
