@@ -22,7 +22,7 @@ pub mod Committing
 pub mod WholeCommits
 pub mod WholeGoing
 pub mod TouchedSites
-pub mod Withdrawing
+pub mod Withdrawals
 pub mod Total
 pub mod Examples
 pub mod Refusals
@@ -39,7 +39,7 @@ pub mod Leading
 pub mod Stepping
 pub mod Opening
 pub mod Bundles
-pub mod Deciding
+pub mod DecidesOnce
 pub mod Decisions
 pub mod Ruled
 pub mod Awaiting

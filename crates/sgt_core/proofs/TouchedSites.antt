@@ -14,7 +14,7 @@ use Rattle.sgt_core.specs.declared.machine.Place.{Place}
 use Rattle.sgt_core.specs.Core.{CoreState, touches}
 use Rattle.sgt_core.specs.Step.{IsRefused, IsAllowed}
 use Rattle.sgt_core.specs.Machine.{Parts, StandsFor, IsSlotOf}
-use Rattle.sgt_core.specs.private.Committing.{AreTouched, IsWhole}
+use Rattle.sgt_core.specs.private.Whole.{AreTouched, IsWhole}
 use Rattle.sgt_core.proofs.Standing.{reached_kept, core_closed, certifier_closed}
 use Rattle.sgt_core.proofs.Redrafting.{slot_begun, slot_active}
 use Rattle.sgt_core.proofs.Touching.{touches_draft, draft_touches, step_refused, commit_allowed}
@@ -58,19 +58,19 @@ few_sites m c s =
 
 module _ (m : Parts) (c : CoreState) (s : StandsFor m c) (tx slot : ℕ) (h : IsSlotOf m tx slot) (none : m.step ≡ None) where
   pub whole_allowed : IsAllowed c (Commit tx)
-  whole_allowed = commit_allowed c tx (slot_begun m c tx slot s h) (slot_active m c tx slot s h) (certifier_closed m c s none) (core_closed m c s none)
+  whole_allowed = commit_allowed c tx (slot_begun m c tx slot s h) (slot_active m c tx slot s h) (core_closed m c s none)
 
   pub whole_sites : (sites : List ℕ) → AreTouched h.1.0.draft.touched (length m.places) sites → IsWhole c tx sites
   whole_sites sites are =
       let r = s.running slot (Some h.1.0) h.1.1 in
       let k = reached_kept c s.reached in
-      let idle = certifier_closed m c s none in
+      let idle : c.certifier.step ≡ Some (suc (m.before + slot)) → ⊥ = λ e. let f : Some (suc (m.before + slot)) ≡ None = sym e ∙ certifier_closed m c s none in absurd cc in
       let count : length c.items ≡ length m.places = ap length s.items ∙ length-map m.places (λ (p : Place). p.site.items) in
       record {
         allowed = whole_allowed;
-        sites = are (touches c tx) (λ t. (
-              λ hit. touches_draft c k m.before slot t h.1.0 r idle (subst (λ i. touches c i t ≡ true) h.0 hit),
-              λ any. subst (λ i. touches c i t ≡ true) (sym h.0) (draft_touches c k m.before slot t h.1.0 r idle any),
-            ))
+        all = are (touches c tx) (λ t. (
+          λ hit. touches_draft c k m.before slot t h.1.0 r idle (subst (λ i. touches c i t ≡ true) h.0 hit),
+          λ any. subst (λ i. touches c i t ≡ true) (sym h.0) (draft_touches c k m.before slot t h.1.0 r any),
+        ))
             ∙ ap (λ n. filter (touches c tx) (range_with_len 0 n)) (sym count);
       }

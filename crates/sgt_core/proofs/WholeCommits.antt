@@ -14,8 +14,8 @@ use Rattle.sgt_core.specs.declared.reply.Reply.TheVariants.{Yes, No, Gathered, I
 use Rattle.sgt_core.specs.declared.reply.CoreFault.{CoreFault}
 use Rattle.sgt_core.specs.declared.reply.CoreFault.TheVariants as fault
 use Rattle.sgt_core.specs.Core.{OpenStep, CoreState, sites_of, with_entries, only_at, changed_at, touches, touched, committed_block, refused_block, decided, noted, installed}
-use Rattle.sgt_core.specs.Step.{StepIs, IsOtherOpen, gathered_in, IsGathered, IsAllowed, ServesAll, MayDecide, MayStep}
-use Rattle.sgt_core.specs.private.Committing.{IsWhole, RefusesWhole, GathersAll, IsBlockDue, AwaitsBlocks, DecidesWhole, InstallsAll}
+use Rattle.sgt_core.specs.Step.{StepIs, IsOtherOpen, gathered_in, IsGathered, IsRefused, IsAllowed, ServesAll, MayDecide, MayStep}
+use Rattle.sgt_core.specs.private.Whole.{IsWhole, RefusesWhole, GathersAll, IsBlockDue, AwaitsBlocks, DecidesWhole, InstallsAll}
 use Rattle.sgt_core.proofs.Kept.{IsKept}
 use Rattle.sgt_core.proofs.Cycles.{AreDistinct}
 use Rattle.sgt_core.proofs.LegalSteps.{cleared_there}
@@ -38,6 +38,10 @@ map_push f [] x = refl
 map_push f (y ∷ ys) x = ap (λ zs. f y ∷ zs) (map_push f ys x)
 
 -- ---- refusals
+
+pub whole_refused : (c : CoreState) (tx : ℕ) (f : CoreFault) → IsRefused c (Commit tx) f → RefusesWhole c tx f
+whole_refused c tx fault.Memory r = absurd r.0
+whole_refused c tx f r = r
 
 -- a whole commit that is refused, or for which there is no memory, leaves the state
 pub whole_commit : (c : CoreState) (tx : ℕ) (f : CoreFault) → RefusesWhole c tx f → MayStep c (Commit tx) (Fault f) c
@@ -180,8 +184,8 @@ module _ (c : CoreState) (tx : ℕ) (k : IsKept c) (allowed : IsAllowed c (Commi
       let after = v.commits.after in (
         (allowed, decides_with o Yes e h (e, step, refl)),
         subst (λ (x : CoreState). AwaitsBlocks x tx (touched c tx)) (sym v.after) (due_decided mid tx v.certifier (committed_block mid tx) (touched c tx)
-        (due_blocks o v.certifier (committed_block mid tx) h.alone (ap (λ (s : State). s.active) after) (ap (λ (s : State). s.begun) after) (ap (λ (s : State). s.step) after)
-        (λ s hit. some_block (touches c tx s) _ _ hit))),
+            (due_blocks o v.certifier (committed_block mid tx) h.alone (ap (λ (s : State). s.active) after) (ap (λ (s : State). s.begun) after) (ap (λ (s : State). s.step) after)
+            (λ s hit. some_block (touches c tx s) _ _ hit))),
       )
   decide_by o h may No e step =
       let v = step.1 in
@@ -189,8 +193,8 @@ module _ (c : CoreState) (tx : ℕ) (k : IsKept c) (allowed : IsAllowed c (Commi
       let after = v.refuses.after in (
         (allowed, decides_with o No e h (e, step, refl)),
         subst (λ (x : CoreState). AwaitsBlocks x tx (touched c tx)) (sym v.after) (due_decided mid tx v.certifier (refused_block mid tx) (touched c tx)
-        (due_blocks o v.certifier (refused_block mid tx) h.alone (ap (λ (s : State). s.active) after) (ap (λ (s : State). s.begun) after) (ap (λ (s : State). s.step) after)
-        (λ s hit. some_block (touches c tx s) _ _ hit))),
+            (due_blocks o v.certifier (refused_block mid tx) h.alone (ap (λ (s : State). s.active) after) (ap (λ (s : State). s.begun) after) (ap (λ (s : State). s.step) after)
+            (λ s hit. some_block (touches c tx s) _ _ hit))),
       )
   decide_by o h may (Fault fault.Memory) e step = (allowed, step.1)
   decide_by o h may (Fault f) e step = absurd (may f step.0.0)
@@ -242,8 +246,8 @@ install_gives c d tx done s rest h all reply e step =
     let may = write_allowed d tx s (record { active = a.active; begun = a.begun; alone = a.alone }) a.decided (record { inside = a.inside; touched = a.touched; due = a.due }) in
     let is : e ≡ installed d tx s = write_by d tx s may reply e step in (
       subst (λ (es : List Event). ServesAll c es (map (λ t. Installed) (done ++ s ∷ [])) e) (sym (map_push (Write tx) done s))
-      (subst (λ (rs : List Reply). ServesAll c (map (Write tx) done ++ Write tx s ∷ []) rs e) (sym (map_push (λ (t : ℕ). Installed) done s))
-      (append-all c (map (Write tx) done) (Write tx s ∷ []) (map (λ t. Installed) done) (Installed ∷ []) d e h (e, (may, is), refl))),
+          (subst (λ (rs : List Reply). ServesAll c (map (Write tx) done ++ Write tx s ∷ []) rs e) (sym (map_push (λ (t : ℕ). Installed) done s))
+          (append-all c (map (Write tx) done) (Write tx s ∷ []) (map (λ t. Installed) done) (Installed ∷ []) d e h (e, (may, is), refl))),
       subst (λ (x : CoreState). AwaitsBlocks x tx rest) (sym is) (awaits_rest d tx s a rest all.1.0 all.1.1),
     )
 
@@ -257,8 +261,8 @@ commits_by c mid new tx verdict out h all =
     let sites = touched c tx in (
       h.0.0,
       subst (λ (es : List Event). ServesAll c es (map (λ s. Gathered) sites ++ verdict ∷ map (λ s. Installed) sites) new) (append_assoc (map (Gather tx) sites) (Decide tx ∷ []) (map (Write tx) sites))
-      (subst (λ (rs : List Reply). ServesAll c ((map (Gather tx) sites ++ Decide tx ∷ []) ++ map (Write tx) sites) rs new) (append_assoc (map (λ s. Gathered) sites) (verdict ∷ []) (map (λ s. Installed) sites))
-      (append-all c (map (Gather tx) sites ++ Decide tx ∷ []) (map (Write tx) sites) (map (λ s. Gathered) sites ++ verdict ∷ []) (map (λ s. Installed) sites) mid new h.0.1 all)),
+          (subst (λ (rs : List Reply). ServesAll c ((map (Gather tx) sites ++ Decide tx ∷ []) ++ map (Write tx) sites) rs new) (append_assoc (map (λ s. Gathered) sites) (verdict ∷ []) (map (λ s. Installed) sites))
+          (append-all c (map (Gather tx) sites ++ Decide tx ∷ []) (map (Write tx) sites) (map (λ s. Gathered) sites ++ verdict ∷ []) (map (λ s. Installed) sites) mid new h.0.1 all)),
     )
 
 -- the blocks that are due after a verdict

@@ -11,7 +11,7 @@ use Rattle.sgt_core.specs.declared.reply.CoreFault.TheVariants as fault
 use Rattle.sgt_core.specs.Core.{CoreState, touched}
 use Rattle.sgt_core.specs.Step.{MayDecide, MayStep}
 use Rattle.sgt_core.specs.Machine.{Parts, StandsFor, Stands, GoesOn}
-use Rattle.sgt_core.specs.private.Committing.{IsWhole, RefusesWhole, GathersAll, AwaitsBlocks, DecidesWhole, InstallsAll}
+use Rattle.sgt_core.specs.private.Whole.{IsWhole, RefusesWhole, GathersAll, AwaitsBlocks, DecidesWhole, InstallsAll}
 use Rattle.sgt_core.proofs.Cycles.{AreDistinct}
 use Rattle.sgt_core.proofs.Standing.{reached_kept}
 use Rattle.sgt_core.proofs.WholeCommits.{fresh_at, whole_commit, whole_decision, GatherGives, distinct, gathers_none, gather_gives, decide_gives, install_gives, commits_by, awaits_after, decision_of}
@@ -33,8 +33,8 @@ module _ (first mid last : Parts) (tx : ℕ) (sites : List ℕ) (whole : AreWhol
         let b = go a.0 a.2 in
         let w = whole c st in
         let k = reached_kept c st.reached in
-        let member = subst (λ xs. Contains xs s) w.sites (Contains-from_at sites i s at) in
-        let new = fresh_at sites i s (subst AreDistinct (sym w.sites) (distinct c tx k w.allowed)) at in
+        let member = subst (λ xs. Contains xs s) w.all (Contains-from_at sites i s at) in
+        let new = fresh_at sites i s (subst AreDistinct (sym w.all) (distinct c tx k w.allowed)) at in
         (b.0, gather_gives c tx k w.allowed a.0 (take i sites) s a.1 member new reply b.0 b.1, b.2)
 
     pub gathering_on : reply ≡ Gathered → GoesOn (λ c d. GathersAll c tx (take (i + 1) sites) d) first last
@@ -61,8 +61,8 @@ module _ (first mid last : Parts) (tx : ℕ) (sites : List ℕ) (whole : AreWhol
       let b = go a.0 a.2 in
       let w = whole c st in (
         b.0,
-        subst (λ xs. DecidesWhole c tx xs reply b.0) (sym w.sites)
-        (decide_gives c tx (reached_kept c st.reached) w.allowed a.0 (subst (λ xs. GathersAll c tx xs a.0) w.sites a.1) reply b.0 b.1),
+        subst (λ xs. DecidesWhole c tx xs reply b.0) (sym w.all)
+            (decide_gives c tx (reached_kept c st.reached) w.allowed a.0 (subst (λ xs. GathersAll c tx xs a.0) w.all a.1) reply b.0 b.1),
         b.2,
       )
 
@@ -80,7 +80,7 @@ module _ (first mid last : Parts) (tx : ℕ) (sites : List ℕ) (whole : AreWhol
       let w = whole c st in
       let b = go a.0 a.2 (awaits_after c a.0 tx sites verdict out a.1) in (
         b.0,
-        commits_by c a.0 b.0 tx verdict out (subst (λ xs. DecidesWhole c tx xs verdict a.0) w.sites a.1) (subst (λ xs. InstallsAll a.0 tx xs b.0) w.sites b.1),
+        commits_by c a.0 b.0 tx verdict out (subst (λ xs. DecidesWhole c tx xs verdict a.0) w.all a.1) (subst (λ xs. InstallsAll a.0 tx xs b.0) w.all b.1),
         b.2,
       )
 

@@ -1,4 +1,4 @@
 -- Words of private clauses.
 pub mod Decided
-pub mod Committing
+pub mod Whole
 pub mod Withdrawing

@@ -2,13 +2,13 @@
 #![tactic(auto)]
 
 mod bundling;
-mod committing;
 mod deciding;
 mod driver;
 mod gathering;
 mod laws;
 mod machine;
 mod reply;
+mod whole;
 mod withdrawing;
 
 pub use driver::Core;

@@ -6,7 +6,7 @@ ghost use Rattle.sgt_notation.specs.declared.event.Event.TheVariants as event;
 ghost use Rattle.sgt_core.specs.Core.{CoreState};
 ghost use Rattle.sgt_core.specs.Step.{MayStep, MayDecide};
 ghost use Rattle.sgt_core.specs.Machine.{parts_of, StandsFor, Stands, GoesOn};
-ghost use Rattle.sgt_core.specs.private.Committing.{AreTouched, IsWhole, RefusesWhole, GathersAll, AwaitsBlocks, DecidesWhole, InstallsAll};
+ghost use Rattle.sgt_core.specs.private.Whole.{AreTouched, IsWhole, RefusesWhole, GathersAll, AwaitsBlocks, DecidesWhole, InstallsAll};
 ghost use Rattle.sgt_core.specs.declared.machine.Running.{Running as ARunning};
 
 use crate::machine::{Machine, Running, refused, touches};

@@ -86,7 +86,7 @@ module _ (m : Parts) (c : CoreState) (s : StandsFor m c) (none : m.step ≡ None
   idle_there : (t : ℕ) (p : Place) (part : Part) → IsPart m c t p part → (part ≡ Idle) × (p.site.pledge ≡ None) × (c.due t ≡ [])
   idle_there t p Idle h = (refl, h.0, h.1)
   idle_there t p Due h = absurd (let e : Some h.0 ≡ None = sym h.1.open_step ∙ none in cc)
-  idle_there t p Written h = absurd (not_gathered t h.2)
+  idle_there t p Written h = absurd (not_gathered t h.gathered)
 
   -- ---- the pledges are given back
 
@@ -109,14 +109,14 @@ module _ (m : Parts) (c : CoreState) (s : StandsFor m c) (none : m.step ≡ None
         let first = offered.long in
         let second = released.long in
         same_lists places m.places (omega (arith, first, second)) (λ t p at.
-            let lt = slice_get_within m.places t p at in
-            let q = within_at mid t (omega (arith, lt, first)) in
-            let r = within_at places t (omega (arith, lt, first, second)) in
-            r.1 ∙ ap Some (given_back t p q.0 r.0 at (offered.each t p q.0 at q.1) (released.each t q.0 r.0 q.1 r.1)))
+        let lt = slice_get_within m.places t p at in
+        let q = within_at mid t (omega (arith, lt, first)) in
+        let r = within_at places t (omega (arith, lt, first, second)) in
+        r.1 ∙ ap Some (given_back t p q.0 r.0 at (offered.each t p q.0 at q.1) (released.each t q.0 r.0 q.1 r.1)))
 
   module _ (tx slot : ℕ) (h : IsSlotOf m tx slot) where
     may_withdraw : IsAllowed c (Withdraw tx)
-    may_withdraw = withdraw_allowed c tx (slot_begun m c tx slot s h) (slot_active m c tx slot s h) undecided closed
+    may_withdraw = withdraw_allowed c tx (slot_begun m c tx slot s h) (slot_active m c tx slot s h) closed
 
     pub withdraw_gives_back : (mid places : List Place) → AreOffered tx m.places mid → AreReleased tx mid places
         → (d : CoreState) × MayStep c (Withdraw tx) (Fault fault.Memory) d × StandsFor (record m { places = places }) d
@@ -139,10 +139,10 @@ module _ (m : Parts) (c : CoreState) (s : StandsFor m c) (none : m.step ≡ None
       own = s.running slot (Some r) w.there
 
       touched_there : (t : ℕ) → touches c tx t ≡ true → Touches r.draft.touched t
-      touched_there t hit = touches_draft c (reached_kept c s.reached) m.before slot t r own undecided (subst (λ i. touches c i t ≡ true) h.0 hit)
+      touched_there t hit = touches_draft c (reached_kept c s.reached) m.before slot t r own (λ e. let f : Some (suc (m.before + slot)) ≡ None = sym e ∙ undecided in absurd cc) (subst (λ i. touches c i t ≡ true) h.0 hit)
 
       there_touched : (t : ℕ) → Touches r.draft.touched t → touches c tx t ≡ true
-      there_touched t any = subst (λ i. touches c i t ≡ true) (sym h.0) (draft_touches c (reached_kept c s.reached) m.before slot t r own undecided any)
+      there_touched t any = subst (λ i. touches c i t ≡ true) (sym h.0) (draft_touches c (reached_kept c s.reached) m.before slot t r own any)
 
       abbrev with_block : ℕ → Place → Place
       with_block t p = record p { site = record p.site { entries = p.site.entries ++ withdrawn_block c tx t; pledge = None } }
@@ -181,7 +181,7 @@ module _ (m : Parts) (c : CoreState) (s : StandsFor m c) (none : m.step ≡ None
       withdrawn_part : (t : ℕ) (p : Place) (part : Part) → IsPart m c t p part → IsPart n d t (with_block t p) part
       withdrawn_part t p Idle is = (refl, is.1, is.2)
       withdrawn_part t p Due is = absurd (let e : Some is.0 ≡ None = sym is.1.open_step ∙ none in cc)
-      withdrawn_part t p Written is = absurd (not_gathered t is.2)
+      withdrawn_part t p Written is = absurd (not_gathered t is.gathered)
 
       withdrawn_place : (t : ℕ) (q : Place) → slice_get new.places t ≡ Some q → IsPlace n d t q
       withdrawn_place t q at =
@@ -239,7 +239,6 @@ module _ (m : Parts) (c : CoreState) (s : StandsFor m c) (none : m.step ≡ None
             unborn = s.unborn;
             running = withdrawn_slot;
             places = withdrawn_place;
-            step = subst (λ (o : Option Open). IsStep n d o) (sym none) closed;
-            undecided = undecided;
+            step = subst (λ (o : Option Open). IsStep n d o) (sym none) (closed, undecided);
           } in
           (d, may, subst (λ (v : Parts). StandsFor v d) (sym w.is) stands)

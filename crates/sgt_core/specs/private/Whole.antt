@@ -18,7 +18,7 @@ AreTouched touched count sites = (p : ℕ → Bool) → ((s : ℕ) → (p s ≡ 
 -- the transaction may be committed, and touches these sites
 pub record IsWhole (c : CoreState) (tx : ℕ) (sites : List ℕ) : Type 0 where
   pub allowed : IsAllowed c (Commit tx)
-  pub sites : sites ≡ touched c tx
+  pub all : sites ≡ touched c tx
 
 -- a whole commit is refused, or there is no memory for it
 abbrev pub RefusesWhole : CoreState → ℕ → CoreFault → Type 0

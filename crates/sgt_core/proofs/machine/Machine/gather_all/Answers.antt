@@ -2,10 +2,10 @@ use Rattle.std.proofs.Common.{length, refl, subst, sym}
 use Rattle.std.proofs.lemmas.List.{take_all}
 use Rattle.std.proofs.lemmas.Option.{slice_get_read}
 use Rattle.sgt_core.specs.Machine.{parts_of, GoesOn}
-use Rattle.sgt_core.specs.private.Committing.{GathersAll}
+use Rattle.sgt_core.specs.private.Whole.{GathersAll}
 use Rattle.sgt_core.proofs.Standing.{goes_stands}
 use Rattle.sgt_core.proofs.WholeGoing.{gathering_none, gathering_on, gathering_stops}
-use Rattle.sgt_core.proofs.committing.Machine.gather_all.Goals as goal
+use Rattle.sgt_core.proofs.machine.Machine.gather_all.Goals as goal
 
 pub loop-site-init : goal.loop-site-init
 loop-site-init c = record {

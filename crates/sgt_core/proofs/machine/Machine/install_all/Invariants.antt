@@ -1,6 +1,6 @@
 use Rattle.sgt_core.specs.Machine.{parts_of, Stands}
 use Rattle.sgt_core.proofs.WholeGoing.{AreInstalling}
-use Rattle.sgt_core.proofs.committing.Machine.install_all.Given as goal
+use Rattle.sgt_core.proofs.machine.Machine.install_all.Given as goal
 
 abbrev pub invariant-loop-site : goal.invariant-loop-site
 invariant-loop-site l = record {

@@ -1,7 +1,7 @@
 use Rattle.sgt_core.specs.Machine.{parts_of}
 use Rattle.sgt_core.proofs.Standing.{goes_stands}
 use Rattle.sgt_core.proofs.WholeGoing.{deciding, deciding_stops}
-use Rattle.sgt_core.proofs.committing.Machine.decide_whole.Goals as goal
+use Rattle.sgt_core.proofs.machine.Machine.decide_whole.Goals as goal
 
 pub decide-requires : goal.decide-requires
 decide-requires c = goes_stands _ _ _ c.requires.stands c.in-Ok.ensures.ok

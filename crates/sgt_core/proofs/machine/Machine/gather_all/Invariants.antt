@@ -1,7 +1,7 @@
 use Rattle.std.proofs.Common.{take}
 use Rattle.sgt_core.specs.Machine.{parts_of, Stands, GoesOn}
-use Rattle.sgt_core.specs.private.Committing.{GathersAll}
-use Rattle.sgt_core.proofs.committing.Machine.gather_all.Given as goal
+use Rattle.sgt_core.specs.private.Whole.{GathersAll}
+use Rattle.sgt_core.proofs.machine.Machine.gather_all.Given as goal
 
 abbrev pub invariant-loop-site : goal.invariant-loop-site
 invariant-loop-site l = record {

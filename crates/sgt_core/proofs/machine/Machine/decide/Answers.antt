@@ -9,7 +9,7 @@ use Rattle.sgt_core.proofs.Finding.{not_true}
 use Rattle.sgt_core.proofs.Refusing.{refused_goes, step_open, decide_too_early, decide_again, may_decide}
 use Rattle.sgt_core.proofs.Stepping.{step_own}
 use Rattle.sgt_core.proofs.Ruled.{ruled_step, not_ruled}
-use Rattle.sgt_core.proofs.deciding.Machine.decide.Goals as goal
+use Rattle.sgt_core.proofs.machine.Machine.decide.Goals as goal
 
 pub returns-in-Err : goal.returns-in-Err
 returns-in-Err c = λ d s. let event = Decide c.args.tx in

@@ -1,6 +1,0 @@
-use Rattle.std.proofs.Common.{sym, subst}
-use Rattle.sgt_core.specs.Machine.{parts_of, StandsFor}
-use Rattle.sgt_core.specs.Core.{CoreState}
-use Rattle.sgt_core.specs.private.Committing.{IsWhole}
-use Rattle.sgt_core.proofs.WholeGoing.{decision_refused, decision_made}
-use Rattle.sgt_core.proofs.committing.Machine.to_decide.Goals as goal
