@@ -39,7 +39,10 @@ pub mod Leading
 pub mod Stepping
 pub mod Opening
 pub mod Bundles
-pub mod DecidesOnce
+pub mod AllEdges
 pub mod Decisions
 pub mod Ruled
 pub mod Awaiting
+pub mod InstallBlocks
+pub mod InstallEnds
+pub mod Installs

@@ -2,3 +2,4 @@
 pub mod Decided
 pub mod Whole
 pub mod Withdrawing
+pub mod Installing

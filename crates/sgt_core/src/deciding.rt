@@ -50,10 +50,7 @@ impl Machine {
         match rule(&mut self.certifier, self.running.as_slice(), slot, edges) {
             Ok(decided) => {
                 if is_due(self.places.as_slice()) {
-                    self.step = Some(Open {
-                        tx,
-                        phase: phase_of(&decided),
-                    });
+                    self.step = Some(Open { tx, phase: phase_of(&decided) });
                 } else {
                     self.end(tx, slot);
                 }
@@ -67,7 +64,7 @@ impl Machine {
     }
 
     // Ends the transaction at a place of the table, of which no block is due.
-    fn end(&mut self, tx: Tx, slot: usize)
+    pub(crate) fn end(&mut self, tx: Tx, slot: usize)
         requires step { self.old.certifier.state.step ≡ Some tx }
         requires slot { slot < length self.old.running.items }
         ensures { EndsAt (parts_of self.old) (parts_of self.new) tx slot }
@@ -146,11 +143,17 @@ fn reply_of(decided: &Decided) -> Reply
 }
 
 // Whether a block of the open step is still due.
-fn is_due(places: &[Place]) -> bool
+pub(crate) fn is_due(places: &[Place]) -> bool
     ensures { IsTrue result ↔ Any (λ p. p.part ≡ Due) places.now }
 {
-    places.iter().any(|place| match place.part {
+    places.iter().any(|place| is_due_at(place))
+}
+
+fn is_due_at(place: &Place) -> bool
+    ensures { IsTrue result ↔ (place.now.part ≡ Due) }
+{
+    match place.part {
         Part::Due => true,
         _ => false,
-    })
+    }
 }

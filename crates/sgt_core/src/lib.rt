@@ -5,6 +5,7 @@ mod bundling;
 mod deciding;
 mod driver;
 mod gathering;
+mod installing;
 mod laws;
 mod machine;
 mod reply;

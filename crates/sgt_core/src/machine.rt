@@ -295,24 +295,6 @@ impl Machine {
         self.step = None;
     }
 
-    /// The transaction's block is written at the site. None is decided yet.
-    pub(crate) fn install(&mut self, tx: Tx, site: SiteNo) -> Reply
-        requires { Stands (parts_of self.old) }
-        ensures { GoesOn (λ c d. MayStep c (event.Install tx site) result d) (parts_of self.old) (parts_of self.new) }
-    {
-        match self.slot_of(tx) {
-            Ok(_) => {}
-            Err(fault) => return refused(fault),
-        }
-        if self.other_step(tx) {
-            return refused(CoreFault::StepOpen);
-        }
-        if site.number() as usize >= self.places.len() {
-            return refused(CoreFault::UnknownItem);
-        }
-        refused(CoreFault::NotGathered)
-    }
-
     /// The transaction reads the item.
     pub(crate) fn read(&mut self, tx: Tx, site: SiteNo, item: Item) -> Reply
         requires { Stands (parts_of self.old) }
