@@ -1,5 +1,5 @@
 -- A transaction is withdrawn, while no step is open.
-use Rattle.std.proofs.Common.{◌≡◌, ◌≤◌, ◌+◌, ◌++◌, ℕ, suc, true, false, List, [], ◌∷◌, length, map, refl, sym, ◌∙◌, arith, inl, inr, Contains, Option, Some, None, subst, ap, ap₂}
+use Rattle.std.proofs.Common.{◌≡◌, ◌<◌, ◌≤◌, ◌+◌, ◌++◌, ℕ, suc, true, false, List, [], ◌∷◌, length, map, refl, sym, ◌∙◌, arith, inl, inr, Contains, Option, Some, None, subst, ap, ap₂}
 use Rattle.std.specs.Prelude.{◌==◌, not, slice_get, slice_set, cond}
 use Rattle.std.proofs.lemmas.Bool.{cases_Bool, cases_eq, eq-eqb, ne_eqb, true≢false}
 use Rattle.std.proofs.lemmas.List.{append-nil, length-map, length-set}
@@ -11,6 +11,7 @@ use Rattle.sgt_names.specs.declared.entry.Entry.TheVariants as entry
 use Rattle.sgt_names.proofs.Lists.{within_at}
 use Rattle.sgt_names.proofs.Places.{Contains-from_at}
 use Rattle.sgt_order.proofs.Lists.{get_set_same, get_set_other}
+use Rattle.sgt_arena.specs.declared.handle.Handle.{Handle}
 use Rattle.sgt_site.specs.State.{SiteState, Pledge, IsPledged, KeepsReads, withdraw_block}
 use Rattle.sgt_site.proofs.Appends.{LogsRead-append, LogsRead-cases}
 use Rattle.sgt_certifier.specs.Certifier.{State, without, with_withdrawn}
@@ -40,6 +41,22 @@ same_maps f [] [] long h = refl
 same_maps f [] (y ∷ ys) long h = absurd (omega (arith, long))
 same_maps f (x ∷ xs) [] long h = absurd (omega (arith, long))
 same_maps f (x ∷ xs) (y ∷ ys) long h = ap (λ z. z ∷ map f xs) (h 0 x y refl refl) ∙ ap (λ zs. f y ∷ zs) (same_maps f xs ys (omega (arith, long)) (λ k. h (suc k)))
+
+-- one more place of the list is done
+module _ (R : Place → Place → Type 0) (old now : List Place) (at : ℕ) (p q : Place) (there : slice_get now at ≡ Some p)
+    (done : (k : ℕ) (v w : Place) → k < at → slice_get old k ≡ Some v → slice_get now k ≡ Some w → R v w) (rest : (k : ℕ) → at ≤ k → slice_get now k ≡ slice_get old k) (one : R p q) where
+  pub done_more : (k : ℕ) (v w : Place) → k < at + 1 → slice_get old k ≡ Some v → slice_get (slice_set now at q) k ≡ Some w → R v w
+  done_more k v w lt at_v at_w = elim (cases_eq k at) [
+    | inl is ↦
+        let here : slice_get (slice_set now at q) at ≡ Some q = get_set_same now at q (slice_get_within now at p there) in
+        let same_w : q ≡ w = same_Some q w (sym here ∙ (ap (slice_get (slice_set now at q)) (sym is) ∙ at_w)) in
+        let same_v : p ≡ v = same_Some p v (sym there ∙ (rest at (omega arith) ∙ (ap (slice_get old) (sym is) ∙ at_v))) in
+        subst (λ (x : Place). R x w) same_v (subst (R p) same_w one)
+    | inr ne ↦ done k v w (omega (arith, lt, ne)) at_v (sym (get_set_other now at k q ne) ∙ at_w)
+  ]
+
+  pub rest_more : (k : ℕ) → at + 1 ≤ k → slice_get (slice_set now at q) k ≡ slice_get old k
+  rest_more k le = let ne : k ≡ at → ⊥ = λ e. omega (arith, e, le) in get_set_other now at k q ne ∙ rest k (omega (arith, le))
 
 -- a withdrawal is no read
 reads_stay : (es more : List Entry) (tx i : ℕ) (kept : List (Name × ℕ × ℕ)) → ((f : Entry) → Contains more f → f ≡ entry.Withdraw tx) → KeepsReads es i kept → KeepsReads (es ++ more) i kept
@@ -127,7 +144,7 @@ module _ (m : Parts) (c : CoreState) (s : StandsFor m c) (none : m.step ≡ None
 
     module _ (new : Parts) (w : WithdrawsAt m new tx slot) where
       abbrev r : Running
-      r = w.running
+      r = w.offers.running
 
       abbrev d : CoreState
       d = record (with_entries c (withdrawn_block c tx)) { certifier = with_withdrawn c.certifier tx }
@@ -136,7 +153,7 @@ module _ (m : Parts) (c : CoreState) (s : StandsFor m c) (none : m.step ≡ None
       n = record m { places = new.places; certifier = new.certifier; table = slice_set m.table slot None }
 
       own : IsRunning c m.before slot r
-      own = s.running slot (Some r) w.there
+      own = s.running slot (Some r) w.offers.there
 
       touched_there : (t : ℕ) → touches c tx t ≡ true → Touches r.draft.touched t
       touched_there t hit = touches_draft c (reached_kept c s.reached) m.before slot t r own (λ e. let f : Some (suc (m.before + slot)) ≡ None = sym e ∙ undecided in absurd cc) (subst (λ i. touches c i t ≡ true) h.0 hit)
@@ -169,14 +186,14 @@ module _ (m : Parts) (c : CoreState) (s : StandsFor m c) (none : m.step ≡ None
           ]
 
       long_new : length new.places ≡ length m.places
-      long_new = let a = w.pledges.long in let b = w.places.long in omega (arith, a, b)
+      long_new = let a = w.offers.pledges.long in let b = w.places.long in omega (arith, a, b)
 
       each_new : (t : ℕ) (p q : Place) → slice_get m.places t ≡ Some p → slice_get new.places t ≡ Some q → q ≡ with_block t p
       each_new t p q at_p at_q =
-          let first = w.pledges.long in
+          let first = w.offers.pledges.long in
           let lt = slice_get_within m.places t p at_p in
           let x = within_at w.pledged t (omega (arith, lt, first)) in
-          block_there t p x.0 q at_p (w.pledges.each t p x.0 at_p x.1) (w.places.each t x.0 q x.1 at_q)
+          block_there t p x.0 q at_p (w.offers.pledges.each t p x.0 at_p x.1) (w.places.each t x.0 q x.1 at_q)
 
       withdrawn_part : (t : ℕ) (p : Place) (part : Part) → IsPart m c t p part → IsPart n d t (with_block t p) part
       withdrawn_part t p Idle is = (refl, is.1, is.2)
@@ -210,7 +227,7 @@ module _ (m : Parts) (c : CoreState) (s : StandsFor m c) (none : m.step ≡ None
       withdrawn_slot : (k : ℕ) (o : Option Running) → slice_get (slice_set m.table slot None) k ≡ Some o → RunsAt d m.before k o
       withdrawn_slot k o at = elim (cases_eq k slot) [
         | inl is ↦
-            let here : slice_get (slice_set m.table slot None) slot ≡ Some None = get_set_same m.table slot None (slice_get_within m.table slot (Some r) w.there) in
+            let here : slice_get (slice_set m.table slot None) slot ≡ Some None = get_set_same m.table slot None (slice_get_within m.table slot (Some r) w.offers.there) in
             let same : None ≡ o = same_Some None o (sym here ∙ (ap (slice_get (slice_set m.table slot None)) (sym is) ∙ at)) in
             subst (λ (v : Option Running). RunsAt d m.before k v) same (λ active. not_without tx c.certifier.active
             (subst (Contains (without tx c.certifier.active)) (sym (h.0 ∙ ap (λ j. suc (m.before + j)) (sym is))) active))
@@ -221,8 +238,8 @@ module _ (m : Parts) (c : CoreState) (s : StandsFor m c) (none : m.step ≡ None
       withdrawn_certifier =
           let same = s.certifier.same in
           let number : suc (m.certifier.state.before + r.handle.index) ≡ tx =
-          ap₂ (λ (a b : ℕ). suc (a + b)) (sym (ap (λ (st : State). st.before) same) ∙ s.before) (ap (λ (g : Rattle.sgt_arena.specs.declared.handle.Handle.Handle). g.index) own.handle) ∙ sym h.0 in
-          let is : new.certifier.state ≡ with_withdrawn m.certifier.state tx = w.adds.serves.1.1 ∙ ap (with_withdrawn m.certifier.state) number in
+          ap₂ (λ (a b : ℕ). suc (a + b)) (sym (ap (λ (st : State). st.before) same) ∙ s.before) (ap (λ (g : Handle). g.index) own.handle) ∙ sym h.0 in
+          let is : new.certifier.state ≡ with_withdrawn m.certifier.state tx = (w.adds.serves.1.1 ∙ ap (λ (g : Handle). with_withdrawn m.certifier.state (suc (m.certifier.state.before + g.index))) w.offers.handle_is) ∙ ap (with_withdrawn m.certifier.state) number in
           subst (λ (st : State). Carries st (with_withdrawn c.certifier tx)) (sym is) (record { same = ap (λ (st : State). with_withdrawn st tx) same; fewer = s.certifier.fewer; lead = s.certifier.lead })
 
       pub withdraw_goes : (e : CoreState) × MayStep c (Withdraw tx) Withdrawn e × StandsFor new e

@@ -1,15 +1,16 @@
 //! A transaction is withdrawn: its block at each site that it touches, for which room is made before.
 
-ghost use Rattle.std.specs.Prelude.{◌≡◌, Some, None, slice_get, OnOk, OnErr};
+ghost use Rattle.std.specs.Prelude.{◌≡◌, Some, None, slice_get, IfOk, OnOk, OnErr};
 ghost use Rattle.sgt_notation.specs.declared.event.Event.TheVariants as event;
 ghost use Rattle.sgt_core.specs.Step.{MayStep};
 ghost use Rattle.sgt_core.specs.Machine.{parts_of, Stands, GoesOn};
-ghost use Rattle.sgt_core.specs.private.Withdrawing.{IsOffered, AreOffered, IsPledgedBy, ArePledgedBy, IsWithdrawn, AreWithdrawn, WithdrawsAt};
+ghost use Rattle.sgt_core.specs.private.Withdrawing.{IsOffered, AreOffered, IsPledgedBy, ArePledgedBy, IsWithdrawn, AreWithdrawn, OffersAt, WithdrawsAt};
 ghost use Rattle.sgt_core.specs.declared.machine.Running.{Running as ARunning};
 
 use crate::gathering::release_all;
-use crate::machine::{Machine, Place, refused};
+use crate::machine::{Machine, Place, Running, refused};
 use crate::reply::{CoreFault, Reply};
+use sgt_arena::Handle;
 use sgt_names::{Draft, Tx};
 use sgt_site::SiteFault;
 
@@ -42,18 +43,13 @@ impl Machine {
         ensures offered { OnErr result (AreOffered tx self.old.places.items self.new.places.items) }
         ensures rest { OnErr result (parts_of self.new ≡ record (parts_of self.old) { places = self.new.places.items }) }
     {
-        let handle = match &self.running[slot] {
-            Some(running) => {
-                if offer_all(&mut self.places, tx, &running.draft).is_err() {
-                    return Err(CoreFault::Memory);
-                }
-                running.handle
-            }
-            None => unreachable!(),
-        };
-        if self.certifier.withdraw(handle).is_err() {
+        let table = self.running.as_slice();
+        let Ok(handle) = offer_at(&mut self.places, table, slot, tx) else {
             return Err(CoreFault::Memory);
-        }
+        };
+        let Ok(_number) = self.certifier.withdraw(handle) else {
+            return Err(CoreFault::Memory);
+        };
         withdraw_all(&mut self.places, tx);
         self.running[slot] = None;
         Ok(())
@@ -84,6 +80,26 @@ fn offer_all(places: &mut Vec<Place>, tx: Tx, draft: &Draft) -> Result<(), SiteF
         }
     }
     Ok(())
+}
+
+// Makes room for the block of the transaction at a place of the table at each site that it touches, and answers its handle.
+fn offer_at(
+    places: &mut Vec<Place>,
+    table: &[Option<Running>],
+    slot: usize,
+    tx: Tx,
+) -> Result<Handle, SiteFault>
+    requires { (r : ARunning) × (slice_get table.now slot ≡ Some (Some r)) }
+    ensures offered { AreOffered tx places.old.items places.new.items }
+    ensures ok { IfOk result (λ handle. OffersAt places.old.items places.new.items table.now slot tx handle) }
+{
+    match &table[slot] {
+        Some(running) => match offer_all(places, tx, &running.draft) {
+            Ok(()) => Ok(running.handle),
+            Err(fault) => Err(fault),
+        },
+        None => unreachable!(),
+    }
 }
 
 // Writes the block of a transaction at a site where its pledge stands.

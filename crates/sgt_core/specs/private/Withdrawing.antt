@@ -2,6 +2,7 @@
 use Rattle.std.specs.Prelude.{◌≡◌, ◌⊎◌, ◌↔◌, ℕ, List, ◌++◌, length, Option, Some, None, slice_get, slice_set}
 use Rattle.sgt_names.specs.Draft.{Touches}
 use Rattle.sgt_names.specs.declared.draft.Touch.{Touch}
+use Rattle.sgt_arena.specs.declared.handle.Handle.{Handle}
 use Rattle.sgt_site.specs.State.{IsPledged, withdraw_block}
 use Rattle.sgt_certifier.specs.Kept.{Kept, Adds}
 use Rattle.sgt_certifier.specs.declared.call.Call.TheVariants as call
@@ -38,13 +39,19 @@ pub record AreWithdrawn (tx : ℕ) (old new : List Place) : Type 0 where
   pub long : length new ≡ length old
   pub each : (k : ℕ) (p q : Place) → slice_get old k ≡ Some p → slice_get new k ≡ Some q → IsWithdrawn tx p q
 
+-- the pledge of the transaction at this place of the table, which has this handle, stands wherever it touches
+pub record OffersAt (old new : List Place) (table : List (Option Running)) (slot tx : ℕ) (handle : Handle) : Type 0 where
+  pub running : Running
+  pub there : slice_get table slot ≡ Some (Some running)
+  pub handle_is : handle ≡ running.handle
+  pub pledges : ArePledgedBy tx running.draft.touched old new
+
 -- the transaction at this place of the table is withdrawn
 pub record WithdrawsAt (old new : Parts) (tx slot : ℕ) : Type 0 where
-  pub running : Running
-  pub there : slice_get old.table slot ≡ Some (Some running)
+  pub handle : Handle
   pub pledged : List Place
-  pub pledges : ArePledgedBy tx running.draft.touched old.places pledged
+  pub offers : OffersAt old.places pledged old.table slot tx handle
   pub places : AreWithdrawn tx pledged new.places
   pub number : ℕ
-  pub adds : Adds old.certifier (call.Withdraw running.handle number) new.certifier
+  pub adds : Adds old.certifier (call.Withdraw handle number) new.certifier
   pub is : new ≡ record old { places = new.places; certifier = new.certifier; table = slice_set old.table slot None }
