@@ -19,6 +19,10 @@ pub mod Cycles
 pub mod Determined
 pub mod Going
 pub mod Committing
+pub mod WholeCommits
+pub mod WholeGoing
+pub mod TouchedSites
+pub mod Withdrawals
 pub mod Total
 pub mod Examples
 pub mod Refusals

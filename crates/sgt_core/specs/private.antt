@@ -1,3 +1,5 @@
--- Words of clauses of private functions.
+-- Words of private clauses.
 pub mod Decided
+pub mod Whole
+pub mod Withdrawing
 pub mod Installing

@@ -9,6 +9,8 @@ mod installing;
 mod laws;
 mod machine;
 mod reply;
+mod whole;
+mod withdrawing;
 
 pub use driver::Core;
 pub use laws::{

@@ -12,7 +12,7 @@ ghost use Rattle.sgt_core.specs.declared.machine.Part.TheVariants.{Idle};
 ghost use Rattle.sgt_core.specs.declared.machine.Place.{Place as APlace};
 ghost use Rattle.sgt_core.specs.Core.{CoreState, fresh};
 ghost use Rattle.sgt_core.specs.Gathered.{GathersAt, AreReleased};
-ghost use Rattle.sgt_core.specs.Step.{IsOwnOpen, IsOtherOpen, IsOfSite, tx_in, IsRefused, MayStep, MayDecide};
+ghost use Rattle.sgt_core.specs.Step.{IsOwnOpen, IsOtherOpen, IsOfSite, tx_in, IsRefused, MayStep};
 ghost use Rattle.sgt_core.specs.Machine.{parts_of, StandsFor, Stands, GoesOn, IsSlotOf, RefusesItem, RefusesSites, AreOpened, Redrafts, ChangesTo, ReadsTo, ReadsAt, HasRoomAt, close_fault};
 ghost use Rattle.sgt_core.specs.declared.machine.Running.{Running as ARunning};
 
@@ -295,51 +295,6 @@ impl Machine {
         self.step = None;
     }
 
-    /// The transaction is committed or refused, as a whole. It gives up with E9 for now.
-    pub(crate) fn commit(&mut self, tx: Tx) -> Reply
-        requires { Stands (parts_of self.old) }
-        ensures { GoesOn (λ c d. MayStep c (event.Commit tx) result d) (parts_of self.old) (parts_of self.new) }
-    {
-        match self.slot_of(tx) {
-            Ok(_) => {}
-            Err(fault) => return refused(fault),
-        }
-        if self.step.is_some() {
-            return refused(CoreFault::StepOpen);
-        }
-        refused(CoreFault::Memory)
-    }
-
-    /// The transaction is gathered wherever it touches, and decided. It gives up with E9 for now.
-    pub(crate) fn to_decide(&mut self, tx: Tx) -> Reply
-        requires { Stands (parts_of self.old) }
-        ensures { GoesOn (λ c d. MayDecide c tx result d) (parts_of self.old) (parts_of self.new) }
-    {
-        match self.slot_of(tx) {
-            Ok(_) => {}
-            Err(fault) => return refused(fault),
-        }
-        if self.step.is_some() {
-            return refused(CoreFault::StepOpen);
-        }
-        refused(CoreFault::Memory)
-    }
-
-    /// The transaction is withdrawn. It gives up with E9 for now.
-    pub(crate) fn withdraw(&mut self, tx: Tx) -> Reply
-        requires { Stands (parts_of self.old) }
-        ensures { GoesOn (λ c d. MayStep c (event.Withdraw tx) result d) (parts_of self.old) (parts_of self.new) }
-    {
-        match self.slot_of(tx) {
-            Ok(_) => {}
-            Err(fault) => return refused(fault),
-        }
-        if self.step.is_some() {
-            return refused(CoreFault::StepOpen);
-        }
-        refused(CoreFault::Memory)
-    }
-
     /// The transaction reads the item.
     pub(crate) fn read(&mut self, tx: Tx, site: SiteNo, item: Item) -> Reply
         requires { Stands (parts_of self.old) }
@@ -499,7 +454,7 @@ fn keep_at(table: &mut Vec<Option<Running>>, slot: usize, site: SiteNo, item: It
 }
 
 // Whether the transaction at a place of the table touches the site.
-fn touches(table: &[Option<Running>], slot: usize, site: SiteNo) -> bool
+pub(crate) fn touches(table: &[Option<Running>], slot: usize, site: SiteNo) -> bool
     requires { slot < length table.now }
     ensures { (r : ARunning) → slice_get table.now slot ≡ Some (Some r) → IsTrue result ↔ Touches r.draft.touched site }
 {
