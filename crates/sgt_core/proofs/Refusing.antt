@@ -11,7 +11,7 @@ use Rattle.sgt_names.proofs.Places.{Contains-from_at}
 use Rattle.sgt_certifier.proofs.Members.{nil_none}
 use Rattle.sgt_core.proofs.Walks.{untouched_outside}
 use Rattle.sgt_notation.specs.declared.event.Event.{Event}
-use Rattle.sgt_notation.specs.declared.event.Event.TheVariants.{Gather, Decide, Install as Write, Commit, Withdraw}
+use Rattle.sgt_notation.specs.declared.event.Event.TheVariants.{Gather, Decide, Install as Write}
 use Rattle.sgt_core.specs.declared.reply.Reply.{Reply}
 use Rattle.sgt_core.specs.declared.reply.Reply.TheVariants.{Fault}
 use Rattle.sgt_core.specs.declared.reply.CoreFault.{CoreFault}
@@ -21,22 +21,19 @@ use Rattle.sgt_core.specs.declared.machine.Part.{Part}
 use Rattle.sgt_core.specs.declared.machine.Part.TheVariants.{Idle, Due, Written}
 use Rattle.sgt_core.specs.declared.machine.Open.{Open}
 use Rattle.sgt_core.specs.Core.{CoreState, OpenStep, touches}
-use Rattle.sgt_core.specs.Step.{StepIs, IsOtherOpen, IsGathered, IsDecided, gathered_in, tx_in, Fails, fault_place, IsRefused, IsAllowed, MayStep, MayDecide}
+use Rattle.sgt_core.specs.Step.{StepIs, IsOtherOpen, IsGathered, IsDecided, gathered_in, tx_in, Fails, fault_place, IsRefused, IsAllowed, MayStep}
 use Rattle.sgt_core.specs.Machine.{Parts, IsPart, IsStep, StandsFor, IsSlotOf}
-use Rattle.sgt_core.proofs.Standing.{core_closed, reached_kept}
+use Rattle.sgt_core.proofs.Standing.{reached_kept}
 use Rattle.sgt_core.proofs.Runs.{touching_there}
 use Rattle.sgt_core.proofs.Total.{refused-answered}
 use Rattle.sgt_core.proofs.Redrafting.{slot_begun, slot_active}
-use Rattle.sgt_core.proofs.Touching.{touches_draft, draft_touches, step_refused, gather_beyond, gather_again, gather_untouched, gather_allowed, decide_untimely, decide_done, decide_allowed, install_beyond, install_undecided, commit_allowed, withdraw_allowed}
+use Rattle.sgt_core.proofs.Touching.{touches_draft, draft_touches, step_refused, gather_beyond, gather_again, gather_untouched, gather_allowed, decide_untimely, decide_done, decide_allowed, install_beyond, install_undecided}
 
 abbrev pub Goes : Parts → CoreState → Event → Reply → Type 0
 Goes m c event reply = (d : CoreState) × MayStep c event reply d × StandsFor m d
 
 pub refused_goes : (m : Parts) (c : CoreState) → StandsFor m c → (event : Event) (f : CoreFault) (reply : Reply) → reply ≡ Fault f → IsRefused c event f → Goes m c event reply
 refused_goes m c s event f reply e r = (c, subst (λ q. MayStep c event q c) (sym e) (refused-answered c event f r), s)
-
-pub memory_goes : (m : Parts) (c : CoreState) → StandsFor m c → (event : Event) (reply : Reply) → reply ≡ Fault fault.Memory → MayStep c event (Fault fault.Memory) c → Goes m c event reply
-memory_goes m c s event reply e may = (c, subst (λ q. MayStep c event q c) (sym e) may, s)
 
 pub site_count : (m : Parts) (c : CoreState) → StandsFor m c → length c.items ≡ length m.places
 site_count m c s = ap length s.items ∙ length-map m.places (λ (p : Place). p.site.items)
@@ -90,9 +87,6 @@ module _ (m : Parts) (c : CoreState) (s : StandsFor m c) (tx slot : ℕ) (h : Is
 
   pub step_open : (event : Event) → tx_in event ≡ Some tx → Fails c event fault.StepOpen → (reply : Reply) → reply ≡ Fault fault.StepOpen → Goes m c event reply
   step_open event is fails reply e = refused_goes m c s event fault.StepOpen reply e (step_refused c tx begun active event is fails)
-
-  pub decision_step_open : (c.step ≡ None → ⊥) → (reply : Reply) → reply ≡ Fault fault.StepOpen → (d : CoreState) × MayDecide c tx reply d × StandsFor m d
-  decision_step_open some reply e = (c, subst (λ q. MayDecide c tx q c) (sym e) (step_refused c tx begun active (Commit tx) refl some, refl), s)
 
   module _ (no_other : IsOtherOpen c tx → ⊥) where
     pub gathered_there : (t : ℕ) (p : Place) → slice_get m.places t ≡ Some p → (p.part ≡ Idle → ⊥) → IsGathered c tx t
@@ -187,22 +181,6 @@ module _ (m : Parts) (c : CoreState) (s : StandsFor m c) (tx slot : ℕ) (h : Is
         let count = site_count m c s in
         refused_goes m c s (Write tx t) fault.NotGathered reply e (install_undecided c tx begun active no_other t (omega (arith, inside, count)) undecided)
 
-  module _ (none : m.step ≡ None) where
-    closed : c.step ≡ None
-    closed = core_closed m c s none
-
-    no_step : c ≡ record c { step = None }
-    no_step = ap (λ o. record c { step = o }) closed
-
-    pub commit_gives_up : (reply : Reply) → reply ≡ Fault fault.Memory → Goes m c (Commit tx) reply
-    commit_gives_up reply e = memory_goes m c s (Commit tx) reply e (commit_allowed c tx begun active closed, no_step)
-
-    pub decision_gives_up : (reply : Reply) → reply ≡ Fault fault.Memory → (d : CoreState) × MayDecide c tx reply d × StandsFor m d
-    decision_gives_up reply e = (c, subst (λ q. MayDecide c tx q c) (sym e) (commit_allowed c tx begun active closed, no_step), s)
-
-    pub withdraw_gives_up : (reply : Reply) → reply ≡ Fault fault.Memory → Goes m c (Withdraw tx) reply
-    withdraw_gives_up reply e = memory_goes m c s (Withdraw tx) reply e (withdraw_allowed c tx begun active closed, refl)
-
 -- a step is open where the machine has one
 pub some_open : (m : Parts) (c : CoreState) (o : Option Open) → is_some o ≡ true → IsStep m c o → c.step ≡ None → ⊥
 some_open m c None e h none = absurd cc
@@ -224,11 +202,3 @@ untimely c event is h = (h, first)
     first fault.GenerationsSpent lt k = absurd (omega arith)
     first fault.NumbersSpent lt k = absurd (omega arith)
     first fault.NotTouched lt k = absurd (omega arith)
-
-pub decision_refused : (m : Parts) (c : CoreState) → StandsFor m c → (tx : ℕ) (f : CoreFault) (reply : Reply) → reply ≡ Fault f → IsRefused c (Commit tx) f
-    → (d : CoreState) × MayDecide c tx reply d × StandsFor m d
-decision_refused m c s tx f reply e r = (c, subst (λ q. MayDecide c tx q c) (sym e) (by_fault f r), s)
-  where
-    by_fault : (g : CoreFault) → IsRefused c (Commit tx) g → MayDecide c tx (Fault g) c
-    by_fault fault.Memory r = absurd r.0
-    by_fault g r = (r, refl)

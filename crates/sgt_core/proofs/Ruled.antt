@@ -95,7 +95,7 @@ module _ (m : Parts) (c : CoreState) (s : StandsFor m c) (tx slot : ℕ) (number
       phase = λ n e o is mine. (
         ap (λ (st : State). st.step) is ∙ ap Some (sym mine),
         subst (λ (st : State). Contains st.order o.tx) (sym is)
-        (subst (Contains d.places) (sym mine) (subst (λ ps. Contains ps tx) (sym d.placed.2) (placed_self d.placed.0 m.certifier.state.order tx))),
+            (subst (Contains d.places) (sym mine) (subst (λ ps. Contains ps tx) (sym d.placed.2) (placed_self d.placed.0 m.certifier.state.order tx))),
       );
       some = λ t hit none. not_empty _ _ (sym (ap (λ b. cond b (commit_block tx (c.changes tx t)) []) hit) ∙ none);
       none = λ t miss. ap (λ b. cond b (commit_block tx (c.changes tx t)) []) miss;

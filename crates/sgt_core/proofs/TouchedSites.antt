@@ -1,6 +1,6 @@
 -- The sites that an active transaction touches, by its draft, and when it may be committed.
-use Rattle.std.proofs.Common.{◌≡◌, ◌<◌, ◌≤◌, ◌+◌, ℕ, zero, suc, Bool, true, false, List, [], ◌∷◌, ◌++◌, length, refl, sym, ◌∙◌, arith, inl, inr, Some, None, subst, ap}
-use Rattle.std.specs.Prelude.{slice_get, filter, ◌↔◌}
+use Rattle.std.proofs.Common.{◌≡◌, ◌≤◌, ◌+◌, ℕ, zero, suc, Bool, true, false, List, [], ◌∷◌, ◌++◌, length, refl, sym, ◌∙◌, arith, inl, inr, Some, None, subst, ap}
+use Rattle.std.specs.Prelude.{filter}
 use Rattle.std.specs.List.{range_with_len}
 use Rattle.std.proofs.lemmas.Bool.{cases_Bool}
 use Rattle.std.proofs.lemmas.List.{append-nil, length-map}
@@ -9,15 +9,14 @@ use Rattle.sgt_names.specs.Limits.{max_sites}
 use Rattle.sgt_names.specs.Draft.{Touches}
 use Rattle.sgt_names.specs.declared.draft.Touch.{Touch}
 use Rattle.sgt_notation.specs.declared.event.Event.TheVariants.{Commit}
-use Rattle.sgt_core.specs.declared.reply.CoreFault.TheVariants as fault
 use Rattle.sgt_core.specs.declared.machine.Place.{Place}
 use Rattle.sgt_core.specs.Core.{CoreState, touches}
-use Rattle.sgt_core.specs.Step.{IsRefused, IsAllowed}
+use Rattle.sgt_core.specs.Step.{IsAllowed}
 use Rattle.sgt_core.specs.Machine.{Parts, StandsFor, IsSlotOf}
 use Rattle.sgt_core.specs.private.Whole.{AreTouched, IsWhole}
 use Rattle.sgt_core.proofs.Standing.{reached_kept, core_closed, certifier_closed}
 use Rattle.sgt_core.proofs.Redrafting.{slot_begun, slot_active}
-use Rattle.sgt_core.proofs.Touching.{touches_draft, draft_touches, step_refused, commit_allowed}
+use Rattle.sgt_core.proofs.Touching.{touches_draft, draft_touches, commit_allowed}
 
 -- ---- one number further
 

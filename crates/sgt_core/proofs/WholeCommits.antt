@@ -1,5 +1,5 @@
 -- A transaction is gathered wherever it touches, decided, and its blocks are written.
-use Rattle.std.proofs.Common.{◌≡◌, ◌<◌, ◌≤◌, ◌+◌, ℕ, zero, suc, Bool, true, false, List, [], ◌∷◌, ◌++◌, length, map, take, drop, refl, sym, ◌∙◌, arith, inl, inr, Contains, Option, Some, None, subst, ap, append_assoc}
+use Rattle.std.proofs.Common.{◌≡◌, ◌<◌, ◌≤◌, ℕ, zero, suc, true, List, [], ◌∷◌, ◌++◌, length, map, take, refl, sym, ◌∙◌, arith, inl, inr, Contains, Option, Some, None, subst, ap, append_assoc}
 use Rattle.std.specs.Prelude.{slice_get}
 use Rattle.std.proofs.lemmas.Bool.{cases_eq}
 use Rattle.std.proofs.lemmas.List.Elements.{Contains-append_cases, Contains-append_left, Contains-append_right}
@@ -14,13 +14,13 @@ use Rattle.sgt_core.specs.declared.reply.Reply.TheVariants.{Yes, No, Gathered, I
 use Rattle.sgt_core.specs.declared.reply.CoreFault.{CoreFault}
 use Rattle.sgt_core.specs.declared.reply.CoreFault.TheVariants as fault
 use Rattle.sgt_core.specs.Core.{OpenStep, CoreState, sites_of, with_entries, only_at, changed_at, touches, touched, committed_block, refused_block, decided, noted, installed}
-use Rattle.sgt_core.specs.Step.{StepIs, IsOtherOpen, gathered_in, IsGathered, IsRefused, IsAllowed, ServesAll, MayDecide, MayStep}
-use Rattle.sgt_core.specs.private.Whole.{IsWhole, RefusesWhole, GathersAll, IsBlockDue, AwaitsBlocks, DecidesWhole, InstallsAll}
+use Rattle.sgt_core.specs.Step.{StepIs, gathered_in, IsRefused, IsAllowed, ServesAll, MayDecide, MayStep}
+use Rattle.sgt_core.specs.private.Whole.{RefusesWhole, GathersAll, IsBlockDue, AwaitsBlocks, DecidesWhole, InstallsAll}
 use Rattle.sgt_core.proofs.Kept.{IsKept}
 use Rattle.sgt_core.proofs.Cycles.{AreDistinct}
 use Rattle.sgt_core.proofs.LegalSteps.{cleared_there}
 use Rattle.sgt_core.proofs.Runs.{is_active, at_most, none_open, idle, noted-step}
-use Rattle.sgt_core.proofs.Committing.{append-all, in_range, range-distinct, filter-distinct, IsGoing, IsToGather, gather_allowed, decide_allowed, IsToWrite, write_allowed, stays_open, noted_active, noted_begun, still_touched, some_block}
+use Rattle.sgt_core.proofs.Committing.{append-all, in_range, range-distinct, filter-distinct, IsGoing, gather_allowed, decide_allowed, write_allowed, stays_open, noted_active, noted_begun, still_touched, some_block}
 
 -- ---- lists
 

@@ -1,8 +1,8 @@
 -- A transaction is withdrawn, while no step is open.
-use Rattle.std.proofs.Common.{◌≡◌, ◌<◌, ◌≤◌, ◌+◌, ◌++◌, ℕ, suc, true, false, List, [], ◌∷◌, length, map, refl, sym, ◌∙◌, arith, inl, inr, Contains, Option, Some, None, subst, ap, ap₂}
-use Rattle.std.specs.Prelude.{◌==◌, not, slice_get, slice_set, cond}
+use Rattle.std.proofs.Common.{◌≡◌, ◌<◌, ◌≤◌, ◌+◌, ◌++◌, ℕ, suc, true, List, [], ◌∷◌, length, map, refl, sym, ◌∙◌, arith, inl, inr, Contains, Option, Some, None, subst, ap, ap₂}
+use Rattle.std.specs.Prelude.{◌==◌, not, slice_get, slice_set}
 use Rattle.std.proofs.lemmas.Bool.{cases_Bool, cases_eq, eq-eqb, ne_eqb, true≢false}
-use Rattle.std.proofs.lemmas.List.{append-nil, length-map, length-set}
+use Rattle.std.proofs.lemmas.List.{append-nil, length-set}
 use Rattle.std.proofs.lemmas.Option.{same_Some, slice_get_within}
 use Rattle.sgt_names.specs.Name.{Name}
 use Rattle.sgt_names.specs.Draft.{Touches, at_site, kept_in}
@@ -28,7 +28,7 @@ use Rattle.sgt_core.specs.Core.{CoreState, with_entries, touches, withdrawn_bloc
 use Rattle.sgt_core.specs.Step.{gathered_in, IsAllowed, MayStep}
 use Rattle.sgt_core.specs.Machine.{Parts, Carries, IsRunning, RunsAt, IsPart, IsPlace, IsStep, StandsFor, IsSlotOf}
 use Rattle.sgt_core.specs.Gathered.{IsReleased, AreReleased}
-use Rattle.sgt_core.specs.private.Withdrawing.{IsOffered, AreOffered, IsPledgedBy, ArePledgedBy, IsWithdrawn, AreWithdrawn, WithdrawsAt}
+use Rattle.sgt_core.specs.private.Withdrawing.{IsOffered, AreOffered, IsPledgedBy, IsWithdrawn, WithdrawsAt}
 use Rattle.sgt_core.proofs.Standing.{reached_more, reached_kept, core_closed, certifier_closed}
 use Rattle.sgt_core.proofs.Redrafting.{slot_begun, slot_active}
 use Rattle.sgt_core.proofs.Touching.{touches_draft, draft_touches, withdraw_allowed}

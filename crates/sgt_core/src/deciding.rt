@@ -50,7 +50,10 @@ impl Machine {
         match rule(&mut self.certifier, self.running.as_slice(), slot, edges) {
             Ok(decided) => {
                 if is_due(self.places.as_slice()) {
-                    self.step = Some(Open { tx, phase: phase_of(&decided) });
+                    self.step = Some(Open {
+                        tx,
+                        phase: phase_of(&decided),
+                    });
                 } else {
                     self.end(tx, slot);
                 }

@@ -1,10 +1,10 @@
 -- A transaction is withdrawn: pledges at the sites that it touches, and its block there.
-use Rattle.std.specs.Prelude.{◌≡◌, ◌⊎◌, ◌↔◌, ℕ, List, ◌++◌, length, Option, Some, None, slice_get, slice_set}
+use Rattle.std.specs.Prelude.{◌≡◌, ◌⊎◌, ℕ, List, ◌++◌, length, Option, Some, None, slice_get, slice_set}
 use Rattle.sgt_names.specs.Draft.{Touches}
 use Rattle.sgt_names.specs.declared.draft.Touch.{Touch}
 use Rattle.sgt_arena.specs.declared.handle.Handle.{Handle}
 use Rattle.sgt_site.specs.State.{IsPledged, withdraw_block}
-use Rattle.sgt_certifier.specs.Kept.{Kept, Adds}
+use Rattle.sgt_certifier.specs.Kept.{Adds}
 use Rattle.sgt_certifier.specs.declared.call.Call.TheVariants as call
 use Rattle.sgt_core.specs.Machine.{Parts}
 use Rattle.sgt_core.specs.declared.machine.Place.{Place}
