@@ -2,7 +2,9 @@
 #![tactic(auto)]
 
 mod agreed;
+mod counts;
 mod fault;
 
 pub use agreed::{agrees, gather_agreed};
+pub use counts::EntryCounts;
 pub use fault::ServiceFault;

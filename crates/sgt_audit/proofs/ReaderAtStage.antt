@@ -1,12 +1,13 @@
 -- How far a text was read, against all that its reader told.
-use Rattle.std.proofs.Common.{◌≡◌, ◌≢◌, ℕ, zero, suc, ◌+◌, ◌<◌, ◌≤◌, List, [], ◌∷◌, ◌++◌, length, take, Option, Some, None, IfSome, refl, sym, ap, ◌∙◌, subst, arith, inl, inr, append_assoc}
+use Rattle.std.proofs.Common.{◌≡◌, ◌≢◌, ℕ, zero, suc, ◌+◌, ◌<◌, ◌≤◌, List, [], ◌∷◌, ◌++◌, length, take, Option, Some, None, IfSome, refl, sym, ap, ◌∙◌, subst, arith, inl, inr, ◌⊎◌, append_assoc}
 use Rattle.std.specs.Prelude.{⊤}
 use Rattle.std.specs.List.{AllByRecursion}
 use Rattle.std.proofs.lemmas.Bool.{cases_eq, cases_order}
 use Rattle.std.proofs.lemmas.List.{append-nil, length-append}
 use Rattle.std.proofs.lemmas.List.Elements.{recursion_from_All, All-cons}
 use Rattle.sgt_notation.specs.Spelling.{text_of_lines, HasNoLf}
-use Rattle.sgt_notation.specs.Lines.{Gives, Spends}
+use Rattle.sgt_notation.specs.Limits.{most_reads}
+use Rattle.sgt_notation.specs.Lines.{Gives, MetReadFault, Spends, Stream}
 use Rattle.sgt_notation.specs.declared.lines.Next.TheVariants.{Line, Cut, TooLong, End}
 use Rattle.sgt_notation.specs.declared.SectionLine.{SectionLine}
 use Rattle.sgt_audit.specs.declared.faults.Fault.{Fault}
@@ -21,17 +22,7 @@ use Rattle.sgt_audit.specs.Kept.{Means, IsStageOf}
 use Rattle.sgt_audit.specs.Progress.{Stands}
 use Rattle.sgt_audit.specs.private.NextLine.{Follows, bytes_of}
 use Rattle.sgt_audit.specs.private.Ending.{limit_of}
-use Rattle.sgt_audit.specs.private.Stops.{IsAll, IsEnded, IsJudged, IsStop}
-
--- the bytes are the lines of the stage and then what comes
-abbrev pub IsRest : Stage → Option (List ℕ) → Option (List ℕ) → Type 0
-IsRest s None coming = ⊤
-IsRest s (Some bytes) None = ⊥
-IsRest s (Some bytes) (Some rest) = bytes ≡ text_of_lines (lines_so_far s) ++ rest
-
--- the machine stands at a stage of the text, and this is the number of the next line
-abbrev pub Goes : Option (List ℕ) → Progress → Option (List ℕ) → ℕ → Type 0
-Goes told p coming n = (s : Stage) × Stands p s × IsRest s told coming × (n ≡ length (lines_so_far s) + 1)
+use Rattle.sgt_audit.specs.private.Stops.{Goes, IsAll, IsEnded, IsJudged, IsRest, IsStop}
 
 -- what the machine has kept has no fault
 stage-faultless : (k : Kept) (before : List SectionLine) (s : Stage) → Means k.second k.certificate k.sections before → IsStageOf k.second k.certificate before s → IsFaultless s
@@ -178,3 +169,23 @@ spends_on None mid new a b c first later = tt
 spends_on (Some xs) None new a b c first later = absurd first
 spends_on (Some xs) (Some ys) None a b c first later = absurd later
 spends_on (Some xs) (Some ys) (Some zs) a b c first later = omega arith
+
+pub spends-same : (a : ℕ) (told : Option (List ℕ)) → Spends a told a told
+spends-same a None = tt
+spends-same a (Some xs) = omega arith
+
+-- no read was left, so each of them took a byte
+all-spent : (told mid new : Option (List ℕ)) (reads : ℕ) → Spends 4294967295 told reads mid → Spends reads mid 0 new → IfSome told (λ bytes. most_reads ≤ length bytes)
+all-spent None mid new reads first later = tt
+all-spent (Some xs) None new reads first later = absurd first
+all-spent (Some xs) (Some ys) None reads first later = absurd later
+all-spent (Some xs) (Some ys) (Some zs) reads first later = let all : 4294967295 ≤ length xs = omega arith in all
+
+-- a read fault is one of the source, or all reads were made
+pub fault-met : (told : Option (List ℕ)) (failures : ℕ) (old new : Stream) (line : List ℕ) → old.failures ≡ failures → Spends 4294967295 told old.ahead.reads old.told → MetReadFault old line new
+    → (failures < new.failures) ⊎ IfSome told (λ bytes. most_reads ≤ length bytes)
+fault-met told failures old new line quiet spends met =
+    elim met.cause [
+      | inl failed ↦ inl (omega (arith, failed.0, quiet))
+      | inr spent ↦ inr (all-spent told old.told new.told old.ahead.reads spends spent.2)
+    ]

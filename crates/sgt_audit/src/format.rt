@@ -2,7 +2,7 @@
 
 ghost use Rattle.std.specs.Prelude.{◌≡◌, ◌↔◌, Bool, IsTrue, IfSome, IfNone};
 ghost use Rattle.sgt_notation.specs.Reading.{Finds};
-ghost use Rattle.sgt_notation.specs.Spelling.{line_text};
+ghost use Rattle.sgt_notation.specs.Spelling.{IsLine, line_text};
 ghost use Rattle.sgt_cert.specs.Text.{format_line};
 ghost use Rattle.sgt_audit.specs.Faults.{Allows, IsLineIn};
 
@@ -39,5 +39,16 @@ pub(crate) fn read_line(second: bool, line: &[u8]) -> Option<SectionLine>
     match read_section(line) {
         Ok(read) if is_allowed(second, &read) => Some(read),
         _ => None,
+    }
+}
+
+/// The line, if it is one of this format.
+pub(crate) fn allowed_line(second: bool, line: SectionLine) -> Option<SectionLine>
+    ensures { IsLine line → Finds (IsLineIn second) line_text (line_text line) result }
+{
+    if is_allowed(second, &line) {
+        Some(line)
+    } else {
+        None
     }
 }

@@ -1,11 +1,13 @@
 //! A certificate, and lines of sections behind it, none of which has a fault.
 
-ghost use Rattle.std.specs.Prelude.{◌≡◌, ◌≤◌, ◌↔◌, [], List, length, IsTrue, IfOk};
+ghost use Rattle.std.specs.Prelude.{◌≡◌, ◌≤◌, ◌↔◌, ℕ, [], List, length, IsTrue, IfOk};
+ghost use Rattle.sgt_notation.specs.Reading.{Finds};
+ghost use Rattle.sgt_notation.specs.Spelling.{IsLine, line_text};
 ghost use Rattle.sgt_notation.specs.declared.SectionLine.{SectionLine};
 ghost use Rattle.sgt_cert.specs.Text.{AreSections};
 
 use crate::faults::Fault;
-use crate::format::read_line;
+use crate::format::{allowed_line, read_line};
 use crate::judging::judge_line;
 use crate::sections::Sections;
 use crate::tracked::Tracked;
@@ -25,7 +27,7 @@ pub struct Kept {
 }
 
 impl Kept {
-    ghost use Rattle.sgt_audit.specs.Faults.{Stage};
+    ghost use Rattle.sgt_audit.specs.Faults.{IsLineIn, Stage};
     ghost use Rattle.sgt_audit.specs.Kept.{Holds, IsStageOf, Means};
     ghost use Rattle.sgt_audit.specs.private.NextLine.{AnswersLine};
     ghost use Rattle.sgt_audit.specs.private.Ending.{EndsWith, limit_of};
@@ -39,17 +41,18 @@ impl Kept {
         self.sections.are_all()
     }
 
-    /// The next line, without its LF.
-    pub(crate) fn next(&mut self, line: &[u8]) -> Result<Option<Fault>, AllocError>
+    /// The next line, of which this was read: a line of the format, or none.
+    fn follow(&mut self, read: Option<SectionLine>) -> Result<Option<Fault>, AllocError>
         ensures second { self.new.second ≡ self.old.second }
         ensures certificate { self.new.certificate ≡ self.old.certificate }
-        ensures answers { (before : List SectionLine) → Holds self.old.second self.old.certificate self.old.sections self.old.tracked before
-            → IfOk result (AnswersLine self.old.second self.old.certificate self.new.sections self.new.tracked before line.now) }
+        ensures answers { (before : List SectionLine) (l : List ℕ) → Holds self.old.second self.old.certificate self.old.sections self.old.tracked before
+            → Finds (IsLineIn self.old.second) line_text l read
+            → IfOk result (AnswersLine self.old.second self.old.certificate self.new.sections self.new.tracked before l) }
     {
         if self.sections.are_all() {
             return Ok(Some(Fault::Trailing));
         }
-        let Some(read) = read_line(self.second, line) else {
+        let Some(read) = read else {
             return Ok(Some(Fault::Notation));
         };
         if let Some(fault) = judge_line(
@@ -66,6 +69,28 @@ impl Kept {
             return Ok(Some(Fault::WalkStep));
         }
         Ok(None)
+    }
+
+    /// The next line, without its LF.
+    pub(crate) fn next(&mut self, line: &[u8]) -> Result<Option<Fault>, AllocError>
+        ensures second { self.new.second ≡ self.old.second }
+        ensures certificate { self.new.certificate ≡ self.old.certificate }
+        ensures answers { (before : List SectionLine) → Holds self.old.second self.old.certificate self.old.sections self.old.tracked before
+            → IfOk result (AnswersLine self.old.second self.old.certificate self.new.sections self.new.tracked before line.now) }
+    {
+        let read = read_line(self.second, line);
+        self.follow(read)
+    }
+
+    /// The next line, which was read already.
+    pub(crate) fn next_read(&mut self, line: SectionLine) -> Result<Option<Fault>, AllocError>
+        ensures second { self.new.second ≡ self.old.second }
+        ensures certificate { self.new.certificate ≡ self.old.certificate }
+        ensures answers { (before : List SectionLine) → Holds self.old.second self.old.certificate self.old.sections self.old.tracked before
+            → IsLine line → IfOk result (AnswersLine self.old.second self.old.certificate self.new.sections self.new.tracked before (line_text line)) }
+    {
+        let read = allowed_line(self.second, line);
+        self.follow(read)
     }
 
     /// At the end of the input, with these bytes behind the last LF: what was read, if all is there, or the fault.

@@ -1,18 +1,20 @@
 //! A text judged as its lines come from a reader.
 
-ghost use Rattle.std.specs.Prelude.{◌≡◌, ◌≢◌, ◌<◌, ◌≤◌, ◌⊎◌, [], Err, length, IfOk, IfSome, IsErrOf};
+ghost use Rattle.std.specs.Prelude.{◌≡◌, ◌≢◌, ℕ, ◌+◌, ◌^◌, ◌<◌, ◌≤◌, ◌⊎◌, List, [], Option, Err, length, IfOk, IfSome, IsErrOf};
 ghost use Rattle.sgt_notation.specs.Limits.{most_reads};
+ghost use Rattle.sgt_notation.specs.Lines.{Spends, coming, most_left};
 ghost use Rattle.sgt_audit.specs.Faults.{Stage, start};
 ghost use Rattle.sgt_audit.specs.private.Ending.{limit_of};
 ghost use Rattle.sgt_audit.specs.Progress.{Stands};
-ghost use Rattle.sgt_audit.specs.private.Stops.{IsAll, IsEnded, IsJudged, IsStop};
+ghost use Rattle.sgt_audit.specs.declared.machine.Progress.TheVariants.{Reading};
+ghost use Rattle.sgt_audit.specs.private.Stops.{FedHeld, Goes, IsAll, IsEnded, IsJudged, IsStop};
 
 use crate::faults::Fault;
 use crate::kept::Kept;
-use crate::machine::Machine;
+use crate::machine::{Machine, Progress};
 use sgt_names::{EngineFail, Source};
 use sgt_notation::{Lines, LinesFault, Next};
-use std::alloc::Global;
+use std::alloc::{AllocError, Global};
 
 /// What was judged of a text.
 #[derive(Drop)]
@@ -42,7 +44,50 @@ fn ended(machine: Machine, rest: &[u8], line: u64) -> Judged
     }
 }
 
-/// Feeds the machine line by line, up to the first fault or to the end of the input.
+/// Feeds what was kept the lines that are held whole, up to the first fault. The number is that of the next line.
+fn feed_kept(
+    kept: &mut Kept,
+    lines: &mut Lines,
+    number: &mut u64,
+) -> Result<Option<Fault>, AllocError>
+    requires { number.old + most_left lines.old ≤ 2 ^ 48 }
+    ensures goes { (all : Option (List ℕ)) (told : Option (List ℕ)) → Goes all (Reading kept.old) (coming lines.old told) number.old
+        → IfOk result (FedHeld all told (Reading kept.new) lines.new number.new) }
+    ensures spends { (told : Option (List ℕ)) → Spends lines.old.reads told lines.new.reads told }
+    ensures few { number.new + most_left lines.new ≤ number.old + most_left lines.old }
+    ensures bounded { most_left lines.new ≤ most_left lines.old }
+{
+    'lines: while let Some(line) = lines.next_held() {
+        if let Some(fault) = kept.next_read(line)? {
+            return Ok(Some(fault));
+        }
+        *number += 1;
+    }
+    Ok(None)
+}
+
+/// Feeds the machine the lines of sections that are held whole, up to the first fault. The number is that of the next line.
+fn feed_held(
+    machine: &mut Machine,
+    lines: &mut Lines,
+    number: &mut u64,
+) -> Result<Option<Fault>, AllocError>
+    requires { number.old + most_left lines.old ≤ 2 ^ 48 }
+    ensures goes { (all : Option (List ℕ)) (told : Option (List ℕ)) → Goes all machine.old.progress (coming lines.old told) number.old
+        → IfOk result (FedHeld all told machine.new.progress lines.new number.new) }
+    ensures spends { (told : Option (List ℕ)) → Spends lines.old.reads told lines.new.reads told }
+    ensures few { number.new + most_left lines.new ≤ number.old + most_left lines.old }
+    ensures bounded { most_left lines.new ≤ most_left lines.old }
+{
+    match &mut machine.progress {
+        Progress::Reading(kept) => feed_kept(kept, lines, number),
+        Progress::Start => Ok(None),
+        Progress::Headed(_) => Ok(None),
+    }
+}
+
+/// Feeds the machine line by line, up to the first fault or to the end of the input. A line that is held whole is read where it
+/// is held; each other line is copied first.
 fn feed_lines<R: Source>(
     reader: &mut R,
     lines: &mut Lines,
@@ -59,6 +104,12 @@ fn feed_lines<R: Source>(
 {
     let mut number = 1u64;
     'lines: loop {
+        if let Some(fault) = feed_held(machine, lines, &mut number)? {
+            return Ok(Stop::Faulty {
+                line: number,
+                fault,
+            });
+        }
         match lines.next(reader, line, machine.limit()) {
             Ok(Next::Line) => match machine.line(line.as_slice()) {
                 Ok(None) => number += 1,

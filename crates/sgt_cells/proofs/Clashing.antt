@@ -12,7 +12,8 @@ use Rattle.sgt_names.specs.declared.entry.Holding.{Holding}
 use Rattle.sgt_names.specs.declared.entry.Kind.{Kind}
 use Rattle.sgt_names.specs.declared.entry.Kind.TheVariants.{Wr, Rw, Ww}
 use Rattle.sgt_cert.specs.declared.certificate.Decision.{Decision}
-use Rattle.sgt_cells.specs.Records.{AreActs, act, deed_of, changes, adds, deeds_clash, ClashesWith}
+use Rattle.sgt_cells.specs.Records.{AreActs, deed_of}
+use Rattle.sgt_cells.specs.private.Deeds.{act, changes, adds, deeds_clash, ClashesWith}
 use Rattle.sgt_cells.specs.Tracks.{IsNumberOf, TracksOpen}
 use Rattle.sgt_cells.specs.declared.act.Act.{Act}
 use Rattle.sgt_cells.specs.declared.state.SiteState.{SiteState}

@@ -12,8 +12,9 @@ use Rattle.sgt_names.specs.Name.{Name}
 use Rattle.sgt_names.specs.Entry.{tx_of, item_of, is_increment, IsEnd, Reads, Writes, Repeats}
 use Rattle.sgt_names.specs.declared.entry.Entry.{Entry}
 use Rattle.sgt_names.specs.declared.entry.Entry.TheVariants.{Read, Write, Add, Want, WantAdd, Commit, Refuse, Withdraw}
-use Rattle.sgt_cells.specs.Cells.{IsPlaceOf}
-use Rattle.sgt_cells.specs.Records.{Did, IsAct, AreActs, IsRecord, IsTouched, IsOf, act, deed_of, changes, adds, acts_in, has_ended_in}
+use Rattle.sgt_cells.specs.private.Noted.{IsPlaceOf}
+use Rattle.sgt_cells.specs.Records.{Did, IsAct, AreActs, IsRecord, deed_of, acts_in, has_ended_in}
+use Rattle.sgt_cells.specs.private.Deeds.{IsTouched, IsOf, act, changes, adds}
 use Rattle.sgt_cells.specs.declared.act.Act.{Act}
 use Rattle.sgt_cells.specs.declared.act.Deed.{Deed}
 use Rattle.sgt_cells.specs.declared.record.Record.{Record}

@@ -11,7 +11,8 @@ use Rattle.sgt_names.specs.Log.{names}
 use Rattle.sgt_names.specs.declared.entry.Entry.{Entry}
 use Rattle.sgt_names.specs.declared.entry.Holding.{Holding}
 use Rattle.sgt_cert.specs.declared.certificate.Decision.{Decision}
-use Rattle.sgt_cells.specs.Cells.{IsCell, AreCells, IsPlaceOf}
+use Rattle.sgt_cells.specs.Cells.{IsCell, AreCells}
+use Rattle.sgt_cells.specs.private.Noted.{IsPlaceOf}
 use Rattle.sgt_cells.specs.declared.cell.Cell.{Cell}
 use Rattle.sgt_cells.specs.Tracks.{TracksOpen}
 use Rattle.sgt_cells.specs.declared.state.SiteState.{SiteState}

@@ -22,7 +22,8 @@ use Rattle.sgt_names.specs.declared.entry.Holding.{Holding}
 use Rattle.sgt_cert.specs.Certificate.{IsDecidedOnce}
 use Rattle.sgt_cert.specs.declared.certificate.Decision.{Decision}
 use Rattle.sgt_cells.specs.declared.cell.Cell.{Cell}
-use Rattle.sgt_cells.specs.Cells.{IsGreatest, IsRankedWith, Puts, Increments, IsCell, AreCells, IsRankOf, raised, noted}
+use Rattle.sgt_cells.specs.Cells.{IsGreatest, IsRankedWith, Puts, Increments, IsCell, AreCells, IsRankOf}
+use Rattle.sgt_cells.specs.private.Noted.{raised, noted}
 use Rattle.sgt_cells.proofs.Ranked.{greatest-left, greatest-raised, ranked-only}
 
 same-name : (x y : Name) → Some x ≡ Some y → x ≡ y

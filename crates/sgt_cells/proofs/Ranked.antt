@@ -16,7 +16,8 @@ use Rattle.sgt_cert.specs.Valid.{RiseInRank}
 use Rattle.sgt_cert.specs.declared.certificate.Decision.{Decision}
 use Rattle.sgt_cert.proofs.Ranks.{rank_of-committed, of_rank}
 use Rattle.sgt_cells.specs.declared.cell.Cell.{Cell}
-use Rattle.sgt_cells.specs.Cells.{IsGreatest, IsRankedWith, Puts, Increments, IsCell, IsRankOf, IsUpTo, Passes, raised}
+use Rattle.sgt_cells.specs.Cells.{IsGreatest, IsRankedWith, Puts, Increments, IsCell, IsRankOf}
+use Rattle.sgt_cells.specs.private.Noted.{IsUpTo, Passes, raised}
 
 pub one-rank : (ds : List Decision) (m n tx r s : ℕ) → IsDecidedOnce ds → IsCommitted ds m tx r → IsCommitted ds n tx s → r ≡ s
 one-rank ds m n tx r s once a b = same_Some r s (sym (rank_of-committed ds m tx r once a) ∙ rank_of-committed ds n tx s once b)

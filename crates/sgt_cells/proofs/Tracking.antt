@@ -16,8 +16,10 @@ use Rattle.sgt_names.specs.declared.entry.Holding.{Holding}
 use Rattle.sgt_cert.specs.Certificate.{decided_tx, IsDecidedOnce}
 use Rattle.sgt_cert.specs.Valid.{IsDecided, EndInOrder}
 use Rattle.sgt_cert.specs.declared.certificate.Decision.{Decision}
-use Rattle.sgt_cells.specs.Cells.{IsGreatest, AreCells, IsCell, IsPlaceOf, IsUpTo, raised}
-use Rattle.sgt_cells.specs.Records.{Did, IsRecord, IsTouched, act, has_ended_in, is_live_in, live_among}
+use Rattle.sgt_cells.specs.Cells.{IsGreatest, AreCells, IsCell}
+use Rattle.sgt_cells.specs.private.Noted.{IsPlaceOf, IsUpTo, raised}
+use Rattle.sgt_cells.specs.Records.{Did, IsRecord, has_ended_in, is_live_in, live_among}
+use Rattle.sgt_cells.specs.private.Deeds.{IsTouched, act}
 use Rattle.sgt_cells.specs.Tracks.{DecidesOn, IsNumberOf, EndsBy, TracksOpen, IsReadyFor}
 use Rattle.sgt_cells.specs.declared.cell.Cell.{Cell}
 use Rattle.sgt_cells.specs.declared.record.Record.{Record}

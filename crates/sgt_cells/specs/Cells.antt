@@ -1,7 +1,7 @@
 -- What a cell keeps of an item, after the entries of its site so far.
-use Rattle.std.specs.Prelude.{◌≡◌, ℕ, ◌≤◌, ◌+◌, ◌%◌, ◌^◌, max, List, map, All, Contains, Option, Some, None, slice_get}
+use Rattle.std.specs.Prelude.{◌≡◌, ℕ, ◌≤◌, List, map, All, Contains, Option, Some, None}
 use Rattle.sgt_names.specs.Name.{Name}
-use Rattle.sgt_names.specs.Entry.{tx_of, item_of, Reads}
+use Rattle.sgt_names.specs.Entry.{tx_of, Reads}
 use Rattle.sgt_names.specs.Log.{names, value_at}
 use Rattle.sgt_names.specs.declared.entry.Entry.{Entry}
 use Rattle.sgt_names.specs.declared.entry.Entry.TheVariants.{Read, Write, Add, Want, WantAdd}
@@ -48,39 +48,3 @@ pub record AreCells (ds : List Decision) (items : List Holding) (entries : List 
 abbrev pub IsRankOf : List Decision → ℕ → Option ℕ → Type 0
 IsRankOf ds tx None = (number rank : ℕ) → IsCommitted ds number tx rank → ⊥
 IsRankOf ds tx (Some rank) = (number : ℕ) × IsCommitted ds number tx rank
-
--- the place of the entry's item among the names, or it has none
-abbrev pub IsPlaceOf : List Name → Entry → Option ℕ → Type 0
-IsPlaceOf ns e None = item_of e ≡ None
-IsPlaceOf ns e (Some i) = (x : Name) × (slice_get ns i ≡ Some x) × (item_of e ≡ Some x)
-
--- ---- what the code does: words of private clauses alone
-
--- the greatest is no greater than this one
-abbrev pub IsUpTo : ℕ → Option ℕ → Type 0
-IsUpTo rank None = Unit {0}
-IsUpTo rank (Some top) = top ≤ rank
-
--- no conflicting entry of greater rank was met
-abbrev pub Passes : Cell → Entry → Option ℕ → Type 0
-Passes c e None = Unit {0}
-Passes c (Read tx x v) (Some rank) = IsUpTo rank c.writer × IsUpTo rank c.adder
-Passes c (Write tx x v) (Some rank) = IsUpTo rank c.reader × IsUpTo rank c.writer × IsUpTo rank c.adder
-Passes c (Want tx x v) (Some rank) = IsUpTo rank c.reader × IsUpTo rank c.writer × IsUpTo rank c.adder
-Passes c (Add tx x v) (Some rank) = IsUpTo rank c.reader × IsUpTo rank c.writer
-Passes c (WantAdd tx x v) (Some rank) = IsUpTo rank c.reader × IsUpTo rank c.writer
-Passes c _ (Some rank) = Unit {0}
-
-abbrev pub raised : Option ℕ → Option ℕ → Option ℕ
-raised top None = top
-raised None (Some rank) = Some rank
-raised (Some top) (Some rank) = Some (max top rank)
-
--- the cell after one more entry on its item
-abbrev pub noted : Cell → Entry → Option ℕ → Cell
-noted c (Read tx x v) rank = record c { reader = raised c.reader rank }
-noted c (Write tx x v) rank = record c { value = v; writer = raised c.writer rank }
-noted c (Want tx x v) rank = record c { writer = raised c.writer rank }
-noted c (Add tx x v) rank = record c { value = (c.value + v) % 2 ^ 64; adder = raised c.adder rank }
-noted c (WantAdd tx x v) rank = record c { adder = raised c.adder rank }
-noted c _ rank = c

@@ -1,3 +1,4 @@
 pub mod Cells
 pub mod Records
 pub mod Tracks
+pub mod private

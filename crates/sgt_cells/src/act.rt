@@ -2,7 +2,8 @@
 
 ghost use Rattle.std.specs.Prelude.{◌≡◌, ◌↔◌, ◌<◌, List, IsTrue, Any};
 ghost use Rattle.sgt_names.specs.declared.entry.Entry.{Entry};
-ghost use Rattle.sgt_cells.specs.Records.{act, deed_of, changes, adds, deeds_clash, IsOf, ClashesWith};
+ghost use Rattle.sgt_cells.specs.Records.{deed_of};
+ghost use Rattle.sgt_cells.specs.private.Deeds.{act, changes, adds, deeds_clash, IsOf, ClashesWith};
 
 use sgt_names::{Entry, Kind};
 

@@ -8,7 +8,8 @@ ghost use Rattle.sgt_names.specs.declared.entry.Holding.{Holding};
 ghost use Rattle.sgt_cert.specs.Certificate.{IsDecidedOnce, AreRanks, ranks};
 ghost use Rattle.sgt_cert.specs.Valid.{RiseInRank};
 ghost use Rattle.sgt_cert.specs.declared.certificate.Decision.{Decision};
-ghost use Rattle.sgt_cells.specs.Cells.{IsCell, AreCells, IsRankOf, IsUpTo, Passes, raised, noted};
+ghost use Rattle.sgt_cells.specs.Cells.{IsCell, AreCells, IsRankOf};
+ghost use Rattle.sgt_cells.specs.private.Noted.{IsUpTo, Passes, raised, noted};
 ghost use Rattle.sgt_cells.specs.declared.cell.Cell.{Cell};
 
 use sgt_names::{Entry, Item, Value};

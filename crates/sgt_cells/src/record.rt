@@ -5,7 +5,8 @@ ghost use Rattle.std.specs.Option.{option_to_list};
 ghost use Rattle.sgt_names.specs.Name.{Name};
 ghost use Rattle.sgt_names.specs.Entry.{tx_of, item_of, Repeats};
 ghost use Rattle.sgt_names.specs.declared.entry.Entry.{Entry};
-ghost use Rattle.sgt_cells.specs.Records.{AreActs, IsOf, IsTouched, deed_of, changes, acts_in, has_ended_in, is_live_in};
+ghost use Rattle.sgt_cells.specs.Records.{AreActs, deed_of, acts_in, has_ended_in, is_live_in};
+ghost use Rattle.sgt_cells.specs.private.Deeds.{IsOf, IsTouched, changes};
 ghost use Rattle.sgt_cells.specs.declared.record.Record.{Record};
 
 use crate::act::{Act, Deed, deed_of};

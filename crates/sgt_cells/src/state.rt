@@ -10,8 +10,10 @@ ghost use Rattle.std.specs.Option.{ForSome};
 ghost use Rattle.sgt_cert.specs.Certificate.{IsDecidedOnce, AreRanks, ranks};
 ghost use Rattle.sgt_cert.specs.Valid.{IsDecided, EndInOrder, RiseInRank};
 ghost use Rattle.sgt_cert.specs.declared.certificate.Decision.{Decision};
-ghost use Rattle.sgt_cells.specs.Cells.{AreCells, IsPlaceOf, IsRankOf, IsUpTo, raised};
-ghost use Rattle.sgt_cells.specs.Records.{act, AreActs};
+ghost use Rattle.sgt_cells.specs.Cells.{AreCells, IsRankOf};
+ghost use Rattle.sgt_cells.specs.private.Noted.{IsPlaceOf, IsUpTo, raised};
+ghost use Rattle.sgt_cells.specs.Records.{AreActs};
+ghost use Rattle.sgt_cells.specs.private.Deeds.{act};
 ghost use Rattle.sgt_cells.specs.Tracks.{TracksOpen, IsReadyFor, IsNumberOf, DecidesOn};
 
 use crate::act::{self, Act};

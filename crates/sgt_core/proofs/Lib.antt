@@ -19,6 +19,10 @@ pub mod Cycles
 pub mod Determined
 pub mod Going
 pub mod Committing
+pub mod WholeCommits
+pub mod WholeGoing
+pub mod TouchedSites
+pub mod Withdrawals
 pub mod Total
 pub mod Examples
 pub mod Refusals
@@ -35,3 +39,10 @@ pub mod Leading
 pub mod Stepping
 pub mod Opening
 pub mod Bundles
+pub mod AllEdges
+pub mod Decisions
+pub mod Ruled
+pub mod Awaiting
+pub mod InstallBlocks
+pub mod InstallEnds
+pub mod Installs

@@ -2,6 +2,7 @@
 use Rattle.std.proofs.Common.{◌≡◌, ◌<◌, ◌≤◌, ◌+◌, ℕ, zero, suc, List, [], ◌∷◌, ◌++◌, length, map, refl, sym, ◌∙◌, arith, inl, inr, All, Some, None, subst, ap, take}
 use Rattle.std.specs.Prelude.{slice_get}
 use Rattle.std.proofs.lemmas.List.{length_push, length-take-le, length-map}
+use Rattle.std.proofs.lemmas.List.Elements.{All-push}
 use Rattle.std.proofs.lemmas.Option.{same_Some, slice_get_within}
 use Rattle.sgt_names.specs.Limits.{max_sites}
 use Rattle.sgt_names.specs.declared.entry.Holding.{Holding}
@@ -45,6 +46,10 @@ one_opened sites places i items p lt at h are is =
             (items, ap (slice_get (take (i + 1) sites)) same.0 ∙ here, are, sym same.1 ∙ (is ∙ ap (λ n. record { site = opened n items; part = Idle }) (sym same.0)))
       ];
     }
+
+-- one more site's items are in order
+pub items_more : (sites : List (List Holding)) (i : ℕ) (items : List Holding) → slice_get sites i ≡ Some items → All AreItems (take i sites) → AreItems items → All AreItems (take (i + 1) sites)
+items_more sites i items at all are = subst (All AreItems) (sym (take_next sites i items at)) (All-push AreItems (take i sites) items all are)
 
 -- each site's items are in order
 pub opened_items : (sites : List (List Holding)) (places : List Place) → AreOpened sites places → All AreItems sites
@@ -90,8 +95,7 @@ new_stands sites places certifier h is some few = record {
         handles = λ i m. absurd (nil_none i m);
         part = (refl, refl, nil_none k);
       });
-  step = refl;
-  undecided = refl;
+  step = (refl, refl);
 }
 
 -- ---- runs

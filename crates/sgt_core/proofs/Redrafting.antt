@@ -6,6 +6,7 @@ use Rattle.std.proofs.lemmas.List.{length-set}
 use Rattle.std.proofs.lemmas.Option.{same_Some, slice_get_within}
 use Rattle.sgt_names.specs.Name.{Name}
 use Rattle.sgt_names.specs.Draft.{at_site, kept_in}
+use Rattle.sgt_names.specs.declared.draft.Touch.{Touch}
 use Rattle.sgt_names.specs.declared.entry.Change.{Change}
 use Rattle.sgt_names.specs.declared.entry.Entry.{Entry}
 use Rattle.sgt_order.proofs.Lists.{get_set_same, get_set_other}
@@ -20,7 +21,8 @@ use Rattle.sgt_core.specs.declared.machine.Phase.{Phase}
 use Rattle.sgt_core.specs.declared.machine.Phase.TheVariants.{Gathering, Committed, Refused}
 use Rattle.sgt_core.specs.Core.{CoreState, IsEdgeOf}
 use Rattle.sgt_core.specs.Step.{StepIs, IsOwnOpen}
-use Rattle.sgt_core.specs.Machine.{Parts, IsReached, IsRunning, RunsAt, IsDueBy, IsPart, IsPlace, IsPhase, IsStep, StandsFor, IsSlotOf}
+use Rattle.sgt_core.specs.Machine.{Parts, IsReached, IsRunning, RunsAt, IsDueBy, IsWrittenAt, IsPart, IsPlace, IsPhase, IsStep, StandsFor, IsSlotOf}
+use Rattle.sgt_core.proofs.Standing.{reached_kept}
 
 -- an active transaction was begun and is active
 pub slot_begun : (m : Parts) (c : CoreState) (tx slot : ℕ) → StandsFor m c → IsSlotOf m tx slot → tx ≤ c.certifier.begun
@@ -69,17 +71,33 @@ module _ (m : Parts) (c : CoreState) (s : StandsFor m c) (tx slot : ℕ) (number
   step_other : (o : Open) → m.step ≡ Some o → o.tx ≡ tx → ⊥
   step_other o is same = own_open m.step s.step o is same
 
+  -- and so is what is decided
+  step_decided : {t : ℕ} {p : Place} (h : IsWrittenAt m c t p) → suc (m.before + h.place) ≡ tx → ⊥
+  step_decided h same = closed ((reached_kept c s.reached).together tx (h.decided ∙ ap Some same))
+
   slot_other : (k : ℕ) → (k ≡ slot → ⊥) → (suc (m.before + k) ≡ tx → ⊥)
   slot_other k ne e = ne (omega (arith, e, number))
 
-  redraft_due : (o : Open) → (o.tx ≡ tx → ⊥) → (t : ℕ) (phase : Phase) → IsDueBy c o.tx phase t → IsDueBy d o.tx phase t
-  redraft_due o other t (Gathering edges) h = h
-  redraft_due o other t Committed h = h ∙ ap (λ cs. Rattle.sgt_site.specs.State.commit_block o.tx cs) (sym (other_changes o.tx t other))
-  redraft_due o other t Refused h = h ∙ ap (λ cs. Rattle.sgt_site.specs.State.refuse_block o.tx cs) (sym (other_changes o.tx t other))
+  redraft_due : (o : Open) → (o.tx ≡ tx → ⊥) → (touched : List Touch) (t : ℕ) (phase : Phase) → IsDueBy m c o.tx touched phase t → IsDueBy n d o.tx touched phase t
+  redraft_due o other touched t (Gathering edges) h = h
+  redraft_due o other touched t Committed h = (h.0 ∙ ap (λ cs. Rattle.sgt_site.specs.State.commit_block o.tx cs) (sym (other_changes o.tx t other)), h.1)
+  redraft_due o other touched t Refused h = h ∙ ap (λ cs. Rattle.sgt_site.specs.State.refuse_block o.tx cs) (sym (other_changes o.tx t other))
 
   redraft_part : (t : ℕ) (p w : Place) → IsLike p w (entries t) → (part : Part) → IsPart m c t p part → IsPart n d t w part
   redraft_part t p w l Idle h = (l.pledge ∙ h.0, h.1, h.2)
-  redraft_part t p w l Written h = (l.pledge ∙ h.0, h.1, h.2)
+  redraft_part t p w l Written h =
+      let own = step_decided h in
+      let apart : h.place ≡ slot → ⊥ = λ e. own (ap (λ k. suc (m.before + k)) e ∙ sym number) in
+      record {
+        place = h.place;
+        running = h.running;
+        there = get_set_other m.table slot h.place (Some q) apart ∙ h.there;
+        decided = h.decided;
+        gathered = h.gathered;
+        touched = h.touched;
+        pledge = l.pledge ∙ h.pledge;
+        due = h.due;
+      }
   redraft_part t p w l Due h =
       let o = h.0 in
       let a = h.1 in
@@ -93,8 +111,9 @@ module _ (m : Parts) (c : CoreState) (s : StandsFor m c) (tx slot : ℕ) (number
           there = get_set_other m.table slot a.place (Some q) apart ∙ a.there;
           tx = a.tx;
           gathered = a.gathered;
+          touched = a.touched;
           pledge = l.pledge ∙ a.pledge;
-          due = redraft_due o other t o.phase a.due;
+          due = redraft_due o other a.running.draft.touched t o.phase a.due;
         },
       )
 
@@ -169,5 +188,4 @@ module _ (m : Parts) (c : CoreState) (s : StandsFor m c) (tx slot : ℕ) (number
           running = redraft_running;
           places = redraft_place;
           step = redraft_step m.step refl s.step;
-          undecided = s.undecided;
         }

@@ -81,7 +81,7 @@ undecided c tx h no_other not_decided =
           ]
     ]
 
-is_decided : (c : CoreState) (tx : ℕ) → ((IsDecided c tx → ⊥) → ⊥) → IsDecided c tx
+pub is_decided : (c : CoreState) (tx : ℕ) → ((IsDecided c tx → ⊥) → ⊥) → IsDecided c tx
 is_decided c tx twice =
     elim (option_cases c.certifier.step) [
       | inl none ↦ absurd (twice (λ e. let f : Some tx ≡ None = sym e ∙ none in cc))
@@ -93,7 +93,7 @@ is_decided c tx twice =
     ]
 
 -- who touches a site is there
-touching_there : (c : CoreState) (i s : ℕ) → touches c i s ≡ true → IsThere c i s
+pub touching_there : (c : CoreState) (i s : ℕ) → touches c i s ≡ true → IsThere c i s
 touching_there c i s hit = either (list_any (λ e. tx_of e == i) (c.entries s)) refl
   where
     logged : (es : List Entry) → list_any (λ e. tx_of e == i) es ≡ true → (e : Entry) × Contains es e × (tx_of e ≡ i)
@@ -220,7 +220,7 @@ block_touches c tx mid last ops s there = elim there [
     only_if false es e m = absurd (nil_none e m)
 
 -- and there it is gathered
-block_gathered : (c : CoreState) (tx : ℕ) → IsSound c → ((s : ℕ) → Contains (touched c tx) s → (IsGathered c tx s → ⊥) → ⊥)
+pub block_gathered : (c : CoreState) (tx : ℕ) → IsSound c → ((s : ℕ) → Contains (touched c tx) s → (IsGathered c tx s → ⊥) → ⊥)
     → (s : ℕ) → touches c tx s ≡ true → Contains (gathered_in c.step) s
 block_gathered c tx h gathered s hit =
     let inside = below (length c.items) s (λ out. true≢false (sym hit ∙ untouched_outside c tx s h.walked h.legal out)) in
@@ -321,7 +321,7 @@ step-kept c step k none = record {
   counted = idle-counted c c.certifier step none refl k.counted;
 }
 
-gather_idle : (c : CoreState) (tx s : ℕ) → IsKept c → IsAllowed c (Gather tx s) → c.certifier.step ≡ None
+pub gather_idle : (c : CoreState) (tx s : ℕ) → IsKept c → IsAllowed c (Gather tx s) → c.certifier.step ≡ None
 gather_idle c tx s k allowed = undecided c tx k (allowed fault.StepOpen) (gather_decided c tx s k allowed)
 
 pub decide_idle : (c : CoreState) (tx : ℕ) → IsKept c → IsAllowed c (Decide tx) → c.certifier.step ≡ None

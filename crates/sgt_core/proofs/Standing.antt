@@ -48,7 +48,7 @@ none_of None e = refl
 none_of (Some o) e = absurd cc
 
 pub closed_core : (m : Parts) (c : CoreState) (o : Option Open) → o ≡ None → IsStep m c o → c.step ≡ None
-closed_core m c None e h = h
+closed_core m c None e h = h.0
 closed_core m c (Some o) e h = absurd cc
 
 pub core_closed : (m : Parts) (c : CoreState) → StandsFor m c → m.step ≡ None → c.step ≡ None
@@ -65,7 +65,7 @@ pub part_closed : (m n : Parts) (c d : CoreState) (s : ℕ) (p : Place) (part : 
     → d.due s ≡ c.due s → IsPart n d s p part
 part_closed m n c d s p Idle h m_none c_none d_none due = (h.0, due ∙ h.1, none_gathered d s d_none)
 part_closed m n c d s p Due h m_none c_none d_none due = absurd (let e : Some h.0 ≡ None = sym h.1.open_step ∙ m_none in cc)
-part_closed m n c d s p Written h m_none c_none d_none due = absurd (none_gathered c s c_none h.2)
+part_closed m n c d s p Written h m_none c_none d_none due = absurd (none_gathered c s c_none h.gathered)
 
 -- ---- who isn't active
 

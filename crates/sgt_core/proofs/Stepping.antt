@@ -3,13 +3,15 @@ use Rattle.std.proofs.Common.{◌≡◌, ◌<◌, ◌≤◌, ◌+◌, ℕ, suc, 
 use Rattle.std.specs.Prelude.{slice_get, slice_set, true}
 use Rattle.std.proofs.lemmas.Bool.{cases_eq}
 use Rattle.std.proofs.lemmas.Option.{same_Some, slice_get_within}
-use Rattle.sgt_names.specs.Draft.{at_site}
+use Rattle.sgt_names.specs.Draft.{at_site, Touches}
 use Rattle.sgt_names.specs.declared.entry.Entry.{Entry}
 use Rattle.sgt_names.specs.Entry.{tx_of}
 use Rattle.sgt_names.proofs.Lists.{within_at}
 use Rattle.sgt_order.proofs.Lists.{get_set_same, get_set_other}
 use Rattle.sgt_site.specs.State.{Pledge, SiteState, IsPledged}
 use Rattle.sgt_edges.specs.declared.edge.Edge.{Edge}
+use Rattle.sgt_certifier.specs.Certifier.{State}
+use Rattle.sgt_certifier.specs.Kept.{Kept}
 use Rattle.sgt_certifier.proofs.Members.{cons_cases, cons_here, cons_later, nil_none}
 use Rattle.sgt_notation.specs.declared.event.Event.{Event}
 use Rattle.sgt_notation.specs.declared.event.Event.TheVariants.{Gather}
@@ -25,9 +27,10 @@ use Rattle.sgt_core.specs.declared.machine.Phase.{Phase}
 use Rattle.sgt_core.specs.declared.machine.Phase.TheVariants.{Gathering, Committed, Refused}
 use Rattle.sgt_core.specs.Core.{CoreState, OpenStep}
 use Rattle.sgt_core.specs.Step.{StepIs, IsOtherOpen, gathered_in, IsAllowed, MayStep}
-use Rattle.sgt_core.specs.Machine.{Parts, IsRunning, RunsAt, IsDueBy, IsDueAt, IsPart, IsPlace, AreGathered, IsStep, StandsFor, IsSlotOf}
+use Rattle.sgt_core.specs.Machine.{Parts, Carries, IsRunning, RunsAt, IsDueBy, IsDueAt, IsPart, IsPlace, AreGathered, IsStep, StandsFor, IsSlotOf}
 use Rattle.sgt_core.specs.Gathered.{phase_with, step_with, IsReleased, AreReleased, GathersAt}
 use Rattle.sgt_core.proofs.Kept.{IsKept}
+use Rattle.sgt_core.proofs.Runs.{gather_idle}
 use Rattle.sgt_core.proofs.Standing.{reached_more, reached_kept}
 use Rattle.sgt_core.proofs.Leading.{gathered_more, none_gathered}
 
@@ -45,7 +48,7 @@ running_stays c step before k None h = h
 running_stays c step before k (Some r) h = record { active = h.active; handle = h.handle; rising = h.rising; used = h.used; changes = h.changes; reads = h.reads }
 
 -- the open step is the transaction's, where it isn't another's
-step_own : (m : Parts) (c : CoreState) (tx : ℕ) → (IsOtherOpen c tx → ⊥) → (o : Option Open) → IsStep m c o → (p : Open) → o ≡ Some p → p.tx ≡ tx
+pub step_own : (m : Parts) (c : CoreState) (tx : ℕ) → (IsOtherOpen c tx → ⊥) → (o : Option Open) → IsStep m c o → (p : Open) → o ≡ Some p → p.tx ≡ tx
 step_own m c tx out None h p e = absurd cc
 step_own m c tx out (Some o) h p e =
     let same : o ≡ p = same_Some o p e in
@@ -55,11 +58,18 @@ step_own m c tx out (Some o) h p e =
     ] in
     ap (λ (w : Open). w.tx) (sym same) ∙ own
 
+-- the same place of the table has the same draft
+pub same_draft : (table : List (Option Running)) (slot : ℕ) (r q : Running) (t : ℕ) → slice_get table slot ≡ Some (Some r) → slice_get table slot ≡ Some (Some q)
+    → Touches r.draft.touched t → Touches q.draft.touched t
+same_draft table slot r q t first second any =
+    subst (λ (w : Running). Touches w.draft.touched t) (same_Some r q (same_Some (Some r) (Some q) (sym first ∙ second))) any
+
 -- ---- the step is closed
 
-module _ (m : Parts) (c : CoreState) (s : StandsFor m c) (tx : ℕ) (no_other : IsOtherOpen c tx → ⊥) (places : List Place) (h : AreReleased tx m.places places) where
+module _ (m : Parts) (c : CoreState) (s : StandsFor m c) (tx : ℕ) (no_other : IsOtherOpen c tx → ⊥) (undecided : c.certifier.step ≡ None)
+    (places : List Place) (h : AreReleased tx m.places places) (kept : Kept) (same_state : kept.state ≡ m.certifier.state) where
   abbrev closed_parts : Parts
-  closed_parts = record m { places = places; step = None }
+  closed_parts = record m { places = places; certifier = kept; step = None }
 
   abbrev closed_state : CoreState
   closed_state = record c { step = None }
@@ -72,7 +82,7 @@ module _ (m : Parts) (c : CoreState) (s : StandsFor m c) (tx : ℕ) (no_other : 
     where
       by_part : (part : Part) → IsPart m c t p part → q.site.pledge ≡ p.site.pledge → (IsPledged p.site tx → ⊥) → q.site.pledge ≡ None
       by_part Idle is same out = same ∙ is.0
-      by_part Written is same out = same ∙ is.0
+      by_part Written is same out = same ∙ is.pledge
       by_part Due is same out =
           let own = step_own m c tx no_other m.step s.step is.0 is.1.open_step in
           absurd (out (at_site t is.1.running.draft.touched, is.1.pledge ∙ ap (λ i. Some (record { tx = i; part = at_site t is.1.running.draft.touched })) own))
@@ -89,7 +99,7 @@ module _ (m : Parts) (c : CoreState) (s : StandsFor m c) (tx : ℕ) (no_other : 
         number = ap (λ (st : SiteState). st.number) r.site ∙ old.number;
         entries = old.entries ∙ sym (ap (λ (st : SiteState). st.entries) r.site);
         handles = λ i member. old.handles i (subst (λ is. Contains is i) (ap (λ (st : SiteState). st.installed) r.site) member);
-        part = subst (IsPart closed_parts closed_state t q) (sym r.part) (no_pledge t p q r p.part old.part, nothing_due c (reached_kept c s.reached) s.undecided t, λ g. nil_none t g);
+        part = subst (IsPart closed_parts closed_state t q) (sym r.part) (no_pledge t p q r p.part old.part, nothing_due c (reached_kept c s.reached) undecided t, λ g. nil_none t g);
       }
 
   same_items : map (λ (p : Place). p.site.items) places ≡ map (λ (p : Place). p.site.items) m.places
@@ -105,7 +115,7 @@ module _ (m : Parts) (c : CoreState) (s : StandsFor m c) (tx : ℕ) (no_other : 
           ∙ ap (λ is. p.site.items ∷ is) (each_item ps qs (omega (arith, long)) (λ t. e (suc t)))
 
   pub released_goes : (event : Event) (reply : Reply) → reply ≡ Fault fault.Memory → MayStep c event (Fault fault.Memory) (record c { step = None })
-      → (e : CoreState) × MayStep c event reply e × StandsFor (record m { places = places; step = None }) e
+      → (e : CoreState) × MayStep c event reply e × StandsFor (record m { places = places; certifier = kept; step = None }) e
   released_goes event reply is may = (
     closed_state,
     subst (λ q. MayStep c event q closed_state) (sym is) may,
@@ -113,26 +123,32 @@ module _ (m : Parts) (c : CoreState) (s : StandsFor m c) (tx : ℕ) (no_other : 
       reached = reached_more c event (Fault fault.Memory) closed_state s.reached may;
       sites = s.sites;
       items = s.items ∙ sym same_items;
-      certifier = s.certifier;
+      certifier = subst (λ (st : State). Carries st c.certifier) (sym same_state) s.certifier;
       before = s.before;
       begun = s.begun;
       window = s.window;
       unborn = s.unborn;
       running = λ k o at. running_stays c None m.before k o (s.running k o at);
       places = released_place;
-      step = refl;
-      undecided = s.undecided;
+      step = (refl, undecided);
     },
   )
 
-pub gives_up : (m : Parts) (c : CoreState) → StandsFor m c → (tx : ℕ) → (IsOtherOpen c tx → ⊥) → (mid new : Parts) → mid ≡ record m { step = mid.step }
-    → AreReleased tx mid.places new.places → new ≡ record mid { places = new.places; step = None } → (event : Event) (reply : Reply) → reply ≡ Fault fault.Memory
+pub gives_up : (m : Parts) (c : CoreState) → StandsFor m c → (tx : ℕ) → (IsOtherOpen c tx → ⊥) → c.certifier.step ≡ None → (mid new : Parts)
+    → mid ≡ record m { step = mid.step; certifier = mid.certifier } → mid.certifier.state ≡ m.certifier.state → AreReleased tx mid.places new.places
+    → new ≡ record mid { places = new.places; step = None } → (event : Event) (reply : Reply) → reply ≡ Fault fault.Memory
     → MayStep c event (Fault fault.Memory) (record c { step = None }) → (e : CoreState) × MayStep c event reply e × StandsFor new e
-gives_up m c s tx no_other mid new same h is event reply e may =
+gives_up m c s tx no_other undecided mid new same state h is event reply e may =
     let from_old = subst (λ (ps : List Place). AreReleased tx ps new.places) (ap (λ (w : Parts). w.places) same) h in
-    let goes = released_goes m c s tx no_other new.places from_old event reply e may in
-    let all : new ≡ record m { places = new.places; step = None } = is ∙ ap (λ (w : Parts). record w { places = new.places; step = None }) same in
+    let goes = released_goes m c s tx no_other undecided new.places from_old mid.certifier state event reply e may in
+    let all : new ≡ record m { places = new.places; certifier = mid.certifier; step = None } = is ∙ ap (λ (w : Parts). record w { places = new.places; step = None }) same in
     (goes.0, goes.1, subst (λ w. StandsFor w goes.0) (sym all) goes.2)
+
+-- nothing but the step was changed before
+pub only_step : (m mid : Parts) → mid ≡ record m { step = mid.step } → (mid ≡ record m { step = mid.step; certifier = mid.certifier }) × (mid.certifier.state ≡ m.certifier.state)
+only_step m mid is =
+    let same : mid.certifier ≡ m.certifier = ap (λ (w : Parts). w.certifier) is in
+    (is ∙ ap (λ k. record m { step = mid.step; certifier = k }) (sym same), ap (λ (k : Kept). k.state) same)
 
 -- ---- one more site is gathered
 
@@ -146,9 +162,12 @@ record IsGrown (m : Parts) (d : CoreState) (tx : ℕ) (step : Option Open) : Typ
   pub gathered : AreGathered m.certifier.state d tx edges
 
 module _ (m : Parts) (c : CoreState) (s : StandsFor m c) (tx slot : ℕ) (number : tx ≡ suc (m.before + slot)) (no_other : IsOtherOpen c tx → ⊥) (t : ℕ)
-    (new : Parts) (g : GathersAt m new tx slot t) where
+    (new : Parts) (g : GathersAt m new tx slot t) (allowed : IsAllowed c (Gather tx t)) (touched : Touches g.pledge.running.draft.touched t) where
   abbrev k : IsKept c
   k = reached_kept c s.reached
+
+  undecided : c.certifier.step ≡ None
+  undecided = gather_idle c tx t k allowed
 
   abbrev p : Place
   p = g.pledge.place
@@ -176,7 +195,7 @@ module _ (m : Parts) (c : CoreState) (s : StandsFor m c) (tx slot : ℕ) (number
   same_running = same_Some g.given.running r (same_Some (Some g.given.running) (Some r) (sym g.given.runs ∙ g.pledge.runs))
 
   grows : (edges : List Edge) → AreGathered m.certifier.state c tx edges → AreGathered m.certifier.state d tx (edges ++ g.edges)
-  grows edges h = gathered_more m c k s.certifier s.before s.undecided tx slot number r own t p at_t
+  grows edges h = gathered_more m c k s.certifier s.before undecided tx slot number r own t p at_t
       (subst (λ (q : Place). Rattle.sgt_site.specs.State.IsSite q.site) same_place g.given.legal) g.pledge.may g.edges
       (subst (λ (q : Place). Rattle.std.specs.Prelude.All (Rattle.sgt_edges.specs.Edges.IsGiven q.site r.draft.touched r.handle) g.edges) same_place
       (subst (λ (w : Running). Rattle.std.specs.Prelude.All (Rattle.sgt_edges.specs.Edges.IsGiven g.given.place.site w.draft.touched w.handle) g.edges) same_running g.given.given))
@@ -192,7 +211,7 @@ module _ (m : Parts) (c : CoreState) (s : StandsFor m c) (tx slot : ℕ) (number
     edges = g.edges;
     phase = refl;
     gathered = grows [] (none_gathered m.certifier.state c tx slot
-        (number ∙ ap (λ b. suc (b + slot)) (sym s.before ∙ ap (λ (st : Rattle.sgt_certifier.specs.Certifier.State). st.before) s.certifier.same)) (ap gathered_in h));
+        (number ∙ ap (λ b. suc (b + slot)) (sym s.before ∙ ap (λ (st : Rattle.sgt_certifier.specs.Certifier.State). st.before) s.certifier.same)) (ap gathered_in h.0));
   }
   grown (Some o) h own_step = by_phase o.phase refl h.2
     where
@@ -205,18 +224,18 @@ module _ (m : Parts) (c : CoreState) (s : StandsFor m c) (tx slot : ℕ) (number
         phase = ap (λ w. phase_with w g.edges) e;
         gathered = grows edges (subst (λ i. AreGathered m.certifier.state c i edges) (own_step o refl) is.1);
       }
-      by_phase Committed e is = absurd (let f : Some o.tx ≡ None = sym is.0 ∙ s.undecided in cc)
-      by_phase Refused e is = absurd (let f : Some o.tx ≡ None = sym is.0 ∙ s.undecided in cc)
+      by_phase Committed e is = absurd (let f : Some o.tx ≡ None = sym is.0 ∙ undecided in cc)
+      by_phase Refused e is = absurd (let f : Some o.tx ≡ None = sym is.0 ∙ undecided in cc)
 
   all : IsGrown m d tx (step_with m.step tx g.edges)
   all = grown m.step s.step (λ q e. step_own m c tx no_other m.step s.step q e)
 
   due_none : (u : ℕ) → c.due u ≡ []
-  due_none u = nothing_due c k s.undecided u
+  due_none u = nothing_due c k undecided u
 
   other_part : (u : ℕ) (q : Place) → (t ≡ u → ⊥) → (part : Part) → IsPart m c u q part → IsPart n d u q part
   other_part u q ne Idle h = (h.0, h.1, λ member. elim (cons_cases t (gathered_in c.step) u member) [ inl is ↦ ne is | inr later ↦ h.2 later ])
-  other_part u q ne Written h = (h.0, h.1, cons_later t (gathered_in c.step) u h.2)
+  other_part u q ne Written h = absurd (let f : Some (suc (m.before + h.place)) ≡ None = sym h.decided ∙ undecided in cc)
   other_part u q ne Due h =
       let a = h.1 in
       let same = step_own m c tx no_other m.step s.step h.0 a.open_step in
@@ -229,8 +248,9 @@ module _ (m : Parts) (c : CoreState) (s : StandsFor m c) (tx slot : ℕ) (number
           there = a.there;
           tx = all.own ∙ (sym same ∙ a.tx);
           gathered = cons_later t (gathered_in c.step) u a.gathered;
+          touched = a.touched;
           pledge = a.pledge ∙ ap (λ i. Some (record { tx = i; part = at_site u a.running.draft.touched })) (same ∙ sym all.own);
-          due = subst (λ w. IsDueBy d o.tx w u) (sym all.phase) (due_none u);
+          due = subst (λ w. IsDueBy n d o.tx a.running.draft.touched w u) (sym all.phase) (due_none u);
         },
       )
 
@@ -253,8 +273,9 @@ module _ (m : Parts) (c : CoreState) (s : StandsFor m c) (tx slot : ℕ) (number
             there = g.pledge.runs;
             tx = all.own ∙ number;
             gathered = cons_here t (gathered_in c.step);
+            touched = touched;
             pledge = ap (λ i. Some (record { tx = tx; part = at_site i r.draft.touched })) at_t.number ∙ ap (λ i. Some (record { tx = i; part = at_site t r.draft.touched })) (sym all.own);
-            due = subst (λ w. IsDueBy d o.tx w t) (sym all.phase) (due_none t);
+            due = subst (λ w. IsDueBy n d o.tx r.draft.touched w t) (sym all.phase) (due_none t);
           },
         );
       }
@@ -279,8 +300,8 @@ module _ (m : Parts) (c : CoreState) (s : StandsFor m c) (tx slot : ℕ) (number
       set_map (v ∷ ps) Rattle.std.proofs.Common.zero q w at is = ap (λ i. i ∷ map (λ (v : Place). v.site.items) ps) (is ∙ ap (λ (v : Place). v.site.items) (sym (same_Some v w at)))
       set_map (v ∷ ps) (suc j) q w at is = ap (λ is. v.site.items ∷ is) (set_map ps j q w at is)
 
-  pub gather_goes : (reply : Reply) → reply ≡ Gathered → IsAllowed c (Gather tx t) → (e : CoreState) × MayStep c (Gather tx t) reply e × StandsFor new e
-  gather_goes reply is allowed =
+  pub gather_goes : (reply : Reply) → reply ≡ Gathered → (e : CoreState) × MayStep c (Gather tx t) reply e × StandsFor new e
+  gather_goes reply is =
       let may : MayStep c (Gather tx t) Gathered d = (allowed, refl) in
       let stands : StandsFor n d = record {
         reached = reached_more c (Gather tx t) Gathered d s.reached may;
@@ -296,8 +317,7 @@ module _ (m : Parts) (c : CoreState) (s : StandsFor m c) (tx slot : ℕ) (number
         step = subst (IsStep n d) (sym all.is) (
           t ∷ gathered_in c.step,
           ap (λ i. Some (record { tx = i; gathered = t ∷ gathered_in c.step })) (sym all.own),
-          subst (Rattle.sgt_core.specs.Machine.IsPhase n d all.open_step) (sym all.phase) (s.undecided, subst (λ i. AreGathered m.certifier.state d i all.edges) (sym all.own) all.gathered),
+          subst (Rattle.sgt_core.specs.Machine.IsPhase n d all.open_step) (sym all.phase) (undecided, subst (λ i. AreGathered m.certifier.state d i all.edges) (sym all.own) all.gathered),
         );
-        undecided = s.undecided;
       } in
       (d, subst (λ q. MayStep c (Gather tx t) q d) (sym is) may, subst (λ w. StandsFor w d) (sym g.is) stands)

@@ -65,22 +65,22 @@ member_some : (cs : List (Name × Change)) (d : Name × Change) → Contains cs 
 member_some [] d m = absurd (nil_none d m)
 member_some (e ∷ es) d m = refl
 
-module _ (c : CoreState) (k : IsKept c) (before place s : ℕ) (r : Running) (h : IsRunning c before place r) (idle : c.certifier.step ≡ None) where
+module _ (c : CoreState) (k : IsKept c) (before place s : ℕ) (r : Running) (h : IsRunning c before place r) where
   abbrev tx : ℕ
   tx = suc (before + place)
 
   abbrev part : List Touch
   part = at_site s r.draft.touched
 
-  logged_read : (e : Entry) → Contains (c.entries s) e → tx_of e ≡ tx → IsRead e
-  logged_read e m own =
+  logged_read : (c.certifier.step ≡ Some tx → ⊥) → (e : Entry) → Contains (c.entries s) e → tx_of e ≡ tx → IsRead e
+  logged_read undecided e m own =
       elim ((k.sound.legal.sites s (inside (length c.items) s (λ out. nil_none e (subst (λ es. Contains es e) (k.sound.walked.outside s out) m)))).log.stands e (Contains-append_left (c.entries s) (c.due s) e m)) [
         | inl free ↦ free.0
         | inr ruled ↦
             let by = ruled.0.1 in
             let active : Contains c.certifier.active tx = h.active in
             let open_tx = k.sound.ruled.ended ruled.0.0 by.0 by.1 (subst (Contains c.certifier.active) (sym (by.2 ∙ own)) active) in
-            absurd (let f : Some _ ≡ None = sym open_tx ∙ idle in cc)
+            absurd (undecided (open_tx ∙ ap Some (by.2 ∙ own)))
       ]
     where
       inside : (n s : ℕ) → (n ≤ s → ⊥) → s < n
@@ -92,12 +92,12 @@ module _ (c : CoreState) (k : IsKept c) (before place s : ℕ) (r : Running) (h 
       let where_is = Contains_at r.draft.touched t f.0 in
       Any-from_at (λ (u : Touch). (u.site ≡ s) × IsUsed u) r.draft.touched where_is.0 t where_is.1 (eqb-true t.site s f.1, All_in IsUsed r.draft.touched t h.used f.0)
 
-  pub touches_draft : touches c (suc (before + place)) s ≡ true → Touches r.draft.touched s
-  touches_draft hit = elim (or_cases (list_any (λ e. tx_of e == tx) (c.entries s)) (is_some_change (c.changes tx s)) hit) [
+  pub touches_draft : (c.certifier.step ≡ Some (suc (before + place)) → ⊥) → touches c (suc (before + place)) s ≡ true → Touches r.draft.touched s
+  touches_draft undecided hit = elim (or_cases (list_any (λ e. tx_of e == tx) (c.entries s)) (is_some_change (c.changes tx s)) hit) [
     | inl logged ↦
         let e = any_member (λ e. tx_of e == tx) (c.entries s) logged in
         let own : tx_of e.0 ≡ tx = eqb-true (tx_of e.0) tx e.2 in
-        let form = read_form e.0 (logged_read e.0 e.1 own) in
+        let form = read_form e.0 (logged_read undecided e.0 e.1 own) in
         let at = Contains_at (c.entries s) e.0 e.1 in
         let is : e.0 ≡ entry.Read tx form.0 form.1.0 = form.1.1 ∙ ap (λ i. entry.Read i form.0 form.1.0) own in
         let kept = (h.reads s form.0 form.1.0 (version_at (take at.0 (c.entries s)) form.0)).1 (record { place = at.0; at = at.1 ∙ ap Some is; version = refl }) in
@@ -130,17 +130,14 @@ module _ (c : CoreState) (k : IsKept c) (before place s : ℕ) (r : Running) (h 
           let some : is_some_change (c.changes tx s) ≡ true = subst (λ cs. is_some_change cs ≡ true) (sym (h.changes s)) (member_some (writing_in part) (t.item, v.0) written) in
           ap (λ b. list_any (λ e. tx_of e == tx) (c.entries s) || b) some ∙ or_right (list_any (λ e. tx_of e == tx) (c.entries s))
 
--- ---- a step that isn't decided
+-- ---- the events of a step
 
-module _ (c : CoreState) (tx : ℕ) (begun : tx ≤ c.certifier.begun) (active : Contains c.certifier.active tx) (idle : c.certifier.step ≡ None) where
+module _ (c : CoreState) (tx : ℕ) (begun : tx ≤ c.certifier.begun) (active : Contains c.certifier.active tx) where
   known_tx : (t : ℕ) → Some tx ≡ Some t → c.certifier.begun < t → ⊥
   known_tx t e lt = let is = same_Some tx t e in omega arith
 
   active_tx : (t : ℕ) → Some tx ≡ Some t → (Contains c.certifier.active t → ⊥) → ⊥
   active_tx t e out = out (subst (Contains c.certifier.active) (same_Some tx t e) active)
-
-  not_decided : IsDecided c tx → ⊥
-  not_decided h = let f : Some tx ≡ None = sym h ∙ idle in absurd cc
 
   pub step_refused : (event : Event) → tx_in event ≡ Some tx → Fails c event fault.StepOpen → IsRefused c event fault.StepOpen
   step_refused event is h = (h, later c tx begun active event is)
@@ -200,17 +197,28 @@ module _ (c : CoreState) (tx : ℕ) (begun : tx ≤ c.certifier.begun) (active :
       first fault.Ended lt h = active_tx h.0 h.1 h.2.1
       first fault.StepOpen lt h = no_other h
       first fault.NotGathered lt h = absurd (omega arith)
-      first fault.AlreadyDone lt h = not_decided h
+      first fault.AlreadyDone lt h = absurd (omega arith)
       first _ lt h = h
 
-  pub decide_allowed : (IsOtherOpen c tx → ⊥) → ((s : ℕ) → touches c tx s ≡ true → IsGathered c tx s) → IsAllowed c (Decide tx)
-  decide_allowed no_other all fault.Unknown h = known_tx h.0 h.1 h.2
-  decide_allowed no_other all fault.Ended h = active_tx h.0 h.1 h.2.1
-  decide_allowed no_other all fault.StepOpen h = no_other h
-  decide_allowed no_other all fault.NotGathered h =
+  pub decide_done : (IsOtherOpen c tx → ⊥) → ((s : ℕ) → touches c tx s ≡ true → IsGathered c tx s) → IsDecided c tx → IsRefused c (Decide tx) fault.AlreadyDone
+  decide_done no_other all done = (done, first)
+    where
+      first : (g : CoreFault) → fault_place g < 6 → Fails c (Decide tx) g → ⊥
+      first fault.Unknown lt h = known_tx h.0 h.1 h.2
+      first fault.Ended lt h = active_tx h.0 h.1 h.2.1
+      first fault.StepOpen lt h = no_other h
+      first fault.NotGathered lt h = h.2 (all h.0 (filter_member (touches c tx) _ h.0 h.1).1)
+      first fault.AlreadyDone lt h = absurd (omega arith)
+      first _ lt h = h
+
+  pub decide_allowed : (IsOtherOpen c tx → ⊥) → ((s : ℕ) → touches c tx s ≡ true → IsGathered c tx s) → (IsDecided c tx → ⊥) → IsAllowed c (Decide tx)
+  decide_allowed no_other all undecided fault.Unknown h = known_tx h.0 h.1 h.2
+  decide_allowed no_other all undecided fault.Ended h = active_tx h.0 h.1 h.2.1
+  decide_allowed no_other all undecided fault.StepOpen h = no_other h
+  decide_allowed no_other all undecided fault.NotGathered h =
       h.2 (all h.0 (filter_member (touches c tx) _ h.0 h.1).1)
-  decide_allowed no_other all fault.AlreadyDone h = not_decided h
-  decide_allowed no_other all _ h = h
+  decide_allowed no_other all undecided fault.AlreadyDone h = undecided h
+  decide_allowed no_other all undecided _ h = h
 
   pub install_beyond : (IsOtherOpen c tx → ⊥) → (s : ℕ) → length c.items ≤ s → IsRefused c (Write tx s) fault.UnknownItem
   install_beyond no_other s out = (out, first)
@@ -225,8 +233,8 @@ module _ (c : CoreState) (tx : ℕ) (begun : tx ≤ c.certifier.begun) (active :
       first fault.NotTouched lt h = absurd (omega arith)
       first _ lt h = h
 
-  pub install_undecided : (IsOtherOpen c tx → ⊥) → (s : ℕ) → s < length c.items → IsRefused c (Write tx s) fault.NotGathered
-  install_undecided no_other s inside = (not_decided, first)
+  pub install_undecided : (IsOtherOpen c tx → ⊥) → (s : ℕ) → s < length c.items → (IsDecided c tx → ⊥) → IsRefused c (Write tx s) fault.NotGathered
+  install_undecided no_other s inside undecided = (undecided, first)
     where
       first : (g : CoreFault) → fault_place g < 5 → Fails c (Write tx s) g → ⊥
       first fault.Unknown lt h = known_tx h.0 h.1 h.2

@@ -135,8 +135,7 @@ module _ (m : Parts) (c : CoreState) (s : StandsFor m c) (none : m.step ≡ None
           unborn = λ t n lt. s.unborn t n (omega arith);
           running = begun_slot;
           places = begun_place;
-          step = subst (λ (o : Option Open). IsStep (begun_parts m new r) (begun_state c) o) (sym none) (core_closed m c s none);
-          undecided = s.undecided;
+          step = subst (λ (o : Option Open). IsStep (begun_parts m new r) (begun_state c) o) (sym none) (core_closed m c s none, certifier_closed m c s none);
         },
       )
 
@@ -249,7 +248,6 @@ module _ (m : Parts) (c : CoreState) (s : StandsFor m c) (none : m.step ≡ None
           unborn = s.unborn;
           running = λ k slot at. absurd cc;
           places = closed_place;
-          step = subst (λ (o : Option Open). IsStep (closed_parts m new) (closed_state c) o) (sym none) (core_closed m c s none);
-          undecided = s.undecided;
+          step = subst (λ (o : Option Open). IsStep (closed_parts m new) (closed_state c) o) (sym none) (core_closed m c s none, certifier_closed m c s none);
         },
       )

@@ -3,3 +3,4 @@ pub mod Step
 pub mod Runs
 pub mod Machine
 pub mod Gathered
+pub mod private

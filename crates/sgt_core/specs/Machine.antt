@@ -1,6 +1,6 @@
 -- The machine that serves the events, and the states of the model that it stands for.
 use Rattle.std.specs.Prelude.{◌≡◌, ◌≢◌, ◌⊎◌, ◌<◌, ◌≤◌, ◌+◌, ℕ, suc, true, List, [], ◌∷◌, ◌++◌, map, Contains, All, Option, Some, None, slice_get, slice_set, length}
-use Rattle.sgt_names.specs.Draft.{AreRising, IsUsed, at_site, kept_in, writing_in, seen_at, change_at, ChangesOnly}
+use Rattle.sgt_names.specs.Draft.{AreRising, IsUsed, Touches, at_site, kept_in, writing_in, seen_at, change_at, ChangesOnly}
 use Rattle.sgt_names.specs.Name.{Name}
 use Rattle.sgt_names.specs.Log.{value_at}
 use Rattle.sgt_names.specs.declared.draft.Touch.{Touch}
@@ -15,8 +15,8 @@ use Rattle.sgt_site.specs.declared.cell.Install.{Install}
 use Rattle.sgt_order.specs.Graph.{Reaches}
 use Rattle.sgt_edges.specs.declared.edge.Edge.{Edge}
 use Rattle.sgt_certifier.specs.Certifier.{State, Arc, Joins}
-use Rattle.sgt_certifier.specs.History.{arcs_of, Fits}
-use Rattle.sgt_certifier.specs.Kept.{Kept}
+use Rattle.sgt_certifier.specs.History.{arcs_of, Fits, IsNoted}
+use Rattle.sgt_certifier.specs.Kept.{Kept, IsExpected}
 use Rattle.sgt_notation.specs.declared.event.Event.{Event}
 use Rattle.sgt_notation.specs.declared.event.Event.TheVariants as event
 use Rattle.sgt_core.specs.declared.reply.Reply.{Reply}
@@ -86,11 +86,16 @@ IsHandleOf s i =
     ((i.handle.generation ≡ s.generation) × (i.tx ≡ suc (s.before + i.handle.index)) × Contains s.order i.tx)
     ⊎ ((i.handle.generation < s.generation) × (i.tx ≤ s.before))
 
--- what is due of the open step at a site where it was gathered
-abbrev pub IsDueBy : CoreState → ℕ → Phase → ℕ → Type 0
-IsDueBy c tx (Gathering edges) s = c.due s ≡ []
-IsDueBy c tx Committed s = c.due s ≡ commit_block tx (c.changes tx s)
-IsDueBy c tx Refused s = c.due s ≡ refuse_block tx (c.changes tx s)
+-- the install of the committed transaction at the site can be noted, without memory
+pub record AwaitsInstall (certifier : Kept) (tx : ℕ) (touched : List Touch) (s : ℕ) : Type 0 where
+  pub unnoted : IsNoted certifier.state tx s → ⊥
+  pub expected : IsExpected certifier.expected touched s
+
+-- what is due of the open step at a site where it was gathered, with this draft
+abbrev pub IsDueBy : Parts → CoreState → ℕ → List Touch → Phase → ℕ → Type 0
+IsDueBy m c tx touched (Gathering edges) s = c.due s ≡ []
+IsDueBy m c tx touched Committed s = (c.due s ≡ commit_block tx (c.changes tx s)) × AwaitsInstall m.certifier tx touched s
+IsDueBy m c tx touched Refused s = c.due s ≡ refuse_block tx (c.changes tx s)
 
 -- the pledge of the open step's transaction stands at the site, and its block is due by it
 pub record IsDueAt (m : Parts) (c : CoreState) (s : ℕ) (p : Place) (o : Open) : Type 0 where
@@ -100,14 +105,26 @@ pub record IsDueAt (m : Parts) (c : CoreState) (s : ℕ) (p : Place) (o : Open) 
   pub there : slice_get m.table place ≡ Some (Some running)
   pub tx : o.tx ≡ suc (m.before + place)
   pub gathered : Contains (gathered_in c.step) s
+  pub touched : Touches running.draft.touched s
   pub pledge : p.site.pledge ≡ Some (record { tx = o.tx; part = at_site s running.draft.touched })
-  pub due : IsDueBy c o.tx o.phase s
+  pub due : IsDueBy m c o.tx running.draft.touched o.phase s
+
+-- the block of the open step's transaction is written at the site, and the step is still open elsewhere
+pub record IsWrittenAt (m : Parts) (c : CoreState) (s : ℕ) (p : Place) : Type 0 where
+  pub place : ℕ
+  pub running : Running
+  pub there : slice_get m.table place ≡ Some (Some running)
+  pub decided : c.certifier.step ≡ Some (suc (m.before + place))
+  pub gathered : Contains (gathered_in c.step) s
+  pub touched : Touches running.draft.touched s
+  pub pledge : p.site.pledge ≡ None
+  pub due : c.due s ≡ []
 
 -- the open step at a site: nothing, or gathered with its block due, or its block is written
 abbrev pub IsPart : Parts → CoreState → ℕ → Place → Part → Type 0
 IsPart m c s p Idle = (p.site.pledge ≡ None) × (c.due s ≡ []) × (Contains (gathered_in c.step) s → ⊥)
 IsPart m c s p Due = (o : Open) × IsDueAt m c s p o
-IsPart m c s p Written = (p.site.pledge ≡ None) × (c.due s ≡ []) × Contains (gathered_in c.step) s
+IsPart m c s p Written = IsWrittenAt m c s p
 
 -- a site with its part of the open step
 pub record IsPlace (m : Parts) (c : CoreState) (s : ℕ) (p : Place) : Type 0 where
@@ -134,7 +151,7 @@ IsPhase m c o Committed = (c.certifier.step ≡ Some o.tx) × Contains c.certifi
 IsPhase m c o Refused = (c.certifier.step ≡ Some o.tx) × (Contains c.certifier.order o.tx → ⊥)
 
 abbrev pub IsStep : Parts → CoreState → Option Open → Type 0
-IsStep m c None = c.step ≡ None
+IsStep m c None = (c.step ≡ None) × (c.certifier.step ≡ None)
 IsStep m c (Some o) = (gathered : List ℕ) × (c.step ≡ Some (record { tx = o.tx; gathered = gathered })) × IsPhase m c o o.phase
 
 -- the machine stands for this state of the model. The state may have edges that the machine's certifier was not handed
@@ -151,8 +168,6 @@ pub record StandsFor (m : Parts) (c : CoreState) : Type 0 where
   pub running : (k : ℕ) (slot : Option Running) → slice_get m.table k ≡ Some slot → RunsAt c m.before k slot
   pub places : (s : ℕ) (p : Place) → slice_get m.places s ≡ Some p → IsPlace m c s p
   pub step : IsStep m c m.step
-  -- no step is decided yet
-  pub undecided : c.certifier.step ≡ None
 
 -- it stands for some state
 abbrev pub Stands : Parts → Type 0
@@ -175,7 +190,7 @@ close_fault _ = core_fault.Memory
 -- why no core is made of these items, one site's after another's
 abbrev pub RefusesSites : List (List Holding) → SiteFault → Type 0
 RefusesSites sites site_fault.BadItems = All AreItems sites → ⊥
-RefusesSites sites site_fault.Memory = Unit {0}
+RefusesSites sites site_fault.Memory = All AreItems sites
 RefusesSites sites _ = ⊥
 
 -- why there is no bundle

@@ -2,11 +2,15 @@
 #![tactic(auto)]
 
 mod bundling;
+mod deciding;
 mod driver;
 mod gathering;
+mod installing;
 mod laws;
 mod machine;
 mod reply;
+mod whole;
+mod withdrawing;
 
 pub use driver::Core;
 pub use laws::{

@@ -1,21 +1,22 @@
 //! The parts of the core: its sites, its certifier, the drafts of its active transactions, and the open step.
 
-ghost use Rattle.std.specs.Prelude.{◌≡◌, ◌↔◌, ◌<◌, ◌≤◌, true, None, Some, length, slice_get, option_and_then, All, IsTrue, IfOk, IfErr, OnOk, OnErr};
+ghost use Rattle.std.specs.Prelude.{◌≡◌, ◌↔◌, ◌++◌, ◌∷◌, [], ◌<◌, ◌≤◌, true, None, Some, length, slice_get, option_and_then, All, IsTrue, IfOk, IfErr, OnOk, OnErr};
 ghost use Rattle.sgt_names.specs.Draft.{added_to, look_of, seen_at, touched_at, Touches};
 ghost use Rattle.sgt_names.specs.declared.entry.Change.TheVariants as change;
 ghost use Rattle.sgt_notation.specs.declared.event.Event.{Event as AnEvent};
 ghost use Rattle.sgt_notation.specs.declared.event.Event.TheVariants as event;
 ghost use Rattle.sgt_names.specs.Limits.{max_sites};
 ghost use Rattle.sgt_site.specs.State.{AreItems, opened};
-ghost use Rattle.sgt_site.specs.Refused.{RefusesItems};
+ghost use Rattle.sgt_site.specs.declared.fault.SiteFault.TheVariants.{BadItems};
 ghost use Rattle.sgt_core.specs.declared.machine.Part.TheVariants.{Idle};
+ghost use Rattle.sgt_core.specs.declared.machine.Place.{Place as APlace};
 ghost use Rattle.sgt_core.specs.Core.{CoreState, fresh};
 ghost use Rattle.sgt_core.specs.Gathered.{GathersAt, AreReleased};
-ghost use Rattle.sgt_core.specs.Step.{IsOwnOpen, IsOtherOpen, IsOfSite, tx_in, IsRefused, MayStep, MayDecide};
+ghost use Rattle.sgt_core.specs.Step.{IsOwnOpen, IsOtherOpen, IsOfSite, tx_in, IsRefused, MayStep};
 ghost use Rattle.sgt_core.specs.Machine.{parts_of, StandsFor, Stands, GoesOn, IsSlotOf, RefusesItem, RefusesSites, AreOpened, Redrafts, ChangesTo, ReadsTo, ReadsAt, HasRoomAt, close_fault};
 ghost use Rattle.sgt_core.specs.declared.machine.Running.{Running as ARunning};
 
-use crate::gathering::{add_edges, edges_at, is_gathered, misses, pledge_at, release_all};
+use crate::gathering::{add_edges, edges_at, is_gathered, pledge_at, release_all};
 use crate::reply::{CoreFault, Reply};
 use sgt_arena::{Handle, MAX_PLACES};
 use sgt_certifier::{Certifier, CertifierFault};
@@ -135,7 +136,7 @@ impl Machine {
     }
 
     // Whether the open step is that of another transaction.
-    fn other_step(&self, tx: Tx) -> bool
+    pub(crate) fn other_step(&self, tx: Tx) -> bool
         ensures { (c : CoreState) → StandsFor (parts_of self.now) c → IsTrue result ↔ IsOtherOpen c tx }
     {
         match &self.step {
@@ -286,94 +287,12 @@ impl Machine {
     }
 
     // Closes the transaction's step as if it had never been opened.
-    fn give_up(&mut self, tx: Tx)
+    pub(crate) fn give_up(&mut self, tx: Tx)
         ensures places { AreReleased tx self.old.places.items self.new.places.items }
         ensures rest { parts_of self.new ≡ record (parts_of self.old) { places = self.new.places.items; step = None } }
     {
         release_all(&mut self.places, tx);
         self.step = None;
-    }
-
-    /// The transaction is decided. It gives up with E9 for now, where it is gathered wherever it touches.
-    pub(crate) fn decide(&mut self, tx: Tx) -> Reply
-        requires { Stands (parts_of self.old) }
-        ensures { GoesOn (λ c d. MayStep c (event.Decide tx) result d) (parts_of self.old) (parts_of self.new) }
-    {
-        let slot = match self.slot_of(tx) {
-            Ok(slot) => slot,
-            Err(fault) => return refused(fault),
-        };
-        if self.other_step(tx) {
-            return refused(CoreFault::StepOpen);
-        }
-        if misses(self.places.as_slice(), self.running.as_slice(), slot) {
-            return refused(CoreFault::NotGathered);
-        }
-        self.give_up(tx);
-        refused(CoreFault::Memory)
-    }
-
-    /// The transaction's block is written at the site. None is decided yet.
-    pub(crate) fn install(&mut self, tx: Tx, site: SiteNo) -> Reply
-        requires { Stands (parts_of self.old) }
-        ensures { GoesOn (λ c d. MayStep c (event.Install tx site) result d) (parts_of self.old) (parts_of self.new) }
-    {
-        match self.slot_of(tx) {
-            Ok(_) => {}
-            Err(fault) => return refused(fault),
-        }
-        if self.other_step(tx) {
-            return refused(CoreFault::StepOpen);
-        }
-        if site.number() as usize >= self.places.len() {
-            return refused(CoreFault::UnknownItem);
-        }
-        refused(CoreFault::NotGathered)
-    }
-
-    /// The transaction is committed or refused, as a whole. It gives up with E9 for now.
-    pub(crate) fn commit(&mut self, tx: Tx) -> Reply
-        requires { Stands (parts_of self.old) }
-        ensures { GoesOn (λ c d. MayStep c (event.Commit tx) result d) (parts_of self.old) (parts_of self.new) }
-    {
-        match self.slot_of(tx) {
-            Ok(_) => {}
-            Err(fault) => return refused(fault),
-        }
-        if self.step.is_some() {
-            return refused(CoreFault::StepOpen);
-        }
-        refused(CoreFault::Memory)
-    }
-
-    /// The transaction is gathered wherever it touches, and decided. It gives up with E9 for now.
-    pub(crate) fn to_decide(&mut self, tx: Tx) -> Reply
-        requires { Stands (parts_of self.old) }
-        ensures { GoesOn (λ c d. MayDecide c tx result d) (parts_of self.old) (parts_of self.new) }
-    {
-        match self.slot_of(tx) {
-            Ok(_) => {}
-            Err(fault) => return refused(fault),
-        }
-        if self.step.is_some() {
-            return refused(CoreFault::StepOpen);
-        }
-        refused(CoreFault::Memory)
-    }
-
-    /// The transaction is withdrawn. It gives up with E9 for now.
-    pub(crate) fn withdraw(&mut self, tx: Tx) -> Reply
-        requires { Stands (parts_of self.old) }
-        ensures { GoesOn (λ c d. MayStep c (event.Withdraw tx) result d) (parts_of self.old) (parts_of self.new) }
-    {
-        match self.slot_of(tx) {
-            Ok(_) => {}
-            Err(fault) => return refused(fault),
-        }
-        if self.step.is_some() {
-            return refused(CoreFault::StepOpen);
-        }
-        refused(CoreFault::Memory)
     }
 
     /// The transaction reads the item.
@@ -420,7 +339,7 @@ impl Machine {
     }
 }
 
-fn refused(fault: CoreFault) -> Reply
+pub(crate) fn refused(fault: CoreFault) -> Reply
     ensures { result ≡ Reply.Fault fault }
 {
     Reply::Fault { fault }
@@ -535,7 +454,7 @@ fn keep_at(table: &mut Vec<Option<Running>>, slot: usize, site: SiteNo, item: It
 }
 
 // Whether the transaction at a place of the table touches the site.
-fn touches(table: &[Option<Running>], slot: usize, site: SiteNo) -> bool
+pub(crate) fn touches(table: &[Option<Running>], slot: usize, site: SiteNo) -> bool
     requires { slot < length table.now }
     ensures { (r : ARunning) → slice_get table.now slot ≡ Some (Some r) → IsTrue result ↔ Touches r.draft.touched site }
 {
@@ -545,22 +464,33 @@ fn touches(table: &[Option<Running>], slot: usize, site: SiteNo) -> bool
     }
 }
 
-// A site with these items, to which nothing has happened.
-fn opened_place(alloc: Global, number: usize, items: &[Holding]) -> Result<Place, SiteFault>
+// A site with these items, to which nothing has happened. None where there was no memory.
+fn opened_place(alloc: Global, number: usize, items: &[Holding]) -> Result<Option<Place>, SiteFault>
     requires { number < max_sites }
-    ensures ok { IfOk result (λ p. p ≡ record { site = opened number items.now; part = Idle }) }
+    ensures ok { IfOk result (λ o. (p : APlace) → o ≡ Some p → p ≡ record { site = opened number items.now; part = Idle }) }
     ensures allowed { OnOk result (AreItems items.now) }
-    ensures refused { IfErr result (RefusesItems items.now) }
+    ensures refused { IfErr result (λ f. (f ≡ BadItems) × (AreItems items.now → ⊥)) }
 {
     let Ok(number) = SiteNo::new(number as u64) else {
         unreachable!();
     };
     match Site::new(alloc, number, items) {
-        Ok(site) => Ok(Place {
+        Ok(site) => Ok(Some(Place {
             site,
             part: Part::Idle,
-        }),
+        })),
+        Err(SiteFault::Memory) => Ok(None),
         Err(fault) => Err(fault),
+    }
+}
+
+// Adds a site, and says whether it is there and there was memory.
+fn add_place(places: &mut Vec<Place>, place: Option<Place>) -> bool
+    ensures { IsTrue result → (p : APlace) × (place ≡ Some p) × (places.new.items ≡ places.old.items ++ p ∷ []) }
+{
+    match place {
+        Some(place) => places.push(place).is_ok(),
+        None => false,
     }
 }
 
@@ -572,14 +502,13 @@ fn opened_places(alloc: Global, sites: &[Listed<Holding>]) -> Result<Vec<Place>,
     ensures refused { IfErr result (RefusesSites sites.now) }
 {
     let mut places = Vec::new(alloc);
-    if places.reserve(sites.len()).is_err() {
-        return Err(SiteFault::Memory);
-    }
+    let mut has_room = true;
     for i in 0..sites.len() {
-        match opened_place(alloc, i, sites[i].as_slice()) {
-            Ok(place) => places.push_reserved(place),
-            Err(fault) => return Err(fault),
-        }
+        let opened = opened_place(alloc, i, sites[i].as_slice())?;
+        has_room = add_place(&mut places, opened) && has_room;
+    }
+    if !has_room {
+        return Err(SiteFault::Memory);
     }
     Ok(places)
 }

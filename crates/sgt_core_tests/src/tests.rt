@@ -1,5 +1,5 @@
-//! What no contract of the core says: that calls succeed. The worked case of an increment before a read, up to its commit, and
-//! refusals of events.
+//! What no contract of the core says: that calls succeed. The worked case of an increment before a read, with refusals of events;
+//! and a lost update, whose second transaction is refused.
 
 use sgt_core::{Core, CoreFault, Event, Reply};
 use sgt_names::{Holding, Item, Listed, SiteNo, Tx};
@@ -27,6 +27,20 @@ fn read(tx: Tx, site: SiteNo, item: Item) -> Event {
     Event::Read { tx, site, item }
 }
 
+fn put(tx: Tx, site: SiteNo, item: Item) -> Event {
+    let value = 9;
+    Event::Put {
+        tx,
+        site,
+        item,
+        value,
+    }
+}
+
+fn install(tx: Tx, site: SiteNo) -> Event {
+    Event::Install { tx, site }
+}
+
 fn fault(fault: CoreFault) -> Reply {
     Reply::Fault { fault }
 }
@@ -46,6 +60,7 @@ fn read_after_own_increment(rt: HostRuntime) -> Result<(), Fail> {
         tx: one,
         site: here,
     };
+    let write = install(one, here);
     let rows = [
         (Event::Close, Reply::Closed { ranks: 0 }),
         (Event::Begin, Reply::Begun { tx: one }),
@@ -57,11 +72,46 @@ fn read_after_own_increment(rt: HostRuntime) -> Result<(), Fail> {
         (Event::Close, fault(CoreFault::ActiveLeft)),
         (gather, Reply::Gathered),
         (gather, fault(CoreFault::AlreadyDone)),
+        (write, fault(CoreFault::NotGathered)),
+        (Event::Decide { tx: one }, Reply::Yes),
         (Event::Close, fault(CoreFault::StepOpen)),
+        (write, Reply::Installed),
+        (Event::Close, Reply::Closed { ranks: 1 }),
     ];
     let sites = vec![in alloc; site(alloc, 5)?]?;
     let mut core = Core::new(alloc, sites.as_slice())?;
     assert!(rt; answers(&mut core, &rows));
-    assert_eq!(rt; core.active(), 1);
+    assert_eq!(rt; core.active(), 0);
+    Ok(())
+}
+
+#[test]
+fn lost_update(rt: HostRuntime) -> Result<(), Fail> {
+    let alloc = rt.alloc();
+    let (one, two, here) = (Tx::new(1)?, Tx::new(2)?, SiteNo::new(0)?);
+    let x = Item::new(b"x")?;
+    let begun = [
+        (Event::Begin, Reply::Begun { tx: one }),
+        (Event::Begin, Reply::Begun { tx: two }),
+        (read(one, here, x), Reply::Value { value: 5 }),
+        (read(two, here, x), Reply::Value { value: 5 }),
+        (put(one, here, x), Reply::Kept),
+        (put(two, here, x), Reply::Kept),
+        (Event::Commit { tx: one }, Reply::Yes),
+    ];
+    let three = Tx::new(3)?;
+    let ended = [
+        (install(two, here), Reply::Installed),
+        (Event::Begin, Reply::Begun { tx: three }),
+        (read(three, here, x), Reply::Value { value: 9 }),
+        (Event::Withdraw { tx: three }, Reply::Withdrawn),
+        (Event::Close, Reply::Closed { ranks: 1 }),
+    ];
+    let sites = vec![in alloc; site(alloc, 5)?]?;
+    let mut core = Core::new(alloc, sites.as_slice())?;
+    assert!(rt; answers(&mut core, &begun));
+    let decided = core.to_decide(two);
+    assert!(rt; decided == Reply::No);
+    assert!(rt; answers(&mut core, &ended));
     Ok(())
 }

@@ -12,9 +12,9 @@ use Rattle.sgt_names.specs.declared.entry.Change.{Change}
 use Rattle.sgt_workers.specs.declared.ticket.Ending.{Ending}
 use Rattle.sgt_workers.specs.declared.ticket.Ending.TheVariants.{Committed, Refused, Withdrawn}
 use Rattle.sgt_service.specs.Counts.{AreCounted, only_at, with_others, below, block_length, is_at, is_changed_at}
-use Rattle.sgt_service.specs.declared.seat.Counts.{Counts}
+use Rattle.sgt_agreed.specs.declared.counts.EntryCounts.{EntryCounts}
 
-pub counted_set : (f : Counts → Counts) (cs : List Counts) (n : ℕ) (c : Counts) → slice_get cs n ≡ Some c → AreCounted (only_at n f) cs (set cs n (f c))
+pub counted_set : (f : EntryCounts → EntryCounts) (cs : List EntryCounts) (n : ℕ) (c : EntryCounts) → slice_get cs n ≡ Some c → AreCounted (only_at n f) cs (set cs n (f c))
 counted_set f cs n c at = (
   length-set cs n (f c),
   λ site d there. elim (cases_Bool (site == n)) [
@@ -29,7 +29,7 @@ counted_set f cs n c at = (
   ],
 )
 
-pub counted_past : (f : Counts → Counts) (cs : List Counts) (n : ℕ) → length cs ≤ n → AreCounted (only_at n f) cs cs
+pub counted_past : (f : EntryCounts → EntryCounts) (cs : List EntryCounts) (n : ℕ) → length cs ≤ n → AreCounted (only_at n f) cs cs
 counted_past f cs n past = (
   refl,
   λ site d there. elim (cases_Bool (site == n)) [
@@ -43,10 +43,10 @@ counted_past f cs n past = (
 
 -- ---- site after site
 
-abbrev Gains : (ℕ → ℕ) → List Counts → List Counts → Type 0
+abbrev Gains : (ℕ → ℕ) → List EntryCounts → List EntryCounts → Type 0
 Gains lengths old new = AreCounted (λ s. with_others (lengths s)) old new
 
-pub gains_zero : (cs : List Counts) (n k : ℕ) → k ≡ 0 → AreCounted (only_at n (with_others k)) cs cs
+pub gains_zero : (cs : List EntryCounts) (n k : ℕ) → k ≡ 0 → AreCounted (only_at n (with_others k)) cs cs
 gains_zero cs n k zero_k = (
   refl,
   λ site d there. elim (cases_Bool (site == n)) [
@@ -55,10 +55,10 @@ gains_zero cs n k zero_k = (
   ],
 )
 
-pub gains_none : (lengths : ℕ → ℕ) (cs : List Counts) → Gains (below 0 lengths) cs cs
+pub gains_none : (lengths : ℕ → ℕ) (cs : List EntryCounts) → Gains (below 0 lengths) cs cs
 gains_none lengths cs = (refl, λ site d there. let past : nat_lt site 0 ≡ false = le-ltb site 0 (omega arith) in rw past there)
 
-pub gains_next : (lengths : ℕ → ℕ) (n : ℕ) (old mid new : List Counts) → Gains (below n lengths) old mid
+pub gains_next : (lengths : ℕ → ℕ) (n : ℕ) (old mid new : List EntryCounts) → Gains (below n lengths) old mid
     → AreCounted (only_at n (with_others (lengths n))) mid new → Gains (below (n + 1) lengths) old new
 gains_next lengths n old mid new before here = (
   here.0 ∙ before.0,
@@ -85,7 +85,7 @@ gains_next lengths n old mid new before here = (
       ],
 )
 
-pub gains_all : (lengths : ℕ → ℕ) (n : ℕ) (old new : List Counts) → ((s : ℕ) → n ≤ s → lengths s ≡ 0) → Gains (below n lengths) old new → Gains lengths old new
+pub gains_all : (lengths : ℕ → ℕ) (n : ℕ) (old new : List EntryCounts) → ((s : ℕ) → n ≤ s → lengths s ≡ 0) → Gains (below n lengths) old new → Gains lengths old new
 gains_all lengths n old new none gains = (
   gains.0,
   λ site d there.

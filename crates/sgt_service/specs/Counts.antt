@@ -4,27 +4,27 @@ use Rattle.sgt_names.specs.Draft.{at_site, writing_in}
 use Rattle.sgt_names.specs.declared.draft.Touch.{Touch}
 use Rattle.sgt_workers.specs.declared.ticket.Ending.{Ending}
 use Rattle.sgt_workers.specs.declared.ticket.Ending.TheVariants.{Withdrawn}
-use Rattle.sgt_service.specs.declared.seat.Counts.{Counts}
+use Rattle.sgt_agreed.specs.declared.counts.EntryCounts.{EntryCounts}
 
 -- a count of 64 bits stays at its greatest number
 abbrev pub capped : ℕ → ℕ
 capped n = min n (2 ^ 64 - 1)
 
 -- after one more logged read, and after so many more other entries
-abbrev pub with_read : Counts → Counts
+abbrev pub with_read : EntryCounts → EntryCounts
 with_read c = record c { reads = capped (c.reads + 1) }
 
-abbrev pub with_others : ℕ → Counts → Counts
+abbrev pub with_others : ℕ → EntryCounts → EntryCounts
 with_others zero c = c
 with_others (suc n) c = record c { others = capped (c.others + suc n) }
 
 -- the counts of each site have become what the function tells of it
-abbrev pub AreCounted : (ℕ → Counts → Counts) → List Counts → List Counts → Type 0
+abbrev pub AreCounted : (ℕ → EntryCounts → EntryCounts) → List EntryCounts → List EntryCounts → Type 0
 AreCounted f old new =
-    (length new ≡ length old) × ((site : ℕ) (c : Counts) → slice_get old site ≡ Some c → slice_get new site ≡ Some (f site c))
+    (length new ≡ length old) × ((site : ℕ) (c : EntryCounts) → slice_get old site ≡ Some c → slice_get new site ≡ Some (f site c))
 
 -- the change at one site alone
-abbrev pub only_at : ℕ → (Counts → Counts) → ℕ → Counts → Counts
+abbrev pub only_at : ℕ → (EntryCounts → EntryCounts) → ℕ → EntryCounts → EntryCounts
 only_at here f site c = if site == here then f c else c
 
 -- how many entries the block has that ends a transaction so at a site where it touches these items: none where it touches none,

@@ -6,10 +6,10 @@ use Rattle.sgt_service.specs.Counts.{AreCounted, with_others, blocks_of, below}
 use Rattle.sgt_service.specs.Refused.{IsOfCall}
 use Rattle.sgt_service.specs.declared.active.Active.{Active}
 use Rattle.sgt_service.specs.declared.active.Back.{Back}
-use Rattle.sgt_service.specs.declared.seat.Counts.{Counts}
+use Rattle.sgt_agreed.specs.declared.counts.EntryCounts.{EntryCounts}
 use Rattle.sgt_service.specs.declared.seat.Seat.{Seat}
 
-abbrev pub no_counts : Counts
+abbrev pub no_counts : EntryCounts
 no_counts = record { reads = 0; others = 0 }
 
 module _ {L : Type 0} where

@@ -2,15 +2,15 @@
 use Rattle.std.specs.Prelude.{ℕ, ◌+◌, List, [], ◌∷◌, replicate, sum_by, fold}
 use Rattle.sgt_service.specs.Counts.{capped}
 use Rattle.sgt_service.specs.Seats.{no_counts}
-use Rattle.sgt_service.specs.declared.seat.Counts.{Counts}
+use Rattle.sgt_agreed.specs.declared.counts.EntryCounts.{EntryCounts}
 use Rattle.sgt_service.specs.declared.seat.Seat.{Seat}
 
 -- the counts of two together
-abbrev pub both : Counts → Counts → Counts
+abbrev pub both : EntryCounts → EntryCounts → EntryCounts
 both mine theirs = record { reads = capped (mine.reads + theirs.reads); others = capped (mine.others + theirs.others) }
 
 -- the counts at each site, with those of a seat
-abbrev pub added : List Counts → List Counts → List Counts
+abbrev pub added : List EntryCounts → List EntryCounts → List EntryCounts
 added [] theirs = []
 added (c ∷ cs) [] = c ∷ cs
 added (c ∷ cs) (t ∷ ts) = both c t ∷ added cs ts
@@ -23,5 +23,5 @@ module _ {L : Type 0} where
   amount_of seats = sum_by (λ (s : Seat L). s.share.amount) seats
 
   -- what they counted together at each of so many sites
-  abbrev pub counts_of : ℕ → List (Seat L) → List Counts
+  abbrev pub counts_of : ℕ → List (Seat L) → List EntryCounts
   counts_of sites seats = fold (λ counts (s : Seat L). added counts s.counts.items) (replicate sites no_counts) seats

@@ -13,5 +13,6 @@ mod service;
 
 pub use active::{Active, Back};
 pub use opened::Opened;
-pub use seat::{Counts, Seat};
+pub use seat::Seat;
 pub use service::Service;
+pub use sgt_agreed::EntryCounts;

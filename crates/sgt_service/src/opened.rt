@@ -4,8 +4,9 @@ ghost use Rattle.std.specs.Prelude.{◌≡◌, IfOk, vec_len};
 ghost use Rattle.sgt_service.specs.Together.{added, both};
 
 use crate::guarded::Guarded;
-use crate::seat::{Counts, Seat};
+use crate::seat::Seat;
 use crate::service::Service;
+use sgt_agreed::EntryCounts;
 use sgt_certifier::Certifier;
 use sgt_site::Site;
 use std::alloc::{AllocError, Global};
@@ -17,7 +18,7 @@ use std::sync::ledger::{Ledger, Share};
 pub struct Opened {
     pub certifier: Certifier,
     pub sites: Vec<Site>,
-    pub counts: Vec<Counts>,
+    pub counts: Vec<EntryCounts>,
 }
 
 impl<L: Ledger> Service<L> {
@@ -61,12 +62,12 @@ impl<L: Ledger> Service<L> {
         mut all: Share<L>,
         seats: Vec<Seat<L>>,
         sites: usize,
-    ) -> Result<(Share<L>, Vec<Counts>), AllocError>
+    ) -> Result<(Share<L>, Vec<EntryCounts>), AllocError>
         ensures parts { IfOk result (λ r. r.0.parts ≡ all.parts + parts_of seats.items) }
         ensures amount { IfOk result (λ r. r.0.amount ≡ all.amount + amount_of seats.items) }
         ensures counts { IfOk result (λ r. r.1.items ≡ counts_of sites seats.items) }
     {
-        let nothing = Counts {
+        let nothing = EntryCounts {
             reads: 0,
             others: 0,
         };
@@ -95,7 +96,7 @@ fn unlocked(alloc: Global, sites: Vec<Mutex<Site>>) -> Result<Vec<Site>, AllocEr
 }
 
 // Adds what one seat counted at each site.
-fn add_counts(counts: &mut Vec<Counts>, theirs: &[Counts])
+fn add_counts(counts: &mut Vec<EntryCounts>, theirs: &[EntryCounts])
     ensures { counts.new.items ≡ added counts.old.items theirs.now }
 {
     for site in 0..counts.len() {
@@ -106,10 +107,10 @@ fn add_counts(counts: &mut Vec<Counts>, theirs: &[Counts])
     }
 }
 
-fn both(mine: Counts, theirs: Counts) -> Counts
+fn both(mine: EntryCounts, theirs: EntryCounts) -> EntryCounts
     ensures { result ≡ both mine theirs }
 {
-    Counts {
+    EntryCounts {
         reads: mine.reads.saturating_add(theirs.reads),
         others: mine.others.saturating_add(theirs.others),
     }

@@ -3,23 +3,15 @@
 ghost use Rattle.std.specs.Prelude.{◌≡◌, ◌<◌};
 ghost use Rattle.sgt_service.specs.Counts.{with_read, with_others};
 
+use sgt_agreed::EntryCounts;
 use sgt_names::SiteNo;
 use std::sync::ledger::{Ledger, Share};
-
-/// How many entries of a site's log were written from one seat. At the greatest number of 64 bits a count stays.
-#[derive(Clone, Copy, Debug, PartialEq, Eq)]
-pub struct Counts {
-    /// Reads.
-    pub reads: u64,
-    /// Writes, increments, what was asked for in vain, and ends.
-    pub others: u64,
-}
 
 /// One worker's part of the ledger of decisions, with its counts at each site.
 #[derive(Drop)]
 pub struct Seat<L: Ledger> {
     pub(crate) share: Share<L>,
-    pub(crate) counts: Vec<Counts>,
+    pub(crate) counts: Vec<EntryCounts>,
     pub ghost some_part: { 0 < share.parts },
 }
 
@@ -28,7 +20,7 @@ impl<L: Ledger> Seat<L> {
     ghost use Rattle.sgt_service.specs.Counts.{AreCounted, only_at, with_read, with_others};
 
     /// The counts, by the sites' numbers.
-    pub fn counts(&self) -> &[Counts]
+    pub fn counts(&self) -> &[EntryCounts]
         ensures { result.now ≡ self.now.counts.items }
     {
         self.counts.as_slice()
@@ -59,19 +51,19 @@ impl<L: Ledger> Seat<L> {
     }
 }
 
-fn with_read(counts: Counts) -> Counts
+fn with_read(counts: EntryCounts) -> EntryCounts
     ensures { result ≡ with_read counts }
 {
-    Counts {
+    EntryCounts {
         reads: counts.reads.saturating_add(1),
         others: counts.others,
     }
 }
 
-fn with_others(counts: Counts, more: u64) -> Counts
+fn with_others(counts: EntryCounts, more: u64) -> EntryCounts
     ensures { result ≡ with_others more counts }
 {
-    Counts {
+    EntryCounts {
         reads: counts.reads,
         others: counts.others.saturating_add(more),
     }

@@ -10,8 +10,8 @@ ghost use Rattle.sgt_service.specs.Refused.{RefusesSites};
 
 use crate::active::Active;
 use crate::guarded::Guarded;
-use crate::seat::{Counts, Seat};
-use sgt_agreed::ServiceFault;
+use crate::seat::Seat;
+use sgt_agreed::{EntryCounts, ServiceFault};
 use sgt_names::{Draft, Holding, Item, Listed, SiteNo, Value};
 use sgt_site::{Site, SiteFault};
 use std::alloc::{AllocError, Global};
@@ -81,7 +81,7 @@ impl<L: Ledger> Service<L> {
         requires { (rest.parts ≡ count) × (rest.amount ≡ 0) }
         ensures { IfOk result (λ seats. (vec_len seats ≡ count) × All (IsNew sites) seats.items) }
     {
-        let nothing = Counts {
+        let nothing = EntryCounts {
             reads: 0,
             others: 0,
         };

@@ -5,7 +5,7 @@ ghost use Rattle.std.specs.Prelude.{◌≡◌};
 use sgt_agreed::ServiceFault;
 use sgt_certifier::CertifierFault;
 use sgt_names::{Entry, Holding, Item, Listed, SiteNo, Tx};
-use sgt_service::{Active, Counts, Seat, Service};
+use sgt_service::{Active, EntryCounts, Seat, Service};
 use sgt_workers::{Ending, Ticket};
 use std::alloc::Global;
 use std::marker::Brand;
@@ -129,7 +129,7 @@ fn only_cycle_as<L: Ledger, R: Wait + Abort>(
     let second = committed(rt, alloc, &service, &mut seat, other);
     assert_eq!(rt; first, ticket(0, of.first, Ending::Committed));
     assert_eq!(rt; second, ticket(1, of.second, Ending::Refused));
-    let counts = Counts {
+    let counts = EntryCounts {
         reads: 2,
         others: 4,
     };
@@ -178,7 +178,7 @@ fn withdrawn_as<L: Ledger, R: Wait + Abort>(
         Entry::Withdraw { tx: of.first },
     ];
     assert_eq!(rt; site.log(), log.as_slice());
-    let counts = Counts {
+    let counts = EntryCounts {
         reads: 1,
         others: 1,
     };

@@ -11,7 +11,8 @@ pub mod Ticketing
 pub mod Rising
 pub mod Fitting
 pub mod Tallying
+pub mod Tabling
+pub mod Acting
 pub mod Telling
 pub mod Settling
-pub mod Counting
 pub mod Whole

@@ -77,19 +77,19 @@ adds_row rows from arc new p cut a b = (
       ],
 )
 
--- no row has an edge
-abbrev pub AreBare : List (Vec Arc Global) → Type 0
-AreBare rows = (k : ℕ) (row : Vec Arc Global) → slice_get rows k ≡ Some row → row.items ≡ []
+-- no row has an element
+abbrev pub AreBare : {T : Type 0} → List (Vec T Global) → Type 0
+AreBare {T} rows = (k : ℕ) (row : Vec T Global) → slice_get rows k ≡ Some row → row.items ≡ []
 
-pub bare_push : (rows : List (Vec Arc Global)) (new : Vec Arc Global) → AreBare rows → new.items ≡ [] → AreBare (rows ++ new ∷ [])
+pub bare_push : {T : Type 0} (rows : List (Vec T Global)) (new : Vec T Global) → AreBare rows → new.items ≡ [] → AreBare (rows ++ new ∷ [])
 bare_push rows new bare none k row at =
     elim (get_push_cases rows new row k at) [
       | inl early ↦ bare k row early
       | inr last ↦ subst (λ v. v.items ≡ []) last.1 none
     ]
 
-pub bare_end : (rows : List (Vec Arc Global)) → AreBare rows → (cut : Cut) (a b : ℕ) → InRows rows cut a b → ⊥
-bare_end rows bare cut a b e = none-some e.2.1 (subst (λ xs. slice_get xs e.2.0 ≡ Some e.2.1) (bare a e.0 e.1) e.2.2)
+pub bare_end : {T : Type 0} (rows : List (Vec T Global)) → AreBare rows → (k n : ℕ) (x : T) → At rows k n x → ⊥
+bare_end rows bare k n x e = none-some x (subst (λ xs. slice_get xs n ≡ Some x) (bare k e.0 e.1) e.2)
 
 links_next : (links : List Link) (n : ℕ) (l : Link) (cut : Cut) (a b : ℕ) → slice_get links n ≡ Some l → LinksBy (take (n + 1) links) cut a b → LinksBy (take n links) cut a b ⊎ ((l.from ≡ a) × (l.to ≡ b) × Passes cut l.label l.number)
 links_next links n l cut a b at h =
@@ -131,11 +131,11 @@ entering_next links n l rows new at hold adds cut a b = (
       ]),
 )
 
-pub leaving_none : (links : List Link) (rows : List (Vec Arc Global)) → ((cut : Cut) (a b : ℕ) → InRows rows cut a b → ⊥) → Hold rows (LinksBy (take 0 links))
-leaving_none links rows none cut a b = (λ i. absurd (none cut a b i), λ h. absurd (none-some h.1 h.2))
+pub leaving_none : (links : List Link) (rows : List (Vec Arc Global)) → ((k n : ℕ) (arc : Arc) → At rows k n arc → ⊥) → Hold rows (LinksBy (take 0 links))
+leaving_none links rows none cut a b = (λ e. let i = in_at rows cut a b e in absurd (none a i.0 i.1 i.2), λ h. absurd (none-some h.1 h.2))
 
-pub entering_none : (links : List Link) (rows : List (Vec Arc Global)) → ((cut : Cut) (a b : ℕ) → InRows rows cut a b → ⊥) → Hold rows (λ cut a b. LinksBy (take 0 links) cut b a)
-entering_none links rows none cut a b = (λ i. absurd (none cut a b i), λ h. absurd (none-some h.1 h.2))
+pub entering_none : (links : List Link) (rows : List (Vec Arc Global)) → ((k n : ℕ) (arc : Arc) → At rows k n arc → ⊥) → Hold rows (λ cut a b. LinksBy (take 0 links) cut b a)
+entering_none links rows none cut a b = (λ e. let i = in_at rows cut a b e in absurd (none a i.0 i.1 i.2), λ h. absurd (none-some h.1 h.2))
 
 -- a slice that was lent, back in its list
 pub written_back : {A : Type 0} (items new : List A) (n : ℕ) → n ≡ length new → take n (new ++ drop (length new) items) ≡ new

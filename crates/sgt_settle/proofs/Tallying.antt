@@ -1,14 +1,17 @@
 -- The tickets of the Dones, and how many of them have a number.
-use Rattle.std.proofs.Common.{◌≡◌, ◌∙◌, ◌++◌, ◌∷◌, [], ◌+◌, ◌≤◌, ℕ, List, take, sym, ap, arith, Some, Bool, true, refl, inl, inr, Contains}
-use Rattle.std.specs.Prelude.{slice_get, count_by, cond, ◌==◌}
+use Rattle.std.proofs.Common.{◌≡◌, ◌≢◌, ◌∙◌, ◌++◌, ◌∷◌, [], ◌+◌, ◌≤◌, ℕ, List, length, take, sym, ap, arith, Some, Bool, true, refl, inl, inr, Contains, subst}
+use Rattle.std.specs.Prelude.{slice_get, slice_set, count_by, cond, min, ◌==◌}
 use Rattle.std.proofs.lemmas.Grind.{flat_map-append}
 use Rattle.std.proofs.lemmas.List.{append-nil}
 use Rattle.std.proofs.lemmas.List.Recursion.{is_count_by}
-use Rattle.std.proofs.lemmas.Bool.{cases_Bool, eqb-true}
+use Rattle.std.proofs.lemmas.Bool.{cases_Bool, cases_eq, eqb-true, eq-eqb, ne_eqb}
+use Rattle.std.proofs.lemmas.Option.{same_Some, none-some, slice_get_within}
+use Rattle.sgt_order.proofs.Lists.{get_set_same, get_set_other}
 use Rattle.sgt_certifier.proofs.Members.{cons_here, cons_later}
 use Rattle.sgt_workers.specs.declared.ticket.Ticket.{Ticket}
 use Rattle.sgt_workers.specs.declared.ticket.Done.{Done}
 use Rattle.sgt_settle.specs.Settled.{tickets_of, count_of}
+use Rattle.sgt_settle.specs.private.Tickets.{AreTallies}
 use Rattle.sgt_settle.proofs.Lists.{take_on}
 
 pub tickets_on : (dones : List Done) (n : ℕ) (d : Done) → slice_get dones n ≡ Some d → tickets_of (take (n + 1) dones) ≡ tickets_of (take n dones) ++ d.tickets.items
@@ -62,3 +65,41 @@ count_of-some number ts h =
     let a = counted_is p ts in
     let r = counted_some p ts (omega (arith, h, a)) in
     (r.0, r.1, eqb-true r.0.number number r.2)
+
+-- ---- one more ticket
+
+count_hit : (k : ℕ) (ts : List Ticket) (t : Ticket) → t.number ≡ k → count_of k (ts ++ t ∷ []) ≡ count_of k ts + 1
+count_hit k ts t same =
+    let p : Ticket → Bool = λ x. x.number == k in
+    let one : count_of k (t ∷ []) ≡ 1 = count_next p t [] ∙ ap (λ b. cond b 1 0) (eq-eqb t.number k same) in
+    count_of-append k ts (t ∷ []) ∙ ap (λ m. count_of k ts + m) one
+
+count_miss : (k : ℕ) (ts : List Ticket) (t : Ticket) → t.number ≢ k → count_of k (ts ++ t ∷ []) ≡ count_of k ts
+count_miss k ts t other =
+    let p : Ticket → Bool = λ x. x.number == k in
+    let none : count_of k (t ∷ []) ≡ 0 = count_next p t [] ∙ ap (λ b. cond b 1 0) (ne_eqb t.number k other) in
+    let both = count_of-append k ts (t ∷ []) in
+    omega (arith, both, none)
+
+pub tallies_hit : (tallies : List ℕ) (ts : List Ticket) (t : Ticket) (tally more : ℕ) → slice_get tallies t.number ≡ Some tally → more ≡ min 2 (tally + 1) → AreTallies tallies ts → AreTallies (slice_set tallies t.number more) (ts ++ t ∷ [])
+tallies_hit tallies ts t tally more here is are k found at =
+    elim (cases_eq t.number k) [
+      | inl same ↦
+          let known : more ≡ found = same_Some more found (sym (get_set_same tallies t.number more (slice_get_within tallies t.number tally here)) ∙ (ap (slice_get (slice_set tallies t.number more)) same ∙ at)) in
+          let was : tally ≡ min 2 (count_of t.number ts) = are t.number tally here in
+          let old : count_of t.number ts ≡ count_of k ts = ap (λ j. count_of j ts) same in
+          let now = count_hit k ts t same in
+          omega (arith, known, is, was, old, now)
+      | inr other ↦
+          let was = are k found (sym (get_set_other tallies t.number k more (λ e. other (sym e))) ∙ at) in
+          let now = count_miss k ts t other in
+          omega (arith, was, now)
+    ]
+
+-- a number that the table doesn't have
+pub tallies_miss : (tallies : List ℕ) (ts : List Ticket) (t : Ticket) → length tallies ≤ t.number → AreTallies tallies ts → AreTallies tallies (ts ++ t ∷ [])
+tallies_miss tallies ts t high are k found at =
+    let low = slice_get_within tallies k found at in
+    let was = are k found at in
+    let now = count_miss k ts t (λ same. omega (arith, same, low, high)) in
+    omega (arith, was, now)

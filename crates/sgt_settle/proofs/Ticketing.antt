@@ -49,11 +49,14 @@ decision_rules before (call.Withdraw h number) is = (withdrawn (tx_at before h),
 decision_rules before (call.Close ranks) is = absurd cc
 decision_rules before (call.Installed tx site items) is = absurd cc
 
-step_whole : (history : List Call) (n begun before number sought : ℕ) (c : Call) → IsWalked history n begun before number sought → slice_get history n ≡ Some c → (met : List Ruling) × (rulings_from 0 0 history ≡ (met ++ rulings_from 0 before (c ∷ [])) ++ rulings_from (windows_after begun before c).0 (windows_after begun before c).1 (drop (n + 1) history)) × (length met ≡ number)
-step_whole history n begun before number sought c w at =
+pub step_on : (history : List Call) (n begun before : ℕ) (met : List Ruling) (c : Call) → rulings_from 0 0 history ≡ met ++ rulings_from begun before (drop n history) → slice_get history n ≡ Some c → rulings_from 0 0 history ≡ (met ++ rulings_from 0 before (c ∷ [])) ++ rulings_from (windows_after begun before c).0 (windows_after begun before c).1 (drop (n + 1) history)
+step_on history n begun before met c whole at =
     let rest : rulings_from begun before (drop n history) ≡ rulings_from 0 before (c ∷ []) ++ rulings_from (windows_after begun before c).0 (windows_after begun before c).1 (drop (n + 1) history) =
     ap (rulings_from begun before) (drop_on history n c at) ∙ rulings_split begun before c (drop (n + 1) history) in
-    (w.met, w.whole ∙ (ap (λ xs. w.met ++ xs) rest ∙ sym (append_assoc w.met (rulings_from 0 before (c ∷ [])) _)), w.many)
+    whole ∙ (ap (λ xs. met ++ xs) rest ∙ sym (append_assoc met (rulings_from 0 before (c ∷ [])) _))
+
+step_whole : (history : List Call) (n begun before number sought : ℕ) (c : Call) → IsWalked history n begun before number sought → slice_get history n ≡ Some c → (met : List Ruling) × (rulings_from 0 0 history ≡ (met ++ rulings_from 0 before (c ∷ [])) ++ rulings_from (windows_after begun before c).0 (windows_after begun before c).1 (drop (n + 1) history)) × (length met ≡ number)
+step_whole history n begun before number sought c w at = (w.met, step_on history n begun before w.met c w.whole at, w.many)
 
 head_same : (a b : Ruling) → a ∷ [] ≡ b ∷ [] → a ≡ b
 head_same a b e = cc

@@ -2,6 +2,6 @@
 pub mod Words
 pub mod Search
 pub mod Index
+pub mod Acts
 pub mod Tickets
 pub mod Sites
-pub mod Versions

@@ -1,11 +1,12 @@
 //! Whether the tickets of a run, the history of its certifier and the logs of its sites hold together.
 #![tactic(auto)]
 
+mod acts;
 mod carried;
 mod check;
 mod committed;
 mod counts;
-mod fault;
+mod decisions;
 mod handed;
 mod index;
 mod laws;
@@ -16,11 +17,10 @@ mod names;
 mod rows;
 mod search;
 mod sites;
+mod tallies;
 mod tickets;
 mod versions;
 
 pub use check::check_settled;
-pub use counts::EntryCounts;
-pub use fault::SettleFail;
 pub use handed::Handed;
 pub use laws::settled_has_no_fault;

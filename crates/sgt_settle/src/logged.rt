@@ -1,11 +1,14 @@
 //! Whether an edge is a conflict of a log.
 
-ghost use Rattle.std.specs.Prelude.{◌≡◌, ◌↔◌, ◌<◌, ℕ, IsTrue, Some, slice_get};
-ghost use Rattle.sgt_names.specs.Entry.{tx_of, Clash};
+ghost use Rattle.std.specs.Prelude.{◌≡◌, ◌↔◌, ◌<◌, ℕ, List, IsTrue, Some, length, slice_get};
+ghost use Rattle.sgt_names.specs.Entry.{Clash};
 ghost use Rattle.sgt_names.specs.Log.{Conflicts};
 ghost use Rattle.sgt_names.specs.declared.entry.Entry.{Entry as AnEntry};
+ghost use Rattle.sgt_settle.specs.declared.acts.Act.{Act as AnAct};
 ghost use Rattle.sgt_settle.specs.private.Index.{IsLoggedBy};
+ghost use Rattle.sgt_settle.specs.private.Acts.{AreActs, AreBetween, AreNamedBelow};
 
+use crate::acts::Act;
 use crate::names::tx_under;
 use sgt_edges::Edge;
 use sgt_names::{Entry, Item, Kind, Tx};
@@ -25,13 +28,25 @@ pub(crate) fn clash(kind: Kind, item: &Item, first: &Entry, second: &Entry) -> b
     }
 }
 
-// Whether an entry of the transaction that is in such a conflict with the one at the place stands behind it.
-fn is_followed(log: &[Entry], place: usize, first: &Entry, to: Tx, kind: Kind, item: &Item) -> bool
-    ensures { IsTrue result ↔ ((q : ℕ) × (f : AnEntry) × (place < q) × (slice_get log.now q ≡ Some f) × (tx_of f ≡ to)
-        × Clash kind item.now first.now f) }
+// Whether one of these acts, behind the first, is in such a conflict with it.
+fn is_followed(first: &Act, acts: &[Act], kind: Kind, item: &Item) -> bool
+    ensures { IsTrue result ↔ ((m : ℕ) × (b : AnAct) × (slice_get acts.now m ≡ Some b) × (first.now.place < b.place)
+        × Clash kind item.now first.now.entry b.entry) }
 {
-    for (at, second) in log.iter().enumerate() {
-        if place < at && second.tx() == to && clash(kind, item, first, second) {
+    for second in acts {
+        if first.place < second.place && clash(kind, item, &first.entry, &second.entry) {
+            return true;
+        }
+    }
+    false
+}
+
+// Whether one of these acts precedes and conflicts with one of the others.
+fn are_between(from: &[Act], to: &[Act], kind: Kind, item: &Item) -> bool
+    ensures { IsTrue result ↔ AreBetween from.now to.now kind item.now }
+{
+    for first in from {
+        if is_followed(first, to, kind, item) {
             return true;
         }
     }
@@ -39,23 +54,23 @@ fn is_followed(log: &[Entry], place: usize, first: &Entry, to: Tx, kind: Kind, i
 }
 
 // Whether an entry of one transaction precedes and conflicts with one of the other.
-fn is_between(log: &[Entry], from: Tx, to: Tx, kind: Kind, item: &Item) -> bool
-    ensures { IsTrue result ↔ Conflicts log.now kind item.now from to }
+fn is_between(acts: &[Vec<Act>], from: Tx, to: Tx, kind: Kind, item: &Item) -> bool
+    requires from { from < length acts.now }
+    requires to { to < length acts.now }
+    ensures { (log : List AnEntry) → AreActs log acts.now → IsTrue result ↔ Conflicts log kind item.now from to }
 {
     if from == to {
         return false;
     }
-    for (place, first) in log.iter().enumerate() {
-        if first.tx() == from && is_followed(log, place, first, to, kind, item) {
-            return true;
-        }
-    }
-    false
+    let start = from.number() as usize;
+    let end = to.number() as usize;
+    are_between(acts[start].as_slice(), acts[end].as_slice(), kind, item)
 }
 
-/// Whether the edge is a conflict of the log with its label, and its ends have names.
-pub(crate) fn is_logged(windows: &[Vec<Tx>], log: &[Entry], edge: &Edge) -> bool
-    ensures { IsTrue result ↔ IsLoggedBy windows.now log.now edge.now }
+/// Whether the edge is a conflict of the log with its label, and its ends have names. The cost is what the two transactions did there.
+pub(crate) fn is_logged(windows: &[Vec<Tx>], acts: &[Vec<Act>], edge: &Edge) -> bool
+    requires { AreNamedBelow windows.now (length acts.now) }
+    ensures { (log : List AnEntry) → AreActs log acts.now → IsTrue result ↔ IsLoggedBy windows.now log edge.now }
 {
     let Some(from) = tx_under(windows, edge.from) else {
         return false;
@@ -63,5 +78,5 @@ pub(crate) fn is_logged(windows: &[Vec<Tx>], log: &[Entry], edge: &Edge) -> bool
     let Some(to) = tx_under(windows, edge.to) else {
         return false;
     };
-    is_between(log, from, to, edge.label.kind, &edge.label.item)
+    is_between(acts, from, to, edge.label.kind, &edge.label.item)
 }

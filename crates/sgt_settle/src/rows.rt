@@ -1,9 +1,8 @@
 //! The edges between committed transactions, by the transaction at one end.
 
 ghost use Rattle.std.specs.Prelude.{◌≡◌, ◌<◌, ℕ, length, OnOk, IfOk};
-ghost use Rattle.sgt_settle.specs.private.Words.{Pushed};
-ghost use Rattle.sgt_settle.specs.private.Search.{InRows, Hold, LinksBy, AreEnds};
-ghost use Rattle.sgt_settle.specs.declared.link.Cut.{Cut as ACut};
+ghost use Rattle.sgt_settle.specs.private.Words.{At, Pushed};
+ghost use Rattle.sgt_settle.specs.private.Search.{Hold, LinksBy, AreEnds};
 
 use crate::link::{Arc, Link};
 use std::alloc::{AllocError, Global};
@@ -19,10 +18,10 @@ pub(crate) fn push_at<T: Copy>(rows: &mut [Vec<T>], at: usize, x: T) -> Result<(
     Ok(())
 }
 
-// A row without edges for each transaction.
-fn no_edges(alloc: Global, all: usize) -> Result<Vec<Vec<Arc>>, AllocError>
+/// So many rows with nothing in them.
+pub(crate) fn no_rows<T: Copy>(alloc: Global, all: usize) -> Result<Vec<Vec<T>>, AllocError>
     ensures long { IfOk result (λ rows. length rows.items ≡ all) }
-    ensures none { IfOk result (λ rows. (cut : ACut) (a b : ℕ) → InRows rows.items cut a b → ⊥) }
+    ensures none { IfOk result (λ rows. (k n : ℕ) (x : T) → At rows.items k n x → ⊥) }
 {
     let mut rows = Vec::new(alloc);
     for _at in 0..all {
@@ -42,7 +41,7 @@ pub(crate) fn leaving(
     ensures long { IfOk result (λ rows. length rows.items ≡ all) }
     ensures hold { IfOk result (λ rows. Hold rows.items (LinksBy links.now)) }
 {
-    let mut rows = no_edges(alloc, all)?;
+    let mut rows = no_rows(alloc, all)?;
     for link in links {
         let arc = Arc {
             to: link.to,
@@ -64,7 +63,7 @@ pub(crate) fn entering(
     ensures long { IfOk result (λ rows. length rows.items ≡ all) }
     ensures hold { IfOk result (λ rows. Hold rows.items (λ cut a b. LinksBy links.now cut b a)) }
 {
-    let mut rows = no_edges(alloc, all)?;
+    let mut rows = no_rows(alloc, all)?;
     for link in links {
         let arc = Arc {
             to: link.from,

@@ -1,8 +1,10 @@
 -- What was judged of a text that a reader tells.
-use Rattle.std.specs.Prelude.{◌≡◌, ◌≤◌, ◌+◌, ℕ, List, [], ◌++◌, length, Option, IfSome}
+use Rattle.std.specs.Prelude.{◌≡◌, ◌≤◌, ◌+◌, ℕ, List, [], ◌++◌, length, Option, Some, None, IfSome, ⊤}
 use Rattle.sgt_notation.specs.Spelling.{text_of_lines, HasNoLf}
+use Rattle.sgt_notation.specs.Lines.{Ahead, coming}
 use Rattle.sgt_notation.specs.declared.SectionLine.{SectionLine}
 use Rattle.sgt_cert.specs.Text.{AreSections}
+use Rattle.sgt_audit.specs.declared.faults.Fault.{Fault}
 use Rattle.sgt_audit.specs.declared.machine.Progress.{Progress}
 use Rattle.sgt_audit.specs.declared.reading.Stop.{Stop}
 use Rattle.sgt_audit.specs.declared.reading.Stop.TheVariants as stop
@@ -12,6 +14,21 @@ use Rattle.sgt_audit.specs.Faults.{Stage, FirstFault, complete, last, lines_so_f
 use Rattle.sgt_audit.specs.Kept.{Means}
 use Rattle.sgt_audit.specs.private.Ending.{limit_of}
 use Rattle.sgt_audit.specs.Progress.{Stands}
+
+-- the bytes are the lines of the stage and then what comes
+abbrev pub IsRest : Stage → Option (List ℕ) → Option (List ℕ) → Type 0
+IsRest s None coming = ⊤
+IsRest s (Some bytes) None = ⊥
+IsRest s (Some bytes) (Some rest) = bytes ≡ text_of_lines (lines_so_far s) ++ rest
+
+-- the machine stands at a stage of the text, and this is the number of the next line
+abbrev pub Goes : Option (List ℕ) → Progress → Option (List ℕ) → ℕ → Type 0
+Goes told p coming n = (s : Stage) × Stands p s × IsRest s told coming × (n ≡ length (lines_so_far s) + 1)
+
+-- the lines that were held whole were fed: the machine stands behind them, or the last of them has the first fault of the text
+abbrev pub FedHeld : Option (List ℕ) → Option (List ℕ) → Progress → Ahead → ℕ → Option Fault → Type 0
+FedHeld all told p ahead n None = Goes all p (coming ahead told) n
+FedHeld all told p ahead n (Some f) = IfSome all (λ bytes. FirstFault bytes n f)
 
 -- where reading stopped, with these bytes behind the last LF: at the first fault of the text that was told, or at its end
 abbrev pub IsStop : Option (List ℕ) → Stop → Progress → List ℕ → Type 0

@@ -1,6 +1,6 @@
 use Rattle.std.proofs.Common.{◌≡◌, ◌≤◌, ◌+◌}
 use Rattle.sgt_notation.specs.Lines.{coming, most_left, Spends}
-use Rattle.sgt_audit.proofs.ReaderAtStage.{Goes}
+use Rattle.sgt_audit.specs.private.Stops.{Goes}
 use Rattle.sgt_audit.proofs.reading.feed_lines.Given as goal
 
 abbrev pub invariant-lines : goal.invariant-lines

@@ -1,7 +1,7 @@
 use Rattle.std.proofs.Common.{refl, subst}
 use Rattle.std.specs.Option.{option_to_list}
 use Rattle.std.proofs.lemmas.Option.{get_or_from_slice_get}
-use Rattle.sgt_cells.specs.Records.{IsTouched}
+use Rattle.sgt_cells.specs.private.Deeds.{IsTouched}
 use Rattle.sgt_cells.proofs.Entering.{ok-map}
 use Rattle.sgt_cells.proofs.record.enter.Goals as goal
 

@@ -1,6 +1,6 @@
 use Rattle.std.proofs.Common.{subst}
 use Rattle.sgt_names.specs.Log.{names}
-use Rattle.sgt_cells.specs.Cells.{IsPlaceOf}
+use Rattle.sgt_cells.specs.private.Noted.{IsPlaceOf}
 use Rattle.sgt_cells.proofs.Entering.{cell-there, past-cells, cells-ended}
 use Rattle.sgt_cells.proofs.state.enter_cell.Goals as goal
 

@@ -1,20 +1,29 @@
-use Rattle.std.proofs.Common.{◌∙◌, sym}
+use Rattle.std.proofs.Common.{◌≡◌, ◌∙◌, ap, length, sym, subst}
 use Rattle.std.proofs.lemmas.Bool.{true≢false}
+use Rattle.sgt_settle.specs.private.Acts.{AreActs, AreNamedBelow}
 use Rattle.sgt_settle.proofs.sites.is_log_fit.Goals as goal
 
-pub returns-then-not-are_logged : goal.returns-then-not-are_logged
-returns-then-not-are_logged c = (
-  λ told. absurd (true≢false (sym told)),
-  λ fit. absurd (true≢false (sym (c.are_logged.ensures.1 (rw c.as_slice.ensures.value (rw c.as_slice-2.ensures.value fit.edges))) ∙ c.if-not-are_logged.true)),
-)
+pub are_logged-requires : goal.are_logged-requires
+are_logged-requires c =
+    let long : length c.as_slice.result.now ≡ c.above_names.result = ap length c.as_slice.ensures.value ∙ c.in_ok-acts.ensures.long in
+    subst (AreNamedBelow c.as_slice-windows.result.now) (sym long) c.above_names.ensures
 
-pub returns : goal.returns
-returns c = (
-  λ told. let counts = c.has_counts.ensures.0 c.if-not-has_counts.false in record {
-    reads = counts.0;
-    others = counts.1;
-    edges = rw c.as_slice.ensures.value at (rw c.as_slice-2.ensures.value at (c.are_logged.ensures.0 c.if-not-are_logged.false));
-    conflicts = c.in_ok-carried.ensures.0 told;
-  },
-  λ fit. c.in_ok-carried.ensures.1 fit.conflicts,
-)
+pub returns-then-not-are_logged-clause-ok : goal.returns-then-not-are_logged-clause-ok
+returns-then-not-are_logged-clause-ok c =
+    let are : AreActs c.args.log.now c.as_slice.result.now = rw c.as_slice.ensures.value c.in_ok-acts.ensures.acts in
+    let logged = rw c.as_slice-windows.ensures.value at (rw c.as_slice-2.ensures.value at (c.are_logged.ensures c.args.log.now are)) in (
+      λ told. absurd (true≢false (sym told)),
+      λ fit. absurd (true≢false (sym (logged.1 fit.edges) ∙ c.if-not-are_logged.true)),
+    )
+
+pub returns-clause-ok : goal.returns-clause-ok
+returns-clause-ok c =
+    let are : AreActs c.args.log.now c.as_slice.result.now = rw c.as_slice.ensures.value c.in_ok-acts.ensures.acts in
+    let logged = rw c.as_slice-windows.ensures.value at (rw c.as_slice-2.ensures.value at (c.are_logged.ensures c.args.log.now are)) in (
+      λ told. record {
+        counted = c.has_counts.ensures.0 c.if-not-has_counts.false;
+        edges = logged.0 c.if-not-are_logged.false;
+        conflicts = c.in_ok-carried.ensures.0 told;
+      },
+      λ fit. c.in_ok-carried.ensures.1 fit.conflicts,
+    )

@@ -3,7 +3,8 @@ use Rattle.std.proofs.Common.{IsTrue, All, Any, subst}
 use Rattle.sgt_names.specs.Name.{Name}
 use Rattle.sgt_names.specs.Entry.{Repeats}
 use Rattle.sgt_names.specs.declared.entry.Entry.{Entry}
-use Rattle.sgt_cells.specs.Records.{IsOf, deed_of, changes, acts_in}
+use Rattle.sgt_cells.specs.Records.{deed_of, acts_in}
+use Rattle.sgt_cells.specs.private.Deeds.{IsOf, changes}
 use Rattle.sgt_cells.proofs.Doing.{first-decides, not-decides}
 use Rattle.sgt_cells.proofs.record.Record.is_first.Goals as goal
 

@@ -4,7 +4,7 @@ use Rattle.std.specs.Option.{option_to_list}
 use Rattle.std.proofs.lemmas.List.{with_items_is, length-set}
 use Rattle.sgt_names.specs.Entry.{tx_of}
 use Rattle.sgt_cells.specs.Cells.{AreCells}
-use Rattle.sgt_cells.specs.Records.{IsTouched}
+use Rattle.sgt_cells.specs.private.Deeds.{IsTouched}
 use Rattle.sgt_cells.proofs.Tracking.{decides, record-of, set-at, order-next, tracks-next}
 use Rattle.sgt_cells.proofs.state.SiteState.enter.Goals as goal
 

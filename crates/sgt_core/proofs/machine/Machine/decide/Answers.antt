@@ -1,13 +1,14 @@
 use Rattle.std.proofs.Common.{length, refl, sym, ◌∙◌, arith, subst, ap}
-use Rattle.std.specs.Prelude.{slice_get}
-use Rattle.std.proofs.lemmas.Option.{slice_get_within}
+use Rattle.std.specs.Prelude.{slice_get, Any}
+use Rattle.std.proofs.lemmas.Option.{same_Some, slice_get_within}
 use Rattle.sgt_notation.specs.declared.event.Event.TheVariants.{Decide}
 use Rattle.sgt_core.specs.Step.{IsOtherOpen}
 use Rattle.sgt_core.specs.Machine.{parts_of}
 use Rattle.sgt_core.specs.Gathered.{IsMissedAt}
 use Rattle.sgt_core.proofs.Finding.{not_true}
-use Rattle.sgt_core.proofs.Refusing.{refused_goes, step_open, decide_too_early, may_decide}
-use Rattle.sgt_core.proofs.Stepping.{gives_up}
+use Rattle.sgt_core.proofs.Refusing.{refused_goes, step_open, decide_too_early, decide_again, may_decide}
+use Rattle.sgt_core.proofs.Stepping.{step_own}
+use Rattle.sgt_core.proofs.Ruled.{ruled_step, not_ruled}
 use Rattle.sgt_core.proofs.machine.Machine.decide.Goals as goal
 
 pub returns-in-Err : goal.returns-in-Err
@@ -28,13 +29,23 @@ returns-then-misses c = λ d s.
     let runs = ap (λ t. slice_get t c.in-Ok.slot) c.as_slice-2.ensures.value ∙ c.in-Ok.ensures.ok.1.1 in
     let some = (c.misses.ensures _ runs).0 c.if-misses.true in
     decide_too_early (parts_of c.args.self.now) d s c.args.tx _ c.in-Ok.ensures.ok (λ other. not_true _ c.if-other_step.false ((c.other_step.ensures d s).1 other)) _
-    (subst (λ ps. Rattle.std.specs.Prelude.Any (IsMissedAt ps) c.in-Ok.ensures.ok.1.0.draft.touched) c.as_slice.ensures.value some) c.refused-then-misses.ensures
+    (subst (λ ps. Any (IsMissedAt ps) c.in-Ok.ensures.ok.1.0.draft.touched) c.as_slice.ensures.value some) c.refused-then-misses.ensures
 
-pub returns : goal.returns
-returns c = λ d s.
+pub returns-then-is_ruled : goal.returns-then-is_ruled
+returns-then-is_ruled c = λ d s.
     let runs = ap (λ t. slice_get t c.in-Ok.slot) c.as_slice-2.ensures.value ∙ c.in-Ok.ensures.ok.1.1 in
     let m = parts_of c.args.self.now in
     let no_other : IsOtherOpen d c.args.tx → ⊥ = λ other. not_true _ c.if-other_step.false ((c.other_step.ensures d s).1 other) in
-    let may = may_decide m d s c.args.tx _ c.in-Ok.ensures.ok no_other (λ some. not_true _ c.if-misses.false ((c.misses.ensures _ runs).1
-    (subst (λ ps. Rattle.std.specs.Prelude.Any (IsMissedAt ps) c.in-Ok.ensures.ok.1.0.draft.touched) (sym c.as_slice.ensures.value) some))) in
-    gives_up m d s c.args.tx no_other m (parts_of c.give_up.new.self) refl c.give_up.ensures.places c.give_up.ensures.rest (Decide c.args.tx) _ c.refused-2.ensures (may, refl)
+    let r = ruled_step m d m.step s.step (c.is_ruled.ensures.0 c.if-is_ruled.true) in
+    let own = step_own m d c.args.tx no_other m.step s.step r.0 r.1 in
+    decide_again m d s c.args.tx _ c.in-Ok.ensures.ok no_other (λ some. not_true _ c.if-misses.false ((c.misses.ensures _ runs).1
+    (subst (λ ps. Any (IsMissedAt ps) c.in-Ok.ensures.ok.1.0.draft.touched) (sym c.as_slice.ensures.value) some))) (r.2 ∙ ap Rattle.std.proofs.Common.Some own) _ c.refused-then-is_ruled.ensures
+
+pub decide_gathered-requires-clause-allowed : goal.decide_gathered-requires-clause-allowed
+decide_gathered-requires-clause-allowed c = λ d s.
+    let runs = ap (λ t. slice_get t c.in-Ok.slot) c.as_slice-2.ensures.value ∙ c.in-Ok.ensures.ok.1.1 in
+    let m = parts_of c.args.self.now in
+    let no_other : IsOtherOpen d c.args.tx → ⊥ = λ other. not_true _ c.if-other_step.false ((c.other_step.ensures d s).1 other) in
+    let none = not_ruled m d m.step s.step (λ r. not_true _ c.if-is_ruled.false (c.is_ruled.ensures.1 r)) in
+    may_decide m d s c.args.tx _ c.in-Ok.ensures.ok no_other (λ some. not_true _ c.if-misses.false ((c.misses.ensures _ runs).1
+    (subst (λ ps. Any (IsMissedAt ps) c.in-Ok.ensures.ok.1.0.draft.touched) (sym c.as_slice.ensures.value) some))) (λ done. let f = sym done ∙ none in cc)

@@ -9,7 +9,9 @@ use Rattle.sgt_core.specs.Machine.{parts_of}
 use Rattle.sgt_core.specs.Gathered.{GathersAt}
 use Rattle.sgt_core.proofs.Finding.{not_true}
 use Rattle.sgt_core.proofs.Refusing.{refused_goes, step_open, gather_no_site, gather_done, gather_no_touch, may_gather, idle_part}
-use Rattle.sgt_core.proofs.Stepping.{gather_goes, gives_up}
+use Rattle.sgt_core.proofs.Runs.{gather_idle}
+use Rattle.sgt_core.proofs.Standing.{reached_kept}
+use Rattle.sgt_core.proofs.Stepping.{same_draft, gather_goes, gives_up, only_step}
 use Rattle.sgt_core.proofs.machine.Machine.gather.Goals as goal
 
 pub returns-in-Err : goal.returns-in-Err
@@ -56,9 +58,11 @@ returns-in-Ok-gather_at c = λ d s.
     let runs = ap (λ t. slice_get t c.in-Ok.slot) c.as_slice-2.ensures.value ∙ c.in-Ok.ensures.ok.1.1 in
     let m = parts_of c.args.self.now in
     let no_other : IsOtherOpen d c.args.tx → ⊥ = λ other. not_true _ c.if-other_step.false ((c.other_step.ensures d s).1 other) in
-    let may = may_gather m d s c.args.tx _ c.in-Ok.ensures.ok no_other c.args.site p.0 p.1 fresh ((c.touches.ensures _ runs).0 c.if-not-touches.false) in
-    gather_goes m d s c.args.tx c.in-Ok.slot c.in-Ok.ensures.ok.0 no_other c.args.site (parts_of c.gather_at.new.self)
-    (subst (GathersAt m (parts_of c.gather_at.new.self) c.args.tx c.in-Ok.slot) same c.in-Ok-gather_at.ensures.ok) Gathered refl may
+    let any = (c.touches.ensures _ runs).0 c.if-not-touches.false in
+    let may = may_gather m d s c.args.tx _ c.in-Ok.ensures.ok no_other c.args.site p.0 p.1 fresh any in
+    let g : GathersAt m (parts_of c.gather_at.new.self) c.args.tx c.in-Ok.slot c.args.site = subst (GathersAt m (parts_of c.gather_at.new.self) c.args.tx c.in-Ok.slot) same c.in-Ok-gather_at.ensures.ok in
+    gather_goes m d s c.args.tx c.in-Ok.slot c.in-Ok.ensures.ok.0 no_other c.args.site (parts_of c.gather_at.new.self) g may
+    (same_draft m.table c.in-Ok.slot _ g.pledge.running c.args.site c.in-Ok.ensures.ok.1.1 g.pledge.runs any) Gathered refl
 
 pub returns-in-Err-gather_at : goal.returns-in-Err-gather_at
 returns-in-Err-gather_at c = λ d s.
@@ -70,5 +74,6 @@ returns-in-Err-gather_at c = λ d s.
     let m = parts_of c.args.self.now in
     let no_other : IsOtherOpen d c.args.tx → ⊥ = λ other. not_true _ c.if-other_step.false ((c.other_step.ensures d s).1 other) in
     let may = may_gather m d s c.args.tx _ c.in-Ok.ensures.ok no_other c.args.site p.0 p.1 fresh ((c.touches.ensures _ runs).0 c.if-not-touches.false) in
-    gives_up m d s c.args.tx no_other (parts_of c.gather_at.new.self) (parts_of c.give_up.new.self) c.in-Err-gather_at.ensures.err c.give_up.ensures.places c.give_up.ensures.rest
-    (Gather c.args.tx c.args.site) _ c.refused-in-Err-gather_at.ensures (may, refl)
+    let same = only_step m (parts_of c.gather_at.new.self) c.in-Err-gather_at.ensures.err in
+    gives_up m d s c.args.tx no_other (gather_idle d c.args.tx c.args.site (reached_kept d s.reached) may) (parts_of c.gather_at.new.self) (parts_of c.give_up.new.self) same.0 same.1
+    c.give_up.ensures.places c.give_up.ensures.rest (Gather c.args.tx c.args.site) _ c.refused-in-Err-gather_at.ensures (may, refl)

@@ -1,20 +1,13 @@
-use Rattle.std.proofs.Common.{refl, sym, ◌∙◌}
-use Rattle.sgt_notation.specs.declared.event.Event.TheVariants.{Commit}
+use Rattle.std.proofs.Common.{List, ℕ, sym, subst}
 use Rattle.sgt_core.specs.Machine.{parts_of}
-use Rattle.sgt_core.proofs.Standing.{none_of}
-use Rattle.sgt_core.proofs.Refusing.{some_open, decision_refused, decision_step_open, decision_gives_up}
+use Rattle.sgt_core.proofs.WholeGoing.{AreWhole, decision_refused, decision_made}
 use Rattle.sgt_core.proofs.machine.Machine.to_decide.Goals as goal
 
+pub decide_whole-requires-clause-whole : goal.decide_whole-requires-clause-whole
+decide_whole-requires-clause-whole c = subst (λ (xs : List ℕ). AreWhole (parts_of c.args.self.now) c.args.tx xs) (sym c.as_slice.ensures.value) c.in-Ok.ensures.ok
+
+pub returns-in-Ok : goal.returns-in-Ok
+returns-in-Ok c = decision_made (parts_of c.args.self.now) (parts_of c.decide_whole.new.self) c.args.tx c.as_slice.result.now c.decide_whole.result c.decide_whole.ensures
+
 pub returns-in-Err : goal.returns-in-Err
-returns-in-Err c = λ d s.
-    decision_refused (parts_of c.args.self.now) d s c.args.tx c.in-Err.fault _ c.refused.ensures (c.in-Err.ensures.err d s (Commit c.args.tx) refl)
-
-pub returns-then-is_some : goal.returns-then-is_some
-returns-then-is_some c = λ d s.
-    let m = parts_of c.args.self.now in
-    decision_step_open m d s c.args.tx _ c.in-Ok.ensures.ok (some_open m d m.step (sym c.is_some.ensures ∙ c.if-is_some.true) s.step) _ c.refused-then-is_some.ensures
-
-pub returns : goal.returns
-returns c = λ d s.
-    let m = parts_of c.args.self.now in
-    decision_gives_up m d s c.args.tx _ c.in-Ok.ensures.ok (none_of m.step (sym c.is_some.ensures ∙ c.if-is_some.false)) _ c.refused-2.ensures
+returns-in-Err c = decision_refused (parts_of c.args.self.now) c.args.tx c.in-Err.fault c.refused.result c.refused.ensures c.in-Err.ensures.err

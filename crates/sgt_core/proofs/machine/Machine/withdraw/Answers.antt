@@ -1,8 +1,12 @@
-use Rattle.std.proofs.Common.{refl, sym, ◌∙◌}
+use Rattle.std.proofs.Common.{refl, sym, ◌∙◌, subst}
 use Rattle.sgt_notation.specs.declared.event.Event.TheVariants.{Withdraw}
-use Rattle.sgt_core.specs.Machine.{parts_of}
+use Rattle.sgt_core.specs.declared.reply.Reply.{Reply}
+use Rattle.sgt_core.specs.Core.{CoreState}
+use Rattle.sgt_core.specs.Step.{MayStep}
+use Rattle.sgt_core.specs.Machine.{Parts, parts_of, StandsFor}
 use Rattle.sgt_core.proofs.Standing.{none_of}
-use Rattle.sgt_core.proofs.Refusing.{refused_goes, step_open, some_open, withdraw_gives_up}
+use Rattle.sgt_core.proofs.Refusing.{refused_goes, step_open, some_open}
+use Rattle.sgt_core.proofs.Withdrawals.{withdraw_gives_back, withdraw_goes}
 use Rattle.sgt_core.proofs.machine.Machine.withdraw.Goals as goal
 
 pub returns-in-Err : goal.returns-in-Err
@@ -14,7 +18,18 @@ returns-then-is_some c = λ d s.
     let m = parts_of c.args.self.now in
     step_open m d s c.args.tx _ c.in-Ok.ensures.ok (Withdraw c.args.tx) refl (some_open m d m.step (sym c.is_some.ensures ∙ c.if-is_some.true) s.step) _ c.refused-then-is_some.ensures
 
-pub returns : goal.returns
-returns c = λ d s.
+pub returns-in-Ok-withdraw_at : goal.returns-in-Ok-withdraw_at
+returns-in-Ok-withdraw_at c = λ d s.
     let m = parts_of c.args.self.now in
-    withdraw_gives_up m d s c.args.tx _ c.in-Ok.ensures.ok (none_of m.step (sym c.is_some.ensures ∙ c.if-is_some.false)) _ c.refused-2.ensures
+    let none = none_of m.step (sym c.is_some.ensures ∙ c.if-is_some.false) in
+    withdraw_goes m d s none c.args.tx _ c.in-Ok.ensures.ok (parts_of c.withdraw_at.new.self) c.in-Ok-withdraw_at.ensures.ok
+
+pub returns-in-Err-withdraw_at : goal.returns-in-Err-withdraw_at
+returns-in-Err-withdraw_at c = λ d s.
+    let m = parts_of c.args.self.now in
+    let none = none_of m.step (sym c.is_some.ensures ∙ c.if-is_some.false) in
+    let mid = parts_of c.withdraw_at.new.self in
+    let places = c.release_all.new.places.items in
+    let goes = withdraw_gives_back m d s none c.args.tx _ c.in-Ok.ensures.ok mid.places places c.in-Err-withdraw_at.ensures.offered c.release_all.ensures in
+    subst (λ (q : Reply). (e : CoreState) × MayStep d (Withdraw c.args.tx) q e × StandsFor (record mid { places = places }) e) (sym c.refused-in-Err-withdraw_at.ensures)
+    (subst (λ (v : Parts). (e : CoreState) × MayStep d (Withdraw c.args.tx) (Rattle.sgt_core.specs.declared.reply.Reply.TheVariants.Fault Rattle.sgt_core.specs.declared.reply.CoreFault.TheVariants.Memory) e × StandsFor (record v { places = places }) e) (sym c.in-Err-withdraw_at.ensures.rest) goes)

@@ -1,0 +1,15 @@
+use Rattle.std.proofs.Common.{◌≤◌, ◌+◌, ℕ, List, Option}
+use Rattle.sgt_notation.specs.Lines.{coming, most_left, Spends}
+use Rattle.sgt_audit.specs.declared.machine.Progress.TheVariants as at
+use Rattle.sgt_audit.specs.private.Stops.{Goes}
+use Rattle.sgt_audit.proofs.reading.feed_kept.Given as goal
+
+abbrev pub invariant-lines : goal.invariant-lines
+invariant-lines l =
+    ((all told : Option (List ℕ)) → Goes all (at.Reading l.initial.kept) (coming l.initial.lines told) l.initial.number → Goes all (at.Reading l.kept) (coming l.lines told) l.number)
+    × ((told : Option (List ℕ)) → Spends l.initial.lines.reads told l.lines.reads told)
+    × (l.number + most_left l.lines ≤ l.initial.number + most_left l.initial.lines)
+    × (most_left l.lines ≤ most_left l.initial.lines)
+
+abbrev pub decreases-lines : goal.decreases-lines
+decreases-lines l = most_left l.lines

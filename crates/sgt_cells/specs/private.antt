@@ -1,0 +1,3 @@
+-- Words that private clauses alone use.
+pub mod Noted
+pub mod Deeds

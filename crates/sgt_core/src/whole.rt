@@ -1,0 +1,128 @@
+//! A transaction is committed or refused as a whole: gathered at each site that it touches, decided, and its block written there.
+
+ghost use Rattle.std.specs.Prelude.{◌≡◌, ◌<◌, ◌≤◌, Some, None, length, slice_get, IfOk, IfErr, OnOk, OnErr};
+ghost use Rattle.sgt_names.specs.Limits.{max_sites};
+ghost use Rattle.sgt_notation.specs.declared.event.Event.TheVariants as event;
+ghost use Rattle.sgt_core.specs.Core.{CoreState};
+ghost use Rattle.sgt_core.specs.Step.{MayStep, MayDecide};
+ghost use Rattle.sgt_core.specs.Machine.{parts_of, StandsFor, Stands, GoesOn};
+ghost use Rattle.sgt_core.specs.private.Whole.{AreTouched, IsWhole, RefusesWhole, GathersAll, AwaitsBlocks, DecidesWhole, InstallsAll};
+ghost use Rattle.sgt_core.specs.declared.machine.Running.{Running as ARunning};
+
+use crate::machine::{Machine, Running, refused, touches};
+use crate::reply::{CoreFault, Reply};
+use sgt_names::{SiteNo, Tx};
+use std::alloc::{AllocError, Global};
+
+impl Machine {
+    /// The transaction is committed or refused, as a whole.
+    pub(crate) fn commit(&mut self, tx: Tx) -> Reply
+        requires { Stands (parts_of self.old) }
+        ensures { GoesOn (λ c d. MayStep c (event.Commit tx) result d) (parts_of self.old) (parts_of self.new) }
+    {
+        let sites = match self.whole_sites(tx) {
+            Ok(sites) => sites,
+            Err(fault) => return refused(fault),
+        };
+        match self.decide_whole(tx, sites.as_slice()) {
+            Reply::Fault { fault } => refused(fault),
+            verdict => {
+                self.install_all(tx, sites.as_slice());
+                verdict
+            }
+        }
+    }
+
+    /// The transaction is gathered wherever it touches, and decided.
+    pub(crate) fn to_decide(&mut self, tx: Tx) -> Reply
+        requires { Stands (parts_of self.old) }
+        ensures { GoesOn (λ c d. MayDecide c tx result d) (parts_of self.old) (parts_of self.new) }
+    {
+        match self.whole_sites(tx) {
+            Ok(sites) => self.decide_whole(tx, sites.as_slice()),
+            Err(fault) => refused(fault),
+        }
+    }
+
+    // The sites that a transaction touches that may be committed.
+    fn whole_sites(&self, tx: Tx) -> Result<Vec<SiteNo>, CoreFault>
+        requires { Stands (parts_of self.now) }
+        ensures ok { IfOk result (λ sites. (c : CoreState) → StandsFor (parts_of self.now) c → IsWhole c tx sites.items) }
+        ensures err { IfErr result (λ f. (c : CoreState) → StandsFor (parts_of self.now) c → RefusesWhole c tx f) }
+    {
+        let slot = match self.slot_of(tx) {
+            Ok(slot) => slot,
+            Err(fault) => return Err(fault),
+        };
+        if self.step.is_some() {
+            return Err(CoreFault::StepOpen);
+        }
+        match touched_sites(self.alloc, self.running.as_slice(), slot, self.places.len()) {
+            Ok(sites) => Ok(sites),
+            Err(_) => Err(CoreFault::Memory),
+        }
+    }
+
+    // Gathers the transaction at each of its sites, and decides it.
+    fn decide_whole(&mut self, tx: Tx, sites: &[SiteNo]) -> Reply
+        requires stands { Stands (parts_of self.old) }
+        requires whole { (c : CoreState) → StandsFor (parts_of self.old) c → IsWhole c tx sites.now }
+        ensures { GoesOn (λ c d. DecidesWhole c tx sites.now result d) (parts_of self.old) (parts_of self.new) }
+    {
+        match self.gather_all(tx, sites) {
+            Ok(()) => self.decide(tx),
+            Err(_) => refused(CoreFault::Memory),
+        }
+    }
+
+    // Gathers the transaction at each of its sites. It errs where there is no memory, and the step is closed then.
+    fn gather_all(&mut self, tx: Tx, sites: &[SiteNo]) -> Result<(), CoreFault>
+        requires stands { Stands (parts_of self.old) }
+        requires whole { (c : CoreState) → StandsFor (parts_of self.old) c → IsWhole c tx sites.now }
+        ensures ok { OnOk result (GoesOn (λ c d. GathersAll c tx sites.now d) (parts_of self.old) (parts_of self.new)) }
+        ensures err { OnErr result (GoesOn (λ c d. d ≡ record c { step = None }) (parts_of self.old) (parts_of self.new)) }
+    {
+        for site in sites {
+            match self.gather(tx, *site) {
+                Reply::Gathered => {}
+                _ => return Err(CoreFault::Memory),
+            }
+        }
+        Ok(())
+    }
+
+    // Writes the blocks that are due of the transaction at these sites.
+    fn install_all(&mut self, tx: Tx, sites: &[SiteNo])
+        requires { Stands (parts_of self.old) }
+        ensures { (c : CoreState) → StandsFor (parts_of self.old) c → AwaitsBlocks c tx sites.now
+            → (d : CoreState) × InstallsAll c tx sites.now d × StandsFor (parts_of self.new) d }
+    {
+        for site in sites {
+            let _installed = self.install(tx, *site);
+        }
+    }
+}
+
+// The sites below this number that the transaction at a place of the table touches, rising.
+fn touched_sites(
+    alloc: Global,
+    table: &[Option<Running>],
+    slot: usize,
+    count: usize,
+) -> Result<Vec<SiteNo>, AllocError>
+    requires slot { slot < length table.now }
+    requires few { count ≤ max_sites }
+    ensures { (r : ARunning) → slice_get table.now slot ≡ Some (Some r)
+        → IfOk result (λ sites. AreTouched r.draft.touched count sites.items) }
+{
+    let mut sites = Vec::new(alloc);
+    for number in 0..count {
+        let Ok(site) = SiteNo::new(number as u64) else {
+            unreachable!();
+        };
+        if touches(table, slot, site) {
+            sites.push(site)?;
+        }
+    }
+    Ok(sites)
+}
