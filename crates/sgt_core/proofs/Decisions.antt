@@ -1,23 +1,19 @@
 -- What a machine stands for once a transaction is decided: its blocks are due, or it ends since it touches nothing.
-use Rattle.std.proofs.Common.{◌≡◌, ◌<◌, ◌≤◌, ◌+◌, ℕ, suc, Bool, true, false, cond, List, [], ◌∷◌, ◌++◌, length, map, refl, sym, ◌∙◌, arith, ◌⊎◌, inl, inr, Contains, Option, Some, None, subst, ap}
-use Rattle.std.specs.Prelude.{slice_get, slice_set, filter, not, ◌==◌, ◌&&◌, Any}
+use Rattle.std.proofs.Common.{◌≡◌, ◌<◌, ◌≤◌, ◌+◌, ℕ, suc, true, false, List, [], ◌∷◌, length, refl, sym, ◌∙◌, arith, inl, inr, Contains, Option, Some, None, subst, ap}
+use Rattle.std.specs.Prelude.{slice_get, slice_set, not, ◌==◌, ◌&&◌}
 use Rattle.std.specs.List.{list_all}
 use Rattle.std.proofs.lemmas.Bool.{cases_Bool, cases_eq, eq-eqb, ne_eqb, true≢false}
 use Rattle.std.proofs.lemmas.List.{length-set}
 use Rattle.std.proofs.lemmas.Option.{same_Some, slice_get_within}
-use Rattle.sgt_names.specs.Draft.{at_site, Touches}
+use Rattle.sgt_names.specs.Draft.{at_site}
 use Rattle.sgt_names.specs.declared.draft.Touch.{Touch}
 use Rattle.sgt_names.specs.declared.entry.Entry.{Entry}
-use Rattle.sgt_names.proofs.Lists.{within_at, Any-from_at}
+use Rattle.sgt_names.proofs.Lists.{within_at}
 use Rattle.sgt_order.proofs.Lists.{get_set_same, get_set_other}
-use Rattle.sgt_site.specs.State.{commit_block, refuse_block}
 use Rattle.sgt_site.specs.declared.cell.Install.{Install}
 use Rattle.sgt_certifier.specs.Certifier.{State, with_finished}
-use Rattle.sgt_certifier.specs.History.{Serves as CertifierServes}
 use Rattle.sgt_certifier.specs.Kept.{Kept}
-use Rattle.sgt_certifier.specs.declared.call.Call.TheVariants as call
 use Rattle.sgt_certifier.specs.declared.call.Decided.{Decided}
-use Rattle.sgt_certifier.specs.declared.call.Decided.TheVariants as verdict
 use Rattle.sgt_certifier.proofs.Members.{nil_none, filter_member, member_filter}
 use Rattle.sgt_notation.specs.declared.event.Event.TheVariants.{Decide}
 use Rattle.sgt_core.specs.declared.machine.Place.{Place}
@@ -26,10 +22,10 @@ use Rattle.sgt_core.specs.declared.machine.Part.TheVariants.{Idle, Due, Written}
 use Rattle.sgt_core.specs.declared.machine.Running.{Running}
 use Rattle.sgt_core.specs.declared.machine.Open.{Open}
 use Rattle.sgt_core.specs.declared.machine.Phase.TheVariants.{Committed}
-use Rattle.sgt_core.specs.Core.{CoreState, touches, sites_of, is_empty, is_written, closed_if_written, decided}
+use Rattle.sgt_core.specs.Core.{CoreState, touches, sites_of, is_empty, closed_if_written, decided}
 use Rattle.sgt_core.specs.Step.{IsOtherOpen, gathered_in, MayStep}
 use Rattle.sgt_core.specs.Machine.{Parts, Carries, RunsAt, IsHandleOf, AwaitsInstall, IsDueBy, IsDueAt, IsPart, IsPlace, IsPhase, IsStep, StandsFor, IsSlotOf}
-use Rattle.sgt_core.specs.private.Decided.{phase_after, reply_after, EndsAt}
+use Rattle.sgt_core.specs.private.Decided.{phase_after, reply_after}
 use Rattle.sgt_core.proofs.Kept.{IsKept}
 use Rattle.sgt_core.proofs.Walks.{untouched_outside}
 use Rattle.sgt_core.proofs.Committing.{stays_open}

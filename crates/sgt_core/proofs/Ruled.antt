@@ -1,5 +1,5 @@
 -- The certifier's decision of a gathered transaction is one of the model.
-use Rattle.std.proofs.Common.{◌≡◌, ◌+◌, arith, ℕ, suc, Bool, true, false, cond, List, [], ◌∷◌, ◌++◌, refl, sym, ◌∙◌, ◌⊎◌, inl, inr, Contains, Option, Some, None, subst, ap}
+use Rattle.std.proofs.Common.{◌≡◌, ◌+◌, arith, ℕ, suc, true, cond, List, [], ◌∷◌, ◌++◌, refl, sym, ◌∙◌, ◌⊎◌, inl, inr, Contains, Option, Some, None, subst, ap}
 use Rattle.std.specs.Prelude.{slice_set, Any}
 use Rattle.sgt_names.specs.declared.entry.Entry.{Entry}
 use Rattle.sgt_names.proofs.Lists.{Any_at, Any-from_at}
@@ -23,7 +23,7 @@ use Rattle.sgt_core.specs.declared.machine.Open.{Open}
 use Rattle.sgt_core.specs.declared.machine.Phase.{Phase}
 use Rattle.sgt_core.specs.declared.machine.Phase.TheVariants.{Gathering, Committed, Refused}
 use Rattle.sgt_core.specs.Core.{CoreState, touches, committed_block, refused_block}
-use Rattle.sgt_core.specs.Step.{IsOtherOpen, IsDecided, gathered_in, IsAllowed, MayStep}
+use Rattle.sgt_core.specs.Step.{IsOtherOpen, gathered_in, IsAllowed, MayStep}
 use Rattle.sgt_core.specs.Machine.{Parts, AwaitsInstall, AreGathered, IsPhase, IsStep, StandsFor, IsSlotOf}
 use Rattle.sgt_core.specs.private.Decided.{edges_by, edges_in, IsRuled, phase_after, reply_after, RulesAt, EndsAt}
 use Rattle.sgt_core.proofs.Kept.{IsKept}

@@ -1,5 +1,5 @@
 -- The machine goes through the parts of a whole commit.
-use Rattle.std.proofs.Common.{◌≡◌, ◌<◌, ◌≤◌, ◌+◌, ℕ, List, [], ◌∷◌, ◌++◌, length, take, drop, refl, sym, ◌∙◌, arith, Contains, Some, None, subst, ap}
+use Rattle.std.proofs.Common.{◌≡◌, ◌+◌, ℕ, List, [], take, drop, refl, sym, Contains, Some, None, subst}
 use Rattle.std.specs.Prelude.{slice_get}
 use Rattle.sgt_names.proofs.Lists.{drop_next, take_next}
 use Rattle.sgt_names.proofs.Places.{Contains-from_at}
@@ -8,9 +8,9 @@ use Rattle.sgt_core.specs.declared.reply.Reply.{Reply}
 use Rattle.sgt_core.specs.declared.reply.Reply.TheVariants.{Gathered, Fault}
 use Rattle.sgt_core.specs.declared.reply.CoreFault.{CoreFault}
 use Rattle.sgt_core.specs.declared.reply.CoreFault.TheVariants as fault
-use Rattle.sgt_core.specs.Core.{CoreState, touched}
+use Rattle.sgt_core.specs.Core.{CoreState}
 use Rattle.sgt_core.specs.Step.{MayDecide, MayStep}
-use Rattle.sgt_core.specs.Machine.{Parts, StandsFor, Stands, GoesOn}
+use Rattle.sgt_core.specs.Machine.{Parts, StandsFor, GoesOn}
 use Rattle.sgt_core.specs.private.Whole.{IsWhole, RefusesWhole, GathersAll, AwaitsBlocks, DecidesWhole, InstallsAll}
 use Rattle.sgt_core.proofs.Cycles.{AreDistinct}
 use Rattle.sgt_core.proofs.Standing.{reached_kept}

@@ -1,9 +1,8 @@
-use Rattle.std.proofs.Common.{◌≡◌, ◌+◌, List, Some, length, take, refl, sym, ◌∙◌, arith, subst, ap, true}
+use Rattle.std.proofs.Common.{◌≡◌, ◌+◌, List, Some, length, take, refl, sym, ◌∙◌, subst, ap}
 use Rattle.std.specs.Prelude.{slice_get, All, IsTrue}
 use Rattle.std.proofs.lemmas.Bool.{true≢false}
 use Rattle.std.proofs.lemmas.List.{take_all}
 use Rattle.std.proofs.lemmas.Option.{slice_get_read}
-use Rattle.sgt_names.specs.declared.entry.Holding.{Holding}
 use Rattle.sgt_site.specs.State.{AreItems}
 use Rattle.sgt_core.specs.declared.machine.Place.{Place}
 use Rattle.sgt_core.specs.Machine.{AreOpened}

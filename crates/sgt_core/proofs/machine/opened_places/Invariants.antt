@@ -1,4 +1,4 @@
-use Rattle.std.proofs.Common.{◌≡◌, take}
+use Rattle.std.proofs.Common.{take}
 use Rattle.std.specs.Prelude.{All, IsTrue}
 use Rattle.sgt_site.specs.State.{AreItems}
 use Rattle.sgt_core.specs.Machine.{AreOpened}

@@ -1,6 +1,6 @@
 use Rattle.std.proofs.Common.{length, refl, sym, ◌∙◌, arith, subst, ap}
 use Rattle.std.specs.Prelude.{slice_get, Any}
-use Rattle.std.proofs.lemmas.Option.{same_Some, slice_get_within}
+use Rattle.std.proofs.lemmas.Option.{slice_get_within}
 use Rattle.sgt_notation.specs.declared.event.Event.TheVariants.{Decide}
 use Rattle.sgt_core.specs.Step.{IsOtherOpen}
 use Rattle.sgt_core.specs.Machine.{parts_of}
