@@ -1,5 +1,5 @@
 -- What the engines' answers say, by the status.
-use Rattle.std.proofs.Common.{◌≡◌, ℕ, List, [], ◌∷◌, Option, Result, Ok, Err, subst, arith}
+use Rattle.std.proofs.Common.{◌≡◌, ◌≤◌, ℕ, List, [], ◌∷◌, Option, Result, Ok, Err, subst, arith}
 use Rattle.std.specs.Prelude.{IfSome, IfOk, OnErr}
 use Rattle.std.specs.Io.KnownBytes.{Appends}
 use Rattle.sgt_names.specs.declared.outcome.EngineFail.{EngineFail}
@@ -10,12 +10,14 @@ use Rattle.sgt_names.proofs.Devices.{wrote_nothing}
 use Rattle.sgt_audit.specs.Verdict.{IsVerdict, SaysHeadline, text_of}
 use Rattle.sgt_audit.specs.declared.verdict.Verdict.{Verdict}
 use Rattle.sgt_audit.specs.declared.verdict.Verdict.TheVariants.{Yes, No}
-use Rattle.sgt_serial.specs.Answer.{WroteAnswer, WroteAnswerFront}
-use Rattle.sgt_program.specs.Commands.{AnswersAudit, AnswersSerial, AnswersOthers, outcome}
+use Rattle.sgt_replay.specs.Replay as replay
+use Rattle.sgt_serial.specs.Answer as serial
+use Rattle.sgt_program.specs.Commands.{AnswersAudit, AnswersSerial, AnswersReplay, AnswersOthers, outcome}
 use Rattle.sgt_program.specs.Ending.{status_of}
+use Rattle.sgt_program.specs.declared.ending.Ending.TheVariants.{Ran}
 
 pub verdict-answers : (told old new : Option (List ℕ)) (v : Verdict) → IfSome told (λ bytes. IsVerdict bytes v) → IfSome told (λ bytes. SaysHeadline bytes v) → Appends old new (text_of v)
-    → AnswersAudit (status_of (Ok (outcome v))) told old new
+    → AnswersAudit (status_of (Ran (Ok (outcome v)))) told old new
 verdict-answers told old new (Yes c r w) is headline wrote = record {
   yes = λ e. (headline, (c, r, w, (is, wrote)));
   no = λ e. absurd (omega arith);
@@ -29,38 +31,64 @@ verdict-answers told old new (No line fault) is headline wrote = record {
   front = λ le. absurd (omega arith);
 }
 
-pub run-answers : (told old new : Option (List ℕ)) (r : Result Outcome EngineFail) → IfOk r (λ o. WroteAnswer told o old new) → OnErr r (WroteAnswerFront told old new) → AnswersSerial (status_of r) told old new
-run-answers told old new (Ok Outcome_.Yes) wrote front = record {
+-- where there is no answer the status is 3 or 4
+failing : (fail : EngineFail) → 3 ≤ status_of (Ran (Err fail))
+failing Memory = omega arith
+failing ReadFault = omega arith
+failing WriteFault = omega arith
+
+pub serial-answers : (told old new : Option (List ℕ)) (r : Result Outcome EngineFail) → IfOk r (λ o. serial.WroteAnswer told o old new)
+    → OnErr r (serial.WroteAnswerFront told old new) → AnswersSerial (status_of (Ran r)) told old new
+serial-answers told old new (Ok Outcome_.Yes) wrote front = record {
   run = λ e. wrote;
   no = λ e. absurd (omega arith);
   known = λ e. absurd (omega arith);
   front = λ le. absurd (omega arith);
 }
-run-answers told old new (Ok Outcome_.No) wrote front = record {
+serial-answers told old new (Ok Outcome_.No) wrote front = record {
   run = λ e. absurd (omega arith);
   no = λ e. (wrote.1.0, wrote.1.1, (wrote.1.2, subst (Appends old new) wrote.1.3 wrote.2));
   known = λ e. absurd (omega arith);
   front = λ le. absurd (omega arith);
 }
-run-answers told old new (Ok Outcome_.Unreadable) wrote front = absurd wrote.1
-run-answers told old new (Err Memory) wrote front = record {
-  run = λ e. absurd (omega arith);
-  no = λ e. absurd (omega arith);
-  known = λ e. absurd (omega arith);
-  front = λ le. front;
+serial-answers told old new (Ok Outcome_.Unreadable) wrote front = absurd wrote.1
+serial-answers told old new (Err fail) wrote front =
+    let high = failing fail in
+    record {
+      run = λ e. absurd (omega (arith, high, e));
+      no = λ e. absurd (omega (arith, high, e));
+      known = λ e. omega (arith, high, e);
+      front = λ le. front;
+    }
+
+pub replay-answers : (told old new : Option (List ℕ)) (r : Result Outcome EngineFail) → IfOk r (λ o. replay.WroteAnswer told o old new)
+    → OnErr r (replay.WroteAnswerFront told old new) → AnswersReplay (status_of (Ran r)) told old new
+replay-answers told old new (Ok Outcome_.Yes) wrote front = record {
+  done = λ e. wrote;
+  active = λ e. absurd (omega arith);
+  unreadable = λ e. absurd (omega arith);
+  front = λ le. absurd (omega arith);
 }
-run-answers told old new (Err ReadFault) wrote front = record {
-  run = λ e. absurd (omega arith);
-  no = λ e. absurd (omega arith);
-  known = λ e. absurd (omega arith);
-  front = λ le. front;
+replay-answers told old new (Ok Outcome_.No) wrote front = record {
+  done = λ e. absurd (omega arith);
+  active = λ e. wrote;
+  unreadable = λ e. absurd (omega arith);
+  front = λ le. absurd (omega arith);
 }
-run-answers told old new (Err WriteFault) wrote front = record {
-  run = λ e. absurd (omega arith);
-  no = λ e. absurd (omega arith);
-  known = λ e. absurd (omega arith);
-  front = λ le. front;
+replay-answers told old new (Ok Outcome_.Unreadable) wrote front = record {
+  done = λ e. absurd (omega arith);
+  active = λ e. absurd (omega arith);
+  unreadable = λ e. wrote;
+  front = λ le. absurd (omega arith);
 }
+replay-answers told old new (Err fail) wrote front =
+    let high = failing fail in
+    record {
+      done = λ e. absurd (omega (arith, high, e));
+      active = λ e. absurd (omega (arith, high, e));
+      unreadable = λ e. absurd (omega (arith, high, e));
+      front = λ le. front;
+    }
 
 -- nothing was written for want of memory
 pub memory-answers : (status : ℕ) (held : Option (List ℕ)) → status ≡ 3 → AnswersOthers status held held

@@ -9,6 +9,7 @@ use Rattle.sgt_audit.specs.Verdict.{IsVerdict, HoldsHeadline, text_of}
 use Rattle.sgt_audit.specs.declared.faults.Fault.{Fault}
 use Rattle.sgt_audit.specs.declared.verdict.Verdict.{Verdict}
 use Rattle.sgt_audit.specs.declared.verdict.Verdict.TheVariants.{Yes, No}
+use Rattle.sgt_replay.specs.Replay as replay
 use Rattle.sgt_serial.specs.Answer as serial
 use Rattle.sgt_serial.specs.Answer.{IsAnswer}
 
@@ -51,7 +52,15 @@ pub record AnswersSerial (status : ℕ) (told written written' : Option (List �
   pub known : status ≢ 2
   pub front : 3 ≤ status → serial.WroteAnswerFront told written written'
 
--- words that ask for neither: help, or no command
+-- the replay: the replies with the bundle behind them, the replies with a refusal behind them where a transaction is active at
+-- the end, or the line that can't be read
+pub record AnswersReplay (status : ℕ) (told written written' : Option (List ℕ)) : Type 0 where
+  pub done : status ≡ 0 → replay.WroteAnswer told Outcome_.Yes written written'
+  pub active : status ≡ 1 → replay.WroteAnswer told Outcome_.No written written'
+  pub unreadable : status ≡ 2 → replay.WroteAnswer told Outcome_.Unreadable written written'
+  pub front : 3 ≤ status → replay.WroteAnswerFront told written written'
+
+-- other words: help, or no command
 pub record AnswersOthers (status : ℕ) (written written' : Option (List ℕ)) : Type 0 where
   pub help : status ≡ 0 → ShowsHelp written written'
   pub known : status ≢ 1

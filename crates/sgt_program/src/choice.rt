@@ -1,7 +1,7 @@
 //! What the words of the command line ask for.
 
 ghost use Rattle.std.specs.Prelude.{◌≡◌, ◌<◌, Ok, IfOk, IfErr, map, length, string_bytes};
-ghost use Rattle.sgt_program.specs.Words.{AsksAudit, AsksSerial, AsksFor, HasText};
+ghost use Rattle.sgt_program.specs.Words.{AsksAudit, AsksSerial, AsksReplay, AsksFor, HasText};
 
 use clap::error::ErrorKind;
 use clap::{Command, Error};
@@ -14,6 +14,8 @@ pub enum Choice {
     Audit,
     /// Judge a bundle, and run it serially where it is valid.
     Serial,
+    /// Serve events, and write what is answered and the bundle that they leave.
+    Replay,
 }
 
 /// Why there is nothing to run. A text is never empty.
@@ -39,7 +41,7 @@ impl From<AllocError> for NoChoice {
 }
 
 const ABOUT: &str =
-    "Audits the logs of a certified run. Reads a bundle from standard input and writes to standard output.";
+    "Audits the logs of certified runs, and replays runs from events. Reads standard input and writes standard output.";
 
 const AUDIT: &str =
     "Writes `yes C committed R refused W withdrawn` for a valid bundle, else `no line L FN` (the default)";
@@ -47,25 +49,30 @@ const AUDIT: &str =
 const SERIAL: &str =
     "Runs a valid bundle's committed transactions one after another by rank, else writes audit's `no` line";
 
+const REPLAY: &str =
+    "Reads sites and events, and writes a reply to each event, then `---` and the bundle, or `! E8`";
+
 const MORE: &str =
-    "L is the first line with a fault and FN the fault: docs/FORMAT.md has the faults and the formats of a bundle.
+    "L is the first line with a fault and FN the fault: docs/FORMAT.md has the faults and the formats of a bundle and of a replay.
 
 Exit status:
-  0  yes, or help was asked for
-  1  no: the bundle is not valid
-  2  the words are no command; nothing was read
+  0  yes or done, or help was asked for
+  1  no: the bundle is not valid, or a replay ended with a transaction active
+  2  the words are no command and nothing was read, or `! LN line L`: a replay's line L is the first that can't be read
   3  want of memory
   4  a read or a write failed";
 
 fn command<'a>(alloc: Global) -> Result<Command<'a>, AllocError> {
     let audit = Command::new(alloc, "audit").about(AUDIT).after_help(MORE);
     let serial = Command::new(alloc, "serial").about(SERIAL).after_help(MORE);
+    let replay = Command::new(alloc, "replay").about(REPLAY).after_help(MORE);
     Command::new(alloc, "sgt")
         .about(ABOUT)
         .after_help(MORE)
         .disable_help_subcommand(true)
         .subcommand(audit)?
-        .subcommand(serial)
+        .subcommand(serial)?
+        .subcommand(replay)
 }
 
 // What clap says, or this where it says nothing.
@@ -108,6 +115,7 @@ fn explain(alloc: Global, words: &[String]) -> Result<NoChoice, AllocError>
 pub(crate) fn choose(alloc: Global, words: &[String]) -> Result<Choice, NoChoice>
     ensures audit { AsksAudit (map string_bytes words.now) → result ≡ Ok Choice.Audit }
     ensures serial { AsksSerial (map string_bytes words.now) → result ≡ Ok Choice.Serial }
+    ensures replay { AsksReplay (map string_bytes words.now) → result ≡ Ok Choice.Replay }
     ensures only { IfOk result (AsksFor (map string_bytes words.now)) }
     ensures text { IfErr result HasText }
 {
@@ -115,6 +123,7 @@ pub(crate) fn choose(alloc: Global, words: &[String]) -> Result<Choice, NoChoice
         [] | [_] => Ok(Choice::Audit),
         [_, word] if word.as_str() == "audit" => Ok(Choice::Audit),
         [_, word] if word.as_str() == "serial" => Ok(Choice::Serial),
+        [_, word] if word.as_str() == "replay" => Ok(Choice::Replay),
         _ => Err(explain(alloc, words)?),
     }
 }

@@ -5,16 +5,26 @@ ghost use Rattle.sgt_program.specs.Ending.{WroteOrFailed, status_of, text_of_fai
 
 use sgt_names::{EngineFail, Outcome, Sink, write_all};
 
-/// The exit status: 0 yes or done, 1 no, 2 the words are no command, 3 want of memory, 4 a read or a write failed.
-pub fn status(ending: Result<Outcome, EngineFail>) -> u8
+/// How a run of the program ends.
+#[derive(Clone, Copy, Debug, PartialEq, Eq)]
+pub enum Ending {
+    /// As the engine behind a command did, or the help.
+    Ran(Result<Outcome, EngineFail>),
+    /// The words are no command.
+    NoCommand,
+}
+
+/// The exit status: 0 yes or done, 1 no, 2 the words are no command or the input can't be read, 3 want of memory, 4 a read or a
+/// write failed.
+pub fn status(ending: Ending) -> u8
     ensures { result ≡ status_of ending }
 {
     match ending {
-        Ok(Outcome::Yes) => 0,
-        Ok(Outcome::No) => 1,
-        Ok(Outcome::Unreadable) => 2,
-        Err(EngineFail::Memory) => 3,
-        Err(EngineFail::ReadFault | EngineFail::WriteFault) => 4,
+        Ending::Ran(Ok(Outcome::Yes)) => 0,
+        Ending::Ran(Ok(Outcome::No)) => 1,
+        Ending::Ran(Ok(Outcome::Unreadable)) | Ending::NoCommand => 2,
+        Ending::Ran(Err(EngineFail::Memory)) => 3,
+        Ending::Ran(Err(EngineFail::ReadFault | EngineFail::WriteFault)) => 4,
     }
 }
 

@@ -1,11 +1,13 @@
 //! The engines behind the commands, and the help, each with how it ended.
 
 ghost use Rattle.std.specs.Prelude.{◌≡◌, ◌<◌, length, IfOk, IfErr};
-ghost use Rattle.sgt_program.specs.Commands.{AnswersAudit, AnswersSerial, AnswersOthers, outcome};
+ghost use Rattle.sgt_program.specs.Commands.{AnswersAudit, AnswersSerial, AnswersReplay, AnswersOthers, outcome};
 ghost use Rattle.sgt_program.specs.Ending.{LeavesDevices, ReadFailed, status_of};
+ghost use Rattle.sgt_program.specs.declared.ending.Ending.TheVariants.{Ran};
 
 use sgt_audit::{Verdict, audit};
 use sgt_names::{EngineFail, Outcome, Sink, Source, write_all};
+use sgt_replay::replay;
 use sgt_serial::serial;
 use std::alloc::Global;
 
@@ -23,8 +25,8 @@ pub fn run_audit<R: Source, W: Sink>(
     reader: &mut R,
     writer: &mut W,
 ) -> Result<Outcome, EngineFail>
-    ensures answers { AnswersAudit (status_of result) (R.tells reader.old) (W.holds writer.old) (W.holds writer.new) }
-    ensures ends { LeavesDevices result
+    ensures answers { AnswersAudit (status_of (Ran result)) (R.tells reader.old) (W.holds writer.old) (W.holds writer.new) }
+    ensures ends { LeavesDevices (Ran result)
         ((R.failures reader.new ≡ R.failures reader.old) × (W.failures writer.new ≡ W.failures writer.old))
         (ReadFailed (R.tells reader.old) (R.failures reader.old) (R.failures reader.new))
         (W.failures writer.old < W.failures writer.new)
@@ -41,8 +43,8 @@ pub fn run_serial<R: Source, W: Sink>(
     reader: &mut R,
     writer: &mut W,
 ) -> Result<Outcome, EngineFail>
-    ensures answers { AnswersSerial (status_of result) (R.tells reader.old) (W.holds writer.old) (W.holds writer.new) }
-    ensures ends { LeavesDevices result
+    ensures answers { AnswersSerial (status_of (Ran result)) (R.tells reader.old) (W.holds writer.old) (W.holds writer.new) }
+    ensures ends { LeavesDevices (Ran result)
         ((R.failures reader.new ≡ R.failures reader.old) × (W.failures writer.new ≡ W.failures writer.old))
         (ReadFailed (R.tells reader.old) (R.failures reader.old) (R.failures reader.new))
         (W.failures writer.old < W.failures writer.new)
@@ -51,10 +53,25 @@ pub fn run_serial<R: Source, W: Sink>(
     serial(alloc, reader, writer)
 }
 
+pub fn run_replay<R: Source, W: Sink>(
+    alloc: Global,
+    reader: &mut R,
+    writer: &mut W,
+) -> Result<Outcome, EngineFail>
+    ensures answers { AnswersReplay (status_of (Ran result)) (R.tells reader.old) (W.holds writer.old) (W.holds writer.new) }
+    ensures ends { LeavesDevices (Ran result)
+        ((R.failures reader.new ≡ R.failures reader.old) × (W.failures writer.new ≡ W.failures writer.old))
+        (ReadFailed (R.tells reader.old) (R.failures reader.old) (R.failures reader.new))
+        (W.failures writer.old < W.failures writer.new)
+        (writer.new ≡ writer.old) }
+{
+    replay(alloc, reader, writer)
+}
+
 /// Writes the help.
 pub fn show_help<W: Sink>(writer: &mut W, text: &str) -> Result<Outcome, EngineFail>
     requires { 0 < length text.now }
-    ensures others { AnswersOthers (status_of result) (W.holds writer.old) (W.holds writer.new) }
+    ensures others { AnswersOthers (status_of (Ran result)) (W.holds writer.old) (W.holds writer.new) }
     ensures yes { IfOk result (λ outcome. (outcome ≡ Outcome.Yes) × (W.failures writer.new ≡ W.failures writer.old)) }
     ensures fault { IfErr result (λ fail. (fail ≡ EngineFail.WriteFault) × (W.failures writer.old < W.failures writer.new)) }
 {

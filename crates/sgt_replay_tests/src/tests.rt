@@ -3,9 +3,9 @@
 ghost use Rattle.std.specs.Prelude.{◌<◌};
 
 use sgt_core::{CoreFault, Reply};
-use sgt_names::{EngineFail, Item, MemSource, SiteNo, Tx};
+use sgt_names::{EngineFail, Item, MemSink, MemSource, Outcome, SiteNo, Tx};
 use sgt_notation::{Event, EventLine, NotationFault};
-use sgt_replay::{Reading, number_of, read_input, write_reply};
+use sgt_replay::{Reading, number_of, read_input, replay, write_reply};
 use std::alloc::{AllocError, Global};
 use std::test::Fail;
 
@@ -153,5 +153,41 @@ fn replies(rt: HostRuntime) -> Result<(), Fail> {
     let decided = is_written(rt.alloc(), &EventLine::ToDecide(tx), Reply::No, "> v1 no")?;
     assert!(rt; decided);
     assert!(rt; number_of(CoreFault::StepOpen) == 3);
+    Ok(())
+}
+
+/// Whether the replay of the input ends so, and writes this.
+fn replays_as(alloc: Global, input: &str, outcome: Outcome, said: &str) -> Result<bool, Fail> {
+    let mut source = MemSource::new(input.as_bytes(), 7, None);
+    let mut sink = MemSink::new(alloc, 500)?;
+    let found = replay(alloc, &mut source, &mut sink)?;
+    Ok(found == outcome && sink.bytes() == said.as_bytes())
+}
+
+const COMMITTED: &str = "b1\nw1[0.x]=6\nr1[0.x]=6\nc1 yes\n---
+sgt 1
+{\"decisions\":[{\"commit\":1,\"rank\":0}],\"sites\":1}
+site 0
+item x=5
+w1[x]=6
+c1
+final x=6
+end
+";
+
+#[test]
+fn replays(rt: HostRuntime) -> Result<(), Fail> {
+    for (input, outcome, said) in [
+        ("site 0 x=5\nb\n", Outcome::No, "b1\n! E8\n"),
+        ("site 0 x=5\nb\nq\n", Outcome::Unreadable, "! L1 line 3\n"),
+        (
+            "site 0 x=5\nb\nw1[0.x]=6\nr1[0.x]\nc1\n",
+            Outcome::Yes,
+            COMMITTED,
+        ),
+    ] {
+        let as_said = replays_as(rt.alloc(), input, outcome, said)?;
+        assert!(rt; as_said, "{input:?}");
+    }
     Ok(())
 }

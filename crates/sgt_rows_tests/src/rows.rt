@@ -5,6 +5,7 @@ pub mod certificates;
 pub mod increments;
 pub mod lines_doubled;
 pub mod lines_left_out;
+pub mod replays;
 pub mod serial_runs;
 pub mod walks;
 

@@ -8,6 +8,7 @@ use crate::rows::certificates::CERTIFICATES;
 use crate::rows::increments::INCREMENTS;
 use crate::rows::lines_doubled::LINES_DOUBLED;
 use crate::rows::lines_left_out::LINES_LEFT_OUT;
+use crate::rows::replays::REPLAYS;
 use crate::rows::serial_runs::SERIAL_RUNS;
 use crate::rows::walks::WALKS;
 use sgt_names::{MemSink, MemSource};
@@ -16,23 +17,24 @@ use std::alloc::{AllocError, Global};
 use std::test::Fail;
 
 const HELP: &str =
-    "Audits the logs of a certified run. Reads a bundle from standard input and writes to standard output.
+    "Audits the logs of certified runs, and replays runs from events. Reads standard input and writes standard output.
 
 Usage: sgt [COMMAND]
 
 Commands:
   audit   Writes `yes C committed R refused W withdrawn` for a valid bundle, else `no line L FN` (the default)
   serial  Runs a valid bundle's committed transactions one after another by rank, else writes audit's `no` line
+  replay  Reads sites and events, and writes a reply to each event, then `---` and the bundle, or `! E8`
 
 Options:
   -h, --help  Print help
 
-L is the first line with a fault and FN the fault: docs/FORMAT.md has the faults and the formats of a bundle.
+L is the first line with a fault and FN the fault: docs/FORMAT.md has the faults and the formats of a bundle and of a replay.
 
 Exit status:
-  0  yes, or help was asked for
-  1  no: the bundle is not valid
-  2  the words are no command; nothing was read
+  0  yes or done, or help was asked for
+  1  no: the bundle is not valid, or a replay ended with a transaction active
+  2  the words are no command and nothing was read, or `! LN line L`: a replay's line L is the first that can't be read
   3  want of memory
   4  a read or a write failed
 ";
@@ -88,6 +90,60 @@ fn worked_rows(rt: HostRuntime) -> Result<(), Fail> {
             }
         }
     }
+    Ok(())
+}
+
+/// Whether the bundle of the row's output, if there is one, audits as yes.
+fn leaves_a_valid_bundle(alloc: Global, row: &Row) -> Result<bool, Fail> {
+    let Some((_, bundle)) = row.output.split_once("---\n") else {
+        return Ok(row.status != 0);
+    };
+    let mut input = MemSource::new(bundle.as_bytes(), 65_536, None);
+    let mut output = MemSink::new(alloc, 100)?;
+    let mut errors = MemSink::new(alloc, 100)?;
+    let status = run(alloc, [].as_slice(), &mut input, &mut output, &mut errors)?;
+    Ok(status == 0 && output.bytes().starts_with(b"yes "))
+}
+
+#[test]
+fn replays(rt: HostRuntime) -> Result<(), Fail> {
+    for row in &REPLAYS {
+        for per_read in [1usize, 65_536] {
+            let as_said = answers(rt.alloc(), row, per_read)?;
+            assert!(rt; as_said, "{} in pieces of {per_read}", row.name);
+        }
+        let valid = leaves_a_valid_bundle(rt.alloc(), row)?;
+        assert!(rt; valid, "{}", row.name);
+    }
+    Ok(())
+}
+
+/// A site and so many begins, and the replies to them.
+fn begins(alloc: Global, count: usize) -> Result<(String, String), AllocError> {
+    let mut events = String::from_str(alloc, "site 0 x=5\n")?;
+    let mut replies = String::new(alloc);
+    for n in 1..=count {
+        events.push_str("b\n")?;
+        let reply = format!(in alloc; "b{n}\n")?;
+        replies.push_str(reply.as_str())?;
+    }
+    Ok((events, replies))
+}
+
+// In a window of 4,096 transactions one more begin is refused.
+#[test]
+fn window_full(rt: HostRuntime) -> Result<(), Fail> {
+    let (mut events, mut replies) = begins(rt.alloc(), 4096)?;
+    events.push_str("b\n")?;
+    replies.push_str("! E7\n! E8\n")?;
+    let mut input = MemSource::new(events.as_bytes(), 65_536, None);
+    let mut output = MemSink::new(rt.alloc(), 30_000)?;
+    let mut errors = MemSink::new(rt.alloc(), 100)?;
+    let words = ["replay"].as_slice();
+    let status = run(rt.alloc(), words, &mut input, &mut output, &mut errors)?;
+    assert_eq!(rt; status, 1);
+    assert!(rt; output.bytes() == replies.as_bytes());
+    assert!(rt; errors.bytes().is_empty());
     Ok(())
 }
 
@@ -149,12 +205,14 @@ fn words_are_judged_first(rt: HostRuntime) -> Result<(), Fail> {
         (["-h"].as_slice(), 0),
         (["audit", "--help"].as_slice(), 0),
         (["serial", "--help"].as_slice(), 0),
+        (["replay", "--help"].as_slice(), 0),
         (["frobnicate"].as_slice(), 2),
         (["run", "--workers", "17"].as_slice(), 2),
         (["help"].as_slice(), 2),
         (["--version"].as_slice(), 2),
         (["audit", "x"].as_slice(), 2),
         (["serial", "--all"].as_slice(), 2),
+        (["replay", "x"].as_slice(), 2),
         (["--"].as_slice(), 2),
         (["audit", "--"].as_slice(), 2),
         (["serial", "--"].as_slice(), 2),
@@ -220,7 +278,7 @@ fn gives_up(
 // One byte a read, and each of them fails in turn; then the writer takes ever more bytes, and not all.
 #[test]
 fn devices_that_fail(rt: HostRuntime) -> Result<(), Fail> {
-    for row in [&BUNDLES[1], &INCREMENTS[10]] {
+    for row in [&BUNDLES[1], &INCREMENTS[10], &REPLAYS[5], &REPLAYS[13]] {
         for at in 1..=row.input.len() as u64 {
             let gave_up = gives_up(rt.alloc(), row, Some(at), 1000, "sgt: read fault\n")?;
             assert!(rt; gave_up, "{} read {at}", row.name);
