@@ -1,0 +1,4 @@
+pub mod OneInput
+pub mod Reader
+pub mod OneText
+pub mod Placing
