@@ -4,6 +4,7 @@
 mod input;
 mod laws;
 mod reading;
+mod report;
 mod taking;
 
 pub use input::{Input, MAX_SCRIPTS, Reading};
