@@ -5,8 +5,11 @@ mod input;
 mod laws;
 mod reading;
 mod report;
+mod run;
+mod runner;
 mod taking;
 
 pub use input::{Input, MAX_SCRIPTS, Reading};
 pub use laws::inputs_have_one_reading;
 pub use reading::read_input;
+pub use run::run;
