@@ -13,5 +13,4 @@ pub mod Fitting
 pub mod Tallying
 pub mod Telling
 pub mod Settling
-pub mod Counting
 pub mod Whole

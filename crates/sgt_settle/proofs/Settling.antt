@@ -8,8 +8,8 @@ use Rattle.sgt_names.specs.declared.entry.Entry.{Entry}
 use Rattle.sgt_site.specs.State.{SiteState}
 use Rattle.sgt_certifier.specs.Certifier.{Ruling}
 use Rattle.sgt_certifier.specs.declared.call.Call.{Call}
-use Rattle.sgt_settle.specs.Settled.{Carries, IsLogSettled, IsSiteSettled}
-use Rattle.sgt_settle.specs.declared.counts.EntryCounts.{EntryCounts}
+use Rattle.sgt_settle.specs.Settled.{Carries, AreEntriesCounted, AreCountedAt, IsLogSettled, IsSiteSettled}
+use Rattle.sgt_agreed.specs.declared.counts.EntryCounts.{EntryCounts}
 use Rattle.sgt_settle.specs.declared.handed.Handed.{Handed}
 use Rattle.sgt_settle.specs.declared.index.Index.{Index}
 use Rattle.sgt_settle.specs.private.Words.{IsLeastOf}
@@ -20,8 +20,7 @@ use Rattle.sgt_settle.proofs.Carrying.{reaches_map}
 
 log_settled : (history : List Call) (rulings : List Ruling) (index : Index) (k : ℕ) (c : EntryCounts) (log : List Entry) → IsIndex history rulings index → IsLogFit index k c log → IsLogSettled history rulings k c log
 log_settled history rulings index k c log is fit = record {
-  reads = fit.reads;
-  others = fit.others;
+  counted = fit.counted;
   edges = λ h contains site.
       let e = fit.edges h (subst (λ hs. Contains hs h) (sym is.handed) contains) site in
       (e.0, e.1, (is.names h.edge.from e.0).0 e.2, (is.names h.edge.to e.1).0 e.3, e.4);
@@ -33,8 +32,7 @@ log_settled history rulings index k c log is fit = record {
 
 log_fit : (history : List Call) (rulings : List Ruling) (index : Index) (k : ℕ) (c : EntryCounts) (log : List Entry) → IsIndex history rulings index → IsLogSettled history rulings k c log → IsLogFit index k c log
 log_fit history rulings index k c log is settled = record {
-  reads = settled.reads;
-  others = settled.others;
+  counted = settled.counted;
   edges = λ h contains site.
       let e = settled.edges h (subst (λ hs. Contains hs h) is.handed contains) site in
       (e.0, e.1, (is.names h.edge.from e.0).1 e.2, (is.names h.edge.to e.1).1 e.3, e.4);
@@ -62,6 +60,13 @@ settled_fit history rulings index sites counts k is settled s c there counted =
     let known : IsSiteSettled history rulings counts k (Some s) = subst (IsSiteSettled history rulings counts k) there settled in
     let same : known.0 ≡ c = same_Some known.0 c (sym known.1 ∙ counted) in
     log_fit history rulings index k c s.entries is (subst (λ x. IsLogSettled history rulings k x s.entries) same known.2)
+
+-- what is settled has the entries that were counted
+pub settled_counted : (history : List Call) (rulings : List Ruling) (sites : List SiteState) (counts : List EntryCounts) (k : ℕ) → IsSiteSettled history rulings counts k (slice_get sites k) → AreCountedAt sites counts k
+settled_counted history rulings sites counts k settled s c there counted =
+    let known : IsSiteSettled history rulings counts k (Some s) = subst (IsSiteSettled history rulings counts k) there settled in
+    let same : known.0 ≡ c = same_Some known.0 c (sym known.1 ∙ counted) in
+    subst (λ x. AreEntriesCounted x s.entries) same known.2.counted
 
 -- ---- sites that aren't there
 

@@ -13,8 +13,8 @@ use Rattle.sgt_workers.specs.declared.ticket.Ending.{Ending}
 use Rattle.sgt_workers.specs.declared.ticket.Ending.TheVariants.{Committed, Refused, Withdrawn}
 use Rattle.sgt_settle.specs.Settled.{Run, AreTickets, IsGood, Rises, Tells, tickets_of, count_of}
 use Rattle.sgt_settle.specs.Fault.{Shows, IsFirst, kind_place, fault_at}
-use Rattle.sgt_settle.specs.declared.fault.SettleFail.{SettleFail}
-use Rattle.sgt_settle.specs.declared.fault.SettleFail.TheVariants as fault
+use Rattle.sgt_agreed.specs.declared.fault.ServiceFault.{ServiceFault}
+use Rattle.sgt_agreed.specs.declared.fault.ServiceFault.TheVariants as fault
 use Rattle.sgt_settle.specs.private.Words.{IsLeastOf}
 use Rattle.sgt_settle.specs.private.Tickets.{IsRunOf, IsStray, is_decision}
 use Rattle.sgt_settle.proofs.Ticketing.{many_decisions}
@@ -101,87 +101,87 @@ are_tickets r good two missing order = record {
 }
 
 -- none is told before
-before_two : (r : Run) → NoStray r → (g : SettleFail) → kind_place g < 2 → Shows r g → ⊥
+before_two : (r : Run) → NoStray r → (g : ServiceFault) → kind_place g < 2 → Shows r g → ⊥
 before_two r good (fault.StrayTicket k) lt shown = shown.3 (good shown.0 shown.1)
 before_two r good (fault.TwoTickets k) lt shown = absurd (omega (arith, lt))
 before_two r good (fault.MissingTicket k) lt shown = absurd (omega (arith, lt))
 before_two r good (fault.TicketOrder job) lt shown = absurd (omega (arith, lt))
 before_two r good (fault.LogDiffers site) lt shown = absurd (omega (arith, lt))
 before_two r good (fault.VersionsDiffer site) lt shown = absurd (omega (arith, lt))
-before_two r good fault.Memory lt shown = absurd shown
+before_two r good _ lt shown = absurd shown
 
-before_missing : (r : Run) → NoStray r → NoTwo r → (g : SettleFail) → kind_place g < 6 → Shows r g → ⊥
+before_missing : (r : Run) → NoStray r → NoTwo r → (g : ServiceFault) → kind_place g < 6 → Shows r g → ⊥
 before_missing r good two (fault.StrayTicket k) lt shown = shown.3 (good shown.0 shown.1)
 before_missing r good two (fault.TwoTickets k) lt shown = let le = two k in absurd (omega (arith, le, shown))
 before_missing r good two (fault.MissingTicket k) lt shown = absurd (omega (arith, lt))
 before_missing r good two (fault.TicketOrder job) lt shown = absurd (omega (arith, lt))
 before_missing r good two (fault.LogDiffers site) lt shown = absurd (omega (arith, lt))
 before_missing r good two (fault.VersionsDiffer site) lt shown = absurd (omega (arith, lt))
-before_missing r good two fault.Memory lt shown = absurd shown
+before_missing r good two _ lt shown = absurd shown
 
-before_order : (r : Run) → NoStray r → NoTwo r → NoMissing r → (g : SettleFail) → kind_place g < 8 → Shows r g → ⊥
+before_order : (r : Run) → NoStray r → NoTwo r → NoMissing r → (g : ServiceFault) → kind_place g < 8 → Shows r g → ⊥
 before_order r good two missing (fault.StrayTicket k) lt shown = shown.3 (good shown.0 shown.1)
 before_order r good two missing (fault.TwoTickets k) lt shown = let le = two k in absurd (omega (arith, le, shown))
 before_order r good two missing (fault.MissingTicket k) lt shown = let le = missing k shown.0 in absurd (omega (arith, le, shown.1))
 before_order r good two missing (fault.TicketOrder job) lt shown = absurd (omega (arith, lt))
 before_order r good two missing (fault.LogDiffers site) lt shown = absurd (omega (arith, lt))
 before_order r good two missing (fault.VersionsDiffer site) lt shown = absurd (omega (arith, lt))
-before_order r good two missing fault.Memory lt shown = absurd shown
+before_order r good two missing _ lt shown = absurd shown
 
 -- none of the kind has a smaller number
-none_before : (r : Run) (g : SettleFail) → kind_place g < 1 → Shows r g → ⊥
+none_before : (r : Run) (g : ServiceFault) → kind_place g < 1 → Shows r g → ⊥
 none_before r (fault.StrayTicket j) lt shown = absurd (omega (arith, lt))
 none_before r (fault.TwoTickets j) lt shown = absurd (omega (arith, lt))
 none_before r (fault.MissingTicket j) lt shown = absurd (omega (arith, lt))
 none_before r (fault.TicketOrder j) lt shown = absurd (omega (arith, lt))
 none_before r (fault.LogDiffers j) lt shown = absurd (omega (arith, lt))
 none_before r (fault.VersionsDiffer j) lt shown = absurd (omega (arith, lt))
-none_before r fault.Memory lt shown = absurd shown
+none_before r _ lt shown = absurd shown
 
-least_stray : (r : Run) (k : ℕ) → ((t : Ticket) → Contains (tickets_of r.dones) t → (IsGood r.certifier.state.rulings t → ⊥) → k ≤ t.number) → (g : SettleFail) → kind_place g ≡ 1 → fault_at g < k → Shows r g → ⊥
+least_stray : (r : Run) (k : ℕ) → ((t : Ticket) → Contains (tickets_of r.dones) t → (IsGood r.certifier.state.rulings t → ⊥) → k ≤ t.number) → (g : ServiceFault) → kind_place g ≡ 1 → fault_at g < k → Shows r g → ⊥
 least_stray r k least (fault.StrayTicket j) same lt shown = let le = least shown.0 shown.1 shown.3 in omega (arith, le, shown.2, lt)
 least_stray r k least (fault.TwoTickets j) same lt shown = absurd (omega (arith, same))
 least_stray r k least (fault.MissingTicket j) same lt shown = absurd (omega (arith, same))
 least_stray r k least (fault.TicketOrder j) same lt shown = absurd (omega (arith, same))
 least_stray r k least (fault.LogDiffers j) same lt shown = absurd (omega (arith, same))
 least_stray r k least (fault.VersionsDiffer j) same lt shown = absurd (omega (arith, same))
-least_stray r k least fault.Memory same lt shown = absurd shown
+least_stray r k least _ same lt shown = absurd shown
 
-least_two : (r : Run) (k : ℕ) → ((j : ℕ) → j < k → count_of j (tickets_of r.dones) ≤ 1) → (g : SettleFail) → kind_place g ≡ 2 → fault_at g < k → Shows r g → ⊥
+least_two : (r : Run) (k : ℕ) → ((j : ℕ) → j < k → count_of j (tickets_of r.dones) ≤ 1) → (g : ServiceFault) → kind_place g ≡ 2 → fault_at g < k → Shows r g → ⊥
 least_two r k least (fault.StrayTicket j) same lt shown = absurd (omega (arith, same))
 least_two r k least (fault.TwoTickets j) same lt shown = let le = least j lt in omega (arith, le, shown)
 least_two r k least (fault.MissingTicket j) same lt shown = absurd (omega (arith, same))
 least_two r k least (fault.TicketOrder j) same lt shown = absurd (omega (arith, same))
 least_two r k least (fault.LogDiffers j) same lt shown = absurd (omega (arith, same))
 least_two r k least (fault.VersionsDiffer j) same lt shown = absurd (omega (arith, same))
-least_two r k least fault.Memory same lt shown = absurd shown
+least_two r k least _ same lt shown = absurd shown
 
-least_missing : (r : Run) (k : ℕ) → ((j : ℕ) → j < k → 1 ≤ count_of j (tickets_of r.dones)) → (g : SettleFail) → kind_place g ≡ 6 → fault_at g < k → Shows r g → ⊥
+least_missing : (r : Run) (k : ℕ) → ((j : ℕ) → j < k → 1 ≤ count_of j (tickets_of r.dones)) → (g : ServiceFault) → kind_place g ≡ 6 → fault_at g < k → Shows r g → ⊥
 least_missing r k least (fault.StrayTicket j) same lt shown = absurd (omega (arith, same))
 least_missing r k least (fault.TwoTickets j) same lt shown = absurd (omega (arith, same))
 least_missing r k least (fault.MissingTicket j) same lt shown = let le = least j lt in omega (arith, le, shown.1)
 least_missing r k least (fault.TicketOrder j) same lt shown = absurd (omega (arith, same))
 least_missing r k least (fault.LogDiffers j) same lt shown = absurd (omega (arith, same))
 least_missing r k least (fault.VersionsDiffer j) same lt shown = absurd (omega (arith, same))
-least_missing r k least fault.Memory same lt shown = absurd shown
+least_missing r k least _ same lt shown = absurd shown
 
-least_unordered : (r : Run) (k : ℕ) → ((d : Done) → Contains r.dones d → (Rises d → ⊥) → k ≤ d.job) → (g : SettleFail) → kind_place g ≡ 8 → fault_at g < k → Shows r g → ⊥
+least_unordered : (r : Run) (k : ℕ) → ((d : Done) → Contains r.dones d → (Rises d → ⊥) → k ≤ d.job) → (g : ServiceFault) → kind_place g ≡ 8 → fault_at g < k → Shows r g → ⊥
 least_unordered r k least (fault.StrayTicket j) same lt shown = absurd (omega (arith, same))
 least_unordered r k least (fault.TwoTickets j) same lt shown = absurd (omega (arith, same))
 least_unordered r k least (fault.MissingTicket j) same lt shown = absurd (omega (arith, same))
 least_unordered r k least (fault.TicketOrder j) same lt shown = let le = least shown.0 shown.1 shown.3 in omega (arith, le, shown.2, lt)
 least_unordered r k least (fault.LogDiffers j) same lt shown = absurd (omega (arith, same))
 least_unordered r k least (fault.VersionsDiffer j) same lt shown = absurd (omega (arith, same))
-least_unordered r k least fault.Memory same lt shown = absurd shown
+least_unordered r k least _ same lt shown = absurd shown
 
-pub before_sites : (r : Run) → NoStray r → NoTwo r → NoMissing r → NoDisorder r → (g : SettleFail) → kind_place g < 9 → Shows r g → ⊥
+pub before_sites : (r : Run) → NoStray r → NoTwo r → NoMissing r → NoDisorder r → (g : ServiceFault) → kind_place g < 9 → Shows r g → ⊥
 before_sites r good two missing order (fault.StrayTicket j) lt shown = shown.3 (good shown.0 shown.1)
 before_sites r good two missing order (fault.TwoTickets j) lt shown = let le = two j in absurd (omega (arith, le, shown))
 before_sites r good two missing order (fault.MissingTicket j) lt shown = let le = missing j shown.0 in absurd (omega (arith, le, shown.1))
 before_sites r good two missing order (fault.TicketOrder j) lt shown = shown.3 (order shown.0 shown.1)
 before_sites r good two missing order (fault.LogDiffers j) lt shown = absurd (omega (arith, lt))
 before_sites r good two missing order (fault.VersionsDiffer j) lt shown = absurd (omega (arith, lt))
-before_sites r good two missing order fault.Memory lt shown = absurd shown
+before_sites r good two missing order _ lt shown = absurd shown
 
 -- ---- the fault that is told
 

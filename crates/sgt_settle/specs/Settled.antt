@@ -2,22 +2,22 @@
 use Rattle.std.specs.Prelude.{◌≡◌, ◌<◌, ◌≤◌, ℕ, max, List, length, count_by, Bool, true, false, not, ◌==◌, All, AllPairs, Contains, Option, Some, None, slice_get}
 use Rattle.std.specs.List.{flat_map}
 use Rattle.sgt_names.specs.Name.{Name}
-use Rattle.sgt_names.specs.Log.{Conflicts, names}
+use Rattle.sgt_names.specs.Log.{Conflicts}
 use Rattle.sgt_names.specs.declared.entry.Entry.{Entry}
 use Rattle.sgt_names.specs.declared.entry.Entry.TheVariants.{Read}
 use Rattle.sgt_names.specs.declared.entry.Kind.{Kind}
-use Rattle.sgt_site.specs.State.{SiteState, version_at}
+use Rattle.sgt_site.specs.State.{SiteState}
 use Rattle.sgt_edges.specs.declared.edge.Edge.{Edge}
 use Rattle.sgt_order.specs.Graph.{Reaches}
 use Rattle.sgt_certifier.specs.Certifier.{Ruling, committed, refused, withdrawn}
-use Rattle.sgt_certifier.specs.History.{counted}
 use Rattle.sgt_certifier.specs.Kept.{Kept}
 use Rattle.sgt_certifier.specs.declared.call.Call.{Call}
 use Rattle.sgt_workers.specs.declared.ticket.Ticket.{Ticket}
 use Rattle.sgt_workers.specs.declared.ticket.Done.{Done}
 use Rattle.sgt_workers.specs.declared.ticket.Ending.TheVariants as ending
 use Rattle.sgt_settle.specs.Told.{handed_in, IsNamed, IsCommittedBy, IsCommitted}
-use Rattle.sgt_settle.specs.declared.counts.EntryCounts.{EntryCounts}
+use Rattle.sgt_agreed.specs.Agreed.{VersionsAgree}
+use Rattle.sgt_agreed.specs.declared.counts.EntryCounts.{EntryCounts}
 use Rattle.sgt_settle.specs.declared.handed.Handed.{Handed}
 
 -- ---- tickets
@@ -55,6 +55,11 @@ abbrev pub is_read : Entry → Bool
 is_read (Read tx x v) = true
 is_read _ = false
 
+-- the log has as many reads and as many other entries as were counted
+pub record AreEntriesCounted (counts : EntryCounts) (log : List Entry) : Type 0 where
+  pub reads : count_by is_read log ≡ counts.reads
+  pub others : count_by (λ e. not (is_read e)) log ≡ counts.others
+
 -- the edge is a conflict of the log with its label; the history names its ends
 abbrev pub IsLogged : List Call → List Entry → Edge → Type 0
 IsLogged history log e =
@@ -74,8 +79,7 @@ pub record Carries (history : List Call) (rulings : List Ruling) (site : ℕ) (x
 
 -- the log of a site has the entries that were counted, and its conflicts are those that the decisions were handed
 pub record IsLogSettled (history : List Call) (rulings : List Ruling) (site : ℕ) (counts : EntryCounts) (log : List Entry) : Type 0 where
-  pub reads : count_by is_read log ≡ counts.reads
-  pub others : count_by (λ e. not (is_read e)) log ≡ counts.others
+  pub counted : AreEntriesCounted counts log
   -- each edge that a decision was handed is a conflict of the log
   pub edges : (h : Handed) → Contains (handed_in history) h → h.edge.label.site ≡ site → IsLogged history log h.edge
   -- of two conflicting committed transactions edges lead from the earlier to the later, handed until both were decided
@@ -89,9 +93,10 @@ IsSiteSettled history rulings counts site (Some s) =
 IsSiteSettled history rulings counts site None =
     (h : Handed) → Contains (handed_in history) h → h.edge.label.site ≡ site → ⊥
 
--- the version of each item is the number of its installs that the history counts
-abbrev pub AreVersionsCounted : List Call → SiteState → Type 0
-AreVersionsCounted history s = All (λ x. version_at s.entries x ≡ counted history s.number x) (names s.items)
+-- the site, if it is there, has the entries that were counted
+abbrev pub AreCountedAt : List SiteState → List EntryCounts → ℕ → Type 0
+AreCountedAt sites counts k =
+    (s : SiteState) (c : EntryCounts) → slice_get sites k ≡ Some s → slice_get counts k ≡ Some c → AreEntriesCounted c s.entries
 
 -- ---- a run
 
@@ -105,8 +110,8 @@ pub record Run : Type 0 where
 abbrev pub IsSettledAt : Run → ℕ → Type 0
 IsSettledAt r site = IsSiteSettled r.certifier.history r.certifier.state.rulings r.counts site (slice_get r.sites site)
 
--- the tickets are the decisions of the history, each site agrees with it, and so do the versions
+-- the tickets are the decisions of the history, each site agrees with it, and each version is the number of installs that it counts
 pub record IsSettled (r : Run) : Type 0 where
   pub tickets : AreTickets r.certifier.state.rulings r.dones
   pub sites : (site : ℕ) → IsSettledAt r site
-  pub versions : All (AreVersionsCounted r.certifier.history) r.sites
+  pub versions : All (VersionsAgree r.certifier.history) r.sites

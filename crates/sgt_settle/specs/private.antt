@@ -4,4 +4,3 @@ pub mod Search
 pub mod Index
 pub mod Tickets
 pub mod Sites
-pub mod Versions

@@ -1,23 +1,24 @@
 //! Whether a run is settled.
 
-ghost use Rattle.std.specs.Prelude.{◌≡◌, ◌≤◌, ◌<◌, ℕ, IfOk, IfErr, OnOk, MatchOption, length, slice_get};
+ghost use Rattle.std.specs.Prelude.{◌≡◌, ◌≤◌, ◌<◌, ℕ, IfOk, IfErr, OnOk, OnErr, MatchOption, length, slice_get};
 ghost use Rattle.sgt_names.specs.Limits.{max_sites};
-ghost use Rattle.sgt_settle.specs.Settled.{IsSettled, IsSiteSettled};
+ghost use Rattle.sgt_settle.specs.Settled.{AreCountedAt, IsSettled, IsSiteSettled};
 ghost use Rattle.sgt_settle.specs.Fault.{IsUnsettled};
 
-use crate::counts::EntryCounts;
-use crate::fault::SettleFail;
+use crate::counts::has_first_counts;
 use crate::index::index_of;
 use crate::sites::{first_beyond, first_unfit};
 use crate::tickets::check_tickets;
 use crate::versions::first_uncounted;
+use sgt_agreed::{EntryCounts, ServiceFault};
 use sgt_certifier::Certifier;
 use sgt_names::SiteNo;
 use sgt_site::Site;
 use sgt_workers::Done;
 use std::alloc::{AllocError, Global};
 
-// The least site that doesn't agree with the history.
+// The least site that doesn't agree with the history. Where there was no memory, some site that its counts don't tell to differ could
+// not be judged, and no site before it differs.
 fn first_differing(
     alloc: Global,
     certifier: &Certifier,
@@ -26,12 +27,20 @@ fn first_differing(
 ) -> Result<Option<SiteNo>, AllocError>
     requires few { length sites.now ≤ max_sites }
     requires counts { length counts.now ≡ length sites.now }
-    ensures { IfOk result (λ found. MatchOption found
+    ensures ok { IfOk result (λ found. MatchOption found
         ((k : ℕ) → IsSiteSettled certifier.now.history certifier.now.state.rulings counts.now k (slice_get sites.now k))
         (λ site. (IsSiteSettled certifier.now.history certifier.now.state.rulings counts.now site (slice_get sites.now site) → ⊥)
         × ((k : ℕ) → k < site
         → IsSiteSettled certifier.now.history certifier.now.state.rulings counts.now k (slice_get sites.now k)))) }
+    ensures err { OnErr result ((site : ℕ) × AreCountedAt sites.now counts.now site × ((k : ℕ) → k < site
+        → IsSiteSettled certifier.now.history certifier.now.state.rulings counts.now k (slice_get sites.now k))) }
 {
+    let Ok(first) = SiteNo::new(0) else {
+        unreachable!();
+    };
+    if !has_first_counts(sites, counts) {
+        return Ok(Some(first));
+    }
     let index = index_of(alloc, certifier)?;
     let unfit = first_unfit(alloc, &index, sites, counts)?;
     if let Some(site) = unfit {
@@ -62,7 +71,7 @@ pub fn check_settled(
     sites: &[Site],
     counts: &[EntryCounts],
     dones: &[Done],
-) -> Result<(), SettleFail>
+) -> Result<(), ServiceFault>
     requires few { length sites.now ≤ max_sites }
     requires counts { length counts.now ≡ length sites.now }
     ensures ok { OnOk result (IsSettled (record {
@@ -82,14 +91,12 @@ pub fn check_settled(
     if let Err(fault) = check_tickets(history, dones) {
         return Err(fault);
     }
-    let Ok(differing) = first_differing(alloc, certifier, sites, counts) else {
-        return Err(SettleFail::Memory);
-    };
+    let differing = first_differing(alloc, certifier, sites, counts)?;
     if let Some(site) = differing {
-        return Err(SettleFail::LogDiffers(site));
+        return Err(ServiceFault::LogDiffers(site));
     }
-    if let Some(site) = first_uncounted(history, sites) {
-        return Err(SettleFail::VersionsDiffer(site));
+    if let Some(site) = first_uncounted(certifier, sites) {
+        return Err(ServiceFault::VersionsDiffer(site));
     }
     Ok(())
 }

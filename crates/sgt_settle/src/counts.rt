@@ -1,16 +1,11 @@
 //! How many entries of a site's log were counted.
 
 ghost use Rattle.std.specs.Prelude.{◌≡◌, ◌↔◌, IsTrue, count_by, not};
-ghost use Rattle.sgt_settle.specs.Settled.{is_read};
+ghost use Rattle.sgt_settle.specs.Settled.{is_read, AreEntriesCounted, AreCountedAt};
 
+use sgt_agreed::EntryCounts;
 use sgt_names::Entry;
-
-/// How many reads of a site's log were counted, and how many other entries.
-#[derive(Clone, Copy, Debug, PartialEq, Eq)]
-pub struct EntryCounts {
-    pub reads: u64,
-    pub others: u64,
-}
+use sgt_site::Site;
 
 fn is_read(entry: &Entry) -> bool
     ensures { result ≡ is_read entry.now }
@@ -32,8 +27,20 @@ fn others_in(log: &[Entry]) -> usize
 
 /// Whether the log has as many reads and as many other entries as were counted.
 pub(crate) fn has_counts(log: &[Entry], counts: EntryCounts) -> bool
-    ensures { IsTrue result
-        ↔ ((count_by is_read log.now ≡ counts.reads) × (count_by (λ e. not (is_read e)) log.now ≡ counts.others)) }
+    ensures { IsTrue result ↔ AreEntriesCounted counts log.now }
 {
     reads_in(log) as u64 == counts.reads && others_in(log) as u64 == counts.others
+}
+
+/// Whether the first site, if there is one, has the entries that were counted.
+pub(crate) fn has_first_counts(sites: &[Site], counts: &[EntryCounts]) -> bool
+    ensures { IsTrue result ↔ AreCountedAt sites.now counts.now 0 }
+{
+    let Some(site) = sites.first() else {
+        return true;
+    };
+    let Some(counts) = counts.first() else {
+        return true;
+    };
+    has_counts(site.log(), *counts)
 }

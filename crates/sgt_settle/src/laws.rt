@@ -2,9 +2,9 @@
 
 ghost use Rattle.sgt_settle.specs.Settled.{Run, IsSettled};
 ghost use Rattle.sgt_settle.specs.Fault.{Shows};
-ghost use Rattle.sgt_settle.specs.declared.fault.SettleFail.{SettleFail};
+ghost use Rattle.sgt_agreed.specs.declared.fault.ServiceFault.{ServiceFault};
 
 /// What is settled shows no fault. So a run is refused, memory aside, exactly where it isn't settled.
 pub fn settled_has_no_fault()
-    ensures { (r : Run) (f : SettleFail) → IsSettled r → Shows r f → ⊥ }
+    ensures { (r : Run) (f : ServiceFault) → IsSettled r → Shows r f → ⊥ }
 {}

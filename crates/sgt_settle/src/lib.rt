@@ -5,7 +5,6 @@ mod carried;
 mod check;
 mod committed;
 mod counts;
-mod fault;
 mod handed;
 mod index;
 mod laws;
@@ -20,7 +19,5 @@ mod tickets;
 mod versions;
 
 pub use check::check_settled;
-pub use counts::EntryCounts;
-pub use fault::SettleFail;
 pub use handed::Handed;
 pub use laws::settled_has_no_fault;

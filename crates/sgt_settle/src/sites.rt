@@ -1,17 +1,19 @@
 //! Whether the logs of the sites agree with the history.
 
-ghost use Rattle.std.specs.Prelude.{◌≡◌, ◌↔◌, ◌≤◌, ◌<◌, ◌++◌, ℕ, List, IsTrue, Contains, IfOk, MatchOption, length, slice_get, Some};
+ghost use Rattle.std.specs.Prelude.{◌≡◌, ◌↔◌, ◌≤◌, ◌<◌, ◌++◌, ℕ, List, IsTrue, Contains, IfOk, OnErr, MatchOption, length, slice_get, Some};
 ghost use Rattle.sgt_names.specs.Limits.{max_sites};
+ghost use Rattle.sgt_settle.specs.Settled.{AreEntriesCounted, AreCountedAt};
 ghost use Rattle.sgt_settle.specs.declared.handed.Handed.{Handed as AHanded};
 ghost use Rattle.sgt_settle.specs.private.Words.{IsLeastOf, lesser};
 ghost use Rattle.sgt_settle.specs.private.Index.{IsPaired};
 ghost use Rattle.sgt_settle.specs.private.Sites.{AreLogged, IsLogFit, IsFitAt};
 
 use crate::carried::are_carried;
-use crate::counts::{EntryCounts, has_counts};
+use crate::counts::has_counts;
 use crate::handed::Handed;
 use crate::index::Index;
 use crate::logged::is_logged;
+use sgt_agreed::EntryCounts;
 use sgt_names::{Entry, SiteNo, Tx};
 use sgt_site::Site;
 use std::alloc::{AllocError, Global};
@@ -37,7 +39,8 @@ fn is_log_fit(
     log: &[Entry],
 ) -> Result<bool, AllocError>
     requires { IsPaired index.now }
-    ensures { IfOk result (λ yes. IsTrue yes ↔ IsLogFit index.now site counts log.now) }
+    ensures ok { IfOk result (λ yes. IsTrue yes ↔ IsLogFit index.now site counts log.now) }
+    ensures err { OnErr result (AreEntriesCounted counts log.now) }
 {
     if !has_counts(log, counts) {
         return Ok(false);
@@ -59,10 +62,12 @@ pub(crate) fn first_unfit(
     requires paired { IsPaired index.now }
     requires few { length sites.now ≤ max_sites }
     requires counts { length counts.now ≡ length sites.now }
-    ensures { IfOk result (λ found. MatchOption found
+    ensures ok { IfOk result (λ found. MatchOption found
         ((k : ℕ) → k < length sites.now → IsFitAt index.now sites.now counts.now k)
         (λ site. (site < length sites.now) × (IsFitAt index.now sites.now counts.now site → ⊥)
         × ((k : ℕ) → k < site → IsFitAt index.now sites.now counts.now k))) }
+    ensures err { OnErr result ((site : ℕ) × (site < length sites.now) × AreCountedAt sites.now counts.now site
+        × ((k : ℕ) → k < site → IsFitAt index.now sites.now counts.now k)) }
 {
     for k in 0..sites.len() {
         let Ok(site) = SiteNo::new(k as u64) else {

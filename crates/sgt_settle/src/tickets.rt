@@ -9,8 +9,8 @@ ghost use Rattle.sgt_settle.specs.Fault.{IsUnsettled};
 ghost use Rattle.sgt_settle.specs.private.Words.{IsLeastOf};
 ghost use Rattle.sgt_settle.specs.private.Tickets.{IsRunOf, IsStray, IsToldBy, ending_of, is_decision};
 
-use crate::fault::SettleFail;
 use crate::least::lesser;
+use sgt_agreed::ServiceFault;
 use sgt_arena::Handle;
 use sgt_certifier::{Call, Decided};
 use sgt_workers::{Done, Ending, Ticket};
@@ -189,22 +189,22 @@ fn first_unordered(dones: &[Done]) -> Option<u64>
 
 /// Whether the tickets are the decisions of the history, each once and those of each script in order. Takes no memory; the cost is
 /// that of the tickets times the history.
-pub(crate) fn check_tickets(history: &[Call], dones: &[Done]) -> Result<(), SettleFail>
+pub(crate) fn check_tickets(history: &[Call], dones: &[Done]) -> Result<(), ServiceFault>
     ensures ok { OnOk result (AreTickets (rulings_from 0 0 history.now) dones.now) }
     ensures err { IfErr result (λ f. (r : Run) → IsRunOf r history.now dones.now → IsUnsettled r f) }
 {
     let decisions = decisions_in(history);
     if let Some(number) = first_stray(history, dones) {
-        return Err(SettleFail::StrayTicket(number));
+        return Err(ServiceFault::StrayTicket(number));
     }
     if let Some(number) = first_doubled(dones, decisions) {
-        return Err(SettleFail::TwoTickets(number));
+        return Err(ServiceFault::TwoTickets(number));
     }
     if let Some(number) = first_missing(dones, decisions) {
-        return Err(SettleFail::MissingTicket(number));
+        return Err(ServiceFault::MissingTicket(number));
     }
     if let Some(job) = first_unordered(dones) {
-        return Err(SettleFail::TicketOrder(job));
+        return Err(ServiceFault::TicketOrder(job));
     }
     Ok(())
 }

@@ -1,9 +1,10 @@
 //! The worked run in which a write is read back, with its tickets changed one at a time, its log, its edges and its installs.
 
+use sgt_agreed::{EntryCounts, ServiceFault};
 use sgt_certifier::Certifier;
 use sgt_edges::{EdgeList, gather};
 use sgt_names::{Draft, Holding, Item, SiteNo, Tx};
-use sgt_settle::{EntryCounts, SettleFail, check_settled};
+use sgt_settle::check_settled;
 use sgt_site::Site;
 use sgt_workers::{Done, Ending, Ticket};
 use std::alloc::Global;
@@ -143,14 +144,14 @@ fn tickets_changed_one_at_a_time(rt: HostRuntime) -> Result<(), Fail> {
         number: 5,
         ..SECOND
     };
-    let rows: [(&[Told], &[Told], Result<(), SettleFail>); 7] = [
+    let rows: [(&[Told], &[Told], Result<(), ServiceFault>); 7] = [
         (&[FIRST], &[SECOND], Ok(())),
-        (&[FIRST], &[refused], Err(SettleFail::StrayTicket(1))),
-        (&[FIRST], &[fifth], Err(SettleFail::StrayTicket(5))),
-        (&[FIRST, FIRST], &[SECOND], Err(SettleFail::TwoTickets(0))),
-        (&[FIRST, FIRST], &[fifth], Err(SettleFail::StrayTicket(5))),
-        (&[FIRST], &[], Err(SettleFail::MissingTicket(1))),
-        (&[], &[SECOND, FIRST], Err(SettleFail::TicketOrder(2))),
+        (&[FIRST], &[refused], Err(ServiceFault::StrayTicket(1))),
+        (&[FIRST], &[fifth], Err(ServiceFault::StrayTicket(5))),
+        (&[FIRST, FIRST], &[SECOND], Err(ServiceFault::TwoTickets(0))),
+        (&[FIRST, FIRST], &[fifth], Err(ServiceFault::StrayTicket(5))),
+        (&[FIRST], &[], Err(ServiceFault::MissingTicket(1))),
+        (&[], &[SECOND, FIRST], Err(ServiceFault::TicketOrder(2))),
     ];
     for row in &rows {
         let told = dones(alloc, row.0, row.1)?;
@@ -162,8 +163,8 @@ fn tickets_changed_one_at_a_time(rt: HostRuntime) -> Result<(), Fail> {
 #[test]
 fn logs_edges_and_installs(rt: HostRuntime) -> Result<(), Fail> {
     let alloc = rt.alloc();
-    let differs = Err(SettleFail::LogDiffers(SiteNo::new(0)?));
-    let uncounted = Err(SettleFail::VersionsDiffer(SiteNo::new(0)?));
+    let differs = Err(ServiceFault::LogDiffers(SiteNo::new(0)?));
+    let uncounted = Err(ServiceFault::VersionsDiffer(SiteNo::new(0)?));
     let more = EntryCounts { reads: 2, ..COUNTS };
     let fewer = EntryCounts {
         others: 3,

@@ -1,11 +1,10 @@
 -- The logs of the sites against an index of the history.
-use Rattle.std.specs.Prelude.{◌≡◌, ℕ, List, Contains, Some, slice_get, count_by, not}
-use Rattle.std.specs.Prelude.{Vec}
+use Rattle.std.specs.Prelude.{◌≡◌, ℕ, List, Contains, Some, Vec, slice_get}
 use Rattle.std.specs.declared.alloc.Global.{Global}
 use Rattle.sgt_names.specs.declared.entry.Entry.{Entry}
 use Rattle.sgt_site.specs.State.{SiteState}
-use Rattle.sgt_settle.specs.Settled.{is_read}
-use Rattle.sgt_settle.specs.declared.counts.EntryCounts.{EntryCounts}
+use Rattle.sgt_settle.specs.Settled.{AreEntriesCounted}
+use Rattle.sgt_agreed.specs.declared.counts.EntryCounts.{EntryCounts}
 use Rattle.sgt_settle.specs.declared.handed.Handed.{Handed}
 use Rattle.sgt_settle.specs.declared.index.Index.{Index}
 use Rattle.sgt_settle.specs.private.Index.{IsLoggedBy, AreCarried}
@@ -16,8 +15,7 @@ AreLogged windows handed site log = (h : Handed) → Contains handed h → h.edg
 
 -- the log of the site has the counted entries, and its conflicts are those that the decisions were handed
 pub record IsLogFit (index : Index) (site : ℕ) (counts : EntryCounts) (log : List Entry) : Type 0 where
-  pub reads : count_by is_read log ≡ counts.reads
-  pub others : count_by (λ e. not (is_read e)) log ≡ counts.others
+  pub counted : AreEntriesCounted counts log
   pub edges : AreLogged index.windows.items index.handed.items site log
   pub conflicts : AreCarried index site log
 

@@ -1,6 +1,6 @@
 use Rattle.std.proofs.Common.{refl}
 use Rattle.sgt_settle.specs.Settled.{Run}
-use Rattle.sgt_settle.proofs.Whole.{rulings_told, tickets_told, site_told, version_told}
+use Rattle.sgt_settle.proofs.Whole.{rulings_told, tickets_told, site_told, version_told, handed_on}
 use Rattle.sgt_settle.proofs.check.check_settled.Goals as goal
 
 pub returns-in-Err-clause-err : goal.returns-in-Err-clause-err
@@ -8,28 +8,31 @@ returns-in-Err-clause-err c =
     let r : Run = record { certifier = c.args.certifier.now; sites = c.args.sites.now; counts = c.args.counts.now; dones = c.args.dones.now } in
     c.in-Err.ensures.err r (record { told = rulings_told _ _ c.args.certifier.now.state c.history-history.ensures.replays c.history-history.ensures.is; answers = refl })
 
-pub returns-in_default-first_differing-clause-err : goal.returns-in_default-first_differing-clause-err
-returns-in_default-first_differing-clause-err c =
-    tickets_told _ _ c.args.certifier.now.state c.args.dones.now c.history-history.ensures.replays c.history-history.ensures.is c.in_default.ensures.ok
+pub returns-in_err-differing-clause-err : goal.returns-in_err-differing-clause-err
+returns-in_err-differing-clause-err c =
+    let r : Run = record { certifier = c.args.certifier.now; sites = c.args.sites.now; counts = c.args.counts.now; dones = c.args.dones.now } in
+    let tickets = tickets_told _ _ c.args.certifier.now.state c.args.dones.now c.history-history.ensures.replays c.history-history.ensures.is c.in_default.ensures.ok in
+    let at = c.in_err-differing.ensures.err in
+    handed_on c.from_residual.result r c.from_residual.ensures.1 (tickets, (at.0, record { counted = at.1; before = at.2 }))
 
 pub returns-in-Some-clause-err : goal.returns-in-Some-clause-err
 returns-in-Some-clause-err c =
     let r : Run = record { certifier = c.args.certifier.now; sites = c.args.sites.now; counts = c.args.counts.now; dones = c.args.dones.now } in
     let tickets = tickets_told _ _ c.args.certifier.now.state c.args.dones.now c.history-history.ensures.replays c.history-history.ensures.is c.in_default.ensures.ok in
-    let found = rw c.in-Some.is at c.in-Ok.ensures in
+    let found = rw c.in-Some.is at c.in_ok-differing.ensures.ok in
     site_told r c.in-Some.site tickets found.0 found.1
 
 pub returns-in-Some-first_uncounted-clause-err : goal.returns-in-Some-first_uncounted-clause-err
 returns-in-Some-first_uncounted-clause-err c =
     let r : Run = record { certifier = c.args.certifier.now; sites = c.args.sites.now; counts = c.args.counts.now; dones = c.args.dones.now } in
     let tickets = tickets_told _ _ c.args.certifier.now.state c.args.dones.now c.history-history.ensures.replays c.history-history.ensures.is c.in_default.ensures.ok in
-    let sites = rw c.in_default-differing.is at c.in-Ok.ensures in
-    let found = rw c.history-history.ensures.is at (rw c.in-Some-first_uncounted.is at c.first_uncounted.ensures) in
+    let sites = rw c.in_default-differing.is at c.in_ok-differing.ensures.ok in
+    let found = rw c.in-Some-first_uncounted.is at c.first_uncounted.ensures in
     version_told r c.in-Some-first_uncounted.site tickets sites found.0 found.1
 
 pub returns-clause-ok : goal.returns-clause-ok
 returns-clause-ok c = record {
   tickets = tickets_told _ _ c.args.certifier.now.state c.args.dones.now c.history-history.ensures.replays c.history-history.ensures.is c.in_default.ensures.ok;
-  sites = rw c.in_default-differing.is at c.in-Ok.ensures;
-  versions = rw c.history-history.ensures.is at (rw c.in_default-first_uncounted.is at c.first_uncounted.ensures);
+  sites = rw c.in_default-differing.is at c.in_ok-differing.ensures.ok;
+  versions = rw c.in_default-first_uncounted.is at c.first_uncounted.ensures;
 }
