@@ -20,15 +20,15 @@ module _ {L : Type 0} where
   fault_by : (decided : Ending → Type 0) (active : Active) (old new : Seat L) (o : Option Active) (f : ServiceFault)
       → IsBack decided active old new (record { active = o; fault = f }) → IsOfCall f
   fault_by decided active old new None f h = subst IsOfCall (sym h.3) (inr tt)
-  fault_by decided active old new (Some a) f h = h.3
+  fault_by decided active old new (Some a) f h = h.2
 
   pub back_fault : (decided : Ending → Type 0) (active : Active) (old new : Seat L) (b : Back) → IsBack decided active old new b → IsOfCall b.fault
   back_fault decided active old new b h = fault_by decided active old new b.active b.fault h
 
   parts_by : (decided : Ending → Type 0) (active : Active) (old new : Seat L) (o : Option Active) (f : ServiceFault)
       → IsBack decided active old new (record { active = o; fault = f }) → new.share.parts ≡ old.share.parts
-  parts_by decided active old new None f h = h.4
-  parts_by decided active old new (Some a) f h = λ t. (h.1 t).parts
+  parts_by decided active old new None f h = h.4.0
+  parts_by decided active old new (Some a) f h = λ t. (h.1.0 t).parts
 
   pub back_parts : (decided : Ending → Type 0) (active : Active) (old new : Seat L) (b : Back) → IsBack decided active old new b → new.share.parts ≡ old.share.parts
   back_parts decided active old new b h = parts_by decided active old new b.active b.fault h

@@ -8,7 +8,10 @@ use Rattle.std.proofs.lemmas.List.Sums.{sum_by-append, sum_by-cons}
 use Rattle.std.proofs.lemmas.List.Sorted.{sum_by-IsPermutation}
 use Rattle.sgt_workers.specs.Answers.{AreShared, IsShare, Runs}
 use Rattle.sgt_workers.specs.declared.ticket.Done.{Done}
+use Rattle.sgt_service.specs.Together.{amount_of, parts_of}
+use Rattle.sgt_service.specs.declared.seat.Seat.{Seat}
 use Rattle.sgt_run.specs.Tries.{tickets_of}
+use Rattle.sgt_run.specs.declared.runner.Worker.{Worker}
 
 pub sum_zip : {A B : Type 0} (f : A → ℕ) (h : B → ℕ) (xs : List A) (ys : List B) → AllZip (λ x y. h y ≡ f x) xs ys → sum_by h ys ≡ sum_by f xs
 sum_zip f h [] [] z = refl
@@ -58,3 +61,24 @@ module _ {S C : Type 0} (amount : S → ℕ) (scripts : List C) where
       let same = ap (sum_by amount) shared.2 in
       let moved = sum_by-IsPermutation told (flat_map (λ (one : List Done × S). one.0) shared.0) dones shared.3 in
       omega (arith, whole, same, moved, tickets_told dones)
+
+module _ {L : Type 0} where
+  abbrev seat_of : Worker L → Seat L
+  seat_of w = w.seat
+
+  pub parts_stay : (ws vs : List (Worker L)) (old new : List (Seat L)) → map seat_of ws ≡ old → AllZip (λ (s t : Worker L). t.seat.share.parts ≡ s.seat.share.parts) ws vs
+      → new ≡ map seat_of vs → parts_of new ≡ parts_of old
+  parts_stay ws vs old new before stay after =
+      let parts : Seat L → ℕ = λ s. s.share.parts in
+      ap parts_of after ∙ sum_map parts seat_of vs ∙ sum_zip (λ (w : Worker L). w.seat.share.parts) (λ (w : Worker L). w.seat.share.parts) ws vs stay
+      ∙ sym (sum_map parts seat_of ws) ∙ ap parts_of before
+
+  pub amounts_grow : {C : Type 0} (scripts : List C) (ws vs : List (Worker L)) (dones : List Done) (old new : List (Seat L)) → map seat_of ws ≡ old
+      → AreShared (counts (λ (w : Worker L). w.seat.share.amount) scripts) scripts ws dones vs
+      → new ≡ map seat_of vs → amount_of new ≡ amount_of old + length (tickets_of dones)
+  amounts_grow scripts ws vs dones old new before shared after =
+      let amount : Seat L → ℕ = λ s. s.share.amount in
+      let grown = shared_amount (λ (w : Worker L). w.seat.share.amount) scripts ws vs dones shared in
+      let here : amount_of new ≡ sum_by (λ (w : Worker L). w.seat.share.amount) vs = ap amount_of after ∙ sum_map amount seat_of vs in
+      let there : sum_by (λ (w : Worker L). w.seat.share.amount) ws ≡ amount_of old = sym (sum_map amount seat_of ws) ∙ ap amount_of before in
+      omega (arith, here, grown, there)

@@ -35,4 +35,4 @@ spent_by tries before t (u ∷ tickets) refused rest size =
 
 pub tries_spent : (tries : ℕ) (tickets : List Ticket) → All IsRefused tickets → length tickets ≡ tries → 1 ≤ tries → AreTries tries tickets
 tries_spent tries [] refused size some = absurd (omega (arith, size, some))
-tries_spent tries (t ∷ tickets) refused size some = spent_by tries [] t tickets (All-nil IsRefused) refused size
+tries_spent tries (t ∷ tickets) refused size some = spent_by tries [] t tickets (All-nil IsRefused) refused (omega (arith, size))

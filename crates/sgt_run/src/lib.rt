@@ -5,11 +5,11 @@ mod input;
 mod laws;
 mod reading;
 mod report;
-mod run;
 mod runner;
+mod running;
 mod taking;
 
 pub use input::{Input, MAX_SCRIPTS, Reading};
 pub use laws::inputs_have_one_reading;
 pub use reading::read_input;
-pub use run::run;
+pub use running::run;

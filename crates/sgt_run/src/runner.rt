@@ -1,6 +1,6 @@
 //! One worker's part of a run: a script, tried so often.
 
-ghost use Rattle.std.specs.Prelude.{◌≡◌};
+ghost use Rattle.std.specs.Prelude.{◌≡◌, ◌≤◌};
 
 use sgt_agreed::ServiceFault;
 use sgt_names::{Item, SiteNo, Value};
