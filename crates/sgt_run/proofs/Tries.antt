@@ -1,0 +1,38 @@
+-- The tickets of the tries so far.
+use Rattle.std.proofs.Common.{◌≡◌, ◌≢◌, ◌≤◌, ◌<◌, ℕ, ◌+◌, List, [], ◌∷◌, ◌++◌, length, refl, sym, ap, arith, subst, All}
+use Rattle.std.proofs.lemmas.List.{length-append}
+use Rattle.std.proofs.lemmas.List.Elements.{All-head, All-tail, All-push, All-nil}
+use Rattle.sgt_workers.specs.declared.ticket.Ticket.{Ticket}
+use Rattle.sgt_run.specs.Tries.{AreTries, IsRefused}
+
+-- a ticket that isn't refused is the last
+pub tries_end : (tries : ℕ) (tickets : List Ticket) (t : Ticket) → All IsRefused tickets → length tickets < tries → (IsRefused t → ⊥)
+    → AreTries tries (tickets ++ t ∷ [])
+tries_end tries tickets t refused room not = record {
+  refusals = tickets;
+  last = t;
+  all = refl;
+  refused = refused;
+  few = room;
+  spent = λ is. absurd (not is);
+}
+
+-- no try is left
+spent_by : (tries : ℕ) (before : List Ticket) (t : Ticket) (tickets : List Ticket) → All IsRefused before → All IsRefused (t ∷ tickets)
+    → length before + length (t ∷ tickets) ≡ tries → AreTries tries (before ++ t ∷ tickets)
+spent_by tries before t [] refused rest size = record {
+  refusals = before;
+  last = t;
+  all = refl;
+  refused = refused;
+  few = omega (arith, size);
+  spent = λ is. omega (arith, size);
+}
+spent_by tries before t (u ∷ tickets) refused rest size =
+    subst (AreTries tries) (Rattle.std.proofs.Common.append_assoc before (t ∷ []) (u ∷ tickets))
+    (spent_by tries (before ++ t ∷ []) u tickets (All-push IsRefused before t refused (All-head IsRefused t (u ∷ tickets) rest)) (All-tail IsRefused t (u ∷ tickets) rest)
+    (omega (arith, size, length-append before (t ∷ []))))
+
+pub tries_spent : (tries : ℕ) (tickets : List Ticket) → All IsRefused tickets → length tickets ≡ tries → 1 ≤ tries → AreTries tries tickets
+tries_spent tries [] refused size some = absurd (omega (arith, size, some))
+tries_spent tries (t ∷ tickets) refused size some = spent_by tries [] t tickets (All-nil IsRefused) refused (omega (arith, size))

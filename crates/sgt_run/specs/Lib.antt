@@ -1,0 +1,4 @@
+pub mod Input
+pub mod Results
+pub mod Tries
+pub mod private

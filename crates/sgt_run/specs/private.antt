@@ -1,0 +1,4 @@
+-- Words of private clauses.
+pub mod Operations
+pub mod Taking
+pub mod Stopping

@@ -1,0 +1,25 @@
+//! What the input of a run says.
+
+use sgt_names::Listed;
+use sgt_notation::{NotationFault, Script, SiteLine};
+
+/// The scripts that an input has at most.
+pub const MAX_SCRIPTS: usize = 1_000;
+
+/// What an input says.
+#[derive(Drop)]
+pub struct Input {
+    /// The sites that the run starts from, numbered from 0.
+    pub sites: Listed<SiteLine>,
+    /// What is to be run, in order.
+    pub scripts: Listed<Script>,
+}
+
+/// What an input was read as.
+#[derive(Drop)]
+pub enum Reading {
+    /// It says this.
+    Readable(Input),
+    /// It says nothing: its first line that can't be read, with its number from 1. The fault is L1 or L2.
+    Unreadable { line: u64, fault: NotationFault },
+}

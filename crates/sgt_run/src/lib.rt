@@ -1,0 +1,15 @@
+//! Scripts run by the threads of a service.
+#![tactic(auto)]
+
+mod input;
+mod laws;
+mod reading;
+mod report;
+mod runner;
+mod running;
+mod taking;
+
+pub use input::{Input, MAX_SCRIPTS, Reading};
+pub use laws::inputs_have_one_reading;
+pub use reading::read_input;
+pub use running::run;
