@@ -23,6 +23,6 @@ tells-errors (Err fail) Silent Tells silent told = told
 -- how the devices come out of the help
 pub helped : (r : Result Outcome EngineFail) (n : ℕ) (Quiet ReadFailed WriteFailed Unwritten : Type 0) → IfOk r (λ outcome. (outcome ≡ Yes) × Quiet)
     → IfErr r (λ fail. (fail ≡ WriteFault) × WriteFailed) → LeavesDevices (Ran r) ((n ≡ n) × Quiet) ReadFailed WriteFailed Unwritten
-helped (Ok outcome) n Quiet ReadFailed WriteFailed Unwritten yes fault = (refl, yes.1)
-helped (Err fail) n Quiet ReadFailed WriteFailed Unwritten yes fault =
-    subst (λ f. LeavesDevices (Ran (Err f)) ((n ≡ n) × Quiet) ReadFailed WriteFailed Unwritten) (sym fault.0) fault.1
+helped (Ok outcome) n Quiet ReadFailed WriteFailed Unwritten done failed = (refl, done.1)
+helped (Err fail) n Quiet ReadFailed WriteFailed Unwritten done failed =
+    subst (λ f. LeavesDevices (Ran (Err f)) ((n ≡ n) × Quiet) ReadFailed WriteFailed Unwritten) (sym failed.0) failed.1
