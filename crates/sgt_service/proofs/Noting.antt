@@ -1,5 +1,5 @@
 -- What a step adds to the history.
-use Rattle.std.proofs.Common.{◌≡◌, ◌≢◌, ℕ, suc, ◌+◌, List, [], ◌∷◌, ◌++◌, refl, ap, sym, ◌∙◌, subst, add-one, append-nil, append_assoc}
+use Rattle.std.proofs.Common.{◌≡◌, ◌≢◌, ℕ, zero, suc, ◌+◌, List, [], ◌∷◌, ◌++◌, refl, ap, sym, ◌∙◌, subst, add-one, append-nil, append_assoc}
 use Rattle.sgt_names.specs.declared.draft.Touch.{Touch}
 use Rattle.sgt_names.specs.Draft.{at_site}
 use Rattle.sgt_edges.specs.declared.edge.Edge.{Edge}
@@ -9,7 +9,7 @@ use Rattle.sgt_certifier.specs.declared.call.Call.TheVariants as call
 use Rattle.sgt_workers.specs.declared.ticket.Ending.{Ending}
 use Rattle.sgt_workers.specs.declared.ticket.Ending.TheVariants.{Committed, Refused, Withdrawn}
 use Rattle.sgt_service.specs.Counts.{block_length}
-use Rattle.sgt_service.specs.Guarded.{install_of, notes_at, notes_below}
+use Rattle.sgt_service.specs.Guarded.{decision_count, install_of, notes_at, notes_below, TakesBack}
 use Rattle.sgt_service.specs.declared.active.Active.{Active}
 
 -- the sites below the next one
@@ -66,3 +66,17 @@ pub joined : (a b c d notes : List Call) (first last : Call) → b ≡ a ++ firs
 joined a b c d notes first last e f g =
     g ∙ ap (λ h. h ++ last ∷ []) f ∙ append_assoc b notes (last ∷ []) ∙ ap (λ h. h ++ (notes ++ last ∷ [])) e
     ∙ append_assoc a (first ∷ []) (notes ++ last ∷ [])
+
+-- a withdrawal notes nothing at the sites
+no_notes : (active : Active) (n : ℕ) → notes_below Withdrawn active n ≡ []
+no_notes active zero = refl
+no_notes active (suc n) = append-nil (notes_below Withdrawn active n) ∙ no_notes active n
+
+pub takes_back : (active : Active) (sites number : ℕ) (old mid new : Kept) → Adds old (call.Withdraw active.handle number) mid
+    → number ≡ decision_count old → new.history ≡ mid.history ++ notes_below Withdrawn active sites
+    → TakesBack active (record { number = number; tx = active.tx; verdict = Withdrawn }) old new
+takes_back active sites number old mid new a is e = record {
+  ticket = ap (λ n. record { number = n; tx = active.tx; verdict = Withdrawn }) is;
+  history = e ∙ ap (λ notes. mid.history ++ notes) (no_notes active sites) ∙ append-nil mid.history ∙ a.history
+      ∙ ap (λ n. old.history ++ call.Withdraw active.handle n ∷ []) is;
+}

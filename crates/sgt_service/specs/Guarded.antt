@@ -59,16 +59,16 @@ notes_below verdict active zero = []
 notes_below verdict active (suc site) = notes_below verdict active site ++ notes_at verdict active site
 
 -- the step of a transaction at a certifier with so many sites: its decision on edges, its installs, and the step's end
-pub record TakesStep (sites : ℕ) (active : Active) (ticket : Ticket) (old new : Kept) : Type 0 where
+pub record TakesStep (sites : ℕ) (active : Active) (t : Ticket) (old new : Kept) : Type 0 where
   pub edges : List Edge
   pub reply : Decided
-  pub ticket : ticket ≡ ticket_of active.tx reply
-  pub number : ticket.number ≡ decision_count old
+  pub ticket : t ≡ ticket_of active.tx reply
+  pub number : t.number ≡ decision_count old
   pub history : new.history
-      ≡ old.history ++ call.Decide active.handle edges reply ∷ (notes_below ticket.verdict active sites ++ call.Finish active.tx ∷ [])
+      ≡ old.history ++ call.Decide active.handle edges reply ∷ (notes_below t.verdict active sites ++ call.Finish active.tx ∷ [])
   pub closed : new.state.step ≡ None
 
 -- the withdrawal of a transaction
-pub record TakesBack (active : Active) (ticket : Ticket) (old new : Kept) : Type 0 where
-  pub ticket : ticket ≡ record { number = decision_count old; tx = active.tx; verdict = ending.Withdrawn }
+pub record TakesBack (active : Active) (t : Ticket) (old new : Kept) : Type 0 where
+  pub ticket : t ≡ record { number = decision_count old; tx = active.tx; verdict = ending.Withdrawn }
   pub history : new.history ≡ old.history ++ call.Withdraw active.handle (decision_count old) ∷ []

@@ -40,7 +40,7 @@ impl<L: Ledger> Service<L> {
     ghost use Rattle.sgt_site.specs.State.{AreItems};
     ghost use Rattle.sgt_service.specs.Seats.{IsNew, SameSeat};
     ghost use Rattle.sgt_certifier.specs.History.{begin, close};
-    ghost use Rattle.sgt_service.specs.Refused.{HasItem, RefusesItem, RefusesSites, IsToldOf};
+    ghost use Rattle.sgt_service.specs.Refused.{HasItem, RefusesItem, RefusesSites, IsOfCertifier, IsToldOf};
 
     /// A service of these sites, none of which has an entry yet, and all its seats. The blank of the ledger has a part for each
     /// seat. A site is named by its place.
@@ -128,6 +128,7 @@ impl<L: Ledger> Service<L> {
         ensures seat { SameSeat seat.old seat.new }
         ensures draft { IfOk result (λ a. a.draft.touched ≡ []) }
         ensures refused { IfErr result (IsToldOf begin) }
+        ensures of_certifier { IfErr result IsOfCertifier }
     {
         let _ = seat;
         let (tx, handle) = self.certifier.lock(rt).begin()?;

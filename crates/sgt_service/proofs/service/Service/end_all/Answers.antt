@@ -1,4 +1,5 @@
 use Rattle.std.proofs.Common.{◌≡◌, ◌+◌, ◌++◌, ◌∙◌, subst, arith}
+use Rattle.std.specs.Prelude.{vec_len}
 use Rattle.sgt_names.specs.Draft.{at_site}
 use Rattle.sgt_service.specs.Counts.{AreCounted, only_at, with_others, blocks_of}
 use Rattle.sgt_service.specs.Guarded.{AwaitsInstalls, notes_at, notes_below}
@@ -38,8 +39,8 @@ returns-clause-ok g c =
     c.loop-place.invariant.counts
 
 pub returns-clause-history : goal.returns-clause-history
-returns-clause-history g c _ =
+returns-clause-history g c =
     let past = c.loop-place-test.false in
-    subst (λ n. c.loop-place.guarded.certifier.history ≡ c.args.guarded.now.certifier.history ++ notes_below c.args.verdict c.args.active.now n)
-    (omega (arith, past, c.loop-place.invariant.within))
+    let all : c.loop-place.place ≡ vec_len c.args.self.now.sites = omega (arith, past, c.loop-place.invariant.within) in
+    subst (λ n. c.loop-place.guarded.certifier.history ≡ c.args.guarded.now.certifier.history ++ notes_below c.args.verdict c.args.active.now n) all
     c.loop-place.invariant.history
