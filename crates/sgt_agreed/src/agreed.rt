@@ -3,6 +3,7 @@
 ghost use Rattle.std.specs.Prelude.{◌≡◌, ◌↔◌, Some, All, IsTrue, IfOk, IfErr, OnOk, OnErr};
 ghost use Rattle.sgt_names.specs.Draft.{at_site};
 ghost use Rattle.sgt_site.specs.State.{version_at};
+ghost use Rattle.sgt_site.specs.Refused.{MayPledge};
 ghost use Rattle.sgt_edges.specs.Edges.{IsGiven, StandsForAll};
 ghost use Rattle.sgt_agreed.specs.Agreed.{AgreesOn, VersionsAgree, RefusesAgreed};
 
@@ -70,6 +71,7 @@ pub fn gather_agreed(
     me: Handle,
 ) -> Result<EdgeList, ServiceFault>
     ensures agreed { OnOk result (VersionsAgree certifier.now.history site.old) }
+    ensures allowed { OnOk result (MayPledge site.old tx draft.now.touched) }
     ensures differs { (VersionsAgree certifier.now.history site.old → ⊥) → result ≡ Err (ServiceFault.NotPledged site.old.number) }
     ensures pledged { OnOk result (site.new ≡ record site.old {
       pledge = Some (record { tx = tx; part = at_site site.old.number draft.now.touched });

@@ -1,10 +1,13 @@
 -- What lies under the certifier's lock.
-use Rattle.std.specs.Prelude.{◌≡◌, ◌≤◌, ◌++◌, ◌∷◌, [], ℕ, List, length, None}
+use Rattle.std.specs.Prelude.{◌≡◌, ◌≤◌, ◌++◌, ◌∷◌, [], ℕ, zero, suc, List, length, None}
 use Rattle.sgt_names.specs.declared.draft.Touch.{Touch}
 use Rattle.sgt_names.specs.Draft.{at_site, writing_in}
+use Rattle.sgt_edges.specs.declared.edge.Edge.{Edge}
 use Rattle.sgt_site.specs.State.{SiteState, commit_block, refuse_block, withdraw_block}
 use Rattle.sgt_certifier.specs.History.{IsNoted, IsInstalling}
-use Rattle.sgt_certifier.specs.Kept.{Kept, IsExpected}
+use Rattle.sgt_certifier.specs.Kept.{Kept, IsExpected, changed_at}
+use Rattle.sgt_certifier.specs.declared.call.Call.{Call}
+use Rattle.sgt_certifier.specs.declared.call.Call.TheVariants as call
 use Rattle.sgt_certifier.specs.declared.call.Decided.{Decided}
 use Rattle.sgt_certifier.specs.declared.call.Decided.TheVariants as decided
 use Rattle.sgt_workers.specs.declared.ticket.Ticket.{Ticket}
@@ -39,3 +42,33 @@ IsEnded ending.Refused active old new = new ≡ record old {
   pledge = None;
 }
 IsEnded ending.Withdrawn active old new = new ≡ record old { entries = old.entries ++ withdraw_block active.tx; pledge = None }
+
+-- the call that notes the install at a site, of a transaction that touches these items there
+abbrev pub install_of : ℕ → ℕ → List Touch → List Touch → List Call
+install_of tx site touched [] = []
+install_of tx site touched (t ∷ ts) = call.Installed tx site (changed_at touched site) ∷ []
+
+-- what the history notes of a transaction that was decided so, at a site: a commit its install, if it touches the site
+abbrev pub notes_at : Ending → Active → ℕ → List Call
+notes_at ending.Committed active site = install_of active.tx site active.draft.touched (at_site site active.draft.touched)
+notes_at _ active site = []
+
+-- and at the sites below one, by number
+abbrev pub notes_below : Ending → Active → ℕ → List Call
+notes_below verdict active zero = []
+notes_below verdict active (suc site) = notes_below verdict active site ++ notes_at verdict active site
+
+-- the step of a transaction at a certifier with so many sites: its decision on edges, its installs, and the step's end
+pub record TakesStep (sites : ℕ) (active : Active) (t : Ticket) (old new : Kept) : Type 0 where
+  pub edges : List Edge
+  pub reply : Decided
+  pub ticket : t ≡ ticket_of active.tx reply
+  pub number : t.number ≡ decision_count old
+  pub history : new.history
+      ≡ old.history ++ call.Decide active.handle edges reply ∷ (notes_below t.verdict active sites ++ call.Finish active.tx ∷ [])
+  pub closed : new.state.step ≡ None
+
+-- the withdrawal of a transaction
+pub record TakesBack (active : Active) (t : Ticket) (old new : Kept) : Type 0 where
+  pub ticket : t ≡ record { number = decision_count old; tx = active.tx; verdict = ending.Withdrawn }
+  pub history : new.history ≡ old.history ++ call.Withdraw active.handle (decision_count old) ∷ []

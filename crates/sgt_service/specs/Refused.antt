@@ -22,6 +22,10 @@ abbrev pub IsRefusedBy : Option ℕ → State → Request → ServiceFault → T
 IsRefusedBy (Some lost) s request f = f ≡ NotPledged lost
 IsRefusedBy None s request f = HandsOn s request f
 
+-- so it is refused by some certifier, with some site found to have lost its pledge or none
+abbrev pub IsToldOf : Request → ServiceFault → Type 0
+IsToldOf request f = (lost : Option ℕ) × ((s : State) × IsRefusedBy lost s request f)
+
 -- the site has an item of this name
 abbrev pub HasItem : List (List Name) → ℕ → Name → Type 0
 HasItem names s x = (here : List Name) × (slice_get names s ≡ Some here) × Contains here x

@@ -1,5 +1,6 @@
 -- What a call does to a seat.
-use Rattle.std.specs.Prelude.{◌≡◌, ℕ, ◌+◌, replicate, MatchOption}
+use Rattle.std.specs.Prelude.{◌≡◌, ◌≢◌, ℕ, ◌+◌, [], replicate, MatchOption}
+use Rattle.sgt_names.specs.Draft.{at_site}
 use Rattle.sgt_workers.specs.declared.ticket.Ending.{Ending}
 use Rattle.sgt_agreed.specs.declared.fault.ServiceFault.TheVariants.{NotPledged}
 use Rattle.sgt_service.specs.Counts.{AreCounted, with_others, blocks_of, below}
@@ -31,9 +32,10 @@ module _ {L : Type 0} where
   abbrev pub CountsEnd : Ending → Active → Seat L → Seat L → Type 0
   CountsEnd verdict active old new = CountsDecision (blocks_of verdict active.draft.touched) old new
 
-  -- the site was found to have lost its pledge: the decision counts, and the blocks at the sites below
+  -- a touched site was found to have lost its pledge: the decision counts, and the blocks at the sites below
   abbrev pub CountsLoss : Ending → Active → ℕ → Seat L → Seat L → Type 0
-  CountsLoss verdict active site old new = CountsDecision (below site (blocks_of verdict active.draft.touched)) old new
+  CountsLoss verdict active site old new =
+      (at_site site active.draft.touched ≢ []) × CountsDecision (below site (blocks_of verdict active.draft.touched)) old new
 
   -- what comes back of a transaction without a ticket: itself, and then nothing is changed. Or nothing, where it was decided so and
   -- then a site had lost its pledge

@@ -1,5 +1,6 @@
 -- Why a transaction has no ticket, before it is handed back.
-use Rattle.std.specs.Prelude.{Some, None}
+use Rattle.std.specs.Prelude.{◌≡◌, ℕ, Option, Some, None}
+use Rattle.sgt_certifier.specs.Kept.{Kept}
 use Rattle.sgt_workers.specs.declared.ticket.Ending.{Ending}
 use Rattle.sgt_agreed.specs.declared.fault.ServiceFault.TheVariants.{NotPledged}
 use Rattle.sgt_service.specs.Refused.{IsOfCall}
@@ -14,6 +15,13 @@ use Rattle.sgt_service.specs.declared.ending.Stop.TheVariants.{Undecided, Lost}
 abbrev pub back_of : Active → Stop → Back
 back_of active (Undecided fault) = record { active = Some active; fault = fault }
 back_of active (Lost verdict site) = record { active = None; fault = NotPledged site }
+
+-- what a step that was stopped leaves under the certifier's lock. Where nothing is decided, the history is as it was; and the site that
+-- a V7 names is noted
+abbrev pub LeavesGuard : Kept → Kept → Option ℕ → Stop → Type 0
+LeavesGuard old new lost (Undecided fault) =
+    (new.state ≡ old.state) × (new.history ≡ old.history) × ((site : ℕ) → fault ≡ NotPledged site → lost ≡ Some site)
+LeavesGuard old new lost (Lost verdict site) = lost ≡ Some site
 
 module _ {L : Type 0} where
   -- a transaction that isn't decided leaves its seat as it was. One that is, at a site that lost its pledge, counts

@@ -42,9 +42,12 @@ fn back_of(active: Active, stop: Stop) -> Back
 }
 
 impl<L: Ledger> Service<L> {
-    ghost use Rattle.std.specs.Prelude.{◌≡◌, ◌≢◌, IfOk, IfErr};
+    ghost use Rattle.std.specs.Prelude.{◌≡◌, ◌≢◌, Err, IfOk, IfErr, IfSome, vec_len};
+    ghost use Rattle.sgt_agreed.specs.declared.fault.ServiceFault.TheVariants.{NotPledged};
     ghost use Rattle.sgt_workers.specs.declared.ticket.Ending.TheVariants.{Withdrawn};
-    ghost use Rattle.sgt_service.specs.Stops.{IsStop};
+    ghost use Rattle.sgt_service.specs.Guarded.{TakesStep, TakesBack};
+    ghost use Rattle.sgt_service.specs.Stops.{IsStop, LeavesGuard};
+    ghost use Rattle.sgt_service.specs.declared.ending.Stop.TheVariants.{Undecided};
     ghost use Rattle.sgt_service.specs.Seats.{CountsEnd, IsBack};
 
     /// `commit_at`, with a gate that holds nobody.
@@ -115,7 +118,7 @@ impl<L: Ledger> Service<L> {
         }
     }
 
-    // The step of a commit.
+    // Takes the step of a commit under the certifier's lock.
     fn certify<R: Wait, G: Gate>(
         &self,
         rt: &R,
@@ -131,6 +134,27 @@ impl<L: Ledger> Service<L> {
     {
         let mut guard = self.certifier.lock(rt);
         let guarded = &mut *guard;
+        self.take_step(rt, alloc, guarded, seat, active, worker, gate)
+    }
+
+    // The step of a commit: gathered and decided, its blocks written, and closed.
+    fn take_step<R: Wait, G: Gate>(
+        &self,
+        rt: &R,
+        alloc: Global,
+        guarded: &mut Guarded<L>,
+        seat: &mut Seat<L>,
+        active: &Active,
+        worker: usize,
+        gate: &G,
+    ) -> Result<Ticket, Stop>
+        ensures ok { IfOk result (λ t. (t.tx ≡ active.now.tx) × (t.verdict ≢ Withdrawn)
+            × CountsEnd t.verdict active.now seat.old seat.new) }
+        ensures stop { IfErr result (IsStop (λ verdict. verdict ≢ Withdrawn) active.now seat.old seat.new) }
+        ensures step { IfOk result (λ t. TakesStep (vec_len self.now.sites) active.now t guarded.old.certifier guarded.new.certifier) }
+        ensures first { IfSome guarded.old.lost (λ site. result ≡ Err (Undecided (NotPledged site))) }
+        ensures leaves { IfErr result (LeavesGuard guarded.old.certifier guarded.new.certifier guarded.new.lost) }
+    {
         let edges = match self.gathered(rt, alloc, guarded, active) {
             Ok(edges) => edges,
             Err(fault) => return Err(Stop::Undecided(fault)),
@@ -158,7 +182,7 @@ impl<L: Ledger> Service<L> {
         Ok(ticket)
     }
 
-    // The step of a withdrawal.
+    // Takes the step of a withdrawal under the certifier's lock.
     fn take_back<R: Wait>(
         &self,
         rt: &R,
@@ -171,6 +195,24 @@ impl<L: Ledger> Service<L> {
     {
         let mut guard = self.certifier.lock(rt);
         let guarded = &mut *guard;
+        self.end_withdrawn(rt, guarded, seat, active)
+    }
+
+    // The step of a withdrawal: pledged and decided, and its ends written.
+    fn end_withdrawn<R: Wait>(
+        &self,
+        rt: &R,
+        guarded: &mut Guarded<L>,
+        seat: &mut Seat<L>,
+        active: &Active,
+    ) -> Result<Ticket, Stop>
+        ensures ok { IfOk result (λ t. (t.tx ≡ active.now.tx) × (t.verdict ≡ Withdrawn)
+            × CountsEnd Withdrawn active.now seat.old seat.new) }
+        ensures stop { IfErr result (IsStop (λ verdict. verdict ≡ Withdrawn) active.now seat.old seat.new) }
+        ensures step { IfOk result (λ t. TakesBack active.now t guarded.old.certifier guarded.new.certifier) }
+        ensures first { IfSome guarded.old.lost (λ site. result ≡ Err (Undecided (NotPledged site))) }
+        ensures leaves { IfErr result (LeavesGuard guarded.old.certifier guarded.new.certifier guarded.new.lost) }
+    {
         if let Err(fault) = self.pledged(rt, guarded, active) {
             return Err(Stop::Undecided(fault));
         }

@@ -40,13 +40,13 @@ impl<L: Ledger> Guarded<L> {
     ghost use Rattle.sgt_names.specs.Draft.{at_site};
     ghost use Rattle.sgt_edges.specs.declared.edge.Edge.{Edge as AnEdge};
     ghost use Rattle.sgt_edges.specs.Edges.{IsGiven, StandsForAll};
-    ghost use Rattle.sgt_agreed.specs.Agreed.{VersionsAgree};
+    ghost use Rattle.sgt_agreed.specs.Agreed.{VersionsAgree, RefusesAgreed};
     ghost use Rattle.sgt_agreed.specs.declared.fault.ServiceFault.TheVariants.{NotPledged, Certifier as OfCertifier};
     ghost use Rattle.sgt_certifier.specs.declared.call.CertifierFault.TheVariants.{Unknown as NotKnown};
     ghost use Rattle.sgt_workers.specs.declared.ticket.Ending.TheVariants.{Committed, Withdrawn};
     ghost use Rattle.sgt_site.specs.State.{IsPledged, IsPledgedFor};
     ghost use Rattle.sgt_certifier.specs.Certifier.{opening};
-    ghost use Rattle.sgt_service.specs.Guarded.{ticket_of, AwaitsInstalls, IsEnded};
+    ghost use Rattle.sgt_service.specs.Guarded.{decision_count, ticket_of, AwaitsInstalls, IsEnded};
     ghost use Rattle.sgt_service.specs.Refused.{HandsOn, IsRefusedBy, IsOfCertifier, IsOfCall};
 
     /// A certifier to which nothing has happened, with its empty book.
@@ -115,6 +115,7 @@ impl<L: Ledger> Guarded<L> {
         ensures counted { OnOk result (share.new.amount ≡ share.old.amount + 1) }
         ensures err { IfErr result (λ f. HandsOn self.old.certifier.state (withdraw handle) f
             × (self.new.certifier ≡ self.old.certifier) × (share.new ≡ share.old)) }
+        ensures number { IfOk result (λ number. number ≡ decision_count self.old.certifier) }
         ensures parts { share.new.parts ≡ share.old.parts }
         ensures lost { self.new.lost ≡ self.old.lost }
     {
@@ -140,6 +141,7 @@ impl<L: Ledger> Guarded<L> {
         requires room { (site : ℕ) → IsExpected self.old.certifier.expected active.now.draft.touched site }
         ensures ok { IfOk result (λ t. (reply : Reply) × (t ≡ ticket_of active.now.tx reply)
             × Adds self.old.certifier (call.Decide active.now.handle edges reply) self.new.certifier) }
+        ensures number { IfOk result (λ t. t.number ≡ decision_count self.old.certifier) }
         ensures counted { OnOk result (share.new.amount ≡ share.old.amount + 1) }
         ensures err { IfErr result (λ f. HandsOn self.old.certifier.state (decide active.now.handle edges) f
             × (self.new.certifier ≡ self.old.certifier) × (share.new ≡ share.old)) }
@@ -164,7 +166,9 @@ impl<L: Ledger> Guarded<L> {
     /// Ends the open step.
     pub fn finish(&mut self, tx: Tx)
         requires { self.old.certifier.state.step ≡ Some tx }
-        ensures { Adds self.old.certifier (call.Finish tx) self.new.certifier }
+        ensures ok { Adds self.old.certifier (call.Finish tx) self.new.certifier }
+        ensures closed { self.new.certifier.state.step ≡ None }
+        ensures lost { self.new.lost ≡ self.old.lost }
     {
         let Guarded { certifier, .. } = self;
         match certifier.finish_step(tx) {
@@ -187,6 +191,7 @@ impl<L: Ledger> Guarded<L> {
         ensures ok { OnOk result ((self.now.lost ≡ None) × (tx_under self.now.certifier.state active.now.handle ≡ active.now.tx)) }
         ensures refused { IfErr result IsOfCertifier }
         ensures lost { IfSome self.now.lost (λ site. result ≡ Err (NotPledged site)) }
+        ensures noted { IfErr result (λ f. (site : ℕ) → f ≡ NotPledged site → self.now.lost ≡ Some site) }
     {
         if let Some(site) = self.lost {
             return Err(ServiceFault::NotPledged(site));
@@ -205,6 +210,7 @@ impl<L: Ledger> Guarded<L> {
         ensures state { (self.new.certifier.state ≡ self.old.certifier.state)
             × (self.new.certifier.history ≡ self.old.certifier.history) }
         ensures first { IfSome self.old.lost (λ site. result ≡ Err (NotPledged site)) }
+        ensures noted { IfErr result (λ f. (site : ℕ) → f ≡ NotPledged site → self.old.lost ≡ Some site) }
         ensures refused { IfErr result IsOfCertifier }
         ensures lost { self.new.lost ≡ self.old.lost }
     {
@@ -230,7 +236,10 @@ impl<L: Ledger> Guarded<L> {
         ensures edges { OnOk result ((more : List AnEdge) × (edges.new ≡ edges.old ++ more)
             × All (IsGiven site.new active.now.draft.touched active.now.handle) more
             × StandsForAll site.new active.now.draft.touched active.now.handle more) }
-        ensures refused { IfErr result IsOfCall }
+        ensures differs { (VersionsAgree self.now.certifier.history site.old → ⊥) → result ≡ Err (NotPledged site.old.number) }
+        ensures err { OnErr result (site.new ≡ site.old) }
+        ensures refused { IfErr result (RefusesAgreed self.now.certifier.history site.old active.now.tx active.now.draft.touched) }
+        ensures of_call { IfErr result IsOfCall }
     {
         let more = gather_agreed(
             alloc,
@@ -274,6 +283,7 @@ impl<L: Ledger> Guarded<L> {
         ensures stands { (verdict ≡ Withdrawn → ⊥)
             → IsPledgedFor site.old active.now.tx active.now.draft.touched → IsTrue result }
         ensures stands_withdrawn { verdict ≡ Withdrawn → IsPledged site.old active.now.tx → IsTrue result }
+        ensures quiet { (verdict ≡ Committed → ⊥) → self.new.certifier ≡ self.old.certifier }
         ensures lost { result ≡ false → (site.new ≡ site.old) × (self.new.certifier ≡ self.old.certifier) }
         ensures step { self.new.certifier.state.step ≡ self.old.certifier.state.step }
         ensures same { self.new.lost ≡ self.old.lost }

@@ -24,14 +24,15 @@ pub struct Lost {
 }
 
 impl<L: Ledger> Service<L> {
-    ghost use Rattle.std.specs.Prelude.{◌≡◌, ◌<◌, ◌≤◌, ◌+◌, [], ℕ, false, Some, Err, IsTrue, IfOk, IfErr, IfSome, OnOk, OnErr, vec_len};
+    ghost use Rattle.std.specs.Prelude.{◌≡◌, ◌≢◌, ◌<◌, ◌≤◌, ◌+◌, ◌++◌, [], ℕ, false, Some, Err, IsTrue, IfOk, IfErr, IfSome, OnOk, OnErr, vec_len};
     ghost use Rattle.sgt_agreed.specs.declared.fault.ServiceFault.TheVariants.{NotPledged};
     ghost use Rattle.sgt_names.specs.Draft.{at_site};
     ghost use Rattle.sgt_workers.specs.declared.ticket.Ending.TheVariants.{Committed};
     ghost use Rattle.sgt_certifier.specs.History.{tx_under};
-    ghost use Rattle.sgt_certifier.specs.Kept.{IsExpected};
+    ghost use Rattle.sgt_certifier.specs.Kept.{Adds, IsExpected, changed_at};
+    ghost use Rattle.sgt_certifier.specs.declared.call.Call.TheVariants as call;
     ghost use Rattle.sgt_service.specs.Counts.{AreCounted, only_at, with_others, blocks_of, below};
-    ghost use Rattle.sgt_service.specs.Guarded.{AwaitsInstalls};
+    ghost use Rattle.sgt_service.specs.Guarded.{AwaitsInstalls, notes_at, notes_below};
     ghost use Rattle.sgt_service.specs.Refused.{IsOfCall};
 
     // The number of the site at this place.
@@ -66,7 +67,8 @@ impl<L: Ledger> Service<L> {
 
     // Pledges at each site that the draft touches. Where a site refuses, none of these pledges is left.
     fn pledge_all<R: Wait>(&self, rt: &R, active: &Active) -> Result<(), ServiceFault>
-        ensures { IfErr result IsOfCall }
+        ensures refused { IfErr result IsOfCall }
+        ensures pledges { IfErr result (λ f. (site : ℕ) → f ≡ NotPledged site → ⊥) }
     {
         for place in 0..self.sites.len() {
             if active.draft.touches(self.number_at(place)) {
@@ -91,6 +93,7 @@ impl<L: Ledger> Service<L> {
         ensures named { OnOk result (tx_under guarded.now.certifier.state active.now.handle ≡ active.now.tx) }
         ensures sites { OnOk result ((site : ℕ) → vec_len self.now.sites ≤ site → at_site site active.now.draft.touched ≡ []) }
         ensures first { IfSome guarded.now.lost (λ site. result ≡ Err (NotPledged site)) }
+        ensures noted { IfErr result (λ f. (site : ℕ) → f ≡ NotPledged site → guarded.now.lost ≡ Some site) }
         ensures refused { IfErr result IsOfCall }
     {
         guarded.check(active)?;
@@ -112,6 +115,9 @@ impl<L: Ledger> Service<L> {
         ensures room { OnOk result ((site : ℕ) → IsExpected guarded.new.certifier.expected active.now.draft.touched site) }
         ensures sites { OnOk result ((site : ℕ) → vec_len self.now.sites ≤ site → at_site site active.now.draft.touched ≡ []) }
         ensures first { IfSome guarded.old.lost (λ site. result ≡ Err (NotPledged site)) }
+        ensures noted { IfErr result (λ f. (site : ℕ) → f ≡ NotPledged site → guarded.new.lost ≡ Some site) }
+        ensures same { (guarded.new.certifier.state ≡ guarded.old.certifier.state)
+            × (guarded.new.certifier.history ≡ guarded.old.certifier.history) }
         ensures refused { IfErr result IsOfCall }
     {
         guarded.expect(active)?;
@@ -176,7 +182,11 @@ impl<L: Ledger> Service<L> {
         ensures lost { IfErr result (λ e. AreCounted
             (λ site. with_others (below e.site (blocks_of verdict active.now.draft.touched) site))
             seat.old.counts.items seat.new.counts.items) }
+        ensures history { OnOk result (guarded.new.certifier.history
+            ≡ guarded.old.certifier.history ++ notes_below verdict active.now (vec_len self.now.sites)) }
+        ensures kept { OnOk result (guarded.new.lost ≡ guarded.old.lost) }
         ensures noted { IfErr result (λ e. guarded.new.lost ≡ Some e.site) }
+        ensures touched { IfErr result (λ e. at_site e.site active.now.draft.touched ≢ []) }
     {
         for place in 0..self.sites.len() {
             let here = self.number_at(place);
@@ -209,7 +219,11 @@ impl<L: Ledger> Service<L> {
         ensures counted { IsTrue result → AreCounted
             (only_at here (with_others (blocks_of verdict active.now.draft.touched here)))
             seat.old.counts.items seat.new.counts.items }
+        ensures history { IsTrue result → guarded.new.certifier.history
+            ≡ guarded.old.certifier.history ++ notes_at verdict active.now here }
+        ensures kept { IsTrue result → guarded.new.lost ≡ guarded.old.lost }
         ensures noted { result ≡ false → guarded.new.lost ≡ Some here }
+        ensures touched { result ≡ false → at_site here active.now.draft.touched ≢ [] }
         ensures same { result ≡ false → seat.new.counts.items ≡ seat.old.counts.items }
     {
         let entries = block_at(active.draft.touched(), here, verdict);
@@ -240,7 +254,12 @@ impl<L: Ledger> Service<L> {
             → AwaitsInstalls guarded.old.certifier active.now.tx active.now.draft.touched here }
         ensures awaits { IsTrue result → verdict ≡ Committed
             → AwaitsInstalls guarded.new.certifier active.now.tx active.now.draft.touched (here + 1) }
+        ensures noted { IsTrue result → verdict ≡ Committed → Adds guarded.old.certifier
+            (call.Installed active.now.tx here (changed_at active.now.draft.touched here)) guarded.new.certifier }
+        ensures quiet { (verdict ≡ Committed → ⊥) → guarded.new.certifier ≡ guarded.old.certifier }
+        ensures lost { result ≡ false → guarded.new.certifier ≡ guarded.old.certifier }
         ensures step { guarded.new.certifier.state.step ≡ guarded.old.certifier.state.step }
+        ensures same { guarded.new.lost ≡ guarded.old.lost }
     {
         let mut guard = self.sites[here.number() as usize].lock(rt);
         let site = &mut *guard;

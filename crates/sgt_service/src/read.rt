@@ -14,7 +14,9 @@ use std::sync::Wait;
 use std::sync::ledger::Ledger;
 
 impl<L: Ledger> Service<L> {
-    ghost use Rattle.std.specs.Prelude.{◌≡◌, None, Some, IsSome, IsOk, IfOk, IfErr, OnOk, OnErr, vec_len};
+    ghost use Rattle.sgt_agreed.specs.declared.fault.ServiceFault.TheVariants.{Site as AtSite};
+    ghost use Rattle.sgt_site.specs.declared.fault.SiteFault.TheVariants.{UnknownItem};
+    ghost use Rattle.std.specs.Prelude.{◌≡◌, None, Some, Err, IsSome, IsOk, IfOk, IfErr, OnOk, OnErr, vec_len};
     ghost use Rattle.sgt_service.specs.Counts.{AreCounted, only_at, with_read};
     ghost use Rattle.sgt_service.specs.Reads.{look_in, GainsRead, IsOfActive, SameActive};
     ghost use Rattle.sgt_service.specs.Refused.{HasItem, IsOfSite};
@@ -38,6 +40,8 @@ impl<L: Ledger> Service<L> {
         ensures named { IsOfActive active.old active.new × (seat.new.share ≡ seat.old.share) }
         ensures err { OnErr result (SameActive active.old active.new × SameSeat seat.old seat.new) }
         ensures allowed { OnOk result (look_in active.old.draft.touched site item ≡ None → HasItem self.now.names.items site item) }
+        ensures unknown { (HasItem self.now.names.items site item → ⊥) → look_in active.old.draft.touched site item ≡ None
+            → result ≡ Err (AtSite UnknownItem) }
         ensures refused { IfErr result IsOfSite }
     {
         self.read_at(rt, seat, active, site, item, 0, &NoGate)
@@ -70,6 +74,8 @@ impl<L: Ledger> Service<L> {
         ensures named { IsOfActive active.old active.new × (seat.new.share ≡ seat.old.share) }
         ensures err { OnErr result (SameActive active.old active.new × SameSeat seat.old seat.new) }
         ensures allowed { OnOk result (look_in active.old.draft.touched site item ≡ None → HasItem self.now.names.items site item) }
+        ensures unknown { (HasItem self.now.names.items site item → ⊥) → look_in active.old.draft.touched site item ≡ None
+            → result ≡ Err (AtSite UnknownItem) }
         ensures refused { IfErr result IsOfSite }
     {
         if let Some(value) = active.draft.look(site, item) {

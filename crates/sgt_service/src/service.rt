@@ -23,7 +23,8 @@ use std::sync::{Mutex, Wait};
 #[derive(Drop)]
 pub struct Service<L: Ledger> {
     pub(crate) certifier: Mutex<Guarded<L>>,
-    pub(crate) sites: Vec<Mutex<Site>>,
+    /// The sites, by number, each under its lock. What somebody does to one behind the service's back shows as V7, V9 or V10.
+    pub sites: Vec<Mutex<Site>>,
     /// The names of the sites' items, which never change.
     pub(crate) names: Vec<Listed<Item>>,
     pub ghost named: { vec_len names ≡ vec_len sites },
@@ -38,7 +39,8 @@ impl<L: Ledger> Service<L> {
     ghost use Rattle.sgt_names.specs.declared.entry.Change.TheVariants.{Put};
     ghost use Rattle.sgt_site.specs.State.{AreItems};
     ghost use Rattle.sgt_service.specs.Seats.{IsNew, SameSeat};
-    ghost use Rattle.sgt_service.specs.Refused.{HasItem, RefusesItem, RefusesSites, IsOfCertifier};
+    ghost use Rattle.sgt_certifier.specs.History.{begin, close};
+    ghost use Rattle.sgt_service.specs.Refused.{HasItem, RefusesItem, RefusesSites, IsOfCertifier, IsToldOf};
 
     /// A service of these sites, none of which has an entry yet, and all its seats. The blank of the ledger has a part for each
     /// seat. A site is named by its place.
@@ -125,7 +127,8 @@ impl<L: Ledger> Service<L> {
     ) -> Result<Active, ServiceFault>
         ensures seat { SameSeat seat.old seat.new }
         ensures draft { IfOk result (λ a. a.draft.touched ≡ []) }
-        ensures refused { IfErr result IsOfCertifier }
+        ensures refused { IfErr result (IsToldOf begin) }
+        ensures of_certifier { IfErr result IsOfCertifier }
     {
         let _ = seat;
         let (tx, handle) = self.certifier.lock(rt).begin()?;
@@ -201,7 +204,7 @@ impl<L: Ledger> Service<L> {
     /// - V4 with C3, C4 or C7, as the certifier refuses.
     /// - V3: there was no memory.
     pub fn close<R: Wait>(&self, rt: &R) -> Result<u64, ServiceFault>
-        ensures refused { IfErr result IsOfCertifier }
+        ensures refused { IfErr result (IsToldOf close) }
     {
         self.certifier.lock(rt).close()
     }
