@@ -61,7 +61,7 @@ end-verdict m n f lines (s, stands, same, counts) few breaks = record {
 pub whole-verdict : (m : Machine) (n : ℕ) (k : Kept) (lines : List (List ℕ)) → HasRead (Going m n) lines → ((s : Stage) → Stands m.progress s → EndsWith s [] (Ok k)) → IsVerdict (text_of_lines lines) (yes_of k.certificate.decisions)
 whole-verdict m n k lines (s, stands, same, counts) ends =
     let e = ends s stands in
-    kept-verdict k (text_of_lines lines) (e.0.0, e.0.1, e.0.2, ap text_of_lines (sym same) ∙ ap (λ s. text_of_lines (lines_so_far s)) e.0.3)
+    kept-verdict k (text_of_lines lines) (e.0.0, e.0.1, e.0.2, e.0.3, ap text_of_lines (sym same) ∙ ap (λ s. text_of_lines (lines_so_far s)) e.0.4)
 
 -- ---- the certificate's line
 

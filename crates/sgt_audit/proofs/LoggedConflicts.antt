@@ -24,7 +24,7 @@ use Rattle.sgt_audit.specs.declared.walks.Walks.{Walks}
 use Rattle.sgt_audit.specs.Kept.{IsMet, AreMet, MeansMet, TracksCurrent, Tracks}
 use Rattle.sgt_audit.specs.Reading.{Begun}
 use Rattle.sgt_audit.specs.private.Following.{MayFollow, with_next}
-use Rattle.sgt_audit.proofs.Adding.{same_whole}
+use Rattle.sgt_audit.proofs.Places.{same_whole}
 
 -- ---- one more log is whole
 

@@ -1,10 +1,12 @@
 -- From one stage of a text to the next.
-use Rattle.std.proofs.Common.{◌≡◌, ℕ, ◌<◌, ◌≤◌, Bool, List, [], ◌∷◌, ◌++◌, length, map, Option, Some, None, refl, sym, ap, ap₂, ◌∙◌, subst, arith, inl, inr, ◌⊎◌}
+use Rattle.std.proofs.Common.{◌≡◌, ℕ, ◌<◌, ◌≤◌, Bool, List, [], ◌∷◌, ◌++◌, length, map, Option, Some, None, refl, sym, ap, ap₂, ◌∙◌, subst, subst₂, arith, inl, inr, ◌⊎◌}
+use Rattle.std.specs.Prelude.{◌↔◌, Err, IfOk, IsSome, Ok, Result}
 use Rattle.std.proofs.lemmas.Bool.{cases_eq}
 use Rattle.std.proofs.lemmas.List.{map-append}
 use Rattle.std.proofs.lemmas.Option.{none-some}
 use Rattle.sgt_notation.specs.Spelling.{line_text}
 use Rattle.sgt_notation.specs.Limits.{max_line}
+use Rattle.sgt_notation.specs.Reading.{SpellsNone}
 use Rattle.sgt_notation.specs.declared.SectionLine.{SectionLine}
 use Rattle.sgt_notation.specs.declared.SectionLine.TheVariants.{Site, Initial, Logged, Final, End}
 use Rattle.sgt_notation.proofs.Short.{line-short}
@@ -15,8 +17,7 @@ use Rattle.sgt_audit.specs.declared.faults.Fault.{Fault}
 use Rattle.sgt_audit.specs.declared.faults.Fault.TheVariants as fault
 use Rattle.sgt_audit.specs.declared.kept.Kept.{Kept}
 use Rattle.sgt_audit.specs.declared.machine.Progress.TheVariants as at
-use Rattle.sgt_audit.specs.declared.tracked.Tracked.{Tracked}
-use Rattle.sgt_audit.specs.Faults.{fault_number, Keeps, KeepsItself, Stage, headed, within, complete, lines_so_far, Piece, whole, last, Rule, Breaks}
+use Rattle.sgt_audit.specs.Faults.{fault_number, IsLineIn, Keeps, KeepsItself, Stage, headed, within, complete, lines_so_far, Piece, whole, last, Rule, Breaks}
 use Rattle.sgt_audit.specs.Reading.{Begun, IsBegun, lines_read}
 use Rattle.sgt_audit.specs.Kept.{Means, Holds, IsStageOf}
 use Rattle.sgt_audit.specs.private.NextLine.{AnswersLine}
@@ -54,20 +55,28 @@ stage-lines : (second : Bool) (c : Certificate) (before : List SectionLine) (s :
 stage-lines second c before s (inl here) = ap lines_so_far here.0
 stage-lines second c before s (inr done) = ap lines_so_far done.0
 
+-- what is kept means this stage, in this format and behind this certificate
+abbrev StandsAs : Kept → Bool → Certificate → Stage → Type 0
+StandsAs k second c s = (b : Begun) × (before : List SectionLine) × Holds second c b k.tracked k.sections before × IsStageOf second c before s
+
 -- a line behind the certificate
-pub reading-follows : (second other : Bool) (c d : Certificate) (old new : Begun) (kept tracked : Tracked) (l : List ℕ) (answer : Option Fault) → other ≡ second → d ≡ c → ((before : List SectionLine) → Holds second c old kept before → AnswersLine second c new tracked before l answer)
-    → (s : Stage) → Stands (at.Reading (record { second = second; certificate = c; sections = old; tracked = kept })) s → Follows s l (at.Reading (record { second = other; certificate = d; sections = new; tracked = tracked })) answer
-reading-follows second other c d old new kept tracked l None format same answers s (before, m, stage) =
-    let next = answers before m in
-    let t = stage-of second c new (before ++ next.0 ∷ []) next.2.means in
-    (t.0, subst (λ k. Stands (at.Reading (record { second = other; certificate = k; sections = new; tracked = tracked })) t.0) (sym same) (subst (λ f. Stands (at.Reading (record { second = f; certificate = c; sections = new; tracked = tracked })) t.0) (sym format) (before ++ next.0 ∷ [], next.2, t.1)), t.2 ∙ one-more second c before next.0 l next.1 ∙ ap (λ (ls : List (List ℕ)). ls ++ l ∷ []) (sym (stage-lines second c before s stage)))
-reading-follows second other c d old new kept tracked l (Some f) format same answers s (before, m, stage) = answers before m s stage
+pub reading-follows : (old new : Kept) (l : List ℕ) (answer : Option Fault) → new.second ≡ old.second → new.certificate ≡ old.certificate
+    → ((b : Begun) (before : List SectionLine) → Holds old.second old.certificate b old.tracked old.sections before → AnswersLine old.second old.certificate new.tracked new.sections before l answer)
+    → (s : Stage) → Stands (at.Reading old) s → Follows s l (at.Reading new) answer
+reading-follows old new l None format same answers s (b, before, holds, stage) =
+    let next = answers b before holds in
+    let t = stage-of old.second old.certificate next.1 (before ++ next.0 ∷ []) next.3.means in (
+      t.0,
+      subst (λ c. StandsAs new new.second c t.0) (sym same) (subst (λ f. StandsAs new f old.certificate t.0) (sym format) (next.1, before ++ next.0 ∷ [], next.3, t.1)),
+      t.2 ∙ one-more old.second old.certificate before next.0 l next.2 ∙ ap (λ (ls : List (List ℕ)). ls ++ l ∷ []) (sym (stage-lines old.second old.certificate before s stage)),
+    )
+reading-follows old new l (Some f) format same answers s (b, before, holds, stage) = answers b before holds s stage
 
 -- the certificate's line
-pub headed-follows : (second : Bool) (k : Kept) (l : List ℕ) → k.second ≡ second → l ≡ certificate_text k.certificate → Holds k.second k.certificate k.sections k.tracked [] → (s : Stage) → s ≡ headed second → Follows s l (at.Reading k) None
-headed-follows second k l format same m s here =
-    let t = stage-of k.second k.certificate k.sections [] m.means in
-    (t.0, ([], m, t.1), t.2 ∙ ap₂ (λ f x. format_line f ∷ x ∷ []) format (sym same) ∙ ap (λ s. lines_so_far s ++ l ∷ []) (sym here))
+pub headed-follows : (second : Bool) (k : Kept) (l : List ℕ) (b : Begun) → k.second ≡ second → l ≡ certificate_text k.certificate → Holds k.second k.certificate b k.tracked k.sections [] → (s : Stage) → s ≡ headed second → Follows s l (at.Reading k) None
+headed-follows second k l b format same m s here =
+    let t = stage-of k.second k.certificate b [] m.means in
+    (t.0, (b, [], m, t.1), t.2 ∙ ap₂ (λ f x. format_line f ∷ x ∷ []) format (sym same) ∙ ap (λ s. lines_so_far s ++ l ∷ []) (sym here))
 
 -- ---- the certificate
 
@@ -180,6 +189,20 @@ module _ (second : Bool) (c : Certificate) (before : List SectionLine) where
   trailing-breaks : (p : Piece) → max_line < length (bytes_of p) → Breaks (Rule (complete second c before) p) fault.Trailing
   trailing-breaks p long = record { broken = trailing-broken p long; least = below-trailing p }
 
+-- ---- a line that can't be read, and one behind all sections
+
+pub line-trails : (second : Bool) (c : Certificate) (before : List SectionLine) (l : List ℕ) → AreSections c.sites before → (s : Stage) → IsStageOf second c before s → Breaks (Rule s (whole l)) fault.Trailing
+line-trails second c before l all s (inl here) = absurd (here.1 all)
+line-trails second c before l all s (inr done) = subst (λ s. Breaks (Rule s (whole l)) fault.Trailing) (sym done.0) (record { broken = λ h. h; least = below-trailing second c before (whole l) })
+
+pub line-unread : (second : Bool) (c : Certificate) (before : List SectionLine) (l : List ℕ) → (AreSections c.sites before → ⊥) → SpellsNone (IsLineIn second) line_text l → (s : Stage) → IsStageOf second c before s → Breaks (Rule s (whole l)) fault.Notation
+line-unread second c before l miss none s (inl here) = subst (λ s. Breaks (Rule s (whole l)) fault.Notation) (sym here.0) (record { broken = λ (line, is, same). none line is same; least = below-notation second c before (whole l) })
+line-unread second c before l miss none s (inr done) = absurd (miss done.1)
+
+-- whether these are all, by the sections and by their lines
+pub all-before : (second : Bool) (c : Certificate) (b : Begun) (before : List SectionLine) → Means second c b before → AreSections b.sites (lines_read b) ↔ AreSections c.sites before
+all-before second c b before m = (λ h. subst₂ AreSections m.sites (sym m.lines) h, λ h. subst₂ AreSections (sym m.sites) m.lines h)
+
 limit-at : (s t : Stage) (n : ℕ) → s ≡ t → limit_of s < n → limit_of t < n
 limit-at s t n same lt = subst (λ s. limit_of s < n) same lt
 
@@ -224,3 +247,8 @@ ends-whole second c before s (inr done) all = done.0
 pub empty-nil : (l : List ℕ) → length l ≡ 0 → l ≡ []
 empty-nil [] e = refl
 empty-nil (x ∷ l) e = absurd (omega arith)
+
+-- what is handed out at the end is what was kept
+pub hands-out : (r : Result Kept Fault) (k : Kept) → IfOk r (λ x. x ≡ k) → IsSome k.sections → IfOk r (λ x. IsSome x.sections)
+hands-out (Ok x) k same some = subst (λ x. IsSome x.sections) (sym same) some
+hands-out (Err f) k same some = tt

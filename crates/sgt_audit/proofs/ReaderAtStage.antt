@@ -19,20 +19,21 @@ use Rattle.sgt_audit.specs.declared.reading.Judged.{Judged}
 use Rattle.sgt_audit.specs.declared.reading.Judged.TheVariants as judged
 use Rattle.sgt_audit.specs.Faults.{Stage, lines_so_far, IsFaultless, Piece, whole, last, ComesNext, Rule, Breaks, FirstFault}
 use Rattle.sgt_audit.specs.Kept.{Means, IsStageOf}
+use Rattle.sgt_audit.specs.Reading.{Begun}
 use Rattle.sgt_audit.specs.Progress.{Stands}
 use Rattle.sgt_audit.specs.private.NextLine.{Follows, bytes_of}
 use Rattle.sgt_audit.specs.private.Ending.{limit_of}
 use Rattle.sgt_audit.specs.private.Stops.{Goes, IsAll, IsEnded, IsJudged, IsRest, IsStop}
 
 -- what the machine has kept has no fault
-stage-faultless : (k : Kept) (before : List SectionLine) (s : Stage) → Means k.second k.certificate k.sections before → IsStageOf k.second k.certificate before s → IsFaultless s
-stage-faultless k before s m (inl here) = subst IsFaultless (sym here.0) (m.kept, here.1)
-stage-faultless k before s m (inr done) = subst IsFaultless (sym done.0) (m.kept, done.1)
+stage-faultless : (k : Kept) (b : Begun) (before : List SectionLine) (s : Stage) → Means k.second k.certificate b before → IsStageOf k.second k.certificate before s → IsFaultless s
+stage-faultless k b before s m (inl here) = subst IsFaultless (sym here.0) (m.kept, here.1)
+stage-faultless k b before s m (inr done) = subst IsFaultless (sym done.0) (m.kept, done.1)
 
 pub faultless : (p : Progress) (s : Stage) → Stands p s → IsFaultless s
 faultless at.Start s stands = subst IsFaultless (sym stands) tt
 faultless (at.Headed second) s stands = subst IsFaultless (sym stands) tt
-faultless (at.Reading k) s (before, m, stage) = stage-faultless k before s m.means stage
+faultless (at.Reading k) s (b, before, holds, stage) = stage-faultless k b before s holds.means stage
 
 text-append : (xs ys : List (List ℕ)) → text_of_lines (xs ++ ys) ≡ text_of_lines xs ++ text_of_lines ys
 text-append [] ys = refl
@@ -107,7 +108,7 @@ module _ (s : Stage) (l : List ℕ) (n : ℕ) (good : IsFaultless s) (none : Has
   text-judged : (bytes : List ℕ) (j : Judged) → IsEnded s l n j → (bytes ≡ text_of_lines (lines_so_far s) ++ l) × (n ≡ length (lines_so_far s) + 1) → IsJudged j bytes
   text-judged bytes (judged.Whole k) ends at =
       let e = ends.0 in
-      (e.0, e.1, e.2, at.0 ∙ ap (λ (t : List ℕ). text_of_lines (lines_so_far s) ++ t) ends.1 ∙ append-nil (text_of_lines (lines_so_far s)) ∙ ap (λ s. text_of_lines (lines_so_far s)) e.3)
+      (e.0, e.1, e.2, e.3, at.0 ∙ ap (λ (t : List ℕ). text_of_lines (lines_so_far s) ++ t) ends.1 ∙ append-nil (text_of_lines (lines_so_far s)) ∙ ap (λ s. text_of_lines (lines_so_far s)) e.4)
   text-judged bytes (judged.Faulty line f) ends at =
       record { stage = s; rest = l; next = last l; text = at.0; faultless = good; number = ends.0 ∙ at.1; comes = (refl, none); breaks = ends.1 }
 
@@ -119,7 +120,7 @@ pub stop-judged : (told : Option (List ℕ)) (p : Progress) (n : ℕ) (l : List 
 stop-judged told p n l j (s, stands, short, none, at) ends = told-judged s l n (faultless p s stands) none told j (ends s stands short) at
 
 ended-all : (s : Stage) (l : List ℕ) (n : ℕ) (j : Judged) → IsEnded s l n j → IsAll j
-ended-all s l n (judged.Whole k) ends = let e = ends.0 in (e.0, e.1, e.2)
+ended-all s l n (judged.Whole k) ends = let e = ends.0 in (e.0, e.1, e.2, e.3)
 ended-all s l n (judged.Faulty line f) ends = tt
 
 pub stop-all : (told : Option (List ℕ)) (p : Progress) (n : ℕ) (l : List ℕ) (j : Judged) → IsStop told (stop.Ended n) p l → ((s : Stage) → Stands p s → length l ≤ limit_of s → IsEnded s l n j) → IsAll j

@@ -34,7 +34,7 @@ use Rattle.sgt_cert.specs.declared.certificate.Certificate.{Certificate}
 use Rattle.sgt_audit.specs.declared.faults.Fault.TheVariants as fault
 use Rattle.sgt_audit.specs.declared.tracked.Tracked.{Tracked}
 use Rattle.sgt_audit.specs.Faults.{Keeps}
-use Rattle.sgt_audit.specs.Kept.{Means, MeansMet, TracksCurrent, Tracks, IsTracked}
+use Rattle.sgt_audit.specs.Kept.{IsPlace, Means, MeansMet, TracksCurrent, Tracks, IsTracked}
 use Rattle.sgt_audit.proofs.MayFollow.{begins-follow}
 use Rattle.sgt_audit.proofs.OpenLogs.{has_open}
 use Rattle.sgt_audit.specs.Reading.{Begun, IsBegun, HasRoomFor, lines_read}
@@ -169,12 +169,12 @@ admits c b (Some log) (Final h) here kept = tt
 admits c b (Some log) End here kept = tt
 admits c b None line here kept = tt
 
-pub line-tracked : (second : Bool) (c : Certificate) (b next : Begun) (old new : Tracked) (before : List SectionLine) (line : SectionLine) → Means second c b before → KeptBelow (Keeps c (lines_read b) line) 17
+pub line-tracked : (second : Bool) (c : Certificate) (b : Begun) (old new : Tracked) (before : List SectionLine) (line : SectionLine) → Means second c b before → KeptBelow (Keeps c (lines_read b) line) 17
     → Begins b.sites (lines_read b ++ line ∷ [])
     → ((a : Begun) → IsDecidedOnce c.decisions → IsBegun a → MayFollow a a.current line → AdmitsLine c.decisions a.current line → IsTracked c.decisions a old → IsTracked c.decisions (with_next a a.current line) new)
-    → next ≡ with_next b b.current line → IsTracked c.decisions b old → IsTracked c.decisions next new
-line-tracked second c b next old new before line m kept begins enters is t =
-    subst (λ a. IsTracked c.decisions a new) (sym is) (enters b (m.kept.itself fault.DecidedTwice) m.begun (begins-follow b line begins) (admits c b b.current line refl kept) t)
+    → IsTracked c.decisions b old → IsTracked c.decisions (with_next b b.current line) new
+line-tracked second c b old new before line m kept begins enters t =
+    enters b (m.kept.itself fault.DecidedTwice) m.begun (begins-follow b line begins) (admits c b b.current line refl kept) t
 
-pub fresh-tracked : (c : Certificate) (b : Begun) (t : Tracked) → b ≡ record { sites = c.sites; whole = []; current = None } → IsReadyFor c.decisions 1 t.state → MeansMet c.decisions [] t.walks → IsTracked c.decisions b t
-fresh-tracked c b t is ready met = subst (λ a. IsTracked c.decisions a t) (sym is) (record { open_site = ready; walks = met })
+pub fresh-tracked : (sites : ℕ) (ds : List Decision) (b : Begun) (t : Tracked) → b ≡ record { sites = sites; whole = []; current = None } → IsPlace b t.place → IsReadyFor ds 1 t.state → MeansMet ds [] t.walks → IsTracked ds b t
+fresh-tracked sites ds b t is place ready met = subst (λ a. IsPlace a t.place → IsTracked ds a t) (sym is) (λ place. record { place = place; open_site = ready; walks = met }) place

@@ -1,5 +1,8 @@
 -- The verdict on a text that was judged.
 use Rattle.std.proofs.Common.{◌≡◌, ℕ, List, Option, Some, None, IfSome, refl, sym, ap, ap₂, ◌∙◌, subst}
+use Rattle.std.specs.Prelude.{IsSome}
+use Rattle.std.proofs.lemmas.Bool.{false≢true}
+use Rattle.std.proofs.lemmas.Option.{none-some}
 use Rattle.sgt_notation.specs.Spelling.{text_of_lines}
 use Rattle.sgt_notation.specs.declared.SectionLine.{SectionLine}
 use Rattle.sgt_cert.specs.Parts.{FitTogether, Parts}
@@ -15,6 +18,7 @@ use Rattle.sgt_audit.specs.declared.verdict.Verdict.{Verdict}
 use Rattle.sgt_audit.specs.declared.verdict.Verdict.TheVariants.{Yes, No}
 use Rattle.sgt_audit.specs.Faults.{complete, lines_so_far}
 use Rattle.sgt_audit.specs.Kept.{Means}
+use Rattle.sgt_audit.specs.Reading.{Begun}
 use Rattle.sgt_audit.specs.private.Stops.{IsJudged}
 use Rattle.sgt_audit.specs.Verdict.{IsVerdict, SaysHeadline, yes_of}
 use Rattle.sgt_audit.proofs.NoFault.{bundle_of, spells-bundle, valid-bundle}
@@ -24,27 +28,35 @@ use Rattle.sgt_audit.proofs.OneFault.{first_fault-excluded, first_fault-one}
 use Rattle.sgt_audit.proofs.MayFollow.{sections-whole}
 
 -- the bundle that was kept
-abbrev pub kept_bundle : Kept → Parts
-kept_bundle k = record { certificate = k.certificate; sites = k.sections.whole }
+abbrev pub kept_bundle : Kept → Begun → Parts
+kept_bundle k b = record { certificate = k.certificate; sites = b.whole }
 
-module _ (k : Kept) (before : List SectionLine) (m : Means k.second k.certificate k.sections before) (all : AreSections k.certificate.sites before) (bytes : List ℕ) (text : bytes ≡ text_of_lines (lines_so_far (complete k.second k.certificate before))) where
-  same-bundle : bundle_of bytes k.second k.certificate before m.kept all text ≡ kept_bundle k
-  same-bundle = ap (λ logs. record { certificate = k.certificate; sites = logs }) (sym (sections-whole k.sections all.0 (all.2 ∙ m.lines)).1)
+module _ (k : Kept) (b : Begun) (before : List SectionLine) (m : Means k.second k.certificate b before) (all : AreSections k.certificate.sites before) (bytes : List ℕ) (text : bytes ≡ text_of_lines (lines_so_far (complete k.second k.certificate before))) where
+  same-bundle : bundle_of bytes k.second k.certificate before m.kept all text ≡ kept_bundle k b
+  same-bundle = ap (λ logs. record { certificate = k.certificate; sites = logs }) (sym (sections-whole b all.0 (all.2 ∙ m.lines)).1)
 
-  pub kept-spelled : Spells bytes (kept_bundle k)
+  pub kept-spelled : Spells bytes (kept_bundle k b)
   kept-spelled = subst (Spells bytes) same-bundle (spells-bundle bytes k.second k.certificate before m.kept all text)
 
-  pub kept-valid : IsValid (kept_bundle k)
+  pub kept-valid : IsValid (kept_bundle k b)
   kept-valid = subst IsValid same-bundle (valid-bundle bytes k.second k.certificate before m.kept all text)
 
+-- the sections that were kept are these
+pub kept-sections : (k : Kept) (b s : Begun) → IfSome k.sections (λ s. s ≡ b) → k.sections ≡ Some s → s ≡ b
+kept-sections k b s same here = subst (λ o. IfSome o (λ s. s ≡ b)) here same
+
+pub none-kept : (o : Option Begun) → IsSome o → o ≡ None → ⊥
+none-kept None some none = false≢true some
+none-kept (Some s) some none = none-some s (sym none)
+
 -- its parts fit together
-pub kept-fit : (k : Kept) (before : List SectionLine) → Means k.second k.certificate k.sections before → AreSections k.certificate.sites before → FitTogether (kept_bundle k)
-kept-fit k before m all =
-    let s = kept-spelled k before m all (text_of_lines (lines_so_far (complete k.second k.certificate before))) refl in
-    fit-together k.certificate k.sections.whole s.certificate s.shape
+pub kept-fit : (k : Kept) (b : Begun) (before : List SectionLine) → Means k.second k.certificate b before → AreSections k.certificate.sites before → FitTogether (kept_bundle k b)
+kept-fit k b before m all =
+    let s = kept-spelled k b before m all (text_of_lines (lines_so_far (complete k.second k.certificate before))) refl in
+    fit-together k.certificate b.whole s.certificate s.shape
 
 pub kept-verdict : (k : Kept) (bytes : List ℕ) → IsJudged (judged.Whole k) bytes → IsVerdict bytes (yes_of k.certificate.decisions)
-kept-verdict k bytes (before, m, all, text) = (kept_bundle k, kept-spelled k before m all bytes text, kept-valid k before m all bytes text, refl)
+kept-verdict k bytes (b, before, holds, all, text) = (kept_bundle k b, kept-spelled k b before holds.means all bytes text, kept-valid k b before holds.means all bytes text, refl)
 
 -- a yes says the headline
 pub verdict-headline : (bytes : List ℕ) (v : Verdict) → IsVerdict bytes v → SaysHeadline bytes v

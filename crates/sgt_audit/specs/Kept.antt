@@ -1,7 +1,7 @@
 -- What is kept of a text: the lines read so far, which have no fault.
 -- (Of public clauses those alone use these words that say what an auditor was fed.)
-use Rattle.std.specs.Prelude.{◌≡◌, ◌↔◌, ◌⊎◌, ℕ, ◌+◌, Bool, IsTrue, List, length, All, Option, Some, None, slice_get}
-use Rattle.sgt_names.specs.Log.{Conflicts}
+use Rattle.std.specs.Prelude.{◌≡◌, ◌↔◌, ◌⊎◌, ℕ, ◌+◌, ◌-◌, Bool, IsTrue, List, length, All, Option, Some, None, IfSome, slice_get}
+use Rattle.sgt_names.specs.Log.{Conflicts, names}
 use Rattle.sgt_names.specs.declared.entry.Entry.{Entry}
 use Rattle.sgt_notation.specs.declared.SectionLine.{SectionLine}
 use Rattle.sgt_cert.specs.Text.{AreSections}
@@ -12,12 +12,14 @@ use Rattle.sgt_decided.specs.Steps.{AreStepsOf, edges_in}
 use Rattle.sgt_decided.specs.declared.steps.Edge.{Edge}
 use Rattle.sgt_cells.specs.Tracks.{TracksOpen, IsReadyFor}
 use Rattle.sgt_cells.specs.declared.state.SiteState.{SiteState}
+use Rattle.sgt_audit.specs.declared.place.OpenPlace.{OpenPlace}
+use Rattle.sgt_audit.specs.declared.place.Place.{Place}
 use Rattle.sgt_audit.specs.declared.tracked.Tracked.{Tracked}
 use Rattle.sgt_audit.specs.declared.walks.Walks.{Walks}
 use Rattle.sgt_audit.specs.Faults.{AllKept, Stage, within, complete}
 use Rattle.sgt_audit.specs.Reading.{Begun, IsBegun, lines_read}
 
--- the certificate and the sections are what these lines say, none of which has a fault
+-- the certificate and these sections are what these lines say, none of which has a fault
 pub record Means (second : Bool) (c : Certificate) (b : Begun) (before : List SectionLine) : Type 0 where
   pub begun : IsBegun b
   pub sites : b.sites ≡ c.sites
@@ -28,6 +30,24 @@ pub record Means (second : Bool) (c : Certificate) (b : Begun) (before : List Se
 abbrev pub IsStageOf : Bool → Certificate → List SectionLine → Stage → Type 0
 IsStageOf second c before s = ((s ≡ within second c before) × (AreSections c.sites before → ⊥))
     ⊎ ((s ≡ complete second c before) × AreSections c.sites before)
+
+-- what is kept of the lines of an open section: the names of its items, its last entry, and how many finals it has
+pub record IsOpenPlace (log : SiteLog) (p : OpenPlace) : Type 0 where
+  pub items : p.items.items ≡ names log.items
+  pub last : p.last ≡ slice_get log.entries (length log.entries - 1)
+  pub finals : p.finals ≡ length log.finals
+
+abbrev pub IsCurrentPlace : Option SiteLog → Option OpenPlace → Type 0
+IsCurrentPlace None None = Unit {0}
+IsCurrentPlace (Some log) (Some p) = IsOpenPlace log p
+IsCurrentPlace None (Some p) = ⊥
+IsCurrentPlace (Some log) None = ⊥
+
+-- the place behind these sections
+pub record IsPlace (b : Begun) (p : Place) : Type 0 where
+  pub sites : p.sites ≡ b.sites
+  pub whole : p.whole ≡ length b.whole
+  pub current : IsCurrentPlace b.current p.current
 
 -- what is kept of the sites: nothing of a section that is still to come, or what the open log means
 abbrev pub TracksCurrent : List Decision → (whole : ℕ) → Option SiteLog → SiteState → Type 0
@@ -50,12 +70,14 @@ pub record MeansMet (decisions : List Decision) (whole : List SiteLog) (w : Walk
   pub steps : AreStepsOf decisions w.steps
   pub met : IsTrue w.met ↔ AreMet (edges_in decisions) whole
 
--- what is kept of the sites and of the walks
+-- what is kept of the sections: the place behind them, and what is kept of the sites and of the walks
 pub record IsTracked (decisions : List Decision) (b : Begun) (t : Tracked) : Type 0 where
+  pub place : IsPlace b t.place
   pub open_site : Tracks decisions b t.state
   pub walks : MeansMet decisions b.whole t.walks
 
--- all that is kept is what these lines say, none of which has a fault
-pub record Holds (second : Bool) (c : Certificate) (b : Begun) (t : Tracked) (before : List SectionLine) : Type 0 where
+-- all that is kept is what these lines say, none of which has a fault; and these sections, where they are kept too
+pub record Holds (second : Bool) (c : Certificate) (b : Begun) (t : Tracked) (beside : Option Begun) (before : List SectionLine) : Type 0 where
   pub means : Means second c b before
   pub tracks : IsTracked c.decisions b t
+  pub sections : IfSome beside (λ s. s ≡ b)

@@ -6,10 +6,11 @@ use Rattle.sgt_audit.specs.declared.machine.Progress.{Progress}
 use Rattle.sgt_audit.specs.declared.machine.Progress.TheVariants as at
 use Rattle.sgt_audit.specs.Faults.{Stage, start, headed}
 use Rattle.sgt_audit.specs.Kept.{Holds, IsStageOf}
+use Rattle.sgt_audit.specs.Reading.{Begun}
 
 -- what is kept means this stage
 abbrev pub Stands : Progress → Stage → Type 0
 Stands at.Start s = s ≡ start
 Stands (at.Headed second) s = s ≡ headed second
-Stands (at.Reading k) s = (before : List SectionLine) × Holds k.second k.certificate k.sections k.tracked before
-    × IsStageOf k.second k.certificate before s
+Stands (at.Reading k) s = (b : Begun) × (before : List SectionLine)
+    × Holds k.second k.certificate b k.tracked k.sections before × IsStageOf k.second k.certificate before s

@@ -66,6 +66,7 @@ impl Auditor {
         };
         let mut machine = Machine {
             alloc,
+            keeps: false,
             progress: Progress::Headed(second),
         };
         match machine.line(line.as_slice()) {

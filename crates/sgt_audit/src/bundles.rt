@@ -4,10 +4,12 @@ ghost use Rattle.std.specs.Prelude.{◌≡◌, ◌≤◌, [], ◌∷◌, ◌++�
 ghost use Rattle.sgt_names.specs.Limits.{max_sites};
 ghost use Rattle.sgt_notation.specs.Spelling.{HasNoLf};
 ghost use Rattle.sgt_audit.specs.Spelled.{AnswersBundle};
-ghost use Rattle.sgt_audit.specs.Reading.{lines_read};
+ghost use Rattle.sgt_audit.specs.Kept.{IsPlace};
+ghost use Rattle.sgt_audit.specs.Reading.{IsBegun, lines_read};
 ghost use Rattle.sgt_audit.specs.private.SpelledSections.{AnswersSections, AreSpelled};
 
 use crate::format::{read_format, read_line};
+use crate::place::Place;
 use crate::sections::Sections;
 use sgt_cert::{Bundle, CertFault, from_line};
 use sgt_names::EngineFail;
@@ -26,8 +28,15 @@ pub(crate) fn split_line(bytes: &[u8]) -> Option<(&[u8], &[u8])>
 }
 
 /// Adds the lines of sections that the bytes spell in the second format, or in the first. Whether they are all sections.
-fn add_lines(second: bool, bytes: &[u8], sections: &mut Sections) -> Result<bool, AllocError>
-    requires { lines_read sections.old ≡ [] }
+fn add_lines(
+    second: bool,
+    bytes: &[u8],
+    place: &mut Place,
+    sections: &mut Sections,
+) -> Result<bool, AllocError>
+    requires none { lines_read sections.old ≡ [] }
+    requires begun { IsBegun sections.old }
+    requires here { IsPlace sections.old place.old }
     ensures sites { sections.new.sites ≡ sections.old.sites }
     ensures all { IfOk result (λ all. AreSpelled all second sections.old.sites bytes.now (lines_read sections.new)) }
 {
@@ -36,16 +45,17 @@ fn add_lines(second: bool, bytes: &[u8], sections: &mut Sections) -> Result<bool
         let Some(read) = read_line(second, line) else {
             return Ok(false);
         };
-        if !sections.may_go_on(&read) {
+        if !place.may_go_on(&read) {
             return Ok(false);
         }
+        place.enter(&read)?;
         sections.add(read)?;
         rest = more;
     }
     if !rest.is_empty() {
         return Ok(false);
     }
-    Ok(sections.are_all())
+    Ok(place.is_complete())
 }
 
 /// The sections of so many sites that the bytes spell.
@@ -59,8 +69,9 @@ fn read_sections(
     requires few { sites ≤ max_sites }
     ensures { IfOk result (AnswersSections second sites bytes.now) }
 {
+    let mut place = Place::new(alloc, sites);
     let mut sections = Sections::new(alloc, sites);
-    if add_lines(second, bytes, &mut sections)? {
+    if add_lines(second, bytes, &mut place, &mut sections)? {
         Ok(Some(sections))
     } else {
         Ok(None)

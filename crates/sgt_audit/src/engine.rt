@@ -7,6 +7,7 @@ ghost use Rattle.sgt_audit.specs.private.Stops.{IsJudged};
 ghost use Rattle.sgt_audit.specs.Verdict.{IsVerdict, IsAudited, HandsOutValid, SaysHeadline, WroteFront, text_of};
 
 use crate::faults::Fault;
+use crate::kept::Kept;
 use crate::reading::{Judged, judge};
 use crate::verdict::{Verdict, yes_to};
 use sgt_cert::Bundle;
@@ -35,10 +36,18 @@ pub fn audit_bundle<R: Source>(alloc: Global, reader: &mut R) -> Result<Audited,
         ((R.failures reader.old < R.failures reader.new) ⊎ IfSome (R.tells reader.old) (λ bytes. most_reads ≤ length bytes)) }
     ensures write_fault { result ≢ Err EngineFail.WriteFault }
 {
-    match judge(alloc, reader) {
+    match judge(alloc, true, reader) {
         Ok(Judged::Whole(kept)) => {
-            let logs = kept.sections.into_logs();
-            let certificate = kept.certificate.into_certificate();
+            let Kept {
+                certificate,
+                sections,
+                ..
+            } = kept;
+            let Some(sections) = sections else {
+                unreachable!()
+            };
+            let logs = sections.into_logs();
+            let certificate = certificate.into_certificate();
             match Bundle::new(certificate, logs) {
                 Some(bundle) => Ok(Audited::Valid(bundle)),
                 None => unreachable!(),
@@ -86,7 +95,7 @@ pub fn audit<R: Source, W: Sink>(
         ((R.failures reader.old < R.failures reader.new) ⊎ IfSome (R.tells reader.old) (λ bytes. most_reads ≤ length bytes)) }
     ensures write_fault { IsErrOf result EngineFail.WriteFault → W.failures writer.old < W.failures writer.new }
 {
-    let verdict = match judge(alloc, reader) {
+    let verdict = match judge(alloc, false, reader) {
         Ok(judged) => verdict_on(judged),
         Err(e) => return Err(e),
     };

@@ -7,19 +7,20 @@ ghost use Rattle.sgt_names.specs.Log.{names};
 ghost use Rattle.sgt_cert.specs.Certificate.{IsDecidedOnce, AreRanks, ranks};
 ghost use Rattle.sgt_cert.specs.declared.certificate.Decision.{Decision};
 ghost use Rattle.sgt_cells.specs.Tracks.{TracksOpen};
-ghost use Rattle.sgt_audit.specs.Kept.{Tracks};
+ghost use Rattle.sgt_audit.specs.Kept.{IsOpenPlace, IsPlace, IsTracked};
 ghost use Rattle.sgt_cert.specs.Text.{Begins};
+ghost use Rattle.sgt_cert.specs.declared.bundle.SiteLog.{SiteLog};
 ghost use Rattle.sgt_cert.specs.declared.certificate.Certificate.{Certificate};
 ghost use Rattle.sgt_audit.specs.Faults.{Keeps};
 ghost use Rattle.sgt_audit.specs.private.Judging.{ContinuesLog, ContinuesBlock, HasOpen, JudgedLine, AnswersItself};
-ghost use Rattle.sgt_audit.specs.Reading.{lines_read};
+ghost use Rattle.sgt_audit.specs.Reading.{Begun, IsBegun, lines_read};
 ghost use Rattle.sgt_audit.specs.private.Following.{Fits};
 
 use crate::entries::{continues, is_open};
 use crate::faults::Fault;
-use crate::sections::{OpenLog, Sections};
+use crate::place::OpenPlace;
 use crate::tracked::{
-    holds_value, is_active, is_first, is_in_order, is_in_rank, is_legal, is_listed,
+    Tracked, holds_value, is_active, is_first, is_in_order, is_in_rank, is_legal, is_listed,
 };
 use sgt_cells::SiteState;
 use sgt_cert::Certificate;
@@ -42,10 +43,10 @@ fn continues_block(last: &Entry, line: &SectionLine) -> bool
 }
 
 /// Whether the line goes on with the block that is open at the end of the log, if one is.
-fn continues_log(log: &OpenLog, line: &SectionLine) -> bool
-    ensures { IsTrue result ↔ ContinuesLog log.now line.now }
+fn continues_log(place: &OpenPlace, line: &SectionLine) -> bool
+    ensures { (log : SiteLog) → IsOpenPlace log place.now → (IsTrue result ↔ ContinuesLog log line.now) }
 {
-    match log.last_entry() {
+    match place.last_entry() {
         Some(last) => continues_block(&last, line),
         None => true,
     }
@@ -55,13 +56,14 @@ fn continues_log(log: &OpenLog, line: &SectionLine) -> bool
 fn judge_entry(
     certificate: &Decided,
     state: &SiteState,
-    log: &OpenLog,
+    place: &OpenPlace,
     entry: &Entry,
 ) -> Option<Fault>
-    ensures { (c : Certificate) (before : List SectionLine)
+    ensures { (c : Certificate) (before : List SectionLine) (log : SiteLog)
         → c.decisions ≡ certificate.now.decisions → IsDecidedOnce certificate.now.decisions
-        → AreRanks (ranks certificate.now.decisions) → TracksOpen certificate.now.decisions log.now.items log.now.entries state.now
-        → HasOpen before log.now → Begins c.sites (before ++ Logged entry.now ∷ [])
+        → AreRanks (ranks certificate.now.decisions) → IsOpenPlace log place.now
+        → TracksOpen certificate.now.decisions log.items log.entries state.now
+        → HasOpen before log → Begins c.sites (before ++ Logged entry.now ∷ [])
         → JudgedLine (Keeps c before (Logged entry.now)) result }
 {
     if !is_listed(state, entry) {
@@ -76,7 +78,7 @@ fn judge_entry(
     if !is_in_rank(certificate, state, entry) {
         return Some(Fault::RankOrder);
     }
-    if !continues_log(log, &SectionLine::Logged(*entry)) {
+    if !continues_log(place, &SectionLine::Logged(*entry)) {
         return Some(Fault::Block);
     }
     if !is_active(certificate, state, entry) {
@@ -89,12 +91,12 @@ fn judge_entry(
 }
 
 /// The least fault of a final value.
-fn judge_final(state: &SiteState, log: &OpenLog, holding: &Holding) -> Option<Fault>
-    ensures { (ds : List Decision) (c : Certificate) (before : List SectionLine) → TracksOpen ds log.now.items log.now.entries state.now
-        → Contains (names log.now.items) holding.now.item → HasOpen before log.now
+fn judge_final(state: &SiteState, place: &OpenPlace, holding: &Holding) -> Option<Fault>
+    ensures { (ds : List Decision) (c : Certificate) (before : List SectionLine) (log : SiteLog) → IsOpenPlace log place.now
+        → TracksOpen ds log.items log.entries state.now → Contains (names log.items) holding.now.item → HasOpen before log
         → Begins c.sites (before ++ Final holding.now ∷ []) → JudgedLine (Keeps c before (Final holding.now)) result }
 {
-    if !continues_log(log, &SectionLine::Final(*holding)) {
+    if !continues_log(place, &SectionLine::Final(*holding)) {
         return Some(Fault::Block);
     }
     if !state.have_all_ended() {
@@ -107,11 +109,12 @@ fn judge_final(state: &SiteState, log: &OpenLog, holding: &Holding) -> Option<Fa
 }
 
 /// The least fault of a section's end, but for the walks.
-fn judge_end(state: &SiteState, log: &OpenLog) -> Option<Fault>
-    ensures { (ds : List Decision) (c : Certificate) (before : List SectionLine) → TracksOpen ds log.now.items log.now.entries state.now
-        → HasOpen before log.now → Begins c.sites (before ++ End ∷ []) → JudgedLine (Keeps c before End) result }
+fn judge_end(state: &SiteState, place: &OpenPlace) -> Option<Fault>
+    ensures { (ds : List Decision) (c : Certificate) (before : List SectionLine) (log : SiteLog) → IsOpenPlace log place.now
+        → TracksOpen ds log.items log.entries state.now → HasOpen before log
+        → Begins c.sites (before ++ End ∷ []) → JudgedLine (Keeps c before End) result }
 {
-    if !continues_log(log, &SectionLine::End) {
+    if !continues_log(place, &SectionLine::End) {
         return Some(Fault::Block);
     }
     if !state.have_all_ended() {
@@ -124,19 +127,20 @@ fn judge_end(state: &SiteState, log: &OpenLog) -> Option<Fault>
 fn judge_inside(
     certificate: &Decided,
     state: &SiteState,
-    log: &OpenLog,
+    place: &OpenPlace,
     line: &SectionLine,
 ) -> Option<Fault>
-    ensures { (c : Certificate) (before : List SectionLine)
+    ensures { (c : Certificate) (before : List SectionLine) (log : SiteLog)
         → c.decisions ≡ certificate.now.decisions → IsDecidedOnce certificate.now.decisions
-        → AreRanks (ranks certificate.now.decisions) → TracksOpen certificate.now.decisions log.now.items log.now.entries state.now
-        → HasOpen before log.now → Fits log.now line.now → Begins c.sites (before ++ line.now ∷ [])
+        → AreRanks (ranks certificate.now.decisions) → IsOpenPlace log place.now
+        → TracksOpen certificate.now.decisions log.items log.entries state.now
+        → HasOpen before log → Fits log line.now → Begins c.sites (before ++ line.now ∷ [])
         → JudgedLine (Keeps c before line.now) result }
 {
     match line {
-        SectionLine::Logged(entry) => judge_entry(certificate, state, log, entry),
-        SectionLine::Final(holding) => judge_final(state, log, holding),
-        SectionLine::End => judge_end(state, log),
+        SectionLine::Logged(entry) => judge_entry(certificate, state, place, entry),
+        SectionLine::Final(holding) => judge_final(state, place, holding),
+        SectionLine::End => judge_end(state, place),
         SectionLine::Site(_) => None,
         SectionLine::Initial(_) => None,
     }
@@ -145,21 +149,21 @@ fn judge_inside(
 /// The least fault of a line behind the sections that were read, but for the walks.
 pub(crate) fn judge_line(
     certificate: &Decided,
-    state: &SiteState,
-    sections: &Sections,
+    tracked: &Tracked,
     line: &SectionLine,
 ) -> Option<Fault>
-    ensures may_follow { IfNone result (Begins sections.now.sites (lines_read sections.now ++ line.now ∷ [])) }
-    ensures judged { (c : Certificate) → c.decisions ≡ certificate.now.decisions → c.sites ≡ sections.now.sites
-        → IsDecidedOnce certificate.now.decisions
-        → AreRanks (ranks certificate.now.decisions) → Tracks certificate.now.decisions sections.now state.now
-        → JudgedLine (Keeps c (lines_read sections.now) line.now) result }
+    ensures may_follow { (b : Begun) → IsBegun b → IsPlace b tracked.now.place
+        → IfNone result (Begins b.sites (lines_read b ++ line.now ∷ [])) }
+    ensures judged { (c : Certificate) (b : Begun) → c.decisions ≡ certificate.now.decisions → c.sites ≡ b.sites
+        → IsDecidedOnce certificate.now.decisions → AreRanks (ranks certificate.now.decisions)
+        → IsBegun b → IsTracked certificate.now.decisions b tracked.now
+        → JudgedLine (Keeps c (lines_read b) line.now) result }
 {
-    if !sections.may_go_on(line) {
+    if !tracked.place.may_go_on(line) {
         return Some(Fault::Section);
     }
-    match sections.current() {
-        Some(log) => judge_inside(certificate, state, log, line),
+    match &tracked.place.current {
+        Some(place) => judge_inside(certificate, &tracked.state, place, line),
         None => None,
     }
 }

@@ -1,6 +1,6 @@
 //! A certificate, and lines of sections behind it, none of which has a fault.
 
-ghost use Rattle.std.specs.Prelude.{◌≡◌, ◌≤◌, ◌↔◌, ℕ, [], List, length, IsTrue, IfOk};
+ghost use Rattle.std.specs.Prelude.{◌≡◌, ◌≤◌, ◌↔◌, ℕ, [], List, length, IsTrue, IfOk, is_some};
 ghost use Rattle.sgt_notation.specs.Reading.{Finds};
 ghost use Rattle.sgt_notation.specs.Spelling.{IsLine, line_text};
 ghost use Rattle.sgt_notation.specs.declared.SectionLine.{SectionLine};
@@ -9,7 +9,7 @@ ghost use Rattle.sgt_cert.specs.Text.{AreSections};
 use crate::faults::Fault;
 use crate::format::{allowed_line, read_line};
 use crate::judging::judge_line;
-use crate::sections::Sections;
+use crate::sections::{Sections, add_to};
 use crate::tracked::Tracked;
 use sgt_decided::Decided;
 use sgt_notation::SectionLine;
@@ -21,51 +21,50 @@ pub struct Kept {
     /// Whether the format is the second.
     pub second: bool,
     pub certificate: Decided,
-    pub sections: Sections,
     /// What is kept of these sections, by which a line is judged.
     pub tracked: Tracked,
+    /// The sections themselves, where they are to be handed out.
+    pub sections: Option<Sections>,
 }
 
 impl Kept {
     ghost use Rattle.sgt_audit.specs.Faults.{IsLineIn, Stage};
-    ghost use Rattle.sgt_audit.specs.Kept.{Holds, IsStageOf, Means};
+    ghost use Rattle.sgt_audit.specs.Kept.{Holds, IsStageOf};
     ghost use Rattle.sgt_audit.specs.private.NextLine.{AnswersLine};
     ghost use Rattle.sgt_audit.specs.private.Ending.{EndsWith, limit_of};
-    ghost use Rattle.sgt_audit.specs.Reading.{lines_read};
+    ghost use Rattle.sgt_audit.specs.Reading.{Begun};
 
     /// Whether all sections were read.
     pub(crate) fn is_complete(&self) -> bool
-        ensures { (before : List SectionLine) → Means self.now.second self.now.certificate self.now.sections before
+        ensures { (b : Begun) (before : List SectionLine)
+            → Holds self.now.second self.now.certificate b self.now.tracked self.now.sections before
             → (IsTrue result ↔ AreSections self.now.certificate.sites before) }
     {
-        self.sections.are_all()
+        self.tracked.place.is_complete()
     }
 
     /// The next line, of which this was read: a line of the format, or none.
     fn follow(&mut self, read: Option<SectionLine>) -> Result<Option<Fault>, AllocError>
         ensures second { self.new.second ≡ self.old.second }
         ensures certificate { self.new.certificate ≡ self.old.certificate }
-        ensures answers { (before : List SectionLine) (l : List ℕ) → Holds self.old.second self.old.certificate self.old.sections self.old.tracked before
+        ensures sections { is_some self.new.sections ≡ is_some self.old.sections }
+        ensures answers { (b : Begun) (before : List SectionLine) (l : List ℕ)
+            → Holds self.old.second self.old.certificate b self.old.tracked self.old.sections before
             → Finds (IsLineIn self.old.second) line_text l read
-            → IfOk result (AnswersLine self.old.second self.old.certificate self.new.sections self.new.tracked before l) }
+            → IfOk result (AnswersLine self.old.second self.old.certificate self.new.tracked self.new.sections before l) }
     {
-        if self.sections.are_all() {
+        if self.tracked.place.is_complete() {
             return Ok(Some(Fault::Trailing));
         }
         let Some(read) = read else {
             return Ok(Some(Fault::Notation));
         };
-        if let Some(fault) = judge_line(
-            &self.certificate,
-            &self.tracked.state,
-            &self.sections,
-            &read,
-        ) {
+        if let Some(fault) = judge_line(&self.certificate, &self.tracked, &read) {
             return Ok(Some(fault));
         }
         self.tracked.enter(&self.certificate, &read)?;
-        self.sections.add(read)?;
-        if self.sections.are_all() && !self.tracked.walks.are_logged() {
+        add_to(&mut self.sections, read)?;
+        if self.tracked.place.is_complete() && !self.tracked.walks.are_logged() {
             return Ok(Some(Fault::WalkStep));
         }
         Ok(None)
@@ -75,8 +74,10 @@ impl Kept {
     pub(crate) fn next(&mut self, line: &[u8]) -> Result<Option<Fault>, AllocError>
         ensures second { self.new.second ≡ self.old.second }
         ensures certificate { self.new.certificate ≡ self.old.certificate }
-        ensures answers { (before : List SectionLine) → Holds self.old.second self.old.certificate self.old.sections self.old.tracked before
-            → IfOk result (AnswersLine self.old.second self.old.certificate self.new.sections self.new.tracked before line.now) }
+        ensures sections { is_some self.new.sections ≡ is_some self.old.sections }
+        ensures answers { (b : Begun) (before : List SectionLine)
+            → Holds self.old.second self.old.certificate b self.old.tracked self.old.sections before
+            → IfOk result (AnswersLine self.old.second self.old.certificate self.new.tracked self.new.sections before line.now) }
     {
         let read = read_line(self.second, line);
         self.follow(read)
@@ -86,8 +87,10 @@ impl Kept {
     pub(crate) fn next_read(&mut self, line: SectionLine) -> Result<Option<Fault>, AllocError>
         ensures second { self.new.second ≡ self.old.second }
         ensures certificate { self.new.certificate ≡ self.old.certificate }
-        ensures answers { (before : List SectionLine) → Holds self.old.second self.old.certificate self.old.sections self.old.tracked before
-            → IsLine line → IfOk result (AnswersLine self.old.second self.old.certificate self.new.sections self.new.tracked before (line_text line)) }
+        ensures sections { is_some self.new.sections ≡ is_some self.old.sections }
+        ensures answers { (b : Begun) (before : List SectionLine)
+            → Holds self.old.second self.old.certificate b self.old.tracked self.old.sections before
+            → IsLine line → IfOk result (AnswersLine self.old.second self.old.certificate self.new.tracked self.new.sections before (line_text line)) }
     {
         let read = allowed_line(self.second, line);
         self.follow(read)
@@ -95,8 +98,9 @@ impl Kept {
 
     /// At the end of the input, with these bytes behind the last LF: what was read, if all is there, or the fault.
     pub(crate) fn end(self, rest: &[u8]) -> Result<Kept, Fault>
-        ensures { (before : List SectionLine) (s : Stage) → Means self.second self.certificate self.sections before
-            → IsStageOf self.second self.certificate before s → length rest.now ≤ limit_of s → EndsWith s rest.now result }
+        ensures same { IfOk result (λ k. k ≡ self) }
+        ensures ends { (b : Begun) (before : List SectionLine) (s : Stage)
+            → Holds self.second self.certificate b self.tracked self.sections before → IsStageOf self.second self.certificate before s → length rest.now ≤ limit_of s → EndsWith s rest.now result }
     {
         if !self.is_complete() {
             return Err(Fault::Truncated);

@@ -1,12 +1,12 @@
 //! The auditor's machine, which is fed a text line by line.
 
-ghost use Rattle.std.specs.Prelude.{◌≡◌, ◌≢◌, ◌<◌, ◌≤◌, [], List, length, Bool, IfOk, IfErr};
+ghost use Rattle.std.specs.Prelude.{◌≡◌, ◌≢◌, ◌<◌, ◌≤◌, [], List, length, Bool, true, IsTrue, IfOk, IfErr, IsSome};
 
 use crate::faults::Fault;
 use crate::format::read_format;
 use crate::judging::judge_certificate;
 use crate::kept::Kept;
-use crate::sections::Sections;
+use crate::sections::sections_of;
 use crate::tracked::Tracked;
 use sgt_cert::{CertFault, from_line};
 use sgt_names::EngineFail;
@@ -28,21 +28,25 @@ pub enum Progress {
 #[derive(Drop)]
 pub struct Machine {
     pub alloc: Global,
+    /// Whether the sections themselves are to be handed out.
+    pub keeps: bool,
     pub progress: Progress,
 }
 
 impl Machine {
     ghost use Rattle.sgt_audit.specs.Faults.{Stage, Piece, start, headed, Rule, Breaks};
-    ghost use Rattle.sgt_audit.specs.private.Ending.{EndsWith, limit_of};
+    ghost use Rattle.sgt_audit.specs.private.Ending.{EndsWith, IsKeeping, limit_of};
     ghost use Rattle.sgt_audit.specs.Progress.{Stands};
     ghost use Rattle.sgt_audit.specs.private.NextLine.{AnswersCertificate, Follows, bytes_of};
 
-    /// Before the first line.
-    pub(crate) fn new(alloc: Global) -> Machine
-        ensures { Stands result.progress start }
+    /// Before the first line. The sections are to be handed out, or only judged.
+    pub(crate) fn new(alloc: Global, keeps: bool) -> Machine
+        ensures stands { Stands result.progress start }
+        ensures kept { IsKeeping keeps result }
     {
         Machine {
             alloc,
+            keeps,
             progress: Progress::Start,
         }
     }
@@ -58,8 +62,14 @@ impl Machine {
     }
 
     /// The certificate's line.
-    fn begin(alloc: Global, second: bool, line: &[u8]) -> Result<Result<Kept, Fault>, EngineFail>
+    fn begin(
+        alloc: Global,
+        keeps: bool,
+        second: bool,
+        line: &[u8],
+    ) -> Result<Result<Kept, Fault>, EngineFail>
         ensures begins { IfOk result (AnswersCertificate second line.now) }
+        ensures keeps { IsTrue keeps → IfOk result (λ r. IfOk r (λ k. IsSome k.sections)) }
         ensures err { IfErr result (λ e. e ≡ EngineFail.Memory) }
     {
         let certificate = match from_line(alloc, line) {
@@ -70,15 +80,15 @@ impl Machine {
         let sites = certificate.sites;
         match judge_certificate(alloc, certificate) {
             Ok(Ok(certificate)) => {
-                let Ok(tracked) = Tracked::new(alloc, &certificate) else {
+                let Ok(tracked) = Tracked::new(alloc, sites, &certificate) else {
                     return Err(EngineFail::Memory);
                 };
-                let sections = Sections::new(alloc, sites);
+                let sections = sections_of(alloc, keeps, sites);
                 Ok(Ok(Kept {
                     second,
                     certificate,
-                    sections,
                     tracked,
+                    sections,
                 }))
             }
             Ok(Err(fault)) => Ok(Err(fault)),
@@ -90,6 +100,7 @@ impl Machine {
     pub(crate) fn line(&mut self, line: &[u8]) -> Result<Option<Fault>, EngineFail>
         ensures follows { (s : Stage) → Stands self.old.progress s → IfOk result (Follows s line.now self.new.progress) }
         ensures err { IfErr result (λ e. e ≡ EngineFail.Memory) }
+        ensures kept { (keeps : Bool) → IsKeeping keeps self.old → IsKeeping keeps self.new }
     {
         match &mut self.progress {
             Progress::Start => match read_format(line) {
@@ -99,7 +110,9 @@ impl Machine {
                 }
                 None => Ok(Some(Fault::Format)),
             },
-            Progress::Headed(second) => match Machine::begin(self.alloc, *second, line) {
+            Progress::Headed(second) => match Machine::begin(
+                self.alloc, self.keeps, *second, line,
+            ) {
                 Ok(Ok(kept)) => {
                     self.progress = Progress::Reading(kept);
                     Ok(None)
@@ -134,7 +147,8 @@ impl Machine {
 
     /// What was read, if all is there at the end of the input; or the fault, with these bytes behind the last LF.
     pub(crate) fn end(self, rest: &[u8]) -> Result<Kept, Fault>
-        ensures { (s : Stage) → Stands self.progress s → length rest.now ≤ limit_of s → EndsWith s rest.now result }
+        ensures ends { (s : Stage) → Stands self.progress s → length rest.now ≤ limit_of s → EndsWith s rest.now result }
+        ensures kept { IsKeeping true self → IfOk result (λ k. IsSome k.sections) }
     {
         let Machine { progress, .. } = self;
         match progress {

@@ -1,13 +1,13 @@
 //! A text judged as its lines come from a reader.
 
-ghost use Rattle.std.specs.Prelude.{◌≡◌, ◌≢◌, ℕ, ◌+◌, ◌^◌, ◌<◌, ◌≤◌, ◌⊎◌, List, [], Option, Err, length, IfOk, IfSome, IsErrOf};
+ghost use Rattle.std.specs.Prelude.{◌≡◌, ◌≢◌, ℕ, ◌+◌, ◌^◌, ◌<◌, ◌≤◌, ◌⊎◌, List, [], Option, Err, length, Bool, true, IsTrue, IfOk, IfSome, IsErrOf, is_some};
 ghost use Rattle.sgt_notation.specs.Limits.{most_reads};
 ghost use Rattle.sgt_notation.specs.Lines.{Spends, coming, most_left};
 ghost use Rattle.sgt_audit.specs.Faults.{Stage, start};
-ghost use Rattle.sgt_audit.specs.private.Ending.{limit_of};
+ghost use Rattle.sgt_audit.specs.private.Ending.{IsKeeping, limit_of};
 ghost use Rattle.sgt_audit.specs.Progress.{Stands};
 ghost use Rattle.sgt_audit.specs.declared.machine.Progress.TheVariants.{Reading};
-ghost use Rattle.sgt_audit.specs.private.Stops.{FedHeld, Goes, IsAll, IsEnded, IsJudged, IsStop};
+ghost use Rattle.sgt_audit.specs.private.Stops.{FedHeld, Goes, HandsOut, IsAll, IsEnded, IsJudged, IsStop};
 
 use crate::faults::Fault;
 use crate::kept::Kept;
@@ -36,7 +36,8 @@ pub enum Stop {
 
 /// The machine at the end of the input, with these bytes behind the last LF.
 fn ended(machine: Machine, rest: &[u8], line: u64) -> Judged
-    ensures { (s : Stage) → Stands machine.progress s → length rest.now ≤ limit_of s → IsEnded s rest.now line result }
+    ensures ended { (s : Stage) → Stands machine.progress s → length rest.now ≤ limit_of s → IsEnded s rest.now line result }
+    ensures kept { IsKeeping true machine → HandsOut result }
 {
     match machine.end(rest) {
         Ok(kept) => Judged::Whole(kept),
@@ -56,6 +57,7 @@ fn feed_kept(
     ensures spends { (told : Option (List ℕ)) → Spends lines.old.reads told lines.new.reads told }
     ensures few { number.new + most_left lines.new ≤ number.old + most_left lines.old }
     ensures bounded { most_left lines.new ≤ most_left lines.old }
+    ensures sections { is_some kept.new.sections ≡ is_some kept.old.sections }
 {
     'lines: while let Some(line) = lines.next_held() {
         if let Some(fault) = kept.next_read(line)? {
@@ -78,6 +80,7 @@ fn feed_held(
     ensures spends { (told : Option (List ℕ)) → Spends lines.old.reads told lines.new.reads told }
     ensures few { number.new + most_left lines.new ≤ number.old + most_left lines.old }
     ensures bounded { most_left lines.new ≤ most_left lines.old }
+    ensures kept { (keeps : Bool) → IsKeeping keeps machine.old → IsKeeping keeps machine.new }
 {
     match &mut machine.progress {
         Progress::Reading(kept) => feed_kept(kept, lines, number),
@@ -101,6 +104,7 @@ fn feed_lines<R: Source>(
     ensures read_fault { IsErrOf result EngineFail.ReadFault →
         ((R.failures reader.old < R.failures reader.new) ⊎ IfSome (R.tells reader.old) (λ bytes. most_reads ≤ length bytes)) }
     ensures write_fault { result ≢ Err EngineFail.WriteFault }
+    ensures kept { (keeps : Bool) → IsKeeping keeps machine.old → IsKeeping keeps machine.new }
 {
     let mut number = 1u64;
     'lines: loop {
@@ -135,10 +139,16 @@ fn feed_lines<R: Source>(
     }
 }
 
-/// Judges all that the reader gives. Once a line with a fault was read whole, no further read is made.
-pub(crate) fn judge<R: Source>(alloc: Global, reader: &mut R) -> Result<Judged, EngineFail>
+/// Judges all that the reader gives, and keeps the sections, if they are to be handed out. Once a line with a fault was read
+/// whole, no further read is made.
+pub(crate) fn judge<R: Source>(
+    alloc: Global,
+    keeps: bool,
+    reader: &mut R,
+) -> Result<Judged, EngineFail>
     ensures judged { IfOk result (λ j. IfSome (R.tells reader.old) (IsJudged j)) }
     ensures all { IfOk result IsAll }
+    ensures kept { IsTrue keeps → IfOk result HandsOut }
     ensures quiet { result ≢ Err EngineFail.ReadFault → R.failures reader.new ≡ R.failures reader.old }
     ensures read_fault { IsErrOf result EngineFail.ReadFault →
         ((R.failures reader.old < R.failures reader.new) ⊎ IfSome (R.tells reader.old) (λ bytes. most_reads ≤ length bytes)) }
@@ -146,7 +156,7 @@ pub(crate) fn judge<R: Source>(alloc: Global, reader: &mut R) -> Result<Judged, 
 {
     let mut lines = Lines::new(alloc)?;
     let mut line = Vec::new(alloc);
-    let mut machine = Machine::new(alloc);
+    let mut machine = Machine::new(alloc, keeps);
     match feed_lines(reader, &mut lines, &mut line, &mut machine)? {
         Stop::Faulty { line, fault } => Ok(Judged::Faulty { line, fault }),
         Stop::Ended { line: number } => Ok(ended(machine, line.as_slice(), number)),

@@ -17,6 +17,7 @@ ghost use Rattle.sgt_audit.specs.Reading.{Begun, IsBegun};
 ghost use Rattle.sgt_audit.specs.private.Following.{MayFollow, with_next};
 ghost use Rattle.sgt_audit.specs.private.Judging.{IsLegalRead, AdmitsLine};
 
+use crate::place::Place;
 use crate::walks::Walks;
 use sgt_cells::SiteState;
 use sgt_decided::Decided;
@@ -24,9 +25,11 @@ use sgt_names::{Entry, Holding};
 use sgt_notation::SectionLine;
 use std::alloc::{AllocError, Global};
 
-/// What is kept of the lines of the sections, by which a line is judged: of the open site, and of the walks.
+/// What is kept of the lines of the sections, by which a line is judged: where the next one stands, and what is kept of the open
+/// site and of the walks.
 #[derive(Drop)]
 pub struct Tracked {
+    pub place: Place,
     pub state: SiteState,
     pub walks: Walks,
 }
@@ -157,14 +160,23 @@ fn enter_line(
 }
 
 impl Tracked {
-    /// Before the first section.
-    pub(crate) fn new(alloc: Global, certificate: &Decided) -> Result<Tracked, AllocError>
+    /// Before the first section, of so many sites.
+    pub(crate) fn new(
+        alloc: Global,
+        sites: u8,
+        certificate: &Decided,
+    ) -> Result<Tracked, AllocError>
         ensures { IfOk result (λ t. (b : Begun) → IsCertificate certificate.now
-            → b ≡ record { sites = certificate.now.sites; whole = []; current = None } → IsTracked certificate.now.decisions b t) }
+            → b ≡ record { sites = sites; whole = []; current = None } → IsTracked certificate.now.decisions b t) }
     {
+        let place = Place::new(alloc, sites);
         let state = SiteState::new(alloc, certificate.decisions().len())?;
         let walks = Walks::new(certificate.steps(alloc)?);
-        Ok(Tracked { state, walks })
+        Ok(Tracked {
+            place,
+            state,
+            walks,
+        })
     }
 
     /// One more line, which has no fault but perhaps one of a walk.
@@ -179,6 +191,7 @@ impl Tracked {
             → IsTracked certificate.now.decisions (with_next b b.current line.now) self.new) }
     {
         self.walks.pass(certificate, &self.state, line);
+        self.place.enter(line)?;
         enter_line(&mut self.state, certificate, line)
     }
 }

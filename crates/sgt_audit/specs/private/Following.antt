@@ -6,6 +6,7 @@ use Rattle.sgt_notation.specs.declared.SectionLine.{SectionLine}
 use Rattle.sgt_notation.specs.declared.SectionLine.TheVariants.{Site, Initial, Logged, Final, End}
 use Rattle.sgt_cert.specs.Parts.{ComesBefore}
 use Rattle.sgt_cert.specs.declared.bundle.SiteLog.{SiteLog}
+use Rattle.sgt_audit.specs.declared.place.OpenPlace.{OpenPlace}
 use Rattle.sgt_audit.specs.Reading.{Begun}
 
 -- what may stand behind the lines of an open section
@@ -16,6 +17,15 @@ Fits log (Initial h) = (log.entries ≡ []) × (log.finals ≡ []) × (length lo
 Fits log (Logged e) = log.finals ≡ []
 Fits log (Final h) = slice_get (names log.items) (length log.finals) ≡ Some h.item
 Fits log End = length log.finals ≡ length log.items
+
+-- the same of what is kept of those lines
+abbrev pub FitsAt : OpenPlace → SectionLine → Type 0
+FitsAt p (Site k) = ⊥
+FitsAt p (Initial h) = (p.last ≡ None) × (p.finals ≡ 0) × (length p.items.items < max_items)
+    × All (λ x. ComesBefore x h.item) p.items.items
+FitsAt p (Logged e) = p.finals ≡ 0
+FitsAt p (Final h) = slice_get p.items.items p.finals ≡ Some h.item
+FitsAt p End = p.finals ≡ length p.items.items
 
 -- what may stand between sections
 abbrev pub FitsBetween : Begun → SectionLine → Type 0

@@ -14,14 +14,16 @@ use Rattle.sgt_audit.specs.Progress.{Stands}
 use Rattle.sgt_audit.specs.Reading.{Begun}
 
 -- one more line is kept, or this is its least fault
-abbrev pub AnswersLine : Bool → Certificate → Begun → Tracked → List SectionLine → List ℕ → Option Fault → Type 0
-AnswersLine second c new s before l None = (line : SectionLine) × (l ≡ line_text line) × Holds second c new s (before ++ line ∷ [])
-AnswersLine second c new s before l (Some f) = (stage : Stage) → IsStageOf second c before stage → Breaks (Rule stage (whole l)) f
+abbrev pub AnswersLine : Bool → Certificate → Tracked → Option Begun → List SectionLine → List ℕ → Option Fault → Type 0
+AnswersLine second c t sections before l None = (line : SectionLine) × (b : Begun) × (l ≡ line_text line)
+    × Holds second c b t sections (before ++ line ∷ [])
+AnswersLine second c t sections before l (Some f) = (stage : Stage) → IsStageOf second c before stage → Breaks (Rule stage (whole l)) f
 
 -- the second line is this certificate's, which keeps its rules, or this is its least fault
 abbrev pub AnswersCertificate : Bool → List ℕ → Result Kept Fault → Type 0
 AnswersCertificate second l (Ok k) =
-    (k.second ≡ second) × (l ≡ certificate_text k.certificate) × Holds k.second k.certificate k.sections k.tracked []
+    (b : Begun) × (k.second ≡ second) × (l ≡ certificate_text k.certificate)
+    × Holds k.second k.certificate b k.tracked k.sections []
 AnswersCertificate second l (Err f) = Breaks (Rule (headed second) (whole l)) f
 
 -- after a line with its LF: the next stage, or the least fault of this one

@@ -1,5 +1,5 @@
 -- What was judged of a text that a reader tells.
-use Rattle.std.specs.Prelude.{◌≡◌, ◌≤◌, ◌+◌, ℕ, List, [], ◌++◌, length, Option, Some, None, IfSome, ⊤}
+use Rattle.std.specs.Prelude.{◌≡◌, ◌≤◌, ◌+◌, ℕ, List, [], ◌++◌, length, Option, Some, None, IsSome, IfSome, ⊤}
 use Rattle.sgt_notation.specs.Spelling.{text_of_lines, HasNoLf}
 use Rattle.sgt_notation.specs.Lines.{Ahead, coming}
 use Rattle.sgt_notation.specs.declared.SectionLine.{SectionLine}
@@ -11,7 +11,8 @@ use Rattle.sgt_audit.specs.declared.reading.Stop.TheVariants as stop
 use Rattle.sgt_audit.specs.declared.reading.Judged.{Judged}
 use Rattle.sgt_audit.specs.declared.reading.Judged.TheVariants as judged
 use Rattle.sgt_audit.specs.Faults.{Stage, FirstFault, complete, last, lines_so_far, Rule, Breaks}
-use Rattle.sgt_audit.specs.Kept.{Means}
+use Rattle.sgt_audit.specs.Kept.{Holds}
+use Rattle.sgt_audit.specs.Reading.{Begun}
 use Rattle.sgt_audit.specs.private.Ending.{limit_of}
 use Rattle.sgt_audit.specs.Progress.{Stands}
 
@@ -38,19 +39,24 @@ IsStop told (stop.Ended n) p l = (s : Stage) × Stands p s × (length l ≤ limi
 
 -- what is kept is all of the lines of a text with no fault
 abbrev pub IsAll : Judged → Type 0
-IsAll (judged.Whole k) = (before : List SectionLine) × Means k.second k.certificate k.sections before
-    × AreSections k.certificate.sites before
+IsAll (judged.Whole k) = (b : Begun) × (before : List SectionLine)
+    × Holds k.second k.certificate b k.tracked k.sections before × AreSections k.certificate.sites before
 IsAll (judged.Faulty line f) = Unit {0}
+
+-- the sections themselves were kept
+abbrev pub HandsOut : Judged → Type 0
+HandsOut (judged.Whole k) = IsSome k.sections
+HandsOut (judged.Faulty line f) = Unit {0}
 
 -- the text has no fault, and is this; or it has this first fault
 abbrev pub IsJudged : Judged → List ℕ → Type 0
-IsJudged (judged.Whole k) bytes = (before : List SectionLine) × Means k.second k.certificate k.sections before
-    × AreSections k.certificate.sites before
+IsJudged (judged.Whole k) bytes = (b : Begun) × (before : List SectionLine)
+    × Holds k.second k.certificate b k.tracked k.sections before × AreSections k.certificate.sites before
     × (bytes ≡ text_of_lines (lines_so_far (complete k.second k.certificate before)))
 IsJudged (judged.Faulty line f) bytes = FirstFault bytes line f
 
 -- the end of the input at a stage, with these bytes behind the last LF
 abbrev pub IsEnded : Stage → List ℕ → ℕ → Judged → Type 0
-IsEnded s l n (judged.Whole k) = ((before : List SectionLine) × Means k.second k.certificate k.sections before
-    × AreSections k.certificate.sites before × (s ≡ complete k.second k.certificate before)) × (l ≡ [])
+IsEnded s l n (judged.Whole k) = ((b : Begun) × (before : List SectionLine)
+    × Holds k.second k.certificate b k.tracked k.sections before × AreSections k.certificate.sites before × (s ≡ complete k.second k.certificate before)) × (l ≡ [])
 IsEnded s l n (judged.Faulty line f) = (line ≡ n) × Breaks (Rule s (last l)) f

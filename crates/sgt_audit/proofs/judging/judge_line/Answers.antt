@@ -2,14 +2,18 @@ use Rattle.std.proofs.Common.{◌++◌, ◌∷◌, [], sym, subst}
 use Rattle.sgt_cert.specs.Text.{Begins}
 use Rattle.sgt_audit.specs.Reading.{lines_read}
 use Rattle.sgt_audit.proofs.OpenLogs.{has_open, fits-open, kept-between}
+use Rattle.sgt_audit.proofs.Places.{no-open, open-log}
 use Rattle.sgt_audit.proofs.SiteStates.{open-tracked}
 use Rattle.sgt_audit.proofs.judging.judge_line.Goals as goal
 
 pub returns-in-Some-clause-judged : goal.returns-in-Some-clause-judged
-returns-in-Some-clause-judged k c same sites once are t =
-    let begins = k.may_go_on.ensures.0 k.if-not-may_go_on.false in
-    let here = k.in-Some.ensures.some in
-    k.judge_inside.ensures c _ same once are (open-tracked k.args.certificate.now.decisions k.args.sections.now k.args.state.now _ here t) (has_open k.args.sections.now _ here) (fits-open k.args.sections.now _ _ here begins) (subst (λ n. Begins n (lines_read k.args.sections.now ++ k.args.line.now ∷ [])) (sym sites) begins)
+returns-in-Some-clause-judged k c b same sites once are is t =
+    let tracked = k.args.tracked.now in
+    let begins = (k.may_go_on.ensures b is t.place).0 k.if-not-may_go_on.false in
+    let at = open-log b tracked.place is t.place _ k.in-Some.is in
+    k.judge_inside.ensures c (lines_read b) at.0 same once are at.2 (open-tracked k.args.certificate.now.decisions b tracked.state at.0 at.1 t.open_site) (has_open b at.0 at.1) (fits-open b at.0 _ at.1 begins) (subst (λ n. Begins n (lines_read b ++ k.args.line.now ∷ [])) (sym sites) begins)
 
 pub returns-in-None-clause-judged : goal.returns-in-None-clause-judged
-returns-in-None-clause-judged k c same sites once are t = kept-between c k.args.sections.now _ sites k.in-None.ensures.none (k.may_go_on.ensures.0 k.if-not-may_go_on.false)
+returns-in-None-clause-judged k c b same sites once are is t =
+    let tracked = k.args.tracked.now in
+    kept-between c b _ sites (no-open b tracked.place is t.place k.in-None.is) ((k.may_go_on.ensures b is t.place).0 k.if-not-may_go_on.false)

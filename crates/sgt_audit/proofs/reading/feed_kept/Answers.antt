@@ -1,4 +1,4 @@
-use Rattle.std.proofs.Common.{None, Some, sym, subst, refl, arith}
+use Rattle.std.proofs.Common.{None, Some, sym, ◌∙◌, subst, refl, arith}
 use Rattle.sgt_notation.specs.Lines.{coming}
 use Rattle.sgt_notation.specs.Spelling.{line_text}
 use Rattle.sgt_audit.specs.declared.machine.Progress.TheVariants as at
@@ -19,7 +19,7 @@ returns-in-Some-2-clause-goes c all told goes =
     let old = c.lines.kept in
     let new = c.next_read.new.self in
     fault-line all (at.Reading old) (at.Reading new) 50 c.lines.number (coming c.lines.lines told) (coming c.next_held.new.self told) (line_text c.in-Some.line) c.in-Some-2.fault (c.lines.invariant.0 all told goes) gave.1.gives
-    (reading-follows old.second new.second old.certificate new.certificate old.sections new.sections old.tracked new.tracked (line_text c.in-Some.line) (Some c.in-Some-2.fault) c.in_ok-fault.ensures.second c.in_ok-fault.ensures.certificate (λ before h. rw c.in-Some-2.is at (c.in_ok-fault.ensures.answers before h gave.0)))
+    (reading-follows old new (line_text c.in-Some.line) (Some c.in-Some-2.fault) c.in_ok-fault.ensures.second c.in_ok-fault.ensures.certificate (λ b before h. rw c.in-Some-2.is at (c.in_ok-fault.ensures.answers b before h gave.0)))
 
 pub returns-in-Some-2-clause-spends : goal.returns-in-Some-2-clause-spends
 returns-in-Some-2-clause-spends c told = spends_on told told told _ _ _ (c.lines.invariant.1 told) (c.in-Some.ensures.some 50 told 0 (omega arith)).1.spends
@@ -37,10 +37,11 @@ lines-preserved c =
       λ all told goes.
           let gave = c.in-Some.ensures.some 50 told 0 (omega arith) in
           after-line all (at.Reading old) (at.Reading new) 50 c.lines.number (coming c.lines.lines told) (coming c.next_held.new.self told) (line_text c.in-Some.line) (c.lines.invariant.0 all told goes) gave.1.gives
-          (reading-follows old.second new.second old.certificate new.certificate old.sections new.sections old.tracked new.tracked (line_text c.in-Some.line) None c.in_ok-fault.ensures.second c.in_ok-fault.ensures.certificate (λ before h. rw c.in_default-2.is at (c.in_ok-fault.ensures.answers before h gave.0))),
+          (reading-follows old new (line_text c.in-Some.line) None c.in_ok-fault.ensures.second c.in_ok-fault.ensures.certificate (λ b before h. rw c.in_default-2.is at (c.in_ok-fault.ensures.answers b before h gave.0))),
       λ told. spends_on told told told _ _ _ (c.lines.invariant.1 told) (c.in-Some.ensures.some 50 told 0 (omega arith)).1.spends,
       omega (arith, (c.in-Some.ensures.some 50 None 0 (omega arith)).1.falls refl, c.lines.invariant.2),
       omega (arith, (c.in-Some.ensures.some 50 None 0 (omega arith)).1.falls refl, c.lines.invariant.3),
+      c.in_ok-fault.ensures.sections ∙ c.lines.invariant.4,
     )
 
 pub returns-clause-goes : goal.returns-clause-goes
@@ -51,3 +52,12 @@ returns-in_err-fault-clause-bounded c = omega (arith, (c.in-Some.ensures.some 50
 
 pub returns-in-Some-2-clause-bounded : goal.returns-in-Some-2-clause-bounded
 returns-in-Some-2-clause-bounded c = omega (arith, (c.in-Some.ensures.some 50 None 0 (omega arith)).1.falls refl, c.lines.invariant.3)
+
+pub returns-in_err-fault-clause-sections : goal.returns-in_err-fault-clause-sections
+returns-in_err-fault-clause-sections c = c.in_err-fault.ensures.sections ∙ c.lines.invariant.4
+
+pub returns-in-Some-2-clause-sections : goal.returns-in-Some-2-clause-sections
+returns-in-Some-2-clause-sections c = c.in_ok-fault.ensures.sections ∙ c.lines.invariant.4
+
+pub returns-clause-sections : goal.returns-clause-sections
+returns-clause-sections c = c.lines.invariant.4

@@ -1,4 +1,5 @@
-use Rattle.std.proofs.Common.{◌≤◌, ◌+◌, ℕ, List, Option}
+use Rattle.std.specs.Prelude.{is_some}
+use Rattle.std.proofs.Common.{◌≡◌, ◌≤◌, ◌+◌, ℕ, List, Option}
 use Rattle.sgt_notation.specs.Lines.{coming, most_left, Spends}
 use Rattle.sgt_audit.specs.declared.machine.Progress.TheVariants as at
 use Rattle.sgt_audit.specs.private.Stops.{Goes}
@@ -10,6 +11,7 @@ invariant-lines l =
     × ((told : Option (List ℕ)) → Spends l.initial.lines.reads told l.lines.reads told)
     × (l.number + most_left l.lines ≤ l.initial.number + most_left l.initial.lines)
     × (most_left l.lines ≤ most_left l.initial.lines)
+    × (is_some l.kept.sections ≡ is_some l.initial.kept.sections)
 
 abbrev pub decreases-lines : goal.decreases-lines
 decreases-lines l = most_left l.lines

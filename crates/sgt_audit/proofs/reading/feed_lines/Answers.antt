@@ -14,6 +14,7 @@ lines-preserved g c =
       gave.quiet ∙ c.lines.invariant.1,
       spends_on _ _ _ _ _ _ (spends_on _ _ _ _ _ _ c.lines.invariant.2 (c.in_ok-fault.ensures.spends _)) gave.spends,
       omega (arith, gave.falls refl, c.in_ok-fault.ensures.few, c.lines.invariant.3),
+      λ keeps kept. c.in-Ok-None.ensures.kept keeps (c.in_ok-fault.ensures.kept keeps (c.lines.invariant.4 keeps kept)),
     )
 
 pub returns-in-Ok-Some-clause-stops : goal.returns-in-Ok-Some-clause-stops
@@ -55,3 +56,30 @@ lines-smaller g c =
 pub returns-in-Err-ReadFault-clause-read_fault : goal.returns-in-Err-ReadFault-clause-read_fault
 returns-in-Err-ReadFault-clause-read_fault g c same =
     fault-met _ _ _ _ _ c.lines.invariant.1 (spends_on _ _ _ _ _ _ c.lines.invariant.2 (c.in_ok-fault.ensures.spends _)) (c.in-Err-ReadFault.ensures.read_fault (ap Err c.in-Err-ReadFault.field-0-is))
+
+pub returns-in_err-fault-clause-kept : goal.returns-in_err-fault-clause-kept
+returns-in_err-fault-clause-kept g c keeps kept = c.in_err-fault.ensures.kept keeps (c.lines.invariant.4 keeps kept)
+
+pub returns-in-Some-clause-kept : goal.returns-in-Some-clause-kept
+returns-in-Some-clause-kept g c keeps kept = c.in_ok-fault.ensures.kept keeps (c.lines.invariant.4 keeps kept)
+
+pub returns-in-Ok-Some-clause-kept : goal.returns-in-Ok-Some-clause-kept
+returns-in-Ok-Some-clause-kept g c keeps kept = c.in-Ok-Some.ensures.kept keeps (c.in_ok-fault.ensures.kept keeps (c.lines.invariant.4 keeps kept))
+
+pub returns-in-Err-clause-kept : goal.returns-in-Err-clause-kept
+returns-in-Err-clause-kept g c keeps kept = c.in-Err.ensures.kept keeps (c.in_ok-fault.ensures.kept keeps (c.lines.invariant.4 keeps kept))
+
+pub returns-in-Ok-Cut-clause-kept : goal.returns-in-Ok-Cut-clause-kept
+returns-in-Ok-Cut-clause-kept g c keeps kept = c.in_ok-fault.ensures.kept keeps (c.lines.invariant.4 keeps kept)
+
+pub returns-in-Ok-End-clause-kept : goal.returns-in-Ok-End-clause-kept
+returns-in-Ok-End-clause-kept g c keeps kept = c.in_ok-fault.ensures.kept keeps (c.lines.invariant.4 keeps kept)
+
+pub returns-in-Ok-TooLong-clause-kept : goal.returns-in-Ok-TooLong-clause-kept
+returns-in-Ok-TooLong-clause-kept g c keeps kept = c.in_ok-fault.ensures.kept keeps (c.lines.invariant.4 keeps kept)
+
+pub returns-in-Err-Memory-clause-kept : goal.returns-in-Err-Memory-clause-kept
+returns-in-Err-Memory-clause-kept g c keeps kept = c.in_ok-fault.ensures.kept keeps (c.lines.invariant.4 keeps kept)
+
+pub returns-in-Err-ReadFault-clause-kept : goal.returns-in-Err-ReadFault-clause-kept
+returns-in-Err-ReadFault-clause-kept g c keeps kept = c.in_ok-fault.ensures.kept keeps (c.lines.invariant.4 keeps kept)

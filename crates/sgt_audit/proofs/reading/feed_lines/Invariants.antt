@@ -1,5 +1,6 @@
-use Rattle.std.proofs.Common.{◌≡◌, ◌≤◌, ◌+◌}
+use Rattle.std.proofs.Common.{Bool, ◌≡◌, ◌≤◌, ◌+◌}
 use Rattle.sgt_notation.specs.Lines.{coming, most_left, Spends}
+use Rattle.sgt_audit.specs.private.Ending.{IsKeeping}
 use Rattle.sgt_audit.specs.private.Stops.{Goes}
 use Rattle.sgt_audit.proofs.reading.feed_lines.Given as goal
 
@@ -9,6 +10,7 @@ invariant-lines g l =
     × (g.R.Source.failures l.reader ≡ g.R.Source.failures l.initial.reader)
     × Spends 4294967295 (g.R.Source.tells l.initial.reader) l.lines.reads (g.R.Source.tells l.reader)
     × (l.number + most_left l.lines ≤ 281474976710656)
+    × ((keeps : Bool) → IsKeeping keeps l.initial.machine → IsKeeping keeps l.machine)
 
 abbrev pub decreases-lines : goal.decreases-lines
 decreases-lines g l = most_left l.lines

@@ -1,4 +1,4 @@
-use Rattle.std.proofs.Common.{refl, subst, ◌∙◌}
+use Rattle.std.proofs.Common.{false, refl, subst, ◌∙◌}
 use Rattle.sgt_notation.specs.Spelling.{HasNoLf}
 use Rattle.sgt_audit.specs.declared.machine.Progress.TheVariants as at
 use Rattle.sgt_audit.specs.Faults.{headed}
@@ -11,5 +11,5 @@ returns-in-Ok-None-clause-read k =
 
 pub returns-in-Ok-Some-clause-read : goal.returns-in-Ok-Some-clause-read
 returns-in-Ok-Some-clause-read k =
-    first-fault k.args.second (record { alloc = k.args.alloc; progress = at.Headed k.args.second }) k.as_slice.result.now k.args.certificate k.in-Ok-Some.fault refl (subst HasNoLf k.in-Ok.ensures.text k.in-Ok.ensures.one_line) (k.as_slice.ensures.value ∙ k.in-Ok.ensures.text)
+    first-fault k.args.second (record { alloc = k.args.alloc; keeps = false; progress = at.Headed k.args.second }) k.as_slice.result.now k.args.certificate k.in-Ok-Some.fault refl (subst HasNoLf k.in-Ok.ensures.text k.in-Ok.ensures.one_line) (k.as_slice.ensures.value ∙ k.in-Ok.ensures.text)
     (λ s stands. rw k.in-Ok-Some.field-0-is at (k.in-Ok-Some.ensures.follows s stands))

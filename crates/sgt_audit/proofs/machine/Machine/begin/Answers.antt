@@ -1,23 +1,28 @@
-use Rattle.std.proofs.Common.{◌≡◌, [], None, refl, sym, subst, ap, ◌∙◌}
+use Rattle.std.proofs.Common.{◌≡◌, [], None, refl, sym, subst}
 use Rattle.sgt_cert.specs.Text.{certificate_text, IsCertificate}
 use Rattle.sgt_cert.specs.declared.certificate.Certificate.{Certificate}
 use Rattle.sgt_audit.specs.declared.faults.Fault.{Fault}
 use Rattle.sgt_audit.specs.Faults.{KeepsItself}
 use Rattle.sgt_audit.specs.Kept.{Holds, IsTracked}
+use Rattle.sgt_audit.specs.Reading.{Begun}
 use Rattle.sgt_audit.proofs.NextStage.{certificate-breaks, certificate-means}
+use Rattle.sgt_audit.proofs.Places.{fresh-begun}
 use Rattle.sgt_audit.proofs.machine.Machine.begin.Goals as goal
 
 pub returns-in-Ok-new-clause-begins : goal.returns-in-Ok-new-clause-begins
 returns-in-Ok-new-clause-begins k =
     let answered = rw k.in-Ok-Ok.field-0-is at k.in-Ok-Ok.ensures in
     let itself = subst (λ (c : Certificate). (f : Fault) → KeepsItself c.decisions f) answered.0 answered.1 in
-    subst (λ (c : Certificate). (k.args.second ≡ k.args.second) × (k.args.line.now ≡ certificate_text c) × Holds k.args.second c k.new-sections.result k.in-Ok-new.tracked []) (sym answered.0) (
+    let spelled = k.in-Ok.ensures.ok.0 in
+    let b : Begun = record { sites = k.in-Ok.certificate.sites; whole = []; current = None } in
+    subst (λ (c : Certificate). (b : Begun) × (k.args.second ≡ k.args.second) × (k.args.line.now ≡ certificate_text c) × Holds k.args.second c b k.in-Ok-new.tracked k.sections_of-sections.result []) (sym answered.0) (
+      b,
       refl,
       k.in-Ok.ensures.ok.1,
       record {
-        means = certificate-means k.args.second k.in-Ok.certificate k.new-sections.result k.in-Ok.ensures.ok.0 itself k.new-sections.ensures.begun k.new-sections.ensures.empty;
-        tracks = subst (λ (c : Certificate). IsTracked c.decisions k.new-sections.result k.in-Ok-new.tracked) answered.0
-            (k.in-Ok-new.ensures k.new-sections.result (subst IsCertificate (sym answered.0) k.in-Ok.ensures.ok.0) (k.new-sections.ensures.empty ∙ ap (λ (c : Certificate). record { sites = c.sites; whole = []; current = None }) (sym answered.0)));
+        means = certificate-means k.args.second k.in-Ok.certificate b spelled itself (fresh-begun k.in-Ok.certificate.sites b spelled.0 spelled.1 refl) refl;
+        tracks = subst (λ (c : Certificate). IsTracked c.decisions b k.in-Ok-new.tracked) answered.0 (k.in-Ok-new.ensures b (subst IsCertificate (sym answered.0) spelled) refl);
+        sections = k.sections_of-sections.ensures.empty;
       },
     )
 

@@ -7,9 +7,9 @@ use Rattle.sgt_audit.proofs.machine.Machine.too_long.Goals as goal
 pub returns-then-is_complete : goal.returns-then-is_complete
 returns-then-is_complete k s p stands other long =
     let at = subst (λ q. Stands q s) k.in-Reading.is stands in
-    long-trails k.in-Reading.kept.second k.in-Reading.kept.certificate at.0 s p at.2 ((k.is_complete.ensures at.0 at.1.means).0 k.if-is_complete.true) long
+    long-trails k.in-Reading.kept.second k.in-Reading.kept.certificate at.1 s p at.3 ((k.is_complete.ensures at.0 at.1 at.2).0 k.if-is_complete.true) long
 
 pub returns-else-is_complete : goal.returns-else-is_complete
 returns-else-is_complete k s p stands other long =
     let at = subst (λ q. Stands q s) k.in-Reading.is stands in
-    long-breaks k.in-Reading.kept.second k.in-Reading.kept.certificate at.0 s p at.2 (refuted k.is_complete.result (k.is_complete.ensures at.0 at.1.means) k.if-is_complete.false) long
+    long-breaks k.in-Reading.kept.second k.in-Reading.kept.certificate at.1 s p at.3 (refuted k.is_complete.result (k.is_complete.ensures at.0 at.1 at.2) k.if-is_complete.false) long

@@ -1,0 +1,180 @@
+//! Where the next line of the sections stands: what is kept of the lines before it, by which it is told whether it may stand there.
+
+ghost use Rattle.std.specs.Prelude.{◌≡◌, ◌+◌, ◌-◌, ◌^◌, ◌<◌, ◌↔◌, [], ◌∷◌, ◌++◌, IsTrue, OnOk, IfSome, IfNone, Some, None, length, slice_get, All};
+ghost use Rattle.sgt_cert.specs.Parts.{ComesBefore};
+ghost use Rattle.sgt_cert.specs.Text.{Begins, AreSections};
+ghost use Rattle.sgt_cert.specs.declared.bundle.SiteLog.{SiteLog};
+ghost use Rattle.sgt_audit.specs.Kept.{IsOpenPlace, IsPlace};
+ghost use Rattle.sgt_audit.specs.Reading.{Begun, IsBegun, IsOpenLog, lines_read};
+ghost use Rattle.sgt_audit.specs.private.Following.{Fits, FitsAt, MayFollow, no_log, with_line, with_next};
+
+use sgt_names::{Entry, Item, MAX_ITEMS, SiteNo};
+use sgt_notation::SectionLine;
+use std::alloc::{AllocError, Global};
+
+/// What is kept of the lines of the open section: its items, the entry that was read last, and how many finals there are.
+#[derive(Drop)]
+pub struct OpenPlace {
+    pub items: Vec<Item>,
+    pub last: Option<Entry>,
+    pub finals: usize,
+}
+
+/// Whether each of the items comes before this one.
+fn come_before(items: &[Item], item: &Item) -> bool
+    ensures { IsTrue result ↔ All (λ x. ComesBefore x item.now) items.now }
+{
+    items.iter().all(|other| *other < *item)
+}
+
+/// Whether the two are one item.
+fn are_one(first: &Item, second: &Item) -> bool
+    ensures { IsTrue result ↔ (first.now ≡ second.now) }
+{
+    first == second
+}
+
+/// Whether this is the site behind so many whole logs, of so many sites.
+fn is_next(site: SiteNo, whole: usize, sites: u8) -> bool
+    ensures { IsTrue result ↔ ((site ≡ whole) × (site < sites)) }
+{
+    site.number() as usize == whole && site.number() < sites
+}
+
+fn one_more(count: usize) -> usize
+    ensures { count < 2 ^ 32 → result ≡ count + 1 }
+{
+    count.saturating_add(1)
+}
+
+impl OpenPlace {
+    fn new(alloc: Global) -> OpenPlace
+        ensures { IsOpenPlace no_log result }
+    {
+        OpenPlace {
+            items: Vec::new(alloc),
+            last: None,
+            finals: 0,
+        }
+    }
+
+    /// The entry that was read last, if no final stands behind it.
+    pub(crate) fn last_entry(&self) -> Option<Entry>
+        ensures some { (log : SiteLog) → IsOpenPlace log self.now
+            → IfSome result (λ e. (log.finals ≡ []) × (slice_get log.entries (length log.entries - 1) ≡ Some e)) }
+        ensures none { (log : SiteLog) → IsOpenPlace log self.now → IfNone result (log.finals ≡ [] → log.entries ≡ []) }
+    {
+        if self.finals == 0 { self.last } else { None }
+    }
+
+    /// Whether the line may stand next.
+    fn has_room_for(&self, line: &SectionLine) -> bool
+        ensures { IsTrue result ↔ FitsAt self.now line.now }
+    {
+        match line {
+            SectionLine::Site(_) => false,
+            SectionLine::Initial(holding) => {
+                self.last.is_none()
+                    && self.finals == 0
+                    && self.items.len() < MAX_ITEMS
+                    && come_before(self.items.as_slice(), &holding.item)
+            }
+            SectionLine::Logged(_) => self.finals == 0,
+            SectionLine::Final(holding) => match self.items.get(self.finals) {
+                Some(item) => are_one(item, &holding.item),
+                None => false,
+            },
+            SectionLine::End => self.finals == self.items.len(),
+        }
+    }
+
+    /// One more line.
+    fn enter(&mut self, line: &SectionLine) -> Result<(), AllocError>
+        ensures { OnOk result ((log : SiteLog) → IsOpenLog log → Fits log line.now
+            → IsOpenPlace log self.old → IsOpenPlace (with_line log line.now) self.new) }
+    {
+        match line {
+            SectionLine::Initial(holding) => {
+                self.items.push(holding.item)?;
+                Ok(())
+            }
+            SectionLine::Logged(entry) => {
+                self.last = Some(*entry);
+                Ok(())
+            }
+            SectionLine::Final(_) => {
+                self.finals = one_more(self.finals);
+                Ok(())
+            }
+            SectionLine::Site(_) => Ok(()),
+            SectionLine::End => Ok(()),
+        }
+    }
+}
+
+/// What is kept of the lines of sections: of how many sites they are to be, how many sections are whole, and the open one.
+#[derive(Drop)]
+pub struct Place {
+    pub alloc: Global,
+    pub sites: u8,
+    pub whole: usize,
+    pub current: Option<OpenPlace>,
+}
+
+impl Place {
+    /// Before the first section, of so many sites.
+    pub(crate) fn new(alloc: Global, sites: u8) -> Place
+        ensures { (b : Begun) → b ≡ record { sites = sites; whole = []; current = None } → IsPlace b result }
+    {
+        Place {
+            alloc,
+            sites,
+            whole: 0,
+            current: None,
+        }
+    }
+
+    /// Whether all sections were read, and none is open.
+    pub(crate) fn is_complete(&self) -> bool
+        ensures { (b : Begun) → IsBegun b → IsPlace b self.now → (IsTrue result ↔ AreSections b.sites (lines_read b)) }
+    {
+        match &self.current {
+            Some(_) => false,
+            None => self.whole == self.sites as usize,
+        }
+    }
+
+    /// Whether some sections begin with the lines that were read and this one.
+    pub(crate) fn may_go_on(&self, line: &SectionLine) -> bool
+        ensures { (b : Begun) → IsBegun b → IsPlace b self.now → (IsTrue result ↔ Begins b.sites (lines_read b ++ line.now ∷ [])) }
+    {
+        match &self.current {
+            Some(here) => here.has_room_for(line),
+            None => match line {
+                SectionLine::Site(site) => is_next(*site, self.whole, self.sites),
+                _ => false,
+            },
+        }
+    }
+
+    /// One more line.
+    pub(crate) fn enter(&mut self, line: &SectionLine) -> Result<(), AllocError>
+        ensures { OnOk result ((b : Begun) → IsBegun b → MayFollow b b.current line.now
+            → IsPlace b self.old → IsPlace (with_next b b.current line.now) self.new) }
+    {
+        match &mut self.current {
+            None => {
+                self.current = Some(OpenPlace::new(self.alloc));
+                Ok(())
+            }
+            Some(here) => match line {
+                SectionLine::End => {
+                    self.whole = one_more(self.whole);
+                    self.current = None;
+                    Ok(())
+                }
+                _ => here.enter(line),
+            },
+        }
+    }
+}
