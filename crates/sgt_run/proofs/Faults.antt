@@ -27,7 +27,7 @@ module _ {L : Type 0} where
 
   parts_by : (decided : Ending → Type 0) (active : Active) (old new : Seat L) (o : Option Active) (f : ServiceFault)
       → IsBack decided active old new (record { active = o; fault = f }) → new.share.parts ≡ old.share.parts
-  parts_by decided active old new None f h = h.4.1
+  parts_by decided active old new None f h = h.4.1.0
   parts_by decided active old new (Some a) f h = λ t. (h.1.0 t).parts
 
   pub back_parts : (decided : Ending → Type 0) (active : Active) (old new : Seat L) (b : Back) → IsBack decided active old new b → new.share.parts ≡ old.share.parts
