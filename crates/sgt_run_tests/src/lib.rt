@@ -1,0 +1,5 @@
+//! Tests of runs: what no proof reaches.
+#![tactic(auto)]
+
+#[cfg(test)]
+mod tests;
