@@ -1,0 +1,11 @@
+//! Tests of runs: what no proof reaches.
+#![tactic(auto)]
+
+#[cfg(test)]
+mod gates;
+#[cfg(test)]
+mod rows;
+#[cfg(test)]
+mod schedules;
+#[cfg(test)]
+mod settled;
