@@ -144,7 +144,11 @@ fn two_windows(rt: HostRuntime) -> Result<(), Fail> {
     let alloc = rt.alloc();
     let mut certifier = Certifier::new(alloc);
     assert!(rt; answers(alloc, &mut certifier, &rows)?);
-    assert_eq!(rt; (certifier.active(), certifier.history().len()), (0, 10));
+    assert_eq!(rt;
+        (certifier.active(), certifier.decided(), certifier.history().len()),
+        (0, 3, 10)
+    );
+    assert!(rt; certifier.is_under(Tx::new(3)?, k) && !certifier.is_under(two, k));
     let certificate = certifier.certificate(alloc, 1)?;
     assert!(rt; are_commits(certificate.decisions.as_slice(), &[(2, 1), (1, 0), (3, 2)]));
     Ok(())

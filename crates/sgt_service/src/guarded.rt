@@ -14,20 +14,18 @@ use sgt_workers::{Ending, Ticket};
 use std::alloc::{AllocError, Global};
 use std::sync::ledger::{Book, Ledger, Share};
 
-/// The certifier beside the book of its decisions.
+/// The certifier beside the book of its decisions. Whoever puts another certifier in its place, behind the service's back, can
+/// only take one with as many decisions; that it is another one shows as V7 or V10.
 #[derive(Drop)]
 pub struct Guarded<L: Ledger> {
     pub certifier: Certifier,
-    // how many transactions were begun, and how many of them before this window
-    begun: u32,
-    before: u32,
     /// The site that was found to have lost its pledge.
     pub lost: Option<SiteNo>,
+    /// The number of its decisions, in the ledger.
     pub book: Book<L>,
     /// A share with no part, into which the seats' shares are put together at the end.
     pub none: Share<L>,
     pub ghost counted: { book.total ≡ decision_count certifier },
-    pub ghost window: { (begun ≡ certifier.state.begun) × (before ≡ certifier.state.before) },
     pub ghost empty: { (none.parts ≡ 0) × (none.amount ≡ 0) },
 }
 
@@ -50,15 +48,13 @@ impl<L: Ledger> Guarded<L> {
     ghost use Rattle.sgt_service.specs.Refused.{HandsOn, IsRefusedBy, IsOfCertifier, IsOfCall};
 
     /// A certifier to which nothing has happened, with its empty book.
-    pub fn new(alloc: Global, book: Book<L>, none: Share<L>) -> Guarded<L>
+    pub(crate) fn new(alloc: Global, book: Book<L>, none: Share<L>) -> Guarded<L>
         requires book { book.total ≡ 0 }
         requires none { (none.parts ≡ 0) × (none.amount ≡ 0) }
         ensures { (result.certifier.state ≡ opening) × (result.certifier.history ≡ []) × (result.lost ≡ None) }
     {
         Guarded {
             certifier: Certifier::new(alloc),
-            begun: 0,
-            before: 0,
             lost: None,
             book,
             none,
@@ -66,7 +62,7 @@ impl<L: Ledger> Guarded<L> {
     }
 
     /// Begins the next transaction.
-    pub fn begin(&mut self) -> Result<(Tx, Handle), ServiceFault>
+    pub(crate) fn begin(&mut self) -> Result<(Tx, Handle), ServiceFault>
         ensures ok { IfOk result (λ r. (self.old.lost ≡ None)
             × Adds self.old.certifier (call.Begin r.0 r.1) self.new.certifier) }
         ensures err { IfErr result (λ f. IsRefusedBy self.old.lost self.old.certifier.state begin f
@@ -76,18 +72,12 @@ impl<L: Ledger> Guarded<L> {
         if let Some(site) = self.lost {
             return Err(ServiceFault::NotPledged(site));
         }
-        let Guarded {
-            certifier,
-            begun,
-            ..
-        } = self;
-        let (tx, handle) = certifier.begin()?;
-        *begun = tx.number();
-        Ok((tx, handle))
+        let Guarded { certifier, .. } = self;
+        Ok(certifier.begin()?)
     }
 
     /// Closes the window.
-    pub fn close(&mut self) -> Result<u64, ServiceFault>
+    pub(crate) fn close(&mut self) -> Result<u64, ServiceFault>
         ensures ok { IfOk result (λ ranks. (self.old.lost ≡ None)
             × Adds self.old.certifier (call.Close ranks) self.new.certifier) }
         ensures err { IfErr result (λ f. IsRefusedBy self.old.lost self.old.certifier.state close f
@@ -97,19 +87,12 @@ impl<L: Ledger> Guarded<L> {
         if let Some(site) = self.lost {
             return Err(ServiceFault::NotPledged(site));
         }
-        let Guarded {
-            certifier,
-            begun,
-            before,
-            ..
-        } = self;
-        let ranks = certifier.close()?;
-        *before = *begun;
-        Ok(ranks)
+        let Guarded { certifier, .. } = self;
+        Ok(certifier.close()?)
     }
 
     /// Withdraws the transaction of the handle, and counts the decision in the book and in the share.
-    pub fn withdraw(&mut self, handle: Handle, share: &mut Share<L>) -> Result<u64, ServiceFault>
+    pub(crate) fn withdraw(&mut self, handle: Handle, share: &mut Share<L>) -> Result<u64, ServiceFault>
         requires { 0 < share.old.parts }
         ensures ok { IfOk result (λ number. Adds self.old.certifier (call.Withdraw handle number) self.new.certifier) }
         ensures counted { OnOk result (share.new.amount ≡ share.old.amount + 1) }
@@ -130,7 +113,7 @@ impl<L: Ledger> Guarded<L> {
     }
 
     /// Decides the transaction, with its edges, and counts the decision in the book and in the share.
-    pub fn decide(
+    pub(crate) fn decide(
         &mut self,
         active: &Active,
         edges: EdgeList,
@@ -164,7 +147,7 @@ impl<L: Ledger> Guarded<L> {
     }
 
     /// Ends the open step.
-    pub fn finish(&mut self, tx: Tx)
+    pub(crate) fn finish(&mut self, tx: Tx)
         requires { self.old.certifier.state.step ≡ Some tx }
         ensures ok { Adds self.old.certifier (call.Finish tx) self.new.certifier }
         ensures closed { self.new.certifier.state.step ≡ None }
@@ -178,7 +161,7 @@ impl<L: Ledger> Guarded<L> {
     }
 
     /// Notes that a site was found to have lost its pledge.
-    pub fn lose(&mut self, site: SiteNo)
+    pub(crate) fn lose(&mut self, site: SiteNo)
         ensures certifier { self.new.certifier ≡ self.old.certifier }
         ensures lost { self.new.lost ≡ Some site }
     {
@@ -187,7 +170,7 @@ impl<L: Ledger> Guarded<L> {
 
     /// Whether a transaction may be decided here at all: no site was found to have lost its pledge, and the certifier has its
     /// number under its handle.
-    pub fn check(&self, active: &Active) -> Result<(), ServiceFault>
+    pub(crate) fn check(&self, active: &Active) -> Result<(), ServiceFault>
         ensures ok { OnOk result ((self.now.lost ≡ None) × (tx_under self.now.certifier.state active.now.handle ≡ active.now.tx)) }
         ensures refused { IfErr result IsOfCertifier }
         ensures lost { IfSome self.now.lost (λ site. result ≡ Err (NotPledged site)) }
@@ -196,14 +179,14 @@ impl<L: Ledger> Guarded<L> {
         if let Some(site) = self.lost {
             return Err(ServiceFault::NotPledged(site));
         }
-        if !self.is_of(active) {
+        if !self.certifier.is_under(active.tx, active.handle) {
             return Err(ServiceFault::Certifier(CertifierFault::Unknown));
         }
         Ok(())
     }
 
     /// Makes room for the installs of a transaction that is to be decided.
-    pub fn expect(&mut self, active: &Active) -> Result<(), ServiceFault>
+    pub(crate) fn expect(&mut self, active: &Active) -> Result<(), ServiceFault>
         ensures ok { OnOk result ((self.old.lost ≡ None)
             × (tx_under self.new.certifier.state active.now.handle ≡ active.now.tx)) }
         ensures room { OnOk result ((site : ℕ) → IsExpected self.new.certifier.expected active.now.draft.touched site) }
@@ -222,7 +205,7 @@ impl<L: Ledger> Guarded<L> {
 
     /// Pledges a transaction at a site and adds its edges there, under both locks.
     #[tactic(auto, using(crate::proofs::Faults::agreed_of_call))]
-    pub fn gather(
+    pub(crate) fn gather(
         &self,
         alloc: Global,
         site: &mut Site,
@@ -257,7 +240,7 @@ impl<L: Ledger> Guarded<L> {
     }
 
     /// The fault again. The site of a V7 is noted.
-    pub fn noted(&mut self, fault: ServiceFault) -> ServiceFault
+    pub(crate) fn noted(&mut self, fault: ServiceFault) -> ServiceFault
         ensures same { result ≡ fault }
         ensures certifier { self.new.certifier ≡ self.old.certifier }
         ensures lost { (number : ℕ) → fault ≡ NotPledged number → self.new.lost ≡ Some number }
@@ -273,7 +256,7 @@ impl<L: Ledger> Guarded<L> {
 
     /// Writes the block of a transaction that is decided so at a site, under both locks; an install is noted in the history. False
     /// where the pledge is lost, and then nothing changes.
-    pub fn end(&mut self, site: &mut Site, here: SiteNo, active: &Active, verdict: Ending) -> bool
+    pub(crate) fn end(&mut self, site: &mut Site, here: SiteNo, active: &Active, verdict: Ending) -> bool
         requires { verdict ≡ Committed → AwaitsInstalls self.old.certifier active.now.tx active.now.draft.touched here }
         ensures awaits { IsTrue result → verdict ≡ Committed
             → AwaitsInstalls self.new.certifier active.now.tx active.now.draft.touched (here + 1) }
@@ -319,12 +302,6 @@ impl<L: Ledger> Guarded<L> {
         }
     }
 
-    // Whether the certifier has the transaction's number under its handle.
-    fn is_of(&self, active: &Active) -> bool
-        ensures { IsTrue result ↔ (tx_under self.now.certifier.state active.now.handle ≡ active.now.tx) }
-    {
-        self.before as u64 + active.handle.index as u64 + 1 == active.tx.number() as u64
-    }
 }
 
 // Adds the edges of another list.

@@ -12,6 +12,7 @@ mod seat;
 mod service;
 
 pub use active::{Active, Back};
+pub use guarded::Guarded;
 pub use opened::Opened;
 pub use seat::Seat;
 pub use service::Service;

@@ -22,7 +22,8 @@ use std::sync::{Mutex, Wait};
 /// after another; one that holds a site's takes none.
 #[derive(Drop)]
 pub struct Service<L: Ledger> {
-    pub(crate) certifier: Mutex<Guarded<L>>,
+    /// The certifier with its book, under its lock.
+    pub certifier: Mutex<Guarded<L>>,
     /// The sites, by number, each under its lock. What somebody does to one behind the service's back shows as V7, V9 or V10.
     pub sites: Vec<Mutex<Site>>,
     /// The names of the sites' items, which never change.

@@ -3,9 +3,10 @@
 ghost use Rattle.std.specs.Prelude.{◌≡◌};
 
 use sgt_agreed::ServiceFault;
-use sgt_certifier::CertifierFault;
-use sgt_names::{Entry, Holding, Item, Listed, SiteNo, Tx};
-use sgt_service::{Active, EntryCounts, Seat, Service};
+use sgt_certifier::{Certifier, CertifierFault};
+use sgt_edges::EdgeList;
+use sgt_names::{Draft, Entry, Holding, Item, Listed, SiteNo, Tx};
+use sgt_service::{Active, EntryCounts, Guarded, Seat, Service};
 use sgt_workers::{Ending, Ticket};
 use std::alloc::Global;
 use std::marker::Brand;
@@ -189,6 +190,63 @@ fn withdrawn_as<L: Ledger, R: Wait + Abort>(
 #[test]
 fn withdrawn(rt: HostRuntime) -> Result<(), Fail> {
     let ended = withdrawn_as::<Brand, _>(&rt, rt.alloc(), Blank::new(1), given()?);
+    assert!(rt; ended.is_some());
+    Ok(())
+}
+
+// A certifier whose first transaction installed y, and whose second is active.
+fn of_another_history(alloc: Global, of: Case) -> Option<Certifier> {
+    let mut certifier = Certifier::new(alloc);
+    let mut draft = Draft::new(alloc);
+    draft.put(of.site, of.y, 7).ok()?;
+    let (tx, handle) = certifier.begin().ok()?;
+    certifier.expect(handle, &draft).ok()?;
+    certifier.decide(handle, EdgeList::new(alloc)).ok()?;
+    certifier.installed(tx, of.site, &draft).ok()?;
+    certifier.finish_step(tx).ok()?;
+    certifier.begin().ok()?;
+    Some(certifier)
+}
+
+// Puts another certifier with as many decisions behind the lock.
+fn replace<L: Ledger, R: Wait>(rt: &R, service: &Service<L>, other: Certifier) -> bool {
+    let mut guarded = service.certifier.lock(rt);
+    let Guarded { certifier, .. } = &mut *guarded;
+    if certifier.decided() != other.decided() {
+        return false;
+    }
+    *certifier = other;
+    true
+}
+
+fn other_history_as<L: Ledger, R: Wait + Abort>(
+    rt: &R,
+    alloc: Global,
+    blank: Blank,
+    of: Case,
+) -> Option<()>
+    requires { (blank.name ≡ L.name) × (blank.parts ≡ L.parts) × (blank.parts ≡ 1) }
+{
+    let sites = [items(alloc, of)?];
+    let (service, mut seats) = Service::<L>::new(alloc, blank, &sites, 1).ok()?;
+    let mut seat = seats.pop()?;
+    let mut active = service.begin(rt, alloc, &mut seat).ok()?;
+    service.put(&mut active, of.site, of.x, 6).ok()?;
+    committed(rt, alloc, &service, &mut seat, active)?;
+    let mut active = service.begin(rt, alloc, &mut seat).ok()?;
+    service.put(&mut active, of.site, of.x, 7).ok()?;
+    assert!(rt; replace(rt, &service, of_another_history(alloc, of)?));
+    let back = service.commit(rt, alloc, &mut seat, active).err()?;
+    assert_eq!(rt; back.fault, ServiceFault::NotPledged(of.site));
+    assert!(rt; back.active.is_some());
+    assert_eq!(rt; service.close(rt), Err(ServiceFault::NotPledged(of.site)));
+    Some(())
+}
+
+// The versions of the site aren't those that the certifier's history counts.
+#[test]
+fn other_history(rt: HostRuntime) -> Result<(), Fail> {
+    let ended = other_history_as::<Brand, _>(&rt, rt.alloc(), Blank::new(1), given()?);
     assert!(rt; ended.is_some());
     Ok(())
 }
