@@ -1,3 +1,5 @@
+pub mod Bundling
+pub mod Counts
 pub mod Faults
 pub mod OneInput
 pub mod OneText
@@ -5,3 +7,4 @@ pub mod Placing
 pub mod Reader
 pub mod Sums
 pub mod Tries
+pub mod Walks

@@ -1,3 +1,4 @@
+pub mod Bundle
 pub mod Input
 pub mod Results
 pub mod Tries

@@ -7,9 +7,11 @@ mod reading;
 mod report;
 mod runner;
 mod running;
+mod settled;
 mod taking;
 
 pub use input::{Input, MAX_SCRIPTS, Reading};
 pub use laws::inputs_have_one_reading;
 pub use reading::read_input;
 pub use running::run;
+pub use settled::{Settled, bundle, settle};
