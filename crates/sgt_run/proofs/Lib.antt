@@ -5,6 +5,7 @@ pub mod OneInput
 pub mod OneText
 pub mod Placing
 pub mod Reader
+pub mod Reporting
 pub mod Sums
 pub mod Tries
 pub mod Walks

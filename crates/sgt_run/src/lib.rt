@@ -1,6 +1,7 @@
 //! Scripts run by the threads of a service.
 #![tactic(auto)]
 
+mod engine;
 mod input;
 mod laws;
 mod reading;
@@ -10,6 +11,7 @@ mod running;
 mod settled;
 mod taking;
 
+pub use engine::run_scripts;
 pub use input::{Input, MAX_SCRIPTS, Reading};
 pub use laws::inputs_have_one_reading;
 pub use reading::read_input;
