@@ -12,7 +12,7 @@ use Rattle.sgt_audit.specs.Verdict.{IsVerdict, SaysHeadline, text_of}
 use Rattle.sgt_audit.specs.declared.verdict.Verdict.{Verdict}
 use Rattle.sgt_audit.specs.declared.verdict.Verdict.TheVariants.{Yes, No}
 use Rattle.sgt_serial.specs.Answer as serial
-use Rattle.sgt_program.specs.Commands.{AnswersAudit, AnswersSerial, AnswersOthers, outcome}
+use Rattle.sgt_program.specs.Commands.{AnswersAudit, AnswersSerial, AnswersOthers, ByStatus, outcome}
 use Rattle.sgt_program.specs.Ending.{status_of}
 use Rattle.sgt_program.specs.declared.ending.Ending.TheVariants.{Ran}
 
@@ -69,6 +69,35 @@ serial-answers told old new (Err fail) wrote front =
       run = λ e. absurd (omega (arith, high, e));
       no = λ e. absurd (omega (arith, high, e));
       known = λ e. omega (arith, high, e);
+      front = λ le. front;
+    }
+
+pub status-answers : (Wrote : Outcome → Type 0) (Front : Type 0) (r : Result Outcome EngineFail) → IfOk r Wrote → OnErr r Front
+    → ByStatus Wrote Front (status_of (Ran r))
+status-answers Wrote Front (Ok Outcome_.Yes) wrote front = record {
+  yes = λ e. wrote;
+  no = λ e. absurd (omega arith);
+  unreadable = λ e. absurd (omega arith);
+  front = λ le. absurd (omega arith);
+}
+status-answers Wrote Front (Ok Outcome_.No) wrote front = record {
+  yes = λ e. absurd (omega arith);
+  no = λ e. wrote;
+  unreadable = λ e. absurd (omega arith);
+  front = λ le. absurd (omega arith);
+}
+status-answers Wrote Front (Ok Outcome_.Unreadable) wrote front = record {
+  yes = λ e. absurd (omega arith);
+  no = λ e. absurd (omega arith);
+  unreadable = λ e. wrote;
+  front = λ le. absurd (omega arith);
+}
+status-answers Wrote Front (Err fail) wrote front =
+    let high = failing fail in
+    record {
+      yes = λ e. absurd (omega (arith, high, e));
+      no = λ e. absurd (omega (arith, high, e));
+      unreadable = λ e. absurd (omega (arith, high, e));
       front = λ le. front;
     }
 

@@ -16,6 +16,17 @@ same_choice r x y P is_x is_y p =
     let same : x ≡ y = ap chosen (sym is_x ∙ is_y) in
     subst P same p
 
+abbrev is_chosen : Result Choice NoChoice → Bool
+is_chosen (Ok choice) = true
+is_chosen (Err refusal) = false
+
+-- and so it is where memory might have been wanting
+pub same_run : (r : Result Choice NoChoice) (x y : Choice) (P : Choice → Type 0) → r ≡ Ok x → (r ≡ Ok y) ⊎ (r ≡ Err Memory) → P x → P y
+same_run r x y P is either p = elim either [
+  | inl is_y ↦ same_choice r x y P is is_y p
+  | inr e ↦ (let bad : true ≡ false = sym (ap is_chosen is) ∙ ap is_chosen e in cc)
+]
+
 -- words that ask for nothing are no choice
 pub asks_none : (words : List (List ℕ)) (choice : Choice) → AsksNone words → AsksFor words choice → ⊥
 asks_none words Audit none asks = none.0 asks

@@ -1,4 +1,5 @@
-use Rattle.sgt_program.proofs.Answered.{audit-fails, serial-answers, verdict-answers}
+use Rattle.sgt_run.specs.Report as run
+use Rattle.sgt_program.proofs.Answered.{audit-fails, serial-answers, status-answers, verdict-answers}
 use Rattle.sgt_program.proofs.engines.run_choice.Goals as goal
 
 pub returns-in-Ok-clause-answers : goal.returns-in-Ok-clause-answers
@@ -12,3 +13,11 @@ returns-in-Err-clause-answers g c = rw c.in-Audit.is (audit-fails _ _ _ c.in-Err
 pub returns-in-Serial-clause-answers : goal.returns-in-Serial-clause-answers
 returns-in-Serial-clause-answers g c =
     rw c.in-Serial.is (serial-answers _ _ _ c.serial.result c.serial.ensures.answer c.serial.ensures.front)
+
+pub returns-in-Run-clause-answers : goal.returns-in-Run-clause-answers
+returns-in-Run-clause-answers g c =
+    let told = g.R.Source.tells c.args.reader.now in
+    let old = g.W.Sink.holds c.args.writer.now in
+    let new = g.W.Sink.holds c.run_scripts.new.writer in
+    rw c.in-Run.is (status-answers (λ outcome. run.WroteAnswer c.in-Run.tries told outcome old new) (run.WroteAnswerFront c.in-Run.tries told old new)
+        c.run_scripts.result c.run_scripts.ensures.answer c.run_scripts.ensures.front)
