@@ -74,14 +74,7 @@ fn run<H: Threads + Wait + Sync>(
     errors: &mut MemSink,
 ) -> Result<u8, Fail> {
     let words = words_of(alloc, texts)?;
-    Ok(program(
-        rt,
-        alloc,
-        words.as_slice(),
-        input,
-        output,
-        errors,
-    ))
+    Ok(program(rt, alloc, words.as_slice(), input, output, errors))
 }
 
 /// Whether the program, which reads so many bytes at once, answers as the row says.
@@ -133,7 +126,14 @@ fn leaves_a_valid_bundle<H: Threads + Wait + Sync>(
     let mut input = MemSource::new(bundle.as_bytes(), 65_536, None);
     let mut output = MemSink::new(alloc, 100)?;
     let mut errors = MemSink::new(alloc, 100)?;
-    let status = run(rt, alloc, [].as_slice(), &mut input, &mut output, &mut errors)?;
+    let status = run(
+        rt,
+        alloc,
+        [].as_slice(),
+        &mut input,
+        &mut output,
+        &mut errors,
+    )?;
     Ok(status == 0 && output.bytes().starts_with(b"yes "))
 }
 
@@ -212,7 +212,14 @@ fn audits<H: Threads + Wait + Sync>(
     let mut input = MemSource::new(text.as_bytes(), 65_536, None);
     let mut output = MemSink::new(alloc, 100)?;
     let mut errors = MemSink::new(alloc, 100)?;
-    run(rt, alloc, [].as_slice(), &mut input, &mut output, &mut errors)?;
+    run(
+        rt,
+        alloc,
+        [].as_slice(),
+        &mut input,
+        &mut output,
+        &mut errors,
+    )?;
     Ok(output.bytes() == says.as_bytes())
 }
 
@@ -221,7 +228,10 @@ fn limits(rt: HostRuntime) -> Result<(), Fail> {
     const YES: &str = "yes 0 committed 0 refused 0 withdrawn\n";
     for (count, says) in [(17, YES), (64, YES), (65, "no line 2 F3\n")] {
         let text = of_sites(rt.alloc(), count)?;
-        assert!(rt; audits(&rt, rt.alloc(), text.as_str(), says)?, "{count} sites");
+        assert!(rt;
+            audits(&rt, rt.alloc(), text.as_str(), says)?,
+            "{count} sites"
+        );
     }
     for (count, says) in [
         (256, YES),
@@ -230,7 +240,10 @@ fn limits(rt: HostRuntime) -> Result<(), Fail> {
         (1025, "no line 1028 F7\n"),
     ] {
         let text = of_items(rt.alloc(), count)?;
-        assert!(rt; audits(&rt, rt.alloc(), text.as_str(), says)?, "{count} items");
+        assert!(rt;
+            audits(&rt, rt.alloc(), text.as_str(), says)?,
+            "{count} items"
+        );
     }
     Ok(())
 }
@@ -412,9 +425,16 @@ fn sixteen_workers(rt: HostRuntime) -> Result<(), Fail> {
         let count = agreed_count(rt.alloc(), told)?;
         assert!(rt; count.is_some(), "{script}");
         assert_eq!(rt; status, if count == Some(1000) { 0 } else { 1 }, "{script}");
-        assert!(rt; !all || (count == Some(1000) && !told.contains(" tries 2\n")), "{script}");
+        assert!(rt;
+            !all || (count == Some(1000) && !told.contains(" tries 2\n")),
+            "{script}"
+        );
         let (_, bundle) = told.split_once("---\n").ok_or("a bundle")?;
-        let start = if all { "yes 1000 committed 0 refused 0 withdrawn\n" } else { "yes " };
+        let start = if all {
+            "yes 1000 committed 0 refused 0 withdrawn\n"
+        } else {
+            "yes "
+        };
         assert!(rt; is_said(&rt, rt.alloc(), bundle, start)?, "{script}");
     }
     Ok(())
@@ -430,6 +450,13 @@ fn is_said<H: Threads + Wait + Sync>(
     let mut input = MemSource::new(text.as_bytes(), 65_536, None);
     let mut output = MemSink::new(alloc, 100)?;
     let mut errors = MemSink::new(alloc, 100)?;
-    run(rt, alloc, [].as_slice(), &mut input, &mut output, &mut errors)?;
+    run(
+        rt,
+        alloc,
+        [].as_slice(),
+        &mut input,
+        &mut output,
+        &mut errors,
+    )?;
     Ok(output.bytes().starts_with(start.as_bytes()))
 }
