@@ -1,7 +1,11 @@
+pub mod Bundling
+pub mod Counts
 pub mod Faults
 pub mod OneInput
 pub mod OneText
 pub mod Placing
 pub mod Reader
+pub mod Reporting
 pub mod Sums
 pub mod Tries
+pub mod Walks

@@ -18,7 +18,7 @@ use Rattle.sgt_notation.proofs.OneScript.{script-one}
 use Rattle.sgt_notation.proofs.OneSite.{site-one}
 use Rattle.sgt_notation.proofs.OneSpelling.{apart}
 use Rattle.sgt_run.specs.declared.input.Input.{Input}
-use Rattle.sgt_run.specs.Input.{Begins, IsBegun, IsPlaced, IsScriptOver, HasPlace, input_lines, max_scripts}
+use Rattle.sgt_run.specs.Input.{Begins, IsBegun, IsPlaced, IsScriptOver, input_lines, max_scripts}
 use Rattle.sgt_run.specs.private.Taking.{Takes, TakesScript, TakesSite}
 
 -- no script is spelled like a site

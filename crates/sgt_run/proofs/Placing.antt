@@ -1,5 +1,5 @@
 -- Which items are there.
-use Rattle.std.proofs.Common.{◌≡◌, ℕ, Bool, true, false, List, Some, None, refl, sym, ◌∙◌, subst}
+use Rattle.std.proofs.Common.{◌≡◌, ℕ, Bool, List, Some, None, sym, ◌∙◌, subst}
 use Rattle.std.specs.Prelude.{All, Any, IsTrue, ◌↔◌, slice_get}
 use Rattle.std.proofs.lemmas.Option.{same_Some}
 use Rattle.sgt_names.specs.Name.{Name}

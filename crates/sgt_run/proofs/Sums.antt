@@ -1,8 +1,7 @@
 -- What the seats of a pool have together.
-use Rattle.std.proofs.Common.{◌≡◌, ℕ, ◌+◌, List, [], ◌∷◌, ◌++◌, length, map, refl, sym, ◌∙◌, ap, arith, subst, Some, Ok, Err, IfOk, Result}
-use Rattle.std.specs.Prelude.{sum_by, slice_get, ◌-◌}
+use Rattle.std.proofs.Common.{◌≡◌, ℕ, ◌+◌, List, [], ◌∷◌, length, map, refl, sym, ◌∙◌, ap, arith}
+use Rattle.std.specs.Prelude.{sum_by}
 use Rattle.std.specs.List.{AllZip, flat_map}
-use Rattle.std.specs.List.Sorted.{IsPermutation}
 use Rattle.std.proofs.lemmas.List.Concat.{length-flat_map}
 use Rattle.std.proofs.lemmas.List.Sums.{sum_by-append, sum_by-cons}
 use Rattle.std.proofs.lemmas.List.Sorted.{sum_by-IsPermutation}
@@ -10,7 +9,7 @@ use Rattle.sgt_workers.specs.Answers.{AreShared, IsShare, Runs}
 use Rattle.sgt_workers.specs.declared.ticket.Done.{Done}
 use Rattle.sgt_service.specs.Together.{amount_of, parts_of}
 use Rattle.sgt_service.specs.declared.seat.Seat.{Seat}
-use Rattle.sgt_run.specs.Tries.{tickets_of}
+use Rattle.sgt_settle.specs.Settled.{tickets_of}
 use Rattle.sgt_run.specs.declared.runner.Worker.{Worker}
 
 pub sum_zip : {A B : Type 0} (f : A → ℕ) (h : B → ℕ) (xs : List A) (ys : List B) → AllZip (λ x y. h y ≡ f x) xs ys → sum_by h ys ≡ sum_by f xs

@@ -1,4 +1,6 @@
+pub mod Bundle
 pub mod Input
+pub mod Report
 pub mod Results
 pub mod Tries
 pub mod private

@@ -1,13 +1,7 @@
 -- The tries of a script.
 use Rattle.std.specs.Prelude.{◌≡◌, ◌<◌, ◌+◌, ℕ, List, [], ◌∷◌, ◌++◌, length, All}
-use Rattle.std.specs.List.{flat_map}
-use Rattle.sgt_workers.specs.declared.ticket.Done.{Done}
 use Rattle.sgt_workers.specs.declared.ticket.Ending.TheVariants.{Refused}
 use Rattle.sgt_workers.specs.declared.ticket.Ticket.{Ticket}
-
--- all tickets that scripts were given
-abbrev pub tickets_of : List Done → List Ticket
-tickets_of dones = flat_map (λ d. d.tickets.items) dones
 
 abbrev pub IsRefused : Ticket → Type 0
 IsRefused t = t.verdict ≡ Refused

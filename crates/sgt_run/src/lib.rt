@@ -1,15 +1,19 @@
 //! Scripts run by the threads of a service.
 #![tactic(auto)]
 
+mod engine;
 mod input;
 mod laws;
 mod reading;
 mod report;
 mod runner;
 mod running;
+mod settled;
 mod taking;
 
+pub use engine::run_scripts;
 pub use input::{Input, MAX_SCRIPTS, Reading};
 pub use laws::inputs_have_one_reading;
 pub use reading::read_input;
 pub use running::run;
+pub use settled::{Settled, bundle, settle};

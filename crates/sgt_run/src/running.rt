@@ -5,7 +5,8 @@ ghost use Rattle.std.specs.List.{range_with_len};
 ghost use Rattle.sgt_workers.specs.Answers.{jobs_of, IsFault};
 ghost use Rattle.sgt_service.specs.Refused.{IsOfCall};
 ghost use Rattle.sgt_service.specs.Together.{parts_of, amount_of};
-ghost use Rattle.sgt_run.specs.Tries.{AreTries, tickets_of};
+ghost use Rattle.sgt_settle.specs.Settled.{tickets_of};
+ghost use Rattle.sgt_run.specs.Tries.{AreTries};
 
 use crate::runner::{Runner, Worker};
 use sgt_agreed::ServiceFault;

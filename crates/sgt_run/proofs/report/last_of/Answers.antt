@@ -1,4 +1,4 @@
-use Rattle.std.proofs.Common.{◌≡◌, None, [], ◌∷◌, take, arith, sym, ◌∙◌, ap}
+use Rattle.std.proofs.Common.{None, [], ◌∷◌, take, arith, sym, ◌∙◌, ap}
 use Rattle.std.specs.List.{last_or}
 use Rattle.sgt_names.proofs.Lists.{element_at, take_next, last_or-append}
 use Rattle.sgt_run.proofs.report.last_of.Goals as goal

@@ -1,0 +1,37 @@
+-- A run that is left of a service, and its bundle.
+use Rattle.std.specs.Prelude.{◌≡◌, ℕ, List, length}
+use Rattle.std.specs.List.{AllZip}
+use Rattle.sgt_names.specs.Log.{names, FinalsAreLegal}
+use Rattle.sgt_site.specs.State.{SiteState}
+use Rattle.sgt_cert.specs.Parts.{Parts}
+use Rattle.sgt_cert.specs.declared.bundle.SiteLog.{SiteLog}
+use Rattle.sgt_certifier.specs.Certifier.{certificate_of}
+use Rattle.sgt_workers.specs.declared.ticket.Done.{Done}
+use Rattle.sgt_service.specs.Guarded.{decision_count}
+use Rattle.sgt_service.specs.Together.{parts_of, amount_of, counts_of}
+use Rattle.sgt_service.specs.declared.seat.Seat.{Seat}
+use Rattle.sgt_settle.specs.Settled.{Run}
+
+-- ---- what is left of a service
+
+-- the run has these Dones, and at each of so many sites what these seats counted there. If the seats have all parts of the ledger,
+-- it has as many decisions as their shares together
+pub record IsLeftOf {L : Type 0} (sites parts : ℕ) (seats : List (Seat L)) (dones : List Done) (r : Run) : Type 0 where
+  pub told : r.dones ≡ dones
+  pub many : length r.sites ≡ sites
+  pub counted : r.counts ≡ counts_of sites seats
+  pub decided : parts_of seats ≡ parts → decision_count r.certifier ≡ amount_of seats
+
+-- ---- the bundle
+
+-- the log of the site, with the last value of each of its items
+pub record IsLogOf (s : SiteState) (log : SiteLog) : Type 0 where
+  pub items : log.items ≡ s.items
+  pub entries : log.entries ≡ s.entries
+  pub each : names log.finals ≡ names s.items
+  pub finals : FinalsAreLegal s.items s.entries log.finals
+
+-- the certificate, and the logs of the sites
+pub record IsBundleOf (r : Run) (b : Parts) : Type 0 where
+  pub certificate : b.certificate ≡ certificate_of r.certifier.state (length r.sites)
+  pub logs : AllZip IsLogOf r.sites b.sites

@@ -1,0 +1,140 @@
+-- What a run of an input writes: a line for each script, the verdict on the run's own bundle, and the bundle.
+use Rattle.std.specs.Prelude.{◌≡◌, ◌≢◌, ◌⊎◌, ◌++◌, ⊤, ℕ, List, [], length, map, codes, decimal, All, Option, IfSome}
+use Rattle.std.specs.List.{range_with_len}
+use Rattle.std.specs.Io.KnownBytes.{Appends}
+use Rattle.sgt_names.specs.Device.{AppendsOrForgets, WritesFront}
+use Rattle.sgt_names.specs.declared.outcome.Outcome.{Outcome}
+use Rattle.sgt_names.specs.declared.outcome.Outcome.TheVariants as outcome
+use Rattle.sgt_notation.specs.Spelling.{text_of_lines}
+use Rattle.sgt_notation.specs.declared.fault.NotationFault.{NotationFault}
+use Rattle.sgt_notation.specs.declared.fault.NotationFault.TheVariants as notation
+use Rattle.sgt_cert.specs.Parts.{Parts}
+use Rattle.sgt_cert.specs.Text.{text_of}
+use Rattle.sgt_agreed.specs.declared.fault.ServiceFault.{ServiceFault}
+use Rattle.sgt_agreed.specs.declared.fault.ServiceFault.TheVariants as fault
+use Rattle.sgt_workers.specs.Answers.{jobs_of, IsMet}
+use Rattle.sgt_workers.specs.declared.ticket.Done.{Done}
+use Rattle.sgt_workers.specs.declared.fault.PoolFail.{PoolFail}
+use Rattle.sgt_workers.specs.declared.fault.PoolFail.TheVariants.{Work, Pool}
+use Rattle.sgt_workers.specs.declared.fault.PoolFault.{PoolFault}
+use Rattle.sgt_workers.specs.declared.fault.PoolFault.TheVariants as pool
+use Rattle.sgt_audit.specs.Verdict.{IsVerdict, SaysHeadline}
+use Rattle.sgt_audit.specs.Verdict as auditor
+use Rattle.sgt_audit.specs.declared.verdict.Verdict.{Verdict}
+use Rattle.sgt_audit.specs.declared.verdict.Verdict.TheVariants.{Yes, No}
+use Rattle.sgt_service.specs.Guarded.{decision_count}
+use Rattle.sgt_service.specs.Refused.{IsOfCall}
+use Rattle.sgt_settle.specs.Settled.{IsSettled, Run, tickets_of}
+use Rattle.sgt_settle.specs.Fault.{IsUnsettled}
+use Rattle.sgt_run.specs.Bundle.{IsBundleOf}
+use Rattle.sgt_run.specs.Input.{FirstUnreadable, Spells}
+use Rattle.sgt_run.specs.Results.{IsCommitted, done_text}
+use Rattle.sgt_run.specs.Tries.{AreTries}
+use Rattle.sgt_run.specs.declared.input.Input.{Input}
+
+-- ---- a run of an input
+
+-- a run of so many scripts at so many sites: each script has its tickets, each site is there, and as many decisions were taken as
+-- there are tickets
+pub record IsRunOf (scripts places tries : ℕ) (run : Run) : Type 0 where
+  pub jobs : jobs_of run.dones ≡ range_with_len 1 scripts
+  pub tickets : All (λ d. AreTries tries d.tickets.items) run.dones
+  pub sites : length run.sites ≡ places
+  pub decided : decision_count run.certifier ≡ length (tickets_of run.dones)
+
+abbrev pub IsYes : Verdict → Type 0
+IsYes (Yes committed refused withdrawn) = ⊤
+IsYes (No line f) = ⊥
+
+-- yes where each script was committed and the verdict is yes, and else no
+abbrev pub IsOutcome : List Done → Verdict → Outcome → Type 0
+IsOutcome dones v outcome.Yes = All IsCommitted dones × IsYes v
+IsOutcome dones v outcome.No = All IsCommitted dones × IsYes v → ⊥
+IsOutcome dones v outcome.Unreadable = ⊥
+
+-- the text of a run: a line for each script, the verdict on the text of the run's bundle, and that text
+pub record IsTextOf (run : Run) (o : Outcome) (text : List ℕ) : Type 0 where
+  pub whole : Parts
+  pub bundled : IsBundleOf run whole
+  pub verdict : Verdict
+  pub judged : IsVerdict (text_of whole) verdict
+  -- a yes says that what the threads committed is serializable
+  pub headline : SaysHeadline (text_of whole) verdict
+  pub ends : IsOutcome run.dones verdict o
+  pub written : text ≡ text_of_lines (map done_text run.dones) ++ (auditor.text_of verdict ++ (codes "---\n" ++ text_of whole))
+
+-- the text of a settled run of the input's scripts at its sites
+abbrev pub IsRunText : Input → ℕ → Outcome → List ℕ → Type 0
+IsRunText input tries o text =
+    (run : Run) × IsSettled run × IsRunOf (length input.scripts) (length input.sites) tries run × IsTextOf run o text
+
+-- ---- a run that a fault ends
+
+abbrev pub service_fault_number : ServiceFault → ℕ
+service_fault_number (fault.StrayTicket number) = 1
+service_fault_number (fault.TwoTickets number) = 2
+service_fault_number fault.Memory = 3
+service_fault_number (fault.Site f) = 4
+service_fault_number (fault.Certifier f) = 4
+service_fault_number fault.SumTooLarge = 5
+service_fault_number (fault.MissingTicket number) = 6
+service_fault_number (fault.NotPledged site) = 7
+service_fault_number (fault.TicketOrder job) = 8
+service_fault_number (fault.LogDiffers site) = 9
+service_fault_number (fault.VersionsDiffer site) = 10
+
+abbrev pub pool_fault_number : PoolFault → ℕ
+pool_fault_number pool.Memory = 1
+pool_fault_number (pool.Unrun job) = 2
+pool_fault_number (pool.Doubled job) = 3
+
+-- a call of the service is refused so, or a run of so many scripts at so many sites isn't settled; or the pool fails
+abbrev pub EndsRun : ℕ → ℕ → ℕ → PoolFail ServiceFault → Type 0
+EndsRun scripts places tries (Work f) = IsOfCall f ⊎ ((run : Run) × IsRunOf scripts places tries run × IsUnsettled run f)
+EndsRun scripts places tries (Pool f) = IsMet scripts f
+
+-- the line of a fault: its number alone. Want of memory has none
+abbrev pub IsFaultLine : PoolFail ServiceFault → List ℕ → Type 0
+IsFaultLine (Work f) text = (f ≢ fault.Memory) × (text ≡ codes "! V" ++ (decimal (service_fault_number f) ++ codes "\n"))
+IsFaultLine (Pool f) text = (f ≢ pool.Memory) × (text ≡ codes "! P" ++ (decimal (pool_fault_number f) ++ codes "\n"))
+
+-- the line of a fault that ended the run of the input's scripts
+abbrev pub IsFaultText : Input → ℕ → List ℕ → Type 0
+IsFaultText input tries text =
+    (f : PoolFail ServiceFault) × EndsRun (length input.scripts) (length input.sites) tries f × IsFaultLine f text
+
+-- ---- what an input is answered by
+
+-- the text of its run, or the line of the fault that ended it
+abbrev pub IsRunAnswer : Input → ℕ → Outcome → List ℕ → Type 0
+IsRunAnswer input tries outcome.Yes text = IsRunText input tries outcome.Yes text
+IsRunAnswer input tries outcome.No text = IsRunText input tries outcome.No text ⊎ IsFaultText input tries text
+IsRunAnswer input tries outcome.Unreadable text = ⊥
+
+abbrev pub line_fault_number : NotationFault → ℕ
+line_fault_number notation.NotALine = 1
+line_fault_number notation.TooLong = 2
+line_fault_number notation.Memory = 3
+
+-- the line that says which line can't be read
+abbrev pub unreadable_text : ℕ → NotationFault → List ℕ
+unreadable_text line f = codes "! L" ++ (decimal (line_fault_number f) ++ (codes " line " ++ (decimal line ++ codes "\n")))
+
+-- what was told is answered: an input by its run, with so many tries for each script; other bytes by their first line that can't be
+-- read
+abbrev pub IsAnswer : ℕ → (told : Option (List ℕ)) → Outcome → List ℕ → Type 0
+IsAnswer tries told outcome.Yes text =
+    (input : Input) × IfSome told (λ bytes. Spells bytes input) × IsRunAnswer input tries outcome.Yes text
+IsAnswer tries told outcome.No text =
+    (input : Input) × IfSome told (λ bytes. Spells bytes input) × IsRunAnswer input tries outcome.No text
+IsAnswer tries told outcome.Unreadable text = (line : ℕ) × (f : NotationFault) × (f ≢ notation.Memory)
+    × IfSome told (λ bytes. FirstUnreadable bytes line f) × (text ≡ unreadable_text line f)
+
+-- that text was written
+abbrev pub WroteAnswer : ℕ → (told : Option (List ℕ)) → Outcome → (old new : Option (List ℕ)) → Type 0
+WroteAnswer tries told o old new = (text : List ℕ) × IsAnswer tries told o text × Appends old new text
+
+-- nothing was written, or a front of the text that is the answer, and less than the whole text
+abbrev pub WroteAnswerFront : ℕ → (told old new : Option (List ℕ)) → Type 0
+WroteAnswerFront tries told old new = AppendsOrForgets old new []
+    ⊎ ((o : Outcome) × (text : List ℕ) × IsAnswer tries told o text × WritesFront old new text)

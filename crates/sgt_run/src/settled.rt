@@ -1,0 +1,168 @@
+//! A run that is over, checked as a whole, and its bundle.
+
+ghost use Rattle.std.specs.Prelude.{◌≡◌, ◌≤◌, ◌⊎◌, IfOk, IfErr, length, vec_len};
+ghost use Rattle.std.specs.List.{AllZip};
+ghost use Rattle.sgt_agreed.specs.declared.fault.ServiceFault.TheVariants.{Memory};
+ghost use Rattle.sgt_site.specs.State.{IsSite};
+ghost use Rattle.sgt_service.specs.Guarded.{decision_count};
+ghost use Rattle.sgt_service.specs.Together.{parts_of, amount_of, counts_of};
+ghost use Rattle.sgt_settle.specs.Settled.{IsSettled, Run};
+ghost use Rattle.sgt_settle.specs.Fault.{IsUnsettled};
+ghost use Rattle.sgt_run.specs.Bundle.{IsBundleOf, IsLeftOf, IsLogOf};
+
+use sgt_agreed::{EntryCounts, ServiceFault};
+use sgt_cert::{Bundle, SiteLog};
+use sgt_certifier::Certifier;
+use sgt_names::Listed;
+use sgt_service::{Opened, Seat, Service};
+use sgt_settle::check_settled;
+use sgt_site::Site;
+use sgt_workers::Done;
+use std::alloc::{AllocError, Global};
+use std::marker::Model;
+use std::sync::ledger::Ledger;
+
+/// What lay behind the locks of a service, what its seats counted, and what its callers were told: a settled run.
+#[derive(Drop)]
+pub struct Settled {
+    certifier: Certifier,
+    sites: Vec<Site>,
+    counts: Vec<EntryCounts>,
+    dones: Vec<Done>,
+}
+
+impl Model for Settled {
+    ghost use Rattle.std.specs.Prelude.{◌≤◌, length};
+    ghost use Rattle.sgt_names.specs.Limits.{max_sites};
+    ghost use Rattle.sgt_settle.specs.Settled.{IsSettled, Run};
+
+    ghost Value = { Run };
+
+    ghost view = { λ s. record {
+      certifier = s.certifier;
+      sites = s.sites.items;
+      counts = s.counts.items;
+      dones = s.dones.items;
+    } };
+
+    ghost invariant = { λ s. IsSettled (record {
+      certifier = s.certifier;
+      sites = s.sites.items;
+      counts = s.counts.items;
+      dones = s.dones.items;
+    }) × (length s.sites.items ≤ max_sites) };
+}
+
+impl Settled {
+    ghost use Rattle.std.specs.Prelude.{◌≡◌};
+    ghost use Rattle.sgt_settle.specs.Settled.{IsSettled};
+
+    /// What each script was told, in the order in which it was given.
+    pub fn dones(&self) -> &[Done]
+        ensures dones { result.now ≡ self.now.dones }
+        ensures settled { IsSettled self.now }
+    {
+        self.dones.as_slice()
+    }
+
+    /// The sites with their logs, by number.
+    pub fn sites(&self) -> &[Site]
+        ensures { result.now ≡ self.now.sites }
+    {
+        self.sites.as_slice()
+    }
+
+    /// The certifier with its history.
+    pub fn certifier(&self) -> &Certifier
+        ensures { result.now ≡ self.now.certifier }
+    {
+        &self.certifier
+    }
+}
+
+/// Takes a service apart, once all its callers are done, and checks what was left against what they were told. Where the seats
+/// are all that there are, the history has as many decisions as their shares together. It waits for nobody.
+///
+/// A run that isn't settled is refused as `check_settled` refuses it: V1, V2, V6, V8, V9 and V10, in this order, each with the
+/// least number of its kind. V3: there was no memory.
+#[tactic(auto, using(crate::proofs::Counts::counts_many))]
+pub fn settle<L: Ledger>(
+    alloc: Global,
+    service: Service<L>,
+    dones: Vec<Done>,
+    seats: Vec<Seat<L>>,
+) -> Result<Settled, ServiceFault>
+    ensures settled { IfOk result IsSettled }
+    ensures dones { IfOk result (λ s. s.dones ≡ dones.items) }
+    ensures counts { IfOk result (λ s. s.counts ≡ counts_of (vec_len service.names) seats.items) }
+    ensures sites { IfOk result (λ s. length s.sites ≡ vec_len service.names) }
+    ensures decisions { IfOk result (λ s. parts_of seats.items ≡ L.parts
+        → decision_count s.certifier ≡ amount_of seats.items) }
+    ensures refused { IfErr result (λ f. (f ≡ Memory)
+        ⊎ ((r : Run) × IsLeftOf (vec_len service.names) L.parts seats.items dones.items r × IsUnsettled r f)) }
+{
+    let Opened {
+        certifier,
+        sites,
+        counts,
+    } = service.open(alloc, seats)?;
+    check_settled(
+        alloc,
+        &certifier,
+        sites.as_slice(),
+        counts.as_slice(),
+        dones.as_slice(),
+    )?;
+    Ok(Settled {
+        certifier,
+        sites,
+        counts,
+        dones,
+    })
+}
+
+/// The certificate and the logs that were found behind the locks. A bundle has a site at least, so a run without one has none.
+/// It errs where there is no memory.
+pub fn bundle(alloc: Global, settled: &Settled) -> Result<Bundle, AllocError>
+    requires { 1 ≤ length settled.now.sites }
+    ensures { IfOk result (IsBundleOf settled.now) }
+{
+    let count = settled.sites.len() as u8;
+    let _history = settled.certifier.history();
+    let certificate = settled.certifier.certificate(alloc, count)?;
+    let logs = logs_of(alloc, settled.sites.as_slice())?;
+    match Bundle::new(certificate, logs) {
+        Some(bundle) => Ok(bundle),
+        None => unreachable!(),
+    }
+}
+
+// The log of a site, with the last values of its items.
+fn log_of(alloc: Global, site: &Site) -> Result<SiteLog, AllocError>
+    ensures log { IfOk result (IsLogOf site.now) }
+    ensures site { IsSite site.now }
+{
+    let items = Vec::from_slice(alloc, site.items())?;
+    let entries = Vec::from_slice(alloc, site.log())?;
+    let Ok(finals) = site.final_values(alloc) else {
+        return Err(AllocError);
+    };
+    Ok(SiteLog {
+        items: Listed::new(items),
+        entries: Listed::new(entries),
+        finals: Listed::new(finals),
+    })
+}
+
+// The logs of the sites, by number.
+fn logs_of(alloc: Global, sites: &[Site]) -> Result<Vec<SiteLog>, AllocError>
+    ensures { IfOk result (λ logs. AllZip (λ s log. IsLogOf s log × IsSite s) sites.now logs.items) }
+{
+    let mut logs = Vec::new(alloc);
+    logs.reserve(sites.len())?;
+    for site in sites {
+        let log = log_of(alloc, site)?;
+        logs.push_reserved(log);
+    }
+    Ok(logs)
+}
