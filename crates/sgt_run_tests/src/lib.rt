@@ -2,4 +2,6 @@
 #![tactic(auto)]
 
 #[cfg(test)]
+mod settled;
+#[cfg(test)]
 mod tests;
