@@ -21,6 +21,7 @@ fn main(rt: HostRuntime) -> ExitCode {
         Err(_) => return ExitCode::from(refuse_words(&mut errors)),
     };
     let status = program(
+        &rt,
         rt.alloc(),
         words.as_slice(),
         &mut reader,

@@ -7,12 +7,12 @@ use Rattle.sgt_names.specs.declared.outcome.EngineFail.TheVariants.{Memory, Read
 use Rattle.sgt_names.specs.declared.outcome.Outcome.{Outcome}
 use Rattle.sgt_names.specs.declared.outcome.Outcome.TheVariants as Outcome_
 use Rattle.sgt_names.proofs.Devices.{wrote_nothing}
+use Rattle.sgt_audit.specs.Verdict as audit
 use Rattle.sgt_audit.specs.Verdict.{IsVerdict, SaysHeadline, text_of}
 use Rattle.sgt_audit.specs.declared.verdict.Verdict.{Verdict}
 use Rattle.sgt_audit.specs.declared.verdict.Verdict.TheVariants.{Yes, No}
-use Rattle.sgt_replay.specs.Replay as replay
 use Rattle.sgt_serial.specs.Answer as serial
-use Rattle.sgt_program.specs.Commands.{AnswersAudit, AnswersSerial, AnswersReplay, AnswersOthers, outcome}
+use Rattle.sgt_program.specs.Commands.{AnswersAudit, AnswersSerial, AnswersOthers, ByStatus, outcome}
 use Rattle.sgt_program.specs.Ending.{status_of}
 use Rattle.sgt_program.specs.declared.ending.Ending.TheVariants.{Ran}
 
@@ -36,6 +36,17 @@ failing : (fail : EngineFail) → 3 ≤ status_of (Ran (Err fail))
 failing Memory = omega arith
 failing ReadFault = omega arith
 failing WriteFault = omega arith
+
+pub audit-fails : (told old new : Option (List ℕ)) (fail : EngineFail) → audit.WroteFront told old new
+    → AnswersAudit (status_of (Ran (Err fail))) told old new
+audit-fails told old new fail front =
+    let high = failing fail in
+    record {
+      yes = λ e. absurd (omega (arith, high, e));
+      no = λ e. absurd (omega (arith, high, e));
+      known = λ e. omega (arith, high, e);
+      front = λ le. front;
+    }
 
 pub serial-answers : (told old new : Option (List ℕ)) (r : Result Outcome EngineFail) → IfOk r (λ o. serial.WroteAnswer told o old new)
     → OnErr r (serial.WroteAnswerFront told old new) → AnswersSerial (status_of (Ran r)) told old new
@@ -61,31 +72,31 @@ serial-answers told old new (Err fail) wrote front =
       front = λ le. front;
     }
 
-pub replay-answers : (told old new : Option (List ℕ)) (r : Result Outcome EngineFail) → IfOk r (λ o. replay.WroteAnswer told o old new)
-    → OnErr r (replay.WroteAnswerFront told old new) → AnswersReplay (status_of (Ran r)) told old new
-replay-answers told old new (Ok Outcome_.Yes) wrote front = record {
-  done = λ e. wrote;
-  active = λ e. absurd (omega arith);
+pub status-answers : (Wrote : Outcome → Type 0) (Front : Type 0) (r : Result Outcome EngineFail) → IfOk r Wrote → OnErr r Front
+    → ByStatus Wrote Front (status_of (Ran r))
+status-answers Wrote Front (Ok Outcome_.Yes) wrote front = record {
+  yes = λ e. wrote;
+  no = λ e. absurd (omega arith);
   unreadable = λ e. absurd (omega arith);
   front = λ le. absurd (omega arith);
 }
-replay-answers told old new (Ok Outcome_.No) wrote front = record {
-  done = λ e. absurd (omega arith);
-  active = λ e. wrote;
+status-answers Wrote Front (Ok Outcome_.No) wrote front = record {
+  yes = λ e. absurd (omega arith);
+  no = λ e. wrote;
   unreadable = λ e. absurd (omega arith);
   front = λ le. absurd (omega arith);
 }
-replay-answers told old new (Ok Outcome_.Unreadable) wrote front = record {
-  done = λ e. absurd (omega arith);
-  active = λ e. absurd (omega arith);
+status-answers Wrote Front (Ok Outcome_.Unreadable) wrote front = record {
+  yes = λ e. absurd (omega arith);
+  no = λ e. absurd (omega arith);
   unreadable = λ e. wrote;
   front = λ le. absurd (omega arith);
 }
-replay-answers told old new (Err fail) wrote front =
+status-answers Wrote Front (Err fail) wrote front =
     let high = failing fail in
     record {
-      done = λ e. absurd (omega (arith, high, e));
-      active = λ e. absurd (omega (arith, high, e));
+      yes = λ e. absurd (omega (arith, high, e));
+      no = λ e. absurd (omega (arith, high, e));
       unreadable = λ e. absurd (omega (arith, high, e));
       front = λ le. front;
     }

@@ -1,3 +1,6 @@
 mod Answered
+mod Chosen
+mod Examples
+mod Numbers
 mod OneWord
 mod Told

@@ -9,7 +9,10 @@ use Rattle.sgt_audit.specs.Verdict.{IsVerdict, HoldsHeadline, text_of}
 use Rattle.sgt_audit.specs.declared.faults.Fault.{Fault}
 use Rattle.sgt_audit.specs.declared.verdict.Verdict.{Verdict}
 use Rattle.sgt_audit.specs.declared.verdict.Verdict.TheVariants.{Yes, No}
+use Rattle.sgt_program.specs.declared.choice.Choice.{Choice}
+use Rattle.sgt_program.specs.declared.choice.Choice.TheVariants.{Audit, Replay, Run, Serial}
 use Rattle.sgt_replay.specs.Replay as replay
+use Rattle.sgt_run.specs.Report as run
 use Rattle.sgt_serial.specs.Answer as serial
 use Rattle.sgt_serial.specs.Answer.{IsAnswer}
 
@@ -52,13 +55,31 @@ pub record AnswersSerial (status : ℕ) (told written written' : Option (List �
   pub known : status ≢ 2
   pub front : 3 ≤ status → serial.WroteAnswerFront told written written'
 
+-- what an engine wrote, by the status: at 0, 1 and 2 its whole answer, and at 3 and 4 a front of one
+pub record ByStatus (Wrote : Outcome → Type 0) (Front : Type 0) (status : ℕ) : Type 0 where
+  pub yes : status ≡ 0 → Wrote Outcome_.Yes
+  pub no : status ≡ 1 → Wrote Outcome_.No
+  pub unreadable : status ≡ 2 → Wrote Outcome_.Unreadable
+  pub front : 3 ≤ status → Front
+
 -- the replay: the replies with the bundle behind them, the replies with a refusal behind them where a transaction is active at
 -- the end, or the line that can't be read
-pub record AnswersReplay (status : ℕ) (told written written' : Option (List ℕ)) : Type 0 where
-  pub done : status ≡ 0 → replay.WroteAnswer told Outcome_.Yes written written'
-  pub active : status ≡ 1 → replay.WroteAnswer told Outcome_.No written written'
-  pub unreadable : status ≡ 2 → replay.WroteAnswer told Outcome_.Unreadable written written'
-  pub front : 3 ≤ status → replay.WroteAnswerFront told written written'
+abbrev pub AnswersReplay : (status : ℕ) (told written written' : Option (List ℕ)) → Type 0
+AnswersReplay status told written written' =
+    ByStatus (λ outcome. replay.WroteAnswer told outcome written written') (replay.WroteAnswerFront told written written') status
+
+-- the run of scripts: their lines, the verdict and the bundle, at 0 where each script was committed and the verdict is yes, and else
+-- at 1; the fault that ended the run, at 1; or the line that can't be read
+abbrev pub AnswersRun : (tries status : ℕ) (told written written' : Option (List ℕ)) → Type 0
+AnswersRun tries status told written written' =
+    ByStatus (λ outcome. run.WroteAnswer tries told outcome written written') (run.WroteAnswerFront tries told written written') status
+
+-- what was chosen
+abbrev pub Answers : Choice → (status : ℕ) (told written written' : Option (List ℕ)) → Type 0
+Answers Audit = AnswersAudit
+Answers Serial = AnswersSerial
+Answers Replay = AnswersReplay
+Answers (Run workers tries) = AnswersRun tries
 
 -- other words: help, or no command
 pub record AnswersOthers (status : ℕ) (written written' : Option (List ℕ)) : Type 0 where

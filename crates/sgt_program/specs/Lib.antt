@@ -1,3 +1,5 @@
+pub mod Options
 pub mod Words
 pub mod Ending
 pub mod Commands
+pub mod private

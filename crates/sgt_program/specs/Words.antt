@@ -1,7 +1,8 @@
 -- What the words of the command line ask for.
-use Rattle.std.specs.Prelude.{◌≡◌, ◌<◌, ℕ, ◌⊎◌, List, [], ◌∷◌, drop, codes, length, string_bytes, ⊤}
+use Rattle.std.specs.Prelude.{◌≡◌, ◌<◌, ◌≤◌, ℕ, ◌⊎◌, List, [], ◌∷◌, drop, take, codes, length, string_bytes, ⊤}
+use Rattle.sgt_program.specs.Options.{SaysRun}
 use Rattle.sgt_program.specs.declared.choice.Choice.{Choice}
-use Rattle.sgt_program.specs.declared.choice.Choice.TheVariants.{Audit, Replay, Serial}
+use Rattle.sgt_program.specs.declared.choice.Choice.TheVariants.{Audit, Replay, Run, Serial}
 use Rattle.sgt_program.specs.declared.choice.NoChoice.{NoChoice}
 use Rattle.sgt_program.specs.declared.choice.NoChoice.TheVariants.{Help, Usage, Memory}
 
@@ -17,15 +18,43 @@ AsksSerial words = drop 1 words ≡ codes "serial" ∷ []
 abbrev pub AsksReplay : List (List ℕ) → Type 0
 AsksReplay words = drop 1 words ≡ codes "replay" ∷ []
 
+-- behind the program's name stands `run`, and maybe more
+abbrev pub NamesRun : List (List ℕ) → Type 0
+NamesRun words = take 1 (drop 1 words) ≡ codes "run" ∷ []
+
+-- the words ask for a run of scripts by so many workers, with so many tries for each: behind the program's name stands `run`, and
+-- clap finds these numbers in what follows
+abbrev pub AsksRun : List (List ℕ) → (workers tries : ℕ) → Type 0
+AsksRun words workers tries = NamesRun words × SaysRun (drop 1 words) workers tries
+
+-- a run, of the numbers that clap finds
+abbrev pub IsRunOf : List (List ℕ) → Choice → Type 0
+IsRunOf words (Run workers tries) = SaysRun words workers tries
+IsRunOf words _ = ⊥
+
 -- other words are help or no command
 abbrev pub AsksNone : List (List ℕ) → Type 0
 AsksNone words = (AsksAudit words → ⊥) × (AsksSerial words → ⊥) × (AsksReplay words → ⊥)
+    × ((workers tries : ℕ) → AsksRun words workers tries → ⊥)
+
+-- the words ask for this, which is no run
+abbrev pub AsksPlain : List (List ℕ) → Choice → Type 0
+AsksPlain words Audit = AsksAudit words
+AsksPlain words Serial = AsksSerial words
+AsksPlain words Replay = AsksReplay words
+AsksPlain words (Run workers tries) = ⊥
 
 -- the words ask for this
 abbrev pub AsksFor : List (List ℕ) → Choice → Type 0
 AsksFor words Audit = AsksAudit words
 AsksFor words Serial = AsksSerial words
 AsksFor words Replay = AsksReplay words
+AsksFor words (Run workers tries) = AsksRun words workers tries
+
+-- a run has a worker and a try
+abbrev pub CanRun : Choice → Type 0
+CanRun (Run workers tries) = (1 ≤ workers) × (1 ≤ tries)
+CanRun _ = ⊤
 
 -- what is said of other words is never empty
 abbrev pub HasText : NoChoice → Type 0

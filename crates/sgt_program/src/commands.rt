@@ -1,17 +1,19 @@
 //! The program over any reader and writers.
 
-ghost use Rattle.std.specs.Prelude.{◌≡◌, ◌<◌, Err, map, length, string_bytes, IfErr, IsOk, codes};
-ghost use Rattle.sgt_program.specs.Commands.{AnswersAudit, AnswersSerial, AnswersReplay, AnswersOthers};
+ghost use Rattle.std.specs.Prelude.{◌≡◌, ◌<◌, ℕ, Err, map, length, string_bytes, IfErr, IsOk, codes};
+ghost use Rattle.sgt_program.specs.Commands.{AnswersAudit, AnswersSerial, AnswersReplay, AnswersRun, AnswersOthers};
 ghost use Rattle.sgt_program.specs.Ending.{LeavesDevices, ReadFailed, TellsErrors, WroteOrFailed, status_of, text_of_fail};
-ghost use Rattle.sgt_program.specs.Words.{AsksAudit, AsksSerial, AsksReplay, AsksNone};
+ghost use Rattle.sgt_program.specs.Words.{AsksAudit, AsksSerial, AsksReplay, AsksRun, AsksNone};
 ghost use Rattle.sgt_program.specs.declared.ending.Ending.{Ending};
 ghost use Rattle.sgt_program.specs.declared.ending.Ending.TheVariants.{Ran, NoCommand};
 
-use crate::choice::{Choice, NoChoice, choose};
+use crate::choice::{NoChoice, choose};
 use crate::ending::{Ending, status, tell, tell_fail};
-use crate::engines::{run_audit, run_replay, run_serial, show_help};
+use crate::engines::{run_choice, show_help};
 use sgt_names::{EngineFail, Outcome, Sink, Source};
 use std::alloc::Global;
+use std::sync::Wait;
+use std::thread::Threads;
 
 /// The exit status; where there is no answer, the error stream is told why.
 fn finish<E: Sink>(errors: &mut E, run: Result<Outcome, EngineFail>) -> u8
@@ -55,10 +57,12 @@ pub fn refuse_words<E: Sink>(errors: &mut E) -> u8
     refuse(errors, "sgt: the arguments are not UTF-8\n")
 }
 
-/// Does what the words ask for, and gives the exit status: 0 yes or done (or help was shown), 1 no, or a replay that ended with a
-/// transaction active, 2 the words are no command (nothing is read or written then) or a line of a replay's input can't be read,
-/// 3 want of memory, 4 a read or a write failed. The first word is the program's name. For help nothing is read.
-pub fn program<R: Source, W: Sink, E: Sink>(
+/// Does what the words ask for, and gives the exit status: 0 yes or done (or help was shown); 1 no, a replay that ended with a
+/// transaction active, a script that was not committed, or a fault that ended a run; 2 the words are no command (nothing is read or
+/// written then) or a line of a replay's or a run's input can't be read; 3 want of memory; 4 a read or a write failed. The first word
+/// is the program's name. For help nothing is read. Only a run starts threads; they are joined when this returns.
+pub fn program<H: Threads + Wait + Sync, R: Source, W: Sink, E: Sink>(
+    rt: &H,
     alloc: Global,
     words: &[String],
     reader: &mut R,
@@ -72,6 +76,8 @@ pub fn program<R: Source, W: Sink, E: Sink>(
         → AnswersSerial result (R.tells reader.old) (W.holds writer.old) (W.holds writer.new) }
     ensures replay { AsksReplay (map string_bytes words.now)
         → AnswersReplay result (R.tells reader.old) (W.holds writer.old) (W.holds writer.new) }
+    ensures run { (workers tries : ℕ) → AsksRun (map string_bytes words.now) workers tries
+        → AnswersRun tries result (R.tells reader.old) (W.holds writer.old) (W.holds writer.new) }
     ensures others { AsksNone (map string_bytes words.now)
         → (reader.new ≡ reader.old) × AnswersOthers result (W.holds writer.old) (W.holds writer.new) }
 
@@ -86,9 +92,7 @@ pub fn program<R: Source, W: Sink, E: Sink>(
         (WroteOrFailed (E.holds errors.old) (E.holds errors.new) (E.failures errors.old) (E.failures errors.new)) }
 {
     match choose(alloc, words) {
-        Ok(Choice::Audit) => finish(errors, run_audit(alloc, reader, writer)),
-        Ok(Choice::Serial) => finish(errors, run_serial(alloc, reader, writer)),
-        Ok(Choice::Replay) => finish(errors, run_replay(alloc, reader, writer)),
+        Ok(choice) => finish(errors, run_choice(rt, alloc, choice, reader, writer)),
         Err(NoChoice::Help(text)) => finish(errors, show_help(writer, text.as_str())),
         Err(NoChoice::Usage(text)) => refuse(errors, text.as_str()),
         Err(NoChoice::Memory) => give_up(errors, EngineFail::Memory),

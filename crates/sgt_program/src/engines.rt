@@ -1,15 +1,21 @@
 //! The engines behind the commands, and the help, each with how it ended.
 
 ghost use Rattle.std.specs.Prelude.{◌≡◌, ◌<◌, length, IfOk, IfErr};
-ghost use Rattle.sgt_program.specs.Commands.{AnswersAudit, AnswersSerial, AnswersReplay, AnswersOthers, outcome};
+ghost use Rattle.sgt_program.specs.Commands.{Answers, AnswersOthers, outcome};
 ghost use Rattle.sgt_program.specs.Ending.{LeavesDevices, ReadFailed, status_of};
+ghost use Rattle.sgt_program.specs.Words.{CanRun};
 ghost use Rattle.sgt_program.specs.declared.ending.Ending.TheVariants.{Ran};
 
+use crate::choice::Choice;
 use sgt_audit::{Verdict, audit};
 use sgt_names::{EngineFail, Outcome, Sink, Source, write_all};
 use sgt_replay::replay;
+use sgt_run::run_scripts;
 use sgt_serial::serial;
+use sgt_workers::NoGate;
 use std::alloc::Global;
+use std::sync::Wait;
+use std::thread::Threads;
 
 fn outcome_of(verdict: Verdict) -> Outcome
     ensures { result ≡ outcome verdict }
@@ -20,52 +26,33 @@ fn outcome_of(verdict: Verdict) -> Outcome
     }
 }
 
-pub fn run_audit<R: Source, W: Sink>(
+/// Runs the engine of the command that was chosen.
+pub fn run_choice<H: Threads + Wait + Sync, R: Source, W: Sink>(
+    rt: &H,
     alloc: Global,
+    choice: Choice,
     reader: &mut R,
     writer: &mut W,
 ) -> Result<Outcome, EngineFail>
-    ensures answers { AnswersAudit (status_of (Ran result)) (R.tells reader.old) (W.holds writer.old) (W.holds writer.new) }
+    requires { CanRun choice }
+    ensures answers { Answers choice (status_of (Ran result)) (R.tells reader.old) (W.holds writer.old) (W.holds writer.new) }
     ensures ends { LeavesDevices (Ran result)
         ((R.failures reader.new ≡ R.failures reader.old) × (W.failures writer.new ≡ W.failures writer.old))
         (ReadFailed (R.tells reader.old) (R.failures reader.old) (R.failures reader.new))
         (W.failures writer.old < W.failures writer.new)
         (writer.new ≡ writer.old) }
 {
-    match audit(alloc, reader, writer) {
-        Ok(verdict) => Ok(outcome_of(verdict)),
-        Err(fail) => Err(fail),
+    match choice {
+        Choice::Audit => match audit(alloc, reader, writer) {
+            Ok(verdict) => Ok(outcome_of(verdict)),
+            Err(fail) => Err(fail),
+        },
+        Choice::Serial => serial(alloc, reader, writer),
+        Choice::Replay => replay(alloc, reader, writer),
+        Choice::Run { workers, tries } => {
+            run_scripts(rt, alloc, reader, writer, workers, tries, &NoGate)
+        }
     }
-}
-
-pub fn run_serial<R: Source, W: Sink>(
-    alloc: Global,
-    reader: &mut R,
-    writer: &mut W,
-) -> Result<Outcome, EngineFail>
-    ensures answers { AnswersSerial (status_of (Ran result)) (R.tells reader.old) (W.holds writer.old) (W.holds writer.new) }
-    ensures ends { LeavesDevices (Ran result)
-        ((R.failures reader.new ≡ R.failures reader.old) × (W.failures writer.new ≡ W.failures writer.old))
-        (ReadFailed (R.tells reader.old) (R.failures reader.old) (R.failures reader.new))
-        (W.failures writer.old < W.failures writer.new)
-        (writer.new ≡ writer.old) }
-{
-    serial(alloc, reader, writer)
-}
-
-pub fn run_replay<R: Source, W: Sink>(
-    alloc: Global,
-    reader: &mut R,
-    writer: &mut W,
-) -> Result<Outcome, EngineFail>
-    ensures answers { AnswersReplay (status_of (Ran result)) (R.tells reader.old) (W.holds writer.old) (W.holds writer.new) }
-    ensures ends { LeavesDevices (Ran result)
-        ((R.failures reader.new ≡ R.failures reader.old) × (W.failures writer.new ≡ W.failures writer.old))
-        (ReadFailed (R.tells reader.old) (R.failures reader.old) (R.failures reader.new))
-        (W.failures writer.old < W.failures writer.new)
-        (writer.new ≡ writer.old) }
-{
-    replay(alloc, reader, writer)
 }
 
 /// Writes the help.

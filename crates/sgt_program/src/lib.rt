@@ -5,5 +5,6 @@ mod choice;
 mod commands;
 mod ending;
 mod engines;
+mod options;
 
 pub use commands::{give_up, program, refuse_words};

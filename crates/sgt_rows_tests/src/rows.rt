@@ -6,6 +6,7 @@ pub mod increments;
 pub mod lines_doubled;
 pub mod lines_left_out;
 pub mod replays;
+pub mod runs;
 pub mod serial_runs;
 pub mod walks;
 

@@ -9,15 +9,18 @@ use crate::rows::increments::INCREMENTS;
 use crate::rows::lines_doubled::LINES_DOUBLED;
 use crate::rows::lines_left_out::LINES_LEFT_OUT;
 use crate::rows::replays::REPLAYS;
+use crate::rows::runs::RUNS;
 use crate::rows::serial_runs::SERIAL_RUNS;
 use crate::rows::walks::WALKS;
 use sgt_names::{MemSink, MemSource};
 use sgt_program::program;
 use std::alloc::{AllocError, Global};
+use std::sync::Wait;
 use std::test::Fail;
+use std::thread::Threads;
 
 const HELP: &str =
-    "Audits the logs of certified runs, and replays runs from events. Reads standard input and writes standard output.
+    "Audits the logs of certified runs, replays runs from events, and runs scripts. Reads standard input and writes standard output.
 
 Usage: sgt [COMMAND]
 
@@ -25,18 +28,30 @@ Commands:
   audit   Writes `yes C committed R refused W withdrawn` for a valid bundle, else `no line L FN` (the default)
   serial  Runs a valid bundle's committed transactions one after another by rank, else writes audit's `no` line
   replay  Reads sites and events, and writes a reply to each event, then `---` and the bundle, or `! E8`
+  run     Runs scripts by threads, and writes a line for each, audit's line on the run's own bundle, then `---` and the bundle
 
 Options:
   -h, --help  Print help
 
-L is the first line with a fault and FN the fault: docs/FORMAT.md has the faults and the formats of a bundle and of a replay.
+L is the first line with a fault and FN the fault: docs/FORMAT.md has the faults and the formats of a bundle, a replay and scripts.
 
 Exit status:
   0  yes or done, or help was asked for
-  1  no: the bundle is not valid, or a replay ended with a transaction active
-  2  the words are no command and nothing was read, or `! LN line L`: a replay's line L is the first that can't be read
+  1  no: the bundle is not valid, a replay ended with a transaction active, a script was not committed, or a fault ended a run
+  2  the words are no command and nothing was read, or `! LN line L`: line L of events or scripts is the first that can't be read
   3  want of memory
   4  a read or a write failed
+";
+
+const RUN_HELP: &str =
+    "Runs scripts by threads, and writes a line for each, audit's line on the run's own bundle, then `---` and the bundle
+
+Usage: sgt run [OPTIONS]
+
+Options:
+      --workers <N>  How many threads run scripts, from 1 to 16 [default: 1]
+      --tries <N>    How often a script is tried until it isn't refused, from 1 to 4 [default: 4]
+  -h, --help         Print help
 ";
 
 /// The words of the command line, the program's name first.
@@ -50,7 +65,8 @@ fn words_of(alloc: Global, texts: &[&str]) -> Result<Vec<String>, AllocError> {
 }
 
 /// Runs the program, and gives its status.
-fn run(
+fn run<H: Threads + Wait + Sync>(
+    rt: &H,
     alloc: Global,
     texts: &[&str],
     input: &mut MemSource<'_>,
@@ -58,17 +74,29 @@ fn run(
     errors: &mut MemSink,
 ) -> Result<u8, Fail> {
     let words = words_of(alloc, texts)?;
-    Ok(program(alloc, words.as_slice(), input, output, errors))
+    Ok(program(
+        rt,
+        alloc,
+        words.as_slice(),
+        input,
+        output,
+        errors,
+    ))
 }
 
 /// Whether the program, which reads so many bytes at once, answers as the row says.
-fn answers(alloc: Global, row: &Row, per_read: usize) -> Result<bool, Fail>
+fn answers<H: Threads + Wait + Sync>(
+    rt: &H,
+    alloc: Global,
+    row: &Row,
+    per_read: usize,
+) -> Result<bool, Fail>
     requires { 0 < per_read }
 {
     let mut input = MemSource::new(row.input.as_bytes(), per_read, None);
     let mut output = MemSink::new(alloc, 1000)?;
     let mut errors = MemSink::new(alloc, 100)?;
-    let status = run(alloc, row.words, &mut input, &mut output, &mut errors)?;
+    let status = run(rt, alloc, row.words, &mut input, &mut output, &mut errors)?;
     Ok(status == row.status && output.bytes() == row.output.as_bytes() && errors.bytes().is_empty())
 }
 
@@ -85,7 +113,7 @@ fn worked_rows(rt: HostRuntime) -> Result<(), Fail> {
     ] {
         for row in rows {
             for per_read in [1usize, 3, 65_536] {
-                let as_said = answers(rt.alloc(), row, per_read)?;
+                let as_said = answers(&rt, rt.alloc(), row, per_read)?;
                 assert!(rt; as_said, "{} in pieces of {per_read}", row.name);
             }
         }
@@ -94,25 +122,29 @@ fn worked_rows(rt: HostRuntime) -> Result<(), Fail> {
 }
 
 /// Whether the bundle of the row's output, if there is one, audits as yes.
-fn leaves_a_valid_bundle(alloc: Global, row: &Row) -> Result<bool, Fail> {
+fn leaves_a_valid_bundle<H: Threads + Wait + Sync>(
+    rt: &H,
+    alloc: Global,
+    row: &Row,
+) -> Result<bool, Fail> {
     let Some((_, bundle)) = row.output.split_once("---\n") else {
         return Ok(row.status != 0);
     };
     let mut input = MemSource::new(bundle.as_bytes(), 65_536, None);
     let mut output = MemSink::new(alloc, 100)?;
     let mut errors = MemSink::new(alloc, 100)?;
-    let status = run(alloc, [].as_slice(), &mut input, &mut output, &mut errors)?;
+    let status = run(rt, alloc, [].as_slice(), &mut input, &mut output, &mut errors)?;
     Ok(status == 0 && output.bytes().starts_with(b"yes "))
 }
 
 #[test]
-fn replays(rt: HostRuntime) -> Result<(), Fail> {
-    for row in &REPLAYS {
+fn replays_and_runs(rt: HostRuntime) -> Result<(), Fail> {
+    for row in REPLAYS.iter().chain(RUNS.iter()) {
         for per_read in [1usize, 65_536] {
-            let as_said = answers(rt.alloc(), row, per_read)?;
+            let as_said = answers(&rt, rt.alloc(), row, per_read)?;
             assert!(rt; as_said, "{} in pieces of {per_read}", row.name);
         }
-        let valid = leaves_a_valid_bundle(rt.alloc(), row)?;
+        let valid = leaves_a_valid_bundle(&rt, rt.alloc(), row)?;
         assert!(rt; valid, "{}", row.name);
     }
     Ok(())
@@ -140,7 +172,7 @@ fn window_full(rt: HostRuntime) -> Result<(), Fail> {
     let mut output = MemSink::new(rt.alloc(), 30_000)?;
     let mut errors = MemSink::new(rt.alloc(), 100)?;
     let words = ["replay"].as_slice();
-    let status = run(rt.alloc(), words, &mut input, &mut output, &mut errors)?;
+    let status = run(&rt, rt.alloc(), words, &mut input, &mut output, &mut errors)?;
     assert_eq!(rt; status, 1);
     assert!(rt; output.bytes() == replies.as_bytes());
     assert!(rt; errors.bytes().is_empty());
@@ -171,11 +203,16 @@ fn of_items(alloc: Global, count: usize) -> Result<String, AllocError> {
 }
 
 /// Whether the audit of the text says this.
-fn audits(alloc: Global, text: &str, says: &str) -> Result<bool, Fail> {
+fn audits<H: Threads + Wait + Sync>(
+    rt: &H,
+    alloc: Global,
+    text: &str,
+    says: &str,
+) -> Result<bool, Fail> {
     let mut input = MemSource::new(text.as_bytes(), 65_536, None);
     let mut output = MemSink::new(alloc, 100)?;
     let mut errors = MemSink::new(alloc, 100)?;
-    run(alloc, [].as_slice(), &mut input, &mut output, &mut errors)?;
+    run(rt, alloc, [].as_slice(), &mut input, &mut output, &mut errors)?;
     Ok(output.bytes() == says.as_bytes())
 }
 
@@ -184,7 +221,7 @@ fn limits(rt: HostRuntime) -> Result<(), Fail> {
     const YES: &str = "yes 0 committed 0 refused 0 withdrawn\n";
     for (count, says) in [(17, YES), (64, YES), (65, "no line 2 F3\n")] {
         let text = of_sites(rt.alloc(), count)?;
-        assert!(rt; audits(rt.alloc(), text.as_str(), says)?, "{count} sites");
+        assert!(rt; audits(&rt, rt.alloc(), text.as_str(), says)?, "{count} sites");
     }
     for (count, says) in [
         (256, YES),
@@ -193,7 +230,7 @@ fn limits(rt: HostRuntime) -> Result<(), Fail> {
         (1025, "no line 1028 F7\n"),
     ] {
         let text = of_items(rt.alloc(), count)?;
-        assert!(rt; audits(rt.alloc(), text.as_str(), says)?, "{count} items");
+        assert!(rt; audits(&rt, rt.alloc(), text.as_str(), says)?, "{count} items");
     }
     Ok(())
 }
@@ -207,7 +244,18 @@ fn words_are_judged_first(rt: HostRuntime) -> Result<(), Fail> {
         (["serial", "--help"].as_slice(), 0),
         (["replay", "--help"].as_slice(), 0),
         (["frobnicate"].as_slice(), 2),
+        (["run", "--help"].as_slice(), 0),
+        // seventeen_workers
         (["run", "--workers", "17"].as_slice(), 2),
+        (["run", "--workers", "0"].as_slice(), 2),
+        (["run", "--workers", "-1"].as_slice(), 2),
+        (["run", "--workers", "two"].as_slice(), 2),
+        (["run", "--workers"].as_slice(), 2),
+        (["run", "--workers", "2", "--workers", "2"].as_slice(), 2),
+        (["run", "--tries", "5"].as_slice(), 2),
+        (["run", "--tries", "0"].as_slice(), 2),
+        (["run", "x"].as_slice(), 2),
+        (["audit", "run"].as_slice(), 2),
         (["help"].as_slice(), 2),
         (["--version"].as_slice(), 2),
         (["audit", "x"].as_slice(), 2),
@@ -222,7 +270,7 @@ fn words_are_judged_first(rt: HostRuntime) -> Result<(), Fail> {
         let mut input = MemSource::new(b"sgt 1\n", 9, Some(1));
         let mut output = MemSink::new(rt.alloc(), 2000)?;
         let mut errors = MemSink::new(rt.alloc(), 2000)?;
-        let found = run(rt.alloc(), words, &mut input, &mut output, &mut errors)?;
+        let found = run(&rt, rt.alloc(), words, &mut input, &mut output, &mut errors)?;
         let told = (output.bytes().is_empty(), errors.bytes().is_empty());
         assert!(rt;
             (found, told) == (status, (status == 2, status == 0)),
@@ -244,7 +292,7 @@ fn help(rt: HostRuntime) -> Result<(), Fail> {
         let mut input = MemSource::new(b"", 1, Some(1));
         let mut output = MemSink::new(rt.alloc(), takes)?;
         let mut errors = MemSink::new(rt.alloc(), 100)?;
-        let found = run(rt.alloc(), words, &mut input, &mut output, &mut errors)?;
+        let found = run(&rt, rt.alloc(), words, &mut input, &mut output, &mut errors)?;
         assert!(rt; HELP.as_bytes().starts_with(output.bytes()), "{takes}");
         assert_eq!(rt; output.bytes().len() == HELP.len(), status == 0, "{takes}");
         assert!(rt;
@@ -255,8 +303,21 @@ fn help(rt: HostRuntime) -> Result<(), Fail> {
     Ok(())
 }
 
+#[test]
+fn help_of_run(rt: HostRuntime) -> Result<(), Fail> {
+    let mut input = MemSource::new(b"", 1, Some(1));
+    let mut output = MemSink::new(rt.alloc(), 2000)?;
+    let mut errors = MemSink::new(rt.alloc(), 100)?;
+    let words = ["run", "--help"].as_slice();
+    let status = run(&rt, rt.alloc(), words, &mut input, &mut output, &mut errors)?;
+    assert_eq!(rt; status, 0);
+    assert!(rt; output.bytes().starts_with(RUN_HELP.as_bytes()));
+    Ok(())
+}
+
 /// Whether the program says that a device failed, having written no more than a front of the row's output.
-fn gives_up(
+fn gives_up<H: Threads + Wait + Sync>(
+    rt: &H,
     alloc: Global,
     row: &Row,
     fail_at: Option<u64>,
@@ -266,7 +327,7 @@ fn gives_up(
     let mut input = MemSource::new(row.input.as_bytes(), 1, fail_at);
     let mut output = MemSink::new(alloc, takes)?;
     let mut errors = MemSink::new(alloc, 100)?;
-    let status = run(alloc, row.words, &mut input, &mut output, &mut errors)?;
+    let status = run(rt, alloc, row.words, &mut input, &mut output, &mut errors)?;
     Ok(
         status == 4
             && errors.bytes() == told.as_bytes()
@@ -278,13 +339,19 @@ fn gives_up(
 // One byte a read, and each of them fails in turn; then the writer takes ever more bytes, and not all.
 #[test]
 fn devices_that_fail(rt: HostRuntime) -> Result<(), Fail> {
-    for row in [&BUNDLES[1], &INCREMENTS[10], &REPLAYS[5], &REPLAYS[13]] {
+    for row in [
+        &BUNDLES[1],
+        &INCREMENTS[10],
+        &REPLAYS[5],
+        &REPLAYS[13],
+        &RUNS[9],
+    ] {
         for at in 1..=row.input.len() as u64 {
-            let gave_up = gives_up(rt.alloc(), row, Some(at), 1000, "sgt: read fault\n")?;
+            let gave_up = gives_up(&rt, rt.alloc(), row, Some(at), 1000, "sgt: read fault\n")?;
             assert!(rt; gave_up, "{} read {at}", row.name);
         }
         for takes in 0..row.output.len() {
-            let gave_up = gives_up(rt.alloc(), row, None, takes, "sgt: write fault\n")?;
+            let gave_up = gives_up(&rt, rt.alloc(), row, None, takes, "sgt: write fault\n")?;
             assert!(rt; gave_up, "{} {takes} bytes", row.name);
         }
     }
@@ -298,8 +365,71 @@ fn errors_that_cannot_be_told(rt: HostRuntime) -> Result<(), Fail> {
         let mut input = MemSource::new(b"", 1, Some(1));
         let mut output = MemSink::new(rt.alloc(), 0)?;
         let mut errors = MemSink::new(rt.alloc(), 0)?;
-        let found = run(rt.alloc(), words, &mut input, &mut output, &mut errors)?;
+        let found = run(&rt, rt.alloc(), words, &mut input, &mut output, &mut errors)?;
         assert_eq!(rt; found, status);
     }
     Ok(())
+}
+
+/// One site with x=0, and a thousand times this script.
+fn thousand(alloc: Global, script: &str) -> Result<String, AllocError> {
+    let mut text = String::from_str(alloc, "site 0 x=0\n")?;
+    for _ in 0..1000 {
+        text.push_str(script)?;
+        text.push_str("\n")?;
+    }
+    Ok(text)
+}
+
+/// How many scripts were committed, where each line of a script, the verdict and the last value of x agree on that.
+fn agreed_count(alloc: Global, output: &str) -> Result<Option<usize>, AllocError> {
+    let mut committed = 0usize;
+    for line in output.lines().take(1000) {
+        if line.starts_with("s") && line.contains(" committed ") {
+            committed = committed.saturating_add(1);
+        }
+    }
+    let verdict = format!(in alloc; "\nyes {committed} committed ")?;
+    let last = format!(in alloc; "\nfinal x={committed}\nend\n")?;
+    if output.contains(verdict.as_str()) && output.ends_with(last.as_str()) {
+        return Ok(Some(committed));
+    }
+    Ok(None)
+}
+
+// thousand_sums_sixteen_workers: which scripts are refused to the last isn't fixed, but x counts those that aren't.
+// thousand_increments_sixteen_workers: none ever is.
+#[test]
+fn sixteen_workers(rt: HostRuntime) -> Result<(), Fail> {
+    for (script, all) in [("r[0.x] w[0.x]=0.x+1", false), ("d[0.x]=1", true)] {
+        let text = thousand(rt.alloc(), script)?;
+        let mut input = MemSource::new(text.as_bytes(), 65_536, None);
+        let mut output = MemSink::new(rt.alloc(), 4_000_000)?;
+        let mut errors = MemSink::new(rt.alloc(), 100)?;
+        let words = ["run", "--workers", "16"].as_slice();
+        let status = run(&rt, rt.alloc(), words, &mut input, &mut output, &mut errors)?;
+        let told = str::from_utf8(output.bytes())?;
+        let count = agreed_count(rt.alloc(), told)?;
+        assert!(rt; count.is_some(), "{script}");
+        assert_eq!(rt; status, if count == Some(1000) { 0 } else { 1 }, "{script}");
+        assert!(rt; !all || (count == Some(1000) && !told.contains(" tries 2\n")), "{script}");
+        let (_, bundle) = told.split_once("---\n").ok_or("a bundle")?;
+        let start = if all { "yes 1000 committed 0 refused 0 withdrawn\n" } else { "yes " };
+        assert!(rt; is_said(&rt, rt.alloc(), bundle, start)?, "{script}");
+    }
+    Ok(())
+}
+
+/// Whether what the audit of the text says begins so.
+fn is_said<H: Threads + Wait + Sync>(
+    rt: &H,
+    alloc: Global,
+    text: &str,
+    start: &str,
+) -> Result<bool, Fail> {
+    let mut input = MemSource::new(text.as_bytes(), 65_536, None);
+    let mut output = MemSink::new(alloc, 100)?;
+    let mut errors = MemSink::new(alloc, 100)?;
+    run(rt, alloc, [].as_slice(), &mut input, &mut output, &mut errors)?;
+    Ok(output.bytes().starts_with(start.as_bytes()))
 }

@@ -1,6 +1,10 @@
-use Rattle.std.proofs.Common.{refl}
+use Rattle.std.proofs.Common.{ap, map, refl, string_bytes}
 use Rattle.sgt_program.proofs.Answered.{memory-answers}
+use Rattle.sgt_program.proofs.Chosen.{asks_none, is_memory, no_refusal, same_choice, same_run}
 use Rattle.sgt_program.proofs.Told.{helped, tells-errors}
+use Rattle.sgt_program.specs.Commands.{Answers}
+use Rattle.sgt_program.specs.Ending.{status_of}
+use Rattle.sgt_program.specs.declared.choice.Choice.TheVariants.{Audit, Run, Serial}
 use Rattle.sgt_program.specs.declared.ending.Ending.TheVariants.{Ran, NoCommand}
 use Rattle.sgt_program.proofs.commands.program.Goals as goal
 
@@ -12,20 +16,44 @@ returns-in-Err-Usage-clause-ends g c =
 pub returns-in-Err-Memory-clause-others : goal.returns-in-Err-Memory-clause-others
 returns-in-Err-Memory-clause-others g c = λ neither. (refl, memory-answers c.give_up.result _ c.give_up.ensures.status)
 
-pub returns-in-Ok-Audit-clause-ends : goal.returns-in-Ok-Audit-clause-ends
-returns-in-Ok-Audit-clause-ends g c =
+pub returns-in-Ok-clause-audit : goal.returns-in-Ok-clause-audit
+returns-in-Ok-clause-audit g c = λ asks.
+    rw c.finish.ensures.status
+    (same_choice c.choose.result _ Audit (λ choice. Answers choice (status_of (Ran c.run_choice.result))
+    (g.R.Source.tells c.args.reader.now) (g.W.Sink.holds c.args.writer.now) (g.W.Sink.holds c.run_choice.new.writer))
+    c.in-Ok.is (c.choose.ensures.audit asks) c.run_choice.ensures.answers)
+
+pub returns-in-Ok-clause-serial : goal.returns-in-Ok-clause-serial
+returns-in-Ok-clause-serial g c = λ asks.
+    rw c.finish.ensures.status
+    (same_choice c.choose.result _ Serial (λ choice. Answers choice (status_of (Ran c.run_choice.result))
+    (g.R.Source.tells c.args.reader.now) (g.W.Sink.holds c.args.writer.now) (g.W.Sink.holds c.run_choice.new.writer))
+    c.in-Ok.is (c.choose.ensures.serial asks) c.run_choice.ensures.answers)
+
+pub returns-in-Ok-clause-run : goal.returns-in-Ok-clause-run
+returns-in-Ok-clause-run g c = λ workers tries asks.
+    rw c.finish.ensures.status
+    (same_run c.choose.result _ (Run workers tries) (λ choice. Answers choice (status_of (Ran c.run_choice.result))
+        (g.R.Source.tells c.args.reader.now) (g.W.Sink.holds c.args.writer.now) (g.W.Sink.holds c.run_choice.new.writer))
+    c.in-Ok.is (c.choose.ensures.run workers tries asks) c.run_choice.ensures.answers)
+
+pub returns-in-Ok-clause-others : goal.returns-in-Ok-clause-others
+returns-in-Ok-clause-others g c = λ none. absurd (asks_none (map string_bytes c.args.words.now) c.in-Ok.choice none c.in-Ok.ensures.only)
+
+pub returns-in-Err-Help-clause-run : goal.returns-in-Err-Help-clause-run
+returns-in-Err-Help-clause-run g c = λ workers tries asks.
+    let help = c.in-Err-Help in
+    absurd (no_refusal c.choose.result _ help.field-0 (c.choose.ensures.run workers tries asks) help.is (ap is_memory help.field-0-is))
+
+pub returns-in-Err-Usage-clause-run : goal.returns-in-Err-Usage-clause-run
+returns-in-Err-Usage-clause-run g c = λ workers tries asks.
+    let usage = c.in-Err-Usage in
+    absurd (no_refusal c.choose.result _ usage.field-0 (c.choose.ensures.run workers tries asks) usage.is (ap is_memory usage.field-0-is))
+
+pub returns-in-Ok-clause-ends : goal.returns-in-Ok-clause-ends
+returns-in-Ok-clause-ends g c =
     let finished = c.finish.ensures in
-    (Ran c.run_audit.result, finished.status, c.run_audit.ensures.ends, tells-errors c.run_audit.result _ _ finished.silent finished.told)
-
-pub returns-in-Ok-Serial-clause-ends : goal.returns-in-Ok-Serial-clause-ends
-returns-in-Ok-Serial-clause-ends g c =
-    let finished = c.finish-in-Ok-Serial.ensures in
-    (Ran c.run_serial.result, finished.status, c.run_serial.ensures.ends, tells-errors c.run_serial.result _ _ finished.silent finished.told)
-
-pub returns-in-Ok-Replay-clause-ends : goal.returns-in-Ok-Replay-clause-ends
-returns-in-Ok-Replay-clause-ends g c =
-    let finished = c.finish-in-Ok-Replay.ensures in
-    (Ran c.run_replay.result, finished.status, c.run_replay.ensures.ends, tells-errors c.run_replay.result _ _ finished.silent finished.told)
+    (Ran c.run_choice.result, finished.status, c.run_choice.ensures.ends, tells-errors c.run_choice.result _ _ finished.silent finished.told)
 
 pub returns-in-Err-Help-clause-ends : goal.returns-in-Err-Help-clause-ends
 returns-in-Err-Help-clause-ends g c =

@@ -1,0 +1,23 @@
+use Rattle.sgt_run.specs.Report as run
+use Rattle.sgt_program.proofs.Answered.{audit-fails, serial-answers, status-answers, verdict-answers}
+use Rattle.sgt_program.proofs.engines.run_choice.Goals as goal
+
+pub returns-in-Ok-clause-answers : goal.returns-in-Ok-clause-answers
+returns-in-Ok-clause-answers g c =
+    let said = c.in-Ok.ensures in
+    rw (c.in-Audit.is, c.outcome_of.ensures) (verdict-answers _ _ _ c.in-Ok.verdict said.verdict said.headline said.written)
+
+pub returns-in-Err-clause-answers : goal.returns-in-Err-clause-answers
+returns-in-Err-clause-answers g c = rw c.in-Audit.is (audit-fails _ _ _ c.in-Err.fail c.in-Err.ensures.front)
+
+pub returns-in-Serial-clause-answers : goal.returns-in-Serial-clause-answers
+returns-in-Serial-clause-answers g c =
+    rw c.in-Serial.is (serial-answers _ _ _ c.serial.result c.serial.ensures.answer c.serial.ensures.front)
+
+pub returns-in-Run-clause-answers : goal.returns-in-Run-clause-answers
+returns-in-Run-clause-answers g c =
+    let told = g.R.Source.tells c.args.reader.now in
+    let old = g.W.Sink.holds c.args.writer.now in
+    let new = g.W.Sink.holds c.run_scripts.new.writer in
+    rw c.in-Run.is (status-answers (λ outcome. run.WroteAnswer c.in-Run.tries told outcome old new) (run.WroteAnswerFront c.in-Run.tries told old new)
+        c.run_scripts.result c.run_scripts.ensures.answer c.run_scripts.ensures.front)
