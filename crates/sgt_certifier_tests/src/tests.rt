@@ -145,7 +145,11 @@ fn two_windows(rt: HostRuntime) -> Result<(), Fail> {
     let mut certifier = Certifier::new(alloc);
     assert!(rt; answers(alloc, &mut certifier, &rows)?);
     assert_eq!(rt;
-        (certifier.active(), certifier.decided(), certifier.history().len()),
+        (
+            certifier.active(),
+            certifier.decided(),
+            certifier.history().len()
+        ),
         (0, 3, 10)
     );
     assert!(rt; certifier.is_under(Tx::new(3)?, k) && !certifier.is_under(two, k));

@@ -12,4 +12,6 @@ mod rows;
 #[cfg(test)]
 mod schedules;
 #[cfg(test)]
+mod settled;
+#[cfg(test)]
 mod tests;

@@ -31,14 +31,6 @@ pub withdrawn_count : (old new : Kept) (h : Handle) (number : ℕ) → Adds old 
 withdrawn_count old new h number a =
     ap (λ (s : State). length s.rulings) a.serves.1.1 ∙ length-append old.state.rulings (withdrawn (tx_under old.state h) ∷ [])
 
--- the transactions begun, in all and before the window, stay
-pub decided_begun : (old new : Kept) (h : Handle) (edges : List Edge) (reply : Decided) → Adds old (call.Decide h edges reply) new
-    → (new.state.begun ≡ old.state.begun) × (new.state.before ≡ old.state.before)
-decided_begun old new h edges (Committed number) a =
-    (ap (λ (s : State). s.begun) a.serves.1.1.after, ap (λ (s : State). s.before) a.serves.1.1.after)
-decided_begun old new h edges (Refused number walk) a =
-    (ap (λ (s : State). s.begun) a.serves.1.1.after, ap (λ (s : State). s.before) a.serves.1.1.after)
-
 pub decided_step : (old new : Kept) (h : Handle) (edges : List Edge) (reply : Decided) → Adds old (call.Decide h edges reply) new
     → new.state.step ≡ Some (tx_under old.state h)
 decided_step old new h edges (Committed number) a = ap (λ (s : State). s.step) a.serves.1.1.after

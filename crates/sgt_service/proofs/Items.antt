@@ -1,15 +1,27 @@
 -- The names of the sites' items.
-use Rattle.std.proofs.Common.{◌≡◌, ◌<◌, ◌≤◌, ◌+◌, ℕ, Bool, List, length, Some, sym, ◌∙◌, subst, arith, inl, inr, ◌⊎◌, get_or}
-use Rattle.std.specs.Prelude.{IsTrue, All, Contains, ◌↔◌, slice_get}
+use Rattle.std.proofs.Common.{◌≡◌, ◌<◌, ◌≤◌, ◌+◌, ℕ, Bool, List, length, map, Some, Result, Ok, Err, refl, sym, ◌∙◌, subst, arith, inl, inr, ◌⊎◌, get_or}
+use Rattle.std.specs.Prelude.{IsTrue, All, Contains, ◌↔◌, is_ok, slice_get}
 use Rattle.std.proofs.lemmas.Option.{same_Some, slice_get-get_or, slice_get_within}
-use Rattle.std.proofs.lemmas.Bool.{cases_eq}
+use Rattle.std.specs.List.Sorted.{IsSearchInRange, IsBinarySearchResult}
+use Rattle.std.specs.declared.cmp.Ordering.TheVariants.{Less, Equal}
+use Rattle.std.proofs.lemmas.Bool.{cases_eq, cases_lt}
+use Rattle.std.proofs.lemmas.Cmp.{nat_list_cmp_total, tied_itself}
+use Rattle.std.proofs.lemmas.Map.Lookups.{exact_bytes}
+use Rattle.std.proofs.lemmas.List.Elements.{Contains-get_or}
+use Rattle.sgt_names.proofs.Lists.{All-from_map, All-weaken}
+use Rattle.sgt_names.proofs.Places.{AllPairs_at, AllPairs-from_at, Contains_at}
+use Rattle.sgt_names.proofs.Ranged.{searched}
+use Rattle.sgt_certifier.proofs.Ruling.{map_place}
+use Rattle.std.specs.Ordering.{nat_cmp}
+use Rattle.std.specs.Cmp.Lexicographic.{slice_cmp}
 use Rattle.sgt_names.specs.Name.{Name}
+use Rattle.sgt_names.specs.Log.{names}
 use Rattle.sgt_names.specs.declared.entry.Holding.{Holding}
 use Rattle.sgt_site.specs.State.{AreItems}
 use Rattle.sgt_site.specs.declared.fault.SiteFault.TheVariants.{BadItems}
 use Rattle.sgt_agreed.specs.declared.fault.ServiceFault.{ServiceFault}
 use Rattle.sgt_agreed.specs.declared.fault.ServiceFault.TheVariants.{Site}
-use Rattle.sgt_service.specs.Refused.{HasItem, RefusesSites}
+use Rattle.sgt_service.specs.Refused.{HasItem, NamesRise, RefusesSites}
 
 pub has_found : (all : List (List Name)) (s : ℕ) (x : Name) (d : List Name) (b : Bool) → s < length all
     → (IsTrue b ↔ Contains (get_or all s d) x) → (IsTrue b ↔ HasItem all s x)
@@ -41,3 +53,34 @@ all_opened sites opened k d within = opened k (get_or sites k d) within (slice_g
 pub bad_items : (sites : List (List Holding)) (n : ℕ) (d : List Holding) (f : ServiceFault) → n < length sites → f ≡ Site BadItems
     → (AreItems (get_or sites n d) → ⊥) → RefusesSites sites f
 bad_items sites n d f within is bad = subst (RefusesSites sites) (sym is) (λ (all : All AreItems sites). bad (all n d within))
+
+-- ---- the names of a site's items rise
+
+names-rise : (items : List Holding) → AreItems items → NamesRise (names items)
+names-rise items are = AllPairs-from_at (λ x y. slice_cmp nat_cmp x y ≡ Less) (names items) (λ p q x y lt at_x at_y.
+    let g = map_place (λ (h : Holding). h.item) items p x at_x in
+    let h = map_place (λ (h : Holding). h.item) items q y at_y in
+    let less = AllPairs_at (λ (a b : Holding). slice_cmp nat_cmp a.item b.item ≡ Less) items p q g.0 h.0 are.rising lt g.1 h.1 in
+    subst (λ z. slice_cmp nat_cmp z y ≡ Less) g.2 (subst (λ z. slice_cmp nat_cmp g.0.item z ≡ Less) h.2 less))
+
+pub all_rise : (sites : List (List Holding)) (all : List (List Name)) → all ≡ map names sites → All AreItems sites → All NamesRise all
+all_rise sites all is are = subst (All NamesRise) (sym is) (All-from_map NamesRise names sites (All-weaken AreItems (λ items. NamesRise (names items)) sites names-rise are))
+
+-- a binary search among rising names finds those that are there
+pub search_tells : (xs : List Name) (k : Name) (r : Result ℕ ℕ) → NamesRise xs → IsSearchInRange r (length xs)
+    → IsBinarySearchResult (λ x. slice_cmp nat_cmp x k) xs r → IsTrue (is_ok r) ↔ Contains xs k
+search_tells xs k (Ok n) rising within found =
+    let at = (searched (λ (x : Name). x) (slice_cmp nat_cmp) nat_list_cmp_total (λ x y e. exact_bytes x y e) xs k rising (Ok n) within found).0 in
+    let same : get_or xs n k ≡ k = at.is (get_or xs n k) (slice_get-get_or xs n k at.within) in
+    (λ t. subst (Contains xs) same (Contains-get_or xs n k at.within), λ has. refl)
+search_tells xs k (Err n) rising within found =
+    let gap = (searched (λ (x : Name). x) (slice_cmp nat_cmp) nat_list_cmp_total (λ x y e. exact_bytes x y e) xs k rising (Err n) within found).1 in (
+      (λ t. absurd cc),
+      (λ has.
+          let at = Contains_at xs k has in
+          let same : slice_cmp nat_cmp k k ≡ Equal = tied_itself nat_list_cmp_total k in
+          elim (cases_lt at.0 n) [
+            | inl lt ↦ let less = gap.before at.0 k lt at.1 in absurd cc
+            | inr le ↦ let more = gap.after at.0 k le at.1 in absurd cc
+          ]),
+    )

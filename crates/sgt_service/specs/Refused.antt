@@ -1,6 +1,9 @@
 -- When the calls of a service are refused.
 use Rattle.std.specs.Prelude.{◌≡◌, ◌≢◌, ◌⊎◌, ℕ, List, All, Contains, Option, Some, None, slice_get}
+use Rattle.std.specs.Ordering.{nat_cmp}
+use Rattle.std.specs.Cmp.Lexicographic.{slice_cmp}
 use Rattle.sgt_names.specs.Name.{Name}
+use Rattle.sgt_names.specs.Ordered.{IsRisingBy}
 use Rattle.sgt_names.specs.declared.entry.Holding.{Holding}
 use Rattle.sgt_site.specs.State.{AreItems}
 use Rattle.sgt_site.specs.declared.fault.SiteFault.TheVariants as site
@@ -25,6 +28,10 @@ IsRefusedBy None s request f = HandsOn s request f
 -- so it is refused by some certifier, with some site found to have lost its pledge or none
 abbrev pub IsToldOf : Request → ServiceFault → Type 0
 IsToldOf request f = (lost : Option ℕ) × ((s : State) × IsRefusedBy lost s request f)
+
+-- the names of a site's items rise by their bytes
+abbrev pub NamesRise : List Name → Type 0
+NamesRise = IsRisingBy (λ x. x) (slice_cmp nat_cmp)
 
 -- the site has an item of this name
 abbrev pub HasItem : List (List Name) → ℕ → Name → Type 0

@@ -92,7 +92,11 @@ impl<L: Ledger> Guarded<L> {
     }
 
     /// Withdraws the transaction of the handle, and counts the decision in the book and in the share.
-    pub(crate) fn withdraw(&mut self, handle: Handle, share: &mut Share<L>) -> Result<u64, ServiceFault>
+    pub(crate) fn withdraw(
+        &mut self,
+        handle: Handle,
+        share: &mut Share<L>,
+    ) -> Result<u64, ServiceFault>
         requires { 0 < share.old.parts }
         ensures ok { IfOk result (λ number. Adds self.old.certifier (call.Withdraw handle number) self.new.certifier) }
         ensures counted { OnOk result (share.new.amount ≡ share.old.amount + 1) }
@@ -256,7 +260,13 @@ impl<L: Ledger> Guarded<L> {
 
     /// Writes the block of a transaction that is decided so at a site, under both locks; an install is noted in the history. False
     /// where the pledge is lost, and then nothing changes.
-    pub(crate) fn end(&mut self, site: &mut Site, here: SiteNo, active: &Active, verdict: Ending) -> bool
+    pub(crate) fn end(
+        &mut self,
+        site: &mut Site,
+        here: SiteNo,
+        active: &Active,
+        verdict: Ending,
+    ) -> bool
         requires { verdict ≡ Committed → AwaitsInstalls self.old.certifier active.now.tx active.now.draft.touched here }
         ensures awaits { IsTrue result → verdict ≡ Committed
             → AwaitsInstalls self.new.certifier active.now.tx active.now.draft.touched (here + 1) }
@@ -301,7 +311,6 @@ impl<L: Ledger> Guarded<L> {
             Err(_) => unreachable!(),
         }
     }
-
 }
 
 // Adds the edges of another list.

@@ -6,7 +6,7 @@ ghost use Rattle.sgt_names.specs.Log.{names};
 ghost use Rattle.sgt_site.specs.State.{AreItems};
 ghost use Rattle.sgt_site.specs.declared.fault.SiteFault.TheVariants.{BadItems};
 ghost use Rattle.sgt_agreed.specs.declared.fault.ServiceFault.TheVariants.{Site as AtSite};
-ghost use Rattle.sgt_service.specs.Refused.{RefusesSites};
+ghost use Rattle.sgt_service.specs.Refused.{NamesRise, RefusesSites};
 
 use crate::active::Active;
 use crate::guarded::Guarded;
@@ -30,6 +30,7 @@ pub struct Service<L: Ledger> {
     pub(crate) names: Vec<Listed<Item>>,
     pub ghost named: { vec_len names ≡ vec_len sites },
     pub ghost few: { vec_len sites ≤ max_sites },
+    pub ghost rising: { All NamesRise names.items },
 }
 
 impl<L: Ledger> Service<L> {
@@ -64,7 +65,7 @@ impl<L: Ledger> Service<L> {
         let (book, mut share) = blank.open::<L>();
         let none = share.empty();
         let locks = open_sites(alloc, sites)?;
-        let names = names_of_all(alloc, sites)?;
+        let names = rising_names(alloc, sites)?;
         let seats = Service::new_seats(alloc, share, seats, sites.len())?;
         let service = Service {
             certifier: Mutex::new(Guarded::new(alloc, book, none)),
@@ -257,9 +258,20 @@ fn add_lock(locks: &mut Vec<Mutex<Site>>, site: Option<Site>) -> bool
 
 // Whether the name is among these.
 fn contains(names: &[Item], name: Item) -> bool
+    requires { NamesRise names.now }
     ensures { IsTrue result ↔ Contains names.now name }
 {
-    names.contains(&name)
+    names.binary_search(&name).is_ok()
+}
+
+// The names of each site's items, which rise.
+#[tactic(auto, using(crate::proofs::Items::all_rise))]
+fn rising_names(alloc: Global, sites: &[Listed<Holding>]) -> Result<Vec<Listed<Item>>, AllocError>
+    requires { All AreItems sites.now }
+    ensures names { IfOk result (λ all. all.items ≡ map names sites.now) }
+    ensures rise { IfOk result (λ all. All NamesRise all.items) }
+{
+    names_of_all(alloc, sites)
 }
 
 // The names of each site's items.

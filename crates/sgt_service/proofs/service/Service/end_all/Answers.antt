@@ -4,7 +4,7 @@ use Rattle.sgt_names.specs.Draft.{at_site}
 use Rattle.sgt_service.specs.Counts.{AreCounted, only_at, with_others, blocks_of}
 use Rattle.sgt_service.specs.Guarded.{AwaitsInstalls, notes_at, notes_below}
 use Rattle.sgt_service.proofs.Counting.{gains_next, gains_all, block_none}
-use Rattle.sgt_service.proofs.Noting.{notes_next, notes_none}
+use Rattle.sgt_service.proofs.Noting.{notes_next}
 use Rattle.sgt_service.proofs.service.Service.end_all.Goals as goal
 
 pub loop-place-preserved : goal.loop-place-preserved
