@@ -1,6 +1,6 @@
 // A plain service of the same locks written with std, without proofs and without a history of calls: what `sgt run` is measured
 // against. It reads inputs in which no sum exceeds the greatest value (as time_run.py writes them), runs their scripts by threads,
-// and prints what `sgt run` prints; the verdict it makes up from its own counts.
+// and prints what `sgt run` prints; the verdict it makes up from its own counts. The microseconds of the threads go to standard error.
 //
 // rustc --edition 2024 -O -C target-cpu=x86-64-v2 bench/baseline/service.rs -o /tmp/service
 // /tmp/service WORKERS TRIES < SCRIPTS
@@ -9,6 +9,7 @@ use std::fmt::Write as _;
 use std::io::{Read, Write};
 use std::sync::Mutex;
 use std::sync::atomic::{AtomicUsize, Ordering};
+use std::time::Instant;
 
 type Place = (usize, usize);
 
@@ -354,6 +355,7 @@ fn main() {
         sites: named.iter().map(|n| Mutex::new(site_of(n))).collect(),
     };
     let next = AtomicUsize::new(0);
+    let start = Instant::now();
     let ends: Vec<Mutex<(u32, bool, usize)>> = scripts.iter().map(|_| Mutex::new((0, false, 0))).collect();
     std::thread::scope(|scope| {
         for _ in 0..workers {
@@ -372,6 +374,7 @@ fn main() {
             });
         }
     });
+    eprintln!("run {}", start.elapsed().as_micros());
     let certifier = service.certifier.into_inner().unwrap();
     let sites: Vec<Site> = service.sites.into_iter().map(|s| s.into_inner().unwrap()).collect();
     let mut out = String::new();

@@ -34,7 +34,7 @@ pub returns-in-Ok-clause-run : goal.returns-in-Ok-clause-run
 returns-in-Ok-clause-run g c = λ workers tries asks.
     rw c.finish.ensures.status
     (same_run c.choose.result _ (Run workers tries) (λ choice. Answers choice (status_of (Ran c.run_choice.result))
-        (g.R.Source.tells c.args.reader.now) (g.W.Sink.holds c.args.writer.now) (g.W.Sink.holds c.run_choice.new.writer))
+    (g.R.Source.tells c.args.reader.now) (g.W.Sink.holds c.args.writer.now) (g.W.Sink.holds c.run_choice.new.writer))
     c.in-Ok.is (c.choose.ensures.run workers tries asks) c.run_choice.ensures.answers)
 
 pub returns-in-Ok-clause-others : goal.returns-in-Ok-clause-others

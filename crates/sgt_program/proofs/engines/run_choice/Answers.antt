@@ -20,4 +20,4 @@ returns-in-Run-clause-answers g c =
     let old = g.W.Sink.holds c.args.writer.now in
     let new = g.W.Sink.holds c.run_scripts.new.writer in
     rw c.in-Run.is (status-answers (λ outcome. run.WroteAnswer c.in-Run.tries told outcome old new) (run.WroteAnswerFront c.in-Run.tries told old new)
-        c.run_scripts.result c.run_scripts.ensures.answer c.run_scripts.ensures.front)
+    c.run_scripts.result c.run_scripts.ensures.answer c.run_scripts.ensures.front)
