@@ -16,3 +16,5 @@ pub mod Acting
 pub mod Telling
 pub mod Settling
 pub mod Whole
+pub mod Joining
+pub mod Following

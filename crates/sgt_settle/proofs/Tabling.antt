@@ -12,7 +12,7 @@ use Rattle.sgt_certifier.specs.Kept.{rulings_from, windows_after, ruling_of, tx_
 use Rattle.sgt_certifier.proofs.Certifying.{windows_few}
 use Rattle.sgt_certifier.proofs.Members.{place_left}
 use Rattle.sgt_workers.specs.declared.ticket.Ticket.{Ticket}
-use Rattle.sgt_settle.specs.Settled.{Tells, IsGood}
+use Rattle.sgt_settle.specs.Settled.{Tells}
 use Rattle.sgt_settle.specs.declared.decisions.Verdict.{Verdict}
 use Rattle.sgt_settle.specs.private.Tickets.{AreVerdicts, TellsVerdict, verdict_of}
 use Rattle.sgt_settle.proofs.Ticketing.{Rules, step_on}

@@ -5,3 +5,4 @@ pub mod Index
 pub mod Acts
 pub mod Tickets
 pub mod Sites
+pub mod Joined

@@ -110,7 +110,7 @@ fn is_place_carried(
 }
 
 // The operations of committed transactions on one item, and by which decision they are: none for other entries.
-fn cut_at(commits: &[Option<u64>], site: SiteNo, entry: &Entry) -> Option<Cut>
+pub(crate) fn cut_at(commits: &[Option<u64>], site: SiteNo, entry: &Entry) -> Option<Cut>
     ensures { (cut : ACut) → (result ≡ Some cut)
         ↔ ((item_of entry.now ≡ Some cut.item) × IsIn commits.now (tx_of entry.now) cut.last × (cut.site ≡ site)) }
 {

@@ -62,9 +62,10 @@ fn first_differing(
 /// - V9: a site, of a log or of an edge that was handed, isn't so.
 /// - V10: a version at a site isn't so.
 ///
-/// Memory is linear in the history with its edges and in the committed transactions. The time is that of the tickets times the
-/// history, of the edges times the log of their site, and for each operation of a committed transaction that of its site's log and
-/// of the edges that lead to it or from it.
+/// Memory is linear in the history with its edges, in the logs and in the transactions. So is the time, but that each edge is looked up
+/// in what its two transactions did at its site; and that an operation of a committed transaction costs the edges that lead to its
+/// transaction, and the conflicting operations since the last write of its item. At a site where one of those isn't joined to it by an
+/// edge of its own, each operation costs the site's log and the edges that it reaches.
 pub fn check_settled(
     alloc: Global,
     certifier: &Certifier,

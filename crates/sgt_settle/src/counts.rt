@@ -7,7 +7,7 @@ use sgt_agreed::EntryCounts;
 use sgt_names::Entry;
 use sgt_site::Site;
 
-fn is_read(entry: &Entry) -> bool
+pub(crate) fn is_read(entry: &Entry) -> bool
     ensures { result ≡ is_read entry.now }
 {
     matches!(entry, Entry::Read { .. })

@@ -9,6 +9,7 @@ mod counts;
 mod decisions;
 mod handed;
 mod index;
+mod joined;
 mod laws;
 mod least;
 mod link;

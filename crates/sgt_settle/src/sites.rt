@@ -1,7 +1,10 @@
 //! Whether the logs of the sites agree with the history.
 
 ghost use Rattle.std.specs.Prelude.{◌≡◌, ◌↔◌, ◌≤◌, ◌<◌, ◌++◌, ℕ, List, IsTrue, Contains, IfOk, OnErr, MatchOption, length, slice_get, Some};
+ghost use Rattle.std.specs.Ordering.{nat_cmp};
+ghost use Rattle.std.specs.Cmp.Lexicographic.{slice_cmp};
 ghost use Rattle.sgt_names.specs.Limits.{max_sites};
+ghost use Rattle.sgt_names.specs.Ordered.{IsRisingBy};
 ghost use Rattle.sgt_names.specs.declared.entry.Entry.{Entry as AnEntry};
 ghost use Rattle.sgt_settle.specs.Settled.{AreEntriesCounted, AreCountedAt};
 ghost use Rattle.sgt_settle.specs.declared.handed.Handed.{Handed as AHanded};
@@ -15,9 +18,10 @@ use crate::carried::are_carried;
 use crate::counts::has_counts;
 use crate::handed::Handed;
 use crate::index::Index;
+use crate::joined::are_joined;
 use crate::logged::is_logged;
 use sgt_agreed::EntryCounts;
-use sgt_names::{Entry, SiteNo, Tx};
+use sgt_names::{Entry, Holding, SiteNo, Tx};
 use sgt_site::Site;
 use std::alloc::{AllocError, Global};
 
@@ -40,9 +44,11 @@ fn is_log_fit(
     index: &Index,
     site: SiteNo,
     counts: EntryCounts,
+    items: &[Holding],
     log: &[Entry],
 ) -> Result<bool, AllocError>
-    requires { IsPaired index.now }
+    requires paired { IsPaired index.now }
+    requires rising { IsRisingBy (λ h. h.item) (slice_cmp nat_cmp) items.now }
     ensures ok { IfOk result (λ yes. IsTrue yes ↔ IsLogFit index.now site counts log.now) }
     ensures err { OnErr result (AreEntriesCounted counts log.now) }
 {
@@ -53,6 +59,10 @@ fn is_log_fit(
     let acts = acts_of(alloc, log, above_names(windows))?;
     if !are_logged(windows, acts.as_slice(), index.handed.as_slice(), site) {
         return Ok(false);
+    }
+    let joined = are_joined(alloc, index, site, items, log)?;
+    if joined {
+        return Ok(true);
     }
     let carried = are_carried(alloc, index, site, log)?;
     Ok(carried)
@@ -79,7 +89,8 @@ pub(crate) fn first_unfit(
         let Ok(site) = SiteNo::new(k as u64) else {
             unreachable!();
         };
-        let fit = is_log_fit(alloc, index, site, counts[k], sites[k].log())?;
+        let held = &sites[k];
+        let fit = is_log_fit(alloc, index, site, counts[k], held.items(), held.log())?;
         if !fit {
             return Ok(Some(site));
         }

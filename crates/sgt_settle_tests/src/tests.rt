@@ -188,3 +188,58 @@ fn logs_edges_and_installs(rt: HostRuntime) -> Result<(), Fail> {
     }
     Ok(())
 }
+
+// A third script writes x=9. It is decided on its edges from the transaction under the handle of this index alone.
+fn run_third(
+    alloc: Global,
+    certifier: &mut Certifier,
+    site: &mut Site,
+    from: u32,
+) -> Result<(), Fail> {
+    let (tx, handle) = certifier.begin()?;
+    let number = site.number();
+    let mut draft = Draft::new(alloc);
+    draft.put(number, Item::new(b"x")?, 9)?;
+    site.pledge(tx, &draft)?;
+    let all = gather(alloc, site, &draft, handle)?;
+    let mut edges = EdgeList::new(alloc);
+    for edge in all.as_slice() {
+        if edge.from.index == from {
+            edges.push(*edge)?;
+        }
+    }
+    certifier.expect(handle, &draft)?;
+    certifier.decide(handle, edges)?;
+    site.install(tx, handle, &draft)?;
+    certifier.installed(tx, number, &draft)?;
+    certifier.finish_step(tx)?;
+    Ok(())
+}
+
+const THIRD: Told = Told {
+    number: 2,
+    tx: 3,
+    verdict: Ending::Committed,
+};
+
+// The first wrote x, the second read it. An edge from the second carries the conflict of the first with the third too.
+#[test]
+fn a_walk_stands_for_an_edge(rt: HostRuntime) -> Result<(), Fail> {
+    let alloc = rt.alloc();
+    let differs = Err(ServiceFault::LogDiffers(SiteNo::new(0)?));
+    let counts = EntryCounts {
+        others: 6,
+        ..COUNTS
+    };
+    let told = dones(alloc, &[FIRST], &[SECOND, THIRD])?;
+    for row in &[(1, Ok(())), (0, differs)] {
+        let mut certifier = Certifier::new(alloc);
+        let mut site = site(alloc)?;
+        run_both(alloc, &mut certifier, &mut site, LeftOut::Nothing)?;
+        run_third(alloc, &mut certifier, &mut site, row.0)?;
+        let mut sites = Vec::new(alloc);
+        sites.push(site)?;
+        assert!(rt; check_settled(alloc, &certifier, &sites, &[counts], &told) == row.1);
+    }
+    Ok(())
+}

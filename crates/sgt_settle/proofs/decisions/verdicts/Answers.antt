@@ -1,6 +1,6 @@
 use Rattle.std.proofs.Common.{◌∙◌, sym}
 use Rattle.sgt_settle.proofs.Lists.{read}
-use Rattle.sgt_settle.proofs.Tabling.{tabled_opens, tabled_verdict, tabled_on, tabled_are}
+use Rattle.sgt_settle.proofs.Tabling.{tabled_verdict, tabled_on, tabled_are}
 use Rattle.sgt_settle.proofs.decisions.verdicts.Goals as goal
 use Rattle.sgt_settle.proofs.decisions.verdicts.Goals.{in-Some+else-is_err, in_default}
 

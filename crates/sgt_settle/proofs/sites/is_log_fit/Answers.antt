@@ -1,4 +1,4 @@
-use Rattle.std.proofs.Common.{◌≡◌, ◌∙◌, ap, length, sym, subst}
+use Rattle.std.proofs.Common.{◌≡◌, ◌∙◌, ap, length, refl, sym, subst}
 use Rattle.std.proofs.lemmas.Bool.{true≢false}
 use Rattle.sgt_settle.specs.private.Acts.{AreActs, AreNamedBelow}
 use Rattle.sgt_settle.proofs.sites.is_log_fit.Goals as goal
@@ -14,6 +14,18 @@ returns-then-not-are_logged-clause-ok c =
     let logged = rw c.as_slice-windows.ensures.value at (rw c.as_slice-2.ensures.value at (c.are_logged.ensures c.args.log.now are)) in (
       λ told. absurd (true≢false (sym told)),
       λ fit. absurd (true≢false (sym (logged.1 fit.edges) ∙ c.if-not-are_logged.true)),
+    )
+
+pub returns-then-joined-clause-ok : goal.returns-then-joined-clause-ok
+returns-then-joined-clause-ok c =
+    let are : AreActs c.args.log.now c.as_slice.result.now = rw c.as_slice.ensures.value c.in_ok-acts.ensures.acts in
+    let logged = rw c.as_slice-windows.ensures.value at (rw c.as_slice-2.ensures.value at (c.are_logged.ensures c.args.log.now are)) in (
+      λ told. record {
+        counted = c.has_counts.ensures.0 c.if-not-has_counts.false;
+        edges = logged.0 c.if-not-are_logged.false;
+        conflicts = c.in_ok-joined.ensures c.if-joined.true;
+      },
+      λ fit. refl,
     )
 
 pub returns-clause-ok : goal.returns-clause-ok

@@ -1,4 +1,4 @@
-use Rattle.std.proofs.Common.{◌≡◌, ◌∙◌, ◌+◌, sym, ap, subst, take, arith, length}
+use Rattle.std.proofs.Common.{◌≡◌, ◌+◌, sym, ap, subst, take, arith, length}
 use Rattle.std.proofs.lemmas.List.{take_all}
 use Rattle.sgt_settle.specs.Settled.{tickets_of}
 use Rattle.sgt_settle.specs.private.Tickets.{AreTallies}

@@ -1,4 +1,3 @@
-use Rattle.std.proofs.Common.{◌∙◌}
 use Rattle.sgt_settle.proofs.Lists.{read}
 use Rattle.sgt_settle.proofs.tallies.tally.Goals as goal
 
