@@ -1,10 +1,10 @@
 //! A certificate whose decisions are found by their transactions.
 
-ghost use Rattle.std.specs.Prelude.{◌≡◌, ◌<◌, ◌↔◌, ℕ, [], IfOk, IfSome, IfNone, IsSome, IsTrue, Some, slice_get};
+ghost use Rattle.std.specs.Prelude.{◌≡◌, ◌<◌, ◌↔◌, ℕ, [], false, IfOk, IfSome, IfNone, IsSome, IsTrue, Some, None, slice_get};
 ghost use Rattle.sgt_cert.specs.Certificate.{decided_tx, IsCommitted, IsDecidedOnce, Suits};
 ghost use Rattle.sgt_cert.specs.Valid.{IsDecided};
 ghost use Rattle.sgt_cert.specs.Text.{IsCertificate};
-ghost use Rattle.sgt_decided.specs.Decided.{Decides};
+ghost use Rattle.sgt_decided.specs.Decided.{Decides, IsRulingOn};
 ghost use Rattle.sgt_decided.specs.Steps.{AreStepsOf};
 
 use crate::steps::Steps;
@@ -32,6 +32,17 @@ impl Model for Decided {
     ghost invariant = { λ d. IsTableOf d.certificate.decisions d.table };
 }
 
+/// What is decided on an entry's transaction.
+#[derive(Clone, Copy, Debug, PartialEq, Eq)]
+pub struct Ruling {
+    /// The number of the decision on the transaction.
+    pub number: Option<usize>,
+    /// The rank of the transaction, if it is committed.
+    pub rank: Option<u32>,
+    /// The number of the decision, if that suits the entry.
+    pub suiting: Option<usize>,
+}
+
 /// Whether the decision suits an entry of its transaction.
 fn suits(entry: &Entry, decision: &Decision) -> bool
     ensures { IsTrue result ↔ Suits entry.now decision.now }
@@ -48,6 +59,14 @@ fn suits(entry: &Entry, decision: &Decision) -> bool
         ),
         Entry::Withdraw { .. } => matches!(decision, Decision::Withdraw { .. }),
     }
+}
+
+/// The number, where it is to be told.
+fn told_if(tells: bool, number: usize) -> Option<usize>
+    ensures told { IsTrue tells → result ≡ Some number }
+    ensures untold { tells ≡ false → result ≡ None }
+{
+    if tells { Some(number) } else { None }
 }
 
 impl Decided {
@@ -111,29 +130,21 @@ impl Decided {
         }
     }
 
-    /// The rank of the transaction, if it is committed.
-    pub fn rank_of(&self, tx: Tx) -> Option<u32>
-        ensures some { IfSome result (λ rank. (number : ℕ) × IsCommitted self.now.decisions number tx rank) }
-        ensures none { IfNone result ((number rank : ℕ) → IsCommitted self.now.decisions number tx rank → ⊥) }
-    {
-        let Some((_, decision)) = self.decision_of(tx) else {
-            return None;
-        };
-        decision.rank()
-    }
-
-    /// The number of the decision on the entry's transaction, if that suits the entry.
-    pub fn decision_on(&self, entry: &Entry) -> Option<usize>
-        ensures some { IfSome result (λ number. IsDecided self.now.decisions entry.now number) }
-        ensures none { IfNone result ((number : ℕ) → IsDecided self.now.decisions entry.now number → ⊥) }
+    /// What is decided on the entry's transaction, which is looked up once.
+    pub fn ruling_on(&self, entry: &Entry) -> Ruling
+        ensures { IsRulingOn self.now.decisions entry.now result }
     {
         match self.decision_of(entry.tx()) {
-            Some((number, decision)) => if suits(entry, decision) {
-                Some(number)
-            } else {
-                None
+            Some((number, decision)) => Ruling {
+                number: Some(number),
+                rank: decision.rank(),
+                suiting: told_if(suits(entry, decision), number),
             },
-            None => None,
+            None => Ruling {
+                number: None,
+                rank: None,
+                suiting: None,
+            },
         }
     }
 

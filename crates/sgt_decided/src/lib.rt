@@ -8,6 +8,6 @@ mod steps;
 mod table;
 
 pub use cycles::are_cycles;
-pub use decided::Decided;
+pub use decided::{Decided, Ruling};
 pub use ranks::are_ranks;
 pub use steps::{Edge, Steps};
