@@ -1,6 +1,7 @@
 -- What is kept of the site whose section is open, in place of its entries.
 use Rattle.std.specs.Prelude.{◌≡◌, ℕ, ◌<◌, ◌≤◌, List, length, All, Contains, Option, Some, None, slice_get}
 use Rattle.std.specs.Option.{ForSome}
+use Rattle.sgt_names.specs.Name.{Name}
 use Rattle.sgt_names.specs.Entry.{item_of, IsEnd}
 use Rattle.sgt_names.specs.Log.{names}
 use Rattle.sgt_names.specs.declared.entry.Entry.{Entry}
@@ -21,6 +22,11 @@ DecidesOn ds number tx = (d : Decision) × (slice_get ds number ≡ Some d) × (
 abbrev pub IsNumberOf : List Decision → ℕ → Option ℕ → Type 0
 IsNumberOf ds tx None = (number : ℕ) → DecidesOn ds number tx → ⊥
 IsNumberOf ds tx (Some number) = DecidesOn ds number tx
+
+-- the place of the entry's item among the names, or its item is none of them
+abbrev pub IsPlaceAmong : List Name → Entry → Option ℕ → Type 0
+IsPlaceAmong ns e None = (x : Name) → item_of e ≡ Some x → Contains ns x → ⊥
+IsPlaceAmong ns e (Some place) = (x : Name) × (slice_get ns place ≡ Some x) × (item_of e ≡ Some x)
 
 -- the entry is an end, by the decision of this number
 abbrev pub EndsBy : List Decision → Entry → ℕ → Type 0

@@ -14,7 +14,7 @@ ghost use Rattle.sgt_cells.specs.Cells.{AreCells, IsRankOf};
 ghost use Rattle.sgt_cells.specs.private.Noted.{IsPlaceOf, IsUpTo, raised};
 ghost use Rattle.sgt_cells.specs.Records.{AreActs};
 ghost use Rattle.sgt_cells.specs.private.Deeds.{act};
-ghost use Rattle.sgt_cells.specs.Tracks.{TracksOpen, IsReadyFor, IsNumberOf, DecidesOn};
+ghost use Rattle.sgt_cells.specs.Tracks.{TracksOpen, IsReadyFor, IsNumberOf, IsPlaceAmong, DecidesOn};
 
 use crate::act::{self, Act};
 use crate::cell::{self, Cell};
@@ -187,10 +187,10 @@ impl SiteState {
         cell::place_of(self.cells.as_slice(), hint, item)
     }
 
-    /// The place of the entry's item, if it has one.
-    fn place_of_entry(&self, entry: &Entry) -> Option<usize>
+    /// The place of the entry's item, if it has one that is listed.
+    pub fn place_of_entry(&self, entry: &Entry) -> Option<usize>
         ensures { (ds : List Decision) (items : List Holding) (entries : List Entry) → TracksOpen ds items entries self.now
-            → ForSome (item_of entry.now) (Contains (names items)) → IsPlaceOf (names items) entry.now result }
+            → IsPlaceAmong (names items) entry.now result }
     {
         match entry.item() {
             Some(item) => self.place_of(&item),
@@ -300,9 +300,11 @@ impl SiteState {
         self.live == 0
     }
 
-    /// One more entry, decided by this number, of a transaction that is committed with this rank or isn't.
+    /// One more entry, on the item at this place or an end, decided by this number, of a transaction that is committed with this
+    /// rank or isn't.
     pub fn enter(
         &mut self,
+        place: Option<usize>,
         entry: &Entry,
         number: usize,
         rank: Option<u32>,
@@ -310,10 +312,9 @@ impl SiteState {
         ensures section { self.new.section ≡ self.old.section }
         ensures tracks { OnOk result ((ds : List Decision) (items : List Holding) (entries : List Entry) → IsDecidedOnce ds
             → AllPairs (λ x y. x ≢ y) (names items) → ForSome (item_of entry.now) (Contains (names items))
-            → IsDecided ds entry.now number → IsRankOf ds (tx_of entry.now) rank
+            → IsPlaceAmong (names items) entry.now place → IsDecided ds entry.now number → IsRankOf ds (tx_of entry.now) rank
             → TracksOpen ds items entries self.old → TracksOpen ds items (entries ++ entry.now ∷ []) self.new) }
     {
-        let place = self.place_of_entry(entry);
         let next = one_more(self.count)?;
         let was = record::is_live(self.records.as_slice(), number, self.section);
         let act = act_at(self.count, place, entry);

@@ -3,17 +3,19 @@ use Rattle.std.specs.Prelude.{slice_get}
 use Rattle.std.specs.Option.{option_to_list}
 use Rattle.std.proofs.lemmas.List.{with_items_is, length-set}
 use Rattle.sgt_names.specs.Entry.{tx_of}
+use Rattle.sgt_names.specs.Log.{names}
 use Rattle.sgt_cells.specs.Cells.{AreCells}
 use Rattle.sgt_cells.specs.private.Deeds.{IsTouched}
+use Rattle.sgt_cells.proofs.Entering.{placed-listed}
 use Rattle.sgt_cells.proofs.Tracking.{decides, record-of, set-at, order-next, tracks-next}
 use Rattle.sgt_cells.proofs.state.SiteState.enter.Goals as goal
 
 pub returns-clause-tracks : goal.returns-clause-tracks
-returns-clause-tracks c ds items entries once apart listed by ranked t =
+returns-clause-tracks c ds items entries once apart listed among by ranked t =
     let old = c.args.self.now in
     let e = c.args.entry.now in
     let number = c.args.number in
-    let on = c.place_of_entry-place.ensures ds items entries t listed in
+    let on = placed-listed (names items) e c.args.place listed among in
     let before = record-of ds items entries old t number (tx_of e) (decides ds e number by) in
     let r = before.0 in
     let entered = c.in_ok-enter.ensures r (subst (λ rs. slice_get rs number ≡ Some r) (sym c.as_mut_slice.ensures.value) before.1) in
@@ -25,5 +27,5 @@ returns-clause-tracks c ds items entries once apart listed by ranked t =
     let same_cells = with_items_is old.cells c.enter_cell.new.cells (c.enter_cell.auto.cells ∙ c.as_mut_slice-2.ensures.len) in
     let cells = subst (AreCells ds items (entries ++ e ∷ [])) (sym same_cells) (c.enter_cell.ensures ds items entries once apart (subst (AreCells ds items entries) (sym c.as_mut_slice-2.ensures.value) t.cells) on ranked) in
     let order = order-next ds items entries old old t e number by once c.later_end-self.result c.is_end.result c.is_end.ensures c.later_end-self.ensures.end c.later_end-self.ensures.other in
-    tracks-next ds items entries old _ t e number by once c.place_of_entry-place.result on apart c.is_end.result c.is_end.ensures r v before.1 records to refl c.in_ok-next.ensures cells order
+    tracks-next ds items entries old _ t e number by once c.args.place on apart c.is_end.result c.is_end.ensures r v before.1 records to refl c.in_ok-next.ensures cells order
     c.is_live-was.result c.is_live-is.result c.len.result was is (c.len.ensures ∙ old.records.ok.0 ∙ sym (ap length records ∙ length-set old.records.items number v)) c.live_after-self.ensures.same c.live_after-self.ensures.more c.live_after-self.ensures.less
