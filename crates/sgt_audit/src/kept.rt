@@ -9,6 +9,7 @@ ghost use Rattle.sgt_cert.specs.Text.{AreSections};
 use crate::faults::Fault;
 use crate::format::{allowed_line, read_line};
 use crate::judging::judge_line;
+use crate::known::look_up;
 use crate::sections::{Sections, add_to};
 use crate::tracked::Tracked;
 use sgt_decided::Decided;
@@ -59,10 +60,11 @@ impl Kept {
         let Some(read) = read else {
             return Ok(Some(Fault::Notation));
         };
-        if let Some(fault) = judge_line(&self.certificate, &self.tracked, &read) {
+        let known = look_up(&self.certificate, &self.tracked.state, &read);
+        if let Some(fault) = judge_line(&self.tracked, &read, &known) {
             return Ok(Some(fault));
         }
-        self.tracked.enter(&self.certificate, &read)?;
+        self.tracked.enter(&self.certificate, &read, &known)?;
         add_to(&mut self.sections, read)?;
         if self.tracked.place.is_complete() && !self.tracked.walks.are_logged() {
             return Ok(Some(Fault::WalkStep));

@@ -26,7 +26,7 @@ returns-in-Some-judge_line-clause-answers k b before l h f s stage =
     let m = h.means in
     let open_yet = refuted k.is_complete.result (k.is_complete.ensures b m.begun h.tracks.place) k.if-is_complete.false in
     let read = rw k.in-Some.is at f in
-    line-breaks _ _ _ before _ _ _ m open_yet read.0 read.1 (k.in-Some-judge_line.ensures.judged c b refl (sym m.sites) (m.kept.itself fault.DecidedTwice) (m.kept.itself fault.Ranks) m.begun h.tracks) s stage
+    line-breaks _ _ _ before _ _ _ m open_yet read.0 read.1 (k.in-Some-judge_line.ensures.judged c b (sym m.sites) (m.kept.itself fault.DecidedTwice) (m.kept.itself fault.Ranks) m.begun k.look_up-known.ensures h.tracks) s stage
 
 pub returns-then-not-are_logged-clause-answers : goal.returns-then-not-are_logged-clause-answers
 returns-then-not-are_logged-clause-answers k b before l h f s stage =
@@ -36,12 +36,12 @@ returns-then-not-are_logged-clause-answers k b before l h f s stage =
     let read = rw k.in-Some.is at f in
     let line = k.in-Some.read in
     let begins = k.in_default-judge_line.ensures.may_follow b m.begun h.tracks.place in
-    let kept = k.in_default-judge_line.ensures.judged c b refl (sym m.sites) (m.kept.itself fault.DecidedTwice) (m.kept.itself fault.Ranks) m.begun h.tracks in
+    let kept = k.in_default-judge_line.ensures.judged c b (sym m.sites) (m.kept.itself fault.DecidedTwice) (m.kept.itself fault.Ranks) m.begun k.look_up-known.ensures h.tracks in
     let next = with_next b b.current line in
     let sites = next-sites b b.current line in
     let lines = added-lines b m.begun line begins b.current refl in
     let begun = added-begun b m.begun line begins b.current refl in
-    let tracks = line-tracked k.args.self.now.second c b k.args.self.now.tracked k.enter.new.self before line m kept begins k.in_ok-enter.ensures h.tracks in
+    let tracks = line-tracked k.args.self.now.second c b k.args.self.now.tracked k.enter.new.self before line m kept begins (k.in_ok-enter.ensures k.look_up-known.ensures) h.tracks in
     let sections = k.in_ok-add_to.ensures.next b h.sections in
     let done = k.is_complete-2.ensures next begun tracks.place in
     let all = done.0 k.if-is_complete-2.true in
@@ -57,12 +57,12 @@ returns-clause-answers k b before l h f =
     let read = rw k.in-Some.is at f in
     let line = k.in-Some.read in
     let begins = k.in_default-judge_line.ensures.may_follow b m.begun h.tracks.place in
-    let kept = k.in_default-judge_line.ensures.judged c b refl (sym m.sites) (m.kept.itself fault.DecidedTwice) (m.kept.itself fault.Ranks) m.begun h.tracks in
+    let kept = k.in_default-judge_line.ensures.judged c b (sym m.sites) (m.kept.itself fault.DecidedTwice) (m.kept.itself fault.Ranks) m.begun k.look_up-known.ensures h.tracks in
     let next = with_next b b.current line in
     let sites = next-sites b b.current line in
     let lines = added-lines b m.begun line begins b.current refl in
     let begun = added-begun b m.begun line begins b.current refl in
-    let tracks = line-tracked k.args.self.now.second c b k.args.self.now.tracked k.enter.new.self before line m kept begins k.in_ok-enter.ensures h.tracks in
+    let tracks = line-tracked k.args.self.now.second c b k.args.self.now.tracked k.enter.new.self before line m kept begins (k.in_ok-enter.ensures k.look_up-known.ensures) h.tracks in
     let sections = k.in_ok-add_to.ensures.next b h.sections in
     let done = k.is_complete-2.ensures next begun tracks.place in
     elim k.else-is_complete-2.branch [
