@@ -11,6 +11,7 @@ ghost use Rattle.sgt_cells.specs.declared.record.Record.{Record};
 
 use crate::act::{Act, Deed, deed_of};
 use sgt_names::Entry;
+use smallvec::SmallVec;
 use std::alloc::{AllocError, Global};
 
 /// What a transaction did in the section in which it came last, by its number; and whether it ended there.
@@ -18,7 +19,7 @@ use std::alloc::{AllocError, Global};
 pub struct Record {
     pub section: usize,
     pub ended: bool,
-    pub acts: Vec<Act>,
+    pub acts: SmallVec<Act, 4>,
 }
 
 impl Record {
@@ -29,7 +30,7 @@ impl Record {
         Record {
             section: 0,
             ended: false,
-            acts: Vec::new(alloc),
+            acts: SmallVec::new(alloc),
         }
     }
 

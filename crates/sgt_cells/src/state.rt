@@ -81,12 +81,15 @@ fn fresh_cell(holding: &Holding) -> Cell
 }
 
 /// The entry at this place, on the item at that place, if it has one.
-fn act_at(at: usize, place: Option<usize>, entry: &Entry) -> Option<Act>
-    ensures { result ≡ option_map (λ i. act at i entry.now) place }
+fn act_at(at: usize, place: Option<usize>, entry: &Entry) -> Result<Option<Act>, AllocError>
+    ensures { IfOk result (λ found. found ≡ option_map (λ i. act at i entry.now) place) }
 {
     match place {
-        Some(place) => Some(act::act_of(at, place, entry)),
-        None => None,
+        Some(place) => match u32::try_from(place) {
+            Ok(short) => Ok(Some(act::act_of(at, short, entry))),
+            Err(_) => Err(AllocError),
+        },
+        None => Ok(None),
     }
 }
 
@@ -317,7 +320,7 @@ impl SiteState {
     {
         let next = one_more(self.count)?;
         let was = record::is_live(self.records.as_slice(), number, self.section);
-        let act = act_at(self.count, place, entry);
+        let act = act_at(self.count, place, entry)?;
         record::enter(
             self.records.as_mut_slice(),
             number,
