@@ -49,13 +49,20 @@ fn continues_log(place: &OpenPlace, line: &SectionLine) -> bool
     ensures { (log : SiteLog) → IsOpenPlace log place.now → (IsTrue result ↔ ContinuesLog log line.now) }
 {
     match place.last_entry() {
-        Some(last) => continues_block(&last, line),
+        Some(last) => continues_block(last, line),
         None => true,
     }
 }
 
-/// The least fault of an entry, of which this is known.
-fn judge_entry(state: &SiteState, place: &OpenPlace, known: &Known, entry: &Entry) -> Option<Fault>
+/// The least fault of a line that is this entry, of which this is known.
+fn judge_entry(
+    state: &SiteState,
+    place: &OpenPlace,
+    known: &Known,
+    line: &SectionLine,
+    entry: &Entry,
+) -> Option<Fault>
+    requires { line.now ≡ Logged entry.now }
     ensures { (c : Certificate) (before : List SectionLine) (log : SiteLog) → IsDecidedOnce c.decisions
         → AreRanks (ranks c.decisions) → IsOpenPlace log place.now → IsKnownOf c.decisions state.now entry.now known.now
         → TracksOpen c.decisions log.items log.entries state.now
@@ -74,7 +81,7 @@ fn judge_entry(state: &SiteState, place: &OpenPlace, known: &Known, entry: &Entr
     if !is_in_rank(state, known, entry) {
         return Some(Fault::RankOrder);
     }
-    if !continues_log(place, &SectionLine::Logged(*entry)) {
+    if !continues_log(place, line) {
         return Some(Fault::Block);
     }
     if !is_active(state, known) {
@@ -134,7 +141,7 @@ fn judge_inside(
 {
     match line {
         SectionLine::Logged(entry) => match known {
-            Some(known) => judge_entry(state, place, known, entry),
+            Some(known) => judge_entry(state, place, known, line, entry),
             None => None,
         },
         SectionLine::Final(holding) => judge_final(state, place, holding),

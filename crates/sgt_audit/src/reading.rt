@@ -60,7 +60,7 @@ fn feed_kept(
     ensures sections { is_some kept.new.sections ≡ is_some kept.old.sections }
 {
     'lines: while let Some(line) = lines.next_held() {
-        if let Some(fault) = kept.next_read(line)? {
+        if let Some(fault) = kept.next_read(&line)? {
             return Ok(Some(fault));
         }
         *number += 1;
