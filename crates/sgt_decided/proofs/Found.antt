@@ -9,7 +9,8 @@ use Rattle.sgt_cert.specs.Certificate.{decided_tx, is_commit, rank_in, IsCommitt
 use Rattle.sgt_cert.specs.Valid.{IsDecided}
 use Rattle.sgt_cert.specs.declared.certificate.Decision.{Decision}
 use Rattle.sgt_cert.specs.declared.certificate.Decision.TheVariants.{Commit, Refuse, Withdraw}
-use Rattle.sgt_decided.specs.Decided.{Decides, IsFound}
+use Rattle.sgt_decided.specs.Decided.{Decides, IsFound, IsRulingOn}
+use Rattle.sgt_decided.specs.declared.decided.Ruling.{Ruling}
 
 module _ (ds : List Decision) (tx n : ℕ) (d : Decision) (at : slice_get ds n ≡ Some d) (of : decided_tx d ≡ tx) (only : (m : ℕ) → Decides ds m tx → m ≡ n) where
   pub the-commit : (m rank : ℕ) → IsCommitted ds m tx rank → (m ≡ n) × (d ≡ Commit tx rank)
@@ -48,3 +49,11 @@ module _ (ds : List Decision) (tx n : ℕ) where
     λ yes. absurd (true≢false (sym yes ∙ is)),
     λ (m, rank, less, by). let one = (the-commit ds tx n (Withdraw i) at of only m rank by).1 in absurd cc,
   )
+
+-- a transaction in no decision
+pub no-ruling : (ds : List Decision) (e : Entry) (r : Ruling) → ((number : ℕ) → Decides ds number (tx_of e) → ⊥) → r ≡ record { number = None; rank = None; suiting = None } → IsRulingOn ds e r
+no-ruling ds e r none is = subst (IsRulingOn ds e) (sym is) (record {
+  number = none;
+  rank = λ rank by. none by.0 (Commit (tx_of e) rank, by.1, refl);
+  suiting = λ m by. none m (by.0, by.1, by.2);
+})

@@ -3,6 +3,7 @@
 
 mod cycles;
 mod decided;
+mod outcome;
 mod ranks;
 mod steps;
 mod table;
