@@ -18,7 +18,8 @@ ghost use Rattle.sgt_cells.specs.Tracks.{TracksOpen, IsReadyFor, IsNumberOf, IsP
 
 use crate::act::{self, Act};
 use crate::cell::{self, Cell};
-use crate::record::{self, Record};
+use crate::record::live_after;
+use crate::record_table::RecordTable;
 use sgt_names::{Entry, Holding, Item, Kind, Value};
 use std::alloc::{AllocError, Global};
 
@@ -34,7 +35,7 @@ pub struct SiteState {
     pub cells: Vec<Cell>,
     /// Where the cell of an item may be, by a hash of its name.
     pub hints: Vec<u16>,
-    pub records: Vec<Record>,
+    pub records: RecordTable,
     /// How many entries there are.
     pub count: usize,
     pub live: usize,
@@ -156,7 +157,7 @@ impl SiteState {
             section: 0,
             cells: Vec::new(alloc),
             hints: vec![in alloc; 0u16; HINTS]?,
-            records: record::fresh(alloc, count)?,
+            records: RecordTable::new(alloc, count)?,
             count: 0,
             live: 0,
             last_end: None,
@@ -170,6 +171,7 @@ impl SiteState {
     {
         self.section = section;
         self.cells.clear();
+        self.records.clear();
         self.count = 0;
         self.live = 0;
         self.last_end = None;
@@ -326,17 +328,12 @@ impl SiteState {
             → TracksOpen ds items entries self.old → TracksOpen ds items (entries ++ entry.now ∷ []) self.new) }
     {
         let next = one_more(self.count)?;
-        let was = record::is_live(self.records.as_slice(), number, self.section);
+        let was = self.records.is_live(number, self.section);
         let act = act_at(self.count, place, entry)?;
-        record::enter(
-            self.records.as_mut_slice(),
-            number,
-            self.section,
-            act,
-            entry.is_end(),
-        )?;
-        let is = record::is_live(self.records.as_slice(), number, self.section);
-        self.live = record::live_after(self.live, self.records.len(), was, is);
+        self.records
+            .enter(number, self.section, act, entry.is_end())?;
+        let is = self.records.is_live(number, self.section);
+        self.live = live_after(self.live, self.records.len(), was, is);
         enter_cell(self.cells.as_mut_slice(), place, entry, rank);
         self.last_end = later_end(self.last_end, entry, number);
         self.count = next;
