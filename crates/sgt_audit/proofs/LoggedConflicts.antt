@@ -1,5 +1,5 @@
 -- The steps of walks, against the logs that are whole.
-use Rattle.std.proofs.Common.{◌≡◌, ℕ, ◌+◌, ◌-◌, ◌<◌, List, [], ◌∷◌, ◌++◌, length, Option, Some, None, Bool, true, false, refl, sym, ap, ◌∙◌, subst, arith, inl, inr, IsTrue, All, Contains}
+use Rattle.std.proofs.Common.{◌≡◌, ℕ, ◌-◌, ◌<◌, List, [], ◌∷◌, ◌++◌, length, Option, Some, None, true, false, sym, ap, ◌∙◌, subst, arith, inl, inr, IsTrue, All, Contains}
 use Rattle.std.specs.Prelude.{◌↔◌, slice_get}
 use Rattle.std.proofs.lemmas.Bool.{false≢true}
 use Rattle.std.proofs.lemmas.Option.{same_Some, none-some}
@@ -8,7 +8,7 @@ use Rattle.sgt_names.proofs.Lists.{All_in, front_at, middle_at, within_at}
 use Rattle.sgt_notation.specs.declared.SectionLine.{SectionLine}
 use Rattle.sgt_notation.specs.declared.SectionLine.TheVariants.{End}
 use Rattle.sgt_cert.specs.Text.{IsCertificate}
-use Rattle.sgt_cert.specs.Valid.{IsLogged, AreLogged}
+use Rattle.sgt_cert.specs.Valid.{AreLogged}
 use Rattle.sgt_cert.specs.declared.bundle.SiteLog.{SiteLog}
 use Rattle.sgt_cert.specs.declared.certificate.Certificate.{Certificate}
 use Rattle.sgt_cert.specs.declared.certificate.Decision.{Decision}
@@ -21,7 +21,7 @@ use Rattle.sgt_cells.proofs.Doing.{get_cases}
 use Rattle.sgt_cells.specs.Tracks.{TracksOpen}
 use Rattle.sgt_cells.specs.declared.state.SiteState.{SiteState}
 use Rattle.sgt_audit.specs.declared.walks.Walks.{Walks}
-use Rattle.sgt_audit.specs.Kept.{IsMet, AreMet, MeansMet, TracksCurrent, Tracks}
+use Rattle.sgt_audit.specs.Kept.{IsMet, AreMet, MeansMet, TracksCurrent}
 use Rattle.sgt_audit.specs.Reading.{Begun}
 use Rattle.sgt_audit.specs.private.Following.{MayFollow, with_next}
 use Rattle.sgt_audit.proofs.Places.{same_whole}

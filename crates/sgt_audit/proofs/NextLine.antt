@@ -8,7 +8,6 @@ use Rattle.sgt_notation.specs.declared.SectionLine.TheVariants.{Site, Initial, L
 use Rattle.sgt_cert.specs.Valid.{AreLogged}
 use Rattle.sgt_cert.specs.Text.{sections_from, AreSections}
 use Rattle.sgt_cert.specs.declared.certificate.Certificate.{Certificate}
-use Rattle.sgt_cert.specs.declared.certificate.Decision.{Decision}
 use Rattle.sgt_cert.specs.declared.certificate.Decision.TheVariants.{Refuse}
 use Rattle.sgt_cert.specs.declared.certificate.Step.{Step}
 use Rattle.sgt_cert.specs.declared.bundle.SiteLog.{SiteLog}

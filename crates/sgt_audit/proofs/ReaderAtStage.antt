@@ -1,13 +1,14 @@
 -- How far a text was read, against all that its reader told.
 use Rattle.std.proofs.Common.{◌≡◌, ◌≢◌, ℕ, zero, suc, ◌+◌, ◌<◌, ◌≤◌, List, [], ◌∷◌, ◌++◌, length, take, Option, Some, None, IfSome, refl, sym, ap, ◌∙◌, subst, arith, inl, inr, ◌⊎◌, append_assoc}
-use Rattle.std.specs.Prelude.{⊤}
 use Rattle.std.specs.List.{AllByRecursion}
 use Rattle.std.proofs.lemmas.Bool.{cases_eq, cases_order}
 use Rattle.std.proofs.lemmas.List.{append-nil, length-append}
 use Rattle.std.proofs.lemmas.List.Elements.{recursion_from_All, All-cons}
-use Rattle.sgt_notation.specs.Spelling.{text_of_lines, HasNoLf}
+use Rattle.sgt_notation.specs.Spelling.{text_of_lines, HasNoLf, line_text}
 use Rattle.sgt_notation.specs.Limits.{most_reads}
-use Rattle.sgt_notation.specs.Lines.{Gives, MetReadFault, Spends, Stream}
+use Rattle.sgt_notation.specs.Lines.{Ahead, GaveNext, Gives, MetReadFault, Spends, Stream, passed, stream}
+use Rattle.sgt_notation.proofs.Fronts.{passed-next}
+use Rattle.sgt_notation.proofs.Short.{line-no_lf, line-short}
 use Rattle.sgt_notation.specs.declared.lines.Next.TheVariants.{Line, Cut, TooLong, End}
 use Rattle.sgt_notation.specs.declared.SectionLine.{SectionLine}
 use Rattle.sgt_audit.specs.declared.faults.Fault.{Fault}
@@ -23,7 +24,7 @@ use Rattle.sgt_audit.specs.Reading.{Begun}
 use Rattle.sgt_audit.specs.Progress.{Stands}
 use Rattle.sgt_audit.specs.private.NextLine.{Follows, bytes_of}
 use Rattle.sgt_audit.specs.private.Ending.{limit_of}
-use Rattle.sgt_audit.specs.private.Stops.{Goes, IsAll, IsEnded, IsJudged, IsRest, IsStop}
+use Rattle.sgt_audit.specs.private.Stops.{FedFront, Goes, IsAll, IsEnded, IsJudged, IsRest, IsStop}
 
 -- what the machine has kept has no fault
 stage-faultless : (k : Kept) (b : Begun) (before : List SectionLine) (s : Stage) → Means k.second k.certificate b before → IsStageOf k.second k.certificate before s → IsFaultless s
@@ -190,3 +191,11 @@ fault-met told failures old new line quiet spends met =
       | inl failed ↦ inl (omega (arith, failed.0, quiet))
       | inr spent ↦ inr (all-spent told old.told new.told old.ahead.reads spends spent.2)
     ]
+
+-- a line that was fed at the front is what comes next
+pub front-gave : (old new : Kept) (held : List ℕ) (n : ℕ) (fault : Option Fault) (lines after : Ahead) (told : Option (List ℕ)) → (f : FedFront old new held n fault) → held ≡ lines.held → after ≡ passed n lines
+    → GaveNext 50 (stream lines told 0) Line (line_text f.line) (stream after told 0)
+front-gave old new held n fault lines after told f same is =
+    let short = line-short f.line f.is in
+    subst (λ (a : Ahead). GaveNext 50 (stream lines told 0) Line (line_text f.line) (stream a told 0)) (sym is)
+    (passed-next 50 n lines told 0 (line_text f.line) (line-no_lf f.line f.is) (omega (arith, short)) (subst (λ (h : List ℕ). n ≤ length h) same f.within) (ap (take n) (sym same) ∙ f.front))

@@ -1,6 +1,6 @@
 -- What is kept of the sites, against the rules of a line, and after one more line.
-use Rattle.std.proofs.Common.{◌≡◌, ◌≢◌, ℕ, ◌+◌, List, [], ◌∷◌, ◌++◌, length, Option, Some, None, Bool, true, IsTrue, refl, sym, ap, ◌∙◌, subst, arith, inl, inr, All, AllPairs, Contains}
-use Rattle.std.specs.Prelude.{◌↔◌, slice_get, is_some, IfSome, IfNone}
+use Rattle.std.proofs.Common.{◌≡◌, ◌≢◌, ℕ, ◌+◌, List, [], ◌∷◌, ◌++◌, length, Option, Some, None, Bool, true, false, IsTrue, refl, sym, ap, ◌∙◌, subst, arith, inl, inr, All, AllPairs, Contains}
+use Rattle.std.specs.Prelude.{◌↔◌, not, slice_get, is_some, IfSome, IfNone}
 use Rattle.std.specs.Option.{ForSome}
 use Rattle.std.specs.Ordering.{nat_cmp}
 use Rattle.std.specs.Cmp.Lexicographic.{slice_cmp}
@@ -10,9 +10,10 @@ use Rattle.std.proofs.lemmas.Cmp.{nat_list_cmp_total, tied_itself}
 use Rattle.std.proofs.lemmas.List.{length_push}
 use Rattle.std.proofs.lemmas.Option.{none-some, same_Some}
 use Rattle.sgt_names.proofs.Places.{All_at, All-from_at, AllPairs_at, AllPairs-from_at, Contains-from_at}
+use Rattle.sgt_names.proofs.Lists.{option_cases}
 use Rattle.sgt_names.specs.Name.{Name}
 use Rattle.sgt_names.specs.Entry.{item_of, Reads, Writes, Repeats, Clash}
-use Rattle.sgt_names.specs.Log.{names}
+use Rattle.sgt_names.specs.Log.{names, value_at}
 use Rattle.sgt_names.specs.declared.entry.Entry.{Entry}
 use Rattle.sgt_names.specs.declared.entry.Entry.TheVariants as entry
 use Rattle.sgt_names.specs.declared.entry.Holding.{Holding}
@@ -24,11 +25,12 @@ use Rattle.sgt_cert.specs.Parts.{ComesBefore}
 use Rattle.sgt_cert.specs.Valid.{IsDecided, RiseInRank, EndInOrder}
 use Rattle.sgt_cert.specs.declared.bundle.SiteLog.{SiteLog}
 use Rattle.sgt_cert.specs.declared.certificate.Decision.{Decision}
-use Rattle.sgt_cells.specs.Tracks.{TracksOpen, IsReadyFor, DecidesOn, IsNumberOf}
+use Rattle.sgt_decided.specs.Decided.{IsFound}
+use Rattle.sgt_cells.specs.Tracks.{TracksOpen, IsReadyFor, IsPlaceAmong, DecidesOn, IsNumberOf}
 use Rattle.sgt_cells.specs.Cells.{IsRankOf}
 use Rattle.sgt_cells.specs.declared.state.SiteState.{SiteState}
 use Rattle.sgt_cells.proofs.Tracking.{ready-next}
-use Rattle.sgt_cert.specs.Certificate.{IsDecidedOnce}
+use Rattle.sgt_cert.specs.Certificate.{IsDecidedOnce, IsCommitted}
 use Rattle.sgt_cert.specs.Text.{Begins}
 use Rattle.sgt_cert.specs.declared.certificate.Certificate.{Certificate}
 use Rattle.sgt_audit.specs.declared.faults.Fault.TheVariants as fault
@@ -39,29 +41,43 @@ use Rattle.sgt_audit.proofs.MayFollow.{begins-follow}
 use Rattle.sgt_audit.proofs.OpenLogs.{has_open}
 use Rattle.sgt_audit.specs.Reading.{Begun, IsBegun, HasRoomFor, lines_read}
 use Rattle.sgt_audit.specs.private.Following.{Fits, MayFollow, with_next}
-use Rattle.sgt_audit.specs.private.Judging.{AdmitsLine, KeptBelow}
+use Rattle.sgt_audit.specs.private.Judging.{AdmitsLine, KeptBelow, IsLegalRead}
+use Rattle.sgt_audit.specs.private.Known.{IsKnownOf, IsKnownLine}
+use Rattle.sgt_audit.specs.declared.known.Known.{Known}
 
 -- ---- the rules
 
--- what a look-up of an item finds
-abbrev pub Finds : SiteState → Name → Option ℕ → Type 0
-Finds s x o = IfSome o (λ place. (ds : List Decision) (items : List Holding) (entries : List Entry) → TracksOpen ds items entries s → slice_get (names items) place ≡ Some x)
-    × IfNone o ((ds : List Decision) (items : List Holding) (entries : List Entry) → TracksOpen ds items entries s → Contains (names items) x → ⊥)
+-- an entry whose item has a place
+pub listed-there : (ns : List Name) (e : Entry) (o : Option ℕ) (place : ℕ) → o ≡ Some place → IsPlaceAmong ns e o → IsTrue true ↔ ForSome (item_of e) (Contains ns)
+listed-there ns e o place is among =
+    let at = subst (IsPlaceAmong ns e) is among in
+    (λ h y on. subst (Contains ns) (same_Some at.0 y (sym at.2 ∙ on)) (Contains-from_at ns place at.0 at.1), λ h. refl)
 
-listed-by : (ds : List Decision) (items : List Holding) (entries : List Entry) (s : SiteState) (x : Name) (item : Option Name) (o : Option ℕ) → TracksOpen ds items entries s → Finds s x o → item ≡ Some x
-    → IsTrue (is_some o) ↔ ForSome item (Contains (names items))
-listed-by ds items entries s x item (Some place) t finds on = (
-  λ h y is. subst (Contains (names items)) (same_Some x y (sym on ∙ is)) (Contains-from_at (names items) place x (finds.0 ds items entries t)),
-  λ h. refl,
-)
-listed-by ds items entries s x item None t finds on = (λ h. absurd (false≢true h), λ h. absurd (finds.1 ds items entries t (h x on)))
+-- one whose item has none, or that has no item
+pub listed-missing : (ns : List Name) (e : Entry) (o : Option ℕ) (r : Bool) → o ≡ None → is_some (item_of e) ≡ not r → IsPlaceAmong ns e o → IsTrue r ↔ ForSome (item_of e) (Contains ns)
+listed-missing ns e o r is some among =
+    let miss = subst (IsPlaceAmong ns e) is among in
+    elim (option_cases (item_of e)) [
+      | inl none ↦ (λ h x on. absurd (none-some x (sym none ∙ on)), λ h. not-false r (sym some ∙ ap is_some none))
+      | inr named ↦ (λ h. absurd (false≢true (ap not (sym h) ∙ sym some ∙ ap is_some named.1)), λ all. absurd (miss named.0 named.1 (all named.0 named.1)))
+    ]
+  where
+    not-false : (r : Bool) → not r ≡ false → IsTrue r
+    not-false true h = refl
+    not-false false h = absurd (false≢true (sym h))
 
-pub listed-decides : (ds : List Decision) (items : List Holding) (entries : List Entry) (s : SiteState) (x : Name) (item : Option Name) (o : Option ℕ) (r : Bool) → r ≡ is_some o → TracksOpen ds items entries s → Finds s x o → item ≡ Some x
-    → IsTrue r ↔ ForSome item (Contains (names items))
-listed-decides ds items entries s x item o r is t finds on = subst (λ b. IsTrue b ↔ ForSome item (Contains (names items))) (sym is) (listed-by ds items entries s x item o t finds on)
+pub placed-at : (ns : List Name) (e : Entry) (o : Option ℕ) (place : ℕ) → o ≡ Some place → IsPlaceAmong ns e o → (x : Name) × (slice_get ns place ≡ Some x) × (item_of e ≡ Some x)
+placed-at ns e o place is among = subst (IsPlaceAmong ns e) is among
 
-pub end-listed : (ns : List Name) (item : Option Name) → item ≡ None → IsTrue true ↔ ForSome item (Contains ns)
-end-listed ns item none = (λ h x is. absurd (none-some x (sym none ∙ is)), λ h. refl)
+-- where it is listed, it has a place or no item
+pub placed-none : (ns : List Name) (e : Entry) (o : Option ℕ) → o ≡ None → ForSome (item_of e) (Contains ns) → IsPlaceAmong ns e o → item_of e ≡ None
+placed-none ns e o is listed among = elim (option_cases (item_of e)) [ inl none ↦ none | inr some ↦ absurd (subst (IsPlaceAmong ns e) is among some.0 some.1 (listed some.0 some.1)) ]
+
+pub legal-at : (items : List Holding) (entries : List Entry) (e : Entry) (tx : ℕ) (item : Name) (value : ℕ) (r : Bool) (place : ℕ) → e ≡ entry.Read tx item value
+    → (x : Name) × (slice_get (names items) place ≡ Some x) × (item_of e ≡ Some x) → ((x : Name) → slice_get (names items) place ≡ Some x → IsTrue r ↔ (value_at items entries x ≡ Some value))
+    → IsTrue r ↔ IsLegalRead items entries e
+legal-at items entries e tx item value r place is at decides =
+    subst (λ f. IsTrue r ↔ IsLegalRead items entries f) (sym is) (decides item (at.1 ∙ ap Some (same_Some at.0 item (sym at.2 ∙ ap item_of is))))
 
 -- an end repeats nothing and conflicts with nothing
 end-no_read : (e : Entry) (x : Name) → item_of e ≡ None → Reads x e → ⊥
@@ -102,15 +118,39 @@ pub number-is : (ds : List Decision) (tx : ℕ) (o : Option ℕ) → IfSome o (�
 number-is ds tx None some none = none
 number-is ds tx (Some number) some none = some
 
-pub rank-is : (ds : List Decision) (tx : ℕ) (o : Option ℕ) → IfSome o (λ rank. IsRankOf ds tx (Some rank)) → IfNone o (IsRankOf ds tx None) → IsRankOf ds tx o
-rank-is ds tx None some none = none
-rank-is ds tx (Some rank) some none = some
+pub number-found : (ds : List Decision) (tx : ℕ) (o : Option ℕ) → IsFound (λ n. DecidesOn ds n tx) o → IsNumberOf ds tx o
+number-found ds tx None is = is
+number-found ds tx (Some number) is = is
+
+pub rank-found : (ds : List Decision) (tx : ℕ) (o : Option ℕ) → IsFound (λ rank. (n : ℕ) × IsCommitted ds n tx rank) o → IsRankOf ds tx o
+rank-found ds tx None is = λ number rank by. is rank (number, by)
+rank-found ds tx (Some rank) is = is
+
+pub suiting-at : (ds : List Decision) (e : Entry) (o : Option ℕ) (n : ℕ) → o ≡ Some n → IsFound (IsDecided ds e) o → IsDecided ds e n
+suiting-at ds e o n is found = subst (IsFound (IsDecided ds e)) is found
+
+pub suiting-none : (ds : List Decision) (e : Entry) (o : Option ℕ) → o ≡ None → IsFound (IsDecided ds e) o → (n : ℕ) → IsDecided ds e n → ⊥
+suiting-none ds e o is found = subst (IsFound (IsDecided ds e)) is found
 
 pub final-listed : (log : SiteLog) (h : Holding) → Fits log (Final h) → Contains (names log.items) h.item
 final-listed log h fits = Contains-from_at (names log.items) (length log.finals) h.item fits
 
 pub open-tracked : (ds : List Decision) (b : Begun) (s : SiteState) (log : SiteLog) → b.current ≡ Some log → Tracks ds b s → TracksOpen ds log.items log.entries s
 open-tracked ds b s log here t = (subst (λ o. TracksCurrent ds (length b.whole) o s) here t).1
+
+-- what is known of a line
+pub known-none : (ds : List Decision) (s : SiteState) (line : SectionLine) → ((e : Entry) → line ≡ Logged e → ⊥) → IsKnownLine ds s line None
+known-none ds s (Logged e) not = absurd (not e refl)
+known-none ds s (Site k) not = tt
+known-none ds s (Initial h) not = tt
+known-none ds s (Final h) not = tt
+known-none ds s End not = tt
+
+pub known-entry : (ds : List Decision) (s : SiteState) (line : SectionLine) (o : Option Known) (e : Entry) (k : Known) → line ≡ Logged e → o ≡ Some k → IsKnownLine ds s line o → IsKnownOf ds s e k
+known-entry ds s line o e k is some known = subst (IsKnownLine ds s (Logged e)) some (subst (λ l. IsKnownLine ds s l o) is known)
+
+pub known-missing : (ds : List Decision) (s : SiteState) (line : SectionLine) (o : Option Known) (e : Entry) → line ≡ Logged e → o ≡ None → IsKnownLine ds s line o → ⊥
+known-missing ds s line o e is none known = subst (IsKnownLine ds s (Logged e)) none (subst (λ l. IsKnownLine ds s l o) is known)
 
 -- ---- names that rise are apart
 

@@ -5,3 +5,4 @@ pub mod NextLine
 pub mod Ending
 pub mod Stops
 pub mod SpelledSections
+pub mod Known

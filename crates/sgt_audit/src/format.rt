@@ -1,7 +1,7 @@
 //! The two formats of a bundle: the first, `sgt 1`, and the second, `sgt 2`, which has increments.
 
-ghost use Rattle.std.specs.Prelude.{◌≡◌, ◌↔◌, Bool, IsTrue, IfSome, IfNone};
-ghost use Rattle.sgt_notation.specs.Reading.{Finds};
+ghost use Rattle.std.specs.Prelude.{◌≡◌, ◌↔◌, Bool, false, IsTrue, IfSome, IfNone};
+ghost use Rattle.sgt_notation.specs.Reading.{Finds, SpellsNone};
 ghost use Rattle.sgt_notation.specs.Spelling.{IsLine, line_text};
 ghost use Rattle.sgt_cert.specs.Text.{format_line};
 ghost use Rattle.sgt_audit.specs.Faults.{Allows, IsLineIn};
@@ -42,13 +42,10 @@ pub(crate) fn read_line(second: bool, line: &[u8]) -> Option<SectionLine>
     }
 }
 
-/// The line, if it is one of this format.
-pub(crate) fn allowed_line(second: bool, line: SectionLine) -> Option<SectionLine>
-    ensures { IsLine line → Finds (IsLineIn second) line_text (line_text line) result }
+/// Whether the line, which is in its range, is one of this format.
+pub(crate) fn is_line_in(second: bool, line: &SectionLine) -> bool
+    ensures yes { IsLine line.now → IsTrue result → IsLineIn second line.now }
+    ensures no { IsLine line.now → result ≡ false → SpellsNone (IsLineIn second) line_text (line_text line.now) }
 {
-    if is_allowed(second, &line) {
-        Some(line)
-    } else {
-        None
-    }
+    is_allowed(second, line)
 }

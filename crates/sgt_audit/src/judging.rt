@@ -13,11 +13,13 @@ ghost use Rattle.sgt_cert.specs.declared.bundle.SiteLog.{SiteLog};
 ghost use Rattle.sgt_cert.specs.declared.certificate.Certificate.{Certificate};
 ghost use Rattle.sgt_audit.specs.Faults.{Keeps};
 ghost use Rattle.sgt_audit.specs.private.Judging.{ContinuesLog, ContinuesBlock, HasOpen, JudgedLine, AnswersItself};
+ghost use Rattle.sgt_audit.specs.private.Known.{IsKnownOf, IsKnownLine};
 ghost use Rattle.sgt_audit.specs.Reading.{Begun, IsBegun, lines_read};
 ghost use Rattle.sgt_audit.specs.private.Following.{Fits};
 
 use crate::entries::{continues, is_open};
 use crate::faults::Fault;
+use crate::known::Known;
 use crate::place::OpenPlace;
 use crate::tracked::{
     Tracked, holds_value, is_active, is_first, is_in_order, is_in_rank, is_legal, is_listed,
@@ -47,44 +49,45 @@ fn continues_log(place: &OpenPlace, line: &SectionLine) -> bool
     ensures { (log : SiteLog) → IsOpenPlace log place.now → (IsTrue result ↔ ContinuesLog log line.now) }
 {
     match place.last_entry() {
-        Some(last) => continues_block(&last, line),
+        Some(last) => continues_block(last, line),
         None => true,
     }
 }
 
-/// The least fault of an entry.
+/// The least fault of a line that is this entry, of which this is known.
 fn judge_entry(
-    certificate: &Decided,
     state: &SiteState,
     place: &OpenPlace,
+    known: &Known,
+    line: &SectionLine,
     entry: &Entry,
 ) -> Option<Fault>
-    ensures { (c : Certificate) (before : List SectionLine) (log : SiteLog)
-        → c.decisions ≡ certificate.now.decisions → IsDecidedOnce certificate.now.decisions
-        → AreRanks (ranks certificate.now.decisions) → IsOpenPlace log place.now
-        → TracksOpen certificate.now.decisions log.items log.entries state.now
+    requires { line.now ≡ Logged entry.now }
+    ensures { (c : Certificate) (before : List SectionLine) (log : SiteLog) → IsDecidedOnce c.decisions
+        → AreRanks (ranks c.decisions) → IsOpenPlace log place.now → IsKnownOf c.decisions state.now entry.now known.now
+        → TracksOpen c.decisions log.items log.entries state.now
         → HasOpen before log → Begins c.sites (before ++ Logged entry.now ∷ [])
         → JudgedLine (Keeps c before (Logged entry.now)) result }
 {
-    if !is_listed(state, entry) {
+    if !is_listed(known, entry) {
         return Some(Fault::Item);
     }
-    if !is_first(certificate, state, entry) {
+    if !is_first(state, known, entry) {
         return Some(Fault::Twice);
     }
-    if !is_legal(state, entry) {
+    if !is_legal(state, known, entry) {
         return Some(Fault::ReadValue);
     }
-    if !is_in_rank(certificate, state, entry) {
+    if !is_in_rank(state, known, entry) {
         return Some(Fault::RankOrder);
     }
-    if !continues_log(place, &SectionLine::Logged(*entry)) {
+    if !continues_log(place, line) {
         return Some(Fault::Block);
     }
-    if !is_active(certificate, state, entry) {
+    if !is_active(state, known) {
         return Some(Fault::End);
     }
-    if !is_in_order(certificate, state, entry) {
+    if !is_in_order(state, known, entry) {
         return Some(Fault::DecisionOrder);
     }
     None
@@ -123,22 +126,24 @@ fn judge_end(state: &SiteState, place: &OpenPlace) -> Option<Fault>
     None
 }
 
-/// The least fault of a line in the open section, but for the walks.
+/// The least fault of a line in the open section, of which this is known, but for the walks.
 fn judge_inside(
-    certificate: &Decided,
     state: &SiteState,
     place: &OpenPlace,
     line: &SectionLine,
+    known: &Option<Known>,
 ) -> Option<Fault>
-    ensures { (c : Certificate) (before : List SectionLine) (log : SiteLog)
-        → c.decisions ≡ certificate.now.decisions → IsDecidedOnce certificate.now.decisions
-        → AreRanks (ranks certificate.now.decisions) → IsOpenPlace log place.now
-        → TracksOpen certificate.now.decisions log.items log.entries state.now
+    ensures { (c : Certificate) (before : List SectionLine) (log : SiteLog) → IsDecidedOnce c.decisions
+        → AreRanks (ranks c.decisions) → IsOpenPlace log place.now → IsKnownLine c.decisions state.now line.now known.now
+        → TracksOpen c.decisions log.items log.entries state.now
         → HasOpen before log → Fits log line.now → Begins c.sites (before ++ line.now ∷ [])
         → JudgedLine (Keeps c before line.now) result }
 {
     match line {
-        SectionLine::Logged(entry) => judge_entry(certificate, state, place, entry),
+        SectionLine::Logged(entry) => match known {
+            Some(known) => judge_entry(state, place, known, line, entry),
+            None => None,
+        },
         SectionLine::Final(holding) => judge_final(state, place, holding),
         SectionLine::End => judge_end(state, place),
         SectionLine::Site(_) => None,
@@ -146,24 +151,23 @@ fn judge_inside(
     }
 }
 
-/// The least fault of a line behind the sections that were read, but for the walks.
+/// The least fault of a line behind the sections that were read, of which this is known, but for the walks.
 pub(crate) fn judge_line(
-    certificate: &Decided,
     tracked: &Tracked,
     line: &SectionLine,
+    known: &Option<Known>,
 ) -> Option<Fault>
     ensures may_follow { (b : Begun) → IsBegun b → IsPlace b tracked.now.place
         → IfNone result (Begins b.sites (lines_read b ++ line.now ∷ [])) }
-    ensures judged { (c : Certificate) (b : Begun) → c.decisions ≡ certificate.now.decisions → c.sites ≡ b.sites
-        → IsDecidedOnce certificate.now.decisions → AreRanks (ranks certificate.now.decisions)
-        → IsBegun b → IsTracked certificate.now.decisions b tracked.now
+    ensures judged { (c : Certificate) (b : Begun) → c.sites ≡ b.sites → IsDecidedOnce c.decisions → AreRanks (ranks c.decisions)
+        → IsBegun b → IsKnownLine c.decisions tracked.now.state line.now known.now → IsTracked c.decisions b tracked.now
         → JudgedLine (Keeps c (lines_read b) line.now) result }
 {
     if !tracked.place.may_go_on(line) {
         return Some(Fault::Section);
     }
     match &tracked.place.current {
-        Some(place) => judge_inside(certificate, &tracked.state, place, line),
+        Some(place) => judge_inside(&tracked.state, place, line, known),
         None => None,
     }
 }

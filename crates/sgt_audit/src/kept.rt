@@ -1,14 +1,15 @@
 //! A certificate, and lines of sections behind it, none of which has a fault.
 
 ghost use Rattle.std.specs.Prelude.{◌≡◌, ◌≤◌, ◌↔◌, ℕ, [], List, length, IsTrue, IfOk, is_some};
-ghost use Rattle.sgt_notation.specs.Reading.{Finds};
+ghost use Rattle.sgt_notation.specs.Reading.{SpellsNone};
 ghost use Rattle.sgt_notation.specs.Spelling.{IsLine, line_text};
 ghost use Rattle.sgt_notation.specs.declared.SectionLine.{SectionLine};
 ghost use Rattle.sgt_cert.specs.Text.{AreSections};
 
 use crate::faults::Fault;
-use crate::format::{allowed_line, read_line};
+use crate::format::{is_line_in, read_line};
 use crate::judging::judge_line;
+use crate::known::look_up;
 use crate::sections::{Sections, add_to};
 use crate::tracked::Tracked;
 use sgt_decided::Decided;
@@ -28,7 +29,7 @@ pub struct Kept {
 }
 
 impl Kept {
-    ghost use Rattle.sgt_audit.specs.Faults.{IsLineIn, Stage};
+    ghost use Rattle.sgt_audit.specs.Faults.{IsLineIn, Stage, Rule, Breaks, whole};
     ghost use Rattle.sgt_audit.specs.Kept.{Holds, IsStageOf};
     ghost use Rattle.sgt_audit.specs.private.NextLine.{AnswersLine};
     ghost use Rattle.sgt_audit.specs.private.Ending.{EndsWith, limit_of};
@@ -43,27 +44,39 @@ impl Kept {
         self.tracked.place.is_complete()
     }
 
-    /// The next line, of which this was read: a line of the format, or none.
-    fn follow(&mut self, read: Option<SectionLine>) -> Result<Option<Fault>, AllocError>
+    /// The fault of the next line, where it is none of the format.
+    fn unread(&self) -> Fault
+        ensures { (b : Begun) (before : List SectionLine) (l : List ℕ) (s : Stage)
+            → Holds self.now.second self.now.certificate b self.now.tracked self.now.sections before
+            → SpellsNone (IsLineIn self.now.second) line_text l → IsStageOf self.now.second self.now.certificate before s
+            → Breaks (Rule s (whole l)) result }
+    {
+        if self.is_complete() {
+            Fault::Trailing
+        } else {
+            Fault::Notation
+        }
+    }
+
+    /// The next line, which is one of the format.
+    fn follow(&mut self, line: &SectionLine) -> Result<Option<Fault>, AllocError>
         ensures second { self.new.second ≡ self.old.second }
         ensures certificate { self.new.certificate ≡ self.old.certificate }
         ensures sections { is_some self.new.sections ≡ is_some self.old.sections }
-        ensures answers { (b : Begun) (before : List SectionLine) (l : List ℕ)
+        ensures answers { (b : Begun) (before : List SectionLine)
             → Holds self.old.second self.old.certificate b self.old.tracked self.old.sections before
-            → Finds (IsLineIn self.old.second) line_text l read
-            → IfOk result (AnswersLine self.old.second self.old.certificate self.new.tracked self.new.sections before l) }
+            → IsLineIn self.old.second line.now → IfOk result
+            (AnswersLine self.old.second self.old.certificate self.new.tracked self.new.sections before (line_text line.now)) }
     {
         if self.tracked.place.is_complete() {
             return Ok(Some(Fault::Trailing));
         }
-        let Some(read) = read else {
-            return Ok(Some(Fault::Notation));
-        };
-        if let Some(fault) = judge_line(&self.certificate, &self.tracked, &read) {
+        let known = look_up(&self.certificate, &self.tracked.state, line);
+        if let Some(fault) = judge_line(&self.tracked, line, &known) {
             return Ok(Some(fault));
         }
-        self.tracked.enter(&self.certificate, &read)?;
-        add_to(&mut self.sections, read)?;
+        self.tracked.enter(&self.certificate, line, &known)?;
+        add_to(&mut self.sections, line)?;
         if self.tracked.place.is_complete() && !self.tracked.walks.are_logged() {
             return Ok(Some(Fault::WalkStep));
         }
@@ -79,21 +92,27 @@ impl Kept {
             → Holds self.old.second self.old.certificate b self.old.tracked self.old.sections before
             → IfOk result (AnswersLine self.old.second self.old.certificate self.new.tracked self.new.sections before line.now) }
     {
-        let read = read_line(self.second, line);
-        self.follow(read)
+        match read_line(self.second, line) {
+            Some(read) => self.follow(&read),
+            None => Ok(Some(self.unread())),
+        }
     }
 
     /// The next line, which was read already.
-    pub(crate) fn next_read(&mut self, line: SectionLine) -> Result<Option<Fault>, AllocError>
+    pub(crate) fn next_read(&mut self, line: &SectionLine) -> Result<Option<Fault>, AllocError>
         ensures second { self.new.second ≡ self.old.second }
         ensures certificate { self.new.certificate ≡ self.old.certificate }
         ensures sections { is_some self.new.sections ≡ is_some self.old.sections }
         ensures answers { (b : Begun) (before : List SectionLine)
             → Holds self.old.second self.old.certificate b self.old.tracked self.old.sections before
-            → IsLine line → IfOk result (AnswersLine self.old.second self.old.certificate self.new.tracked self.new.sections before (line_text line)) }
+            → IsLine line.now → IfOk result
+            (AnswersLine self.old.second self.old.certificate self.new.tracked self.new.sections before (line_text line.now)) }
     {
-        let read = allowed_line(self.second, line);
-        self.follow(read)
+        if is_line_in(self.second, line) {
+            self.follow(line)
+        } else {
+            Ok(Some(self.unread()))
+        }
     }
 
     /// At the end of the input, with these bytes behind the last LF: what was read, if all is there, or the fault.

@@ -59,12 +59,18 @@ impl OpenPlace {
     }
 
     /// The entry that was read last, if no final stands behind it.
-    pub(crate) fn last_entry(&self) -> Option<Entry>
+    pub(crate) fn last_entry(&self) -> Option<&Entry>
         ensures some { (log : SiteLog) → IsOpenPlace log self.now
-            → IfSome result (λ e. (log.finals ≡ []) × (slice_get log.entries (length log.entries - 1) ≡ Some e)) }
+            → IfSome result (λ e. (log.finals ≡ []) × (slice_get log.entries (length log.entries - 1) ≡ Some e.now)) }
         ensures none { (log : SiteLog) → IsOpenPlace log self.now → IfNone result (log.finals ≡ [] → log.entries ≡ []) }
     {
-        if self.finals == 0 { self.last } else { None }
+        if self.finals != 0 {
+            return None;
+        }
+        match &self.last {
+            Some(last) => Some(last),
+            None => None,
+        }
     }
 
     /// Whether the line may stand next.

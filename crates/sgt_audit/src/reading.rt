@@ -1,19 +1,19 @@
 //! A text judged as its lines come from a reader.
 
-ghost use Rattle.std.specs.Prelude.{◌≡◌, ◌≢◌, ℕ, ◌+◌, ◌^◌, ◌<◌, ◌≤◌, ◌⊎◌, List, [], Option, Err, length, Bool, true, IsTrue, IfOk, IfSome, IsErrOf, is_some};
+ghost use Rattle.std.specs.Prelude.{◌≡◌, ◌≢◌, ℕ, ◌+◌, ◌^◌, ◌<◌, ◌≤◌, ◌⊎◌, List, [], Option, Err, length, Bool, true, IsTrue, IfOk, IfSome, IfNone, IsErrOf, is_some};
 ghost use Rattle.sgt_notation.specs.Limits.{most_reads};
 ghost use Rattle.sgt_notation.specs.Lines.{Spends, coming, most_left};
 ghost use Rattle.sgt_audit.specs.Faults.{Stage, start};
 ghost use Rattle.sgt_audit.specs.private.Ending.{IsKeeping, limit_of};
 ghost use Rattle.sgt_audit.specs.Progress.{Stands};
 ghost use Rattle.sgt_audit.specs.declared.machine.Progress.TheVariants.{Reading};
-ghost use Rattle.sgt_audit.specs.private.Stops.{FedHeld, Goes, HandsOut, IsAll, IsEnded, IsJudged, IsStop};
+ghost use Rattle.sgt_audit.specs.private.Stops.{FedFront, FedHeld, Goes, HandsOut, IsAll, IsEnded, IsJudged, IsStop};
 
 use crate::faults::Fault;
 use crate::kept::Kept;
 use crate::machine::{Machine, Progress};
 use sgt_names::{EngineFail, Source};
-use sgt_notation::{Lines, LinesFault, Next};
+use sgt_notation::{Lines, LinesFault, Next, front_line};
 use std::alloc::{AllocError, Global};
 
 /// What was judged of a text.
@@ -45,6 +45,25 @@ fn ended(machine: Machine, rest: &[u8], line: u64) -> Judged
     }
 }
 
+/// Feeds what was kept the line that is found at the front of the held bytes, if one is: how many bytes it has with its LF,
+/// and its fault.
+fn feed_front(kept: &mut Kept, held: &[u8]) -> Result<Option<(usize, Option<Fault>)>, AllocError>
+    ensures fed { IfOk result (λ found. IfSome found (λ r. FedFront kept.old kept.new held.now r.0 r.1)) }
+    ensures none { IfOk result (λ found. IfNone found (kept.new ≡ kept.old)) }
+    ensures second { kept.new.second ≡ kept.old.second }
+    ensures certificate { kept.new.certificate ≡ kept.old.certificate }
+    ensures sections { is_some kept.new.sections ≡ is_some kept.old.sections }
+{
+    let found = front_line(held);
+    match &found {
+        Some((line, n)) => {
+            let fault = kept.next_read(line)?;
+            Ok(Some((*n, fault)))
+        }
+        None => Ok(None),
+    }
+}
+
 /// Feeds what was kept the lines that are held whole, up to the first fault. The number is that of the next line.
 fn feed_kept(
     kept: &mut Kept,
@@ -59,8 +78,9 @@ fn feed_kept(
     ensures bounded { most_left lines.new ≤ most_left lines.old }
     ensures sections { is_some kept.new.sections ≡ is_some kept.old.sections }
 {
-    'lines: while let Some(line) = lines.next_held() {
-        if let Some(fault) = kept.next_read(line)? {
+    'lines: while let Some((n, fault)) = feed_front(kept, lines.held())? {
+        lines.pass(n);
+        if let Some(fault) = fault {
             return Ok(Some(fault));
         }
         *number += 1;

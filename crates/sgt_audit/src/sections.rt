@@ -134,13 +134,13 @@ impl Sections {
 }
 
 /// One more line, where the sections are kept.
-pub(crate) fn add_to(sections: &mut Option<Sections>, line: SectionLine) -> Result<(), AllocError>
+pub(crate) fn add_to(sections: &mut Option<Sections>, line: &SectionLine) -> Result<(), AllocError>
     ensures kept { is_some sections.new ≡ is_some sections.old }
     ensures next { OnOk result ((b : Begun) → IfSome sections.old (λ s. s ≡ b)
-        → IfSome sections.new (λ s. s ≡ with_next b b.current line)) }
+        → IfSome sections.new (λ s. s ≡ with_next b b.current line.now)) }
 {
     match sections {
-        Some(sections) => sections.add(line),
+        Some(sections) => sections.add(*line),
         None => Ok(()),
     }
 }

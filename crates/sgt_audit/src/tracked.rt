@@ -16,7 +16,10 @@ ghost use Rattle.sgt_audit.specs.Kept.{Tracks, IsTracked};
 ghost use Rattle.sgt_audit.specs.Reading.{Begun, IsBegun};
 ghost use Rattle.sgt_audit.specs.private.Following.{MayFollow, with_next};
 ghost use Rattle.sgt_audit.specs.private.Judging.{IsLegalRead, AdmitsLine};
+ghost use Rattle.sgt_audit.specs.private.Known.{IsKnownOf, IsKnownLine};
+ghost use Rattle.sgt_cells.specs.declared.state.SiteState.{SiteState};
 
+use crate::known::Known;
 use crate::place::Place;
 use crate::walks::Walks;
 use sgt_cells::SiteState;
@@ -35,27 +38,25 @@ pub struct Tracked {
 }
 
 /// Whether the entry's item is listed. An end has none.
-pub(crate) fn is_listed(state: &SiteState, entry: &Entry) -> bool
-    ensures { (ds : List Decision) (items : List Holding) (entries : List Entry) → TracksOpen ds items entries state.now
+pub(crate) fn is_listed(known: &Known, entry: &Entry) -> bool
+    ensures { (ds : List Decision) (state : SiteState) (items : List Holding) (entries : List Entry)
+        → IsKnownOf ds state entry.now known.now → TracksOpen ds items entries state
         → (IsTrue result ↔ ForSome (item_of entry.now) (Contains (names items))) }
 {
-    match entry.item() {
-        Some(item) => state.place_of(&item).is_some(),
-        None => true,
+    match known.place {
+        Some(_) => true,
+        None => entry.item().is_none(),
     }
 }
 
 /// Whether the entry is not the second read of its item by its transaction, nor its second change, made or asked for.
-pub(crate) fn is_first(certificate: &Decided, state: &SiteState, entry: &Entry) -> bool
-    ensures { (items : List Holding) (entries : List Entry) → TracksOpen certificate.now.decisions items entries state.now
-        → ForSome (item_of entry.now) (Contains (names items))
+pub(crate) fn is_first(state: &SiteState, known: &Known, entry: &Entry) -> bool
+    ensures { (ds : List Decision) (items : List Holding) (entries : List Entry) → IsKnownOf ds state.now entry.now known.now
+        → TracksOpen ds items entries state.now → ForSome (item_of entry.now) (Contains (names items))
         → (IsTrue result ↔ All (λ f. (x : Name) → Repeats x f entry.now → ⊥) entries) }
 {
-    match entry.item() {
-        Some(item) => match state.place_of(&item) {
-            Some(place) => state.is_first(place, entry, certificate.number_of(entry.tx())),
-            None => false,
-        },
+    match known.place {
+        Some(place) => state.is_first(place, entry, known.ruling.number),
         None => true,
     }
 }
@@ -72,67 +73,67 @@ pub(crate) fn holds_value(state: &SiteState, holding: &Holding) -> bool
 }
 
 /// Whether the entry, on a listed item if it is a read, has the value of its item then.
-pub(crate) fn is_legal(state: &SiteState, entry: &Entry) -> bool
-    ensures { (ds : List Decision) (items : List Holding) (entries : List Entry) → TracksOpen ds items entries state.now
-        → ForSome (item_of entry.now) (Contains (names items)) → (IsTrue result ↔ IsLegalRead items entries entry.now) }
+pub(crate) fn is_legal(state: &SiteState, known: &Known, entry: &Entry) -> bool
+    ensures { (ds : List Decision) (items : List Holding) (entries : List Entry) → IsKnownOf ds state.now entry.now known.now
+        → TracksOpen ds items entries state.now → ForSome (item_of entry.now) (Contains (names items))
+        → (IsTrue result ↔ IsLegalRead items entries entry.now) }
 {
     match *entry {
-        Entry::Read { item, value, .. } => holds_value(state, &Holding { item, value }),
+        Entry::Read { value, .. } => match known.place {
+            Some(place) => state.has_value(place, value),
+            None => false,
+        },
         _ => true,
     }
 }
 
 /// Whether the entry conflicts with no entry before it of a committed transaction of greater rank, if its own is committed.
-pub(crate) fn is_in_rank(certificate: &Decided, state: &SiteState, entry: &Entry) -> bool
-    ensures { (items : List Holding) (entries : List Entry) → IsDecidedOnce certificate.now.decisions
-        → AreRanks (ranks certificate.now.decisions)
-        → TracksOpen certificate.now.decisions items entries state.now → ForSome (item_of entry.now) (Contains (names items))
-        → (IsTrue result ↔ All (λ f. RiseInRank certificate.now.decisions f entry.now) entries) }
+pub(crate) fn is_in_rank(state: &SiteState, known: &Known, entry: &Entry) -> bool
+    ensures { (ds : List Decision) (items : List Holding) (entries : List Entry) → IsDecidedOnce ds → AreRanks (ranks ds)
+        → IsKnownOf ds state.now entry.now known.now
+        → TracksOpen ds items entries state.now → ForSome (item_of entry.now) (Contains (names items))
+        → (IsTrue result ↔ All (λ f. RiseInRank ds f entry.now) entries) }
 {
-    match entry.item() {
-        Some(item) => match state.place_of(&item) {
-            Some(place) => state.is_in_rank(place, entry, certificate.rank_of(entry.tx())),
-            None => false,
-        },
+    match known.place {
+        Some(place) => state.is_in_rank(place, entry, known.ruling.rank),
         None => true,
     }
 }
 
-/// Whether the entry's transaction is decided as the entry says, and has no end before it.
-pub(crate) fn is_active(certificate: &Decided, state: &SiteState, entry: &Entry) -> bool
-    ensures { (items : List Holding) (entries : List Entry) → TracksOpen certificate.now.decisions items entries state.now
-        → (IsTrue result ↔ (((number : ℕ) × IsDecided certificate.now.decisions entry.now number)
-        × All (λ f. IsEnd f → tx_of f ≢ tx_of entry.now) entries)) }
+/// Whether the entry of which this is known has its transaction decided as it says, with no end before it.
+pub(crate) fn is_active(state: &SiteState, known: &Known) -> bool
+    ensures { (ds : List Decision) (e : Entry) (items : List Holding) (entries : List Entry) → IsKnownOf ds state.now e known.now
+        → TracksOpen ds items entries state.now → (IsTrue result ↔ (((number : ℕ) × IsDecided ds e number)
+        × All (λ f. IsEnd f → tx_of f ≢ tx_of e) entries)) }
 {
-    match certificate.decision_on(entry) {
+    match known.ruling.suiting {
         Some(number) => state.is_active(number),
         None => false,
     }
 }
 
-/// Whether no end before the entry, if it is one, was decided later. The entry is decided.
-pub(crate) fn is_in_order(certificate: &Decided, state: &SiteState, entry: &Entry) -> bool
-    ensures { (items : List Holding) (entries : List Entry) → IsDecidedOnce certificate.now.decisions
-        → TracksOpen certificate.now.decisions items entries state.now
-        → (IsTrue result ↔ All (λ f. EndInOrder certificate.now.decisions f entry.now) entries) }
+/// Whether no end before the entry, if it is one, was decided later.
+pub(crate) fn is_in_order(state: &SiteState, known: &Known, entry: &Entry) -> bool
+    ensures { (ds : List Decision) (items : List Holding) (entries : List Entry) → IsDecidedOnce ds
+        → IsKnownOf ds state.now entry.now known.now → TracksOpen ds items entries state.now
+        → (IsTrue result ↔ All (λ f. EndInOrder ds f entry.now) entries) }
 {
-    match certificate.decision_on(entry) {
+    match known.ruling.suiting {
         Some(number) => state.is_in_order(entry, number),
         None => true,
     }
 }
 
-/// One more entry.
-fn enter(state: &mut SiteState, certificate: &Decided, entry: &Entry) -> Result<(), AllocError>
+/// One more entry, of which this is known.
+fn enter(state: &mut SiteState, known: &Known, entry: &Entry) -> Result<(), AllocError>
     ensures section { state.new.section ≡ state.old.section }
-    ensures tracks { OnOk result ((items : List Holding) (entries : List Entry) → IsDecidedOnce certificate.now.decisions
-        → AllPairs (λ x y. x ≢ y) (names items)
-        → ForSome (item_of entry.now) (Contains (names items)) → ((number : ℕ) × IsDecided certificate.now.decisions entry.now number)
-        → TracksOpen certificate.now.decisions items entries state.old
-        → TracksOpen certificate.now.decisions items (entries ++ entry.now ∷ []) state.new) }
+    ensures tracks { OnOk result ((ds : List Decision) (items : List Holding) (entries : List Entry)
+        → IsKnownOf ds state.old entry.now known.now → IsDecidedOnce ds → AllPairs (λ x y. x ≢ y) (names items)
+        → ForSome (item_of entry.now) (Contains (names items)) → ((number : ℕ) × IsDecided ds entry.now number)
+        → TracksOpen ds items entries state.old → TracksOpen ds items (entries ++ entry.now ∷ []) state.new) }
 {
-    match certificate.decision_on(entry) {
-        Some(number) => state.enter(entry, number, certificate.rank_of(entry.tx())),
+    match known.ruling.suiting {
+        Some(number) => state.enter(known.place, entry, number, known.ruling.rank),
         None => Ok(()),
     }
 }
@@ -140,12 +141,12 @@ fn enter(state: &mut SiteState, certificate: &Decided, entry: &Entry) -> Result<
 /// One more line, which has no fault but perhaps one of a walk.
 fn enter_line(
     state: &mut SiteState,
-    certificate: &Decided,
     line: &SectionLine,
+    known: &Option<Known>,
 ) -> Result<(), AllocError>
-    ensures { OnOk result ((b : Begun) → IsDecidedOnce certificate.now.decisions → IsBegun b
-        → MayFollow b b.current line.now → AdmitsLine certificate.now.decisions b.current line.now
-        → Tracks certificate.now.decisions b state.old → Tracks certificate.now.decisions (with_next b b.current line.now) state.new) }
+    ensures { OnOk result ((ds : List Decision) → IsKnownLine ds state.old line.now known.now → (b : Begun) → IsDecidedOnce ds → IsBegun b
+        → MayFollow b b.current line.now → AdmitsLine ds b.current line.now
+        → Tracks ds b state.old → Tracks ds (with_next b b.current line.now) state.new) }
 {
     match line {
         SectionLine::Site(site) => {
@@ -153,7 +154,10 @@ fn enter_line(
             Ok(())
         }
         SectionLine::Initial(holding) => state.list(holding),
-        SectionLine::Logged(entry) => enter(state, certificate, entry),
+        SectionLine::Logged(entry) => match known {
+            Some(known) => enter(state, known, entry),
+            None => Ok(()),
+        },
         SectionLine::Final(_) => Ok(()),
         SectionLine::End => Ok(()),
     }
@@ -179,19 +183,20 @@ impl Tracked {
         })
     }
 
-    /// One more line, which has no fault but perhaps one of a walk.
+    /// One more line, of which this is known, and which has no fault but perhaps one of a walk.
     pub(crate) fn enter(
         &mut self,
         certificate: &Decided,
         line: &SectionLine,
+        known: &Option<Known>,
     ) -> Result<(), AllocError>
-        ensures { OnOk result ((b : Begun) → IsDecidedOnce certificate.now.decisions → IsBegun b
+        ensures { OnOk result (IsKnownLine certificate.now.decisions self.old.state line.now known.now → (b : Begun) → IsDecidedOnce certificate.now.decisions → IsBegun b
             → MayFollow b b.current line.now → AdmitsLine certificate.now.decisions b.current line.now
             → IsTracked certificate.now.decisions b self.old
             → IsTracked certificate.now.decisions (with_next b b.current line.now) self.new) }
     {
         self.walks.pass(certificate, &self.state, line);
         self.place.enter(line)?;
-        enter_line(&mut self.state, certificate, line)
+        enter_line(&mut self.state, line, known)
     }
 }

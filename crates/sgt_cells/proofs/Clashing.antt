@@ -1,11 +1,11 @@
 -- A conflict of two transactions, by what they did.
-use Rattle.std.proofs.Common.{◌≡◌, ◌≢◌, ℕ, ◌<◌, List, [], Some, None, Bool, true, false, IsTrue, refl, sym, ap, ap₂, ◌∙◌, arith, Any, Contains}
+use Rattle.std.proofs.Common.{◌≡◌, ◌≢◌, ℕ, List, [], Some, None, Bool, true, false, IsTrue, refl, sym, ap, ap₂, ◌∙◌, arith, Any, Contains}
 use Rattle.std.specs.Prelude.{◌↔◌, slice_get, not, ◌&&◌}
 use Rattle.std.proofs.lemmas.Bool.{false≢true}
 use Rattle.sgt_names.proofs.Places.{Contains_at, Contains-from_at}
 use Rattle.sgt_names.proofs.Lists.{Any_at, Any-from_at}
 use Rattle.sgt_names.specs.Name.{Name}
-use Rattle.sgt_names.specs.Entry.{tx_of, item_of, is_increment, Reads, Writes, Clash}
+use Rattle.sgt_names.specs.Entry.{item_of, Reads, Writes, Clash}
 use Rattle.sgt_names.specs.Log.{names, Conflicts}
 use Rattle.sgt_names.specs.declared.entry.Entry.{Entry}
 use Rattle.sgt_names.specs.declared.entry.Holding.{Holding}

@@ -1,8 +1,8 @@
 -- The cells, where an entry has an item and where it has none.
-use Rattle.std.proofs.Common.{◌≡◌, ℕ, ◌≤◌, List, [], ◌∷◌, ◌++◌, Option, Some, None, refl, sym, ap, ◌∙◌, arith, inl, inr, length, option_map, Contains, Result, Ok, Err}
+use Rattle.std.proofs.Common.{◌≡◌, ℕ, ◌≤◌, List, [], ◌∷◌, ◌++◌, Option, Some, None, refl, sym, ap, ◌∙◌, subst, arith, inl, inr, length, option_map, Contains, Result, Ok, Err}
 use Rattle.std.specs.Prelude.{slice_get, OnOk, IfSome, IfNone}
 use Rattle.std.specs.Option.{ForSome}
-use Rattle.std.proofs.lemmas.Option.{none-some, slice_get-map, slice_get_within}
+use Rattle.std.proofs.lemmas.Option.{none-some, same_Some, slice_get-map, slice_get_within}
 use Rattle.sgt_names.proofs.Places.{All_at, All-from_at}
 use Rattle.sgt_names.proofs.Lists.{option_cases}
 use Rattle.sgt_names.specs.Name.{Name}
@@ -14,7 +14,7 @@ use Rattle.sgt_cert.specs.declared.certificate.Decision.{Decision}
 use Rattle.sgt_cells.specs.Cells.{IsCell, AreCells}
 use Rattle.sgt_cells.specs.private.Noted.{IsPlaceOf}
 use Rattle.sgt_cells.specs.declared.cell.Cell.{Cell}
-use Rattle.sgt_cells.specs.Tracks.{TracksOpen}
+use Rattle.sgt_cells.specs.Tracks.{TracksOpen, IsPlaceAmong}
 use Rattle.sgt_cells.specs.declared.state.SiteState.{SiteState}
 use Rattle.sgt_cells.proofs.Noted.{other-cell}
 
@@ -49,11 +49,16 @@ pub ok-map : {A E P Q : Type 0} (r : Result A E) → (P → Q) → OnOk r P → 
 ok-map (Ok a) f p = f p
 ok-map (Err e) f p = p
 
-pub placed-item : (ds : List Decision) (items : List Holding) (entries : List Entry) (s : SiteState) (e : Entry) (x : Name) (o : Option ℕ) → TracksOpen ds items entries s → item_of e ≡ Some x → ForSome (item_of e) (Contains (names items))
+pub placed-item : (ds : List Decision) (items : List Holding) (entries : List Entry) (s : SiteState) (e : Entry) (x : Name) (o : Option ℕ) → TracksOpen ds items entries s → item_of e ≡ Some x
     → IfSome o (λ place. (ds : List Decision) (items : List Holding) (entries : List Entry) → TracksOpen ds items entries s → slice_get (names items) place ≡ Some x)
-    → IfNone o ((ds : List Decision) (items : List Holding) (entries : List Entry) → TracksOpen ds items entries s → Contains (names items) x → ⊥) → IsPlaceOf (names items) e o
-placed-item ds items entries s e x (Some place) t on listed some none = (x, some ds items entries t, on)
-placed-item ds items entries s e x None t on listed some none = absurd (none ds items entries t (listed x on))
+    → IfNone o ((ds : List Decision) (items : List Holding) (entries : List Entry) → TracksOpen ds items entries s → Contains (names items) x → ⊥) → IsPlaceAmong (names items) e o
+placed-item ds items entries s e x (Some place) t on some none = (x, some ds items entries t, on)
+placed-item ds items entries s e x None t on some none = λ y here listed. none ds items entries t (subst (Contains (names items)) (same_Some y x (sym here ∙ on)) listed)
+
+-- where an entry's item is listed, its place is found
+pub placed-listed : (ns : List Name) (e : Entry) (o : Option ℕ) → ForSome (item_of e) (Contains ns) → IsPlaceAmong ns e o → IsPlaceOf ns e o
+placed-listed ns e (Some i) listed among = among
+placed-listed ns e None listed among = elim (option_cases (item_of e)) [ inl none ↦ none | inr some ↦ absurd (among some.0 some.1 (listed some.0 some.1)) ]
 
 pub none-map : {A P Q : Type 0} (o : Option A) → (P → Q) → IfNone o P → IfNone o Q
 none-map None f p = f p

@@ -6,3 +6,5 @@ pub mod Tracking
 pub mod Entering
 pub mod Listing
 pub mod Clashing
+pub mod Lists
+pub mod Meeting

@@ -71,14 +71,14 @@ module _ (ds : List Decision) (items : List Holding) (h : Holding) where
   }
 
   pub listed : (old new : SiteState) → All (λ x. x ≢ h.item) (names items) → TracksOpen ds items [] old → new.section ≡ old.section → new.cells.items ≡ old.cells.items ++ fresh h ∷ []
-      → new.records.items ≡ old.records.items → new.count ≡ old.count → new.live ≡ old.live → new.last_end ≡ old.last_end → TracksOpen ds (items ++ h ∷ []) [] new
+      → new.records ≡ old.records → new.count ≡ old.count → new.live ≡ old.live → new.last_end ≡ old.last_end → TracksOpen ds (items ++ h ∷ []) [] new
   listed old new apart t section cells records count live order = record {
     cells = subst (AreCells ds (items ++ h ∷ []) []) (sym cells) (more-cells old.cells.items apart t.cells);
     many = ap length records ∙ t.many;
     records = λ k d r at_k at_r.
         let before = t.records k d r at_k (ap (λ rs. slice_get rs k) (sym records) ∙ at_r) in
         record-none new.section (names (items ++ h ∷ [])) (decided_tx d) r (λ same. record-apart old.section (names items) (decided_tx d) r before (same ∙ section));
-    stamps = subst (λ n. All (λ r. r.section ≤ n) new.records.items) (sym section) (subst (All (λ r. r.section ≤ old.section)) (sym records) t.stamps);
+    stamps = subst (λ n. All (λ r. r.section ≤ n) new.records) (sym section) (subst (All (λ r. r.section ≤ old.section)) (sym records) t.stamps);
     live = live ∙ t.live ∙ ap₂ (λ n rs. live_among n rs) (sym section) (sym records);
     count = count ∙ t.count;
     order = subst (IsGreatest (EndsBy ds) []) (sym order) t.order;

@@ -1,5 +1,5 @@
 -- What is kept of an open section, against the rules of a line, and after one more entry.
-use Rattle.std.proofs.Common.{◌≡◌, ◌≢◌, ℕ, zero, suc, ◌+◌, ◌-◌, ◌<◌, ◌≤◌, List, [], ◌∷◌, ◌++◌, Option, Some, None, Bool, true, false, IsTrue, refl, sym, ap, ◌∙◌, subst, arith, inl, inr, All, AllPairs, Any, Contains, length, set, map, option_map, get_or}
+use Rattle.std.proofs.Common.{◌≡◌, ◌≢◌, ℕ, ◌+◌, ◌-◌, ◌<◌, ◌≤◌, List, [], ◌∷◌, ◌++◌, Option, Some, None, Bool, true, false, IsTrue, refl, sym, ap, ◌∙◌, subst, arith, inl, inr, All, AllPairs, Any, Contains, length, set, map, option_map, get_or}
 use Rattle.std.specs.Prelude.{◌↔◌, slice_get, ◌&&◌, ◌==◌, nat_lt, not}
 use Rattle.std.specs.Option.{option_to_list, ForSome}
 use Rattle.std.proofs.lemmas.Bool.{cases_Bool, cases_order, cases_eq, false≢true, true≢false, eq-eqb, eqb-true, ne_eqb, ltb-true, ltb-false}
@@ -26,27 +26,14 @@ use Rattle.sgt_cells.specs.declared.record.Record.{Record}
 use Rattle.sgt_cells.specs.declared.state.SiteState.{SiteState}
 use Rattle.sgt_cells.proofs.Ranked.{IsOnly, up_to-all, greatest-left, greatest-raised}
 use Rattle.sgt_cells.proofs.Doing.{Apart, all-new, record-left, record-entered, record-none}
+use Rattle.sgt_cells.proofs.Lists.{set-at, set-other, some-at}
 use Rattle.sgt_cells.proofs.Live.{one_if, live-set, live-fewer, live-none, none-live, live-counted}
 
 -- ---- lists
 
 module _ {A : Type 0} where
-  pub set-at : (xs : List A) (n : ℕ) (v a : A) → slice_get xs n ≡ Some a → slice_get (set xs n v) n ≡ Some v
-  set-at [] n v a h = absurd (none-some a h)
-  set-at (x ∷ xs) zero v a h = refl
-  set-at (x ∷ xs) (suc n) v a h = set-at xs n v a h
-
-  set-other : (xs : List A) (n k : ℕ) (v : A) → (k ≡ n → ⊥) → slice_get (set xs n v) k ≡ slice_get xs k
-  set-other [] n k v apart = refl
-  set-other (x ∷ xs) zero zero v apart = absurd (apart refl)
-  set-other (x ∷ xs) zero (suc k) v apart = refl
-  set-other (x ∷ xs) (suc n) zero v apart = refl
-  set-other (x ∷ xs) (suc n) (suc k) v apart = set-other xs n k v (λ e. apart (ap suc e))
-
-  some-at : (xs : List A) (n : ℕ) → n < length xs → (a : A) × (slice_get xs n ≡ Some a)
-  some-at [] n lt = absurd (omega (arith, lt))
-  some-at (x ∷ xs) zero lt = (x, refl)
-  some-at (x ∷ xs) (suc n) lt = some-at xs n (omega (arith, lt))
+  pub not-past : (xs : List A) (k : ℕ) (a : A) → length xs ≤ k → slice_get xs k ≡ Some a → ⊥
+  not-past xs k a past at = let within = slice_get_within xs k a at in absurd (omega (arith, past, within))
 
   -- what a look-up by place answers
   pub got : (xs ys : List A) (k : ℕ) (a : A) → ys ≡ xs → true ≡ nat_lt k (length ys) → a ≡ get_or ys k a → slice_get xs k ≡ Some a
@@ -112,11 +99,11 @@ module _ (ds : List Decision) (items : List Holding) (entries : List Entry) (s :
       let c = cell-of at.0 x at.1 in
       All_at (λ c. c.name ≢ x) s.cells.items at.0 c.0 none c.1 c.2
 
-  record-at : (number : ℕ) (d : Decision) → slice_get ds number ≡ Some d → (r : Record) × (slice_get s.records.items number ≡ Some r)
-  record-at number d at = some-at s.records.items number (let lt = slice_get_within ds number d at in let many = t.many in omega (arith, lt, many))
+  record-at : (number : ℕ) (d : Decision) → slice_get ds number ≡ Some d → (r : Record) × (slice_get s.records number ≡ Some r)
+  record-at number d at = some-at s.records number (let lt = slice_get_within ds number d at in let many = t.many in omega (arith, lt, many))
 
   -- the record of a transaction
-  pub record-of : (number tx : ℕ) → DecidesOn ds number tx → (r : Record) × (slice_get s.records.items number ≡ Some r) × IsRecord s.section (names items) entries tx r
+  pub record-of : (number tx : ℕ) → DecidesOn ds number tx → (r : Record) × (slice_get s.records number ≡ Some r) × IsRecord s.section (names items) entries tx r
   record-of number tx (d, at, of) = let r = record-at number d at in (r.0, r.1, subst (λ i. IsRecord s.section (names items) entries i r.0) of (t.records number d r.0 at r.1))
 
   -- a transaction that is not decided has no entry
@@ -145,7 +132,7 @@ module _ (ds : List Decision) (items : List Holding) (entries : List Entry) (s :
   pub cell-named : (place : ℕ) (c : Cell) (x : Name) → slice_get s.cells.items place ≡ Some c → slice_get (names items) place ≡ Some x → (x ≡ c.name) × IsCell ds items entries c
   cell-named place c x at on = (same_Some x c.name (sym on ∙ cell-at place c at), All_at (IsCell ds items entries) s.cells.items place c t.cells.each at)
 
-  pub record-is : (number tx : ℕ) (r : Record) → DecidesOn ds number tx → slice_get s.records.items number ≡ Some r → IsRecord s.section (names items) entries tx r
+  pub record-is : (number tx : ℕ) (r : Record) → DecidesOn ds number tx → slice_get s.records number ≡ Some r → IsRecord s.section (names items) entries tx r
   record-is number tx r (d, at, of) here = subst (λ i. IsRecord s.section (names items) entries i r) of (t.records number d r at here)
 
   -- ---- all ended
@@ -159,9 +146,9 @@ module _ (ds : List Decision) (items : List Holding) (entries : List Entry) (s :
   any-ended : (tx : ℕ) → Any (λ f. IsEnd f × (tx_of f ≡ tx)) entries → Did entries tx IsEnd
   any-ended tx h = let a = Any_at (λ f. IsEnd f × (tx_of f ≡ tx)) entries h in (a.1, Contains-from_at entries a.0 a.1 a.2, a.3.1, a.3.0)
 
-  idle : AllEnded entries → (k : ℕ) (r : Record) → slice_get s.records.items k ≡ Some r → is_live_in s.section r ≡ false
+  idle : AllEnded entries → (k : ℕ) (r : Record) → slice_get s.records k ≡ Some r → is_live_in s.section r ≡ false
   idle all k r at =
-      let within = slice_get_within s.records.items k r at in
+      let within = slice_get_within s.records k r at in
       let many = t.many in
       let d = some-at ds k (omega (arith, within, many)) in
       let is = t.records k d.0 r d.1 at in
@@ -182,8 +169,8 @@ module _ (ds : List Decision) (items : List Holding) (entries : List Entry) (s :
         let r = record-of by.0 (tx_of e) (decides ds e by.0 by.1) in
         let none = sym t.live ∙ eqb-true s.live 0 (sym is ∙ h) in
         let same = r.2.touched.1 (e, here, refl, tt) in
-        ended-any (tx_of e) (r.2.ended.0 (live-not r.0 (live-none s.section s.records.items by.0 r.0 none r.1) same))),
-    λ all. is ∙ eq-eqb s.live 0 (t.live ∙ none-live s.section s.records.items (idle all)),
+        ended-any (tx_of e) (r.2.ended.0 (live-not r.0 (live-none s.section s.records by.0 r.0 none r.1) same))),
+    λ all. is ∙ eq-eqb s.live 0 (t.live ∙ none-live s.section s.records (idle all)),
   )
 
 -- ---- one more entry
@@ -207,42 +194,42 @@ module _ (ds : List Decision) (items : List Holding) (entries : List Entry) (old
       let not = λ (end : IsEnd e). false≢true (ends.1 end) in
       subst (IsGreatest (EndsBy ds) (entries ++ e ∷ [])) (sym (other not)) (greatest-left (EndsBy ds) entries old.last_end e (λ r has. not has.0) t.order)
 
-  module _ (place : Option ℕ) (on : IsPlaceOf (names items) e place) (apart : AllPairs Apart (names items)) (ends : Bool) (ending : IsTrue ends ↔ IsEnd e) (r v : Record) (at : slice_get old.records.items number ≡ Some r)
-      (records : new.records.items ≡ set old.records.items number v) (told : IsTouched old.section (option_to_list (option_map (λ i. act old.count i e) place)) ends r v) where
+  module _ (place : Option ℕ) (on : IsPlaceOf (names items) e place) (apart : AllPairs Apart (names items)) (ends : Bool) (ending : IsTrue ends ↔ IsEnd e) (r v : Record) (at : slice_get old.records number ≡ Some r)
+      (records : new.records ≡ set old.records number v) (told : IsTouched old.section (option_to_list (option_map (λ i. act old.count i e) place)) ends r v) where
     to : IsTouched old.section (option_to_list (option_map (λ i. act (length entries) i e) place)) ends r v
     to = subst (λ n. IsTouched old.section (option_to_list (option_map (λ i. act n i e) place)) ends r v) t.count told
 
-    new-at : (k : ℕ) (d : Decision) (q : Record) → slice_get ds k ≡ Some d → slice_get new.records.items k ≡ Some q → IsRecord old.section (names items) (entries ++ e ∷ []) (decided_tx d) q
+    new-at : (k : ℕ) (d : Decision) (q : Record) → slice_get ds k ≡ Some d → slice_get new.records k ≡ Some q → IsRecord old.section (names items) (entries ++ e ∷ []) (decided_tx d) q
     new-at k d q at_k at_q =
-        let there : slice_get (set old.records.items number v) k ≡ Some q = ap (λ rs. slice_get rs k) (sym records) ∙ at_q in
+        let there : slice_get (set old.records number v) k ≡ Some q = ap (λ rs. slice_get rs k) (sym records) ∙ at_q in
         elim (cases_eq k number) [
           | inl same ↦
               let of : tx_of e ≡ decided_tx d = sym by.2 ∙ ap decided_tx (same_Some by.0 d (sym by.1 ∙ ap (slice_get ds) (sym same) ∙ at_k)) in
-              let is_v : v ≡ q = same_Some v q (sym (set-at old.records.items number v r at) ∙ ap (slice_get (set old.records.items number v)) (sym same) ∙ there) in
-              let before = t.records k d r at_k (ap (slice_get old.records.items) same ∙ at) in
+              let is_v : v ≡ q = same_Some v q (sym (set-at old.records number v r at) ∙ ap (slice_get (set old.records number v)) (sym same) ∙ there) in
+              let before = t.records k d r at_k (ap (slice_get old.records) same ∙ at) in
               subst (IsRecord old.section (names items) (entries ++ e ∷ []) (decided_tx d)) is_v (record-entered old.section (names items) entries (decided_tx d) r v e place ends apart of on ending before to)
           | inr other ↦
-              let before = t.records k d q at_k (sym (set-other old.records.items number k v other) ∙ there) in
+              let before = t.records k d q at_k (sym (set-other old.records number k v other) ∙ there) in
               record-left old.section (names items) entries (decided_tx d) q e (λ of. other (one-number ds k number (decided_tx d) once (d, at_k, refl) (by.0, by.1, by.2 ∙ of))) before
         ]
 
-    new-stamps : All (λ q. q.section ≤ old.section) new.records.items
-    new-stamps = subst (All (λ q. q.section ≤ old.section)) (sym records) (All-from_at (λ q. q.section ≤ old.section) (set old.records.items number v) (λ k q there. elim (cases_eq k number) [
+    new-stamps : All (λ q. q.section ≤ old.section) new.records
+    new-stamps = subst (All (λ q. q.section ≤ old.section)) (sym records) (All-from_at (λ q. q.section ≤ old.section) (set old.records number v) (λ k q there. elim (cases_eq k number) [
       | inl same ↦
-          let is_v : v ≡ q = same_Some v q (sym (set-at old.records.items number v r at) ∙ ap (slice_get (set old.records.items number v)) (sym same) ∙ there) in
+          let is_v : v ≡ q = same_Some v q (sym (set-at old.records number v r at) ∙ ap (slice_get (set old.records number v)) (sym same) ∙ there) in
           let stamp = to.stamp in let eq = ap (λ (z : Record). z.section) is_v in omega (arith, stamp, eq)
-      | inr other ↦ All_at (λ q. q.section ≤ old.section) old.records.items k q t.stamps (sym (set-other old.records.items number k v other) ∙ there)
+      | inr other ↦ All_at (λ q. q.section ≤ old.section) old.records k q t.stamps (sym (set-other old.records number k v other) ∙ there)
     ]))
 
-    new-live : (was is : Bool) (live most : ℕ) → was ≡ is_live_in old.section r → is ≡ is_live_in old.section v → most ≡ length new.records.items
-        → (was ≡ is → live ≡ old.live) → (was ≡ false → is ≡ true → old.live < most → live ≡ old.live + 1) → (was ≡ true → is ≡ false → live ≡ old.live - 1) → live ≡ live_among old.section new.records.items
+    new-live : (was is : Bool) (live most : ℕ) → was ≡ is_live_in old.section r → is ≡ is_live_in old.section v → most ≡ length new.records
+        → (was ≡ is → live ≡ old.live) → (was ≡ false → is ≡ true → old.live < most → live ≡ old.live + 1) → (was ≡ true → is ≡ false → live ≡ old.live - 1) → live ≡ live_among old.section new.records
     new-live was is live most was_is is_is many same more less =
-        let step : live_among old.section (set old.records.items number v) + one_if was ≡ old.live + one_if is =
-        ap (λ b. live_among old.section (set old.records.items number v) + one_if b) was_is ∙ live-set old.section old.records.items number r v at ∙ ap (λ n. n + one_if (is_live_in old.section v)) (sym t.live) ∙ ap (λ b. old.live + one_if b) (sym is_is) in
-        let long = many ∙ ap length records ∙ length-set old.records.items number v in
+        let step : live_among old.section (set old.records number v) + one_if was ≡ old.live + one_if is =
+        ap (λ b. live_among old.section (set old.records number v) + one_if b) was_is ∙ live-set old.section old.records number r v at ∙ ap (λ n. n + one_if (is_live_in old.section v)) (sym t.live) ∙ ap (λ b. old.live + one_if b) (sym is_is) in
+        let long = many ∙ ap length records ∙ length-set old.records number v in
         let told = t.live in
-        let room : was ≡ false → old.live < most = λ idle. let fewer = live-fewer old.section old.records.items number r at (sym was_is ∙ idle) in omega (arith, fewer, long, told) in
-        live-counted old.live most live (live_among old.section (set old.records.items number v)) was is step room same more less ∙ ap (live_among old.section) (sym records)
+        let room : was ≡ false → old.live < most = λ idle. let fewer = live-fewer old.section old.records number r at (sym was_is ∙ idle) in omega (arith, fewer, long, told) in
+        live-counted old.live most live (live_among old.section (set old.records number v)) was is step room same more less ∙ ap (live_among old.section) (sym records)
 
     listed-more : (f : Entry) → Contains (entries ++ e ∷ []) f → ForSome (item_of f) (Contains (names items))
     listed-more f here =
@@ -256,14 +243,14 @@ module _ (ds : List Decision) (items : List Holding) (entries : List Entry) (old
         placed (Some i) is_at x is = subst (Contains (names items)) (same_Some is_at.0 x (sym is_at.2 ∙ is)) (Contains-from_at (names items) i is_at.0 is_at.1)
 
     pub tracks-next : new.section ≡ old.section → new.count ≡ old.count + 1 → AreCells ds items (entries ++ e ∷ []) new.cells.items → IsGreatest (EndsBy ds) (entries ++ e ∷ []) new.last_end
-        → (was is : Bool) (most : ℕ) → was ≡ is_live_in old.section r → is ≡ is_live_in old.section v → most ≡ length new.records.items
+        → (was is : Bool) (most : ℕ) → was ≡ is_live_in old.section r → is ≡ is_live_in old.section v → most ≡ length new.records
         → (was ≡ is → new.live ≡ old.live) → (was ≡ false → is ≡ true → old.live < most → new.live ≡ old.live + 1) → (was ≡ true → is ≡ false → new.live ≡ old.live - 1) → TracksOpen ds items (entries ++ e ∷ []) new
     tracks-next section count cells order was is most was_is is_is many same more less = record {
       cells = cells;
-      many = ap length records ∙ length-set old.records.items number v ∙ t.many;
+      many = ap length records ∙ length-set old.records number v ∙ t.many;
       records = λ k d q at_k at_q. subst (λ n. IsRecord n (names items) (entries ++ e ∷ []) (decided_tx d) q) (sym section) (new-at k d q at_k at_q);
-      stamps = subst (λ n. All (λ q. q.section ≤ n) new.records.items) (sym section) new-stamps;
-      live = new-live was is new.live most was_is is_is many same more less ∙ ap (λ n. live_among n new.records.items) (sym section);
+      stamps = subst (λ n. All (λ q. q.section ≤ n) new.records) (sym section) new-stamps;
+      live = new-live was is new.live most was_is is_is many same more less ∙ ap (λ n. live_among n new.records) (sym section);
       count = count ∙ ap (λ n. n + 1) t.count ∙ sym (length_push entries e);
       order = order;
       decided = decided-more;
@@ -272,31 +259,36 @@ module _ (ds : List Decision) (items : List Holding) (entries : List Entry) (old
 
 -- ---- a section begins
 
-pub begun : (ds : List Decision) (section : ℕ) (old new : SiteState) → IsReadyFor ds section old → new.section ≡ section → new.records.items ≡ old.records.items → new.cells.items ≡ [] → new.count ≡ 0 → new.live ≡ 0 → new.last_end ≡ None → TracksOpen ds [] [] new
-begun ds section old new ready same records cells count live order = record {
+pub begun : (ds : List Decision) (section : ℕ) (old new : SiteState) → IsReadyFor ds section old → new.section ≡ section → length new.records ≡ length old.records → All (λ r. r.section < 1) new.records → new.cells.items ≡ [] → new.count ≡ 0 → new.live ≡ 0 → new.last_end ≡ None → TracksOpen ds [] [] new
+begun ds section old new ready same long fresh cells count live order = record {
   cells = record {
     names = ap (map (λ (c : Cell). c.name)) cells;
     each = subst (All (IsCell ds [] [])) (sym cells) (λ k d lt. absurd (omega (arith, lt)));
   };
-  many = ap length records ∙ ready.many;
+  many = long ∙ ready.many;
   records = λ k d r at_k at_r. record-none new.section [] (decided_tx d) r (earlier k r at_r);
-  stamps = All-from_at (λ r. r.section ≤ new.section) new.records.items (λ k r at. let lt = before k r at in omega (arith, lt, same));
+  stamps = All-from_at (λ r. r.section ≤ new.section) new.records (λ k r at. let lt = before k r at in omega (arith, lt, same));
   count = count;
-  live = live ∙ sym (none-live new.section new.records.items (λ k r at. ap (λ b. b && not r.ended) (ne_eqb r.section new.section (earlier k r at))));
+  live = live ∙ sym (none-live new.section new.records (λ k r at. ap (λ b. b && not r.ended) (ne_eqb r.section new.section (earlier k r at))));
   order = subst (IsGreatest (EndsBy ds) []) (sym order) (λ f r here has. absurd (omega (arith, here.1)));
   decided = λ f here. absurd (omega (arith, here.1));
   listed = λ f here. absurd (omega (arith, here.1));
 }
   where
-    before : (k : ℕ) (r : Record) → slice_get new.records.items k ≡ Some r → r.section < section
-    before k r at = All_at (λ r. r.section < section) old.records.items k r ready.stamps (ap (λ rs. slice_get rs k) (sym records) ∙ at)
+    before : (k : ℕ) (r : Record) → slice_get new.records k ≡ Some r → r.section < section
+    before k r at =
+        let within = slice_get_within new.records k r at in
+        let was = some-at old.records k (omega (arith, within, long)) in
+        let past = All_at (λ r. r.section < section) old.records k was.0 ready.stamps was.1 in
+        let now = All_at (λ r. r.section < 1) new.records k r fresh at in
+        omega (arith, past, now)
 
-    earlier : (k : ℕ) (r : Record) → slice_get new.records.items k ≡ Some r → r.section ≡ new.section → ⊥
+    earlier : (k : ℕ) (r : Record) → slice_get new.records k ≡ Some r → r.section ≡ new.section → ⊥
     earlier k r at eq = let lt = before k r at in absurd (omega (arith, lt, eq, same))
 
 -- a section ends
 pub ready-next : (ds : List Decision) (items : List Holding) (entries : List Entry) (s : SiteState) → TracksOpen ds items entries s → IsReadyFor ds (s.section + 1) s
 ready-next ds items entries s t = record {
   many = t.many;
-  stamps = All-from_at (λ r. r.section < s.section + 1) s.records.items (λ k r at. let le = All_at (λ r. r.section ≤ s.section) s.records.items k r t.stamps at in omega (arith, le));
+  stamps = All-from_at (λ r. r.section < s.section + 1) s.records (λ k r at. let le = All_at (λ r. r.section ≤ s.section) s.records k r t.stamps at in omega (arith, le));
 }

@@ -4,7 +4,7 @@ use Rattle.sgt_names.specs.Name.{Name}
 use Rattle.sgt_names.specs.Entry.{tx_of, Reads}
 use Rattle.sgt_names.specs.Log.{names, value_at}
 use Rattle.sgt_names.specs.declared.entry.Entry.{Entry}
-use Rattle.sgt_names.specs.declared.entry.Entry.TheVariants.{Read, Write, Add, Want, WantAdd}
+use Rattle.sgt_names.specs.declared.entry.Entry.TheVariants.{Write, Add, Want, WantAdd}
 use Rattle.sgt_names.specs.declared.entry.Holding.{Holding}
 use Rattle.sgt_cert.specs.Certificate.{IsCommitted}
 use Rattle.sgt_cert.specs.declared.certificate.Decision.{Decision}

@@ -8,17 +8,18 @@ ghost use Rattle.sgt_cells.specs.private.Deeds.{act, changes, adds, deeds_clash,
 use sgt_names::{Entry, Kind};
 
 /// What an operation does to its item, or asks for: it reads it, puts a value into it, or adds to it.
-#[derive(Clone, Copy, Debug, PartialEq, Eq)]
+#[derive(Clone, Copy, Debug, Default, PartialEq, Eq)]
 pub enum Deed {
+    #[default]
     Read,
     Put,
     Add,
 }
 
 /// An operation: the place of its item among the items, what it does to it, and its own place among the entries.
-#[derive(Clone, Copy, Debug, PartialEq, Eq)]
+#[derive(Clone, Copy, Debug, Default, PartialEq, Eq)]
 pub struct Act {
-    pub place: usize,
+    pub place: u32,
     pub deed: Deed,
     pub at: usize,
 }
@@ -35,7 +36,7 @@ pub(crate) fn deed_of(entry: &Entry) -> Deed
 }
 
 /// The entry at this place, on the item at that place.
-pub(crate) fn act_of(at: usize, place: usize, entry: &Entry) -> Act
+pub(crate) fn act_of(at: usize, place: u32, entry: &Entry) -> Act
     ensures { result ≡ act at place entry.now }
 {
     Act {
@@ -83,7 +84,7 @@ impl Act {
     pub(crate) fn is_of(&self, place: usize, deed: Deed) -> bool
         ensures { IsTrue result ↔ IsOf place (changes deed) self.now }
     {
-        self.place == place && self.deed.changes() == deed.changes()
+        self.place as usize == place && self.deed.changes() == deed.changes()
     }
 
     /// Whether the other comes later, on the same item, and they are a conflict of this kind.
@@ -97,7 +98,7 @@ impl Act {
     fn clashes_at(&self, kind: Kind, place: usize, others: &[Act]) -> bool
         ensures { IsTrue result ↔ ((self.now.place ≡ place) × Any (ClashesWith kind self.now) others.now) }
     {
-        self.place == place && others.iter().any(|other| self.clashes_with(kind, other))
+        self.place as usize == place && others.iter().any(|other| self.clashes_with(kind, other))
     }
 }
 

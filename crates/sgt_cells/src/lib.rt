@@ -4,6 +4,7 @@
 mod act;
 mod cell;
 mod record;
+mod record_table;
 mod state;
 
 pub use state::SiteState;

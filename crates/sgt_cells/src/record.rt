@@ -7,10 +7,11 @@ ghost use Rattle.sgt_names.specs.Entry.{tx_of, item_of, Repeats};
 ghost use Rattle.sgt_names.specs.declared.entry.Entry.{Entry};
 ghost use Rattle.sgt_cells.specs.Records.{AreActs, deed_of, acts_in, has_ended_in, is_live_in};
 ghost use Rattle.sgt_cells.specs.private.Deeds.{IsOf, IsTouched, changes};
-ghost use Rattle.sgt_cells.specs.declared.record.Record.{Record};
+ghost use Rattle.sgt_cells.specs.private.Met.{IsFresh};
 
 use crate::act::{Act, Deed, deed_of};
 use sgt_names::Entry;
+use smallvec::SmallVec;
 use std::alloc::{AllocError, Global};
 
 /// What a transaction did in the section in which it came last, by its number; and whether it ended there.
@@ -18,18 +19,18 @@ use std::alloc::{AllocError, Global};
 pub struct Record {
     pub section: usize,
     pub ended: bool,
-    pub acts: Vec<Act>,
+    pub acts: SmallVec<Act, 4>,
 }
 
 impl Record {
     /// A transaction that no section has met.
     pub(crate) fn new(alloc: Global) -> Record
-        ensures { result.section ≡ 0 }
+        ensures { IsFresh result }
     {
         Record {
             section: 0,
             ended: false,
-            acts: Vec::new(alloc),
+            acts: SmallVec::new(alloc),
         }
     }
 
@@ -103,40 +104,18 @@ impl Record {
     }
 
     /// One more entry in the section, which did this, and ended the transaction or not.
-    fn touch(&mut self, section: usize, act: Option<Act>, ends: bool) -> Result<(), AllocError>
+    pub(crate) fn touch(
+        &mut self,
+        section: usize,
+        act: Option<Act>,
+        ends: bool,
+    ) -> Result<(), AllocError>
         ensures { OnOk result (IsTouched section (option_to_list act) ends self.old self.new) }
     {
         self.begin(section);
         self.add(act)?;
         self.ended = self.ended || ends;
         Ok(())
-    }
-}
-
-/// One more entry of the transaction of this number.
-pub(crate) fn enter(
-    records: &mut [Record],
-    number: usize,
-    section: usize,
-    act: Option<Act>,
-    ends: bool,
-) -> Result<(), AllocError>
-    ensures { OnOk result ((r : Record) → slice_get records.old number ≡ Some r
-        → (s : Record) × (records.new ≡ slice_set records.old number s) × IsTouched section (option_to_list act) ends r s) }
-{
-    if number >= records.len() {
-        return Ok(());
-    }
-    records[number].touch(section, act, ends)
-}
-
-/// Whether the transaction of this number came in the section and did not end.
-pub(crate) fn is_live(records: &[Record], number: usize, section: usize) -> bool
-    ensures { (r : Record) → slice_get records.now number ≡ Some r → result ≡ is_live_in section r }
-{
-    match records.get(number) {
-        Some(record) => record.is_live(section),
-        None => false,
     }
 }
 
@@ -155,15 +134,4 @@ pub(crate) fn live_after(live: usize, most: usize, was: bool, is: bool) -> usize
     } else {
         live
     }
-}
-
-/// The records of so many transactions that no section has met.
-pub(crate) fn fresh(alloc: Global, count: usize) -> Result<Vec<Record>, AllocError>
-    ensures { IfOk result (λ records. (length records.items ≡ count) × All (λ r. r.section < 1) records.items) }
-{
-    let mut records = Vec::new(alloc);
-    for _ in 0..count {
-        records.push(Record::new(alloc))?;
-    }
-    Ok(records)
 }

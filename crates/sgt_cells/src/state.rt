@@ -14,11 +14,12 @@ ghost use Rattle.sgt_cells.specs.Cells.{AreCells, IsRankOf};
 ghost use Rattle.sgt_cells.specs.private.Noted.{IsPlaceOf, IsUpTo, raised};
 ghost use Rattle.sgt_cells.specs.Records.{AreActs};
 ghost use Rattle.sgt_cells.specs.private.Deeds.{act};
-ghost use Rattle.sgt_cells.specs.Tracks.{TracksOpen, IsReadyFor, IsNumberOf, DecidesOn};
+ghost use Rattle.sgt_cells.specs.Tracks.{TracksOpen, IsReadyFor, IsNumberOf, IsPlaceAmong, DecidesOn};
 
 use crate::act::{self, Act};
 use crate::cell::{self, Cell};
-use crate::record::{self, Record};
+use crate::record::live_after;
+use crate::record_table::RecordTable;
 use sgt_names::{Entry, Holding, Item, Kind, Value};
 use std::alloc::{AllocError, Global};
 
@@ -34,20 +35,27 @@ pub struct SiteState {
     pub cells: Vec<Cell>,
     /// Where the cell of an item may be, by a hash of its name.
     pub hints: Vec<u16>,
-    pub records: Vec<Record>,
+    pub records: RecordTable,
     /// How many entries there are.
     pub count: usize,
     pub live: usize,
     pub last_end: Option<usize>,
 }
 
+/// A number made of the bytes of a name.
+fn key_of(name: &[u8]) -> u64 {
+    match (name.first_chunk::<4>(), name.last_chunk::<4>()) {
+        (Some(front), Some(back)) => {
+            (u32::from_le_bytes(*front) as u64) << 32 | u32::from_le_bytes(*back) as u64
+        }
+        _ => name.iter().fold(0u64, |key, byte| key << 8 | *byte as u64),
+    }
+}
+
 /// Where the hint for an item is.
 fn slot_of(item: &Item) -> usize {
-    let mut hash: usize = 0;
-    for byte in item.as_bytes() {
-        hash = hash.wrapping_mul(31).wrapping_add(*byte as usize);
-    }
-    hash % HINTS
+    let spread = key_of(item.as_bytes()).wrapping_mul(0x9e37_79b9_7f4a_7c15);
+    (spread >> 52) as usize % HINTS
 }
 
 /// The place that is hinted for an item.
@@ -81,12 +89,15 @@ fn fresh_cell(holding: &Holding) -> Cell
 }
 
 /// The entry at this place, on the item at that place, if it has one.
-fn act_at(at: usize, place: Option<usize>, entry: &Entry) -> Option<Act>
-    ensures { result ≡ option_map (λ i. act at i entry.now) place }
+fn act_at(at: usize, place: Option<usize>, entry: &Entry) -> Result<Option<Act>, AllocError>
+    ensures { IfOk result (λ found. found ≡ option_map (λ i. act at i entry.now) place) }
 {
     match place {
-        Some(place) => Some(act::act_of(at, place, entry)),
-        None => None,
+        Some(place) => match u32::try_from(place) {
+            Ok(short) => Ok(Some(act::act_of(at, short, entry))),
+            Err(_) => Err(AllocError),
+        },
+        None => Ok(None),
     }
 }
 
@@ -146,7 +157,7 @@ impl SiteState {
             section: 0,
             cells: Vec::new(alloc),
             hints: vec![in alloc; 0u16; HINTS]?,
-            records: record::fresh(alloc, count)?,
+            records: RecordTable::new(alloc, count)?,
             count: 0,
             live: 0,
             last_end: None,
@@ -160,6 +171,7 @@ impl SiteState {
     {
         self.section = section;
         self.cells.clear();
+        self.records.clear();
         self.count = 0;
         self.live = 0;
         self.last_end = None;
@@ -187,10 +199,10 @@ impl SiteState {
         cell::place_of(self.cells.as_slice(), hint, item)
     }
 
-    /// The place of the entry's item, if it has one.
-    fn place_of_entry(&self, entry: &Entry) -> Option<usize>
+    /// The place of the entry's item, if it has one that is listed.
+    pub fn place_of_entry(&self, entry: &Entry) -> Option<usize>
         ensures { (ds : List Decision) (items : List Holding) (entries : List Entry) → TracksOpen ds items entries self.now
-            → ForSome (item_of entry.now) (Contains (names items)) → IsPlaceOf (names items) entry.now result }
+            → IsPlaceAmong (names items) entry.now result }
     {
         match entry.item() {
             Some(item) => self.place_of(&item),
@@ -300,9 +312,11 @@ impl SiteState {
         self.live == 0
     }
 
-    /// One more entry, decided by this number, of a transaction that is committed with this rank or isn't.
+    /// One more entry, on the item at this place or an end, decided by this number, of a transaction that is committed with this
+    /// rank or isn't.
     pub fn enter(
         &mut self,
+        place: Option<usize>,
         entry: &Entry,
         number: usize,
         rank: Option<u32>,
@@ -310,22 +324,16 @@ impl SiteState {
         ensures section { self.new.section ≡ self.old.section }
         ensures tracks { OnOk result ((ds : List Decision) (items : List Holding) (entries : List Entry) → IsDecidedOnce ds
             → AllPairs (λ x y. x ≢ y) (names items) → ForSome (item_of entry.now) (Contains (names items))
-            → IsDecided ds entry.now number → IsRankOf ds (tx_of entry.now) rank
+            → IsPlaceAmong (names items) entry.now place → IsDecided ds entry.now number → IsRankOf ds (tx_of entry.now) rank
             → TracksOpen ds items entries self.old → TracksOpen ds items (entries ++ entry.now ∷ []) self.new) }
     {
-        let place = self.place_of_entry(entry);
         let next = one_more(self.count)?;
-        let was = record::is_live(self.records.as_slice(), number, self.section);
-        let act = act_at(self.count, place, entry);
-        record::enter(
-            self.records.as_mut_slice(),
-            number,
-            self.section,
-            act,
-            entry.is_end(),
-        )?;
-        let is = record::is_live(self.records.as_slice(), number, self.section);
-        self.live = record::live_after(self.live, self.records.len(), was, is);
+        let was = self.records.is_live(number, self.section);
+        let act = act_at(self.count, place, entry)?;
+        self.records
+            .enter(number, self.section, act, entry.is_end())?;
+        let is = self.records.is_live(number, self.section);
+        self.live = live_after(self.live, self.records.len(), was, is);
         enter_cell(self.cells.as_mut_slice(), place, entry, rank);
         self.last_end = later_end(self.last_end, entry, number);
         self.count = next;

@@ -2,6 +2,7 @@
 
 use sgt_cells::SiteState;
 use sgt_names::{Entry, Holding, Item, Kind, Tx};
+use std::alloc::AllocError;
 use std::test::Fail;
 
 /// What is found of the entry, on an item of this value: that the item has it, and that the entry is in rank and the first.
@@ -20,6 +21,17 @@ fn judged(
     ))
 }
 
+/// One more entry, whose place is looked up first.
+fn enter(
+    state: &mut SiteState,
+    entry: &Entry,
+    number: usize,
+    rank: Option<u32>,
+) -> Result<(), AllocError> {
+    let place = state.place_of_entry(entry);
+    state.enter(place, entry, number, rank)
+}
+
 #[test]
 fn increments_and_reads(rt: HostRuntime) -> Result<(), Fail> {
     let mut state = SiteState::new(rt.alloc(), 3)?;
@@ -32,7 +44,7 @@ fn increments_and_reads(rt: HostRuntime) -> Result<(), Fail> {
         item,
         value: 7,
     };
-    state.enter(&add, 0, Some(2))?;
+    enter(&mut state, &add, 0, Some(2))?;
     let other = Entry::Add {
         tx: second,
         item,
@@ -66,9 +78,9 @@ fn ends_and_sections(rt: HostRuntime) -> Result<(), Fail> {
         item,
         value: 5,
     };
-    state.enter(&read, 1, Some(0))?;
+    enter(&mut state, &read, 1, Some(0))?;
     assert!(rt; state.is_active(1) && !state.have_all_ended());
-    state.enter(&Entry::Commit { tx: second }, 1, Some(0))?;
+    enter(&mut state, &Entry::Commit { tx: second }, 1, Some(0))?;
     assert!(rt; !state.is_active(1) && state.have_all_ended());
     let early = Entry::Commit { tx: first };
     assert_eq!(rt;
@@ -99,19 +111,19 @@ fn conflicts(rt: HostRuntime) -> Result<(), Fail> {
         item,
         value: 6,
     };
-    state.enter(&write, 0, Some(2))?;
+    enter(&mut state, &write, 0, Some(2))?;
     let read = Entry::Read {
         tx: second,
         item,
         value: 6,
     };
-    state.enter(&read, 1, Some(0))?;
+    enter(&mut state, &read, 1, Some(0))?;
     let add = Entry::Add {
         tx: third,
         item,
         value: 1,
     };
-    state.enter(&add, 2, Some(1))?;
+    enter(&mut state, &add, 2, Some(1))?;
     for (kind, from, to, wanted) in [
         (Kind::Wr, Some(0), Some(1), true),
         (Kind::Rw, Some(1), Some(0), false),

@@ -1,12 +1,13 @@
 //! A certificate whose decisions are found by their transactions.
 
-ghost use Rattle.std.specs.Prelude.{◌≡◌, ◌<◌, ◌↔◌, ℕ, [], IfOk, IfSome, IfNone, IsSome, IsTrue, Some, slice_get};
-ghost use Rattle.sgt_cert.specs.Certificate.{decided_tx, IsCommitted, IsDecidedOnce, Suits};
+ghost use Rattle.std.specs.Prelude.{◌≡◌, ◌<◌, ◌↔◌, ℕ, [], false, IfOk, IfSome, IfNone, IsSome, IsTrue, Some, None, slice_get};
+ghost use Rattle.sgt_cert.specs.Certificate.{decided_tx, IsCommitted, IsDecidedOnce};
 ghost use Rattle.sgt_cert.specs.Valid.{IsDecided};
 ghost use Rattle.sgt_cert.specs.Text.{IsCertificate};
-ghost use Rattle.sgt_decided.specs.Decided.{Decides};
+ghost use Rattle.sgt_decided.specs.Decided.{Decides, IsRulingOn};
 ghost use Rattle.sgt_decided.specs.Steps.{AreStepsOf};
 
+use crate::outcome::{Outcome, outcomes};
 use crate::steps::Steps;
 use crate::table::Table;
 use sgt_cert::{Certificate, Decision};
@@ -19,35 +20,51 @@ use std::marker::Model;
 pub struct Decided {
     certificate: Certificate,
     table: Table,
+    /// What each decision comes to: little beside the decisions, and looked into for each entry.
+    outcomes: Vec<Outcome>,
 }
 
 impl Model for Decided {
     ghost use Rattle.sgt_cert.specs.declared.certificate.Certificate.{Certificate};
+    ghost use Rattle.std.specs.Prelude.{◌≡◌, map};
     ghost use Rattle.sgt_decided.specs.private.Table.{IsTableOf};
+    ghost use Rattle.sgt_decided.specs.private.Outcome.{outcome_of};
 
     ghost Value = { Certificate };
 
     ghost view = { λ d. d.certificate };
 
-    ghost invariant = { λ d. IsTableOf d.certificate.decisions d.table };
+    ghost invariant = { λ d. IsTableOf d.certificate.decisions d.table × (d.outcomes.items ≡ map outcome_of d.certificate.decisions) };
 }
 
-/// Whether the decision suits an entry of its transaction.
-fn suits(entry: &Entry, decision: &Decision) -> bool
-    ensures { IsTrue result ↔ Suits entry.now decision.now }
+/// What is decided on an entry's transaction.
+#[derive(Clone, Copy, Debug, PartialEq, Eq)]
+pub struct Ruling {
+    /// The number of the decision on the transaction.
+    pub number: Option<usize>,
+    /// The rank of the transaction, if it is committed.
+    pub rank: Option<u32>,
+    /// The number of the decision, if that suits the entry.
+    pub suiting: Option<usize>,
+}
+
+/// Of a transaction in no decision.
+fn no_ruling() -> Ruling
+    ensures { result ≡ record { number = None; rank = None; suiting = None } }
 {
-    match entry {
-        Entry::Read { .. } => true,
-        Entry::Write { .. } | Entry::Add { .. } | Entry::Commit { .. } => matches!(
-            decision,
-            Decision::Commit { .. }
-        ),
-        Entry::Want { .. } | Entry::WantAdd { .. } | Entry::Refuse { .. } => matches!(
-            decision,
-            Decision::Refuse { .. }
-        ),
-        Entry::Withdraw { .. } => matches!(decision, Decision::Withdraw { .. }),
+    Ruling {
+        number: None,
+        rank: None,
+        suiting: None,
     }
+}
+
+/// The number, where it is to be told.
+fn told_if(tells: bool, number: usize) -> Option<usize>
+    ensures told { IsTrue tells → result ≡ Some number }
+    ensures untold { tells ≡ false → result ≡ None }
+{
+    if tells { Some(number) } else { None }
 }
 
 impl Decided {
@@ -56,8 +73,13 @@ impl Decided {
         ensures once { IfOk result (λ found. IsSome found ↔ IsDecidedOnce certificate.decisions) }
         ensures same { IfOk result (λ found. IfSome found (λ decided. decided ≡ certificate)) }
     {
+        let outcomes = outcomes(alloc, certificate.decisions())?;
         match Table::new(alloc, certificate.decisions())? {
-            Some(table) => Ok(Some(Decided { certificate, table })),
+            Some(table) => Ok(Some(Decided {
+                certificate,
+                table,
+                outcomes,
+            })),
             None => Ok(None),
         }
     }
@@ -111,29 +133,20 @@ impl Decided {
         }
     }
 
-    /// The rank of the transaction, if it is committed.
-    pub fn rank_of(&self, tx: Tx) -> Option<u32>
-        ensures some { IfSome result (λ rank. (number : ℕ) × IsCommitted self.now.decisions number tx rank) }
-        ensures none { IfNone result ((number rank : ℕ) → IsCommitted self.now.decisions number tx rank → ⊥) }
+    /// What is decided on the entry's transaction, which is looked up once.
+    pub fn ruling_on(&self, entry: &Entry) -> Ruling
+        ensures { IsRulingOn self.now.decisions entry.now result }
     {
-        let Some((_, decision)) = self.decision_of(tx) else {
-            return None;
+        let Some(number) = self.table.get(entry.tx()) else {
+            return no_ruling();
         };
-        decision.rank()
-    }
-
-    /// The number of the decision on the entry's transaction, if that suits the entry.
-    pub fn decision_on(&self, entry: &Entry) -> Option<usize>
-        ensures some { IfSome result (λ number. IsDecided self.now.decisions entry.now number) }
-        ensures none { IfNone result ((number : ℕ) → IsDecided self.now.decisions entry.now number → ⊥) }
-    {
-        match self.decision_of(entry.tx()) {
-            Some((number, decision)) => if suits(entry, decision) {
-                Some(number)
-            } else {
-                None
+        match self.outcomes.get(number) {
+            Some(outcome) => Ruling {
+                number: Some(number),
+                rank: outcome.rank(),
+                suiting: told_if(outcome.suits(entry), number),
             },
-            None => None,
+            None => no_ruling(),
         }
     }
 

@@ -3,11 +3,12 @@
 
 mod cycles;
 mod decided;
+mod outcome;
 mod ranks;
 mod steps;
 mod table;
 
 pub use cycles::are_cycles;
-pub use decided::Decided;
+pub use decided::{Decided, Ruling};
 pub use ranks::are_ranks;
 pub use steps::{Edge, Steps};

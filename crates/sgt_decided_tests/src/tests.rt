@@ -84,8 +84,8 @@ fn cycles(rt: HostRuntime) -> Result<(), Fail> {
 
 /// The number, the rank, and the number for an end of a commit.
 fn looked_up(decided: &Decided, tx: Tx) -> (Option<usize>, Option<u32>, Option<usize>) {
-    let on_commit = decided.decision_on(&Entry::Commit { tx });
-    (decided.number_of(tx), decided.rank_of(tx), on_commit)
+    let ruling = decided.ruling_on(&Entry::Commit { tx });
+    (decided.number_of(tx), ruling.rank, ruling.suiting)
 }
 
 #[test]

@@ -1,10 +1,11 @@
 -- What was judged of a text that a reader tells.
-use Rattle.std.specs.Prelude.{◌≡◌, ◌≤◌, ◌+◌, ℕ, List, [], ◌++◌, length, Option, Some, None, IsSome, IfSome, ⊤}
-use Rattle.sgt_notation.specs.Spelling.{text_of_lines, HasNoLf}
+use Rattle.std.specs.Prelude.{◌≡◌, ◌≤◌, ◌+◌, ℕ, List, [], ◌∷◌, ◌++◌, length, take, Option, Some, None, IsSome, IfSome, ⊤}
+use Rattle.sgt_notation.specs.Spelling.{text_of_lines, HasNoLf, IsLine, line_text}
 use Rattle.sgt_notation.specs.Lines.{Ahead, coming}
 use Rattle.sgt_notation.specs.declared.SectionLine.{SectionLine}
 use Rattle.sgt_cert.specs.Text.{AreSections}
 use Rattle.sgt_audit.specs.declared.faults.Fault.{Fault}
+use Rattle.sgt_audit.specs.declared.kept.Kept.{Kept}
 use Rattle.sgt_audit.specs.declared.machine.Progress.{Progress}
 use Rattle.sgt_audit.specs.declared.reading.Stop.{Stop}
 use Rattle.sgt_audit.specs.declared.reading.Stop.TheVariants as stop
@@ -14,6 +15,7 @@ use Rattle.sgt_audit.specs.Faults.{Stage, FirstFault, complete, last, lines_so_f
 use Rattle.sgt_audit.specs.Kept.{Holds}
 use Rattle.sgt_audit.specs.Reading.{Begun}
 use Rattle.sgt_audit.specs.private.Ending.{limit_of}
+use Rattle.sgt_audit.specs.private.NextLine.{AnswersLine}
 use Rattle.sgt_audit.specs.Progress.{Stands}
 
 -- the bytes are the lines of the stage and then what comes
@@ -25,6 +27,15 @@ IsRest s (Some bytes) (Some rest) = bytes ≡ text_of_lines (lines_so_far s) ++ 
 -- the machine stands at a stage of the text, and this is the number of the next line
 abbrev pub Goes : Option (List ℕ) → Progress → Option (List ℕ) → ℕ → Type 0
 Goes told p coming n = (s : Stage) × Stands p s × IsRest s told coming × (n ≡ length (lines_so_far s) + 1)
+
+-- a line of so many bytes with its LF stands at the front and was fed, and this is what it was answered with
+pub record FedFront (old new : Kept) (held : List ℕ) (n : ℕ) (fault : Option Fault) : Type 0 where
+  pub line : SectionLine
+  pub is : IsLine line
+  pub within : n ≤ length held
+  pub front : take n held ≡ line_text line ++ 10 ∷ []
+  pub answers : (b : Begun) (before : List SectionLine) → Holds old.second old.certificate b old.tracked old.sections before
+      → AnswersLine old.second old.certificate new.tracked new.sections before (line_text line) fault
 
 -- the lines that were held whole were fed: the machine stands behind them, or the last of them has the first fault of the text
 abbrev pub FedHeld : Option (List ℕ) → Option (List ℕ) → Progress → Ahead → ℕ → Option Fault → Type 0

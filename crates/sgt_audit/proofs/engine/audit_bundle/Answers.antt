@@ -1,4 +1,4 @@
-use Rattle.std.proofs.Common.{List, None, refl, subst, sym, ap, ap₂, ◌∙◌}
+use Rattle.std.proofs.Common.{List, refl, subst, sym, ap, ap₂, ◌∙◌}
 use Rattle.sgt_notation.specs.Spelling.{text_of_lines}
 use Rattle.sgt_cert.specs.Parts.{FitTogether, Parts}
 use Rattle.sgt_cert.specs.Text.{Spells}
@@ -7,7 +7,7 @@ use Rattle.sgt_cert.specs.declared.certificate.Certificate.{Certificate}
 use Rattle.sgt_cert.specs.declared.bundle.SiteLog.{SiteLog}
 use Rattle.sgt_audit.specs.Faults.{complete, lines_so_far}
 use Rattle.sgt_audit.specs.Reading.{Begun}
-use Rattle.sgt_audit.specs.private.Stops.{HandsOut, IsJudged}
+use Rattle.sgt_audit.specs.private.Stops.{IsJudged}
 use Rattle.sgt_audit.specs.declared.reading.Judged.TheVariants as judged
 use Rattle.sgt_audit.proofs.Verdicts.{kept-fit, kept-spelled, kept-valid, kept-sections, none-kept, told-map}
 use Rattle.sgt_audit.proofs.engine.audit_bundle.Goals as goal

@@ -1,16 +1,13 @@
-use Rattle.std.proofs.Common.{sym, ◌∙◌, subst}
-use Rattle.sgt_cells.specs.Tracks.{IsNumberOf}
-use Rattle.sgt_audit.proofs.SiteStates.{number-is, end-first}
+use Rattle.sgt_names.specs.Log.{names}
+use Rattle.sgt_names.specs.Entry.{tx_of}
+use Rattle.sgt_audit.proofs.SiteStates.{placed-at, placed-none, number-found, end-first}
 use Rattle.sgt_audit.proofs.tracked.is_first.Goals as goal
 
-pub returns-in-Some-place_of : goal.returns-in-Some-place_of
-returns-in-Some-place_of c items entries t listed =
-    let number = number-is c.args.certificate.now.decisions c.tx.result c.number_of.result c.number_of.ensures.some c.number_of.ensures.none in
-    c.is_first.ensures c.args.certificate.now.decisions items entries _ t (c.in-Some-place_of.ensures.some c.args.certificate.now.decisions items entries t) (sym c.item.ensures ∙ c.in-Some.is)
-    (subst (λ tx. IsNumberOf c.args.certificate.now.decisions tx c.number_of.result) c.tx.ensures number)
-
-pub returns-in-None-place_of : goal.returns-in-None-place_of
-returns-in-None-place_of c items entries t listed = absurd (c.in-None-place_of.ensures.none c.args.certificate.now.decisions items entries t (listed _ (sym c.item.ensures ∙ c.in-Some.is)))
+pub returns-in-Some : goal.returns-in-Some
+returns-in-Some c ds items entries k t listed =
+    let e = c.args.entry.now in
+    let at = placed-at (names items) e c.args.known.now.place c.in-Some.place c.in-Some.is (k.place items entries t) in
+    c.is_first.ensures ds items entries at.0 t at.1 at.2 (number-found ds (tx_of e) c.args.known.now.ruling.number k.ruling.number)
 
 pub returns-in-None : goal.returns-in-None
-returns-in-None c items entries t listed = end-first entries c.args.entry.now (sym c.item.ensures ∙ c.in-None.is)
+returns-in-None c ds items entries k t listed = end-first entries c.args.entry.now (placed-none (names items) c.args.entry.now c.args.known.now.place c.in-None.is listed (k.place items entries t))

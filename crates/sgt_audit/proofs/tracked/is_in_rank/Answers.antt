@@ -1,16 +1,13 @@
-use Rattle.std.proofs.Common.{sym, ◌∙◌, subst}
-use Rattle.sgt_cells.specs.Cells.{IsRankOf}
-use Rattle.sgt_audit.proofs.SiteStates.{rank-is, end-in_rank}
+use Rattle.sgt_names.specs.Log.{names}
+use Rattle.sgt_names.specs.Entry.{tx_of}
+use Rattle.sgt_audit.proofs.SiteStates.{placed-at, placed-none, rank-found, end-in_rank}
 use Rattle.sgt_audit.proofs.tracked.is_in_rank.Goals as goal
 
-pub returns-in-Some-place_of : goal.returns-in-Some-place_of
-returns-in-Some-place_of c items entries once are t listed =
-    let rank = rank-is c.args.certificate.now.decisions c.tx.result c.rank_of.result c.rank_of.ensures.some c.rank_of.ensures.none in
-    c.is_in_rank.ensures c.args.certificate.now.decisions items entries _ once are t (c.in-Some-place_of.ensures.some c.args.certificate.now.decisions items entries t) (sym c.item.ensures ∙ c.in-Some.is)
-    (subst (λ tx. IsRankOf c.args.certificate.now.decisions tx c.rank_of.result) c.tx.ensures rank)
-
-pub returns-in-None-place_of : goal.returns-in-None-place_of
-returns-in-None-place_of c items entries once are t listed = absurd (c.in-None-place_of.ensures.none c.args.certificate.now.decisions items entries t (listed _ (sym c.item.ensures ∙ c.in-Some.is)))
+pub returns-in-Some : goal.returns-in-Some
+returns-in-Some c ds items entries once are k t listed =
+    let e = c.args.entry.now in
+    let at = placed-at (names items) e c.args.known.now.place c.in-Some.place c.in-Some.is (k.place items entries t) in
+    c.is_in_rank.ensures ds items entries at.0 once are t at.1 at.2 (rank-found ds (tx_of e) c.args.known.now.ruling.rank k.ruling.rank)
 
 pub returns-in-None : goal.returns-in-None
-returns-in-None c items entries once are t listed = end-in_rank c.args.certificate.now.decisions entries c.args.entry.now (sym c.item.ensures ∙ c.in-None.is)
+returns-in-None c ds items entries once are k t listed = end-in_rank ds entries c.args.entry.now (placed-none (names items) c.args.entry.now c.args.known.now.place c.in-None.is listed (k.place items entries t))

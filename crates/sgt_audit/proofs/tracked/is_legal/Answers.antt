@@ -1,10 +1,17 @@
-use Rattle.std.proofs.Common.{IsTrue, subst, sym, ap}
-use Rattle.std.specs.Prelude.{◌↔◌}
+use Rattle.std.proofs.Common.{ap}
 use Rattle.sgt_names.specs.Entry.{item_of}
-use Rattle.sgt_names.specs.declared.entry.Entry.{Entry}
-use Rattle.sgt_audit.specs.private.Judging.{IsLegalRead}
+use Rattle.sgt_names.specs.Log.{names}
+use Rattle.sgt_audit.proofs.SiteStates.{placed-at, placed-none, legal-at}
+use Rattle.std.proofs.lemmas.Option.{none-some}
+use Rattle.std.proofs.Common.{sym, ◌∙◌}
 use Rattle.sgt_audit.proofs.tracked.is_legal.Goals as goal
 
-pub returns-in-Read : goal.returns-in-Read
-returns-in-Read c ds items entries t listed =
-    subst (λ (e : Entry). IsTrue c.holds_value.result ↔ IsLegalRead items entries e) (sym c.in-Read.is) (c.holds_value.ensures ds items entries t (listed _ (ap item_of c.in-Read.is)))
+pub returns-in-Some : goal.returns-in-Some
+returns-in-Some c ds items entries k t listed =
+    let e = c.args.entry.now in
+    let at = placed-at (names items) e c.args.known.now.place c.in-Some.place c.in-Some.is (k.place items entries t) in
+    legal-at items entries e _ _ _ c.has_value.result c.in-Some.place c.in-Read.is at (λ x on. c.has_value.ensures ds items entries x t on)
+
+pub returns-in-None : goal.returns-in-None
+returns-in-None c ds items entries k t listed =
+    absurd (none-some _ (sym (placed-none (names items) c.args.entry.now c.args.known.now.place c.in-None.is listed (k.place items entries t)) ∙ ap item_of c.in-Read.is))

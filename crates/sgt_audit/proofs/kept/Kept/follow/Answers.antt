@@ -1,8 +1,9 @@
 use Rattle.std.proofs.Common.{refl, sym, ◌∙◌}
+use Rattle.sgt_notation.specs.Spelling.{line_text}
 use Rattle.sgt_audit.specs.declared.faults.Fault.TheVariants as fault
 use Rattle.sgt_audit.specs.private.Following.{with_next}
 use Rattle.sgt_audit.proofs.NextLine.{line-breaks, walks-broken, added-open, added-last}
-use Rattle.sgt_audit.proofs.NextStage.{all-before, line-trails, line-unread}
+use Rattle.sgt_audit.proofs.NextStage.{all-before, line-trails}
 use Rattle.sgt_audit.proofs.MayFollow.{added-begun, added-lines, are-sections}
 use Rattle.sgt_audit.proofs.Places.{next-sites}
 use Rattle.sgt_audit.proofs.SiteStates.{line-tracked}
@@ -11,58 +12,50 @@ use Rattle.sgt_audit.proofs.kept.Kept.follow.Goals as goal
 use Rattle.sgt_audit.proofs.kept.Kept.follow.Goals.{else-is_complete-2-via-then-is_complete-2+else-not-are_logged, else-is_complete-2-via-else-is_complete-2}
 
 pub returns-then-is_complete-clause-answers : goal.returns-then-is_complete-clause-answers
-returns-then-is_complete-clause-answers k b before l h f =
+returns-then-is_complete-clause-answers k b before h f =
     let all = (k.is_complete.ensures b h.means.begun h.tracks.place).0 k.if-is_complete.true in
-    line-trails _ _ before l ((all-before _ _ b before h.means).0 all)
+    line-trails _ _ before (line_text k.args.line.now) ((all-before _ _ b before h.means).0 all)
 
-pub returns-in_default-clause-answers : goal.returns-in_default-clause-answers
-returns-in_default-clause-answers k b before l h f =
-    let open_yet = refuted k.is_complete.result (k.is_complete.ensures b h.means.begun h.tracks.place) k.if-is_complete.false in
-    line-unread _ _ before l (λ all. open_yet ((all-before _ _ b before h.means).1 all)) (rw k.in_default.is at f)
-
-pub returns-in-Some-judge_line-clause-answers : goal.returns-in-Some-judge_line-clause-answers
-returns-in-Some-judge_line-clause-answers k b before l h f s stage =
+pub returns-in-Some-clause-answers : goal.returns-in-Some-clause-answers
+returns-in-Some-clause-answers k b before h f s stage =
     let c = k.args.self.now.certificate in
     let m = h.means in
     let open_yet = refuted k.is_complete.result (k.is_complete.ensures b m.begun h.tracks.place) k.if-is_complete.false in
-    let read = rw k.in-Some.is at f in
-    line-breaks _ _ _ before _ _ _ m open_yet read.0 read.1 (k.in-Some-judge_line.ensures.judged c b refl (sym m.sites) (m.kept.itself fault.DecidedTwice) (m.kept.itself fault.Ranks) m.begun h.tracks) s stage
+    line-breaks _ _ _ before _ _ _ m open_yet f refl (k.in-Some.ensures.judged c b (sym m.sites) (m.kept.itself fault.DecidedTwice) (m.kept.itself fault.Ranks) m.begun k.look_up-known.ensures h.tracks) s stage
 
 pub returns-then-not-are_logged-clause-answers : goal.returns-then-not-are_logged-clause-answers
-returns-then-not-are_logged-clause-answers k b before l h f s stage =
+returns-then-not-are_logged-clause-answers k b before h f s stage =
     let c = k.args.self.now.certificate in
     let m = h.means in
     let open_yet = refuted k.is_complete.result (k.is_complete.ensures b m.begun h.tracks.place) k.if-is_complete.false in
-    let read = rw k.in-Some.is at f in
-    let line = k.in-Some.read in
-    let begins = k.in_default-judge_line.ensures.may_follow b m.begun h.tracks.place in
-    let kept = k.in_default-judge_line.ensures.judged c b refl (sym m.sites) (m.kept.itself fault.DecidedTwice) (m.kept.itself fault.Ranks) m.begun h.tracks in
+    let line = k.args.line.now in
+    let begins = k.in_default.ensures.may_follow b m.begun h.tracks.place in
+    let kept = k.in_default.ensures.judged c b (sym m.sites) (m.kept.itself fault.DecidedTwice) (m.kept.itself fault.Ranks) m.begun k.look_up-known.ensures h.tracks in
     let next = with_next b b.current line in
     let sites = next-sites b b.current line in
     let lines = added-lines b m.begun line begins b.current refl in
     let begun = added-begun b m.begun line begins b.current refl in
-    let tracks = line-tracked k.args.self.now.second c b k.args.self.now.tracked k.enter.new.self before line m kept begins k.in_ok-enter.ensures h.tracks in
+    let tracks = line-tracked k.args.self.now.second c b k.args.self.now.tracked k.enter.new.self before line m kept begins (k.in_ok-enter.ensures k.look_up-known.ensures) h.tracks in
     let sections = k.in_ok-add_to.ensures.next b h.sections in
     let done = k.is_complete-2.ensures next begun tracks.place in
     let all = done.0 k.if-is_complete-2.true in
     let each = (are-sections next all).1 ∙ sites ∙ m.sites in
     let miss = refuted k.are_logged.result (k.are_logged.ensures c next.whole m.kept.spelled each tracks.walks) k.if-not-are_logged.true in
-    line-breaks _ _ _ before _ _ _ m open_yet read.0 read.1 (walks-broken _ _ _ next before _ m sites lines all miss kept) s stage
+    line-breaks _ _ _ before _ _ _ m open_yet f refl (walks-broken _ _ _ next before _ m sites lines all miss kept) s stage
 
 pub returns-clause-answers : goal.returns-clause-answers
-returns-clause-answers k b before l h f =
+returns-clause-answers k b before h f =
     let c = k.args.self.now.certificate in
     let m = h.means in
     let open_yet = refuted k.is_complete.result (k.is_complete.ensures b m.begun h.tracks.place) k.if-is_complete.false in
-    let read = rw k.in-Some.is at f in
-    let line = k.in-Some.read in
-    let begins = k.in_default-judge_line.ensures.may_follow b m.begun h.tracks.place in
-    let kept = k.in_default-judge_line.ensures.judged c b refl (sym m.sites) (m.kept.itself fault.DecidedTwice) (m.kept.itself fault.Ranks) m.begun h.tracks in
+    let line = k.args.line.now in
+    let begins = k.in_default.ensures.may_follow b m.begun h.tracks.place in
+    let kept = k.in_default.ensures.judged c b (sym m.sites) (m.kept.itself fault.DecidedTwice) (m.kept.itself fault.Ranks) m.begun k.look_up-known.ensures h.tracks in
     let next = with_next b b.current line in
     let sites = next-sites b b.current line in
     let lines = added-lines b m.begun line begins b.current refl in
     let begun = added-begun b m.begun line begins b.current refl in
-    let tracks = line-tracked k.args.self.now.second c b k.args.self.now.tracked k.enter.new.self before line m kept begins k.in_ok-enter.ensures h.tracks in
+    let tracks = line-tracked k.args.self.now.second c b k.args.self.now.tracked k.enter.new.self before line m kept begins (k.in_ok-enter.ensures k.look_up-known.ensures) h.tracks in
     let sections = k.in_ok-add_to.ensures.next b h.sections in
     let done = k.is_complete-2.ensures next begun tracks.place in
     elim k.else-is_complete-2.branch [
@@ -70,8 +63,8 @@ returns-clause-answers k b before l h f =
           let all = done.0 w.if-is_complete-2.true in
           let each = (are-sections next all).1 ∙ sites ∙ m.sites in
           let walks = (w.are_logged.ensures c next.whole m.kept.spelled each tracks.walks).0 w.if-not-are_logged.false in
-          (line, next, read.1, record { means = added-last _ _ _ next before _ m sites lines read.0 kept begun all walks; tracks = tracks; sections = sections })
+          (line, next, refl, record { means = added-last _ _ _ next before _ m sites lines f kept begun all walks; tracks = tracks; sections = sections })
       | else-is_complete-2-via-else-is_complete-2 w ↦
           let miss = refuted k.is_complete-2.result done w.if-is_complete-2.false in
-          (line, next, read.1, record { means = added-open _ _ _ next before _ m sites lines read.0 kept begun miss; tracks = tracks; sections = sections })
+          (line, next, refl, record { means = added-open _ _ _ next before _ m sites lines f kept begun miss; tracks = tracks; sections = sections })
     ]

@@ -1,4 +1,4 @@
-use Rattle.std.proofs.Common.{Some, refl, sym, ◌∙◌, subst}
+use Rattle.std.proofs.Common.{Some, refl, sym, subst}
 use Rattle.sgt_audit.specs.declared.place.OpenPlace.{OpenPlace}
 use Rattle.sgt_audit.specs.Kept.{IsOpenPlace}
 use Rattle.sgt_audit.specs.private.Following.{Fits, with_line}

@@ -2,7 +2,7 @@ use Rattle.std.proofs.Common.{sym, subst}
 use Rattle.sgt_names.specs.Log.{names}
 use Rattle.sgt_cells.specs.Records.{AreActs}
 use Rattle.sgt_cells.specs.Tracks.{IsNumberOf}
-use Rattle.sgt_cells.proofs.Tracking.{got, missed, record-is, record-of}
+use Rattle.sgt_cells.proofs.Tracking.{not-past, record-is, record-of}
 use Rattle.sgt_cells.proofs.Clashing.{undecided-acts}
 use Rattle.sgt_cells.proofs.Entering.{not-some}
 use Rattle.sgt_cells.proofs.state.SiteState.acts_of.Goals as goal
@@ -14,7 +14,7 @@ returns-in_default c ds items entries tx t number =
 pub returns-in-Some-get : goal.returns-in-Some-get
 returns-in-Some-get c ds items entries tx t number =
     let by = subst (IsNumberOf ds tx) c.in-Some.is number in
-    let there = got _ _ _ _ c.deref.ensures.value c.in-Some-get.ensures.lookup.0 c.in-Some-get.ensures.lookup.1 in
+    let there = c.in-Some-get.ensures.some in
     let is = record-is ds items entries c.args.self.now t c.in-Some.number tx c.in-Some-get.record.now by there in
     subst (AreActs (names items) entries tx) (sym c.acts_in.ensures) is.acts
 
@@ -22,4 +22,4 @@ pub returns-in-None : goal.returns-in-None
 returns-in-None c ds items entries tx t number =
     let by = subst (IsNumberOf ds tx) c.in-Some.is number in
     let there = record-of ds items entries c.args.self.now t c.in-Some.number tx by in
-    absurd (missed _ _ _ there.0 c.deref.ensures.value c.in-None.ensures.lookup.0 there.1)
+    absurd (not-past _ _ there.0 c.in-None.ensures.none there.1)

@@ -1,29 +1,32 @@
-use Rattle.std.proofs.Common.{◌≡◌, ◌++◌, ◌∷◌, [], refl, sym, ap, ◌∙◌, subst, Some, slice_set, length}
+use Rattle.std.proofs.Common.{◌≡◌, ◌++◌, ◌∷◌, [], refl, sym, ◌∙◌, subst, Some}
 use Rattle.std.specs.Prelude.{slice_get}
 use Rattle.std.specs.Option.{option_to_list}
-use Rattle.std.proofs.lemmas.List.{with_items_is, length-set}
+use Rattle.std.proofs.lemmas.List.{with_items_is}
 use Rattle.sgt_names.specs.Entry.{tx_of}
+use Rattle.sgt_names.specs.Log.{names}
 use Rattle.sgt_cells.specs.Cells.{AreCells}
 use Rattle.sgt_cells.specs.private.Deeds.{IsTouched}
-use Rattle.sgt_cells.proofs.Tracking.{decides, record-of, set-at, order-next, tracks-next}
+use Rattle.sgt_cells.proofs.Entering.{placed-listed}
+use Rattle.sgt_cells.proofs.Lists.{set-at}
+use Rattle.sgt_cells.proofs.Tracking.{decides, record-of, order-next, tracks-next}
 use Rattle.sgt_cells.proofs.state.SiteState.enter.Goals as goal
 
 pub returns-clause-tracks : goal.returns-clause-tracks
-returns-clause-tracks c ds items entries once apart listed by ranked t =
+returns-clause-tracks c ds items entries once apart listed among by ranked t =
     let old = c.args.self.now in
     let e = c.args.entry.now in
     let number = c.args.number in
-    let on = c.place_of_entry-place.ensures ds items entries t listed in
+    let on = placed-listed (names items) e c.args.place listed among in
     let before = record-of ds items entries old t number (tx_of e) (decides ds e number by) in
     let r = before.0 in
-    let entered = c.in_ok-enter.ensures r (subst (λ rs. slice_get rs number ≡ Some r) (sym c.as_mut_slice.ensures.value) before.1) in
+    let entered = c.in_ok-enter.ensures r before.1 in
     let v = entered.0 in
-    let records = with_items_is old.records c.enter.new.records (c.enter.auto.records ∙ c.as_mut_slice.ensures.len) ∙ entered.1 ∙ ap (λ rs. slice_set rs number v) c.as_mut_slice.ensures.value in
-    let to = subst (λ o. IsTouched old.section (option_to_list o) c.is_end.result r v) c.act_at-act.ensures entered.2 in
-    let was = c.is_live-was.ensures r (subst (λ rs. slice_get rs number ≡ Some r) (sym c.as_slice.ensures.value) before.1) in
-    let is = c.is_live-is.ensures v (subst (λ rs. slice_get rs number ≡ Some v) (sym (c.as_slice-2.ensures.value ∙ records)) (set-at old.records.items number v r before.1)) in
-    let same_cells = with_items_is old.cells c.enter_cell.new.cells (c.enter_cell.auto.cells ∙ c.as_mut_slice-2.ensures.len) in
-    let cells = subst (AreCells ds items (entries ++ e ∷ [])) (sym same_cells) (c.enter_cell.ensures ds items entries once apart (subst (AreCells ds items entries) (sym c.as_mut_slice-2.ensures.value) t.cells) on ranked) in
+    let records = entered.1 in
+    let to = subst (λ o. IsTouched old.section (option_to_list o) c.is_end.result r v) c.in_ok-act.ensures entered.2 in
+    let was = c.is_live-was.ensures r before.1 in
+    let is = c.is_live-is.ensures v (subst (λ rs. slice_get rs number ≡ Some v) (sym records) (set-at old.records number v r before.1)) in
+    let same_cells = with_items_is old.cells c.enter_cell.new.cells (c.enter_cell.auto.cells ∙ c.as_mut_slice.ensures.len) in
+    let cells = subst (AreCells ds items (entries ++ e ∷ [])) (sym same_cells) (c.enter_cell.ensures ds items entries once apart (subst (AreCells ds items entries) (sym c.as_mut_slice.ensures.value) t.cells) on ranked) in
     let order = order-next ds items entries old old t e number by once c.later_end-self.result c.is_end.result c.is_end.ensures c.later_end-self.ensures.end c.later_end-self.ensures.other in
-    tracks-next ds items entries old _ t e number by once c.place_of_entry-place.result on apart c.is_end.result c.is_end.ensures r v before.1 records to refl c.in_ok-next.ensures cells order
-    c.is_live-was.result c.is_live-is.result c.len.result was is (c.len.ensures ∙ old.records.ok.0 ∙ sym (ap length records ∙ length-set old.records.items number v)) c.live_after-self.ensures.same c.live_after-self.ensures.more c.live_after-self.ensures.less
+    tracks-next ds items entries old _ t e number by once c.args.place on apart c.is_end.result c.is_end.ensures r v before.1 records to refl c.in_ok-next.ensures cells order
+    c.is_live-was.result c.is_live-is.result c.len.result was is c.len.ensures c.live_after-self.ensures.same c.live_after-self.ensures.more c.live_after-self.ensures.less

@@ -1,7 +1,7 @@
 use Rattle.std.proofs.Common.{refl, subst}
 use Rattle.sgt_names.specs.Entry.{tx_of}
 use Rattle.sgt_cells.specs.Tracks.{IsNumberOf}
-use Rattle.sgt_cells.proofs.Tracking.{got, missed, record-is, record-of, undecided-new}
+use Rattle.sgt_cells.proofs.Tracking.{not-past, record-is, record-of, undecided-new}
 use Rattle.sgt_cells.proofs.Entering.{not-some}
 use Rattle.sgt_cells.proofs.state.SiteState.is_first.Goals as goal
 
@@ -13,7 +13,7 @@ returns-in_default c ds items entries x t at on number =
 pub returns-in-Some-get : goal.returns-in-Some-get
 returns-in-Some-get c ds items entries x t at on number =
     let by = subst (IsNumberOf ds (tx_of c.args.entry.now)) c.in-Some.is number in
-    let there = got _ _ _ _ c.deref.ensures.value c.in-Some-get.ensures.lookup.0 c.in-Some-get.ensures.lookup.1 in
+    let there = c.in-Some-get.ensures.some in
     let is = record-is ds items entries c.args.self.now t c.in-Some.number (tx_of c.args.entry.now) c.in-Some-get.record.now by there in
     c.is_first.ensures _ entries x at on is.acts
 
@@ -21,4 +21,4 @@ pub returns-in-None : goal.returns-in-None
 returns-in-None c ds items entries x t at on number =
     let by = subst (IsNumberOf ds (tx_of c.args.entry.now)) c.in-Some.is number in
     let there = record-of ds items entries c.args.self.now t c.in-Some.number (tx_of c.args.entry.now) by in
-    absurd (missed _ _ _ there.0 c.deref.ensures.value c.in-None.ensures.lookup.0 there.1)
+    absurd (not-past _ _ there.0 c.in-None.ensures.none there.1)

@@ -1,0 +1,12 @@
+use Rattle.sgt_audit.proofs.reading.feed_front.Goals as goal
+
+pub returns-in_ok-fault-in-Some-clause-fed : goal.returns-in_ok-fault-in-Some-clause-fed
+returns-in_ok-fault-in-Some-clause-fed c =
+    let found = rw c.in-Some.is at c.front_line-found.ensures in
+    record {
+      line = c.in-Some.line;
+      is = found.0;
+      within = found.1;
+      front = found.2;
+      answers = λ b before h. c.in_ok-fault-in-Some.ensures.answers b before h found.0;
+    }

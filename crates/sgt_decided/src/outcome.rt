@@ -1,0 +1,64 @@
+//! What decisions come to, without their walks.
+
+ghost use Rattle.std.specs.Prelude.{◌≡◌, ◌↔◌, map, IsTrue, IfOk};
+ghost use Rattle.sgt_decided.specs.private.Outcome.{outcome_of, rank_with, SuitsWith};
+
+use sgt_cert::Decision;
+use sgt_names::Entry;
+use std::alloc::{AllocError, Global};
+
+/// What a decision comes to.
+#[derive(Clone, Copy)]
+pub enum Outcome {
+    Commit { rank: u32 },
+    Refuse,
+    Withdraw,
+}
+
+/// What the decision comes to.
+fn outcome_of(decision: &Decision) -> Outcome
+    ensures { result ≡ outcome_of decision.now }
+{
+    match decision {
+        Decision::Commit { rank, .. } => Outcome::Commit { rank: *rank },
+        Decision::Refuse { .. } => Outcome::Refuse,
+        Decision::Withdraw { .. } => Outcome::Withdraw,
+    }
+}
+
+/// What each of the decisions comes to. Err: memory ran out.
+pub(crate) fn outcomes(alloc: Global, decisions: &[Decision]) -> Result<Vec<Outcome>, AllocError>
+    ensures { IfOk result (λ v. v.items ≡ map outcome_of decisions.now) }
+{
+    decisions.iter().map(outcome_of).collect(alloc)
+}
+
+impl Outcome {
+    /// The rank of a commit.
+    pub(crate) fn rank(&self) -> Option<u32>
+        ensures { result ≡ rank_with self.now }
+    {
+        match self {
+            Outcome::Commit { rank } => Some(*rank),
+            _ => None,
+        }
+    }
+
+    /// Whether it suits an entry of its transaction.
+    pub(crate) fn suits(&self, entry: &Entry) -> bool
+        ensures { IsTrue result ↔ SuitsWith entry.now self.now }
+    {
+        match entry {
+            Entry::Read { .. } => true,
+            Entry::Write { .. } | Entry::Add { .. } | Entry::Commit { .. } => matches!(
+                self,
+                Outcome::Commit { .. }
+            ),
+            Entry::Want { .. } | Entry::WantAdd { .. } | Entry::Refuse { .. } => matches!(
+                self,
+                Outcome::Refuse
+            ),
+            Entry::Withdraw { .. } => matches!(self, Outcome::Withdraw),
+        }
+    }
+}
