@@ -6,6 +6,8 @@ pub mod Projections
 pub mod Changes
 pub mod Blocks
 pub mod Parts
+pub mod Touching
+pub mod PendingReads
 pub mod Keeps
 pub mod Pledges
 pub mod Refusals

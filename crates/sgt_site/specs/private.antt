@@ -1,3 +1,4 @@
 -- Words of private clauses.
 pub mod Cells
 pub mod Kept
+pub mod Pending

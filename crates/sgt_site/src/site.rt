@@ -18,6 +18,7 @@ mod pledges;
 use crate::cell::{Cell, Install, Reader, Writer};
 use crate::cells::Cells;
 use crate::fault::SiteFault;
+use crate::pending::{PendingRead, add_read, drop_reads};
 use crate::readings::insert;
 use sgt_names::{Entry, Holding, Item, MAX_ITEMS, Seen, SiteNo, Touch, Tx};
 use std::alloc::{AllocError, Global};
@@ -37,12 +38,15 @@ pub struct Site {
     // whose pledge stands, and what its draft touches here
     pledged: Option<Tx>,
     part: Vec<Touch>,
+    // the reads of transactions that have no end here, by rising transaction
+    pending: Vec<PendingRead>,
 }
 
 impl Model for Site {
     ghost use Rattle.std.specs.Prelude.{◌-◌, vec_len, vec_capacity};
     ghost use Rattle.sgt_site.specs.State.{SiteState};
     ghost use Rattle.sgt_site.specs.private.Kept.{pledge_of, IsKept};
+    ghost use Rattle.sgt_site.specs.private.Pending.{ArePending};
 
     ghost Value = { SiteState };
 
@@ -64,7 +68,7 @@ impl Model for Site {
       log = vec_capacity s.log - vec_len s.log;
       installed = vec_capacity s.installed - vec_len s.installed;
       ended = vec_capacity s.ended - vec_len s.ended;
-    }) };
+    }) × ArePending s.pending.items s.log.items };
 }
 
 impl Site {
@@ -104,6 +108,7 @@ impl Site {
             ended: Vec::new(alloc),
             pledged: None,
             part: Vec::new(alloc),
+            pending: Vec::new(alloc),
         })
     }
 
@@ -143,8 +148,9 @@ impl Site {
     /// - S7: the pledge that stands is its own.
     /// - S4: there was no memory.
     ///
-    /// Searches the items, the reads of this one and the ended transactions, each in the logarithm of their number, and not the log.
-    /// The reads of this item by transactions of greater numbers move by a place.
+    /// Searches the items, the reads of this one, the ended transactions and the reads of the others, each in the logarithm of
+    /// their number, and not the log. The reads of this item by transactions of greater numbers move by a place, and so do all
+    /// reads of those that have no end.
     pub fn read(&mut self, tx: Tx, item: Item) -> Result<Seen, SiteFault>
         ensures value { IfOk result (λ seen. value_at self.old.items self.old.entries item ≡ Some seen.value) }
         ensures version { IfOk result (λ seen. seen.version ≡ version_at self.old.entries item) }
@@ -174,10 +180,14 @@ impl Site {
         if !make_room(&mut self.log, room) {
             return Err(SiteFault::Memory);
         }
+        if !make_room(&mut self.pending, 1) {
+            return Err(SiteFault::Memory);
+        }
         match self.cells.answer(at, tx) {
             Ok(seen) => {
                 let value = seen.value;
                 self.log.push_reserved(Entry::Read { tx, item, value });
+                add_read(&mut self.pending, PendingRead { tx, item });
                 Ok(seen)
             }
             Err(_) => Err(SiteFault::Memory),
@@ -185,7 +195,7 @@ impl Site {
     }
 
     /// Ends a transaction as withdrawn, under its pledge for whichever draft. Takes no memory; the cost is a search of the ended
-    /// transactions, of which those of greater numbers move by a place.
+    /// transactions, of which those of greater numbers move by a place, and a look at the reads of those that have no end.
     ///
     /// - S5: no pledge of the transaction stands.
     pub fn withdraw(&mut self, tx: Tx) -> Result<(), SiteFault>
@@ -199,6 +209,7 @@ impl Site {
         }
         self.log.push_reserved(Entry::Withdraw { tx });
         add_ended(&mut self.ended, tx);
+        drop_reads(&mut self.pending, tx);
         self.pledged = None;
         self.part.clear();
         Ok(())
