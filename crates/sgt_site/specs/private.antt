@@ -2,3 +2,4 @@
 pub mod Cells
 pub mod Kept
 pub mod Pending
+pub mod Tails

@@ -4,13 +4,14 @@
 //! Logs, conflicts and "reads from" are those of Bernstein, Hadzilacos and Goodman, Concurrency Control and Recovery in Database
 //! Systems (1987), chapter 2.
 
-ghost use Rattle.std.specs.Prelude.{◌≡◌, ◌↔◌, ◌⊎◌, ℕ, ◌+◌, ◌<◌, ◌≤◌, Some, vec_len, vec_capacity, Contains, IsTrue, IfOk, IfErr};
+ghost use Rattle.std.specs.Prelude.{◌≡◌, ◌↔◌, ◌⊎◌, ℕ, ◌+◌, ◌<◌, ◌≤◌, Some, length, vec_len, vec_capacity, Contains, IsTrue, IfOk, IfErr};
 ghost use Rattle.std.specs.Ordering.{nat_cmp};
 ghost use Rattle.std.specs.declared.cmp.Ordering.TheVariants.{Less};
 ghost use Rattle.std.specs.Cmp.Lexicographic.{slice_cmp};
 ghost use Rattle.sgt_names.specs.Ordered.{IsRisingBy, IsAt, IsGapFor};
 ghost use Rattle.sgt_site.specs.State.{AreItems};
 ghost use Rattle.sgt_site.specs.private.Cells.{values_of};
+ghost use Rattle.sgt_site.specs.private.Tails.{IsBelow};
 
 mod blocks;
 mod pledges;
@@ -334,8 +335,41 @@ fn comes_before(a: &Holding, b: &Holding) -> bool
     }
 }
 
-// Where the transaction is among those that have ended, or where it would go.
+// How many of the last that have ended are looked at first.
+const NEAR: usize = 64;
+
+// Where the transaction is among those that have ended, or where it would go. It is mostly looked for among the last.
 fn search(ended: &[Tx], tx: Tx) -> Result<usize, usize>
+    requires { IsRisingBy (λ t. t) nat_cmp ended.now }
+    ensures found { IfOk result (IsAt (λ t. t) ended.now tx) }
+    ensures absent { IfErr result (IsGapFor (λ t. t) nat_cmp ended.now tx) }
+{
+    let from = near_end(ended, tx);
+    match search_all(&ended[from..], tx) {
+        Ok(at) => Ok(from + at),
+        Err(at) => Err(from + at),
+    }
+}
+
+// Where the last begin, if all before them are smaller, and else the beginning.
+fn near_end(ended: &[Tx], tx: Tx) -> usize
+    requires { IsRisingBy (λ t. t) nat_cmp ended.now }
+    ensures within { result ≤ length ended.now }
+    ensures before { IsBelow (λ t. t) nat_cmp ended.now tx result }
+{
+    if ended.len() <= NEAR {
+        return 0;
+    }
+    let from = ended.len() - NEAR;
+    if ended[from - 1].number() < tx.number() {
+        from
+    } else {
+        0
+    }
+}
+
+// Where the transaction is among these, or where it would go, by a binary search.
+fn search_all(ended: &[Tx], tx: Tx) -> Result<usize, usize>
     requires { IsRisingBy (λ t. t) nat_cmp ended.now }
     ensures found { IfOk result (IsAt (λ t. t) ended.now tx) }
     ensures absent { IfErr result (IsGapFor (λ t. t) nat_cmp ended.now tx) }
