@@ -1,4 +1,4 @@
-use Rattle.std.proofs.Common.{◌≡◌, ◌∙◌, ◌<◌, ap, sym, arith}
+use Rattle.std.proofs.Common.{◌≡◌, ◌∙◌, ap, sym, arith}
 use Rattle.sgt_site.specs.declared.readings.Reading.{Reading}
 use Rattle.sgt_site.proofs.Tails.{below-end}
 use Rattle.sgt_site.proofs.readings.near_end.Goals as goal

@@ -1,4 +1,4 @@
-use Rattle.std.proofs.Common.{◌≡◌, ◌∙◌, ◌<◌, ℕ, ap, sym, arith}
+use Rattle.std.proofs.Common.{◌≡◌, ℕ, arith}
 use Rattle.sgt_site.proofs.Tails.{below-end}
 use Rattle.sgt_site.proofs.site.near_end.Goals as goal
 
