@@ -1,5 +1,5 @@
 -- What an active transaction has read is no newer than its site.
-use Rattle.std.proofs.Common.{◌≡◌, ◌<◌, ◌≤◌, ◌+◌, ℕ, suc, List, length, take, Some, refl, ap, sym, ◌∙◌, subst, arith, Contains}
+use Rattle.std.proofs.Common.{◌≡◌, ◌<◌, ◌≤◌, ◌+◌, ℕ, suc, List, length, take, Some, refl, ap, subst, arith, Contains}
 use Rattle.std.specs.Prelude.{slice_get, Result, Ok, Err, IfErr}
 use Rattle.std.proofs.lemmas.List.{take_all}
 use Rattle.std.proofs.lemmas.Option.{slice_get_within}
