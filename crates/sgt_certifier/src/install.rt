@@ -33,6 +33,7 @@ fn changed_items(alloc: Global, touched: &[Touch], site: SiteNo) -> Result<Liste
             items.push(touch.item)?;
         }
     }
+    items.shrink_to_fit();
     Ok(Listed::new(items))
 }
 

@@ -21,10 +21,10 @@ use Rattle.sgt_names.specs.declared.entry.Change.{Change}
 use Rattle.sgt_names.proofs.Lists.{option_cases, middle_at, front_at}
 use Rattle.sgt_names.proofs.Places.{Contains_at, Contains-from_at, All-from_at, AllPairs_at, AllPairs-tail}
 use Rattle.sgt_names.proofs.Ranged.{find_none}
-use Rattle.sgt_site.specs.private.Cells.{touch_in}
+use Rattle.sgt_site.specs.private.Cells.{ItemsRise, touch_in}
 use Rattle.sgt_site.proofs.Appends.{chosen_at}
 use Rattle.sgt_site.proofs.Basics.{less_apart, apart_false}
-use Rattle.sgt_site.proofs.Parts.{ItemsRise, part-rises, touch-there, kept-touch, touch-kept}
+use Rattle.sgt_site.proofs.Parts.{part-rises, touch-there, kept-touch, touch-kept}
 use Rattle.sgt_certifier.proofs.Members.{cons_cases, cons_here, cons_later, nil_none, filter_member, place_cases, place_right}
 use Rattle.sgt_core.specs.Core.{comes_before, change_in, put_in}
 

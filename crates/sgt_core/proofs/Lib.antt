@@ -27,6 +27,7 @@ pub mod Total
 pub mod Examples
 pub mod Refusals
 pub mod Standing
+pub mod Versions
 pub mod Windows
 pub mod Drafting
 pub mod Redrafting

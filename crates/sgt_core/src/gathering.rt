@@ -1,6 +1,7 @@
 //! A transaction is gathered at a site: its pledge there, and its edges.
 
-ghost use Rattle.std.specs.Prelude.{◌≡◌, ◌≢◌, ◌↔◌, ◌++◌, ◌<◌, Some, Any, length, slice_get, IsTrue, IfOk, OnOk, OnErr};
+ghost use Rattle.std.specs.Prelude.{◌≡◌, ◌≢◌, ◌↔◌, ◌++◌, ◌<◌, Some, Any, length, slice_get, IsTrue, IfOk, IfErr, OnOk, OnErr};
+ghost use Rattle.sgt_edges.specs.Edges.{SeesTooNew};
 ghost use Rattle.sgt_core.specs.Gathered.{AreGiven, PledgesAt, step_with, IsReleased, AreReleased, IsMissedAt};
 ghost use Rattle.sgt_core.specs.declared.machine.Place.{Place as APlace};
 ghost use Rattle.sgt_core.specs.declared.machine.Part.TheVariants.{Idle};
@@ -22,7 +23,10 @@ pub(crate) fn edges_at(
 ) -> Result<EdgeList, EdgeFault>
     requires site { at < length places.now }
     requires slot { (r : ARunning) × (slice_get table.now slot ≡ Some (Some r)) }
-    ensures { IfOk result (λ edges. AreGiven places.now table.now at slot edges) }
+    requires seen { (p : APlace) (r : ARunning) → slice_get places.now at ≡ Some p → slice_get table.now slot ≡ Some (Some r)
+        → SeesTooNew p.site r.draft.touched → ⊥ }
+    ensures ok { IfOk result (λ edges. AreGiven places.now table.now at slot edges) }
+    ensures memory { IfErr result (λ f. f ≡ EdgeFault.Memory) }
 {
     let place = &places[at];
     let _items = place.site.items();

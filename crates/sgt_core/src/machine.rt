@@ -11,6 +11,7 @@ ghost use Rattle.sgt_site.specs.declared.fault.SiteFault.TheVariants.{BadItems};
 ghost use Rattle.sgt_core.specs.declared.machine.Part.TheVariants.{Idle};
 ghost use Rattle.sgt_core.specs.declared.machine.Place.{Place as APlace};
 ghost use Rattle.sgt_core.specs.Core.{CoreState, fresh};
+ghost use Rattle.sgt_edges.specs.Edges.{SeesTooNew};
 ghost use Rattle.sgt_core.specs.Gathered.{GathersAt, AreReleased};
 ghost use Rattle.sgt_core.specs.Step.{IsOwnOpen, IsOtherOpen, IsOfSite, tx_in, IsRefused, MayStep};
 ghost use Rattle.sgt_core.specs.Machine.{parts_of, StandsFor, Stands, GoesOn, IsSlotOf, RefusesItem, RefusesSites, AreOpened, Redrafts, ChangesTo, ReadsTo, ReadsAt, HasRoomAt, close_fault};
@@ -20,7 +21,7 @@ use crate::gathering::{add_edges, edges_at, is_gathered, pledge_at, release_all}
 use crate::reply::{CoreFault, Reply};
 use sgt_arena::{Handle, MAX_PLACES};
 use sgt_certifier::{Certifier, CertifierFault};
-use sgt_edges::EdgeList;
+use sgt_edges::{EdgeFault, EdgeList};
 use sgt_names::{Draft, Holding, Item, Listed, Seen, SiteNo, Tx, Value};
 use sgt_site::{Site, SiteFault};
 use std::alloc::{AllocError, Global};
@@ -270,12 +271,16 @@ impl Machine {
     fn gather_at(&mut self, tx: Tx, slot: usize, at: usize) -> Result<(), CoreFault>
         requires site { at < length self.old.places.items }
         requires slot { (r : ARunning) × (slice_get self.old.running.items slot ≡ Some (Some r)) }
+        requires seen { (p : APlace) (r : ARunning) → slice_get self.old.places.items at ≡ Some p
+            → slice_get self.old.running.items slot ≡ Some (Some r) → SeesTooNew p.site r.draft.touched → ⊥ }
         ensures ok { OnOk result (GathersAt (parts_of self.old) (parts_of self.new) tx slot at) }
         ensures err { OnErr result (parts_of self.new ≡ record (parts_of self.old) { step = self.new.step }) }
     {
         let table = self.running.as_slice();
-        let Ok(more) = edges_at(self.alloc, self.places.as_slice(), table, at, slot) else {
-            return Err(CoreFault::Memory);
+        let more = match edges_at(self.alloc, self.places.as_slice(), table, at, slot) {
+            Ok(more) => more,
+            Err(EdgeFault::Memory) => return Err(CoreFault::Memory),
+            Err(EdgeFault::SeenTooNew) => unreachable!(),
         };
         if add_edges(&mut self.step, tx, more).is_err() {
             return Err(CoreFault::Memory);

@@ -2,4 +2,8 @@
 #![tactic(auto)]
 
 #[cfg(test)]
+mod model;
+#[cfg(test)]
+mod random_runs;
+#[cfg(test)]
 mod tests;

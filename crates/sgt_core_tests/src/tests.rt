@@ -115,3 +115,24 @@ fn lost_update(rt: HostRuntime) -> Result<(), Fail> {
     assert!(rt; answers(&mut core, &ended));
     Ok(())
 }
+
+// Whether so many transactions begin, one after another, and no further one: the window is full.
+fn fills(core: &mut Core, places: u64) -> bool {
+    for number in 0..places {
+        match core.step(Event::Begin) {
+            Reply::Begun { tx } if u64::from(tx.number()) == number.saturating_add(1) => {}
+            _ => return false,
+        }
+    }
+    core.step(Event::Begin) == fault(CoreFault::WindowFull)
+}
+
+#[test]
+fn full_window(rt: HostRuntime) -> Result<(), Fail> {
+    let alloc = rt.alloc();
+    let sites = vec![in alloc; site(alloc, 5)?]?;
+    let mut core = Core::new(alloc, sites.as_slice())?;
+    assert!(rt; fills(&mut core, 4096));
+    assert_eq!(rt; core.active(), 4096);
+    Ok(())
+}

@@ -64,4 +64,11 @@ impl EdgeList {
     {
         self.edges.as_slice()
     }
+
+    /// Gives the room back that isn't used.
+    pub(crate) fn shrink(&mut self)
+        ensures { self.new ≡ self.old }
+    {
+        self.edges.shrink_to_fit();
+    }
 }

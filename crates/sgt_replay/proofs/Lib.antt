@@ -1,4 +1,5 @@
 pub mod OneInput
 pub mod Reader
 pub mod Running
+pub mod Writing
 pub mod OneText

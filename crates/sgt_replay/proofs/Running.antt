@@ -68,14 +68,14 @@ replies-more m n o lines line reply text out out' so answers after c stands =
     )
 
 -- the run ends with the bundle
-pub ends-valid : (m : Parts) (b : Logs) (out mid new bytes text : List ℕ) → ((c : CoreState) → StandsFor m c → b ≡ bundle_of c) → IsValid b
-    → ((c : CoreState) → StandsFor m c → c.certifier.active ≡ []) → text ≡ text_of b → mid ≡ out ++ codes "---\n" → new ≡ mid ++ bytes → bytes ≡ text
-    → (c : CoreState) → StandsFor m c → (ending : List ℕ) × EndsWith c outcome.Yes ending × (new ≡ out ++ ending)
-ends-valid m b out mid new bytes text same valid idle spelled first after read c stands =
+pub ends-valid : (m : Parts) (b : Logs) (out mid bytes : List ℕ) → ((c : CoreState) → StandsFor m c → b ≡ bundle_of c) → IsValid b
+    → ((c : CoreState) → StandsFor m c → c.certifier.active ≡ []) → bytes ≡ text_of b → mid ≡ out ++ codes "---\n"
+    → (c : CoreState) → StandsFor m c → (ending : List ℕ) × EndsWith c outcome.Yes ending × (mid ++ bytes ≡ out ++ ending)
+ends-valid m b out mid bytes same valid idle spelled first c stands =
     let e = same c stands in (
       codes "---\n" ++ text_of (bundle_of c),
       (idle c stands, subst IsValid e valid, refl),
-      after ∙ ap₂ (λ p q. p ++ q) first (read ∙ spelled ∙ ap text_of e) ∙ append_assoc out (codes "---\n") (text_of (bundle_of c)),
+      ap₂ (λ p q. p ++ q) first (spelled ∙ ap text_of e) ∙ append_assoc out (codes "---\n") (text_of (bundle_of c)),
     )
 
 -- ---- the sites of an input are items that a core is made of

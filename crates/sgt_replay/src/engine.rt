@@ -1,6 +1,8 @@
 //! The replay of all that a reader gives.
 
 ghost use Rattle.std.specs.Prelude.{◌≡◌, ◌≢◌, ◌⊎◌, ◌<◌, ◌≤◌, ◌++◌, ℕ, List, Option, Err, All, length, map, OnOk, OnErr, IfOk, IfSome, IsErrOf};
+ghost use Rattle.std.specs.Io.KnownBytes.{Appends};
+ghost use Rattle.sgt_names.specs.Device.{CountsFailures, WritesFront};
 ghost use Rattle.sgt_names.specs.Limits.{max_sites};
 ghost use Rattle.sgt_notation.specs.Events.{IsEventLine, IsSiteLine};
 ghost use Rattle.sgt_notation.specs.Limits.{most_reads};
@@ -14,7 +16,7 @@ use crate::input::{Input, Reading};
 use crate::reading::read_input;
 use crate::reply::write_reply;
 use sgt_core::{Core, CoreFault, Reply};
-use sgt_names::{EngineFail, Holding, Listed, Outcome, Sink, Source, write_all};
+use sgt_names::{EngineFail, Failed, Holding, Listed, Outcome, Sink, Source, write_all};
 use sgt_notation::{EventLine, NotationFault, SiteLine, push_number};
 use sgt_site::SiteFault;
 use std::alloc::{AllocError, Global};
@@ -48,22 +50,34 @@ fn write_replies(core: &mut Core, lines: &[EventLine], out: &mut Vec<u8>) -> Res
     Ok(())
 }
 
-/// Writes how the run ends. Err: memory ran out.
-fn write_ending(alloc: Global, core: &Core, out: &mut Vec<u8>) -> Result<Outcome, AllocError>
-    requires { (c : CoreState) × StandsFor core.now c }
-    ensures { IfOk result (λ outcome. (c : CoreState) → StandsFor core.now c
-        → (ending : List ℕ) × EndsWith c outcome ending × (out.new.items ≡ out.old.items ++ ending)) }
+/// How a run ended, and the text of its bundle: none where there is none.
+#[derive(Drop)]
+struct Ending {
+    outcome: Outcome,
+    bundle: Vec<u8>,
+}
+
+/// Writes how the run ends, but for the bundle, which it gives. The core is given up before. Err: memory ran out.
+fn write_ending(alloc: Global, core: Core, out: &mut Vec<u8>) -> Result<Ending, AllocError>
+    requires { (c : CoreState) × StandsFor core c }
+    ensures { IfOk result (λ end. (c : CoreState) → StandsFor core c
+        → (ending : List ℕ) × EndsWith c end.outcome ending × (out.new.items ++ end.bundle.items ≡ out.old.items ++ ending)) }
 {
     match core.bundle(alloc) {
         Ok(bundle) => {
-            let text = bundle.to_text(alloc)?;
+            drop(core);
             out.extend_from_slice(b"---\n")?;
-            out.extend_from_slice(text.as_slice())?;
-            Ok(Outcome::Yes)
+            Ok(Ending {
+                outcome: Outcome::Yes,
+                bundle: bundle.to_text(alloc)?,
+            })
         }
         Err(CoreFault::ActiveLeft) => {
             out.extend_from_slice(b"! E8\n")?;
-            Ok(Outcome::No)
+            Ok(Ending {
+                outcome: Outcome::No,
+                bundle: Vec::new(alloc),
+            })
         }
         Err(CoreFault::Memory) => Err(AllocError),
         Err(_) => unreachable!(),
@@ -81,11 +95,12 @@ fn items_of(alloc: Global, sites: Vec<SiteLine>) -> Result<Vec<Listed<Holding>>,
     Ok(items)
 }
 
-/// An outcome, and what is to be written.
+/// An outcome, and what is to be written: some text, and the bundle behind it.
 #[derive(Drop)]
 struct Answer {
     outcome: Outcome,
     text: Vec<u8>,
+    bundle: Vec<u8>,
 }
 
 /// A core over these sites. Err: memory ran out.
@@ -105,17 +120,22 @@ fn core_of(alloc: Global, sites: Vec<SiteLine>) -> Result<Core, AllocError>
     }
 }
 
-/// The text of a run over the input.
+/// The text of a run over the input. The events are given up once they are answered.
 fn run_text(alloc: Global, input: Input) -> Result<Answer, AllocError>
     requires { IsInput input }
-    ensures { IfOk result (λ answer. IsRunText input answer.outcome answer.text.items) }
+    ensures { IfOk result (λ answer. IsRunText input answer.outcome (answer.text.items ++ answer.bundle.items)) }
 {
     let Input { sites, events } = input;
     let mut core = core_of(alloc, sites.into_vec())?;
     let mut text = Vec::new(alloc);
     write_replies(&mut core, events.as_slice(), &mut text)?;
-    let outcome = write_ending(alloc, &core, &mut text)?;
-    Ok(Answer { outcome, text })
+    drop(events);
+    let Ending { outcome, bundle } = write_ending(alloc, core, &mut text)?;
+    Ok(Answer {
+        outcome,
+        text,
+        bundle,
+    })
 }
 
 fn unreadable_line(alloc: Global, line: u64, fault: NotationFault) -> Result<Vec<u8>, AllocError>
@@ -138,14 +158,27 @@ fn unreadable_line(alloc: Global, line: u64, fault: NotationFault) -> Result<Vec
 fn answer_to(alloc: Global, reading: Reading) -> Result<Answer, AllocError>
     requires { IsUsable reading }
     ensures { IfOk result (λ answer. (told : Option (List ℕ)) → IfSome told (λ bytes. IsRead bytes reading)
-        → IsAnswer told answer.outcome answer.text.items) }
+        → IsAnswer told answer.outcome (answer.text.items ++ answer.bundle.items)) }
 {
     match reading {
         Reading::Readable(input) => run_text(alloc, input),
         Reading::Unreadable { line, fault } => Ok(Answer {
             outcome: Outcome::Unreadable,
             text: unreadable_line(alloc, line, fault)?,
+            bundle: Vec::new(alloc),
         }),
+    }
+}
+
+/// Writes two texts, one behind the other. An Err is the writer's, as in `write_all`.
+fn write_both<W: Sink>(writer: &mut W, first: &[u8], second: &[u8]) -> Result<(), Failed>
+    ensures ok { OnOk result (Appends (W.holds writer.old) (W.holds writer.new) (first.now ++ second.now)) }
+    ensures err { OnErr result (WritesFront (W.holds writer.old) (W.holds writer.new) (first.now ++ second.now)) }
+    ensures fails { CountsFailures result (W.failures writer.old) (W.failures writer.new) }
+{
+    match write_all(writer, first) {
+        Ok(()) => write_all(writer, second),
+        Err(failed) => Err(failed),
     }
 }
 
@@ -175,7 +208,7 @@ pub fn replay<R: Source, W: Sink>(
 {
     let reading = read_input(alloc, reader)?;
     let answer = answer_to(alloc, reading)?;
-    match write_all(writer, answer.text.as_slice()) {
+    match write_both(writer, answer.text.as_slice(), answer.bundle.as_slice()) {
         Ok(()) => Ok(answer.outcome),
         Err(_) => Err(EngineFail::WriteFault),
     }

@@ -1,48 +1,74 @@
--- Loops over the cells, one place after another.
-use Rattle.std.proofs.Common.{◌≡◌, ℕ, zero, suc, ◌+◌, ◌<◌, ◌≤◌, false, List, [], ◌∷◌, length, get_or, set, drop, Some, refl, sym, ap, ap₂, ◌∙◌, subst, arith, inl, inr, length-set, All}
+-- Changes of the cells, one place or one item after another.
+use Rattle.std.proofs.Common.{◌≡◌, ℕ, zero, suc, ◌+◌, ◌<◌, false, List, [], ◌∷◌, length, get_or, drop, Some, refl, sym, ap, ap₂, ◌∙◌, subst, arith, inl, inr, length-set, All}
 use mathlib.Core.Bool.{false≢true}
 use Rattle.std.specs.Prelude.{slice_get, IsTrue, ◌↔◌, option_map}
 use Rattle.std.specs.Ordering.{nat_cmp}
 use Rattle.std.specs.Cmp.Lexicographic.{slice_cmp}
 use Rattle.std.specs.declared.cmp.Ordering.TheVariants.{Less}
 use Rattle.sgt_names.specs.Name.{Name}
-use Rattle.std.proofs.lemmas.Bool.{cases_lt, cases_order}
+use Rattle.std.proofs.lemmas.Bool.{cases_order}
 use Rattle.std.proofs.lemmas.Option.{same_Some, slice_get_within, slice_get-get_or, slice_get-map}
-use Rattle.sgt_names.specs.declared.draft.Touch.{Touch}
+use Rattle.sgt_names.specs.Ordered.{IsAt}
 use Rattle.sgt_names.proofs.Lists.{element_at, drop_next, map_at}
 use Rattle.sgt_names.proofs.Places.{All_at, All-from_at, AllPairs_at, AllPairs-from_at}
-use Rattle.sgt_site.specs.private.Cells.{Contents, items_of, CellsRise, IsTouched, AreChanged, ChangesAt, SameButRoom, HasPlace}
+use Rattle.sgt_site.specs.private.Cells.{Contents, items_of, CellsRise, AreChanged, ChangesAt}
+use Rattle.sgt_site.proofs.Basics.{less_apart}
 use Rattle.sgt_site.proofs.Inserts.{get_set_same, get_set_other}
 
--- the cells below a place were changed so, and the others are as they were
-pub record Done (R : Contents → Contents → Type 0) (i : ℕ) (old now : List Contents) : Type 0 where
-  pub as_many : length now ≡ length old
-  pub below : (n : ℕ) (c d : Contents) → n < i → slice_get old n ≡ Some c → slice_get now n ≡ Some d → R c d
-  pub above : (n : ℕ) → i ≤ n → slice_get now n ≡ slice_get old n
+-- a cell that was there before
+pub old_at : (R : Contents → Contents → Type 0) (old new : List Contents) → AreChanged R old new → (n : ℕ) (d : Contents) → slice_get new n ≡ Some d → (c : Contents) × (slice_get old n ≡ Some c) × R c d
+old_at R old new changed n d at =
+    let here = slice_get-get_or old n d (let lt = slice_get_within new n d at in omega (arith, lt, changed.as_many)) in
+    (get_or old n d, here, changed.each n (get_or old n d) d here at)
 
-module _ (R : Contents → Contents → Type 0) where
-  pub done-next : (i : ℕ) (old now next : List Contents) → Done R i old now → ChangesAt R i now next → Done R (i + 1) old next
-  done-next i old now next done change =
-      let within = slice_get_within now i change.before change.at in
-      let same = get_set_same now i change.after within in
-      record {
-        as_many = ap length change.others ∙ length-set now i change.after ∙ done.as_many;
-        below = λ n c d lt at_old at_next. elim (cases_order n i) [
-          | inl here ↦
-              let was : c ≡ change.before = same_Some c change.before (sym at_old ∙ sym (done.above n (omega arith)) ∙ ap (slice_get now) here ∙ change.at) in
-              let is : d ≡ change.after = same_Some d change.after (sym at_next ∙ ap (λ cs. slice_get cs n) change.others ∙ ap (slice_get (set now i change.after)) here ∙ same) in
-              rw (was, is) change.changed
-          | inr (inl less) ↦ done.below n c d less at_old (sym (ap (λ cs. slice_get cs n) change.others ∙ get_set_other now i n change.after (λ e. absurd (omega arith))) ∙ at_next)
-          | inr (inr more) ↦ absurd (omega arith)
-        ];
-        above = λ n le. ap (λ cs. slice_get cs n) change.others ∙ get_set_other now i n change.after (λ e. absurd (omega arith)) ∙ done.above n (omega arith);
-      }
+-- what holds of each cell and itself
+pub all-same : (R : Contents → Contents → Type 0) (cells : List Contents) → ((n : ℕ) (c : Contents) → slice_get cells n ≡ Some c → R c c) → AreChanged R cells cells
+all-same R cells same = record { as_many = refl; each = λ n c d at_c at_d. subst (R c) (same_Some c d (sym at_c ∙ at_d)) (same n c at_c) }
 
-  pub done-all : (i : ℕ) (old now : List Contents) → length old ≤ i → Done R i old now → AreChanged R old now
-  done-all i old now end done = record {
-    as_many = done.as_many;
-    each = λ n c d at_old at_now. let within = slice_get_within old n c at_old in done.below n c d (omega (arith, within, end)) at_old at_now;
+-- one change after another
+pub changed-twice : (R S T : Contents → Contents → Type 0) → (old mid new : List Contents) → ((n : ℕ) (c d e : Contents) → slice_get old n ≡ Some c → R c d → S d e → T c e) → AreChanged R old mid → AreChanged S mid new → AreChanged T old new
+changed-twice R S T old mid new both first second = record {
+  as_many = second.as_many ∙ first.as_many;
+  each = λ n c e at_c at_e.
+      let d = old_at S mid new second n e at_e in
+      both n c d.0 e at_c (first.each n c d.0 at_c d.1) d.2;
+}
+
+-- a change at one place, and what it leaves
+module _ (R : Contents → Contents → Type 0) (old new : List Contents) (n : ℕ) (change : ChangesAt R n old new) where
+  at_place : (d : Contents) → slice_get new n ≡ Some d → change.after ≡ d
+  at_place d at = same_Some change.after d (sym (get_set_same old n change.after (slice_get_within old n change.before change.at)) ∙ ap (λ cs. slice_get cs n) (sym change.others) ∙ at)
+
+  elsewhere : (m : ℕ) (d : Contents) → (m ≡ n → ⊥) → slice_get new m ≡ Some d → slice_get old m ≡ Some d
+  elsewhere m d apart at = sym (get_set_other old n m change.after apart) ∙ ap (λ cs. slice_get cs m) (sym change.others) ∙ at
+
+  -- of the cell there and of the others
+  pub changed-one : (S : Contents → Contents → Type 0) → ((d : Contents) → R change.before d → S change.before d) → ((m : ℕ) (c : Contents) → (m ≡ n → ⊥) → slice_get old m ≡ Some c → S c c) → AreChanged S old new
+  changed-one S here others = record {
+    as_many = ap length change.others ∙ length-set old n change.after;
+    each = λ m c d at_c at_d. elim (cases_order m n) [
+      | inl same ↦
+          let before : change.before ≡ c = same_Some change.before c (sym change.at ∙ ap (slice_get old) (sym same) ∙ at_c) in
+          let after : change.after ≡ d = at_place d (ap (slice_get new) (sym same) ∙ at_d) in
+          subst (λ (e : Contents). S e d) before (subst (S change.before) after (here change.after change.changed))
+      | inr (inl lt) ↦ by_other m c d (λ e. absurd (omega arith)) at_c at_d
+      | inr (inr gt) ↦ by_other m c d (λ e. absurd (omega arith)) at_c at_d
+    ];
   }
+    where
+      by_other : (m : ℕ) (c d : Contents) → (m ≡ n → ⊥) → slice_get old m ≡ Some c → slice_get new m ≡ Some d → S c d
+      by_other m c d apart at_c at_d = subst (S c) (same_Some c d (sym at_c ∙ elsewhere m d apart at_d)) (others m c apart at_c)
+
+-- cells at two places are of two items
+pub items-apart : (cells : List Contents) (x : Name) (m n : ℕ) (c : Contents) → CellsRise cells → IsAt (λ c. c.item) cells x n → (m ≡ n → ⊥) → slice_get cells m ≡ Some c → c.item ≡ x → ⊥
+items-apart cells x m n c rising at apart here same =
+    let there = slice_get-get_or cells n c at.within in
+    let of : (get_or cells n c).item ≡ x = at.is (get_or cells n c) there in
+    elim (cases_order m n) [
+      | inl is ↦ apart is
+      | inr (inl lt) ↦ less_apart c.item (get_or cells n c).item (AllPairs_at (λ (a b : Contents). slice_cmp nat_cmp a.item b.item ≡ Less) cells m n c (get_or cells n c) rising lt here there) (same ∙ sym of)
+      | inr (inr gt) ↦ less_apart (get_or cells n c).item c.item (AllPairs_at (λ (a b : Contents). slice_cmp nat_cmp a.item b.item ≡ Less) cells n m (get_or cells n c) c rising gt there here) (of ∙ sym same)
+    ]
 
 -- a test of all, one element after another: what is left passes exactly where the whole does
 module _ {A : Type 0} (P : A → Type 0) where
@@ -64,42 +90,6 @@ module _ {A : Type 0} (P : A → Type 0) where
 
   pub all-fail : (W : Type 0) (xs : List A) (n : ℕ) (a : A) → n < length xs → a ≡ get_or xs n a → (P a → ⊥) → All P (drop n xs) ↔ W → IsTrue false ↔ W
   all-fail W xs n a lt is fail left = (λ h. absurd (false≢true h), λ w. absurd (fail ((All_next xs n a lt is).0 (left.1 w)).0))
-
--- room in the cells so far, and then no more: all are as they were, but for room
-module _ (part : List Touch) where
-  same_room : (old now : List Contents) (i : ℕ) → Done (HasPlace part) i old now → AreChanged SameButRoom old now
-  same_room old now i done = record {
-    as_many = done.as_many;
-    each = λ n c d at_old at_now. elim (cases_lt n i) [
-      | inl lt ↦ (done.below n c d lt at_old at_now).0
-      | inr le ↦ let same : c ≡ d = same_Some c d (sym at_old ∙ sym (done.above n le) ∙ at_now) in subst (SameButRoom c) same (refl, omega arith)
-    ];
-  }
-
-  pub room-all : (old now : List Contents) (i : ℕ) → Done (HasPlace part) i old now → AreChanged SameButRoom old now
-  room-all old now i done = same_room old now i done
-
-  pub room-stopped : (old now next : List Contents) (i : ℕ) → Done (HasPlace part) i old now → ChangesAt SameButRoom i now next → AreChanged SameButRoom old next
-  room-stopped old now next i done change =
-      let was = same_room old now i done in
-      let within = slice_get_within now i change.before change.at in
-      record {
-        as_many = ap length change.others ∙ length-set now i change.after ∙ done.as_many;
-        each = λ n c d at_old at_next. elim (cases_order n i) [
-          | inl here ↦
-              let before : c ≡ change.before = same_Some c change.before (sym at_old ∙ sym (done.above n (omega arith)) ∙ ap (slice_get now) here ∙ change.at) in
-              let after : d ≡ change.after = same_Some d change.after (sym at_next ∙ ap (λ cs. slice_get cs n) change.others ∙ ap (slice_get (set now i change.after)) here ∙ get_set_same now i change.after within) in
-              rw (before, after) change.changed
-          | inr (inl less) ↦ was.each n c d at_old (sym (ap (λ cs. slice_get cs n) change.others ∙ get_set_other now i n change.after (λ e. absurd (omega arith))) ∙ at_next)
-          | inr (inr more) ↦ was.each n c d at_old (sym (ap (λ cs. slice_get cs n) change.others ∙ get_set_other now i n change.after (λ e. absurd (omega arith))) ∙ at_next)
-        ];
-      }
-
-  pub room-made : (old now : List Contents) (i : ℕ) → length old ≤ i → Done (HasPlace part) i old now → All (λ c. IsTouched part c.item → 0 < c.has_room) now
-  room-made old now i end done = All-from_at (λ (c : Contents). IsTouched part c.item → 0 < c.has_room) now (λ n d at.
-      let within = slice_get_within now n d at in
-      let was = slice_get-get_or old n d (let many = done.as_many in omega (arith, within, many)) in
-      (done.below n (get_or old n d) d (let many = done.as_many in omega (arith, within, many, end)) was at).1)
 
 -- a change of the cells that leaves their items leaves their order
 module _ (R : Contents → Contents → Type 0) (same : (c d : Contents) → R c d → d.item ≡ c.item) where

@@ -29,7 +29,7 @@ use Rattle.sgt_site.specs.declared.cell.Writer.{Writer}
 use Rattle.sgt_site.specs.declared.cell.Reader.{Reader}
 use Rattle.sgt_site.specs.declared.readings.Reading.{Reading}
 use Rattle.sgt_site.specs.State.{SiteState, Pledge, IsSite, IsCovered, IsReader, IsWant, LogsRead, handle_of, writer, writers_of, committed_in, change_entry, commit_block}
-use Rattle.sgt_site.specs.private.Cells.{Contents, AreChanged, IsNoted, touch_in, change_in, seen_in, adds, noted_writers, AddsReader}
+use Rattle.sgt_site.specs.private.Cells.{Contents, ItemsRise, AreChanged, IsNoted, touch_in, change_in, seen_in, adds, noted_writers, AddsReader}
 use Rattle.sgt_site.specs.private.Kept.{Spare, IsCell, IsKept}
 use Rattle.sgt_site.proofs.Appends.{get_cases, orderly-append, legal-append, LogsRead-append, LogsRead-cases}
 use Rattle.sgt_site.proofs.Projections.{all_given, ended_with_handle}
@@ -37,7 +37,7 @@ use Rattle.sgt_site.proofs.Inserts.{Contains-insert, AllPairs-insert}
 use Rattle.sgt_site.proofs.Changes.{changed-items}
 use Rattle.sgt_site.proofs.Keeps.{Ends, ended-one}
 use Rattle.sgt_site.proofs.Blocks.{commits-blocks, in_block, block_tx, at_end, block_ends, block_alone, block_orderly, block_follows, no_reads}
-use Rattle.sgt_site.proofs.Parts.{ItemsRise, part-rises, chosen_changes, kept-touch, touch-kept}
+use Rattle.sgt_site.proofs.Parts.{part-rises, chosen_changes, kept-touch, touch-kept}
 
 -- the handles with more of them
 handle_kept : (ws us : List Install) (t : ℕ) (h : Handle) → handle_of ws t ≡ Some h → handle_of (ws ++ us) t ≡ Some h

@@ -6,6 +6,9 @@ pub mod Projections
 pub mod Changes
 pub mod Blocks
 pub mod Parts
+pub mod Touching
+pub mod PendingReads
+pub mod Tails
 pub mod Keeps
 pub mod Pledges
 pub mod Refusals

@@ -11,7 +11,6 @@ use Rattle.std.proofs.lemmas.Bool.{cases_Bool}
 use Rattle.std.proofs.lemmas.Option.{same_Some}
 use Rattle.std.proofs.lemmas.Slice.Eq.{bytes_eq-Decides}
 use Rattle.sgt_names.specs.Name.{Name}
-use Rattle.sgt_names.specs.Ordered.{IsRisingBy}
 use Rattle.sgt_names.specs.Draft.{AreRising, place_of, place_cmp, writing_in, kept_of, kept_in}
 use Rattle.sgt_names.specs.declared.draft.Seen.{Seen}
 use Rattle.sgt_names.specs.declared.draft.Touch.{Touch}
@@ -22,12 +21,9 @@ use Rattle.sgt_names.proofs.Places.{Contains_at, Contains-from_at, All_at, AllPa
 use Rattle.sgt_names.proofs.Ranged.{find_first, find_none}
 use Rattle.sgt_names.proofs.Rising.{items-rise, kept_is}
 use Rattle.sgt_site.specs.State.{change_entry, commit_block}
-use Rattle.sgt_site.specs.private.Cells.{touch_in, change_in}
+use Rattle.sgt_site.specs.private.Cells.{ItemsRise, touch_in, change_in}
 use Rattle.sgt_site.proofs.Appends.{chosen_at, chosen_from, count_before}
 use Rattle.sgt_site.proofs.Basics.{less_apart, apart_false}
-
-abbrev pub ItemsRise : List Touch → Type 0
-ItemsRise part = IsRisingBy (λ (t : Touch). t.item) (slice_cmp nat_cmp) part
 
 pub part-rises : (n : ℕ) (part : List Touch) → All (λ t. t.site ≡ n) part → AreRising part → ItemsRise part
 part-rises n part here rising = AllPairs-from_at (λ (t u : Touch). slice_cmp nat_cmp t.item u.item ≡ Less) part (λ p q t u lt at_p at_q.

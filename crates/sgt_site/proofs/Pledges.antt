@@ -8,7 +8,7 @@ use Rattle.sgt_names.specs.Name.{Name}
 use Rattle.sgt_names.specs.declared.draft.Seen.{Seen}
 use Rattle.sgt_names.specs.declared.draft.Touch.{Touch}
 use Rattle.sgt_names.specs.Draft.{AreRising, at_site, kept_of, kept_in, writing_of, writing_in}
-use Rattle.sgt_names.specs.Entry.{item_of, Repeats}
+use Rattle.sgt_names.specs.Entry.{item_of, tx_of, Reads, Repeats}
 use Rattle.sgt_names.specs.Log.{names, IsOrderly}
 use Rattle.sgt_names.specs.declared.entry.Change.{Change}
 use Rattle.sgt_names.specs.declared.entry.Entry.{Entry}
@@ -17,13 +17,14 @@ use Rattle.sgt_names.specs.declared.entry.Holding.{Holding}
 use Rattle.sgt_names.proofs.Lists.{IsSome-value, All_in, map_at, Any_at, Any-from_at}
 use Rattle.sgt_names.proofs.Places.{AllPairs_at, Contains_at, Contains-from_at, All_at, All-from_at}
 use Rattle.sgt_names.proofs.Rising.{writing_is, kept_is, site-here, site-rising}
-use Rattle.sgt_site.specs.State.{SiteState, Pledge, IsSite, IsCovered, LogsRead, KeepsReads, version_at}
+use Rattle.sgt_site.specs.State.{SiteState, Pledge, IsSite, IsCovered, HasRead, LogsRead, KeepsReads, version_at}
 use Rattle.sgt_site.specs.Refused.{MayPledge}
-use Rattle.sgt_site.specs.private.Cells.{Contents, IsAnswering, InCells, KeepsItem, SameButRoom, AreChanged, items_of}
+use Rattle.sgt_site.specs.private.Cells.{Contents, InCells, KeepsItem, SameButRoom, AreChanged, items_of}
 use Rattle.sgt_site.specs.private.Kept.{Spare, HasRoom, IsCell, IsKept}
 use Rattle.sgt_site.proofs.Appends.{chosen_at, chosen_from, count_before}
 use Rattle.sgt_site.proofs.Inserts.{Contains-later}
 use Rattle.sgt_site.proofs.Changes.{changed-items}
+use Rattle.sgt_site.proofs.PendingReads.{read_logged}
 
 -- a value that is there
 some_is : {A : Type 0} (o : Option A) (a : A) → o ≡ Some a → IsSome o
@@ -132,8 +133,8 @@ module _ (s : SiteState) (cells : List Contents) (site : IsSite s) (same : items
       Any-from_at (λ (c : Contents). (c.item ≡ x) × Contains c.readings (record { tx = tx; seen = record { value = v; version = n } })) cells at.0 from.0 from.1
       (from.2, (cell.readings (record { tx = tx; seen = record { value = v; version = n } })).1 (subst (λ y. LogsRead s.entries tx y v n) (sym from.2) read))
 
-  pub keeps-from : All (λ t. t.site ≡ s.number → ForSome t.seen (InCells cells tx t.item)) touched → All (λ c. IsAnswering c.readings tx → KeepsItem touched s.number c.item) cells → KeepsReads s.entries tx (kept_in (at_site s.number touched))
-  keeps-from all_logged all_kept x v n = (kept_logged x v n, logged_kept)
+  pub keeps-from : All (λ t. t.site ≡ s.number → ForSome t.seen (InCells cells tx t.item)) touched → ((x : Name) → HasRead s.entries tx x → KeepsItem touched s.number x) → KeepsReads s.entries tx (kept_in (at_site s.number touched))
+  keeps-from all_logged own_kept x v n = (kept_logged x v n, logged_kept)
     where
       kept_logged : (y : Name) (w m : ℕ) → Contains (kept_in (at_site s.number touched)) (y, w, m) → LogsRead s.entries tx y w m
       kept_logged y w m has =
@@ -143,14 +144,11 @@ module _ (s : SiteState) (cells : List Contents) (site : IsSite s) (same : items
 
       logged_kept : LogsRead s.entries tx x v n → Contains (kept_in (at_site s.number touched)) (x, v, n)
       logged_kept read =
-          let has = in_cells x v n read in
-          let c = Any_at (λ (c : Contents). (c.item ≡ x) × Contains c.readings (record { tx = tx; seen = record { value = v; version = n } })) cells has in
-          let kept = All_at (λ (c : Contents). IsAnswering c.readings tx → KeepsItem touched s.number c.item) cells c.0 c.1 all_kept c.2 (record { value = v; version = n }, c.3.1) in
-          let t = Any_at (λ (t : Touch). (t.site ≡ s.number) × IsSome t.seen × (t.item ≡ c.1.item)) touched kept in
+          let kept = own_kept x (Any-from_at (λ e. (tx_of e ≡ tx) × Reads x e) s.entries read.place (Read tx x v) read.at (refl, refl)) in
+          let t = Any_at (λ (t : Touch). (t.site ≡ s.number) × IsSome t.seen × (t.item ≡ x)) touched kept in
           let seen = IsSome-value t.1.seen t.3.1 in
-          let item : t.1.item ≡ x = t.3.2 ∙ c.3.0 in
           let is_kept = kept-to s.number touched t.1 seen.0 (Contains-from_at touched t.0 t.1 t.2) t.3.0 seen.1 in
-          let in_x = subst (λ y. Contains (kept_in (at_site s.number touched)) (y, seen.0.value, seen.0.version)) item is_kept in
+          let in_x = subst (λ y. Contains (kept_in (at_site s.number touched)) (y, seen.0.value, seen.0.version)) t.3.2 is_kept in
           let one = one_read s.items s.entries tx x seen.0.value v seen.0.version n site.orderly (kept_logged x seen.0.value seen.0.version in_x) read in
           let same : seen.0 ≡ record { value = v; version = n } = λ i. record { value = one.0 i; version = one.1 i } in
           subst (λ (u : Seen). Contains (kept_in (at_site s.number touched)) (x, u.value, u.version)) same in_x
@@ -159,12 +157,12 @@ module _ (s : SiteState) (cells : List Contents) (site : IsSite s) (same : items
   keeps-logged keeps = All-from_at (λ (t : Touch). t.site ≡ s.number → ForSome t.seen (InCells cells tx t.item)) touched (λ k t at here seen some.
       in_cells t.item seen.value seen.version ((keeps t.item seen.value seen.version).0 (kept-to s.number touched t seen (Contains-from_at touched k t at) here some)))
 
-  pub keeps-kept : KeepsReads s.entries tx (kept_in (at_site s.number touched)) → All (λ c. IsAnswering c.readings tx → KeepsItem touched s.number c.item) cells
-  keeps-kept keeps = All-from_at (λ (c : Contents). IsAnswering c.readings tx → KeepsItem touched s.number c.item) cells (λ k c at answering.
-      let read = ((All_at (IsCell s.items s.installed s.entries) cells k c each at).readings (record { tx = tx; seen = answering.0 })).0 answering.1 in
-      let t = kept-from s.number touched c.item answering.0.value answering.0.version ((keeps c.item answering.0.value answering.0.version).1 read) in
+  pub keeps-own : KeepsReads s.entries tx (kept_in (at_site s.number touched)) → (x : Name) → HasRead s.entries tx x → KeepsItem touched s.number x
+  keeps-own keeps x has =
+      let read = read_logged s.entries tx x has in
+      let t = kept-from s.number touched x read.0 read.1 ((keeps x read.0 read.1).1 read.2) in
       let place = Contains_at touched t.0 t.1 in
-      Any-from_at (λ (t : Touch). (t.site ≡ s.number) × IsSome t.seen × (t.item ≡ c.item)) touched place.0 t.0 place.1 (t.2, some_is t.0.seen (record { value = answering.0.value; version = answering.0.version }) t.4, t.3))
+      Any-from_at (λ (t : Touch). (t.site ≡ s.number) × IsSome t.seen × (t.item ≡ x)) touched place.0 t.0 place.1 (t.2, some_is t.0.seen (record { value = read.0; version = read.1 }) t.4, t.3)
 
 module _ (s : SiteState) (cells new : List Contents) (ended : List ℕ) (spare more : Spare) (kept : IsKept s cells ended spare) (changed : AreChanged SameButRoom cells new) where
   old_at : (n : ℕ) (d : Contents) → slice_get new n ≡ Some d → (c : Contents) × (slice_get cells n ≡ Some c)
@@ -219,6 +217,3 @@ module _ (s : SiteState) (cells new : List Contents) (ended : List ℕ) (spare m
     where
       covered : IsCovered (record s { pledge = Some (record { tx = tx; part = at_site s.number touched }) }) (record { tx = tx; part = at_site s.number touched })
       covered = record { here = site-here s.number touched; rising = site-rising s.number touched rising; reads = may.same; known = may.known; active = may.active }
-
-pub as_they_are : (cells : List Contents) → AreChanged SameButRoom cells cells
-as_they_are cells = record { as_many = refl; each = λ n c d at_c at_d. subst (SameButRoom c) (same_Some c d (sym at_c ∙ at_d)) (refl, omega arith) }

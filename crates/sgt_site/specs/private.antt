@@ -1,3 +1,5 @@
 -- Words of private clauses.
 pub mod Cells
 pub mod Kept
+pub mod Pending
+pub mod Tails

@@ -1,9 +1,11 @@
 //! What a site keeps of an item.
 
-ghost use Rattle.std.specs.Prelude.{◌≡◌, ◌≤◌, ◌<◌, ◌∷◌, ◌++◌, [], ℕ, AllPairs, vec_len, vec_capacity};
+ghost use Rattle.std.specs.Prelude.{◌≡◌, ◌≤◌, ◌<◌, ◌∷◌, ◌++◌, [], ℕ, Some, true, false, leb, length, slice_get, AllPairs, vec_len, vec_capacity};
+ghost use Rattle.std.specs.List.Sorted.{IsPartitionPoint};
 ghost use Rattle.std.specs.List.{insert as inserted};
 ghost use Rattle.sgt_site.specs.State.{IsVersionWritten};
 ghost use Rattle.sgt_site.specs.private.Cells.{adds};
+ghost use Rattle.sgt_site.specs.declared.cell.Reader.{Reader as CommittedReader};
 
 use crate::readings::{Readings, insert};
 use sgt_arena::Handle;
@@ -204,8 +206,47 @@ fn add_reader(readers: &mut Vec<Reader>, reader: Reader)
     ensures items { (n : ℕ) × (readers.new.items ≡ inserted readers.old.items n reader) }
     ensures by_version { AllPairs (λ a b. a.version ≤ b.version) readers.new.items }
 {
-    let at = readers.partition_point(|r| r.version <= reader.version);
+    let at = behind(readers.as_slice(), reader.version);
     insert(readers, at, reader);
+}
+
+// How many of the last readers are looked at first.
+const NEAR: usize = 8;
+
+// How many read this version or an older one. What is read is mostly one of the last versions.
+fn behind(readers: &[Reader], version: u64) -> usize
+    requires { AllPairs (λ a b. a.version ≤ b.version) readers.now }
+    ensures within { result ≤ length readers.now }
+    ensures point { IsPartitionPoint (λ r. leb r.version version ≡ true) (λ r. leb r.version version ≡ false) readers.now result }
+{
+    let from = near_end(readers, version);
+    from + behind_all(&readers[from..], version)
+}
+
+// Where the last readers begin, if all before them read this version or an older one, and else the beginning.
+fn near_end(readers: &[Reader], version: u64) -> usize
+    requires { AllPairs (λ a b. a.version ≤ b.version) readers.now }
+    ensures within { result ≤ length readers.now }
+    ensures before { (n : ℕ) (r : CommittedReader) → n < result → slice_get readers.now n ≡ Some r → r.version ≤ version }
+{
+    if readers.len() <= NEAR {
+        return 0;
+    }
+    let from = readers.len() - NEAR;
+    if readers[from - 1].version <= version {
+        from
+    } else {
+        0
+    }
+}
+
+// How many of these read this version or an older one, by a binary search.
+fn behind_all(readers: &[Reader], version: u64) -> usize
+    requires { AllPairs (λ a b. a.version ≤ b.version) readers.now }
+    ensures within { result ≤ length readers.now }
+    ensures point { IsPartitionPoint (λ r. leb r.version version ≡ true) (λ r. leb r.version version ≡ false) readers.now result }
+{
+    readers.partition_point(|r| r.version <= version)
 }
 
 // Adds a writer. Where it writes, the version that it makes is the last written one.

@@ -4,7 +4,7 @@ ghost use Rattle.std.specs.Prelude.{◌≡◌, ◌+◌, ◌<◌, ◌≤◌, [], 
 ghost use Rattle.std.specs.Ordering.{nat_cmp};
 ghost use Rattle.std.specs.Cmp.Lexicographic.{slice_cmp};
 ghost use Rattle.sgt_names.specs.Ordered.{IsAt};
-ghost use Rattle.sgt_site.specs.private.Cells.{Contents, CellsRise, HasItem, values_of, IsFresh, IsTouched, touch_in, AreChanged, ChangesAt, SameButRoom, HasPlace, IsNoted};
+ghost use Rattle.sgt_site.specs.private.Cells.{Contents, CellsRise, HasItem, values_of, IsFresh, ItemsRise, IsTouched, touch_in, AreChanged, ChangesAt, SameButRoom, HasPlace, IsNoted, NotesItem};
 
 use crate::cell::{Cell, Install};
 use sgt_names::{Holding, Item, Seen, Touch, Tx};
@@ -35,7 +35,7 @@ impl Cells {
     ghost use Rattle.std.specs.Cmp.Lexicographic.{slice_cmp};
     ghost use Rattle.sgt_names.specs.Ordered.{IsRisingBy, IsAt};
     ghost use Rattle.sgt_names.specs.declared.draft.Seen.{Seen as Answer};
-    ghost use Rattle.sgt_site.specs.private.Cells.{Contents, CellsRise, HasItem, InCells, values_of, IsFresh, IsAnswering, AnswersAt, IsTouched, touch_in, AreChanged, SameButRoom, IsNoted};
+    ghost use Rattle.sgt_site.specs.private.Cells.{Contents, CellsRise, HasItem, InCells, values_of, IsFresh, IsAnswering, AnswersAt, ItemsRise, IsTouched, touch_in, AreChanged, SameButRoom, IsNoted};
 
     /// Cells of these items, which nobody has written or read.
     pub(crate) fn new(alloc: Global, items: &[Holding]) -> Result<Cells, AllocError>
@@ -101,9 +101,10 @@ impl Cells {
         reserve_all(&mut self.cells, part)
     }
 
-    /// Notes a commit in the cells of the items that it touches.
+    /// Notes a commit in the cells of the items that it touches, each once.
     pub(crate) fn note(&mut self, by: &Install, part: &[Touch])
-        requires { All (λ c. IsTouched part.now c.item → 0 < c.has_room) self.old }
+        requires once { ItemsRise part.now }
+        requires room { All (λ c. IsTouched part.now c.item → 0 < c.has_room) self.old }
         ensures { AreChanged (λ c d. IsNoted by.now (touch_in part.now c.item) c d) self.old self.new }
     {
         note_all(&mut self.cells, by, part)
@@ -136,69 +137,75 @@ fn order(cell: &Cell, item: &Item) -> Ordering
     cell.item().cmp(item)
 }
 
+// Makes room in the cells of the items.
 fn reserve_all(cells: &mut Vec<Cell>, part: &[Touch]) -> bool
+    requires { CellsRise cells.old.items }
     ensures same { AreChanged SameButRoom cells.old.items cells.new.items }
     ensures room { IsTrue result → All (λ c. IsTouched part.now c.item → 0 < c.has_room) cells.new.items }
 {
-    for i in 0..cells.len() {
-        if !reserve_at(cells, i, part) {
+    for t in part {
+        if !reserve_for(cells, t.item) {
             return false;
         }
     }
     true
 }
 
-fn reserve_at(cells: &mut Vec<Cell>, at: usize, part: &[Touch]) -> bool
+// Makes room in the cell of the item, if there is one.
+fn reserve_for(cells: &mut Vec<Cell>, item: Item) -> bool
+    requires { CellsRise cells.old.items }
+    ensures same { AreChanged SameButRoom cells.old.items cells.new.items }
+    ensures room { IsTrue result → All (λ c. c.item ≡ item → 0 < c.has_room) cells.new.items }
+{
+    match search(cells.as_slice(), item) {
+        Ok(at) => reserve_at(cells, at),
+        Err(_) => true,
+    }
+}
+
+fn reserve_at(cells: &mut Vec<Cell>, at: usize) -> bool
     requires { at < length cells.old.items }
     ensures same { ChangesAt SameButRoom at cells.old.items cells.new.items }
-    ensures room { IsTrue result → ChangesAt (HasPlace part.now) at cells.old.items cells.new.items }
+    ensures room { IsTrue result → ChangesAt HasPlace at cells.old.items cells.new.items }
 {
-    reserve(&mut cells[at], part)
+    reserve(&mut cells[at])
 }
 
-// Makes room in a cell, if its item is touched.
-fn reserve(cell: &mut Cell, part: &[Touch]) -> bool
+fn reserve(cell: &mut Cell) -> bool
     ensures same { SameButRoom cell.old cell.new }
-    ensures room { IsTrue result → HasPlace part.now cell.old cell.new }
+    ensures room { IsTrue result → HasPlace cell.old cell.new }
 {
-    touch_of(part, cell.item()).is_none() || cell.reserve().is_ok()
+    cell.reserve().is_ok()
 }
 
+// Notes a commit in the cells of the items that it touches, one after another.
 fn note_all(cells: &mut Vec<Cell>, by: &Install, part: &[Touch])
-    requires { All (λ c. IsTouched part.now c.item → 0 < c.has_room) cells.old.items }
+    requires rising { CellsRise cells.old.items }
+    requires once { ItemsRise part.now }
+    requires room { All (λ c. IsTouched part.now c.item → 0 < c.has_room) cells.old.items }
     ensures { AreChanged (λ c d. IsNoted by.now (touch_in part.now c.item) c d) cells.old.items cells.new.items }
 {
-    for i in 0..cells.len() {
-        note_at(cells, i, by, part);
-    }
-}
-
-fn note_at(cells: &mut Vec<Cell>, at: usize, by: &Install, part: &[Touch])
-    requires within { at < length cells.old.items }
-    requires room { (c : Contents) → slice_get cells.old.items at ≡ Some c → IsTouched part.now c.item → 0 < c.has_room }
-    ensures { ChangesAt (λ c d. IsNoted by.now (touch_in part.now c.item) c d) at cells.old.items cells.new.items }
-{
-    note(&mut cells[at], by, part);
-}
-
-// Notes a commit in a cell, if its item is touched.
-fn note(cell: &mut Cell, by: &Install, part: &[Touch])
-    requires { IsTouched part.now cell.old.item → 0 < cell.old.has_room }
-    ensures { IsNoted by.now (touch_in part.now cell.old.item) cell.old cell.new }
-{
-    if let Some(touch) = touch_of(part, cell.item()) {
-        cell.note(by, &touch);
-    }
-}
-
-// How the item is touched, if it is.
-fn touch_of(part: &[Touch], item: Item) -> Option<Touch>
-    ensures { result ≡ touch_in part.now item }
-{
     for t in part {
-        if t.item == item {
-            return Some(*t);
-        }
+        note_in(cells, by, t);
     }
-    None
+}
+
+// Notes a commit that touches an item in the item's cell, if there is one.
+fn note_in(cells: &mut Vec<Cell>, by: &Install, touch: &Touch)
+    requires rising { CellsRise cells.old.items }
+    requires room { All (λ c. c.item ≡ touch.now.item → 0 < c.has_room) cells.old.items }
+    ensures { AreChanged (NotesItem by.now touch.now) cells.old.items cells.new.items }
+{
+    match search(cells.as_slice(), touch.item) {
+        Ok(at) => note_at(cells, at, by, touch),
+        Err(_) => {}
+    }
+}
+
+fn note_at(cells: &mut Vec<Cell>, at: usize, by: &Install, touch: &Touch)
+    requires within { at < length cells.old.items }
+    requires room { (c : Contents) → slice_get cells.old.items at ≡ Some c → 0 < c.has_room }
+    ensures { ChangesAt (IsNoted by.now (Some touch.now)) at cells.old.items cells.new.items }
+{
+    cells[at].note(by, touch);
 }

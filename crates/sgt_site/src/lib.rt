@@ -5,6 +5,7 @@ mod cell;
 mod cells;
 mod fault;
 mod laws;
+mod pending;
 mod readings;
 mod site;
 

@@ -1,9 +1,10 @@
 //! The reads of an item.
 
-ghost use Rattle.std.specs.Prelude.{◌≡◌, ◌<◌, ◌≤◌, IfOk, IfErr, vec_len, vec_capacity};
+ghost use Rattle.std.specs.Prelude.{◌≡◌, ◌<◌, ◌≤◌, length, IfOk, IfErr, vec_len, vec_capacity};
 ghost use Rattle.std.specs.List.{insert as inserted};
 ghost use Rattle.std.specs.Ordering.{nat_cmp};
 ghost use Rattle.sgt_names.specs.Ordered.{IsRisingBy, IsAt, IsGapFor};
+ghost use Rattle.sgt_site.specs.private.Tails.{IsBelow};
 
 use sgt_names::{Seen, Tx};
 use std::alloc::{AllocError, Global};
@@ -72,8 +73,41 @@ impl Readings {
     }
 }
 
-// Where the transaction's read is, or where it would go.
+// How many of the last reads are looked at first.
+const NEAR: usize = 8;
+
+// Where the transaction's read is, or where it would go. Transactions that read are mostly among the last.
 fn search(readings: &[Reading], tx: Tx) -> Result<usize, usize>
+    requires { IsRisingBy (λ m. m.tx) nat_cmp readings.now }
+    ensures found { IfOk result (IsAt (λ m. m.tx) readings.now tx) }
+    ensures absent { IfErr result (IsGapFor (λ m. m.tx) nat_cmp readings.now tx) }
+{
+    let from = near_end(readings, tx);
+    match search_all(&readings[from..], tx) {
+        Ok(at) => Ok(from + at),
+        Err(at) => Err(from + at),
+    }
+}
+
+// Where the last reads begin, if all before them are of smaller transactions, and else the beginning.
+fn near_end(readings: &[Reading], tx: Tx) -> usize
+    requires { IsRisingBy (λ m. m.tx) nat_cmp readings.now }
+    ensures within { result ≤ length readings.now }
+    ensures before { IsBelow (λ m. m.tx) nat_cmp readings.now tx result }
+{
+    if readings.len() <= NEAR {
+        return 0;
+    }
+    let from = readings.len() - NEAR;
+    if readings[from - 1].tx.number() < tx.number() {
+        from
+    } else {
+        0
+    }
+}
+
+// Where the transaction's read is, or where it would go, by a binary search.
+fn search_all(readings: &[Reading], tx: Tx) -> Result<usize, usize>
     requires { IsRisingBy (λ m. m.tx) nat_cmp readings.now }
     ensures found { IfOk result (IsAt (λ m. m.tx) readings.now tx) }
     ensures absent { IfErr result (IsGapFor (λ m. m.tx) nat_cmp readings.now tx) }

@@ -4,13 +4,14 @@
 //! Logs, conflicts and "reads from" are those of Bernstein, Hadzilacos and Goodman, Concurrency Control and Recovery in Database
 //! Systems (1987), chapter 2.
 
-ghost use Rattle.std.specs.Prelude.{◌≡◌, ◌↔◌, ◌⊎◌, ℕ, ◌+◌, ◌<◌, ◌≤◌, Some, vec_len, vec_capacity, Contains, IsTrue, IfOk, IfErr};
+ghost use Rattle.std.specs.Prelude.{◌≡◌, ◌↔◌, ◌⊎◌, ℕ, ◌+◌, ◌<◌, ◌≤◌, Some, length, vec_len, vec_capacity, Contains, IsTrue, IfOk, IfErr};
 ghost use Rattle.std.specs.Ordering.{nat_cmp};
 ghost use Rattle.std.specs.declared.cmp.Ordering.TheVariants.{Less};
 ghost use Rattle.std.specs.Cmp.Lexicographic.{slice_cmp};
 ghost use Rattle.sgt_names.specs.Ordered.{IsRisingBy, IsAt, IsGapFor};
 ghost use Rattle.sgt_site.specs.State.{AreItems};
 ghost use Rattle.sgt_site.specs.private.Cells.{values_of};
+ghost use Rattle.sgt_site.specs.private.Tails.{IsBelow};
 
 mod blocks;
 mod pledges;
@@ -18,6 +19,7 @@ mod pledges;
 use crate::cell::{Cell, Install, Reader, Writer};
 use crate::cells::Cells;
 use crate::fault::SiteFault;
+use crate::pending::{PendingRead, add_read, drop_reads};
 use crate::readings::insert;
 use sgt_names::{Entry, Holding, Item, MAX_ITEMS, Seen, SiteNo, Touch, Tx};
 use std::alloc::{AllocError, Global};
@@ -37,12 +39,15 @@ pub struct Site {
     // whose pledge stands, and what its draft touches here
     pledged: Option<Tx>,
     part: Vec<Touch>,
+    // the reads of transactions that have no end here, by rising transaction
+    pending: Vec<PendingRead>,
 }
 
 impl Model for Site {
     ghost use Rattle.std.specs.Prelude.{◌-◌, vec_len, vec_capacity};
     ghost use Rattle.sgt_site.specs.State.{SiteState};
     ghost use Rattle.sgt_site.specs.private.Kept.{pledge_of, IsKept};
+    ghost use Rattle.sgt_site.specs.private.Pending.{ArePending};
 
     ghost Value = { SiteState };
 
@@ -64,7 +69,7 @@ impl Model for Site {
       log = vec_capacity s.log - vec_len s.log;
       installed = vec_capacity s.installed - vec_len s.installed;
       ended = vec_capacity s.ended - vec_len s.ended;
-    }) };
+    }) × ArePending s.pending.items s.log.items };
 }
 
 impl Site {
@@ -104,6 +109,7 @@ impl Site {
             ended: Vec::new(alloc),
             pledged: None,
             part: Vec::new(alloc),
+            pending: Vec::new(alloc),
         })
     }
 
@@ -143,8 +149,9 @@ impl Site {
     /// - S7: the pledge that stands is its own.
     /// - S4: there was no memory.
     ///
-    /// Searches the items, the reads of this one and the ended transactions, each in the logarithm of their number, and not the log.
-    /// The reads of this item by transactions of greater numbers move by a place.
+    /// Searches the items, the reads of this one, the ended transactions and the reads of the others, each in the logarithm of
+    /// their number, and not the log. The reads of this item by transactions of greater numbers move by a place, and so do all
+    /// reads of those that have no end.
     pub fn read(&mut self, tx: Tx, item: Item) -> Result<Seen, SiteFault>
         ensures value { IfOk result (λ seen. value_at self.old.items self.old.entries item ≡ Some seen.value) }
         ensures version { IfOk result (λ seen. seen.version ≡ version_at self.old.entries item) }
@@ -174,10 +181,14 @@ impl Site {
         if !make_room(&mut self.log, room) {
             return Err(SiteFault::Memory);
         }
+        if !make_room(&mut self.pending, 1) {
+            return Err(SiteFault::Memory);
+        }
         match self.cells.answer(at, tx) {
             Ok(seen) => {
                 let value = seen.value;
                 self.log.push_reserved(Entry::Read { tx, item, value });
+                add_read(&mut self.pending, PendingRead { tx, item });
                 Ok(seen)
             }
             Err(_) => Err(SiteFault::Memory),
@@ -185,7 +196,7 @@ impl Site {
     }
 
     /// Ends a transaction as withdrawn, under its pledge for whichever draft. Takes no memory; the cost is a search of the ended
-    /// transactions, of which those of greater numbers move by a place.
+    /// transactions, of which those of greater numbers move by a place, and a look at the reads of those that have no end.
     ///
     /// - S5: no pledge of the transaction stands.
     pub fn withdraw(&mut self, tx: Tx) -> Result<(), SiteFault>
@@ -199,6 +210,7 @@ impl Site {
         }
         self.log.push_reserved(Entry::Withdraw { tx });
         add_ended(&mut self.ended, tx);
+        drop_reads(&mut self.pending, tx);
         self.pledged = None;
         self.part.clear();
         Ok(())
@@ -323,8 +335,41 @@ fn comes_before(a: &Holding, b: &Holding) -> bool
     }
 }
 
-// Where the transaction is among those that have ended, or where it would go.
+// How many of the last that have ended are looked at first.
+const NEAR: usize = 64;
+
+// Where the transaction is among those that have ended, or where it would go. It is mostly looked for among the last.
 fn search(ended: &[Tx], tx: Tx) -> Result<usize, usize>
+    requires { IsRisingBy (λ t. t) nat_cmp ended.now }
+    ensures found { IfOk result (IsAt (λ t. t) ended.now tx) }
+    ensures absent { IfErr result (IsGapFor (λ t. t) nat_cmp ended.now tx) }
+{
+    let from = near_end(ended, tx);
+    match search_all(&ended[from..], tx) {
+        Ok(at) => Ok(from + at),
+        Err(at) => Err(from + at),
+    }
+}
+
+// Where the last begin, if all before them are smaller, and else the beginning.
+fn near_end(ended: &[Tx], tx: Tx) -> usize
+    requires { IsRisingBy (λ t. t) nat_cmp ended.now }
+    ensures within { result ≤ length ended.now }
+    ensures before { IsBelow (λ t. t) nat_cmp ended.now tx result }
+{
+    if ended.len() <= NEAR {
+        return 0;
+    }
+    let from = ended.len() - NEAR;
+    if ended[from - 1].number() < tx.number() {
+        from
+    } else {
+        0
+    }
+}
+
+// Where the transaction is among these, or where it would go, by a binary search.
+fn search_all(ended: &[Tx], tx: Tx) -> Result<usize, usize>
     requires { IsRisingBy (λ t. t) nat_cmp ended.now }
     ensures found { IfOk result (IsAt (λ t. t) ended.now tx) }
     ensures absent { IfErr result (IsGapFor (λ t. t) nat_cmp ended.now tx) }

@@ -75,6 +75,10 @@ pub record AnswersAt (old new : List Contents) (n tx : ℕ) (seen : Seen) : Type
   pub reads : IsAnswered cell answered tx
   pub others : new ≡ set old n answered
 
+-- the touched items of one site rise by their names, so each is touched once
+abbrev pub ItemsRise : List Touch → Type 0
+ItemsRise part = IsRisingBy (λ (t : Touch). t.item) (slice_cmp nat_cmp) part
+
 -- how an item is touched, if it is
 abbrev pub touch_in : List Touch → Name → Option Touch
 touch_in part x = find (λ t. bytes_eq t.item x) part
@@ -117,9 +121,9 @@ KeepsItem touched number x = Any (λ t. (t.site ≡ number) × IsSome t.seen × 
 abbrev pub SameButRoom : Contents → Contents → Type 0
 SameButRoom old new = (new ≡ record old { has_room = new.has_room }) × (old.has_room ≤ new.has_room)
 
--- the same cell, with room for one more writer and reader if its item is touched
-abbrev pub HasPlace : List Touch → Contents → Contents → Type 0
-HasPlace part old new = SameButRoom old new × (IsTouched part new.item → 0 < new.has_room)
+-- the same cell, with room for one more writer and reader
+abbrev pub HasPlace : Contents → Contents → Type 0
+HasPlace old new = SameButRoom old new × (0 < new.has_room)
 
 -- whether the change adds
 abbrev pub adds : Change → Bool
@@ -149,3 +153,9 @@ pub record IsNoted (i : Install) (touch : Option Touch) (old new : Contents) : T
   pub writers : new.writers ≡ old.writers ++ noted_writers i (change_in touch)
   pub readers : AddsReader i (seen_in touch) old.readers new.readers
   pub readings : new.readings ≡ old.readings
+
+-- the cell is noted where it is of the touched item, and else is as it was
+pub record NotesItem (i : Install) (t : Touch) (old new : Contents) : Type 0 where
+  pub item : new.item ≡ old.item
+  pub here : old.item ≡ t.item → IsNoted i (Some t) old new
+  pub other : (old.item ≡ t.item → ⊥) → new ≡ old

@@ -7,6 +7,7 @@ ghost use Rattle.sgt_site.specs.State.{change_entry, want_entry};
 use super::{Site, add_ended, is_pledged};
 use crate::cell::Install;
 use crate::fault::SiteFault;
+use crate::pending::drop_reads;
 use sgt_arena::Handle;
 use sgt_names::{Change, Draft, Entry, Item, SiteNo, Touch, Tx};
 
@@ -21,8 +22,8 @@ impl Site {
     ///
     /// - S5: no pledge of the transaction stands, or the draft reads or writes otherwise here than the one that was pledged.
     ///
-    /// Goes over the draft and, for each item of the site, over what the draft touches here. Where it read an item, the committed
-    /// readers of newer versions move by a place.
+    /// Goes over the draft, with a search of the items for each that it touches here, and over the reads of transactions that have
+    /// no end. Where it read an item, the committed readers of newer versions move by a place.
     pub fn install(&mut self, tx: Tx, handle: Handle, draft: &Draft) -> Result<(), SiteFault>
         ensures ok { OnOk result (self.new ≡ record self.old {
           entries = self.old.entries ++ commit_block tx (writing_in (at_site self.old.number draft.now.touched));
@@ -44,13 +45,14 @@ impl Site {
         self.cells.note(&install, self.part.as_slice());
         self.installed.push_reserved(install);
         add_ended(&mut self.ended, tx);
+        drop_reads(&mut self.pending, tx);
         self.pledged = None;
         self.part.clear();
         Ok(())
     }
 
     /// Ends a transaction as refused, under its pledge for this draft: what it asked for by rising item, and its end. No value
-    /// changes. Takes no memory, and goes over the draft.
+    /// changes. Takes no memory, and goes over the draft and the reads of transactions that have no end.
     ///
     /// - S5: no pledge of the transaction stands, or the draft reads or writes otherwise here than the one that was pledged.
     pub fn refuse(&mut self, tx: Tx, draft: &Draft) -> Result<(), SiteFault>
@@ -70,6 +72,7 @@ impl Site {
         log_wants(&mut self.log, tx, self.part.as_slice());
         self.log.push_reserved(Entry::Refuse { tx });
         add_ended(&mut self.ended, tx);
+        drop_reads(&mut self.pending, tx);
         self.pledged = None;
         self.part.clear();
         Ok(())

@@ -3,12 +3,14 @@
 ghost use Rattle.std.specs.Prelude.{◌≡◌, ◌↔◌, ◌<◌, Some, [], length, All, IsTrue, IsSome, vec_len, vec_capacity, ◌+◌};
 ghost use Rattle.std.specs.Option.{ForSome};
 ghost use Rattle.sgt_names.specs.Draft.{at_site};
-ghost use Rattle.sgt_site.specs.private.Cells.{IsAnswering, HasItem, InCells, KeepsItem};
+ghost use Rattle.sgt_site.specs.private.Cells.{HasItem, InCells, KeepsItem};
+ghost use Rattle.sgt_site.specs.private.Pending.{AreByTx};
 
 use super::{Site, has_ended, is_pledged, make_room};
-use crate::cell::{Cell, Install};
+use crate::cell::Install;
 use crate::cells::Cells;
 use crate::fault::SiteFault;
+use crate::pending::{PendingRead, reads_of};
 use sgt_names::{Draft, Entry, Item, Seen, SiteNo, Touch, Tx};
 
 impl Site {
@@ -28,7 +30,8 @@ impl Site {
     /// - S8: the draft's reads here aren't the transaction's in the log, each with its value and version.
     /// - S4: there was no memory.
     ///
-    /// Goes over the draft and, for each item of the site, over what the draft touches here; it doesn't go over the log.
+    /// Goes over the draft, with a search of the items for each that it touches here, and for each read of the transaction here;
+    /// it doesn't go over the log.
     pub fn pledge(&mut self, tx: Tx, draft: &Draft) -> Result<(), SiteFault>
         ensures ok { OnOk result (self.new ≡ record self.old {
           pledge = Some (record { tx = tx; part = at_site self.old.number draft.now.touched });
@@ -87,7 +90,13 @@ impl Site {
         if self.pledged.is_some() {
             return Err(SiteFault::PledgeOpen);
         }
-        if !keeps_reads(&self.cells, tx, self.number, touched) {
+        if !keeps_reads(
+            &self.cells,
+            self.pending.as_slice(),
+            tx,
+            self.number,
+            touched,
+        ) {
             return Err(SiteFault::DraftDiffers);
         }
         Ok(())
@@ -117,13 +126,20 @@ fn is_known(cells: &Cells, number: SiteNo, touch: &Touch) -> bool
 }
 
 // Whether the draft's reads at the site are those of the transaction.
-fn keeps_reads(cells: &Cells, tx: Tx, number: SiteNo, touched: &[Touch]) -> bool
+fn keeps_reads(
+    cells: &Cells,
+    pending: &[PendingRead],
+    tx: Tx,
+    number: SiteNo,
+    touched: &[Touch],
+) -> bool
+    requires { AreByTx pending.now }
     ensures logged { IsTrue result → All (λ t. t.site ≡ number → ForSome t.seen (InCells cells.now tx t.item)) touched.now }
-    ensures kept { IsTrue result → All (λ c. IsAnswering c.readings tx → KeepsItem touched.now number c.item) cells.now }
+    ensures kept { IsTrue result → All (λ r. r.tx ≡ tx → KeepsItem touched.now number r.item) pending.now }
     ensures differs { All (λ t. t.site ≡ number → ForSome t.seen (InCells cells.now tx t.item)) touched.now
-        → All (λ c. IsAnswering c.readings tx → KeepsItem touched.now number c.item) cells.now → IsTrue result }
+        → All (λ r. r.tx ≡ tx → KeepsItem touched.now number r.item) pending.now → IsTrue result }
 {
-    all_logged(cells, tx, number, touched) && all_kept(cells.as_slice(), tx, number, touched)
+    all_logged(cells, tx, number, touched) && all_kept(reads_of(pending, tx), number, touched)
 }
 
 // Whether each read that the draft keeps at the site is the transaction's.
@@ -154,23 +170,16 @@ fn is_same(there: Option<Seen>, seen: Seen) -> bool
     there == Some(seen)
 }
 
-// Whether the draft keeps each of the transaction's reads.
-fn all_kept(cells: &[Cell], tx: Tx, number: SiteNo, touched: &[Touch]) -> bool
-    ensures { IsTrue result ↔ All (λ c. IsAnswering c.readings tx → KeepsItem touched.now number c.item) cells.now }
+// Whether the draft keeps each of these reads.
+fn all_kept(own: &[PendingRead], number: SiteNo, touched: &[Touch]) -> bool
+    ensures { IsTrue result ↔ All (λ r. KeepsItem touched.now number r.item) own.now }
 {
-    for cell in cells {
-        if !is_kept(cell, tx, number, touched) {
+    for read in own {
+        if !keeps(number, touched, read.item) {
             return false;
         }
     }
     true
-}
-
-// Whether the draft keeps the transaction's read of the item, if there is one.
-fn is_kept(cell: &Cell, tx: Tx, number: SiteNo, touched: &[Touch]) -> bool
-    ensures { IsTrue result ↔ (IsAnswering cell.now.readings tx → KeepsItem touched.now number cell.now.item) }
-{
-    !cell.has_read(tx) || keeps(number, touched, cell.item())
 }
 
 // Whether the draft keeps a read of the item at the site.

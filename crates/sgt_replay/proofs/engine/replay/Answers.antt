@@ -1,4 +1,4 @@
-use Rattle.std.proofs.Common.{List, ℕ, inr, subst}
+use Rattle.std.proofs.Common.{List, ℕ, ◌++◌, ap₂, inr, subst}
 use Rattle.sgt_names.specs.Device.{WritesFront}
 use Rattle.sgt_replay.proofs.engine.replay.Goals as goal
 
@@ -8,7 +8,7 @@ returns-clause-front g c =
     let told = g.R.Source.tells c.args.reader.now in
     inr (
       answer.outcome,
-      answer.text.items,
+      answer.text.items ++ answer.bundle.items,
       c.in_ok-answer.ensures told c.in_ok-reading.ensures.read,
-      subst (λ (text : List ℕ). WritesFront (g.W.Sink.holds c.args.writer.now) (g.W.Sink.holds c.write_all.new.writer) text) c.as_slice.ensures.value c.in-Err.ensures.err,
+      subst (λ (text : List ℕ). WritesFront (g.W.Sink.holds c.args.writer.now) (g.W.Sink.holds c.write_both.new.writer) text) (ap₂ (λ (a b : List ℕ). a ++ b) c.as_slice.ensures.value c.as_slice-2.ensures.value) c.in-Err.ensures.err,
     )

@@ -1,9 +1,19 @@
 use Rattle.std.proofs.Common.{arith}
-use Rattle.sgt_site.proofs.Changes.{done-next, done-all}
+use Rattle.sgt_names.proofs.Lists.{element_at}
+use Rattle.sgt_site.proofs.Touching.{noted-none, noted-next, noted-rise, noted-all, next-room}
 use Rattle.sgt_site.proofs.cells.note_all.Goals as goal
 
-pub loop-i-preserved : goal.loop-i-preserved
-loop-i-preserved c = done-next _ _ _ _ _ c.loop-i.invariant c.note_at.ensures
+pub loop-t-init : goal.loop-t-init
+loop-t-init c = noted-none _ _ c.requires.once _
+
+pub note_in-requires-clause-rising : goal.note_in-requires-clause-rising
+note_in-requires-clause-rising c = noted-rise _ _ c.requires.once _ _ _ c.requires.rising c.loop-t.invariant
+
+pub note_in-requires-clause-room : goal.note_in-requires-clause-room
+note_in-requires-clause-room c = next-room _ _ c.requires.once _ _ _ _ (element_at _ _ _ c.loop-t-test.true c.t-item.is) c.requires.room c.loop-t.invariant
+
+pub loop-t-preserved : goal.loop-t-preserved
+loop-t-preserved c = noted-next _ _ c.requires.once _ _ _ _ _ (element_at _ _ _ c.loop-t-test.true c.t-item.is) c.loop-t.invariant c.note_in.ensures
 
 pub returns : goal.returns
-returns c = done-all _ _ _ _ (let long = c.args.cells.now.ok.0 in omega (arith, long, c.len-i-end.ensures, c.loop-i-test.false)) c.loop-i.invariant
+returns c = noted-all _ _ c.requires.once _ _ _ (omega (arith, c.loop-t-test.false)) c.loop-t.invariant

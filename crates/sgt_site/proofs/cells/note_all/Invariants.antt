@@ -1,7 +1,7 @@
-use Rattle.sgt_site.specs.private.Cells.{IsNoted, touch_in}
-use Rattle.sgt_site.proofs.Changes.{Done}
+use Rattle.sgt_site.specs.private.Cells.{AreChanged}
+use Rattle.sgt_site.proofs.Touching.{NotedSoFar}
 use Rattle.sgt_site.proofs.cells.note_all.Given as goal
 
--- the cells so far are noted
-abbrev pub invariant-loop-i : goal.invariant-loop-i
-invariant-loop-i l = Done (λ c d. IsNoted l.by (touch_in l.part c.item) c d) l.i l.fn.cells.items l.cells.items
+-- the cells of the items so far are noted
+abbrev pub invariant-loop-t : goal.invariant-loop-t
+invariant-loop-t l = AreChanged (NotedSoFar l.by l.part l.t-index) l.fn.cells.items l.cells.items

@@ -1,17 +1,15 @@
-use Rattle.std.proofs.Common.{ℕ, rules}
+use Rattle.std.proofs.Common.{◌≡◌, ℕ}
 use Rattle.std.specs.Ordering.{nat_cmp}
-use Rattle.std.proofs.lemmas.Cmp.{nat_cmp_total}
-use Rattle.std.proofs.lemmas.Fn.{always_returns_same}
-use Rattle.std.proofs.lemmas.Map.Lookups.{exact_unsigned}
-use Rattle.sgt_names.proofs.Ranged.{searched}
+use Rattle.std.specs.declared.cmp.Ordering.TheVariants.{Less}
+use Rattle.std.proofs.lemmas.List.{take_rest}
+use Rattle.sgt_site.proofs.Tails.{AllPairs-end, at-end, gap-end}
 use Rattle.sgt_site.proofs.site.search.Goals as goal
 
-pub returns-clause-found : goal.returns-clause-found
-returns-clause-found c =
-    let facts = c.binary_search_by.ensures in
-    (searched (λ (t : ℕ). t) nat_cmp nat_cmp_total exact_unsigned _ _ c.requires _ facts.bound (facts.position (λ m. nat_cmp m c.args.tx) (always_returns_same _ _ _ (λ a r g called. (search rules, search rules))))).0
+pub search_all-requires : goal.search_all-requires
+search_all-requires c = rw (take_rest c.args.ended.now c.near_end-from.result) (AllPairs-end (λ (a b : ℕ). nat_cmp a b ≡ Less) _ _ c.requires)
 
-pub returns-clause-absent : goal.returns-clause-absent
-returns-clause-absent c =
-    let facts = c.binary_search_by.ensures in
-    (searched (λ (t : ℕ). t) nat_cmp nat_cmp_total exact_unsigned _ _ c.requires _ facts.bound (facts.position (λ m. nat_cmp m c.args.tx) (always_returns_same _ _ _ (λ a r g called. (search rules, search rules))))).1
+pub returns-in-Ok-clause-found : goal.returns-in-Ok-clause-found
+returns-in-Ok-clause-found c = at-end _ nat_cmp _ _ _ c.near_end-from.ensures.within _ (rw (take_rest c.args.ended.now c.near_end-from.result) at c.in-Ok.ensures.found)
+
+pub returns-in-Err-clause-absent : goal.returns-in-Err-clause-absent
+returns-in-Err-clause-absent c = gap-end _ _ _ _ _ c.near_end-from.ensures.within _ c.near_end-from.ensures.before (rw (take_rest c.args.ended.now c.near_end-from.result) at c.in-Err.ensures.absent)

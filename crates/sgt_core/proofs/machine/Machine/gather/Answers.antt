@@ -12,6 +12,7 @@ use Rattle.sgt_core.proofs.Refusing.{refused_goes, step_open, gather_no_site, ga
 use Rattle.sgt_core.proofs.Runs.{gather_idle}
 use Rattle.sgt_core.proofs.Standing.{reached_kept}
 use Rattle.sgt_core.proofs.Stepping.{same_draft, gather_goes, gives_up, only_step}
+use Rattle.sgt_core.proofs.Versions.{not_too_new}
 use Rattle.sgt_core.proofs.machine.Machine.gather.Goals as goal
 
 pub returns-in-Err : goal.returns-in-Err
@@ -77,3 +78,6 @@ returns-in-Err-gather_at c = λ d s.
     let same = only_step m (parts_of c.gather_at.new.self) c.in-Err-gather_at.ensures.err in
     gives_up m d s c.args.tx no_other (gather_idle d c.args.tx c.args.site (reached_kept d s.reached) may) (parts_of c.gather_at.new.self) (parts_of c.give_up.new.self) same.0 same.1
     c.give_up.ensures.places c.give_up.ensures.rest (Gather c.args.tx c.args.site) _ c.refused-in-Err-gather_at.ensures (may, refl)
+
+pub gather_at-requires-clause-seen : goal.gather_at-requires-clause-seen
+gather_at-requires-clause-seen c = λ p r here runs too. not_too_new (parts_of c.args.self.now) c.requires.0 c.requires.1 c.in-Ok.slot _ p r here runs too

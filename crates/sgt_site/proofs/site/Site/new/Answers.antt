@@ -1,7 +1,11 @@
 use Rattle.std.proofs.Common.{refl}
 use Rattle.sgt_site.proofs.Fresh.{kept-fresh}
+use Rattle.sgt_site.proofs.PendingReads.{pending-fresh}
 use Rattle.sgt_site.proofs.site.Site.new.Goals as goal
 
 pub invariant_of-result : goal.invariant_of-result
 invariant_of-result c =
-    rw (c.in-Ok.ensures, c.new-2.ensures.items, c.new-3.ensures.items, c.new-4.ensures.items) (kept-fresh c.args.number c.args.items.now c.in-Ok-new.cells _ (c.if-not-are_items.ensures.0 refl) c.in-Ok-new.ensures.items c.in-Ok-new.ensures.fresh)
+    rw (c.in-Ok.ensures, c.new-2.ensures.items, c.new-3.ensures.items, c.new-4.ensures.items, c.new-6.ensures.items) (
+      kept-fresh c.args.number c.args.items.now c.in-Ok-new.cells _ (c.if-not-are_items.ensures.0 refl) c.in-Ok-new.ensures.items c.in-Ok-new.ensures.fresh,
+      pending-fresh,
+    )

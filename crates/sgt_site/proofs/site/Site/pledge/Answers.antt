@@ -2,7 +2,8 @@ use Rattle.std.proofs.Common.{refl, ap, arith, length}
 use Rattle.std.proofs.lemmas.Result.{err_from_is_err_and}
 use Rattle.sgt_site.specs.private.Kept.{pledge_of}
 use Rattle.sgt_site.proofs.Keeps.{no_pledge}
-use Rattle.sgt_site.proofs.Pledges.{kept-open, kept-pledge, as_they_are}
+use Rattle.sgt_site.proofs.Pledges.{kept-open, kept-pledge}
+use Rattle.sgt_site.proofs.Touching.{as_they_are}
 use Rattle.sgt_site.proofs.site.Site.pledge.Goals as goal
 
 pub returns-in_err-may_pledge-clause-refused : goal.returns-in_err-may_pledge-clause-refused
@@ -14,24 +15,27 @@ pub invariant_of-self-then-not-make_rooms : goal.invariant_of-self-then-not-make
 invariant_of-self-then-not-make_rooms c =
     let may = rw (← c.self.view_is) at c.in_ok-may_pledge.ensures.allowed in
     let free = no_pledge c.self.inside.pledged c.self.inside.part.items may.free in
-    rw (c.make_rooms.ensures.log.0, c.make_rooms.ensures.installed.0, c.make_rooms.ensures.ended.0) (kept-open _ _ _ _ _ _ c.self.invariant (as_they_are _) _ (ap (λ o. pledge_of o c.copy_part.new.part.items) free))
+    rw (c.make_rooms.ensures.log.0, c.make_rooms.ensures.installed.0, c.make_rooms.ensures.ended.0) (kept-open _ _ _ _ _ _ c.self.invariant.0 (as_they_are _) _ (ap (λ o. pledge_of o c.copy_part.new.part.items) free), c.self.invariant.1)
 
 pub invariant_of-self-then-not-reserve : goal.invariant_of-self-then-not-reserve
 invariant_of-self-then-not-reserve c =
     let may = rw (← c.self.view_is) at c.in_ok-may_pledge.ensures.allowed in
     let free = no_pledge c.self.inside.pledged c.self.inside.part.items may.free in
-    rw (c.make_rooms.ensures.log.0, c.make_rooms.ensures.installed.0, c.make_rooms.ensures.ended.0) (kept-open _ _ _ _ _ _ c.self.invariant c.reserve.ensures.same _ (ap (λ o. pledge_of o c.copy_part.new.part.items) free))
+    rw (c.make_rooms.ensures.log.0, c.make_rooms.ensures.installed.0, c.make_rooms.ensures.ended.0) (kept-open _ _ _ _ _ _ c.self.invariant.0 c.reserve.ensures.same _ (ap (λ o. pledge_of o c.copy_part.new.part.items) free), c.self.invariant.1)
 
 pub invariant_of-self-2 : goal.invariant_of-self-2
 invariant_of-self-2 c =
     let may = rw (← c.self.view_is, c.touched-touched.ensures.all) at c.in_ok-may_pledge.ensures.allowed in
     let part = rw c.touched-touched.ensures.all at (c.if-not-copy_part.ensures refl) in
-    rw (c.make_rooms.ensures.log.0, c.make_rooms.ensures.installed.0, c.make_rooms.ensures.ended.0, part) (kept-pledge _ _ _ _ _ _ c.self.invariant c.reserve.ensures.same _ _ c.touched-touched.ensures.rising may record {
-      log = let same = ap length part in let as_long = ap length c.as_slice-part.ensures.value in omega (arith, same, as_long, c.if-not-make_rooms.ensures.log_room refl, c.make_rooms.ensures.log.1);
-      installed = omega (arith, c.if-not-make_rooms.ensures.installed_room refl, c.make_rooms.ensures.installed.1);
-      ended = omega (arith, c.if-not-make_rooms.ensures.ended_room refl, c.make_rooms.ensures.ended.1);
-      touched = rw (← part, ← c.as_slice-part.ensures.value) (c.if-not-reserve.ensures.room refl);
-    })
+    rw (c.make_rooms.ensures.log.0, c.make_rooms.ensures.installed.0, c.make_rooms.ensures.ended.0, part) (
+      kept-pledge _ _ _ _ _ _ c.self.invariant.0 c.reserve.ensures.same _ _ c.touched-touched.ensures.rising may record {
+        log = let same = ap length part in let as_long = ap length c.as_slice-part.ensures.value in omega (arith, same, as_long, c.if-not-make_rooms.ensures.log_room refl, c.make_rooms.ensures.log.1);
+        installed = omega (arith, c.if-not-make_rooms.ensures.installed_room refl, c.make_rooms.ensures.installed.1);
+        ended = omega (arith, c.if-not-make_rooms.ensures.ended_room refl, c.make_rooms.ensures.ended.1);
+        touched = rw (← part, ← c.as_slice-part.ensures.value) (c.if-not-reserve.ensures.room refl);
+      },
+      c.self.invariant.1,
+    )
 
 pub returns-clause-ok : goal.returns-clause-ok
 returns-clause-ok c =

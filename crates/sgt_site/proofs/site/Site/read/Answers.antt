@@ -3,56 +3,71 @@ use Rattle.std.proofs.Common.{◌∙◌, ap, length, arith, refl, sym, subst}
 use Rattle.std.proofs.lemmas.Option.{same_Some, slice_get_read}
 use Rattle.sgt_site.specs.private.Cells.{Contents, IsAnswering}
 use Rattle.sgt_site.proofs.Keeps.{found_cell, found_known, reads-here, answered-value, kept-read, kept-roomier, pledged_is, pledged_by, pledged_part}
+use Rattle.sgt_site.specs.State.{HasEnded}
+use Rattle.sgt_site.proofs.PendingReads.{pending-read}
 use Rattle.sgt_site.proofs.site.Site.read.Goals as goal
 
 pub has_ended-requires : goal.has_ended-requires
-has_ended-requires c = rw c.as_slice-2.ensures.value c.self.invariant.ends_rise
+has_ended-requires c = rw c.as_slice-2.ensures.value c.self.invariant.0.ends_rise
 
 pub returns-in_default-clause-refused : goal.returns-in_default-clause-refused
-returns-in_default-clause-refused c = rw (← c.self.view_is, ← c.self.invariant.names_same) c.in_default.ensures.absent
+returns-in_default-clause-refused c = rw (← c.self.view_is, ← c.self.invariant.0.names_same) c.in_default.ensures.absent
 
 pub returns-then-has_read-clause-refused : goal.returns-then-has_read-clause-refused
 returns-then-has_read-clause-refused c =
-    let cell = found_cell _ _ _ _ _ _ _ c.self.invariant.each c.in-Some.ensures.found (rw c.as_slice.ensures.cells at c.index-as_slice-at.is) in
+    let cell = found_cell _ _ _ _ _ _ _ c.self.invariant.0.each c.in-Some.ensures.found (rw c.as_slice.ensures.cells at c.index-as_slice-at.is) in
     rw (← c.self.view_is) (
-      found_known _ _ _ _ c.self.invariant.names_same c.in-Some.ensures.found,
-      rw cell.0 at ((reads-here _ c.self.invariant.site c.index-as_slice-at.result cell.1 c.args.tx).0 (c.if-has_read.ensures.0 refl)),
+      found_known _ _ _ _ c.self.invariant.0.names_same c.in-Some.ensures.found,
+      rw cell.0 at ((reads-here _ c.self.invariant.0.site c.index-as_slice-at.result cell.1 c.args.tx).0 (c.if-has_read.ensures.0 refl)),
     )
 
 pub returns-then-has_ended-clause-refused : goal.returns-then-has_ended-clause-refused
 returns-then-has_ended-clause-refused c =
-    let cell = found_cell _ _ _ _ _ _ _ c.self.invariant.each c.in-Some.ensures.found (rw c.as_slice.ensures.cells at c.index-as_slice-at.is) in
+    let cell = found_cell _ _ _ _ _ _ _ c.self.invariant.0.each c.in-Some.ensures.found (rw c.as_slice.ensures.cells at c.index-as_slice-at.is) in
     rw (← c.self.view_is) (
       (
-        found_known _ _ _ _ c.self.invariant.names_same c.in-Some.ensures.found,
-        λ read. false≢true (c.if-has_read.ensures.1 ((reads-here _ c.self.invariant.site c.index-as_slice-at.result cell.1 c.args.tx).1 (rw cell.0 read))),
+        found_known _ _ _ _ c.self.invariant.0.names_same c.in-Some.ensures.found,
+        λ read. false≢true (c.if-has_read.ensures.1 ((reads-here _ c.self.invariant.0.site c.index-as_slice-at.result cell.1 c.args.tx).1 (rw cell.0 read))),
       ),
-      (c.self.invariant.ends c.args.tx).0 (rw c.as_slice-2.ensures.value at (c.if-has_ended.ensures.0 refl)),
+      (c.self.invariant.0.ends c.args.tx).0 (rw c.as_slice-2.ensures.value at (c.if-has_ended.ensures.0 refl)),
     )
 
 pub returns-then-is_pledged-clause-refused : goal.returns-then-is_pledged-clause-refused
 returns-then-is_pledged-clause-refused c =
-    let cell = found_cell _ _ _ _ _ _ _ c.self.invariant.each c.in-Some.ensures.found (rw c.as_slice.ensures.cells at c.index-as_slice-at.is) in
+    let cell = found_cell _ _ _ _ _ _ _ c.self.invariant.0.each c.in-Some.ensures.found (rw c.as_slice.ensures.cells at c.index-as_slice-at.is) in
     rw (← c.self.view_is) (
       (
         (
-          found_known _ _ _ _ c.self.invariant.names_same c.in-Some.ensures.found,
-          λ read. false≢true (c.if-has_read.ensures.1 ((reads-here _ c.self.invariant.site c.index-as_slice-at.result cell.1 c.args.tx).1 (rw cell.0 read))),
+          found_known _ _ _ _ c.self.invariant.0.names_same c.in-Some.ensures.found,
+          λ read. false≢true (c.if-has_read.ensures.1 ((reads-here _ c.self.invariant.0.site c.index-as_slice-at.result cell.1 c.args.tx).1 (rw cell.0 read))),
         ),
-        λ ended. false≢true (c.if-has_ended.ensures.1 (rw c.as_slice-2.ensures.value ((c.self.invariant.ends c.args.tx).1 ended))),
+        λ ended. false≢true (c.if-has_ended.ensures.1 (rw c.as_slice-2.ensures.value ((c.self.invariant.0.ends c.args.tx).1 ended))),
       ),
       (c.self.inside.part.items, pledged_is c.self.inside.pledged c.self.inside.part.items c.args.tx (c.if-is_pledged.ensures.0 refl)),
     )
 
 pub returns-then-not-make_room-clause-refused : goal.returns-then-not-make_room-clause-refused
 returns-then-not-make_room-clause-refused c =
-    let cell = found_cell _ _ _ _ _ _ _ c.self.invariant.each c.in-Some.ensures.found (rw c.as_slice.ensures.cells at c.index-as_slice-at.is) in
+    let cell = found_cell _ _ _ _ _ _ _ c.self.invariant.0.each c.in-Some.ensures.found (rw c.as_slice.ensures.cells at c.index-as_slice-at.is) in
     rw (← c.self.view_is) record {
-      known = found_known _ _ _ _ c.self.invariant.names_same c.in-Some.ensures.found;
-      first = λ read. false≢true (c.if-has_read.ensures.1 ((reads-here _ c.self.invariant.site c.index-as_slice-at.result cell.1 c.args.tx).1 (rw cell.0 read)));
-      active = λ ended. false≢true (c.if-has_ended.ensures.1 (rw c.as_slice-2.ensures.value ((c.self.invariant.ends c.args.tx).1 ended)));
+      known = found_known _ _ _ _ c.self.invariant.0.names_same c.in-Some.ensures.found;
+      first = λ read. false≢true (c.if-has_read.ensures.1 ((reads-here _ c.self.invariant.0.site c.index-as_slice-at.result cell.1 c.args.tx).1 (rw cell.0 read)));
+      active = λ ended. false≢true (c.if-has_ended.ensures.1 (rw c.as_slice-2.ensures.value ((c.self.invariant.0.ends c.args.tx).1 ended)));
       free = λ pledge. false≢true (c.if-is_pledged.ensures.1 (pledged_by c.self.inside.pledged c.self.inside.part.items pledge.0 c.args.tx pledge.1));
     }
+
+pub returns-then-not-make_room-2-clause-refused : goal.returns-then-not-make_room-2-clause-refused
+returns-then-not-make_room-2-clause-refused c =
+    let cell = found_cell _ _ _ _ _ _ _ c.self.invariant.0.each c.in-Some.ensures.found (rw c.as_slice.ensures.cells at c.index-as_slice-at.is) in
+    rw (← c.self.view_is) record {
+      known = found_known _ _ _ _ c.self.invariant.0.names_same c.in-Some.ensures.found;
+      first = λ read. false≢true (c.if-has_read.ensures.1 ((reads-here _ c.self.invariant.0.site c.index-as_slice-at.result cell.1 c.args.tx).1 (rw cell.0 read)));
+      active = λ ended. false≢true (c.if-has_ended.ensures.1 (rw c.as_slice-2.ensures.value ((c.self.invariant.0.ends c.args.tx).1 ended)));
+      free = λ pledge. false≢true (c.if-is_pledged.ensures.1 (pledged_by c.self.inside.pledged c.self.inside.part.items pledge.0 c.args.tx pledge.1));
+    }
+
+pub add_read-requires-clause-by_tx : goal.add_read-requires-clause-by_tx
+add_read-requires-clause-by_tx c = rw c.make_room-2.ensures.items c.self.invariant.1.by_tx
 
 pub answer-requires-clause-within : goal.answer-requires-clause-within
 answer-requires-clause-within c = c.in-Some.ensures.found.within
@@ -63,52 +78,59 @@ answer-requires-clause-first c = λ d here answering.
     false≢true (c.if-has_read.ensures.1 (subst (λ (e : Contents). IsAnswering e.readings c.args.tx) (sym same) answering))
 
 pub invariant_of-self : goal.invariant_of-self
-invariant_of-self c = rw c.make_room.ensures.items (kept-roomier _ _ _ _ _ c.self.invariant (omega (arith, c.make_room.ensures.len, c.make_room.ensures.capacity)) (omega arith) (omega arith))
+invariant_of-self c = rw c.make_room.ensures.items (kept-roomier _ _ _ _ _ c.self.invariant.0 (omega (arith, c.make_room.ensures.len, c.make_room.ensures.capacity)) (omega arith) (omega arith), c.self.invariant.1)
+
+pub invariant_of-self-then-not-make_room-2 : goal.invariant_of-self-then-not-make_room-2
+invariant_of-self-then-not-make_room-2 c = rw (c.make_room-2.ensures.items, c.make_room.ensures.items) (kept-roomier _ _ _ _ _ c.self.invariant.0 (omega (arith, c.make_room.ensures.len, c.make_room.ensures.capacity)) (omega arith) (omega arith), c.self.invariant.1)
 
 pub invariant_of-self-in-Ok : goal.invariant_of-self-in-Ok
 invariant_of-self-in-Ok c =
     let at = c.in-Some.ensures.found in
-    let cell = found_cell _ _ _ _ _ _ _ c.self.invariant.each at (rw c.as_slice.ensures.cells at c.index-as_slice-at.is) in
+    let cell = found_cell _ _ _ _ _ _ _ c.self.invariant.0.each at (rw c.as_slice.ensures.cells at c.index-as_slice-at.is) in
     let answers = c.in-Ok.ensures.ok in
-    let value = answered-value _ c.self.invariant.site _ _ c.args.item _ _ _ c.self.invariant.each at answers in
+    let value = answered-value _ c.self.invariant.0.site _ _ c.args.item _ _ _ c.self.invariant.0.each at answers in
     let had_room = c.if-not-make_room.ensures.room refl in
-    rw (c.push_reserved.ensures.items, c.make_room.ensures.items) (kept-read _ c.args.tx c.args.item c.in-Ok.seen.value c.self.invariant.site record {
-      known = found_known _ _ _ _ c.self.invariant.names_same at;
-      first = λ read. false≢true (c.if-has_read.ensures.1 ((reads-here _ c.self.invariant.site c.index-as_slice-at.result cell.1 c.args.tx).1 (rw cell.0 read)));
-      active = λ ended. false≢true (c.if-has_ended.ensures.1 (rw c.as_slice-2.ensures.value ((c.self.invariant.ends c.args.tx).1 ended)));
-      free = λ pledge. false≢true (c.if-is_pledged.ensures.1 (pledged_by c.self.inside.pledged c.self.inside.part.items pledge.0 c.args.tx pledge.1));
-    } value.0 _ _ _ _ _ _ _ c.as_slice.ensures.rising c.self.invariant at refl answers (λ p is.
-    let same = ap length (pledged_part c.self.inside.pledged c.self.inside.part.items p is) in
-    omega (arith, same, had_room, c.push_reserved.ensures.len, c.push_reserved.ensures.capacity, c.make_room.ensures.len)) (omega arith) (omega arith))
+    let active : HasEnded c.self.inside.log.items c.args.tx → ⊥ = λ ended. false≢true (c.if-has_ended.ensures.1 (rw c.as_slice-2.ensures.value ((c.self.invariant.0.ends c.args.tx).1 ended))) in
+    rw (c.push_reserved.ensures.items, c.make_room.ensures.items) (
+      kept-read _ c.args.tx c.args.item c.in-Ok.seen.value c.self.invariant.0.site record {
+        known = found_known _ _ _ _ c.self.invariant.0.names_same at;
+        first = λ read. false≢true (c.if-has_read.ensures.1 ((reads-here _ c.self.invariant.0.site c.index-as_slice-at.result cell.1 c.args.tx).1 (rw cell.0 read)));
+        active = active;
+        free = λ pledge. false≢true (c.if-is_pledged.ensures.1 (pledged_by c.self.inside.pledged c.self.inside.part.items pledge.0 c.args.tx pledge.1));
+      } value.0 _ _ _ _ _ _ _ c.as_slice.ensures.rising c.self.invariant.0 at refl answers (λ p is.
+          let same = ap length (pledged_part c.self.inside.pledged c.self.inside.part.items p is) in
+          omega (arith, same, had_room, c.push_reserved.ensures.len, c.push_reserved.ensures.capacity, c.make_room.ensures.len)) (omega arith) (omega arith),
+      pending-read _ _ _ c.args.tx c.args.item c.in-Ok.seen.value c.self.invariant.1 active c.add_read.ensures.by_tx (rw c.make_room-2.ensures.items at c.add_read.ensures.each),
+    )
 
 pub invariant_of-self-in-Err : goal.invariant_of-self-in-Err
-invariant_of-self-in-Err c = rw (c.make_room.ensures.items, c.in-Err.ensures.err) (kept-roomier _ _ _ _ _ c.self.invariant (omega (arith, c.make_room.ensures.len, c.make_room.ensures.capacity)) (omega arith) (omega arith))
+invariant_of-self-in-Err c = rw (c.make_room-2.ensures.items, c.make_room.ensures.items, c.in-Err.ensures.err) (kept-roomier _ _ _ _ _ c.self.invariant.0 (omega (arith, c.make_room.ensures.len, c.make_room.ensures.capacity)) (omega arith) (omega arith), c.self.invariant.1)
 
 pub returns-in-Ok-clause-value : goal.returns-in-Ok-clause-value
-returns-in-Ok-clause-value c = rw (← c.self.view_is) (answered-value _ c.self.invariant.site _ _ c.args.item _ _ _ c.self.invariant.each c.in-Some.ensures.found c.in-Ok.ensures.ok).0
+returns-in-Ok-clause-value c = rw (← c.self.view_is) (answered-value _ c.self.invariant.0.site _ _ c.args.item _ _ _ c.self.invariant.0.each c.in-Some.ensures.found c.in-Ok.ensures.ok).0
 
 pub returns-in-Ok-clause-version : goal.returns-in-Ok-clause-version
-returns-in-Ok-clause-version c = rw (← c.self.view_is) (answered-value _ c.self.invariant.site _ _ c.args.item _ _ _ c.self.invariant.each c.in-Some.ensures.found c.in-Ok.ensures.ok).1
+returns-in-Ok-clause-version c = rw (← c.self.view_is) (answered-value _ c.self.invariant.0.site _ _ c.args.item _ _ _ c.self.invariant.0.each c.in-Some.ensures.found c.in-Ok.ensures.ok).1
 
 pub returns-in-Ok-clause-logged : goal.returns-in-Ok-clause-logged
 returns-in-Ok-clause-logged c = rw (← c.self.view_is, c.push_reserved.ensures.items, c.make_room.ensures.items) refl
 
 pub returns-in-Ok-clause-allowed : goal.returns-in-Ok-clause-allowed
 returns-in-Ok-clause-allowed c =
-    let cell = found_cell _ _ _ _ _ _ _ c.self.invariant.each c.in-Some.ensures.found (rw c.as_slice.ensures.cells at c.index-as_slice-at.is) in
+    let cell = found_cell _ _ _ _ _ _ _ c.self.invariant.0.each c.in-Some.ensures.found (rw c.as_slice.ensures.cells at c.index-as_slice-at.is) in
     rw (← c.self.view_is) record {
-      known = found_known _ _ _ _ c.self.invariant.names_same c.in-Some.ensures.found;
-      first = λ read. false≢true (c.if-has_read.ensures.1 ((reads-here _ c.self.invariant.site c.index-as_slice-at.result cell.1 c.args.tx).1 (rw cell.0 read)));
-      active = λ ended. false≢true (c.if-has_ended.ensures.1 (rw c.as_slice-2.ensures.value ((c.self.invariant.ends c.args.tx).1 ended)));
+      known = found_known _ _ _ _ c.self.invariant.0.names_same c.in-Some.ensures.found;
+      first = λ read. false≢true (c.if-has_read.ensures.1 ((reads-here _ c.self.invariant.0.site c.index-as_slice-at.result cell.1 c.args.tx).1 (rw cell.0 read)));
+      active = λ ended. false≢true (c.if-has_ended.ensures.1 (rw c.as_slice-2.ensures.value ((c.self.invariant.0.ends c.args.tx).1 ended)));
       free = λ pledge. false≢true (c.if-is_pledged.ensures.1 (pledged_by c.self.inside.pledged c.self.inside.part.items pledge.0 c.args.tx pledge.1));
     }
 
 pub returns-in-Err-clause-refused : goal.returns-in-Err-clause-refused
 returns-in-Err-clause-refused c =
-    let cell = found_cell _ _ _ _ _ _ _ c.self.invariant.each c.in-Some.ensures.found (rw c.as_slice.ensures.cells at c.index-as_slice-at.is) in
+    let cell = found_cell _ _ _ _ _ _ _ c.self.invariant.0.each c.in-Some.ensures.found (rw c.as_slice.ensures.cells at c.index-as_slice-at.is) in
     rw (← c.self.view_is) record {
-      known = found_known _ _ _ _ c.self.invariant.names_same c.in-Some.ensures.found;
-      first = λ read. false≢true (c.if-has_read.ensures.1 ((reads-here _ c.self.invariant.site c.index-as_slice-at.result cell.1 c.args.tx).1 (rw cell.0 read)));
-      active = λ ended. false≢true (c.if-has_ended.ensures.1 (rw c.as_slice-2.ensures.value ((c.self.invariant.ends c.args.tx).1 ended)));
+      known = found_known _ _ _ _ c.self.invariant.0.names_same c.in-Some.ensures.found;
+      first = λ read. false≢true (c.if-has_read.ensures.1 ((reads-here _ c.self.invariant.0.site c.index-as_slice-at.result cell.1 c.args.tx).1 (rw cell.0 read)));
+      active = λ ended. false≢true (c.if-has_ended.ensures.1 (rw c.as_slice-2.ensures.value ((c.self.invariant.0.ends c.args.tx).1 ended)));
       free = λ pledge. false≢true (c.if-is_pledged.ensures.1 (pledged_by c.self.inside.pledged c.self.inside.part.items pledge.0 c.args.tx pledge.1));
     }

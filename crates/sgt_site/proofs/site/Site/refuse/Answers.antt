@@ -1,35 +1,51 @@
 use Rattle.std.proofs.Common.{ap, refl, arith, append_assoc, length}
+use Rattle.sgt_names.specs.Draft.{writing_in}
+use Rattle.sgt_names.specs.declared.entry.Entry.TheVariants.{Refuse}
+use Rattle.sgt_site.specs.State.{want_entry}
+use Rattle.sgt_site.proofs.Blocks.{refusals-blocks, block_ends, block_alone, no_reads}
 use Rattle.sgt_site.proofs.Keeps.{pledged_is}
+use Rattle.sgt_site.proofs.PendingReads.{pending-ended}
 use Rattle.sgt_site.proofs.Refusals.{kept-refuse}
 use Rattle.sgt_site.proofs.site.Site.refuse.Goals as goal
 
 pub log_wants-requires : goal.log_wants-requires
 log_wants-requires c =
     let pledge = pledged_is c.self.inside.pledged c.self.inside.part.items c.args.tx (c.if-not-is_pledged.ensures.0 refl) in
-    let room = (c.self.invariant.room _ pledge).log in
+    let room = (c.self.invariant.0.room _ pledge).log in
     let same = ap length c.as_slice-2.ensures.value in
     omega (arith, room, same)
 
 pub push_reserved-requires : goal.push_reserved-requires
 push_reserved-requires c =
     let pledge = pledged_is c.self.inside.pledged c.self.inside.part.items c.args.tx (c.if-not-is_pledged.ensures.0 refl) in
-    let room = (c.self.invariant.room _ pledge).log in
+    let room = (c.self.invariant.0.room _ pledge).log in
     let same = ap length c.as_slice-2.ensures.value in
     omega (arith, room, same, c.log_wants.ensures.len, c.log_wants.ensures.capacity)
 
 pub add_ended-requires-clause-first : goal.add_ended-requires-clause-first
 add_ended-requires-clause-first c = λ has.
     let pledge = pledged_is c.self.inside.pledged c.self.inside.part.items c.args.tx (c.if-not-is_pledged.ensures.0 refl) in
-    (c.self.invariant.site.pledged _ pledge).active ((c.self.invariant.ends c.args.tx).0 has)
+    (c.self.invariant.0.site.pledged _ pledge).active ((c.self.invariant.0.ends c.args.tx).0 has)
 
 pub add_ended-requires-clause-room : goal.add_ended-requires-clause-room
 add_ended-requires-clause-room c =
     let pledge = pledged_is c.self.inside.pledged c.self.inside.part.items c.args.tx (c.if-not-is_pledged.ensures.0 refl) in
-    let room = (c.self.invariant.room _ pledge).ended in
+    let room = (c.self.invariant.0.room _ pledge).ended in
     omega (arith, room)
+
+pub drop_reads-requires : goal.drop_reads-requires
+drop_reads-requires c = c.self.invariant.1.by_tx
 
 pub invariant_of-self : goal.invariant_of-self
 invariant_of-self c =
     let pledge = pledged_is c.self.inside.pledged c.self.inside.part.items c.args.tx (c.if-not-is_pledged.ensures.0 refl) in
-    let covered = c.self.invariant.site.pledged _ pledge in
-    rw (c.push_reserved.ensures.items, c.log_wants.ensures.entries, append_assoc, c.as_slice-2.ensures.value) (kept-refuse _ _ covered c.self.inside.cells _ _ _ _ c.self.invariant record { rising = c.add_ended.ensures.rising; each = c.add_ended.ensures.each })
+    let covered = c.self.invariant.0.site.pledged _ pledge in
+    let changes = writing_in c.self.inside.part.items in
+    rw (c.push_reserved.ensures.items, c.log_wants.ensures.entries, append_assoc, c.as_slice-2.ensures.value) (
+      kept-refuse _ _ covered c.self.inside.cells _ _ _ _ c.self.invariant.0 record { rising = c.add_ended.ensures.rising; each = c.add_ended.ensures.each },
+      pending-ended _ _ _ _ c.args.tx c.self.invariant.1
+          (block_ends want_entry Refuse refusals-blocks c.args.tx changes)
+          (block_alone want_entry Refuse refusals-blocks c.args.tx changes)
+          (no_reads want_entry Refuse refusals-blocks c.args.tx changes)
+          c.drop_reads.ensures.by_tx c.drop_reads.ensures.each,
+    )

@@ -1,0 +1,12 @@
+use Rattle.std.proofs.Common.{◌∙◌, Some, ap}
+use Rattle.std.proofs.lemmas.Option.{slice_get_within}
+use Rattle.sgt_names.proofs.Lists.{element_at}
+use Rattle.sgt_core.proofs.Versions.{memory_alone}
+use Rattle.sgt_core.proofs.gathering.edges_at.Goals as goal
+
+pub returns-clause-memory : goal.returns-clause-memory
+returns-clause-memory c =
+    let here = element_at c.args.places.now c.args.at c.index-places-at.result c.requires.site c.index-places-at.is in
+    let within = slice_get_within c.args.table.now c.args.slot _ c.requires.slot.1 in
+    let runs = element_at c.args.table.now c.args.slot c.index-table-slot.result within c.index-table-slot.is ∙ ap Some c.in-Some.is in
+    memory_alone c.index-places-at.result.site c.in-Some.running.draft.touched c.gather.result (c.requires.seen c.index-places-at.result c.in-Some.running here runs) c.gather.ensures.refused
