@@ -1,5 +1,6 @@
 pub mod Bundling
 pub mod Counts
+pub mod Doing
 pub mod Faults
 pub mod OneInput
 pub mod OneText

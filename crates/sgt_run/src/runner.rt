@@ -36,7 +36,7 @@ impl<'a, L: Ledger, G: Gate> Runner<'a, L, G> {
     ghost use Rattle.sgt_service.specs.Refused.{IsOfCall};
     ghost use Rattle.sgt_workers.specs.declared.ticket.Ending.TheVariants.{Withdrawn};
     ghost use Rattle.sgt_run.specs.Tries.{AreTries, IsRefused};
-    ghost use Rattle.sgt_run.specs.private.Operations.{op_fits, sum_fits, PutsSum};
+    ghost use Rattle.sgt_run.specs.private.Operations.{op_fits, sum_fits, Does, DoesAll, PutsSum, Tries};
 
     #[tactic(auto, using(crate::proofs::Faults::item_of_call))]
     // Keeps the sum of this value and of what the transaction sees at the source, as a private write. False where it is too
@@ -51,6 +51,7 @@ impl<'a, L: Ledger, G: Gate> Runner<'a, L, G> {
     ) -> Result<bool, ServiceFault>
         ensures fits { IfOk result (λ fits. fits ≡ sum_fits seen value) }
         ensures sum { result ≡ Ok true → PutsSum site item seen value active.old.draft.touched active.new.draft.touched }
+        ensures same { result ≡ Ok false → active.new.draft.touched ≡ active.old.draft.touched }
         ensures fault { IfErr result IsOfCall }
     {
         let Some(seen) = seen else {
@@ -74,6 +75,10 @@ impl<'a, L: Ledger, G: Gate> Runner<'a, L, G> {
         reads: &mut Vec<Value>,
     ) -> Result<bool, ServiceFault>
         ensures fits { IfOk result (λ fits. fits ≡ op_fits active.old.draft.touched op.now) }
+        ensures does { result ≡ Ok true
+            → Does op.now active.old.draft.touched active.new.draft.touched reads.old.items reads.new.items }
+        ensures same { result ≡ Ok false
+            → (active.new.draft.touched ≡ active.old.draft.touched) × (reads.new.items ≡ reads.old.items) }
         ensures share { worker.new.seat.share ≡ worker.old.seat.share }
         ensures fault { IfErr result IsOfCall }
     {
@@ -117,6 +122,8 @@ impl<'a, L: Ledger, G: Gate> Runner<'a, L, G> {
         script: &Script,
         reads: &mut Vec<Value>,
     ) -> Result<bool, ServiceFault>
+        ensures does { IfOk result (λ all. DoesAll script.now.operations all
+            active.old.draft.touched active.new.draft.touched reads.old.items reads.new.items) }
         ensures share { worker.new.seat.share ≡ worker.old.seat.share }
         ensures fault { IfErr result IsOfCall }
     {
@@ -199,6 +206,7 @@ impl<'a, L: Ledger, G: Gate> Runner<'a, L, G> {
         script: &Script,
         reads: &mut Vec<Value>,
     ) -> Result<Ticket, ServiceFault>
+        ensures tries { IfOk result (λ t. Tries script.now.operations t.verdict reads.new.items) }
         ensures parts { worker.new.seat.share.parts ≡ worker.old.seat.share.parts }
         ensures counted { OnOk result (worker.new.seat.share.amount ≡ worker.old.seat.share.amount + 1) }
         ensures fault { IfErr result IsOfCall }

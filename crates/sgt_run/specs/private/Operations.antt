@@ -1,12 +1,15 @@
--- One operation of a script.
-use Rattle.std.specs.Prelude.{◌≡◌, ◌+◌, ◌^◌, ℕ, List, Bool, true, nat_lt, Option, Some, None}
+-- The operations of a script.
+use Rattle.std.specs.Prelude.{◌≡◌, ◌⊎◌, ◌↔◌, ◌+◌, ◌^◌, ℕ, List, [], ◌∷◌, ◌++◌, Bool, true, false, nat_lt, Option, Some, None, IsSome}
 use Rattle.sgt_names.specs.Name.{Name}
-use Rattle.sgt_names.specs.Draft.{seen_at, ChangesOnly}
+use Rattle.sgt_names.specs.Draft.{added_to, change_at, seen_at, ChangesOnly}
 use Rattle.sgt_names.specs.declared.draft.Touch.{Touch}
-use Rattle.sgt_names.specs.declared.entry.Change.TheVariants.{Put}
+use Rattle.sgt_names.specs.declared.entry.Change.{Change}
+use Rattle.sgt_names.specs.declared.entry.Change.TheVariants as change
 use Rattle.sgt_notation.specs.declared.script.Op.{Op}
-use Rattle.sgt_notation.specs.declared.script.Op.TheVariants.{Sum}
-use Rattle.sgt_service.specs.Reads.{look_in}
+use Rattle.sgt_notation.specs.declared.script.Op.TheVariants.{Read, Put, Add, Sum}
+use Rattle.sgt_service.specs.Reads.{look_in, GainsRead}
+use Rattle.sgt_workers.specs.declared.ticket.Ending.{Ending}
+use Rattle.sgt_workers.specs.declared.ticket.Ending.TheVariants.{Withdrawn}
 
 -- the sum with what is seen is no greater than the greatest value
 abbrev pub sum_fits : Option ℕ → ℕ → Bool
@@ -18,11 +21,33 @@ abbrev pub op_fits : List Touch → Op → Bool
 op_fits touched (Sum s x t y v) = sum_fits (look_in touched t y) v
 op_fits touched _ = true
 
--- a draft has gained a private write of the sum alone
+-- a draft has this private change of the item, and no other item is touched
+abbrev pub Changes : ℕ → Name → Change → List Touch → List Touch → Type 0
+Changes s x c old new = ChangesOnly old new (record { site = s; item = x; seen = seen_at old (s, x); change = Some c })
+
+-- a draft has a private write of the sum
 abbrev pub PutsSum : ℕ → Name → Option ℕ → ℕ → List Touch → List Touch → Type 0
-PutsSum s x source v old new = (seen : ℕ) × (source ≡ Some seen) × ChangesOnly old new (record {
-  site = s;
-  item = x;
-  seen = seen_at old (s, x);
-  change = Some (Put (seen + v));
-})
+PutsSum s x source v old new = (seen : ℕ) × (source ≡ Some seen) × Changes s x (change.Put (seen + v)) old new
+
+-- what a read at the site and without it leaves
+abbrev pub KeepsRead : ℕ → Name → List Touch → List Touch → Type 0
+KeepsRead s x old new = (look_in old s x ≡ None → GainsRead s x old new) × (IsSome (look_in old s x) → new ≡ old)
+
+-- the operation is done: a read is kept and answers what the draft shows then, anything else changes the draft alone
+abbrev pub Does : Op → (old new : List Touch) → (reads reads' : List ℕ) → Type 0
+Does (Read s x) old new reads reads' =
+    KeepsRead s x old new × ((v : ℕ) × (look_in new s x ≡ Some v) × (reads' ≡ reads ++ v ∷ []))
+Does (Put s x v) old new reads reads' = Changes s x (change.Put v) old new × (reads' ≡ reads)
+Does (Add s x v) old new reads reads' = Changes s x (added_to (change_at old (s, x)) v) old new × (reads' ≡ reads)
+Does (Sum s x t y v) old new reads reads' = PutsSum s x (look_in old t y) v old new × (reads' ≡ reads)
+
+-- the operations are done one after another: all of them, or those in front of the first whose sum is too large
+abbrev pub DoesAll : List Op → Bool → (old new : List Touch) → (reads reads' : List ℕ) → Type 0
+DoesAll [] all old new reads reads' = (all ≡ true) × (new ≡ old) × (reads' ≡ reads)
+DoesAll (op ∷ ops) all old new reads reads' =
+    ((op_fits old op ≡ false) × (all ≡ false) × (new ≡ old) × (reads' ≡ reads))
+    ⊎ ((op_fits old op ≡ true) × ((mid : List Touch) × (heard : List ℕ) × Does op old mid reads heard × DoesAll ops all mid new heard reads'))
+
+-- a transaction did what the script says and heard these values: all of it, or it is withdrawn at the first sum that is too large
+abbrev pub Tries : List Op → Ending → (reads : List ℕ) → Type 0
+Tries ops verdict reads = (all : Bool) × (draft : List Touch) × DoesAll ops all [] draft [] reads × ((verdict ≡ Withdrawn) ↔ (all ≡ false))
