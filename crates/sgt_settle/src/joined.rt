@@ -1,5 +1,5 @@
-//! Whether the conflicting operations on each item are joined by edges, as far as no write stands between them. Then all conflicts
-//! are carried: what a write stands between is led over it.
+//! Whether the conflicting operations on each item are joined by edges, as far as no change stands between them. Then all conflicts
+//! are carried: what a change stands between is led over it.
 
 ghost use Rattle.std.specs.Prelude.{◌≡◌, ◌≢◌, ◌↔◌, ◌<◌, ◌≤◌, ◌+◌, ℕ, length, All, IsTrue, IfOk, OnOk, Some, slice_get};
 ghost use Rattle.std.specs.Ordering.{nat_cmp};
@@ -7,7 +7,7 @@ ghost use Rattle.std.specs.Cmp.Lexicographic.{slice_cmp};
 ghost use Rattle.sgt_names.specs.Ordered.{IsRisingBy};
 ghost use Rattle.sgt_names.specs.Entry.{tx_of, item_of};
 ghost use Rattle.sgt_settle.specs.private.Index.{IsIn, IsPaired, AreCarried};
-ghost use Rattle.sgt_settle.specs.private.Joined.{IsItemAt, IsJoined, Follows, IsAdded};
+ghost use Rattle.sgt_settle.specs.private.Joined.{IsItemAt, IsJoined, Follows, FollowsLast, FollowsAsIncrement, FollowsAsOther, IsAdded};
 ghost use Rattle.sgt_settle.specs.declared.joined.Deed.{Deed as ADeed};
 
 use crate::carried::cut_at;
@@ -32,12 +32,14 @@ pub struct Source {
     pub number: u64,
 }
 
-/// The last write of an item, and what was done to it since.
+/// The last write of an item, and what was done to it since: the increments, with the last of them, and the reads, with those since it.
 #[derive(Drop)]
 pub struct Run {
     pub write: Option<Deed>,
     pub increments: Vec<Deed>,
+    pub last: Option<Deed>,
     pub reads: Vec<Deed>,
+    pub fresh: Vec<Deed>,
 }
 
 /// A run for each item, and a place for an edge from each committed transaction.
@@ -75,39 +77,87 @@ fn are_all_joined(deeds: &[Deed], to: &Deed, step: usize, sources: &[Source]) ->
     deeds.iter().all(|deed| is_joined(deed, to, step, sources))
 }
 
-// Whether the write was decided before, and is joined.
-fn follows_write(run: &Run, to: &Deed, step: usize, sources: &[Source]) -> bool
-    ensures { IsTrue result → (w : ADeed) → run.now.write ≡ Some w → (w.number ≤ to.now.number) × IsJoined sources.now step to.now w }
+// Whether the change, if there is one, was decided before.
+fn is_early(change: Option<Deed>, to: &Deed) -> bool
+    ensures { IsTrue result → (d : ADeed) → change ≡ Some d → d.number ≤ to.now.number }
 {
-    match run.write {
-        Some(write) => write.number <= to.number && is_joined(&write, to, step, sources),
+    match change {
+        Some(deed) => deed.number <= to.number,
         None => true,
     }
 }
 
-// Whether those of the run that conflict with the entry are joined.
+// Whether the change, if there is one, is joined.
+fn is_change_joined(change: Option<Deed>, to: &Deed, step: usize, sources: &[Source]) -> bool
+    ensures { IsTrue result → (d : ADeed) → change ≡ Some d → IsJoined sources.now step to.now d }
+{
+    match change {
+        Some(deed) => is_joined(&deed, to, step, sources),
+        None => true,
+    }
+}
+
+// Whether the last increment of the run, or else its write, is joined.
+fn follows_last(run: &Run, to: &Deed, step: usize, sources: &[Source]) -> bool
+    ensures { IsTrue result → FollowsLast (IsJoined sources.now step to.now) run.now to.now }
+{
+    match run.last {
+        Some(last) => last.number <= to.number && is_joined(&last, to, step, sources),
+        None => is_change_joined(run.write, to, step, sources),
+    }
+}
+
+// Whether an increment follows the run: the write and the reads.
+fn follows_as_increment(run: &Run, to: &Deed, step: usize, sources: &[Source]) -> bool
+    ensures { IsTrue result → FollowsAsIncrement (IsJoined sources.now step to.now) run.now }
+{
+    is_change_joined(run.write, to, step, sources)
+        && are_all_joined(run.reads.as_slice(), to, step, sources)
+}
+
+// Whether a read or a write follows the run: the increments, or else the write, and a write the reads since the last change.
+fn follows_as_other(run: &Run, is_write: bool, to: &Deed, step: usize, sources: &[Source]) -> bool
+    ensures { IsTrue result → FollowsAsOther (IsJoined sources.now step to.now) run.now is_write to.now }
+{
+    follows_last(run, to, step, sources)
+        && are_all_joined(run.increments.as_slice(), to, step, sources)
+        && (!is_write || are_all_joined(run.fresh.as_slice(), to, step, sources))
+}
+
+// Whether the entry follows the run: those of it that conflict with the entry, and are no older than the last change that conflicts
+// with both, are joined.
 fn follows(run: &Run, entry: &Entry, to: &Deed, step: usize, sources: &[Source]) -> bool
     ensures { IsTrue result → Follows (IsJoined sources.now step to.now) run.now entry.now to.now }
 {
-    follows_write(run, to, step, sources)
-        && (entry.is_increment() || are_all_joined(run.increments.as_slice(), to, step, sources))
-        && (is_read(entry) || are_all_joined(run.reads.as_slice(), to, step, sources))
+    if !is_early(run.write, to) {
+        return false;
+    }
+    if entry.is_increment() {
+        return follows_as_increment(run, to, step, sources);
+    }
+    follows_as_other(run, !is_read(entry), to, step, sources)
 }
 
 // Adds the operation to the run.
-fn add(run: &mut Run, entry: &Entry, deed: Deed) -> Result<(), AllocError>
-    ensures { OnOk result (IsAdded run.old entry.now deed run.new) }
+fn add(run: &mut Run, entry: &Entry, deed: &Deed) -> Result<(), AllocError>
+    ensures { OnOk result (IsAdded run.old entry.now deed.now run.new) }
 {
     if is_read(entry) {
         run.reads.reserve(1)?;
-        run.reads.push_reserved(deed);
+        run.fresh.reserve(1)?;
+        run.reads.push_reserved(*deed);
+        run.fresh.push_reserved(*deed);
     } else if entry.is_increment() {
         run.increments.reserve(1)?;
-        run.increments.push_reserved(deed);
+        run.increments.push_reserved(*deed);
+        run.last = Some(*deed);
+        run.fresh.clear();
     } else {
-        run.write = Some(deed);
+        run.write = Some(*deed);
         run.increments.clear();
+        run.last = None;
         run.reads.clear();
+        run.fresh.clear();
     }
     Ok(())
 }
@@ -136,7 +186,9 @@ fn no_runs(alloc: Global, all: usize) -> Result<Vec<Run>, AllocError>
         runs.push_reserved(Run {
             write: None,
             increments: Vec::new(alloc),
+            last: None,
             reads: Vec::new(alloc),
+            fresh: Vec::new(alloc),
         });
     }
     Ok(runs)
@@ -211,7 +263,7 @@ impl Joiner {
         if !follows(run, entry, &deed, step, sources.as_slice()) {
             return Ok(false);
         }
-        add(run, entry, deed)?;
+        add(run, entry, &deed)?;
         Ok(true)
     }
 }
