@@ -14,8 +14,9 @@ use sgt_workers::{Ending, Ticket};
 use std::alloc::{AllocError, Global};
 use std::sync::ledger::{Book, Ledger, Share};
 
-/// The certifier beside the book of its decisions. Whoever puts another certifier in its place, behind the service's back, can
-/// only take one with as many decisions; that it is another one shows as V7 or V10.
+/// The certifier beside the book of its decisions. Whoever puts another one in its place, behind the service's back, can only take
+/// one with as many decisions. V7 and V10 tell of it where its installs aren't those of the sites, V1 and V9 where its decisions or
+/// edges aren't those that were told.
 #[derive(Drop)]
 pub struct Guarded<L: Ledger> {
     pub certifier: Certifier,

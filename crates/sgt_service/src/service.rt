@@ -24,7 +24,8 @@ use std::sync::{Mutex, Wait};
 pub struct Service<L: Ledger> {
     /// The certifier with its book, under its lock.
     pub certifier: Mutex<Guarded<L>>,
-    /// The sites, by number, each under its lock. What somebody does to one behind the service's back shows as V7, V9 or V10.
+    /// The sites, by number, each under its lock. Of what somebody does to one behind the service's back V7, V9 and V10 tell as far as
+    /// it shows in a pledge, a count, an edge or a version.
     pub sites: Vec<Mutex<Site>>,
     /// The names of the sites' items, which never change.
     pub(crate) names: Vec<Listed<Item>>,
