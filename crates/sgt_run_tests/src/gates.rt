@@ -90,3 +90,55 @@ impl Gate for HoldThree {
         self.third.hold(&place);
     }
 }
+
+/// Holds the workers of the numbers 0 and 1 once they have taken a job, until the other has. Another number is a failure.
+#[derive(Drop)]
+pub struct BothTake {
+    first: AtomicBool,
+    second: AtomicBool,
+    failed: AtomicBool,
+}
+
+impl BothTake {
+    pub fn new() -> BothTake {
+        BothTake {
+            first: AtomicBool::new(false),
+            second: AtomicBool::new(false),
+            failed: AtomicBool::new(false),
+        }
+    }
+
+    pub fn failed(&self) -> bool {
+        self.failed.load(Ordering::SeqCst)
+    }
+
+    // Waits until it is so, or notes a failure.
+    fn wait(&self, is_so: &AtomicBool) {
+        for _ in 0..MOST_TURNS {
+            if is_so.load(Ordering::SeqCst) {
+                return;
+            }
+            thread::yield_now();
+        }
+        self.failed.store(true, Ordering::SeqCst);
+    }
+}
+
+impl Gate for BothTake {
+    fn arrive(&self, worker: usize, place: Place) {
+        if place != Place::Taken {
+            return;
+        }
+        match worker {
+            0 => {
+                self.first.store(true, Ordering::SeqCst);
+                self.wait(&self.second);
+            }
+            1 => {
+                self.second.store(true, Ordering::SeqCst);
+                self.wait(&self.first);
+            }
+            _ => self.failed.store(true, Ordering::SeqCst),
+        }
+    }
+}

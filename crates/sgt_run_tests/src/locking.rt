@@ -1,14 +1,16 @@
-//! Gates that take a site's lock themselves, behind the service's back.
+//! Locks that are taken behind the service's back: a site's by a gate, and the certifier's before a run is settled.
 
 ghost use Rattle.std.specs.Prelude.{◌≡◌};
 
 use crate::given::{scripts_of, sites_of};
 use sgt_agreed::ServiceFault;
-use sgt_names::{Holding, Item, Listed, SiteNo, Tx};
+use sgt_certifier::Certifier;
+use sgt_edges::EdgeList;
+use sgt_names::{Draft, Holding, Item, Listed, SiteNo, Tx};
 use sgt_notation::Script;
 use sgt_run::{run, settle};
-use sgt_service::Service;
-use sgt_workers::{Gate, Place, PoolFail};
+use sgt_service::{Guarded, Service};
+use sgt_workers::{Gate, NoGate, Place, PoolFail};
 use std::alloc::Global;
 use std::marker::Brand;
 use std::sync::Wait;
@@ -152,5 +154,73 @@ fn a_read_that_no_seat_counts(rt: HostRuntime) -> Result<(), Fail> {
         Item::new(b"x")?,
     );
     assert_eq!(rt; fault, Some(ServiceFault::LogDiffers(SiteNo::new(0)?)));
+    Ok(())
+}
+
+// A certifier whose one transaction installed this item.
+fn of_another_history(alloc: Global, site: SiteNo, item: Item) -> Option<Certifier> {
+    let mut certifier = Certifier::new(alloc);
+    let mut draft = Draft::new(alloc);
+    draft.put(site, item, 7).ok()?;
+    let (tx, handle) = certifier.begin().ok()?;
+    certifier.expect(handle, &draft).ok()?;
+    certifier.decide(handle, EdgeList::new(alloc)).ok()?;
+    certifier.installed(tx, site, &draft).ok()?;
+    certifier.finish_step(tx).ok()?;
+    Some(certifier)
+}
+
+// Puts another certifier with as many decisions behind the lock.
+fn replace<L: Ledger, R: Wait>(rt: &R, service: &Service<L>, other: Certifier) -> bool {
+    let mut guarded = service.certifier.lock(rt);
+    let Guarded { certifier, .. } = &mut *guarded;
+    if certifier.decided() != other.decided() {
+        return false;
+    }
+    *certifier = other;
+    true
+}
+
+// The fault of settling a run whose certifier was replaced by this one.
+fn replaced<L: Ledger + Send + Sync, R: Threads + Wait + Sync>(
+    rt: &R,
+    alloc: Global,
+    blank: Blank,
+    sites: &[Listed<Holding>],
+    scripts: &[Script],
+    other: Certifier,
+) -> Option<ServiceFault>
+    requires { (blank.name ≡ L.name) × (blank.parts ≡ L.parts) × (blank.parts ≡ 1) }
+{
+    if sites.len() > 64 {
+        return None;
+    }
+    let (service, seats) = Service::<L>::new(alloc, blank, sites, 1).ok()?;
+    let (dones, seats) = run(rt, alloc, &service, seats, scripts, 1, &NoGate).ok()?;
+    if !replace(rt, &service, other) {
+        return None;
+    }
+    settle(alloc, service, dones, seats).err()
+}
+
+// As many decisions and installs, but of another item.
+#[test]
+fn other_history(rt: HostRuntime) -> Result<(), Fail> {
+    let alloc = rt.alloc();
+    let site = SiteNo::new(0)?;
+    let sites = sites_of(alloc, &["site 0 x=5 y=2"])?;
+    let scripts = scripts_of(alloc, &["w[0.x]=6"])?;
+    let Some(other) = of_another_history(alloc, site, Item::new(b"y")?) else {
+        return Err(Fail::new("no certifier"));
+    };
+    let fault = replaced::<Brand, _>(
+        &rt,
+        alloc,
+        Blank::new(1),
+        sites.as_slice(),
+        scripts.as_slice(),
+        other,
+    );
+    assert_eq!(rt; fault, Some(ServiceFault::VersionsDiffer(site)));
     Ok(())
 }
