@@ -76,9 +76,9 @@ fn take_lines<R: Source>(
 }
 
 /// Reads the whole input of a run: a line for each site that it starts from, numbered from 0, and then a line for each
-/// event. `Unreadable` names the first line that can't be read. It is L2 where it is longer than `MAX_LINE`, whatever it
+/// script. `Unreadable` names the first line that can't be read. It is L2 where it is longer than `MAX_LINE`, whatever it
 /// holds, with its LF or without. It is L1 where it spells nothing, or not what may stand there: a site out of its order or
-/// behind an event, an event before the first site; where it has no LF; and, behind the last line, where there is no site.
+/// behind a script, a script before the first site; where it has no LF; and, behind the last line, where there is no site.
 /// No further read is made once that line was read.
 ///
 /// An Err is ReadFault, where a read failed or too many were needed (`MOST_READS` of sgt_notation), or Memory. How far was
