@@ -1,10 +1,11 @@
 -- What the seats of a pool have together.
-use Rattle.std.proofs.Common.{◌≡◌, ℕ, ◌+◌, List, [], ◌∷◌, length, map, refl, sym, ◌∙◌, ap, arith}
+use Rattle.std.proofs.Common.{◌≡◌, ℕ, ◌+◌, List, [], ◌∷◌, ◌++◌, length, map, refl, sym, ◌∙◌, ap, ap₂, arith}
 use Rattle.std.specs.Prelude.{sum_by}
-use Rattle.std.specs.List.{AllZip, flat_map}
+use Rattle.std.specs.List.{AllZip, flat_map, range_with_len}
 use Rattle.std.proofs.lemmas.List.Concat.{length-flat_map}
 use Rattle.std.proofs.lemmas.List.Sums.{sum_by-append, sum_by-cons}
 use Rattle.std.proofs.lemmas.List.Sorted.{sum_by-IsPermutation}
+use Rattle.sgt_names.proofs.Lists.{heads, tails}
 use Rattle.sgt_workers.specs.Answers.{AreShared, IsShare, Runs}
 use Rattle.sgt_workers.specs.declared.ticket.Done.{Done}
 use Rattle.sgt_service.specs.Together.{amount_of, parts_of}
@@ -64,6 +65,16 @@ module _ {S C : Type 0} (amount : S → ℕ) (scripts : List C) where
 module _ {L : Type 0} where
   abbrev seat_of : Worker L → Seat L
   seat_of w = w.seat
+
+  numbers_from : (n : ℕ) (ws : List (Worker L)) (w : Worker L) → map (λ (v : Worker L). v.number) ws ≡ range_with_len n (length ws) → w.number ≡ n + length ws
+      → map (λ (v : Worker L). v.number) (ws ++ w ∷ []) ≡ range_with_len n (length (ws ++ w ∷ []))
+  numbers_from n [] w e is = let number : w.number ≡ n = omega arith in ap (λ k. k ∷ []) number
+  numbers_from n (v ∷ ws) w e is = ap₂ (λ k ks. k ∷ ks) (heads _ _ _ _ e) (numbers_from (n + 1) ws w (tails _ _ _ _ e) (omega arith))
+
+  -- one worker more has the next number
+  pub numbers_more : (ws : List (Worker L)) (w : Worker L) → map (λ (v : Worker L). v.number) ws ≡ range_with_len 0 (length ws) → w.number ≡ length ws
+      → map (λ (v : Worker L). v.number) (ws ++ w ∷ []) ≡ range_with_len 0 (length (ws ++ w ∷ []))
+  numbers_more ws w e is = numbers_from 0 ws w e (omega arith)
 
   pub parts_stay : (ws vs : List (Worker L)) (old new : List (Seat L)) → map seat_of ws ≡ old → AllZip (λ (s t : Worker L). t.seat.share.parts ≡ s.seat.share.parts) ws vs
       → new ≡ map seat_of vs → parts_of new ≡ parts_of old

@@ -88,7 +88,8 @@ pool_fault_number pool.Memory = 1
 pool_fault_number (pool.Unrun job) = 2
 pool_fault_number (pool.Doubled job) = 3
 
--- a call of the service is refused so, or a run of so many scripts at so many sites isn't settled; or the pool fails
+-- a fault that a call of the service may be refused with, or that of a run of so many scripts at so many sites that isn't settled; or
+-- the pool's
 abbrev pub EndsRun : ℕ → ℕ → ℕ → PoolFail ServiceFault → Type 0
 EndsRun scripts places tries (Work f) = IsOfCall f ⊎ ((run : Run) × IsRunOf scripts places tries run × IsUnsettled run f)
 EndsRun scripts places tries (Pool f) = IsMet scripts f

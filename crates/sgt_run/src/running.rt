@@ -60,6 +60,7 @@ pub fn run<L: Ledger + Send + Sync, G: Gate + Sync, R: Threads + Wait + Sync>(
 // The seats with their numbers.
 fn numbered<L: Ledger>(alloc: Global, seats: Vec<Seat<L>>) -> Result<Vec<Worker<L>>, AllocError>
     ensures seats { IfOk result (λ workers. map (λ w. w.seat) workers.items ≡ seats.items) }
+    ensures numbers { IfOk result (λ workers. map (λ w. w.number) workers.items ≡ range_with_len 0 (length workers.items)) }
 {
     let mut workers = Vec::new(alloc);
     for seat in seats {
