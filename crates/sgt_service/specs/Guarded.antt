@@ -5,7 +5,7 @@ use Rattle.sgt_names.specs.Draft.{at_site, writing_in}
 use Rattle.sgt_edges.specs.declared.edge.Edge.{Edge}
 use Rattle.sgt_site.specs.State.{SiteState, commit_block, refuse_block, withdraw_block}
 use Rattle.sgt_certifier.specs.History.{IsNoted, IsInstalling}
-use Rattle.sgt_certifier.specs.Kept.{Kept, IsExpected, changed_at}
+use Rattle.sgt_certifier.specs.Kept.{Kept, Adds, IsExpected, changed_at}
 use Rattle.sgt_certifier.specs.declared.call.Call.{Call}
 use Rattle.sgt_certifier.specs.declared.call.Call.TheVariants as call
 use Rattle.sgt_certifier.specs.declared.call.Decided.{Decided}
@@ -23,6 +23,10 @@ decision_count certifier = length certifier.state.rulings
 abbrev pub ticket_of : ℕ → Decided → Ticket
 ticket_of tx (decided.Committed number) = record { number = number; tx = tx; verdict = ending.Committed }
 ticket_of tx (decided.Refused number walk) = record { number = number; tx = tx; verdict = ending.Refused }
+
+-- a certifier has served the call: its history has gained it, and its state is as this call with this reply leaves it
+abbrev pub HasAdded : Call → Type 0
+HasAdded c = (before : Kept) × (after : Kept) × Adds before c after
 
 -- the transaction is committed, and its installs from this site on can be noted without memory
 pub record AwaitsInstalls (certifier : Kept) (tx : ℕ) (touched : List Touch) (from : ℕ) : Type 0 where

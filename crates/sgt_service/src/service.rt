@@ -43,6 +43,8 @@ impl<L: Ledger> Service<L> {
     ghost use Rattle.sgt_site.specs.State.{AreItems};
     ghost use Rattle.sgt_service.specs.Seats.{IsNew, SameSeat};
     ghost use Rattle.sgt_certifier.specs.History.{begin, close};
+    ghost use Rattle.sgt_certifier.specs.declared.call.Call.TheVariants as call;
+    ghost use Rattle.sgt_service.specs.Guarded.{HasAdded};
     ghost use Rattle.sgt_service.specs.Refused.{HasItem, RefusesItem, RefusesSites, IsOfCertifier, IsToldOf};
 
     /// A service of these sites, none of which has an entry yet, and all its seats. The blank of the ledger has a part for each
@@ -130,6 +132,7 @@ impl<L: Ledger> Service<L> {
     ) -> Result<Active, ServiceFault>
         ensures seat { SameSeat seat.old seat.new }
         ensures draft { IfOk result (λ a. a.draft.touched ≡ []) }
+        ensures begun { IfOk result (λ a. HasAdded (call.Begin a.tx a.handle)) }
         ensures refused { IfErr result (IsToldOf begin) }
         ensures of_certifier { IfErr result IsOfCertifier }
     {
@@ -207,6 +210,7 @@ impl<L: Ledger> Service<L> {
     /// - V4 with C3, C4 or C7, as the certifier refuses.
     /// - V3: there was no memory.
     pub fn close<R: Wait>(&self, rt: &R) -> Result<u64, ServiceFault>
+        ensures closed { IfOk result (λ ranks. HasAdded (call.Close ranks)) }
         ensures refused { IfErr result (IsToldOf close) }
     {
         self.certifier.lock(rt).close()

@@ -246,7 +246,8 @@ impl Joiner {
         requires runs { length self.old.runs.items ≡ length items.now }
         requires before { AreBefore self.old.sources.items step }
         ensures before { IfOk result (λ yes. IsTrue yes → AreBefore self.new.sources.items (step + 1)) }
-        ensures step { IfOk result (λ yes. IsTrue yes → IsStep index.now items.now cut.now entry.now self.old.runs.items self.new.runs.items) }
+        ensures step { IfOk result (λ yes. IsTrue yes
+            → IsStep index.now items.now cut.now entry.now self.old.runs.items self.new.runs.items) }
         ensures runs { IfOk result (λ yes. IsTrue yes → length self.new.runs.items ≡ length items.now) }
     {
         let Ok(place) = place_of(items, cut.item) else {

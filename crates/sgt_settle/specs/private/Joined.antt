@@ -81,7 +81,8 @@ pub record IsStep (index : Index) (items : List Holding) (cut : Cut) (e : Entry)
   pub was : slice_get old place ≡ Some before
   pub now : slice_get new place ≡ Some after
   pub others : (j : ℕ) → (j ≡ place → ⊥) → slice_get new j ≡ slice_get old j
-  pub follows : Follows (IsLinked index cut (record { tx = tx_of e; number = cut.last })) before e (record { tx = tx_of e; number = cut.last })
+  pub follows : Follows (IsLinked index cut (record { tx = tx_of e; number = cut.last })) before e
+      (record { tx = tx_of e; number = cut.last })
   pub added : IsAdded before e (record { tx = tx_of e; number = cut.last }) after
 
 -- ---- the log until a place
@@ -133,7 +134,8 @@ abbrev pub IsInRun : Index → List Entry → ℕ → ℕ → ℕ → Entry → 
 IsInRun index log n q m e x run = HasDeed index log n q x run e (record { tx = tx_of e; number = m }) ⊎ IsParted index log n q x run
 
 -- the operation at q is in the run of its item, or the run's write stands behind it
-pub record IsKeptAt (index : Index) (items : List Holding) (log : List Entry) (n q m : ℕ) (e : Entry) (x : Name) (runs : List Run) : Type 0 where
+pub record IsKeptAt (index : Index) (items : List Holding) (log : List Entry) (n q m : ℕ) (e : Entry) (x : Name) (runs : List Run)
+    : Type 0 where
   pub place : ℕ
   pub item : IsItemAt items x place
   pub run : Run
