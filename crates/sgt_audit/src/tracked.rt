@@ -190,7 +190,8 @@ impl Tracked {
         line: &SectionLine,
         known: &Option<Known>,
     ) -> Result<(), AllocError>
-        ensures { OnOk result (IsKnownLine certificate.now.decisions self.old.state line.now known.now → (b : Begun) → IsDecidedOnce certificate.now.decisions → IsBegun b
+        ensures { OnOk result (IsKnownLine certificate.now.decisions self.old.state line.now known.now
+            → (b : Begun) → IsDecidedOnce certificate.now.decisions → IsBegun b
             → MayFollow b b.current line.now → AdmitsLine certificate.now.decisions b.current line.now
             → IsTracked certificate.now.decisions b self.old
             → IsTracked certificate.now.decisions (with_next b b.current line.now) self.new) }

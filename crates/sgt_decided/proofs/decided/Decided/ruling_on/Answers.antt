@@ -1,11 +1,9 @@
 use Rattle.std.proofs.Common.{List, ℕ, ◌≡◌, IsTrue, sym, ap, ◌∙◌, subst, arith, map, length}
 use Rattle.std.specs.Prelude.{slice_get}
 use Rattle.std.proofs.lemmas.List.{length-map}
-use Rattle.sgt_names.specs.Entry.{tx_of}
 use Rattle.sgt_names.proofs.Lists.{element_at}
 use Rattle.sgt_cert.specs.Certificate.{IsCommitted}
 use Rattle.sgt_cert.specs.declared.certificate.Certificate.{Certificate}
-use Rattle.sgt_cert.specs.declared.certificate.Decision.{Decision}
 use Rattle.sgt_decided.specs.declared.outcome.Outcome.{Outcome}
 use Rattle.sgt_decided.specs.Decided.{IsFound}
 use Rattle.sgt_decided.specs.private.Table.{number_at, AreNumbersOf}

@@ -1,4 +1,4 @@
-use Rattle.std.proofs.Common.{◌<◌, All, List, ap, subst, sym}
+use Rattle.std.proofs.Common.{◌<◌, All, List, subst, sym}
 use Rattle.std.proofs.lemmas.Result.{IfOk-weaker}
 use Rattle.sgt_cert.specs.declared.certificate.Certificate.{Certificate}
 use Rattle.sgt_cert.specs.declared.certificate.Decision.{Decision}
