@@ -1,37 +1,156 @@
 -- A name as it is kept, in sixteen bytes with zeros behind it, and as a text.
-use Rattle.std.proofs.Common.{◌≡◌, ◌≤◌, ◌<◌, ℕ, ◌-◌, List, [], ◌∷◌, ◌++◌, length, take, drop, replicate, true, refl, sym, ap, ◌∙◌, subst, arith, inl, inr}
-use Rattle.std.specs.Prelude.{◌&&◌, ◌||◌, ◌==◌, nat_le, nat_lt}
-use Rattle.std.specs.List.{list_all, AllByRecursion}
+use Rattle.std.proofs.Common.{◌≡◌, ◌≤◌, ◌<◌, ℕ, zero, suc, add-one, ◌+◌, ◌-◌, List, [], ◌∷◌, ◌++◌, length, take, replicate, set, get_or, true, refl, sym, ap, ap₂, ◌∙◌, subst, arith, inl, inr, All}
+use Rattle.std.specs.Prelude.{◌&&◌, ◌||◌, ◌==◌, nat_le, nat_lt, IsTrue}
+use Rattle.std.specs.List.{list_all, prefix_len, take_while, AllByRecursion}
+use Rattle.std.specs.Ordering.{nat_cmp, ordering_then}
+use Rattle.std.specs.declared.cmp.Ordering.TheVariants.{Less, Greater}
+use Rattle.std.specs.Cmp.{nat_cmp_is}
+use Rattle.std.specs.Cmp.Lexicographic.{slice_cmp}
 use Rattle.std.specs.Str.{IsUtf8}
-use Rattle.std.proofs.lemmas.Bool.{and_parts, or_cases, ltb-true, leb-true, eqb-true}
-use Rattle.std.proofs.lemmas.List.{drop-replicate}
-use Rattle.std.proofs.lemmas.List.Elements.{All-from_recursion}
+use Rattle.std.proofs.Math.Seq.{take-suc, set-append_seam}
+use Rattle.std.proofs.lemmas.Bool.{and_from, and_parts, or_left, or_cases, ltb-true, leb-true, eqb-true}
+use Rattle.std.proofs.lemmas.List.{append_assoc, length-take-le}
+use Rattle.std.proofs.lemmas.List.Sums.{take_while-cons}
+use Rattle.std.proofs.lemmas.List.Folds.{list_all-append}
+use Rattle.std.proofs.lemmas.List.Elements.{All-tail, All-append, All-from_recursion}
 use Rattle.std.proofs.lemmas.Str.{IsUtf8-from_ascii}
 use Rattle.std.proofs.lemmas.Str.Ascii.{IsAscii-from_all}
 use Rattle.sgt_names.specs.Name.{Name, IsName, is_name_byte, is_small_letter}
-use Rattle.sgt_names.specs.Stored.{IsStored, is_name}
+use Rattle.sgt_names.specs.Stored.{BeginsName, AreNameBytes, IsStored, is_positive, name_of, padded_name}
+use Rattle.sgt_names.specs.declared.item.Item.TheInside.{Inside}
+use Rattle.sgt_names.proofs.Places.{All_at, All-from_at}
 
-take-front : (xs ys : List ℕ) → take (length xs) (xs ++ ys) ≡ xs
-take-front [] ys = refl
-take-front (x ∷ xs) ys = ap (λ (t : List ℕ). x ∷ t) (take-front xs ys)
+-- ---- bytes with zeros behind them
 
--- what passes the test is a name
-pub is_name-IsName : (name : Name) → is_name name ≡ true → IsName name
-is_name-IsName [] h = absurd cc
-is_name-IsName (c ∷ cs) h =
-    let all = and_parts (is_small_letter c && list_all is_name_byte cs) (nat_lt (length cs) 16) h in
-    let both = and_parts (is_small_letter c) (list_all is_name_byte cs) all.0 in
-    (both.0, both.1, ltb-true (length cs) 16 all.1)
+-- no zero
+abbrev pub IsByte : ℕ → Type 0
+IsByte c = 0 < c
 
-pub kept_name : (name copied zeros : List ℕ) → copied ≡ name → zeros ≡ replicate 16 0 → length name ≤ 16 → IsName name → IsStored (record { bytes = copied ++ drop (length name) zeros; len = length name })
-kept_name name copied zeros same blank short is =
-    let front = ap (λ (c : List ℕ). take (length name) (c ++ drop (length name) zeros)) same ∙ take-front name (drop (length name) zeros) in
-    let behind = ap (λ (z : List ℕ). drop (length name) z) blank ∙ drop-replicate (length name) 16 0 in
+-- zeros don't change what stands in front of them
+pub front : (xs : List ℕ) (k : ℕ) → All IsByte xs → take_while is_positive (xs ++ replicate k 0) ≡ xs
+front [] zero all = refl
+front [] (suc k) all = refl
+front (zero ∷ xs) k all = absurd (omega (arith, All_at IsByte (zero ∷ xs) 0 0 all refl))
+front (suc x ∷ xs) k all = take_while-cons is_positive (suc x) (xs ++ replicate k 0) ∙ ap (λ (t : List ℕ). suc x ∷ t) (front xs k (All-tail IsByte (suc x) xs all))
+
+-- with zeros up to one length, they stand in the same order
+pub padded-order : (xs ys : List ℕ) (i j : ℕ) → All IsByte xs → All IsByte ys → length xs + i ≡ length ys + j
+    → slice_cmp nat_cmp (xs ++ replicate i 0) (ys ++ replicate j 0) ≡ slice_cmp nat_cmp xs ys
+padded-order [] [] zero zero ax ay same = refl
+padded-order [] [] zero (suc j) ax ay same = absurd (omega (arith, same))
+padded-order [] [] (suc i) zero ax ay same = absurd (omega (arith, same))
+padded-order [] [] (suc i) (suc j) ax ay same = padded-order [] [] i j ax ay (omega (arith, same))
+padded-order [] (zero ∷ ys) i j ax ay same = absurd (omega (arith, All_at IsByte (zero ∷ ys) 0 0 ay refl))
+padded-order [] (suc y ∷ ys) zero j ax ay same = refl
+padded-order [] (suc y ∷ ys) (suc i) j ax ay same =
+    ap (λ o. ordering_then o (slice_cmp nat_cmp (replicate i 0) (ys ++ replicate j 0))) (sym (nat_cmp_is 0 (suc y) Less (omega arith)))
+padded-order (zero ∷ xs) [] i j ax ay same = absurd (omega (arith, All_at IsByte (zero ∷ xs) 0 0 ax refl))
+padded-order (suc x ∷ xs) [] i zero ax ay same = refl
+padded-order (suc x ∷ xs) [] i (suc j) ax ay same =
+    ap (λ o. ordering_then o (slice_cmp nat_cmp (xs ++ replicate i 0) (replicate j 0))) (sym (nat_cmp_is (suc x) 0 Greater (omega arith)))
+padded-order (x ∷ xs) (y ∷ ys) i j ax ay same =
+    ap (ordering_then (nat_cmp x y)) (padded-order xs ys i j (All-tail IsByte x xs ax) (All-tail IsByte y ys ay) (omega (arith, same)))
+
+-- where the first zero is
+pub prefix-here : (xs : List ℕ) (at : ℕ) → at ≤ prefix_len is_positive xs → at < length xs → get_or xs at 0 ≡ 0 → at ≡ prefix_len is_positive xs
+prefix-here [] at upto within is = absurd (omega (arith, within))
+prefix-here (zero ∷ xs) zero upto within is = refl
+prefix-here (zero ∷ xs) (suc at) upto within is = absurd (omega (arith, upto))
+prefix-here (suc x ∷ xs) zero upto within is = absurd (omega (arith, is))
+prefix-here (suc x ∷ xs) (suc at) upto within is =
+    let more : prefix_len is_positive (suc x ∷ xs) ≡ 1 + prefix_len is_positive xs = refl in
+    let rest = prefix-here xs at (omega (arith, upto, more)) (omega (arith, within)) is in
+    omega (arith, rest, more)
+
+pub prefix-further : (xs : List ℕ) (at : ℕ) → at ≤ prefix_len is_positive xs → at < length xs → (get_or xs at 0 ≡ 0 → ⊥) → at + 1 ≤ prefix_len is_positive xs
+prefix-further [] at upto within is = absurd (omega (arith, within))
+prefix-further (zero ∷ xs) zero upto within is = absurd (is refl)
+prefix-further (zero ∷ xs) (suc at) upto within is = absurd (omega (arith, upto))
+prefix-further (suc x ∷ xs) zero upto within is =
+    let more : prefix_len is_positive (suc x ∷ xs) ≡ 1 + prefix_len is_positive xs = refl in omega (arith, more)
+prefix-further (suc x ∷ xs) (suc at) upto within is =
+    let more : prefix_len is_positive (suc x ∷ xs) ≡ 1 + prefix_len is_positive xs = refl in
+    let rest = prefix-further xs at (omega (arith, upto, more)) (omega (arith, within)) is in
+    omega (arith, rest, more)
+
+-- ---- names are such bytes
+
+pub name_byte-positive : (c : ℕ) → is_name_byte c ≡ true → 0 < c
+name_byte-positive c h = elim (or_cases (is_small_letter c || (nat_le 48 c && nat_le c 57)) (c == 95) h) [
+  | inl two ↦ elim (or_cases (is_small_letter c) (nat_le 48 c && nat_le c 57) two) [
+    | inl letter ↦ let least = leb-true 97 c (and_parts (nat_le 97 c) (nat_le c 122) letter).0 in omega arith
+    | inr digit ↦ let least = leb-true 48 c (and_parts (nat_le 48 c) (nat_le c 57) digit).0 in omega arith
+  ]
+  | inr line ↦ let is = eqb-true c 95 line in omega arith
+]
+
+names-bytes : (cs : List ℕ) → list_all is_name_byte cs ≡ true → All IsByte cs
+names-bytes cs h = All-from_recursion IsByte cs (each cs h)
+  where
+    each : (cs : List ℕ) → list_all is_name_byte cs ≡ true → AllByRecursion IsByte cs
+    each [] h = tt
+    each (c ∷ cs) h = let both = and_parts (is_name_byte c) (list_all is_name_byte cs) h in (name_byte-positive c both.0, each cs both.1)
+
+-- a name begins as one, and has bytes of names alone
+pub name-parts : (n : Name) → IsName n → BeginsName n × AreNameBytes n
+name-parts [] is = absurd is
+name-parts (c ∷ cs) is =
+    let first = or_left (is_small_letter c || (nat_le 48 c && nat_le c 57)) (c == 95) (or_left (is_small_letter c) (nat_le 48 c && nat_le c 57) is.0) in
+    (is.0, (omega (arith, is.2), and_from (is_name_byte c) (list_all is_name_byte cs) first is.1))
+
+pub name-from_parts : (n : Name) → BeginsName n → AreNameBytes n → IsName n
+name-from_parts [] begins are = absurd begins
+name-from_parts (c ∷ cs) begins are = (begins, (and_parts (is_name_byte c) (list_all is_name_byte cs) are.1).1, omega (arith, are.0))
+
+pub name-bytes : (n : Name) → IsName n → All IsByte n
+name-bytes n is = names-bytes n (name-parts n is).1.1
+
+pub name-length : (n : Name) → IsName n → length n ≤ 16
+name-length n is = (name-parts n is).1.0
+
+-- ---- a name that is kept
+
+-- one more byte is tried
+pub passed-next : (bytes : List ℕ) (at : ℕ) → at < length bytes → list_all is_name_byte (take at bytes) ≡ true
+    → is_name_byte (get_or bytes at 0) ≡ true → list_all is_name_byte (take (at + 1) bytes) ≡ true
+passed-next bytes at within before here =
+    ap (list_all is_name_byte) (ap (λ (n : ℕ). take n bytes) (add-one at) ∙ take-suc bytes at 0 within)
+    ∙ list_all-append is_name_byte (take at bytes) (get_or bytes at 0 ∷ [])
+    ∙ and_from (list_all is_name_byte (take at bytes)) (is_name_byte (get_or bytes at 0) && true) before (and_from _ true here refl)
+
+-- and is kept
+pub kept-next : (bytes padded : List ℕ) (at : ℕ) → at < length bytes → length bytes ≤ 16 → padded ≡ take at bytes ++ replicate (16 - at) 0
+    → set padded at (get_or bytes at 0) ≡ take (at + 1) bytes ++ replicate (16 - (at + 1)) 0
+kept-next bytes padded at within few is =
+    let left : 16 - at ≡ suc (16 - (at + 1)) = omega (arith, within, few) in
+    let len = length-take-le at bytes (omega (arith, within)) in
+    let x = get_or bytes at 0 in
+    let behind = replicate (16 - (at + 1)) 0 in
+    ap (λ (l : List ℕ). set l at x) (is ∙ ap (λ (n : ℕ). take at bytes ++ replicate n 0) left)
+    ∙ ap (λ (n : ℕ). set (take at bytes ++ 0 ∷ behind) n x) (sym len)
+    ∙ set-append_seam (take at bytes) 0 behind x
+    ∙ sym (append_assoc (take at bytes) (x ∷ []) behind)
+    ∙ ap (λ (l : List ℕ). l ++ behind) (sym (ap (λ (n : ℕ). take n bytes) (add-one at) ∙ take-suc bytes at 0 within))
+
+pub stored-bytes : (n padded : Name) → IsName n → padded ≡ padded_name n → take_while is_positive padded ≡ n
+stored-bytes n padded is kept = ap (take_while is_positive) kept ∙ front n (16 - length n) (name-bytes n is)
+
+-- a name with zeros behind it is stored
+pub stored-name : (n padded : Name) → IsName n → padded ≡ padded_name n → IsStored (record { bytes = padded })
+stored-name n padded is kept =
+    let same = stored-bytes n padded is kept in
     record {
-      name = subst IsName (sym front) is;
-      zeros = ap (λ (c : List ℕ). c ++ drop (length name) zeros) same ∙ ap (λ (z : List ℕ). name ++ z) behind ∙ ap (λ (n : List ℕ). n ++ replicate (16 - length n) 0) (sym front);
-      len = ap length (sym front);
+      name = subst IsName (sym same) is;
+      zeros = kept ∙ ap padded_name (sym same);
     }
+
+-- stored names stand in the order of their bytes
+pub stored-order : (a b : Inside) → IsStored a → IsStored b → slice_cmp nat_cmp a.bytes b.bytes ≡ slice_cmp nat_cmp (name_of a) (name_of b)
+stored-order a b ha hb =
+    let la = name-length (name_of a) ha.name in
+    let lb = name-length (name_of b) hb.name in
+    ap₂ (slice_cmp nat_cmp) ha.zeros hb.zeros
+    ∙ padded-order (name_of a) (name_of b) (16 - length (name_of a)) (16 - length (name_of b)) (name-bytes _ ha.name) (name-bytes _ hb.name) (omega (arith, la, lb))
 
 -- a name is ASCII, so a text
 small-low : (c : ℕ) → is_small_letter c ≡ true → c < 128

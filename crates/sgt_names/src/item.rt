@@ -1,7 +1,7 @@
 //! The names of items.
 
-ghost use Rattle.std.specs.Prelude.{◌≡◌, ◌≤◌, IsTrue, length};
-ghost use Rattle.std.specs.List.{list_all};
+ghost use Rattle.std.specs.Prelude.{◌≡◌, ◌↔◌, IsTrue, replicate};
+ghost use Rattle.std.specs.List.{prefix_len};
 ghost use Rattle.std.specs.Prelude.{Some, refl, bytes_eq};
 ghost use Rattle.std.specs.Ordering.{nat_cmp};
 ghost use Rattle.std.specs.Cmp.{partial_equiv_from_equiv};
@@ -10,7 +10,7 @@ ghost use Rattle.std.specs.Hash as fed;
 ghost use Rattle.std.specs.Cmp.Rules.{hashing};
 ghost use Rattle.std.specs.Cmp.Lexicographic.{slice_cmp, nat_list_eq_equiv, nat_list_cmp_total, texts_ties, texts_po};
 ghost use Rattle.sgt_names.specs.Name.{is_name_byte, is_small_letter};
-ghost use Rattle.sgt_names.specs.Stored.{is_name};
+ghost use Rattle.sgt_names.specs.Stored.{BeginsName, AreNameBytes, is_positive, padded_name};
 
 use std::cmp::Ordering;
 use std::fmt::{self, Debug, Display, Formatter, Write};
@@ -29,11 +29,10 @@ pub struct BadName;
 pub struct Item {
     // the name, and zeros up to 16
     bytes: [u8; 16],
-    len: u8,
 }
 
 impl Model for Item {
-    ghost use Rattle.std.specs.Prelude.{ℕ, List, take, length};
+    ghost use Rattle.std.specs.Prelude.{ℕ, List};
     ghost use Rattle.std.specs.Coded.{coded_list, coded_ℕ};
 
     ghost Value = { List ℕ };
@@ -60,15 +59,11 @@ impl Item {
     pub fn new(bytes: &[u8]) -> Result<Item, BadName>
         ensures { OkIff result (IsName bytes.now) bytes.now }
     {
-        if !is_name_text(bytes) {
+        let mut padded = [0u8; 16];
+        if !is_first(bytes) || !keep_name(&mut padded, bytes) {
             return Err(BadName);
         }
-        let mut padded = [0u8; 16];
-        padded[..bytes.len()].copy_from_slice(bytes);
-        Ok(Item {
-            bytes: padded,
-            len: bytes.len() as u8,
-        })
+        Ok(Item { bytes: padded })
     }
 
     /// The bytes of the name.
@@ -76,7 +71,7 @@ impl Item {
         ensures bytes { result.now ≡ self.now }
         ensures name { IsName self.now }
     {
-        &self.bytes[..self.len as usize]
+        &self.bytes[..name_len(&self.bytes)]
     }
 }
 
@@ -86,7 +81,7 @@ impl PartialEq for Item {
     ghost laws = { partial_equiv_from_equiv nat_list_eq_equiv };
 
     fn eq(&self, other: &Item) -> bool {
-        self.as_bytes() == other.as_bytes()
+        self.bytes == other.bytes
     }
 }
 
@@ -114,7 +109,7 @@ impl Ord for Item {
     ghost matches_eq = { texts_ties };
 
     fn cmp(&self, other: &Item) -> Ordering {
-        self.as_bytes().cmp(other.as_bytes())
+        self.bytes.cmp(&other.bytes)
     }
 }
 
@@ -158,18 +153,42 @@ fn is_later_byte(byte: u8) -> bool
     is_letter(byte) || byte.is_ascii_digit() || byte == b'_'
 }
 
-fn are_later_bytes(bytes: &[u8]) -> bool
-    ensures { result ≡ list_all is_name_byte bytes.now }
+// Whether a name may begin so.
+fn is_first(bytes: &[u8]) -> bool
+    ensures { IsTrue result ↔ BeginsName bytes.now }
 {
-    bytes.iter().all(|byte| is_later_byte(*byte))
-}
-
-fn is_name_text(bytes: &[u8]) -> bool
-    ensures is { result ≡ is_name bytes.now }
-    ensures short { IsTrue result → length bytes.now ≤ 16 }
-{
-    match bytes.split_first() {
-        Some((first, later)) => is_letter(*first) && are_later_bytes(later) && later.len() < 16,
+    match bytes.first() {
+        Some(first) => is_letter(*first),
         None => false,
     }
+}
+
+// Keeps the bytes in front of zeros, if there are at most 16 and each may stand in a name.
+fn keep_name(padded: &mut [u8; 16], bytes: &[u8]) -> bool
+    requires { padded.old ≡ replicate 16 0 }
+    ensures is { IsTrue result ↔ AreNameBytes bytes.now }
+    ensures kept { IsTrue result → padded.new ≡ padded_name bytes.now }
+{
+    if bytes.len() > 16 {
+        return false;
+    }
+    for at in 0..bytes.len() {
+        if !is_later_byte(bytes[at]) {
+            return false;
+        }
+        padded[at] = bytes[at];
+    }
+    true
+}
+
+// How many bytes stand in front of the first zero.
+fn name_len(bytes: &[u8; 16]) -> usize
+    ensures { result ≡ prefix_len is_positive bytes.now }
+{
+    for at in 0..bytes.len() {
+        if bytes[at] == 0 {
+            return at;
+        }
+    }
+    bytes.len()
 }
