@@ -12,10 +12,8 @@ use Rattle.serde_json.specs.Data.{Data}
 use Rattle.serde_json.specs.Find.{get, as_number, as_u64}
 use Rattle.serde_json.specs.Read.{read}
 use Rattle.sgt_names.specs.Name.{Name, IsName, is_name_byte, is_small_letter}
-use Rattle.sgt_names.specs.Stored.{is_name}
 use Rattle.sgt_names.specs.declared.entry.Kind.{Kind}
 use Rattle.sgt_names.specs.declared.entry.Kind.TheVariants.{Wr, Rw, Ww}
-use Rattle.sgt_names.proofs.Stored.{is_name-IsName}
 use Rattle.sgt_cert.specs.declared.fault.CertFault.{CertFault}
 use Rattle.sgt_cert.specs.declared.fault.CertFault.TheVariants.{NotJson, Shape, Range, Memory}
 use Rattle.sgt_cert.specs.declared.certificate.Step.{Step}
@@ -25,7 +23,7 @@ use Rattle.sgt_cert.specs.declared.certificate.Certificate.{Certificate}
 use Rattle.sgt_names.specs.Limits.{max_sites}
 use Rattle.sgt_cert.specs.Text.{kind_name, step_data, decision_data, certificate_data, certificate_text, IsStep, IsDecision, IsCertificate, items_data}
 use Rattle.sgt_cert.specs.Line.{ReadsAs, Refuses, is_commit_object, is_decision_object, is_refuse_object, is_certificate_object, is_step_object, items_list}
-use Rattle.sgt_cert.specs.Private.{Answers, answer_of, certificate_in, commit_in, decision_in, decisions_in, judged_as, kind_at, kind_if, list_at, name_at, name_if, refuse_in, step_in, text_at, tx_at, walk_in, whole_at, withdraw_in}
+use Rattle.sgt_cert.specs.Private.{Answers, answer_of, certificate_in, commit_in, decision_in, decisions_in, is_name, judged_as, kind_at, kind_if, list_at, name_at, name_if, refuse_in, step_in, text_at, tx_at, walk_in, whole_at, withdraw_in}
 use Rattle.sgt_cert.proofs.Reading.{read-certificate_text, certificate-one}
 use Rattle.sgt_cert.proofs.OneLine.{certificate-utf8}
 
@@ -53,6 +51,13 @@ IsName-is_name : (x : Name) → IsName x → is_name x ≡ true
 IsName-is_name [] h = absurd h
 IsName-is_name (c ∷ cs) h =
     and_from (is_small_letter c && list_all is_name_byte cs) (nat_lt (length cs) 16) (and_from (is_small_letter c) (list_all is_name_byte cs) h.0 h.1) (lt-ltb (length cs) 16 h.2)
+
+is_name-IsName : (x : Name) → is_name x ≡ true → IsName x
+is_name-IsName [] h = absurd cc
+is_name-IsName (c ∷ cs) h =
+    let all = and_parts (is_small_letter c && list_all is_name_byte cs) (nat_lt (length cs) 16) h in
+    let both = and_parts (is_small_letter c) (list_all is_name_byte cs) all.0 in
+    (both.0, both.1, ltb-true (length cs) 16 all.1)
 
 kind-back : (k : Kind) → kind_if (kind_name k) ≡ Some k
 kind-back Wr = refl

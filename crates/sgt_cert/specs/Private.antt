@@ -1,12 +1,12 @@
 -- Words of private clauses alone: the certificate in a JSON value that has the shape of one, and the answer to a line.
-use Rattle.std.specs.Prelude.{◌≡◌, ℕ, ◌+◌, ◌^◌, List, [], ◌∷◌, ◌&&◌, nat_le, nat_lt, if◌then◌else◌}
+use Rattle.std.specs.Prelude.{◌≡◌, ℕ, ◌+◌, ◌^◌, List, [], ◌∷◌, length, ◌&&◌, Bool, false, nat_le, nat_lt, if◌then◌else◌}
+use Rattle.std.specs.List.{list_all}
 use Rattle.std.specs.Prelude.{Option, Some, None, option_map, option_and_then, codes, Result, Ok, Err}
 use Rattle.std.specs.Str.{bytes_eq}
 use Rattle.serde_json.specs.Data.{Data}
 use Rattle.serde_json.specs.Find.{get, as_number, as_str, as_array, as_u64}
 use Rattle.sgt_names.specs.Limits.{max_sites}
-use Rattle.sgt_names.specs.Name.{Name}
-use Rattle.sgt_names.specs.Stored.{is_name}
+use Rattle.sgt_names.specs.Name.{Name, is_small_letter, is_name_byte}
 use Rattle.sgt_names.specs.declared.entry.Kind.{Kind}
 use Rattle.sgt_names.specs.declared.entry.Kind.TheVariants.{Wr, Rw, Ww}
 use Rattle.sgt_cert.specs.Text.{certificate_text}
@@ -31,6 +31,11 @@ tx_at key d = whole_at key 1 (2 ^ 32) d
 
 abbrev pub text_at : List ℕ → Data → Option (List ℕ)
 text_at key d = option_and_then as_str (get key d)
+
+-- whether it is a name
+abbrev pub is_name : Name → Bool
+is_name [] = false
+is_name (c ∷ cs) = is_small_letter c && list_all is_name_byte cs && nat_lt (length cs) 16
 
 abbrev pub name_if : List ℕ → Option Name
 name_if s = if is_name s then Some s else None
