@@ -140,9 +140,6 @@ pub fresh-open : (p : OpenPlace) → p.items.items ≡ [] → p.last ≡ None �
 fresh-open p items last finals = record { items = items; last = last; finals = finals }
 
 module _ (log : SiteLog) (old new : OpenPlace) (o : IsOpenPlace log old) where
-  pub same-entered : new ≡ old → IsOpenPlace log new
-  same-entered same = subst (IsOpenPlace log) (sym same) o
-
   pub initial-entered : (h : Holding) → new.items.items ≡ old.items.items ++ h.item ∷ [] → new.last ≡ old.last → new.finals ≡ old.finals → IsOpenPlace (with_line log (Initial h)) new
   initial-entered h items last finals = record {
     items = items ∙ ap (λ (ns : List (List ℕ)). ns ++ h.item ∷ []) o.items ∙ sym (map-append (λ (h : Holding). h.item) log.items (h ∷ []));
@@ -162,9 +159,6 @@ pub last-found : (log : SiteLog) (p : OpenPlace) → IsOpenPlace log p → p.fin
     → IfSome found (λ e. (log.finals ≡ []) × (slice_get log.entries (length log.entries - 1) ≡ Some e)) × IfNone found (log.finals ≡ [] → log.entries ≡ [])
 last-found log p o zero None here = (tt, λ _. last-none log.entries (sym o.last ∙ here))
 last-found log p o zero (Some e) here = ((no-finals log p o zero, sym o.last ∙ here), tt)
-
-pub final-found : (log : SiteLog) (p : OpenPlace) → IsOpenPlace log p → (p.finals ≡ 0 → ⊥) → log.finals ≡ [] → log.entries ≡ []
-final-found log p o some none = absurd (some (some-finals log p o none))
 
 pub not-between : (b : Begun) (line : SectionLine) → ((k : ℕ) → line ≡ Site k → ⊥) → IsTrue false ↔ FitsBetween b line
 not-between b (Site k) h = absurd (h k refl)
