@@ -1,5 +1,5 @@
 -- From one stage of a text to the next.
-use Rattle.std.proofs.Common.{◌≡◌, ℕ, ◌<◌, ◌≤◌, Bool, List, [], ◌∷◌, ◌++◌, length, map, Option, Some, None, refl, sym, ap, ap₂, ◌∙◌, subst, subst₂, arith, inl, inr, ◌⊎◌}
+use Rattle.std.proofs.Common.{◌≡◌, ℕ, ◌<◌, ◌≤◌, Bool, List, [], ◌∷◌, ◌++◌, length, map, None, refl, sym, ap, ◌∙◌, subst, subst₂, arith, inl, inr, ◌⊎◌}
 use Rattle.std.specs.Prelude.{◌↔◌, Err, IfOk, IsSome, Ok, Result}
 use Rattle.std.proofs.lemmas.Bool.{cases_eq}
 use Rattle.std.proofs.lemmas.List.{map-append}
@@ -14,16 +14,15 @@ use Rattle.sgt_cert.specs.Text.{certificate_text, format_line, IsCertificate, Ar
 use Rattle.sgt_cert.specs.declared.certificate.Certificate.{Certificate}
 use Rattle.sgt_cert.proofs.Reading.{certificate-one}
 use Rattle.sgt_audit.specs.declared.faults.Fault.{Fault}
+use Rattle.sgt_audit.specs.declared.faults.FirstFault.{FirstFault}
 use Rattle.sgt_audit.specs.declared.faults.Fault.TheVariants as fault
 use Rattle.sgt_audit.specs.declared.kept.Kept.{Kept}
 use Rattle.sgt_audit.specs.declared.machine.Progress.TheVariants as at
-use Rattle.sgt_audit.specs.Faults.{fault_number, IsLineIn, Keeps, KeepsItself, Stage, headed, within, complete, lines_so_far, Piece, whole, last, Rule, Breaks}
+use Rattle.sgt_audit.specs.Faults.{fault_number, IsLineIn, Keeps, KeepsItself, Stage, start, headed, within, complete, lines_so_far, Piece, whole, last, Rule, Breaks}
 use Rattle.sgt_audit.specs.Reading.{Begun, IsBegun, lines_read}
-use Rattle.sgt_audit.specs.Kept.{Means, Holds, IsStageOf}
-use Rattle.sgt_audit.specs.private.NextLine.{AnswersLine}
-use Rattle.sgt_audit.specs.Progress.{Stands}
+use Rattle.sgt_audit.specs.Kept.{Means, Holds, IsAt, IsStageOf}
 use Rattle.sgt_audit.specs.private.NextLine.{Follows, bytes_of}
-use Rattle.sgt_audit.specs.private.Ending.{limit_of}
+use Rattle.sgt_audit.specs.private.Ending.{IsComplete, limit_of}
 use Rattle.sgt_audit.proofs.LinePlaces.{no_cons}
 use Rattle.sgt_audit.proofs.MayFollow.{whole-sections, are-sections}
 use Rattle.sgt_names.proofs.Lists.{option_cases}
@@ -55,28 +54,36 @@ stage-lines : (second : Bool) (c : Certificate) (before : List SectionLine) (s :
 stage-lines second c before s (inl here) = ap lines_so_far here.0
 stage-lines second c before s (inr done) = ap lines_so_far done.0
 
--- what is kept means this stage, in this format and behind this certificate
-abbrev StandsAs : Kept → Bool → Certificate → Stage → Type 0
-StandsAs k second c s = (b : Begun) × (before : List SectionLine) × Holds second c b k.tracked k.sections before × IsStageOf second c before s
-
--- a line behind the certificate
-pub reading-follows : (old new : Kept) (l : List ℕ) (answer : Option Fault) → new.second ≡ old.second → new.certificate ≡ old.certificate
-    → ((b : Begun) (before : List SectionLine) → Holds old.second old.certificate b old.tracked old.sections before → AnswersLine old.second old.certificate new.tracked new.sections before l answer)
-    → (s : Stage) → Stands (at.Reading old) s → Follows s l (at.Reading new) answer
-reading-follows old new l None format same answers s (b, before, holds, stage) =
-    let next = answers b before holds in
-    let t = stage-of old.second old.certificate next.1 (before ++ next.0 ∷ []) next.3.means in (
+-- one more line behind the lines of a stage
+pub line-follows : (k : Kept) (b : Begun) (before : List SectionLine) (line : SectionLine) (s : Stage) → Holds k b (before ++ line ∷ []) → IsStageOf k.second k.certificate before s → Follows s (line_text line) (at.Reading k) None
+line-follows k b before line s holds stage =
+    let t = stage-of k.second k.certificate b (before ++ line ∷ []) holds.means in (
       t.0,
-      subst (λ c. StandsAs new new.second c t.0) (sym same) (subst (λ f. StandsAs new f old.certificate t.0) (sym format) (next.1, before ++ next.0 ∷ [], next.3, t.1)),
-      t.2 ∙ one-more old.second old.certificate before next.0 l next.2 ∙ ap (λ (ls : List (List ℕ)). ls ++ l ∷ []) (sym (stage-lines old.second old.certificate before s stage)),
+      (b, before ++ line ∷ [], holds, t.1),
+      t.2 ∙ one-more k.second k.certificate before line (line_text line) refl ∙ ap (λ (ls : List (List ℕ)). ls ++ line_text line ∷ []) (sym (stage-lines k.second k.certificate before s stage)),
     )
-reading-follows old new l (Some f) format same answers s (b, before, holds, stage) = answers b before holds s stage
 
 -- the certificate's line
-pub headed-follows : (second : Bool) (k : Kept) (l : List ℕ) (b : Begun) → k.second ≡ second → l ≡ certificate_text k.certificate → Holds k.second k.certificate b k.tracked k.sections [] → (s : Stage) → s ≡ headed second → Follows s l (at.Reading k) None
-headed-follows second k l b format same m s here =
-    let t = stage-of k.second k.certificate b [] m.means in
-    (t.0, (b, [], m, t.1), t.2 ∙ ap₂ (λ f x. format_line f ∷ x ∷ []) format (sym same) ∙ ap (λ s. lines_so_far s ++ l ∷ []) (sym here))
+pub headed-follows : (k : Kept) (l : List ℕ) (b : Begun) → l ≡ certificate_text k.certificate → Holds k b [] → Follows (headed k.second) l (at.Reading k) None
+headed-follows k l b same holds =
+    let t = stage-of k.second k.certificate b [] holds.means in
+    (t.0, (b, [], holds, t.1), t.2 ∙ ap (λ x. format_line k.second ∷ x ∷ []) (sym same))
+
+-- where what is kept stands
+pub at-open : (k : Kept) (s : Stage) → IsAt k s → (IsComplete s → ⊥) → (before : List SectionLine) × (s ≡ within k.second k.certificate before)
+at-open k s (b, before, holds, inl here) miss = (before, here.0)
+at-open k s (b, before, holds, inr done) miss = absurd (miss (subst IsComplete (sym done.0) tt))
+
+-- whether all sections were read, by the stage and by the sections
+pub complete-all : (k : Kept) (b : Begun) (before : List SectionLine) (s : Stage) → Means k.second k.certificate b before → IsStageOf k.second k.certificate before s → IsComplete s ↔ AreSections b.sites (lines_read b)
+complete-all k b before s m (inl here) = (
+  λ c. absurd (subst IsComplete here.0 c),
+  λ all. absurd (here.1 (subst₂ AreSections m.sites (sym m.lines) all)),
+)
+complete-all k b before s m (inr done) = (
+  λ c. subst₂ AreSections (sym m.sites) m.lines done.1,
+  λ all. subst IsComplete (sym done.0) tt,
+)
 
 -- ---- the certificate
 
@@ -191,28 +198,28 @@ module _ (second : Bool) (c : Certificate) (before : List SectionLine) where
 
 -- ---- a line that can't be read, and one behind all sections
 
-pub line-trails : (second : Bool) (c : Certificate) (before : List SectionLine) (l : List ℕ) → AreSections c.sites before → (s : Stage) → IsStageOf second c before s → Breaks (Rule s (whole l)) fault.Trailing
-line-trails second c before l all s (inl here) = absurd (here.1 all)
-line-trails second c before l all s (inr done) = subst (λ s. Breaks (Rule s (whole l)) fault.Trailing) (sym done.0) (record { broken = λ h. h; least = below-trailing second c before (whole l) })
+pub line-trails : (l : List ℕ) (s : Stage) → IsComplete s → Breaks (Rule s (whole l)) fault.Trailing
+line-trails l start done = absurd done
+line-trails l (headed second) done = absurd done
+line-trails l (within second c before) done = absurd done
+line-trails l (complete second c before) done = record { broken = λ h. h; least = below-trailing second c before (whole l) }
 
-pub line-unread : (second : Bool) (c : Certificate) (before : List SectionLine) (l : List ℕ) → (AreSections c.sites before → ⊥) → SpellsNone (IsLineIn second) line_text l → (s : Stage) → IsStageOf second c before s → Breaks (Rule s (whole l)) fault.Notation
-line-unread second c before l miss none s (inl here) = subst (λ s. Breaks (Rule s (whole l)) fault.Notation) (sym here.0) (record { broken = λ (line, is, same). none line is same; least = below-notation second c before (whole l) })
-line-unread second c before l miss none s (inr done) = absurd (miss done.1)
+pub line-unread : (k : Kept) (l : List ℕ) (s : Stage) → IsAt k s → (IsComplete s → ⊥) → SpellsNone (IsLineIn k.second) line_text l → Breaks (Rule s (whole l)) fault.Notation
+line-unread k l s here miss none =
+    let open_yet = at-open k s here miss in
+    subst (λ s. Breaks (Rule s (whole l)) fault.Notation) (sym open_yet.1)
+    (record { broken = λ (line, is, same). none line is same; least = below-notation k.second k.certificate open_yet.0 (whole l) })
 
--- whether these are all, by the sections and by their lines
-pub all-before : (second : Bool) (c : Certificate) (b : Begun) (before : List SectionLine) → Means second c b before → AreSections b.sites (lines_read b) ↔ AreSections c.sites before
-all-before second c b before m = (λ h. subst₂ AreSections m.sites (sym m.lines) h, λ h. subst₂ AreSections (sym m.sites) m.lines h)
+pub long-breaks : (k : Kept) (s : Stage) (p : Piece) → IsAt k s → (IsComplete s → ⊥) → limit_of s < length (bytes_of p) → Breaks (Rule s p) fault.Notation
+long-breaks k s p here miss long =
+    let open_yet = at-open k s here miss in
+    subst (λ s. limit_of s < length (bytes_of p) → Breaks (Rule s p) fault.Notation) (sym open_yet.1) (notation-breaks k.second k.certificate open_yet.0 p) long
 
-limit-at : (s t : Stage) (n : ℕ) → s ≡ t → limit_of s < n → limit_of t < n
-limit-at s t n same lt = subst (λ s. limit_of s < n) same lt
-
-pub long-breaks : (second : Bool) (c : Certificate) (before : List SectionLine) (s : Stage) (p : Piece) → IsStageOf second c before s → (AreSections c.sites before → ⊥) → limit_of s < length (bytes_of p) → Breaks (Rule s p) fault.Notation
-long-breaks second c before s p (inl here) miss long = subst (λ s. Breaks (Rule s p) fault.Notation) (sym here.0) (notation-breaks second c before p (limit-at s (within second c before) (length (bytes_of p)) here.0 long))
-long-breaks second c before s p (inr done) miss long = absurd (miss done.1)
-
-pub long-trails : (second : Bool) (c : Certificate) (before : List SectionLine) (s : Stage) (p : Piece) → IsStageOf second c before s → AreSections c.sites before → limit_of s < length (bytes_of p) → Breaks (Rule s p) fault.Trailing
-long-trails second c before s p (inl here) all long = absurd (here.1 all)
-long-trails second c before s p (inr done) all long = subst (λ s. Breaks (Rule s p) fault.Trailing) (sym done.0) (trailing-breaks second c before p (limit-at s (complete second c before) (length (bytes_of p)) done.0 long))
+pub long-trails : (s : Stage) (p : Piece) → IsComplete s → limit_of s < length (bytes_of p) → Breaks (Rule s p) fault.Trailing
+long-trails start p done long = absurd done
+long-trails (headed second) p done long = absurd done
+long-trails (within second c before) p done long = absurd done
+long-trails (complete second c before) p done long = trailing-breaks second c before p long
 
 -- ---- the end of the input
 
@@ -226,29 +233,22 @@ module _ (second : Bool) (c : Certificate) (before : List SectionLine) (l : List
   truncated : length l ≤ max_line → Breaks (Rule (within second c before) (last l)) fault.Truncated
   truncated le = record { broken = λ h. h; least = below-truncated le }
 
-  trails : (l ≡ [] → ⊥) → Breaks (Rule (complete second c before) (last l)) fault.Trailing
-  trails some = record { broken = some; least = below-trailing second c before (last l) }
+pub ends-within : (k : Kept) (s : Stage) (l : List ℕ) → IsAt k s → (IsComplete s → ⊥) → length l ≤ limit_of s → Breaks (Rule s (last l)) fault.Truncated
+ends-within k s l here miss short =
+    let open_yet = at-open k s here miss in
+    subst (λ s. length l ≤ limit_of s → Breaks (Rule s (last l)) fault.Truncated) (sym open_yet.1) (truncated k.second k.certificate open_yet.0 l) short
 
-most-at : (s t : Stage) (n : ℕ) → s ≡ t → n ≤ limit_of s → n ≤ limit_of t
-most-at s t n same le = subst (λ s. n ≤ limit_of s) same le
-
-pub ends-within : (second : Bool) (c : Certificate) (before : List SectionLine) (s : Stage) (l : List ℕ) → IsStageOf second c before s → (AreSections c.sites before → ⊥) → length l ≤ limit_of s → Breaks (Rule s (last l)) fault.Truncated
-ends-within second c before s l (inl here) miss le = subst (λ s. Breaks (Rule s (last l)) fault.Truncated) (sym here.0) (truncated second c before l (most-at s (within second c before) (length l) here.0 le))
-ends-within second c before s l (inr done) miss le = absurd (miss done.1)
-
-pub ends-behind : (second : Bool) (c : Certificate) (before : List SectionLine) (s : Stage) (l : List ℕ) → IsStageOf second c before s → AreSections c.sites before → (l ≡ [] → ⊥) → Breaks (Rule s (last l)) fault.Trailing
-ends-behind second c before s l (inl here) all some = absurd (here.1 all)
-ends-behind second c before s l (inr done) all some = subst (λ s. Breaks (Rule s (last l)) fault.Trailing) (sym done.0) (trails second c before l some)
-
-pub ends-whole : (second : Bool) (c : Certificate) (before : List SectionLine) (s : Stage) → IsStageOf second c before s → AreSections c.sites before → s ≡ complete second c before
-ends-whole second c before s (inl here) all = absurd (here.1 all)
-ends-whole second c before s (inr done) all = done.0
+pub ends-behind : (s : Stage) (l : List ℕ) → IsComplete s → (l ≡ [] → ⊥) → Breaks (Rule s (last l)) fault.Trailing
+ends-behind start l done some = absurd done
+ends-behind (headed second) l done some = absurd done
+ends-behind (within second c before) l done some = absurd done
+ends-behind (complete second c before) l done some = record { broken = some; least = below-trailing second c before (last l) }
 
 pub empty-nil : (l : List ℕ) → length l ≡ 0 → l ≡ []
 empty-nil [] e = refl
 empty-nil (x ∷ l) e = absurd (omega arith)
 
 -- what is handed out at the end is what was kept
-pub hands-out : (r : Result Kept Fault) (k : Kept) → IfOk r (λ x. x ≡ k) → IsSome k.sections → IfOk r (λ x. IsSome x.sections)
+pub hands-out : (r : Result Kept FirstFault) (k : Kept) → IfOk r (λ x. x ≡ k) → IsSome k.sections → IfOk r (λ x. IsSome x.sections)
 hands-out (Ok x) k same some = subst (λ x. IsSome x.sections) (sym same) some
-hands-out (Err f) k same some = tt
+hands-out (Err first) k same some = tt

@@ -1,7 +1,9 @@
 -- The place behind the lines of sections, against those sections.
-use Rattle.std.proofs.Common.{◌≡◌, ℕ, ◌+◌, ◌-◌, ◌^◌, ◌<◌, ◌≤◌, List, [], ◌∷◌, ◌++◌, length, Option, Some, None, Bool, false, IsTrue, IfSome, refl, sym, ap, ap₂, ◌∙◌, subst, arith, All}
+use Rattle.std.proofs.Common.{◌≡◌, ℕ, ◌+◌, ◌-◌, ◌^◌, ◌<◌, ◌≤◌, List, [], ◌∷◌, ◌++◌, length, Option, Some, None, Bool, false, IsTrue, IfSome, refl, sym, ap, ap₂, ◌∙◌, subst, subst₂, arith, inl, inr, All, AllPairs}
 use Rattle.std.specs.Prelude.{◌↔◌, IfNone, slice_get}
-use Rattle.std.proofs.lemmas.Bool.{false≢true}
+use Rattle.std.proofs.lemmas.Bool.{cases_order, false≢true}
+use Rattle.std.proofs.lemmas.Cmp.{nat_list_cmp_total}
+use Rattle.std.specs.Option.{ForSome}
 use Rattle.std.proofs.lemmas.List.{map-append, length-map, length_push}
 use Rattle.std.proofs.lemmas.Option.{none-some, slice_get_within}
 use Rattle.sgt_names.specs.Limits.{max_items, max_sites}
@@ -9,6 +11,8 @@ use Rattle.sgt_names.specs.Log.{names}
 use Rattle.sgt_names.specs.declared.entry.Entry.{Entry}
 use Rattle.sgt_names.specs.declared.entry.Holding.{Holding}
 use Rattle.sgt_names.proofs.Lists.{middle_at}
+use Rattle.sgt_names.proofs.Places.{All_at, All-from_at, AllPairs_at}
+use Rattle.sgt_names.specs.Name.{Name}
 use Rattle.sgt_notation.specs.declared.SectionLine.{SectionLine}
 use Rattle.sgt_notation.specs.declared.SectionLine.TheVariants.{Site, Initial, Logged, Final, End}
 use Rattle.sgt_cert.specs.Parts.{ComesBefore}
@@ -45,6 +49,26 @@ last-push entries e =
 
 -- ---- what may stand next
 
+-- names that rise come before another where the last of them does
+last-decides : (ns : List Name) (x : Name) → AllPairs ComesBefore ns → ForSome (slice_get ns (length ns - 1)) (λ y. ComesBefore y x) ↔ All (λ y. ComesBefore y x) ns
+last-decides [] x rise = (λ _. λ k d lt. absurd (omega arith), λ _ y at. absurd (none-some y at))
+last-decides (n ∷ ns) x rise =
+    let l = at-last n ns in
+    let place : length (n ∷ ns) - 1 ≡ length ns = omega arith in
+    let at = ap (slice_get (n ∷ ns)) place ∙ l.1 in (
+      λ last. All-from_at (λ y. ComesBefore y x) (n ∷ ns) (λ k y at_k.
+          elim (cases_order k (length ns)) [
+            | inl same ↦ last y (ap (slice_get (n ∷ ns)) (place ∙ sym same) ∙ at_k)
+            | inr (inl less) ↦ nat_list_cmp_total.trans y l.0 x (AllPairs_at ComesBefore (n ∷ ns) k (length ns) y l.0 rise less at_k l.1) (last l.0 at)
+            | inr (inr more) ↦ absurd (omega (arith, more, slice_get_within (n ∷ ns) k y at_k))
+          ]),
+      λ all y at_y. All_at (λ y. ComesBefore y x) (n ∷ ns) (length (n ∷ ns) - 1) y all at_y,
+    )
+
+module _ (log : SiteLog) (p : OpenPlace) (o : IsOpenPlace log p) (open_log : IsOpenLog log) where
+  before-all : (x : Name) → ForSome (slice_get p.items.items (length p.items.items - 1)) (λ y. ComesBefore y x) ↔ All (λ y. ComesBefore y x) (names log.items)
+  before-all x = subst (λ (ns : List Name). ForSome (slice_get ns (length ns - 1)) (λ y. ComesBefore y x) ↔ All (λ y. ComesBefore y x) (names log.items)) (sym o.items) (last-decides (names log.items) x open_log.rising)
+
 module _ (log : SiteLog) (p : OpenPlace) (o : IsOpenPlace log p) where
   item-count : length p.items.items ≡ length log.items
   item-count = ap length o.items ∙ length-map log.items (λ (h : Holding). h.item)
@@ -55,15 +79,19 @@ module _ (log : SiteLog) (p : OpenPlace) (o : IsOpenPlace log p) where
   some-finals : log.finals ≡ [] → p.finals ≡ 0
   some-finals e = o.finals ∙ ap length e
 
-  pub fits-at : (line : SectionLine) → FitsAt p line ↔ Fits log line
-  fits-at (Site k) = (λ h. h, λ h. h)
-  fits-at (Initial h) = (
-    λ f. (last-none log.entries (sym o.last ∙ f.0), no-finals f.1, subst (λ n. n < max_items) item-count f.2, subst (All (λ x. ComesBefore x h.item)) o.items f.3),
-    λ f. (o.last ∙ ap (λ (es : List Entry). slice_get es (length es - 1)) f.0, some-finals f.1, subst (λ n. n < max_items) (sym item-count) f.2, subst (All (λ x. ComesBefore x h.item)) (sym o.items) f.3),
+  pub fits-at : IsOpenLog log → (line : SectionLine) → FitsAt p line ↔ Fits log line
+  fits-at rises (Site k) = (λ h. h, λ h. h)
+  fits-at rises (Initial h) = (
+    λ f. (last-none log.entries (sym o.last ∙ f.0), no-finals f.1, subst (λ n. n < max_items) item-count f.2, (before-all log p o rises h.item).0 f.3),
+    λ f. (o.last ∙ ap (λ (es : List Entry). slice_get es (length es - 1)) f.0, some-finals f.1, subst (λ n. n < max_items) (sym item-count) f.2, (before-all log p o rises h.item).1 f.3),
   )
-  fits-at (Logged e) = (no-finals, some-finals)
-  fits-at (Final h) = let same = ap₂ slice_get o.items o.finals in (λ f. sym same ∙ f, λ f. same ∙ f)
-  fits-at End = (λ f. sym o.finals ∙ f ∙ item-count, λ f. o.finals ∙ f ∙ sym item-count)
+  fits-at rises (Logged e) = (no-finals, some-finals)
+  fits-at rises (Final h) = let same = ap₂ slice_get o.items o.finals in (λ f. sym same ∙ f, λ f. same ∙ f)
+  fits-at rises End = (λ f. sym o.finals ∙ f ∙ item-count, λ f. o.finals ∙ f ∙ sym item-count)
+
+-- the log of the open section
+open-room : (b : Begun) (current : Option SiteLog) (log : SiteLog) → current ≡ Some log → HasRoomFor b current → IsOpenLog log
+open-room b current log here room = (subst (HasRoomFor b) here room).1
 
 -- the open section, or none
 open-at : (current : Option SiteLog) (p : OpenPlace) → IsCurrentPlace current (Some p) → (log : SiteLog) × (current ≡ Some log) × IsOpenPlace log p
@@ -85,11 +113,16 @@ module _ (b : Begun) (p : Place) (is : IsBegun b) (at : IsPlace b p) where
     pub goes-on-inside : (o : OpenPlace) → p.current ≡ Some o → IsTrue r ↔ FitsAt o line → IsTrue r ↔ Begins b.sites (lines_read b ++ line ∷ [])
     goes-on-inside o here test =
         let log = open-log o here in
-        let fits = fits-at log.0 o log.2 line in
+        let fits = fits-at log.0 o log.2 (open-room b b.current log.0 log.1 is.room) line in
         follow-decides b is line r (subst (λ c. IsTrue r ↔ MayFollow b c line) (sym log.1) (λ h. fits.0 (test.0 h), λ f. test.1 (fits.1 f)))
 
     pub goes-on-between : p.current ≡ None → IsTrue r ↔ FitsBetween b line → IsTrue r ↔ Begins b.sites (lines_read b ++ line ∷ [])
     goes-on-between here test = follow-decides b is line r (subst (λ c. IsTrue r ↔ MayFollow b c line) (sym (no-open here)) test)
+
+    -- the site that is next
+    pub goes-on-site : (k : ℕ) → p.current ≡ None → line ≡ Site k → IsTrue r ↔ ((k ≡ p.whole) × (k < p.sites)) → IsTrue r ↔ Begins b.sites (lines_read b ++ line ∷ [])
+    goes-on-site k here site test =
+        goes-on-between here (subst (λ l. IsTrue r ↔ FitsBetween b l) (sym site) (subst₂ (λ n m. IsTrue r ↔ ((k ≡ n) × (k < m))) at.whole at.sites test))
 
   -- whether these are all
   pub all-counted : (r : Bool) → p.current ≡ None → IsTrue r ↔ (p.whole ≡ p.sites) → IsTrue r ↔ AreSections b.sites (lines_read b)
@@ -107,9 +140,6 @@ pub fresh-open : (p : OpenPlace) → p.items.items ≡ [] → p.last ≡ None �
 fresh-open p items last finals = record { items = items; last = last; finals = finals }
 
 module _ (log : SiteLog) (old new : OpenPlace) (o : IsOpenPlace log old) where
-  pub same-entered : new ≡ old → IsOpenPlace log new
-  same-entered same = subst (IsOpenPlace log) (sym same) o
-
   pub initial-entered : (h : Holding) → new.items.items ≡ old.items.items ++ h.item ∷ [] → new.last ≡ old.last → new.finals ≡ old.finals → IsOpenPlace (with_line log (Initial h)) new
   initial-entered h items last finals = record {
     items = items ∙ ap (λ (ns : List (List ℕ)). ns ++ h.item ∷ []) o.items ∙ sym (map-append (λ (h : Holding). h.item) log.items (h ∷ []));
@@ -129,9 +159,6 @@ pub last-found : (log : SiteLog) (p : OpenPlace) → IsOpenPlace log p → p.fin
     → IfSome found (λ e. (log.finals ≡ []) × (slice_get log.entries (length log.entries - 1) ≡ Some e)) × IfNone found (log.finals ≡ [] → log.entries ≡ [])
 last-found log p o zero None here = (tt, λ _. last-none log.entries (sym o.last ∙ here))
 last-found log p o zero (Some e) here = ((no-finals log p o zero, sym o.last ∙ here), tt)
-
-pub final-found : (log : SiteLog) (p : OpenPlace) → IsOpenPlace log p → (p.finals ≡ 0 → ⊥) → log.finals ≡ [] → log.entries ≡ []
-final-found log p o some none = absurd (some (some-finals log p o none))
 
 pub not-between : (b : Begun) (line : SectionLine) → ((k : ℕ) → line ≡ Site k → ⊥) → IsTrue false ↔ FitsBetween b line
 not-between b (Site k) h = absurd (h k refl)

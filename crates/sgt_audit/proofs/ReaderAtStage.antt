@@ -1,5 +1,6 @@
 -- How far a text was read, against all that its reader told.
 use Rattle.std.proofs.Common.{◌≡◌, ◌≢◌, ℕ, zero, suc, ◌+◌, ◌<◌, ◌≤◌, List, [], ◌∷◌, ◌++◌, length, take, Option, Some, None, IfSome, refl, sym, ap, ◌∙◌, subst, arith, inl, inr, ◌⊎◌, append_assoc}
+use Rattle.std.specs.Prelude.{IfOk, Result, Ok, Err}
 use Rattle.std.specs.List.{AllByRecursion}
 use Rattle.std.proofs.lemmas.Bool.{cases_eq, cases_order}
 use Rattle.std.proofs.lemmas.List.{append-nil, length-append}
@@ -15,16 +16,14 @@ use Rattle.sgt_audit.specs.declared.faults.Fault.{Fault}
 use Rattle.sgt_audit.specs.declared.kept.Kept.{Kept}
 use Rattle.sgt_audit.specs.declared.machine.Progress.{Progress}
 use Rattle.sgt_audit.specs.declared.machine.Progress.TheVariants as at
-use Rattle.sgt_audit.specs.declared.reading.Stop.TheVariants as stop
-use Rattle.sgt_audit.specs.declared.reading.Judged.{Judged}
-use Rattle.sgt_audit.specs.declared.reading.Judged.TheVariants as judged
+use Rattle.sgt_audit.specs.declared.faults.FirstFault as found
 use Rattle.sgt_audit.specs.Faults.{Stage, lines_so_far, IsFaultless, Piece, whole, last, ComesNext, Rule, Breaks, FirstFault}
 use Rattle.sgt_audit.specs.Kept.{Means, IsStageOf}
 use Rattle.sgt_audit.specs.Reading.{Begun}
 use Rattle.sgt_audit.specs.Progress.{Stands}
 use Rattle.sgt_audit.specs.private.NextLine.{Follows, bytes_of}
-use Rattle.sgt_audit.specs.private.Ending.{limit_of}
-use Rattle.sgt_audit.specs.private.Stops.{FedFront, Goes, IsAll, IsEnded, IsJudged, IsRest, IsStop}
+use Rattle.sgt_audit.specs.private.Ending.{EndsWith, limit_of}
+use Rattle.sgt_audit.specs.private.Stops.{FedFront, Goes, IsJudged, IsRest, IsStop, IsWhole}
 
 -- what the machine has kept has no fault
 stage-faultless : (k : Kept) (b : Begun) (before : List SectionLine) (s : Stage) → Means k.second k.certificate b before → IsStageOf k.second k.certificate before s → IsFaultless s
@@ -97,35 +96,33 @@ end-left limit (Some xs) (Some ys) l gives = gives.0 ∙ sym gives.1
 
 -- reading stops there, in line n, with these bytes behind the last LF
 pub stops-cut : (told : Option (List ℕ)) (p : Progress) (limit n : ℕ) (old new : Option (List ℕ)) (l : List ℕ) → Goes told p old n → Gives limit old Cut l new
-    → ((s : Stage) → Stands p s → length l ≤ limit_of s) → HasNoLf l → IsStop told (stop.Ended n) p l
+    → ((s : Stage) → Stands p s → length l ≤ limit_of s) → HasNoLf l → IsStop told (Ok n) p l
 stops-cut told p limit n old new l (s, stands, rest, number) gives short none = (s, stands, short s stands, none, at-stop told old s l n rest number (cut-left limit old new l gives))
 
 pub stops-end : (told : Option (List ℕ)) (p : Progress) (limit n : ℕ) (old new : Option (List ℕ)) (l : List ℕ) → Goes told p old n → Gives limit old End l new
-    → ((s : Stage) → Stands p s → length l ≤ limit_of s) → HasNoLf l → IsStop told (stop.Ended n) p l
+    → ((s : Stage) → Stands p s → length l ≤ limit_of s) → HasNoLf l → IsStop told (Ok n) p l
 stops-end told p limit n old new l (s, stands, rest, number) gives short none = (s, stands, short s stands, none, at-stop told old s l n rest number (end-left limit old new l gives))
 
 -- what the machine says of the text that ends there
 module _ (s : Stage) (l : List ℕ) (n : ℕ) (good : IsFaultless s) (none : HasNoLf l) where
-  text-judged : (bytes : List ℕ) (j : Judged) → IsEnded s l n j → (bytes ≡ text_of_lines (lines_so_far s) ++ l) × (n ≡ length (lines_so_far s) + 1) → IsJudged j bytes
-  text-judged bytes (judged.Whole k) ends at =
-      let e = ends.0 in
-      (e.0, e.1, e.2, e.3, at.0 ∙ ap (λ (t : List ℕ). text_of_lines (lines_so_far s) ++ t) ends.1 ∙ append-nil (text_of_lines (lines_so_far s)) ∙ ap (λ s. text_of_lines (lines_so_far s)) e.4)
-  text-judged bytes (judged.Faulty line f) ends at =
+  pub text-judged : (bytes : List ℕ) (j : Result Kept found.FirstFault) → EndsWith s l n j → (bytes ≡ text_of_lines (lines_so_far s) ++ l) × (n ≡ length (lines_so_far s) + 1) → IsJudged j bytes
+  text-judged bytes (Ok k) ends at = (s, ends.0, ends.1, at.0 ∙ ap (λ (t : List ℕ). text_of_lines (lines_so_far s) ++ t) ends.2 ∙ append-nil (text_of_lines (lines_so_far s)))
+  text-judged bytes (Err first) ends at =
       record { stage = s; rest = l; next = last l; text = at.0; faultless = good; number = ends.0 ∙ at.1; comes = (refl, none); breaks = ends.1 }
 
-  told-judged : (told : Option (List ℕ)) (j : Judged) → IsEnded s l n j → IfSome told (λ bytes. (bytes ≡ text_of_lines (lines_so_far s) ++ l) × (n ≡ length (lines_so_far s) + 1)) → IfSome told (IsJudged j)
+  told-judged : (told : Option (List ℕ)) (j : Result Kept found.FirstFault) → EndsWith s l n j → IfSome told (λ bytes. (bytes ≡ text_of_lines (lines_so_far s) ++ l) × (n ≡ length (lines_so_far s) + 1)) → IfSome told (IsJudged j)
   told-judged None j ends at = tt
   told-judged (Some bytes) j ends at = text-judged bytes j ends at
 
-pub stop-judged : (told : Option (List ℕ)) (p : Progress) (n : ℕ) (l : List ℕ) (j : Judged) → IsStop told (stop.Ended n) p l → ((s : Stage) → Stands p s → length l ≤ limit_of s → IsEnded s l n j) → IfSome told (IsJudged j)
-stop-judged told p n l j (s, stands, short, none, at) ends = told-judged s l n (faultless p s stands) none told j (ends s stands short) at
+  ended-whole : (j : Result Kept found.FirstFault) → EndsWith s l n j → IfOk j IsWhole
+  ended-whole (Ok k) ends = (s, ends.0, ends.1)
+  ended-whole (Err first) ends = tt
 
-ended-all : (s : Stage) (l : List ℕ) (n : ℕ) (j : Judged) → IsEnded s l n j → IsAll j
-ended-all s l n (judged.Whole k) ends = let e = ends.0 in (e.0, e.1, e.2, e.3)
-ended-all s l n (judged.Faulty line f) ends = tt
-
-pub stop-all : (told : Option (List ℕ)) (p : Progress) (n : ℕ) (l : List ℕ) (j : Judged) → IsStop told (stop.Ended n) p l → ((s : Stage) → Stands p s → length l ≤ limit_of s → IsEnded s l n j) → IsAll j
-stop-all told p n l j (s, stands, short, none, at) ends = ended-all s l n j (ends s stands short)
+pub stop-judged : (told : Option (List ℕ)) (p : Progress) (n : ℕ) (l : List ℕ) (j : Result Kept found.FirstFault) → IsStop told (Ok n) p l → ((s : Stage) → Stands p s → length l ≤ limit_of s → EndsWith s l n j) → IfSome told (IsJudged j) × IfOk j IsWhole
+stop-judged told p n l j (s, stands, short, none, at) ends =
+    let e = ends s stands short in
+    let good = faultless p s stands in
+    (told-judged s l n good none told j e at, ended-whole s l n good none j e)
 
 -- ---- a line that is too long
 

@@ -25,12 +25,11 @@ use Rattle.sgt_cert.specs.Parts.{ComesBefore}
 use Rattle.sgt_cert.specs.Valid.{IsDecided, RiseInRank, EndInOrder}
 use Rattle.sgt_cert.specs.declared.bundle.SiteLog.{SiteLog}
 use Rattle.sgt_cert.specs.declared.certificate.Decision.{Decision}
-use Rattle.sgt_decided.specs.Decided.{IsFound}
-use Rattle.sgt_cells.specs.Tracks.{TracksOpen, IsReadyFor, IsPlaceAmong, DecidesOn, IsNumberOf}
-use Rattle.sgt_cells.specs.Cells.{IsRankOf}
+use Rattle.sgt_decided.specs.Decided.{Decides, IsFound}
+use Rattle.sgt_cells.specs.Tracks.{TracksOpen, IsReadyFor, IsPlaceAmong, IsNumberOf}
 use Rattle.sgt_cells.specs.declared.state.SiteState.{SiteState}
 use Rattle.sgt_cells.proofs.Tracking.{ready-next}
-use Rattle.sgt_cert.specs.Certificate.{IsDecidedOnce, IsCommitted}
+use Rattle.sgt_cert.specs.Certificate.{IsDecidedOnce}
 use Rattle.sgt_cert.specs.Text.{Begins}
 use Rattle.sgt_cert.specs.declared.certificate.Certificate.{Certificate}
 use Rattle.sgt_audit.specs.declared.faults.Fault.TheVariants as fault
@@ -114,17 +113,9 @@ order-free ds entries e none = (
   λ h. refl,
 )
 
-pub number-is : (ds : List Decision) (tx : ℕ) (o : Option ℕ) → IfSome o (λ number. DecidesOn ds number tx) → IfNone o ((number : ℕ) → DecidesOn ds number tx → ⊥) → IsNumberOf ds tx o
+pub number-is : (ds : List Decision) (tx : ℕ) (o : Option ℕ) → IfSome o (λ number. Decides ds number tx) → IfNone o ((number : ℕ) → Decides ds number tx → ⊥) → IsNumberOf ds tx o
 number-is ds tx None some none = none
 number-is ds tx (Some number) some none = some
-
-pub number-found : (ds : List Decision) (tx : ℕ) (o : Option ℕ) → IsFound (λ n. DecidesOn ds n tx) o → IsNumberOf ds tx o
-number-found ds tx None is = is
-number-found ds tx (Some number) is = is
-
-pub rank-found : (ds : List Decision) (tx : ℕ) (o : Option ℕ) → IsFound (λ rank. (n : ℕ) × IsCommitted ds n tx rank) o → IsRankOf ds tx o
-rank-found ds tx None is = λ number rank by. is rank (number, by)
-rank-found ds tx (Some rank) is = is
 
 pub suiting-at : (ds : List Decision) (e : Entry) (o : Option ℕ) (n : ℕ) → o ≡ Some n → IsFound (IsDecided ds e) o → IsDecided ds e n
 suiting-at ds e o n is found = subst (IsFound (IsDecided ds e)) is found

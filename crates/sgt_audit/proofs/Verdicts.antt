@@ -1,6 +1,6 @@
 -- The verdict on a text that was judged.
-use Rattle.std.proofs.Common.{◌≡◌, ℕ, List, Option, Some, None, IfSome, refl, sym, ap, ap₂, ◌∙◌, subst}
-use Rattle.std.specs.Prelude.{IsSome}
+use Rattle.std.proofs.Common.{◌≡◌, ℕ, List, Option, Some, None, IfSome, refl, sym, ap, ap₂, ◌∙◌, subst, inl, inr}
+use Rattle.std.specs.Prelude.{IsSome, Ok}
 use Rattle.std.proofs.lemmas.Bool.{false≢true}
 use Rattle.std.proofs.lemmas.Option.{none-some}
 use Rattle.sgt_notation.specs.Spelling.{text_of_lines}
@@ -13,13 +13,13 @@ use Rattle.sgt_cert.proofs.Headline.{valid-agrees}
 use Rattle.sgt_cert.proofs.OneText.{bundle-one}
 use Rattle.sgt_names.proofs.Places.{All-from_at, All_at}
 use Rattle.sgt_audit.specs.declared.kept.Kept.{Kept}
-use Rattle.sgt_audit.specs.declared.reading.Judged.TheVariants as judged
 use Rattle.sgt_audit.specs.declared.verdict.Verdict.{Verdict}
 use Rattle.sgt_audit.specs.declared.verdict.Verdict.TheVariants.{Yes, No}
-use Rattle.sgt_audit.specs.Faults.{complete, lines_so_far}
-use Rattle.sgt_audit.specs.Kept.{Means}
+use Rattle.sgt_audit.specs.Faults.{Stage, complete, lines_so_far}
+use Rattle.sgt_audit.specs.Kept.{Holds, IsStageOf}
 use Rattle.sgt_audit.specs.Reading.{Begun}
-use Rattle.sgt_audit.specs.private.Stops.{IsJudged}
+use Rattle.sgt_audit.specs.private.Ending.{IsComplete}
+use Rattle.sgt_audit.specs.private.Stops.{IsJudged, IsWhole}
 use Rattle.sgt_audit.specs.Verdict.{IsVerdict, SaysHeadline, yes_of}
 use Rattle.sgt_audit.proofs.NoFault.{bundle_of, spells-bundle, valid-bundle}
 use Rattle.sgt_audit.proofs.Fitting.{fit-together}
@@ -31,15 +31,35 @@ use Rattle.sgt_audit.proofs.MayFollow.{sections-whole}
 abbrev pub kept_bundle : Kept → Begun → Parts
 kept_bundle k b = record { certificate = k.certificate; sites = b.whole }
 
-module _ (k : Kept) (b : Begun) (before : List SectionLine) (m : Means k.second k.certificate b before) (all : AreSections k.certificate.sites before) (bytes : List ℕ) (text : bytes ≡ text_of_lines (lines_so_far (complete k.second k.certificate before))) where
-  same-bundle : bundle_of bytes k.second k.certificate before m.kept all text ≡ kept_bundle k b
-  same-bundle = ap (λ logs. record { certificate = k.certificate; sites = logs }) (sym (sections-whole b all.0 (all.2 ∙ m.lines)).1)
+-- what is kept is all of a text with no fault: it is this bundle
+abbrev pub IsBundleOf : Kept → List ℕ → Begun → Type 0
+IsBundleOf k bytes b = IfSome k.sections (λ s. s ≡ b) × Spells bytes (kept_bundle k b) × IsValid (kept_bundle k b)
 
-  pub kept-spelled : Spells bytes (kept_bundle k b)
-  kept-spelled = subst (Spells bytes) same-bundle (spells-bundle bytes k.second k.certificate before m.kept all text)
+module _ (k : Kept) (b : Begun) (before : List SectionLine) (h : Holds k b before) (all : AreSections k.certificate.sites before) (bytes : List ℕ) (text : bytes ≡ text_of_lines (lines_so_far (complete k.second k.certificate before))) where
+  same-bundle : bundle_of bytes k.second k.certificate before h.means.kept all text ≡ kept_bundle k b
+  same-bundle = ap (λ logs. record { certificate = k.certificate; sites = logs }) (sym (sections-whole b all.0 (all.2 ∙ h.means.lines)).1)
 
-  pub kept-valid : IsValid (kept_bundle k b)
-  kept-valid = subst IsValid same-bundle (valid-bundle bytes k.second k.certificate before m.kept all text)
+  kept-spelled : Spells bytes (kept_bundle k b)
+  kept-spelled = subst (Spells bytes) same-bundle (spells-bundle bytes k.second k.certificate before h.means.kept all text)
+
+  kept-valid : IsValid (kept_bundle k b)
+  kept-valid = subst IsValid same-bundle (valid-bundle bytes k.second k.certificate before h.means.kept all text)
+
+whole-stage : (k : Kept) (b : Begun) (before : List SectionLine) (s : Stage) (bytes : List ℕ) → Holds k b before → IsStageOf k.second k.certificate before s → IsComplete s → bytes ≡ text_of_lines (lines_so_far s) → IsBundleOf k bytes b
+whole-stage k b before s bytes h (inl here) done text = absurd (subst IsComplete here.0 done)
+whole-stage k b before s bytes h (inr all) done text =
+    let same = text ∙ ap (λ s. text_of_lines (lines_so_far s)) all.0 in
+    (h.sections, kept-spelled k b before h all.1 bytes same, kept-valid k b before h all.1 bytes same)
+
+pub judged-bundle : (k : Kept) (bytes : List ℕ) → IsJudged (Ok k) bytes → (b : Begun) × IsBundleOf k bytes b
+judged-bundle k bytes (s, (b, before, h, stage), done, text) = (b, whole-stage k b before s bytes h stage done text)
+
+-- whatever text it is
+pub whole-bundle : (k : Kept) → IsWhole k → (bytes : List ℕ) × (b : Begun) × IsBundleOf k bytes b
+whole-bundle k (s, here, done) =
+    let bytes = text_of_lines (lines_so_far s) in
+    let b = judged-bundle k bytes (s, here, done, refl) in
+    (bytes, b.0, b.1)
 
 -- the sections that were kept are these
 pub kept-sections : (k : Kept) (b s : Begun) → IfSome k.sections (λ s. s ≡ b) → k.sections ≡ Some s → s ≡ b
@@ -50,13 +70,11 @@ none-kept None some none = false≢true some
 none-kept (Some s) some none = none-some s (sym none)
 
 -- its parts fit together
-pub kept-fit : (k : Kept) (b : Begun) (before : List SectionLine) → Means k.second k.certificate b before → AreSections k.certificate.sites before → FitTogether (kept_bundle k b)
-kept-fit k b before m all =
-    let s = kept-spelled k b before m all (text_of_lines (lines_so_far (complete k.second k.certificate before))) refl in
-    fit-together k.certificate b.whole s.certificate s.shape
+pub kept-fit : (k : Kept) (bytes : List ℕ) (b : Begun) → IsBundleOf k bytes b → FitTogether (kept_bundle k b)
+kept-fit k bytes b is = fit-together k.certificate b.whole is.1.certificate is.1.shape
 
-pub kept-verdict : (k : Kept) (bytes : List ℕ) → IsJudged (judged.Whole k) bytes → IsVerdict bytes (yes_of k.certificate.decisions)
-kept-verdict k bytes (b, before, holds, all, text) = (kept_bundle k b, kept-spelled k b before holds.means all bytes text, kept-valid k b before holds.means all bytes text, refl)
+pub kept-verdict : (k : Kept) (bytes : List ℕ) → IsJudged (Ok k) bytes → IsVerdict bytes (yes_of k.certificate.decisions)
+kept-verdict k bytes j = let b = judged-bundle k bytes j in (kept_bundle k b.0, b.1.1, b.1.2, refl)
 
 -- a yes says the headline
 pub verdict-headline : (bytes : List ℕ) (v : Verdict) → IsVerdict bytes v → SaysHeadline bytes v

@@ -17,8 +17,8 @@ IsNumbered number m = m < 2 ^ 64 → number ≡ m
 -- these lines have no fault and are what is kept, or their text has this first fault, whatever follows
 abbrev pub HasRead : Standing → List (List ℕ) → Type 0
 HasRead (Going machine line) lines = (s : Stage) × Stands machine.progress s × (lines_so_far s ≡ lines) × IsNumbered line (length lines + 1)
-HasRead (Found line f) lines = (m : ℕ) × ((rest : List ℕ) → FirstFault (text_of_lines lines ++ rest) m f)
-    × (m ≤ length lines) × IsNumbered line m
+HasRead (Found first) lines = (m : ℕ) × ((rest : List ℕ) → FirstFault (text_of_lines lines ++ rest) m first.fault)
+    × (m ≤ length lines) × IsNumbered first.line m
 HasRead Spent lines = Unit {0}
 
 -- the lines of a bundle in the first or the second format, with this certificate and then these lines
@@ -39,7 +39,7 @@ HasFailed auditor = IsSpent auditor.standing
 
 -- the first fault that is known, with its line
 abbrev pub fault_in : Standing → Option (ℕ × Fault)
-fault_in (Found line f) = Some (line, f)
+fault_in (Found first) = Some (first.line, first.fault)
 fault_in _ = None
 
 abbrev pub known_fault : Auditor → Option (ℕ × Fault)

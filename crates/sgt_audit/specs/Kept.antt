@@ -12,6 +12,7 @@ use Rattle.sgt_decided.specs.Steps.{AreStepsOf, edges_in}
 use Rattle.sgt_decided.specs.declared.steps.Edge.{Edge}
 use Rattle.sgt_cells.specs.Tracks.{TracksOpen, IsReadyFor}
 use Rattle.sgt_cells.specs.declared.state.SiteState.{SiteState}
+use Rattle.sgt_audit.specs.declared.kept.Kept.{Kept}
 use Rattle.sgt_audit.specs.declared.place.OpenPlace.{OpenPlace}
 use Rattle.sgt_audit.specs.declared.place.Place.{Place}
 use Rattle.sgt_audit.specs.declared.tracked.Tracked.{Tracked}
@@ -77,7 +78,11 @@ pub record IsTracked (decisions : List Decision) (b : Begun) (t : Tracked) : Typ
   pub walks : MeansMet decisions b.whole t.walks
 
 -- all that is kept is what these lines say, none of which has a fault; and these sections, where they are kept too
-pub record Holds (second : Bool) (c : Certificate) (b : Begun) (t : Tracked) (beside : Option Begun) (before : List SectionLine) : Type 0 where
-  pub means : Means second c b before
-  pub tracks : IsTracked c.decisions b t
-  pub sections : IfSome beside (λ s. s ≡ b)
+pub record Holds (k : Kept) (b : Begun) (before : List SectionLine) : Type 0 where
+  pub means : Means k.second k.certificate b before
+  pub tracks : IsTracked k.certificate.decisions b k.tracked
+  pub sections : IfSome k.sections (λ s. s ≡ b)
+
+-- what is kept means this stage of a text
+abbrev pub IsAt : Kept → Stage → Type 0
+IsAt k s = (b : Begun) × (before : List SectionLine) × Holds k b before × IsStageOf k.second k.certificate before s

@@ -6,9 +6,10 @@ ghost use Rattle.sgt_cert.specs.declared.certificate.Certificate.{Certificate};
 ghost use Rattle.sgt_audit.specs.Verdict.{IsVerdict};
 ghost use Rattle.sgt_audit.specs.declared.faults.Fault.{Fault};
 
+use crate::faults;
 use crate::faults::Fault;
 use crate::machine::{Machine, Progress};
-use crate::verdict::{Verdict, yes_to};
+use crate::verdict::{Verdict, verdict_on};
 use sgt_cert::{Certificate, to_line};
 use sgt_names::EngineFail;
 use std::alloc::Global;
@@ -19,7 +20,7 @@ pub enum Standing {
     /// The lines so far have no fault; the next one has this number.
     Going(Machine, u64),
     /// The first fault was found.
-    Found(u64, Fault),
+    Found(faults::FirstFault),
     /// A growth was refused.
     Spent,
 }
@@ -74,7 +75,7 @@ impl Auditor {
                 standing: Standing::Going(machine, 3),
             }),
             Ok(Some(fault)) => Ok(Auditor {
-                standing: Standing::Found(2, fault),
+                standing: Standing::Found(faults::FirstFault { line: 2, fault }),
             }),
             Err(_) => Err(EngineFail::Memory),
         }
@@ -99,7 +100,10 @@ impl Auditor {
                     Ok(())
                 }
                 Ok(Some(fault)) => {
-                    self.standing = Standing::Found(*number, fault);
+                    self.standing = Standing::Found(faults::FirstFault {
+                        line: *number,
+                        fault,
+                    });
                     Ok(())
                 }
                 Err(_) => {
@@ -107,7 +111,7 @@ impl Auditor {
                     Err(EngineFail::Memory)
                 }
             },
-            Standing::Found(_, _) => Ok(()),
+            Standing::Found(_) => Ok(()),
             Standing::Spent => Err(EngineFail::Memory),
         }
     }
@@ -122,7 +126,7 @@ impl Auditor {
             → IfNone result (HaveNoFault (bundle_lines second c fed)) }
     {
         match &self.standing {
-            Standing::Found(line, fault) => Some((*line, *fault)),
+            Standing::Found(first) => Some((first.line, first.fault)),
             Standing::Going(_, _) => None,
             Standing::Spent => None,
         }
@@ -137,11 +141,8 @@ impl Auditor {
     {
         let Auditor { standing } = self;
         match standing {
-            Standing::Going(machine, line) => match machine.end(&[]) {
-                Ok(kept) => Ok(yes_to(kept.certificate.decisions())),
-                Err(fault) => Ok(Verdict::No { line, fault }),
-            },
-            Standing::Found(line, fault) => Ok(Verdict::No { line, fault }),
+            Standing::Going(machine, line) => Ok(verdict_on(machine.end(&[], line))),
+            Standing::Found(first) => Ok(verdict_on(Err(first))),
             Standing::Spent => Err(EngineFail::Memory),
         }
     }

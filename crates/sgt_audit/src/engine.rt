@@ -1,15 +1,14 @@
 //! The audit of all that a reader gives.
 
-ghost use Rattle.std.specs.Prelude.{◌≡◌, ◌≢◌, ℕ, ◌<◌, ◌≤◌, ◌⊎◌, List, Err, length, IfOk, OnErr, IfSome, IsErrOf};
+ghost use Rattle.std.specs.Prelude.{◌≡◌, ◌≢◌, ◌<◌, ◌≤◌, ◌⊎◌, Err, length, IfOk, OnErr, IfSome, IsErrOf};
 ghost use Rattle.std.specs.Io.KnownBytes.{Appends};
 ghost use Rattle.sgt_notation.specs.Limits.{most_reads};
-ghost use Rattle.sgt_audit.specs.private.Stops.{IsJudged};
 ghost use Rattle.sgt_audit.specs.Verdict.{IsVerdict, IsAudited, HandsOutValid, SaysHeadline, WroteFront, text_of};
 
 use crate::faults::Fault;
 use crate::kept::Kept;
-use crate::reading::{Judged, judge};
-use crate::verdict::{Verdict, yes_to};
+use crate::reading::judge;
+use crate::verdict::{Verdict, verdict_on};
 use sgt_cert::Bundle;
 use sgt_names::{EngineFail, Sink, Source, write_all};
 use std::alloc::Global;
@@ -37,7 +36,7 @@ pub fn audit_bundle<R: Source>(alloc: Global, reader: &mut R) -> Result<Audited,
     ensures write_fault { result ≢ Err EngineFail.WriteFault }
 {
     match judge(alloc, true, reader) {
-        Ok(Judged::Whole(kept)) => {
+        Ok(Ok(kept)) => {
             let Kept {
                 certificate,
                 sections,
@@ -53,18 +52,11 @@ pub fn audit_bundle<R: Source>(alloc: Global, reader: &mut R) -> Result<Audited,
                 None => unreachable!(),
             }
         }
-        Ok(Judged::Faulty { line, fault }) => Ok(Audited::No { line, fault }),
+        Ok(Err(first)) => Ok(Audited::No {
+            line: first.line,
+            fault: first.fault,
+        }),
         Err(e) => Err(e),
-    }
-}
-
-/// The verdict on what was judged.
-fn verdict_on(judged: Judged) -> Verdict
-    ensures { (bytes : List ℕ) → IsJudged judged bytes → IsVerdict bytes result }
-{
-    match judged {
-        Judged::Whole(kept) => yes_to(kept.certificate.decisions()),
-        Judged::Faulty { line, fault } => Verdict::No { line, fault },
     }
 }
 

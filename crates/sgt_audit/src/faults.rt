@@ -46,6 +46,13 @@ pub enum Fault {
     Trailing = 19,
 }
 
+/// The first fault of a text, with its line. Lines are counted from 1.
+#[derive(Clone, Copy)]
+pub struct FirstFault {
+    pub line: u64,
+    pub fault: Fault,
+}
+
 impl Fault {
     ghost use Rattle.std.specs.Prelude.{◌≡◌};
     ghost use Rattle.sgt_audit.specs.Faults.{fault_number};

@@ -1,8 +1,8 @@
 //! The two formats of a bundle: the first, `sgt 1`, and the second, `sgt 2`, which has increments.
 
-ghost use Rattle.std.specs.Prelude.{◌≡◌, ◌↔◌, Bool, false, IsTrue, IfSome, IfNone};
-ghost use Rattle.sgt_notation.specs.Reading.{Finds, SpellsNone};
-ghost use Rattle.sgt_notation.specs.Spelling.{IsLine, line_text};
+ghost use Rattle.std.specs.Prelude.{◌≡◌, ◌↔◌, Bool, IsTrue, IfSome, IfNone};
+ghost use Rattle.sgt_notation.specs.Reading.{Finds};
+ghost use Rattle.sgt_notation.specs.Spelling.{line_text};
 ghost use Rattle.sgt_cert.specs.Text.{format_line};
 ghost use Rattle.sgt_audit.specs.Faults.{Allows, IsLineIn};
 
@@ -22,8 +22,8 @@ pub(crate) fn read_format(line: &[u8]) -> Option<bool>
     None
 }
 
-/// Whether the line is one of the format.
-fn is_allowed(second: bool, line: &SectionLine) -> bool
+/// Whether the line, if it is one, is one of the format.
+pub(crate) fn is_allowed(second: bool, line: &SectionLine) -> bool
     ensures { IsTrue result ↔ Allows second line.now }
 {
     match line {
@@ -40,12 +40,4 @@ pub(crate) fn read_line(second: bool, line: &[u8]) -> Option<SectionLine>
         Ok(read) if is_allowed(second, &read) => Some(read),
         _ => None,
     }
-}
-
-/// Whether the line, which is in its range, is one of this format.
-pub(crate) fn is_line_in(second: bool, line: &SectionLine) -> bool
-    ensures yes { IsLine line.now → IsTrue result → IsLineIn second line.now }
-    ensures no { IsLine line.now → result ≡ false → SpellsNone (IsLineIn second) line_text (line_text line.now) }
-{
-    is_allowed(second, line)
 }

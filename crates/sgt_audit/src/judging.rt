@@ -12,7 +12,7 @@ ghost use Rattle.sgt_cert.specs.Text.{Begins};
 ghost use Rattle.sgt_cert.specs.declared.bundle.SiteLog.{SiteLog};
 ghost use Rattle.sgt_cert.specs.declared.certificate.Certificate.{Certificate};
 ghost use Rattle.sgt_audit.specs.Faults.{Keeps};
-ghost use Rattle.sgt_audit.specs.private.Judging.{ContinuesLog, ContinuesBlock, HasOpen, JudgedLine, AnswersItself};
+ghost use Rattle.sgt_audit.specs.private.Judging.{ContinuesLog, HasOpen, JudgedLine, AnswersItself};
 ghost use Rattle.sgt_audit.specs.private.Known.{IsKnownOf, IsKnownLine};
 ghost use Rattle.sgt_audit.specs.Reading.{Begun, IsBegun, lines_read};
 ghost use Rattle.sgt_audit.specs.private.Following.{Fits};
@@ -31,26 +31,16 @@ use sgt_names::{Entry, Holding};
 use sgt_notation::SectionLine;
 use std::alloc::{AllocError, Global};
 
-/// Whether the line goes on with the block of the entry in front of it, if that is open.
-fn continues_block(last: &Entry, line: &SectionLine) -> bool
-    ensures { IsTrue result ↔ ContinuesBlock last.now line.now }
-{
-    if !is_open(last) {
-        return true;
-    }
-    match line {
-        SectionLine::Logged(entry) => continues(last, entry),
-        _ => false,
-    }
-}
-
 /// Whether the line goes on with the block that is open at the end of the log, if one is.
 fn continues_log(place: &OpenPlace, line: &SectionLine) -> bool
     ensures { (log : SiteLog) → IsOpenPlace log place.now → (IsTrue result ↔ ContinuesLog log line.now) }
 {
-    match place.last_entry() {
-        Some(last) => continues_block(last, line),
-        None => true,
+    let Some(last) = place.last_entry() else {
+        return true;
+    };
+    match line {
+        SectionLine::Logged(entry) => !is_open(last) || continues(last, entry),
+        _ => !is_open(last),
     }
 }
 

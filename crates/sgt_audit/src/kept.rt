@@ -1,13 +1,11 @@
 //! A certificate, and lines of sections behind it, none of which has a fault.
 
-ghost use Rattle.std.specs.Prelude.{◌≡◌, ◌≤◌, ◌↔◌, ℕ, [], List, length, IsTrue, IfOk, is_some};
+ghost use Rattle.std.specs.Prelude.{◌≡◌, ◌≤◌, ◌↔◌, ℕ, List, length, IsTrue, IfOk, is_some};
 ghost use Rattle.sgt_notation.specs.Reading.{SpellsNone};
 ghost use Rattle.sgt_notation.specs.Spelling.{IsLine, line_text};
-ghost use Rattle.sgt_notation.specs.declared.SectionLine.{SectionLine};
-ghost use Rattle.sgt_cert.specs.Text.{AreSections};
 
-use crate::faults::Fault;
-use crate::format::{is_line_in, read_line};
+use crate::faults::{Fault, FirstFault};
+use crate::format::{is_allowed, read_line};
 use crate::judging::judge_line;
 use crate::known::look_up;
 use crate::sections::{Sections, add_to};
@@ -30,25 +28,21 @@ pub struct Kept {
 
 impl Kept {
     ghost use Rattle.sgt_audit.specs.Faults.{IsLineIn, Stage, Rule, Breaks, whole};
-    ghost use Rattle.sgt_audit.specs.Kept.{Holds, IsStageOf};
-    ghost use Rattle.sgt_audit.specs.private.NextLine.{AnswersLine};
-    ghost use Rattle.sgt_audit.specs.private.Ending.{EndsWith, limit_of};
-    ghost use Rattle.sgt_audit.specs.Reading.{Begun};
+    ghost use Rattle.sgt_audit.specs.Kept.{IsAt};
+    ghost use Rattle.sgt_audit.specs.private.NextLine.{Follows};
+    ghost use Rattle.sgt_audit.specs.private.Ending.{EndsWith, IsComplete, limit_of};
+    ghost use Rattle.sgt_audit.specs.declared.machine.Progress.TheVariants.{Reading};
 
     /// Whether all sections were read.
     pub(crate) fn is_complete(&self) -> bool
-        ensures { (b : Begun) (before : List SectionLine)
-            → Holds self.now.second self.now.certificate b self.now.tracked self.now.sections before
-            → (IsTrue result ↔ AreSections self.now.certificate.sites before) }
+        ensures { (s : Stage) → IsAt self.now s → (IsTrue result ↔ IsComplete s) }
     {
         self.tracked.place.is_complete()
     }
 
     /// The fault of the next line, where it is none of the format.
     fn unread(&self) -> Fault
-        ensures { (b : Begun) (before : List SectionLine) (l : List ℕ) (s : Stage)
-            → Holds self.now.second self.now.certificate b self.now.tracked self.now.sections before
-            → SpellsNone (IsLineIn self.now.second) line_text l → IsStageOf self.now.second self.now.certificate before s
+        ensures { (l : List ℕ) (s : Stage) → SpellsNone (IsLineIn self.now.second) line_text l → IsAt self.now s
             → Breaks (Rule s (whole l)) result }
     {
         if self.is_complete() {
@@ -60,13 +54,9 @@ impl Kept {
 
     /// The next line, which is one of the format.
     fn follow(&mut self, line: &SectionLine) -> Result<Option<Fault>, AllocError>
-        ensures second { self.new.second ≡ self.old.second }
-        ensures certificate { self.new.certificate ≡ self.old.certificate }
         ensures sections { is_some self.new.sections ≡ is_some self.old.sections }
-        ensures answers { (b : Begun) (before : List SectionLine)
-            → Holds self.old.second self.old.certificate b self.old.tracked self.old.sections before
-            → IsLineIn self.old.second line.now → IfOk result
-            (AnswersLine self.old.second self.old.certificate self.new.tracked self.new.sections before (line_text line.now)) }
+        ensures follows { IsLineIn self.old.second line.now → (s : Stage) → IsAt self.old s
+            → IfOk result (Follows s (line_text line.now) (Reading self.new)) }
     {
         if self.tracked.place.is_complete() {
             return Ok(Some(Fault::Trailing));
@@ -77,7 +67,7 @@ impl Kept {
         }
         self.tracked.enter(&self.certificate, line, &known)?;
         add_to(&mut self.sections, line)?;
-        if self.tracked.place.is_complete() && !self.tracked.walks.are_logged() {
+        if self.tracked.place.is_complete() && !self.tracked.walks.met {
             return Ok(Some(Fault::WalkStep));
         }
         Ok(None)
@@ -85,12 +75,8 @@ impl Kept {
 
     /// The next line, without its LF.
     pub(crate) fn next(&mut self, line: &[u8]) -> Result<Option<Fault>, AllocError>
-        ensures second { self.new.second ≡ self.old.second }
-        ensures certificate { self.new.certificate ≡ self.old.certificate }
         ensures sections { is_some self.new.sections ≡ is_some self.old.sections }
-        ensures answers { (b : Begun) (before : List SectionLine)
-            → Holds self.old.second self.old.certificate b self.old.tracked self.old.sections before
-            → IfOk result (AnswersLine self.old.second self.old.certificate self.new.tracked self.new.sections before line.now) }
+        ensures follows { (s : Stage) → IsAt self.old s → IfOk result (Follows s line.now (Reading self.new)) }
     {
         match read_line(self.second, line) {
             Some(read) => self.follow(&read),
@@ -100,32 +86,34 @@ impl Kept {
 
     /// The next line, which was read already.
     pub(crate) fn next_read(&mut self, line: &SectionLine) -> Result<Option<Fault>, AllocError>
-        ensures second { self.new.second ≡ self.old.second }
-        ensures certificate { self.new.certificate ≡ self.old.certificate }
         ensures sections { is_some self.new.sections ≡ is_some self.old.sections }
-        ensures answers { (b : Begun) (before : List SectionLine)
-            → Holds self.old.second self.old.certificate b self.old.tracked self.old.sections before
-            → IsLine line.now → IfOk result
-            (AnswersLine self.old.second self.old.certificate self.new.tracked self.new.sections before (line_text line.now)) }
+        ensures follows { IsLine line.now → (s : Stage) → IsAt self.old s
+            → IfOk result (Follows s (line_text line.now) (Reading self.new)) }
     {
-        if is_line_in(self.second, line) {
+        if is_allowed(self.second, line) {
             self.follow(line)
         } else {
             Ok(Some(self.unread()))
         }
     }
 
-    /// At the end of the input, with these bytes behind the last LF: what was read, if all is there, or the fault.
-    pub(crate) fn end(self, rest: &[u8]) -> Result<Kept, Fault>
+    /// At the end of the input, in the line of this number, with these bytes behind the last LF: what was read, if all is there, or
+    /// the fault.
+    pub(crate) fn end(self, rest: &[u8], line: u64) -> Result<Kept, FirstFault>
         ensures same { IfOk result (λ k. k ≡ self) }
-        ensures ends { (b : Begun) (before : List SectionLine) (s : Stage)
-            → Holds self.second self.certificate b self.tracked self.sections before → IsStageOf self.second self.certificate before s → length rest.now ≤ limit_of s → EndsWith s rest.now result }
+        ensures ends { (s : Stage) → IsAt self s → length rest.now ≤ limit_of s → EndsWith s rest.now line result }
     {
         if !self.is_complete() {
-            return Err(Fault::Truncated);
+            return Err(FirstFault {
+                line,
+                fault: Fault::Truncated,
+            });
         }
         if !rest.is_empty() {
-            return Err(Fault::Trailing);
+            return Err(FirstFault {
+                line,
+                fault: Fault::Trailing,
+            });
         }
         Ok(self)
     }

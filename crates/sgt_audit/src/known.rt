@@ -1,10 +1,9 @@
 //! What is looked up of a line, once for all that judges it and takes it in.
 
-ghost use Rattle.sgt_audit.specs.private.Known.{IsKnownOf, IsKnownLine};
+ghost use Rattle.sgt_audit.specs.private.Known.{IsKnownLine};
 
 use sgt_cells::SiteState;
 use sgt_decided::{Decided, Ruling};
-use sgt_names::Entry;
 use sgt_notation::SectionLine;
 
 /// What is known of an entry.
@@ -16,20 +15,15 @@ pub struct Known {
     pub ruling: Ruling,
 }
 
-fn look_up_entry(certificate: &Decided, state: &SiteState, entry: &Entry) -> Known
-    ensures { IsKnownOf certificate.now.decisions state.now entry.now result }
-{
-    let place = state.place_of_entry(entry);
-    let ruling = certificate.ruling_on(entry);
-    Known { place, ruling }
-}
-
 /// What is known of the line, if it is an entry.
 pub(crate) fn look_up(certificate: &Decided, state: &SiteState, line: &SectionLine) -> Option<Known>
     ensures { IsKnownLine certificate.now.decisions state.now line.now result }
 {
     match line {
-        SectionLine::Logged(entry) => Some(look_up_entry(certificate, state, entry)),
+        SectionLine::Logged(entry) => Some(Known {
+            place: state.place_of_entry(entry),
+            ruling: certificate.ruling_on(entry),
+        }),
         _ => None,
     }
 }

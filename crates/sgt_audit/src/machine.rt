@@ -2,7 +2,7 @@
 
 ghost use Rattle.std.specs.Prelude.{◌≡◌, ◌≢◌, ◌<◌, ◌≤◌, [], List, length, Bool, true, IsTrue, IfOk, IfErr, IsSome};
 
-use crate::faults::Fault;
+use crate::faults::{Fault, FirstFault};
 use crate::format::read_format;
 use crate::judging::judge_certificate;
 use crate::kept::Kept;
@@ -145,16 +145,18 @@ impl Machine {
         }
     }
 
-    /// What was read, if all is there at the end of the input; or the fault, with these bytes behind the last LF.
-    pub(crate) fn end(self, rest: &[u8]) -> Result<Kept, Fault>
-        ensures ends { (s : Stage) → Stands self.progress s → length rest.now ≤ limit_of s → EndsWith s rest.now result }
+    /// What was read, if all is there at the end of the input, in the line of this number, with these bytes behind the last LF; or the
+    /// fault.
+    pub(crate) fn end(self, rest: &[u8], line: u64) -> Result<Kept, FirstFault>
+        ensures ends { (s : Stage) → Stands self.progress s → length rest.now ≤ limit_of s → EndsWith s rest.now line result }
         ensures kept { IsKeeping true self → IfOk result (λ k. IsSome k.sections) }
     {
         let Machine { progress, .. } = self;
-        match progress {
-            Progress::Start => Err(Fault::Truncated),
-            Progress::Headed(_) => Err(Fault::Truncated),
-            Progress::Reading(kept) => kept.end(rest),
-        }
+        let fault = match progress {
+            Progress::Start => Fault::Truncated,
+            Progress::Headed(_) => Fault::Truncated,
+            Progress::Reading(kept) => return kept.end(rest, line),
+        };
+        Err(FirstFault { line, fault })
     }
 }

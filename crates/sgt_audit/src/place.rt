@@ -1,14 +1,15 @@
 //! Where the next line of the sections stands: what is kept of the lines before it, by which it is told whether it may stand there.
 
-ghost use Rattle.std.specs.Prelude.{◌≡◌, ◌+◌, ◌-◌, ◌^◌, ◌<◌, ◌↔◌, [], ◌∷◌, ◌++◌, IsTrue, OnOk, IfSome, IfNone, Some, None, length, slice_get, All};
+ghost use Rattle.std.specs.Prelude.{◌≡◌, ◌-◌, ◌↔◌, [], ◌∷◌, ◌++◌, IsTrue, OnOk, IfSome, IfNone, Some, None, length, slice_get};
+ghost use Rattle.std.specs.Option.{ForSome};
 ghost use Rattle.sgt_cert.specs.Parts.{ComesBefore};
 ghost use Rattle.sgt_cert.specs.Text.{Begins, AreSections};
 ghost use Rattle.sgt_cert.specs.declared.bundle.SiteLog.{SiteLog};
 ghost use Rattle.sgt_audit.specs.Kept.{IsOpenPlace, IsPlace};
 ghost use Rattle.sgt_audit.specs.Reading.{Begun, IsBegun, IsOpenLog, lines_read};
-ghost use Rattle.sgt_audit.specs.private.Following.{Fits, FitsAt, MayFollow, no_log, with_line, with_next};
+ghost use Rattle.sgt_audit.specs.private.Following.{Fits, FitsAt, MayFollow, with_line, with_next};
 
-use sgt_names::{Entry, Item, MAX_ITEMS, SiteNo};
+use sgt_names::{Entry, Item, MAX_ITEMS};
 use sgt_notation::SectionLine;
 use std::alloc::{AllocError, Global};
 
@@ -20,44 +21,17 @@ pub struct OpenPlace {
     pub finals: usize,
 }
 
-/// Whether each of the items comes before this one.
+/// Whether the last of the items, if there is one, comes before this one.
 fn come_before(items: &[Item], item: &Item) -> bool
-    ensures { IsTrue result ↔ All (λ x. ComesBefore x item.now) items.now }
+    ensures { IsTrue result ↔ ForSome (slice_get items.now (length items.now - 1)) (λ x. ComesBefore x item.now) }
 {
-    items.iter().all(|other| *other < *item)
-}
-
-/// Whether the two are one item.
-fn are_one(first: &Item, second: &Item) -> bool
-    ensures { IsTrue result ↔ (first.now ≡ second.now) }
-{
-    first == second
-}
-
-/// Whether this is the site behind so many whole logs, of so many sites.
-fn is_next(site: SiteNo, whole: usize, sites: u8) -> bool
-    ensures { IsTrue result ↔ ((site ≡ whole) × (site < sites)) }
-{
-    site.number() as usize == whole && site.number() < sites
-}
-
-fn one_more(count: usize) -> usize
-    ensures { count < 2 ^ 32 → result ≡ count + 1 }
-{
-    count.saturating_add(1)
+    match items.last() {
+        Some(last) => *last < *item,
+        None => true,
+    }
 }
 
 impl OpenPlace {
-    fn new(alloc: Global) -> OpenPlace
-        ensures { IsOpenPlace no_log result }
-    {
-        OpenPlace {
-            items: Vec::new(alloc),
-            last: None,
-            finals: 0,
-        }
-    }
-
     /// The entry that was read last, if no final stands behind it.
     pub(crate) fn last_entry(&self) -> Option<&Entry>
         ensures some { (log : SiteLog) → IsOpenPlace log self.now
@@ -87,7 +61,7 @@ impl OpenPlace {
             }
             SectionLine::Logged(_) => self.finals == 0,
             SectionLine::Final(holding) => match self.items.get(self.finals) {
-                Some(item) => are_one(item, &holding.item),
+                Some(item) => *item == holding.item,
                 None => false,
             },
             SectionLine::End => self.finals == self.items.len(),
@@ -109,7 +83,7 @@ impl OpenPlace {
                 Ok(())
             }
             SectionLine::Final(_) => {
-                self.finals = one_more(self.finals);
+                self.finals = self.finals.saturating_add(1);
                 Ok(())
             }
             SectionLine::Site(_) => Ok(()),
@@ -157,7 +131,9 @@ impl Place {
         match &self.current {
             Some(here) => here.has_room_for(line),
             None => match line {
-                SectionLine::Site(site) => is_next(*site, self.whole, self.sites),
+                SectionLine::Site(site) => {
+                    site.number() as usize == self.whole && site.number() < self.sites
+                }
                 _ => false,
             },
         }
@@ -170,12 +146,16 @@ impl Place {
     {
         match &mut self.current {
             None => {
-                self.current = Some(OpenPlace::new(self.alloc));
+                self.current = Some(OpenPlace {
+                    items: Vec::new(self.alloc),
+                    last: None,
+                    finals: 0,
+                });
                 Ok(())
             }
             Some(here) => match line {
                 SectionLine::End => {
-                    self.whole = one_more(self.whole);
+                    self.whole = self.whole.saturating_add(1);
                     self.current = None;
                     Ok(())
                 }

@@ -1,57 +1,26 @@
 //! A text judged as its lines come from a reader.
 
-ghost use Rattle.std.specs.Prelude.{◌≡◌, ◌≢◌, ℕ, ◌+◌, ◌^◌, ◌<◌, ◌≤◌, ◌⊎◌, List, [], Option, Err, length, Bool, true, IsTrue, IfOk, IfSome, IfNone, IsErrOf, is_some};
+ghost use Rattle.std.specs.Prelude.{◌≡◌, ◌≢◌, ℕ, ◌+◌, ◌^◌, ◌<◌, ◌≤◌, ◌⊎◌, List, [], Option, Err, length, Bool, IsTrue, IfOk, IfSome, IfNone, IsErrOf, IsSome, is_some};
 ghost use Rattle.sgt_notation.specs.Limits.{most_reads};
 ghost use Rattle.sgt_notation.specs.Lines.{Spends, coming, most_left};
-ghost use Rattle.sgt_audit.specs.Faults.{Stage, start};
-ghost use Rattle.sgt_audit.specs.private.Ending.{IsKeeping, limit_of};
+ghost use Rattle.sgt_audit.specs.Faults.{start};
+ghost use Rattle.sgt_audit.specs.private.Ending.{IsKeeping};
 ghost use Rattle.sgt_audit.specs.Progress.{Stands};
 ghost use Rattle.sgt_audit.specs.declared.machine.Progress.TheVariants.{Reading};
-ghost use Rattle.sgt_audit.specs.private.Stops.{FedFront, FedHeld, Goes, HandsOut, IsAll, IsEnded, IsJudged, IsStop};
+ghost use Rattle.sgt_audit.specs.private.Stops.{FedFront, FedHeld, Goes, IsJudged, IsStop, IsWhole};
 
-use crate::faults::Fault;
+use crate::faults::{Fault, FirstFault};
 use crate::kept::Kept;
 use crate::machine::{Machine, Progress};
 use sgt_names::{EngineFail, Source};
 use sgt_notation::{Lines, LinesFault, Next, front_line};
 use std::alloc::{AllocError, Global};
 
-/// What was judged of a text.
-#[derive(Drop)]
-pub enum Judged {
-    /// It has no fault, and this is what it says.
-    Whole(Kept),
-    /// This is its first fault.
-    Faulty { line: u64, fault: Fault },
-}
-
-/// Where the reading of a text stopped.
-#[derive(Clone, Copy)]
-pub enum Stop {
-    /// At the text's first fault.
-    Faulty { line: u64, fault: Fault },
-    /// At the end of the input, in the line of this number. The bytes behind the last LF are in the buffer.
-    Ended { line: u64 },
-}
-
-/// The machine at the end of the input, with these bytes behind the last LF.
-fn ended(machine: Machine, rest: &[u8], line: u64) -> Judged
-    ensures ended { (s : Stage) → Stands machine.progress s → length rest.now ≤ limit_of s → IsEnded s rest.now line result }
-    ensures kept { IsKeeping true machine → HandsOut result }
-{
-    match machine.end(rest) {
-        Ok(kept) => Judged::Whole(kept),
-        Err(fault) => Judged::Faulty { line, fault },
-    }
-}
-
 /// Feeds what was kept the line that is found at the front of the held bytes, if one is: how many bytes it has with its LF,
 /// and its fault.
 fn feed_front(kept: &mut Kept, held: &[u8]) -> Result<Option<(usize, Option<Fault>)>, AllocError>
     ensures fed { IfOk result (λ found. IfSome found (λ r. FedFront kept.old kept.new held.now r.0 r.1)) }
     ensures none { IfOk result (λ found. IfNone found (kept.new ≡ kept.old)) }
-    ensures second { kept.new.second ≡ kept.old.second }
-    ensures certificate { kept.new.certificate ≡ kept.old.certificate }
     ensures sections { is_some kept.new.sections ≡ is_some kept.old.sections }
 {
     let found = front_line(held);
@@ -109,14 +78,14 @@ fn feed_held(
     }
 }
 
-/// Feeds the machine line by line, up to the first fault or to the end of the input. A line that is held whole is read where it
-/// is held; each other line is copied first.
+/// Feeds the machine line by line, up to the first fault or to the end of the input: the number of the line in which the input ends,
+/// with the bytes behind the last LF in the buffer. A line that is held whole is read where it is held; each other line is copied first.
 fn feed_lines<R: Source>(
     reader: &mut R,
     lines: &mut Lines,
     line: &mut Vec<u8>,
     machine: &mut Machine,
-) -> Result<Stop, EngineFail>
+) -> Result<Result<u64, FirstFault>, EngineFail>
     requires fresh { lines.old ≡ record { held = []; reads = most_reads } }
     requires starts { Stands machine.old.progress start }
     ensures stops { IfOk result (λ stop. IsStop (R.tells reader.old) stop machine.new.progress line.new.items) }
@@ -129,29 +98,29 @@ fn feed_lines<R: Source>(
     let mut number = 1u64;
     'lines: loop {
         if let Some(fault) = feed_held(machine, lines, &mut number)? {
-            return Ok(Stop::Faulty {
+            return Ok(Err(FirstFault {
                 line: number,
                 fault,
-            });
+            }));
         }
         match lines.next(reader, line, machine.limit()) {
             Ok(Next::Line) => match machine.line(line.as_slice()) {
                 Ok(None) => number += 1,
                 Ok(Some(fault)) => {
-                    return Ok(Stop::Faulty {
+                    return Ok(Err(FirstFault {
                         line: number,
                         fault,
-                    });
+                    }));
                 }
                 Err(_) => return Err(EngineFail::Memory),
             },
-            Ok(Next::Cut) => return Ok(Stop::Ended { line: number }),
-            Ok(Next::End) => return Ok(Stop::Ended { line: number }),
+            Ok(Next::Cut) => return Ok(Ok(number)),
+            Ok(Next::End) => return Ok(Ok(number)),
             Ok(Next::TooLong) => {
-                return Ok(Stop::Faulty {
+                return Ok(Err(FirstFault {
                     line: number,
                     fault: machine.too_long(),
-                });
+                }));
             }
             Err(LinesFault::Memory) => return Err(EngineFail::Memory),
             Err(LinesFault::ReadFault) => return Err(EngineFail::ReadFault),
@@ -159,16 +128,16 @@ fn feed_lines<R: Source>(
     }
 }
 
-/// Judges all that the reader gives, and keeps the sections, if they are to be handed out. Once a line with a fault was read
-/// whole, no further read is made.
+/// Judges all that the reader gives: what it says, or its first fault. The sections are kept, if they are to be handed out. Once a
+/// line with a fault was read whole, no further read is made.
 pub(crate) fn judge<R: Source>(
     alloc: Global,
     keeps: bool,
     reader: &mut R,
-) -> Result<Judged, EngineFail>
+) -> Result<Result<Kept, FirstFault>, EngineFail>
     ensures judged { IfOk result (λ j. IfSome (R.tells reader.old) (IsJudged j)) }
-    ensures all { IfOk result IsAll }
-    ensures kept { IsTrue keeps → IfOk result HandsOut }
+    ensures all { IfOk result (λ j. IfOk j IsWhole) }
+    ensures kept { IsTrue keeps → IfOk result (λ j. IfOk j (λ k. IsSome k.sections)) }
     ensures quiet { result ≢ Err EngineFail.ReadFault → R.failures reader.new ≡ R.failures reader.old }
     ensures read_fault { IsErrOf result EngineFail.ReadFault →
         ((R.failures reader.old < R.failures reader.new) ⊎ IfSome (R.tells reader.old) (λ bytes. most_reads ≤ length bytes)) }
@@ -178,7 +147,7 @@ pub(crate) fn judge<R: Source>(
     let mut line = Vec::new(alloc);
     let mut machine = Machine::new(alloc, keeps);
     match feed_lines(reader, &mut lines, &mut line, &mut machine)? {
-        Stop::Faulty { line, fault } => Ok(Judged::Faulty { line, fault }),
-        Stop::Ended { line: number } => Ok(ended(machine, line.as_slice(), number)),
+        Ok(number) => Ok(machine.end(line.as_slice(), number)),
+        Err(first) => Ok(Err(first)),
     }
 }

@@ -1,10 +1,11 @@
 //! The verdict on a bundle, and its line.
 
-ghost use Rattle.std.specs.Prelude.{◌≡◌, IfOk, count_by, string_bytes};
-ghost use Rattle.sgt_cert.specs.Certificate.{is_commit, is_refusal, is_withdrawal};
-ghost use Rattle.sgt_audit.specs.Verdict.{yes_of, text_of};
+ghost use Rattle.std.specs.Prelude.{◌≡◌, ℕ, List, IfOk, string_bytes};
+ghost use Rattle.sgt_audit.specs.Verdict.{IsVerdict, yes_of, text_of};
+ghost use Rattle.sgt_audit.specs.private.Stops.{IsJudged};
 
-use crate::faults::Fault;
+use crate::faults::{Fault, FirstFault};
+use crate::kept::Kept;
 use sgt_cert::Decision;
 use std::alloc::{AllocError, Global};
 
@@ -24,41 +25,35 @@ pub enum Verdict {
     },
 }
 
-fn count_commits(decisions: &[Decision]) -> usize
-    ensures { result ≡ count_by is_commit decisions.now }
-{
-    decisions
-        .iter()
-        .filter(|decision| decision.is_commit())
-        .count()
-}
-
-fn count_refusals(decisions: &[Decision]) -> usize
-    ensures { result ≡ count_by is_refusal decisions.now }
-{
-    decisions
-        .iter()
-        .filter(|decision| decision.is_refusal())
-        .count()
-}
-
-fn count_withdrawals(decisions: &[Decision]) -> usize
-    ensures { result ≡ count_by is_withdrawal decisions.now }
-{
-    decisions
-        .iter()
-        .filter(|decision| decision.is_withdrawal())
-        .count()
-}
-
 /// The yes with the counts of these decisions.
-pub(crate) fn yes_to(decisions: &[Decision]) -> Verdict
+fn yes_to(decisions: &[Decision]) -> Verdict
     ensures { result ≡ yes_of decisions.now }
 {
+    let mut committed = 0u64;
+    let mut refused = 0u64;
+    let mut withdrawn = 0u64;
+    for decision in decisions {
+        committed += u64::from(decision.is_commit());
+        refused += u64::from(decision.is_refusal());
+        withdrawn += u64::from(decision.is_withdrawal());
+    }
     Verdict::Yes {
-        committed: count_commits(decisions) as u64,
-        refused: count_refusals(decisions) as u64,
-        withdrawn: count_withdrawals(decisions) as u64,
+        committed,
+        refused,
+        withdrawn,
+    }
+}
+
+/// The verdict on a text that was judged.
+pub(crate) fn verdict_on(judged: Result<Kept, FirstFault>) -> Verdict
+    ensures { (bytes : List ℕ) → IsJudged judged bytes → IsVerdict bytes result }
+{
+    match judged {
+        Ok(kept) => yes_to(kept.certificate.decisions()),
+        Err(first) => Verdict::No {
+            line: first.line,
+            fault: first.fault,
+        },
     }
 }
 

@@ -78,12 +78,4 @@ impl Walks {
             self.met = false;
         }
     }
-
-    /// Whether the walk of each refused transaction is one of conflicts in the logs, which are those of all sites.
-    pub(crate) fn are_logged(&self) -> bool
-        ensures { (c : Certificate) (logs : List SiteLog) → IsCertificate c → length logs ≡ c.sites → MeansMet c.decisions logs self.now
-            → (IsTrue result ↔ ((tx : ℕ) (walk : List Step) → Contains c.decisions (Refuse tx walk) → AreLogged logs tx walk)) }
-    {
-        self.met
-    }
 }

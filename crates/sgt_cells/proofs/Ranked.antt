@@ -93,7 +93,7 @@ greatest-raised Has entries (Some t) (Some s) e (has_s, only) (met, most) = (
 
 -- the rank of an entry that does it
 pub ranked-only : (ds : List Decision) (Does : Entry → Type 0) (e : Entry) (rank : Option ℕ) → IsDecidedOnce ds → Does e → IsRankOf ds (tx_of e) rank → IsOnly (IsRankedWith ds Does e) rank
-ranked-only ds Does e None once does none = λ r has. none has.1.0 r has.1.1
+ranked-only ds Does e None once does none = λ r has. none r has.1
 ranked-only ds Does e (Some s) once does by = ((does, by), λ r has. one-rank ds has.1.0 by.0 (tx_of e) r s once has.1.1 by.1)
 
 module _ (ds : List Decision) (entries : List Entry) (once : IsDecidedOnce ds) (are : AreRanks (ranks ds)) (e : Entry) (n s : ℕ) (by : IsCommitted ds n (tx_of e) s) where
@@ -234,7 +234,7 @@ module _ (ds : List Decision) (items : List Holding) (entries : List Entry) (c :
     )
 
   pub passes-decides : (e : Entry) (rank : Option ℕ) → item_of e ≡ Some c.name → IsRankOf ds (tx_of e) rank → Passes c e rank ↔ All (Rises ds e) entries
-  passes-decides e None on none = (λ up. all-are ds entries e (λ f here k x i j r t clash apart at_i at_j. absurd (none j t at_j)), λ all. tt)
+  passes-decides e None on none = (λ up. all-are ds entries e (λ f here k x i j r t clash apart at_i at_j. absurd (none t (j, at_j))), λ all. tt)
   passes-decides (Read tx x v) (Some s) on (n, by) = subst (λ y. (IsUpTo s c.writer × IsUpTo s c.adder) ↔ All (Rises ds (Read tx y v)) entries) (sym (same-name x c.name on)) (read-decides tx v n s by)
   passes-decides (Write tx x v) (Some s) on (n, by) = put-decides (Write tx x v) n s by (same-name x c.name on) (λ y w. sym w ∙ same-name x c.name on) (λ y r. r) (λ is. true≢false (sym is))
   passes-decides (Want tx x v) (Some s) on (n, by) = put-decides (Want tx x v) n s by (same-name x c.name on) (λ y w. sym w ∙ same-name x c.name on) (λ y r. r) (λ is. true≢false (sym is))

@@ -20,7 +20,8 @@ use Rattle.sgt_cells.specs.Cells.{IsGreatest, AreCells, IsCell}
 use Rattle.sgt_cells.specs.private.Noted.{IsPlaceOf, IsUpTo, raised}
 use Rattle.sgt_cells.specs.Records.{Did, IsRecord, has_ended_in, is_live_in, live_among}
 use Rattle.sgt_cells.specs.private.Deeds.{IsTouched, act}
-use Rattle.sgt_cells.specs.Tracks.{DecidesOn, IsNumberOf, EndsBy, TracksOpen, IsReadyFor}
+use Rattle.sgt_decided.specs.Decided.{Decides}
+use Rattle.sgt_cells.specs.Tracks.{IsNumberOf, EndsBy, TracksOpen, IsReadyFor}
 use Rattle.sgt_cells.specs.declared.cell.Cell.{Cell}
 use Rattle.sgt_cells.specs.declared.record.Record.{Record}
 use Rattle.sgt_cells.specs.declared.state.SiteState.{SiteState}
@@ -47,7 +48,7 @@ module _ {A : Type 0} where
 
 -- ---- decisions
 
-pub one-number : (ds : List Decision) (m n tx : ℕ) → IsDecidedOnce ds → DecidesOn ds m tx → DecidesOn ds n tx → m ≡ n
+pub one-number : (ds : List Decision) (m n tx : ℕ) → IsDecidedOnce ds → Decides ds m tx → Decides ds n tx → m ≡ n
 one-number ds m n tx once a b =
     elim (cases_order m n) [
       | inl same ↦ same
@@ -55,7 +56,7 @@ one-number ds m n tx once a b =
       | inr (inr more) ↦ absurd (AllPairs_at (λ d e. decided_tx d ≢ decided_tx e) ds n m b.0 a.0 once more b.1 a.1 (b.2 ∙ sym a.2))
     ]
 
-pub decides : (ds : List Decision) (e : Entry) (number : ℕ) → IsDecided ds e number → DecidesOn ds number (tx_of e)
+pub decides : (ds : List Decision) (e : Entry) (number : ℕ) → IsDecided ds e number → Decides ds number (tx_of e)
 decides ds e number by = (by.0, by.1, by.2)
 
 -- ---- tests
@@ -103,7 +104,7 @@ module _ (ds : List Decision) (items : List Holding) (entries : List Entry) (s :
   record-at number d at = some-at s.records number (let lt = slice_get_within ds number d at in let many = t.many in omega (arith, lt, many))
 
   -- the record of a transaction
-  pub record-of : (number tx : ℕ) → DecidesOn ds number tx → (r : Record) × (slice_get s.records number ≡ Some r) × IsRecord s.section (names items) entries tx r
+  pub record-of : (number tx : ℕ) → Decides ds number tx → (r : Record) × (slice_get s.records number ≡ Some r) × IsRecord s.section (names items) entries tx r
   record-of number tx (d, at, of) = let r = record-at number d at in (r.0, r.1, subst (λ i. IsRecord s.section (names items) entries i r.0) of (t.records number d r.0 at r.1))
 
   -- a transaction that is not decided has no entry
@@ -132,7 +133,7 @@ module _ (ds : List Decision) (items : List Holding) (entries : List Entry) (s :
   pub cell-named : (place : ℕ) (c : Cell) (x : Name) → slice_get s.cells.items place ≡ Some c → slice_get (names items) place ≡ Some x → (x ≡ c.name) × IsCell ds items entries c
   cell-named place c x at on = (same_Some x c.name (sym on ∙ cell-at place c at), All_at (IsCell ds items entries) s.cells.items place c t.cells.each at)
 
-  pub record-is : (number tx : ℕ) (r : Record) → DecidesOn ds number tx → slice_get s.records number ≡ Some r → IsRecord s.section (names items) entries tx r
+  pub record-is : (number tx : ℕ) (r : Record) → Decides ds number tx → slice_get s.records number ≡ Some r → IsRecord s.section (names items) entries tx r
   record-is number tx r (d, at, of) here = subst (λ i. IsRecord s.section (names items) entries i r) of (t.records number d r at here)
 
   -- ---- all ended

@@ -8,6 +8,7 @@ use Rattle.sgt_names.specs.declared.entry.Entry.TheVariants.{Write, Add, Want, W
 use Rattle.sgt_names.specs.declared.entry.Holding.{Holding}
 use Rattle.sgt_cert.specs.Certificate.{IsCommitted}
 use Rattle.sgt_cert.specs.declared.certificate.Decision.{Decision}
+use Rattle.sgt_decided.specs.Decided.{IsFound}
 use Rattle.sgt_cells.specs.declared.cell.Cell.{Cell}
 
 -- the greatest number that an entry has, or no entry has one
@@ -46,5 +47,4 @@ pub record AreCells (ds : List Decision) (items : List Holding) (entries : List 
 
 -- the rank of the transaction, if it is committed
 abbrev pub IsRankOf : List Decision → ℕ → Option ℕ → Type 0
-IsRankOf ds tx None = (number rank : ℕ) → IsCommitted ds number tx rank → ⊥
-IsRankOf ds tx (Some rank) = (number : ℕ) × IsCommitted ds number tx rank
+IsRankOf ds tx rank = IsFound (λ r. (number : ℕ) × IsCommitted ds number tx r) rank

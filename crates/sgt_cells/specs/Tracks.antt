@@ -9,19 +9,15 @@ use Rattle.sgt_names.specs.declared.entry.Holding.{Holding}
 use Rattle.sgt_cert.specs.Certificate.{decided_tx}
 use Rattle.sgt_cert.specs.Valid.{IsDecided}
 use Rattle.sgt_cert.specs.declared.certificate.Decision.{Decision}
+use Rattle.sgt_decided.specs.Decided.{Decides, IsFound}
 use Rattle.sgt_cells.specs.Cells.{IsGreatest, AreCells}
 use Rattle.sgt_cells.specs.Records.{IsRecord, live_among}
 use Rattle.sgt_cells.specs.declared.record.Record.{Record}
 use Rattle.sgt_cells.specs.declared.state.SiteState.{SiteState}
 
--- the decision of this number is on the transaction
-abbrev pub DecidesOn : List Decision → ℕ → ℕ → Type 0
-DecidesOn ds number tx = (d : Decision) × (slice_get ds number ≡ Some d) × (decided_tx d ≡ tx)
-
 -- the number of a decision on the transaction, if there is one
 abbrev pub IsNumberOf : List Decision → ℕ → Option ℕ → Type 0
-IsNumberOf ds tx None = (number : ℕ) → DecidesOn ds number tx → ⊥
-IsNumberOf ds tx (Some number) = DecidesOn ds number tx
+IsNumberOf ds tx number = IsFound (λ n. Decides ds n tx) number
 
 -- the place of the entry's item among the names, or its item is none of them
 abbrev pub IsPlaceAmong : List Name → Entry → Option ℕ → Type 0

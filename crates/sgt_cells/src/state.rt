@@ -14,7 +14,8 @@ ghost use Rattle.sgt_cells.specs.Cells.{AreCells, IsRankOf};
 ghost use Rattle.sgt_cells.specs.private.Noted.{IsPlaceOf, IsUpTo, raised};
 ghost use Rattle.sgt_cells.specs.Records.{AreActs};
 ghost use Rattle.sgt_cells.specs.private.Deeds.{act};
-ghost use Rattle.sgt_cells.specs.Tracks.{TracksOpen, IsReadyFor, IsNumberOf, IsPlaceAmong, DecidesOn};
+ghost use Rattle.sgt_decided.specs.Decided.{Decides};
+ghost use Rattle.sgt_cells.specs.Tracks.{TracksOpen, IsReadyFor, IsNumberOf, IsPlaceAmong};
 
 use crate::act::{self, Act};
 use crate::cell::{self, Cell};
@@ -253,7 +254,7 @@ impl SiteState {
     /// Whether the transaction, decided by this number, has no end yet.
     pub fn is_active(&self, number: usize) -> bool
         ensures { (ds : List Decision) (items : List Holding) (entries : List Entry) (tx : ℕ) → TracksOpen ds items entries self.now
-            → DecidesOn ds number tx → (IsTrue result ↔ All (λ f. IsEnd f → tx_of f ≢ tx) entries) }
+            → Decides ds number tx → (IsTrue result ↔ All (λ f. IsEnd f → tx_of f ≢ tx) entries) }
     {
         match self.records.get(number) {
             Some(record) => !record.has_ended(self.section),

@@ -1,23 +1,23 @@
 -- The end of the input, and how long a line may be.
 use Rattle.std.specs.Prelude.{◌≡◌, ℕ, ◌-◌, ◌^◌, Bool, IsTrue, IsSome, List, [], Result, Ok, Err}
-use Rattle.sgt_notation.specs.declared.SectionLine.{SectionLine}
 use Rattle.sgt_notation.specs.Limits.{max_line}
-use Rattle.sgt_cert.specs.Text.{AreSections}
-use Rattle.sgt_audit.specs.declared.faults.Fault.{Fault}
+use Rattle.sgt_audit.specs.declared.faults.FirstFault.{FirstFault}
 use Rattle.sgt_audit.specs.declared.kept.Kept.{Kept}
 use Rattle.sgt_audit.specs.declared.machine.Machine.{Machine}
 use Rattle.sgt_audit.specs.declared.machine.Progress.{Progress}
 use Rattle.sgt_audit.specs.declared.machine.Progress.TheVariants as at
-use Rattle.sgt_audit.specs.Reading.{Begun}
 use Rattle.sgt_audit.specs.Faults.{Stage, headed, complete, last, Rule, Breaks}
-use Rattle.sgt_audit.specs.Kept.{Holds}
+use Rattle.sgt_audit.specs.Kept.{IsAt}
 
--- at the end of the input, with these bytes behind the last LF: all was read, or the least fault
-abbrev pub EndsWith : Stage → List ℕ → Result Kept Fault → Type 0
-EndsWith s l (Ok k) = ((b : Begun) × (before : List SectionLine)
-    × Holds k.second k.certificate b k.tracked k.sections before
-    × AreSections k.certificate.sites before × (s ≡ complete k.second k.certificate before)) × (l ≡ [])
-EndsWith s l (Err f) = Breaks (Rule s (last l)) f
+-- all sections were read
+abbrev pub IsComplete : Stage → Type 0
+IsComplete (complete second c before) = Unit {0}
+IsComplete _ = ⊥
+
+-- at the end of the input, in the line of this number, with these bytes behind the last LF: all was read, or the least fault
+abbrev pub EndsWith : Stage → List ℕ → ℕ → Result Kept FirstFault → Type 0
+EndsWith s l n (Ok k) = IsAt k s × IsComplete s × (l ≡ [])
+EndsWith s l n (Err first) = (first.line ≡ n) × Breaks (Rule s (last l)) first.fault
 
 -- the sections themselves are kept, where that is asked
 abbrev pub KeepsSections : Bool → Progress → Type 0

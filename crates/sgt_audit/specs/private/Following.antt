@@ -1,5 +1,6 @@
 -- What may follow the lines of sections that were read, and what they are with it.
-use Rattle.std.specs.Prelude.{◌≡◌, ◌<◌, List, [], ◌∷◌, ◌++◌, length, All, Option, Some, None, slice_get}
+use Rattle.std.specs.Prelude.{◌≡◌, ◌-◌, ◌<◌, List, [], ◌∷◌, ◌++◌, length, All, Option, Some, None, slice_get}
+use Rattle.std.specs.Option.{ForSome}
 use Rattle.sgt_names.specs.Limits.{max_items}
 use Rattle.sgt_names.specs.Log.{names}
 use Rattle.sgt_notation.specs.declared.SectionLine.{SectionLine}
@@ -22,7 +23,7 @@ Fits log End = length log.finals ≡ length log.items
 abbrev pub FitsAt : OpenPlace → SectionLine → Type 0
 FitsAt p (Site k) = ⊥
 FitsAt p (Initial h) = (p.last ≡ None) × (p.finals ≡ 0) × (length p.items.items < max_items)
-    × All (λ x. ComesBefore x h.item) p.items.items
+    × ForSome (slice_get p.items.items (length p.items.items - 1)) (λ x. ComesBefore x h.item)
 FitsAt p (Logged e) = p.finals ≡ 0
 FitsAt p (Final h) = slice_get p.items.items p.finals ≡ Some h.item
 FitsAt p End = p.finals ≡ length p.items.items

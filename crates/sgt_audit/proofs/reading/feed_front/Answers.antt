@@ -8,5 +8,5 @@ returns-in_ok-fault-in-Some-clause-fed c =
       is = found.0;
       within = found.1;
       front = found.2;
-      answers = λ b before h. c.in_ok-fault-in-Some.ensures.answers b before h found.0;
+      follows = c.in_ok-fault-in-Some.ensures.follows found.0;
     }

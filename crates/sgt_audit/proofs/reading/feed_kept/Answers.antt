@@ -1,10 +1,9 @@
-use Rattle.std.proofs.Common.{List, ℕ, Option, None, Some, sym, ◌∙◌, subst, refl, arith}
+use Rattle.std.proofs.Common.{List, ℕ, Option, None, sym, ◌∙◌, subst, refl, arith}
 use Rattle.sgt_notation.specs.Lines.{coming}
 use Rattle.sgt_notation.specs.Spelling.{line_text}
 use Rattle.sgt_audit.specs.declared.kept.Kept.{Kept}
 use Rattle.sgt_audit.specs.declared.machine.Progress.TheVariants as at
 use Rattle.sgt_audit.specs.private.Stops.{Goes}
-use Rattle.sgt_audit.proofs.NextStage.{reading-follows}
 use Rattle.sgt_audit.proofs.ReaderAtStage.{after-line, fault-line, front-gave, spends_on}
 use Rattle.sgt_audit.proofs.reading.feed_kept.Goals as goal
 
@@ -15,7 +14,7 @@ returns-in-Some-fault-clause-goes c all told goes =
     let fed = rw c.in-Some.is at c.in_ok-n.ensures.fed in
     let gave = front-gave old new _ _ _ c.lines.lines c.pass.new.self told fed c.held.ensures c.pass.ensures in
     fault-line all (at.Reading old) (at.Reading new) 50 c.lines.number (coming c.lines.lines told) (coming c.pass.new.self told) (line_text fed.line) c.in-Some-fault.fault (c.lines.invariant.0 all told goes) gave.gives
-    (reading-follows old new (line_text fed.line) (Some c.in-Some-fault.fault) c.in_ok-n.ensures.second c.in_ok-n.ensures.certificate (λ b before h. rw c.in-Some-fault.is at (fed.answers b before h)))
+    (λ s here. rw c.in-Some-fault.is at (fed.follows s here))
 
 pub lines-preserved : goal.lines-preserved
 lines-preserved c =
@@ -25,7 +24,7 @@ lines-preserved c =
     let gave = λ (told : Option (List ℕ)). front-gave old new _ _ _ c.lines.lines c.pass.new.self told fed c.held.ensures c.pass.ensures in (
       λ all told goes.
           after-line all (at.Reading old) (at.Reading new) 50 c.lines.number (coming c.lines.lines told) (coming c.pass.new.self told) (line_text fed.line) (c.lines.invariant.0 all told goes) (gave told).gives
-          (reading-follows old new (line_text fed.line) None c.in_ok-n.ensures.second c.in_ok-n.ensures.certificate (λ b before h. rw c.in_default-fault.is at (fed.answers b before h))),
+          (λ s here. rw c.in_default-fault.is at (fed.follows s here)),
       λ told. spends_on told told told _ _ _ (c.lines.invariant.1 told) (gave told).spends,
       omega (arith, (gave None).falls refl, c.lines.invariant.2),
       omega (arith, (gave None).falls refl, c.lines.invariant.3),

@@ -1,6 +1,5 @@
 use Rattle.std.proofs.lemmas.Result.{on_ok_weaker}
-use Rattle.sgt_names.specs.Entry.{tx_of}
-use Rattle.sgt_audit.proofs.SiteStates.{suiting-at, suiting-none, rank-found}
+use Rattle.sgt_audit.proofs.SiteStates.{suiting-at, suiting-none}
 use Rattle.sgt_audit.proofs.tracked.enter.Goals as goal
 
 pub returns-in-Some-clause-tracks : goal.returns-in-Some-clause-tracks
@@ -8,7 +7,7 @@ returns-in-Some-clause-tracks c =
     let e = c.args.entry.now in
     let known = c.args.known.now in
     on_ok_weaker c.enter.result (λ tracks ds items entries k once apart listed by t. tracks ds items entries once apart listed (k.place items entries t)
-    (suiting-at ds e known.ruling.suiting c.in-Some.number c.in-Some.is k.ruling.suiting) (rank-found ds (tx_of e) known.ruling.rank k.ruling.rank) t) c.enter.ensures.tracks
+    (suiting-at ds e known.ruling.suiting c.in-Some.number c.in-Some.is k.ruling.suiting) k.ruling.rank t) c.enter.ensures.tracks
 
 pub returns-in-None-clause-tracks : goal.returns-in-None-clause-tracks
 returns-in-None-clause-tracks c ds items entries k once apart listed by t =

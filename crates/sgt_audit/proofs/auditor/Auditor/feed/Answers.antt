@@ -11,4 +11,4 @@ returns-in-Ok-Some-clause-read k second c fed read =
 pub returns-in-Found-clause-read : goal.returns-in-Found-clause-read
 returns-in-Found-clause-read k second c fed read =
     let lines = bundle_lines second c fed in
-    subst (λ q. HasRead q (lines ++ k.args.line.now ∷ [])) (sym k.in-Found.is) (found-read k.in-Found.field-0 k.in-Found.field-1 lines k.args.line.now (subst (λ q. HasRead q lines) k.in-Found.is read))
+    subst (λ q. HasRead q (lines ++ k.args.line.now ∷ [])) (sym k.in-Found.is) (found-read k.in-Found.field-0 lines k.args.line.now (subst (λ q. HasRead q lines) k.in-Found.is read))

@@ -1,9 +1,9 @@
 use Rattle.sgt_audit.proofs.kept.Kept.next.Goals as goal
 
-pub returns-in-Some-clause-answers : goal.returns-in-Some-clause-answers
-returns-in-Some-clause-answers c b before h =
+pub returns-in-Some-clause-follows : goal.returns-in-Some-clause-follows
+returns-in-Some-clause-follows c s here =
     let read = rw c.in-Some.is at c.read_line.ensures in
-    rw read.1 (c.follow.ensures.answers b before h read.0)
+    rw read.1 (c.follow.ensures.follows read.0 s here)
 
-pub returns-in-None-clause-answers : goal.returns-in-None-clause-answers
-returns-in-None-clause-answers c b before h = λ s stage. c.unread.ensures b before c.args.line.now s h (rw c.in-None.is at c.read_line.ensures) stage
+pub returns-in-None-clause-follows : goal.returns-in-None-clause-follows
+returns-in-None-clause-follows c s here = c.unread.ensures c.args.line.now s (rw c.in-None.is at c.read_line.ensures) here

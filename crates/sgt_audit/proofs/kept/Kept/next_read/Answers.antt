@@ -1,8 +1,14 @@
+use Rattle.std.proofs.Common.{sym, subst}
 use Rattle.sgt_notation.specs.Spelling.{line_text}
+use Rattle.sgt_notation.proofs.OneSpelling.{line-one}
+use Rattle.sgt_audit.specs.Faults.{Allows}
+use Rattle.sgt_decided.proofs.Loops.{refuted}
 use Rattle.sgt_audit.proofs.kept.Kept.next_read.Goals as goal
 
-pub returns-then-is_line_in-clause-answers : goal.returns-then-is_line_in-clause-answers
-returns-then-is_line_in-clause-answers c b before h is = c.follow.ensures.answers b before h (c.is_line_in.ensures.yes is c.if-is_line_in.true)
+pub returns-then-is_allowed-clause-follows : goal.returns-then-is_allowed-clause-follows
+returns-then-is_allowed-clause-follows c is s here = c.follow.ensures.follows (is, c.is_allowed.ensures.0 c.if-is_allowed.true) s here
 
-pub returns-else-is_line_in-clause-answers : goal.returns-else-is_line_in-clause-answers
-returns-else-is_line_in-clause-answers c b before h is = λ s stage. c.unread.ensures b before (line_text c.args.line.now) s h (c.is_line_in.ensures.no is c.if-is_line_in.false) stage
+pub returns-else-is_allowed-clause-follows : goal.returns-else-is_allowed-clause-follows
+returns-else-is_allowed-clause-follows c is s here =
+    c.unread.ensures (line_text c.args.line.now) s
+    (λ l is_l same. refuted c.is_allowed.result c.is_allowed.ensures c.if-is_allowed.false (subst (Allows c.args.self.now.second) (sym (line-one c.args.line.now l is is_l.0 same)) is_l.1)) here

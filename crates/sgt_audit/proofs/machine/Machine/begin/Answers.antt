@@ -1,11 +1,12 @@
-use Rattle.std.proofs.Common.{◌≡◌, [], None, refl, sym, subst}
+use Rattle.std.proofs.Common.{[], None, refl, sym, ap, ◌∙◌, subst}
 use Rattle.sgt_cert.specs.Text.{certificate_text, IsCertificate}
 use Rattle.sgt_cert.specs.declared.certificate.Certificate.{Certificate}
 use Rattle.sgt_audit.specs.declared.faults.Fault.{Fault}
 use Rattle.sgt_audit.specs.Faults.{KeepsItself}
-use Rattle.sgt_audit.specs.Kept.{Holds, IsTracked}
+use Rattle.sgt_audit.specs.Kept.{Means}
+use Rattle.sgt_audit.specs.declared.kept.Kept.{Kept}
 use Rattle.sgt_audit.specs.Reading.{Begun}
-use Rattle.sgt_audit.proofs.NextStage.{certificate-breaks, certificate-means}
+use Rattle.sgt_audit.proofs.NextStage.{certificate-breaks, certificate-means, headed-follows}
 use Rattle.sgt_audit.proofs.Places.{fresh-begun}
 use Rattle.sgt_audit.proofs.machine.Machine.begin.Goals as goal
 
@@ -15,16 +16,13 @@ returns-in-Ok-new-clause-begins k =
     let itself = subst (λ (c : Certificate). (f : Fault) → KeepsItself c.decisions f) answered.0 answered.1 in
     let spelled = k.in-Ok.ensures.ok.0 in
     let b : Begun = record { sites = k.in-Ok.certificate.sites; whole = []; current = None } in
-    subst (λ (c : Certificate). (b : Begun) × (k.args.second ≡ k.args.second) × (k.args.line.now ≡ certificate_text c) × Holds k.args.second c b k.in-Ok-new.tracked k.sections_of-sections.result []) (sym answered.0) (
-      b,
-      refl,
-      k.in-Ok.ensures.ok.1,
-      record {
-        means = certificate-means k.args.second k.in-Ok.certificate b spelled itself (fresh-begun k.in-Ok.certificate.sites b spelled.0 spelled.1 refl) refl;
-        tracks = subst (λ (c : Certificate). IsTracked c.decisions b k.in-Ok-new.tracked) answered.0 (k.in-Ok-new.ensures b (subst IsCertificate (sym answered.0) spelled) refl);
-        sections = k.sections_of-sections.ensures.empty;
-      },
-    )
+    let new : Kept = record { second = k.args.second; certificate = k.in-Ok-Ok.certificate; tracked = k.in-Ok-new.tracked; sections = k.sections_of-sections.result } in
+    headed-follows new k.args.line.now b (k.in-Ok.ensures.ok.1 ∙ ap certificate_text (sym answered.0))
+    (record {
+      means = subst (λ (c : Certificate). Means k.args.second c b []) (sym answered.0) (certificate-means k.args.second k.in-Ok.certificate b spelled itself (fresh-begun k.in-Ok.certificate.sites b spelled.0 spelled.1 refl) refl);
+      tracks = k.in-Ok-new.ensures b (subst IsCertificate (sym answered.0) spelled) refl;
+      sections = k.sections_of-sections.ensures.empty;
+    })
 
 pub returns-in-Ok-Err-clause-begins : goal.returns-in-Ok-Err-clause-begins
 returns-in-Ok-Err-clause-begins k =

@@ -5,11 +5,9 @@ use Rattle.sgt_decided.proofs.Loops.{refuted}
 use Rattle.sgt_audit.proofs.machine.Machine.too_long.Goals as goal
 
 pub returns-then-is_complete : goal.returns-then-is_complete
-returns-then-is_complete k s p stands other long =
-    let at = subst (λ q. Stands q s) k.in-Reading.is stands in
-    long-trails k.in-Reading.kept.second k.in-Reading.kept.certificate at.1 s p at.3 ((k.is_complete.ensures at.0 at.1 at.2).0 k.if-is_complete.true) long
+returns-then-is_complete k s p stands other long = long-trails s p ((k.is_complete.ensures s (subst (λ q. Stands q s) k.in-Reading.is stands)).0 k.if-is_complete.true) long
 
 pub returns-else-is_complete : goal.returns-else-is_complete
 returns-else-is_complete k s p stands other long =
-    let at = subst (λ q. Stands q s) k.in-Reading.is stands in
-    long-breaks k.in-Reading.kept.second k.in-Reading.kept.certificate at.1 s p at.3 (refuted k.is_complete.result (k.is_complete.ensures at.0 at.1 at.2) k.if-is_complete.false) long
+    let here = subst (λ q. Stands q s) k.in-Reading.is stands in
+    long-breaks k.in-Reading.kept s p here (refuted k.is_complete.result (k.is_complete.ensures s here) k.if-is_complete.false) long

@@ -1,4 +1,4 @@
-use Rattle.std.proofs.Common.{Some, refl, sym, subst}
+use Rattle.std.proofs.Common.{Some, arith, refl, sym, subst}
 use Rattle.sgt_audit.specs.declared.place.OpenPlace.{OpenPlace}
 use Rattle.sgt_audit.specs.Kept.{IsOpenPlace}
 use Rattle.sgt_audit.specs.private.Following.{Fits, with_line}
@@ -20,9 +20,9 @@ returns-in-Logged c log room fits o =
 pub returns-in-Final : goal.returns-in-Final
 returns-in-Final c log room fits o =
     let old = c.args.self.now in
-    let new : OpenPlace = record old { finals = c.one_more-self.result } in
+    let new : OpenPlace = record old { finals = c.saturating_add-self.result } in
     let few = finals-few log old c.in-Final.field-0 room o (subst (Fits log) c.in-Final.is fits) in
-    subst (λ l. IsOpenPlace (with_line log l) new) (sym c.in-Final.is) (final-entered log old new o c.in-Final.field-0 refl refl (c.one_more-self.ensures few))
+    subst (λ l. IsOpenPlace (with_line log l) new) (sym c.in-Final.is) (final-entered log old new o c.in-Final.field-0 refl refl (omega (arith, few, c.saturating_add-self.ensures)))
 
 pub returns-in-Site : goal.returns-in-Site
 returns-in-Site c log room fits o = subst (λ l. IsOpenPlace (with_line log l) c.args.self.now) (sym c.in-Site.is) o
