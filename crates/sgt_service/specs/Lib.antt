@@ -5,3 +5,4 @@ pub mod Refused
 pub mod Seats
 pub mod Stops
 pub mod Together
+pub mod Undecided
