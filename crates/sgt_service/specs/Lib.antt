@@ -1,5 +1,6 @@
 pub mod Counts
 pub mod Guarded
+pub mod Opened
 pub mod Reads
 pub mod Refused
 pub mod Seats
