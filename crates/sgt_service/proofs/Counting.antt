@@ -3,6 +3,7 @@ use Rattle.std.proofs.Common.{◌≡◌, ℕ, suc, ◌<◌, ◌≤◌, ◌+◌, 
 use Rattle.std.specs.Prelude.{slice_get, count_by, filter, Option}
 use Rattle.std.proofs.lemmas.Bool.{cases_Bool, cases_lt, eq-eqb, eqb-true, ne_eqb, lt-ltb, le-ltb}
 use Rattle.std.proofs.lemmas.List.{length-set}
+use Rattle.std.proofs.lemmas.List.Elements.{All-nil, All-cons}
 use Rattle.std.proofs.lemmas.List.Sums.{length-filter}
 use Rattle.std.proofs.lemmas.Option.{slice_get_within, same_Some}
 use Rattle.sgt_site.proofs.Inserts.{get_set_same, get_set_other}
@@ -117,12 +118,19 @@ changes_filter s (t ∷ ts) = elim (cases_Bool (t.site == s)) [
   | inr miss ↦ rw miss (changes_filter s ts)
 ]
 
-pub block_at_none : (v : Ending) (s : ℕ) (ts : List Touch) (n : ℕ) → n ≡ count_by (is_at s) ts → n ≡ 0 → 0 ≡ block_length v (at_site s ts)
-block_at_none v s ts n items none = sym (block_none v (at_site s ts) (empty (at_site s ts) (length-filter (is_at s) ts ∙ (sym items ∙ none))))
+-- how many items are touched at the site tells whether any is
+pub some_at : (s : ℕ) (ts : List Touch) (n : ℕ) → n ≡ count_by (is_at s) ts → n ≢ 0 → at_site s ts ≢ []
+some_at s ts n items some none = some (items ∙ (sym (length-filter (is_at s) ts) ∙ ap length none))
+
+pub none_at : (s : ℕ) (ts : List Touch) (n : ℕ) → n ≡ count_by (is_at s) ts → n ≡ 0 → at_site s ts ≡ []
+none_at s ts n items none = empty (at_site s ts) (length-filter (is_at s) ts ∙ (sym items ∙ none))
   where
     empty : (xs : List Touch) → length xs ≡ 0 → xs ≡ []
     empty [] e = refl
     empty (x ∷ xs) e = absurd (omega (arith, e))
+
+pub block_at_none : (v : Ending) (s : ℕ) (ts : List Touch) (n : ℕ) → n ≡ count_by (is_at s) ts → n ≡ 0 → 0 ≡ block_length v (at_site s ts)
+block_at_none v s ts n items none = sym (block_none v (at_site s ts) (none_at s ts n items none))
 
 pub block_at_end : (v : Ending) (s : ℕ) (ts : List Touch) (n : ℕ) → n ≡ count_by (is_at s) ts → n ≢ 0 → v ≡ Withdrawn → 1 ≡ block_length v (at_site s ts)
 block_at_end v s ts n items some is = sym (ended v (at_site s ts) is (λ e. some (items ∙ (sym (length-filter (is_at s) ts) ∙ e))))
@@ -145,6 +153,23 @@ block_at_some v s ts n k items some other changes =
     ended Committed [] e some = absurd (some refl)
     ended Refused (t ∷ ts) e some = sym (add-one (length (writing_in (t ∷ ts))))
     ended Refused [] e some = absurd (some refl)
+
+pub some_above : (n : ℕ) (ts : List Touch) → (All (λ t. t.site < n) ts → ⊥) → (s : ℕ) × (n ≤ s) × (at_site s ts ≢ [])
+some_above n [] none = absurd (none (All-nil (λ t. t.site < n)))
+some_above n (t ∷ ts) none = elim (cases_lt t.site n) [
+  | inl below ↦
+      let later = some_above n ts (λ all. none (All-cons (λ t. t.site < n) t ts below all)) in (
+        later.0,
+        later.1,
+        λ e. elim (cases_Bool (t.site == later.0)) [
+          | inl hit ↦ (let f : t ∷ at_site later.0 ts ≡ [] = rw hit at e in cc)
+          | inr miss ↦ later.2 (rw miss at e)
+        ],
+      )
+  | inr past ↦
+      let hit : (t.site == t.site) ≡ true = eq-eqb t.site t.site refl in
+      (t.site, past, λ e. (let f : t ∷ at_site t.site ts ≡ [] = rw hit at e in cc))
+]
 
 pub none_above : (n s : ℕ) (ts : List Touch) → All (λ t. t.site < n) ts → n ≤ s → at_site s ts ≡ []
 none_above n s [] all past = refl

@@ -1,22 +1,130 @@
 -- The faults that a call of the service hands on.
-use Rattle.std.proofs.Common.{ℕ, List, inl, inr}
+use Rattle.std.proofs.Common.{refl, ℕ, List, Option, Some, None, inl, inr, sym, subst}
 use Rattle.sgt_names.specs.declared.draft.Touch.{Touch}
+use Rattle.sgt_names.specs.Name.{Name}
+use Rattle.sgt_arena.specs.declared.handle.Handle.{Handle}
+use Rattle.sgt_edges.specs.declared.edge.Edge.{Edge}
 use Rattle.sgt_site.specs.State.{SiteState}
+use Rattle.sgt_site.specs.Refused.{RefusesRead, RefusesPledge}
+use Rattle.sgt_site.specs.declared.fault.SiteFault.{SiteFault}
+use Rattle.sgt_site.specs.declared.fault.SiteFault.TheVariants as site
+use Rattle.sgt_certifier.specs.Certifier.{State}
+use Rattle.sgt_certifier.specs.History.{expect, decide, withdraw}
+use Rattle.sgt_certifier.specs.Kept.{Kept, IsTold}
 use Rattle.sgt_certifier.specs.declared.call.Call.{Call}
-use Rattle.sgt_agreed.specs.Agreed.{RefusesAgreed}
+use Rattle.sgt_certifier.specs.declared.call.CertifierFault.{CertifierFault}
+use Rattle.sgt_certifier.specs.declared.call.CertifierFault.TheVariants as certifier
+use Rattle.sgt_agreed.specs.Fault.{of_site, of_certifier}
 use Rattle.sgt_agreed.specs.declared.fault.ServiceFault.{ServiceFault}
 use Rattle.sgt_agreed.specs.declared.fault.ServiceFault.TheVariants as fault
-use Rattle.sgt_service.specs.Refused.{IsOfCall}
+use Rattle.sgt_service.specs.Refused.{IsOfCall, IsOfRead, IsOfPledge, IsOfWithdraw, IsOfCommit}
+use Rattle.sgt_service.specs.Undecided.{RefusesActive, RefusesGather, IsUncommitted, IsNotWithdrawn, at_first, unexpected, beyond, ungathered, undecided, held_back, absent, unpledged, declined}
+use Rattle.sgt_service.specs.declared.active.Active.{Active}
 
-pub agreed_of_call : (history : List Call) (s : SiteState) (tx : ℕ) (touched : List Touch) (f : ServiceFault) → RefusesAgreed history s tx touched f → IsOfCall f
-agreed_of_call history s tx touched (fault.NotPledged number) r = inr tt
-agreed_of_call history s tx touched (fault.Site f) r = inl r.2
-agreed_of_call history s tx touched fault.Memory r = inl tt
-agreed_of_call history s tx touched (fault.Certifier f) r = absurd r
-agreed_of_call history s tx touched fault.SumTooLarge r = absurd r
-agreed_of_call history s tx touched (fault.StrayTicket n) r = absurd r
-agreed_of_call history s tx touched (fault.TwoTickets n) r = absurd r
-agreed_of_call history s tx touched (fault.MissingTicket n) r = absurd r
-agreed_of_call history s tx touched (fault.TicketOrder n) r = absurd r
-agreed_of_call history s tx touched (fault.LogDiffers n) r = absurd r
-agreed_of_call history s tx touched (fault.VersionsDiffer n) r = absurd r
+-- ---- what a site refuses
+
+pub read_told : (s : SiteState) (tx : ℕ) (x : Name) (f : SiteFault) → RefusesRead s tx x f → IsOfRead (of_site f)
+read_told s tx x site.UnknownItem r = tt
+read_told s tx x site.ReadTwice r = tt
+read_told s tx x site.Ended r = tt
+read_told s tx x site.PledgeOpen r = tt
+read_told s tx x site.Memory r = tt
+read_told s tx x _ r = absurd r
+
+pledge_told : (s : SiteState) (tx : ℕ) (touched : List Touch) (f : SiteFault) → RefusesPledge s tx touched f → IsOfWithdraw (of_site f)
+pledge_told s tx touched site.UnknownItem r = tt
+pledge_told s tx touched site.Ended r = tt
+pledge_told s tx touched site.PledgeOpen r = tt
+pledge_told s tx touched site.DraftDiffers r = tt
+pledge_told s tx touched site.Memory r = tt
+pledge_told s tx touched _ r = absurd r
+
+gather_told : (history : List Call) (here : ℕ) (s : SiteState) (active : Active) (f : ServiceFault) → RefusesGather history here s active f → IsOfCommit f
+gather_told history here s active (fault.NotPledged number) r = tt
+gather_told history here s active (fault.Site site.UnknownItem) r = tt
+gather_told history here s active (fault.Site site.Ended) r = tt
+gather_told history here s active (fault.Site site.PledgeOpen) r = tt
+gather_told history here s active (fault.Site site.DraftDiffers) r = tt
+gather_told history here s active (fault.Site site.Memory) r = absurd (r.2 refl)
+gather_told history here s active (fault.Site _) r = absurd r.1
+gather_told history here s active fault.Memory r = tt
+gather_told history here s active _ r = absurd r
+
+-- ---- what the certifier refuses
+
+expect_by : (s : State) (h : Handle) (f : CertifierFault) → IsTold s (expect h) f → IsOfCommit (of_certifier f)
+expect_by s h certifier.Unknown t = tt
+expect_by s h (certifier.StepOpen tx) t = tt
+expect_by s h certifier.Memory t = tt
+expect_by s h _ t = absurd t.0
+
+withdraw_by : (s : State) (h : Handle) (f : CertifierFault) → IsTold s (withdraw h) f → IsOfWithdraw (of_certifier f)
+withdraw_by s h certifier.Unknown t = tt
+withdraw_by s h (certifier.StepOpen tx) t = tt
+withdraw_by s h certifier.Memory t = tt
+withdraw_by s h _ t = absurd t.0
+
+decide_by : (s : State) (h : Handle) (edges : List Edge) (f : CertifierFault) → IsTold s (decide h edges) f → IsOfCommit (of_certifier f)
+decide_by s h edges certifier.Unknown t = tt
+decide_by s h edges (certifier.StepOpen tx) t = tt
+decide_by s h edges certifier.Stale t = tt
+decide_by s h edges certifier.Memory t = tt
+decide_by s h edges _ t = absurd t.0
+
+active_withdraw : (lost : Option ℕ) (s : State) (active : Active) (f : ServiceFault) → RefusesActive lost s active f → IsOfWithdraw f
+active_withdraw (Some l) s active f r = subst IsOfWithdraw (sym r) tt
+active_withdraw None s active f r = subst IsOfWithdraw (sym r.0) tt
+
+active_commit : (lost : Option ℕ) (s : State) (active : Active) (f : ServiceFault) → RefusesActive lost s active f → IsOfCommit f
+active_commit (Some l) s active f r = subst IsOfCommit (sym r) tt
+active_commit None s active f r = subst IsOfCommit (sym r.0) tt
+
+-- ---- the whole step
+
+pub commit_told : (sites : ℕ) (lost : Option ℕ) (k : Kept) (active : Active) (f : ServiceFault) → IsUncommitted sites lost k active f → IsOfCommit f
+commit_told sites lost k active f (at_first g r) = active_commit lost k.state active g r
+commit_told sites lost k active f (unexpected g r) = subst IsOfCommit (sym r.2) (expect_by k.state active.handle r.0 r.1)
+commit_told sites lost k active f (beyond here past touches) = tt
+commit_told sites lost k active f (ungathered g r) = gather_told k.history r.0 r.1 active g r.4
+commit_told sites lost k active f (undecided edges g e r) = subst IsOfCommit (sym r.2) (decide_by k.state active.handle edges r.0 r.1)
+
+pub withdraw_told : (sites : ℕ) (lost : Option ℕ) (k : Kept) (active : Active) (f : ServiceFault) → IsNotWithdrawn sites lost k active f → IsOfWithdraw f
+withdraw_told sites lost k active f (held_back g r) = active_withdraw lost k.state active g r
+withdraw_told sites lost k active f (absent here past touches) = tt
+withdraw_told sites lost k active f (unpledged g r) = subst IsOfWithdraw (sym r.3) (pledge_told r.0 active.tx active.draft.touched r.1 r.2)
+withdraw_told sites lost k active f (declined g r) = subst IsOfWithdraw (sym r.2) (withdraw_by k.state active.handle r.0 r.1)
+
+-- ---- each is a fault of some call
+
+certifier_of_call : (f : CertifierFault) → IsOfCommit (fault.Certifier f) → IsOfCall (fault.Certifier f)
+certifier_of_call certifier.Memory h = absurd h
+certifier_of_call certifier.WindowFull h = absurd h
+certifier_of_call certifier.Unknown h = inr (λ e. absurd cc)
+certifier_of_call (certifier.StepOpen tx) h = inr (λ e. absurd cc)
+certifier_of_call (certifier.ActiveLeft n) h = absurd h
+certifier_of_call certifier.Stale h = inr (λ e. absurd cc)
+certifier_of_call certifier.GenerationsSpent h = absurd h
+certifier_of_call certifier.NumbersSpent h = absurd h
+
+site_of_call : (f : SiteFault) → IsOfPledge (fault.Site f) → IsOfCall (fault.Site f)
+site_of_call site.UnknownItem h = inl (λ e. absurd cc)
+site_of_call site.Ended h = inl (λ e. absurd cc)
+site_of_call site.PledgeOpen h = inl (λ e. absurd cc)
+site_of_call site.DraftDiffers h = inl (λ e. absurd cc)
+site_of_call _ h = absurd h
+
+pub commit_of_call : (f : ServiceFault) → IsOfCommit f → IsOfCall f
+commit_of_call (fault.Site f) h = site_of_call f h
+commit_of_call (fault.Certifier f) h = certifier_of_call f h
+commit_of_call (fault.NotPledged site) h = inr tt
+commit_of_call fault.Memory h = inl tt
+commit_of_call _ h = absurd h
+
+pub withdraw_commit : (f : ServiceFault) → IsOfWithdraw f → IsOfCommit f
+withdraw_commit (fault.Site f) h = h
+withdraw_commit (fault.Certifier certifier.Unknown) h = tt
+withdraw_commit (fault.Certifier (certifier.StepOpen tx)) h = tt
+withdraw_commit (fault.Certifier _) h = absurd h
+withdraw_commit (fault.NotPledged site) h = tt
+withdraw_commit fault.Memory h = tt
+withdraw_commit _ h = absurd h

@@ -1,6 +1,8 @@
 -- The names of the sites' items.
-use Rattle.std.proofs.Common.{◌≡◌, ◌<◌, ◌≤◌, ◌+◌, ℕ, Bool, List, length, map, Some, Result, Ok, Err, refl, sym, ◌∙◌, subst, arith, inl, inr, ◌⊎◌, get_or}
+use Rattle.std.proofs.Common.{◌≡◌, ◌<◌, ◌≤◌, ◌+◌, ℕ, suc, Bool, List, [], ◌∷◌, ◌++◌, ap, length, map, take, Option, Some, None, IfSome, Result, Ok, Err, refl, sym, ◌∙◌, subst, arith, inl, inr, ◌⊎◌, get_or}
 use Rattle.std.specs.Prelude.{IsTrue, All, Contains, ◌↔◌, is_ok, slice_get}
+use Rattle.std.proofs.lemmas.List.{length-take-le}
+use Rattle.std.proofs.Math.Seq.{take-length}
 use Rattle.std.proofs.lemmas.Option.{same_Some, slice_get-get_or, slice_get_within}
 use Rattle.std.specs.List.Sorted.{IsSearchInRange, IsBinarySearchResult}
 use Rattle.std.specs.declared.cmp.Ordering.TheVariants.{Less, Equal}
@@ -8,7 +10,7 @@ use Rattle.std.proofs.lemmas.Bool.{cases_eq, cases_lt}
 use Rattle.std.proofs.lemmas.Cmp.{nat_list_cmp_total, tied_itself}
 use Rattle.std.proofs.lemmas.Map.Lookups.{exact_bytes}
 use Rattle.std.proofs.lemmas.List.Elements.{Contains-get_or}
-use Rattle.sgt_names.proofs.Lists.{All-from_map, All-weaken}
+use Rattle.sgt_names.proofs.Lists.{All-from_map, All-weaken, take_next}
 use Rattle.sgt_names.proofs.Places.{AllPairs_at, AllPairs-from_at, Contains_at}
 use Rattle.sgt_names.proofs.Ranged.{searched}
 use Rattle.sgt_certifier.proofs.Ruling.{map_place}
@@ -17,10 +19,11 @@ use Rattle.std.specs.Cmp.Lexicographic.{slice_cmp}
 use Rattle.sgt_names.specs.Name.{Name}
 use Rattle.sgt_names.specs.Log.{names}
 use Rattle.sgt_names.specs.declared.entry.Holding.{Holding}
-use Rattle.sgt_site.specs.State.{AreItems}
+use Rattle.sgt_site.specs.State.{SiteState, AreItems, opened}
 use Rattle.sgt_site.specs.declared.fault.SiteFault.TheVariants.{BadItems}
 use Rattle.sgt_agreed.specs.declared.fault.ServiceFault.{ServiceFault}
 use Rattle.sgt_agreed.specs.declared.fault.ServiceFault.TheVariants.{Site}
+use Rattle.sgt_service.specs.Opened.{sites_from}
 use Rattle.sgt_service.specs.Refused.{HasItem, NamesRise, RefusesSites}
 
 pub has_found : (all : List (List Name)) (s : ℕ) (x : Name) (d : List Name) (b : Bool) → s < length all
@@ -53,6 +56,34 @@ all_opened sites opened k d within = opened k (get_or sites k d) within (slice_g
 pub bad_items : (sites : List (List Holding)) (n : ℕ) (d : List Holding) (f : ServiceFault) → n < length sites → f ≡ Site BadItems
     → (AreItems (get_or sites n d) → ⊥) → RefusesSites sites f
 bad_items sites n d f within is bad = subst (RefusesSites sites) (sym is) (λ (all : All AreItems sites). bad (all n d within))
+
+-- one site more
+pub sites_next : (first : ℕ) (front : List (List Holding)) (items : List Holding)
+    → sites_from first (front ++ items ∷ []) ≡ sites_from first front ++ opened (first + length front) items ∷ []
+sites_next first [] items = ap (λ n. opened n items ∷ []) (omega arith)
+sites_next first (x ∷ front) items =
+    ap (λ ss. opened first x ∷ ss)
+    (sites_next (suc first) front items ∙ ap (λ n. sites_from (suc first) front ++ opened n items ∷ []) (omega arith))
+
+pub sites_grow : (sites : List (List Holding)) (n : ℕ) (items : List Holding) (old new : List SiteState) (o : Option SiteState)
+    → slice_get sites n ≡ Some items → old ≡ sites_from 0 (take n sites) → IfSome o (λ s. s ≡ opened n items)
+    → ((s : SiteState) × (o ≡ Some s) × (new ≡ old ++ s ∷ [])) → new ≡ sites_from 0 (take (n + 1) sites)
+sites_grow sites n items old new None at was is added = cc
+sites_grow sites n items old new (Some s) at was is added =
+    let within = slice_get_within sites n items at in
+    let front : length (take n sites) ≡ n = length-take-le n sites (omega arith) in
+    let same : added.0 ≡ opened n items = same_Some added.0 s (sym added.1) ∙ is in
+    added.2 ∙ ap (λ ss. ss ++ added.0 ∷ []) was
+    ∙ ap (λ t. sites_from 0 (take n sites) ++ t ∷ []) (same ∙ ap (λ k. opened k items) (omega (arith, front)))
+    ∙ sym (ap (sites_from 0) (take_next sites n items at) ∙ sites_next 0 (take n sites) items)
+
+pub sites_all : (sites : List (List Holding)) (n : ℕ) (all : List SiteState) → n ≡ length sites → all ≡ sites_from 0 (take n sites)
+    → all ≡ sites_from 0 sites
+sites_all sites n all is e = e ∙ ap (sites_from 0) (ap (λ k. take k sites) is ∙ take-length sites)
+
+pub sites_long : (first : ℕ) (sites : List (List Holding)) → length (sites_from first sites) ≡ length sites
+sites_long first [] = refl
+sites_long first (x ∷ rest) = ap suc (sites_long (suc first) rest)
 
 -- ---- the names of a site's items rise
 

@@ -1,15 +1,17 @@
 -- What lies under the certifier's lock.
-use Rattle.std.specs.Prelude.{◌≡◌, ◌≤◌, ◌++◌, ◌∷◌, [], ℕ, zero, suc, List, length, None}
+use Rattle.std.specs.Prelude.{◌≡◌, ◌≤◌, ◌++◌, ◌∷◌, [], ℕ, zero, suc, List, length, All, None}
 use Rattle.sgt_names.specs.declared.draft.Touch.{Touch}
 use Rattle.sgt_names.specs.Draft.{at_site, writing_in}
 use Rattle.sgt_edges.specs.declared.edge.Edge.{Edge}
-use Rattle.sgt_site.specs.State.{SiteState, commit_block, refuse_block, withdraw_block}
+use Rattle.sgt_edges.specs.Edges.{IsGiven, StandsForAll}
+use Rattle.sgt_site.specs.State.{SiteState, IsPledgedFor, commit_block, refuse_block, withdraw_block}
 use Rattle.sgt_certifier.specs.History.{IsNoted, IsInstalling}
 use Rattle.sgt_certifier.specs.Kept.{Kept, Adds, IsExpected, changed_at}
 use Rattle.sgt_certifier.specs.declared.call.Call.{Call}
 use Rattle.sgt_certifier.specs.declared.call.Call.TheVariants as call
 use Rattle.sgt_certifier.specs.declared.call.Decided.{Decided}
 use Rattle.sgt_certifier.specs.declared.call.Decided.TheVariants as decided
+use Rattle.sgt_agreed.specs.Agreed.{VersionsAgree}
 use Rattle.sgt_workers.specs.declared.ticket.Ticket.{Ticket}
 use Rattle.sgt_workers.specs.declared.ticket.Ending.{Ending}
 use Rattle.sgt_workers.specs.declared.ticket.Ending.TheVariants as ending
@@ -62,9 +64,33 @@ abbrev pub notes_below : Ending → Active → ℕ → List Call
 notes_below verdict active zero = []
 notes_below verdict active (suc site) = notes_below verdict active site ++ notes_at verdict active site
 
--- the step of a transaction at a certifier with so many sites: its decision on edges, its installs, and the step's end
+-- what one gathering for a transaction handed over: the site of this number, with the versions that the history counts, stood under the
+-- transaction's pledge for its draft; the edges are the draft's there, and stand for all of them
+pub record IsGathered (history : List Call) (active : Active) (site : ℕ) (s : SiteState) (edges : List Edge) : Type 0 where
+  pub here : s.number ≡ site
+  pub agreed : VersionsAgree history s
+  pub pledged : IsPledgedFor s active.tx active.draft.touched
+  pub given : All (IsGiven s active.draft.touched active.handle) edges
+  pub stands : StandsForAll s active.draft.touched active.handle edges
+
+-- what was gathered at a site for a transaction that touches these items there: nothing, where it touches none
+abbrev pub IsGatheredAt : List Call → Active → ℕ → List Touch → List Edge → Type 0
+IsGatheredAt history active site [] edges = edges ≡ []
+IsGatheredAt history active site (t ∷ ts) edges = (s : SiteState) × IsGathered history active site s edges
+
+-- and at the sites below one, by number
+abbrev pub IsGatheredBelow : List Call → Active → ℕ → List Edge → Type 0
+IsGatheredBelow history active zero edges = edges ≡ []
+IsGatheredBelow history active (suc site) edges =
+    (before : List Edge) × (here : List Edge) × (edges ≡ before ++ here) × IsGatheredBelow history active site before
+    × IsGatheredAt history active site (at_site site active.draft.touched) here
+
+-- the step of a transaction at a certifier with so many sites: its decision on the edges that were gathered at those that it touches,
+-- its installs, and the step's end
 pub record TakesStep (sites : ℕ) (active : Active) (t : Ticket) (old new : Kept) : Type 0 where
+  pub within : (site : ℕ) → sites ≤ site → at_site site active.draft.touched ≡ []
   pub edges : List Edge
+  pub gathered : IsGatheredBelow old.history active sites edges
   pub reply : Decided
   pub ticket : t ≡ ticket_of active.tx reply
   pub number : t.number ≡ decision_count old

@@ -63,3 +63,31 @@ IsOfCertifier _ = ⊥
 
 abbrev pub IsOfCall : ServiceFault → Type 0
 IsOfCall f = IsOfSite f ⊎ IsOfCertifier f
+
+-- what a site may refuse a read for, and a pledge
+abbrev pub IsOfRead : ServiceFault → Type 0
+IsOfRead (Site site.UnknownItem) = Unit {0}
+IsOfRead (Site site.ReadTwice) = Unit {0}
+IsOfRead (Site site.Ended) = Unit {0}
+IsOfRead (Site site.PledgeOpen) = Unit {0}
+IsOfRead Memory = Unit {0}
+IsOfRead _ = ⊥
+
+abbrev pub IsOfPledge : ServiceFault → Type 0
+IsOfPledge (Site site.UnknownItem) = Unit {0}
+IsOfPledge (Site site.Ended) = Unit {0}
+IsOfPledge (Site site.PledgeOpen) = Unit {0}
+IsOfPledge (Site site.DraftDiffers) = Unit {0}
+IsOfPledge Memory = Unit {0}
+IsOfPledge _ = ⊥
+
+-- what a withdrawal may be refused for, and a commit
+abbrev pub IsOfWithdraw : ServiceFault → Type 0
+IsOfWithdraw (Certifier certifier.Unknown) = Unit {0}
+IsOfWithdraw (Certifier (certifier.StepOpen tx)) = Unit {0}
+IsOfWithdraw (NotPledged site) = Unit {0}
+IsOfWithdraw f = IsOfPledge f
+
+abbrev pub IsOfCommit : ServiceFault → Type 0
+IsOfCommit (Certifier certifier.Stale) = Unit {0}
+IsOfCommit f = IsOfWithdraw f

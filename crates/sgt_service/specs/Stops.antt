@@ -2,8 +2,8 @@
 use Rattle.std.specs.Prelude.{◌≡◌, ℕ, Option, Some, None}
 use Rattle.sgt_certifier.specs.Kept.{Kept}
 use Rattle.sgt_workers.specs.declared.ticket.Ending.{Ending}
+use Rattle.sgt_agreed.specs.declared.fault.ServiceFault.{ServiceFault}
 use Rattle.sgt_agreed.specs.declared.fault.ServiceFault.TheVariants.{NotPledged}
-use Rattle.sgt_service.specs.Refused.{IsOfCall}
 use Rattle.sgt_service.specs.Seats.{SameSeat, CountsLoss}
 use Rattle.sgt_service.specs.declared.active.Active.{Active}
 use Rattle.sgt_service.specs.declared.active.Back.{Back}
@@ -23,8 +23,13 @@ LeavesGuard old new lost (Undecided fault) =
     (new.state ≡ old.state) × (new.history ≡ old.history) × ((site : ℕ) → fault ≡ NotPledged site → lost ≡ Some site)
 LeavesGuard old new lost (Lost verdict site) = lost ≡ Some site
 
+-- this is why it isn't decided
+abbrev pub IsUndecidedBy : (ServiceFault → Type 0) → Stop → Type 0
+IsUndecidedBy why (Undecided fault) = why fault
+IsUndecidedBy why (Lost verdict site) = Unit {0}
+
 module _ {L : Type 0} where
   -- a transaction that isn't decided leaves its seat as it was. One that is, at a site that lost its pledge, counts
   abbrev pub IsStop : (Ending → Type 0) → Active → Seat L → Seat L → Stop → Type 0
-  IsStop decided active old new (Undecided fault) = SameSeat old new × IsOfCall fault
+  IsStop decided active old new (Undecided fault) = SameSeat old new
   IsStop decided active old new (Lost verdict site) = decided verdict × CountsLoss verdict active site old new

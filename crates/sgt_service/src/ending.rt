@@ -46,7 +46,9 @@ impl<L: Ledger> Service<L> {
     ghost use Rattle.sgt_agreed.specs.declared.fault.ServiceFault.TheVariants.{NotPledged};
     ghost use Rattle.sgt_workers.specs.declared.ticket.Ending.TheVariants.{Withdrawn};
     ghost use Rattle.sgt_service.specs.Guarded.{TakesStep, TakesBack};
-    ghost use Rattle.sgt_service.specs.Stops.{IsStop, LeavesGuard};
+    ghost use Rattle.sgt_service.specs.Stops.{IsStop, IsUndecidedBy, LeavesGuard};
+    ghost use Rattle.sgt_service.specs.Refused.{IsOfCommit, IsOfWithdraw};
+    ghost use Rattle.sgt_service.specs.Undecided.{IsUncommitted, IsNotWithdrawn};
     ghost use Rattle.sgt_service.specs.declared.ending.Stop.TheVariants.{Undecided};
     ghost use Rattle.sgt_service.specs.Seats.{CountsEnd, IsBack};
 
@@ -60,6 +62,7 @@ impl<L: Ledger> Service<L> {
     ) -> Result<Ticket, Back>
         ensures ok { IfOk result (λ t. (t.tx ≡ active.tx) × (t.verdict ≢ Withdrawn) × CountsEnd t.verdict active seat.old seat.new) }
         ensures back { IfErr result (IsBack (λ verdict. verdict ≢ Withdrawn) active seat.old seat.new) }
+        ensures fault { IfErr result (λ back. IsOfCommit back.fault) }
     {
         self.commit_at(rt, alloc, seat, active, 0, &NoGate)
     }
@@ -69,8 +72,9 @@ impl<L: Ledger> Service<L> {
     /// these sites, which are locked one after another.
     ///
     /// The transaction comes back, with its pledges given back and nothing changed:
-    /// - V7: a site was found to have lost its pledge, or this one has not the versions that the certifier's history counts.
-    /// - V4 with C2 or C6, as the certifier refuses; with S1, S3, S7 or S8, as a site refuses.
+    /// - V7: a site was found to have lost its pledge, or at this one's place stands another one, or other versions than those that the
+    ///   certifier's history counts.
+    /// - V4 with C2, C3 or C6, as the certifier refuses; with S1, where a site isn't there, or with S1, S3, S7 or S8, as a site refuses.
     /// - V3: there was no memory.
     ///
     /// Where a site has lost the pledge that was taken, the decision stands without a ticket, and V7 comes back alone; every later
@@ -88,6 +92,7 @@ impl<L: Ledger> Service<L> {
     ) -> Result<Ticket, Back>
         ensures ok { IfOk result (λ t. (t.tx ≡ active.tx) × (t.verdict ≢ Withdrawn) × CountsEnd t.verdict active seat.old seat.new) }
         ensures back { IfErr result (IsBack (λ verdict. verdict ≢ Withdrawn) active seat.old seat.new) }
+        ensures fault { IfErr result (λ back. IsOfCommit back.fault) }
     {
         match self.certify(rt, alloc, seat, &active, worker, gate) {
             Ok(ticket) => Ok(ticket),
@@ -99,7 +104,7 @@ impl<L: Ledger> Service<L> {
     ///
     /// The transaction comes back, with its pledges given back and nothing changed:
     /// - V7: a site was found to have lost its pledge.
-    /// - V4 with C2, as the certifier refuses; with S1, S3, S7 or S8, as a site refuses.
+    /// - V4 with C2 or C3, as the certifier refuses; with S1, where a site isn't there, or with S1, S3, S7 or S8, as a site refuses.
     /// - V3: there was no memory.
     ///
     /// Where a site has lost the pledge that was taken it is as for `commit`.
@@ -111,6 +116,7 @@ impl<L: Ledger> Service<L> {
     ) -> Result<Ticket, Back>
         ensures ok { IfOk result (λ t. (t.tx ≡ active.tx) × (t.verdict ≡ Withdrawn) × CountsEnd Withdrawn active seat.old seat.new) }
         ensures back { IfErr result (IsBack (λ verdict. verdict ≡ Withdrawn) active seat.old seat.new) }
+        ensures fault { IfErr result (λ back. IsOfWithdraw back.fault) }
     {
         match self.take_back(rt, seat, &active) {
             Ok(ticket) => Ok(ticket),
@@ -131,6 +137,7 @@ impl<L: Ledger> Service<L> {
         ensures ok { IfOk result (λ t. (t.tx ≡ active.now.tx) × (t.verdict ≢ Withdrawn)
             × CountsEnd t.verdict active.now seat.old seat.new) }
         ensures stop { IfErr result (IsStop (λ verdict. verdict ≢ Withdrawn) active.now seat.old seat.new) }
+        ensures why { IfErr result (IsUndecidedBy IsOfCommit) }
     {
         let mut guard = self.certifier.lock(rt);
         let guarded = &mut *guard;
@@ -151,18 +158,20 @@ impl<L: Ledger> Service<L> {
         ensures ok { IfOk result (λ t. (t.tx ≡ active.now.tx) × (t.verdict ≢ Withdrawn)
             × CountsEnd t.verdict active.now seat.old seat.new) }
         ensures stop { IfErr result (IsStop (λ verdict. verdict ≢ Withdrawn) active.now seat.old seat.new) }
+        ensures why { IfErr result (IsUndecidedBy
+            (IsUncommitted (vec_len self.now.sites) guarded.old.lost guarded.old.certifier active.now)) }
         ensures step { IfOk result (λ t. TakesStep (vec_len self.now.sites) active.now t guarded.old.certifier guarded.new.certifier) }
         ensures first { IfSome guarded.old.lost (λ site. result ≡ Err (Undecided (NotPledged site))) }
         ensures leaves { IfErr result (LeavesGuard guarded.old.certifier guarded.new.certifier guarded.new.lost) }
     {
-        let edges = match self.gathered(rt, alloc, guarded, active) {
-            Ok(edges) => edges,
+        let (edges, pledges) = match self.gathered(rt, alloc, guarded, active) {
+            Ok(gathered) => gathered,
             Err(fault) => return Err(Stop::Undecided(fault)),
         };
         let ticket = match guarded.decide(active, edges, &mut seat.share) {
             Ok(ticket) => ticket,
             Err(fault) => {
-                self.unpledge_below(rt, active, self.sites.len());
+                self.give_back(rt, active, pledges);
                 return Err(Stop::Undecided(fault));
             }
         };
@@ -173,6 +182,7 @@ impl<L: Ledger> Service<L> {
             seat,
             active,
             ticket.verdict,
+            pledges,
             worker,
             gate,
         ) {
@@ -192,6 +202,7 @@ impl<L: Ledger> Service<L> {
         ensures ok { IfOk result (λ t. (t.tx ≡ active.now.tx) × (t.verdict ≡ Withdrawn)
             × CountsEnd Withdrawn active.now seat.old seat.new) }
         ensures stop { IfErr result (IsStop (λ verdict. verdict ≡ Withdrawn) active.now seat.old seat.new) }
+        ensures why { IfErr result (IsUndecidedBy IsOfWithdraw) }
     {
         let mut guard = self.certifier.lock(rt);
         let guarded = &mut *guard;
@@ -209,17 +220,20 @@ impl<L: Ledger> Service<L> {
         ensures ok { IfOk result (λ t. (t.tx ≡ active.now.tx) × (t.verdict ≡ Withdrawn)
             × CountsEnd Withdrawn active.now seat.old seat.new) }
         ensures stop { IfErr result (IsStop (λ verdict. verdict ≡ Withdrawn) active.now seat.old seat.new) }
+        ensures why { IfErr result (IsUndecidedBy
+            (IsNotWithdrawn (vec_len self.now.sites) guarded.old.lost guarded.old.certifier active.now)) }
         ensures step { IfOk result (λ t. TakesBack active.now t guarded.old.certifier guarded.new.certifier) }
         ensures first { IfSome guarded.old.lost (λ site. result ≡ Err (Undecided (NotPledged site))) }
         ensures leaves { IfErr result (LeavesGuard guarded.old.certifier guarded.new.certifier guarded.new.lost) }
     {
-        if let Err(fault) = self.pledged(rt, guarded, active) {
-            return Err(Stop::Undecided(fault));
-        }
+        let pledges = match self.pledged(rt, guarded, active) {
+            Ok(pledges) => pledges,
+            Err(fault) => return Err(Stop::Undecided(fault)),
+        };
         let number = match guarded.withdraw(active.handle, &mut seat.share) {
             Ok(number) => number,
             Err(fault) => {
-                self.unpledge_below(rt, active, self.sites.len());
+                self.give_back(rt, active, pledges);
                 return Err(Stop::Undecided(fault));
             }
         };
@@ -229,6 +243,7 @@ impl<L: Ledger> Service<L> {
             seat,
             active,
             Ending::Withdrawn,
+            pledges,
             0,
             &NoGate,
         ) {

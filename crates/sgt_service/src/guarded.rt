@@ -31,22 +31,20 @@ pub struct Guarded<L: Ledger> {
 }
 
 impl<L: Ledger> Guarded<L> {
-    ghost use Rattle.std.specs.Prelude.{◌≡◌, ◌↔◌, ◌<◌, ◌+◌, ◌++◌, [], ℕ, List, All, false, None, Some, Err, IsTrue, IfOk, IfErr, IfSome, OnOk, OnErr};
+    ghost use Rattle.std.specs.Prelude.{◌≡◌, ◌↔◌, ◌<◌, ◌+◌, ◌++◌, [], ℕ, ◌⊎◌, List, false, None, Some, Err, IsTrue, IfOk, IfErr, IfSome, OnOk, OnErr};
     ghost use Rattle.sgt_certifier.specs.declared.call.Call.TheVariants as call;
     ghost use Rattle.sgt_certifier.specs.declared.call.Decided.{Decided as Reply};
     ghost use Rattle.sgt_certifier.specs.History.{begin, decide, withdraw, close, expect, tx_under, IsAllowed};
     ghost use Rattle.sgt_certifier.specs.Kept.{Adds, IsExpected, changed_at};
     ghost use Rattle.sgt_names.specs.Draft.{at_site};
     ghost use Rattle.sgt_edges.specs.declared.edge.Edge.{Edge as AnEdge};
-    ghost use Rattle.sgt_edges.specs.Edges.{IsGiven, StandsForAll};
-    ghost use Rattle.sgt_agreed.specs.Agreed.{VersionsAgree, RefusesAgreed};
-    ghost use Rattle.sgt_agreed.specs.declared.fault.ServiceFault.TheVariants.{NotPledged, Certifier as OfCertifier};
-    ghost use Rattle.sgt_certifier.specs.declared.call.CertifierFault.TheVariants.{Unknown as NotKnown};
+    ghost use Rattle.sgt_agreed.specs.declared.fault.ServiceFault.TheVariants.{NotPledged};
     ghost use Rattle.sgt_workers.specs.declared.ticket.Ending.TheVariants.{Committed, Withdrawn};
     ghost use Rattle.sgt_site.specs.State.{IsPledged, IsPledgedFor};
     ghost use Rattle.sgt_certifier.specs.Certifier.{opening};
-    ghost use Rattle.sgt_service.specs.Guarded.{decision_count, ticket_of, AwaitsInstalls, IsEnded};
-    ghost use Rattle.sgt_service.specs.Refused.{HandsOn, IsRefusedBy, IsOfCertifier, IsOfCall};
+    ghost use Rattle.sgt_service.specs.Guarded.{decision_count, ticket_of, AwaitsInstalls, IsEnded, IsGathered};
+    ghost use Rattle.sgt_service.specs.Refused.{HandsOn, IsRefusedBy, IsOfCertifier};
+    ghost use Rattle.sgt_service.specs.Undecided.{RefusesActive, RefusesGather};
 
     /// A certifier to which nothing has happened, with its empty book.
     pub(crate) fn new(alloc: Global, book: Book<L>, none: Share<L>) -> Guarded<L>
@@ -177,7 +175,7 @@ impl<L: Ledger> Guarded<L> {
     /// number under its handle.
     pub(crate) fn check(&self, active: &Active) -> Result<(), ServiceFault>
         ensures ok { OnOk result ((self.now.lost ≡ None) × (tx_under self.now.certifier.state active.now.handle ≡ active.now.tx)) }
-        ensures refused { IfErr result IsOfCertifier }
+        ensures refused { IfErr result (RefusesActive self.now.lost self.now.certifier.state active.now) }
         ensures lost { IfSome self.now.lost (λ site. result ≡ Err (NotPledged site)) }
         ensures noted { IfErr result (λ f. (site : ℕ) → f ≡ NotPledged site → self.now.lost ≡ Some site) }
     {
@@ -199,7 +197,8 @@ impl<L: Ledger> Guarded<L> {
             × (self.new.certifier.history ≡ self.old.certifier.history) }
         ensures first { IfSome self.old.lost (λ site. result ≡ Err (NotPledged site)) }
         ensures noted { IfErr result (λ f. (site : ℕ) → f ≡ NotPledged site → self.old.lost ≡ Some site) }
-        ensures refused { IfErr result IsOfCertifier }
+        ensures refused { IfErr result (λ f. RefusesActive self.old.lost self.old.certifier.state active.now f
+            ⊎ HandsOn self.old.certifier.state (expect active.now.handle) f) }
         ensures lost { self.new.lost ≡ self.old.lost }
     {
         self.check(active)?;
@@ -208,27 +207,27 @@ impl<L: Ledger> Guarded<L> {
         Ok(())
     }
 
-    /// Pledges a transaction at a site and adds its edges there, under both locks.
-    #[tactic(auto, using(crate::proofs::Faults::agreed_of_call))]
+    /// Pledges a transaction at the site of this number and adds its edges there, under both locks. Where another site stands in its
+    /// place, that is V7 too.
     pub(crate) fn gather(
         &self,
         alloc: Global,
         site: &mut Site,
+        here: SiteNo,
         active: &Active,
         edges: &mut EdgeList,
     ) -> Result<(), ServiceFault>
-        ensures agreed { OnOk result (VersionsAgree self.now.certifier.history site.old) }
         ensures pledged { OnOk result (site.new ≡ record site.old {
           pledge = Some (record { tx = active.now.tx; part = at_site site.old.number active.now.draft.touched });
         }) }
         ensures edges { OnOk result ((more : List AnEdge) × (edges.new ≡ edges.old ++ more)
-            × All (IsGiven site.new active.now.draft.touched active.now.handle) more
-            × StandsForAll site.new active.now.draft.touched active.now.handle more) }
-        ensures differs { (VersionsAgree self.now.certifier.history site.old → ⊥) → result ≡ Err (NotPledged site.old.number) }
+            × IsGathered self.now.certifier.history active.now here site.new more) }
         ensures err { OnErr result (site.new ≡ site.old) }
-        ensures refused { IfErr result (RefusesAgreed self.now.certifier.history site.old active.now.tx active.now.draft.touched) }
-        ensures of_call { IfErr result IsOfCall }
+        ensures refused { IfErr result (RefusesGather self.now.certifier.history here site.old active.now) }
     {
+        if site.number() != here {
+            return Err(ServiceFault::NotPledged(here));
+        }
         let more = gather_agreed(
             alloc,
             &self.certifier,
@@ -237,11 +236,13 @@ impl<L: Ledger> Guarded<L> {
             &active.draft,
             active.handle,
         )?;
-        if append(edges, &more).is_err() {
-            let _ = site.unpledge(active.tx);
-            return Err(ServiceFault::Memory);
+        match append(edges, &more) {
+            Ok(()) => Ok(()),
+            Err(_refused) => {
+                let _ = site.unpledge(active.tx);
+                Err(ServiceFault::Memory)
+            }
         }
-        Ok(())
     }
 
     /// The fault again. The site of a V7 is noted.

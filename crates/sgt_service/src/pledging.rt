@@ -1,6 +1,7 @@
 //! The sites of a transaction, one after another, while the certifier's lock is held.
 
-ghost use Rattle.std.specs.Prelude.{◌≡◌, ◌↔◌, ◌<◌, All, IsTrue, count_by};
+ghost use Rattle.std.specs.Prelude.{◌≡◌, ◌≢◌, ◌↔◌, ◌<◌, [], false, None, All, IsTrue, count_by};
+ghost use Rattle.sgt_site.specs.State.{IsPledged};
 ghost use Rattle.sgt_service.specs.Counts.{block_length, is_at, is_changed_at};
 ghost use Rattle.sgt_names.specs.Draft.{at_site};
 
@@ -10,12 +11,18 @@ use crate::seat::Seat;
 use crate::service::Service;
 use sgt_agreed::ServiceFault;
 use sgt_edges::EdgeList;
-use sgt_names::{Draft, SiteNo, Touch};
-use sgt_site::SiteFault;
+use sgt_names::{Draft, SiteNo, Touch, Tx};
+use sgt_site::{Site, SiteFault};
 use sgt_workers::{Ending, Gate, Place};
 use std::alloc::Global;
 use std::sync::Wait;
 use std::sync::ledger::Ledger;
+
+/// The pledges that a transaction took at those sites below a number that it touches. They can't be dropped: whoever has them gives them
+/// back, or ends the transaction.
+pub(crate) struct Pledges {
+    below: usize,
+}
 
 /// This site was found to have lost its pledge.
 #[derive(Clone, Copy)]
@@ -32,8 +39,8 @@ impl<L: Ledger> Service<L> {
     ghost use Rattle.sgt_certifier.specs.Kept.{Adds, IsExpected, changed_at};
     ghost use Rattle.sgt_certifier.specs.declared.call.Call.TheVariants as call;
     ghost use Rattle.sgt_service.specs.Counts.{AreCounted, only_at, with_others, blocks_of, below};
-    ghost use Rattle.sgt_service.specs.Guarded.{AwaitsInstalls, notes_at, notes_below};
-    ghost use Rattle.sgt_service.specs.Refused.{IsOfCall};
+    ghost use Rattle.sgt_service.specs.Guarded.{AwaitsInstalls, IsGatheredBelow, notes_at, notes_below};
+    ghost use Rattle.sgt_service.specs.Undecided.{IsUncommitted, IsUngathered, IsNotWithdrawn, IsUnpledged};
 
     // The number of the site at this place.
     fn number_at(&self, place: usize) -> SiteNo
@@ -47,40 +54,44 @@ impl<L: Ledger> Service<L> {
     }
 
     // Whether each site that the draft touches is there.
-    #[tactic(auto, using(crate::proofs::Counting::none_above))]
+    #[tactic(auto, using(crate::proofs::Counting::none_above, crate::proofs::Counting::some_above))]
     fn has_sites(&self, draft: &Draft) -> bool
-        ensures { IsTrue result → (site : ℕ) → vec_len self.now.sites ≤ site → at_site site draft.now.touched ≡ [] }
+        ensures all { IsTrue result → (site : ℕ) → vec_len self.now.sites ≤ site → at_site site draft.now.touched ≡ [] }
+        ensures beyond { result ≡ false → (site : ℕ) × (vec_len self.now.sites ≤ site) × (at_site site draft.now.touched ≢ []) }
     {
         are_below(draft.touched(), self.sites.len())
     }
 
-    // Gives back the pledges of the transaction at the sites below `end` that its draft touches.
-    pub(crate) fn unpledge_below<R: Wait>(&self, rt: &R, active: &Active, end: usize)
-        requires { end ≤ vec_len self.now.sites }
+    // Gives the pledges back.
+    pub(crate) fn give_back<R: Wait>(&self, rt: &R, active: &Active, pledges: Pledges)
+        requires { pledges.below ≤ vec_len self.now.sites }
     {
-        for place in 0..end {
-            if active.draft.touches(self.number_at(place)) {
-                let _ = self.sites[place].lock(rt).unpledge(active.tx);
+        let Pledges { below } = pledges;
+        for place in 0..below {
+            if touches(active, self.number_at(place)) {
+                free(&mut self.sites[place].lock(rt), active.tx);
             }
         }
     }
 
     // Pledges at each site that the draft touches. Where a site refuses, none of these pledges is left.
-    fn pledge_all<R: Wait>(&self, rt: &R, active: &Active) -> Result<(), ServiceFault>
-        ensures refused { IfErr result IsOfCall }
-        ensures pledges { IfErr result (λ f. (site : ℕ) → f ≡ NotPledged site → ⊥) }
+    fn pledge_all<R: Wait>(&self, rt: &R, active: &Active) -> Result<Pledges, ServiceFault>
+        ensures below { IfOk result (λ pledges. pledges.below ≡ vec_len self.now.sites) }
+        ensures refused { IfErr result (IsUnpledged active.now) }
     {
+        let mut pledges = Pledges { below: 0 };
         for place in 0..self.sites.len() {
-            if active.draft.touches(self.number_at(place)) {
+            if touches(active, self.number_at(place)) {
                 // (the lock is given back before another site's is taken)
                 let pledged = self.sites[place].lock(rt).pledge(active.tx, &active.draft);
                 if let Err(fault) = pledged {
-                    self.unpledge_below(rt, active, place);
+                    self.give_back(rt, active, pledges);
                     return Err(ServiceFault::from(fault));
                 }
             }
+            pledges.below = place + 1;
         }
-        Ok(())
+        Ok(pledges)
     }
 
     // Pledges a transaction that may be withdrawn at each of its sites.
@@ -89,18 +100,24 @@ impl<L: Ledger> Service<L> {
         rt: &R,
         guarded: &Guarded<L>,
         active: &Active,
-    ) -> Result<(), ServiceFault>
+    ) -> Result<Pledges, ServiceFault>
+        ensures below { IfOk result (λ pledges. pledges.below ≡ vec_len self.now.sites) }
         ensures named { OnOk result (tx_under guarded.now.certifier.state active.now.handle ≡ active.now.tx) }
         ensures sites { OnOk result ((site : ℕ) → vec_len self.now.sites ≤ site → at_site site active.now.draft.touched ≡ []) }
         ensures first { IfSome guarded.now.lost (λ site. result ≡ Err (NotPledged site)) }
         ensures noted { IfErr result (λ f. (site : ℕ) → f ≡ NotPledged site → guarded.now.lost ≡ Some site) }
-        ensures refused { IfErr result IsOfCall }
+        ensures refused { IfErr result (IsNotWithdrawn (vec_len self.now.sites) guarded.now.lost guarded.now.certifier active.now) }
     {
-        guarded.check(active)?;
+        if let Err(fault) = guarded.check(active) {
+            return Err(fault);
+        }
         if !self.has_sites(&active.draft) {
             return Err(ServiceFault::Site(SiteFault::UnknownItem));
         }
-        self.pledge_all(rt, active)
+        match self.pledge_all(rt, active) {
+            Ok(pledges) => Ok(pledges),
+            Err(fault) => Err(fault),
+        }
     }
 
     // Pledges a transaction that may be decided at each of its sites, and gathers its edges.
@@ -110,7 +127,9 @@ impl<L: Ledger> Service<L> {
         alloc: Global,
         guarded: &mut Guarded<L>,
         active: &Active,
-    ) -> Result<EdgeList, ServiceFault>
+    ) -> Result<(EdgeList, Pledges), ServiceFault>
+        ensures edges { IfOk result (λ r. IsGatheredBelow guarded.old.certifier.history active.now (vec_len self.now.sites) r.0) }
+        ensures below { IfOk result (λ r. r.1.below ≡ vec_len self.now.sites) }
         ensures named { OnOk result (tx_under guarded.new.certifier.state active.now.handle ≡ active.now.tx) }
         ensures room { OnOk result ((site : ℕ) → IsExpected guarded.new.certifier.expected active.now.draft.touched site) }
         ensures sites { OnOk result ((site : ℕ) → vec_len self.now.sites ≤ site → at_site site active.now.draft.touched ≡ []) }
@@ -118,15 +137,19 @@ impl<L: Ledger> Service<L> {
         ensures noted { IfErr result (λ f. (site : ℕ) → f ≡ NotPledged site → guarded.new.lost ≡ Some site) }
         ensures same { (guarded.new.certifier.state ≡ guarded.old.certifier.state)
             × (guarded.new.certifier.history ≡ guarded.old.certifier.history) }
-        ensures refused { IfErr result IsOfCall }
+        ensures refused { IfErr result (IsUncommitted (vec_len self.now.sites) guarded.old.lost guarded.old.certifier active.now) }
     {
-        guarded.expect(active)?;
+        if let Err(fault) = guarded.expect(active) {
+            return Err(fault);
+        }
         if !self.has_sites(&active.draft) {
             return Err(ServiceFault::Site(SiteFault::UnknownItem));
         }
         let mut edges = EdgeList::new(alloc);
-        self.gather_all(rt, alloc, guarded, active, &mut edges)?;
-        Ok(edges)
+        match self.gather_all(rt, alloc, guarded, active, &mut edges) {
+            Ok(pledges) => Ok((edges, pledges)),
+            Err(fault) => Err(fault),
+        }
     }
 
     // Gathers the edges at each site that the draft touches, and pledges there. Where this is refused, none of these pledges is
@@ -138,30 +161,37 @@ impl<L: Ledger> Service<L> {
         guarded: &mut Guarded<L>,
         active: &Active,
         edges: &mut EdgeList,
-    ) -> Result<(), ServiceFault>
+    ) -> Result<Pledges, ServiceFault>
+        requires { edges.old ≡ [] }
+        ensures edges { OnOk result (IsGatheredBelow guarded.old.certifier.history active.now (vec_len self.now.sites) edges.new) }
+        ensures below { IfOk result (λ pledges. pledges.below ≡ vec_len self.now.sites) }
         ensures certifier { guarded.new.certifier ≡ guarded.old.certifier }
         ensures noted { IfErr result (λ f. (site : ℕ) → f ≡ NotPledged site → guarded.new.lost ≡ Some site) }
-        ensures refused { IfErr result IsOfCall }
+        ensures refused { IfErr result (IsUngathered (vec_len self.now.sites) guarded.old.certifier.history active.now) }
     {
+        let mut pledges = Pledges { below: 0 };
         for place in 0..self.sites.len() {
-            if active.draft.touches(self.number_at(place)) {
+            let here = self.number_at(place);
+            if touches(active, here) {
                 let gathered = guarded.gather(
                     alloc,
                     &mut self.sites[place].lock(rt),
+                    here,
                     active,
                     edges,
                 );
                 if let Err(fault) = gathered {
-                    self.unpledge_below(rt, active, place);
+                    self.give_back(rt, active, pledges);
                     return Err(guarded.noted(fault));
                 }
             }
+            pledges.below = place + 1;
         }
-        Ok(())
+        Ok(pledges)
     }
 
-    // Writes the block of a transaction that is decided so at each site that its draft touches, and counts it. A site that has
-    // lost its pledge is noted, and no further block is written.
+    // Writes the block of a transaction that is decided so at each site that its draft touches, which spends its pledges, and counts
+    // it. A site that has lost its pledge is noted, and no further block is written.
     pub(crate) fn end_all<R: Wait, G: Gate>(
         &self,
         rt: &R,
@@ -169,6 +199,7 @@ impl<L: Ledger> Service<L> {
         seat: &mut Seat<L>,
         active: &Active,
         verdict: Ending,
+        pledges: Pledges,
         worker: usize,
         gate: &G,
     ) -> Result<(), Lost>
@@ -188,6 +219,7 @@ impl<L: Ledger> Service<L> {
         ensures noted { IfErr result (λ e. guarded.new.lost ≡ Some e.site) }
         ensures touched { IfErr result (λ e. at_site e.site active.now.draft.touched ≢ []) }
     {
+        let Pledges { below: _ } = pledges;
         for place in 0..self.sites.len() {
             let here = self.number_at(place);
             if !self.end_one(rt, guarded, seat, here, active, verdict, worker, gate) {
@@ -266,6 +298,27 @@ impl<L: Ledger> Service<L> {
         gate.arrive(worker, Place::InInstall(here));
         guarded.end(site, here, active, verdict)
     }
+}
+
+// Gives back the pledge of the transaction at a site, if it stands.
+fn free(site: &mut Site, tx: Tx)
+    ensures given { IsPledged site.old tx → site.new ≡ record site.old { pledge = None } }
+    ensures none { (IsPledged site.old tx → ⊥) → site.new ≡ site.old }
+{
+    let _ = site.unpledge(tx);
+}
+
+// Whether the transaction touches an item at the site.
+#[tactic(auto, using(crate::proofs::Counting::some_at, crate::proofs::Counting::none_at))]
+fn touches(active: &Active, site: SiteNo) -> bool
+    ensures some { IsTrue result → at_site site active.now.draft.touched ≢ [] }
+    ensures none { result ≡ false → at_site site active.now.draft.touched ≡ [] }
+{
+    let items = items_at(active.draft.touched(), site);
+    if items == 0 {
+        return false;
+    }
+    true
 }
 
 // Whether the touched items are at sites of smaller numbers alone.

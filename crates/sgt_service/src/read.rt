@@ -7,7 +7,7 @@ use crate::active::Active;
 use crate::seat::Seat;
 use crate::service::Service;
 use sgt_agreed::ServiceFault;
-use sgt_names::{Draft, Item, Seen, SiteNo, Tx, Value, changes_show_at_their_place};
+use sgt_names::{Draft, Item, Seen, SiteNo, Value, changes_show_at_their_place};
 use sgt_site::SiteFault;
 use sgt_workers::{Gate, NoGate, Place};
 use std::sync::Wait;
@@ -16,10 +16,10 @@ use std::sync::ledger::Ledger;
 impl<L: Ledger> Service<L> {
     ghost use Rattle.sgt_agreed.specs.declared.fault.ServiceFault.TheVariants.{Site as AtSite};
     ghost use Rattle.sgt_site.specs.declared.fault.SiteFault.TheVariants.{UnknownItem};
-    ghost use Rattle.std.specs.Prelude.{◌≡◌, None, Some, Err, IsSome, IsOk, IfOk, IfErr, OnOk, OnErr, vec_len};
+    ghost use Rattle.std.specs.Prelude.{◌≡◌, None, Some, Err, IsTrue, IsSome, IsOk, IfOk, IfErr, OnOk, OnErr, vec_len};
     ghost use Rattle.sgt_service.specs.Counts.{AreCounted, only_at, with_read};
     ghost use Rattle.sgt_service.specs.Reads.{look_in, GainsRead, IsOfActive, SameActive};
-    ghost use Rattle.sgt_service.specs.Refused.{HasItem, IsOfSite};
+    ghost use Rattle.sgt_service.specs.Refused.{HasItem, IsOfSite, IsOfRead};
     ghost use Rattle.sgt_service.specs.Seats.{SameSeat};
 
     /// `read_at`, with a gate that holds nobody.
@@ -43,6 +43,7 @@ impl<L: Ledger> Service<L> {
         ensures unknown { (HasItem self.now.names.items site item → ⊥) → look_in active.old.draft.touched site item ≡ None
             → result ≡ Err (AtSite UnknownItem) }
         ensures refused { IfErr result IsOfSite }
+        ensures fault { IfErr result IsOfRead }
     {
         self.read_at(rt, seat, active, site, item, 0, &NoGate)
     }
@@ -77,6 +78,7 @@ impl<L: Ledger> Service<L> {
         ensures unknown { (HasItem self.now.names.items site item → ⊥) → look_in active.old.draft.touched site item ≡ None
             → result ≡ Err (AtSite UnknownItem) }
         ensures refused { IfErr result IsOfSite }
+        ensures fault { IfErr result IsOfRead }
     {
         if let Some(value) = active.draft.look(site, item) {
             return Ok(value);
@@ -85,29 +87,32 @@ impl<L: Ledger> Service<L> {
             return Err(ServiceFault::Site(SiteFault::UnknownItem));
         }
         active.draft.room()?;
-        let seen = self.read_site(rt, active.tx, site, item, worker, gate)?;
+        let seen = self.read_site(rt, active, site, item, worker, gate)?;
         gate.arrive(worker, Place::AfterRead(site));
         seat.count_read(site);
         Ok(keep(&mut active.draft, site, item, seen))
     }
 
-    // Reads at the site, under its lock.
+    // Reads at the site, under its lock, for a draft that has room for what is read.
+    #[tactic(auto, using(crate::proofs::Faults::read_told))]
     fn read_site<R: Wait, G: Gate>(
         &self,
         rt: &R,
-        tx: Tx,
+        active: &Active,
         site: SiteNo,
         item: Item,
         worker: usize,
         gate: &G,
     ) -> Result<Seen, ServiceFault>
-        requires { HasItem self.now.names.items site item }
-        ensures { IfErr result IsOfSite }
+        requires item { HasItem self.now.names.items site item }
+        requires room { IsTrue active.now.draft.has_room }
+        ensures refused { IfErr result IsOfSite }
+        ensures fault { IfErr result IsOfRead }
     {
         let mut guard = self.sites[site.number() as usize].lock(rt);
         let held = &mut *guard;
         gate.arrive(worker, Place::InRead(site));
-        let seen = held.read(tx, item)?;
+        let seen = held.read(active.tx, item)?;
         Ok(seen)
     }
 }

@@ -1,11 +1,12 @@
 //! The locks of a certifier and its sites, and the calls that take one of them.
 
-ghost use Rattle.std.specs.Prelude.{◌≡◌, ◌↔◌, ◌≤◌, ◌+◌, length, map, All, Contains, IsTrue, IfOk, IfErr, OnOk, vec_len};
+ghost use Rattle.std.specs.Prelude.{◌≡◌, ◌↔◌, ◌≤◌, ◌++◌, [], ◌∷◌, Some, length, map, All, Contains, IsTrue, IfOk, IfErr, IfSome, OnOk, vec_len};
 ghost use Rattle.sgt_names.specs.Limits.{max_sites};
 ghost use Rattle.sgt_names.specs.Log.{names};
-ghost use Rattle.sgt_site.specs.State.{AreItems};
+ghost use Rattle.sgt_site.specs.State.{SiteState, AreItems, opened};
 ghost use Rattle.sgt_site.specs.declared.fault.SiteFault.TheVariants.{BadItems};
 ghost use Rattle.sgt_agreed.specs.declared.fault.ServiceFault.TheVariants.{Site as AtSite};
+ghost use Rattle.sgt_service.specs.Opened.{sites_from};
 ghost use Rattle.sgt_service.specs.Refused.{NamesRise, RefusesSites};
 
 use crate::active::Active;
@@ -67,7 +68,8 @@ impl<L: Ledger> Service<L> {
     {
         let (book, mut share) = blank.open::<L>();
         let none = share.empty();
-        let locks = open_sites(alloc, sites)?;
+        let opened = open_sites(alloc, sites)?;
+        let locks = locked(alloc, opened)?;
         let names = rising_names(alloc, sites)?;
         let seats = Service::new_seats(alloc, share, seats, sites.len())?;
         let service = Service {
@@ -217,30 +219,34 @@ impl<L: Ledger> Service<L> {
     }
 }
 
-// The sites, each under its lock.
-fn open_sites(alloc: Global, sites: &[Listed<Holding>]) -> Result<Vec<Mutex<Site>>, ServiceFault>
+// The sites with these items, by their numbers, none with an entry.
+fn open_sites(alloc: Global, sites: &[Listed<Holding>]) -> Result<Vec<Site>, ServiceFault>
     requires { length sites.now ≤ max_sites }
-    ensures len { IfOk result (λ locks. vec_len locks ≡ length sites.now) }
+    ensures sites { IfOk result (λ all. all.items ≡ sites_from 0 sites.now) }
+    ensures many { IfOk result (λ all. vec_len all ≡ length sites.now) }
     ensures allowed { OnOk result (All AreItems sites.now) }
     ensures refused { IfErr result (RefusesSites sites.now) }
 {
-    let mut locks = Vec::new(alloc);
+    let mut all = Vec::new(alloc);
     let mut has_room = true;
     for place in 0..sites.len() {
         let Ok(number) = SiteNo::new(place as u64) else {
             unreachable!()
         };
         let opened = open_site(alloc, number, sites[place].as_slice())?;
-        has_room = add_lock(&mut locks, opened) && has_room;
+        if !add_site(&mut all, opened) {
+            has_room = false;
+        }
     }
     if !has_room {
         return Err(ServiceFault::Memory);
     }
-    Ok(locks)
+    Ok(all)
 }
 
 // A site with these items. None where there was no memory.
 fn open_site(alloc: Global, number: SiteNo, items: &[Holding]) -> Result<Option<Site>, ServiceFault>
+    ensures ok { IfOk result (λ site. IfSome site (λ s. s ≡ opened number items.now)) }
     ensures allowed { OnOk result (AreItems items.now) }
     ensures refused { IfErr result (λ f. (f ≡ AtSite BadItems) × (AreItems items.now → ⊥)) }
 {
@@ -251,14 +257,25 @@ fn open_site(alloc: Global, number: SiteNo, items: &[Holding]) -> Result<Option<
     }
 }
 
-// Adds the lock of a site, and says whether it is there and there was memory.
-fn add_lock(locks: &mut Vec<Mutex<Site>>, site: Option<Site>) -> bool
-    ensures { IsTrue result → vec_len locks.new ≡ vec_len locks.old + 1 }
+// Adds the site, and says whether it is there and there was memory.
+fn add_site(all: &mut Vec<Site>, site: Option<Site>) -> bool
+    ensures { IsTrue result → (s : SiteState) × (site ≡ Some s) × (all.new.items ≡ all.old.items ++ s ∷ []) }
 {
     match site {
-        Some(site) => locks.push(Mutex::new(site)).is_ok(),
+        Some(site) => all.push(site).is_ok(),
         None => false,
     }
+}
+
+// Each under a lock of its own, in their order.
+fn locked(alloc: Global, sites: Vec<Site>) -> Result<Vec<Mutex<Site>>, AllocError>
+    ensures { IfOk result (λ locks. vec_len locks ≡ vec_len sites) }
+{
+    let mut locks = Vec::new(alloc);
+    for site in sites {
+        locks.push(Mutex::new(site))?;
+    }
+    Ok(locks)
 }
 
 // Whether the name is among these.

@@ -6,7 +6,7 @@ use sgt_agreed::ServiceFault;
 use sgt_certifier::{Certifier, CertifierFault};
 use sgt_edges::EdgeList;
 use sgt_names::{Draft, Entry, Holding, Item, Listed, SiteNo, Tx};
-use sgt_service::{Active, EntryCounts, Guarded, Seat, Service};
+use sgt_service::{Active, Back, EntryCounts, Guarded, Seat, Service};
 use sgt_workers::{Ending, Ticket};
 use std::alloc::Global;
 use std::marker::Brand;
@@ -248,5 +248,56 @@ fn other_history_as<L: Ledger, R: Wait + Abort>(
 fn other_history(rt: HostRuntime) -> Result<(), Fail> {
     let ended = other_history_as::<Brand, _>(&rt, rt.alloc(), Blank::new(1), given()?);
     assert!(rt; ended.is_some());
+    Ok(())
+}
+
+// Commits. Where there was no memory the transaction comes back, and the next try has it.
+fn committed_at_last<L: Ledger, R: Wait + Abort>(
+    rt: &R,
+    alloc: Global,
+    service: &Service<L>,
+    seat: &mut Seat<L>,
+    active: Active,
+) -> Option<Ticket> {
+    match service.commit(rt, alloc, seat, active) {
+        Ok(ticket) => Some(ticket),
+        Err(back) => {
+            assert_eq!(rt; back.fault, ServiceFault::Memory);
+            let Back { active, fault: _ } = back;
+            committed(rt, alloc, service, seat, active?)
+        }
+    }
+}
+
+// Two committed transactions at two sites, the second with edges to the first.
+fn second_try_as<L: Ledger, R: Wait + Abort>(
+    rt: &R,
+    alloc: Global,
+    blank: Blank,
+    of: Case,
+) -> Option<()>
+    requires { (blank.name ≡ L.name) × (blank.parts ≡ L.parts) × (blank.parts ≡ 1) }
+{
+    let other = SiteNo::new(1).ok()?;
+    let sites = [items(alloc, of)?, items(alloc, of)?];
+    let (service, mut seats) = Service::<L>::new(alloc, blank, &sites, 1).ok()?;
+    let mut seat = seats.pop()?;
+    let mut one = service.begin(rt, alloc, &mut seat).ok()?;
+    service.put(&mut one, of.site, of.x, 6).ok()?;
+    service.put(&mut one, other, of.y, 7).ok()?;
+    let mut two = service.begin(rt, alloc, &mut seat).ok()?;
+    service.put(&mut two, of.site, of.x, 8).ok()?;
+    service.put(&mut two, other, of.y, 9).ok()?;
+    let first = committed_at_last(rt, alloc, &service, &mut seat, one);
+    assert_eq!(rt; first, ticket(0, of.first, Ending::Committed));
+    let second = committed_at_last(rt, alloc, &service, &mut seat, two);
+    assert_eq!(rt; second, ticket(1, of.second, Ending::Committed));
+    Some(())
+}
+
+// Memory is refused under `rt try --test --fail-alloc 1..` alone; where it was before the commits, nothing is shown.
+#[test]
+fn second_try(rt: HostRuntime) -> Result<(), Fail> {
+    let _ = second_try_as::<Brand, _>(&rt, rt.alloc(), Blank::new(1), given()?);
     Ok(())
 }

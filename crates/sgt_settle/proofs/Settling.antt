@@ -50,7 +50,8 @@ fit_with history rulings index sites counts k (Some s) at is long low fit =
     let none : EntryCounts = record { reads = 0; others = 0 } in
     let c : EntryCounts = get_or counts k none in
     let here : slice_get counts k ≡ Some c = slice_get-get_or counts k none (omega (arith, low, long)) in
-    (c, here, log_settled history rulings index k c s.entries is (fit s c at here))
+    let is_fit = fit s c at here in
+    (c, here, is_fit.0, log_settled history rulings index k c s.entries is is_fit.1)
 
 pub fit_settled : (history : List Call) (rulings : List Ruling) (index : Index) (sites : List SiteState) (counts : List EntryCounts) (k : ℕ) → IsIndex history rulings index → length counts ≡ length sites → k < length sites → IsFitAt index sites counts k → IsSiteSettled history rulings counts k (slice_get sites k)
 fit_settled history rulings index sites counts k is long low fit = fit_with history rulings index sites counts k (slice_get sites k) refl is long low fit
@@ -59,14 +60,14 @@ pub settled_fit : (history : List Call) (rulings : List Ruling) (index : Index) 
 settled_fit history rulings index sites counts k is settled s c there counted =
     let known : IsSiteSettled history rulings counts k (Some s) = subst (IsSiteSettled history rulings counts k) there settled in
     let same : known.0 ≡ c = same_Some known.0 c (sym known.1 ∙ counted) in
-    log_fit history rulings index k c s.entries is (subst (λ x. IsLogSettled history rulings k x s.entries) same known.2)
+    (known.2, log_fit history rulings index k c s.entries is (subst (λ x. IsLogSettled history rulings k x s.entries) same known.3))
 
--- what is settled has the entries that were counted
+-- what is settled has its number and the entries that were counted
 pub settled_counted : (history : List Call) (rulings : List Ruling) (sites : List SiteState) (counts : List EntryCounts) (k : ℕ) → IsSiteSettled history rulings counts k (slice_get sites k) → AreCountedAt sites counts k
 settled_counted history rulings sites counts k settled s c there counted =
     let known : IsSiteSettled history rulings counts k (Some s) = subst (IsSiteSettled history rulings counts k) there settled in
     let same : known.0 ≡ c = same_Some known.0 c (sym known.1 ∙ counted) in
-    subst (λ x. AreEntriesCounted x s.entries) same known.2.counted
+    (known.2, subst (λ x. AreEntriesCounted x s.entries) same known.3.counted)
 
 -- ---- sites that aren't there
 

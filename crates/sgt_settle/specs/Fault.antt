@@ -45,7 +45,8 @@ pub record IsFirst (r : Run) (f : ServiceFault) : Type 0 where
   pub first : (g : ServiceFault) → kind_place g < kind_place f → Shows r g → ⊥
   pub least : (g : ServiceFault) → kind_place g ≡ kind_place f → fault_at g < fault_at f → Shows r g → ⊥
 
--- a site that could not be judged: the entries that were counted there don't tell it to differ, and no site before it differs
+-- a site that could not be judged: its number and the entries that were counted there don't tell it to differ, and no site before it
+-- differs
 pub record IsUnjudged (r : Run) (site : ℕ) : Type 0 where
   pub counted : AreCountedAt r.sites r.counts site
   pub before : (k : ℕ) → k < site → IsSettledAt r k

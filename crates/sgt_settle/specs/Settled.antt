@@ -86,21 +86,26 @@ pub record IsLogSettled (history : List Call) (rulings : List Ruling) (site : �
   pub conflicts : (kind : Kind) (x : Name) (a b m n : ℕ) → Conflicts log kind x a b →
       IsCommittedBy rulings a m → IsCommittedBy rulings b n → Reaches (Carries history rulings site x (max m n)) a b
 
--- the site agrees with the history; one that isn't there has no edge
+-- the site is the one of this number, and agrees with the history; one that isn't there has no edge
 abbrev pub IsSiteSettled : List Call → List Ruling → List EntryCounts → ℕ → Option SiteState → Type 0
 IsSiteSettled history rulings counts site (Some s) =
-    (c : EntryCounts) × (slice_get counts site ≡ Some c) × IsLogSettled history rulings site c s.entries
+    (c : EntryCounts) × (slice_get counts site ≡ Some c) × (s.number ≡ site) × IsLogSettled history rulings site c s.entries
 IsSiteSettled history rulings counts site None =
     (h : Handed) → Contains (handed_in history) h → h.edge.label.site ≡ site → ⊥
 
--- the site, if it is there, has the entries that were counted
+-- it is the site of this number, with the entries that were counted
+abbrev pub IsCounted : ℕ → EntryCounts → SiteState → Type 0
+IsCounted k c s = (s.number ≡ k) × AreEntriesCounted c s.entries
+
+-- so is what stands at its place, if anything does
 abbrev pub AreCountedAt : List SiteState → List EntryCounts → ℕ → Type 0
 AreCountedAt sites counts k =
-    (s : SiteState) (c : EntryCounts) → slice_get sites k ≡ Some s → slice_get counts k ≡ Some c → AreEntriesCounted c s.entries
+    (s : SiteState) (c : EntryCounts) → slice_get sites k ≡ Some s → slice_get counts k ≡ Some c → IsCounted k c s
 
 -- ---- a run
 
--- what is left of a run: the certifier, the sites in order, the entries that were counted at each, and what each script was told
+-- what is left of a run: the certifier, the sites and the entries that were counted at each by their places, and what each script
+-- was told
 pub record Run : Type 0 where
   pub certifier : Kept
   pub sites : List SiteState
@@ -110,7 +115,8 @@ pub record Run : Type 0 where
 abbrev pub IsSettledAt : Run → ℕ → Type 0
 IsSettledAt r site = IsSiteSettled r.certifier.history r.certifier.state.rulings r.counts site (slice_get r.sites site)
 
--- the tickets are the decisions of the history, each site agrees with it, and each version is the number of installs that it counts
+-- the tickets are the decisions of the history, at each place is the site of that number, which agrees with it, and each version is
+-- the number of installs that it counts
 pub record IsSettled (r : Run) : Type 0 where
   pub tickets : AreTickets r.certifier.state.rulings r.dones
   pub sites : (site : ℕ) → IsSettledAt r site

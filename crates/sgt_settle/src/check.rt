@@ -17,8 +17,8 @@ use sgt_site::Site;
 use sgt_workers::Done;
 use std::alloc::{AllocError, Global};
 
-// The least site that doesn't agree with the history. Where there was no memory, some site that its counts don't tell to differ could
-// not be judged, and no site before it differs.
+// The least site that doesn't agree with the history. Where there was no memory, some site that its number and its counts don't tell to
+// differ could not be judged, and no site before it differs.
 fn first_differing(
     alloc: Global,
     certifier: &Certifier,
@@ -49,9 +49,9 @@ fn first_differing(
     Ok(first_beyond(index.handed.as_slice(), sites.len()))
 }
 
-/// Whether a run is settled: its tickets are the decisions of the certifier's history, each once and those of each job in order; the
-/// log of each site has the entries that were counted there, and its conflicts are those that the decisions were handed; and each
-/// version is the number of installs that the history counts. The k-th site and the k-th counts are those of the site k.
+/// Whether a run is settled: its tickets are the decisions of the certifier's history, each once and those of each job in order; at
+/// each place is the site of that number, its log has the entries that were counted there, and its conflicts are those that the
+/// decisions were handed; and each version is the number of installs that the history counts.
 ///
 /// The first that holds is answered, each with the least number of its kind:
 /// - V1: a ticket has no decision of its number, transaction and verdict.
@@ -59,7 +59,7 @@ fn first_differing(
 /// - V6: a decision has no ticket.
 /// - V8: the tickets of a job don't rise.
 /// - V3: a log can't be judged, since there was no memory.
-/// - V9: a site, of a log or of an edge that was handed, isn't so.
+/// - V9: a site, of a place or of an edge that was handed, isn't so; or another one stands at its place.
 /// - V10: a version at a site isn't so.
 ///
 /// Memory is linear in the history with its edges, in the logs and in the transactions. So is the time, but that each edge is looked up

@@ -1,7 +1,7 @@
 //! How many entries of a site's log were counted.
 
 ghost use Rattle.std.specs.Prelude.{◌≡◌, ◌↔◌, IsTrue, count_by, not};
-ghost use Rattle.sgt_settle.specs.Settled.{is_read, AreEntriesCounted, AreCountedAt};
+ghost use Rattle.sgt_settle.specs.Settled.{is_read, AreEntriesCounted, IsCounted, AreCountedAt};
 
 use sgt_agreed::EntryCounts;
 use sgt_names::Entry;
@@ -32,7 +32,14 @@ pub(crate) fn has_counts(log: &[Entry], counts: EntryCounts) -> bool
     reads_in(log) as u64 == counts.reads && others_in(log) as u64 == counts.others
 }
 
-/// Whether the first site, if there is one, has the entries that were counted.
+// Whether it is the site of this number, with the entries that were counted.
+fn is_counted(site: &Site, number: u8, counts: EntryCounts) -> bool
+    ensures { IsTrue result ↔ IsCounted number counts site.now }
+{
+    site.number().number() == number && has_counts(site.log(), counts)
+}
+
+/// Whether the first site, if there is one, is the site 0, with the entries that were counted.
 pub(crate) fn has_first_counts(sites: &[Site], counts: &[EntryCounts]) -> bool
     ensures { IsTrue result ↔ AreCountedAt sites.now counts.now 0 }
 {
@@ -42,5 +49,5 @@ pub(crate) fn has_first_counts(sites: &[Site], counts: &[EntryCounts]) -> bool
     let Some(counts) = counts.first() else {
         return true;
     };
-    has_counts(site.log(), *counts)
+    is_counted(site, 0, *counts)
 }

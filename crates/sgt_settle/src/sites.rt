@@ -6,12 +6,12 @@ ghost use Rattle.std.specs.Cmp.Lexicographic.{slice_cmp};
 ghost use Rattle.sgt_names.specs.Limits.{max_sites};
 ghost use Rattle.sgt_names.specs.Ordered.{IsRisingBy};
 ghost use Rattle.sgt_names.specs.declared.entry.Entry.{Entry as AnEntry};
-ghost use Rattle.sgt_settle.specs.Settled.{AreEntriesCounted, AreCountedAt};
+ghost use Rattle.sgt_settle.specs.Settled.{AreEntriesCounted, AreCountedAt, IsCounted};
 ghost use Rattle.sgt_settle.specs.declared.handed.Handed.{Handed as AHanded};
 ghost use Rattle.sgt_settle.specs.private.Words.{IsLeastOf, lesser};
 ghost use Rattle.sgt_settle.specs.private.Index.{IsPaired};
 ghost use Rattle.sgt_settle.specs.private.Acts.{AreActs, AreNamedBelow};
-ghost use Rattle.sgt_settle.specs.private.Sites.{AreLogged, IsLogFit, IsFitAt};
+ghost use Rattle.sgt_settle.specs.private.Sites.{AreLogged, IsLogFit, IsSiteFit, IsFitAt};
 
 use crate::acts::{Act, above_names, acts_of};
 use crate::carried::are_carried;
@@ -68,7 +68,25 @@ fn is_log_fit(
     Ok(carried)
 }
 
-/// The least site, of those that there are, whose log isn't fit.
+// Whether it is the site of this number, and its log is fit.
+fn is_site_fit(
+    alloc: Global,
+    index: &Index,
+    site: SiteNo,
+    counts: EntryCounts,
+    held: &Site,
+) -> Result<bool, AllocError>
+    requires { IsPaired index.now }
+    ensures ok { IfOk result (λ yes. IsTrue yes ↔ IsSiteFit index.now site counts held.now) }
+    ensures err { OnErr result (IsCounted site counts held.now) }
+{
+    if held.number() != site {
+        return Ok(false);
+    }
+    is_log_fit(alloc, index, site, counts, held.items(), held.log())
+}
+
+/// The least of the places that there are at which isn't the site of that number, or whose log isn't fit.
 pub(crate) fn first_unfit(
     alloc: Global,
     index: &Index,
@@ -89,8 +107,7 @@ pub(crate) fn first_unfit(
         let Ok(site) = SiteNo::new(k as u64) else {
             unreachable!();
         };
-        let held = &sites[k];
-        let fit = is_log_fit(alloc, index, site, counts[k], held.items(), held.log())?;
+        let fit = is_site_fit(alloc, index, site, counts[k], &sites[k])?;
         if !fit {
             return Ok(Some(site));
         }

@@ -243,3 +243,22 @@ fn a_walk_stands_for_an_edge(rt: HostRuntime) -> Result<(), Fail> {
     }
     Ok(())
 }
+
+// What stands at the place 0 has to be the site 0, also where it has no entry.
+#[test]
+fn another_site_at_its_place(rt: HostRuntime) -> Result<(), Fail> {
+    let alloc = rt.alloc();
+    let certifier = Certifier::new(alloc);
+    let told = Vec::new(alloc);
+    let none = EntryCounts {
+        reads: 0,
+        others: 0,
+    };
+    let differs = Err(ServiceFault::LogDiffers(SiteNo::new(0)?));
+    for row in &[(0, Ok(())), (1, differs)] {
+        let mut sites = Vec::new(alloc);
+        sites.push(Site::new(alloc, SiteNo::new(row.0)?, &[])?)?;
+        assert!(rt; check_settled(alloc, &certifier, &sites, &[none], &told) == row.1);
+    }
+    Ok(())
+}

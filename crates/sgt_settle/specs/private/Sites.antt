@@ -19,6 +19,10 @@ pub record IsLogFit (index : Index) (site : ℕ) (counts : EntryCounts) (log : L
   pub edges : AreLogged index.windows.items index.handed.items site log
   pub conflicts : AreCarried index site log
 
+-- it is the site of this number, with such a log
+abbrev pub IsSiteFit : Index → ℕ → EntryCounts → SiteState → Type 0
+IsSiteFit index site counts s = (s.number ≡ site) × IsLogFit index site counts s.entries
+
 abbrev pub IsFitAt : Index → List SiteState → List EntryCounts → ℕ → Type 0
 IsFitAt index sites counts k =
-    (s : SiteState) (c : EntryCounts) → slice_get sites k ≡ Some s → slice_get counts k ≡ Some c → IsLogFit index k c s.entries
+    (s : SiteState) (c : EntryCounts) → slice_get sites k ≡ Some s → slice_get counts k ≡ Some c → IsSiteFit index k c s

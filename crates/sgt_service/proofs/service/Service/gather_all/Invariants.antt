@@ -1,5 +1,12 @@
-use Rattle.std.proofs.Common.{◌≡◌}
+use Rattle.std.proofs.Common.{◌≡◌, ◌≤◌}
+use Rattle.std.specs.Prelude.{vec_len}
+use Rattle.sgt_service.specs.Guarded.{IsGatheredBelow}
 use Rattle.sgt_service.proofs.service.Service.gather_all.Given as goal
 
 abbrev pub invariant-loop-place : goal.invariant-loop-place
-invariant-loop-place g l = l.guarded.certifier ≡ l.fn.guarded.certifier
+invariant-loop-place g l = record {
+  certifier : l.guarded.certifier ≡ l.fn.guarded.certifier;
+  below : l.pledges.below ≡ l.place;
+  within : l.place ≤ vec_len l.self.sites;
+  edges : IsGatheredBelow l.fn.guarded.certifier.history l.active l.place l.edges;
+}

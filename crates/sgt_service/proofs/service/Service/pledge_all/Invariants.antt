@@ -1,0 +1,9 @@
+use Rattle.std.proofs.Common.{◌≡◌, ◌≤◌}
+use Rattle.std.specs.Prelude.{vec_len}
+use Rattle.sgt_service.proofs.service.Service.pledge_all.Given as goal
+
+abbrev pub invariant-loop-place : goal.invariant-loop-place
+invariant-loop-place g l = record {
+  below : l.pledges.below ≡ l.place;
+  within : l.place ≤ vec_len l.self.sites;
+}
