@@ -410,33 +410,45 @@ fn agreed_count(alloc: Global, output: &str) -> Result<Option<usize>, AllocError
     Ok(None)
 }
 
-// thousand_sums_sixteen_workers: which scripts are refused to the last isn't fixed, but x counts those that aren't.
-// thousand_increments_sixteen_workers: none ever is.
+/// What sixteen workers write of a thousand scripts like this one, and the status.
+fn by_sixteen_workers<H: Threads + Wait + Sync>(
+    rt: &H,
+    alloc: Global,
+    script: &str,
+) -> Result<(u8, MemSink), Fail> {
+    let text = thousand(alloc, script)?;
+    let mut input = MemSource::new(text.as_bytes(), 65_536, None);
+    let mut output = MemSink::new(alloc, 4_000_000)?;
+    let mut errors = MemSink::new(alloc, 100)?;
+    let words = ["run", "--workers", "16"].as_slice();
+    let status = run(rt, alloc, words, &mut input, &mut output, &mut errors)?;
+    Ok((status, output))
+}
+
+// Which scripts are refused to the last isn't fixed, but x counts those that aren't.
 #[test]
-fn sixteen_workers(rt: HostRuntime) -> Result<(), Fail> {
-    for (script, all) in [("r[0.x] w[0.x]=0.x+1", false), ("d[0.x]=1", true)] {
-        let text = thousand(rt.alloc(), script)?;
-        let mut input = MemSource::new(text.as_bytes(), 65_536, None);
-        let mut output = MemSink::new(rt.alloc(), 4_000_000)?;
-        let mut errors = MemSink::new(rt.alloc(), 100)?;
-        let words = ["run", "--workers", "16"].as_slice();
-        let status = run(&rt, rt.alloc(), words, &mut input, &mut output, &mut errors)?;
-        let told = str::from_utf8(output.bytes())?;
-        let count = agreed_count(rt.alloc(), told)?;
-        assert!(rt; count.is_some(), "{script}");
-        assert_eq!(rt; status, if count == Some(1000) { 0 } else { 1 }, "{script}");
-        assert!(rt;
-            !all || (count == Some(1000) && !told.contains(" tries 2\n")),
-            "{script}"
-        );
-        let (_, bundle) = told.split_once("---\n").ok_or("a bundle")?;
-        let start = if all {
-            "yes 1000 committed 0 refused 0 withdrawn\n"
-        } else {
-            "yes "
-        };
-        assert!(rt; is_said(&rt, rt.alloc(), bundle, start)?, "{script}");
-    }
+fn thousand_sums_sixteen_workers(rt: HostRuntime) -> Result<(), Fail> {
+    let (status, output) = by_sixteen_workers(&rt, rt.alloc(), "r[0.x] w[0.x]=0.x+1")?;
+    let told = str::from_utf8(output.bytes())?;
+    let count = agreed_count(rt.alloc(), told)?;
+    assert!(rt; count.is_some());
+    assert_eq!(rt; status, if count == Some(1000) { 0 } else { 1 });
+    let (_, bundle) = told.split_once("---\n").ok_or("a bundle")?;
+    assert!(rt; is_said(&rt, rt.alloc(), bundle, "yes ")?);
+    Ok(())
+}
+
+// None is ever refused.
+#[test]
+fn thousand_increments_sixteen_workers(rt: HostRuntime) -> Result<(), Fail> {
+    let (status, output) = by_sixteen_workers(&rt, rt.alloc(), "d[0.x]=1")?;
+    let told = str::from_utf8(output.bytes())?;
+    assert_eq!(rt; agreed_count(rt.alloc(), told)?, Some(1000));
+    assert_eq!(rt; status, 0);
+    assert!(rt; !told.contains(" tries 2\n"));
+    let (_, bundle) = told.split_once("---\n").ok_or("a bundle")?;
+    let says = "yes 1000 committed 0 refused 0 withdrawn\n";
+    assert!(rt; is_said(&rt, rt.alloc(), bundle, says)?);
     Ok(())
 }
 

@@ -1,11 +1,11 @@
 -- The operations of a script, one after another.
-use Rattle.std.proofs.Common.{◌≡◌, ◌+◌, ℕ, zero, suc, Bool, List, [], ◌∷◌, ◌++◌, take, drop, Some, true, false, true≢false, refl, sym, ap, ◌∙◌, subst, inl, inr}
+use Rattle.std.proofs.Common.{◌≡◌, ◌+◌, ℕ, zero, suc, List, [], ◌∷◌, ◌++◌, take, drop, Some, true, false, true≢false, refl, sym, ap, ◌∙◌, subst, inl, inr}
 use Rattle.std.specs.Prelude.{slice_get}
 use Rattle.std.proofs.lemmas.Option.{same_Some}
 use Rattle.sgt_names.proofs.Lists.{take_next}
 use Rattle.sgt_names.specs.declared.draft.Touch.{Touch}
 use Rattle.sgt_notation.specs.declared.script.Op.{Op}
-use Rattle.sgt_run.specs.private.Operations.{Does, DoesAll, op_fits}
+use Rattle.sgt_run.specs.Operations.{Does, DoesAll, op_fits}
 
 -- one more is done
 pub does_next : (ops : List Op) (op : Op) (old mid new : List Touch) (reads heard reads' : List ℕ) → DoesAll ops true old mid reads heard

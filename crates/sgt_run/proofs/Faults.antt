@@ -1,20 +1,33 @@
 -- The faults of the calls that a worker makes.
-use Rattle.std.proofs.Common.{◌≡◌, ℕ, List, inl, inr, Some, None, Option, sym, subst}
+use Rattle.std.proofs.Common.{◌≡◌, ℕ, List, inl, inr, Some, None, Option, Result, Ok, Err, OnOk, IfErr, sym, subst}
+use Rattle.std.specs.Prelude.{MatchResult}
 use Rattle.sgt_names.specs.Name.{Name}
 use Rattle.sgt_agreed.specs.declared.fault.ServiceFault.{ServiceFault}
 use Rattle.sgt_agreed.specs.declared.fault.ServiceFault.TheVariants as fault
 use Rattle.sgt_site.specs.declared.fault.SiteFault.TheVariants as site
+use Rattle.sgt_certifier.specs.Kept.{Kept}
+use Rattle.sgt_workers.specs.declared.ticket.Done.{Done}
 use Rattle.sgt_workers.specs.declared.ticket.Ending.{Ending}
 use Rattle.sgt_service.specs.Refused.{IsOfCall, RefusesItem}
 use Rattle.sgt_service.specs.Seats.{IsBack}
 use Rattle.sgt_service.specs.declared.active.Active.{Active}
 use Rattle.sgt_service.specs.declared.active.Back.{Back}
 use Rattle.sgt_service.specs.declared.seat.Seat.{Seat}
+use Rattle.sgt_settle.specs.Settled.{AreTickets, Run}
+use Rattle.sgt_settle.specs.Fault.{IsUnsettled}
+use Rattle.sgt_run.specs.Bundle.{IsToldAlone}
 
 pub item_of_call : (names : List (List Name)) (s : ℕ) (x : Name) (f : ServiceFault) → RefusesItem names s x f → IsOfCall f
 item_of_call names s x (fault.Site site.UnknownItem) r = inl (λ e. let f : site.UnknownItem ≡ site.Memory = e in cc)
 item_of_call names s x fault.Memory r = inl tt
 item_of_call names s x _ r = absurd r
+
+-- what the tickets tell, where there is no memory for the sites
+pub alone_told : {A : Type 0} (c : Kept) (dones : List Done) (told : Result A ServiceFault) (f : ServiceFault) → OnOk told (AreTickets c.state.rulings dones)
+    → IfErr told (λ g. (r : Run) → r.certifier ≡ c → r.dones ≡ dones → IsUnsettled r g) → MatchResult told (λ done. f ≡ fault.Memory) (λ g. f ≡ g)
+    → IsToldAlone c dones f
+alone_told c dones (Ok done) f tickets each is = inl (is, tickets)
+alone_told c dones (Err g) f tickets each is = inr (subst (λ (k : ServiceFault). (r : Run) → r.certifier ≡ c → r.dones ≡ dones → IsUnsettled r k) (sym is) each)
 
 module _ {L : Type 0} where
   fault_by : (decided : Ending → Type 0) (active : Active) (old new : Seat L) (o : Option Active) (f : ServiceFault)

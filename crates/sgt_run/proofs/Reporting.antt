@@ -1,25 +1,29 @@
 -- What a run writes, put together.
 use Rattle.std.proofs.Common.{◌≡◌, ℕ, ◌+◌, ◌≤◌, List, [], ◌∷◌, ◌++◌, length, map, ◌⊎◌, inl, inr, refl, sym, ◌∙◌, ap, subst, arith, append_assoc, All}
 use Rattle.std.specs.Prelude.{codes}
-use Rattle.std.specs.List.{range_with_len}
 use Rattle.std.proofs.lemmas.List.Elements.{All-head, All-tail}
 use Rattle.std.proofs.lemmas.List.Sums.{sum_by-cons}
+use Rattle.sgt_names.proofs.Lists.{All-from_map, All-weaken}
 use Rattle.sgt_names.specs.declared.entry.Holding.{Holding}
 use Rattle.sgt_names.specs.declared.outcome.Outcome.{Outcome}
 use Rattle.sgt_names.specs.declared.outcome.Outcome.TheVariants as outcome
+use Rattle.sgt_notation.specs.declared.event.SiteLine.{SiteLine}
+use Rattle.sgt_notation.specs.declared.script.Script.{Script}
+use Rattle.sgt_notation.specs.Events.{IsSiteLine}
+use Rattle.sgt_site.specs.State.{AreItems}
 use Rattle.sgt_site.specs.declared.fault.SiteFault.TheVariants as site
 use Rattle.sgt_agreed.specs.declared.fault.ServiceFault.{ServiceFault}
 use Rattle.sgt_agreed.specs.declared.fault.ServiceFault.TheVariants as fault
-use Rattle.sgt_workers.specs.Answers.{jobs_of, IsFault}
+use Rattle.sgt_workers.specs.Answers.{IsFault}
 use Rattle.sgt_workers.specs.declared.ticket.Done.{Done}
 use Rattle.sgt_workers.specs.declared.fault.PoolFail.{PoolFail}
 use Rattle.sgt_workers.specs.declared.fault.PoolFail.TheVariants.{Work, Pool}
+use Rattle.sgt_workers.specs.declared.fault.PoolFault.TheVariants as pool
 use Rattle.sgt_service.specs.Refused.{IsOfCall, RefusesSites}
 use Rattle.sgt_service.specs.Seats.{IsNew}
 use Rattle.sgt_service.specs.Together.{parts_of, amount_of}
 use Rattle.sgt_service.specs.declared.seat.Seat.{Seat}
 use Rattle.sgt_settle.specs.Settled.{IsSettled, Run, tickets_of}
-use Rattle.sgt_settle.specs.Fault.{IsUnsettled}
 use Rattle.sgt_service.specs.Guarded.{decision_count}
 use Rattle.sgt_notation.specs.Spelling.{text_of_lines}
 use Rattle.sgt_cert.specs.Parts.{Parts}
@@ -27,30 +31,49 @@ use Rattle.sgt_cert.specs.Text.{text_of}
 use Rattle.sgt_audit.specs.Verdict.{IsVerdict, SaysHeadline}
 use Rattle.sgt_audit.specs.Verdict as auditor
 use Rattle.sgt_audit.specs.declared.verdict.Verdict.{Verdict}
-use Rattle.sgt_run.specs.Bundle.{IsBundleOf, IsLeftOf}
+use Rattle.sgt_run.specs.Bundle.{IsBundleOf, IsRefused}
 use Rattle.sgt_run.specs.Results.{done_text}
-use Rattle.sgt_run.specs.Tries.{AreTries}
+use Rattle.sgt_run.specs.Tries.{AreDonesOf}
 use Rattle.sgt_run.specs.Input.{IsInput}
-use Rattle.sgt_run.specs.Report.{EndsRun, IsOutcome, IsRunAnswer, IsRunOf, IsTextOf}
+use Rattle.sgt_run.specs.Report.{EndsRun, EndsUnsettled, IsOfRun, IsOutcome, IsRunAnswer, IsRunOf, IsTextOf, IsWant, site_items}
 use Rattle.sgt_run.specs.declared.input.Input.{Input}
 
--- sites that can't be opened
-pub sites_of_call : (sites : List (List Holding)) (f : ServiceFault) → RefusesSites sites f → IsOfCall f
-sites_of_call sites (fault.Site site.BadItems) r = inl (λ e. let f : site.BadItems ≡ site.Memory = e in cc)
-sites_of_call sites fault.Memory r = inl tt
-sites_of_call sites _ r = absurd r
+-- sites with good items are refused for want of memory alone
+pub sites_want : (sites : List (List Holding)) (f : ServiceFault) → RefusesSites sites f → All AreItems sites → f ≡ fault.Memory
+sites_want sites (fault.Site site.BadItems) r all = absurd (r all)
+sites_want sites fault.Memory r all = refl
+sites_want sites _ r all = absurd r
 
--- what a pool of the service's calls ends with ends the run
-pub ends_run : (scripts places tries : ℕ) (f : PoolFail ServiceFault) → IsFault IsOfCall scripts f → EndsRun scripts places tries f
-ends_run scripts places tries (Work f) is = inl is
-ends_run scripts places tries (Pool f) is = is
+-- the lines of an input's sites have good items
+pub items_good : (input : Input) → IsInput input → All AreItems (map (λ (l : SiteLine). l.items) input.sites)
+items_good input is = All-from_map AreItems (λ (l : SiteLine). l.items) input.sites
+    (All-weaken IsSiteLine (λ (l : SiteLine). AreItems l.items) input.sites (λ l line. record { room = line.room; rising = line.rising }) is.0.each)
+
+call_ends : (f : ServiceFault) → IsOfCall f → (f ≡ fault.Memory) ⊎ IsOfRun f
+call_ends fault.Memory is = inl refl
+call_ends (fault.Site f) (inl h) = inr h
+call_ends (fault.Site f) (inr h) = absurd h
+call_ends (fault.Certifier f) (inl h) = absurd h
+call_ends (fault.Certifier f) (inr h) = inr h
+call_ends (fault.NotPledged number) is = inr tt
+call_ends _ (inl h) = absurd h
+call_ends _ (inr h) = absurd h
+
+-- what a pool of the service's calls ends with ends the run, or is want of memory
+pub ends_run : (scripts : List Script) (items : List (List Holding)) (tries : ℕ) (f : PoolFail ServiceFault) → IsFault IsOfCall (length scripts) f
+    → IsWant f ⊎ EndsRun scripts items tries f
+ends_run scripts items tries (Work f) is = elim (call_ends f is) [ inl want ↦ inl want | inr ends ↦ inr (inl ends) ]
+ends_run scripts items tries (Pool pool.Memory) is = inl refl
+ends_run scripts items tries (Pool (pool.Unrun job)) is = inr is
+ends_run scripts items tries (Pool (pool.Doubled job)) is = absurd is
 
 -- the text of a run is its answer
 pub run_answers : (input : Input) (tries : ℕ) (run : Run) (o : Outcome) (text : List ℕ) → IsSettled run
-    → IsRunOf (length input.scripts) (length input.sites) tries run → IsTextOf run o text → IsRunAnswer input tries o text
-run_answers input tries run outcome.Yes text settled of is = (run, settled, of, is)
-run_answers input tries run outcome.No text settled of is = inl (run, settled, of, is)
-run_answers input tries run outcome.Unreadable text settled of is = absurd is.ends
+    → IsRunOf input.scripts (length input.sites) tries run → site_items run ≡ map (λ (l : SiteLine). l.items) input.sites → IsTextOf run o text
+    → IsRunAnswer input tries o text
+run_answers input tries run outcome.Yes text settled of began is = (run, settled, of, began, is)
+run_answers input tries run outcome.No text settled of began is = inl (run, settled, of, began, is)
+run_answers input tries run outcome.Unreadable text settled of began is = absurd is.ends
 
 joined : (a b d e t0 t1 t2 t3 t4 : List ℕ) → t0 ≡ [] → t1 ≡ t0 ++ a → t2 ≡ t1 ++ b → t3 ≡ t2 ++ d → t4 ≡ t3 ++ e → t4 ≡ a ++ (b ++ (d ++ e))
 joined a b d e t0 t1 t2 t3 t4 e0 e1 e2 e3 e4 =
@@ -106,23 +129,21 @@ module _ {L : Type 0} where
       omega (arith, counted whole, grown, new_amount places old fresh)
 
   -- what is left of a run on a new service with so many sites
-  pub left_of : (scripts places tries parts named : ℕ) (old new : List (Seat L)) (dones : List Done) (run : Run) → All (IsNew places) old → length old ≡ parts → parts_of new ≡ parts_of old
-      → amount_of new ≡ amount_of old + length (tickets_of dones) → jobs_of dones ≡ range_with_len 1 scripts → All (λ d. AreTries tries d.tickets.items) dones
+  pub left_of : (scripts : List Script) (places tries parts named : ℕ) (old new : List (Seat L)) (dones : List Done) (run : Run) → All (IsNew places) old → length old ≡ parts
+      → parts_of new ≡ parts_of old → amount_of new ≡ amount_of old + length (tickets_of dones) → AreDonesOf scripts tries dones
       → named ≡ places → run.dones ≡ dones → length run.sites ≡ named → (parts_of new ≡ parts → decision_count run.certifier ≡ amount_of new)
       → IsRunOf scripts places tries run
-  left_of scripts places tries parts named old new dones run fresh many stay grown jobs tried there told sites counted = record {
-    jobs = ap jobs_of told ∙ jobs;
-    tickets = subst (λ (ds : List Done). All (λ d. AreTries tries d.tickets.items) ds) (sym told) tried;
+  left_of scripts places tries parts named old new dones run fresh many stay grown of there told sites counted = record {
+    dones = subst (AreDonesOf scripts tries) (sym told) of;
     sites = sites ∙ there;
     decided = all_decided places parts (length (tickets_of dones)) (decision_count run.certifier) old new fresh many stay grown counted
         ∙ ap (λ (ds : List Done). length (tickets_of ds)) (sym told);
   }
 
-  -- a run that isn't settled ends with that, or with want of memory
-  pub ends_unsettled : (scripts places tries parts named : ℕ) (old new : List (Seat L)) (dones : List Done) (f : ServiceFault) → All (IsNew places) old → length old ≡ parts
-      → parts_of new ≡ parts_of old → amount_of new ≡ amount_of old + length (tickets_of dones) → jobs_of dones ≡ range_with_len 1 scripts
-      → All (λ d. AreTries tries d.tickets.items) dones → named ≡ places → (f ≡ fault.Memory) ⊎ ((r : Run) × IsLeftOf named parts new dones r × IsUnsettled r f)
-      → IsOfCall f ⊎ ((run : Run) × IsRunOf scripts places tries run × IsUnsettled run f)
-  ends_unsettled scripts places tries parts named old new dones f fresh many stay grown jobs tried there (inl memory) = inl (subst IsOfCall (sym memory) (inr tt))
-  ends_unsettled scripts places tries parts named old new dones f fresh many stay grown jobs tried there (inr (run, left, is)) =
-      inr (run, left_of scripts places tries parts named old new dones run fresh many stay grown jobs tried there left.told left.many left.decided, is)
+  -- a run that is refused ends unsettled
+  pub ends_unsettled : (scripts : List Script) (places tries parts named : ℕ) (old new : List (Seat L)) (dones : List Done) (f : ServiceFault) → All (IsNew places) old → length old ≡ parts
+      → parts_of new ≡ parts_of old → amount_of new ≡ amount_of old + length (tickets_of dones) → AreDonesOf scripts tries dones
+      → named ≡ places → IsRefused named parts new dones f → EndsUnsettled scripts places tries f
+  ends_unsettled scripts places tries parts named old new dones f fresh many stay grown of there (inl (run, left, is)) =
+      inl (run, left_of scripts places tries parts named old new dones run fresh many stay grown of there left.told left.many left.decided, is)
+  ends_unsettled scripts places tries parts named old new dones f fresh many stay grown of there (inr (c, alone)) = inr (c, dones, of, alone)

@@ -1,9 +1,14 @@
 -- The tickets of the tries so far.
 use Rattle.std.proofs.Common.{◌≡◌, ◌≢◌, ◌≤◌, ◌<◌, ℕ, ◌+◌, List, [], ◌∷◌, ◌++◌, length, refl, sym, ap, arith, subst, All}
+use Rattle.std.specs.Prelude.{None, IfSome}
+use Rattle.std.specs.List.{last_or}
 use Rattle.std.proofs.lemmas.List.{length-append}
 use Rattle.std.proofs.lemmas.List.Elements.{All-head, All-tail, All-push, All-nil}
+use Rattle.sgt_names.proofs.Lists.{last_or-append}
+use Rattle.sgt_notation.specs.declared.script.Op.{Op}
 use Rattle.sgt_workers.specs.declared.ticket.Ticket.{Ticket}
-use Rattle.sgt_run.specs.Tries.{AreTries, IsRefused}
+use Rattle.sgt_run.specs.Operations.{Tries}
+use Rattle.sgt_run.specs.Tries.{AreTries, IsRefused, IsTryOf}
 
 -- a ticket that isn't refused is the last
 pub tries_end : (tries : ℕ) (tickets : List Ticket) (t : Ticket) → All IsRefused tickets → length tickets < tries → (IsRefused t → ⊥)
@@ -36,3 +41,12 @@ spent_by tries before t (u ∷ tickets) refused rest size =
 pub tries_spent : (tries : ℕ) (tickets : List Ticket) → All IsRefused tickets → length tickets ≡ tries → 1 ≤ tries → AreTries tries tickets
 tries_spent tries [] refused size some = absurd (omega (arith, size, some))
 tries_spent tries (t ∷ tickets) refused size some = spent_by tries [] t tickets (All-nil IsRefused) refused (omega (arith, size))
+
+-- one try more
+pub tries_more : (ops : List Op) (tickets : List Ticket) (t : Ticket) (reads : List ℕ) → All (IsTryOf ops) tickets → Tries ops t.verdict reads
+    → All (IsTryOf ops) (tickets ++ t ∷ [])
+tries_more ops tickets t reads each tried = All-push (IsTryOf ops) tickets t each (reads, tried)
+
+pub last_more : (ops : List Op) (tickets : List Ticket) (t : Ticket) (reads : List ℕ) → Tries ops t.verdict reads
+    → IfSome (last_or None (tickets ++ t ∷ [])) (λ u. Tries ops u.verdict reads)
+last_more ops tickets t reads tried = subst (λ o. IfSome o (λ (u : Ticket). Tries ops u.verdict reads)) (sym (last_or-append None tickets (t ∷ []))) tried

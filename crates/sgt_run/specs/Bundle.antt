@@ -1,16 +1,20 @@
 -- A run that is left of a service, and its bundle.
-use Rattle.std.specs.Prelude.{◌≡◌, ℕ, List, length}
+use Rattle.std.specs.Prelude.{◌≡◌, ◌⊎◌, ℕ, List, length}
 use Rattle.std.specs.List.{AllZip}
 use Rattle.sgt_names.specs.Log.{names, FinalsAreLegal}
 use Rattle.sgt_site.specs.State.{SiteState}
 use Rattle.sgt_cert.specs.Parts.{Parts}
 use Rattle.sgt_cert.specs.declared.bundle.SiteLog.{SiteLog}
 use Rattle.sgt_certifier.specs.Certifier.{certificate_of}
+use Rattle.sgt_certifier.specs.Kept.{Kept}
+use Rattle.sgt_agreed.specs.declared.fault.ServiceFault.{ServiceFault}
+use Rattle.sgt_agreed.specs.declared.fault.ServiceFault.TheVariants.{Memory}
 use Rattle.sgt_workers.specs.declared.ticket.Done.{Done}
 use Rattle.sgt_service.specs.Guarded.{decision_count}
 use Rattle.sgt_service.specs.Together.{parts_of, amount_of, counts_of}
 use Rattle.sgt_service.specs.declared.seat.Seat.{Seat}
-use Rattle.sgt_settle.specs.Settled.{Run}
+use Rattle.sgt_settle.specs.Settled.{AreTickets, Run}
+use Rattle.sgt_settle.specs.Fault.{IsUnsettled}
 
 -- ---- what is left of a service
 
@@ -21,6 +25,17 @@ pub record IsLeftOf {L : Type 0} (sites parts : ℕ) (seats : List (Seat L)) (do
   pub many : length r.sites ≡ sites
   pub counted : r.counts ≡ counts_of sites seats
   pub decided : parts_of seats ≡ parts → decision_count r.certifier ≡ amount_of seats
+
+-- the certifier and the tickets alone tell the fault, whatever the sites are: it is that of each run with them. Or the tickets are the
+-- certifier's decisions, and memory is wanted for the sites
+abbrev pub IsToldAlone : Kept → List Done → ServiceFault → Type 0
+IsToldAlone c dones f =
+    ((f ≡ Memory) × AreTickets c.state.rulings dones) ⊎ ((r : Run) → r.certifier ≡ c → r.dones ≡ dones → IsUnsettled r f)
+
+-- what is left isn't settled; or its sites are not known, and the fault is told without them
+abbrev pub IsRefused : {L : Type 0} → (sites parts : ℕ) → List (Seat L) → List Done → ServiceFault → Type 0
+IsRefused sites parts seats dones f =
+    ((r : Run) × IsLeftOf sites parts seats dones r × IsUnsettled r f) ⊎ ((c : Kept) × IsToldAlone c dones f)
 
 -- ---- the bundle
 

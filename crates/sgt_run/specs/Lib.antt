@@ -1,5 +1,6 @@
 pub mod Bundle
 pub mod Input
+pub mod Operations
 pub mod Report
 pub mod Results
 pub mod Tries

@@ -1,18 +1,22 @@
 -- What a run of an input writes: a line for each script, the verdict on the run's own bundle, and the bundle.
-use Rattle.std.specs.Prelude.{◌≡◌, ◌≢◌, ◌⊎◌, ◌++◌, ⊤, ℕ, List, [], length, map, codes, decimal, All, Option, IfSome}
-use Rattle.std.specs.List.{range_with_len}
+use Rattle.std.specs.Prelude.{◌≡◌, ◌≢◌, ◌⊎◌, ◌++◌, ⊤, ℕ, List, [], length, map, take, codes, decimal, All, Option, IfSome, slice_get}
 use Rattle.std.specs.Io.KnownBytes.{Appends}
 use Rattle.sgt_names.specs.Device.{AppendsOrForgets, WritesFront}
+use Rattle.sgt_names.specs.declared.entry.Holding.{Holding}
 use Rattle.sgt_names.specs.declared.outcome.Outcome.{Outcome}
 use Rattle.sgt_names.specs.declared.outcome.Outcome.TheVariants as outcome
 use Rattle.sgt_notation.specs.Spelling.{text_of_lines}
 use Rattle.sgt_notation.specs.declared.fault.NotationFault.{NotationFault}
 use Rattle.sgt_notation.specs.declared.fault.NotationFault.TheVariants as notation
+use Rattle.sgt_notation.specs.declared.script.Script.{Script}
+use Rattle.sgt_site.specs.declared.fault.SiteFault.TheVariants as site
 use Rattle.sgt_cert.specs.Parts.{Parts}
 use Rattle.sgt_cert.specs.Text.{text_of}
+use Rattle.sgt_certifier.specs.Kept.{Kept}
+use Rattle.sgt_certifier.specs.declared.call.CertifierFault.TheVariants as certifier
 use Rattle.sgt_agreed.specs.declared.fault.ServiceFault.{ServiceFault}
 use Rattle.sgt_agreed.specs.declared.fault.ServiceFault.TheVariants as fault
-use Rattle.sgt_workers.specs.Answers.{jobs_of, IsMet}
+use Rattle.sgt_workers.specs.Answers.{IsJob}
 use Rattle.sgt_workers.specs.declared.ticket.Done.{Done}
 use Rattle.sgt_workers.specs.declared.fault.PoolFail.{PoolFail}
 use Rattle.sgt_workers.specs.declared.fault.PoolFail.TheVariants.{Work, Pool}
@@ -23,24 +27,26 @@ use Rattle.sgt_audit.specs.Verdict as auditor
 use Rattle.sgt_audit.specs.declared.verdict.Verdict.{Verdict}
 use Rattle.sgt_audit.specs.declared.verdict.Verdict.TheVariants.{Yes, No}
 use Rattle.sgt_service.specs.Guarded.{decision_count}
-use Rattle.sgt_service.specs.Refused.{IsOfCall}
 use Rattle.sgt_settle.specs.Settled.{IsSettled, Run, tickets_of}
 use Rattle.sgt_settle.specs.Fault.{IsUnsettled}
-use Rattle.sgt_run.specs.Bundle.{IsBundleOf}
+use Rattle.sgt_run.specs.Bundle.{IsBundleOf, IsToldAlone}
 use Rattle.sgt_run.specs.Input.{FirstUnreadable, Spells}
 use Rattle.sgt_run.specs.Results.{IsCommitted, done_text}
-use Rattle.sgt_run.specs.Tries.{AreTries}
+use Rattle.sgt_run.specs.Tries.{AreDonesOf}
 use Rattle.sgt_run.specs.declared.input.Input.{Input}
 
 -- ---- a run of an input
 
--- a run of so many scripts at so many sites: each script has its tickets, each site is there, and as many decisions were taken as
--- there are tickets
-pub record IsRunOf (scripts places tries : ℕ) (run : Run) : Type 0 where
-  pub jobs : jobs_of run.dones ≡ range_with_len 1 scripts
-  pub tickets : All (λ d. AreTries tries d.tickets.items) run.dones
+-- a run of these scripts at so many sites: each script has its tries, each site is there, and as many decisions were taken as there
+-- are tickets
+pub record IsRunOf (scripts : List Script) (places tries : ℕ) (run : Run) : Type 0 where
+  pub dones : AreDonesOf scripts tries run.dones
   pub sites : length run.sites ≡ places
   pub decided : decision_count run.certifier ≡ length (tickets_of run.dones)
+
+-- the items of each site with their first values
+abbrev pub site_items : Run → List (List Holding)
+site_items run = map (λ s. s.items) run.sites
 
 abbrev pub IsYes : Verdict → Type 0
 IsYes (Yes committed refused withdrawn) = ⊤
@@ -63,10 +69,10 @@ pub record IsTextOf (run : Run) (o : Outcome) (text : List ℕ) : Type 0 where
   pub ends : IsOutcome run.dones verdict o
   pub written : text ≡ text_of_lines (map done_text run.dones) ++ (auditor.text_of verdict ++ (codes "---\n" ++ text_of whole))
 
--- the text of a settled run of the input's scripts at its sites
+-- the text of a settled run of the input's scripts, which began with the input's sites
 abbrev pub IsRunText : Input → ℕ → Outcome → List ℕ → Type 0
-IsRunText input tries o text =
-    (run : Run) × IsSettled run × IsRunOf (length input.scripts) (length input.sites) tries run × IsTextOf run o text
+IsRunText input tries o text = (run : Run) × IsSettled run × IsRunOf input.scripts (length input.sites) tries run
+    × (site_items run ≡ map (λ l. l.items) input.sites) × IsTextOf run o text
 
 -- ---- a run that a fault ends
 
@@ -88,11 +94,44 @@ pool_fault_number pool.Memory = 1
 pool_fault_number (pool.Unrun job) = 2
 pool_fault_number (pool.Doubled job) = 3
 
--- a fault that a call of the service may be refused with, or that of a run of so many scripts at so many sites that isn't settled; or
--- the pool's
-abbrev pub EndsRun : ℕ → ℕ → ℕ → PoolFail ServiceFault → Type 0
-EndsRun scripts places tries (Work f) = IsOfCall f ⊎ ((run : Run) × IsRunOf scripts places tries run × IsUnsettled run f)
-EndsRun scripts places tries (Pool f) = IsMet scripts f
+-- V4 or V7: a call of the service was refused, and not for want of memory
+abbrev pub IsOfRun : ServiceFault → Type 0
+IsOfRun (fault.Site f) = f ≢ site.Memory
+IsOfRun (fault.Certifier f) = f ≢ certifier.Memory
+IsOfRun (fault.NotPledged number) = ⊤
+IsOfRun _ = ⊥
+
+-- a run of these scripts isn't settled; or its certifier and its tickets tell the fault without the sites
+abbrev pub EndsUnsettled : List Script → (places tries : ℕ) → ServiceFault → Type 0
+EndsUnsettled scripts places tries f = ((run : Run) × IsRunOf scripts places tries run × IsUnsettled run f)
+    ⊎ ((c : Kept) × (dones : List Done) × AreDonesOf scripts tries dones × IsToldAlone c dones f)
+
+-- the site of this number is the first that has other items or first values than were given
+pub record BeganOtherwise (given found : List (List Holding)) (number : ℕ) : Type 0 where
+  pub other : slice_get found number ≢ slice_get given number
+  pub before : take number found ≡ take number given
+
+-- a run of these scripts is settled, but that site isn't the one that was put there. V9 tells it
+pub record EndsElsewhere (scripts : List Script) (items : List (List Holding)) (tries : ℕ) (f : ServiceFault) : Type 0 where
+  pub run : Run
+  pub settled : IsSettled run
+  pub of : IsRunOf scripts (length items) tries run
+  pub number : ℕ
+  pub began : BeganOtherwise items (site_items run) number
+  pub told : f ≡ fault.LogDiffers number
+
+-- what may end a run of these scripts at sites with these items: a call of the service, a run that isn't settled or isn't theirs, or a
+-- job that the pool didn't run
+abbrev pub EndsRun : List Script → List (List Holding) → ℕ → PoolFail ServiceFault → Type 0
+EndsRun scripts items tries (Work f) =
+    IsOfRun f ⊎ (EndsUnsettled scripts (length items) tries f ⊎ EndsElsewhere scripts items tries f)
+EndsRun scripts items tries (Pool (pool.Unrun job)) = IsJob (length scripts) job
+EndsRun scripts items tries (Pool _) = ⊥
+
+-- want of memory, which ends a run too and is never told
+abbrev pub IsWant : PoolFail ServiceFault → Type 0
+IsWant (Work f) = f ≡ fault.Memory
+IsWant (Pool f) = f ≡ pool.Memory
 
 -- the line of a fault: its number alone. Want of memory has none
 abbrev pub IsFaultLine : PoolFail ServiceFault → List ℕ → Type 0
@@ -102,7 +141,7 @@ IsFaultLine (Pool f) text = (f ≢ pool.Memory) × (text ≡ codes "! P" ++ (dec
 -- the line of a fault that ended the run of the input's scripts
 abbrev pub IsFaultText : Input → ℕ → List ℕ → Type 0
 IsFaultText input tries text =
-    (f : PoolFail ServiceFault) × EndsRun (length input.scripts) (length input.sites) tries f × IsFaultLine f text
+    (f : PoolFail ServiceFault) × EndsRun input.scripts (map (λ l. l.items) input.sites) tries f × IsFaultLine f text
 
 -- ---- what an input is answered by
 

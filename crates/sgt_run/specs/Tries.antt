@@ -1,7 +1,13 @@
 -- The tries of a script.
-use Rattle.std.specs.Prelude.{◌≡◌, ◌<◌, ◌+◌, ℕ, List, [], ◌∷◌, ◌++◌, length, All}
+use Rattle.std.specs.Prelude.{◌≡◌, ◌<◌, ◌+◌, ℕ, List, [], ◌∷◌, ◌++◌, length, All, None, IfSome}
+use Rattle.std.specs.List.{last_or, range_with_len}
+use Rattle.sgt_notation.specs.declared.script.Op.{Op}
+use Rattle.sgt_notation.specs.declared.script.Script.{Script}
+use Rattle.sgt_workers.specs.Answers.{jobs_of, IsAnswer}
+use Rattle.sgt_workers.specs.declared.ticket.Done.{Done}
 use Rattle.sgt_workers.specs.declared.ticket.Ending.TheVariants.{Refused}
 use Rattle.sgt_workers.specs.declared.ticket.Ticket.{Ticket}
+use Rattle.sgt_run.specs.Operations.{Tries}
 
 abbrev pub IsRefused : Ticket → Type 0
 IsRefused t = t.verdict ≡ Refused
@@ -14,3 +20,22 @@ pub record AreTries (tries : ℕ) (tickets : List Ticket) : Type 0 where
   pub refused : All IsRefused refusals
   pub few : length refusals < tries
   pub spent : IsRefused last → length refusals + 1 ≡ tries
+
+-- a transaction that did these operations was told the ticket
+abbrev pub IsTryOf : List Op → Ticket → Type 0
+IsTryOf ops t = (heard : List ℕ) × Tries ops t.verdict heard
+
+-- each ticket is that of a try of these operations, and the values are those that the reads of the last try answered
+pub record AreTriesOf (tries : ℕ) (ops : List Op) (tickets : List Ticket) (reads : List ℕ) : Type 0 where
+  pub whole : AreTries tries tickets
+  pub each : All (IsTryOf ops) tickets
+  pub last : IfSome (last_or None tickets) (λ t. Tries ops t.verdict reads)
+
+-- the script was tried up to so often, with these tickets and what its last try's reads answered
+abbrev pub IsDoneOf : ℕ → Script → Done → Type 0
+IsDoneOf tries script d = AreTriesOf tries script.operations d.tickets.items d.reads.items
+
+-- a Done for each script, in their order, which is of that script
+pub record AreDonesOf (scripts : List Script) (tries : ℕ) (dones : List Done) : Type 0 where
+  pub jobs : jobs_of dones ≡ range_with_len 1 (length scripts)
+  pub each : All (IsAnswer (λ number script d. IsDoneOf tries script d) scripts) dones

@@ -1,4 +1,3 @@
 -- Words of private clauses.
-pub mod Operations
 pub mod Taking
 pub mod Stopping

@@ -1,23 +1,23 @@
 //! The run of all scripts that a reader gives.
 
-ghost use Rattle.std.specs.Prelude.{◌≡◌, ◌≢◌, ◌⊎◌, ◌++◌, ◌<◌, ◌≤◌, ℕ, List, Option, Err, codes, decimal, length, map, IfOk, IfErr, IfSome, OnErr, IsErrOf};
+ghost use Rattle.std.specs.Prelude.{◌≡◌, ◌≢◌, ◌⊎◌, ◌++◌, ◌<◌, ◌≤◌, ℕ, List, Option, All, Err, codes, decimal, length, map, IfOk, IfErr, IfSome, OnErr, IsErrOf};
 ghost use Rattle.sgt_names.specs.Limits.{max_sites};
 ghost use Rattle.sgt_notation.specs.Limits.{most_reads};
-ghost use Rattle.sgt_audit.specs.Verdict.{IsVerdict, SaysHeadline};
+ghost use Rattle.sgt_site.specs.State.{AreItems};
 ghost use Rattle.sgt_settle.specs.Settled.{IsSettled};
 ghost use Rattle.sgt_run.specs.Input.{IsInput, IsRead, IsUsable};
-ghost use Rattle.sgt_run.specs.Report.{EndsRun, IsAnswer, IsFaultLine, IsOutcome, IsRunAnswer, IsRunOf, IsTextOf, WroteAnswer, WroteAnswerFront, pool_fault_number, service_fault_number, unreadable_text};
+ghost use Rattle.sgt_run.specs.Report.{EndsRun, IsAnswer, IsFaultLine, IsOutcome, IsRunAnswer, IsRunOf, IsTextOf, IsWant, WroteAnswer, WroteAnswerFront, pool_fault_number, service_fault_number, site_items, unreadable_text};
 
+use crate::audited::verdict_on;
+use crate::begun::first_other;
 use crate::input::{Input, Reading};
 use crate::reading::read_input;
 use crate::report::{are_committed, push_dones};
 use crate::running::run;
 use crate::settled::{Settled, bundle, settle};
 use sgt_agreed::ServiceFault;
-use sgt_audit::{Verdict, audit};
-use sgt_names::{
-    EngineFail, Holding, Listed, MemSink, MemSource, Outcome, Sink, Source, write_all,
-};
+use sgt_audit::Verdict;
+use sgt_names::{EngineFail, Holding, Listed, Outcome, Sink, Source, write_all};
 use sgt_notation::{NotationFault, Script, SiteLine, push_number};
 use sgt_service::Service;
 use sgt_workers::{Done, Gate, PoolFail, PoolFault};
@@ -115,26 +115,6 @@ fn items_of(alloc: Global, sites: Vec<SiteLine>) -> Result<Vec<Listed<Holding>>,
     Ok(items)
 }
 
-/// The bytes that a verdict's line has at most.
-const VERDICT_ROOM: usize = 128;
-
-/// The bytes that are audited at a time.
-const PIECE: usize = 4_096;
-
-// The auditor's verdict on a text. Err: memory ran out. (The text is in memory and the line has room, so neither device fails; and
-// the reads are enough for more bytes than there can be.)
-fn verdict_on(alloc: Global, text: &[u8]) -> Result<Verdict, AllocError>
-    ensures judged { IfOk result (IsVerdict text.now) }
-    ensures headline { IfOk result (SaysHeadline text.now) }
-{
-    let mut reader = MemSource::new(text, PIECE, None);
-    let mut writer = MemSink::new(alloc, VERDICT_ROOM)?;
-    match audit(alloc, &mut reader, &mut writer) {
-        Ok(verdict) => Ok(verdict),
-        Err(_) => Err(AllocError),
-    }
-}
-
 // Yes where each script was committed and the verdict is yes.
 fn outcome_of(dones: &[Done], verdict: Verdict) -> Outcome
     ensures { IsOutcome dones.now verdict result }
@@ -171,6 +151,36 @@ fn run_text(alloc: Global, settled: &Settled) -> Result<Answer, AllocError>
 }
 
 // Runs the scripts by as many workers as the blank has parts, on a service of these sites, and settles the run.
+fn run_and_settle<L: Ledger + Send + Sync, G: Gate + Sync, R: Threads + Wait + Sync>(
+    rt: &R,
+    alloc: Global,
+    blank: Blank,
+    workers: u64,
+    sites: &[Listed<Holding>],
+    scripts: &[Script],
+    tries: u64,
+    gate: &G,
+) -> Result<Settled, PoolFail<ServiceFault>>
+    requires ledger { (blank.name ≡ L.name) × (blank.parts ≡ L.parts) × (blank.parts ≡ workers) }
+    requires some { (1 ≤ workers) × (1 ≤ tries) }
+    requires sites { length sites.now ≤ max_sites }
+    requires items { All AreItems sites.now }
+    ensures settled { IfOk result IsSettled }
+    ensures run { IfOk result (IsRunOf scripts.now (length sites.now) tries) }
+    ensures fault { IfErr result (λ f. IsWant f ⊎ EndsRun scripts.now sites.now tries f) }
+{
+    let (service, seats) = match Service::<L>::new(alloc, blank, sites, workers) {
+        Ok(opened) => opened,
+        Err(fault) => return Err(PoolFail::Work(fault)),
+    };
+    let (dones, seats) = run(rt, alloc, &service, seats, scripts, tries, gate)?;
+    match settle(alloc, service, dones, seats) {
+        Ok(settled) => Ok(settled),
+        Err(fault) => Err(PoolFail::Work(fault)),
+    }
+}
+
+// The same, where the sites that were settled are those that were put there; V9 names the first that isn't.
 fn settled_run<L: Ledger + Send + Sync, G: Gate + Sync, R: Threads + Wait + Sync>(
     rt: &R,
     alloc: Global,
@@ -184,18 +194,18 @@ fn settled_run<L: Ledger + Send + Sync, G: Gate + Sync, R: Threads + Wait + Sync
     requires ledger { (blank.name ≡ L.name) × (blank.parts ≡ L.parts) × (blank.parts ≡ workers) }
     requires some { (1 ≤ workers) × (1 ≤ tries) }
     requires sites { length sites.now ≤ max_sites }
+    requires items { All AreItems sites.now }
     ensures settled { IfOk result IsSettled }
-    ensures run { IfOk result (IsRunOf (length scripts.now) (length sites.now) tries) }
-    ensures fault { IfErr result (EndsRun (length scripts.now) (length sites.now) tries) }
+    ensures run { IfOk result (IsRunOf scripts.now (length sites.now) tries) }
+    ensures items { IfOk result (λ s. site_items s ≡ sites.now) }
+    ensures fault { IfErr result (λ f. IsWant f ⊎ EndsRun scripts.now sites.now tries f) }
 {
-    let (service, seats) = match Service::<L>::new(alloc, blank, sites, workers) {
-        Ok(opened) => opened,
-        Err(fault) => return Err(PoolFail::Work(fault)),
-    };
-    let (dones, seats) = run(rt, alloc, &service, seats, scripts, tries, gate)?;
-    match settle(alloc, service, dones, seats) {
-        Ok(settled) => Ok(settled),
-        Err(fault) => Err(PoolFail::Work(fault)),
+    let settled = run_and_settle::<L, G, R>(
+        rt, alloc, blank, workers, sites, scripts, tries, gate,
+    )?;
+    match first_other(settled.sites(), sites) {
+        None => Ok(settled),
+        Some(site) => Err(PoolFail::Work(ServiceFault::LogDiffers(site))),
     }
 }
 

@@ -1,6 +1,8 @@
 //! Scripts run by the threads of a service.
 #![tactic(auto)]
 
+mod audited;
+mod begun;
 mod engine;
 mod input;
 mod laws;

@@ -35,8 +35,8 @@ impl<'a, L: Ledger, G: Gate> Runner<'a, L, G> {
     ghost use Rattle.sgt_service.specs.Reads.{look_in};
     ghost use Rattle.sgt_service.specs.Refused.{IsOfCall};
     ghost use Rattle.sgt_workers.specs.declared.ticket.Ending.TheVariants.{Withdrawn};
-    ghost use Rattle.sgt_run.specs.Tries.{AreTries, IsRefused};
-    ghost use Rattle.sgt_run.specs.private.Operations.{op_fits, sum_fits, Does, DoesAll, PutsSum, Tries};
+    ghost use Rattle.sgt_run.specs.Tries.{AreTriesOf, IsRefused, IsTryOf};
+    ghost use Rattle.sgt_run.specs.Operations.{op_fits, sum_fits, Does, DoesAll, PutsSum, Tries};
 
     #[tactic(auto, using(crate::proofs::Faults::item_of_call))]
     // Keeps the sum of this value and of what the transaction sees at the source, as a private write. False where it is too
@@ -217,7 +217,7 @@ impl<'a, L: Ledger, G: Gate> Runner<'a, L, G> {
         self.end(rt, worker, active, fits)
     }
 
-    #[tactic(auto, using(crate::proofs::Tries::tries_end, crate::proofs::Tries::tries_spent))]
+    #[tactic(auto, using(crate::proofs::Tries::tries_end, crate::proofs::Tries::tries_spent, crate::proofs::Tries::tries_more, crate::proofs::Tries::last_more))]
     // Tries a script until it isn't refused, or until no try is left.
     fn try_all<R: Wait>(
         &self,
@@ -228,7 +228,7 @@ impl<'a, L: Ledger, G: Gate> Runner<'a, L, G> {
         reads: &mut Vec<Value>,
     ) -> Result<(), ServiceFault>
         requires { tickets.old.items ≡ [] }
-        ensures tries { OnOk result (AreTries self.now.tries tickets.new.items) }
+        ensures tries { OnOk result (AreTriesOf self.now.tries script.now.operations tickets.new.items reads.new.items) }
         ensures parts { worker.new.seat.share.parts ≡ worker.old.seat.share.parts }
         ensures counted { OnOk result (worker.new.seat.share.amount ≡ worker.old.seat.share.amount + vec_len tickets.new) }
         ensures fault { IfErr result IsOfCall }
@@ -249,9 +249,9 @@ impl<'a, L: Ledger, G: Gate> Work<Worker<L>, Script, ServiceFault> for Runner<'a
     ghost use Rattle.std.specs.Prelude.{◌≡◌, ◌+◌, length, refl};
     ghost use Rattle.std.proofs.Common.{◌∙◌};
     ghost use Rattle.sgt_service.specs.Refused.{IsOfCall};
-    ghost use Rattle.sgt_run.specs.Tries.{AreTries};
+    ghost use Rattle.sgt_run.specs.Tries.{IsDoneOf};
 
-    ghost answers = { λ w number script done. AreTries w.tries done.tickets.items };
+    ghost answers = { λ w number script done. IsDoneOf w.tries script done };
 
     ghost faults = { λ w fault. IsOfCall fault };
 

@@ -1,12 +1,12 @@
 //! A service's scripts, run by a pool with one worker for each seat.
 
-ghost use Rattle.std.specs.Prelude.{◌≡◌, ◌+◌, ◌<◌, ◌≤◌, All, IfOk, IfErr, length, map, vec_len};
+ghost use Rattle.std.specs.Prelude.{◌≡◌, ◌+◌, ◌<◌, ◌≤◌, IfOk, IfErr, length, map, vec_len};
 ghost use Rattle.std.specs.List.{range_with_len};
-ghost use Rattle.sgt_workers.specs.Answers.{jobs_of, IsFault};
+ghost use Rattle.sgt_workers.specs.Answers.{IsFault};
 ghost use Rattle.sgt_service.specs.Refused.{IsOfCall};
 ghost use Rattle.sgt_service.specs.Together.{parts_of, amount_of};
 ghost use Rattle.sgt_settle.specs.Settled.{tickets_of};
-ghost use Rattle.sgt_run.specs.Tries.{AreTries};
+ghost use Rattle.sgt_run.specs.Tries.{AreDonesOf};
 
 use crate::runner::{Runner, Worker};
 use sgt_agreed::ServiceFault;
@@ -39,8 +39,8 @@ pub fn run<L: Ledger + Send + Sync, G: Gate + Sync, R: Threads + Wait + Sync>(
 ) -> Result<(Vec<Done>, Vec<Seat<L>>), PoolFail<ServiceFault>>
     requires seats { 0 < vec_len seats }
     requires tries { 1 ≤ tries }
-    ensures jobs { IfOk result (λ r. jobs_of r.0.items ≡ range_with_len 1 (length scripts.now)) }
-    ensures tries { IfOk result (λ r. All (λ d. AreTries tries d.tickets.items) r.0.items) }
+    ensures dones { IfOk result (λ r. AreDonesOf scripts.now tries r.0.items) }
+    ensures seats { IfOk result (λ r. vec_len r.1 ≡ vec_len seats) }
     ensures parts { IfOk result (λ r. parts_of r.1.items ≡ parts_of seats.items) }
     ensures counted { IfOk result (λ r. amount_of r.1.items ≡ amount_of seats.items + length (tickets_of r.0.items)) }
     ensures fault { IfErr result (IsFault IsOfCall (length scripts.now)) }

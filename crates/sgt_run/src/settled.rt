@@ -1,21 +1,21 @@
 //! A run that is over, checked as a whole, and its bundle.
 
-ghost use Rattle.std.specs.Prelude.{◌≡◌, ◌≤◌, ◌⊎◌, IfOk, IfErr, length, vec_len};
+ghost use Rattle.std.specs.Prelude.{◌≡◌, ◌≤◌, Err, IfOk, IfErr, MatchResult, length, vec_len};
 ghost use Rattle.std.specs.List.{AllZip};
 ghost use Rattle.sgt_agreed.specs.declared.fault.ServiceFault.TheVariants.{Memory};
 ghost use Rattle.sgt_site.specs.State.{IsSite};
+ghost use Rattle.sgt_certifier.specs.Kept.{Kept};
 ghost use Rattle.sgt_service.specs.Guarded.{decision_count};
 ghost use Rattle.sgt_service.specs.Together.{parts_of, amount_of, counts_of};
-ghost use Rattle.sgt_settle.specs.Settled.{IsSettled, Run};
-ghost use Rattle.sgt_settle.specs.Fault.{IsUnsettled};
-ghost use Rattle.sgt_run.specs.Bundle.{IsBundleOf, IsLeftOf, IsLogOf};
+ghost use Rattle.sgt_settle.specs.Settled.{AreTickets, IsSettled};
+ghost use Rattle.sgt_run.specs.Bundle.{IsBundleOf, IsLogOf, IsRefused};
 
 use sgt_agreed::{EntryCounts, ServiceFault};
 use sgt_cert::{Bundle, SiteLog};
 use sgt_certifier::Certifier;
 use sgt_names::Listed;
-use sgt_service::{Opened, Seat, Service};
-use sgt_settle::check_settled;
+use sgt_service::{Guarded, Opened, Seat, Service};
+use sgt_settle::{check_settled, check_told};
 use sgt_site::Site;
 use sgt_workers::Done;
 use std::alloc::{AllocError, Global};
@@ -84,7 +84,8 @@ impl Settled {
 /// are all that there are, the history has as many decisions as their shares together. It waits for nobody.
 ///
 /// A run that isn't settled is refused as `check_settled` refuses it: V1, V2, V6, V8, V9 and V10, in this order, each with the
-/// least number of its kind. V3: there was no memory.
+/// least number of its kind. V3: there was no memory, and the tickets are the decisions. They are looked at before memory is taken for
+/// the sites.
 #[tactic(auto, using(crate::proofs::Counts::counts_many))]
 pub fn settle<L: Ledger>(
     alloc: Global,
@@ -98,14 +99,20 @@ pub fn settle<L: Ledger>(
     ensures sites { IfOk result (λ s. length s.sites ≡ vec_len service.names) }
     ensures decisions { IfOk result (λ s. parts_of seats.items ≡ L.parts
         → decision_count s.certifier ≡ amount_of seats.items) }
-    ensures refused { IfErr result (λ f. (f ≡ Memory)
-        ⊎ ((r : Run) × IsLeftOf (vec_len service.names) L.parts seats.items dones.items r × IsUnsettled r f)) }
+    ensures refused { IfErr result (IsRefused (vec_len service.names) L.parts seats.items dones.items) }
+    ensures memory { result ≡ Err Memory → (c : Kept) × AreTickets c.state.rulings dones.items }
 {
+    let mut service = service;
+    let Guarded { certifier, .. } = service.certifier.get_mut();
+    let told = check_told(alloc, certifier, dones.as_slice());
+    let Ok(opened) = service.open(alloc, seats) else {
+        return Err(told_alone(told));
+    };
     let Opened {
         certifier,
         sites,
         counts,
-    } = service.open(alloc, seats)?;
+    } = opened;
     check_settled(
         alloc,
         &certifier,
@@ -119,6 +126,16 @@ pub fn settle<L: Ledger>(
         counts,
         dones,
     })
+}
+
+// The fault of a run whose sites there is no memory for.
+fn told_alone(told: Result<(), ServiceFault>) -> ServiceFault
+    ensures { MatchResult told (λ done. result ≡ Memory) (λ fault. result ≡ fault) }
+{
+    match told {
+        Ok(()) => ServiceFault::Memory,
+        Err(fault) => fault,
+    }
 }
 
 /// The certificate and the logs that were found behind the locks. A bundle has a site at least, so a run without one has none.

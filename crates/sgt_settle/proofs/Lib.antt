@@ -16,5 +16,6 @@ pub mod Acting
 pub mod Telling
 pub mod Settling
 pub mod Whole
+pub mod Alone
 pub mod Joining
 pub mod Following

@@ -20,8 +20,10 @@ mod search;
 mod sites;
 mod tallies;
 mod tickets;
+mod told;
 mod versions;
 
 pub use check::check_settled;
 pub use handed::Handed;
 pub use laws::settled_has_no_fault;
+pub use told::check_told;

@@ -1,5 +1,5 @@
 use Rattle.std.proofs.Common.{◌≡◌, true, take}
-use Rattle.sgt_run.specs.private.Operations.{DoesAll}
+use Rattle.sgt_run.specs.Operations.{DoesAll}
 use Rattle.sgt_run.proofs.runner.Runner.apply_all.Given as goal
 
 abbrev pub invariant-loop-op : goal.invariant-loop-op

@@ -1,4 +1,4 @@
--- The operations of a script.
+-- The operations of a script, one after another.
 use Rattle.std.specs.Prelude.{◌≡◌, ◌⊎◌, ◌↔◌, ◌+◌, ◌^◌, ℕ, List, [], ◌∷◌, ◌++◌, Bool, true, false, nat_lt, Option, Some, None, IsSome}
 use Rattle.sgt_names.specs.Name.{Name}
 use Rattle.sgt_names.specs.Draft.{added_to, change_at, seen_at, ChangesOnly}
