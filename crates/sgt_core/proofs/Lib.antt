@@ -43,6 +43,7 @@ pub mod Bundles
 pub mod AllEdges
 pub mod Decisions
 pub mod Ruled
+pub mod Unrefused
 pub mod Awaiting
 pub mod InstallBlocks
 pub mod InstallEnds
