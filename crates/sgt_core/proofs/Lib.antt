@@ -17,6 +17,7 @@ pub mod Edges
 pub mod Reached
 pub mod Cycles
 pub mod Determined
+pub mod Alike
 pub mod Going
 pub mod Committing
 pub mod WholeCommits
