@@ -214,21 +214,29 @@ fn spelled(alloc: Global, first: &[u8], rest: &[u8]) -> Result<Option<Event>, Al
     }
 }
 
+// What is a part of a step: a gather for an install, a decision for a commit.
+fn part_of(event: Event) -> Option<Event> {
+    match event {
+        Event::Install { tx, site } => Some(Event::Gather { tx, site }),
+        Event::Commit { tx } => Some(Event::Decide { tx }),
+        _ => None,
+    }
+}
+
+// The event of a row.
 fn event_of(alloc: Global, row: &str) -> Result<Option<Event>, AllocError> {
     let bytes = row.as_bytes();
-    if let Some(rest) = bytes.strip_prefix(b"gather ") {
-        return match spelled(alloc, b"i", rest)? {
-            Some(Event::Install { tx, site }) => Ok(Some(Event::Gather { tx, site })),
-            _ => Ok(None),
-        };
+    let whole = if let Some(rest) = bytes.strip_prefix(b"gather ") {
+        spelled(alloc, b"i", rest)?
+    } else if let Some(rest) = bytes.strip_prefix(b"decide ") {
+        spelled(alloc, b"c", rest)?
+    } else {
+        return spelled(alloc, b"", bytes);
+    };
+    match whole {
+        Some(event) => Ok(part_of(event)),
+        None => Ok(None),
     }
-    if let Some(rest) = bytes.strip_prefix(b"decide ") {
-        return match spelled(alloc, b"c", rest)? {
-            Some(Event::Commit { tx }) => Ok(Some(Event::Decide { tx })),
-            _ => Ok(None),
-        };
-    }
-    spelled(alloc, b"", bytes)
 }
 
 // The events of the rows. None where a row spells none.
