@@ -32,7 +32,7 @@ use Rattle.sgt_core.specs.declared.machine.Running.{Running}
 use Rattle.sgt_core.specs.declared.machine.Open.{Open}
 use Rattle.sgt_core.specs.Core.{CoreState, items_at}
 use Rattle.sgt_core.specs.Step.{StepIs, IsOwnOpen, IsOfSite, IsAllowed}
-use Rattle.sgt_core.specs.Machine.{Parts, IsPart, IsStep, StandsFor, IsOfClose}
+use Rattle.sgt_core.specs.Machine.{Parts, IsRunning, IsPart, IsPlace, IsStep, StandsFor, IsOfClose}
 use Rattle.sgt_core.specs.private.Decided.{edges_in, MayRuleAt}
 use Rattle.sgt_core.specs.private.Withdrawing.{MayWithdrawAt}
 use Rattle.sgt_core.proofs.Entries.{read_no_end}
@@ -75,7 +75,7 @@ read_memory s tx x (Err site_fault.Ended) may t = absurd (may.active t.1)
 read_memory s tx x (Err site_fault.PledgeOpen) may t = absurd (may.free t.1)
 read_memory s tx x (Err _) may t = absurd t
 
--- ---- a pledge
+-- ---- what stands at a site
 
 -- who is active and not decided has no end in a log
 no_end : (c : CoreState) (tx t : ℕ) → IsKept c → t < length c.items → Contains c.certifier.active tx → (c.certifier.step ≡ Some tx → ⊥) → HasEnded (c.entries t) tx → ⊥
@@ -93,31 +93,6 @@ pub closed_pledge : (m : Parts) (c : CoreState) (t : ℕ) (p : Place) (part : Pa
 closed_pledge m c t p Idle none h = h.0
 closed_pledge m c t p Due none h = absurd (let e : Some h.0 ≡ None = sym h.1.open_step ∙ none in cc)
 closed_pledge m c t p Written none h = h.pledge
-
-pub may_pledge : (m : Parts) (c : CoreState) → StandsFor m c → (tx slot : ℕ) → tx ≡ suc (m.before + slot) → (c.certifier.step ≡ Some tx → ⊥) → (t : ℕ) (p : Place) (r : Running)
-    → slice_get m.places t ≡ Some p → slice_get m.table slot ≡ Some (Some r) → p.site.pledge ≡ None → MayPledge p.site tx r.draft.touched
-may_pledge m c s tx slot number free t p r here runs none =
-    let k = reached_kept c s.reached in
-    let place = s.places t p here in
-    let running = s.running slot (Some r) runs in
-    let count = site_count m c s in
-    let inside = slice_get_within m.places t p here in
-    let ts = r.draft.touched in
-    let i : ℕ = suc (m.before + slot) in
-    record {
-      known = subst (λ n. All (λ (d : Name × Change). IsHere p.site d.0) (writing_in (at_site n ts))) (sym place.number)
-          (All-from_at (λ (d : Name × Change). IsHere p.site d.0) (writing_in (at_site t ts)) (λ n d at.
-          let has = subst (λ (ds : List (Name × Change)). Contains ds d) (sym (running.changes t)) (Contains-from_at (writing_in (at_site t ts)) n d at) in
-          to_place m c t d.0 p s here (k.sound.legal.changes_known i t d has)));
-      active = λ ended. no_end c tx t k (omega (arith, count, inside)) (subst (Contains c.certifier.active) (sym number) running.active) free
-          (subst (λ (es : List Entry). HasEnded es tx) (sym place.entries) ended);
-      free = none;
-      same = subst (λ n. KeepsReads p.site.entries tx (kept_in (at_site n ts))) (sym place.number)
-          (subst (λ j. KeepsReads p.site.entries j (kept_in (at_site t ts))) (sym number)
-          (subst (λ (es : List Entry). KeepsReads es i (kept_in (at_site t ts))) place.entries (running.reads t)));
-    }
-
--- ---- a read
 
 -- a read of the item in the log
 logged_read : (es : List Entry) (tx n : ℕ) (x : Name) (e : Entry) → slice_get es n ≡ Some e → tx_of e ≡ tx → Reads x e → (v : ℕ) × LogsRead es tx x v (version_at (take n es) x)
@@ -137,28 +112,58 @@ no_pledge m c s tx closed t p Due h q =
     let same = same_Some _ _ (sym h.1.pledge ∙ q.1) in
     closed (own_open m c tx m.step s.step h.0 h.1.open_step (ap (λ (w : Pledge). w.tx) same))
 
-pub may_read : (m : Parts) (c : CoreState) → StandsFor m c → (tx slot : ℕ) → tx ≡ suc (m.before + slot) → (IsOwnOpen c tx → ⊥) → (t : ℕ) (x : Name) → IsOfSite c t x → (r : Running)
-    → slice_get m.table slot ≡ Some (Some r) → option_and_then look_of (touched_at r.draft.touched (t, x)) ≡ None → (p : Place) → slice_get m.places t ≡ Some p → MayRead p.site tx x
-may_read m c s tx slot number closed t x known r runs none p here =
-    let k = reached_kept c s.reached in
-    let place = s.places t p here in
-    let running = s.running slot (Some r) runs in
-    let count = site_count m c s in
-    let inside = slice_get_within m.places t p here in
-    let ts = r.draft.touched in
-    record {
-      known = to_place m c t x p s here known;
-      first = λ read.
-          let a = Any_at (λ (e : Entry). (tx_of e ≡ tx) × Reads x e) p.site.entries read in
-          let logged = logged_read p.site.entries tx a.0 x a.1 a.2 a.3.0 a.3.1 in
-          let there = subst (λ (es : List Entry). LogsRead es tx x logged.0 (version_at (take a.0 p.site.entries) x)) (sym place.entries) logged.1 in
-          let kept = (running.reads t x logged.0 (version_at (take a.0 p.site.entries) x)).1 (subst (λ i. LogsRead (c.entries t) i x logged.0 (version_at (take a.0 p.site.entries) x)) number there) in
-          let e : ◌≡◌ {A = Option Seen} None (Some _) = sym (not_seen ts t x none) ∙ kept_seen ts t x logged.0 _ running.rising kept in
-          absurd cc;
-      active = λ ended. no_end c tx t k (omega (arith, count, inside)) (subst (Contains c.certifier.active) (sym number) running.active) (λ mine. closed (k.together tx mine))
-          (subst (λ (es : List Entry). HasEnded es tx) (sym place.entries) ended);
-      free = no_pledge m c s tx closed t p p.part place.part;
-    }
+-- ---- a pledge, and a read
+
+module _ (m : Parts) (c : CoreState) (s : StandsFor m c) (tx slot : ℕ) (number : tx ≡ suc (m.before + slot)) (t : ℕ) (p : Place) (r : Running)
+    (here : slice_get m.places t ≡ Some p) (runs : slice_get m.table slot ≡ Some (Some r)) where
+  abbrev k : IsKept c
+  k = reached_kept c s.reached
+
+  abbrev place : IsPlace m c t p
+  place = s.places t p here
+
+  abbrev running : IsRunning c m.before slot r
+  running = s.running slot (Some r) runs
+
+  abbrev ts : List Touch
+  ts = r.draft.touched
+
+  goes_on : (c.certifier.step ≡ Some tx → ⊥) → HasEnded p.site.entries tx → ⊥
+  goes_on free ended =
+      let count = site_count m c s in
+      let inside = slice_get_within m.places t p here in
+      no_end c tx t k (omega (arith, count, inside)) (subst (Contains c.certifier.active) (sym number) running.active) free
+      (subst (λ (es : List Entry). HasEnded es tx) (sym place.entries) ended)
+
+  reads : KeepsReads p.site.entries tx (kept_in (at_site t ts))
+  reads = subst (λ j. KeepsReads p.site.entries j (kept_in (at_site t ts))) (sym number)
+      (subst (λ (es : List Entry). KeepsReads es (suc (m.before + slot)) (kept_in (at_site t ts))) place.entries (running.reads t))
+
+  changes : All (λ (d : Name × Change). IsHere p.site d.0) (writing_in (at_site t ts))
+  changes = All-from_at (λ (d : Name × Change). IsHere p.site d.0) (writing_in (at_site t ts)) (λ n d at.
+      let has = subst (λ (ds : List (Name × Change)). Contains ds d) (sym (running.changes t)) (Contains-from_at (writing_in (at_site t ts)) n d at) in
+      to_place m c t d.0 p s here (k.sound.legal.changes_known (suc (m.before + slot)) t d has))
+
+  pub may_pledge : (c.certifier.step ≡ Some tx → ⊥) → p.site.pledge ≡ None → MayPledge p.site tx r.draft.touched
+  may_pledge free none = record {
+    known = subst (λ n. All (λ (d : Name × Change). IsHere p.site d.0) (writing_in (at_site n ts))) (sym place.number) changes;
+    active = goes_on free;
+    free = none;
+    same = subst (λ n. KeepsReads p.site.entries tx (kept_in (at_site n ts))) (sym place.number) reads;
+  }
+
+  pub may_read : (IsOwnOpen c tx → ⊥) → (x : Name) → IsOfSite c t x → option_and_then look_of (touched_at ts (t, x)) ≡ None → MayRead p.site tx x
+  may_read closed x known none = record {
+    known = to_place m c t x p s here known;
+    first = λ read.
+        let a = Any_at (λ (e : Entry). (tx_of e ≡ tx) × Reads x e) p.site.entries read in
+        let logged = logged_read p.site.entries tx a.0 x a.1 a.2 a.3.0 a.3.1 in
+        let kept = (reads x logged.0 (version_at (take a.0 p.site.entries) x)).1 logged.1 in
+        let e : ◌≡◌ {A = Option Seen} None (Some _) = sym (not_seen ts t x none) ∙ kept_seen ts t x logged.0 _ running.rising kept in
+        absurd cc;
+    active = goes_on (λ mine. closed (k.together tx mine));
+    free = no_pledge m c s tx closed t p p.part place.part;
+  }
 
 -- ---- the certifier
 

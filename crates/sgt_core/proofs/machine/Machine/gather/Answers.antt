@@ -95,5 +95,5 @@ gather_at-requires-clause-may c = λ p r here runs.
     let any = (c.touches.ensures _ (ap (λ t. slice_get t c.in-Ok.slot) c.as_slice-2.ensures.value ∙ h.1.1)).0 c.if-not-touches.false in
     let may = may_gather m s.0 s.1 c.args.tx _ h no_other c.args.site p (ap (slice_get m.places) (sym same) ∙ here) fresh any in
     let undecided = gather_idle s.0 c.args.tx c.args.site (reached_kept s.0 s.1.reached) may in
-    may_pledge m s.0 s.1 c.args.tx c.in-Ok.slot h.0 (λ mine. let e : Some c.args.tx ≡ None = sym mine ∙ undecided in cc) c.number-at.result p r here runs
+    may_pledge m s.0 s.1 c.args.tx c.in-Ok.slot h.0 c.number-at.result p r here runs (λ mine. let e : Some c.args.tx ≡ None = sym mine ∙ undecided in cc)
     (idle_pledge m s.0 c.number-at.result p p.part (s.1.places _ p here).part fresh)

@@ -109,4 +109,4 @@ read_at-requires-clause-may c = λ p here.
     let h = c.in-Ok.ensures.ok in
     let at = ap (λ t. slice_get t c.in-Ok.slot) c.as_slice.ensures.value ∙ h.1.1 in
     let none = sym c.in_default.is ∙ c.look_at.ensures _ at in
-    may_read (parts_of c.args.self.now) s.0 s.1 c.args.tx c.in-Ok.slot h.0 (c.in-Ok.ensures.closed s.0 s.1) c.args.site c.args.item (c.in-Ok.ensures.known s.0 s.1) h.1.0 h.1.1 (sym none) p here
+    may_read (parts_of c.args.self.now) s.0 s.1 c.args.tx c.in-Ok.slot h.0 c.args.site p h.1.0 here h.1.1 (c.in-Ok.ensures.closed s.0 s.1) c.args.item (c.in-Ok.ensures.known s.0 s.1) (sym none)

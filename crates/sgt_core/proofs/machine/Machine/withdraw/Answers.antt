@@ -40,9 +40,8 @@ withdraw_at-requires-clause-may c = λ t p r here runs.
     let m = parts_of c.args.self.now in
     let s = c.requires in
     let none = none_of m.step (sym c.is_some.ensures ∙ c.if-is_some.false) in
-    may_pledge m s.0 s.1 c.args.tx c.in-Ok.slot c.in-Ok.ensures.ok.0
-    (λ mine. let e : Some c.args.tx ≡ None = sym mine ∙ certifier_closed m s.0 s.1 none in cc)
-    t p r here runs (closed_pledge m s.0 t p p.part none (s.1.places t p here).part)
+    may_pledge m s.0 s.1 c.args.tx c.in-Ok.slot c.in-Ok.ensures.ok.0 t p r here runs
+    (λ mine. let e : Some c.args.tx ≡ None = sym mine ∙ certifier_closed m s.0 s.1 none in cc) (closed_pledge m s.0 t p p.part none (s.1.places t p here).part)
 
 pub withdraw_at-requires-clause-allowed : goal.withdraw_at-requires-clause-allowed
 withdraw_at-requires-clause-allowed c =
