@@ -72,3 +72,10 @@ item_inside m c stands s x known = below_all (length m.places) s (λ le. of_none
   where
     below_all : (n t : ℕ) → (n ≤ t → ⊥) → t < n
     below_all n t out = omega (arith, out)
+
+-- what was found at a place of the table where a transaction is active
+pub found_there : (table : List (Option Running)) (slot : ℕ) (e : Option Running) (q : Running) → slice_get table slot ≡ Some (Some q) → e ≡ get_or table slot e → slice_get table slot ≡ Some e
+found_there table slot e q at is = slice_get_read table (length table) slot e refl (slice_get_within table slot (Some q) at) is
+
+pub someone_there : (table : List (Option Running)) (slot : ℕ) (e : Option Running) (q : Running) → slice_get table slot ≡ Some (Some q) → e ≡ get_or table slot e → e ≡ None → ⊥
+someone_there table slot e q at is none = let f : ◌≡◌ {A = Option (Option Running)} (Some (Some q)) (Some None) = sym at ∙ (found_there table slot e q at is ∙ ap Some none) in cc

@@ -59,7 +59,7 @@ inserted xs ys r a c = elim (Contains-append_cases xs ys a c) [
 -- ---- a read
 
 -- a free transaction has only reads in the log
-free_reads : (items : List Holding) (s : State) (log : List Entry) (t : ℕ) → IsLegalLog items s log → IsRuled s → IsFree s t → (e : Entry) → Contains log e → tx_of e ≡ t → IsRead e
+pub free_reads : (items : List Holding) (s : State) (log : List Entry) (t : ℕ) → IsLegalLog items s log → IsRuled s → IsFree s t → (e : Entry) → Contains log e → tx_of e ≡ t → IsRead e
 free_reads items s log t h ruled_ free e c own = elim (h.stands e c) [
   | inl read ↦ read.0
   | inr done ↦

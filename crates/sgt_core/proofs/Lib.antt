@@ -17,6 +17,7 @@ pub mod Edges
 pub mod Reached
 pub mod Cycles
 pub mod Determined
+pub mod Alike
 pub mod Going
 pub mod Committing
 pub mod WholeCommits
@@ -43,6 +44,7 @@ pub mod Bundles
 pub mod AllEdges
 pub mod Decisions
 pub mod Ruled
+pub mod Unrefused
 pub mod Awaiting
 pub mod InstallBlocks
 pub mod InstallEnds

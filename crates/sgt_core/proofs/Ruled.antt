@@ -77,7 +77,7 @@ module _ (m : Parts) (c : CoreState) (s : StandsFor m c) (tx slot : ℕ) (number
   gathered_by o own Committed h = absurd (let f : Some o.tx ≡ None = sym h.0 ∙ undecided in cc)
   gathered_by o own Refused h = absurd (let f : Some o.tx ≡ None = sym h.0 ∙ undecided in cc)
 
-  gathered_in_step : (o : Option Open) → IsStep m c o → AreGathered m.certifier.state c tx (edges_in o)
+  pub gathered_in_step : (o : Option Open) → IsStep m c o → AreGathered m.certifier.state c tx (edges_in o)
   gathered_in_step None h =
       none_gathered m.certifier.state c tx slot (number ∙ ap (λ b. suc (b + slot)) (sym s.before ∙ ap (λ (st : State). st.before) s.certifier.same)) (ap gathered_in h.0)
   gathered_in_step (Some o) h = gathered_by o (step_own m c tx no_other (Some o) h o refl) o.phase h.2

@@ -4,6 +4,7 @@ use Rattle.std.specs.Prelude.{slice_get, slice_set, true}
 use Rattle.std.proofs.lemmas.Bool.{cases_eq}
 use Rattle.std.proofs.lemmas.Option.{same_Some, slice_get_within}
 use Rattle.sgt_names.specs.Draft.{at_site, Touches}
+use Rattle.sgt_names.specs.declared.draft.Touch.{Touch}
 use Rattle.sgt_names.specs.declared.entry.Entry.{Entry}
 use Rattle.sgt_names.specs.Entry.{tx_of}
 use Rattle.sgt_names.proofs.Lists.{within_at}
@@ -33,6 +34,39 @@ use Rattle.sgt_core.proofs.Kept.{IsKept}
 use Rattle.sgt_core.proofs.Runs.{gather_idle}
 use Rattle.sgt_core.proofs.Standing.{reached_more, reached_kept}
 use Rattle.sgt_core.proofs.Leading.{gathered_more, none_gathered}
+
+-- what is left of a site, whether or not the pledge stood
+pub record IsLeft (tx : ℕ) (old new : Place) : Type 0 where
+  pub site : new.site ≡ record old.site { pledge = new.site.pledge }
+  pub pledge : (new.site.pledge ≡ None) ⊎ ((new.site.pledge ≡ old.site.pledge) × (IsPledged old.site tx → ⊥))
+  pub part : new.part ≡ Idle
+
+pledged_cases : (tx : ℕ) (o : Option Pledge) → ((part : List Touch) × (o ≡ Some (record { tx = tx; part = part }))) ⊎ (((part : List Touch) × (o ≡ Some (record { tx = tx; part = part }))) → ⊥)
+pledged_cases tx None = inr (λ h. let e : ◌≡◌ {A = Option Pledge} None (Some (record { tx = tx; part = h.0 })) = h.1 in cc)
+pledged_cases tx (Some p) = elim (cases_eq p.tx tx) [
+  | inl own ↦ inl (p.part, ap (λ i. Some (record { tx = i; part = p.part })) own)
+  | inr other ↦ inr (λ h. other (ap (λ (q : Pledge). q.tx) (same_Some p (record { tx = tx; part = h.0 }) h.1)))
+]
+
+pub left_of : (tx : ℕ) (old new : Place) → IsReleased tx old new → IsLeft tx old new
+left_of tx old new r = elim (pledged_cases tx old.site.pledge) [
+  | inl own ↦
+      let is = r.pledged own in
+      let none : new.site.pledge ≡ None = ap (λ (p : Place). p.site.pledge) is in
+      record {
+        site = ap (λ (p : Place). p.site) is ∙ ap (λ (g : Option Pledge). record old.site { pledge = g }) (sym none);
+        pledge = inl none;
+        part = ap (λ (p : Place). p.part) is;
+      }
+  | inr other ↦
+      let is = r.other other in
+      let same : new.site.pledge ≡ old.site.pledge = ap (λ (p : Place). p.site.pledge) is in
+      record {
+        site = ap (λ (p : Place). p.site) is ∙ ap (λ (g : Option Pledge). record old.site { pledge = g }) (sym same);
+        pledge = inr (same, other);
+        part = ap (λ (p : Place). p.part) is;
+      }
+]
 
 -- nothing is due while no step is decided
 pub nothing_due : (c : CoreState) → IsKept c → c.certifier.step ≡ None → (t : ℕ) → c.due t ≡ []
@@ -74,7 +108,7 @@ module _ (m : Parts) (c : CoreState) (s : StandsFor m c) (tx : ℕ) (no_other : 
   abbrev closed_state : CoreState
   closed_state = record c { step = None }
 
-  no_pledge : (t : ℕ) (p q : Place) → IsReleased tx p q → (part : Part) → IsPart m c t p part → q.site.pledge ≡ None
+  no_pledge : (t : ℕ) (p q : Place) → IsLeft tx p q → (part : Part) → IsPart m c t p part → q.site.pledge ≡ None
   no_pledge t p q r part is = elim r.pledge [
     | inl none ↦ none
     | inr kept ↦ by_part part is kept.0 kept.1
@@ -93,7 +127,7 @@ module _ (m : Parts) (c : CoreState) (s : StandsFor m c) (tx : ℕ) (no_other : 
       let long = h.long in
       let found = within_at m.places t (omega (arith, lt, long)) in
       let p = found.0 in
-      let r = h.each t p q found.1 at in
+      let r = left_of tx p q (h.each t p q found.1 at) in
       let old = s.places t p found.1 in
       record {
         number = ap (λ (st : SiteState). st.number) r.site ∙ old.number;
@@ -103,7 +137,7 @@ module _ (m : Parts) (c : CoreState) (s : StandsFor m c) (tx : ℕ) (no_other : 
       }
 
   same_items : map (λ (p : Place). p.site.items) places ≡ map (λ (p : Place). p.site.items) m.places
-  same_items = each_item places m.places h.long (λ t p q at_p at_q. ap (λ (st : SiteState). st.items) (h.each t p q at_p at_q).site)
+  same_items = each_item places m.places h.long (λ t p q at_p at_q. ap (λ (st : SiteState). st.items) (left_of tx p q (h.each t p q at_p at_q)).site)
     where
       each_item : (ps qs : List Place) → length ps ≡ length qs → ((t : ℕ) (p q : Place) → slice_get qs t ≡ Some p → slice_get ps t ≡ Some q → q.site.items ≡ p.site.items)
           → map (λ (p : Place). p.site.items) ps ≡ map (λ (p : Place). p.site.items) qs

@@ -1,5 +1,5 @@
 -- Each event has an answer, and so each list of events a run.
-use Rattle.std.proofs.Common.{List, [], ◌∷◌, refl, inl, inr}
+use Rattle.std.proofs.Common.{ℕ, List, [], ◌∷◌, refl, inl, inr}
 use Rattle.sgt_names.specs.declared.entry.Holding.{Holding}
 use Rattle.sgt_notation.specs.declared.event.Event.{Event}
 use Rattle.sgt_notation.specs.declared.event.Event.TheVariants.{Begin, Read, Put, Add, Gather, Decide, Install, Commit, Withdraw, Close}
@@ -7,8 +7,8 @@ use Rattle.sgt_core.specs.declared.reply.Reply.{Reply}
 use Rattle.sgt_core.specs.declared.reply.Reply.TheVariants.{Fault}
 use Rattle.sgt_core.specs.declared.reply.CoreFault.{CoreFault}
 use Rattle.sgt_core.specs.declared.reply.CoreFault.TheVariants as fault
-use Rattle.sgt_core.specs.Core.{CoreState, fresh}
-use Rattle.sgt_core.specs.Step.{IsRefused, IsAllowed, Serves, MayStep, Run}
+use Rattle.sgt_core.specs.Core.{CoreState, fresh, touched}
+use Rattle.sgt_core.specs.Step.{IsRefused, IsAllowed, Serves, ServesAll, parts_of_decision, replies_of_decision, MayDecide, MayStep, Run}
 use Rattle.sgt_core.specs.Runs.{IsAnswer}
 use Rattle.sgt_core.proofs.Kept.{IsKept}
 use Rattle.sgt_core.proofs.Runs.{may_step-kept, fresh-kept}
@@ -70,3 +70,21 @@ plays c (event ∷ events) k =
 -- from sites where nothing has happened
 unfoldable pub played : (items : List (List Holding)) (events : List Event) → (replies : List Reply) × (new : CoreState) × Run (fresh items) events replies new
 played items events = plays (fresh items) events (fresh-kept items)
+
+-- ---- a decision as a whole
+
+decides_run : (c : CoreState) (tx : ℕ) (sites : List ℕ) (reply : Reply) (d : CoreState) → ServesAll c (parts_of_decision sites tx) (replies_of_decision sites reply) d
+    → Run c (parts_of_decision sites tx) (replies_of_decision sites reply) d
+decides_run c tx [] reply d a = (a.0, part-may c (Decide tx) reply a.0 tt a.1, a.2)
+decides_run c tx (s ∷ ss) reply d a = (a.0, a.1, decides_run a.0 tx ss reply d a.2)
+
+-- it is a run of its gathers and its decision, or refused as a commit is
+pub decision-run : (c : CoreState) (tx : ℕ) (reply : Reply) (d : CoreState) → MayDecide c tx reply d → IsAnswer reply
+    → Run c (parts_of_decision (touched c tx) tx) (replies_of_decision (touched c tx) reply) d
+decision-run c tx (Fault f) d h answer = absurd answer
+decision-run c tx reply d h answer = decides_run c tx (touched c tx) reply d h.1
+
+pub decision-refused : (c : CoreState) (tx : ℕ) (reply : Reply) (d : CoreState) → MayDecide c tx reply d → (IsAnswer reply → ⊥) → MayStep c (Commit tx) reply d
+decision-refused c tx (Fault fault.Memory) d h out = h
+decision-refused c tx (Fault f) d h out = h
+decision-refused c tx reply d h out = absurd (out tt)

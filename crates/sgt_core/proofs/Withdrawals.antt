@@ -31,6 +31,7 @@ use Rattle.sgt_core.specs.Gathered.{IsReleased, AreReleased}
 use Rattle.sgt_core.specs.private.Withdrawing.{IsOffered, AreOffered, IsPledgedBy, IsWithdrawn, WithdrawsAt}
 use Rattle.sgt_core.proofs.Standing.{reached_more, reached_kept, core_closed, certifier_closed}
 use Rattle.sgt_core.proofs.Redrafting.{slot_begun, slot_active}
+use Rattle.sgt_core.proofs.Stepping.{left_of}
 use Rattle.sgt_core.proofs.Touching.{touches_draft, draft_touches, withdraw_allowed}
 use Rattle.sgt_core.proofs.Opening.{same_lists}
 
@@ -109,7 +110,8 @@ module _ (m : Parts) (c : CoreState) (s : StandsFor m c) (none : m.step ≡ None
 
   module _ (tx : ℕ) (mid places : List Place) (offered : AreOffered tx m.places mid) (released : AreReleased tx mid places) where
     given_back : (t : ℕ) (p q r : Place) → slice_get m.places t ≡ Some p → IsOffered tx p q → IsReleased tx q r → r ≡ p
-    given_back t p q r at offer release =
+    given_back t p q r at offer released =
+        let release = left_of tx q r released in
         let idle = idle_there t p p.part (s.places t p at).part in
         let gone : r.site.pledge ≡ None = elim release.pledge [
           | inl out ↦ out

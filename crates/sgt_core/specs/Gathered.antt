@@ -1,5 +1,5 @@
 -- A transaction is gathered at a site: what changes in the sites, and in the open step.
-use Rattle.std.specs.Prelude.{◌≡◌, ◌⊎◌, ℕ, List, ◌++◌, All, Option, Some, None, slice_get, slice_set, length}
+use Rattle.std.specs.Prelude.{◌≡◌, ℕ, List, ◌++◌, All, Option, Some, None, slice_get, slice_set, length}
 use Rattle.sgt_names.specs.Draft.{at_site}
 use Rattle.sgt_names.specs.declared.draft.Touch.{Touch}
 use Rattle.sgt_site.specs.State.{IsSite, IsPledged}
@@ -24,6 +24,11 @@ pub record AreGiven (places : List Place) (table : List (Option Running)) (site 
   pub given : All (IsGiven place.site running.draft.touched running.handle) edges
   pub stand : StandsForAll place.site running.draft.touched running.handle edges
 
+-- the site refuses no pledge of the transaction at this place of the table
+abbrev pub MayPledgeAt : List Place → List (Option Running) → (site slot tx : ℕ) → Type 0
+MayPledgeAt places table site slot tx = (p : Place) (r : Running) → slice_get places site ≡ Some p → slice_get table slot ≡ Some (Some r)
+    → MayPledge p.site tx r.draft.touched
+
 -- the transaction at this place of the table is pledged at the site, and nothing else changes
 pub record PledgesAt (old new : List Place) (table : List (Option Running)) (site slot tx : ℕ) : Type 0 where
   pub place : Place
@@ -45,11 +50,10 @@ abbrev pub step_with : Option Open → ℕ → List Edge → Option Open
 step_with None tx more = Some (record { tx = tx; phase = Gathering more })
 step_with (Some o) tx more = Some (record { tx = o.tx; phase = phase_with o.phase more })
 
--- the site without a pledge of the transaction, and with no part of a step
+-- the site without the pledge of the transaction, and with no part of a step. A pledge of another stays
 pub record IsReleased (tx : ℕ) (old new : Place) : Type 0 where
-  pub site : new.site ≡ record old.site { pledge = new.site.pledge }
-  pub pledge : (new.site.pledge ≡ None) ⊎ ((new.site.pledge ≡ old.site.pledge) × (IsPledged old.site tx → ⊥))
-  pub part : new.part ≡ Idle
+  pub pledged : IsPledged old.site tx → new ≡ record { site = record old.site { pledge = None }; part = Idle }
+  pub other : (IsPledged old.site tx → ⊥) → new ≡ record old { part = Idle }
 
 pub record AreReleased (tx : ℕ) (old new : List Place) : Type 0 where
   pub long : length new ≡ length old

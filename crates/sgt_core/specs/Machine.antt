@@ -181,7 +181,14 @@ GoesOn P old new = (c : CoreState) → StandsFor old c → (d : CoreState) × P 
 abbrev pub IsSlotOf : Parts → ℕ → ℕ → Type 0
 IsSlotOf m tx slot = (tx ≡ suc (m.before + slot)) × ((r : Running) × (slice_get m.table slot ≡ Some (Some r)))
 
--- how the core tells that the certifier doesn't close the window, while no step is open
+-- the certifier may tell this of a window that isn't closed, while no step is open
+abbrev pub IsOfClose : CertifierFault → Type 0
+IsOfClose (certifier_fault.ActiveLeft n) = Unit {0}
+IsOfClose certifier_fault.GenerationsSpent = Unit {0}
+IsOfClose certifier_fault.Memory = Unit {0}
+IsOfClose _ = ⊥
+
+-- how the core tells it
 abbrev pub close_fault : CertifierFault → CoreFault
 close_fault (certifier_fault.ActiveLeft n) = core_fault.ActiveLeft
 close_fault certifier_fault.GenerationsSpent = core_fault.GenerationsSpent

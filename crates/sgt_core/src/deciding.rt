@@ -1,11 +1,11 @@
 //! A gathered transaction is decided.
 
-ghost use Rattle.std.specs.Prelude.{◌≡◌, ◌↔◌, ◌<◌, Some, Any, length, slice_get, IsTrue, IfOk, OnErr};
+ghost use Rattle.std.specs.Prelude.{◌≡◌, ◌↔◌, ◌<◌, Some, Any, length, slice_get, IsTrue, IfOk, IfErr, OnErr};
 ghost use Rattle.sgt_notation.specs.declared.event.Event.TheVariants as event;
 ghost use Rattle.sgt_core.specs.Core.{CoreState};
 ghost use Rattle.sgt_core.specs.Step.{IsAllowed, MayStep};
 ghost use Rattle.sgt_core.specs.Machine.{parts_of, StandsFor, Stands, GoesOn, IsSlotOf};
-ghost use Rattle.sgt_core.specs.private.Decided.{edges_in, IsRuled, phase_after, reply_after, RulesAt, EndsAt};
+ghost use Rattle.sgt_core.specs.private.Decided.{edges_in, IsRuled, MayRuleAt, phase_after, reply_after, RulesAt, EndsAt};
 ghost use Rattle.sgt_core.specs.declared.machine.Part.TheVariants.{Due};
 ghost use Rattle.sgt_core.specs.declared.machine.Running.{Running as ARunning};
 
@@ -59,10 +59,11 @@ impl Machine {
                 }
                 reply_of(&decided)
             }
-            Err(_) => {
+            Err(CertifierFault::Memory) => {
                 self.give_up(tx);
                 refused(CoreFault::Memory)
             }
+            Err(_) => unreachable!(),
         }
     }
 
@@ -106,20 +107,24 @@ fn edges_of(alloc: Global, step: Option<Open>) -> EdgeList
     }
 }
 
-// Decides the transaction at a place of the table, with room for its installs.
+// Decides the transaction at a place of the table, with room for its installs. It errs for want of memory alone.
 fn rule(
     certifier: &mut Certifier,
     table: &[Option<Running>],
     slot: usize,
     edges: EdgeList,
 ) -> Result<Decided, CertifierFault>
-    requires { (r : ARunning) × (slice_get table.now slot ≡ Some (Some r)) }
+    requires slot { (r : ARunning) × (slice_get table.now slot ≡ Some (Some r)) }
+    requires may { MayRuleAt certifier.old.state table.now slot edges }
     ensures ok { IfOk result (λ decided. RulesAt certifier.old certifier.new table.now slot edges decided) }
     ensures err { OnErr result (certifier.new.state ≡ certifier.old.state) }
+    ensures memory { IfErr result (λ f. f ≡ CertifierFault.Memory) }
 {
     match &table[slot] {
         Some(running) => {
-            certifier.expect(running.handle, &running.draft)?;
+            if let Err(fault) = certifier.expect(running.handle, &running.draft) {
+                return Err(fault);
+            }
             let _history = certifier.history();
             certifier.decide(running.handle, edges)
         }

@@ -2,7 +2,7 @@
 
 ghost use Rattle.std.specs.Prelude.{◌≡◌, ◌≢◌, ◌↔◌, ◌++◌, ◌<◌, Some, Any, length, slice_get, IsTrue, IfOk, IfErr, OnOk, OnErr};
 ghost use Rattle.sgt_edges.specs.Edges.{SeesTooNew};
-ghost use Rattle.sgt_core.specs.Gathered.{AreGiven, PledgesAt, step_with, IsReleased, AreReleased, IsMissedAt};
+ghost use Rattle.sgt_core.specs.Gathered.{AreGiven, MayPledgeAt, PledgesAt, step_with, IsReleased, AreReleased, IsMissedAt};
 ghost use Rattle.sgt_core.specs.declared.machine.Place.{Place as APlace};
 ghost use Rattle.sgt_core.specs.declared.machine.Part.TheVariants.{Idle};
 ghost use Rattle.sgt_core.specs.declared.machine.Running.{Running as ARunning};
@@ -13,7 +13,7 @@ use sgt_names::{Touch, Tx};
 use sgt_site::SiteFault;
 use std::alloc::{AllocError, Global};
 
-// The edges of the transaction at a place of the table, at a site.
+// The edges of the transaction at a place of the table, at a site. It errs for want of memory alone.
 pub(crate) fn edges_at(
     alloc: Global,
     places: &[Place],
@@ -36,7 +36,7 @@ pub(crate) fn edges_at(
     }
 }
 
-// Pledges the transaction at a place of the table at a site.
+// Pledges the transaction at a place of the table at a site. It errs for want of memory alone.
 pub(crate) fn pledge_at(
     places: &mut Vec<Place>,
     table: &[Option<Running>],
@@ -46,8 +46,10 @@ pub(crate) fn pledge_at(
 ) -> Result<(), SiteFault>
     requires site { at < length places.old.items }
     requires slot { (r : ARunning) × (slice_get table.now slot ≡ Some (Some r)) }
+    requires may { MayPledgeAt places.old.items table.now at slot tx }
     ensures ok { OnOk result (PledgesAt places.old.items places.new.items table.now at slot tx) }
     ensures err { OnErr result (places.new.items ≡ places.old.items) }
+    ensures memory { IfErr result (λ f. f ≡ SiteFault.Memory) }
 {
     let place = &mut places[at];
     match &table[slot] {

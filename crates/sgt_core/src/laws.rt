@@ -9,9 +9,10 @@ ghost use Rattle.sgt_cert.specs.Valid.{IsValid};
 ghost use Rattle.sgt_order.specs.Graph.{IsAcyclic, IsTopological};
 ghost use Rattle.sgt_certifier.specs.Certifier.{Joins, serial};
 ghost use Rattle.sgt_certifier.specs.History.{changes_item};
-ghost use Rattle.sgt_core.specs.Core.{CoreState, fresh, bundle_of};
-ghost use Rattle.sgt_core.specs.Step.{IsRefused, IsAllowed, MayStep, Run};
-ghost use Rattle.sgt_core.specs.Runs.{AreSites, IsLoggedConflict, IsAnswer, IsMemory};
+ghost use Rattle.sgt_core.specs.Core.{CoreState, fresh, touched, bundle_of};
+ghost use Rattle.sgt_core.specs.Step.{IsRefused, IsAllowed, MayStep, MayDecide, Run, parts_of_decision, replies_of_decision};
+ghost use Rattle.sgt_core.specs.Runs.{AreSites, AreAlike, IsLoggedConflict, IsAnswer, IsMemory};
+ghost use Rattle.sgt_notation.specs.declared.event.Event.TheVariants.{Commit as ACommit};
 ghost use Rattle.sgt_notation.specs.declared.event.Event.{Event};
 ghost use Rattle.sgt_core.specs.declared.reply.Reply.{Reply};
 ghost use Rattle.sgt_core.specs.declared.reply.CoreFault.{CoreFault};
@@ -56,4 +57,20 @@ pub fn runs_go_on()
 pub fn replies_are_determined()
     ensures { (c : CoreState) (event : Event) (r q : Reply) (new other : CoreState) → MayStep c event r new → MayStep c event q other
         → (IsMemory r → ⊥) → (IsMemory q → ⊥) → r ≡ q }
+{}
+
+/// Two runs of the same events with the same replies, want of memory included, leave the same state, but for the order of the edges and
+/// the walks that refusals show: the same logs, private changes, orders and ranks.
+pub fn states_are_determined()
+    ensures { (items : List (List Holding)) (events : List Event) (replies : List Reply) (c d : CoreState)
+        → Run (fresh items) events replies c → Run (fresh items) events replies d → AreAlike c d }
+{}
+
+/// A transaction that is gathered wherever it touches and decided is so by a run of these gathers and this decision; and where that is
+/// refused, as its commit is.
+pub fn decisions_are_runs()
+    ensures decided { (c : CoreState) (tx : ℕ) (reply : Reply) (d : CoreState) → MayDecide c tx reply d → IsAnswer reply
+        → Run c (parts_of_decision (touched c tx) tx) (replies_of_decision (touched c tx) reply) d }
+    ensures refused { (c : CoreState) (tx : ℕ) (reply : Reply) (d : CoreState) → MayDecide c tx reply d → (IsAnswer reply → ⊥)
+        → MayStep c (ACommit tx) reply d }
 {}

@@ -14,8 +14,8 @@ mod withdrawing;
 
 pub use driver::Core;
 pub use laws::{
-    installs_are_versions, refusals_are_determined, replies_are_determined, runs_are_serializable,
-    runs_go_on,
+    decisions_are_runs, installs_are_versions, refusals_are_determined, replies_are_determined,
+    runs_are_serializable, runs_go_on, states_are_determined,
 };
 pub use reply::{CoreFault, Reply};
 pub use sgt_notation::Event;

@@ -7,14 +7,15 @@ ghost use Rattle.sgt_notation.specs.declared.event.Event.{Event as AnEvent};
 ghost use Rattle.sgt_notation.specs.declared.event.Event.TheVariants as event;
 ghost use Rattle.sgt_names.specs.Limits.{max_sites};
 ghost use Rattle.sgt_site.specs.State.{AreItems, opened};
+ghost use Rattle.sgt_site.specs.Refused.{MayRead};
 ghost use Rattle.sgt_site.specs.declared.fault.SiteFault.TheVariants.{BadItems};
 ghost use Rattle.sgt_core.specs.declared.machine.Part.TheVariants.{Idle};
 ghost use Rattle.sgt_core.specs.declared.machine.Place.{Place as APlace};
 ghost use Rattle.sgt_core.specs.Core.{CoreState, fresh};
 ghost use Rattle.sgt_edges.specs.Edges.{SeesTooNew};
-ghost use Rattle.sgt_core.specs.Gathered.{GathersAt, AreReleased};
+ghost use Rattle.sgt_core.specs.Gathered.{GathersAt, MayPledgeAt, AreReleased};
 ghost use Rattle.sgt_core.specs.Step.{IsOwnOpen, IsOtherOpen, IsOfSite, tx_in, IsRefused, MayStep};
-ghost use Rattle.sgt_core.specs.Machine.{parts_of, StandsFor, Stands, GoesOn, IsSlotOf, RefusesItem, RefusesSites, AreOpened, Redrafts, ChangesTo, ReadsTo, ReadsAt, HasRoomAt, close_fault};
+ghost use Rattle.sgt_core.specs.Machine.{parts_of, StandsFor, Stands, GoesOn, IsSlotOf, RefusesItem, RefusesSites, AreOpened, Redrafts, ChangesTo, ReadsTo, ReadsAt, HasRoomAt, IsOfClose, close_fault};
 ghost use Rattle.sgt_core.specs.declared.machine.Running.{Running as ARunning};
 
 use crate::gathering::{add_edges, edges_at, is_gathered, pledge_at, release_all};
@@ -226,8 +227,12 @@ impl Machine {
         if self.running.reserve(1).is_err() {
             return refused(CoreFault::Memory);
         }
-        let Ok(begun) = self.certifier.begin() else {
-            return refused(CoreFault::Memory);
+        let begun = match self.certifier.begin() {
+            Ok(begun) => begun,
+            Err(fault) => match fault {
+                CertifierFault::Memory => return refused(CoreFault::Memory),
+                _ => unreachable!(),
+            },
         };
         let draft = Draft::new(self.alloc);
         let handle = begun.1;
@@ -267,27 +272,27 @@ impl Machine {
         }
     }
 
-    // Gathers a transaction at a site that it touches and where it isn't gathered.
-    fn gather_at(&mut self, tx: Tx, slot: usize, at: usize) -> Result<(), CoreFault>
+    // Gathers a transaction at a site that it touches and where it isn't gathered. It errs for want of memory alone.
+    fn gather_at(&mut self, tx: Tx, slot: usize, at: usize) -> Result<(), AllocError>
         requires site { at < length self.old.places.items }
         requires slot { (r : ARunning) × (slice_get self.old.running.items slot ≡ Some (Some r)) }
         requires seen { (p : APlace) (r : ARunning) → slice_get self.old.places.items at ≡ Some p
             → slice_get self.old.running.items slot ≡ Some (Some r) → SeesTooNew p.site r.draft.touched → ⊥ }
+        requires may { MayPledgeAt self.old.places.items self.old.running.items at slot tx }
         ensures ok { OnOk result (GathersAt (parts_of self.old) (parts_of self.new) tx slot at) }
         ensures err { OnErr result (parts_of self.new ≡ record (parts_of self.old) { step = self.new.step }) }
     {
         let table = self.running.as_slice();
         let more = match edges_at(self.alloc, self.places.as_slice(), table, at, slot) {
             Ok(more) => more,
-            Err(EdgeFault::Memory) => return Err(CoreFault::Memory),
+            Err(EdgeFault::Memory) => return Err(AllocError),
             Err(EdgeFault::SeenTooNew) => unreachable!(),
         };
-        if add_edges(&mut self.step, tx, more).is_err() {
-            return Err(CoreFault::Memory);
-        }
+        add_edges(&mut self.step, tx, more)?;
         match pledge_at(&mut self.places, table, at, slot, tx) {
             Ok(()) => Ok(()),
-            Err(_) => Err(CoreFault::Memory),
+            Err(SiteFault::Memory) => Err(AllocError),
+            Err(_) => unreachable!(),
         }
     }
 
@@ -315,13 +320,15 @@ impl Machine {
         if room_at(&mut self.running, slot).is_err() {
             return refused(CoreFault::Memory);
         }
-        let Ok(seen) = read_at(&mut self.places, tx, site, item) else {
-            return refused(CoreFault::Memory);
+        let seen = match read_at(&mut self.places, tx, site, item) {
+            Ok(seen) => seen,
+            Err(SiteFault::Memory) => return refused(CoreFault::Memory),
+            Err(_) => unreachable!(),
         };
         keep_at(&mut self.running, slot, site, item, seen);
         match look_at(self.running.as_slice(), slot, site, item) {
             Some(value) => Reply::Value { value },
-            None => refused(CoreFault::Memory),
+            None => unreachable!(),
         }
     }
 
@@ -352,12 +359,14 @@ pub(crate) fn refused(fault: CoreFault) -> Reply
 
 // How the core tells that the certifier doesn't close the window, while no step is open.
 fn fault_of_close(fault: CertifierFault) -> CoreFault
+    requires { IsOfClose fault }
     ensures { result ≡ close_fault fault }
 {
     match fault {
         CertifierFault::ActiveLeft(_) => CoreFault::ActiveLeft,
         CertifierFault::GenerationsSpent => CoreFault::GenerationsSpent,
-        _ => CoreFault::Memory,
+        CertifierFault::Memory => CoreFault::Memory,
+        _ => unreachable!(),
     }
 }
 
@@ -429,11 +438,13 @@ fn room_at(table: &mut Vec<Option<Running>>, slot: usize) -> Result<(), AllocErr
     }
 }
 
-// Reads an item at its site.
+// Reads an item at its site. It errs for want of memory alone.
 fn read_at(places: &mut Vec<Place>, tx: Tx, site: SiteNo, item: Item) -> Result<Seen, SiteFault>
-    requires { site < length places.old.items }
+    requires site { site < length places.old.items }
+    requires may { (p : APlace) → slice_get places.old.items site ≡ Some p → MayRead p.site tx item }
     ensures ok { IfOk result (λ seen. ReadsAt places.old.items places.new.items tx site item seen) }
     ensures err { OnErr result (places.new.items ≡ places.old.items) }
+    ensures memory { IfErr result (λ f. f ≡ SiteFault.Memory) }
 {
     let place = &mut places[site.number() as usize];
     place.site.read(tx, item)

@@ -75,8 +75,8 @@ impl Machine {
         }
     }
 
-    // Gathers the transaction at each of its sites. It errs where there is no memory, and the step is closed then.
-    fn gather_all(&mut self, tx: Tx, sites: &[SiteNo]) -> Result<(), CoreFault>
+    // Gathers the transaction at each of its sites. It errs for want of memory alone, and the step is closed then.
+    fn gather_all(&mut self, tx: Tx, sites: &[SiteNo]) -> Result<(), AllocError>
         requires stands { Stands (parts_of self.old) }
         requires whole { (c : CoreState) → StandsFor (parts_of self.old) c → IsWhole c tx sites.now }
         ensures ok { OnOk result (GoesOn (λ c d. GathersAll c tx sites.now d) (parts_of self.old) (parts_of self.new)) }
@@ -85,7 +85,7 @@ impl Machine {
         for site in sites {
             match self.gather(tx, *site) {
                 Reply::Gathered => {}
-                _ => return Err(CoreFault::Memory),
+                _ => return Err(AllocError),
             }
         }
         Ok(())

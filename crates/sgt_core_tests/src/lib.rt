@@ -7,3 +7,5 @@ mod model;
 mod random_runs;
 #[cfg(test)]
 mod tests;
+#[cfg(test)]
+mod told;

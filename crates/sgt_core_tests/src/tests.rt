@@ -134,5 +134,16 @@ fn full_window(rt: HostRuntime) -> Result<(), Fail> {
     let mut core = Core::new(alloc, sites.as_slice())?;
     assert!(rt; fills(&mut core, 4096));
     assert_eq!(rt; core.active(), 4096);
+    // In a step the smaller fault is told, and behind it the greater again.
+    let (tx, site) = (Tx::new(4096)?, SiteNo::new(0)?);
+    let rows = [
+        (put(tx, site, Item::new(b"x")?), Reply::Kept),
+        (Event::Gather { tx, site }, Reply::Gathered),
+        (Event::Begin, fault(CoreFault::StepOpen)),
+        (Event::Decide { tx }, Reply::Yes),
+        (install(tx, site), Reply::Installed),
+        (Event::Begin, fault(CoreFault::WindowFull)),
+    ];
+    assert!(rt; answers(&mut core, &rows));
     Ok(())
 }

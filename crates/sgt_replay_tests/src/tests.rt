@@ -1,9 +1,9 @@
 //! Expected values are those of the format of a replay.
 
-ghost use Rattle.std.specs.Prelude.{◌<◌};
+ghost use Rattle.std.specs.Prelude.{◌<◌, None};
 
 use sgt_core::{CoreFault, Reply};
-use sgt_names::{EngineFail, Item, MemSink, MemSource, Outcome, SiteNo, Tx};
+use sgt_names::{EngineFail, Failed, Item, MemSink, MemSource, Outcome, SiteNo, Source, Tx};
 use sgt_notation::{Event, EventLine, NotationFault};
 use sgt_replay::{Reading, number_of, read_input, replay, write_reply};
 use std::alloc::{AllocError, Global};
@@ -110,6 +110,59 @@ fn reads_that_fail(rt: HostRuntime) -> Result<(), Fail> {
     // Behind the line that can't be read no read is made.
     let failed = fails_at(rt.alloc(), input, 10)?;
     assert!(rt; !failed);
+    Ok(())
+}
+
+/// A reader that counts how often it is read.
+#[derive(Drop)]
+struct Counted<'a> {
+    source: MemSource<'a>,
+    reads: u64,
+}
+
+impl Source for Counted<'_> {
+    ghost tells = { λ s. None };
+
+    ghost failures = { λ s. s.source.failures };
+
+    fn read(&mut self, buffer: &mut [u8]) -> Result<usize, Failed> {
+        self.reads = self.reads.saturating_add(1);
+        self.source.read(buffer)
+    }
+}
+
+/// How often the input is read by a reader of one byte a read that fails at this read and at each behind it.
+fn reads_of(alloc: Global, input: &str, fails_at: u64) -> Result<u64, Fail> {
+    let source = MemSource::new(input.as_bytes(), 1, Some(fails_at));
+    let mut counted = Counted { source, reads: 0 };
+    match read_input(alloc, &mut counted) {
+        Ok(_) | Err(EngineFail::ReadFault) => Ok(counted.reads),
+        Err(fault) => Err(fault.into()),
+    }
+}
+
+#[test]
+fn reads_behind_a_failure(rt: HostRuntime) -> Result<(), Fail> {
+    // The first two lines have nine bytes. The one at the end of the input is read too.
+    for (fails_at, reads) in [(1, 1), (5, 5), (9, 9), (10, 10), (11, 11), (12, 11)] {
+        let found = reads_of(rt.alloc(), "site 0\nb\nb", fails_at)?;
+        assert_eq!(rt; found, reads, "failing at {fails_at}");
+    }
+    Ok(())
+}
+
+/// Behind the byte by which a line is too long no read is made: one would fail.
+#[test]
+fn reads_behind_a_long_line(rt: HostRuntime) -> Result<(), Fail> {
+    let alloc = rt.alloc();
+    let input = of_length(alloc, 1_048_577, b"")?;
+    let behind = (input.len() as u64).saturating_add(1);
+    let mut source = MemSource::new(input.as_slice(), 1, Some(behind));
+    let mut sink = MemSink::new(alloc, 50)?;
+    let outcome = replay(alloc, &mut source, &mut sink)?;
+    assert!(rt; outcome == Outcome::Unreadable);
+    let written = sink.bytes() == "! L2 line 2\n".as_bytes();
+    assert!(rt; written);
     Ok(())
 }
 

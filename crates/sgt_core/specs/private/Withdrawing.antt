@@ -4,6 +4,8 @@ use Rattle.sgt_names.specs.Draft.{Touches}
 use Rattle.sgt_names.specs.declared.draft.Touch.{Touch}
 use Rattle.sgt_arena.specs.declared.handle.Handle.{Handle}
 use Rattle.sgt_site.specs.State.{IsPledged, withdraw_block}
+use Rattle.sgt_certifier.specs.Certifier.{State}
+use Rattle.sgt_certifier.specs.History.{IsAllowed, withdraw}
 use Rattle.sgt_certifier.specs.Kept.{Adds}
 use Rattle.sgt_certifier.specs.declared.call.Call.TheVariants as call
 use Rattle.sgt_core.specs.Machine.{Parts}
@@ -45,6 +47,10 @@ pub record OffersAt (old new : List Place) (table : List (Option Running)) (slot
   pub there : slice_get table slot ≡ Some (Some running)
   pub handle_is : handle ≡ running.handle
   pub pledges : ArePledgedBy tx running.draft.touched old new
+
+-- the certifier refuses no withdrawal of the transaction at this place of the table
+abbrev pub MayWithdrawAt : State → List (Option Running) → ℕ → Type 0
+MayWithdrawAt s table slot = (r : Running) → slice_get table slot ≡ Some (Some r) → IsAllowed s (withdraw r.handle)
 
 -- the transaction at this place of the table is withdrawn
 pub record WithdrawsAt (old new : Parts) (tx slot : ℕ) : Type 0 where

@@ -10,12 +10,13 @@ use Rattle.sgt_core.specs.declared.machine.Open.{Open}
 use Rattle.sgt_core.specs.declared.machine.Phase.{Phase}
 use Rattle.sgt_core.specs.declared.machine.Part.TheVariants.{Due}
 use Rattle.sgt_core.specs.Machine.{Parts, parts_of}
-use Rattle.sgt_core.specs.private.Decided.{edges_in, RulesAt}
+use Rattle.sgt_core.specs.private.Decided.{edges_in, MayRuleAt, RulesAt}
 use Rattle.sgt_core.proofs.Finding.{not_true}
 use Rattle.sgt_core.proofs.Runs.{decide_idle}
 use Rattle.sgt_core.proofs.Standing.{reached_kept}
 use Rattle.sgt_core.proofs.Stepping.{gives_up}
 use Rattle.sgt_core.proofs.Ruled.{ruled_open, rules_due, rules_end}
+use Rattle.sgt_core.proofs.Unrefused.{may_rule_at}
 use Rattle.sgt_core.proofs.machine.Machine.decide_gathered.Goals as goal
 use Rattle.sgt_core.proofs.machine.Machine.decide_gathered.Goals.{then-is_due+in-Some+in-Gathering-1, then-is_due+in-Some+in-Committed-1, then-is_due+in-None-1, else-is_due}
 
@@ -64,9 +65,17 @@ returns-after-is_due c = λ d s.
           c.reply_of.result c.reply_of.ensures
     ]
 
-pub returns-in-Err : goal.returns-in-Err
-returns-in-Err c = λ d s.
+pub rule-requires-clause-may : goal.rule-requires-clause-may
+rule-requires-clause-may c =
+    let m = parts_of c.args.self.now in
+    let s = c.requires.stands in
+    let may = may_rule_at m s.0 s.1 c.args.tx c.args.slot c.requires.slot.0 (c.requires.allowed s.0 s.1) in
+    subst (λ (es : List Edge). MayRuleAt m.certifier.state c.as_slice.result.now c.args.slot es) (sym (c.edges_of-edges.ensures ∙ ap edges_in c.take.ensures.value))
+    (subst (λ (t : List (Option Running)). MayRuleAt m.certifier.state t c.args.slot (edges_in m.step)) (sym c.as_slice.ensures.value) may)
+
+pub returns-in-Err-Memory : goal.returns-in-Err-Memory
+returns-in-Err-Memory c = λ d s.
     let m = parts_of c.args.self.now in
     let may = c.requires.allowed d s in
     gives_up m d s c.args.tx (λ other. may fault.StepOpen other) (decide_idle d c.args.tx (reached_kept d s.reached) may) (record m { certifier = c.rule.new.certifier; step = c.take.new.self })
-    (parts_of c.give_up.new.self) refl c.in-Err.ensures.err c.give_up.ensures.places c.give_up.ensures.rest (Decide c.args.tx) c.refused.result c.refused.ensures (may, refl)
+    (parts_of c.give_up.new.self) refl c.in-Err-Memory.ensures.err c.give_up.ensures.places c.give_up.ensures.rest (Decide c.args.tx) c.refused.result c.refused.ensures (may, refl)

@@ -1,4 +1,4 @@
-use Rattle.std.proofs.Common.{◌≡◌, length, refl, ◌∙◌, arith, subst, ap}
+use Rattle.std.proofs.Common.{◌≡◌, length, refl, sym, ◌∙◌, arith, subst, ap, Some, None}
 use Rattle.std.specs.Prelude.{slice_get}
 use Rattle.std.proofs.lemmas.Option.{slice_get_within}
 use Rattle.sgt_names.proofs.Lists.{within_at}
@@ -12,6 +12,7 @@ use Rattle.sgt_core.proofs.Refusing.{refused_goes, step_open, gather_no_site, ga
 use Rattle.sgt_core.proofs.Runs.{gather_idle}
 use Rattle.sgt_core.proofs.Standing.{reached_kept}
 use Rattle.sgt_core.proofs.Stepping.{same_draft, gather_goes, gives_up, only_step}
+use Rattle.sgt_core.proofs.Unrefused.{may_pledge, idle_pledge}
 use Rattle.sgt_core.proofs.Versions.{not_too_new}
 use Rattle.sgt_core.proofs.machine.Machine.gather.Goals as goal
 
@@ -81,3 +82,18 @@ returns-in-Err-gather_at c = λ d s.
 
 pub gather_at-requires-clause-seen : goal.gather_at-requires-clause-seen
 gather_at-requires-clause-seen c = λ p r here runs too. not_too_new (parts_of c.args.self.now) c.requires.0 c.requires.1 c.in-Ok.slot _ p r here runs too
+
+pub gather_at-requires-clause-may : goal.gather_at-requires-clause-may
+gather_at-requires-clause-may c = λ p r here runs.
+    let s = c.requires in
+    let m = parts_of c.args.self.now in
+    let same : c.number-at.result ≡ c.args.site = omega arith in
+    let at = ap (λ ps. slice_get ps c.number-at.result) c.as_slice.ensures.value ∙ here in
+    let fresh = idle_part p.part (λ out. not_true _ c.if-is_gathered.false ((c.is_gathered.ensures p at).1 out)) in
+    let h = c.in-Ok.ensures.ok in
+    let no_other : IsOtherOpen s.0 c.args.tx → ⊥ = λ other. not_true _ c.if-other_step.false ((c.other_step.ensures s.0 s.1).1 other) in
+    let any = (c.touches.ensures _ (ap (λ t. slice_get t c.in-Ok.slot) c.as_slice-2.ensures.value ∙ h.1.1)).0 c.if-not-touches.false in
+    let may = may_gather m s.0 s.1 c.args.tx _ h no_other c.args.site p (ap (slice_get m.places) (sym same) ∙ here) fresh any in
+    let undecided = gather_idle s.0 c.args.tx c.args.site (reached_kept s.0 s.1.reached) may in
+    may_pledge m s.0 s.1 c.args.tx c.in-Ok.slot h.0 c.number-at.result p r here runs (λ mine. let e : Some c.args.tx ≡ None = sym mine ∙ undecided in cc)
+    (idle_pledge m s.0 c.number-at.result p p.part (s.1.places _ p here).part fresh)

@@ -1,11 +1,12 @@
-use Rattle.std.proofs.Common.{refl, sym, ◌∙◌, subst}
+use Rattle.std.proofs.Common.{◌≡◌, refl, sym, ◌∙◌, subst, Some, None}
 use Rattle.sgt_notation.specs.declared.event.Event.TheVariants.{Withdraw}
 use Rattle.sgt_core.specs.declared.reply.Reply.{Reply}
 use Rattle.sgt_core.specs.Core.{CoreState}
 use Rattle.sgt_core.specs.Step.{MayStep}
 use Rattle.sgt_core.specs.Machine.{Parts, parts_of, StandsFor}
-use Rattle.sgt_core.proofs.Standing.{none_of}
+use Rattle.sgt_core.proofs.Standing.{none_of, certifier_closed}
 use Rattle.sgt_core.proofs.Refusing.{refused_goes, step_open, some_open}
+use Rattle.sgt_core.proofs.Unrefused.{may_pledge, closed_pledge, may_withdraw_at}
 use Rattle.sgt_core.proofs.Withdrawals.{withdraw_gives_back, withdraw_goes}
 use Rattle.sgt_core.proofs.machine.Machine.withdraw.Goals as goal
 
@@ -33,3 +34,17 @@ returns-in-Err-withdraw_at c = λ d s.
     let goes = withdraw_gives_back m d s none c.args.tx _ c.in-Ok.ensures.ok mid.places places c.in-Err-withdraw_at.ensures.offered c.release_all.ensures in
     subst (λ (q : Reply). (e : CoreState) × MayStep d (Withdraw c.args.tx) q e × StandsFor (record mid { places = places }) e) (sym c.refused-in-Err-withdraw_at.ensures)
     (subst (λ (v : Parts). (e : CoreState) × MayStep d (Withdraw c.args.tx) (Rattle.sgt_core.specs.declared.reply.Reply.TheVariants.Fault Rattle.sgt_core.specs.declared.reply.CoreFault.TheVariants.Memory) e × StandsFor (record v { places = places }) e) (sym c.in-Err-withdraw_at.ensures.rest) goes)
+
+pub withdraw_at-requires-clause-may : goal.withdraw_at-requires-clause-may
+withdraw_at-requires-clause-may c = λ t p r here runs.
+    let m = parts_of c.args.self.now in
+    let s = c.requires in
+    let none = none_of m.step (sym c.is_some.ensures ∙ c.if-is_some.false) in
+    may_pledge m s.0 s.1 c.args.tx c.in-Ok.slot c.in-Ok.ensures.ok.0 t p r here runs
+    (λ mine. let e : Some c.args.tx ≡ None = sym mine ∙ certifier_closed m s.0 s.1 none in cc) (closed_pledge m s.0 t p p.part none (s.1.places t p here).part)
+
+pub withdraw_at-requires-clause-allowed : goal.withdraw_at-requires-clause-allowed
+withdraw_at-requires-clause-allowed c =
+    let m = parts_of c.args.self.now in
+    let s = c.requires in
+    may_withdraw_at m s.0 s.1 (none_of m.step (sym c.is_some.ensures ∙ c.if-is_some.false)) c.in-Ok.slot
