@@ -55,7 +55,7 @@ impl Model for EventTexts {
 
 /// The event whose line stands at the front, and how many bytes stand before its LF.
 #[inline(always)]
-pub fn front_event(bytes: &[u8]) -> Option<(EventLine, usize)>
+pub(crate) fn front_event(bytes: &[u8]) -> Option<(EventLine, usize)>
     ensures some { IfSome result (λ r. StandsFirst r.0 r.1 bytes.now) }
     ensures none { IfNone result ((e : EventLine) (more : List ℕ) → IsEventLine e → bytes.now ≢ event_text e ++ 10 ∷ more) }
 {
@@ -66,7 +66,7 @@ pub fn front_event(bytes: &[u8]) -> Option<(EventLine, usize)>
 
 /// What stands behind these bytes and the LF that follows them.
 #[inline(always)]
-pub fn behind_lf(bytes: &[u8], n: usize) -> &[u8]
+pub(crate) fn behind_lf(bytes: &[u8], n: usize) -> &[u8]
     requires { n < length bytes.now }
     ensures { result.now ≡ drop (n + 1) bytes.now }
 {
@@ -82,9 +82,31 @@ fn push_line(text: &mut Vec<u8>, line: &[u8]) -> Result<(), AllocError>
     text.extend_from_slice(b"\n")
 }
 
+/// Reads the events whose lines these are, behind those that are there. Err: memory ran out.
+fn read_lines(lines: &[u8], events: &mut Vec<EventLine>) -> Result<(), AllocError>
+    ensures { (es : List EventLine) → AreLines es lines.now → OnOk result (events.new.items ≡ events.old.items ++ es) }
+{
+    let mut rest = lines;
+    while let Some((event, n)) = front_event(rest) {
+        events.extend_from_slice(&[event])?;
+        rest = behind_lf(rest, n);
+    }
+    Ok(())
+}
+
+/// The same of blocks.
+fn read_blocks(blocks: &[Block], events: &mut Vec<EventLine>) -> Result<(), AllocError>
+    ensures { OnOk result (events.new.items ≡ events.old.items ++ flat_map (λ (es : List EventLine). es) blocks.now) }
+{
+    for block in blocks {
+        read_lines(block.lines(), events)?;
+    }
+    Ok(())
+}
+
 impl Block {
     /// No events. Err: memory ran out.
-    pub fn new(alloc: Global) -> Result<Block, AllocError>
+    pub(crate) fn new(alloc: Global) -> Result<Block, AllocError>
         ensures { IfOk result (λ block. block ≡ []) }
     {
         Ok(Block {
@@ -106,7 +128,7 @@ impl Block {
     }
 
     /// The lines of the events.
-    pub fn lines(&self) -> &[u8]
+    pub(crate) fn lines(&self) -> &[u8]
         ensures { AreLines self.now result.now }
     {
         self.text.as_slice()
@@ -123,7 +145,7 @@ impl Block {
 
 impl EventTexts {
     /// No events. Err: memory ran out.
-    pub fn new(alloc: Global) -> Result<EventTexts, AllocError>
+    pub(crate) fn new(alloc: Global) -> Result<EventTexts, AllocError>
         ensures { IfOk result (λ events. events ≡ []) }
     {
         Ok(EventTexts {
@@ -133,7 +155,7 @@ impl EventTexts {
     }
 
     /// Whether there is none.
-    pub fn is_empty(&self) -> bool
+    pub(crate) fn is_empty(&self) -> bool
         ensures empty { result ≡ true → self.now ≡ [] }
         ensures filled { result ≡ false → self.now ≢ [] }
     {
@@ -152,7 +174,7 @@ impl EventTexts {
     }
 
     /// Keeps one event more, which this line spells. Err: memory ran out.
-    pub fn push(&mut self, alloc: Global, line: &[u8]) -> Result<(), AllocError>
+    pub(crate) fn push(&mut self, alloc: Global, line: &[u8]) -> Result<(), AllocError>
         requires { (e : EventLine) × IsEventLine e × (line.now ≡ event_text e) }
         ensures { OnOk result (TakesEvent self.old line.now self.new true) }
     {
@@ -161,10 +183,20 @@ impl EventTexts {
     }
 
     /// The events in blocks: those that are full, and the last.
-    pub fn into_blocks(self) -> (Vec<Block>, Block)
+    pub(crate) fn into_blocks(self) -> (Vec<Block>, Block)
         ensures { flat_map (λ (es : List EventLine). es) result.0.items ++ result.1 ≡ self }
     {
         let EventTexts { full, last } = self;
         (full, last)
+    }
+
+    /// The events, each read again from its line. Err: memory ran out.
+    pub fn to_vec(&self, alloc: Global) -> Result<Vec<EventLine>, AllocError>
+        ensures { IfOk result (λ events. events.items ≡ self.now) }
+    {
+        let mut events = Vec::new(alloc);
+        read_blocks(self.full.as_slice(), &mut events)?;
+        read_lines(self.last.lines(), &mut events)?;
+        Ok(events)
     }
 }
