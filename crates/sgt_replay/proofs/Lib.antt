@@ -1,5 +1,7 @@
 pub mod OneInput
 pub mod Reader
 pub mod Running
+pub mod Served
 pub mod Writing
 pub mod OneText
+pub mod KeptLines

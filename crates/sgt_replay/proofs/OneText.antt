@@ -1,5 +1,5 @@
 -- No two inputs have one text.
-use Rattle.std.proofs.Common.{◌≡◌, ◌≢◌, ℕ, List, [], ◌∷◌, ◌++◌, append_assoc, refl, sym, ap₂, ◌∙◌}
+use Rattle.std.proofs.Common.{◌≡◌, ◌≢◌, ℕ, List, [], ◌∷◌, ◌++◌, refl, sym, ap₂, ◌∙◌}
 use Rattle.std.specs.Prelude.{All, map}
 use Rattle.std.specs.List.{AllByRecursion}
 use Rattle.std.proofs.lemmas.List.Elements.{All-head, All-tail, recursion_from_All}
@@ -13,14 +13,8 @@ use Rattle.sgt_notation.proofs.OneSite.{site-no_lf, site-one}
 use Rattle.sgt_notation.proofs.OneSpelling.{HasNot, cut_at_byte}
 use Rattle.sgt_replay.specs.declared.input.Input.{Input}
 use Rattle.sgt_replay.specs.Input.{Spells, input_lines}
+use Rattle.sgt_replay.specs.private.OneEvents.{first_line, no_line}
 use Rattle.sgt_replay.proofs.OneInput.{event-no_site}
-
-no_line : (l more : List ℕ) → l ++ 10 ∷ more ≡ [] → ⊥
-no_line [] more e = cc
-no_line (x ∷ l) more e = cc
-
-first_line : (l : List ℕ) (ls : List (List ℕ)) → text_of_lines (l ∷ ls) ≡ l ++ 10 ∷ text_of_lines ls
-first_line l ls = append_assoc l (10 ∷ []) (text_of_lines ls)
 
 -- lines without an LF are cut in one way
 texts-one : (xs ys : List (List ℕ)) → AllByRecursion (HasNot 10) xs → AllByRecursion (HasNot 10) ys → text_of_lines xs ≡ text_of_lines ys → xs ≡ ys

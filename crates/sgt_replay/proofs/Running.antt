@@ -13,59 +13,53 @@ use Rattle.sgt_site.specs.declared.fault.SiteFault.TheVariants as site_fault
 use Rattle.sgt_cert.specs.Parts.{Parts as Logs}
 use Rattle.sgt_cert.specs.Text.{text_of}
 use Rattle.sgt_cert.specs.Valid.{IsValid}
-use Rattle.sgt_notation.specs.Events.{HasLine, IsEventLine, IsSiteLine}
+use Rattle.sgt_notation.specs.Events.{IsSiteLine}
 use Rattle.sgt_notation.specs.Spelling.{text_of_lines}
-use Rattle.sgt_notation.specs.declared.event.Event.TheVariants.{Gather, Decide}
 use Rattle.sgt_notation.specs.declared.event.EventLine.{EventLine}
-use Rattle.sgt_notation.specs.declared.event.EventLine.TheVariants.{One}
 use Rattle.sgt_core.specs.Core.{CoreState, bundle_of, fresh}
 use Rattle.sgt_core.specs.Machine.{Parts, RefusesSites, StandsFor}
-use Rattle.sgt_core.specs.Runs.{IsMemory}
 use Rattle.sgt_core.specs.declared.reply.Reply.{Reply}
 use Rattle.sgt_replay.specs.declared.input.Input.{Input}
-use Rattle.sgt_replay.specs.Replay.{EndsWith, IsRunText, MayAnswer, Replies}
+use Rattle.sgt_replay.specs.Replay.{EndsWith, IsRunText, Replies}
 use Rattle.sgt_replay.specs.Reply.{reply_lines, reply_text}
 use Rattle.sgt_replay.specs.private.Running.{AnswersLine, WritesReplies}
 use Rattle.sgt_replay.proofs.Reader.{text-append}
 
--- what an input asks has a line
-pub event-has_line : (e : EventLine) → IsEventLine e → HasLine e
-event-has_line (One (Gather tx s)) is = is
-event-has_line (One (Decide tx)) is = is
-event-has_line e is = tt
-
--- one more line is answered
-replies-push : (c d e : CoreState) (lines : List EventLine) (replies : List Reply) (line : EventLine) (reply : Reply) → Replies c lines replies d → MayAnswer d line reply e → (IsMemory reply → ⊥)
-    → Replies c (lines ++ line ∷ []) (replies ++ reply ∷ []) e × (reply_lines (lines ++ line ∷ []) (replies ++ reply ∷ []) ≡ reply_lines lines replies ++ reply_text line reply ∷ [])
-replies-push c d e [] [] line reply run may some = ((e, subst (λ x. MayAnswer x line reply e) run may, some, refl), refl)
-replies-push c d e [] (r ∷ rs) line reply run may some = absurd run
-replies-push c d e (l ∷ ls) [] line reply run may some = absurd run
-replies-push c d e (l ∷ ls) (r ∷ rs) line reply run may some =
-    let more = replies-push run.0 d e ls rs line reply run.3 may some in
-    ((run.0, run.1, run.2, more.0), ap (λ ts. reply_text l r ∷ ts) more.1)
-
-text-push : (text : List ℕ) (xs : List (List ℕ)) (out out' r : List ℕ) → out ≡ text ++ text_of_lines xs → out' ≡ (out ++ r) ++ 10 ∷ [] → out' ≡ text ++ text_of_lines (xs ++ r ∷ [])
-text-push text xs out out' r before after =
-    after ∙ append_assoc out r (10 ∷ []) ∙ ap (λ (t : List ℕ). t ++ (r ++ 10 ∷ [])) before ∙ append_assoc text (text_of_lines xs) (r ++ 10 ∷ [])
-    ∙ ap (λ (t : List ℕ). text ++ t) (ap (λ (t : List ℕ). text_of_lines xs ++ t) (sym (append-nil (r ++ 10 ∷ []))) ∙ sym (text-append xs (r ∷ [])))
+-- lines are answered, and then more
+replies-append : (c d e : CoreState) (xs ys : List EventLine) (rs ss : List Reply) → Replies c xs rs d → Replies d ys ss e
+    → Replies c (xs ++ ys) (rs ++ ss) e × (reply_lines (xs ++ ys) (rs ++ ss) ≡ reply_lines xs rs ++ reply_lines ys ss)
+replies-append c d e [] ys [] ss run later = (subst (λ x. Replies x ys ss e) run later, refl)
+replies-append c d e [] ys (r ∷ rs) ss run later = absurd run
+replies-append c d e (x ∷ xs) ys [] ss run later = absurd run
+replies-append c d e (x ∷ xs) ys (r ∷ rs) ss run later =
+    let more = replies-append run.0 d e xs ys rs ss run.3 later in
+    ((run.0, run.1, run.2, more.0), ap (λ ts. reply_text x r ∷ ts) more.1)
 
 pub replies-none : (m : Parts) (text : List ℕ) → WritesReplies m [] m text text
 replies-none m text c stands = (c, record { replies = []; run = refl; appended = sym (append-nil text) }, stands)
 
-pub replies-more : (m n o : Parts) (lines : List EventLine) (line : EventLine) (reply : Reply) (text out out' : List ℕ) → WritesReplies m lines n text out
-    → AnswersLine n line reply o → out' ≡ (out ++ reply_text line reply) ++ 10 ∷ [] → WritesReplies m (lines ++ line ∷ []) o text out'
-replies-more m n o lines line reply text out out' so answers after c stands =
-    let (d, runs, there) = so c stands in
-    let (e, may, then) = answers.0 d there in
-    let more = replies-push c d e lines runs.replies line reply runs.run may answers.1 in (
+pub replies-then : (m n o : Parts) (xs ys : List EventLine) (text out out' : List ℕ) → WritesReplies m xs n text out → WritesReplies n ys o out out'
+    → WritesReplies m (xs ++ ys) o text out'
+replies-then m n o xs ys text out out' first later c stands =
+    let (d, runs, there) = first c stands in
+    let (e, more, then) = later d there in
+    let both = replies-append c d e xs ys runs.replies more.replies runs.run more.run in (
       e,
       record {
-        replies = runs.replies ++ reply ∷ [];
-        run = more.0;
-        appended = text-push text (reply_lines lines runs.replies) out out' (reply_text line reply) runs.appended after ∙ ap (λ ts. text ++ text_of_lines ts) (sym more.1);
+        replies = runs.replies ++ more.replies;
+        run = both.0;
+        appended = more.appended ∙ ap (λ (t : List ℕ). t ++ text_of_lines (reply_lines ys more.replies)) runs.appended
+            ∙ append_assoc text (text_of_lines (reply_lines xs runs.replies)) (text_of_lines (reply_lines ys more.replies))
+            ∙ ap (λ (t : List ℕ). text ++ t) (sym (text-append (reply_lines xs runs.replies) (reply_lines ys more.replies)))
+            ∙ ap (λ ts. text ++ text_of_lines ts) (sym both.1);
       },
       then,
     )
+
+pub replies-one : (m n : Parts) (line : EventLine) (reply : Reply) (out out' : List ℕ) → AnswersLine m line reply n → out' ≡ (out ++ reply_text line reply) ++ 10 ∷ [] → WritesReplies m (line ∷ []) n out out'
+replies-one m n line reply out out' answers after c stands =
+    let (d, may, there) = answers.0 c stands in
+    (d, record { replies = reply ∷ []; run = (d, may, answers.1, refl); appended = after ∙ append_assoc out (reply_text line reply) (10 ∷ []) ∙ ap (λ (t : List ℕ). out ++ t) (sym (append-nil (reply_text line reply ++ 10 ∷ []))) }, there)
 
 -- the run ends with the bundle
 pub ends-valid : (m : Parts) (b : Logs) (out mid bytes : List ℕ) → ((c : CoreState) → StandsFor m c → b ≡ bundle_of c) → IsValid b

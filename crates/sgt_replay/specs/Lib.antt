@@ -1,4 +1,5 @@
 pub mod Input
 pub mod Replay
 pub mod Reply
+pub mod Texts
 pub mod private

@@ -22,18 +22,22 @@ fault_number fault.GenerationsSpent = 10
 fault_number fault.NumbersSpent = 11
 fault_number fault.NotTouched = 12
 
--- the line of a refusal; of an answer, the event's own line with what the answer tells behind it
+-- the line of a refusal; of an answer, the line that asked for it with what the answer tells behind it
+abbrev pub answer_text : List ℕ → Reply → List ℕ
+answer_text asked (Fault f) = codes "! E" ++ decimal (fault_number f)
+answer_text asked (Begun tx) = asked ++ decimal tx
+answer_text asked (Value v) = asked ++ (codes "=" ++ decimal v)
+answer_text asked Yes = asked ++ codes " yes"
+answer_text asked No = asked ++ codes " no"
+answer_text asked (Closed ranks) = asked ++ (codes " " ++ decimal ranks)
+answer_text asked Kept = asked
+answer_text asked Gathered = asked
+answer_text asked Installed = asked
+answer_text asked Withdrawn = asked
+
+-- the line of the reply to an event
 abbrev pub reply_text : EventLine → Reply → List ℕ
-reply_text line (Fault f) = codes "! E" ++ decimal (fault_number f)
-reply_text line (Begun tx) = event_text line ++ decimal tx
-reply_text line (Value v) = event_text line ++ (codes "=" ++ decimal v)
-reply_text line Yes = event_text line ++ codes " yes"
-reply_text line No = event_text line ++ codes " no"
-reply_text line (Closed ranks) = event_text line ++ (codes " " ++ decimal ranks)
-reply_text line Kept = event_text line
-reply_text line Gathered = event_text line
-reply_text line Installed = event_text line
-reply_text line Withdrawn = event_text line
+reply_text line reply = answer_text (event_text line) reply
 
 -- the lines of the replies to these events, one for each
 abbrev pub reply_lines : List EventLine → List Reply → List (List ℕ)

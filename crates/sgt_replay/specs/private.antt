@@ -1,3 +1,4 @@
+pub mod OneEvents
 pub mod Running
 pub mod Taking
 pub mod Stopping

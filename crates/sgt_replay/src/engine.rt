@@ -4,17 +4,21 @@ ghost use Rattle.std.specs.Prelude.{◌≡◌, ◌≢◌, ◌⊎◌, ◌<◌, �
 ghost use Rattle.std.specs.Io.KnownBytes.{Appends};
 ghost use Rattle.sgt_names.specs.Device.{CountsFailures, WritesFront};
 ghost use Rattle.sgt_names.specs.Limits.{max_sites};
-ghost use Rattle.sgt_notation.specs.Events.{IsEventLine, IsSiteLine};
+ghost use Rattle.std.specs.List.{flat_map};
+ghost use Rattle.sgt_notation.specs.Events.{IsSiteLine};
+ghost use Rattle.sgt_notation.specs.declared.event.EventLine.{EventLine};
 ghost use Rattle.sgt_notation.specs.Limits.{most_reads};
 ghost use Rattle.sgt_core.specs.Core.{CoreState, fresh};
 ghost use Rattle.sgt_core.specs.Machine.{StandsFor};
 ghost use Rattle.sgt_replay.specs.Input.{IsInput, IsRead, IsUsable};
 ghost use Rattle.sgt_replay.specs.Replay.{EndsWith, IsAnswer, IsRunText, WroteAnswer, WroteAnswerFront, unreadable_text};
+ghost use Rattle.sgt_replay.specs.Texts.{AreLines};
 ghost use Rattle.sgt_replay.specs.private.Running.{AnswersLine, WritesReplies};
 
 use crate::input::{Input, Reading};
 use crate::reading::read_input;
 use crate::reply::write_reply;
+use crate::texts::{Block, EventTexts, behind_lf, front_event};
 use sgt_core::{Core, CoreFault, Reply};
 use sgt_names::{EngineFail, Failed, Holding, Listed, Outcome, Sink, Source, write_all};
 use sgt_notation::{EventLine, NotationFault, SiteLine, push_number};
@@ -37,17 +41,38 @@ fn answer_line(core: &mut Core, line: &EventLine) -> Result<Reply, AllocError>
     }
 }
 
-/// Writes the core's replies to these lines. Err: memory ran out.
-fn write_replies(core: &mut Core, lines: &[EventLine], out: &mut Vec<u8>) -> Result<(), AllocError>
-    requires { All IsEventLine lines.now }
-    ensures { OnOk result (WritesReplies core.old lines.now core.new out.old.items out.new.items) }
+/// Writes the core's replies to the events whose lines these are. Err: memory ran out.
+fn write_lines(core: &mut Core, lines: &[u8], out: &mut Vec<u8>) -> Result<(), AllocError>
+    ensures { (events : List EventLine) → AreLines events lines.now
+        → OnOk result (WritesReplies core.old events core.new out.old.items out.new.items) }
 {
-    for line in lines {
-        let reply = answer_line(core, line)?;
-        write_reply(out, line, &reply)?;
+    let mut rest = lines;
+    while let Some((line, n)) = front_event(rest) {
+        let reply = answer_line(core, &line)?;
+        write_reply(out, &rest[..n], &reply)?;
         out.extend_from_slice(b"\n")?;
+        rest = behind_lf(rest, n);
     }
     Ok(())
+}
+
+/// The same of blocks, each of which is given up once it is answered.
+fn write_blocks(core: &mut Core, blocks: Vec<Block>, out: &mut Vec<u8>) -> Result<(), AllocError>
+    ensures { OnOk result (WritesReplies core.old (flat_map (λ (es : List EventLine). es) blocks.items) core.new out.old.items out.new.items) }
+{
+    for block in blocks {
+        write_lines(core, block.lines(), out)?;
+    }
+    Ok(())
+}
+
+/// Writes the core's replies to these events. Err: memory ran out.
+fn write_replies(core: &mut Core, events: EventTexts, out: &mut Vec<u8>) -> Result<(), AllocError>
+    ensures { OnOk result (WritesReplies core.old events core.new out.old.items out.new.items) }
+{
+    let (full, last) = events.into_blocks();
+    write_blocks(core, full, out)?;
+    write_lines(core, last.lines(), out)
 }
 
 /// How a run ended, and the text of its bundle: none where there is none.
@@ -128,8 +153,7 @@ fn run_text(alloc: Global, input: Input) -> Result<Answer, AllocError>
     let Input { sites, events } = input;
     let mut core = core_of(alloc, sites.into_vec())?;
     let mut text = Vec::new(alloc);
-    write_replies(&mut core, events.as_slice(), &mut text)?;
-    drop(events);
+    write_replies(&mut core, events, &mut text)?;
     let Ending { outcome, bundle } = write_ending(alloc, core, &mut text)?;
     Ok(Answer {
         outcome,

@@ -1,7 +1,8 @@
 //! What the input of a replay says.
 
+use crate::texts::EventTexts;
 use sgt_names::Listed;
-use sgt_notation::{EventLine, NotationFault, SiteLine};
+use sgt_notation::{NotationFault, SiteLine};
 
 /// What an input says.
 #[derive(Drop)]
@@ -9,7 +10,7 @@ pub struct Input {
     /// The sites that the replay starts from, numbered from 0.
     pub sites: Listed<SiteLine>,
     /// What is asked, in order.
-    pub events: Listed<EventLine>,
+    pub events: EventTexts,
 }
 
 /// What an input was read as.

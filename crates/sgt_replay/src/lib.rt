@@ -7,9 +7,11 @@ mod laws;
 mod reading;
 mod reply;
 mod taking;
+mod texts;
 
 pub use engine::replay;
 pub use input::{Input, Reading};
 pub use laws::inputs_have_one_reading;
 pub use reading::read_input;
 pub use reply::{number_of, write_reply};
+pub use texts::EventTexts;

@@ -7,8 +7,9 @@ ghost use Rattle.sgt_replay.specs.private.Stopping.{IsStop};
 
 use crate::input::{Input, Reading};
 use crate::taking::take_line;
+use crate::texts::EventTexts;
 use sgt_names::{EngineFail, Listed, Source};
-use sgt_notation::{EventLine, Lines, LinesFault, MAX_LINE, Next, NotationFault, SiteLine};
+use sgt_notation::{Lines, LinesFault, MAX_LINE, Next, NotationFault, SiteLine};
 use std::alloc::Global;
 
 /// Where the reading of an input stopped.
@@ -35,12 +36,12 @@ fn take_lines<R: Source>(
     reader: &mut R,
     lines: &mut Lines,
     sites: &mut Vec<SiteLine>,
-    events: &mut Vec<EventLine>,
+    events: &mut EventTexts,
 ) -> Result<Stop, EngineFail>
     requires fresh { lines.old ≡ record { held = []; reads = most_reads } }
     requires no_sites { sites.old.items ≡ [] }
-    requires no_events { events.old.items ≡ [] }
-    ensures stops { IfOk result (IsStop (R.tells reader.old) (record { sites = sites.new.items; events = events.new.items })) }
+    requires no_events { events.old ≡ [] }
+    ensures stops { IfOk result (IsStop (R.tells reader.old) (record { sites = sites.new.items; events = events.new })) }
     ensures quiet { result ≢ Err EngineFail.ReadFault → R.failures reader.new ≡ R.failures reader.old }
     ensures read_fault { IsErrOf result EngineFail.ReadFault →
         ((R.failures reader.old < R.failures reader.new) ⊎ IfSome (R.tells reader.old) (λ bytes. most_reads ≤ length bytes)) }
@@ -93,11 +94,11 @@ pub fn read_input<R: Source>(alloc: Global, reader: &mut R) -> Result<Reading, E
 {
     let mut lines = Lines::new(alloc)?;
     let mut sites = Vec::new(alloc);
-    let mut events = Vec::new(alloc);
+    let mut events = EventTexts::new(alloc)?;
     match take_lines(alloc, reader, &mut lines, &mut sites, &mut events)? {
         Stop::Ended => Ok(Reading::Readable(Input {
             sites: Listed::new(sites),
-            events: Listed::new(events),
+            events,
         })),
         Stop::Unreadable { line, fault } => Ok(Reading::Unreadable { line, fault }),
     }

@@ -1,11 +1,10 @@
 //! Replies, written.
 
 ghost use Rattle.std.specs.Prelude.{◌≡◌, ◌++◌, take, vec_len, OnOk, OnErr};
-ghost use Rattle.sgt_notation.specs.Events.{HasLine};
-ghost use Rattle.sgt_replay.specs.Reply.{fault_number, reply_text};
+ghost use Rattle.sgt_replay.specs.Reply.{answer_text, fault_number};
 
 use sgt_core::{CoreFault, Reply};
-use sgt_notation::{EventLine, push_number, write_event};
+use sgt_notation::push_number;
 use std::alloc::AllocError;
 
 /// The number that a refusal is written with.
@@ -28,9 +27,8 @@ pub fn number_of(fault: CoreFault) -> u64
     }
 }
 
-fn push_answer(out: &mut Vec<u8>, line: &EventLine, reply: &Reply) -> Result<(), AllocError>
-    requires { HasLine line.now }
-    ensures ok { OnOk result (out.new.items ≡ out.old.items ++ reply_text line.now reply.now) }
+fn push_answer(out: &mut Vec<u8>, asked: &[u8], reply: &Reply) -> Result<(), AllocError>
+    ensures ok { OnOk result (out.new.items ≡ out.old.items ++ answer_text asked.now reply.now) }
     ensures err { OnErr result (take (vec_len out.old) out.new.items ≡ out.old.items) }
 {
     match reply {
@@ -39,42 +37,41 @@ fn push_answer(out: &mut Vec<u8>, line: &EventLine, reply: &Reply) -> Result<(),
             push_number(out, number_of(*fault))
         }
         Reply::Begun { tx } => {
-            write_event(out, line)?;
+            out.extend_from_slice(asked)?;
             push_number(out, u64::from(tx.number()))
         }
         Reply::Value { value } => {
-            write_event(out, line)?;
+            out.extend_from_slice(asked)?;
             out.extend_from_slice(b"=")?;
             push_number(out, *value)
         }
         Reply::Yes => {
-            write_event(out, line)?;
+            out.extend_from_slice(asked)?;
             out.extend_from_slice(b" yes")
         }
         Reply::No => {
-            write_event(out, line)?;
+            out.extend_from_slice(asked)?;
             out.extend_from_slice(b" no")
         }
         Reply::Closed { ranks } => {
-            write_event(out, line)?;
+            out.extend_from_slice(asked)?;
             out.extend_from_slice(b" ")?;
             push_number(out, *ranks)
         }
         Reply::Kept | Reply::Gathered | Reply::Installed | Reply::Withdrawn => {
-            write_event(out, line)
+            out.extend_from_slice(asked)
         }
     }
 }
 
-/// Writes the line of the reply, without an LF, behind what is there: `! EN` of a refusal, and else the event's own line with
-/// what the answer tells behind it. Where a growth is refused nothing is written.
-pub fn write_reply(out: &mut Vec<u8>, line: &EventLine, reply: &Reply) -> Result<(), AllocError>
-    requires { HasLine line.now }
-    ensures ok { OnOk result (out.new.items ≡ out.old.items ++ reply_text line.now reply.now) }
+/// Writes the line of the reply, without an LF, behind what is there: `! EN` of a refusal, and else the line of the event that
+/// was asked, which is given without its LF, with what the answer tells behind it. Where a growth is refused nothing is written.
+pub fn write_reply(out: &mut Vec<u8>, asked: &[u8], reply: &Reply) -> Result<(), AllocError>
+    ensures ok { OnOk result (out.new.items ≡ out.old.items ++ answer_text asked.now reply.now) }
     ensures err { OnErr result (out.new.items ≡ out.old.items) }
 {
     let before = out.len();
-    let written = push_answer(out, line, reply);
+    let written = push_answer(out, asked, reply);
     if written.is_err() {
         out.truncate(before);
     }

@@ -3,7 +3,8 @@
 ghost use Rattle.std.specs.Prelude.{IfOk};
 ghost use Rattle.sgt_replay.specs.private.Taking.{Takes, TakesEvent, TakesSite};
 
-use sgt_notation::{EventLine, NotationFault, SiteLine, read_event, read_site};
+use crate::texts::EventTexts;
+use sgt_notation::{NotationFault, SiteLine, read_event, read_site};
 use std::alloc::{AllocError, Global};
 
 /// Keeps the site, if the line spells the next one.
@@ -23,12 +24,12 @@ fn take_site(alloc: Global, sites: &mut Vec<SiteLine>, line: &[u8]) -> Result<bo
 }
 
 /// Keeps the event, if the line spells one.
-fn take_event(events: &mut Vec<EventLine>, line: &[u8]) -> Result<bool, AllocError>
-    ensures { IfOk result (TakesEvent events.old.items line.now events.new.items) }
+fn take_event(alloc: Global, events: &mut EventTexts, line: &[u8]) -> Result<bool, AllocError>
+    ensures { IfOk result (TakesEvent events.old line.now events.new) }
 {
     match read_event(line) {
-        Ok(event) => {
-            events.extend_from_slice(&[event])?;
+        Ok(_) => {
+            events.push(alloc, line)?;
             Ok(true)
         }
         Err(_) => Ok(false),
@@ -40,14 +41,14 @@ fn take_event(events: &mut Vec<EventLine>, line: &[u8]) -> Result<bool, AllocErr
 pub fn take_line(
     alloc: Global,
     sites: &mut Vec<SiteLine>,
-    events: &mut Vec<EventLine>,
+    events: &mut EventTexts,
     line: &[u8],
 ) -> Result<bool, AllocError>
-    ensures { IfOk result (Takes (record { sites = sites.old.items; events = events.old.items }) line.now
-        (record { sites = sites.new.items; events = events.new.items })) }
+    ensures { IfOk result (Takes (record { sites = sites.old.items; events = events.old }) line.now
+        (record { sites = sites.new.items; events = events.new })) }
 {
     if !events.is_empty() {
-        return take_event(events, line);
+        return take_event(alloc, events, line);
     }
     if take_site(alloc, sites, line)? {
         return Ok(true);
@@ -55,5 +56,5 @@ pub fn take_line(
     if sites.is_empty() {
         return Ok(false);
     }
-    take_event(events, line)
+    take_event(alloc, events, line)
 }

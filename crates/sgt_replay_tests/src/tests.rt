@@ -4,7 +4,7 @@ ghost use Rattle.std.specs.Prelude.{◌<◌, None};
 
 use sgt_core::{CoreFault, Reply};
 use sgt_names::{EngineFail, Failed, Item, MemSink, MemSource, Outcome, SiteNo, Source, Tx};
-use sgt_notation::{Event, EventLine, NotationFault};
+use sgt_notation::{Event, EventLine, NotationFault, write_event};
 use sgt_replay::{Reading, number_of, read_input, replay, write_reply};
 use std::alloc::{AllocError, Global};
 use std::test::Fail;
@@ -14,7 +14,7 @@ fn shown(alloc: Global, reading: &Reading) -> Result<String, AllocError> {
     match reading {
         Reading::Readable(input) => {
             let sites = input.sites.as_slice().len();
-            let events = input.events.as_slice().len();
+            let events = input.events.to_vec(alloc)?.len();
             format!(in alloc; "{sites} sites {events} events")
         }
         Reading::Unreadable {
@@ -65,6 +65,33 @@ fn inputs(rt: HostRuntime) -> Result<(), Fail> {
             let as_said = reads_as(rt.alloc(), input.as_bytes(), per_read, said)?;
             assert!(rt; as_said, "{input:?} in pieces of {per_read}");
         }
+    }
+    Ok(())
+}
+
+/// Whether so many events, each of which is kept in a line of its own, are read again as they stood in the input.
+fn kept(alloc: Global, count: u32) -> Result<bool, Fail> {
+    let mut input = Vec::from_slice(alloc, b"site 0 x=5\n")?;
+    let mut wanted = Vec::new(alloc);
+    for number in 0..count {
+        let tx = Tx::new(u64::from(number) + 1)?;
+        let event = EventLine::One(Event::Commit { tx });
+        write_event(&mut input, &event)?;
+        input.push(b'\n')?;
+        wanted.push(event)?;
+    }
+    let mut source = MemSource::new(input.as_slice(), 65_536, None);
+    match read_input(alloc, &mut source)? {
+        Reading::Readable(read) => Ok(read.events.to_vec(alloc)? == wanted),
+        Reading::Unreadable { .. } => Ok(false),
+    }
+}
+
+#[test]
+fn events_of_several_blocks(rt: HostRuntime) -> Result<(), Fail> {
+    for count in [0u32, 1, 200_000] {
+        let as_said = kept(rt.alloc(), count)?;
+        assert!(rt; as_said, "{count} events");
     }
     Ok(())
 }
@@ -171,8 +198,10 @@ fn is_written(alloc: Global, line: &EventLine, reply: Reply, said: &str) -> Resu
     if !line.has_line() {
         return Ok(false);
     }
+    let mut asked = Vec::new(alloc);
+    write_event(&mut asked, line)?;
     let mut out = Vec::from_slice(alloc, b"> ")?;
-    write_reply(&mut out, line, &reply)?;
+    write_reply(&mut out, asked.as_slice(), &reply)?;
     Ok(out.as_slice() == said.as_bytes())
 }
 

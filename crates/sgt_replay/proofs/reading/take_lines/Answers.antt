@@ -17,8 +17,8 @@ lines-init g c = (
 pub lines-preserved : goal.lines-preserved
 lines-preserved g c =
     let gave = rw c.in-Ok-Line.field-0-is at c.in-Ok-Line.ensures.ok in
-    let old : Input = record { sites = c.lines.sites.items; events = c.lines.events.items } in
-    let new : Input = record { sites = c.take_line.new.sites.items; events = c.take_line.new.events.items } in
+    let old : Input = record { sites = c.lines.sites.items; events = c.lines.events } in
+    let new : Input = record { sites = c.take_line.new.sites.items; events = c.take_line.new.events } in
     let takes = subst (λ (b : Bool). Takes old c.as_slice.result.now new b) c.if-not-branch.false c.in_ok-take_line-in-Ok-Line.ensures in (
       after-line _ _ _ _ _ _ _ _ c.lines.invariant.0 gave.gives (subst (λ (l : List ℕ). Takes old l new true) c.as_slice.ensures.value takes),
       gave.quiet ∙ c.lines.invariant.1,
@@ -29,8 +29,8 @@ lines-preserved g c =
 pub returns-then-not-branch-clause-stops : goal.returns-then-not-branch-clause-stops
 returns-then-not-branch-clause-stops g c =
     let gave = rw c.in-Ok-Line.field-0-is at c.in-Ok-Line.ensures.ok in
-    let old : Input = record { sites = c.lines.sites.items; events = c.lines.events.items } in
-    let new : Input = record { sites = c.take_line.new.sites.items; events = c.take_line.new.events.items } in
+    let old : Input = record { sites = c.lines.sites.items; events = c.lines.events } in
+    let new : Input = record { sites = c.take_line.new.sites.items; events = c.take_line.new.events } in
     let takes = subst (λ (b : Bool). Takes old c.as_slice.result.now new b) c.if-not-branch.true c.in_ok-take_line-in-Ok-Line.ensures in
     let takes' = subst (λ (l : List ℕ). Takes old l new false) c.as_slice.ensures.value takes in
     subst (λ stop. IsStop (g.R.Source.tells c.args.reader.now) new stop) (sym c.not_a_line.ensures)
@@ -39,19 +39,19 @@ returns-then-not-branch-clause-stops g c =
 pub returns-in-Ok-Cut-clause-stops : goal.returns-in-Ok-Cut-clause-stops
 returns-in-Ok-Cut-clause-stops g c =
     let gave = rw c.in-Ok-Cut.field-0-is at c.in-Ok-Cut.ensures.ok in
-    let old : Input = record { sites = c.lines.sites.items; events = c.lines.events.items } in
+    let old : Input = record { sites = c.lines.sites.items; events = c.lines.events } in
     subst (λ stop. IsStop (g.R.Source.tells c.args.reader.now) old stop) (sym c.not_a_line-in-Ok-Cut.ensures)
     (stops-cut _ old old _ _ _ _ c.lines.invariant.0 gave.gives)
 
 pub returns-in-Ok-End-clause-stops : goal.returns-in-Ok-End-clause-stops
 returns-in-Ok-End-clause-stops g c =
     let gave = rw c.in-Ok-End.field-0-is at c.in-Ok-End.ensures.ok in
-    let old : Input = record { sites = c.lines.sites.items; events = c.lines.events.items } in
+    let old : Input = record { sites = c.lines.sites.items; events = c.lines.events } in
     subst (λ stop. IsStop (g.R.Source.tells c.args.reader.now) old stop) (sym c.not_a_line-in-Ok-End.ensures)
     (stops-empty _ old old _ _ _ _ c.lines.invariant.0 c.if-number-gt1.false gave.gives)
 
 pub returns-in-Ok-TooLong-clause-stops : goal.returns-in-Ok-TooLong-clause-stops
 returns-in-Ok-TooLong-clause-stops g c =
     let gave = rw c.in-Ok-TooLong.field-0-is at c.in-Ok-TooLong.ensures.ok in
-    let old : Input = record { sites = c.lines.sites.items; events = c.lines.events.items } in
+    let old : Input = record { sites = c.lines.sites.items; events = c.lines.events } in
     stops-long _ old old _ _ _ _ c.lines.invariant.0 gave.gives

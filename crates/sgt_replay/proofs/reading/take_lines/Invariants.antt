@@ -5,7 +5,7 @@ use Rattle.sgt_replay.proofs.reading.take_lines.Given as goal
 
 abbrev pub invariant-lines : goal.invariant-lines
 invariant-lines g l =
-    Goes (g.R.Source.tells l.initial.reader) (record { sites = l.sites.items; events = l.events.items }) (coming l.lines (g.R.Source.tells l.reader)) l.number
+    Goes (g.R.Source.tells l.initial.reader) (record { sites = l.sites.items; events = l.events }) (coming l.lines (g.R.Source.tells l.reader)) l.number
     × (g.R.Source.failures l.reader ≡ g.R.Source.failures l.initial.reader)
     × Spends 4294967295 (g.R.Source.tells l.initial.reader) l.lines.reads (g.R.Source.tells l.reader)
     × (l.number + most_left l.lines ≤ 281474976710656)
