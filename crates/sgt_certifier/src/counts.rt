@@ -55,9 +55,9 @@ impl Counts {
         ensures here { stands_at self.new site item ≡ Some (suc (count_at self.old site item)) }
         ensures others { (s : ℕ) (x : Name) → ((s ≡ site) × (x ≡ item) → ⊥) → stands_at self.new s x ≡ stands_at self.old s x }
     {
-        let count = self.get(site, item);
-        if self.table.insert((site, item), count + 1).is_err() {
-            unreachable!();
+        match self.table.get_mut(&(site, item)) {
+            Some(count) => *count += 1,
+            None => unreachable!(),
         }
     }
 

@@ -1,10 +1,12 @@
 //! The items that a draft changes at a site, listed for the history.
 
-ghost use Rattle.std.specs.Prelude.{◌≡◌, ◌≢◌, ◌⊎◌, ◌↔◌, ◌==◌, ◌&&◌, ℕ, List, [], Contains, IsTrue, is_some, IfOk, OnErr, IfSome, IfNone, Any, slice_get};
+ghost use Rattle.std.specs.Prelude.{◌≡◌, ◌≢◌, ◌↔◌, ◌==◌, ◌&&◌, ◌<◌, ℕ, List, [], vec_len, vec_capacity, All, Contains, IsTrue, is_some, IfOk, OnOk, OnErr, IfSome, IfNone, Any, slice_get};
 ghost use Rattle.sgt_names.specs.declared.draft.Touch.{Touch as Touched};
 ghost use Rattle.sgt_certifier.specs.declared.install.Prepared.{Prepared as APrepared};
+ghost use Rattle.sgt_certifier.specs.Counted.{HasPlace, HavePlaces, Widens};
 ghost use Rattle.sgt_certifier.specs.Kept.{changed_at, IsExpected};
 
+use crate::counts::Counts;
 use sgt_names::{Item, Listed, SiteNo, Touch};
 use std::alloc::{AllocError, Global};
 
@@ -22,6 +24,18 @@ fn is_changed(touch: &Touch, site: SiteNo) -> bool
     touch.site == site && touch.change.is_some()
 }
 
+// Makes room for one more item: for the first one alone, since most drafts change one item of a site.
+fn make_place(items: &mut Vec<Item>) -> Result<(), AllocError>
+    ensures items { items.new.items ≡ items.old.items }
+    ensures room { OnOk result (vec_len items.new < vec_capacity items.new) }
+{
+    if items.is_empty() {
+        items.reserve_exact(1)
+    } else {
+        items.reserve(1)
+    }
+}
+
 // The items that the draft changes at the site.
 fn changed_items(alloc: Global, touched: &[Touch], site: SiteNo) -> Result<Listed<Item>, AllocError>
     ensures ok { IfOk result (λ items. items ≡ changed_at touched.now site) }
@@ -30,7 +44,8 @@ fn changed_items(alloc: Global, touched: &[Touch], site: SiteNo) -> Result<Liste
     let mut items = Vec::new(alloc);
     for touch in touched {
         if is_changed(touch, site) {
-            items.push(touch.item)?;
+            make_place(&mut items)?;
+            items.push_reserved(touch.item);
         }
     }
     items.shrink_to_fit();
@@ -76,25 +91,32 @@ fn place_of(expected: &[Prepared], touched: &[Touch], site: SiteNo) -> Option<us
     None
 }
 
-// The items that the draft changes at the site: the list that was made for it, which is taken away, or else a new one.
+// The items that the draft changes at the site, which have places: the list that was made for it, which is taken away, or else a
+// new one.
 pub fn take_items(
     alloc: Global,
     expected: &mut Vec<Prepared>,
+    counts: &mut Counts,
     touched: &[Touch],
     site: SiteNo,
 ) -> Result<Listed<Item>, AllocError>
+    requires placed { All (HavePlaces counts.old) expected.old.items }
     ensures items { IfOk result (λ items. items ≡ changed_at touched.now site) }
+    ensures places { OnOk result (All (HasPlace counts.new site) (changed_at touched.now site)) }
+    ensures widens { Widens counts.old counts.new }
     ensures others { (other : List Touched) (s : ℕ)
         → s ≢ site → IsExpected expected.old.items other s → IsExpected expected.new.items other s }
     ensures fewer { (p : APrepared) → Contains expected.new.items p → Contains expected.old.items p }
-    ensures taken { (expected.new.items ≡ expected.old.items)
-        ⊎ Contains expected.old.items (record { site = site; items = changed_at touched.now site }) }
     ensures err { OnErr result (expected.new.items ≡ expected.old.items) }
     ensures wants { OnErr result (IsExpected expected.old.items touched.now site → ⊥) }
 {
     match place_of(expected.as_slice(), touched, site) {
         Some(place) => Ok(expected.remove(place).items),
-        None => changed_items(alloc, touched, site),
+        None => {
+            let items = changed_items(alloc, touched, site)?;
+            counts.place_each(site, items.as_slice())?;
+            Ok(items)
+        }
     }
 }
 

@@ -8,7 +8,7 @@ mod install;
 mod laws;
 mod ranking;
 
-pub use call::{Call, CertifierFault, Decided};
+pub use call::{Call, CertifierFault, Decided, Walk};
 pub use certifier::Certifier;
 pub use laws::{
     histories_are_sound, installs_are_counted, installs_are_noted_once,

@@ -16,6 +16,9 @@ pub struct Edge {
     pub label: Label,
 }
 
+// How many edges the first one makes room for: most drafts have no more.
+const FIRST: usize = 8;
+
 /// Edges in the order in which they were added.
 #[derive(Debug, Drop)]
 pub struct EdgeList {
@@ -48,12 +51,13 @@ impl EdgeList {
         EdgeList { edges }
     }
 
-    /// Adds an edge at the end.
+    /// Adds an edge at the end. The first one makes room for seven more.
     pub fn push(&mut self, edge: Edge) -> Result<(), AllocError>
         ensures ok { OnOk result (self.new ≡ self.old ++ edge ∷ []) }
         ensures err { OnErr result (self.new ≡ self.old) }
     {
-        self.edges.reserve(1)?;
+        let more = if self.edges.capacity() == 0 { FIRST } else { 1 };
+        self.edges.reserve(more)?;
         self.edges.push_reserved(edge);
         Ok(())
     }
@@ -66,7 +70,7 @@ impl EdgeList {
     }
 
     /// Gives the room back that isn't used.
-    pub(crate) fn shrink(&mut self)
+    pub fn shrink(&mut self)
         ensures { self.new ≡ self.old }
     {
         self.edges.shrink_to_fit();

@@ -52,7 +52,6 @@ fn to_neighbours(
     for t in touched {
         add_edges(&mut edges, site, here, t, me)?;
     }
-    edges.shrink();
     Ok(edges)
 }
 

@@ -1,7 +1,7 @@
 -- What a search finds: an item among the cells, a transaction among the reads of an item and among those that have ended.
 use Rattle.std.proofs.Common.{◌≡◌, ℕ, Bool, List, [], ◌∷◌, map, get_or, Option, Some, None, Result, Ok, Err, refl, sym, ap, ◌∙◌, subst, arith, inl, inr, Contains}
 use mathlib.Core.Bool.{false≢true}
-use Rattle.std.specs.Prelude.{slice_get, set, IsTrue, is_some, is_ok, OnOk, OnErr, IfOk, IfErr, option_map, ◌↔◌}
+use Rattle.std.specs.Prelude.{slice_get, set, IsTrue, is_some, is_ok, OnOk, OnErr, IfOk, IfErr, IfSome, IfNone, option_map, ◌↔◌}
 use Rattle.std.specs.List.{insert}
 use Rattle.std.specs.Ordering.{nat_cmp}
 use Rattle.std.specs.Cmp.{IsTotalOrder}
@@ -10,7 +10,7 @@ use Rattle.std.specs.declared.cmp.Ordering.{Ordering}
 use Rattle.std.specs.declared.cmp.Ordering.TheVariants.{Less, Equal}
 use Rattle.std.proofs.lemmas.Bool.{cases_lt, cases_order}
 use Rattle.std.proofs.lemmas.Cmp.{nat_cmp_total, nat_list_cmp_total, tied_itself}
-use Rattle.std.proofs.lemmas.Option.{slice_get-map, slice_get-get_or, same_Some}
+use Rattle.std.proofs.lemmas.Option.{slice_get-map, slice_get-get_or, slice_get_within, same_Some}
 use Rattle.sgt_names.specs.Name.{Name}
 use Rattle.sgt_names.specs.Ordered.{IsRisingBy, IsAt, IsGapFor}
 use Rattle.sgt_names.specs.declared.draft.Seen.{Seen}
@@ -45,6 +45,13 @@ no_key key cmp total xs k n gap a has same =
       | inl lt ↦ let less = gap.before at.0 a lt at.1 in absurd cc
       | inr le ↦ let more = gap.after at.0 a le at.1 in absurd cc
     ]
+
+-- a cell of the item at a place is where the item is
+pub at-place : (cells : List Contents) (x : Name) (n : ℕ) → (c : Contents) × (slice_get cells n ≡ Some c) × (c.item ≡ x) → IsAt (λ c. c.item) cells x n
+at-place cells x n c = record {
+  within = slice_get_within cells n c.0 c.1;
+  is = λ d here. ap (λ (e : Contents). e.item) (same_Some d c.0 (sym here ∙ c.1)) ∙ c.2;
+}
 
 -- an item that was found is there
 pub item-there : (cells : List Contents) (x : Name) (n : ℕ) → IsAt (λ c. c.item) cells x n → HasItem cells x
@@ -103,9 +110,9 @@ answers_at cells n tx new (Err e) at value ok = tt
 answers_at cells n tx new (Ok seen) {old} at value ok = record { cell = old; answered = new; at = at; is = value; reads = ok; others = refl }
 
 -- a search tells whether the item is there, or the transaction has ended
-pub tells_item : (cells : List Contents) (x : Name) (b : Bool) (r : Result ℕ ℕ) → b ≡ is_ok r → IfOk r (IsAt (λ c. c.item) cells x) → OnErr r (HasItem cells x → ⊥) → IsTrue b ↔ HasItem cells x
-tells_item cells x b (Ok n) is at absent = (λ _. item-there cells x n at, λ _. is)
-tells_item cells x b (Err n) is at absent = (λ h. absurd (false≢true (sym is ∙ h)), λ has. absurd (absent has))
+pub tells_item : (cells : List Contents) (x : Name) (b : Bool) (o : Option ℕ) → b ≡ is_some o → IfSome o (IsAt (λ c. c.item) cells x) → IfNone o (HasItem cells x → ⊥) → IsTrue b ↔ HasItem cells x
+tells_item cells x b (Some n) is at absent = (λ _. item-there cells x n at, λ _. is)
+tells_item cells x b None is at absent = (λ h. absurd (false≢true (sym is ∙ h)), λ has. absurd (absent has))
 
 pub tells_ended : (ended : List ℕ) (tx : ℕ) (b : Bool) (r : Result ℕ ℕ) → b ≡ is_ok r → IfOk r (IsAt (λ t. t) ended tx) → IfErr r (IsGapFor (λ t. t) nat_cmp ended tx) → IsTrue b ↔ Contains ended tx
 tells_ended ended tx b (Ok n) is at gap = (λ _. let t = has_key (λ (t : ℕ). t) ended tx n at in subst (Contains ended) t.2 (Contains-from_at ended n t.0 t.1), λ _. is)

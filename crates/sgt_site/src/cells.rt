@@ -1,6 +1,6 @@
 //! The cells of a site.
 
-ghost use Rattle.std.specs.Prelude.{◌≡◌, ◌+◌, ◌<◌, ◌≤◌, [], Some, length, map, slice_get, vec_len, vec_capacity, All, Contains, IsTrue, IfOk, OnErr};
+ghost use Rattle.std.specs.Prelude.{◌≡◌, ◌↔◌, ◌+◌, ◌<◌, ◌≤◌, [], Some, length, map, slice_get, vec_len, vec_capacity, All, Contains, IsTrue, IfOk, IfSome, IfNone, OnErr};
 ghost use Rattle.std.specs.Ordering.{nat_cmp};
 ghost use Rattle.std.specs.Cmp.Lexicographic.{slice_cmp};
 ghost use Rattle.sgt_names.specs.Ordered.{IsAt};
@@ -16,7 +16,12 @@ use std::marker::Model;
 #[derive(Drop)]
 pub(crate) struct Cells {
     cells: Vec<Cell>,
+    // where the cell of an item may be, by a hash of its name
+    hints: Vec<u16>,
 }
+
+// How many hints there are for each item.
+const HINTS_EACH: usize = 8;
 
 impl Model for Cells {
     ghost use Rattle.std.specs.Prelude.{List};
@@ -46,7 +51,8 @@ impl Cells {
         let mut cells = Vec::new(alloc);
         cells.reserve(items.len())?;
         add_cells(alloc, &mut cells, items);
-        Ok(Cells { cells })
+        let hints = hints_of(alloc, items)?;
+        Ok(Cells { cells, hints })
     }
 
     pub(crate) fn as_slice(&self) -> &[Cell]
@@ -61,25 +67,22 @@ impl Cells {
         ensures found { IfSome result (IsAt (λ c. c.item) self.now item) }
         ensures absent { IfNone result (HasItem self.now item → ⊥) }
     {
-        match search(self.cells.as_slice(), item) {
-            Ok(at) => Some(at),
-            Err(_) => None,
-        }
+        search(self.cells.as_slice(), self.hints.as_slice(), item)
     }
 
     pub(crate) fn has(&self, item: Item) -> bool
         ensures { IsTrue result ↔ HasItem self.now item }
     {
-        search(self.cells.as_slice(), item).is_ok()
+        self.find(item).is_some()
     }
 
     /// What the transaction's read of the item answered, if it has read it.
     pub(crate) fn seen_by(&self, tx: Tx, item: Item) -> Option<Seen>
         ensures { (seen : Answer) → (result ≡ Some seen) ↔ InCells self.now tx item seen }
     {
-        match search(self.cells.as_slice(), item) {
-            Ok(at) => self.cells[at].seen_by(tx),
-            Err(_) => None,
+        match self.find(item) {
+            Some(at) => self.cells[at].seen_by(tx),
+            None => None,
         }
     }
 
@@ -98,7 +101,7 @@ impl Cells {
         ensures same { AreChanged SameButRoom self.old self.new }
         ensures room { IsTrue result → All (λ c. IsTouched part.now c.item → 0 < c.has_room) self.new }
     {
-        reserve_all(&mut self.cells, part)
+        reserve_all(&mut self.cells, self.hints.as_slice(), part)
     }
 
     /// Notes a commit in the cells of the items that it touches, each once.
@@ -107,7 +110,7 @@ impl Cells {
         requires room { All (λ c. IsTouched part.now c.item → 0 < c.has_room) self.old }
         ensures { AreChanged (λ c d. IsNoted by.now (touch_in part.now c.item) c d) self.old self.new }
     {
-        note_all(&mut self.cells, by, part)
+        note_all(&mut self.cells, self.hints.as_slice(), by, part)
     }
 }
 
@@ -122,8 +125,83 @@ fn add_cells(alloc: Global, cells: &mut Vec<Cell>, items: &[Holding])
     }
 }
 
-// Where the item is, or where it would go.
-fn search(cells: &[Cell], item: Item) -> Result<usize, usize>
+// A number made of the bytes of a name.
+fn key_of(name: &[u8]) -> u64 {
+    match (name.first_chunk::<4>(), name.last_chunk::<4>()) {
+        (Some(front), Some(back)) => {
+            (u32::from_le_bytes(*front) as u64) << 32 | u32::from_le_bytes(*back) as u64
+        }
+        _ => name.iter().fold(0u64, |key, byte| key << 8 | *byte as u64),
+    }
+}
+
+// Which of so many hints is the item's.
+fn slot_of(item: &Item, slots: usize) -> usize {
+    let spread = key_of(item.as_bytes()).wrapping_mul(0x9e37_79b9_7f4a_7c15);
+    ((spread >> 32).wrapping_mul(slots as u64) >> 32) as usize
+}
+
+// The place that is hinted for an item.
+fn hint_of(hints: &[u16], item: &Item) -> usize {
+    match hints.get(slot_of(item, hints.len())) {
+        Some(hint) => *hint as usize,
+        None => 0,
+    }
+}
+
+// Hints this place for an item.
+fn set_hint(hints: &mut [u16], item: &Item, place: usize) {
+    let slot = slot_of(item, hints.len());
+    if let Some(hint) = hints.get_mut(slot) {
+        if let Ok(short) = u16::try_from(place) {
+            *hint = short;
+        }
+    }
+}
+
+// The hints for these items, each at its place. Nothing need be known of them.
+fn hints_of(alloc: Global, items: &[Holding]) -> Result<Vec<u16>, AllocError> {
+    let mut hints = vec![in alloc; 0u16; items.len().saturating_mul(HINTS_EACH)]?;
+    for place in 0..items.len() {
+        set_hint(hints.as_mut_slice(), &items[place].item, place);
+    }
+    Ok(hints)
+}
+
+fn is_of(cell: &Cell, item: &Item) -> bool
+    ensures { IsTrue result ↔ (cell.now.item ≡ item.now) }
+{
+    cell.item() == *item
+}
+
+// Whether the item is at this place.
+fn is_at(cells: &[Cell], place: usize, item: &Item) -> bool
+    ensures { IsTrue result → (c : Contents) × (slice_get cells.now place ≡ Some c) × (c.item ≡ item.now) }
+{
+    match cells.get(place) {
+        Some(cell) => is_of(cell, item),
+        None => false,
+    }
+}
+
+// Where the item is. The hint is tried first.
+fn search(cells: &[Cell], hints: &[u16], item: Item) -> Option<usize>
+    requires { CellsRise cells.now }
+    ensures found { IfSome result (IsAt (λ c. c.item) cells.now item) }
+    ensures absent { IfNone result (HasItem cells.now item → ⊥) }
+{
+    let hint = hint_of(hints, &item);
+    if is_at(cells, hint, &item) {
+        return Some(hint);
+    }
+    match search_all(cells, item) {
+        Ok(at) => Some(at),
+        Err(_) => None,
+    }
+}
+
+// Where the item is, or where it would go, by a binary search.
+fn search_all(cells: &[Cell], item: Item) -> Result<usize, usize>
     requires { CellsRise cells.now }
     ensures found { IfOk result (IsAt (λ c. c.item) cells.now item) }
     ensures absent { OnErr result (HasItem cells.now item → ⊥) }
@@ -138,13 +216,13 @@ fn order(cell: &Cell, item: &Item) -> Ordering
 }
 
 // Makes room in the cells of the items.
-fn reserve_all(cells: &mut Vec<Cell>, part: &[Touch]) -> bool
+fn reserve_all(cells: &mut Vec<Cell>, hints: &[u16], part: &[Touch]) -> bool
     requires { CellsRise cells.old.items }
     ensures same { AreChanged SameButRoom cells.old.items cells.new.items }
     ensures room { IsTrue result → All (λ c. IsTouched part.now c.item → 0 < c.has_room) cells.new.items }
 {
     for t in part {
-        if !reserve_for(cells, t.item) {
+        if !reserve_for(cells, hints, t.item) {
             return false;
         }
     }
@@ -152,14 +230,14 @@ fn reserve_all(cells: &mut Vec<Cell>, part: &[Touch]) -> bool
 }
 
 // Makes room in the cell of the item, if there is one.
-fn reserve_for(cells: &mut Vec<Cell>, item: Item) -> bool
+fn reserve_for(cells: &mut Vec<Cell>, hints: &[u16], item: Item) -> bool
     requires { CellsRise cells.old.items }
     ensures same { AreChanged SameButRoom cells.old.items cells.new.items }
     ensures room { IsTrue result → All (λ c. c.item ≡ item → 0 < c.has_room) cells.new.items }
 {
-    match search(cells.as_slice(), item) {
-        Ok(at) => reserve_at(cells, at),
-        Err(_) => true,
+    match search(cells.as_slice(), hints, item) {
+        Some(at) => reserve_at(cells, at),
+        None => true,
     }
 }
 
@@ -179,26 +257,26 @@ fn reserve(cell: &mut Cell) -> bool
 }
 
 // Notes a commit in the cells of the items that it touches, one after another.
-fn note_all(cells: &mut Vec<Cell>, by: &Install, part: &[Touch])
+fn note_all(cells: &mut Vec<Cell>, hints: &[u16], by: &Install, part: &[Touch])
     requires rising { CellsRise cells.old.items }
     requires once { ItemsRise part.now }
     requires room { All (λ c. IsTouched part.now c.item → 0 < c.has_room) cells.old.items }
     ensures { AreChanged (λ c d. IsNoted by.now (touch_in part.now c.item) c d) cells.old.items cells.new.items }
 {
     for t in part {
-        note_in(cells, by, t);
+        note_in(cells, hints, by, t);
     }
 }
 
 // Notes a commit that touches an item in the item's cell, if there is one.
-fn note_in(cells: &mut Vec<Cell>, by: &Install, touch: &Touch)
+fn note_in(cells: &mut Vec<Cell>, hints: &[u16], by: &Install, touch: &Touch)
     requires rising { CellsRise cells.old.items }
     requires room { All (λ c. c.item ≡ touch.now.item → 0 < c.has_room) cells.old.items }
     ensures { AreChanged (NotesItem by.now touch.now) cells.old.items cells.new.items }
 {
-    match search(cells.as_slice(), touch.item) {
-        Ok(at) => note_at(cells, at, by, touch),
-        Err(_) => {}
+    match search(cells.as_slice(), hints, touch.item) {
+        Some(at) => note_at(cells, at, by, touch),
+        None => {}
     }
 }
 

@@ -14,4 +14,4 @@ pub loop-t-preserved : goal.loop-t-preserved
 loop-t-preserved c = each-next (λ t e. IsNear c.args.site.now (t ∷ []) c.args.me e) c.args.touched.now _ _ [] _ _ (element_at _ _ _ c.loop-t-test.true c.t-item.is) c.loop-t.invariant c.in_ok-add_edges.ensures
 
 pub returns-clause-near : goal.returns-clause-near
-returns-clause-near c = rw c.shrink.ensures (gathers-near _ _ _ _ _ c.loop-t-test.false c.loop-t.invariant)
+returns-clause-near c = gathers-near _ _ _ _ _ c.loop-t-test.false c.loop-t.invariant

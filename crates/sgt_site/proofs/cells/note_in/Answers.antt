@@ -5,14 +5,14 @@ use Rattle.std.proofs.Common.{◌≡◌, ◌<◌}
 use Rattle.sgt_site.proofs.cells.note_in.Goals as goal
 
 pub note_at-requires-clause-within : goal.note_at-requires-clause-within
-note_at-requires-clause-within c = rw c.as_slice.ensures.value at c.in-Ok.ensures.found.within
+note_at-requires-clause-within c = rw c.as_slice.ensures.value at c.in-Some.ensures.found.within
 
 pub note_at-requires-clause-room : goal.note_at-requires-clause-room
 note_at-requires-clause-room c = λ d here.
-    All_at (λ (e : Contents). e.item ≡ c.args.touch.now.item → 0 < e.has_room) _ _ d c.requires.room here ((rw c.as_slice.ensures.value at c.in-Ok.ensures.found).is d here)
+    All_at (λ (e : Contents). e.item ≡ c.args.touch.now.item → 0 < e.has_room) _ _ d c.requires.room here ((rw c.as_slice.ensures.value at c.in-Some.ensures.found).is d here)
 
-pub returns-in-Ok : goal.returns-in-Ok
-returns-in-Ok c = notes-here _ _ _ _ _ c.requires.rising (rw c.as_slice.ensures.value at c.in-Ok.ensures.found) c.note_at.ensures
+pub returns-in-Some : goal.returns-in-Some
+returns-in-Some c = notes-here _ _ _ _ _ c.requires.rising (rw c.as_slice.ensures.value at c.in-Some.ensures.found) c.note_at.ensures
 
-pub returns-in-Err : goal.returns-in-Err
-returns-in-Err c = notes-nowhere _ _ _ (rw c.as_slice.ensures.value at c.in-Err.ensures.absent)
+pub returns-in-None : goal.returns-in-None
+returns-in-None c = notes-nowhere _ _ _ (rw c.as_slice.ensures.value at c.in-None.ensures.absent)

@@ -1,13 +1,13 @@
-use Rattle.std.proofs.Common.{◌≡◌, ◌<◌, ◌++◌, ◌∷◌, [], refl, sym, ap, ◌∙◌, subst, arith, ◌≢◌, inl, inr, All, AllPairs, IfErr}
+use Rattle.std.proofs.Common.{◌≡◌, ◌<◌, ◌++◌, ◌∷◌, [], refl, sym, ap, ◌∙◌, subst, arith, ◌≢◌, AllPairs}
 use Rattle.std.proofs.lemmas.Bool.{true≢false}
 use Rattle.sgt_names.specs.Limits.{max_sites}
 use Rattle.sgt_certifier.specs.declared.call.Call.TheVariants as call
-use Rattle.sgt_certifier.specs.History.{installed, IsInstalling, IsNoted}
-use Rattle.sgt_certifier.specs.Kept.{Kept, Adds, Declines, IsExpected, changed_at}
+use Rattle.sgt_certifier.specs.History.{IsInstalling, IsNoted}
+use Rattle.sgt_certifier.specs.Kept.{Kept, Adds, IsExpected, changed_at}
 use Rattle.sgt_certifier.proofs.Extending.{parts_of, Parts, state_of}
-use Rattle.sgt_certifier.proofs.Installing.{installed_allowed, installed_serves, installed_kept, installed_room}
-use Rattle.sgt_certifier.specs.Counted.{CountsEach, HasPlace}
-use Rattle.sgt_certifier.proofs.Counting.{changed-once, counted-few, counted-installed, counted-fewer, counted-wider, none-expected, not-expected, wants-memory}
+use Rattle.sgt_certifier.proofs.Installing.{installed_serves, installed_kept, installed_room}
+use Rattle.sgt_certifier.specs.Counted.{CountsEach}
+use Rattle.sgt_certifier.proofs.Counting.{changed-once, counted-few, counted-installed, counted-fewer, counted-wider}
 use Rattle.sgt_certifier.proofs.certifier.Certifier.installed.Goals as goal
 
 pub push_reserved-requires : goal.push_reserved-requires
@@ -39,11 +39,11 @@ invariant_of-self-2 c =
     let below : c.args.site < max_sites = omega arith in
     let calls : q.calls ≡ p.calls ++ call.Installed c.args.tx c.args.site items ∷ [] = c.push_reserved-2.ensures.items ∙ ap (λ xs. c.self.inside.history.items ++ call.Installed c.args.tx c.args.site xs ∷ []) items_is in
     let serves = installed_serves p q c.args.tx c.args.site items c.self.invariant.0.replays is_open new refl refl refl refl refl refl refl refl calls in
-    let each = subst (λ xs. CountsEach c.args.site xs c.place_each.new.self c.add_each.new.self) (c.as_slice-2.ensures ∙ items_is) c.add_each.ensures in
-    let wider = counted-wider c.self.inside.counts c.place_each.new.self p.calls c.self.inside.expected.items c.place_each.ensures.widens c.self.invariant.1 in
-    let counted_before = counted-fewer c.place_each.new.self p.calls c.self.inside.expected.items c.take_items.new.expected.items c.take_items.ensures.fewer wider in (
+    let each = subst (λ xs. CountsEach c.args.site xs c.take_items.new.counts c.add_each.new.self) (c.as_slice.ensures ∙ items_is) c.add_each.ensures in
+    let wider = counted-wider c.self.inside.counts c.take_items.new.counts p.calls c.self.inside.expected.items c.take_items.ensures.widens c.self.invariant.1 in
+    let counted_before = counted-fewer c.take_items.new.counts p.calls c.self.inside.expected.items c.take_items.new.expected.items c.take_items.ensures.fewer wider in (
       installed_kept p q c.args.tx c.args.site items c.self.inside.noted.items c.push_reserved.new.self.items _ _ _ _ _ _ _ c.self.invariant.0 serves calls is_open new below refl refl refl c.push_reserved.ensures.items c.push_reserved-2.ensures.capacity c.push_reserved.ensures.capacity,
-      counted-installed c.place_each.new.self c.add_each.new.self p.calls q.calls c.take_items.new.expected.items c.args.tx c.args.site items calls each counted_before,
+      counted-installed c.take_items.new.counts c.add_each.new.self p.calls q.calls c.take_items.new.expected.items c.args.tx c.args.site items calls each counted_before,
     )
 
 pub returns-clause-ok : goal.returns-clause-ok
@@ -64,49 +64,20 @@ returns-in_err-items-clause-takes_none c = λ e.
     absurd (c.in_err-items.ensures.wants
     (subst (λ ts. IsExpected c.self.inside.expected.items ts c.args.site) (sym c.touched.ensures.all) inside))
 
-pub invariant_of-self-in_err-place_each : goal.invariant_of-self-in_err-place_each
-invariant_of-self-in_err-place_each c =
+pub invariant_of-self : goal.invariant_of-self
+invariant_of-self c =
     let i = c.self.inside in
-    let new = c.place_each.new.self in
-    let wider = counted-wider i.counts new i.history.items i.expected.items c.place_each.ensures.widens c.self.invariant.1 in
+    let new = c.take_items.new.counts in
+    let wider = counted-wider i.counts new i.history.items i.expected.items c.take_items.ensures.widens c.self.invariant.1 in
     (c.self.invariant.0, counted-fewer new i.history.items i.expected.items c.take_items.new.expected.items c.take_items.ensures.fewer wider)
-
-pub returns-in_err-place_each-clause-err : goal.returns-in_err-place_each-clause-err
-returns-in_err-place_each-clause-err c =
-    let i = c.self.inside in
-    let p = parts_of i in
-    let items_is = c.as_slice.ensures ∙ c.in_ok-items.ensures.items in
-    let none : All (HasPlace i.counts c.args.site) (changed_at c.touched.result.now c.args.site) → ⊥ =
-    λ all. c.in_err-place_each.ensures.err (subst (All (HasPlace i.counts c.args.site)) (sym items_is) all) in
-    let same : c.take_items.new.expected.items ≡ i.expected.items = elim c.take_items.ensures.taken [
-      | inl e ↦ e
-      | inr listed ↦ absurd (none-expected i.counts i.history.items i.expected.items c.touched.result.now c.args.site c.self.invariant.1 none listed)
-    ] in
-    let is_open : IsInstalling (state_of p) c.args.tx = subst (λ (v : Kept). IsInstalling v.state c.args.tx) (sym c.self.view_is) (c.is_installing.ensures.0 c.if-not-is_installing.false) in
-    let new : IsNoted (state_of p) c.args.tx c.args.site → ⊥ = λ noted. true≢false (sym (c.is_noted.ensures.1 (subst (λ (v : Kept). IsNoted v.state c.args.tx c.args.site) c.self.view_is noted)) ∙ c.if-is_noted.false) in
-    subst (λ (v : Kept). IfErr c.from_residual-in_err-place_each.result (λ f. Declines v (installed c.args.tx c.args.site) f
-    (record { state = state_of p; history = i.history.items; expected = c.take_items.new.expected.items }))) c.self.view_is
-    (wants-memory c.from_residual-in_err-place_each.result (record { state = state_of p; history = i.history.items; expected = i.expected.items })
-    (record { state = state_of p; history = i.history.items; expected = c.take_items.new.expected.items }) (installed c.args.tx c.args.site)
-    c.from_residual-in_err-place_each.ensures.1 (installed_allowed (state_of p) c.args.tx c.args.site is_open new)
-    (ap (λ es. record { state = state_of p; history = i.history.items; expected = es }) same))
-
-pub returns-in_err-place_each-clause-takes_none : goal.returns-in_err-place_each-clause-takes_none
-returns-in_err-place_each-clause-takes_none c = λ e.
-    let i = c.self.inside in
-    let items_is = c.as_slice.ensures ∙ c.in_ok-items.ensures.items ∙ ap (λ ts. changed_at ts c.args.site) c.touched.ensures.all in
-    let none : All (HasPlace i.counts c.args.site) (changed_at c.args.draft.now.touched c.args.site) → ⊥ =
-    λ all. c.in_err-place_each.ensures.err (subst (All (HasPlace i.counts c.args.site)) (sym items_is) all) in
-    let inside = subst (λ (v : Kept). IsExpected v.expected c.args.draft.now.touched c.args.site) (sym c.self.view_is) e in
-    absurd (not-expected i.counts i.history.items i.expected.items c.args.draft.now.touched c.args.site c.self.invariant.1 none inside)
 
 pub add_each-requires-clause-once : goal.add_each-requires-clause-once
 add_each-requires-clause-once c =
-    let items_is = c.as_slice-2.ensures ∙ c.in_ok-items.ensures.items ∙ ap (λ ts. changed_at ts c.args.site) c.touched.ensures.all in
+    let items_is = c.as_slice.ensures ∙ c.in_ok-items.ensures.items ∙ ap (λ ts. changed_at ts c.args.site) c.touched.ensures.all in
     subst (AllPairs (λ a b. a ≢ b)) (sym items_is) (changed-once c.args.site c.args.draft.now.touched c.touched.ensures.rising)
 
 pub add_each-requires-clause-small : goal.add_each-requires-clause-small
 add_each-requires-clause-small c = λ s x.
-    let same = c.place_each.ensures.widens.same s x in
+    let same = c.take_items.ensures.widens.same s x in
     let exact = c.self.invariant.1.exact s x in
     omega (arith, same, exact, counted-few c.self.inside.history.items s x, c.self.inside.history.ok)
