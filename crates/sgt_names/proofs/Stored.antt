@@ -144,6 +144,16 @@ stored-name n padded is kept =
       zeros = kept ∙ ap padded_name (sym same);
     }
 
+-- the first bytes, where they are a name
+pub front-padded : (bytes kept : List ℕ) (len : ℕ) → length bytes ≡ 16 → len ≤ 16 → kept ≡ take len bytes ++ replicate (16 - len) 0 → kept ≡ padded_name (take len bytes)
+front-padded bytes kept len many few is =
+    is ∙ ap (λ (n : ℕ). take len bytes ++ replicate (16 - n) 0) (sym (length-take-le len bytes (omega (arith, many, few))))
+
+pub front-is_name : (bytes : List ℕ) (len : ℕ) → length bytes ≡ 16 → len ≤ 16 → BeginsName (take len bytes) → list_all is_name_byte (take len bytes) ≡ true → IsName (take len bytes)
+front-is_name bytes len many few begins all =
+    let long = length-take-le len bytes (omega (arith, many, few)) in
+    name-from_parts (take len bytes) begins (omega (arith, long, few), all)
+
 -- stored names stand in the order of their bytes
 pub stored-order : (a b : Inside) → IsStored a → IsStored b → slice_cmp nat_cmp a.bytes b.bytes ≡ slice_cmp nat_cmp (name_of a) (name_of b)
 stored-order a b ha hb =
