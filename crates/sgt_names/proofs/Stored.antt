@@ -1,6 +1,6 @@
 -- A name as it is kept, in sixteen bytes with zeros behind it, and as a text.
 use Rattle.std.proofs.Common.{◌≡◌, ◌≤◌, ◌<◌, ℕ, zero, suc, add-one, ◌+◌, ◌-◌, List, [], ◌∷◌, ◌++◌, length, take, replicate, set, get_or, true, refl, sym, ap, ap₂, ◌∙◌, subst, arith, inl, inr, All}
-use Rattle.std.specs.Prelude.{◌&&◌, ◌||◌, ◌==◌, nat_le, nat_lt, IsTrue}
+use Rattle.std.specs.Prelude.{◌&&◌, ◌||◌, ◌==◌, nat_le}
 use Rattle.std.specs.List.{list_all, prefix_len, take_while, AllByRecursion}
 use Rattle.std.specs.Ordering.{nat_cmp, ordering_then}
 use Rattle.std.specs.declared.cmp.Ordering.TheVariants.{Less, Greater}
@@ -8,17 +8,17 @@ use Rattle.std.specs.Cmp.{nat_cmp_is}
 use Rattle.std.specs.Cmp.Lexicographic.{slice_cmp}
 use Rattle.std.specs.Str.{IsUtf8}
 use Rattle.std.proofs.Math.Seq.{take-suc, set-append_seam}
-use Rattle.std.proofs.lemmas.Bool.{and_from, and_parts, or_left, or_cases, ltb-true, leb-true, eqb-true}
+use Rattle.std.proofs.lemmas.Bool.{and_from, and_parts, or_left, or_cases, leb-true, eqb-true}
 use Rattle.std.proofs.lemmas.List.{append_assoc, length-take-le}
 use Rattle.std.proofs.lemmas.List.Sums.{take_while-cons}
 use Rattle.std.proofs.lemmas.List.Folds.{list_all-append}
-use Rattle.std.proofs.lemmas.List.Elements.{All-tail, All-append, All-from_recursion}
+use Rattle.std.proofs.lemmas.List.Elements.{All-tail, All-from_recursion}
 use Rattle.std.proofs.lemmas.Str.{IsUtf8-from_ascii}
 use Rattle.std.proofs.lemmas.Str.Ascii.{IsAscii-from_all}
 use Rattle.sgt_names.specs.Name.{Name, IsName, is_name_byte, is_small_letter}
 use Rattle.sgt_names.specs.Stored.{BeginsName, AreNameBytes, IsStored, is_positive, name_of, padded_name}
 use Rattle.sgt_names.specs.declared.item.Item.TheInside.{Inside}
-use Rattle.sgt_names.proofs.Places.{All_at, All-from_at}
+use Rattle.sgt_names.proofs.Places.{All_at}
 
 -- ---- bytes with zeros behind them
 
