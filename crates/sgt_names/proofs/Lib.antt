@@ -3,6 +3,7 @@ pub mod Lists
 pub mod Devices
 pub mod Chosen
 pub mod Increments
+pub mod Kept
 pub mod Stored
 pub mod Ranged
 pub mod Touched

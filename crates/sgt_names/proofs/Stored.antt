@@ -1,6 +1,6 @@
 -- A name as it is kept, in sixteen bytes with zeros behind it, and as a text.
 use Rattle.std.proofs.Common.{◌≡◌, ◌≤◌, ◌<◌, ℕ, zero, suc, add-one, ◌+◌, ◌-◌, List, [], ◌∷◌, ◌++◌, length, take, replicate, set, get_or, true, refl, sym, ap, ap₂, ◌∙◌, subst, arith, inl, inr, All}
-use Rattle.std.specs.Prelude.{◌&&◌, ◌||◌, ◌==◌, nat_le, nat_lt, IsTrue}
+use Rattle.std.specs.Prelude.{◌&&◌, ◌||◌, ◌==◌, nat_le}
 use Rattle.std.specs.List.{list_all, prefix_len, take_while, AllByRecursion}
 use Rattle.std.specs.Ordering.{nat_cmp, ordering_then}
 use Rattle.std.specs.declared.cmp.Ordering.TheVariants.{Less, Greater}
@@ -8,17 +8,17 @@ use Rattle.std.specs.Cmp.{nat_cmp_is}
 use Rattle.std.specs.Cmp.Lexicographic.{slice_cmp}
 use Rattle.std.specs.Str.{IsUtf8}
 use Rattle.std.proofs.Math.Seq.{take-suc, set-append_seam}
-use Rattle.std.proofs.lemmas.Bool.{and_from, and_parts, or_left, or_cases, ltb-true, leb-true, eqb-true}
+use Rattle.std.proofs.lemmas.Bool.{and_from, and_parts, or_left, or_cases, leb-true, eqb-true}
 use Rattle.std.proofs.lemmas.List.{append_assoc, length-take-le}
 use Rattle.std.proofs.lemmas.List.Sums.{take_while-cons}
 use Rattle.std.proofs.lemmas.List.Folds.{list_all-append}
-use Rattle.std.proofs.lemmas.List.Elements.{All-tail, All-append, All-from_recursion}
+use Rattle.std.proofs.lemmas.List.Elements.{All-tail, All-from_recursion}
 use Rattle.std.proofs.lemmas.Str.{IsUtf8-from_ascii}
 use Rattle.std.proofs.lemmas.Str.Ascii.{IsAscii-from_all}
 use Rattle.sgt_names.specs.Name.{Name, IsName, is_name_byte, is_small_letter}
 use Rattle.sgt_names.specs.Stored.{BeginsName, AreNameBytes, IsStored, is_positive, name_of, padded_name}
 use Rattle.sgt_names.specs.declared.item.Item.TheInside.{Inside}
-use Rattle.sgt_names.proofs.Places.{All_at, All-from_at}
+use Rattle.sgt_names.proofs.Places.{All_at}
 
 -- ---- bytes with zeros behind them
 
@@ -143,6 +143,16 @@ stored-name n padded is kept =
       name = subst IsName (sym same) is;
       zeros = kept ∙ ap padded_name (sym same);
     }
+
+-- the first bytes, where they are a name
+pub front-padded : (bytes kept : List ℕ) (len : ℕ) → length bytes ≡ 16 → len ≤ 16 → kept ≡ take len bytes ++ replicate (16 - len) 0 → kept ≡ padded_name (take len bytes)
+front-padded bytes kept len many few is =
+    is ∙ ap (λ (n : ℕ). take len bytes ++ replicate (16 - n) 0) (sym (length-take-le len bytes (omega (arith, many, few))))
+
+pub front-is_name : (bytes : List ℕ) (len : ℕ) → length bytes ≡ 16 → len ≤ 16 → BeginsName (take len bytes) → list_all is_name_byte (take len bytes) ≡ true → IsName (take len bytes)
+front-is_name bytes len many few begins all =
+    let long = length-take-le len bytes (omega (arith, many, few)) in
+    name-from_parts (take len bytes) begins (omega (arith, long, few), all)
 
 -- stored names stand in the order of their bytes
 pub stored-order : (a b : Inside) → IsStored a → IsStored b → slice_cmp nat_cmp a.bytes b.bytes ≡ slice_cmp nat_cmp (name_of a) (name_of b)

@@ -1,7 +1,7 @@
 //! The names of items.
 
-ghost use Rattle.std.specs.Prelude.{◌≡◌, ◌↔◌, IsTrue, replicate};
-ghost use Rattle.std.specs.List.{prefix_len};
+ghost use Rattle.std.specs.Prelude.{◌≡◌, ◌≤◌, ◌-◌, ◌++◌, ◌↔◌, IsTrue, take, replicate};
+ghost use Rattle.std.specs.List.{list_all, prefix_len};
 ghost use Rattle.std.specs.Prelude.{Some, refl, bytes_eq};
 ghost use Rattle.std.specs.Ordering.{nat_cmp};
 ghost use Rattle.std.specs.Cmp.{partial_equiv_from_equiv};
@@ -16,6 +16,7 @@ use std::cmp::Ordering;
 use std::fmt::{self, Debug, Display, Formatter, Write};
 use std::hash::{Hash, Hasher};
 use std::marker::Model;
+use std::simd::prelude::*;
 use thiserror::Error;
 
 /// N1: bytes that are no name of an item.
@@ -51,9 +52,9 @@ impl Model for Item {
 }
 
 impl Item {
-    ghost use Rattle.std.specs.Prelude.{◌≡◌};
+    ghost use Rattle.std.specs.Prelude.{◌≡◌, ◌↔◌, take, IsSome, IfSome};
     ghost use Rattle.std.specs.Result.{OkIff};
-    ghost use Rattle.sgt_names.specs.Name.{IsName};
+    ghost use Rattle.sgt_names.specs.Name.{IsName, SpellsFront};
 
     /// The name that these bytes spell. N1 for all other bytes; nothing is trimmed or cut off.
     pub fn new(bytes: &[u8]) -> Result<Item, BadName>
@@ -64,6 +65,19 @@ impl Item {
             return Err(BadName);
         }
         Ok(Item { bytes: padded })
+    }
+
+    /// The name that the first bytes spell, so many of them, if they spell one. What stands behind them is not looked at.
+    pub fn front(bytes: &[u8; 16], len: usize) -> Option<Item>
+        ensures is { IsSome result ↔ SpellsFront bytes.now len }
+        ensures some { IfSome result (λ item. item ≡ take len bytes.now) }
+    {
+        if len > 16 || !is_first(&bytes[..len]) || !are_name_bytes(&bytes[..len]) {
+            return None;
+        }
+        Some(Item {
+            bytes: kept_to(bytes, len),
+        })
     }
 
     /// The bytes of the name.
@@ -163,6 +177,13 @@ fn is_first(bytes: &[u8]) -> bool
     }
 }
 
+// Whether each byte may stand in a name.
+fn are_name_bytes(bytes: &[u8]) -> bool
+    ensures { result ≡ list_all is_name_byte bytes.now }
+{
+    bytes.iter().all(|byte| is_later_byte(*byte))
+}
+
 // Keeps the bytes in front of zeros, if there are at most 16 and each may stand in a name.
 fn keep_name(padded: &mut [u8; 16], bytes: &[u8]) -> bool
     requires { padded.old ≡ replicate 16 0 }
@@ -191,4 +212,16 @@ fn name_len(bytes: &[u8; 16]) -> usize
         }
     }
     bytes.len()
+}
+
+// These bytes up to a place, and zeros from there on.
+fn kept_to(bytes: &[u8; 16], len: usize) -> [u8; 16]
+    requires { len ≤ 16 }
+    ensures { result ≡ take len bytes.now ++ replicate (16 - len) 0 }
+{
+    let places = u8x16::from_array([0, 1, 2, 3, 4, 5, 6, 7, 8, 9, 10, 11, 12, 13, 14, 15]);
+    let is_kept = places.simd_lt(u8x16::splat(len as u8));
+    is_kept
+        .select(u8x16::from_array(*bytes), u8x16::splat(0))
+        .to_array()
 }

@@ -57,6 +57,9 @@ fn names_of_items(rt: HostRuntime) -> Result<(), Fail> {
         assert!(rt; same, "{text}");
     }
     let (a, b, c) = (Item::new(b"a")?, Item::new(b"ab")?, Item::new(b"a_")?);
+    let line = b"ab]=7\nabcdefghij";
+    assert!(rt; Item::front(line, 2) == Some(b));
+    assert!(rt; Item::front(line, 0).is_none() && Item::front(line, 3).is_none());
     assert!(rt; a == a && a != b && a < b && b > c && c <= c);
     assert_eq!(rt; (c.cmp(&c), a.cmp(&b)), (Ordering::Equal, Ordering::Less));
     Ok(())

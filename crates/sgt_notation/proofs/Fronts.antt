@@ -1,16 +1,18 @@
 -- What stands at the front of bytes, and what is behind it.
-use Rattle.std.proofs.Common.{◌≡◌, inl, inr, ℕ, ◌+◌, ◌-◌, ◌*◌, ◌%◌, ◌<◌, ◌≤◌, ◌^◌, List, [], ◌∷◌, ◌++◌, length, take, drop, get_or, Option, Some, None, Result, Ok, Err, refl, sym, ap, ◌∙◌, subst, decimal, append_assoc, length-append, length-take, length-drop, arith}
+use Rattle.std.proofs.Common.{◌≡◌, inl, inr, ℕ, zero, suc, ◌+◌, ◌-◌, ◌*◌, ◌%◌, ◌<◌, ◌≤◌, ◌^◌, List, [], ◌∷◌, ◌++◌, length, take, drop, get_or, Option, Some, None, Result, Ok, Err, refl, sym, ap, ◌∙◌, subst, decimal, append_assoc, length-append, length-take, length-drop, arith}
 use Rattle.std.proofs.Math.Seq.{drop-append_seam}
 use Rattle.std.proofs.lemmas.Fmt.{decimal-digits_value}
 use Rattle.core.proofs.dec2flt.Rows.{AllDigits-digits_len}
-use Rattle.std.proofs.lemmas.List.{drop-drop, take-append-drop, get_or-take}
+use Rattle.std.specs.Array.{IsFirstChunk}
+use Rattle.std.specs.Prelude.{IsSome, IfSome}
+use Rattle.std.proofs.lemmas.List.{length-take-le, drop-drop, take-append-drop, get_or-take}
 use Rattle.std.proofs.lemmas.Slice.{between_from_start}
 use Rattle.std.proofs.lemmas.Str.Parse.{digits_value_short}
 use Rattle.std.specs.Float.Numeral.{digits_len}
 use Rattle.std.specs.Prelude.{slice_range}
 use Rattle.std.specs.Str.Parse.{AllDigits, digits_value}
 use Rattle.std.specs.Result.{OkIff, result_ok}
-use Rattle.sgt_names.specs.Name.{IsName}
+use Rattle.sgt_names.specs.Name.{IsName, SpellsFront}
 use Rattle.sgt_notation.specs.Lines.{Ahead, GaveNext, Spends, coming, passed, stream, Gives}
 use Rattle.sgt_notation.specs.Private.{Spans}
 use Rattle.sgt_notation.specs.Spelling.{HasNoLf, IsValue}
@@ -28,15 +30,24 @@ spans_later bytes from text n within s = record {
   reads = s.reads ∙ ap (λ r. text ++ r) (drop-drop n from bytes);
 }
 
--- the first bytes behind a place
-pub spans_part : (bytes : List ℕ) (from : ℕ) (rest front text : List ℕ) (n : ℕ) → (from ≤ length bytes) × (rest ≡ drop from bytes) → (n ≤ length rest) × (front ≡ take n rest) → front ≡ text → Spans bytes from text (from + n)
-spans_part bytes from rest front text n behind some is =
-    let short : n ≤ length (drop from bytes) = subst (λ (r : List ℕ). n ≤ length r) behind.1 some.0 in
-    spans_later bytes from text n behind.0 (spans_front (drop from bytes) n text short (ap (take n) (sym behind.1) ∙ (sym some.1 ∙ is)))
+-- what stands at the front of the first bytes stands at the front of all
+take-front : (bytes : List ℕ) (n m : ℕ) → n ≤ m → take n (take m bytes) ≡ take n bytes
+take-front bytes zero m few = refl
+take-front [] (suc n) zero few = refl
+take-front [] (suc n) (suc m) few = refl
+take-front (b ∷ bs) (suc n) zero few = absurd (omega (arith, few))
+take-front (b ∷ bs) (suc n) (suc m) few = ap (λ (t : List ℕ). b ∷ t) (take-front bs n m (omega (arith, few)))
 
-pub name_found : {E : Type 0} (t x : List ℕ) (r : Result (List ℕ) E) → OkIff r (IsName t) t → Some x ≡ result_ok r → IsName x × (t ≡ x)
-name_found t x (Ok y) is e = let same : x ≡ y = cc in (subst IsName (sym is.1 ∙ sym same) is.0, cc)
-name_found t x (Err y) is e = absurd cc
+pub front_found : (bytes chunk : List ℕ) (n : ℕ) (r : Option (List ℕ)) → IsFirstChunk bytes chunk 16 → (IsSome r → SpellsFront chunk n)
+    → IfSome r (λ item. item ≡ take n chunk) → IfSome r (λ item. IsName item × Spans bytes 0 item n)
+front_found bytes chunk n None first spells found = tt
+front_found bytes chunk n (Some item) first spells found =
+    let front = spells refl in
+    let long : length chunk ≡ 16 = ap length first.same ∙ length-take-le 16 bytes first.enough in (
+      subst IsName (sym found) front.1,
+      spans_front bytes n item (omega (arith, front.0, long, first.enough))
+          (sym (take-front bytes n 16 (omega (arith, front.0, long))) ∙ ap (take n) (sym first.same) ∙ sym found),
+    )
 
 pub spans_word : (bytes : List ℕ) (from : ℕ) (word rest last : List ℕ) → from ≤ length bytes → rest ≡ drop from bytes → rest ≡ word ++ last → Spans bytes from word (from + length word)
 spans_word bytes from word rest last within is starts =

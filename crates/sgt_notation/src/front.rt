@@ -103,6 +103,17 @@ fn guess_end(bytes: &[u8], byte: u8) -> usize {
     }
 }
 
+/// The name that so many of the first bytes spell.
+#[inline(always)]
+fn front_name(bytes: &[u8], n: usize) -> Option<Item>
+    ensures { IfSome result (λ item. IsName item × Spans bytes.now 0 item n) }
+{
+    match bytes.first_chunk::<16>() {
+        Some(chunk) => Item::front(chunk, n),
+        None => Item::new(up_to_place(bytes, n)?).ok(),
+    }
+}
+
 /// A name, and the place behind it, where the name ends before this byte.
 #[inline(always)]
 fn name_at(bytes: &[u8], from: usize, end: u8) -> Option<(Item, usize)>
@@ -110,7 +121,7 @@ fn name_at(bytes: &[u8], from: usize, end: u8) -> Option<(Item, usize)>
 {
     let rest = from_place(bytes, from)?;
     let n = guess_end(rest, end);
-    let item = Item::new(up_to_place(rest, n)?).ok()?;
+    let item = front_name(rest, n)?;
     Some((item, from + n))
 }
 

@@ -1,4 +1,4 @@
-use Rattle.std.proofs.Common.{◌≤◌, sym, subst, arith}
+use Rattle.std.proofs.Common.{◌≤◌, arith}
 use Rattle.std.specs.List.{prefix_len}
 use Rattle.sgt_names.specs.Stored.{is_positive}
 use Rattle.std.proofs.lemmas.List.Sums.{prefix_len-le-length}

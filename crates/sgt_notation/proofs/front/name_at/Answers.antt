@@ -1,7 +1,11 @@
-use Rattle.sgt_notation.proofs.Fronts.{name_found, spans_part}
+use Rattle.std.proofs.Common.{subst}
+use Rattle.sgt_notation.specs.Private.{Spans}
+use Rattle.sgt_notation.proofs.Fronts.{spans_later}
 use Rattle.sgt_notation.proofs.front.name_at.Goals as goal
 
 pub returns : goal.returns
-returns c =
-    let found = name_found _ _ c.new.result c.new.ensures c.in_ok-item.ensures.value in
-    (found.0, spans_part c.args.bytes.now c.args.from _ _ _ c.guess_end-n.result c.in_ok-rest.ensures c.in_ok-up_to_place.ensures found.1)
+returns c = (
+  c.in_ok-item.ensures.0,
+  spans_later c.args.bytes.now c.args.from _ c.guess_end-n.result c.in_ok-rest.ensures.0
+      (subst (λ rest. Spans rest 0 c.in_ok-item.item c.guess_end-n.result) c.in_ok-rest.ensures.1 c.in_ok-item.ensures.1),
+)

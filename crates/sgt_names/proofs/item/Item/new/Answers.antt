@@ -1,6 +1,4 @@
-use Rattle.std.proofs.Common.{◌≡◌, refl, sym, ◌∙◌, subst}
-use Rattle.std.specs.Prelude.{IsTrue}
-use Rattle.sgt_names.proofs.Stored.{name-from_parts, name-parts, stored-name, stored-bytes}
+use Rattle.sgt_names.proofs.Stored.{name-from_parts, stored-name, stored-bytes}
 use Rattle.sgt_names.proofs.item.Item.new.Goals as goal
 
 pub invariant_of-result : goal.invariant_of-result
