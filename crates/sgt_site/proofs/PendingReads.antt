@@ -1,17 +1,16 @@
 -- The reads of transactions that have no end yet.
-use Rattle.std.proofs.Common.{◌≡◌, ◌≢◌, ◌⊎◌, not, ◌+◌, ◌-◌, ◌<◌, ◌≤◌, ℕ, zero, suc, Bool, true, false, leb, nat_lt, List, [], ◌∷◌, ◌++◌, length, filter, take, drop, Some, refl, sym, ap, ◌∙◌, subst, arith, inl, inr, All, Contains}
-use Rattle.std.specs.Prelude.{slice_get, ◌↔◌, ◌==◌, slice_range, if◌then◌else◌}
-use Rattle.std.proofs.lemmas.Bool.Decides.{nat_tests}
+use Rattle.std.proofs.Common.{◌≡◌, ◌≢◌, ◌⊎◌, ◌+◌, ◌-◌, ◌<◌, ◌≤◌, ℕ, zero, suc, true, false, leb, nat_lt, List, [], ◌∷◌, ◌++◌, length, take, drop, Some, refl, sym, ap, ◌∙◌, subst, arith, inl, inr, All, Contains, length-take-le}
+use Rattle.std.specs.Prelude.{slice_get, ◌↔◌, slice_range}
 use Rattle.std.specs.List.Sorted.{IsPartitionPoint}
 use Rattle.std.proofs.lemmas.Bool.{cases_lt, ltb-true, ltb-false, leb-true, leb-false}
-use Rattle.std.proofs.lemmas.Option.{same_Some, slice_get_within, get_or_from_slice_get}
+use Rattle.std.proofs.lemmas.Option.{slice_get_within, get_or_from_slice_get}
 use Rattle.sgt_names.specs.Name.{Name}
 use Rattle.sgt_names.specs.Entry.{tx_of, Reads, IsEnd}
 use Rattle.sgt_names.specs.declared.entry.Entry.{Entry}
 use Rattle.sgt_names.specs.declared.entry.Entry.TheVariants.{Read, Withdraw}
 use Rattle.sgt_names.specs.declared.draft.Touch.{Touch}
 use Rattle.sgt_names.proofs.Lists.{front_at, middle_at, within_at, Any_at, Any-from_at, All_in}
-use Rattle.sgt_names.proofs.Places.{Contains_at, Contains-from_at, All-from_at, slice_get-take, slice_get-take_at, slice_get-drop}
+use Rattle.sgt_names.proofs.Places.{Contains_at, Contains-from_at, All-from_at, AllPairs_at, AllPairs-from_at, slice_get-take, slice_get-take_at, slice_get-drop}
 use Rattle.sgt_site.specs.State.{HasRead, HasEnded, LogsRead, version_at}
 use Rattle.sgt_site.specs.private.Cells.{KeepsItem}
 use Rattle.sgt_site.specs.private.Pending.{AreByTx, ArePending}
@@ -19,36 +18,7 @@ use Rattle.sgt_site.specs.declared.pending.PendingRead.{PendingRead}
 use Rattle.sgt_site.proofs.Appends.{get_cases, HasEnded-append, HasEnded-append_right, HasEnded-cases}
 use Rattle.sgt_site.proofs.Entries.{read_is}
 use Rattle.sgt_site.proofs.Basics.{is_single}
-use Rattle.sgt_site.proofs.Inserts.{Contains-later}
-
--- ---- what a test keeps
-
-module _ {A : Type 0} (test : A → Bool) where
-  filter_from : (xs : List A) (k : ℕ) (a : A) → slice_get (filter test xs) k ≡ Some a → Contains xs a × (test a ≡ true)
-  filter_from [] k a at = absurd cc
-  filter_from (x ∷ xs) k a at = by_test (λ j here. filter_from xs j a here) (test x) refl k at
-    where
-      by_test : ((j : ℕ) → slice_get (filter test xs) j ≡ Some a → Contains xs a × (test a ≡ true)) → (b : Bool) → test x ≡ b → (j : ℕ) → slice_get (if b then x ∷ filter test xs else filter test xs) j ≡ Some a → Contains (x ∷ xs) a × (test a ≡ true)
-      by_test later true hit zero here = let same : x ≡ a = same_Some x a here in (Contains-from_at (x ∷ xs) 0 a here, subst (λ y. test y ≡ true) same hit)
-      by_test later true hit (suc j) here = let r = later j here in (Contains-later x xs a r.0, r.1)
-      by_test later false miss j here = let r = later j here in (Contains-later x xs a r.0, r.1)
-
-  to_filter : (xs : List A) (k : ℕ) (a : A) → slice_get xs k ≡ Some a → test a ≡ true → Contains (filter test xs) a
-  to_filter [] k a at pass = absurd cc
-  to_filter (x ∷ xs) zero a at pass =
-      let hit : test x ≡ true = subst (λ y. test y ≡ true) (sym (same_Some x a at)) pass in
-      rw hit (Contains-from_at (x ∷ filter test xs) 0 a at)
-  to_filter (x ∷ xs) (suc k) a at pass = by_test (test x) (to_filter xs k a at pass)
-    where
-      by_test : (b : Bool) → Contains (filter test xs) a → Contains (if b then x ∷ filter test xs else filter test xs) a
-      by_test true has = Contains-later x (filter test xs) a has
-      by_test false has = has
-
-  pub Contains-filter : (xs : List A) (a : A) → Contains (filter test xs) a ↔ (Contains xs a × (test a ≡ true))
-  Contains-filter xs a = (
-    λ has. let at = Contains_at (filter test xs) a has in filter_from xs at.0 a at.1,
-    λ both. let at = Contains_at xs a both.0 in to_filter xs at.0 a at.1 both.1,
-  )
+use Rattle.std.proofs.lemmas.List.Elements.{Contains-append_left, Contains-append_right}
 
 -- ---- the reads of one transaction stand together
 
@@ -193,13 +163,66 @@ from_to reads tx from to within low high = elim (cases_lt to from) [
   | inr le ↦ le
 ]
 
-pub others_of : (reads : List PendingRead) (tx : ℕ) (r : PendingRead) → Contains (filter (λ (s : PendingRead). not (s.tx == tx)) reads) r ↔ (Contains reads r × (r.tx ≢ tx))
-others_of reads tx r =
-    let same = Contains-filter (λ (s : PendingRead). not (s.tx == tx)) reads r in (
-      λ has. let both = same.0 has in (both.0, λ is. absurd (let pass = both.1 in let hit : (r.tx == tx) ≡ true = grind (arith, nat_tests) in let fails = rw hit at pass in cc)),
-      λ both. same.1 (both.0, let apart = both.1 in by_test (r.tx == tx) refl apart),
-    )
-  where
-    by_test : (b : Bool) → (r.tx == tx) ≡ b → (r.tx ≢ tx) → not (r.tx == tx) ≡ true
-    by_test true hit apart = absurd (apart (let is : r.tx ≡ tx = grind (arith, nat_tests) in is))
-    by_test false miss apart = rw miss refl
+-- the reads without those of one transaction
+module _ (reads : List PendingRead) (tx from to : ℕ) (order : from ≤ to) (within : to ≤ length reads) where
+  abbrev left : List PendingRead
+  left = take from reads ++ drop to reads
+
+  -- one that is left, where it was: in front of the part, or behind it
+  was_at : (k : ℕ) (r : PendingRead) → slice_get left k ≡ Some r → (m : ℕ) × (slice_get reads m ≡ Some r) × (((m < from) × (m ≡ k)) ⊎ ((to ≤ m) × (m + from ≡ to + k)))
+  was_at k r at = get_cases (take from reads) (drop to reads) k r at
+      (λ here. let front = slice_get-take reads from k r here in (k, front.1, inl (front.0, refl)))
+      (λ m is here. let long = length-take-le from reads (omega (arith, order, within)) in (to + m, sym (slice_get-drop reads to m) ∙ here, inr (omega arith, omega (arith, is, long))))
+
+  pub left-by_tx : AreByTx reads → AreByTx left
+  left-by_tx sorted = AllPairs-from_at (λ (a b : PendingRead). a.tx ≤ b.tx) left (λ p q a b lt at_p at_q.
+      let was_p = was_at p a at_p in
+      let was_q = was_at q b at_q in
+      AllPairs_at (λ (c d : PendingRead). c.tx ≤ d.tx) reads was_p.0 was_q.0 a b sorted (before was_p.0 was_q.0 p q lt was_p.2 was_q.2) was_p.1 was_q.1)
+    where
+      before : (m n p q : ℕ) → p < q → ((m < from) × (m ≡ p)) ⊎ ((to ≤ m) × (m + from ≡ to + p)) → ((n < from) × (n ≡ q)) ⊎ ((to ≤ n) × (n + from ≡ to + q)) → m < n
+      before m n p q lt (inl f) (inl g) = omega (arith, lt, f.1, g.1)
+      before m n p q lt (inl f) (inr g) = omega (arith, f.0, g.0, order)
+      before m n p q lt (inr f) (inl g) = absurd (omega (arith, lt, f.0, f.1, g.0, g.1, order))
+      before m n p q lt (inr f) (inr g) = omega (arith, lt, f.1, g.1)
+
+  pub left-others : IsPartitionPoint (λ r. nat_lt r.tx tx ≡ true) (λ r. nat_lt r.tx tx ≡ false) reads from → IsPartitionPoint (λ r. leb r.tx tx ≡ true) (λ r. leb r.tx tx ≡ false) reads to
+      → (r : PendingRead) → Contains left r ↔ (Contains reads r × (r.tx ≢ tx))
+  left-others low high r = (
+    λ has.
+        let at = Contains_at left r has in
+        let was = was_at at.0 r at.1 in (
+          Contains-from_at reads was.0 r was.1,
+          other was.0 was.1 (elim was.2 [
+            | inl f ↦ inl f.0
+            | inr g ↦ inr g.0
+          ]),
+        ),
+    λ both.
+        let at = Contains_at reads r both.0 in
+        elim (cases_lt at.0 from) [
+          | inl front ↦ Contains-append_left (take from reads) (drop to reads) r (Contains-from_at (take from reads) at.0 r (slice_get-take_at reads from at.0 r front at.1))
+          | inr no_front ↦ elim (cases_lt at.0 to) [
+            | inl inside ↦ absurd (both.1 (own at.0 at.1 no_front inside))
+            | inr back ↦
+                let place : to + (at.0 - to) ≡ at.0 = omega (arith, back) in
+                Contains-append_right (take from reads) (drop to reads) r (Contains-from_at (drop to reads) (at.0 - to) r (slice_get-drop reads to (at.0 - to) ∙ ap (slice_get reads) place ∙ at.1))
+          ]
+        ],
+  )
+    where
+      less : (m : ℕ) → slice_get reads m ≡ Some r → m < from → r.tx < tx
+      less m at lt = ltb-true r.tx tx (subst (λ (s : PendingRead). nat_lt s.tx tx ≡ true) (get_or_from_slice_get reads m r r at) (low.0 m r (omega arith) lt))
+
+      more : (m : ℕ) → slice_get reads m ≡ Some r → to ≤ m → tx < r.tx
+      more m at le = leb-false r.tx tx (subst (λ (s : PendingRead). leb s.tx tx ≡ false) (get_or_from_slice_get reads m r r at) (high.1 m r le (slice_get_within reads m r at)))
+
+      other : (m : ℕ) → slice_get reads m ≡ Some r → (m < from) ⊎ (to ≤ m) → r.tx ≢ tx
+      other m at (inl lt) = λ same. let below = less m at lt in absurd (omega (arith, below, same))
+      other m at (inr le) = λ same. let above = more m at le in absurd (omega (arith, above, same))
+
+      own : (m : ℕ) → slice_get reads m ≡ Some r → from ≤ m → m < to → r.tx ≡ tx
+      own m at le lt =
+          let no_less = ltb-false r.tx tx (subst (λ (s : PendingRead). nat_lt s.tx tx ≡ false) (get_or_from_slice_get reads m r r at) (low.1 m r le (slice_get_within reads m r at))) in
+          let no_more = leb-true r.tx tx (subst (λ (s : PendingRead). leb s.tx tx ≡ true) (get_or_from_slice_get reads m r r at) (high.0 m r (omega arith) lt)) in
+          omega (arith, no_less, no_more)

@@ -1,6 +1,6 @@
 //! What a site keeps of an item.
 
-ghost use Rattle.std.specs.Prelude.{◌≡◌, ◌≤◌, ◌<◌, ◌∷◌, ◌++◌, [], ℕ, Some, true, false, leb, length, slice_get, AllPairs, vec_len, vec_capacity};
+ghost use Rattle.std.specs.Prelude.{◌≡◌, ◌≤◌, ◌<◌, ◌∷◌, ◌++◌, [], ℕ, Some, true, false, leb, length, slice_get, AllPairs, IsTrue, vec_len, vec_capacity};
 ghost use Rattle.std.specs.List.Sorted.{IsPartitionPoint};
 ghost use Rattle.std.specs.List.{insert as inserted};
 ghost use Rattle.sgt_site.specs.State.{IsVersionWritten};
@@ -229,15 +229,29 @@ fn near_end(readers: &[Reader], version: u64) -> usize
     ensures within { result ≤ length readers.now }
     ensures before { (n : ℕ) (r : CommittedReader) → n < result → slice_get readers.now n ≡ Some r → r.version ≤ version }
 {
-    if readers.len() <= NEAR {
-        return 0;
+    let end = readers.len();
+    if are_upto(readers, end, version) {
+        return end;
     }
-    let from = readers.len() - NEAR;
-    if readers[from - 1].version <= version {
-        from
+    let last = end.saturating_sub(1);
+    if are_upto(readers, last, version) {
+        return last;
+    }
+    let few = end.saturating_sub(NEAR);
+    if are_upto(readers, few, version) {
+        few
     } else {
         0
     }
+}
+
+// Whether all readers before this place are known to have read this version or an older one, by the last of them.
+fn are_upto(readers: &[Reader], place: usize, version: u64) -> bool
+    requires sorted { AllPairs (λ a b. a.version ≤ b.version) readers.now }
+    requires within { place ≤ length readers.now }
+    ensures { IsTrue result → (n : ℕ) (r : CommittedReader) → n < place → slice_get readers.now n ≡ Some r → r.version ≤ version }
+{
+    place > 0 && readers[place - 1].version <= version
 }
 
 // How many of these read this version or an older one, by a binary search.

@@ -1,6 +1,7 @@
 //! The reads of transactions that have no end yet.
 
 ghost use Rattle.std.specs.Prelude.{◌≡◌, ◌≢◌, ◌↔◌, ◌⊎◌, ◌<◌, ◌≤◌, true, false, leb, nat_lt, length, vec_len, vec_capacity, Contains};
+ghost use Rattle.std.specs.List.{remove_range};
 ghost use Rattle.std.specs.List.Sorted.{IsPartitionPoint};
 ghost use Rattle.sgt_site.specs.private.Pending.{AreByTx};
 ghost use Rattle.sgt_site.specs.declared.pending.PendingRead.{PendingRead as APendingRead};
@@ -36,13 +37,26 @@ pub(crate) fn reads_of(pending: &[PendingRead], tx: Tx) -> &[PendingRead]
     &pending[from..to]
 }
 
-/// Drops the reads of a transaction. Goes over them all.
+/// Drops the reads of a transaction. Two binary searches; the reads of transactions of greater numbers move up.
 pub(crate) fn drop_reads(pending: &mut Vec<PendingRead>, tx: Tx)
     requires { AreByTx pending.old.items }
     ensures by_tx { AreByTx pending.new.items }
     ensures each { (r : APendingRead) → Contains pending.new.items r ↔ (Contains pending.old.items r × (r.tx ≢ tx)) }
 {
-    pending.retain(|r| r.tx.number() != tx.number());
+    let from = count_below(pending.as_slice(), tx);
+    let to = count_upto(pending.as_slice(), tx);
+    cut(pending, from, to);
+}
+
+// Takes a part out.
+fn cut(pending: &mut Vec<PendingRead>, from: usize, to: usize)
+    requires order { from ≤ to }
+    requires within { to ≤ length pending.old.items }
+    ensures { pending.new.items ≡ remove_range pending.old.items from to }
+{
+    let end = pending.len();
+    pending.copy_within(to..end, from);
+    pending.truncate(end - (to - from));
 }
 
 // How many are of smaller transactions.

@@ -1,6 +1,6 @@
 //! The reads of an item.
 
-ghost use Rattle.std.specs.Prelude.{◌≡◌, ◌<◌, ◌≤◌, length, IfOk, IfErr, vec_len, vec_capacity};
+ghost use Rattle.std.specs.Prelude.{◌≡◌, ◌<◌, ◌≤◌, length, IsTrue, IfOk, IfErr, vec_len, vec_capacity};
 ghost use Rattle.std.specs.List.{insert as inserted};
 ghost use Rattle.std.specs.Ordering.{nat_cmp};
 ghost use Rattle.sgt_names.specs.Ordered.{IsRisingBy, IsAt, IsGapFor};
@@ -95,15 +95,25 @@ fn near_end(readings: &[Reading], tx: Tx) -> usize
     ensures within { result ≤ length readings.now }
     ensures before { IsBelow (λ m. m.tx) nat_cmp readings.now tx result }
 {
-    if readings.len() <= NEAR {
-        return 0;
+    let end = readings.len();
+    if are_below(readings, end, tx) {
+        return end;
     }
-    let from = readings.len() - NEAR;
-    if readings[from - 1].tx.number() < tx.number() {
-        from
-    } else {
-        0
+    let last = end.saturating_sub(1);
+    if are_below(readings, last, tx) {
+        return last;
     }
+    let few = end.saturating_sub(NEAR);
+    if are_below(readings, few, tx) { few } else { 0 }
+}
+
+// Whether all reads before this place are known to be of smaller transactions, by the last of them.
+fn are_below(readings: &[Reading], place: usize, tx: Tx) -> bool
+    requires rising { IsRisingBy (λ m. m.tx) nat_cmp readings.now }
+    requires within { place ≤ length readings.now }
+    ensures { IsTrue result → IsBelow (λ m. m.tx) nat_cmp readings.now tx place }
+{
+    place > 0 && readings[place - 1].tx.number() < tx.number()
 }
 
 // Where the transaction's read is, or where it would go, by a binary search.

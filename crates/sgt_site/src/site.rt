@@ -196,7 +196,7 @@ impl Site {
     }
 
     /// Ends a transaction as withdrawn, under its pledge for whichever draft. Takes no memory; the cost is a search of the ended
-    /// transactions, of which those of greater numbers move by a place, and a look at the reads of those that have no end.
+    /// transactions and one of the reads of those that have no end; those of greater numbers move.
     ///
     /// - S5: no pledge of the transaction stands.
     pub fn withdraw(&mut self, tx: Tx) -> Result<(), SiteFault>
@@ -357,15 +357,21 @@ fn near_end(ended: &[Tx], tx: Tx) -> usize
     ensures within { result ≤ length ended.now }
     ensures before { IsBelow (λ t. t) nat_cmp ended.now tx result }
 {
-    if ended.len() <= NEAR {
-        return 0;
+    let end = ended.len();
+    if are_below(ended, end, tx) {
+        return end;
     }
-    let from = ended.len() - NEAR;
-    if ended[from - 1].number() < tx.number() {
-        from
-    } else {
-        0
-    }
+    let few = end.saturating_sub(NEAR);
+    if are_below(ended, few, tx) { few } else { 0 }
+}
+
+// Whether all before this place are known to be smaller, by the last of them.
+fn are_below(ended: &[Tx], place: usize, tx: Tx) -> bool
+    requires rising { IsRisingBy (λ t. t) nat_cmp ended.now }
+    requires within { place ≤ length ended.now }
+    ensures { IsTrue result → IsBelow (λ t. t) nat_cmp ended.now tx place }
+{
+    place > 0 && ended[place - 1].number() < tx.number()
 }
 
 // Where the transaction is among these, or where it would go, by a binary search.

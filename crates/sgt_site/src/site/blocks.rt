@@ -22,8 +22,8 @@ impl Site {
     ///
     /// - S5: no pledge of the transaction stands, or the draft reads or writes otherwise here than the one that was pledged.
     ///
-    /// Goes over the draft, with a search of the items for each that it touches here, and over the reads of transactions that have
-    /// no end. Where it read an item, the committed readers of newer versions move by a place.
+    /// Goes over the draft, with a search of the items for each that it touches here. Where it read an item, the committed readers
+    /// of newer versions move by a place, and so do the reads of transactions of greater numbers that have no end.
     pub fn install(&mut self, tx: Tx, handle: Handle, draft: &Draft) -> Result<(), SiteFault>
         ensures ok { OnOk result (self.new ≡ record self.old {
           entries = self.old.entries ++ commit_block tx (writing_in (at_site self.old.number draft.now.touched));
@@ -52,7 +52,7 @@ impl Site {
     }
 
     /// Ends a transaction as refused, under its pledge for this draft: what it asked for by rising item, and its end. No value
-    /// changes. Takes no memory, and goes over the draft and the reads of transactions that have no end.
+    /// changes. Takes no memory, and goes over the draft; the reads of transactions of greater numbers that have no end move up.
     ///
     /// - S5: no pledge of the transaction stands, or the draft reads or writes otherwise here than the one that was pledged.
     pub fn refuse(&mut self, tx: Tx, draft: &Draft) -> Result<(), SiteFault>
