@@ -7,7 +7,7 @@ use Rattle.sgt_site.specs.Refused.{RefusesPledge, MayPledge}
 use Rattle.sgt_site.specs.declared.fault.SiteFault.{SiteFault}
 use Rattle.sgt_site.specs.declared.fault.SiteFault.TheVariants as site
 use Rattle.sgt_certifier.specs.Certifier.{State}
-use Rattle.sgt_certifier.specs.History.{expect, decide, withdraw, tx_under}
+use Rattle.sgt_certifier.specs.History.{expect, decide, withdraw, tx_under, IsAllowed}
 use Rattle.sgt_certifier.specs.Kept.{Kept}
 use Rattle.sgt_certifier.specs.declared.call.Call.{Call}
 use Rattle.sgt_certifier.specs.declared.call.CertifierFault.TheVariants as certifier
@@ -50,19 +50,36 @@ abbrev pub IsUnpledged : Active → ServiceFault → Type 0
 IsUnpledged active f =
     (s : SiteState) × (told : SiteFault) × RefusesPledge s active.tx active.draft.touched told × (f ≡ of_site told)
 
--- why a commit at so many sites isn't decided: the transaction can't be, no room for its installs can be made, it touches a site that
--- isn't there, a gathering at a site that it touches is refused, or the certifier doesn't decide on what was gathered
+-- no site was found to have lost its pledge, and the certifier has the transaction's number under its handle
+abbrev pub IsHeld : Option ℕ → State → Active → Type 0
+IsHeld lost s active = (lost ≡ None) × (tx_under s active.handle ≡ active.tx)
+
+-- of so many sites, each that it touches is there
+abbrev pub AreThere : ℕ → Active → Type 0
+AreThere sites active = (site : ℕ) → sites ≤ site → at_site site active.draft.touched ≡ []
+
+-- nothing refuses a commit before it gathers
+pub record MayGather (sites : ℕ) (lost : Option ℕ) (k : Kept) (active : Active) : Type 0 where
+  pub held : IsHeld lost k.state active
+  pub allowed : IsAllowed k.state (expect active.handle)
+  pub there : AreThere sites active
+
+-- why a commit at so many sites isn't decided, the first that holds: the transaction isn't held, no room for its installs can be made, it
+-- touches a site that isn't there, a gathering at a site that it touches is refused, or the certifier doesn't decide on what was gathered
 pub data IsUncommitted (sites : ℕ) (lost : Option ℕ) (k : Kept) (active : Active) : ServiceFault → Type 0 where
   at_first : (f : ServiceFault) → RefusesActive lost k.state active f → IsUncommitted sites lost k active f
-  unexpected : (f : ServiceFault) → HandsOn k.state (expect active.handle) f → IsUncommitted sites lost k active f
-  beyond : (here : ℕ) → sites ≤ here → TouchesAt active here → IsUncommitted sites lost k active (Site site.UnknownItem)
-  ungathered : (f : ServiceFault) → IsUngathered sites k.history active f → IsUncommitted sites lost k active f
-  undecided : (edges : List Edge) (f : ServiceFault) → IsGatheredBelow k.history active sites edges
+  unexpected : (f : ServiceFault) → IsHeld lost k.state active → HandsOn k.state (expect active.handle) f → IsUncommitted sites lost k active f
+  beyond : (here : ℕ) → IsHeld lost k.state active → IsAllowed k.state (expect active.handle) → sites ≤ here → TouchesAt active here
+      → IsUncommitted sites lost k active (Site site.UnknownItem)
+  ungathered : (f : ServiceFault) → MayGather sites lost k active → IsUngathered sites k.history active f → IsUncommitted sites lost k active f
+  undecided : (edges : List Edge) (f : ServiceFault) → MayGather sites lost k active → IsGatheredBelow k.history active sites edges
       → HandsOn k.state (decide active.handle edges) f → IsUncommitted sites lost k active f
 
 -- and a withdrawal
 pub data IsNotWithdrawn (sites : ℕ) (lost : Option ℕ) (k : Kept) (active : Active) : ServiceFault → Type 0 where
   held_back : (f : ServiceFault) → RefusesActive lost k.state active f → IsNotWithdrawn sites lost k active f
-  absent : (here : ℕ) → sites ≤ here → TouchesAt active here → IsNotWithdrawn sites lost k active (Site site.UnknownItem)
-  unpledged : (f : ServiceFault) → IsUnpledged active f → IsNotWithdrawn sites lost k active f
-  declined : (f : ServiceFault) → HandsOn k.state (withdraw active.handle) f → IsNotWithdrawn sites lost k active f
+  absent : (here : ℕ) → IsHeld lost k.state active → sites ≤ here → TouchesAt active here
+      → IsNotWithdrawn sites lost k active (Site site.UnknownItem)
+  unpledged : (f : ServiceFault) → IsHeld lost k.state active → AreThere sites active → IsUnpledged active f → IsNotWithdrawn sites lost k active f
+  declined : (f : ServiceFault) → IsHeld lost k.state active → AreThere sites active → HandsOn k.state (withdraw active.handle) f
+      → IsNotWithdrawn sites lost k active f

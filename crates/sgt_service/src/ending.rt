@@ -72,8 +72,8 @@ impl<L: Ledger> Service<L> {
     /// these sites, which are locked one after another.
     ///
     /// The transaction comes back, with its pledges given back and nothing changed:
-    /// - V7: a site was found to have lost its pledge, or at this one's place stands another one, or other versions than those that the
-    ///   certifier's history counts.
+    /// - V7: a site was found to have lost its pledge; or at the place of the site named stands another one, or one that has not the
+    ///   versions that the certifier's history counts.
     /// - V4 with C2, C3 or C6, as the certifier refuses; with S1, where a site isn't there, or with S1, S3, S7 or S8, as a site refuses.
     /// - V3: there was no memory.
     ///

@@ -44,7 +44,7 @@ impl<L: Ledger> Guarded<L> {
     ghost use Rattle.sgt_certifier.specs.Certifier.{opening};
     ghost use Rattle.sgt_service.specs.Guarded.{decision_count, ticket_of, AwaitsInstalls, IsEnded, IsGathered};
     ghost use Rattle.sgt_service.specs.Refused.{HandsOn, IsRefusedBy, IsOfCertifier};
-    ghost use Rattle.sgt_service.specs.Undecided.{RefusesActive, RefusesGather};
+    ghost use Rattle.sgt_service.specs.Undecided.{RefusesActive, RefusesGather, IsHeld};
 
     /// A certifier to which nothing has happened, with its empty book.
     pub(crate) fn new(alloc: Global, book: Book<L>, none: Share<L>) -> Guarded<L>
@@ -197,8 +197,9 @@ impl<L: Ledger> Guarded<L> {
             × (self.new.certifier.history ≡ self.old.certifier.history) }
         ensures first { IfSome self.old.lost (λ site. result ≡ Err (NotPledged site)) }
         ensures noted { IfErr result (λ f. (site : ℕ) → f ≡ NotPledged site → self.old.lost ≡ Some site) }
+        ensures allowed { OnOk result (IsAllowed self.old.certifier.state (expect active.now.handle)) }
         ensures refused { IfErr result (λ f. RefusesActive self.old.lost self.old.certifier.state active.now f
-            ⊎ HandsOn self.old.certifier.state (expect active.now.handle) f) }
+            ⊎ (IsHeld self.old.lost self.old.certifier.state active.now × HandsOn self.old.certifier.state (expect active.now.handle) f)) }
         ensures lost { self.new.lost ≡ self.old.lost }
     {
         self.check(active)?;

@@ -40,7 +40,7 @@ impl<L: Ledger> Service<L> {
     ghost use Rattle.sgt_certifier.specs.declared.call.Call.TheVariants as call;
     ghost use Rattle.sgt_service.specs.Counts.{AreCounted, only_at, with_others, blocks_of, below};
     ghost use Rattle.sgt_service.specs.Guarded.{AwaitsInstalls, IsGatheredBelow, notes_at, notes_below};
-    ghost use Rattle.sgt_service.specs.Undecided.{IsUncommitted, IsUngathered, IsNotWithdrawn, IsUnpledged};
+    ghost use Rattle.sgt_service.specs.Undecided.{IsHeld, MayGather, IsUncommitted, IsUngathered, IsNotWithdrawn, IsUnpledged};
 
     // The number of the site at this place.
     fn number_at(&self, place: usize) -> SiteNo
@@ -102,7 +102,7 @@ impl<L: Ledger> Service<L> {
         active: &Active,
     ) -> Result<Pledges, ServiceFault>
         ensures below { IfOk result (λ pledges. pledges.below ≡ vec_len self.now.sites) }
-        ensures named { OnOk result (tx_under guarded.now.certifier.state active.now.handle ≡ active.now.tx) }
+        ensures held { OnOk result (IsHeld guarded.now.lost guarded.now.certifier.state active.now) }
         ensures sites { OnOk result ((site : ℕ) → vec_len self.now.sites ≤ site → at_site site active.now.draft.touched ≡ []) }
         ensures first { IfSome guarded.now.lost (λ site. result ≡ Err (NotPledged site)) }
         ensures noted { IfErr result (λ f. (site : ℕ) → f ≡ NotPledged site → guarded.now.lost ≡ Some site) }
@@ -130,6 +130,7 @@ impl<L: Ledger> Service<L> {
     ) -> Result<(EdgeList, Pledges), ServiceFault>
         ensures edges { IfOk result (λ r. IsGatheredBelow guarded.old.certifier.history active.now (vec_len self.now.sites) r.0) }
         ensures below { IfOk result (λ r. r.1.below ≡ vec_len self.now.sites) }
+        ensures may { OnOk result (MayGather (vec_len self.now.sites) guarded.old.lost guarded.old.certifier active.now) }
         ensures named { OnOk result (tx_under guarded.new.certifier.state active.now.handle ≡ active.now.tx) }
         ensures room { OnOk result ((site : ℕ) → IsExpected guarded.new.certifier.expected active.now.draft.touched site) }
         ensures sites { OnOk result ((site : ℕ) → vec_len self.now.sites ≤ site → at_site site active.now.draft.touched ≡ []) }

@@ -9,4 +9,4 @@ returns-clause-step g c =
     c.end_all.new.guarded.certifier c.in-Ok-withdraw.ensures.ok c.in-Ok-withdraw.ensures.number c.in_default.ensures.history
 
 pub returns-in-Err-withdraw-clause-why : goal.returns-in-Err-withdraw-clause-why
-returns-in-Err-withdraw-clause-why g c = declined c.in-Err-withdraw.fault c.in-Err-withdraw.ensures.err.0
+returns-in-Err-withdraw-clause-why g c = declined c.in-Err-withdraw.fault c.in-Ok.ensures.held c.in-Ok.ensures.sites c.in-Err-withdraw.ensures.err.0
