@@ -7,7 +7,6 @@ ghost use Rattle.sgt_cert.specs.Text.{IsCertificate};
 ghost use Rattle.sgt_decided.specs.Decided.{Decides, IsRulingOn};
 ghost use Rattle.sgt_decided.specs.Steps.{AreStepsOf};
 
-use crate::outcome::{Outcome, outcomes};
 use crate::steps::Steps;
 use crate::table::Table;
 use sgt_cert::{Certificate, Decision};
@@ -20,21 +19,17 @@ use std::marker::Model;
 pub struct Decided {
     certificate: Certificate,
     table: Table,
-    /// What each decision comes to: little beside the decisions, and looked into for each entry.
-    outcomes: Vec<Outcome>,
 }
 
 impl Model for Decided {
     ghost use Rattle.sgt_cert.specs.declared.certificate.Certificate.{Certificate};
-    ghost use Rattle.std.specs.Prelude.{◌≡◌, map};
     ghost use Rattle.sgt_decided.specs.private.Table.{IsTableOf};
-    ghost use Rattle.sgt_decided.specs.private.Outcome.{outcome_of};
 
     ghost Value = { Certificate };
 
     ghost view = { λ d. d.certificate };
 
-    ghost invariant = { λ d. IsTableOf d.certificate.decisions d.table × (d.outcomes.items ≡ map outcome_of d.certificate.decisions) };
+    ghost invariant = { λ d. IsTableOf d.certificate.decisions d.table };
 }
 
 /// What is decided on an entry's transaction.
@@ -73,13 +68,8 @@ impl Decided {
         ensures once { IfOk result (λ found. IsSome found ↔ IsDecidedOnce certificate.decisions) }
         ensures same { IfOk result (λ found. IfSome found (λ decided. decided ≡ certificate)) }
     {
-        let outcomes = outcomes(alloc, certificate.decisions())?;
         match Table::new(alloc, certificate.decisions())? {
-            Some(table) => Ok(Some(Decided {
-                certificate,
-                table,
-                outcomes,
-            })),
+            Some(table) => Ok(Some(Decided { certificate, table })),
             None => Ok(None),
         }
     }
@@ -114,8 +104,8 @@ impl Decided {
         ensures none { IfNone result ((number : ℕ) → Decides self.now.decisions number tx → ⊥) }
     {
         match self.table.get(tx) {
-            Some(number) => match self.decisions().get(number) {
-                Some(decision) => Some((number, decision)),
+            Some(placed) => match self.decisions().get(placed.number) {
+                Some(decision) => Some((placed.number, decision)),
                 None => None,
             },
             None => None,
@@ -137,14 +127,11 @@ impl Decided {
     pub fn ruling_on(&self, entry: &Entry) -> Ruling
         ensures { IsRulingOn self.now.decisions entry.now result }
     {
-        let Some(number) = self.table.get(entry.tx()) else {
-            return no_ruling();
-        };
-        match self.outcomes.get(number) {
-            Some(outcome) => Ruling {
-                number: Some(number),
-                rank: outcome.rank(),
-                suiting: told_if(outcome.suits(entry), number),
+        match self.table.get(entry.tx()) {
+            Some(placed) => Ruling {
+                number: Some(placed.number),
+                rank: placed.outcome.rank(),
+                suiting: told_if(placed.outcome.suits(entry), placed.number),
             },
             None => no_ruling(),
         }

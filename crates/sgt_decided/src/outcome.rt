@@ -1,11 +1,10 @@
 //! What decisions come to, without their walks.
 
-ghost use Rattle.std.specs.Prelude.{◌≡◌, ◌↔◌, map, IsTrue, IfOk};
+ghost use Rattle.std.specs.Prelude.{◌≡◌, ◌↔◌, IsTrue};
 ghost use Rattle.sgt_decided.specs.private.Outcome.{outcome_of, rank_with, SuitsWith};
 
 use sgt_cert::Decision;
 use sgt_names::Entry;
-use std::alloc::{AllocError, Global};
 
 /// What a decision comes to.
 #[derive(Clone, Copy)]
@@ -16,7 +15,7 @@ pub enum Outcome {
 }
 
 /// What the decision comes to.
-fn outcome_of(decision: &Decision) -> Outcome
+pub(crate) fn outcome_of(decision: &Decision) -> Outcome
     ensures { result ≡ outcome_of decision.now }
 {
     match decision {
@@ -24,13 +23,6 @@ fn outcome_of(decision: &Decision) -> Outcome
         Decision::Refuse { .. } => Outcome::Refuse,
         Decision::Withdraw { .. } => Outcome::Withdraw,
     }
-}
-
-/// What each of the decisions comes to. Err: memory ran out.
-pub(crate) fn outcomes(alloc: Global, decisions: &[Decision]) -> Result<Vec<Outcome>, AllocError>
-    ensures { IfOk result (λ v. v.items ≡ map outcome_of decisions.now) }
-{
-    decisions.iter().map(outcome_of).collect(alloc)
 }
 
 impl Outcome {

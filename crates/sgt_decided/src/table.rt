@@ -1,23 +1,31 @@
-//! The numbers of decisions by their transactions.
+//! The numbers of decisions by their transactions, and what the decisions come to.
 
 ghost use Rattle.std.specs.Prelude.{◌≡◌, ◌<◌, ◌≤◌, ◌^◌, ◌↔◌, [], None, All, IfOk, IfSome, IsSome, IsTrue, length, slice_index_or};
 ghost use Rattle.std.specs.Ordering.{nat_cmp};
 ghost use Rattle.std.specs.BTreeMap.{get};
 ghost use Rattle.sgt_cert.specs.Certificate.{decided_tx, IsDecidedOnce};
-ghost use Rattle.sgt_decided.specs.private.Table.{number_at, AreNumbersOf, IsTableOf};
+ghost use Rattle.sgt_decided.specs.private.Table.{placed_at, ArePlacedOf, IsTableOf};
 
+use crate::outcome::{Outcome, outcome_of};
 use sgt_cert::Decision;
 use sgt_names::Tx;
 use std::alloc::{AllocError, Global};
 use std::collections::BTreeMap;
 
-/// Where the number of a transaction's decision stands.
+/// The number of a decision, and what that comes to.
+#[derive(Clone, Copy)]
+pub struct Placed<N> {
+    pub number: N,
+    pub outcome: Outcome,
+}
+
+/// Where the decision on a transaction is told.
 #[derive(Drop)]
 pub enum Table {
     /// At the place of the transaction's number, where these are close together.
-    Dense(Vec<Option<u32>>),
+    Dense(Vec<Option<Placed<u32>>>),
     /// In the order of the transactions.
-    Sparse(BTreeMap<Tx, usize>),
+    Sparse(BTreeMap<Tx, Placed<usize>>),
 }
 
 /// A number that no transaction's is above.
@@ -34,35 +42,42 @@ fn greatest(decisions: &[Decision]) -> u32
     most
 }
 
-/// Enters the number of each decision at the place of its transaction, if each transaction is in at most one.
-fn fill_dense(numbers: &mut Vec<Option<u32>>, decisions: &[Decision]) -> bool
-    requires room { All (λ d. decided_tx d < length numbers.old.items) decisions.now }
-    requires fresh { All (λ number. number ≡ None) numbers.old.items }
+/// Enters each decision at the place of its transaction, if each transaction is in at most one.
+fn fill_dense(places: &mut Vec<Option<Placed<u32>>>, decisions: &[Decision]) -> bool
+    requires room { All (λ d. decided_tx d < length places.old.items) decisions.now }
+    requires fresh { All (λ placed. placed ≡ None) places.old.items }
     requires few { length decisions.now < 2 ^ 32 }
     ensures once { IsTrue result ↔ IsDecidedOnce decisions.now }
-    ensures table { IsTrue result → AreNumbersOf decisions.now (λ tx. slice_index_or numbers.new.items tx None) }
+    ensures table { IsTrue result → ArePlacedOf decisions.now (λ tx. slice_index_or places.new.items tx None) }
 {
     for (number, decision) in decisions.iter().enumerate() {
         let place = decision.tx().number() as usize;
-        if numbers[place].is_some() {
+        if places[place].is_some() {
             return false;
         }
-        numbers[place] = Some(number as u32);
+        places[place] = Some(Placed {
+            number: number as u32,
+            outcome: outcome_of(decision),
+        });
     }
     true
 }
 
-/// Enters the number of each decision at its transaction, if each transaction is in at most one.
+/// Enters each decision at its transaction, if each transaction is in at most one.
 fn fill_sparse(
-    numbers: &mut BTreeMap<Tx, usize>,
+    places: &mut BTreeMap<Tx, Placed<usize>>,
     decisions: &[Decision],
 ) -> Result<bool, AllocError>
-    requires { numbers.old.entries ≡ [] }
+    requires { places.old.entries ≡ [] }
     ensures once { IfOk result (λ filled. IsTrue filled ↔ IsDecidedOnce decisions.now) }
-    ensures table { IfOk result (λ filled. IsTrue filled → AreNumbersOf decisions.now (get nat_cmp numbers.new)) }
+    ensures table { IfOk result (λ filled. IsTrue filled → ArePlacedOf decisions.now (get nat_cmp places.new)) }
 {
     for (number, decision) in decisions.iter().enumerate() {
-        if numbers.insert(decision.tx(), number)?.is_some() {
+        let placed = Placed {
+            number,
+            outcome: outcome_of(decision),
+        };
+        if places.insert(decision.tx(), placed)?.is_some() {
             return Ok(false);
         }
     }
@@ -76,9 +91,9 @@ fn dense(alloc: Global, decisions: &[Decision], greatest: u32) -> Result<Option<
     ensures once { IfOk result (λ found. IsSome found ↔ IsDecidedOnce decisions.now) }
     ensures table { IfOk result (λ found. IfSome found (IsTableOf decisions.now)) }
 {
-    let mut numbers = vec![in alloc; None; greatest as usize + 1]?;
-    if fill_dense(&mut numbers, decisions) {
-        Ok(Some(Table::Dense(numbers)))
+    let mut places = vec![in alloc; None; greatest as usize + 1]?;
+    if fill_dense(&mut places, decisions) {
+        Ok(Some(Table::Dense(places)))
     } else {
         Ok(None)
     }
@@ -88,9 +103,9 @@ fn sparse(alloc: Global, decisions: &[Decision]) -> Result<Option<Table>, AllocE
     ensures once { IfOk result (λ found. IsSome found ↔ IsDecidedOnce decisions.now) }
     ensures table { IfOk result (λ found. IfSome found (IsTableOf decisions.now)) }
 {
-    let mut numbers = BTreeMap::new(alloc);
-    if fill_sparse(&mut numbers, decisions)? {
-        Ok(Some(Table::Sparse(numbers)))
+    let mut places = BTreeMap::new(alloc);
+    if fill_sparse(&mut places, decisions)? {
+        Ok(Some(Table::Sparse(places)))
     } else {
         Ok(None)
     }
@@ -110,16 +125,19 @@ impl Table {
         }
     }
 
-    /// The number that stands there for the transaction.
-    pub(crate) fn get(&self, tx: Tx) -> Option<usize>
-        ensures { result ≡ number_at self.now tx }
+    /// What stands there for the transaction.
+    pub(crate) fn get(&self, tx: Tx) -> Option<Placed<usize>>
+        ensures { result ≡ placed_at self.now tx }
     {
         match self {
-            Table::Dense(numbers) => match numbers.get(tx.number() as usize) {
-                Some(Some(number)) => Some(*number as usize),
+            Table::Dense(places) => match places.get(tx.number() as usize) {
+                Some(Some(placed)) => Some(Placed {
+                    number: placed.number as usize,
+                    outcome: placed.outcome,
+                }),
                 _ => None,
             },
-            Table::Sparse(numbers) => numbers.get(&tx).copied(),
+            Table::Sparse(places) => places.get(&tx).copied(),
         }
     }
 }

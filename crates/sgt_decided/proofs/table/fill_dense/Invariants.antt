@@ -4,6 +4,6 @@ use Rattle.sgt_decided.proofs.table.fill_dense.Given as goal
 
 abbrev pub invariant-loop-number : goal.invariant-loop-number
 invariant-loop-number l = record {
-  room : length l.numbers.items ≡ length l.initial.numbers.items;
-  first : HasFirst l.decisions l.number (λ tx. get_or l.numbers.items tx None);
+  room : length l.places.items ≡ length l.initial.places.items;
+  first : HasFirst l.decisions l.number (λ tx. get_or l.places.items tx None);
 }
