@@ -10,7 +10,7 @@ use crate::reply::CoreFault;
 use sgt_cert::{Bundle, SiteLog};
 use sgt_names::Listed;
 use sgt_site::{Site, SiteFault};
-use std::alloc::Global;
+use std::alloc::{AllocError, Global};
 
 impl Machine {
     /// The logs with the certificate. It errs where there is no memory.
@@ -26,6 +26,32 @@ impl Machine {
         let Ok(logs) = logs_of(alloc, self.places.as_slice()) else {
             return Err(CoreFault::Memory);
         };
+        match Bundle::new(certificate, logs) {
+            Some(bundle) => Ok(bundle),
+            None => unreachable!(),
+        }
+    }
+
+    /// The same of a machine that is given up: each site but for its log, and the certifier with its history once there is a
+    /// certificate.
+    pub(crate) fn into_bundle(self, alloc: Global) -> Result<Bundle, CoreFault>
+        requires { Stands (parts_of self) }
+        ensures ok { IfOk result (λ b. (c : CoreState) → StandsFor (parts_of self) c → b ≡ bundle_of c) }
+        ensures refused { IfErr result (λ f. f ≡ NoMemory) }
+    {
+        let Machine {
+            places,
+            certifier,
+            ..
+        } = self;
+        let count = places.len() as u8;
+        let Ok(logs) = logs_from(alloc, places) else {
+            return Err(CoreFault::Memory);
+        };
+        let Ok(certificate) = certifier.certificate(alloc, count) else {
+            return Err(CoreFault::Memory);
+        };
+        drop(certifier);
         match Bundle::new(certificate, logs) {
             Some(bundle) => Ok(bundle),
             None => unreachable!(),
@@ -65,6 +91,37 @@ fn logs_of(alloc: Global, places: &[Place]) -> Result<Vec<SiteLog>, SiteFault>
         match log_of(alloc, &place.site) {
             Ok(log) => logs.push_reserved(log),
             Err(fault) => return Err(fault),
+        }
+    }
+    Ok(logs)
+}
+
+// The log of a site that is given up, with its items, before and after it.
+fn log_from(alloc: Global, site: Site) -> Result<SiteLog, SiteFault>
+    ensures { IfOk result (λ log. log ≡ site_log site.items site.entries) }
+{
+    match site.final_values(alloc) {
+        Ok(finals) => {
+            let (items, entries) = site.into_log();
+            Ok(SiteLog {
+                items: Listed::new(items),
+                entries: Listed::new(entries),
+                finals: Listed::new(finals),
+            })
+        }
+        Err(fault) => Err(fault),
+    }
+}
+
+// The logs of sites that are given up, by number. It errs where there is no memory.
+fn logs_from(alloc: Global, places: Vec<Place>) -> Result<Vec<SiteLog>, AllocError>
+    ensures { IfOk result (λ logs. logs.items ≡ map (λ p. site_log p.site.items p.site.entries) places.items) }
+{
+    let mut logs = Vec::new(alloc);
+    for place in places {
+        match log_from(alloc, place.site) {
+            Ok(log) => logs.push(log)?,
+            Err(_) => return Err(AllocError),
         }
     }
     Ok(logs)

@@ -121,4 +121,19 @@ impl Core {
         }
         self.machine.bundle(alloc)
     }
+
+    /// As `bundle`, of a core that is given up, also where it errs: the bundle's logs are the sites' own, and the history is gone
+    /// once there is a certificate.
+    pub fn into_bundle(self, alloc: Global) -> Result<Bundle, CoreFault>
+        ensures ok { IfOk result (λ b. (c : CoreState) → StandsFor self c → b ≡ bundle_of c) }
+        ensures valid { IfOk result IsValid }
+        ensures idle { OnOk result ((c : CoreState) → StandsFor self c → c.certifier.active ≡ []) }
+        ensures refused { IfErr result (λ f. (c : CoreState) → StandsFor self c → RefusesBundle c f) }
+    {
+        let Core { machine } = self;
+        if machine.certifier.active() > 0 {
+            return Err(CoreFault::ActiveLeft);
+        }
+        machine.into_bundle(alloc)
+    }
 }

@@ -4,7 +4,6 @@ ghost use Rattle.std.specs.Prelude.{◌≡◌, ◌≢◌, ◌⊎◌, ◌<◌, �
 ghost use Rattle.std.specs.Io.KnownBytes.{Appends};
 ghost use Rattle.sgt_names.specs.Device.{CountsFailures, WritesFront};
 ghost use Rattle.sgt_names.specs.Limits.{max_sites};
-ghost use Rattle.std.specs.List.{flat_map};
 ghost use Rattle.sgt_notation.specs.Events.{IsSiteLine};
 ghost use Rattle.sgt_notation.specs.declared.event.EventLine.{EventLine};
 ghost use Rattle.sgt_notation.specs.Limits.{most_reads};
@@ -13,7 +12,7 @@ ghost use Rattle.sgt_core.specs.Machine.{StandsFor};
 ghost use Rattle.sgt_replay.specs.Input.{IsInput, IsRead, IsUsable};
 ghost use Rattle.sgt_replay.specs.Replay.{EndsWith, IsAnswer, IsRunText, WroteAnswer, WroteAnswerFront, unreadable_text};
 ghost use Rattle.sgt_replay.specs.Texts.{AreLines};
-ghost use Rattle.sgt_replay.specs.private.Running.{AnswersLine, WritesReplies};
+ghost use Rattle.sgt_replay.specs.private.Running.{AnswersLine, WritesReplies, events_of};
 
 use crate::input::{Input, Reading};
 use crate::reading::read_input;
@@ -58,7 +57,7 @@ fn write_lines(core: &mut Core, lines: &[u8], out: &mut Vec<u8>) -> Result<(), A
 
 /// The same of blocks, each of which is given up once it is answered.
 fn write_blocks(core: &mut Core, blocks: Vec<Block>, out: &mut Vec<u8>) -> Result<(), AllocError>
-    ensures { OnOk result (WritesReplies core.old (flat_map (λ (es : List EventLine). es) blocks.items) core.new out.old.items out.new.items) }
+    ensures { OnOk result (WritesReplies core.old (events_of blocks.items) core.new out.old.items out.new.items) }
 {
     for block in blocks {
         write_lines(core, block.lines(), out)?;
@@ -82,15 +81,14 @@ struct Ending {
     bundle: Vec<u8>,
 }
 
-/// Writes how the run ends, but for the bundle, which it gives. The core is given up before. Err: memory ran out.
+/// Writes how the run ends, but for the bundle, which it gives. Err: memory ran out.
 fn write_ending(alloc: Global, core: Core, out: &mut Vec<u8>) -> Result<Ending, AllocError>
     requires { (c : CoreState) × StandsFor core c }
     ensures { IfOk result (λ end. (c : CoreState) → StandsFor core c
         → (ending : List ℕ) × EndsWith c end.outcome ending × (out.new.items ++ end.bundle.items ≡ out.old.items ++ ending)) }
 {
-    match core.bundle(alloc) {
+    match core.into_bundle(alloc) {
         Ok(bundle) => {
-            drop(core);
             out.extend_from_slice(b"---\n")?;
             Ok(Ending {
                 outcome: Outcome::Yes,

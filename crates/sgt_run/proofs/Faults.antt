@@ -1,5 +1,5 @@
 -- The faults of the calls that a worker makes.
-use Rattle.std.proofs.Common.{◌≡◌, ℕ, List, inl, inr, Some, None, Option, Result, Ok, Err, OnOk, IfErr, sym, subst}
+use Rattle.std.proofs.Common.{◌≡◌, ℕ, List, inl, inr, Some, None, Option, Result, Ok, Err, OnOk, IfErr, sym, subst, ◌∙◌, ◌≢◌}
 use Rattle.std.specs.Prelude.{MatchResult}
 use Rattle.sgt_names.specs.Name.{Name}
 use Rattle.sgt_agreed.specs.declared.fault.ServiceFault.{ServiceFault}
@@ -8,7 +8,7 @@ use Rattle.sgt_site.specs.declared.fault.SiteFault.TheVariants as site
 use Rattle.sgt_certifier.specs.Kept.{Kept}
 use Rattle.sgt_workers.specs.declared.ticket.Done.{Done}
 use Rattle.sgt_workers.specs.declared.ticket.Ending.{Ending}
-use Rattle.sgt_service.specs.Refused.{IsOfCall, RefusesItem}
+use Rattle.sgt_service.specs.Refused.{IsOfBegin, IsOfCall, IsOfRead, RefusesItem}
 use Rattle.sgt_service.specs.Seats.{IsBack}
 use Rattle.sgt_service.specs.declared.active.Active.{Active}
 use Rattle.sgt_service.specs.declared.active.Back.{Back}
@@ -18,9 +18,16 @@ use Rattle.sgt_settle.specs.Fault.{IsUnsettled}
 use Rattle.sgt_run.specs.Bundle.{IsToldAlone}
 
 pub item_of_call : (names : List (List Name)) (s : ℕ) (x : Name) (f : ServiceFault) → RefusesItem names s x f → IsOfCall f
-item_of_call names s x (fault.Site site.UnknownItem) r = inl (λ e. let f : site.UnknownItem ≡ site.Memory = e in cc)
+item_of_call names s x (fault.Site site.UnknownItem) r = inr (inr (inl tt))
 item_of_call names s x fault.Memory r = inl tt
 item_of_call names s x _ r = absurd r
+
+-- a begin, and a read
+pub begin_of_call : (f : ServiceFault) → IsOfBegin f → IsOfCall f
+begin_of_call f h = inl h
+
+pub read_of_call : (f : ServiceFault) → IsOfRead f → IsOfCall f
+read_of_call f h = inr (inl h)
 
 -- what the tickets tell, where there is no memory for the sites
 pub alone_told : {A : Type 0} (c : Kept) (dones : List Done) (told : Result A ServiceFault) (f : ServiceFault) → OnOk told (AreTickets c.state.rulings dones)
@@ -29,10 +36,21 @@ pub alone_told : {A : Type 0} (c : Kept) (dones : List Done) (told : Result A Se
 alone_told c dones (Ok done) f tickets each is = inl (is, tickets)
 alone_told c dones (Err g) f tickets each is = inr (subst (λ (k : ServiceFault). (r : Run) → r.certifier ≡ c → r.dones ≡ dones → IsUnsettled r k) (sym is) each)
 
+-- and want of memory is told of good tickets alone
+abbrev pub fault_in : {A : Type 0} → Result A ServiceFault → ServiceFault
+fault_in (Ok done) = fault.Memory
+fault_in (Err f) = f
+
+pub memory_told : {A : Type 0} (c : Kept) (dones : List Done) (told : Result A ServiceFault) (f : ServiceFault) → OnOk told (AreTickets c.state.rulings dones)
+    → IfErr told (λ g. g ≢ fault.Memory) → MatchResult told (λ done. f ≡ fault.Memory) (λ g. f ≡ g)
+    → f ≡ fault.Memory → AreTickets c.state.rulings dones
+memory_told c dones (Ok done) f tickets not is want = tickets
+memory_told c dones (Err g) f tickets not is want = absurd (not (sym is ∙ want))
+
 module _ {L : Type 0} where
   fault_by : (decided : Ending → Type 0) (active : Active) (old new : Seat L) (o : Option Active) (f : ServiceFault)
       → IsBack decided active old new (record { active = o; fault = f }) → IsOfCall f
-  fault_by decided active old new None f h = subst IsOfCall (sym h.3) (inr tt)
+  fault_by decided active old new None f h = subst IsOfCall (sym h.3) (inl tt)
   fault_by decided active old new (Some a) f h = h.2
 
   pub back_fault : (decided : Ending → Type 0) (active : Active) (old new : Seat L) (b : Back) → IsBack decided active old new b → IsOfCall b.fault

@@ -51,13 +51,16 @@ items_good input is = All-from_map AreItems (λ (l : SiteLine). l.items) input.s
 
 call_ends : (f : ServiceFault) → IsOfCall f → (f ≡ fault.Memory) ⊎ IsOfRun f
 call_ends fault.Memory is = inl refl
-call_ends (fault.Site f) (inl h) = inr h
-call_ends (fault.Site f) (inr h) = absurd h
-call_ends (fault.Certifier f) (inl h) = absurd h
-call_ends (fault.Certifier f) (inr h) = inr h
-call_ends (fault.NotPledged number) is = inr tt
-call_ends _ (inl h) = absurd h
-call_ends _ (inr h) = absurd h
+call_ends (fault.StrayTicket number) is = inr (is, λ e. absurd cc)
+call_ends (fault.TwoTickets number) is = inr (is, λ e. absurd cc)
+call_ends (fault.Site f) is = inr (is, λ e. absurd cc)
+call_ends (fault.Certifier f) is = inr (is, λ e. absurd cc)
+call_ends fault.SumTooLarge is = inr (is, λ e. absurd cc)
+call_ends (fault.MissingTicket number) is = inr (is, λ e. absurd cc)
+call_ends (fault.NotPledged site) is = inr (is, λ e. absurd cc)
+call_ends (fault.TicketOrder job) is = inr (is, λ e. absurd cc)
+call_ends (fault.LogDiffers site) is = inr (is, λ e. absurd cc)
+call_ends (fault.VersionsDiffer site) is = inr (is, λ e. absurd cc)
 
 -- what a pool of the service's calls ends with ends the run, or is want of memory
 pub ends_run : (scripts : List Script) (items : List (List Holding)) (tries : ℕ) (f : PoolFail ServiceFault) → IsFault IsOfCall (length scripts) f
@@ -146,4 +149,6 @@ module _ {L : Type 0} where
       → named ≡ places → IsRefused named parts new dones f → EndsUnsettled scripts places tries f
   ends_unsettled scripts places tries parts named old new dones f fresh many stay grown of there (inl (run, left, is)) =
       inl (run, left_of scripts places tries parts named old new dones run fresh many stay grown of there left.told left.many left.decided, is)
-  ends_unsettled scripts places tries parts named old new dones f fresh many stay grown of there (inr (c, alone)) = inr (c, dones, of, alone)
+  ends_unsettled scripts places tries parts named old new dones f fresh many stay grown of there (inr (c, counted, alone)) =
+      let decided = all_decided places parts (length (tickets_of dones)) (decision_count c) old new fresh many stay grown counted in
+      inr (c, dones, record { dones_of = of; decided = decided }, alone)

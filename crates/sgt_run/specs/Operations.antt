@@ -7,8 +7,11 @@ use Rattle.sgt_names.specs.declared.entry.Change.{Change}
 use Rattle.sgt_names.specs.declared.entry.Change.TheVariants as change
 use Rattle.sgt_notation.specs.declared.script.Op.{Op}
 use Rattle.sgt_notation.specs.declared.script.Op.TheVariants.{Read, Put, Add, Sum}
+use Rattle.sgt_certifier.specs.declared.call.Call.TheVariants as call
+use Rattle.sgt_service.specs.Guarded.{HasAdded, IsTicketOf}
 use Rattle.sgt_service.specs.Reads.{look_in, GainsRead}
-use Rattle.sgt_workers.specs.declared.ticket.Ending.{Ending}
+use Rattle.sgt_service.specs.declared.active.Active.{Active}
+use Rattle.sgt_workers.specs.declared.ticket.Ticket.{Ticket}
 use Rattle.sgt_workers.specs.declared.ticket.Ending.TheVariants.{Withdrawn}
 
 -- the sum with what is seen is no greater than the greatest value
@@ -46,8 +49,16 @@ abbrev pub DoesAll : List Op → Bool → (old new : List Touch) → (reads read
 DoesAll [] all old new reads reads' = (all ≡ true) × (new ≡ old) × (reads' ≡ reads)
 DoesAll (op ∷ ops) all old new reads reads' =
     ((op_fits old op ≡ false) × (all ≡ false) × (new ≡ old) × (reads' ≡ reads))
-    ⊎ ((op_fits old op ≡ true) × ((mid : List Touch) × (heard : List ℕ) × Does op old mid reads heard × DoesAll ops all mid new heard reads'))
+    ⊎ ((op_fits old op ≡ true)
+    × ((mid : List Touch) × (heard : List ℕ) × Does op old mid reads heard × DoesAll ops all mid new heard reads'))
 
--- a transaction did what the script says and heard these values: all of it, or it is withdrawn at the first sum that is too large
-abbrev pub Tries : List Op → Ending → (reads : List ℕ) → Type 0
-Tries ops verdict reads = (all : Bool) × (draft : List Touch) × DoesAll ops all [] draft [] reads × ((verdict ≡ Withdrawn) ↔ (all ≡ false))
+-- A try of the script, which heard these values: a transaction began and did what the script says, all of it or what stands in front of the
+-- first sum that is too large, and nothing else. The ticket is of its end: it is withdrawn where a sum is too large, and else decided
+pub record Tries (ops : List Op) (t : Ticket) (reads : List ℕ) : Type 0 where
+  pub active : Active
+  pub begun : HasAdded (call.Begin active.tx active.handle)
+  pub all : Bool
+  pub does : DoesAll ops all [] active.draft.touched [] reads
+  pub withdrawn : (t.verdict ≡ Withdrawn) ↔ (all ≡ false)
+  pub sites : ℕ
+  pub told : IsTicketOf sites active t

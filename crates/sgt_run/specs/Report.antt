@@ -9,11 +9,9 @@ use Rattle.sgt_notation.specs.Spelling.{text_of_lines}
 use Rattle.sgt_notation.specs.declared.fault.NotationFault.{NotationFault}
 use Rattle.sgt_notation.specs.declared.fault.NotationFault.TheVariants as notation
 use Rattle.sgt_notation.specs.declared.script.Script.{Script}
-use Rattle.sgt_site.specs.declared.fault.SiteFault.TheVariants as site
 use Rattle.sgt_cert.specs.Parts.{Parts}
 use Rattle.sgt_cert.specs.Text.{text_of}
 use Rattle.sgt_certifier.specs.Kept.{Kept}
-use Rattle.sgt_certifier.specs.declared.call.CertifierFault.TheVariants as certifier
 use Rattle.sgt_agreed.specs.declared.fault.ServiceFault.{ServiceFault}
 use Rattle.sgt_agreed.specs.declared.fault.ServiceFault.TheVariants as fault
 use Rattle.sgt_workers.specs.Answers.{IsJob}
@@ -27,6 +25,7 @@ use Rattle.sgt_audit.specs.Verdict as auditor
 use Rattle.sgt_audit.specs.declared.verdict.Verdict.{Verdict}
 use Rattle.sgt_audit.specs.declared.verdict.Verdict.TheVariants.{Yes, No}
 use Rattle.sgt_service.specs.Guarded.{decision_count}
+use Rattle.sgt_service.specs.Refused.{IsOfCall}
 use Rattle.sgt_settle.specs.Settled.{IsSettled, Run, tickets_of}
 use Rattle.sgt_settle.specs.Fault.{IsUnsettled}
 use Rattle.sgt_run.specs.Bundle.{IsBundleOf, IsToldAlone}
@@ -94,17 +93,19 @@ pool_fault_number pool.Memory = 1
 pool_fault_number (pool.Unrun job) = 2
 pool_fault_number (pool.Doubled job) = 3
 
--- V4 or V7: a call of the service was refused, and not for want of memory
+-- V4 or V7: a call of a transaction was refused, and not for want of memory
 abbrev pub IsOfRun : ServiceFault → Type 0
-IsOfRun (fault.Site f) = f ≢ site.Memory
-IsOfRun (fault.Certifier f) = f ≢ certifier.Memory
-IsOfRun (fault.NotPledged number) = ⊤
-IsOfRun _ = ⊥
+IsOfRun f = IsOfCall f × (f ≢ fault.Memory)
+
+-- these are a run's certifier and its Dones: each script has its tries, and as many decisions were taken as there are tickets
+pub record AreToldOf (scripts : List Script) (tries : ℕ) (c : Kept) (dones : List Done) : Type 0 where
+  pub dones_of : AreDonesOf scripts tries dones
+  pub decided : decision_count c ≡ length (tickets_of dones)
 
 -- a run of these scripts isn't settled; or its certifier and its tickets tell the fault without the sites
 abbrev pub EndsUnsettled : List Script → (places tries : ℕ) → ServiceFault → Type 0
 EndsUnsettled scripts places tries f = ((run : Run) × IsRunOf scripts places tries run × IsUnsettled run f)
-    ⊎ ((c : Kept) × (dones : List Done) × AreDonesOf scripts tries dones × IsToldAlone c dones f)
+    ⊎ ((c : Kept) × (dones : List Done) × AreToldOf scripts tries c dones × IsToldAlone c dones f)
 
 -- the site of this number is the first that has other items or first values than were given
 pub record BeganOtherwise (given found : List (List Holding)) (number : ℕ) : Type 0 where

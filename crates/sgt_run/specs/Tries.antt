@@ -21,15 +21,15 @@ pub record AreTries (tries : ℕ) (tickets : List Ticket) : Type 0 where
   pub few : length refusals < tries
   pub spent : IsRefused last → length refusals + 1 ≡ tries
 
--- a transaction that did these operations was told the ticket
+-- the ticket is of a transaction that did just these operations
 abbrev pub IsTryOf : List Op → Ticket → Type 0
-IsTryOf ops t = (heard : List ℕ) × Tries ops t.verdict heard
+IsTryOf ops t = (heard : List ℕ) × Tries ops t heard
 
 -- each ticket is that of a try of these operations, and the values are those that the reads of the last try answered
 pub record AreTriesOf (tries : ℕ) (ops : List Op) (tickets : List Ticket) (reads : List ℕ) : Type 0 where
   pub whole : AreTries tries tickets
   pub each : All (IsTryOf ops) tickets
-  pub last : IfSome (last_or None tickets) (λ t. Tries ops t.verdict reads)
+  pub last : IfSome (last_or None tickets) (λ t. Tries ops t reads)
 
 -- the script was tried up to so often, with these tickets and what its last try's reads answered
 abbrev pub IsDoneOf : ℕ → Script → Done → Type 0

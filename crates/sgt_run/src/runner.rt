@@ -32,7 +32,8 @@ pub struct Runner<'a, L: Ledger, G: Gate> {
 
 impl<'a, L: Ledger, G: Gate> Runner<'a, L, G> {
     ghost use Rattle.std.specs.Prelude.{◌≡◌, ◌≢◌, ◌+◌, ◌↔◌, [], true, false, All, Ok, IfOk, IfErr, OnOk, vec_len};
-    ghost use Rattle.sgt_service.specs.Reads.{look_in};
+    ghost use Rattle.sgt_service.specs.Guarded.{IsTicketOf};
+    ghost use Rattle.sgt_service.specs.Reads.{look_in, IsOfActive};
     ghost use Rattle.sgt_service.specs.Refused.{IsOfCall};
     ghost use Rattle.sgt_workers.specs.declared.ticket.Ending.TheVariants.{Withdrawn};
     ghost use Rattle.sgt_run.specs.Tries.{AreTriesOf, IsRefused, IsTryOf};
@@ -52,6 +53,7 @@ impl<'a, L: Ledger, G: Gate> Runner<'a, L, G> {
         ensures fits { IfOk result (λ fits. fits ≡ sum_fits seen value) }
         ensures sum { result ≡ Ok true → PutsSum site item seen value active.old.draft.touched active.new.draft.touched }
         ensures same { result ≡ Ok false → active.new.draft.touched ≡ active.old.draft.touched }
+        ensures named { IsOfActive active.old active.new }
         ensures fault { IfErr result IsOfCall }
     {
         let Some(seen) = seen else {
@@ -64,7 +66,7 @@ impl<'a, L: Ledger, G: Gate> Runner<'a, L, G> {
         Ok(true)
     }
 
-    #[tactic(auto, using(crate::proofs::Faults::item_of_call))]
+    #[tactic(auto, using(crate::proofs::Faults::item_of_call, crate::proofs::Faults::read_of_call))]
     // Does what one operation says. False where its sum is too large.
     fn apply<R: Wait>(
         &self,
@@ -79,6 +81,7 @@ impl<'a, L: Ledger, G: Gate> Runner<'a, L, G> {
             → Does op.now active.old.draft.touched active.new.draft.touched reads.old.items reads.new.items }
         ensures same { result ≡ Ok false
             → (active.new.draft.touched ≡ active.old.draft.touched) × (reads.new.items ≡ reads.old.items) }
+        ensures named { IsOfActive active.old active.new }
         ensures share { worker.new.seat.share ≡ worker.old.seat.share }
         ensures fault { IfErr result IsOfCall }
     {
@@ -124,6 +127,7 @@ impl<'a, L: Ledger, G: Gate> Runner<'a, L, G> {
     ) -> Result<bool, ServiceFault>
         ensures does { IfOk result (λ all. DoesAll script.now.operations all
             active.old.draft.touched active.new.draft.touched reads.old.items reads.new.items) }
+        ensures named { IsOfActive active.old active.new }
         ensures share { worker.new.seat.share ≡ worker.old.seat.share }
         ensures fault { IfErr result IsOfCall }
     {
@@ -145,6 +149,7 @@ impl<'a, L: Ledger, G: Gate> Runner<'a, L, G> {
         active: Active,
     ) -> Result<Ticket, ServiceFault>
         ensures decided { IfOk result (λ t. t.verdict ≢ Withdrawn) }
+        ensures told { IfOk result (IsTicketOf (vec_len self.now.service.now.sites) active) }
         ensures parts { worker.new.seat.share.parts ≡ worker.old.seat.share.parts }
         ensures counted { OnOk result (worker.new.seat.share.amount ≡ worker.old.seat.share.amount + 1) }
         ensures fault { IfErr result IsOfCall }
@@ -168,6 +173,7 @@ impl<'a, L: Ledger, G: Gate> Runner<'a, L, G> {
         active: Active,
     ) -> Result<Ticket, ServiceFault>
         ensures decided { IfOk result (λ t. t.verdict ≡ Withdrawn) }
+        ensures told { IfOk result (IsTicketOf (vec_len self.now.service.now.sites) active) }
         ensures parts { worker.new.seat.share.parts ≡ worker.old.seat.share.parts }
         ensures counted { OnOk result (worker.new.seat.share.amount ≡ worker.old.seat.share.amount + 1) }
         ensures fault { IfErr result IsOfCall }
@@ -188,6 +194,7 @@ impl<'a, L: Ledger, G: Gate> Runner<'a, L, G> {
         fits: bool,
     ) -> Result<Ticket, ServiceFault>
         ensures withdrawn { IfOk result (λ t. (t.verdict ≡ Withdrawn) ↔ (fits ≡ false)) }
+        ensures told { IfOk result (IsTicketOf (vec_len self.now.service.now.sites) active) }
         ensures parts { worker.new.seat.share.parts ≡ worker.old.seat.share.parts }
         ensures counted { OnOk result (worker.new.seat.share.amount ≡ worker.old.seat.share.amount + 1) }
         ensures fault { IfErr result IsOfCall }
@@ -198,6 +205,7 @@ impl<'a, L: Ledger, G: Gate> Runner<'a, L, G> {
         self.commit(rt, worker, active)
     }
 
+    #[tactic(auto, using(crate::proofs::Faults::begin_of_call, crate::proofs::Tries::tries_once))]
     // One try: a transaction of its own, whose reads' values it leaves in `reads`.
     fn try_once<R: Wait>(
         &self,
@@ -206,7 +214,7 @@ impl<'a, L: Ledger, G: Gate> Runner<'a, L, G> {
         script: &Script,
         reads: &mut Vec<Value>,
     ) -> Result<Ticket, ServiceFault>
-        ensures tries { IfOk result (λ t. Tries script.now.operations t.verdict reads.new.items) }
+        ensures tries { IfOk result (λ t. Tries script.now.operations t reads.new.items) }
         ensures parts { worker.new.seat.share.parts ≡ worker.old.seat.share.parts }
         ensures counted { OnOk result (worker.new.seat.share.amount ≡ worker.old.seat.share.amount + 1) }
         ensures fault { IfErr result IsOfCall }
@@ -214,7 +222,8 @@ impl<'a, L: Ledger, G: Gate> Runner<'a, L, G> {
         reads.clear();
         let mut active = self.service.begin(rt, self.alloc, &mut worker.seat)?;
         let fits = self.apply_all(rt, worker, &mut active, script, reads)?;
-        self.end(rt, worker, active, fits)
+        let ticket = self.end(rt, worker, active, fits)?;
+        Ok(ticket)
     }
 
     #[tactic(auto, using(crate::proofs::Tries::tries_end, crate::proofs::Tries::tries_spent, crate::proofs::Tries::tries_more, crate::proofs::Tries::last_more))]

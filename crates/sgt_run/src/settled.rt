@@ -14,7 +14,7 @@ use sgt_agreed::{EntryCounts, ServiceFault};
 use sgt_cert::{Bundle, SiteLog};
 use sgt_certifier::Certifier;
 use sgt_names::Listed;
-use sgt_service::{Guarded, Opened, Seat, Service};
+use sgt_service::{Opened, Seat, Service};
 use sgt_settle::{check_settled, check_told};
 use sgt_site::Site;
 use sgt_workers::Done;
@@ -84,8 +84,8 @@ impl Settled {
 /// are all that there are, the history has as many decisions as their shares together. It waits for nobody.
 ///
 /// A run that isn't settled is refused as `check_settled` refuses it: V1, V2, V6, V8, V9 and V10, in this order, each with the
-/// least number of its kind. V3: there was no memory, and the tickets are the decisions. They are looked at before memory is taken for
-/// the sites.
+/// least number of its kind. V3: there was no memory, and the tickets are the decisions. Where there is none for the sites, the
+/// certifier and the tickets alone are looked at.
 #[tactic(auto, using(crate::proofs::Counts::counts_many))]
 pub fn settle<L: Ledger>(
     alloc: Global,
@@ -102,17 +102,16 @@ pub fn settle<L: Ledger>(
     ensures refused { IfErr result (IsRefused (vec_len service.names) L.parts seats.items dones.items) }
     ensures memory { result ≡ Err Memory → (c : Kept) × AreTickets c.state.rulings dones.items }
 {
-    let mut service = service;
-    let Guarded { certifier, .. } = service.certifier.get_mut();
-    let told = check_told(alloc, certifier, dones.as_slice());
-    let Ok(opened) = service.open(alloc, seats) else {
-        return Err(told_alone(told));
-    };
     let Opened {
         certifier,
         sites,
         counts,
-    } = opened;
+    } = match service.open(alloc, seats) {
+        Ok(opened) => opened,
+        Err(certifier) => {
+            return Err(told_alone(check_told(alloc, &certifier, dones.as_slice())));
+        }
+    };
     check_settled(
         alloc,
         &certifier,

@@ -1,12 +1,13 @@
 -- What a decision does to the certifier, and the installs that follow it.
-use Rattle.std.proofs.Common.{◌≡◌, ◌+◌, ◌≤◌, ℕ, List, [], ◌∷◌, ◌++◌, length, Some, sym, ap, ◌∙◌, subst, arith, inl, inr, length-append}
+use Rattle.std.proofs.Common.{◌≡◌, ◌+◌, ◌≤◌, ℕ, List, [], ◌∷◌, ◌++◌, length, Some, refl, sym, ap, ◌∙◌, subst, arith, inl, inr, length-append}
 use Rattle.std.specs.Prelude.{Contains}
 use Rattle.std.proofs.lemmas.List.Elements.{Contains-append_cases}
+use Rattle.std.proofs.lemmas.List.Quantifiers.{Any-push}
 use Rattle.sgt_names.specs.Name.{Name}
 use Rattle.sgt_names.specs.declared.draft.Touch.{Touch}
 use Rattle.sgt_arena.specs.declared.handle.Handle.{Handle}
 use Rattle.sgt_edges.specs.declared.edge.Edge.{Edge}
-use Rattle.sgt_certifier.specs.Certifier.{State, Install, committed, refused, withdrawn}
+use Rattle.sgt_certifier.specs.Certifier.{State, Install, ruled, committed, refused, withdrawn}
 use Rattle.sgt_certifier.specs.History.{IsNoted, IsInstalling, Replays, tx_under, installed, finish}
 use Rattle.sgt_certifier.specs.Kept.{Kept, Adds, Declines, IsExpected}
 use Rattle.sgt_certifier.specs.declared.call.Decided.{Decided}
@@ -18,7 +19,7 @@ use Rattle.sgt_certifier.proofs.Members.{placed_self, cons_cases, nil_none}
 use Rattle.sgt_certifier.proofs.Replaying.{no_step, active_under, replays-good}
 use Rattle.sgt_certifier.proofs.Installs.{none_noted}
 use Rattle.sgt_workers.specs.declared.ticket.Ending.TheVariants as ending
-use Rattle.sgt_service.specs.Guarded.{decision_count, ticket_of, AwaitsInstalls}
+use Rattle.sgt_service.specs.Guarded.{decision_count, ticket_of, AwaitsInstalls, IsDecided}
 
 pub decided_count : (old new : Kept) (h : Handle) (edges : List Edge) (reply : Decided) → Adds old (call.Decide h edges reply) new
     → decision_count new ≡ decision_count old + 1
@@ -30,6 +31,21 @@ decided_count old new h edges (Refused number walk) a =
 pub withdrawn_count : (old new : Kept) (h : Handle) (number : ℕ) → Adds old (call.Withdraw h number) new → decision_count new ≡ decision_count old + 1
 withdrawn_count old new h number a =
     ap (λ (s : State). length s.rulings) a.serves.1.1 ∙ length-append old.state.rulings (withdrawn (tx_under old.state h) ∷ [])
+
+-- the transaction that is decided
+pub decided_ruled : (old new : Kept) (h : Handle) (edges : List Edge) (reply : Decided) (tx : ℕ) → Adds old (call.Decide h edges reply) new
+    → tx_under old.state h ≡ tx → IsDecided new.state tx
+decided_ruled old new h edges (Committed number) tx a named =
+    subst (λ (s : State). IsDecided s tx) (sym a.serves.1.1.after)
+    (Any-push (λ r. ruled r ≡ tx) old.state.rulings (committed (tx_under old.state h)) named)
+decided_ruled old new h edges (Refused number walk) tx a named =
+    subst (λ (s : State). IsDecided s tx) (sym a.serves.1.1.after)
+    (Any-push (λ r. ruled r ≡ tx) old.state.rulings (refused (tx_under old.state h) walk) named)
+
+pub withdrawn_ruled : (old new : Kept) (h : Handle) (number : ℕ) → Adds old (call.Withdraw h number) new → IsDecided new.state (tx_under old.state h)
+withdrawn_ruled old new h number a =
+    subst (λ (s : State). IsDecided s (tx_under old.state h)) (sym a.serves.1.1)
+    (Any-push (λ r. ruled r ≡ tx_under old.state h) old.state.rulings (withdrawn (tx_under old.state h)) refl)
 
 pub decided_step : (old new : Kept) (h : Handle) (edges : List Edge) (reply : Decided) → Adds old (call.Decide h edges reply) new
     → new.state.step ≡ Some (tx_under old.state h)

@@ -9,7 +9,7 @@ use Rattle.sgt_site.specs.Refused.{RefusesRead, RefusesPledge}
 use Rattle.sgt_site.specs.declared.fault.SiteFault.{SiteFault}
 use Rattle.sgt_site.specs.declared.fault.SiteFault.TheVariants as site
 use Rattle.sgt_certifier.specs.Certifier.{State}
-use Rattle.sgt_certifier.specs.History.{expect, decide, withdraw}
+use Rattle.sgt_certifier.specs.History.{begin, expect, decide, withdraw}
 use Rattle.sgt_certifier.specs.Kept.{Kept, IsTold}
 use Rattle.sgt_certifier.specs.declared.call.Call.{Call}
 use Rattle.sgt_certifier.specs.declared.call.CertifierFault.{CertifierFault}
@@ -17,7 +17,7 @@ use Rattle.sgt_certifier.specs.declared.call.CertifierFault.TheVariants as certi
 use Rattle.sgt_agreed.specs.Fault.{of_site, of_certifier}
 use Rattle.sgt_agreed.specs.declared.fault.ServiceFault.{ServiceFault}
 use Rattle.sgt_agreed.specs.declared.fault.ServiceFault.TheVariants as fault
-use Rattle.sgt_service.specs.Refused.{IsOfCall, IsOfRead, IsOfPledge, IsOfWithdraw, IsOfCommit}
+use Rattle.sgt_service.specs.Refused.{IsOfBegin, IsOfCall, IsOfRead, IsOfWithdraw, IsOfCommit, IsRefusedBy}
 use Rattle.sgt_service.specs.Undecided.{RefusesActive, RefusesGather, IsUncommitted, IsNotWithdrawn, at_first, unexpected, beyond, ungathered, undecided, held_back, absent, unpledged, declined}
 use Rattle.sgt_service.specs.declared.active.Active.{Active}
 
@@ -51,6 +51,17 @@ gather_told history here s active fault.Memory r = tt
 gather_told history here s active _ r = absurd r
 
 -- ---- what the certifier refuses
+
+begin_by : (s : State) (f : CertifierFault) → IsTold s begin f → IsOfBegin (of_certifier f)
+begin_by s certifier.WindowFull t = tt
+begin_by s (certifier.StepOpen tx) t = tt
+begin_by s certifier.NumbersSpent t = tt
+begin_by s certifier.Memory t = tt
+begin_by s _ t = absurd t.0
+
+pub begin_told : (lost : Option ℕ) (s : State) (f : ServiceFault) → IsRefusedBy lost s begin f → IsOfBegin f
+begin_told (Some l) s f r = subst IsOfBegin (sym r) tt
+begin_told None s f r = subst IsOfBegin (sym r.2) (begin_by s r.0 r.1)
 
 expect_by : (s : State) (h : Handle) (f : CertifierFault) → IsTold s (expect h) f → IsOfCommit (of_certifier f)
 expect_by s h certifier.Unknown t = tt
@@ -96,35 +107,8 @@ withdraw_told sites lost k active f (declined g held there r) = subst IsOfWithdr
 
 -- ---- each is a fault of some call
 
-certifier_of_call : (f : CertifierFault) → IsOfCommit (fault.Certifier f) → IsOfCall (fault.Certifier f)
-certifier_of_call certifier.Memory h = absurd h
-certifier_of_call certifier.WindowFull h = absurd h
-certifier_of_call certifier.Unknown h = inr (λ e. absurd cc)
-certifier_of_call (certifier.StepOpen tx) h = inr (λ e. absurd cc)
-certifier_of_call (certifier.ActiveLeft n) h = absurd h
-certifier_of_call certifier.Stale h = inr (λ e. absurd cc)
-certifier_of_call certifier.GenerationsSpent h = absurd h
-certifier_of_call certifier.NumbersSpent h = absurd h
-
-site_of_call : (f : SiteFault) → IsOfPledge (fault.Site f) → IsOfCall (fault.Site f)
-site_of_call site.UnknownItem h = inl (λ e. absurd cc)
-site_of_call site.Ended h = inl (λ e. absurd cc)
-site_of_call site.PledgeOpen h = inl (λ e. absurd cc)
-site_of_call site.DraftDiffers h = inl (λ e. absurd cc)
-site_of_call _ h = absurd h
-
 pub commit_of_call : (f : ServiceFault) → IsOfCommit f → IsOfCall f
-commit_of_call (fault.Site f) h = site_of_call f h
-commit_of_call (fault.Certifier f) h = certifier_of_call f h
-commit_of_call (fault.NotPledged site) h = inr tt
-commit_of_call fault.Memory h = inl tt
-commit_of_call _ h = absurd h
+commit_of_call f h = inr (inr (inr (inl h)))
 
-pub withdraw_commit : (f : ServiceFault) → IsOfWithdraw f → IsOfCommit f
-withdraw_commit (fault.Site f) h = h
-withdraw_commit (fault.Certifier certifier.Unknown) h = tt
-withdraw_commit (fault.Certifier (certifier.StepOpen tx)) h = tt
-withdraw_commit (fault.Certifier _) h = absurd h
-withdraw_commit (fault.NotPledged site) h = tt
-withdraw_commit fault.Memory h = tt
-withdraw_commit _ h = absurd h
+pub withdraw_of_call : (f : ServiceFault) → IsOfWithdraw f → IsOfCall f
+withdraw_of_call f h = inr (inr (inr (inr h)))

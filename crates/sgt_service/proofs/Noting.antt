@@ -1,7 +1,8 @@
 -- What a step adds to the history.
-use Rattle.std.proofs.Common.{◌≡◌, ℕ, zero, suc, ◌+◌, List, [], ◌∷◌, ◌++◌, refl, ap, sym, ◌∙◌, add-one, append-nil, append_assoc}
+use Rattle.std.proofs.Common.{◌≡◌, ℕ, zero, suc, ◌+◌, List, [], ◌∷◌, ◌++◌, refl, ap, sym, subst, ◌∙◌, add-one, append-nil, append_assoc}
 use Rattle.sgt_names.specs.declared.draft.Touch.{Touch}
 use Rattle.sgt_names.specs.Draft.{at_site}
+use Rattle.sgt_certifier.specs.History.{Serves, tx_under}
 use Rattle.sgt_certifier.specs.Kept.{Kept, Adds, changed_at}
 use Rattle.sgt_certifier.specs.declared.call.Call.{Call}
 use Rattle.sgt_certifier.specs.declared.call.Call.TheVariants as call
@@ -71,10 +72,13 @@ no_notes : (active : Active) (n : ℕ) → notes_below Withdrawn active n ≡ []
 no_notes active zero = refl
 no_notes active (suc n) = append-nil (notes_below Withdrawn active n) ∙ no_notes active n
 
-pub takes_back : (active : Active) (sites number : ℕ) (old mid new : Kept) → Adds old (call.Withdraw active.handle number) mid
-    → number ≡ decision_count old → new.history ≡ mid.history ++ notes_below Withdrawn active sites
+pub takes_back : (active : Active) (sites number : ℕ) (old mid new : Kept) → tx_under old.state active.handle ≡ active.tx
+    → Adds old (call.Withdraw active.handle number) mid → number ≡ decision_count old → new.history ≡ mid.history ++ notes_below Withdrawn active sites
     → TakesBack active (record { number = number; tx = active.tx; verdict = Withdrawn }) old new
-takes_back active sites number old mid new a is e = record {
+takes_back active sites number old mid new named a is e = record {
+  named = named;
+  decided = mid.state;
+  serves = subst (λ n. Serves old.state (call.Withdraw active.handle n) mid.state) is a.serves;
   ticket = ap (λ n. record { number = n; tx = active.tx; verdict = Withdrawn }) is;
   history = e ∙ ap (λ notes. mid.history ++ notes) (no_notes active sites) ∙ append-nil mid.history ∙ a.history
       ∙ ap (λ n. old.history ++ call.Withdraw active.handle n ∷ []) is;

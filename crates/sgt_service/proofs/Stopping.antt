@@ -11,7 +11,7 @@ use Rattle.sgt_service.specs.declared.active.Active.{Active}
 use Rattle.sgt_service.specs.declared.seat.Seat.{Seat}
 use Rattle.sgt_service.specs.declared.ending.Stop.{Stop}
 use Rattle.sgt_service.specs.declared.ending.Stop.TheVariants.{Undecided, Lost}
-use Rattle.sgt_service.proofs.Faults.{commit_told, withdraw_told, commit_of_call, withdraw_commit}
+use Rattle.sgt_service.proofs.Faults.{commit_told, withdraw_told, commit_of_call, withdraw_of_call}
 
 pub stop_back : {L : Type 0} (decided : Ending → Type 0) (active : Active) (old new : Seat L) (stop : Stop)
     → IsStop decided active old new stop → IsUndecidedBy IsOfCall stop → IsBack decided active old new (back_of active stop)
@@ -35,7 +35,7 @@ pub commit_call : (stop : Stop) → IsUndecidedBy IsOfCommit stop → IsUndecide
 commit_call stop why = weaker IsOfCommit IsOfCall commit_of_call stop why
 
 pub withdraw_call : (stop : Stop) → IsUndecidedBy IsOfWithdraw stop → IsUndecidedBy IsOfCall stop
-withdraw_call stop why = weaker IsOfWithdraw IsOfCall (λ f h. commit_of_call f (withdraw_commit f h)) stop why
+withdraw_call stop why = weaker IsOfWithdraw IsOfCall withdraw_of_call stop why
 
 -- and of the fault that comes back
 pub commit_fault : (active : Active) (stop : Stop) → IsUndecidedBy IsOfCommit stop → IsOfCommit (back_of active stop).fault

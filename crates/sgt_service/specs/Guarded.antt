@@ -1,11 +1,12 @@
 -- What lies under the certifier's lock.
-use Rattle.std.specs.Prelude.{◌≡◌, ◌≤◌, ◌++◌, ◌∷◌, [], ℕ, zero, suc, List, length, All, None}
+use Rattle.std.specs.Prelude.{◌≡◌, ◌≤◌, ◌⊎◌, ◌++◌, ◌∷◌, [], ℕ, zero, suc, List, length, All, Any, None}
 use Rattle.sgt_names.specs.declared.draft.Touch.{Touch}
 use Rattle.sgt_names.specs.Draft.{at_site, writing_in}
 use Rattle.sgt_edges.specs.declared.edge.Edge.{Edge}
 use Rattle.sgt_edges.specs.Edges.{IsGiven, StandsForAll}
 use Rattle.sgt_site.specs.State.{SiteState, IsPledgedFor, commit_block, refuse_block, withdraw_block}
-use Rattle.sgt_certifier.specs.History.{IsNoted, IsInstalling}
+use Rattle.sgt_certifier.specs.Certifier.{State, ruled}
+use Rattle.sgt_certifier.specs.History.{IsNoted, IsInstalling, Serves, tx_under}
 use Rattle.sgt_certifier.specs.Kept.{Kept, Adds, IsExpected, changed_at}
 use Rattle.sgt_certifier.specs.declared.call.Call.{Call}
 use Rattle.sgt_certifier.specs.declared.call.Call.TheVariants as call
@@ -20,6 +21,10 @@ use Rattle.sgt_service.specs.declared.active.Active.{Active}
 -- how many decisions the certifier has taken
 abbrev pub decision_count : Kept → ℕ
 decision_count certifier = length certifier.state.rulings
+
+-- the transaction is decided
+abbrev pub IsDecided : State → ℕ → Type 0
+IsDecided s tx = Any (λ r. ruled r ≡ tx) s.rulings
 
 -- what a transaction's caller is told of its decision
 abbrev pub ticket_of : ℕ → Decided → Ticket
@@ -85,13 +90,16 @@ IsGatheredBelow history active (suc site) edges =
     (before : List Edge) × (here : List Edge) × (edges ≡ before ++ here) × IsGatheredBelow history active site before
     × IsGatheredAt history active site (at_site site active.draft.touched) here
 
--- the step of a transaction at a certifier with so many sites: its decision on the edges that were gathered at those that it touches,
--- its installs, and the step's end
+-- the step of a transaction at a certifier with so many sites, which has its number under its handle: its decision on the edges that were
+-- gathered at those that it touches, its installs, and the step's end
 pub record TakesStep (sites : ℕ) (active : Active) (t : Ticket) (old new : Kept) : Type 0 where
+  pub named : tx_under old.state active.handle ≡ active.tx
   pub within : (site : ℕ) → sites ≤ site → at_site site active.draft.touched ≡ []
   pub edges : List Edge
   pub gathered : IsGatheredBelow old.history active sites edges
   pub reply : Decided
+  pub decided : State
+  pub serves : Serves old.state (call.Decide active.handle edges reply) decided
   pub ticket : t ≡ ticket_of active.tx reply
   pub number : t.number ≡ decision_count old
   pub history : new.history
@@ -100,5 +108,20 @@ pub record TakesStep (sites : ℕ) (active : Active) (t : Ticket) (old new : Kep
 
 -- the withdrawal of a transaction
 pub record TakesBack (active : Active) (t : Ticket) (old new : Kept) : Type 0 where
+  pub named : tx_under old.state active.handle ≡ active.tx
+  pub decided : State
+  pub serves : Serves old.state (call.Withdraw active.handle (decision_count old)) decided
   pub ticket : t ≡ record { number = decision_count old; tx = active.tx; verdict = ending.Withdrawn }
   pub history : new.history ≡ old.history ++ call.Withdraw active.handle (decision_count old) ∷ []
+
+-- the ticket is of the step by which a certifier with so many sites decided the transaction, on what its draft touches; or of its
+-- withdrawal
+abbrev pub IsDecidedBy : ℕ → Active → Ticket → Type 0
+IsDecidedBy sites active t = (old : Kept) × (new : Kept) × TakesStep sites active t old new
+
+abbrev pub IsWithdrawnBy : Active → Ticket → Type 0
+IsWithdrawnBy active t = (old : Kept) × (new : Kept) × TakesBack active t old new
+
+-- the ticket is of the end of the transaction
+abbrev pub IsTicketOf : ℕ → Active → Ticket → Type 0
+IsTicketOf sites active t = IsDecidedBy sites active t ⊎ IsWithdrawnBy active t

@@ -1,6 +1,7 @@
 pub mod Counts
 pub mod Guarded
 pub mod Opened
+pub mod Pledges
 pub mod Reads
 pub mod Refused
 pub mod Seats

@@ -1,5 +1,5 @@
 -- When the calls of a service are refused.
-use Rattle.std.specs.Prelude.{◌≡◌, ◌≢◌, ◌⊎◌, ℕ, List, All, Contains, Option, Some, None, slice_get}
+use Rattle.std.specs.Prelude.{◌≡◌, ◌⊎◌, ℕ, List, All, Contains, Option, Some, None, slice_get}
 use Rattle.std.specs.Ordering.{nat_cmp}
 use Rattle.std.specs.Cmp.Lexicographic.{slice_cmp}
 use Rattle.sgt_names.specs.Name.{Name}
@@ -49,20 +49,19 @@ RefusesSites sites (Site site.BadItems) = All AreItems sites → ⊥
 RefusesSites sites Memory = All AreItems sites
 RefusesSites sites _ = ⊥
 
--- a fault of a site, a fault of the certifier, or want of memory, which is neither
-abbrev pub IsOfSite : ServiceFault → Type 0
-IsOfSite (Site f) = f ≢ site.Memory
-IsOfSite Memory = Unit {0}
-IsOfSite _ = ⊥
+-- what a begin may be refused for, and a change of an item
+abbrev pub IsOfBegin : ServiceFault → Type 0
+IsOfBegin (Certifier certifier.WindowFull) = Unit {0}
+IsOfBegin (Certifier (certifier.StepOpen tx)) = Unit {0}
+IsOfBegin (Certifier certifier.NumbersSpent) = Unit {0}
+IsOfBegin (NotPledged site) = Unit {0}
+IsOfBegin Memory = Unit {0}
+IsOfBegin _ = ⊥
 
-abbrev pub IsOfCertifier : ServiceFault → Type 0
-IsOfCertifier (Certifier f) = f ≢ certifier.Memory
-IsOfCertifier (NotPledged lost) = Unit {0}
-IsOfCertifier Memory = Unit {0}
-IsOfCertifier _ = ⊥
-
-abbrev pub IsOfCall : ServiceFault → Type 0
-IsOfCall f = IsOfSite f ⊎ IsOfCertifier f
+abbrev pub IsOfChange : ServiceFault → Type 0
+IsOfChange (Site site.UnknownItem) = Unit {0}
+IsOfChange Memory = Unit {0}
+IsOfChange _ = ⊥
 
 -- what a site may refuse a read for, and a pledge
 abbrev pub IsOfRead : ServiceFault → Type 0
@@ -91,3 +90,7 @@ IsOfWithdraw f = IsOfPledge f
 abbrev pub IsOfCommit : ServiceFault → Type 0
 IsOfCommit (Certifier certifier.Stale) = Unit {0}
 IsOfCommit f = IsOfWithdraw f
+
+-- what any call of a transaction may be refused for: its begin, a read, a change, its commit or its withdrawal
+abbrev pub IsOfCall : ServiceFault → Type 0
+IsOfCall f = IsOfBegin f ⊎ (IsOfRead f ⊎ (IsOfChange f ⊎ (IsOfCommit f ⊎ IsOfWithdraw f)))

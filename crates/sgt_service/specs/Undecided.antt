@@ -68,10 +68,12 @@ pub record MayGather (sites : ℕ) (lost : Option ℕ) (k : Kept) (active : Acti
 -- touches a site that isn't there, a gathering at a site that it touches is refused, or the certifier doesn't decide on what was gathered
 pub data IsUncommitted (sites : ℕ) (lost : Option ℕ) (k : Kept) (active : Active) : ServiceFault → Type 0 where
   at_first : (f : ServiceFault) → RefusesActive lost k.state active f → IsUncommitted sites lost k active f
-  unexpected : (f : ServiceFault) → IsHeld lost k.state active → HandsOn k.state (expect active.handle) f → IsUncommitted sites lost k active f
+  unexpected : (f : ServiceFault) → IsHeld lost k.state active → HandsOn k.state (expect active.handle) f
+      → IsUncommitted sites lost k active f
   beyond : (here : ℕ) → IsHeld lost k.state active → IsAllowed k.state (expect active.handle) → sites ≤ here → TouchesAt active here
       → IsUncommitted sites lost k active (Site site.UnknownItem)
-  ungathered : (f : ServiceFault) → MayGather sites lost k active → IsUngathered sites k.history active f → IsUncommitted sites lost k active f
+  ungathered : (f : ServiceFault) → MayGather sites lost k active → IsUngathered sites k.history active f
+      → IsUncommitted sites lost k active f
   undecided : (edges : List Edge) (f : ServiceFault) → MayGather sites lost k active → IsGatheredBelow k.history active sites edges
       → HandsOn k.state (decide active.handle edges) f → IsUncommitted sites lost k active f
 
@@ -80,6 +82,7 @@ pub data IsNotWithdrawn (sites : ℕ) (lost : Option ℕ) (k : Kept) (active : A
   held_back : (f : ServiceFault) → RefusesActive lost k.state active f → IsNotWithdrawn sites lost k active f
   absent : (here : ℕ) → IsHeld lost k.state active → sites ≤ here → TouchesAt active here
       → IsNotWithdrawn sites lost k active (Site site.UnknownItem)
-  unpledged : (f : ServiceFault) → IsHeld lost k.state active → AreThere sites active → IsUnpledged active f → IsNotWithdrawn sites lost k active f
+  unpledged : (f : ServiceFault) → IsHeld lost k.state active → AreThere sites active → IsUnpledged active f
+      → IsNotWithdrawn sites lost k active f
   declined : (f : ServiceFault) → IsHeld lost k.state active → AreThere sites active → HandsOn k.state (withdraw active.handle) f
       → IsNotWithdrawn sites lost k active f

@@ -45,7 +45,7 @@ impl<L: Ledger> Service<L> {
     ghost use Rattle.std.specs.Prelude.{◌≡◌, ◌≢◌, Err, IfOk, IfErr, IfSome, vec_len};
     ghost use Rattle.sgt_agreed.specs.declared.fault.ServiceFault.TheVariants.{NotPledged};
     ghost use Rattle.sgt_workers.specs.declared.ticket.Ending.TheVariants.{Withdrawn};
-    ghost use Rattle.sgt_service.specs.Guarded.{TakesStep, TakesBack};
+    ghost use Rattle.sgt_service.specs.Guarded.{TakesStep, TakesBack, IsDecidedBy, IsWithdrawnBy};
     ghost use Rattle.sgt_service.specs.Stops.{IsStop, IsUndecidedBy, LeavesGuard};
     ghost use Rattle.sgt_service.specs.Refused.{IsOfCommit, IsOfWithdraw};
     ghost use Rattle.sgt_service.specs.Undecided.{IsUncommitted, IsNotWithdrawn};
@@ -61,6 +61,7 @@ impl<L: Ledger> Service<L> {
         active: Active,
     ) -> Result<Ticket, Back>
         ensures ok { IfOk result (λ t. (t.tx ≡ active.tx) × (t.verdict ≢ Withdrawn) × CountsEnd t.verdict active seat.old seat.new) }
+        ensures step { IfOk result (IsDecidedBy (vec_len self.now.sites) active) }
         ensures back { IfErr result (IsBack (λ verdict. verdict ≢ Withdrawn) active seat.old seat.new) }
         ensures fault { IfErr result (λ back. IsOfCommit back.fault) }
     {
@@ -91,6 +92,7 @@ impl<L: Ledger> Service<L> {
         gate: &G,
     ) -> Result<Ticket, Back>
         ensures ok { IfOk result (λ t. (t.tx ≡ active.tx) × (t.verdict ≢ Withdrawn) × CountsEnd t.verdict active seat.old seat.new) }
+        ensures step { IfOk result (IsDecidedBy (vec_len self.now.sites) active) }
         ensures back { IfErr result (IsBack (λ verdict. verdict ≢ Withdrawn) active seat.old seat.new) }
         ensures fault { IfErr result (λ back. IsOfCommit back.fault) }
     {
@@ -115,6 +117,7 @@ impl<L: Ledger> Service<L> {
         active: Active,
     ) -> Result<Ticket, Back>
         ensures ok { IfOk result (λ t. (t.tx ≡ active.tx) × (t.verdict ≡ Withdrawn) × CountsEnd Withdrawn active seat.old seat.new) }
+        ensures step { IfOk result (IsWithdrawnBy active) }
         ensures back { IfErr result (IsBack (λ verdict. verdict ≡ Withdrawn) active seat.old seat.new) }
         ensures fault { IfErr result (λ back. IsOfWithdraw back.fault) }
     {
@@ -136,6 +139,7 @@ impl<L: Ledger> Service<L> {
     ) -> Result<Ticket, Stop>
         ensures ok { IfOk result (λ t. (t.tx ≡ active.now.tx) × (t.verdict ≢ Withdrawn)
             × CountsEnd t.verdict active.now seat.old seat.new) }
+        ensures step { IfOk result (IsDecidedBy (vec_len self.now.sites) active.now) }
         ensures stop { IfErr result (IsStop (λ verdict. verdict ≢ Withdrawn) active.now seat.old seat.new) }
         ensures why { IfErr result (IsUndecidedBy IsOfCommit) }
     {
@@ -201,6 +205,7 @@ impl<L: Ledger> Service<L> {
     ) -> Result<Ticket, Stop>
         ensures ok { IfOk result (λ t. (t.tx ≡ active.now.tx) × (t.verdict ≡ Withdrawn)
             × CountsEnd Withdrawn active.now seat.old seat.new) }
+        ensures step { IfOk result (IsWithdrawnBy active.now) }
         ensures stop { IfErr result (IsStop (λ verdict. verdict ≡ Withdrawn) active.now seat.old seat.new) }
         ensures why { IfErr result (IsUndecidedBy IsOfWithdraw) }
     {

@@ -42,8 +42,8 @@ impl<L: Ledger> Guarded<L> {
     ghost use Rattle.sgt_workers.specs.declared.ticket.Ending.TheVariants.{Committed, Withdrawn};
     ghost use Rattle.sgt_site.specs.State.{IsPledged, IsPledgedFor};
     ghost use Rattle.sgt_certifier.specs.Certifier.{opening};
-    ghost use Rattle.sgt_service.specs.Guarded.{decision_count, ticket_of, AwaitsInstalls, IsEnded, IsGathered};
-    ghost use Rattle.sgt_service.specs.Refused.{HandsOn, IsRefusedBy, IsOfCertifier};
+    ghost use Rattle.sgt_service.specs.Guarded.{decision_count, ticket_of, AwaitsInstalls, IsDecided, IsEnded, IsGathered};
+    ghost use Rattle.sgt_service.specs.Refused.{HandsOn, IsRefusedBy};
     ghost use Rattle.sgt_service.specs.Undecided.{RefusesActive, RefusesGather, IsHeld};
 
     /// A certifier to which nothing has happened, with its empty book.
@@ -102,6 +102,7 @@ impl<L: Ledger> Guarded<L> {
         ensures err { IfErr result (λ f. HandsOn self.old.certifier.state (withdraw handle) f
             × (self.new.certifier ≡ self.old.certifier) × (share.new ≡ share.old)) }
         ensures number { IfOk result (λ number. number ≡ decision_count self.old.certifier) }
+        ensures decided { OnOk result (IsDecided self.new.certifier.state (tx_under self.old.certifier.state handle)) }
         ensures parts { share.new.parts ≡ share.old.parts }
         ensures lost { self.new.lost ≡ self.old.lost }
     {
@@ -132,6 +133,7 @@ impl<L: Ledger> Guarded<L> {
         ensures err { IfErr result (λ f. HandsOn self.old.certifier.state (decide active.now.handle edges) f
             × (self.new.certifier ≡ self.old.certifier) × (share.new ≡ share.old)) }
         ensures step { OnOk result (self.new.certifier.state.step ≡ Some active.now.tx) }
+        ensures decided { OnOk result (IsDecided self.new.certifier.state active.now.tx) }
         ensures awaits { IfOk result (λ t. t.verdict ≡ Committed
             → AwaitsInstalls self.new.certifier active.now.tx active.now.draft.touched 0) }
         ensures parts { share.new.parts ≡ share.old.parts }

@@ -6,6 +6,7 @@ mod active;
 mod ending;
 mod guarded;
 mod opened;
+mod pledges;
 mod pledging;
 mod read;
 mod seat;

@@ -22,17 +22,19 @@ pub struct Opened {
 }
 
 impl<L: Ledger> Service<L> {
-    ghost use Rattle.std.specs.Prelude.{◌≡◌, ◌+◌, IfOk, vec_len};
+    ghost use Rattle.std.specs.Prelude.{◌≡◌, ◌+◌, IfOk, IfErr, vec_len};
     ghost use Rattle.sgt_service.specs.Guarded.{decision_count};
     ghost use Rattle.sgt_service.specs.Together.{parts_of, amount_of, counts_of};
 
     /// Takes the locks apart, and puts together what the seats counted. Where the seats are all that there are, the history has as
-    /// many decisions as their shares together. It waits for nobody. It errs where there was no memory.
-    pub fn open(self, alloc: Global, seats: Vec<Seat<L>>) -> Result<Opened, AllocError>
+    /// many decisions as their shares together. It waits for nobody. Where there was no memory, the certifier alone is handed out.
+    pub fn open(self, alloc: Global, seats: Vec<Seat<L>>) -> Result<Opened, Certifier>
         ensures decisions { IfOk result (λ o. parts_of seats.items ≡ L.parts
             → decision_count o.certifier ≡ amount_of seats.items) }
         ensures sites { IfOk result (λ o. vec_len o.sites ≡ vec_len self.names) }
         ensures counts { IfOk result (λ o. o.counts.items ≡ counts_of (vec_len self.names) seats.items) }
+        ensures unopened { IfErr result (λ certifier. parts_of seats.items ≡ L.parts
+            → decision_count certifier ≡ amount_of seats.items) }
     {
         let Service {
             certifier,
@@ -45,10 +47,15 @@ impl<L: Ledger> Service<L> {
             none,
             ..
         } = certifier.into_inner();
-        let count = sites.len();
-        let sites = unlocked(alloc, sites)?;
-        let (mut all, counts) = Service::together(alloc, none, seats, count)?;
+        let counts = Service::counted(alloc, seats.as_slice(), sites.len());
+        let mut all = Service::merged(none, seats);
         book.audit(&mut all);
+        let Ok(sites) = unlocked(alloc, sites) else {
+            return Err(certifier);
+        };
+        let Ok(counts) = counts else {
+            return Err(certifier);
+        };
         Ok(Opened {
             certifier,
             sites,
@@ -56,16 +63,25 @@ impl<L: Ledger> Service<L> {
         })
     }
 
-    // All shares as one, and all counts.
-    fn together(
+    // All shares as one.
+    fn merged(mut all: Share<L>, seats: Vec<Seat<L>>) -> Share<L>
+        ensures parts { result.parts ≡ all.parts + parts_of seats.items }
+        ensures amount { result.amount ≡ all.amount + amount_of seats.items }
+    {
+        for seat in seats {
+            let Seat { share, counts: _ } = seat;
+            all.merge(share);
+        }
+        all
+    }
+
+    // What the seats counted together at each site.
+    fn counted(
         alloc: Global,
-        mut all: Share<L>,
-        seats: Vec<Seat<L>>,
+        seats: &[Seat<L>],
         sites: usize,
-    ) -> Result<(Share<L>, Vec<EntryCounts>), AllocError>
-        ensures parts { IfOk result (λ r. r.0.parts ≡ all.parts + parts_of seats.items) }
-        ensures amount { IfOk result (λ r. r.0.amount ≡ all.amount + amount_of seats.items) }
-        ensures counts { IfOk result (λ r. r.1.items ≡ counts_of sites seats.items) }
+    ) -> Result<Vec<EntryCounts>, AllocError>
+        ensures { IfOk result (λ counts. counts.items ≡ counts_of sites seats.now) }
     {
         let nothing = EntryCounts {
             reads: 0,
@@ -73,14 +89,9 @@ impl<L: Ledger> Service<L> {
         };
         let mut counts = Vec::from_elem(alloc, nothing, sites)?;
         for seat in seats {
-            let Seat {
-                share,
-                counts: theirs,
-            } = seat;
-            all.merge(share);
-            add_counts(&mut counts, theirs.as_slice());
+            add_counts(&mut counts, seat.counts());
         }
-        Ok((all, counts))
+        Ok(counts)
     }
 }
 

@@ -1,28 +1,22 @@
 //! The sites of a transaction, one after another, while the certifier's lock is held.
 
-ghost use Rattle.std.specs.Prelude.{◌≡◌, ◌≢◌, ◌↔◌, ◌<◌, [], false, None, All, IsTrue, count_by};
-ghost use Rattle.sgt_site.specs.State.{IsPledged};
+ghost use Rattle.std.specs.Prelude.{◌≡◌, ◌≢◌, ◌↔◌, ◌<◌, [], false, All, IsTrue, count_by};
 ghost use Rattle.sgt_service.specs.Counts.{block_length, is_at, is_changed_at};
 ghost use Rattle.sgt_names.specs.Draft.{at_site};
 
 use crate::active::Active;
 use crate::guarded::Guarded;
+use crate::pledges::Pledges;
 use crate::seat::Seat;
 use crate::service::Service;
 use sgt_agreed::ServiceFault;
 use sgt_edges::EdgeList;
-use sgt_names::{Draft, SiteNo, Touch, Tx};
-use sgt_site::{Site, SiteFault};
+use sgt_names::{Draft, SiteNo, Touch};
+use sgt_site::SiteFault;
 use sgt_workers::{Ending, Gate, Place};
 use std::alloc::Global;
 use std::sync::Wait;
 use std::sync::ledger::Ledger;
-
-/// The pledges that a transaction took at those sites below a number that it touches. They can't be dropped: whoever has them gives them
-/// back, or ends the transaction.
-pub(crate) struct Pledges {
-    below: usize,
-}
 
 /// This site was found to have lost its pledge.
 #[derive(Clone, Copy)]
@@ -39,7 +33,8 @@ impl<L: Ledger> Service<L> {
     ghost use Rattle.sgt_certifier.specs.Kept.{Adds, IsExpected, changed_at};
     ghost use Rattle.sgt_certifier.specs.declared.call.Call.TheVariants as call;
     ghost use Rattle.sgt_service.specs.Counts.{AreCounted, only_at, with_others, blocks_of, below};
-    ghost use Rattle.sgt_service.specs.Guarded.{AwaitsInstalls, IsGatheredBelow, notes_at, notes_below};
+    ghost use Rattle.sgt_service.specs.Guarded.{AwaitsInstalls, IsDecided, IsGatheredBelow, notes_at, notes_below};
+    ghost use Rattle.sgt_service.specs.Pledges.{IsWhole};
     ghost use Rattle.sgt_service.specs.Undecided.{IsHeld, MayGather, IsUncommitted, IsUngathered, IsNotWithdrawn, IsUnpledged};
 
     // The number of the site at this place.
@@ -62,26 +57,32 @@ impl<L: Ledger> Service<L> {
         are_below(draft.touched(), self.sites.len())
     }
 
-    // Gives the pledges back.
+    // Gives the pledges back, at one site after another.
     pub(crate) fn give_back<R: Wait>(&self, rt: &R, active: &Active, pledges: Pledges)
-        requires { pledges.below ≤ vec_len self.now.sites }
+        requires whole { pledges.given ≡ 0 }
+        requires sites { pledges.below ≤ vec_len self.now.sites }
     {
-        let Pledges { below } = pledges;
-        for place in 0..below {
-            if touches(active, self.number_at(place)) {
-                free(&mut self.sites[place].lock(rt), active.tx);
+        let mut pledges = pledges;
+        for place in 0..pledges.below() {
+            let here = self.number_at(place);
+            if touches(active, here) {
+                pledges.free(&mut self.sites[place].lock(rt), active.tx);
+            } else {
+                pledges.pass(active, here);
             }
         }
+        pledges.all_given();
     }
 
     // Pledges at each site that the draft touches. Where a site refuses, none of these pledges is left.
     fn pledge_all<R: Wait>(&self, rt: &R, active: &Active) -> Result<Pledges, ServiceFault>
-        ensures below { IfOk result (λ pledges. pledges.below ≡ vec_len self.now.sites) }
+        ensures below { IfOk result (IsWhole (vec_len self.now.sites)) }
         ensures refused { IfErr result (IsUnpledged active.now) }
     {
-        let mut pledges = Pledges { below: 0 };
+        let mut pledges = Pledges::none();
         for place in 0..self.sites.len() {
-            if touches(active, self.number_at(place)) {
+            let here = self.number_at(place);
+            if touches(active, here) {
                 // (the lock is given back before another site's is taken)
                 let pledged = self.sites[place].lock(rt).pledge(active.tx, &active.draft);
                 if let Err(fault) = pledged {
@@ -89,7 +90,7 @@ impl<L: Ledger> Service<L> {
                     return Err(ServiceFault::from(fault));
                 }
             }
-            pledges.below = place + 1;
+            pledges.reach(here);
         }
         Ok(pledges)
     }
@@ -101,7 +102,7 @@ impl<L: Ledger> Service<L> {
         guarded: &Guarded<L>,
         active: &Active,
     ) -> Result<Pledges, ServiceFault>
-        ensures below { IfOk result (λ pledges. pledges.below ≡ vec_len self.now.sites) }
+        ensures below { IfOk result (IsWhole (vec_len self.now.sites)) }
         ensures held { OnOk result (IsHeld guarded.now.lost guarded.now.certifier.state active.now) }
         ensures sites { OnOk result ((site : ℕ) → vec_len self.now.sites ≤ site → at_site site active.now.draft.touched ≡ []) }
         ensures first { IfSome guarded.now.lost (λ site. result ≡ Err (NotPledged site)) }
@@ -129,7 +130,7 @@ impl<L: Ledger> Service<L> {
         active: &Active,
     ) -> Result<(EdgeList, Pledges), ServiceFault>
         ensures edges { IfOk result (λ r. IsGatheredBelow guarded.old.certifier.history active.now (vec_len self.now.sites) r.0) }
-        ensures below { IfOk result (λ r. r.1.below ≡ vec_len self.now.sites) }
+        ensures below { IfOk result (λ r. IsWhole (vec_len self.now.sites) r.1) }
         ensures may { OnOk result (MayGather (vec_len self.now.sites) guarded.old.lost guarded.old.certifier active.now) }
         ensures named { OnOk result (tx_under guarded.new.certifier.state active.now.handle ≡ active.now.tx) }
         ensures room { OnOk result ((site : ℕ) → IsExpected guarded.new.certifier.expected active.now.draft.touched site) }
@@ -165,12 +166,12 @@ impl<L: Ledger> Service<L> {
     ) -> Result<Pledges, ServiceFault>
         requires { edges.old ≡ [] }
         ensures edges { OnOk result (IsGatheredBelow guarded.old.certifier.history active.now (vec_len self.now.sites) edges.new) }
-        ensures below { IfOk result (λ pledges. pledges.below ≡ vec_len self.now.sites) }
+        ensures below { IfOk result (IsWhole (vec_len self.now.sites)) }
         ensures certifier { guarded.new.certifier ≡ guarded.old.certifier }
         ensures noted { IfErr result (λ f. (site : ℕ) → f ≡ NotPledged site → guarded.new.lost ≡ Some site) }
         ensures refused { IfErr result (IsUngathered (vec_len self.now.sites) guarded.old.certifier.history active.now) }
     {
-        let mut pledges = Pledges { below: 0 };
+        let mut pledges = Pledges::none();
         for place in 0..self.sites.len() {
             let here = self.number_at(place);
             if touches(active, here) {
@@ -186,7 +187,7 @@ impl<L: Ledger> Service<L> {
                     return Err(guarded.noted(fault));
                 }
             }
-            pledges.below = place + 1;
+            pledges.reach(here);
         }
         Ok(pledges)
     }
@@ -207,6 +208,7 @@ impl<L: Ledger> Service<L> {
         requires awaits { verdict ≡ Committed
             → AwaitsInstalls guarded.old.certifier active.now.tx active.now.draft.touched 0 }
         requires sites { (site : ℕ) → vec_len self.now.sites ≤ site → at_site site active.now.draft.touched ≡ [] }
+        requires decided { IsDecided guarded.old.certifier.state active.now.tx }
         ensures step { guarded.new.certifier.state.step ≡ guarded.old.certifier.state.step }
         ensures share { seat.new.share ≡ seat.old.share }
         ensures ok { OnOk result (AreCounted (λ site. with_others (blocks_of verdict active.now.draft.touched site))
@@ -220,7 +222,7 @@ impl<L: Ledger> Service<L> {
         ensures noted { IfErr result (λ e. guarded.new.lost ≡ Some e.site) }
         ensures touched { IfErr result (λ e. at_site e.site active.now.draft.touched ≢ []) }
     {
-        let Pledges { below: _ } = pledges;
+        pledges.spend(&guarded.certifier, active.tx);
         for place in 0..self.sites.len() {
             let here = self.number_at(place);
             if !self.end_one(rt, guarded, seat, here, active, verdict, worker, gate) {
@@ -299,14 +301,6 @@ impl<L: Ledger> Service<L> {
         gate.arrive(worker, Place::InInstall(here));
         guarded.end(site, here, active, verdict)
     }
-}
-
-// Gives back the pledge of the transaction at a site, if it stands.
-fn free(site: &mut Site, tx: Tx)
-    ensures given { IsPledged site.old tx → site.new ≡ record site.old { pledge = None } }
-    ensures none { (IsPledged site.old tx → ⊥) → site.new ≡ site.old }
-{
-    let _ = site.unpledge(tx);
 }
 
 // Whether the transaction touches an item at the site.

@@ -19,7 +19,7 @@ impl<L: Ledger> Service<L> {
     ghost use Rattle.std.specs.Prelude.{◌≡◌, None, Some, Err, IsTrue, IsSome, IsOk, IfOk, IfErr, OnOk, OnErr, vec_len};
     ghost use Rattle.sgt_service.specs.Counts.{AreCounted, only_at, with_read};
     ghost use Rattle.sgt_service.specs.Reads.{look_in, GainsRead, IsOfActive, SameActive};
-    ghost use Rattle.sgt_service.specs.Refused.{HasItem, IsOfSite, IsOfRead};
+    ghost use Rattle.sgt_service.specs.Refused.{HasItem, IsOfRead};
     ghost use Rattle.sgt_service.specs.Seats.{SameSeat};
 
     /// `read_at`, with a gate that holds nobody.
@@ -42,7 +42,6 @@ impl<L: Ledger> Service<L> {
         ensures allowed { OnOk result (look_in active.old.draft.touched site item ≡ None → HasItem self.now.names.items site item) }
         ensures unknown { (HasItem self.now.names.items site item → ⊥) → look_in active.old.draft.touched site item ≡ None
             → result ≡ Err (AtSite UnknownItem) }
-        ensures refused { IfErr result IsOfSite }
         ensures fault { IfErr result IsOfRead }
     {
         self.read_at(rt, seat, active, site, item, 0, &NoGate)
@@ -77,7 +76,6 @@ impl<L: Ledger> Service<L> {
         ensures allowed { OnOk result (look_in active.old.draft.touched site item ≡ None → HasItem self.now.names.items site item) }
         ensures unknown { (HasItem self.now.names.items site item → ⊥) → look_in active.old.draft.touched site item ≡ None
             → result ≡ Err (AtSite UnknownItem) }
-        ensures refused { IfErr result IsOfSite }
         ensures fault { IfErr result IsOfRead }
     {
         if let Some(value) = active.draft.look(site, item) {
@@ -106,7 +104,6 @@ impl<L: Ledger> Service<L> {
     ) -> Result<Seen, ServiceFault>
         requires item { HasItem self.now.names.items site item }
         requires room { IsTrue active.now.draft.has_room }
-        ensures refused { IfErr result IsOfSite }
         ensures fault { IfErr result IsOfRead }
     {
         let mut guard = self.sites[site.number() as usize].lock(rt);

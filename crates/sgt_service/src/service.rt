@@ -46,7 +46,7 @@ impl<L: Ledger> Service<L> {
     ghost use Rattle.sgt_certifier.specs.History.{begin, close};
     ghost use Rattle.sgt_certifier.specs.declared.call.Call.TheVariants as call;
     ghost use Rattle.sgt_service.specs.Guarded.{HasAdded};
-    ghost use Rattle.sgt_service.specs.Refused.{HasItem, RefusesItem, RefusesSites, IsOfCertifier, IsToldOf};
+    ghost use Rattle.sgt_service.specs.Refused.{HasItem, RefusesItem, RefusesSites, IsOfBegin, IsToldOf};
 
     /// A service of these sites, none of which has an entry yet, and all its seats. The blank of the ledger has a part for each
     /// seat. A site is named by its place.
@@ -121,6 +121,7 @@ impl<L: Ledger> Service<L> {
         contains(self.names[place].as_slice(), item)
     }
 
+    #[tactic(auto, using(crate::proofs::Faults::begin_told))]
     /// Begins the next transaction, with an empty draft. It takes the certifier's lock.
     ///
     /// - V7: a site was found to have lost its pledge.
@@ -136,7 +137,7 @@ impl<L: Ledger> Service<L> {
         ensures draft { IfOk result (λ a. a.draft.touched ≡ []) }
         ensures begun { IfOk result (λ a. HasAdded (call.Begin a.tx a.handle)) }
         ensures refused { IfErr result (IsToldOf begin) }
-        ensures of_certifier { IfErr result IsOfCertifier }
+        ensures fault { IfErr result IsOfBegin }
     {
         let _ = seat;
         let (tx, handle) = self.certifier.lock(rt).begin()?;

@@ -139,6 +139,15 @@ impl Site {
         self.log.as_slice()
     }
 
+    /// Gives the site up but for its items with their first values and the entries of its log. Copies nothing.
+    pub fn into_log(self) -> (Vec<Holding>, Vec<Entry>)
+        ensures items { result.0.items ≡ self.items }
+        ensures entries { result.1.items ≡ self.entries }
+    {
+        let Site { items, log, .. } = self;
+        (items, log)
+    }
+
     /// Reads an item for a transaction, and logs it. What is answered was written by a committed transaction, or is the first value.
     /// A pledge that stands stays covered.
     ///

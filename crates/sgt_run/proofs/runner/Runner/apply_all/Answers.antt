@@ -7,6 +7,7 @@ pub loop-op-preserved : goal.loop-op-preserved
 loop-op-preserved g c =
     let here = element_at c.as_slice-operations.result.now c.loop-op.op-index c.op-item.result (omega arith) c.op-item.is in
     record {
+      named = search rules;
       share = search rules;
       done = does_next_at c.as_slice-operations.result.now c.loop-op.op-index c.op-item.result _ _ _ _ _ _ here c.loop-op.invariant.done (search rules) (search rules);
     }

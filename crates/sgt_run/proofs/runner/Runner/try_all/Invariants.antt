@@ -11,6 +11,6 @@ invariant-loop g l = record {
   counted : l.worker.seat.share.amount ≡ l.fn.worker.seat.share.amount + vec_len l.tickets;
   refused : All IsRefused l.tickets.items;
   each : All (IsTryOf l.script.operations) l.tickets.items;
-  last : IfSome (last_or None l.tickets.items) (λ t. Tries l.script.operations t.verdict l.reads.items);
+  last : IfSome (last_or None l.tickets.items) (λ t. Tries l.script.operations t l.reads.items);
   len : vec_len l.tickets ≡ l.counter;
 }

@@ -6,6 +6,7 @@ use Rattle.sgt_service.proofs.service.Service.gather_all.Given as goal
 abbrev pub invariant-loop-place : goal.invariant-loop-place
 invariant-loop-place g l = record {
   certifier : l.guarded.certifier ≡ l.fn.guarded.certifier;
+  given : l.pledges.given ≡ 0;
   below : l.pledges.below ≡ l.place;
   within : l.place ≤ vec_len l.self.sites;
   edges : IsGatheredBelow l.fn.guarded.certifier.history l.active l.place l.edges;
