@@ -16,12 +16,15 @@ abbrev pub back_of : Active → Stop → Back
 back_of active (Undecided fault) = record { active = Some active; fault = fault }
 back_of active (Lost verdict site) = record { active = None; fault = NotPledged site }
 
--- what a step that was stopped leaves under the certifier's lock. Where nothing is decided, the history is as it was; and the site that
--- a V7 names is noted
-abbrev pub LeavesGuard : Kept → Kept → Option ℕ → Stop → Type 0
-LeavesGuard old new lost (Undecided fault) =
-    (new.state ≡ old.state) × (new.history ≡ old.history) × ((site : ℕ) → fault ≡ NotPledged site → lost ≡ Some site)
-LeavesGuard old new lost (Lost verdict site) = lost ≡ Some site
+-- the site that a V7 names is noted, and any other fault leaves what was noted
+abbrev pub NotesLoss : Option ℕ → Option ℕ → ServiceFault → Type 0
+NotesLoss was lost fault =
+    ((site : ℕ) → fault ≡ NotPledged site → lost ≡ Some site) × (((site : ℕ) → fault ≡ NotPledged site → ⊥) → lost ≡ was)
+
+-- what a step that was stopped leaves under the certifier's lock. Where nothing is decided, the history is as it was
+abbrev pub LeavesGuard : Kept → Kept → Option ℕ → Option ℕ → Stop → Type 0
+LeavesGuard old new was lost (Undecided fault) = (new.state ≡ old.state) × (new.history ≡ old.history) × NotesLoss was lost fault
+LeavesGuard old new was lost (Lost verdict site) = lost ≡ Some site
 
 -- this is why it isn't decided
 abbrev pub IsUndecidedBy : (ServiceFault → Type 0) → Stop → Type 0

@@ -42,7 +42,7 @@ fn back_of(active: Active, stop: Stop) -> Back
 }
 
 impl<L: Ledger> Service<L> {
-    ghost use Rattle.std.specs.Prelude.{◌≡◌, ◌≢◌, Err, IfOk, IfErr, IfSome, vec_len};
+    ghost use Rattle.std.specs.Prelude.{◌≡◌, ◌≢◌, Err, IfOk, IfErr, IfSome, OnOk, vec_len};
     ghost use Rattle.sgt_agreed.specs.declared.fault.ServiceFault.TheVariants.{NotPledged};
     ghost use Rattle.sgt_workers.specs.declared.ticket.Ending.TheVariants.{Withdrawn};
     ghost use Rattle.sgt_service.specs.Guarded.{TakesStep, TakesBack, IsDecidedBy, IsWithdrawnBy};
@@ -166,7 +166,8 @@ impl<L: Ledger> Service<L> {
             (IsUncommitted (vec_len self.now.sites) guarded.old.lost guarded.old.certifier active.now)) }
         ensures step { IfOk result (λ t. TakesStep (vec_len self.now.sites) active.now t guarded.old.certifier guarded.new.certifier) }
         ensures first { IfSome guarded.old.lost (λ site. result ≡ Err (Undecided (NotPledged site))) }
-        ensures leaves { IfErr result (LeavesGuard guarded.old.certifier guarded.new.certifier guarded.new.lost) }
+        ensures kept { OnOk result (guarded.new.lost ≡ guarded.old.lost) }
+        ensures leaves { IfErr result (LeavesGuard guarded.old.certifier guarded.new.certifier guarded.old.lost guarded.new.lost) }
     {
         let (edges, pledges) = match self.gathered(rt, alloc, guarded, active) {
             Ok(gathered) => gathered,
@@ -229,7 +230,8 @@ impl<L: Ledger> Service<L> {
             (IsNotWithdrawn (vec_len self.now.sites) guarded.old.lost guarded.old.certifier active.now)) }
         ensures step { IfOk result (λ t. TakesBack active.now t guarded.old.certifier guarded.new.certifier) }
         ensures first { IfSome guarded.old.lost (λ site. result ≡ Err (Undecided (NotPledged site))) }
-        ensures leaves { IfErr result (LeavesGuard guarded.old.certifier guarded.new.certifier guarded.new.lost) }
+        ensures kept { OnOk result (guarded.new.lost ≡ guarded.old.lost) }
+        ensures leaves { IfErr result (LeavesGuard guarded.old.certifier guarded.new.certifier guarded.old.lost guarded.new.lost) }
     {
         let pledges = match self.pledged(rt, guarded, active) {
             Ok(pledges) => pledges,

@@ -21,7 +21,7 @@ use std::sync::ledger::{Book, Ledger, Share};
 pub struct Guarded<L: Ledger> {
     pub certifier: Certifier,
     /// The site that was found to have lost its pledge.
-    pub lost: Option<SiteNo>,
+    lost: Option<SiteNo>,
     /// The number of its decisions, in the ledger.
     pub book: Book<L>,
     /// A share with no part, into which the seats' shares are put together at the end.
@@ -44,6 +44,7 @@ impl<L: Ledger> Guarded<L> {
     ghost use Rattle.sgt_certifier.specs.Certifier.{opening};
     ghost use Rattle.sgt_service.specs.Guarded.{decision_count, ticket_of, AwaitsInstalls, IsDecided, IsEnded, IsGathered};
     ghost use Rattle.sgt_service.specs.Refused.{HandsOn, IsRefusedBy};
+    ghost use Rattle.sgt_service.specs.Stops.{NotesLoss};
     ghost use Rattle.sgt_service.specs.Undecided.{RefusesActive, RefusesGather, IsHeld};
 
     /// A certifier to which nothing has happened, with its empty book.
@@ -252,7 +253,7 @@ impl<L: Ledger> Guarded<L> {
     pub(crate) fn noted(&mut self, fault: ServiceFault) -> ServiceFault
         ensures same { result ≡ fault }
         ensures certifier { self.new.certifier ≡ self.old.certifier }
-        ensures lost { (number : ℕ) → fault ≡ NotPledged number → self.new.lost ≡ Some number }
+        ensures lost { NotesLoss self.old.lost self.new.lost fault }
     {
         match fault {
             ServiceFault::NotPledged(site) => {

@@ -35,6 +35,7 @@ impl<L: Ledger> Service<L> {
     ghost use Rattle.sgt_service.specs.Counts.{AreCounted, only_at, with_others, blocks_of, below};
     ghost use Rattle.sgt_service.specs.Guarded.{AwaitsInstalls, IsDecided, IsGatheredBelow, notes_at, notes_below};
     ghost use Rattle.sgt_service.specs.Pledges.{IsWhole};
+    ghost use Rattle.sgt_service.specs.Stops.{NotesLoss};
     ghost use Rattle.sgt_service.specs.Undecided.{IsHeld, MayGather, IsUncommitted, IsUngathered, IsNotWithdrawn, IsUnpledged};
 
     // The number of the site at this place.
@@ -136,7 +137,8 @@ impl<L: Ledger> Service<L> {
         ensures room { OnOk result ((site : ℕ) → IsExpected guarded.new.certifier.expected active.now.draft.touched site) }
         ensures sites { OnOk result ((site : ℕ) → vec_len self.now.sites ≤ site → at_site site active.now.draft.touched ≡ []) }
         ensures first { IfSome guarded.old.lost (λ site. result ≡ Err (NotPledged site)) }
-        ensures noted { IfErr result (λ f. (site : ℕ) → f ≡ NotPledged site → guarded.new.lost ≡ Some site) }
+        ensures kept { OnOk result (guarded.new.lost ≡ guarded.old.lost) }
+        ensures noted { IfErr result (NotesLoss guarded.old.lost guarded.new.lost) }
         ensures same { (guarded.new.certifier.state ≡ guarded.old.certifier.state)
             × (guarded.new.certifier.history ≡ guarded.old.certifier.history) }
         ensures refused { IfErr result (IsUncommitted (vec_len self.now.sites) guarded.old.lost guarded.old.certifier active.now) }
@@ -168,7 +170,8 @@ impl<L: Ledger> Service<L> {
         ensures edges { OnOk result (IsGatheredBelow guarded.old.certifier.history active.now (vec_len self.now.sites) edges.new) }
         ensures below { IfOk result (IsWhole (vec_len self.now.sites)) }
         ensures certifier { guarded.new.certifier ≡ guarded.old.certifier }
-        ensures noted { IfErr result (λ f. (site : ℕ) → f ≡ NotPledged site → guarded.new.lost ≡ Some site) }
+        ensures kept { OnOk result (guarded.new.lost ≡ guarded.old.lost) }
+        ensures noted { IfErr result (NotesLoss guarded.old.lost guarded.new.lost) }
         ensures refused { IfErr result (IsUngathered (vec_len self.now.sites) guarded.old.certifier.history active.now) }
     {
         let mut pledges = Pledges::none();
