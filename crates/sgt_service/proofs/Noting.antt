@@ -2,7 +2,7 @@
 use Rattle.std.proofs.Common.{◌≡◌, ℕ, zero, suc, ◌+◌, List, [], ◌∷◌, ◌++◌, refl, ap, sym, subst, ◌∙◌, add-one, append-nil, append_assoc}
 use Rattle.sgt_names.specs.declared.draft.Touch.{Touch}
 use Rattle.sgt_names.specs.Draft.{at_site}
-use Rattle.sgt_certifier.specs.History.{Serves, tx_under}
+use Rattle.sgt_certifier.specs.History.{Replays, Serves, tx_under}
 use Rattle.sgt_certifier.specs.Kept.{Kept, Adds, changed_at}
 use Rattle.sgt_certifier.specs.declared.call.Call.{Call}
 use Rattle.sgt_certifier.specs.declared.call.Call.TheVariants as call
@@ -72,10 +72,11 @@ no_notes : (active : Active) (n : ℕ) → notes_below Withdrawn active n ≡ []
 no_notes active zero = refl
 no_notes active (suc n) = append-nil (notes_below Withdrawn active n) ∙ no_notes active n
 
-pub takes_back : (active : Active) (sites number : ℕ) (old mid new : Kept) → tx_under old.state active.handle ≡ active.tx
+pub takes_back : (active : Active) (sites number : ℕ) (old mid new : Kept) → Replays old.history old.state → tx_under old.state active.handle ≡ active.tx
     → Adds old (call.Withdraw active.handle number) mid → number ≡ decision_count old → new.history ≡ mid.history ++ notes_below Withdrawn active sites
     → TakesBack active (record { number = number; tx = active.tx; verdict = Withdrawn }) old new
-takes_back active sites number old mid new named a is e = record {
+takes_back active sites number old mid new replays named a is e = record {
+  replays = replays;
   named = named;
   decided = mid.state;
   serves = subst (λ n. Serves old.state (call.Withdraw active.handle n) mid.state) is a.serves;

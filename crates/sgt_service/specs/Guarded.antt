@@ -4,9 +4,9 @@ use Rattle.sgt_names.specs.declared.draft.Touch.{Touch}
 use Rattle.sgt_names.specs.Draft.{at_site, writing_in}
 use Rattle.sgt_edges.specs.declared.edge.Edge.{Edge}
 use Rattle.sgt_edges.specs.Edges.{IsGiven, StandsForAll}
-use Rattle.sgt_site.specs.State.{SiteState, IsPledgedFor, commit_block, refuse_block, withdraw_block}
+use Rattle.sgt_site.specs.State.{SiteState, IsSite, IsPledgedFor, commit_block, refuse_block, withdraw_block}
 use Rattle.sgt_certifier.specs.Certifier.{State, ruled}
-use Rattle.sgt_certifier.specs.History.{IsNoted, IsInstalling, Serves, tx_under}
+use Rattle.sgt_certifier.specs.History.{IsNoted, IsInstalling, Replays, Serves, tx_under}
 use Rattle.sgt_certifier.specs.Kept.{Kept, Adds, IsExpected, changed_at}
 use Rattle.sgt_certifier.specs.declared.call.Call.{Call}
 use Rattle.sgt_certifier.specs.declared.call.Call.TheVariants as call
@@ -31,9 +31,10 @@ abbrev pub ticket_of : ℕ → Decided → Ticket
 ticket_of tx (decided.Committed number) = record { number = number; tx = tx; verdict = ending.Committed }
 ticket_of tx (decided.Refused number walk) = record { number = number; tx = tx; verdict = ending.Refused }
 
--- a certifier has served the call: its history has gained it, and its state is as this call with this reply leaves it
+-- a certifier whose state is the replay of its history has served the call: the history has gained it, and the state is as this call
+-- with this reply leaves it
 abbrev pub HasAdded : Call → Type 0
-HasAdded c = (before : Kept) × (after : Kept) × Adds before c after
+HasAdded c = (before : Kept) × (after : Kept) × Replays before.history before.state × Adds before c after
 
 -- the transaction is committed, and its installs from this site on can be noted without memory
 pub record AwaitsInstalls (certifier : Kept) (tx : ℕ) (touched : List Touch) (from : ℕ) : Type 0 where
@@ -73,6 +74,7 @@ notes_below verdict active (suc site) = notes_below verdict active site ++ notes
 -- transaction's pledge for its draft; the edges are the draft's there, and stand for all of them
 pub record IsGathered (history : List Call) (active : Active) (site : ℕ) (s : SiteState) (edges : List Edge) : Type 0 where
   pub here : s.number ≡ site
+  pub kept : IsSite s
   pub agreed : VersionsAgree history s
   pub pledged : IsPledgedFor s active.tx active.draft.touched
   pub given : All (IsGiven s active.draft.touched active.handle) edges
@@ -90,9 +92,10 @@ IsGatheredBelow history active (suc site) edges =
     (before : List Edge) × (here : List Edge) × (edges ≡ before ++ here) × IsGatheredBelow history active site before
     × IsGatheredAt history active site (at_site site active.draft.touched) here
 
--- the step of a transaction at a certifier with so many sites, which has its number under its handle: its decision on the edges that were
--- gathered at those that it touches, its installs, and the step's end
+-- the step of a transaction at a certifier with so many sites, whose state is the replay of its history, and which has the transaction's
+-- number under its handle: its decision on the edges that were gathered at those that it touches, its installs, and the step's end
 pub record TakesStep (sites : ℕ) (active : Active) (t : Ticket) (old new : Kept) : Type 0 where
+  pub replays : Replays old.history old.state
   pub named : tx_under old.state active.handle ≡ active.tx
   pub within : (site : ℕ) → sites ≤ site → at_site site active.draft.touched ≡ []
   pub edges : List Edge
@@ -108,6 +111,7 @@ pub record TakesStep (sites : ℕ) (active : Active) (t : Ticket) (old new : Kep
 
 -- the withdrawal of a transaction
 pub record TakesBack (active : Active) (t : Ticket) (old new : Kept) : Type 0 where
+  pub replays : Replays old.history old.state
   pub named : tx_under old.state active.handle ≡ active.tx
   pub decided : State
   pub serves : Serves old.state (call.Withdraw active.handle (decision_count old)) decided

@@ -34,7 +34,7 @@ impl<L: Ledger> Guarded<L> {
     ghost use Rattle.std.specs.Prelude.{◌≡◌, ◌↔◌, ◌<◌, ◌+◌, ◌++◌, [], ℕ, ◌⊎◌, List, false, None, Some, Err, IsTrue, IfOk, IfErr, IfSome, OnOk, OnErr};
     ghost use Rattle.sgt_certifier.specs.declared.call.Call.TheVariants as call;
     ghost use Rattle.sgt_certifier.specs.declared.call.Decided.{Decided as Reply};
-    ghost use Rattle.sgt_certifier.specs.History.{begin, decide, withdraw, close, expect, tx_under, IsAllowed};
+    ghost use Rattle.sgt_certifier.specs.History.{begin, decide, withdraw, close, expect, tx_under, IsAllowed, Replays};
     ghost use Rattle.sgt_certifier.specs.Kept.{Adds, IsExpected, changed_at};
     ghost use Rattle.sgt_names.specs.Draft.{at_site};
     ghost use Rattle.sgt_edges.specs.declared.edge.Edge.{Edge as AnEdge};
@@ -65,10 +65,12 @@ impl<L: Ledger> Guarded<L> {
     pub(crate) fn begin(&mut self) -> Result<(Tx, Handle), ServiceFault>
         ensures ok { IfOk result (λ r. (self.old.lost ≡ None)
             × Adds self.old.certifier (call.Begin r.0 r.1) self.new.certifier) }
+        ensures replays { Replays self.old.certifier.history self.old.certifier.state }
         ensures err { IfErr result (λ f. IsRefusedBy self.old.lost self.old.certifier.state begin f
             × (self.new.certifier ≡ self.old.certifier)) }
         ensures lost { self.new.lost ≡ self.old.lost }
     {
+        let _history = self.certifier.history();
         if let Some(site) = self.lost {
             return Err(ServiceFault::NotPledged(site));
         }
@@ -80,10 +82,12 @@ impl<L: Ledger> Guarded<L> {
     pub(crate) fn close(&mut self) -> Result<u64, ServiceFault>
         ensures ok { IfOk result (λ ranks. (self.old.lost ≡ None)
             × Adds self.old.certifier (call.Close ranks) self.new.certifier) }
+        ensures replays { Replays self.old.certifier.history self.old.certifier.state }
         ensures err { IfErr result (λ f. IsRefusedBy self.old.lost self.old.certifier.state close f
             × (self.new.certifier ≡ self.old.certifier)) }
         ensures lost { self.new.lost ≡ self.old.lost }
     {
+        let _history = self.certifier.history();
         if let Some(site) = self.lost {
             return Err(ServiceFault::NotPledged(site));
         }
@@ -178,10 +182,12 @@ impl<L: Ledger> Guarded<L> {
     /// number under its handle.
     pub(crate) fn check(&self, active: &Active) -> Result<(), ServiceFault>
         ensures ok { OnOk result ((self.now.lost ≡ None) × (tx_under self.now.certifier.state active.now.handle ≡ active.now.tx)) }
+        ensures replays { Replays self.now.certifier.history self.now.certifier.state }
         ensures refused { IfErr result (RefusesActive self.now.lost self.now.certifier.state active.now) }
         ensures lost { IfSome self.now.lost (λ site. result ≡ Err (NotPledged site)) }
         ensures noted { IfErr result (λ f. (site : ℕ) → f ≡ NotPledged site → self.now.lost ≡ Some site) }
     {
+        let _history = self.certifier.history();
         if let Some(site) = self.lost {
             return Err(ServiceFault::NotPledged(site));
         }
@@ -196,6 +202,7 @@ impl<L: Ledger> Guarded<L> {
         ensures ok { OnOk result ((self.old.lost ≡ None)
             × (tx_under self.new.certifier.state active.now.handle ≡ active.now.tx)) }
         ensures room { OnOk result ((site : ℕ) → IsExpected self.new.certifier.expected active.now.draft.touched site) }
+        ensures replays { Replays self.old.certifier.history self.old.certifier.state }
         ensures state { (self.new.certifier.state ≡ self.old.certifier.state)
             × (self.new.certifier.history ≡ self.old.certifier.history) }
         ensures first { IfSome self.old.lost (λ site. result ≡ Err (NotPledged site)) }
@@ -240,6 +247,7 @@ impl<L: Ledger> Guarded<L> {
             &active.draft,
             active.handle,
         )?;
+        let _items = site.items();
         match append(edges, &more) {
             Ok(()) => Ok(()),
             Err(_refused) => {

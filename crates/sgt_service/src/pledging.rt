@@ -29,7 +29,7 @@ impl<L: Ledger> Service<L> {
     ghost use Rattle.sgt_agreed.specs.declared.fault.ServiceFault.TheVariants.{NotPledged};
     ghost use Rattle.sgt_names.specs.Draft.{at_site};
     ghost use Rattle.sgt_workers.specs.declared.ticket.Ending.TheVariants.{Committed};
-    ghost use Rattle.sgt_certifier.specs.History.{tx_under};
+    ghost use Rattle.sgt_certifier.specs.History.{tx_under, Replays};
     ghost use Rattle.sgt_certifier.specs.Kept.{Adds, IsExpected, changed_at};
     ghost use Rattle.sgt_certifier.specs.declared.call.Call.TheVariants as call;
     ghost use Rattle.sgt_service.specs.Counts.{AreCounted, only_at, with_others, blocks_of, below};
@@ -105,6 +105,7 @@ impl<L: Ledger> Service<L> {
     ) -> Result<Pledges, ServiceFault>
         ensures below { IfOk result (IsWhole (vec_len self.now.sites)) }
         ensures held { OnOk result (IsHeld guarded.now.lost guarded.now.certifier.state active.now) }
+        ensures replays { Replays guarded.now.certifier.history guarded.now.certifier.state }
         ensures sites { OnOk result ((site : ℕ) → vec_len self.now.sites ≤ site → at_site site active.now.draft.touched ≡ []) }
         ensures first { IfSome guarded.now.lost (λ site. result ≡ Err (NotPledged site)) }
         ensures noted { IfErr result (λ f. (site : ℕ) → f ≡ NotPledged site → guarded.now.lost ≡ Some site) }
@@ -133,6 +134,7 @@ impl<L: Ledger> Service<L> {
         ensures edges { IfOk result (λ r. IsGatheredBelow guarded.old.certifier.history active.now (vec_len self.now.sites) r.0) }
         ensures below { IfOk result (λ r. IsWhole (vec_len self.now.sites) r.1) }
         ensures may { OnOk result (MayGather (vec_len self.now.sites) guarded.old.lost guarded.old.certifier active.now) }
+        ensures replays { Replays guarded.old.certifier.history guarded.old.certifier.state }
         ensures named { OnOk result (tx_under guarded.new.certifier.state active.now.handle ≡ active.now.tx) }
         ensures room { OnOk result ((site : ℕ) → IsExpected guarded.new.certifier.expected active.now.draft.touched site) }
         ensures sites { OnOk result ((site : ℕ) → vec_len self.now.sites ≤ site → at_site site active.now.draft.touched ≡ []) }

@@ -8,7 +8,7 @@ returns-in-Ok-clause-edges g c = (
   c.in_ok-more.more,
   c.in-Ok.ensures,
   gathered_there c.args.self.now.certifier.history c.args.active.now c.args.here c.args.site.now c.gather_agreed.new.site c.in_ok-more.more
-      (sym c.number.ensures.number ∙ same_number c.number.result c.args.here c.if-ne.ensures) c.in_ok-more.ensures.agreed c.in_ok-more.ensures.pledged c.in_ok-more.ensures.given c.in_ok-more.ensures.stands,
+      (sym c.number.ensures.number ∙ same_number c.number.result c.args.here c.if-ne.ensures) c.items-items.ensures.site c.in_ok-more.ensures.agreed c.in_ok-more.ensures.pledged c.in_ok-more.ensures.given c.in_ok-more.ensures.stands,
 )
 
 pub returns-clause-err : goal.returns-clause-err

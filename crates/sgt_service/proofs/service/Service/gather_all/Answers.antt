@@ -1,7 +1,10 @@
-use Rattle.std.proofs.Common.{arith, sym, subst}
+use Rattle.std.proofs.Common.{◌≡◌, ◌∙◌, ◌+◌, arith, sym, ap, subst}
 use Rattle.sgt_certifier.specs.Kept.{Kept}
+use Rattle.sgt_service.specs.Guarded.{IsGathered, IsGatheredBelow}
 use Rattle.sgt_service.specs.Undecided.{RefusesGather}
+use Rattle.sgt_service.proofs.Gathering.{gathered_some, gathered_none}
 use Rattle.sgt_service.proofs.service.Service.gather_all.Goals as goal
+use Rattle.sgt_service.proofs.service.Service.gather_all.Goals.{then-touches+in_default, else-touches}
 
 pub returns-in-Err-clause-refused : goal.returns-in-Err-clause-refused
 returns-in-Err-clause-refused g c =
@@ -15,3 +18,29 @@ returns-in-Err-clause-refused g c =
       c.touches.ensures.some c.if-touches.true,
       subst (RefusesGather c.args.guarded.now.certifier.history here site active) (sym c.noted.ensures.same) at_start,
     )
+
+pub loop-place-preserved : goal.loop-place-preserved
+loop-place-preserved g c =
+    let i = c.loop-place.invariant in
+    let active = c.args.active.now in
+    let history = c.args.guarded.now.certifier.history in
+    let place = c.loop-place.place in
+    let here = c.number_at-here.result in
+    let before = c.loop-place.edges in
+    record {
+      certifier = i.certifier;
+      lost = i.lost;
+      given = c.reach.ensures.0 ∙ i.given;
+      below = c.reach.ensures.1 ∙ ap (λ n. n + 1) i.below;
+      within = omega (arith, c.loop-place-test.true);
+      edges = elim c.if-touches.branch [
+        | then-touches+in_default w ↦
+            let e = w.in_default.ensures.edges in
+            gathered_some history active place here before c.if-touches.edges w.gather-gathered.new.site c.number_at-here.ensures
+            (c.touches.ensures.some w.if-touches.true) i.edges
+            (e.0, w.edges-is ∙ e.1, subst (λ (k : Kept). IsGathered k.history active here w.gather-gathered.new.site e.0) i.certifier e.2)
+        | else-touches w ↦
+            subst (λ edges. IsGatheredBelow history active (place + 1) edges) (sym w.edges-is)
+            (gathered_none history active place here before c.number_at-here.ensures (c.touches.ensures.none w.if-touches.false) i.edges)
+      ];
+    }
