@@ -1,9 +1,10 @@
 -- Words of private clauses alone: the certificate in a JSON value that has the shape of one, and the answer to a line.
-use Rattle.std.specs.Prelude.{◌≡◌, ℕ, ◌+◌, ◌^◌, List, [], ◌∷◌, length, ◌&&◌, Bool, false, nat_le, nat_lt, if◌then◌else◌}
+use Rattle.std.specs.Prelude.{◌≡◌, ℕ, ◌+◌, ◌^◌, List, [], ◌∷◌, ◌++◌, length, ◌&&◌, Bool, false, nat_le, nat_lt, if◌then◌else◌}
 use Rattle.std.specs.List.{list_all}
 use Rattle.std.specs.Prelude.{Option, Some, None, option_map, option_and_then, codes, Result, Ok, Err}
 use Rattle.std.specs.Str.{bytes_eq}
 use Rattle.serde_json.specs.Data.{Data}
+use Rattle.serde_json.specs.Written.{compact_text}
 use Rattle.serde_json.specs.Find.{get, as_number, as_str, as_array, as_u64}
 use Rattle.sgt_names.specs.Limits.{max_sites}
 use Rattle.sgt_names.specs.Name.{Name, is_small_letter, is_name_byte}
@@ -17,6 +18,13 @@ use Rattle.sgt_cert.specs.declared.certificate.Decision.{Decision}
 use Rattle.sgt_cert.specs.declared.certificate.Decision.TheVariants.{Commit, Refuse, Withdraw}
 use Rattle.sgt_cert.specs.declared.certificate.Certificate.{Certificate}
 use Rattle.sgt_cert.specs.Line.{items_list, is_commit_object, is_refuse_object, is_certificate_object}
+
+-- ---- the items of an array as they are read
+
+-- the texts of these values, with a comma behind each
+abbrev pub with_commas : {A : Type 0} → (A → Data) → List A → List ℕ
+with_commas data_of [] = []
+with_commas data_of (x ∷ xs) = compact_text (data_of x) ++ 44 ∷ with_commas data_of xs
 
 -- ---- the numbers, names and kinds of a value of that shape
 

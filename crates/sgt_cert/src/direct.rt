@@ -1,165 +1,247 @@
-//! The certificate that a line seems to spell, read in one pass and without a tree. Nothing is claimed of it: the one who
-//! asks writes the certificate and compares. What isn't the compact text is read as anything or nothing.
+//! The certificate whose text a line is, read in one pass and without a tree. A line of which nothing is read here may
+//! still be that of a certificate.
+
+ghost use Rattle.std.specs.Prelude.{◌≡◌, ◌≢◌, ◌++◌, ◌<◌, ◌≤◌, ℕ, List, All, IfOk, IfSome, MatchOption, codes, decimal, false};
+ghost use Rattle.serde_json.specs.Written.{compact_text, items_text};
+ghost use Rattle.sgt_names.specs.Limits.{max_sites};
+ghost use Rattle.sgt_names.specs.Name.{IsName};
+ghost use Rattle.sgt_notation.specs.Spelling.{IsTx};
+ghost use Rattle.sgt_cert.specs.Private.{with_commas};
+ghost use Rattle.sgt_cert.specs.Text.{IsDecision, IsStep, certificate_text, decision_data, items_data, kind_name, step_data};
 
 use crate::certificate::{Certificate, Decision, Step};
-use sgt_names::{Item, Kind, Label, Listed, SiteNo, Tx};
+use core::dec2flt::read_digits;
+use sgt_names::{Item, Kind, Label, Listed, MAX_SITES, SiteNo, Tx};
 use std::alloc::{AllocError, Global};
 
-/// The number in front, and what stands behind it.
-fn number(bytes: &[u8]) -> Option<(u64, &[u8])> {
-    let mut number = 0;
-    for (length, byte) in bytes.iter().enumerate() {
-        let digit = byte.wrapping_sub(b'0');
-        if digit > 9 {
-            return Some((number, &bytes[length..]));
-        }
-        if number > u32::MAX as u64 {
-            return None;
-        }
-        number = number * 10 + digit as u64;
-    }
-    None
+/// What stands behind this word, where it stands in front.
+fn behind<'b>(bytes: &'b [u8], word: &[u8]) -> Option<&'b [u8]>
+    ensures { MatchOption result ((rest : List ℕ) → bytes.entry.now ≢ word.now ++ rest) (λ rest. bytes.entry.now ≡ word.now ++ rest.now) }
+{
+    bytes.strip_prefix(word)
 }
 
-/// The name up to the quotation mark, and what stands behind it.
-fn item(bytes: &[u8]) -> Option<(Item, &[u8])> {
+/// The number in front, and what stands behind it.
+fn number(bytes: &[u8]) -> Option<(u64, &[u8])>
+    ensures { IfSome result (λ r. bytes.now ≡ decimal r.0 ++ r.1.now) }
+{
+    let (n, number) = read_digits(bytes, 0, 0);
+    if n == 0 || n > 19 || (n > 1 && bytes[0] == b'0') {
+        return None;
+    }
+    let (_, rest) = bytes.split_at_checked(n)?;
+    Some((number, rest))
+}
+
+/// The transaction in front.
+fn transaction(bytes: &[u8]) -> Option<(Tx, &[u8])>
+    ensures { IfSome result (λ r. IsTx r.0 × (bytes.now ≡ decimal r.0 ++ r.1.now)) }
+{
+    let (number, rest) = number(bytes)?;
+    let tx = Tx::new(number).ok()?;
+    Some((tx, rest))
+}
+
+/// The name up to the quotation mark.
+fn item(bytes: &[u8]) -> Option<(Item, &[u8])>
+    ensures { IfSome result (λ r. IsName r.0 × (bytes.now ≡ r.0 ++ r.1.now)) }
+{
     let length = bytes.iter().position(|byte| *byte == b'"')?;
     let (name, rest) = bytes.split_at_checked(length)?;
     let item = Item::new(name).ok()?;
     Some((item, rest))
 }
 
-fn kind(bytes: &[u8]) -> Option<(Kind, &[u8])> {
-    let (name, rest) = bytes.split_at_checked(2)?;
-    match name {
-        b"wr" => Some((Kind::Wr, rest)),
-        b"rw" => Some((Kind::Rw, rest)),
-        b"ww" => Some((Kind::Ww, rest)),
-        _ => None,
+fn kind(bytes: &[u8]) -> Option<(Kind, &[u8])>
+    ensures { IfSome result (λ r. bytes.now ≡ kind_name r.0 ++ r.1.now) }
+{
+    if let Some(rest) = behind(bytes, b"wr") {
+        return Some((Kind::Wr, rest));
     }
+    if let Some(rest) = behind(bytes, b"rw") {
+        return Some((Kind::Rw, rest));
+    }
+    let rest = behind(bytes, b"ww")?;
+    Some((Kind::Ww, rest))
 }
 
-fn label(bytes: &[u8]) -> Option<(Label, &[u8])> {
-    let rest = bytes.strip_prefix(b"{\"item\":\"")?;
+/// The item, the kind and the site of a step.
+fn label(bytes: &[u8]) -> Option<(Label, &[u8])>
+    ensures in_range { IfSome result (λ r. IsName r.0.item × (r.0.site < max_sites)) }
+    ensures text { IfSome result (λ r. bytes.now ≡ codes "{\"item\":\"" ++ (r.0.item ++ (codes "\",\"kind\":\""
+        ++ (kind_name r.0.kind ++ (codes "\",\"site\":" ++ (decimal r.0.site ++ r.1.now)))))) }
+{
+    let rest = behind(bytes, b"{\"item\":\"")?;
     let Some((item, rest)) = item(rest) else {
         return None;
     };
-    let rest = rest.strip_prefix(b"\",\"kind\":\"")?;
-    let (kind, rest) = kind(rest)?;
-    let rest = rest.strip_prefix(b"\",\"site\":")?;
-    let (site, rest) = number(rest)?;
+    let rest = behind(rest, b"\",\"kind\":\"")?;
+    let Some((kind, rest)) = kind(rest) else {
+        return None;
+    };
+    let rest = behind(rest, b"\",\"site\":")?;
+    let Some((site, rest)) = number(rest) else {
+        return None;
+    };
     let site = SiteNo::new(site).ok()?;
     Some((Label { site, item, kind }, rest))
 }
 
-fn step(bytes: &[u8]) -> Option<(Step, &[u8])> {
+fn step(bytes: &[u8]) -> Option<(Step, &[u8])>
+    ensures { IfSome result (λ r. IsStep max_sites r.0 × (bytes.now ≡ compact_text (step_data r.0) ++ r.1.now)) }
+{
     let Some((label, rest)) = label(bytes) else {
         return None;
     };
-    let rest = rest.strip_prefix(b",\"to\":")?;
-    let (to, rest) = number(rest)?;
-    let rest = rest.strip_prefix(b"}")?;
-    let to = Tx::new(to).ok()?;
+    let rest = behind(rest, b",\"to\":")?;
+    let Some((to, rest)) = transaction(rest) else {
+        return None;
+    };
+    let rest = behind(rest, b"}")?;
     Some((Step { label, to }, rest))
 }
 
-/// The steps up to the closing bracket, and what stands behind it.
-fn add_steps<'b>(walk: &mut Vec<Step>, bytes: &'b [u8]) -> Result<Option<&'b [u8]>, AllocError> {
+/// The steps up to the closing bracket, behind those that the walk has, and what stands behind the bracket.
+fn add_steps<'b>(walk: &mut Vec<Step>, bytes: &'b [u8]) -> Result<Option<&'b [u8]>, AllocError>
+    ensures in_range { IfOk result (λ found. IfSome found (λ _.
+        All (IsStep max_sites) walk.old.items → All (IsStep max_sites) walk.new.items)) }
+    ensures text { IfOk result (λ found. IfSome found (λ rest. with_commas step_data walk.old.items ++ bytes.now
+        ≡ items_text false (items_data step_data walk.new.items) ++ rest.now)) }
+{
     let mut rest = bytes;
     for _ in 0..bytes.len() {
-        let Some((step, behind)) = step(rest) else {
+        let Some((step, after)) = step(rest) else {
             return Ok(None);
         };
         walk.push(step)?;
-        let Some(more) = behind.strip_prefix(b",") else {
-            return Ok(behind.strip_prefix(b"]}"));
+        let Some(more) = behind(after, b",") else {
+            return Ok(behind(after, b"]"));
         };
         rest = more;
     }
     Ok(None)
 }
 
-fn commit(bytes: &[u8]) -> Option<(Decision, &[u8])> {
-    let (tx, rest) = number(bytes)?;
-    let rest = rest.strip_prefix(b",\"rank\":")?;
-    let (rank, rest) = number(rest)?;
-    let rest = rest.strip_prefix(b"}")?;
-    let tx = Tx::new(tx).ok()?;
+fn commit(bytes: &[u8]) -> Option<(Decision, &[u8])>
+    ensures { IfSome result (λ r. IsDecision max_sites r.0 × (bytes.now ≡ compact_text (decision_data r.0) ++ r.1.now)) }
+{
+    let rest = behind(bytes, b"{\"commit\":")?;
+    let Some((tx, rest)) = transaction(rest) else {
+        return None;
+    };
+    let rest = behind(rest, b",\"rank\":")?;
+    let Some((rank, rest)) = number(rest) else {
+        return None;
+    };
+    let rest = behind(rest, b"}")?;
     let rank = u32::try_from(rank).ok()?;
     Some((Decision::Commit { tx, rank }, rest))
 }
 
-fn withdrawal(bytes: &[u8]) -> Option<(Decision, &[u8])> {
-    let (tx, rest) = number(bytes)?;
-    let rest = rest.strip_prefix(b"}")?;
-    let tx = Tx::new(tx).ok()?;
+fn withdrawal(bytes: &[u8]) -> Option<(Decision, &[u8])>
+    ensures { IfSome result (λ r. IsDecision max_sites r.0 × (bytes.now ≡ compact_text (decision_data r.0) ++ r.1.now)) }
+{
+    let rest = behind(bytes, b"{\"withdraw\":")?;
+    let Some((tx, rest)) = transaction(rest) else {
+        return None;
+    };
+    let rest = behind(rest, b"}")?;
     Some((Decision::Withdraw { tx }, rest))
 }
 
-/// The transaction of a refusal, and its steps and what stands behind them.
-fn refused(bytes: &[u8]) -> Option<(Tx, &[u8])> {
-    let (tx, rest) = number(bytes)?;
-    let rest = rest.strip_prefix(b",\"walk\":[")?;
-    let tx = Tx::new(tx).ok()?;
+/// The transaction of a refusal, and what stands from its first step on.
+fn refused(bytes: &[u8]) -> Option<(Tx, &[u8])>
+    ensures { IfSome result (λ r. IsTx r.0 × (bytes.now ≡ codes "{\"refuse\":" ++ (decimal r.0 ++ (codes ",\"walk\":[" ++ r.1.now)))) }
+{
+    let rest = behind(bytes, b"{\"refuse\":")?;
+    let Some((tx, rest)) = transaction(rest) else {
+        return None;
+    };
+    let rest = behind(rest, b",\"walk\":[")?;
     Some((tx, rest))
 }
 
-fn refusal(alloc: Global, bytes: &[u8]) -> Result<Option<(Decision, &[u8])>, AllocError> {
+fn refusal(alloc: Global, bytes: &[u8]) -> Result<Option<(Decision, &[u8])>, AllocError>
+    ensures { IfOk result (λ found. IfSome found (λ r.
+        IsDecision max_sites r.0 × (bytes.now ≡ compact_text (decision_data r.0) ++ r.1.now))) }
+{
     let Some((tx, rest)) = refused(bytes) else {
         return Ok(None);
     };
     let mut walk = Vec::new(alloc);
-    match add_steps(&mut walk, rest)? {
-        Some(rest) => {
-            let walk = Listed::new(walk);
-            Ok(Some((Decision::Refuse { tx, walk }, rest)))
-        }
-        None => Ok(None),
-    }
+    let Some(rest) = add_steps(&mut walk, rest)? else {
+        return Ok(None);
+    };
+    let Some(rest) = behind(rest, b"}") else {
+        return Ok(None);
+    };
+    let walk = Listed::new(walk);
+    Ok(Some((Decision::Refuse { tx, walk }, rest)))
 }
 
-fn decision(alloc: Global, bytes: &[u8]) -> Result<Option<(Decision, &[u8])>, AllocError> {
-    if let Some(rest) = bytes.strip_prefix(b"{\"commit\":") {
-        return Ok(commit(rest));
+fn decision(alloc: Global, bytes: &[u8]) -> Result<Option<(Decision, &[u8])>, AllocError>
+    ensures { IfOk result (λ found. IfSome found (λ r.
+        IsDecision max_sites r.0 × (bytes.now ≡ compact_text (decision_data r.0) ++ r.1.now))) }
+{
+    if let Some(found) = commit(bytes) {
+        return Ok(Some(found));
     }
-    if let Some(rest) = bytes.strip_prefix(b"{\"refuse\":") {
-        return refusal(alloc, rest);
+    if let Some(found) = withdrawal(bytes) {
+        return Ok(Some(found));
     }
-    match bytes.strip_prefix(b"{\"withdraw\":") {
-        Some(rest) => Ok(withdrawal(rest)),
-        None => Ok(None),
-    }
+    refusal(alloc, bytes)
 }
 
-/// The decisions up to the closing bracket, and what stands behind it.
+/// The decisions up to the closing bracket, behind those that there are, and what stands behind the bracket.
 fn add_decisions<'b>(
     alloc: Global,
     decisions: &mut Vec<Decision>,
     bytes: &'b [u8],
-) -> Result<Option<&'b [u8]>, AllocError> {
+) -> Result<Option<&'b [u8]>, AllocError>
+    ensures in_range { IfOk result (λ found. IfSome found (λ _.
+        All (IsDecision max_sites) decisions.old.items → All (IsDecision max_sites) decisions.new.items)) }
+    ensures text { IfOk result (λ found. IfSome found (λ rest. with_commas decision_data decisions.old.items ++ bytes.now
+        ≡ items_text false (items_data decision_data decisions.new.items) ++ rest.now)) }
+{
     let mut rest = bytes;
     for _ in 0..bytes.len() {
-        let Some((decision, behind)) = decision(alloc, rest)? else {
+        let Some((decision, after)) = decision(alloc, rest)? else {
             return Ok(None);
         };
         decisions.push(decision)?;
-        let Some(more) = behind.strip_prefix(b",") else {
-            return Ok(behind.strip_prefix(b"]"));
+        let Some(more) = behind(after, b",") else {
+            return Ok(behind(after, b"]"));
         };
         rest = more;
     }
     Ok(None)
 }
 
-fn sites(bytes: &[u8]) -> Option<u8> {
-    let rest = bytes.strip_prefix(b",\"sites\":")?;
-    let (sites, _) = number(rest)?;
-    u8::try_from(sites).ok()
+/// The number of sites, with which the line ends.
+fn sites(bytes: &[u8]) -> Option<u8>
+    ensures in_range { IfSome result (λ sites. (1 ≤ sites) × (sites ≤ max_sites)) }
+    ensures text { IfSome result (λ sites. bytes.now ≡ codes ",\"sites\":" ++ (decimal sites ++ codes "}")) }
+{
+    let rest = behind(bytes, b",\"sites\":")?;
+    let Some((number, rest)) = number(rest) else {
+        return None;
+    };
+    let last = behind(rest, b"}")?;
+    let sites = u8::try_from(number).ok()?;
+    if last.is_empty() && 1 <= sites && sites <= MAX_SITES {
+        Some(sites)
+    } else {
+        None
+    }
 }
 
-/// The certificate that the line seems to spell.
-pub(crate) fn seeming(alloc: Global, line: &[u8]) -> Result<Option<Certificate>, AllocError> {
-    let Some(rest) = line.strip_prefix(b"{\"decisions\":[") else {
+/// The certificate that the line spells, were there `MAX_SITES` sites.
+pub(crate) fn spelled(alloc: Global, line: &[u8]) -> Result<Option<Certificate>, AllocError>
+    ensures sites { IfOk result (λ found. IfSome found (λ c. (1 ≤ c.sites) × (c.sites ≤ max_sites))) }
+    ensures in_range { IfOk result (λ found. IfSome found (λ c. All (IsDecision max_sites) c.decisions)) }
+    ensures text { IfOk result (λ found. IfSome found (λ c. line.now ≡ certificate_text c)) }
+{
+    let Some(rest) = behind(line, b"{\"decisions\":[") else {
         return Ok(None);
     };
     let mut decisions = Vec::new(alloc);

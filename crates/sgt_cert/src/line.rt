@@ -14,12 +14,12 @@ ghost use Rattle.sgt_cert.specs.declared.fault.CertFault.{CertFault};
 
 use crate::certificate::{Certificate, Decision, Step};
 use crate::convert::certificate;
-use crate::direct::seeming;
+use crate::direct::spelled;
 use crate::fault::CertFault;
 use crate::fits::decisions_fit;
 use crate::shape::has_shape;
 use serde_json::Value;
-use sgt_names::{Kind, MAX_SITES};
+use sgt_names::Kind;
 use sgt_notation::push_number;
 use std::alloc::{AllocError, Global};
 
@@ -195,17 +195,10 @@ fn judge(alloc: Global, value: &Value, line: &[u8]) -> Result<Certificate, CertF
 fn read_directly(alloc: Global, line: &[u8]) -> Result<Option<Certificate>, AllocError>
     ensures { IfOk result (λ found. IfSome found (λ c. IsCertificate c × (line.now ≡ certificate_text c))) }
 {
-    let Some(found) = seeming(alloc, line)? else {
+    let Some(found) = spelled(alloc, line)? else {
         return Ok(None);
     };
-    if found.sites == 0
-        || found.sites > MAX_SITES
-        || !decisions_fit(found.decisions(), found.sites)
-    {
-        return Ok(None);
-    }
-    let spelled = to_line(alloc, &found)?;
-    if spelled.as_slice() == line {
+    if decisions_fit(found.decisions(), found.sites) {
         Ok(Some(found))
     } else {
         Ok(None)
