@@ -1,6 +1,6 @@
 -- The cells, where an entry has an item and where it has none.
 use Rattle.std.proofs.Common.{◌≡◌, ℕ, ◌≤◌, List, [], ◌∷◌, ◌++◌, Option, Some, None, refl, sym, ap, ◌∙◌, subst, arith, inl, inr, length, option_map, Contains, Result, Ok, Err}
-use Rattle.std.specs.Prelude.{slice_get, OnOk, IfSome, IfNone}
+use Rattle.std.specs.Prelude.{slice_get, IfOk, OnOk, IfSome, IfNone}
 use Rattle.std.specs.Option.{ForSome}
 use Rattle.std.proofs.lemmas.Option.{none-some, same_Some, slice_get-map, slice_get_within}
 use Rattle.sgt_names.proofs.Places.{All_at, All-from_at}
@@ -45,9 +45,9 @@ module _ (ds : List Decision) (items : List Holding) (entries : List Entry) (cel
   cells-ended None not on = cells-left on
   cells-ended (Some i) not on = absurd (not i refl)
 
-pub ok-map : {A E P Q : Type 0} (r : Result A E) → (P → Q) → OnOk r P → OnOk r Q
-ok-map (Ok a) f p = f p
-ok-map (Err e) f p = p
+pub ok-both : {A E P : Type 0} {Q R : A → Type 0} (r : Result A E) → ((a : A) → P → Q a → R a) → OnOk r P → IfOk r Q → IfOk r R
+ok-both (Ok a) f p q = f a p q
+ok-both (Err e) f p q = p
 
 pub placed-item : (ds : List Decision) (items : List Holding) (entries : List Entry) (s : SiteState) (e : Entry) (x : Name) (o : Option ℕ) → TracksOpen ds items entries s → item_of e ≡ Some x
     → IfSome o (λ place. (ds : List Decision) (items : List Holding) (entries : List Entry) → TracksOpen ds items entries s → slice_get (names items) place ≡ Some x)

@@ -1,6 +1,6 @@
 -- The records of transactions, of which those alone are stored that were met.
 use Rattle.std.proofs.Common.{◌≡◌, ℕ, zero, suc, ◌+◌, ◌<◌, Bool, true, false, cond, List, [], ◌∷◌, ◌++◌, Some, refl, sym, ap, ap₂, ◌∙◌, arith, inl, inr, length, set, All}
-use Rattle.std.specs.Prelude.{slice_get, ◌&&◌, ◌||◌, ◌==◌}
+use Rattle.std.specs.Prelude.{slice_get, not, ◌&&◌, ◌||◌, ◌==◌}
 use Rattle.std.proofs.lemmas.Bool.{cases_eq, eq-eqb, ne_eqb}
 use Rattle.std.proofs.lemmas.Option.{none-some, same_Some, slice_get_within}
 use Rattle.sgt_names.proofs.Lists.{option_cases}
@@ -8,7 +8,7 @@ use Rattle.sgt_names.proofs.Places.{All-from_at}
 use Rattle.sgt_cells.specs.declared.act.Act.{Act}
 use Rattle.sgt_cells.specs.declared.record.Record.{Record}
 use Rattle.sgt_cells.specs.declared.record_table.Met.{Met}
-use Rattle.sgt_cells.specs.Records.{acts_in, has_ended_in}
+use Rattle.sgt_cells.specs.Records.{acts_in, has_ended_in, is_live_in}
 use Rattle.sgt_cells.specs.private.Deeds.{IsTouched}
 use Rattle.sgt_cells.specs.private.Met.{IsFresh, record_at, records_from}
 use Rattle.sgt_cells.proofs.Lists.{set-at, set-other, some-at}
@@ -38,6 +38,21 @@ module _ (fresh : Record) where
 
   pub all-fresh : fresh.section ≡ 0 → (places : List ℕ) → All (λ r. r.section < 1) (records_from fresh 0 places [])
   all-fresh is places = All-from_at (λ r. r.section < 1) (records_from fresh 0 places []) (λ n r at. let same = ap (λ (q : Record). q.section) (at-fresh 0 n places r at) in omega (arith, is, same))
+
+  -- the record of one that was met, and of one that was not
+  pub own-record : (n : ℕ) (places : List ℕ) (met : List Met) (i : ℕ) (m : Met) → slice_get places n ≡ Some i → slice_get met i ≡ Some m → m.number ≡ n
+      → slice_get (records_from fresh 0 places met) n ≡ Some m.kept
+  own-record n places met i m h at is = get-from 0 n places met i n (omega arith) h ∙ ap Some (ap (record_at fresh n) at ∙ at-own n m is)
+
+  pub new-record : (n : ℕ) (places : List ℕ) (met : List Met) → n < length places
+      → ((i : ℕ) (m : Met) → slice_get places n ≡ Some i → slice_get met i ≡ Some m → m.number ≡ n → ⊥) → slice_get (records_from fresh 0 places met) n ≡ Some fresh
+  new-record n places met within none =
+      let i = some-at places n within in
+      get-from 0 n places met i.0 n (omega arith) i.1
+      ∙ ap Some (elim (option_cases (slice_get met i.0)) [
+        | inl missing ↦ ap (record_at fresh n) missing
+        | inr found ↦ ap (record_at fresh n) found.1 ∙ at-other n found.0 (none i.0 found.0 i.1 found.1)
+      ])
 
   -- ---- one that was met is changed
 
@@ -129,3 +144,6 @@ touched-fresh section acts ends r q v is also t = record {
   end = t.end ∙ ap (λ b. b || ends) (fresh-ended section r is ∙ sym (fresh-ended section q also));
   did = t.did ∙ ap (λ done. done ++ acts) (fresh-acts section r is ∙ sym (fresh-acts section q also));
 }
+
+pub fresh-live : (section : ℕ) (r q : Record) → IsFresh r → IsFresh q → is_live_in section r ≡ is_live_in section q
+fresh-live section r q is also = ap₂ (λ n b. (n == section) && not b) (is.section ∙ sym also.section) (is.ended ∙ sym also.ended)

@@ -82,44 +82,33 @@ fn raise(top: Option<u32>, rank: Option<u32>) -> Option<u32>
     }
 }
 
-fn with_entry(cell: &Cell, entry: &Entry, rank: Option<u32>) -> Cell
-    ensures { result ≡ noted cell.now entry.now rank }
+fn change(cell: &mut Cell, entry: &Entry, rank: Option<u32>)
+    ensures { cell.new ≡ noted cell.old entry.now rank }
 {
     match *entry {
-        Entry::Read { .. } => Cell {
-            reader: raise(cell.reader, rank),
-            ..*cell
-        },
-        Entry::Write { value, .. } => Cell {
-            value,
-            writer: raise(cell.writer, rank),
-            ..*cell
-        },
-        Entry::Want { .. } => Cell {
-            writer: raise(cell.writer, rank),
-            ..*cell
-        },
-        Entry::Add { value, .. } => Cell {
-            value: cell.value.wrapping_add(value),
-            adder: raise(cell.adder, rank),
-            ..*cell
-        },
-        Entry::WantAdd { .. } => Cell {
-            adder: raise(cell.adder, rank),
-            ..*cell
-        },
-        Entry::Commit { .. } | Entry::Refuse { .. } | Entry::Withdraw { .. } => *cell,
+        Entry::Read { .. } => cell.reader = raise(cell.reader, rank),
+        Entry::Write { value, .. } => {
+            cell.value = value;
+            cell.writer = raise(cell.writer, rank);
+        }
+        Entry::Want { .. } => cell.writer = raise(cell.writer, rank),
+        Entry::Add { value, .. } => {
+            cell.value = cell.value.wrapping_add(value);
+            cell.adder = raise(cell.adder, rank);
+        }
+        Entry::WantAdd { .. } => cell.adder = raise(cell.adder, rank),
+        Entry::Commit { .. } | Entry::Refuse { .. } | Entry::Withdraw { .. } => (),
     }
 }
 
-/// The cell after one more entry, on its item.
-pub(crate) fn note(cell: &Cell, entry: &Entry, rank: Option<u32>) -> Cell
+/// One more entry, on the cell's item.
+pub(crate) fn note(cell: &mut Cell, entry: &Entry, rank: Option<u32>)
     ensures cell { (ds : List Decision) (items : List Holding) (entries : List Entry) → IsDecidedOnce ds
-        → IsCell ds items entries cell.now → item_of entry.now ≡ Some cell.now.name → IsRankOf ds (tx_of entry.now) rank
-        → IsCell ds items (entries ++ entry.now ∷ []) result }
-    ensures name { result.name ≡ cell.now.name }
+        → IsCell ds items entries cell.old → item_of entry.now ≡ Some cell.old.name → IsRankOf ds (tx_of entry.now) rank
+        → IsCell ds items (entries ++ entry.now ∷ []) cell.new }
+    ensures name { cell.new.name ≡ cell.old.name }
 {
-    with_entry(cell, entry, rank)
+    change(cell, entry, rank);
 }
 
 /// Whether the cell is the item's.
@@ -163,6 +152,5 @@ pub(crate) fn enter(cells: &mut [Cell], place: usize, entry: &Entry, rank: Optio
         → AreCells ds items entries cells.old → ((c : Cell) × (slice_get cells.old place ≡ Some c) × (item_of entry.now ≡ Some c.name))
         → IsRankOf ds (tx_of entry.now) rank → AreCells ds items (entries ++ entry.now ∷ []) cells.new }
 {
-    let cell = note(&cells[place], entry, rank);
-    cells[place] = cell;
+    note(&mut cells[place], entry, rank);
 }

@@ -22,6 +22,13 @@ pub struct Record {
     pub acts: SmallVec<Act, 4>,
 }
 
+/// Whether a transaction came in a section and did not end there, before an entry of it and with the entry.
+#[derive(Clone, Copy)]
+pub(crate) struct Turn {
+    pub was_live: bool,
+    pub is_live: bool,
+}
+
 impl Record {
     /// A transaction that no section has met.
     pub(crate) fn new(alloc: Global) -> Record
@@ -109,13 +116,16 @@ impl Record {
         section: usize,
         act: Option<Act>,
         ends: bool,
-    ) -> Result<(), AllocError>
-        ensures { OnOk result (IsTouched section (option_to_list act) ends self.old self.new) }
+    ) -> Result<Turn, AllocError>
+        ensures touched { OnOk result (IsTouched section (option_to_list act) ends self.old self.new) }
+        ensures turn { IfOk result (λ turn. (turn.was_live ≡ is_live_in section self.old) × (turn.is_live ≡ is_live_in section self.new)) }
     {
+        let was_live = self.is_live(section);
         self.begin(section);
         self.add(act)?;
         self.ended = self.ended || ends;
-        Ok(())
+        let is_live = self.is_live(section);
+        Ok(Turn { was_live, is_live })
     }
 }
 

@@ -329,12 +329,11 @@ impl SiteState {
             → TracksOpen ds items entries self.old → TracksOpen ds items (entries ++ entry.now ∷ []) self.new) }
     {
         let next = one_more(self.count)?;
-        let was = self.records.is_live(number, self.section);
         let act = act_at(self.count, place, entry)?;
-        self.records
+        let turn = self
+            .records
             .enter(number, self.section, act, entry.is_end())?;
-        let is = self.records.is_live(number, self.section);
-        self.live = live_after(self.live, self.records.len(), was, is);
+        self.live = live_after(self.live, self.records.len(), turn.was_live, turn.is_live);
         enter_cell(self.cells.as_mut_slice(), place, entry, rank);
         self.last_end = later_end(self.last_end, entry, number);
         self.count = next;

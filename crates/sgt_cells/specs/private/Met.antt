@@ -1,5 +1,5 @@
 -- The records of transactions, of which those alone are stored that were met.
-use Rattle.std.specs.Prelude.{◌≡◌, ◌==◌, ℕ, suc, false, List, [], ◌∷◌, Option, Some, None, slice_get, if◌then◌else◌}
+use Rattle.std.specs.Prelude.{◌≡◌, ◌==◌, ◌<◌, ℕ, suc, false, List, [], ◌∷◌, Option, Some, None, All, slice_get, if◌then◌else◌}
 use Rattle.sgt_cells.specs.declared.record.Record.{Record}
 use Rattle.sgt_cells.specs.declared.record_table.Met.{Met}
 
@@ -18,3 +18,7 @@ record_at fresh k (Some m) = if m.number == k then m.kept else fresh
 abbrev pub records_from : Record → ℕ → List ℕ → List Met → List Record
 records_from fresh k [] met = []
 records_from fresh k (i ∷ places) met = record_at fresh k (slice_get met i) ∷ records_from fresh (suc k) places met
+
+-- the numbers of those that were met are below the bound
+abbrev pub AreBelow : ℕ → List Met → Type 0
+AreBelow bound met = All (λ m. m.number < bound) met

@@ -10,8 +10,8 @@ returns c ds items entries once apart is (d, at, on) by =
     let place = c.args.place in
     let there = get_or_from_slice_get cells place d d at in
     let read = get_or_from_slice_get cells place d c.index-cells-place.result at in
-    let named : c.note-cell.result.name ≡ (get_or cells place c.index-cells-place.result).name = c.note-cell.ensures.name in
+    let named : c.note.new.cell.name ≡ (get_or cells place c.index-cells-place.result).name = c.note.ensures.name in
     let same = named ∙ ap (λ (x : Cell). x.name) (read ∙ sym there) in
     let old = is.each place c.index-cells-place.result c.requires in
-    let new = c.note-cell.ensures.cell ds items entries once old (on ∙ ap (λ (x : Cell). Some x.name) (sym read)) by in
-    cells-entered ds items entries cells place c.note-cell.result d c.args.entry.now c.requires is apart (on ∙ ap (λ (x : Cell). Some x.name) (sym there)) same new
+    let new = c.note.ensures.cell ds items entries once old (on ∙ ap (λ (x : Cell). Some x.name) (sym read)) by in
+    cells-entered ds items entries cells place c.note.new.cell d c.args.entry.now c.requires is apart (on ∙ ap (λ (x : Cell). Some x.name) (sym there)) same new

@@ -13,4 +13,4 @@ returns-clause-length c =
 pub returns-clause-fresh : goal.returns-clause-fresh
 returns-clause-fresh c =
     let t = c.self.inside in
-    subst (λ (ms : List Met). All (λ (r : Record). r.section < 1) (records_from t.fresh 0 t.places.items ms)) (sym c.clear.ensures.items) (all-fresh t.fresh c.self.invariant.section t.places.items)
+    subst (λ (ms : List Met). All (λ (r : Record). r.section < 1) (records_from t.fresh 0 t.places.items ms)) (sym c.clear.ensures.items) (all-fresh t.fresh c.self.invariant.0.section t.places.items)
