@@ -1,11 +1,11 @@
 -- What stands at the front of bytes, and what is behind it.
-use Rattle.std.proofs.Common.{◌≡◌, inl, inr, ℕ, zero, suc, ◌+◌, ◌-◌, ◌*◌, ◌%◌, ◌<◌, ◌≤◌, ◌^◌, List, [], ◌∷◌, ◌++◌, length, take, drop, get_or, Option, Some, None, Result, Ok, Err, refl, sym, ap, ◌∙◌, subst, decimal, append_assoc, length-append, length-take, length-drop, arith}
+use Rattle.std.proofs.Common.{◌≡◌, inl, inr, ℕ, zero, suc, ◌+◌, ◌-◌, ◌*◌, ◌%◌, ◌<◌, ◌≤◌, ◌^◌, List, [], ◌∷◌, ◌++◌, length, take, drop, get_or, Option, Some, None, Result, Ok, Err, refl, sym, ap, ◌∙◌, subst, decimal, append_assoc, append-nil, length-append, length-take, length-drop, arith}
 use Rattle.std.proofs.Math.Seq.{drop-append_seam}
 use Rattle.std.proofs.lemmas.Fmt.{decimal-digits_value}
 use Rattle.core.proofs.dec2flt.Rows.{AllDigits-digits_len}
 use Rattle.std.specs.Array.{IsFirstChunk}
 use Rattle.std.specs.Prelude.{IsSome, IfSome}
-use Rattle.std.proofs.lemmas.List.{length-take-le, drop-drop, take-append-drop, get_or-take}
+use Rattle.std.proofs.lemmas.List.{drop_all, length-take-le, drop-drop, take-append-drop, get_or-take}
 use Rattle.std.proofs.lemmas.Slice.{between_from_start}
 use Rattle.std.proofs.lemmas.Str.Parse.{digits_value_short}
 use Rattle.std.specs.Float.Numeral.{digits_len}
@@ -23,6 +23,10 @@ use Rattle.sgt_notation.proofs.Numbers.{own}
 
 pub spans_front : (bytes : List ℕ) (n : ℕ) (text : List ℕ) → n ≤ length bytes → take n bytes ≡ text → Spans bytes 0 text n
 spans_front bytes n text within e = record { within = within; reads = sym (take-append-drop n bytes) ∙ ap (λ t. t ++ drop n bytes) e }
+
+-- what stands up to the end is all
+pub spans_whole : (bytes text : List ℕ) (n : ℕ) → length bytes ≤ n → Spans bytes 0 text n → bytes ≡ text
+spans_whole bytes text n all s = s.reads ∙ (ap (λ t. text ++ t) (drop_all n bytes all) ∙ append-nil text)
 
 pub spans_later : (bytes : List ℕ) (from : ℕ) (text : List ℕ) (n : ℕ) → from ≤ length bytes → Spans (drop from bytes) 0 text n → Spans bytes from text (from + n)
 spans_later bytes from text n within s = record {

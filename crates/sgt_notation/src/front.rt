@@ -3,11 +3,13 @@
 ghost use Rattle.std.specs.Prelude.{◌≡◌, ◌≤◌, ◌++◌, ◌∷◌, [], length, take, drop, IfSome, decimal};
 ghost use Rattle.sgt_names.specs.Name.{IsName};
 ghost use Rattle.sgt_notation.specs.Private.{Spans, ending};
-ghost use Rattle.sgt_notation.specs.Spelling.{IsHolding, IsLine, IsTx, IsValue, assignment, line_text, operation};
+ghost use Rattle.sgt_notation.specs.PrivateEvents.{IsAccess, IsUpdate, access_text, update_text};
+ghost use Rattle.sgt_notation.specs.Spelling.{IsHolding, IsLine, IsSite, IsTx, IsValue, assignment, line_text, operation};
 
 use crate::SectionLine;
 use crate::number::find_value;
 use crate::reading::behind;
+use crate::reading_events::Place;
 use core::dec2flt::read_digits;
 use sgt_names::{Entry, Holding, Item, SiteNo, Tx, Value};
 use std::simd::prelude::*;
@@ -91,6 +93,16 @@ fn tx_at(bytes: &[u8], from: usize) -> Option<(Tx, usize)>
     Some((tx, to))
 }
 
+/// The number of a site, and the place behind it.
+#[inline(always)]
+fn site_at(bytes: &[u8], from: usize) -> Option<(SiteNo, usize)>
+    ensures { IfSome result (λ r. IsSite r.0 × Spans bytes.now from (decimal r.0) r.1) }
+{
+    let (number, to) = value_at(bytes, from)?;
+    let site = SiteNo::new(number).ok()?;
+    Some((site, to))
+}
+
 /// How many bytes of the first sixteen stand before the first such byte. Nothing rests on it: it is only tried.
 #[inline(always)]
 fn guess_end(bytes: &[u8], byte: u8) -> usize {
@@ -132,6 +144,28 @@ fn holding_at(bytes: &[u8], from: usize) -> Option<(Holding, usize)>
     let (item, to) = name_at(bytes, from, b'=')?;
     let (value, to) = value_at(bytes, byte_at(bytes, to, b'=')?)?;
     Some((Holding { item, value }, to))
+}
+
+/// `TX[SITE.NAME]` at the front, and the place behind it.
+#[inline(always)]
+pub(crate) fn front_access(bytes: &[u8]) -> Option<((Tx, Place), usize)>
+    ensures { IfSome result (λ r. IsAccess r.0 × Spans bytes.now 0 (access_text r.0) r.1) }
+{
+    let (tx, to) = tx_at(bytes, 0)?;
+    let (site, to) = site_at(bytes, byte_at(bytes, to, b'[')?)?;
+    let (item, to) = name_at(bytes, byte_at(bytes, to, b'.')?, b']')?;
+    let to = byte_at(bytes, to, b']')?;
+    Some(((tx, (site, item)), to))
+}
+
+/// `TX[SITE.NAME]=NUM` at the front, and the place behind it.
+#[inline(always)]
+pub(crate) fn front_update(bytes: &[u8]) -> Option<(((Tx, Place), Value), usize)>
+    ensures { IfSome result (λ r. IsUpdate r.0 × Spans bytes.now 0 (update_text r.0) r.1) }
+{
+    let (access, to) = front_access(bytes)?;
+    let (value, to) = value_at(bytes, byte_at(bytes, to, b'=')?)?;
+    Some(((access, value), to))
 }
 
 /// The line of an entry that this letter and an operation spell, with this number.

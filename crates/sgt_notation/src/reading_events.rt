@@ -1,12 +1,13 @@
 //! The lines of events, read exactly where they are spelled.
 
-ghost use Rattle.std.specs.Prelude.{◌≡◌};
+ghost use Rattle.std.specs.Prelude.{◌≡◌, IfSome};
 ghost use Rattle.sgt_notation.specs.Events.{IsEventLine, event_text};
 ghost use Rattle.sgt_notation.specs.PrivateEvents.{IsAccess, IsPlace, IsUpdate, IsVisit, access_text, place_text, update_text, visit_text};
 ghost use Rattle.sgt_notation.specs.Reading.{Finds, Reads};
 
 use crate::event::{Event, EventLine};
 use crate::fault::NotationFault;
+use crate::front::{front_access, front_update};
 use crate::number::{find_site, find_tx, find_value};
 use crate::reading::{cut, refusal};
 use sgt_names::{Item, SiteNo, Tx, Value};
@@ -24,8 +25,22 @@ pub(crate) fn find_place(bytes: &[u8]) -> Option<Place>
     Some((site, item))
 }
 
-/// Reads `TX[SITE.NAME]`.
-fn find_access(bytes: &[u8]) -> Option<(Tx, Place)>
+/// The access that these bytes spell, where that is seen from the front on.
+#[inline(always)]
+fn seen_access(bytes: &[u8]) -> Option<(Tx, Place)>
+    ensures { IfSome result (λ found. IsAccess found × (bytes.now ≡ access_text found)) }
+{
+    let (access, to) = front_access(bytes)?;
+    if to == bytes.len() {
+        Some(access)
+    } else {
+        None
+    }
+}
+
+/// Reads `TX[SITE.NAME]`, cut at its brackets.
+#[inline(never)]
+fn cut_access(bytes: &[u8]) -> Option<(Tx, Place)>
     ensures { Finds IsAccess access_text bytes.now result }
 {
     let (number, tail) = cut(bytes, b'[')?;
@@ -38,14 +53,48 @@ fn find_access(bytes: &[u8]) -> Option<(Tx, Place)>
     Some((tx, place))
 }
 
+/// Reads `TX[SITE.NAME]`.
+fn find_access(bytes: &[u8]) -> Option<(Tx, Place)>
+    ensures { Finds IsAccess access_text bytes.now result }
+{
+    match seen_access(bytes) {
+        Some(access) => Some(access),
+        None => cut_access(bytes),
+    }
+}
+
+/// The update that these bytes spell, where that is seen from the front on.
+#[inline(always)]
+fn seen_update(bytes: &[u8]) -> Option<((Tx, Place), Value)>
+    ensures { IfSome result (λ found. IsUpdate found × (bytes.now ≡ update_text found)) }
+{
+    let (update, to) = front_update(bytes)?;
+    if to == bytes.len() {
+        Some(update)
+    } else {
+        None
+    }
+}
+
+/// Reads `TX[SITE.NAME]=NUM`, cut at the equals sign.
+#[inline(never)]
+fn cut_update(bytes: &[u8]) -> Option<((Tx, Place), Value)>
+    ensures { Finds IsUpdate update_text bytes.now result }
+{
+    let (front, number) = cut(bytes, b'=')?;
+    let access = cut_access(front)?;
+    let value = find_value(number)?;
+    Some((access, value))
+}
+
 /// Reads `TX[SITE.NAME]=NUM`.
 fn find_update(bytes: &[u8]) -> Option<((Tx, Place), Value)>
     ensures { Finds IsUpdate update_text bytes.now result }
 {
-    let (front, number) = cut(bytes, b'=')?;
-    let access = find_access(front)?;
-    let value = find_value(number)?;
-    Some((access, value))
+    match seen_update(bytes) {
+        Some(update) => Some(update),
+        None => cut_update(bytes),
+    }
 }
 
 /// Reads `TX@SITE`.

@@ -1,7 +1,7 @@
 use Rattle.std.proofs.Common.{sym, ap, ◌∙◌, length}
 use Rattle.std.proofs.lemmas.Bool.{eqb-false}
 use Rattle.sgt_notation.proofs.EventParts.{access-not_last, access-not_place, access-not_tx, access-unclosed, access-unopened}
-use Rattle.sgt_notation.proofs.reading_events.find_access.Goals as goal
+use Rattle.sgt_notation.proofs.reading_events.cut_access.Goals as goal
 
 pub returns-in_err-number : goal.returns-in_err-number
 returns-in_err-number c = rw c.from_residual.ensures (access-unopened _ c.in_err-number.ensures.none)

@@ -3,7 +3,7 @@ use Rattle.sgt_notation.specs.PrivateEvents.{IsAccess, access_text}
 use Rattle.sgt_notation.specs.Spelling.{IsValue}
 use Rattle.sgt_notation.proofs.EventParts.{access-plain}
 use Rattle.sgt_notation.proofs.Pairs.{not_first, not_second, uncut}
-use Rattle.sgt_notation.proofs.reading_events.find_update.Goals as goal
+use Rattle.sgt_notation.proofs.reading_events.cut_update.Goals as goal
 
 pub returns-in_err-front : goal.returns-in_err-front
 returns-in_err-front c =
