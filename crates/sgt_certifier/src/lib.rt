@@ -4,12 +4,14 @@
 mod call;
 mod certifier;
 mod counts;
+mod handed;
 mod install;
 mod laws;
 mod ranking;
 
 pub use call::{Call, CertifierFault, Decided, Walk};
 pub use certifier::Certifier;
+pub use handed::HandedEdges;
 pub use laws::{
     histories_are_sound, installs_are_counted, installs_are_noted_once,
     serial_orders_are_topological,

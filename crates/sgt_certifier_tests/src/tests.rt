@@ -82,8 +82,11 @@ fn decision(
     edges: EdgeList,
 ) -> Result<Answer, CertifierFault> {
     match certifier.decide(handle, edges)? {
-        Decided::Committed { number } => Ok(Answer::Committed(number)),
-        Decided::Refused { number, walk } => Ok(Answer::Refused(number, walk.as_slice().len())),
+        Decided::Committed { number } => Ok(Answer::Committed(u64::from(number))),
+        Decided::Refused { number, walk } => Ok(Answer::Refused(
+            u64::from(number),
+            walk.as_slice().len(),
+        )),
     }
 }
 

@@ -343,12 +343,12 @@ fn ticket_of(tx: Tx, reply: Decided) -> Ticket
 {
     match reply {
         Decided::Committed { number } => Ticket {
-            number,
+            number: u64::from(number),
             tx,
             verdict: Ending::Committed,
         },
         Decided::Refused { number, walk: _ } => Ticket {
-            number,
+            number: u64::from(number),
             tx,
             verdict: Ending::Refused,
         },

@@ -5,7 +5,7 @@ ghost use Rattle.sgt_edges.specs.declared.edge.Edge.{Edge as AnEdge};
 ghost use Rattle.sgt_settle.specs.Told.{number_of, handed_by, handed_in};
 ghost use Rattle.sgt_settle.specs.private.Words.{with_number};
 
-use sgt_certifier::{Call, Decided};
+use sgt_certifier::{Call, Decided, HandedEdges};
 use sgt_edges::Edge;
 use std::alloc::{AllocError, Global};
 
@@ -20,20 +20,18 @@ fn number_of(reply: &Decided) -> u64
     ensures { result ≡ number_of reply.now }
 {
     match reply {
-        Decided::Committed { number } => *number,
-        Decided::Refused { number, .. } => *number,
+        Decided::Committed { number } => u64::from(*number),
+        Decided::Refused { number, .. } => u64::from(*number),
     }
 }
 
 // Adds these edges with the number.
-fn add_edges(handed: &mut Vec<Handed>, edges: &[Edge], number: u64) -> Result<(), AllocError>
+fn add_edges(handed: &mut Vec<Handed>, edges: &HandedEdges, number: u64) -> Result<(), AllocError>
     ensures { OnOk result (handed.new.items ≡ handed.old.items ++ map (with_number number) edges.now) }
 {
-    for edge in edges {
-        handed.push(Handed {
-            edge: *edge,
-            number,
-        })?;
+    for place in 0..edges.count() {
+        let edge = edges.at(place);
+        handed.push(Handed { edge, number })?;
     }
     Ok(())
 }
@@ -43,7 +41,7 @@ fn add_handed(handed: &mut Vec<Handed>, call: &Call) -> Result<(), AllocError>
     ensures { OnOk result (handed.new.items ≡ handed.old.items ++ handed_by call.now) }
 {
     match call {
-        Call::Decide { edges, reply, .. } => add_edges(handed, edges.as_slice(), number_of(reply)),
+        Call::Decide { edges, reply, .. } => add_edges(handed, edges, number_of(reply)),
         _ => Ok(()),
     }
 }
