@@ -8,7 +8,8 @@ use Rattle.sgt_site.specs.declared.fault.SiteFault.TheVariants as site
 use Rattle.sgt_certifier.specs.Kept.{Kept}
 use Rattle.sgt_workers.specs.declared.ticket.Done.{Done}
 use Rattle.sgt_workers.specs.declared.ticket.Ending.{Ending}
-use Rattle.sgt_service.specs.Refused.{IsOfBegin, IsOfCall, IsOfRead, RefusesItem}
+use Rattle.sgt_certifier.specs.declared.call.CertifierFault.TheVariants as certifier
+use Rattle.sgt_service.specs.Refused.{IsOfBegin, IsOfCall, IsOfChange, IsOfCommit, IsOfRead, IsOfWithdraw, RefusesItem}
 use Rattle.sgt_service.specs.Seats.{IsBack}
 use Rattle.sgt_service.specs.declared.active.Active.{Active}
 use Rattle.sgt_service.specs.declared.active.Back.{Back}
@@ -16,18 +17,38 @@ use Rattle.sgt_service.specs.declared.seat.Seat.{Seat}
 use Rattle.sgt_settle.specs.Settled.{AreTickets, Run}
 use Rattle.sgt_settle.specs.Fault.{IsUnsettled}
 use Rattle.sgt_run.specs.Bundle.{IsToldAlone}
+use Rattle.sgt_run.specs.Operations.{IsOfOperation}
+use Rattle.sgt_run.specs.Tries.{IsHalt}
 
-pub item_of_call : (names : List (List Name)) (s : ℕ) (x : Name) (f : ServiceFault) → RefusesItem names s x f → IsOfCall f
-item_of_call names s x (fault.Site site.UnknownItem) r = inr (inr (inl tt))
-item_of_call names s x fault.Memory r = inl tt
-item_of_call names s x _ r = absurd r
+pub item_of_change : (names : List (List Name)) (s : ℕ) (x : Name) (f : ServiceFault) → RefusesItem names s x f → IsOfChange f
+item_of_change names s x (fault.Site site.UnknownItem) r = tt
+item_of_change names s x fault.Memory r = tt
+item_of_change names s x _ r = absurd r
 
--- a begin, and a read
+pub item_of_operation : (names : List (List Name)) (s : ℕ) (x : Name) (f : ServiceFault) → RefusesItem names s x f → IsOfOperation f
+item_of_operation names s x f r = inr (item_of_change names s x f r)
+
+-- a read, and a change
+pub read_of_operation : (f : ServiceFault) → IsOfRead f → IsOfOperation f
+read_of_operation f h = inl h
+
+pub change_of_operation : (f : ServiceFault) → IsOfChange f → IsOfOperation f
+change_of_operation f h = inr h
+
+-- what a withdrawal may be refused for, a commit may be too
+pub withdraw_of_commit : (f : ServiceFault) → IsOfWithdraw f → IsOfCommit f
+withdraw_of_commit (fault.Certifier certifier.Stale) h = tt
+withdraw_of_commit _ h = h
+
+-- each is a fault of some call
 pub begin_of_call : (f : ServiceFault) → IsOfBegin f → IsOfCall f
 begin_of_call f h = inl h
 
-pub read_of_call : (f : ServiceFault) → IsOfRead f → IsOfCall f
-read_of_call f h = inr (inl h)
+pub operation_of_call : (f : ServiceFault) → IsOfOperation f → IsOfCall f
+operation_of_call f h = elim h [ inl read ↦ inr (inl read) | inr change ↦ inr (inr (inl change)) ]
+
+pub commit_of_call : (f : ServiceFault) → IsOfCommit f → IsOfCall f
+commit_of_call f h = inr (inr (inr (inl h)))
 
 -- what the tickets tell, where there is no memory for the sites
 pub alone_told : {A : Type 0} (c : Kept) (dones : List Done) (told : Result A ServiceFault) (f : ServiceFault) → OnOk told (AreTickets c.state.rulings dones)
@@ -48,13 +69,20 @@ memory_told c dones (Ok done) f tickets not is want = tickets
 memory_told c dones (Err g) f tickets not is want = absurd (not (sym is ∙ want))
 
 module _ {L : Type 0} where
-  fault_by : (decided : Ending → Type 0) (active : Active) (old new : Seat L) (o : Option Active) (f : ServiceFault)
-      → IsBack decided active old new (record { active = o; fault = f }) → IsOfCall f
-  fault_by decided active old new None f h = subst IsOfCall (sym h.3) (inl tt)
-  fault_by decided active old new (Some a) f h = h.2
+  halt_by : (decided : Ending → Type 0) (active : Active) (old new : Seat L) (o : Option Active) (f : ServiceFault)
+      → IsBack decided active old new (record { active = o; fault = f }) → IsHalt decided active old new f
+  halt_by decided active old new None f h = inr h
+  halt_by decided active old new (Some a) f h = inl h.1
 
-  pub back_fault : (decided : Ending → Type 0) (active : Active) (old new : Seat L) (b : Back) → IsBack decided active old new b → IsOfCall b.fault
-  back_fault decided active old new b h = fault_by decided active old new b.active b.fault h
+  pub back_halt : (decided : Ending → Type 0) (active : Active) (old new : Seat L) (b : Back) → IsBack decided active old new b
+      → IsHalt decided active old new b.fault
+  back_halt decided active old new b h = halt_by decided active old new b.active b.fault h
+
+  -- of a transaction that is withdrawn exactly where its sums don't fit
+  pub halt_as : (P Q : Ending → Type 0) → ((v : Ending) → P v → Q v) → (active : Active) (old new : Seat L) (f : ServiceFault) → IsHalt P active old new f
+      → IsHalt Q active old new f
+  halt_as P Q weaker active old new f (inl same) = inl same
+  halt_as P Q weaker active old new f (inr h) = inr (h.0, h.1, weaker h.0 h.2, h.3, h.4)
 
   parts_by : (decided : Ending → Type 0) (active : Active) (old new : Seat L) (o : Option Active) (f : ServiceFault)
       → IsBack decided active old new (record { active = o; fault = f }) → new.share.parts ≡ old.share.parts

@@ -1,6 +1,7 @@
 -- The tickets of the tries so far.
-use Rattle.std.proofs.Common.{◌≡◌, ◌≢◌, false, ◌≤◌, ◌<◌, ℕ, ◌+◌, List, [], ◌∷◌, ◌++◌, length, refl, sym, ap, arith, subst, subst₂, All}
-use Rattle.std.specs.Prelude.{Bool, ◌↔◌, None, IfSome}
+use Rattle.std.proofs.Common.{◌≡◌, ◌≢◌, ◌∙◌, false, ◌≤◌, ◌<◌, ℕ, ◌+◌, List, [], ◌∷◌, ◌++◌, length, refl, sym, ap, arith, subst, subst₂, All, inl, inr}
+use Rattle.std.specs.Prelude.{Bool, ◌↔◌, ◌==◌, Option, Some, None, IfSome, IsSome, slice_get}
+use Rattle.std.proofs.lemmas.Bool.{cases_Bool}
 use Rattle.std.specs.List.{last_or}
 use Rattle.std.proofs.lemmas.List.{length-append}
 use Rattle.std.proofs.lemmas.List.Elements.{All-head, All-tail, All-push, All-nil}
@@ -14,8 +15,12 @@ use Rattle.sgt_service.specs.Reads.{IsOfActive}
 use Rattle.sgt_service.specs.declared.active.Active.{Active}
 use Rattle.sgt_workers.specs.declared.ticket.Ticket.{Ticket}
 use Rattle.sgt_workers.specs.declared.ticket.Ending.TheVariants.{Withdrawn}
-use Rattle.sgt_run.specs.Operations.{DoesAll, Tries}
-use Rattle.sgt_run.specs.Tries.{AreTries, IsRefused, IsTryOf}
+use Rattle.sgt_agreed.specs.declared.counts.EntryCounts.{EntryCounts}
+use Rattle.sgt_service.specs.Counts.{AreCounted, only_at, with_read}
+use Rattle.sgt_service.specs.Seats.{CountsBegin, CountsEnd, SameSeat}
+use Rattle.sgt_service.specs.declared.seat.Seat.{Seat}
+use Rattle.sgt_run.specs.Operations.{DoesAll, Tries, TriesBy}
+use Rattle.sgt_run.specs.Tries.{AreTried, AreTries, CountsReads, CountsTry, IsRefused, IsTryOf, TriesAt}
 
 -- a ticket that isn't refused is the last
 pub tries_end : (tries : ℕ) (tickets : List Ticket) (t : Ticket) → All IsRefused tickets → length tickets < tries → (IsRefused t → ⊥)
@@ -62,9 +67,8 @@ last_more ops tickets t reads tried = subst (λ o. IfSome o (λ (u : Ticket). Tr
 pub tries_once : (ops : List Op) (first last : Active) (all : Bool) (t : Ticket) (sites : ℕ) (before reads : List ℕ)
     → HasAdded (call.Begin first.tx first.handle) → first.draft.touched ≡ [] → before ≡ [] → IsOfActive first last
     → DoesAll ops all first.draft.touched last.draft.touched before reads → (t.verdict ≡ Withdrawn) ↔ (all ≡ false) → IsTicketOf sites last t
-    → Tries ops t reads
+    → TriesBy last ops t reads
 tries_once ops first last all t sites before reads begun empty none same does withdrawn told = record {
-  active = last;
   begun = subst₂ (λ (tx : ℕ) (h : Handle). HasAdded (call.Begin tx h)) (sym same.0) (sym same.1) begun;
   all = all;
   does = subst₂ (λ (old : List Touch) (heard : List ℕ). DoesAll ops all old last.draft.touched heard reads) empty none does;
@@ -72,3 +76,63 @@ tries_once ops first last all t sites before reads begun empty none same does wi
   sites = sites;
   told = told;
 }
+
+-- ---- what tries do to a seat
+
+reads_same : (cs ds : List EntryCounts) → ds ≡ cs → CountsReads cs ds
+reads_same cs ds same = (ap length same, λ site c at. (c.reads, ap (λ xs. slice_get xs site) same ∙ at))
+
+pub reads_none : (cs : List EntryCounts) → CountsReads cs cs
+reads_none cs = reads_same cs cs refl
+
+pub reads_on : (cs ds es : List EntryCounts) → CountsReads cs ds → CountsReads ds es → CountsReads cs es
+reads_on cs ds es one next = (
+  next.0 ∙ one.0,
+  λ site c at. (
+      let mid = one.1 site c at in
+      let last = next.1 site (record c { reads = mid.0 }) mid.1 in
+      (last.0, last.1)),
+)
+
+reads_one : (n : ℕ) (cs ds : List EntryCounts) → AreCounted (only_at n with_read) cs ds → CountsReads cs ds
+reads_one n cs ds counted = (
+  counted.0,
+  λ site c at. elim (cases_Bool (site == n)) [
+    | inl hit ↦ ((with_read c).reads, rw hit at (counted.1 site c at))
+    | inr miss ↦ (c.reads, rw miss at (counted.1 site c at))
+  ],
+)
+
+module _ {L : Type 0} where
+  pub seat_reads : (old new : Seat L) → SameSeat old new → CountsReads old.counts.items new.counts.items
+  seat_reads old new same = reads_same old.counts.items new.counts.items same.1
+
+  -- a read that was kept before, or is logged
+  pub read_reads : (o : Option ℕ) (n : ℕ) (old new : Seat L) → (IsSome o → SameSeat old new)
+      → (o ≡ None → AreCounted (only_at n with_read) old.counts.items new.counts.items) → CountsReads old.counts.items new.counts.items
+  read_reads None n old new kept gained = reads_one n old.counts.items new.counts.items (gained refl)
+  read_reads (Some v) n old new kept gained = seat_reads old new (kept refl)
+
+  -- a transaction that begins, reads and is ended
+  pub try_counts : (t : Ticket) (active : Active) (start begun read end : Seat L) → CountsBegin start begun
+      → (read.share ≡ begun.share) × (read.begun ≡ begun.begun) → CountsReads begun.counts.items read.counts.items
+      → CountsEnd t.verdict active read end → CountsTry t.verdict active.draft.touched start end
+  try_counts t active start begun read end begins same reads ends =
+      let parts : read.share.parts ≡ start.share.parts = (λ i. (same.0 i).parts) ∙ (λ i. (begins.0 i).parts) in
+      let amount : read.share.amount ≡ start.share.amount = (λ i. (same.0 i).amount) ∙ (λ i. (begins.0 i).amount) in (
+        ends.3 ∙ (same.1 ∙ begins.2),
+        ends.0 ∙ parts,
+        ends.1 ∙ ap (λ n. n + 1) amount,
+        (read.counts.items, subst (λ cs. CountsReads cs read.counts.items) begins.1 reads, ends.2),
+      )
+
+  -- a try of the script by some transaction
+  pub try_of : (ops : List Op) (t : Ticket) (reads : List ℕ) (old new : Seat L) → TriesAt ops t reads old new → Tries ops t reads
+  try_of ops t reads old new h = (h.0, h.1)
+
+  -- one try more
+  pub tried_more : (ops : List Op) (tickets : List Ticket) (t : Ticket) (heard : List ℕ) (old mid new : Seat L) → AreTried ops tickets old mid
+      → TriesAt ops t heard mid new → AreTried ops (tickets ++ t ∷ []) old new
+  tried_more ops [] t heard old mid new same tried = (new, (heard, subst (λ s. TriesAt ops t heard s new) same tried), refl)
+  tried_more ops (u ∷ tickets) t heard old mid new before tried =
+      (before.0, before.1, tried_more ops tickets t heard before.0 mid new before.2 tried)

@@ -9,7 +9,9 @@ use Rattle.sgt_notation.specs.declared.script.Op.{Op}
 use Rattle.sgt_notation.specs.declared.script.Op.TheVariants.{Read, Put, Add, Sum}
 use Rattle.sgt_certifier.specs.declared.call.Call.TheVariants as call
 use Rattle.sgt_service.specs.Guarded.{HasAdded, IsTicketOf}
+use Rattle.sgt_agreed.specs.declared.fault.ServiceFault.{ServiceFault}
 use Rattle.sgt_service.specs.Reads.{look_in, GainsRead}
+use Rattle.sgt_service.specs.Refused.{IsOfRead, IsOfChange}
 use Rattle.sgt_service.specs.declared.active.Active.{Active}
 use Rattle.sgt_workers.specs.declared.ticket.Ticket.{Ticket}
 use Rattle.sgt_workers.specs.declared.ticket.Ending.TheVariants.{Withdrawn}
@@ -52,13 +54,20 @@ DoesAll (op ∷ ops) all old new reads reads' =
     ⊎ ((op_fits old op ≡ true)
     × ((mid : List Touch) × (heard : List ℕ) × Does op old mid reads heard × DoesAll ops all mid new heard reads'))
 
--- A try of the script, which heard these values: a transaction began and did what the script says, all of it or what stands in front of the
--- first sum that is too large, and nothing else. The ticket is of its end: it is withdrawn where a sum is too large, and else decided
-pub record Tries (ops : List Op) (t : Ticket) (reads : List ℕ) : Type 0 where
-  pub active : Active
+-- what an operation may be refused for
+abbrev pub IsOfOperation : ServiceFault → Type 0
+IsOfOperation f = IsOfRead f ⊎ IsOfChange f
+
+-- A try of the script by this transaction, which heard these values: it began and did what the script says, all of it or what stands in front
+-- of the first sum that is too large, and nothing else. The ticket is of its end: it is withdrawn where a sum is too large, and else decided
+pub record TriesBy (active : Active) (ops : List Op) (t : Ticket) (reads : List ℕ) : Type 0 where
   pub begun : HasAdded (call.Begin active.tx active.handle)
   pub all : Bool
   pub does : DoesAll ops all [] active.draft.touched [] reads
   pub withdrawn : (t.verdict ≡ Withdrawn) ↔ (all ≡ false)
   pub sites : ℕ
   pub told : IsTicketOf sites active t
+
+-- a try of the script by some transaction
+abbrev pub Tries : List Op → Ticket → List ℕ → Type 0
+Tries ops t reads = (active : Active) × TriesBy active ops t reads

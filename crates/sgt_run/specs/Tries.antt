@@ -1,13 +1,22 @@
 -- The tries of a script.
-use Rattle.std.specs.Prelude.{◌≡◌, ◌<◌, ◌+◌, ℕ, List, [], ◌∷◌, ◌++◌, length, All, None, IfSome}
+use Rattle.std.specs.Prelude.{◌≡◌, ◌⊎◌, ◌<◌, ◌+◌, ℕ, List, [], ◌∷◌, ◌++◌, length, All, None, Some, IfSome, slice_get}
 use Rattle.std.specs.List.{last_or, range_with_len}
+use Rattle.sgt_names.specs.declared.draft.Touch.{Touch}
 use Rattle.sgt_notation.specs.declared.script.Op.{Op}
 use Rattle.sgt_notation.specs.declared.script.Script.{Script}
 use Rattle.sgt_workers.specs.Answers.{jobs_of, IsAnswer}
 use Rattle.sgt_workers.specs.declared.ticket.Done.{Done}
+use Rattle.sgt_workers.specs.declared.ticket.Ending.{Ending}
 use Rattle.sgt_workers.specs.declared.ticket.Ending.TheVariants.{Refused}
 use Rattle.sgt_workers.specs.declared.ticket.Ticket.{Ticket}
-use Rattle.sgt_run.specs.Operations.{Tries}
+use Rattle.sgt_agreed.specs.declared.counts.EntryCounts.{EntryCounts}
+use Rattle.sgt_agreed.specs.declared.fault.ServiceFault.{ServiceFault}
+use Rattle.sgt_agreed.specs.declared.fault.ServiceFault.TheVariants.{NotPledged}
+use Rattle.sgt_service.specs.Counts.{capped, AreCounted, with_others, blocks_of}
+use Rattle.sgt_service.specs.Seats.{SameSeat, CountsLoss}
+use Rattle.sgt_service.specs.declared.active.Active.{Active}
+use Rattle.sgt_service.specs.declared.seat.Seat.{Seat}
+use Rattle.sgt_run.specs.Operations.{Tries, TriesBy}
 
 abbrev pub IsRefused : Ticket → Type 0
 IsRefused t = t.verdict ≡ Refused
@@ -39,3 +48,37 @@ IsDoneOf tries script d = AreTriesOf tries script.operations d.tickets.items d.r
 pub record AreDonesOf (scripts : List Script) (tries : ℕ) (dones : List Done) : Type 0 where
   pub jobs : jobs_of dones ≡ range_with_len 1 (length scripts)
   pub each : All (IsAnswer (λ number script d. IsDoneOf tries script d) scripts) dones
+
+-- ---- what tries do to the seat of their worker
+
+-- reads may have been counted at each site, and nothing else
+abbrev pub CountsReads : List EntryCounts → List EntryCounts → Type 0
+CountsReads old new = (length new ≡ length old)
+    × ((site : ℕ) (c : EntryCounts) → slice_get old site ≡ Some c → (reads : ℕ) × (slice_get new site ≡ Some (record c { reads = reads })))
+
+module _ {L : Type 0} where
+  -- one transaction was begun and ended so, with this draft: one begin, one decision, at each site the block of this transaction behind
+  -- whatever was read
+  abbrev pub CountsTry : Ending → List Touch → Seat L → Seat L → Type 0
+  CountsTry verdict touched old new = (new.begun ≡ capped (old.begun + 1)) × (new.share.parts ≡ old.share.parts)
+      × (new.share.amount ≡ old.share.amount + 1)
+      × ((read : List EntryCounts) × CountsReads old.counts.items read
+      × AreCounted (λ site. with_others (blocks_of verdict touched site)) read new.counts.items)
+
+  -- the one transaction that the seat counts is the one that tried the script
+  abbrev pub TriesAt : List Op → Ticket → List ℕ → Seat L → Seat L → Type 0
+  TriesAt ops t reads old new = (active : Active) × TriesBy active ops t reads × CountsTry t.verdict active.draft.touched old new
+
+  -- tries with these tickets, one after another
+  abbrev pub AreTried : List Op → List Ticket → Seat L → Seat L → Type 0
+  AreTried ops [] old new = new ≡ old
+  AreTried ops (t ∷ ts) old new = (mid : Seat L) × ((heard : List ℕ) × TriesAt ops t heard old mid) × AreTried ops ts mid new
+
+  -- those of a job's script
+  abbrev pub TriesJob : Seat L → ℕ → Script → Done → Seat L → Type 0
+  TriesJob old number script d new = AreTried script.operations d.tickets.items old new
+
+  -- a transaction without a ticket leaves its seat as it was. Or it was decided so, and V7 names the site that had lost its pledge
+  abbrev pub IsHalt : (Ending → Type 0) → Active → Seat L → Seat L → ServiceFault → Type 0
+  IsHalt decided active old new f = SameSeat old new
+      ⊎ ((verdict : Ending) × (site : ℕ) × decided verdict × (f ≡ NotPledged site) × CountsLoss verdict active site old new)

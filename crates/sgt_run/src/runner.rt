@@ -31,15 +31,16 @@ pub struct Runner<'a, L: Ledger, G: Gate> {
 }
 
 impl<'a, L: Ledger, G: Gate> Runner<'a, L, G> {
-    ghost use Rattle.std.specs.Prelude.{◌≡◌, ◌≢◌, ◌+◌, ◌↔◌, [], true, false, All, Ok, IfOk, IfErr, OnOk, vec_len};
+    ghost use Rattle.std.specs.Prelude.{◌≡◌, ◌≢◌, ◌↔◌, [], true, false, All, Ok, IfOk, IfErr, OnOk, vec_len};
     ghost use Rattle.sgt_service.specs.Guarded.{IsTicketOf};
     ghost use Rattle.sgt_service.specs.Reads.{look_in, IsOfActive};
-    ghost use Rattle.sgt_service.specs.Refused.{IsOfCall};
+    ghost use Rattle.sgt_service.specs.Refused.{IsOfCall, IsOfChange, IsOfCommit, IsOfWithdraw};
+    ghost use Rattle.sgt_service.specs.Seats.{CountsEnd};
     ghost use Rattle.sgt_workers.specs.declared.ticket.Ending.TheVariants.{Withdrawn};
-    ghost use Rattle.sgt_run.specs.Tries.{AreTriesOf, IsRefused, IsTryOf};
-    ghost use Rattle.sgt_run.specs.Operations.{op_fits, sum_fits, Does, DoesAll, PutsSum, Tries};
+    ghost use Rattle.sgt_run.specs.Tries.{AreTried, AreTriesOf, CountsReads, IsHalt, IsRefused, IsTryOf, TriesAt};
+    ghost use Rattle.sgt_run.specs.Operations.{op_fits, sum_fits, Does, DoesAll, IsOfOperation, PutsSum};
 
-    #[tactic(auto, using(crate::proofs::Faults::item_of_call))]
+    #[tactic(auto, using(crate::proofs::Faults::item_of_change))]
     // Keeps the sum of this value and of what the transaction sees at the source, as a private write. False where it is too
     // large.
     fn put_sum(
@@ -54,7 +55,7 @@ impl<'a, L: Ledger, G: Gate> Runner<'a, L, G> {
         ensures sum { result ≡ Ok true → PutsSum site item seen value active.old.draft.touched active.new.draft.touched }
         ensures same { result ≡ Ok false → active.new.draft.touched ≡ active.old.draft.touched }
         ensures named { IsOfActive active.old active.new }
-        ensures fault { IfErr result IsOfCall }
+        ensures fault { IfErr result IsOfChange }
     {
         let Some(seen) = seen else {
             return Err(ServiceFault::Site(SiteFault::UnknownItem));
@@ -66,7 +67,7 @@ impl<'a, L: Ledger, G: Gate> Runner<'a, L, G> {
         Ok(true)
     }
 
-    #[tactic(auto, using(crate::proofs::Faults::item_of_call, crate::proofs::Faults::read_of_call))]
+    #[tactic(auto, using(crate::proofs::Faults::item_of_operation, crate::proofs::Faults::change_of_operation, crate::proofs::Faults::read_of_operation))]
     // Does what one operation says. False where its sum is too large.
     fn apply<R: Wait>(
         &self,
@@ -82,8 +83,9 @@ impl<'a, L: Ledger, G: Gate> Runner<'a, L, G> {
         ensures same { result ≡ Ok false
             → (active.new.draft.touched ≡ active.old.draft.touched) × (reads.new.items ≡ reads.old.items) }
         ensures named { IsOfActive active.old active.new }
-        ensures share { worker.new.seat.share ≡ worker.old.seat.share }
-        ensures fault { IfErr result IsOfCall }
+        ensures share { (worker.new.seat.share ≡ worker.old.seat.share) × (worker.new.seat.begun ≡ worker.old.seat.begun) }
+        ensures counts { CountsReads worker.old.seat.counts.items worker.new.seat.counts.items }
+        ensures fault { IfErr result IsOfOperation }
     {
         match *op {
             Op::Read { site, item } => {
@@ -128,8 +130,9 @@ impl<'a, L: Ledger, G: Gate> Runner<'a, L, G> {
         ensures does { IfOk result (λ all. DoesAll script.now.operations all
             active.old.draft.touched active.new.draft.touched reads.old.items reads.new.items) }
         ensures named { IsOfActive active.old active.new }
-        ensures share { worker.new.seat.share ≡ worker.old.seat.share }
-        ensures fault { IfErr result IsOfCall }
+        ensures share { (worker.new.seat.share ≡ worker.old.seat.share) × (worker.new.seat.begun ≡ worker.old.seat.begun) }
+        ensures counts { CountsReads worker.old.seat.counts.items worker.new.seat.counts.items }
+        ensures fault { IfErr result IsOfOperation }
     {
         let operations = script.operations.as_slice();
         for op in operations {
@@ -140,7 +143,7 @@ impl<'a, L: Ledger, G: Gate> Runner<'a, L, G> {
         Ok(true)
     }
 
-    #[tactic(auto, using(crate::proofs::Faults::back_fault, crate::proofs::Faults::back_parts))]
+    #[tactic(auto, using(crate::proofs::Faults::back_halt, crate::proofs::Faults::back_parts))]
     // Asks for the commit.
     fn commit<R: Wait>(
         &self,
@@ -151,8 +154,9 @@ impl<'a, L: Ledger, G: Gate> Runner<'a, L, G> {
         ensures decided { IfOk result (λ t. t.verdict ≢ Withdrawn) }
         ensures told { IfOk result (IsTicketOf (vec_len self.now.service.now.sites) active) }
         ensures parts { worker.new.seat.share.parts ≡ worker.old.seat.share.parts }
-        ensures counted { OnOk result (worker.new.seat.share.amount ≡ worker.old.seat.share.amount + 1) }
-        ensures fault { IfErr result IsOfCall }
+        ensures ends { IfOk result (λ t. CountsEnd t.verdict active worker.old.seat worker.new.seat) }
+        ensures halt { IfErr result (IsHalt (λ verdict. verdict ≢ Withdrawn) active worker.old.seat worker.new.seat) }
+        ensures fault { IfErr result IsOfCommit }
     {
         let Worker { number, seat } = worker;
         match self
@@ -164,7 +168,7 @@ impl<'a, L: Ledger, G: Gate> Runner<'a, L, G> {
         }
     }
 
-    #[tactic(auto, using(crate::proofs::Faults::back_fault, crate::proofs::Faults::back_parts))]
+    #[tactic(auto, using(crate::proofs::Faults::back_halt, crate::proofs::Faults::back_parts))]
     // Withdraws the transaction.
     fn withdraw<R: Wait>(
         &self,
@@ -175,8 +179,9 @@ impl<'a, L: Ledger, G: Gate> Runner<'a, L, G> {
         ensures decided { IfOk result (λ t. t.verdict ≡ Withdrawn) }
         ensures told { IfOk result (IsTicketOf (vec_len self.now.service.now.sites) active) }
         ensures parts { worker.new.seat.share.parts ≡ worker.old.seat.share.parts }
-        ensures counted { OnOk result (worker.new.seat.share.amount ≡ worker.old.seat.share.amount + 1) }
-        ensures fault { IfErr result IsOfCall }
+        ensures ends { IfOk result (λ t. CountsEnd t.verdict active worker.old.seat worker.new.seat) }
+        ensures halt { IfErr result (IsHalt (λ verdict. verdict ≡ Withdrawn) active worker.old.seat worker.new.seat) }
+        ensures fault { IfErr result IsOfWithdraw }
     {
         let Worker { number: _, seat } = worker;
         match self.service.withdraw(rt, seat, active) {
@@ -185,6 +190,7 @@ impl<'a, L: Ledger, G: Gate> Runner<'a, L, G> {
         }
     }
 
+    #[tactic(auto, using(crate::proofs::Faults::withdraw_of_commit))]
     // Asks for the commit of a transaction whose sums fit, and withdraws another.
     fn end<R: Wait>(
         &self,
@@ -196,8 +202,10 @@ impl<'a, L: Ledger, G: Gate> Runner<'a, L, G> {
         ensures withdrawn { IfOk result (λ t. (t.verdict ≡ Withdrawn) ↔ (fits ≡ false)) }
         ensures told { IfOk result (IsTicketOf (vec_len self.now.service.now.sites) active) }
         ensures parts { worker.new.seat.share.parts ≡ worker.old.seat.share.parts }
-        ensures counted { OnOk result (worker.new.seat.share.amount ≡ worker.old.seat.share.amount + 1) }
-        ensures fault { IfErr result IsOfCall }
+        ensures ends { IfOk result (λ t. CountsEnd t.verdict active worker.old.seat worker.new.seat) }
+        ensures halt { IfErr result (IsHalt (λ verdict. (verdict ≡ Withdrawn) ↔ (fits ≡ false)) active worker.old.seat worker.new.seat) }
+        ensures fault { IfErr result IsOfCommit }
+        ensures unfit { fits ≡ false → IfErr result IsOfWithdraw }
     {
         if !fits {
             return self.withdraw(rt, worker, active);
@@ -205,7 +213,7 @@ impl<'a, L: Ledger, G: Gate> Runner<'a, L, G> {
         self.commit(rt, worker, active)
     }
 
-    #[tactic(auto, using(crate::proofs::Faults::begin_of_call, crate::proofs::Tries::tries_once))]
+    #[tactic(auto, using(crate::proofs::Faults::begin_of_call, crate::proofs::Faults::operation_of_call, crate::proofs::Faults::commit_of_call))]
     // One try: a transaction of its own, whose reads' values it leaves in `reads`.
     fn try_once<R: Wait>(
         &self,
@@ -214,9 +222,8 @@ impl<'a, L: Ledger, G: Gate> Runner<'a, L, G> {
         script: &Script,
         reads: &mut Vec<Value>,
     ) -> Result<Ticket, ServiceFault>
-        ensures tries { IfOk result (λ t. Tries script.now.operations t reads.new.items) }
+        ensures tries { IfOk result (λ t. TriesAt script.now.operations t reads.new.items worker.old.seat worker.new.seat) }
         ensures parts { worker.new.seat.share.parts ≡ worker.old.seat.share.parts }
-        ensures counted { OnOk result (worker.new.seat.share.amount ≡ worker.old.seat.share.amount + 1) }
         ensures fault { IfErr result IsOfCall }
     {
         reads.clear();
@@ -239,7 +246,7 @@ impl<'a, L: Ledger, G: Gate> Runner<'a, L, G> {
         requires { tickets.old.items ≡ [] }
         ensures tries { OnOk result (AreTriesOf self.now.tries script.now.operations tickets.new.items reads.new.items) }
         ensures parts { worker.new.seat.share.parts ≡ worker.old.seat.share.parts }
-        ensures counted { OnOk result (worker.new.seat.share.amount ≡ worker.old.seat.share.amount + vec_len tickets.new) }
+        ensures tried { OnOk result (AreTried script.now.operations tickets.new.items worker.old.seat worker.new.seat) }
         ensures fault { IfErr result IsOfCall }
     {
         for _ in 0..self.tries {
@@ -255,10 +262,10 @@ impl<'a, L: Ledger, G: Gate> Runner<'a, L, G> {
 }
 
 impl<'a, L: Ledger, G: Gate> Work<Worker<L>, Script, ServiceFault> for Runner<'a, L, G> {
-    ghost use Rattle.std.specs.Prelude.{◌≡◌, ◌+◌, length, refl};
+    ghost use Rattle.std.specs.Prelude.{◌≡◌, refl};
     ghost use Rattle.std.proofs.Common.{◌∙◌};
     ghost use Rattle.sgt_service.specs.Refused.{IsOfCall};
-    ghost use Rattle.sgt_run.specs.Tries.{IsDoneOf};
+    ghost use Rattle.sgt_run.specs.Tries.{IsDoneOf, TriesJob};
 
     ghost answers = { λ w number script done. IsDoneOf w.tries script done };
 
@@ -266,7 +273,7 @@ impl<'a, L: Ledger, G: Gate> Work<Worker<L>, Script, ServiceFault> for Runner<'a
 
     ghost keeps = { λ s t. t.seat.share.parts ≡ s.seat.share.parts };
 
-    ghost does = { λ w s number script done t. t.seat.share.amount ≡ s.seat.share.amount + length done.tickets.items };
+    ghost does = { λ w s number script done t. TriesJob s.seat number script done t.seat };
 
     fn work<R: Wait>(
         &self,

@@ -2,11 +2,12 @@
 
 ghost use Rattle.std.specs.Prelude.{◌≡◌, ◌+◌, ◌<◌, ◌≤◌, IfOk, IfErr, length, map, vec_len};
 ghost use Rattle.std.specs.List.{range_with_len};
-ghost use Rattle.sgt_workers.specs.Answers.{IsFault};
+ghost use Rattle.sgt_workers.specs.Answers.{AreShared, IsFault};
 ghost use Rattle.sgt_service.specs.Refused.{IsOfCall};
-ghost use Rattle.sgt_service.specs.Together.{parts_of, amount_of};
+ghost use Rattle.sgt_service.specs.Counts.{capped};
+ghost use Rattle.sgt_service.specs.Together.{parts_of, amount_of, begun_of};
 ghost use Rattle.sgt_settle.specs.Settled.{tickets_of};
-ghost use Rattle.sgt_run.specs.Tries.{AreDonesOf};
+ghost use Rattle.sgt_run.specs.Tries.{AreDonesOf, TriesJob};
 
 use crate::runner::{Runner, Worker};
 use sgt_agreed::ServiceFault;
@@ -43,6 +44,8 @@ pub fn run<L: Ledger + Send + Sync, G: Gate + Sync, R: Threads + Wait + Sync>(
     ensures seats { IfOk result (λ r. vec_len r.1 ≡ vec_len seats) }
     ensures parts { IfOk result (λ r. parts_of r.1.items ≡ parts_of seats.items) }
     ensures counted { IfOk result (λ r. amount_of r.1.items ≡ amount_of seats.items + length (tickets_of r.0.items)) }
+    ensures begun { IfOk result (λ r. begun_of r.1.items ≡ capped (begun_of seats.items + length (tickets_of r.0.items))) }
+    ensures tried { IfOk result (λ r. AreShared TriesJob scripts.now seats.items r.0.items r.1.items) }
     ensures fault { IfErr result (IsFault IsOfCall (length scripts.now)) }
 {
     let workers = numbered(alloc, seats)?;

@@ -3,7 +3,7 @@ use Rattle.std.specs.Prelude.{◌≡◌, ◌≢◌, ℕ, ◌+◌, [], replicate,
 use Rattle.sgt_names.specs.Draft.{at_site}
 use Rattle.sgt_workers.specs.declared.ticket.Ending.{Ending}
 use Rattle.sgt_agreed.specs.declared.fault.ServiceFault.TheVariants.{NotPledged}
-use Rattle.sgt_service.specs.Counts.{AreCounted, with_others, blocks_of, below}
+use Rattle.sgt_service.specs.Counts.{capped, AreCounted, with_others, blocks_of, below}
 use Rattle.sgt_service.specs.Refused.{IsOfCall}
 use Rattle.sgt_service.specs.declared.active.Active.{Active}
 use Rattle.sgt_service.specs.declared.active.Back.{Back}
@@ -17,16 +17,22 @@ module _ {L : Type 0} where
   -- a seat of a service of so many sites, from which nothing was done: one part of the ledger, and all counts 0
   abbrev pub IsNew : ℕ → Seat L → Type 0
   IsNew sites seat = (seat.share.parts ≡ 1) × (seat.share.amount ≡ 0) × (seat.counts.items ≡ replicate sites no_counts)
+      × (seat.begun ≡ 0)
 
   -- nothing of it changed
   abbrev pub SameSeat : Seat L → Seat L → Type 0
-  SameSeat old new = (new.share ≡ old.share) × (new.counts.items ≡ old.counts.items)
+  SameSeat old new = (new.share ≡ old.share) × (new.counts.items ≡ old.counts.items) × (new.begun ≡ old.begun)
+
+  -- it began one more transaction
+  abbrev pub CountsBegin : Seat L → Seat L → Type 0
+  CountsBegin old new =
+      (new.share ≡ old.share) × (new.counts.items ≡ old.counts.items) × (new.begun ≡ capped (old.begun + 1))
 
   -- it took one more decision, and wrote so many more other entries at each site
   abbrev pub CountsDecision : (ℕ → ℕ) → Seat L → Seat L → Type 0
   CountsDecision more old new =
       (new.share.parts ≡ old.share.parts) × (new.share.amount ≡ old.share.amount + 1)
-      × AreCounted (λ site. with_others (more site)) old.counts.items new.counts.items
+      × AreCounted (λ site. with_others (more site)) old.counts.items new.counts.items × (new.begun ≡ old.begun)
 
   -- a transaction was ended so: its decision counts, and its block at each site
   abbrev pub CountsEnd : Ending → Active → Seat L → Seat L → Type 0

@@ -22,6 +22,10 @@ module _ {L : Type 0} where
   abbrev pub amount_of : List (Seat L) → ℕ
   amount_of seats = sum_by (λ (s : Seat L). s.share.amount) seats
 
+  -- how many transactions they began together, up to the greatest number
+  abbrev pub begun_of : List (Seat L) → ℕ
+  begun_of seats = capped (sum_by (λ (s : Seat L). s.begun) seats)
+
   -- what they counted together at each of so many sites
   abbrev pub counts_of : ℕ → List (Seat L) → List EntryCounts
   counts_of sites seats = fold (λ counts (s : Seat L). added counts s.counts.items) (replicate sites no_counts) seats

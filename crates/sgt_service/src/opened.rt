@@ -69,7 +69,7 @@ impl<L: Ledger> Service<L> {
         ensures amount { result.amount ≡ all.amount + amount_of seats.items }
     {
         for seat in seats {
-            let Seat { share, counts: _ } = seat;
+            let Seat { share, .. } = seat;
             all.merge(share);
         }
         all

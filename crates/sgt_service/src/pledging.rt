@@ -215,7 +215,7 @@ impl<L: Ledger> Service<L> {
         requires sites { (site : ℕ) → vec_len self.now.sites ≤ site → at_site site active.now.draft.touched ≡ [] }
         requires decided { IsDecided guarded.old.certifier.state active.now.tx }
         ensures step { guarded.new.certifier.state.step ≡ guarded.old.certifier.state.step }
-        ensures share { seat.new.share ≡ seat.old.share }
+        ensures share { (seat.new.share ≡ seat.old.share) × (seat.new.begun ≡ seat.old.begun) }
         ensures ok { OnOk result (AreCounted (λ site. with_others (blocks_of verdict active.now.draft.touched site))
             seat.old.counts.items seat.new.counts.items) }
         ensures lost { IfErr result (λ e. AreCounted
@@ -255,7 +255,7 @@ impl<L: Ledger> Service<L> {
         ensures awaits { IsTrue result → verdict ≡ Committed
             → AwaitsInstalls guarded.new.certifier active.now.tx active.now.draft.touched (here + 1) }
         ensures step { guarded.new.certifier.state.step ≡ guarded.old.certifier.state.step }
-        ensures share { seat.new.share ≡ seat.old.share }
+        ensures share { (seat.new.share ≡ seat.old.share) × (seat.new.begun ≡ seat.old.begun) }
         ensures counted { IsTrue result → AreCounted
             (only_at here (with_others (blocks_of verdict active.now.draft.touched here)))
             seat.old.counts.items seat.new.counts.items }

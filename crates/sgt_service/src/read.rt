@@ -37,7 +37,7 @@ impl<L: Ledger> Service<L> {
         ensures gained { OnOk result (look_in active.old.draft.touched site item ≡ None
             → GainsRead site item active.old.draft.touched active.new.draft.touched
             × AreCounted (only_at site with_read) seat.old.counts.items seat.new.counts.items) }
-        ensures named { IsOfActive active.old active.new × (seat.new.share ≡ seat.old.share) }
+        ensures named { IsOfActive active.old active.new × (seat.new.share ≡ seat.old.share) × (seat.new.begun ≡ seat.old.begun) }
         ensures err { OnErr result (SameActive active.old active.new × SameSeat seat.old seat.new) }
         ensures allowed { OnOk result (look_in active.old.draft.touched site item ≡ None → HasItem self.now.names.items site item) }
         ensures unknown { (HasItem self.now.names.items site item → ⊥) → look_in active.old.draft.touched site item ≡ None
@@ -71,7 +71,7 @@ impl<L: Ledger> Service<L> {
         ensures gained { OnOk result (look_in active.old.draft.touched site item ≡ None
             → GainsRead site item active.old.draft.touched active.new.draft.touched
             × AreCounted (only_at site with_read) seat.old.counts.items seat.new.counts.items) }
-        ensures named { IsOfActive active.old active.new × (seat.new.share ≡ seat.old.share) }
+        ensures named { IsOfActive active.old active.new × (seat.new.share ≡ seat.old.share) × (seat.new.begun ≡ seat.old.begun) }
         ensures err { OnErr result (SameActive active.old active.new × SameSeat seat.old seat.new) }
         ensures allowed { OnOk result (look_in active.old.draft.touched site item ≡ None → HasItem self.now.names.items site item) }
         ensures unknown { (HasItem self.now.names.items site item → ⊥) → look_in active.old.draft.touched site item ≡ None

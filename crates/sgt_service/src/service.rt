@@ -42,7 +42,7 @@ impl<L: Ledger> Service<L> {
     ghost use Rattle.sgt_names.specs.Draft.{seen_at, change_at, added_to, ChangesOnly};
     ghost use Rattle.sgt_names.specs.declared.entry.Change.TheVariants.{Put};
     ghost use Rattle.sgt_site.specs.State.{AreItems};
-    ghost use Rattle.sgt_service.specs.Seats.{IsNew, SameSeat};
+    ghost use Rattle.sgt_service.specs.Seats.{IsNew, SameSeat, CountsBegin};
     ghost use Rattle.sgt_certifier.specs.History.{begin, close};
     ghost use Rattle.sgt_certifier.specs.declared.call.Call.TheVariants as call;
     ghost use Rattle.sgt_service.specs.Guarded.{HasAdded};
@@ -98,7 +98,11 @@ impl<L: Ledger> Service<L> {
         for _ in 0..count {
             let counts = Vec::from_elem(alloc, nothing, sites)?;
             let share = rest.split_off(1, 0);
-            seats.push(Seat { share, counts })?;
+            seats.push(Seat {
+                share,
+                counts,
+                begun: 0,
+            })?;
         }
         Ok(seats)
     }
@@ -122,7 +126,7 @@ impl<L: Ledger> Service<L> {
     }
 
     #[tactic(auto, using(crate::proofs::Faults::begin_told))]
-    /// Begins the next transaction, with an empty draft. It takes the certifier's lock.
+    /// Begins the next transaction, with an empty draft, and counts it at the seat. It takes the certifier's lock.
     ///
     /// - V7: a site was found to have lost its pledge.
     /// - V4 with C1, C3 or C8, as the certifier refuses.
@@ -133,14 +137,15 @@ impl<L: Ledger> Service<L> {
         alloc: Global,
         seat: &mut Seat<L>,
     ) -> Result<Active, ServiceFault>
-        ensures seat { SameSeat seat.old seat.new }
+        ensures seat { OnOk result (CountsBegin seat.old seat.new) }
+        ensures err { OnErr result (SameSeat seat.old seat.new) }
         ensures draft { IfOk result (λ a. a.draft.touched ≡ []) }
         ensures begun { IfOk result (λ a. HasAdded (call.Begin a.tx a.handle)) }
         ensures refused { IfErr result (IsToldOf begin) }
         ensures fault { IfErr result IsOfBegin }
     {
-        let _ = seat;
         let (tx, handle) = self.certifier.lock(rt).begin()?;
+        seat.count_begin();
         Ok(Active {
             tx,
             handle,

@@ -2,7 +2,7 @@ use Rattle.std.proofs.Common.{◌≡◌, ◌∙◌, ◌++◌, ◌∷◌, [], Lis
 use Rattle.std.proofs.lemmas.List.Elements.{All-push}
 use Rattle.sgt_workers.specs.declared.ticket.Ticket.{Ticket}
 use Rattle.sgt_run.specs.Tries.{AreTriesOf, IsRefused}
-use Rattle.sgt_run.proofs.Tries.{last_more, tries_end, tries_more, tries_spent}
+use Rattle.sgt_run.proofs.Tries.{last_more, tried_more, tries_end, tries_more, tries_spent, try_of}
 use Rattle.sgt_run.proofs.runner.Runner.try_all.Goals as goal
 
 pub returns-then-ne-clause-tries : goal.returns-then-ne-clause-tries
@@ -11,7 +11,8 @@ returns-then-ne-clause-tries g c =
     let t = c.in_ok-ticket.ticket in
     let pushed : c.push_reserved.new.self.items ≡ c.loop.tickets.items ++ t ∷ [] =
     c.push_reserved.ensures.items ∙ ap (λ (ts : List Ticket). ts ++ t ∷ []) c.in_ok-reserve.ensures.items in
-    let tried = c.in_ok-ticket.ensures.tries in
+    let at = c.in_ok-ticket.ensures.tries in
+    let tried = try_of ops t c.try_once.new.reads.items c.loop.worker.seat c.try_once.new.worker.seat at in
     subst (λ (ts : List Ticket). AreTriesOf c.args.self.now.tries ops ts c.try_once.new.reads.items) (sym pushed) (record {
       whole = search (rules, tries_end);
       each = tries_more ops c.loop.tickets.items t c.try_once.new.reads.items c.loop.invariant.each tried;
@@ -24,10 +25,11 @@ loop-preserved g c =
     let t = c.in_ok-ticket.ticket in
     let pushed : c.push_reserved.new.self.items ≡ c.loop.tickets.items ++ t ∷ [] =
     c.push_reserved.ensures.items ∙ ap (λ (ts : List Ticket). ts ++ t ∷ []) c.in_ok-reserve.ensures.items in
-    let tried = c.in_ok-ticket.ensures.tries in
+    let at = c.in_ok-ticket.ensures.tries in
+    let tried = try_of ops t c.try_once.new.reads.items c.loop.worker.seat c.try_once.new.worker.seat at in
     record {
       parts = search rules;
-      counted = search rules;
+      tried = rw pushed (tried_more ops c.loop.tickets.items t c.try_once.new.reads.items c.args.worker.now.seat c.loop.worker.seat c.try_once.new.worker.seat c.loop.invariant.tried at);
       refused = rw pushed (All-push IsRefused c.loop.tickets.items t c.loop.invariant.refused (search rules));
       each = rw pushed (tries_more ops c.loop.tickets.items t c.try_once.new.reads.items c.loop.invariant.each tried);
       last = rw pushed (last_more ops c.loop.tickets.items t c.try_once.new.reads.items tried);
@@ -36,3 +38,12 @@ loop-preserved g c =
 
 pub returns-clause-tries : goal.returns-clause-tries
 returns-clause-tries g c = record { whole = search (rules, tries_spent); each = c.loop.invariant.each; last = c.loop.invariant.last }
+
+pub returns-then-ne-clause-tried : goal.returns-then-ne-clause-tried
+returns-then-ne-clause-tried g c =
+    let ops = c.args.script.now.operations in
+    let t = c.in_ok-ticket.ticket in
+    let pushed : c.push_reserved.new.self.items ≡ c.loop.tickets.items ++ t ∷ [] =
+    c.push_reserved.ensures.items ∙ ap (λ (ts : List Ticket). ts ++ t ∷ []) c.in_ok-reserve.ensures.items in
+    rw pushed (tried_more ops c.loop.tickets.items t c.try_once.new.reads.items c.args.worker.now.seat c.loop.worker.seat c.try_once.new.worker.seat
+    c.loop.invariant.tried c.in_ok-ticket.ensures.tries)
