@@ -111,6 +111,7 @@ impl Record {
     }
 
     /// One more entry in the section, which did this, and ended the transaction or not.
+    #[inline(always)]
     pub(crate) fn touch(
         &mut self,
         section: usize,
