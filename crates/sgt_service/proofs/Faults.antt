@@ -17,19 +17,22 @@ use Rattle.sgt_certifier.specs.declared.call.CertifierFault.TheVariants as certi
 use Rattle.sgt_agreed.specs.Fault.{of_site, of_certifier}
 use Rattle.sgt_agreed.specs.declared.fault.ServiceFault.{ServiceFault}
 use Rattle.sgt_agreed.specs.declared.fault.ServiceFault.TheVariants as fault
-use Rattle.sgt_service.specs.Refused.{IsOfBegin, IsOfCall, IsOfRead, IsOfWithdraw, IsOfCommit, IsRefusedBy}
+use Rattle.sgt_service.specs.Refused.{IsOfBegin, IsOfCall, IsOfRead, IsOfWithdraw, IsOfCommit, IsRefusedBy, IsToldOfRead}
 use Rattle.sgt_service.specs.Undecided.{RefusesActive, RefusesGather, IsUncommitted, IsNotWithdrawn, at_first, unexpected, beyond, ungathered, undecided, held_back, absent, unpledged, declined}
 use Rattle.sgt_service.specs.declared.active.Active.{Active}
 
 -- ---- what a site refuses
 
-pub read_told : (s : SiteState) (tx : ℕ) (x : Name) (f : SiteFault) → RefusesRead s tx x f → IsOfRead (of_site f)
+read_told : (s : SiteState) (tx : ℕ) (x : Name) (f : SiteFault) → RefusesRead s tx x f → IsOfRead (of_site f)
 read_told s tx x site.UnknownItem r = tt
 read_told s tx x site.ReadTwice r = tt
 read_told s tx x site.Ended r = tt
 read_told s tx x site.PledgeOpen r = tt
 read_told s tx x site.Memory r = tt
 read_told s tx x _ r = absurd r
+
+pub read_of : (s : SiteState) (tx : ℕ) (x : Name) (f : ServiceFault) → IsToldOfRead s tx x f → IsOfRead f
+read_of s tx x f r = subst IsOfRead (sym r.2) (read_told s tx x r.0 r.1)
 
 pledge_told : (s : SiteState) (tx : ℕ) (touched : List Touch) (f : SiteFault) → RefusesPledge s tx touched f → IsOfWithdraw (of_site f)
 pledge_told s tx touched site.UnknownItem r = tt

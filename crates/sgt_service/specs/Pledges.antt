@@ -1,7 +1,24 @@
--- The pledges of a step.
-use Rattle.std.specs.Prelude.{◌≡◌, ℕ}
+-- The pledges of a step, and the blocks that are written for them.
+use Rattle.std.specs.Prelude.{◌≡◌, ◌+◌, ℕ}
+use Rattle.sgt_site.specs.State.{SiteState}
+use Rattle.sgt_workers.specs.declared.ticket.Ending.{Ending}
+use Rattle.sgt_service.specs.Guarded.{IsEnded}
+use Rattle.sgt_service.specs.declared.active.Active.{Active}
+use Rattle.sgt_service.specs.declared.pledges.Blocks.{Blocks}
 use Rattle.sgt_service.specs.declared.pledges.Pledges.{Pledges}
 
 -- those at all of so many sites, of which none is given back
 abbrev pub IsWhole : ℕ → Pledges → Type 0
 IsWhole sites p = (p.given ≡ 0) × (p.below ≡ sites)
+
+-- one more was taken
+abbrev pub TakesNext : Pledges → Pledges → Type 0
+TakesNext old new = (new.given ≡ old.given) × (new.below ≡ old.below + 1)
+
+-- one more block was written, or isn't owed
+abbrev pub WritesNext : Blocks → Blocks → Type 0
+WritesNext old new = (new.written ≡ old.written + 1) × (new.below ≡ old.below)
+
+-- the site's log ends with the block of a transaction that was decided so, which has spent its pledge
+abbrev pub HasBlock : Ending → Active → SiteState → Type 0
+HasBlock verdict active s = (before : SiteState) × IsEnded verdict active before s

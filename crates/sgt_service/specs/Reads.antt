@@ -1,6 +1,9 @@
 -- What a read answers and keeps.
-use Rattle.std.specs.Prelude.{◌≡◌, ℕ, List, Option, Some, option_and_then}
+use Rattle.std.specs.Prelude.{◌≡◌, ℕ, List, [], ◌∷◌, ◌++◌, Option, Some, option_and_then}
 use Rattle.sgt_names.specs.Name.{Name}
+use Rattle.sgt_names.specs.Log.{value_at}
+use Rattle.sgt_names.specs.declared.entry.Entry.TheVariants as entry
+use Rattle.sgt_site.specs.State.{SiteState, version_at}
 use Rattle.sgt_names.specs.Draft.{look_of, touched_at, change_at, ChangesOnly}
 use Rattle.sgt_names.specs.declared.draft.Seen.{Seen}
 use Rattle.sgt_names.specs.declared.draft.Touch.{Touch}
@@ -26,3 +29,18 @@ IsOfActive old new = (new.tx ≡ old.tx) × (new.handle ≡ old.handle)
 -- and its draft as it was
 abbrev pub SameActive : Active → Active → Type 0
 SameActive old new = IsOfActive old new × (new.draft.touched ≡ old.draft.touched)
+
+-- a transaction has read the item at a site, which logged this read for it; its draft keeps the value and the version that the item had there,
+-- and is as it was elsewhere
+pub record ReadsAt (here : ℕ) (x : Name) (old new : Active) (before after : SiteState) : Type 0 where
+  pub same : IsOfActive old new
+  pub seen : Seen
+  pub value : value_at before.items before.entries x ≡ Some seen.value
+  pub version : seen.version ≡ version_at before.entries x
+  pub logged : after ≡ record before { entries = before.entries ++ entry.Read old.tx x seen.value ∷ [] }
+  pub kept : ChangesOnly old.draft.touched new.draft.touched (record {
+    site = here;
+    item = x;
+    seen = Some seen;
+    change = change_at old.draft.touched (here, x);
+  })

@@ -5,14 +5,16 @@ use Rattle.std.specs.Cmp.Lexicographic.{slice_cmp}
 use Rattle.sgt_names.specs.Name.{Name}
 use Rattle.sgt_names.specs.Ordered.{IsRisingBy}
 use Rattle.sgt_names.specs.declared.entry.Holding.{Holding}
-use Rattle.sgt_site.specs.State.{AreItems}
+use Rattle.sgt_site.specs.State.{SiteState, AreItems}
+use Rattle.sgt_site.specs.Refused.{RefusesRead}
+use Rattle.sgt_site.specs.declared.fault.SiteFault.{SiteFault}
 use Rattle.sgt_site.specs.declared.fault.SiteFault.TheVariants as site
 use Rattle.sgt_certifier.specs.Certifier.{State}
 use Rattle.sgt_certifier.specs.History.{Request}
 use Rattle.sgt_certifier.specs.Kept.{IsTold}
 use Rattle.sgt_certifier.specs.declared.call.CertifierFault.{CertifierFault}
 use Rattle.sgt_certifier.specs.declared.call.CertifierFault.TheVariants as certifier
-use Rattle.sgt_agreed.specs.Fault.{of_certifier}
+use Rattle.sgt_agreed.specs.Fault.{of_site, of_certifier}
 use Rattle.sgt_agreed.specs.declared.fault.ServiceFault.{ServiceFault}
 use Rattle.sgt_agreed.specs.declared.fault.ServiceFault.TheVariants.{Memory, Site, Certifier, NotPledged}
 
@@ -62,6 +64,10 @@ abbrev pub IsOfChange : ServiceFault → Type 0
 IsOfChange (Site site.UnknownItem) = Unit {0}
 IsOfChange Memory = Unit {0}
 IsOfChange _ = ⊥
+
+-- the site refuses the read, and its fault is handed on
+abbrev pub IsToldOfRead : SiteState → ℕ → Name → ServiceFault → Type 0
+IsToldOfRead s tx x f = (told : SiteFault) × RefusesRead s tx x told × (f ≡ of_site told)
 
 -- what a site may refuse a read for, and a pledge
 abbrev pub IsOfRead : ServiceFault → Type 0

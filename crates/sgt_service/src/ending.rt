@@ -180,6 +180,7 @@ impl<L: Ledger> Service<L> {
                 return Err(Stop::Undecided(fault));
             }
         };
+        let blocks = pledges.spend(&guarded.certifier, active.tx);
         gate.arrive(worker, Place::InStep);
         if let Err(Lost { site }) = self.end_all(
             rt,
@@ -187,7 +188,7 @@ impl<L: Ledger> Service<L> {
             seat,
             active,
             ticket.verdict,
-            pledges,
+            blocks,
             worker,
             gate,
         ) {
@@ -244,13 +245,14 @@ impl<L: Ledger> Service<L> {
                 return Err(Stop::Undecided(fault));
             }
         };
+        let blocks = pledges.spend(&guarded.certifier, active.tx);
         if let Err(Lost { site }) = self.end_all(
             rt,
             guarded,
             seat,
             active,
             Ending::Withdrawn,
-            pledges,
+            blocks,
             0,
             &NoGate,
         ) {

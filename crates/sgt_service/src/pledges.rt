@@ -1,21 +1,24 @@
-//! The pledges that a step took, one after another.
+//! The pledges that a step took, one after another, and the blocks that are written for them.
 
 use crate::active::Active;
+use crate::guarded::Guarded;
 use sgt_certifier::Certifier;
 use sgt_names::{SiteNo, Tx};
 use sgt_site::Site;
+use sgt_workers::Ending;
+use std::sync::ledger::Ledger;
 
 /// The pledges that a transaction took at those sites below a number that it touches, but for those from the first on that were given back.
-/// They can't be dropped: whoever has them gives each back at its site, or ends the transaction.
+/// They can't be dropped: whoever has them gives each back at its site, or owes the blocks of the transaction once it is decided.
 pub(crate) struct Pledges {
     given: usize,
     below: usize,
 }
 
 impl Pledges {
-    ghost use Rattle.std.specs.Prelude.{◌≡◌, ◌<◌, ◌+◌, [], None};
+    ghost use Rattle.std.specs.Prelude.{◌≡◌, ◌≢◌, ◌<◌, ◌+◌, [], None};
     ghost use Rattle.sgt_names.specs.Draft.{at_site};
-    ghost use Rattle.sgt_site.specs.State.{IsPledged};
+    ghost use Rattle.sgt_site.specs.State.{IsPledged, IsPledgedFor};
     ghost use Rattle.sgt_service.specs.Guarded.{IsDecided};
 
     /// None is taken yet.
@@ -32,11 +35,25 @@ impl Pledges {
         self.below
     }
 
-    /// That of the next site is taken, or the transaction doesn't touch it.
-    pub(crate) fn reach(&mut self, here: SiteNo)
-        requires { here ≡ self.old.below }
+    /// That of the next site was taken: it stands at the site that is lent, for the transaction's draft.
+    pub(crate) fn take(&mut self, site: &Site, active: &Active, here: SiteNo)
+        requires next { here ≡ self.old.below }
+        requires touched { at_site here active.now.draft.touched ≢ [] }
+        requires pledged { IsPledgedFor site.now active.now.tx active.now.draft.touched }
         ensures { (self.new.given ≡ self.old.given) × (self.new.below ≡ self.old.below + 1) }
     {
+        let _ = site;
+        let _ = active;
+        self.below = here.number() as usize + 1;
+    }
+
+    /// The next site isn't touched, and pledges nothing.
+    pub(crate) fn skip(&mut self, active: &Active, here: SiteNo)
+        requires next { here ≡ self.old.below }
+        requires untouched { at_site here active.now.draft.touched ≡ [] }
+        ensures { (self.new.given ≡ self.old.given) × (self.new.below ≡ self.old.below + 1) }
+    {
+        let _ = active;
         self.below = here.number() as usize + 1;
     }
 
@@ -62,19 +79,83 @@ impl Pledges {
         self.given = here.number() as usize + 1;
     }
 
-    /// The transaction is decided, and the blocks that end it spend them.
-    pub(crate) fn spend(self, certifier: &Certifier, tx: Tx)
-        requires { IsDecided certifier.now.state tx }
-    {
-        let Pledges { given: _, below: _ } = self;
-        let _ = certifier;
-        let _ = tx;
-    }
-
     /// All are given back.
     pub(crate) fn all_given(self)
         requires { self.given ≡ self.below }
     {
         let Pledges { given: _, below: _ } = self;
+    }
+
+    /// The transaction is decided, and its blocks spend them, which are owed from now on.
+    pub(crate) fn spend(self, certifier: &Certifier, tx: Tx) -> Blocks
+        requires whole { self.given ≡ 0 }
+        requires decided { IsDecided certifier.now.state tx }
+        ensures { (result.written ≡ 0) × (result.below ≡ self.below) }
+    {
+        let Pledges { given: _, below } = self;
+        let _ = certifier;
+        let _ = tx;
+        Blocks { written: 0, below }
+    }
+}
+
+/// The blocks that a decided transaction owes those sites below a number that it touches, but for those from the first on that were written.
+/// They can't be dropped: whoever has them writes each at its site, up to one that is found to have lost its pledge.
+pub(crate) struct Blocks {
+    written: usize,
+    below: usize,
+}
+
+impl Blocks {
+    ghost use Rattle.std.specs.Prelude.{◌≡◌, ◌≢◌, ◌<◌, ◌+◌, [], Some};
+    ghost use Rattle.sgt_names.specs.Draft.{at_site};
+    ghost use Rattle.sgt_service.specs.Pledges.{HasBlock};
+
+    /// The next one was written: it ends the log of the site that is lent.
+    pub(crate) fn write(&mut self, site: &Site, active: &Active, verdict: Ending, here: SiteNo)
+        requires next { here ≡ self.old.written }
+        requires below { self.old.written < self.old.below }
+        requires touched { at_site here active.now.draft.touched ≢ [] }
+        requires ended { HasBlock verdict active.now site.now }
+        ensures { (self.new.written ≡ self.old.written + 1) × (self.new.below ≡ self.old.below) }
+    {
+        let _ = site;
+        let _ = active;
+        let _ = verdict;
+        self.written = here.number() as usize + 1;
+    }
+
+    /// The next site isn't touched.
+    pub(crate) fn pass(&mut self, active: &Active, here: SiteNo)
+        requires next { here ≡ self.old.written }
+        requires below { self.old.written < self.old.below }
+        requires untouched { at_site here active.now.draft.touched ≡ [] }
+        ensures { (self.new.written ≡ self.old.written + 1) × (self.new.below ≡ self.old.below) }
+    {
+        let _ = active;
+        self.written = here.number() as usize + 1;
+    }
+
+    /// All are written.
+    pub(crate) fn all_written(self)
+        requires { self.written ≡ self.below }
+    {
+        let Blocks {
+            written: _,
+            below: _,
+        } = self;
+    }
+
+    /// The next site has lost its pledge, which is noted: no further one is written.
+    pub(crate) fn stop<L: Ledger>(self, guarded: &Guarded<L>, here: SiteNo)
+        requires next { here ≡ self.written }
+        requires noted { guarded.now.lost ≡ Some here }
+    {
+        let Blocks {
+            written: _,
+            below: _,
+        } = self;
+        let _ = guarded;
+        let _ = here;
     }
 }

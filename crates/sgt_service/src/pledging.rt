@@ -6,7 +6,7 @@ ghost use Rattle.sgt_names.specs.Draft.{at_site};
 
 use crate::active::Active;
 use crate::guarded::Guarded;
-use crate::pledges::Pledges;
+use crate::pledges::{Blocks, Pledges};
 use crate::seat::Seat;
 use crate::service::Service;
 use sgt_agreed::ServiceFault;
@@ -25,7 +25,7 @@ pub struct Lost {
 }
 
 impl<L: Ledger> Service<L> {
-    ghost use Rattle.std.specs.Prelude.{◌≡◌, ◌≢◌, ◌<◌, ◌≤◌, ◌+◌, ◌++◌, [], ℕ, false, Some, Err, IsTrue, IfOk, IfErr, IfSome, OnOk, OnErr, vec_len};
+    ghost use Rattle.std.specs.Prelude.{◌≡◌, ◌≢◌, ◌<◌, ◌≤◌, ◌+◌, ◌++◌, [], ℕ, List, false, Some, Err, IsTrue, IfOk, IfErr, IfSome, OnOk, OnErr, vec_len};
     ghost use Rattle.sgt_agreed.specs.declared.fault.ServiceFault.TheVariants.{NotPledged};
     ghost use Rattle.sgt_names.specs.Draft.{at_site};
     ghost use Rattle.sgt_workers.specs.declared.ticket.Ending.TheVariants.{Committed};
@@ -33,10 +33,12 @@ impl<L: Ledger> Service<L> {
     ghost use Rattle.sgt_certifier.specs.Kept.{Adds, IsExpected, changed_at};
     ghost use Rattle.sgt_certifier.specs.declared.call.Call.TheVariants as call;
     ghost use Rattle.sgt_service.specs.Counts.{AreCounted, only_at, with_others, blocks_of, below};
-    ghost use Rattle.sgt_service.specs.Guarded.{AwaitsInstalls, IsDecided, IsGatheredBelow, notes_at, notes_below};
-    ghost use Rattle.sgt_service.specs.Pledges.{IsWhole};
+    ghost use Rattle.sgt_service.specs.Guarded.{AwaitsInstalls, IsGathered, IsGatheredBelow, notes_at, notes_below};
+    ghost use Rattle.sgt_service.specs.Pledges.{IsWhole, TakesNext, WritesNext};
+    ghost use Rattle.sgt_site.specs.State.{SiteState};
+    ghost use Rattle.sgt_edges.specs.declared.edge.Edge.{Edge as AnEdge};
     ghost use Rattle.sgt_service.specs.Stops.{NotesLoss};
-    ghost use Rattle.sgt_service.specs.Undecided.{IsHeld, MayGather, IsUncommitted, IsUngathered, IsNotWithdrawn, IsUnpledged};
+    ghost use Rattle.sgt_service.specs.Undecided.{IsHeld, MayGather, IsUncommitted, IsUngathered, IsNotWithdrawn, IsUnpledged, RefusesGather};
 
     // The number of the site at this place.
     fn number_at(&self, place: usize) -> SiteNo
@@ -84,16 +86,38 @@ impl<L: Ledger> Service<L> {
         for place in 0..self.sites.len() {
             let here = self.number_at(place);
             if touches(active, here) {
-                // (the lock is given back before another site's is taken)
-                let pledged = self.sites[place].lock(rt).pledge(active.tx, &active.draft);
+                let pledged = self.pledge_at(rt, here, active, &mut pledges);
                 if let Err(fault) = pledged {
                     self.give_back(rt, active, pledges);
-                    return Err(ServiceFault::from(fault));
+                    return Err(fault);
                 }
+            } else {
+                pledges.skip(active, here);
             }
-            pledges.reach(here);
         }
         Ok(pledges)
+    }
+
+    // Pledges at a site, under its lock.
+    fn pledge_at<R: Wait>(
+        &self,
+        rt: &R,
+        here: SiteNo,
+        active: &Active,
+        pledges: &mut Pledges,
+    ) -> Result<(), ServiceFault>
+        requires place { here < vec_len self.now.sites }
+        requires next { here ≡ pledges.old.below }
+        requires touched { at_site here active.now.draft.touched ≢ [] }
+        ensures taken { OnOk result (TakesNext pledges.old pledges.new) }
+        ensures err { OnErr result (pledges.new ≡ pledges.old) }
+        ensures refused { IfErr result (IsUnpledged active.now) }
+    {
+        let mut guard = self.sites[here.number() as usize].lock(rt);
+        let site = &mut *guard;
+        site.pledge(active.tx, &active.draft)?;
+        pledges.take(site, active, here);
+        Ok(())
     }
 
     // Pledges a transaction that may be withdrawn at each of its sites.
@@ -180,25 +204,54 @@ impl<L: Ledger> Service<L> {
         for place in 0..self.sites.len() {
             let here = self.number_at(place);
             if touches(active, here) {
-                let gathered = guarded.gather(
+                let gathered = self.gather_at(
+                    rt,
                     alloc,
-                    &mut self.sites[place].lock(rt),
+                    guarded,
                     here,
                     active,
                     edges,
+                    &mut pledges,
                 );
                 if let Err(fault) = gathered {
                     self.give_back(rt, active, pledges);
                     return Err(guarded.noted(fault));
                 }
+            } else {
+                pledges.skip(active, here);
             }
-            pledges.reach(here);
         }
         Ok(pledges)
     }
 
-    // Writes the block of a transaction that is decided so at each site that its draft touches, which spends its pledges, and counts
-    // it. A site that has lost its pledge is noted, and no further block is written.
+    // Gathers the edges at a site, under its lock, and pledges there.
+    fn gather_at<R: Wait>(
+        &self,
+        rt: &R,
+        alloc: Global,
+        guarded: &Guarded<L>,
+        here: SiteNo,
+        active: &Active,
+        edges: &mut EdgeList,
+        pledges: &mut Pledges,
+    ) -> Result<(), ServiceFault>
+        requires place { here < vec_len self.now.sites }
+        requires next { here ≡ pledges.old.below }
+        requires touched { at_site here active.now.draft.touched ≢ [] }
+        ensures edges { OnOk result ((s : SiteState) × (more : List AnEdge) × (edges.new ≡ edges.old ++ more)
+            × IsGathered guarded.now.certifier.history active.now here s more) }
+        ensures taken { OnOk result (TakesNext pledges.old pledges.new) }
+        ensures err { OnErr result (pledges.new ≡ pledges.old) }
+        ensures refused { IfErr result (λ f. (s : SiteState) × RefusesGather guarded.now.certifier.history here s active.now f) }
+    {
+        let mut guard = self.sites[here.number() as usize].lock(rt);
+        let site = &mut *guard;
+        guarded.gather(alloc, site, here, active, edges)?;
+        pledges.take(site, active, here);
+        Ok(())
+    }
+
+    // Writes the block of a transaction that is decided so at each site that its draft touches, and counts it. A site that has lost its pledge is noted, and no further block is written.
     pub(crate) fn end_all<R: Wait, G: Gate>(
         &self,
         rt: &R,
@@ -206,14 +259,14 @@ impl<L: Ledger> Service<L> {
         seat: &mut Seat<L>,
         active: &Active,
         verdict: Ending,
-        pledges: Pledges,
+        blocks: Blocks,
         worker: usize,
         gate: &G,
     ) -> Result<(), Lost>
         requires awaits { verdict ≡ Committed
             → AwaitsInstalls guarded.old.certifier active.now.tx active.now.draft.touched 0 }
         requires sites { (site : ℕ) → vec_len self.now.sites ≤ site → at_site site active.now.draft.touched ≡ [] }
-        requires decided { IsDecided guarded.old.certifier.state active.now.tx }
+        requires owed { (blocks.written ≡ 0) × (blocks.below ≡ vec_len self.now.sites) }
         ensures step { guarded.new.certifier.state.step ≡ guarded.old.certifier.state.step }
         ensures share { (seat.new.share ≡ seat.old.share) × (seat.new.begun ≡ seat.old.begun) }
         ensures ok { OnOk result (AreCounted (λ site. with_others (blocks_of verdict active.now.draft.touched site))
@@ -227,13 +280,25 @@ impl<L: Ledger> Service<L> {
         ensures noted { IfErr result (λ e. guarded.new.lost ≡ Some e.site) }
         ensures touched { IfErr result (λ e. at_site e.site active.now.draft.touched ≢ []) }
     {
-        pledges.spend(&guarded.certifier, active.tx);
+        let mut blocks = blocks;
         for place in 0..self.sites.len() {
             let here = self.number_at(place);
-            if !self.end_one(rt, guarded, seat, here, active, verdict, worker, gate) {
+            if !self.end_one(
+                rt,
+                guarded,
+                seat,
+                here,
+                active,
+                verdict,
+                &mut blocks,
+                worker,
+                gate,
+            ) {
+                blocks.stop(guarded, here);
                 return Err(Lost { site: here });
             }
         }
+        blocks.all_written();
         Ok(())
     }
 
@@ -246,10 +311,12 @@ impl<L: Ledger> Service<L> {
         here: SiteNo,
         active: &Active,
         verdict: Ending,
+        blocks: &mut Blocks,
         worker: usize,
         gate: &G,
     ) -> bool
         requires place { here < vec_len self.now.sites }
+        requires next { (here ≡ blocks.old.written) × (blocks.old.written < blocks.old.below) }
         requires awaits { verdict ≡ Committed
             → AwaitsInstalls guarded.old.certifier active.now.tx active.now.draft.touched here }
         ensures awaits { IsTrue result → verdict ≡ Committed
@@ -264,13 +331,16 @@ impl<L: Ledger> Service<L> {
         ensures kept { IsTrue result → guarded.new.lost ≡ guarded.old.lost }
         ensures noted { result ≡ false → guarded.new.lost ≡ Some here }
         ensures touched { result ≡ false → at_site here active.now.draft.touched ≢ [] }
+        ensures written { IsTrue result → WritesNext blocks.old blocks.new }
+        ensures unwritten { result ≡ false → blocks.new ≡ blocks.old }
         ensures same { result ≡ false → seat.new.counts.items ≡ seat.old.counts.items }
     {
         let entries = block_at(active.draft.touched(), here, verdict);
         if entries == 0 {
+            blocks.pass(active, here);
             return true;
         }
-        if !self.end_at(rt, guarded, here, active, verdict, worker, gate) {
+        if !self.end_at(rt, guarded, here, active, verdict, blocks, worker, gate) {
             guarded.lose(here);
             return false;
         }
@@ -286,12 +356,17 @@ impl<L: Ledger> Service<L> {
         here: SiteNo,
         active: &Active,
         verdict: Ending,
+        blocks: &mut Blocks,
         worker: usize,
         gate: &G,
     ) -> bool
         requires place { here < vec_len self.now.sites }
+        requires next { (here ≡ blocks.old.written) × (blocks.old.written < blocks.old.below) }
         requires awaits { verdict ≡ Committed
             → AwaitsInstalls guarded.old.certifier active.now.tx active.now.draft.touched here }
+        requires touched { at_site here active.now.draft.touched ≢ [] }
+        ensures written { IsTrue result → WritesNext blocks.old blocks.new }
+        ensures unwritten { result ≡ false → blocks.new ≡ blocks.old }
         ensures awaits { IsTrue result → verdict ≡ Committed
             → AwaitsInstalls guarded.new.certifier active.now.tx active.now.draft.touched (here + 1) }
         ensures noted { IsTrue result → verdict ≡ Committed → Adds guarded.old.certifier
@@ -304,7 +379,11 @@ impl<L: Ledger> Service<L> {
         let mut guard = self.sites[here.number() as usize].lock(rt);
         let site = &mut *guard;
         gate.arrive(worker, Place::InInstall(here));
-        guarded.end(site, here, active, verdict)
+        if !guarded.end(site, here, active, verdict) {
+            return false;
+        }
+        blocks.write(site, active, verdict, here);
+        true
     }
 }
 

@@ -1,14 +1,16 @@
 //! Reads at a site, under its lock.
 
-ghost use Rattle.std.specs.Prelude.{◌≡◌, None, Some, IsTrue};
-ghost use Rattle.sgt_service.specs.Reads.{look_in, GainsRead};
+ghost use Rattle.std.specs.Prelude.{◌≡◌, None, Some, IsTrue, IfOk, IfErr, OnOk, OnErr};
+ghost use Rattle.sgt_names.specs.Draft.{change_at, ChangesOnly};
+ghost use Rattle.sgt_service.specs.Reads.{look_in, ReadsAt, SameActive};
+ghost use Rattle.sgt_service.specs.Refused.{IsToldOfRead};
 
 use crate::active::Active;
 use crate::seat::Seat;
 use crate::service::Service;
 use sgt_agreed::ServiceFault;
 use sgt_names::{Draft, Item, Seen, SiteNo, Value, changes_show_at_their_place};
-use sgt_site::SiteFault;
+use sgt_site::{Site, SiteFault};
 use sgt_workers::{Gate, NoGate, Place};
 use std::sync::Wait;
 use std::sync::ledger::Ledger;
@@ -85,33 +87,55 @@ impl<L: Ledger> Service<L> {
             return Err(ServiceFault::Site(SiteFault::UnknownItem));
         }
         active.draft.room()?;
-        let seen = self.read_site(rt, active, site, item, worker, gate)?;
+        let value = self.read_site(rt, active, site, item, worker, gate)?;
         gate.arrive(worker, Place::AfterRead(site));
         seat.count_read(site);
-        Ok(keep(&mut active.draft, site, item, seen))
+        Ok(value)
     }
 
-    // Reads at the site, under its lock, for a draft that has room for what is read.
-    #[tactic(auto, using(crate::proofs::Faults::read_told))]
+    // Reads at the site, under its lock, for a draft that has room for what is read, and keeps it there.
+    #[tactic(auto, using(crate::proofs::Faults::read_of))]
     fn read_site<R: Wait, G: Gate>(
         &self,
         rt: &R,
-        active: &Active,
+        active: &mut Active,
         site: SiteNo,
         item: Item,
         worker: usize,
         gate: &G,
-    ) -> Result<Seen, ServiceFault>
+    ) -> Result<Value, ServiceFault>
         requires item { HasItem self.now.names.items site item }
-        requires room { IsTrue active.now.draft.has_room }
+        requires room { IsTrue active.old.draft.has_room }
+        requires unread { look_in active.old.draft.touched site item ≡ None }
+        ensures value { IfOk result (λ v. look_in active.new.draft.touched site item ≡ Some v) }
+        ensures gained { OnOk result (GainsRead site item active.old.draft.touched active.new.draft.touched) }
+        ensures named { IsOfActive active.old active.new }
+        ensures err { OnErr result (SameActive active.old active.new) }
         ensures fault { IfErr result IsOfRead }
     {
         let mut guard = self.sites[site.number() as usize].lock(rt);
         let held = &mut *guard;
         gate.arrive(worker, Place::InRead(site));
-        let seen = held.read(active.tx, item)?;
-        Ok(seen)
+        read_held(held, active, site, item)
     }
+}
+
+// Reads at the site that is lent, for the transaction, and keeps what was read in its draft, which has room for it.
+fn read_held(
+    held: &mut Site,
+    active: &mut Active,
+    site: SiteNo,
+    item: Item,
+) -> Result<Value, ServiceFault>
+    requires room { IsTrue active.old.draft.has_room }
+    requires unread { look_in active.old.draft.touched site item ≡ None }
+    ensures read { OnOk result (ReadsAt site item active.old active.new held.old held.new) }
+    ensures value { IfOk result (λ v. look_in active.new.draft.touched site item ≡ Some v) }
+    ensures err { OnErr result ((held.new ≡ held.old) × SameActive active.old active.new) }
+    ensures refused { IfErr result (IsToldOfRead held.old active.old.tx item) }
+{
+    let seen = held.read(active.tx, item)?;
+    Ok(keep(&mut active.draft, site, item, seen))
 }
 
 #[tactic(auto, using(crate::proofs::Reading::seen_shows))]
@@ -119,7 +143,12 @@ impl<L: Ledger> Service<L> {
 fn keep(draft: &mut Draft, site: SiteNo, item: Item, seen: Seen) -> Value
     requires room { IsTrue draft.old.has_room }
     requires unread { look_in draft.old.touched site item ≡ None }
-    ensures gained { GainsRead site item draft.old.touched draft.new.touched }
+    ensures kept { ChangesOnly draft.old.touched draft.new.touched (record {
+      site = site;
+      item = item;
+      seen = Some seen;
+      change = change_at draft.old.touched (site, item);
+    }) }
     ensures value { look_in draft.new.touched site item ≡ Some result }
 {
     let Ok(()) = draft.seen(site, item, seen.value, seen.version) else {

@@ -1,4 +1,4 @@
-use Rattle.std.proofs.Common.{◌≡◌, ◌+◌, ◌++◌, ◌∙◌, subst, arith}
+use Rattle.std.proofs.Common.{rules, ◌≡◌, ◌+◌, ◌++◌, ◌∙◌, subst, arith}
 use Rattle.std.specs.Prelude.{vec_len}
 use Rattle.sgt_names.specs.Draft.{at_site}
 use Rattle.sgt_service.specs.Counts.{AreCounted, only_at, with_others, blocks_of}
@@ -23,6 +23,7 @@ loop-place-preserved g c =
           c.end_one.new.guarded.certifier.history c.loop-place.invariant.history
           (subst (λ n. c.end_one.new.guarded.certifier.history ≡ c.loop-place.guarded.certifier.history ++ notes_at verdict c.args.active.now n) here
           (one.history c.if-not-end_one.false));
+      owed = search rules;
       kept = one.kept c.if-not-end_one.false ∙ c.loop-place.invariant.kept;
       counts = gains_next (blocks_of verdict touched) c.loop-place.place c.args.seat.now.counts.items seat.counts.items c.end_one.new.seat.counts.items
           c.loop-place.invariant.counts

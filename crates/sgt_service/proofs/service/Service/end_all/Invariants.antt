@@ -12,6 +12,7 @@ invariant-loop-place g l = record {
   share : (l.seat.share ≡ l.fn.seat.share) × (l.seat.begun ≡ l.fn.seat.begun);
   within : l.place ≤ vec_len l.self.sites;
   history : l.guarded.certifier.history ≡ l.fn.guarded.certifier.history ++ notes_below l.verdict l.active l.place;
+  owed : (l.blocks.written ≡ l.place) × (l.blocks.below ≡ vec_len l.self.sites);
   kept : l.guarded.lost ≡ l.fn.guarded.lost;
   counts : AreCounted (λ s. with_others (below l.place (blocks_of l.verdict l.active.draft.touched) s)) l.fn.seat.counts.items l.seat.counts.items;
 }

@@ -1,4 +1,4 @@
-use Rattle.std.proofs.Common.{◌≡◌, ◌∙◌, ◌+◌, arith, sym, ap, subst}
+use Rattle.std.proofs.Common.{rules, ◌∙◌, ◌+◌, arith, sym, subst}
 use Rattle.sgt_certifier.specs.Kept.{Kept}
 use Rattle.sgt_service.specs.Guarded.{IsGathered, IsGatheredBelow}
 use Rattle.sgt_service.specs.Undecided.{RefusesGather}
@@ -9,9 +9,9 @@ use Rattle.sgt_service.proofs.service.Service.gather_all.Goals.{then-touches+in_
 pub returns-in-Err-clause-refused : goal.returns-in-Err-clause-refused
 returns-in-Err-clause-refused g c =
     let here = c.number_at-here.result in
-    let site = c.deref_mut.result.now in
+    let site = c.in-Err.ensures.refused.0 in
     let active = c.args.active.now in
-    let at_start = subst (λ (k : Kept). RefusesGather k.history here site active c.in-Err.fault) c.loop-place.invariant.certifier c.in-Err.ensures.refused in (
+    let at_start = subst (λ (k : Kept). RefusesGather k.history here site active c.in-Err.fault) c.loop-place.invariant.certifier c.in-Err.ensures.refused.1 in (
       here,
       site,
       omega (arith, c.number_at-here.ensures, c.loop-place-test.true),
@@ -30,15 +30,15 @@ loop-place-preserved g c =
     record {
       certifier = i.certifier;
       lost = i.lost;
-      given = c.reach.ensures.0 ∙ i.given;
-      below = c.reach.ensures.1 ∙ ap (λ n. n + 1) i.below;
+      given = search rules;
+      below = search rules;
       within = omega (arith, c.loop-place-test.true);
       edges = elim c.if-touches.branch [
         | then-touches+in_default w ↦
             let e = w.in_default.ensures.edges in
-            gathered_some history active place here before c.if-touches.edges w.gather-gathered.new.site c.number_at-here.ensures
+            gathered_some history active place here before c.if-touches.edges e.0 c.number_at-here.ensures
             (c.touches.ensures.some w.if-touches.true) i.edges
-            (e.0, w.edges-is ∙ e.1, subst (λ (k : Kept). IsGathered k.history active here w.gather-gathered.new.site e.0) i.certifier e.2)
+            (e.1, w.edges-is ∙ e.2, subst (λ (k : Kept). IsGathered k.history active here e.0 e.1) i.certifier e.3)
         | else-touches w ↦
             subst (λ edges. IsGatheredBelow history active (place + 1) edges) (sym w.edges-is)
             (gathered_none history active place here before c.number_at-here.ensures (c.touches.ensures.none w.if-touches.false) i.edges)
