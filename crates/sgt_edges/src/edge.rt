@@ -68,15 +68,4 @@ impl EdgeList {
     {
         self.edges.as_slice()
     }
-
-    /// Gives the room back that isn't used, where there is memory for a copy: a block cut short would leave a hole behind it, too
-    /// small for the next list.
-    pub fn shrink(&mut self)
-        ensures { self.new ≡ self.old }
-    {
-        let alloc = *self.edges.allocator();
-        if let Ok(exact) = Vec::from_slice(alloc, self.edges.as_slice()) {
-            self.edges = exact;
-        }
-    }
 }

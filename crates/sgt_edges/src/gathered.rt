@@ -4,7 +4,7 @@ ghost use Rattle.std.specs.Prelude.{◌≡◌, ◌↔◌, ◌+◌, ◌≤◌, �
 ghost use Rattle.sgt_site.specs.State.{IsSite};
 ghost use Rattle.sgt_edges.specs.Edges.{IsGiven, StandsForAll, SeesTooNew, RefusesEdges};
 ghost use Rattle.sgt_edges.specs.declared.edge.Edge.{Edge as AnEdge};
-ghost use Rattle.sgt_edges.specs.private.Gathered.{IsTooNew, IsNear, IsBetween, AddsAll, FromWriter, ToWriter, FromReader, IsOfRead, IsOfChange};
+ghost use Rattle.sgt_edges.specs.private.Gathered.{AreWriters, IsTooNew, IsNear, IsBetween, AddsAll, FromWriter, ToWriter, FromReader, IsOfRead, IsOfChange};
 
 use crate::edge::{Edge, EdgeList};
 use crate::fault::EdgeFault;
@@ -88,17 +88,20 @@ fn add_edges(
     if touch.site != here {
         return Ok(());
     }
-    add_of_read(edges, site, touch, me)?;
-    add_of_change(edges, site, touch, me)
+    let writers = writers_at(site, touch.item);
+    add_of_read(edges, site, touch, writers, me)?;
+    add_of_change(edges, site, touch, writers, me)
 }
 
-// Adds the edges of a touched item's read, if there is one.
+// Adds the edges of a touched item's read, if there is one. The item has these writers.
 fn add_of_read(
     edges: &mut EdgeList,
     site: &Site,
     touch: &Touch,
+    writers: &[Writer],
     me: Handle,
 ) -> Result<(), AllocError>
+    requires writers { AreWriters site.now touch.now.item writers.now }
     requires here { touch.now.site ≡ site.now.number }
     requires seen { IsTooNew site.now touch.now → ⊥ }
     ensures { OnOk result (AddsAll (IsOfRead site.now touch.now me) edges.old edges.new) }
@@ -106,26 +109,29 @@ fn add_of_read(
     let Some(seen) = touch.seen else {
         return Ok(());
     };
-    let before = in_front(site, touch.item, seen.version);
+    let before = in_front(writers, seen.version);
     add_before(edges, touch, Kind::Wr, before, me)?;
-    add_after(edges, touch, behind(site, touch.item, seen.version), me)
+    add_after(edges, touch, behind(writers, seen.version), me)
 }
 
-// Adds the edges of a touched item's change, if there is one.
+// Adds the edges of a touched item's change, if there is one. The item has these writers.
 fn add_of_change(
     edges: &mut EdgeList,
     site: &Site,
     touch: &Touch,
+    writers: &[Writer],
     me: Handle,
 ) -> Result<(), AllocError>
+    requires { AreWriters site.now touch.now.item writers.now }
     ensures { OnOk result (AddsAll (IsOfChange site.now touch.now me) edges.old edges.new) }
 {
     let Some(change) = touch.change else {
         return Ok(());
     };
-    let before = changes_before(site, touch.item, change);
+    let before = changes_before(site, touch.item, writers, change);
     add_before(edges, touch, Kind::Ww, before, me)?;
-    add_readers(edges, touch, reads_before(site, touch.item, change), me)
+    let readers = reads_before(site, touch.item, writers.len() as u64, change);
+    add_readers(edges, touch, readers, me)
 }
 
 // Adds the edges of this kind from writers.

@@ -2,19 +2,19 @@
 //! behind a version, and those that a change follows.
 
 ghost use Rattle.std.specs.Prelude.{◌≡◌, ◌↔◌, ◌≤◌, ℕ, length, AllPairs, Contains};
-ghost use Rattle.sgt_site.specs.State.{IsSite, IsReader, IsVersionWritten, version_at, writers_of};
+ghost use Rattle.sgt_names.specs.Name.{Name};
+ghost use Rattle.sgt_site.specs.State.{SiteState, IsSite, IsReader, IsVersionWritten, version_at, writers_of};
 ghost use Rattle.sgt_site.specs.declared.cell.Reader.{Reader as CommittedReader};
 ghost use Rattle.sgt_site.specs.declared.cell.Writer.{Writer as CommittedWriter};
 ghost use Rattle.sgt_edges.specs.Neighbours.{IsInFront, IsBehind, IsLastWrite};
-ghost use Rattle.sgt_edges.specs.private.Gathered.{IsRunLength, ChangesBefore, ReadsBefore};
+ghost use Rattle.sgt_edges.specs.private.Gathered.{AreWriters, IsRunLength, ChangesBefore, ReadsBefore};
 
 use sgt_names::{Change, Item};
 use sgt_site::{Reader, Site, Writer};
 
 /// The writers of the item. One that isn't at the site has none.
 pub(crate) fn writers_at(site: &Site, item: Item) -> &[Writer]
-    ensures writers { result.now ≡ writers_of site.now.installed site.now.entries item }
-    ensures versions { length result.now ≡ version_at site.now.entries item }
+    ensures writers { AreWriters site.now item result.now }
     ensures site { IsSite site.now }
 {
     match site.writers(item) {
@@ -38,6 +38,7 @@ fn version_written_at(site: &Site, item: Item) -> u64
 fn readers_at(site: &Site, item: Item) -> &[Reader]
     ensures readers { (r : CommittedReader) → Contains result.now r ↔ IsReader site.now.installed site.now.entries item r }
     ensures by_version { AllPairs (λ a b. a.version ≤ b.version) result.now }
+    ensures site { IsSite site.now }
 {
     match site.readers(item) {
         Ok(readers) => readers,
@@ -45,12 +46,14 @@ fn readers_at(site: &Site, item: Item) -> &[Reader]
     }
 }
 
-/// The writers directly in front of a version: the increments of the run there, or the write at its beginning where it is empty.
-pub(crate) fn in_front(site: &Site, item: Item, version: u64) -> &[Writer]
-    requires { version ≤ version_at site.now.entries item }
-    ensures { (w : CommittedWriter) → Contains result.now w ↔ ((k : ℕ) × IsInFront site.now item version k w) }
+/// Of an item's writers those directly in front of a version: the increments of the run there, or the write at its beginning where
+/// it is empty.
+pub(crate) fn in_front(writers: &[Writer], version: u64) -> &[Writer]
+    requires { version ≤ length writers.now }
+    ensures { (s : SiteState) (x : Name) → AreWriters s x writers.now
+        → (w : CommittedWriter) → Contains result.now w ↔ ((k : ℕ) × IsInFront s x version k w) }
 {
-    let before = &writers_at(site, item)[..version as usize];
+    let before = &writers[..version as usize];
     let written = last_written(before);
     if written < before.len() {
         &before[written..]
@@ -69,12 +72,13 @@ fn last_written(writers: &[Writer]) -> usize
     }
 }
 
-/// The writers from a version on, up to and with the next write.
-pub(crate) fn behind(site: &Site, item: Item, version: u64) -> &[Writer]
-    requires { version ≤ version_at site.now.entries item }
-    ensures { (w : CommittedWriter) → Contains result.now w ↔ ((k : ℕ) × IsBehind site.now item version k w) }
+/// Of an item's writers those from a version on, up to and with the next write.
+pub(crate) fn behind(writers: &[Writer], version: u64) -> &[Writer]
+    requires { version ≤ length writers.now }
+    ensures { (s : SiteState) (x : Name) → AreWriters s x writers.now
+        → (w : CommittedWriter) → Contains result.now w ↔ ((k : ℕ) × IsBehind s x version k w) }
 {
-    let after = &writers_at(site, item)[version as usize..];
+    let after = &writers[version as usize..];
     let run = run_length(after);
     if run < after.len() {
         &after[..run + 1]
@@ -93,34 +97,40 @@ fn run_length(writers: &[Writer]) -> usize
     }
 }
 
-/// The writers that a change has its edges from: for a write those directly in front of it, for an increment the last write.
-pub(crate) fn changes_before(site: &Site, item: Item, change: Change) -> &[Writer]
+/// Of the item's writers those that a change has its edges from: for a write those directly in front of it, for an increment the
+/// last write.
+pub(crate) fn changes_before<'a>(
+    site: &Site,
+    item: Item,
+    writers: &'a [Writer],
+    change: Change,
+) -> &'a [Writer]
+    requires { AreWriters site.now item writers.now }
     ensures { (w : CommittedWriter) → Contains result.now w ↔ ChangesBefore site.now item change w }
 {
     match change {
-        Change::Put(_) => in_front(site, item, writers_at(site, item).len() as u64),
-        Change::Add(_) => last_write(site, item),
+        Change::Put(_) => in_front(writers, writers.len() as u64),
+        Change::Add(_) => last_write(site, item, writers),
     }
 }
 
-// The last write of the item, if there is one.
-fn last_write(site: &Site, item: Item) -> &[Writer]
+// Of the item's writers the last one that is a write, if there is one.
+fn last_write<'a>(site: &Site, item: Item, writers: &'a [Writer]) -> &'a [Writer]
+    requires { AreWriters site.now item writers.now }
     ensures { (w : CommittedWriter) → Contains result.now w ↔ ((k : ℕ) × IsLastWrite site.now item k w) }
 {
     let written = version_written_at(site, item) as usize;
-    &writers_at(site, item)[written.saturating_sub(1)..written]
+    &writers[written.saturating_sub(1)..written]
 }
 
 /// The readers that a change has its edges from: for a write those of the present version, for an increment those since the last
 /// write.
-pub(crate) fn reads_before(site: &Site, item: Item, change: Change) -> &[Reader]
+pub(crate) fn reads_before(site: &Site, item: Item, version: u64, change: Change) -> &[Reader]
+    requires { version ≡ version_at site.now.entries item }
     ensures { (r : CommittedReader) → Contains result.now r ↔ ReadsBefore site.now item change r }
 {
     match change {
-        Change::Put(_) => readers_since(
-            readers_at(site, item),
-            writers_at(site, item).len() as u64,
-        ),
+        Change::Put(_) => readers_since(readers_at(site, item), version),
         Change::Add(_) => readers_since(readers_at(site, item), version_written_at(site, item)),
     }
 }

@@ -42,8 +42,7 @@ fn keeps_the_order(alloc: Global, wanted: &[Edge]) -> bool {
 fn edges_in_the_order_of_adding(rt: HostRuntime) -> Result<(), Fail> {
     let [there, back] = both_ways()?;
     assert!(rt; keeps_the_order(rt.alloc(), &[there, back]));
-    let mut same = EdgeList::from_vec(vec![in rt.alloc(); there, back]?);
-    same.shrink();
+    let same = EdgeList::from_vec(vec![in rt.alloc(); there, back]?);
     assert!(rt; same.as_slice() == [there, back].as_slice());
     Ok(())
 }

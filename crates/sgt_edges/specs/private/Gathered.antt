@@ -8,7 +8,7 @@ use Rattle.sgt_names.specs.declared.entry.Change.TheVariants.{Put, Add}
 use Rattle.sgt_names.specs.declared.entry.Kind.{Kind}
 use Rattle.sgt_names.specs.declared.entry.Kind.TheVariants.{Wr, Rw, Ww}
 use Rattle.sgt_arena.specs.declared.handle.Handle.{Handle}
-use Rattle.sgt_site.specs.State.{SiteState, version_at}
+use Rattle.sgt_site.specs.State.{SiteState, version_at, writers_of}
 use Rattle.sgt_site.specs.declared.cell.Reader.{Reader}
 use Rattle.sgt_site.specs.declared.cell.Writer.{Writer}
 use Rattle.sgt_edges.specs.Edges.{HasReader}
@@ -41,6 +41,10 @@ ToWriter t me w e = IsBetween t Rw me w.handle e
 
 abbrev pub FromReader : Touch → Handle → Reader → Edge → Type 0
 FromReader t me r e = IsBetween t Rw r.handle me e
+
+-- these are the writers of the item, one for each version
+abbrev pub AreWriters : SiteState → Name → List Writer → Type 0
+AreWriters s x writers = (writers ≡ writers_of s.installed s.entries x) × (length writers ≡ version_at s.entries x)
 
 -- so many of the writers, those at the front, are increments, and the next one writes, if there is one
 pub record IsRunLength (ws : List Writer) (n : ℕ) : Type 0 where

@@ -5,13 +5,13 @@ use Rattle.sgt_edges.proofs.Slices.{behind-slice}
 use Rattle.sgt_edges.proofs.runs.behind.Goals as goal
 
 pub returns-then-run-after : goal.returns-then-run-after
-returns-then-run-after c = λ w.
+returns-then-run-after c = λ s x are w.
     let run = rw take_rest at c.run_length-run.ensures in
-    rw take_rest (behind-slice c.args.site.now c.args.item c.writers_at.result.now c.writers_at.ensures.writers c.args.version _ _ run (λ k le lt. omega (arith, le)) (λ k lt. omega (arith, lt)) w)
+    rw take_rest (behind-slice s x c.args.writers.now are.0 c.args.version _ _ run (λ k le lt. omega (arith, le)) (λ k lt. omega (arith, lt)) w)
 
 pub returns-else-run-after : goal.returns-else-run-after
-returns-else-run-after c = λ w.
+returns-else-run-after c = λ s x are w.
     let run = rw take_rest at c.run_length-run.ensures in
     let all = rw take_rest at c.if-run-after.false in
-    let after = drop c.args.version c.writers_at.result.now in
-    rw (take_rest, sym (take-length after)) (behind-slice c.args.site.now c.args.item c.writers_at.result.now c.writers_at.ensures.writers c.args.version _ (length after) run (λ k le lt. lt) (λ k lt. omega (arith, lt, all)) w)
+    let after = drop c.args.version c.args.writers.now in
+    rw (take_rest, sym (take-length after)) (behind-slice s x c.args.writers.now are.0 c.args.version _ (length after) run (λ k le lt. lt) (λ k lt. omega (arith, lt, all)) w)

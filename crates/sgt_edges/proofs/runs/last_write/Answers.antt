@@ -3,5 +3,5 @@ use Rattle.sgt_edges.proofs.runs.last_write.Goals as goal
 
 pub returns : goal.returns
 returns c = λ w.
-    let last = rw (← c.writers_at.ensures.writers) at c.version_written_at-written.ensures.version in
-    rw c.saturating_sub.ensures (last-slice c.args.site.now c.args.item c.writers_at.result.now c.writers_at.ensures.writers _ last c.writers_at.ensures.versions w)
+    let last = rw (← c.requires.0) at c.version_written_at-written.ensures.version in
+    rw c.saturating_sub.ensures (last-slice c.args.site.now c.args.item c.args.writers.now c.requires.0 _ last c.requires.1 w)
