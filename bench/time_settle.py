@@ -73,11 +73,11 @@ fn decide(alloc: Global, certifier: &mut Certifier, site: &mut Site, one: &Try) 
         Decided::Committed { number } => {
             site.install(one.tx, one.handle, &one.draft)?;
             certifier.installed(one.tx, site.number(), &one.draft)?;
-            Ticket { number, tx: one.tx, verdict: Ending::Committed }
+            Ticket { number: u64::from(number), tx: one.tx, verdict: Ending::Committed }
         }
         Decided::Refused { number, .. } => {
             site.refuse(one.tx, &one.draft)?;
-            Ticket { number, tx: one.tx, verdict: Ending::Refused }
+            Ticket { number: u64::from(number), tx: one.tx, verdict: Ending::Refused }
         }
     };
     certifier.finish_step(one.tx)?;
