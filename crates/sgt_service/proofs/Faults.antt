@@ -18,7 +18,7 @@ use Rattle.sgt_agreed.specs.Fault.{of_site, of_certifier}
 use Rattle.sgt_agreed.specs.declared.fault.ServiceFault.{ServiceFault}
 use Rattle.sgt_agreed.specs.declared.fault.ServiceFault.TheVariants as fault
 use Rattle.sgt_service.specs.Refused.{IsOfBegin, IsOfCall, IsOfRead, IsOfWithdraw, IsOfCommit, IsRefusedBy, IsToldOfRead}
-use Rattle.sgt_service.specs.Undecided.{RefusesActive, RefusesGather, IsUncommitted, IsNotWithdrawn, at_first, unexpected, beyond, ungathered, undecided, held_back, absent, unpledged, declined}
+use Rattle.sgt_service.specs.Undecided.{RefusesActive, RefusesGather, RefusesPledgeAt, IsUncommitted, IsNotWithdrawn, at_first, unexpected, beyond, ungathered, undecided, held_back, absent, unpledged, declined}
 use Rattle.sgt_service.specs.declared.active.Active.{Active}
 
 -- ---- what a site refuses
@@ -31,8 +31,11 @@ read_told s tx x site.PledgeOpen r = tt
 read_told s tx x site.Memory r = tt
 read_told s tx x _ r = absurd r
 
-pub read_of : (s : SiteState) (tx : ℕ) (x : Name) (f : ServiceFault) → IsToldOfRead s tx x f → IsOfRead f
-read_of s tx x f r = subst IsOfRead (sym r.2) (read_told s tx x r.0 r.1)
+pub read_of : (here : ℕ) (s : SiteState) (tx : ℕ) (x : Name) (f : ServiceFault) → IsToldOfRead here s tx x f → IsOfRead f
+read_of here s tx x f r = elim r [
+  | inl other ↦ subst IsOfRead (sym other.1) tt
+  | inr told ↦ subst IsOfRead (sym told.1.2) (read_told s tx x told.1.0 told.1.1)
+]
 
 pledge_told : (s : SiteState) (tx : ℕ) (touched : List Touch) (f : SiteFault) → RefusesPledge s tx touched f → IsOfWithdraw (of_site f)
 pledge_told s tx touched site.UnknownItem r = tt
@@ -41,6 +44,12 @@ pledge_told s tx touched site.PledgeOpen r = tt
 pledge_told s tx touched site.DraftDiffers r = tt
 pledge_told s tx touched site.Memory r = tt
 pledge_told s tx touched _ r = absurd r
+
+pledge_at_told : (here : ℕ) (s : SiteState) (active : Active) (f : ServiceFault) → RefusesPledgeAt here s active f → IsOfWithdraw f
+pledge_at_told here s active f r = elim r [
+  | inl other ↦ subst IsOfWithdraw (sym other.1) tt
+  | inr told ↦ subst IsOfWithdraw (sym told.1.2) (pledge_told s active.tx active.draft.touched told.1.0 told.1.1)
+]
 
 gather_told : (history : List Call) (here : ℕ) (s : SiteState) (active : Active) (f : ServiceFault) → RefusesGather history here s active f → IsOfCommit f
 gather_told history here s active (fault.NotPledged number) r = tt
@@ -105,7 +114,7 @@ commit_told sites lost k active f (undecided edges g may e r) = subst IsOfCommit
 pub withdraw_told : (sites : ℕ) (lost : Option ℕ) (k : Kept) (active : Active) (f : ServiceFault) → IsNotWithdrawn sites lost k active f → IsOfWithdraw f
 withdraw_told sites lost k active f (held_back g r) = active_withdraw lost k.state active g r
 withdraw_told sites lost k active f (absent here held past touches) = tt
-withdraw_told sites lost k active f (unpledged g held there r) = subst IsOfWithdraw (sym r.3) (pledge_told r.0 active.tx active.draft.touched r.1 r.2)
+withdraw_told sites lost k active f (unpledged g held there r) = pledge_at_told r.0 r.1 active g r.4
 withdraw_told sites lost k active f (declined g held there r) = subst IsOfWithdraw (sym r.2) (withdraw_by k.state active.handle r.0 r.1)
 
 -- ---- each is a fault of some call

@@ -1,6 +1,5 @@
 -- What is gathered, site after site.
-use Rattle.std.proofs.Common.{◌≡◌, ◌∙◌, ◌+◌, ℕ, List, [], ◌∷◌, ◌++◌, All, Some, refl, sym, ap, subst, false, not, ◌==◌, inl, inr, add-one, append-nil}
-use Rattle.std.proofs.lemmas.Bool.{cases_Bool, eqb-true, true≢false}
+use Rattle.std.proofs.Common.{◌≡◌, ◌∙◌, ◌+◌, ℕ, List, [], ◌∷◌, ◌++◌, All, Some, refl, sym, ap, subst, add-one, append-nil}
 use Rattle.sgt_names.specs.declared.draft.Touch.{Touch}
 use Rattle.sgt_names.specs.Draft.{at_site}
 use Rattle.sgt_edges.specs.declared.edge.Edge.{Edge}
@@ -10,13 +9,6 @@ use Rattle.sgt_certifier.specs.declared.call.Call.{Call}
 use Rattle.sgt_agreed.specs.Agreed.{VersionsAgree}
 use Rattle.sgt_service.specs.Guarded.{IsGathered, IsGatheredAt, IsGatheredBelow}
 use Rattle.sgt_service.specs.declared.active.Active.{Active}
-
--- a test that two numbers differ, which fails
-pub same_number : (n k : ℕ) → false ≡ not (n == k) → n ≡ k
-same_number n k e = elim (cases_Bool (n == k)) [
-  | inl hit ↦ eqb-true n k hit
-  | inr miss ↦ absurd (true≢false (sym (e ∙ ap not miss)))
-]
 
 -- under the pledge that was taken
 pub gathered_there : (history : List Call) (active : Active) (here : ℕ) (old new : SiteState) (more : List Edge) → old.number ≡ here → IsSite new

@@ -19,6 +19,6 @@ TakesNext old new = (new.given ≡ old.given) × (new.below ≡ old.below + 1)
 abbrev pub WritesNext : Blocks → Blocks → Type 0
 WritesNext old new = (new.written ≡ old.written + 1) × (new.below ≡ old.below)
 
--- the site's log ends with the block of a transaction that was decided so, which has spent its pledge
-abbrev pub HasBlock : Ending → Active → SiteState → Type 0
-HasBlock verdict active s = (before : SiteState) × IsEnded verdict active before s
+-- the log of the site of this number ends with the block of a transaction that was decided so, which has spent its pledge
+abbrev pub HasBlock : Ending → Active → ℕ → SiteState → Type 0
+HasBlock verdict active here s = (before : SiteState) × (before.number ≡ here) × IsEnded verdict active before s

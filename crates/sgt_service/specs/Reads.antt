@@ -30,9 +30,10 @@ IsOfActive old new = (new.tx ≡ old.tx) × (new.handle ≡ old.handle)
 abbrev pub SameActive : Active → Active → Type 0
 SameActive old new = IsOfActive old new × (new.draft.touched ≡ old.draft.touched)
 
--- a transaction has read the item at a site, which logged this read for it; its draft keeps the value and the version that the item had there,
+-- a transaction has read the item at the site of this number, which logged this read for it; its draft keeps the value and the version that the item had there,
 -- and is as it was elsewhere
 pub record ReadsAt (here : ℕ) (x : Name) (old new : Active) (before after : SiteState) : Type 0 where
+  pub number : before.number ≡ here
   pub same : IsOfActive old new
   pub seen : Seen
   pub value : value_at before.items before.entries x ≡ Some seen.value

@@ -1,5 +1,5 @@
 -- When the calls of a service are refused.
-use Rattle.std.specs.Prelude.{◌≡◌, ◌⊎◌, ℕ, List, All, Contains, Option, Some, None, slice_get}
+use Rattle.std.specs.Prelude.{◌≡◌, ◌≢◌, ◌⊎◌, ℕ, List, All, Contains, Option, Some, None, slice_get}
 use Rattle.std.specs.Ordering.{nat_cmp}
 use Rattle.std.specs.Cmp.Lexicographic.{slice_cmp}
 use Rattle.sgt_names.specs.Name.{Name}
@@ -65,9 +65,11 @@ IsOfChange (Site site.UnknownItem) = Unit {0}
 IsOfChange Memory = Unit {0}
 IsOfChange _ = ⊥
 
--- the site refuses the read, and its fault is handed on
-abbrev pub IsToldOfRead : SiteState → ℕ → Name → ServiceFault → Type 0
-IsToldOfRead s tx x f = (told : SiteFault) × RefusesRead s tx x told × (f ≡ of_site told)
+-- a read there that is refused: another site stands at the place, or the site of this number refuses it
+abbrev pub IsToldOfRead : ℕ → SiteState → ℕ → Name → ServiceFault → Type 0
+IsToldOfRead here s tx x f =
+    ((s.number ≢ here) × (f ≡ Site site.UnknownItem))
+    ⊎ ((s.number ≡ here) × ((told : SiteFault) × RefusesRead s tx x told × (f ≡ of_site told)))
 
 -- what a site may refuse a read for, and a pledge
 abbrev pub IsOfRead : ServiceFault → Type 0

@@ -1,5 +1,5 @@
 -- Why a transaction isn't decided, of a certifier that keeps this and has found a site to have lost its pledge or none.
-use Rattle.std.specs.Prelude.{◌≡◌, ◌≢◌, ◌<◌, ◌≤◌, ℕ, List, [], Option, Some, None}
+use Rattle.std.specs.Prelude.{◌≡◌, ◌≢◌, ◌<◌, ◌≤◌, ◌⊎◌, ℕ, List, [], Option, Some, None}
 use Rattle.sgt_names.specs.Draft.{at_site}
 use Rattle.sgt_edges.specs.declared.edge.Edge.{Edge}
 use Rattle.sgt_site.specs.State.{SiteState}
@@ -41,14 +41,20 @@ RefusesGather history here s active (Site f) =
 RefusesGather history here s active Memory = AgreesAt history here s × MayPledge s active.tx active.draft.touched
 RefusesGather history here s active _ = ⊥
 
+-- a pledge there that is refused: another site stands at the place, or the site of this number refuses it
+abbrev pub RefusesPledgeAt : ℕ → SiteState → Active → ServiceFault → Type 0
+RefusesPledgeAt here s active f =
+    ((s.number ≢ here) × (f ≡ NotPledged here))
+    ⊎ ((s.number ≡ here) × ((told : SiteFault) × RefusesPledge s active.tx active.draft.touched told × (f ≡ of_site told)))
+
 -- one of so many sites, which the transaction touches, refuses its gathering; and refuses its pledge
 abbrev pub IsUngathered : ℕ → List Call → Active → ServiceFault → Type 0
 IsUngathered sites history active f =
     (here : ℕ) × (s : SiteState) × (here < sites) × TouchesAt active here × RefusesGather history here s active f
 
-abbrev pub IsUnpledged : Active → ServiceFault → Type 0
-IsUnpledged active f =
-    (s : SiteState) × (told : SiteFault) × RefusesPledge s active.tx active.draft.touched told × (f ≡ of_site told)
+abbrev pub IsUnpledged : ℕ → Active → ServiceFault → Type 0
+IsUnpledged sites active f =
+    (here : ℕ) × (s : SiteState) × (here < sites) × TouchesAt active here × RefusesPledgeAt here s active f
 
 -- no site was found to have lost its pledge, and the certifier has the transaction's number under its handle
 abbrev pub IsHeld : Option ℕ → State → Active → Type 0
@@ -82,7 +88,7 @@ pub data IsNotWithdrawn (sites : ℕ) (lost : Option ℕ) (k : Kept) (active : A
   held_back : (f : ServiceFault) → RefusesActive lost k.state active f → IsNotWithdrawn sites lost k active f
   absent : (here : ℕ) → IsHeld lost k.state active → sites ≤ here → TouchesAt active here
       → IsNotWithdrawn sites lost k active (Site site.UnknownItem)
-  unpledged : (f : ServiceFault) → IsHeld lost k.state active → AreThere sites active → IsUnpledged active f
+  unpledged : (f : ServiceFault) → IsHeld lost k.state active → AreThere sites active → IsUnpledged sites active f
       → IsNotWithdrawn sites lost k active f
   declined : (f : ServiceFault) → IsHeld lost k.state active → AreThere sites active → HandsOn k.state (withdraw active.handle) f
       → IsNotWithdrawn sites lost k active f

@@ -105,11 +105,11 @@ impl<L: Ledger> Service<L> {
     /// Withdraws a transaction, in one step under the certifier's lock: its end is written at each site that it touches.
     ///
     /// The transaction comes back, with its pledges given back and nothing changed:
-    /// - V7: a site was found to have lost its pledge.
+    /// - V7: a site was found to have lost its pledge; or at the place of the site named stands another one.
     /// - V4 with C2 or C3, as the certifier refuses; with S1, where a site isn't there, or with S1, S3, S7 or S8, as a site refuses.
     /// - V3: there was no memory.
     ///
-    /// Where a site has lost the pledge that was taken it is as for `commit`.
+    /// Where a site has lost the pledge that was taken it is as for `commit`; and so where another stands in its place.
     pub fn withdraw<R: Wait>(
         &self,
         rt: &R,

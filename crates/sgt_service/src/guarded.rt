@@ -1,6 +1,6 @@
 //! What the certifier's lock keeps: the certifier, with the book of its decisions.
 
-ghost use Rattle.std.specs.Prelude.{◌≡◌, ◌++◌, OnOk};
+ghost use Rattle.std.specs.Prelude.{◌≡◌, ◌↔◌, ◌++◌, IsTrue, OnOk};
 ghost use Rattle.sgt_service.specs.Guarded.{decision_count, ticket_of};
 
 use crate::active::Active;
@@ -236,7 +236,7 @@ impl<L: Ledger> Guarded<L> {
         ensures err { OnErr result (site.new ≡ site.old) }
         ensures refused { IfErr result (RefusesGather self.now.certifier.history here site.old active.now) }
     {
-        if site.number() != here {
+        if !is_numbered(site, here) {
             return Err(ServiceFault::NotPledged(here));
         }
         let more = gather_agreed(
@@ -272,8 +272,8 @@ impl<L: Ledger> Guarded<L> {
         }
     }
 
-    /// Writes the block of a transaction that is decided so at a site, under both locks; an install is noted in the history. False
-    /// where the pledge is lost, and then nothing changes.
+    /// Writes the block of a transaction that is decided so at the site of this number, under both locks; an install is noted in the
+    /// history. False where the pledge is lost or another site stands in its place, and then nothing changes.
     pub(crate) fn end(
         &mut self,
         site: &mut Site,
@@ -286,15 +286,19 @@ impl<L: Ledger> Guarded<L> {
             → AwaitsInstalls self.new.certifier active.now.tx active.now.draft.touched (here + 1) }
         ensures noted { IsTrue result → verdict ≡ Committed → Adds self.old.certifier
             (call.Installed active.now.tx here (changed_at active.now.draft.touched here)) self.new.certifier }
+        ensures number { IsTrue result → site.old.number ≡ here }
         ensures ended { IsTrue result → IsEnded verdict active.now site.old site.new }
-        ensures stands { (verdict ≡ Withdrawn → ⊥)
+        ensures stands { site.old.number ≡ here → (verdict ≡ Withdrawn → ⊥)
             → IsPledgedFor site.old active.now.tx active.now.draft.touched → IsTrue result }
-        ensures stands_withdrawn { verdict ≡ Withdrawn → IsPledged site.old active.now.tx → IsTrue result }
+        ensures stands_withdrawn { site.old.number ≡ here → verdict ≡ Withdrawn → IsPledged site.old active.now.tx → IsTrue result }
         ensures quiet { (verdict ≡ Committed → ⊥) → self.new.certifier ≡ self.old.certifier }
         ensures lost { result ≡ false → (site.new ≡ site.old) × (self.new.certifier ≡ self.old.certifier) }
         ensures step { self.new.certifier.state.step ≡ self.old.certifier.state.step }
         ensures same { self.new.lost ≡ self.old.lost }
     {
+        if !is_numbered(site, here) {
+            return false;
+        }
         match verdict {
             Ending::Committed => self.install(site, here, active),
             Ending::Refused => site.refuse(active.tx, &active.draft).is_ok(),
@@ -325,6 +329,13 @@ impl<L: Ledger> Guarded<L> {
             Err(_) => unreachable!(),
         }
     }
+}
+
+// Whether this is the site of this number.
+pub(crate) fn is_numbered(site: &Site, here: SiteNo) -> bool
+    ensures { IsTrue result ↔ (site.now.number ≡ here) }
+{
+    site.number() == here
 }
 
 // Adds the edges of another list.

@@ -35,10 +35,11 @@ impl Pledges {
         self.below
     }
 
-    /// That of the next site was taken: it stands at the site that is lent, for the transaction's draft.
+    /// That of the next site was taken: it stands at the site that is lent, which is the one of this number, for the transaction's draft.
     pub(crate) fn take(&mut self, site: &Site, active: &Active, here: SiteNo)
         requires next { here ≡ self.old.below }
         requires touched { at_site here active.now.draft.touched ≢ [] }
+        requires number { site.now.number ≡ here }
         requires pledged { IsPledgedFor site.now active.now.tx active.now.draft.touched }
         ensures { (self.new.given ≡ self.old.given) × (self.new.below ≡ self.old.below + 1) }
     {
@@ -111,12 +112,12 @@ impl Blocks {
     ghost use Rattle.sgt_names.specs.Draft.{at_site};
     ghost use Rattle.sgt_service.specs.Pledges.{HasBlock};
 
-    /// The next one was written: it ends the log of the site that is lent.
+    /// The next one was written: it ends the log of the site that is lent, which is the one of this number.
     pub(crate) fn write(&mut self, site: &Site, active: &Active, verdict: Ending, here: SiteNo)
         requires next { here ≡ self.old.written }
         requires below { self.old.written < self.old.below }
         requires touched { at_site here active.now.draft.touched ≢ [] }
-        requires ended { HasBlock verdict active.now site.now }
+        requires ended { HasBlock verdict active.now here site.now }
         ensures { (self.new.written ≡ self.old.written + 1) × (self.new.below ≡ self.old.below) }
     {
         let _ = site;

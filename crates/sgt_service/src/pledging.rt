@@ -1,18 +1,20 @@
 //! The sites of a transaction, one after another, while the certifier's lock is held.
 
-ghost use Rattle.std.specs.Prelude.{◌≡◌, ◌≢◌, ◌↔◌, ◌<◌, [], false, All, IsTrue, count_by};
+ghost use Rattle.std.specs.Prelude.{◌≡◌, ◌≢◌, ◌↔◌, ◌<◌, [], false, All, IsTrue, IfErr, OnOk, OnErr, count_by};
 ghost use Rattle.sgt_service.specs.Counts.{block_length, is_at, is_changed_at};
 ghost use Rattle.sgt_names.specs.Draft.{at_site};
+ghost use Rattle.sgt_site.specs.State.{IsPledgedFor};
+ghost use Rattle.sgt_service.specs.Undecided.{RefusesPledgeAt};
 
 use crate::active::Active;
-use crate::guarded::Guarded;
+use crate::guarded::{Guarded, is_numbered};
 use crate::pledges::{Blocks, Pledges};
 use crate::seat::Seat;
 use crate::service::Service;
 use sgt_agreed::ServiceFault;
 use sgt_edges::EdgeList;
 use sgt_names::{Draft, SiteNo, Touch};
-use sgt_site::SiteFault;
+use sgt_site::{Site, SiteFault};
 use sgt_workers::{Ending, Gate, Place};
 use std::alloc::Global;
 use std::sync::Wait;
@@ -38,7 +40,7 @@ impl<L: Ledger> Service<L> {
     ghost use Rattle.sgt_site.specs.State.{SiteState};
     ghost use Rattle.sgt_edges.specs.declared.edge.Edge.{Edge as AnEdge};
     ghost use Rattle.sgt_service.specs.Stops.{NotesLoss};
-    ghost use Rattle.sgt_service.specs.Undecided.{IsHeld, MayGather, IsUncommitted, IsUngathered, IsNotWithdrawn, IsUnpledged, RefusesGather};
+    ghost use Rattle.sgt_service.specs.Undecided.{IsHeld, MayGather, IsUncommitted, IsUngathered, IsNotWithdrawn, IsUnpledged, RefusesGather, RefusesPledgeAt};
 
     // The number of the site at this place.
     fn number_at(&self, place: usize) -> SiteNo
@@ -80,7 +82,7 @@ impl<L: Ledger> Service<L> {
     // Pledges at each site that the draft touches. Where a site refuses, none of these pledges is left.
     fn pledge_all<R: Wait>(&self, rt: &R, active: &Active) -> Result<Pledges, ServiceFault>
         ensures below { IfOk result (IsWhole (vec_len self.now.sites)) }
-        ensures refused { IfErr result (IsUnpledged active.now) }
+        ensures refused { IfErr result (IsUnpledged (vec_len self.now.sites) active.now) }
     {
         let mut pledges = Pledges::none();
         for place in 0..self.sites.len() {
@@ -111,29 +113,31 @@ impl<L: Ledger> Service<L> {
         requires touched { at_site here active.now.draft.touched ≢ [] }
         ensures taken { OnOk result (TakesNext pledges.old pledges.new) }
         ensures err { OnErr result (pledges.new ≡ pledges.old) }
-        ensures refused { IfErr result (IsUnpledged active.now) }
+        ensures refused { IfErr result (λ f. (s : SiteState) × RefusesPledgeAt here s active.now f) }
     {
         let mut guard = self.sites[here.number() as usize].lock(rt);
         let site = &mut *guard;
-        site.pledge(active.tx, &active.draft)?;
+        pledge_held(site, here, active)?;
         pledges.take(site, active, here);
         Ok(())
     }
 
-    // Pledges a transaction that may be withdrawn at each of its sites.
+    // Pledges a transaction that may be withdrawn at each of its sites. Where another site stands in the place of one, that is noted.
     pub(crate) fn pledged<R: Wait>(
         &self,
         rt: &R,
-        guarded: &Guarded<L>,
+        guarded: &mut Guarded<L>,
         active: &Active,
     ) -> Result<Pledges, ServiceFault>
         ensures below { IfOk result (IsWhole (vec_len self.now.sites)) }
-        ensures held { OnOk result (IsHeld guarded.now.lost guarded.now.certifier.state active.now) }
-        ensures replays { Replays guarded.now.certifier.history guarded.now.certifier.state }
+        ensures held { OnOk result (IsHeld guarded.old.lost guarded.old.certifier.state active.now) }
+        ensures replays { Replays guarded.old.certifier.history guarded.old.certifier.state }
         ensures sites { OnOk result ((site : ℕ) → vec_len self.now.sites ≤ site → at_site site active.now.draft.touched ≡ []) }
-        ensures first { IfSome guarded.now.lost (λ site. result ≡ Err (NotPledged site)) }
-        ensures noted { IfErr result (λ f. (site : ℕ) → f ≡ NotPledged site → guarded.now.lost ≡ Some site) }
-        ensures refused { IfErr result (IsNotWithdrawn (vec_len self.now.sites) guarded.now.lost guarded.now.certifier active.now) }
+        ensures first { IfSome guarded.old.lost (λ site. result ≡ Err (NotPledged site)) }
+        ensures kept { OnOk result (guarded.new.lost ≡ guarded.old.lost) }
+        ensures noted { IfErr result (NotesLoss guarded.old.lost guarded.new.lost) }
+        ensures same { guarded.new.certifier ≡ guarded.old.certifier }
+        ensures refused { IfErr result (IsNotWithdrawn (vec_len self.now.sites) guarded.old.lost guarded.old.certifier active.now) }
     {
         if let Err(fault) = guarded.check(active) {
             return Err(fault);
@@ -143,7 +147,7 @@ impl<L: Ledger> Service<L> {
         }
         match self.pledge_all(rt, active) {
             Ok(pledges) => Ok(pledges),
-            Err(fault) => Err(fault),
+            Err(fault) => Err(guarded.noted(fault)),
         }
     }
 
@@ -348,7 +352,7 @@ impl<L: Ledger> Service<L> {
         true
     }
 
-    // Writes the block at a site, under its lock. False where it has lost the pledge.
+    // Writes the block at a site, under its lock. False where it has lost the pledge, or another site stands in its place.
     fn end_at<R: Wait, G: Gate>(
         &self,
         rt: &R,
@@ -385,6 +389,20 @@ impl<L: Ledger> Service<L> {
         blocks.write(site, active, verdict, here);
         true
     }
+}
+
+// Pledges at the site that is lent, if it is the one of this number.
+fn pledge_held(held: &mut Site, here: SiteNo, active: &Active) -> Result<(), ServiceFault>
+    ensures number { OnOk result (held.new.number ≡ here) }
+    ensures pledged { OnOk result (IsPledgedFor held.new active.now.tx active.now.draft.touched) }
+    ensures err { OnErr result (held.new ≡ held.old) }
+    ensures refused { IfErr result (RefusesPledgeAt here held.old active.now) }
+{
+    if !is_numbered(held, here) {
+        return Err(ServiceFault::NotPledged(here));
+    }
+    held.pledge(active.tx, &active.draft)?;
+    Ok(())
 }
 
 // Whether the transaction touches an item at the site.

@@ -6,6 +6,7 @@ ghost use Rattle.sgt_service.specs.Reads.{look_in, ReadsAt, SameActive};
 ghost use Rattle.sgt_service.specs.Refused.{IsToldOfRead};
 
 use crate::active::Active;
+use crate::guarded::is_numbered;
 use crate::seat::Seat;
 use crate::service::Service;
 use sgt_agreed::ServiceFault;
@@ -52,7 +53,7 @@ impl<L: Ledger> Service<L> {
     /// Reads an item. What the transaction wrote or read before is answered from its draft. Else the item is read and logged at
     /// its site, under the site's lock, and kept in the draft, for which there is room before the lock is taken.
     ///
-    /// - V4 with S1: the site or the item isn't there.
+    /// - V4 with S1: the site or the item isn't there, or another site stands in its place.
     /// - V3: there was no memory.
     /// - V4 with S2, S3 or S7, as the site refuses.
     ///
@@ -120,7 +121,7 @@ impl<L: Ledger> Service<L> {
     }
 }
 
-// Reads at the site that is lent, for the transaction, and keeps what was read in its draft, which has room for it.
+// Reads at the site that is lent, if it is the one of this number, for the transaction, and keeps what was read in its draft, which has room for it.
 fn read_held(
     held: &mut Site,
     active: &mut Active,
@@ -132,8 +133,11 @@ fn read_held(
     ensures read { OnOk result (ReadsAt site item active.old active.new held.old held.new) }
     ensures value { IfOk result (λ v. look_in active.new.draft.touched site item ≡ Some v) }
     ensures err { OnErr result ((held.new ≡ held.old) × SameActive active.old active.new) }
-    ensures refused { IfErr result (IsToldOfRead held.old active.old.tx item) }
+    ensures refused { IfErr result (IsToldOfRead site held.old active.old.tx item) }
 {
+    if !is_numbered(held, site) {
+        return Err(ServiceFault::Site(SiteFault::UnknownItem));
+    }
     let seen = held.read(active.tx, item)?;
     Ok(keep(&mut active.draft, site, item, seen))
 }

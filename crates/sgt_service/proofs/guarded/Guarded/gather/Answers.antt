@@ -1,6 +1,5 @@
-use Rattle.std.proofs.Common.{◌∙◌, sym}
 use Rattle.sgt_agreed.proofs.Agreeing.{given-back}
-use Rattle.sgt_service.proofs.Gathering.{gathered_there, same_number}
+use Rattle.sgt_service.proofs.Gathering.{gathered_there}
 use Rattle.sgt_service.proofs.guarded.Guarded.gather.Goals as goal
 
 pub returns-in-Ok-clause-edges : goal.returns-in-Ok-clause-edges
@@ -8,7 +7,7 @@ returns-in-Ok-clause-edges g c = (
   c.in_ok-more.more,
   c.in-Ok.ensures,
   gathered_there c.args.self.now.certifier.history c.args.active.now c.args.here c.args.site.now c.gather_agreed.new.site c.in_ok-more.more
-      (sym c.number.ensures.number ∙ same_number c.number.result c.args.here c.if-ne.ensures) c.items-items.ensures.site c.in_ok-more.ensures.agreed c.in_ok-more.ensures.pledged c.in_ok-more.ensures.given c.in_ok-more.ensures.stands,
+      (c.is_numbered.ensures.0 c.if-not-is_numbered.false) c.items-items.ensures.site c.in_ok-more.ensures.agreed c.in_ok-more.ensures.pledged c.in_ok-more.ensures.given c.in_ok-more.ensures.stands,
 )
 
 pub returns-clause-err : goal.returns-clause-err
