@@ -17,8 +17,8 @@ use sgt_names::{Draft, SiteNo, Touch};
 use sgt_site::{Site, SiteFault};
 use sgt_workers::{Ending, Gate, Place};
 use std::alloc::Global;
-use std::sync::Wait;
 use std::sync::ledger::Ledger;
+use std::sync::{MutexGuard, Wait};
 
 /// This site was found to have lost its pledge.
 #[derive(Clone, Copy)]
@@ -53,6 +53,13 @@ impl<L: Ledger> Service<L> {
         }
     }
 
+    // Takes the lock of the site at the place of this number.
+    pub(crate) fn lock_site<R: Wait>(&self, rt: &R, here: SiteNo) -> MutexGuard<'_, Site>
+        requires { here < vec_len self.now.sites }
+    {
+        self.sites[here.number() as usize].lock(rt)
+    }
+
     // Whether each site that the draft touches is there.
     #[tactic(auto, using(crate::proofs::Counting::none_above, crate::proofs::Counting::some_above))]
     fn has_sites(&self, draft: &Draft) -> bool
@@ -71,7 +78,7 @@ impl<L: Ledger> Service<L> {
         for place in 0..pledges.below() {
             let here = self.number_at(place);
             if touches(active, here) {
-                pledges.free(&mut self.sites[place].lock(rt), active.tx);
+                pledges.free(&mut self.lock_site(rt, here), active.tx);
             } else {
                 pledges.pass(active, here);
             }
@@ -115,7 +122,7 @@ impl<L: Ledger> Service<L> {
         ensures err { OnErr result (pledges.new ≡ pledges.old) }
         ensures refused { IfErr result (λ f. (s : SiteState) × RefusesPledgeAt here s active.now f) }
     {
-        let mut guard = self.sites[here.number() as usize].lock(rt);
+        let mut guard = self.lock_site(rt, here);
         let site = &mut *guard;
         pledge_held(site, here, active)?;
         pledges.take(site, active, here);
@@ -248,7 +255,7 @@ impl<L: Ledger> Service<L> {
         ensures err { OnErr result (pledges.new ≡ pledges.old) }
         ensures refused { IfErr result (λ f. (s : SiteState) × RefusesGather guarded.now.certifier.history here s active.now f) }
     {
-        let mut guard = self.sites[here.number() as usize].lock(rt);
+        let mut guard = self.lock_site(rt, here);
         let site = &mut *guard;
         guarded.gather(alloc, site, here, active, edges)?;
         pledges.take(site, active, here);
@@ -380,7 +387,7 @@ impl<L: Ledger> Service<L> {
         ensures step { guarded.new.certifier.state.step ≡ guarded.old.certifier.state.step }
         ensures same { guarded.new.lost ≡ guarded.old.lost }
     {
-        let mut guard = self.sites[here.number() as usize].lock(rt);
+        let mut guard = self.lock_site(rt, here);
         let site = &mut *guard;
         gate.arrive(worker, Place::InInstall(here));
         if !guarded.end(site, here, active, verdict) {

@@ -114,7 +114,7 @@ impl<L: Ledger> Service<L> {
         ensures err { OnErr result (SameActive active.old active.new) }
         ensures fault { IfErr result IsOfRead }
     {
-        let mut guard = self.sites[site.number() as usize].lock(rt);
+        let mut guard = self.lock_site(rt, site);
         let held = &mut *guard;
         gate.arrive(worker, Place::InRead(site));
         read_held(held, active, site, item)
