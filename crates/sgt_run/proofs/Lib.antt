@@ -2,6 +2,7 @@ pub mod Bundling
 pub mod Counts
 pub mod Doing
 pub mod Faults
+pub mod Keeping
 pub mod OneInput
 pub mod OneText
 pub mod Placing

@@ -80,7 +80,7 @@ full n past = min-eq_right past
 capped_is : (n : ℕ) → (capped n ≡ n) ⊎ ((2 ^ 64 - 1 ≤ n) × (capped n ≡ 2 ^ 64 - 1))
 capped_is n = elim (cases_lt n (2 ^ 64 - 1)) [ inl less ↦ inl (min-eq_left (omega (arith, less))) | inr past ↦ inr (past, full n past) ]
 
-capped_twice : (n : ℕ) → capped (capped n) ≡ capped n
+pub capped_twice : (n : ℕ) → capped (capped n) ≡ capped n
 capped_twice n = elim (capped_is n) [
   | inl small ↦ ap capped small
   | inr large ↦ ap capped large.1 ∙ (full (2 ^ 64 - 1) (omega arith) ∙ sym large.1)

@@ -1,7 +1,6 @@
 -- The tickets of the tries so far.
-use Rattle.std.proofs.Common.{◌≡◌, ◌≢◌, ◌∙◌, false, ◌≤◌, ◌<◌, ℕ, ◌+◌, List, [], ◌∷◌, ◌++◌, length, refl, sym, ap, arith, subst, subst₂, All, inl, inr}
-use Rattle.std.specs.Prelude.{Bool, ◌↔◌, ◌==◌, Option, Some, None, IfSome, IsSome, slice_get}
-use Rattle.std.proofs.lemmas.Bool.{cases_Bool}
+use Rattle.std.proofs.Common.{◌≡◌, ◌∙◌, false, ◌≤◌, ◌<◌, ℕ, ◌+◌, List, [], ◌∷◌, ◌++◌, length, refl, sym, ap, arith, subst, subst₂, All, inl, inr}
+use Rattle.std.specs.Prelude.{Bool, ◌↔◌, Option, None, IfSome}
 use Rattle.std.specs.List.{last_or}
 use Rattle.std.proofs.lemmas.List.{length-append}
 use Rattle.std.proofs.lemmas.List.Elements.{All-head, All-tail, All-push, All-nil}
@@ -16,11 +15,13 @@ use Rattle.sgt_service.specs.declared.active.Active.{Active}
 use Rattle.sgt_workers.specs.declared.ticket.Ticket.{Ticket}
 use Rattle.sgt_workers.specs.declared.ticket.Ending.TheVariants.{Withdrawn}
 use Rattle.sgt_agreed.specs.declared.counts.EntryCounts.{EntryCounts}
-use Rattle.sgt_service.specs.Counts.{AreCounted, only_at, with_read}
-use Rattle.sgt_service.specs.Seats.{CountsBegin, CountsEnd, SameSeat}
+use Rattle.sgt_agreed.specs.declared.fault.ServiceFault.{ServiceFault}
+use Rattle.sgt_service.specs.Counts.{AreCounted, blocks_of, with_others}
+use Rattle.sgt_service.specs.Seats.{CountsBegin, CountsEnd}
 use Rattle.sgt_service.specs.declared.seat.Seat.{Seat}
 use Rattle.sgt_run.specs.Operations.{DoesAll, Tries, TriesBy}
-use Rattle.sgt_run.specs.Tries.{AreTried, AreTries, CountsReads, CountsTry, IsRefused, IsTryOf, TriesAt}
+use Rattle.sgt_run.specs.Tries.{reads_at, with_reads, AreStopped, AreTried, AreTries, CountsReads, CountsTry, IsRefused, IsStopped, IsTryOf, TriesAt}
+use Rattle.sgt_run.proofs.Keeping.{reads_all}
 
 -- a ticket that isn't refused is the last
 pub tries_end : (tries : ℕ) (tickets : List Ticket) (t : Ticket) → All IsRefused tickets → length tickets < tries → (IsRefused t → ⊥)
@@ -79,51 +80,29 @@ tries_once ops first last all t sites before reads begun empty none same does wi
 
 -- ---- what tries do to a seat
 
-reads_same : (cs ds : List EntryCounts) → ds ≡ cs → CountsReads cs ds
-reads_same cs ds same = (ap length same, λ site c at. (c.reads, ap (λ xs. slice_get xs site) same ∙ at))
-
-pub reads_none : (cs : List EntryCounts) → CountsReads cs cs
-reads_none cs = reads_same cs cs refl
-
-pub reads_on : (cs ds es : List EntryCounts) → CountsReads cs ds → CountsReads ds es → CountsReads cs es
-reads_on cs ds es one next = (
-  next.0 ∙ one.0,
-  λ site c at. (
-      let mid = one.1 site c at in
-      let last = next.1 site (record c { reads = mid.0 }) mid.1 in
-      (last.0, last.1)),
-)
-
-reads_one : (n : ℕ) (cs ds : List EntryCounts) → AreCounted (only_at n with_read) cs ds → CountsReads cs ds
-reads_one n cs ds counted = (
-  counted.0,
-  λ site c at. elim (cases_Bool (site == n)) [
-    | inl hit ↦ ((with_read c).reads, rw hit at (counted.1 site c at))
-    | inr miss ↦ (c.reads, rw miss at (counted.1 site c at))
-  ],
-)
+-- two changes at each site, one after another
+counted_both : (f g : ℕ → EntryCounts → EntryCounts) (cs ds es : List EntryCounts) → AreCounted f cs ds → AreCounted g ds es
+    → AreCounted (λ site c. g site (f site c)) cs es
+counted_both f g cs ds es one next = (next.0 ∙ one.0, λ site c at. next.1 site (f site c) (one.1 site c at))
 
 module _ {L : Type 0} where
-  pub seat_reads : (old new : Seat L) → SameSeat old new → CountsReads old.counts.items new.counts.items
-  seat_reads old new same = reads_same old.counts.items new.counts.items same.1
-
-  -- a read that was kept before, or is logged
-  pub read_reads : (o : Option ℕ) (n : ℕ) (old new : Seat L) → (IsSome o → SameSeat old new)
-      → (o ≡ None → AreCounted (only_at n with_read) old.counts.items new.counts.items) → CountsReads old.counts.items new.counts.items
-  read_reads None n old new kept gained = reads_one n old.counts.items new.counts.items (gained refl)
-  read_reads (Some v) n old new kept gained = seat_reads old new (kept refl)
-
   -- a transaction that begins, reads and is ended
-  pub try_counts : (t : Ticket) (active : Active) (start begun read end : Seat L) → CountsBegin start begun
-      → (read.share ≡ begun.share) × (read.begun ≡ begun.begun) → CountsReads begun.counts.items read.counts.items
-      → CountsEnd t.verdict active read end → CountsTry t.verdict active.draft.touched start end
-  try_counts t active start begun read end begins same reads ends =
+  pub try_counts : (t : Ticket) (first last : Active) (start begun read end : Seat L) → CountsBegin start begun → first.draft.touched ≡ []
+      → (read.share ≡ begun.share) × (read.begun ≡ begun.begun)
+      → CountsReads first.draft.touched last.draft.touched begun.counts.items read.counts.items
+      → CountsEnd t.verdict last read end → CountsTry t.verdict last.draft.touched start end
+  try_counts t first last start begun read end begins empty same reads ends =
+      let touched = last.draft.touched in
       let parts : read.share.parts ≡ start.share.parts = (λ i. (same.0 i).parts) ∙ (λ i. (begins.0 i).parts) in
-      let amount : read.share.amount ≡ start.share.amount = (λ i. (same.0 i).amount) ∙ (λ i. (begins.0 i).amount) in (
+      let amount : read.share.amount ≡ start.share.amount = (λ i. (same.0 i).amount) ∙ (λ i. (begins.0 i).amount) in
+      let counted : AreCounted (λ site. with_reads (reads_at site touched)) start.counts.items read.counts.items =
+      reads_all touched start.counts.items read.counts.items
+      (subst (λ cs. CountsReads [] touched cs read.counts.items) begins.1 (subst (λ old. CountsReads old touched begun.counts.items read.counts.items) empty reads)) in (
         ends.3 ∙ (same.1 ∙ begins.2),
         ends.0 ∙ parts,
         ends.1 ∙ ap (λ n. n + 1) amount,
-        (read.counts.items, subst (λ cs. CountsReads cs read.counts.items) begins.1 reads, ends.2),
+        counted_both (λ site. with_reads (reads_at site touched)) (λ site. with_others (blocks_of t.verdict touched site)) start.counts.items
+            read.counts.items end.counts.items counted ends.2,
       )
 
   -- a try of the script by some transaction
@@ -136,3 +115,8 @@ module _ {L : Type 0} where
   tried_more ops [] t heard old mid new same tried = (new, (heard, subst (λ s. TriesAt ops t heard s new) same tried), refl)
   tried_more ops (u ∷ tickets) t heard old mid new before tried =
       (before.0, before.1, tried_more ops tickets t heard before.0 mid new before.2 tried)
+
+  -- a try without a ticket
+  pub stopped_behind : (ops : List Op) (tickets : List Ticket) (old mid new : Seat L) (f : ServiceFault) → All IsRefused tickets
+      → AreTried ops tickets old mid → IsStopped mid new f → AreStopped ops tickets old new f
+  stopped_behind ops tickets old mid new f refused tried stopped = (refused, (mid, tried, stopped))

@@ -1,8 +1,10 @@
 -- The tries of a script.
-use Rattle.std.specs.Prelude.{◌≡◌, ◌⊎◌, ◌<◌, ◌+◌, ℕ, List, [], ◌∷◌, ◌++◌, length, All, None, Some, IfSome, slice_get}
+use Rattle.std.specs.Prelude.{◌≡◌, ◌⊎◌, ◌<◌, ◌+◌, ℕ, zero, suc, List, [], ◌∷◌, ◌++◌, length, All, None, Some, IfSome, IsSome}
 use Rattle.std.specs.List.{last_or, range_with_len}
+use Rattle.sgt_names.specs.Draft.{at_site, kept_in}
 use Rattle.sgt_names.specs.declared.draft.Touch.{Touch}
 use Rattle.sgt_notation.specs.declared.script.Op.{Op}
+use Rattle.sgt_notation.specs.declared.script.Op.TheVariants.{Read}
 use Rattle.sgt_notation.specs.declared.script.Script.{Script}
 use Rattle.sgt_workers.specs.Answers.{jobs_of, IsAnswer}
 use Rattle.sgt_workers.specs.declared.ticket.Done.{Done}
@@ -12,7 +14,8 @@ use Rattle.sgt_workers.specs.declared.ticket.Ticket.{Ticket}
 use Rattle.sgt_agreed.specs.declared.counts.EntryCounts.{EntryCounts}
 use Rattle.sgt_agreed.specs.declared.fault.ServiceFault.{ServiceFault}
 use Rattle.sgt_agreed.specs.declared.fault.ServiceFault.TheVariants.{NotPledged}
-use Rattle.sgt_service.specs.Counts.{capped, AreCounted, with_others, blocks_of}
+use Rattle.sgt_service.specs.Counts.{capped, AreCounted, only_at, with_read, with_others, blocks_of}
+use Rattle.sgt_service.specs.Reads.{look_in}
 use Rattle.sgt_service.specs.Seats.{SameSeat, CountsLoss}
 use Rattle.sgt_service.specs.declared.active.Active.{Active}
 use Rattle.sgt_service.specs.declared.seat.Seat.{Seat}
@@ -51,19 +54,33 @@ pub record AreDonesOf (scripts : List Script) (tries : ℕ) (dones : List Done) 
 
 -- ---- what tries do to the seat of their worker
 
--- reads may have been counted at each site, and nothing else
-abbrev pub CountsReads : List EntryCounts → List EntryCounts → Type 0
-CountsReads old new = (length new ≡ length old)
-    × ((site : ℕ) (c : EntryCounts) → slice_get old site ≡ Some c → (reads : ℕ) × (slice_get new site ≡ Some (record c { reads = reads })))
+-- how many reads of items of the site the draft keeps
+abbrev pub reads_at : ℕ → List Touch → ℕ
+reads_at site touched = length (kept_in (at_site site touched))
+
+-- after so many more logged reads
+abbrev pub with_reads : ℕ → EntryCounts → EntryCounts
+with_reads zero c = c
+with_reads (suc n) c = record c { reads = capped (c.reads + suc n) }
+
+-- one operation counts a read of what its draft doesn't show, at the site of it, and nothing else
+abbrev pub CountsOp : Op → List Touch → (old new : List EntryCounts) → Type 0
+CountsOp (Read s x) touched old new =
+    (look_in touched s x ≡ None → AreCounted (only_at s with_read) old new) × (IsSome (look_in touched s x) → new ≡ old)
+CountsOp _ touched old new = new ≡ old
+
+-- at each site as many reads more are counted as the draft keeps more of there, and nothing else
+abbrev pub CountsReads : (old new : List Touch) → (counts counts' : List EntryCounts) → Type 0
+CountsReads old new counts counts' = (more : ℕ → ℕ) × ((site : ℕ) → reads_at site new ≡ reads_at site old + more site)
+    × AreCounted (λ site. with_reads (more site)) counts counts'
 
 module _ {L : Type 0} where
-  -- one transaction was begun and ended so, with this draft: one begin, one decision, at each site the block of this transaction behind
-  -- whatever was read
+  -- one transaction was begun and ended so, with this draft: one begin, one decision, at each site as many reads as the draft keeps there,
+  -- and the block of this transaction
   abbrev pub CountsTry : Ending → List Touch → Seat L → Seat L → Type 0
   CountsTry verdict touched old new = (new.begun ≡ capped (old.begun + 1)) × (new.share.parts ≡ old.share.parts)
       × (new.share.amount ≡ old.share.amount + 1)
-      × ((read : List EntryCounts) × CountsReads old.counts.items read
-      × AreCounted (λ site. with_others (blocks_of verdict touched site)) read new.counts.items)
+      × AreCounted (λ site c. with_others (blocks_of verdict touched site) (with_reads (reads_at site touched) c)) old.counts.items new.counts.items
 
   -- the one transaction that the seat counts is the one that tried the script
   abbrev pub TriesAt : List Op → Ticket → List ℕ → Seat L → Seat L → Type 0
@@ -82,3 +99,12 @@ module _ {L : Type 0} where
   abbrev pub IsHalt : (Ending → Type 0) → Active → Seat L → Seat L → ServiceFault → Type 0
   IsHalt decided active old new f = SameSeat old new
       ⊎ ((verdict : Ending) × (site : ℕ) × decided verdict × (f ≡ NotPledged site) × CountsLoss verdict active site old new)
+
+  -- a try without a ticket took no decision. Or it took one, and V7 names the site that had lost its pledge
+  abbrev pub IsStopped : Seat L → Seat L → ServiceFault → Type 0
+  IsStopped old new f = (new.share ≡ old.share)
+      ⊎ ((site : ℕ) × (f ≡ NotPledged site) × (new.share.amount ≡ old.share.amount + 1))
+
+  -- tries with these tickets, all refused, and behind them one without a ticket
+  abbrev pub AreStopped : List Op → List Ticket → Seat L → Seat L → ServiceFault → Type 0
+  AreStopped ops tickets old new f = All IsRefused tickets × ((mid : Seat L) × AreTried ops tickets old mid × IsStopped mid new f)

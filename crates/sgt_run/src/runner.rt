@@ -31,13 +31,13 @@ pub struct Runner<'a, L: Ledger, G: Gate> {
 }
 
 impl<'a, L: Ledger, G: Gate> Runner<'a, L, G> {
-    ghost use Rattle.std.specs.Prelude.{◌≡◌, ◌≢◌, ◌↔◌, [], true, false, All, Ok, IfOk, IfErr, OnOk, vec_len};
+    ghost use Rattle.std.specs.Prelude.{◌≡◌, ◌≢◌, ◌↔◌, [], true, false, All, Ok, IfOk, IfErr, OnOk, OnErr, vec_len};
     ghost use Rattle.sgt_service.specs.Guarded.{IsTicketOf};
     ghost use Rattle.sgt_service.specs.Reads.{look_in, IsOfActive};
     ghost use Rattle.sgt_service.specs.Refused.{IsOfCall, IsOfChange, IsOfCommit, IsOfWithdraw};
     ghost use Rattle.sgt_service.specs.Seats.{CountsEnd};
     ghost use Rattle.sgt_workers.specs.declared.ticket.Ending.TheVariants.{Withdrawn};
-    ghost use Rattle.sgt_run.specs.Tries.{AreTried, AreTriesOf, CountsReads, IsHalt, IsRefused, IsTryOf, TriesAt};
+    ghost use Rattle.sgt_run.specs.Tries.{AreStopped, AreTried, AreTriesOf, CountsOp, CountsReads, IsHalt, IsRefused, IsStopped, IsTryOf, TriesAt};
     ghost use Rattle.sgt_run.specs.Operations.{op_fits, sum_fits, Does, DoesAll, IsOfOperation, PutsSum};
 
     #[tactic(auto, using(crate::proofs::Faults::item_of_change))]
@@ -55,6 +55,7 @@ impl<'a, L: Ledger, G: Gate> Runner<'a, L, G> {
         ensures sum { result ≡ Ok true → PutsSum site item seen value active.old.draft.touched active.new.draft.touched }
         ensures same { result ≡ Ok false → active.new.draft.touched ≡ active.old.draft.touched }
         ensures named { IsOfActive active.old active.new }
+        ensures err { OnErr result (active.new.draft.touched ≡ active.old.draft.touched) }
         ensures fault { IfErr result IsOfChange }
     {
         let Some(seen) = seen else {
@@ -84,7 +85,9 @@ impl<'a, L: Ledger, G: Gate> Runner<'a, L, G> {
             → (active.new.draft.touched ≡ active.old.draft.touched) × (reads.new.items ≡ reads.old.items) }
         ensures named { IsOfActive active.old active.new }
         ensures share { (worker.new.seat.share ≡ worker.old.seat.share) × (worker.new.seat.begun ≡ worker.old.seat.begun) }
-        ensures counts { CountsReads worker.old.seat.counts.items worker.new.seat.counts.items }
+        ensures counts { OnOk result (CountsOp op.now active.old.draft.touched worker.old.seat.counts.items worker.new.seat.counts.items) }
+        ensures err { OnErr result ((active.new.draft.touched ≡ active.old.draft.touched)
+            × (worker.new.seat.counts.items ≡ worker.old.seat.counts.items)) }
         ensures fault { IfErr result IsOfOperation }
     {
         match *op {
@@ -131,7 +134,8 @@ impl<'a, L: Ledger, G: Gate> Runner<'a, L, G> {
             active.old.draft.touched active.new.draft.touched reads.old.items reads.new.items) }
         ensures named { IsOfActive active.old active.new }
         ensures share { (worker.new.seat.share ≡ worker.old.seat.share) × (worker.new.seat.begun ≡ worker.old.seat.begun) }
-        ensures counts { CountsReads worker.old.seat.counts.items worker.new.seat.counts.items }
+        ensures counts { CountsReads active.old.draft.touched active.new.draft.touched
+            worker.old.seat.counts.items worker.new.seat.counts.items }
         ensures fault { IfErr result IsOfOperation }
     {
         let operations = script.operations.as_slice();
@@ -139,6 +143,8 @@ impl<'a, L: Ledger, G: Gate> Runner<'a, L, G> {
             if !self.apply(rt, worker, active, op, reads)? {
                 return Ok(false);
             }
+            // That its items rise shows that a read is counted exactly where one more is kept.
+            let _touched = active.draft().touched();
         }
         Ok(true)
     }
@@ -224,6 +230,7 @@ impl<'a, L: Ledger, G: Gate> Runner<'a, L, G> {
     ) -> Result<Ticket, ServiceFault>
         ensures tries { IfOk result (λ t. TriesAt script.now.operations t reads.new.items worker.old.seat worker.new.seat) }
         ensures parts { worker.new.seat.share.parts ≡ worker.old.seat.share.parts }
+        ensures halt { IfErr result (IsStopped worker.old.seat worker.new.seat) }
         ensures fault { IfErr result IsOfCall }
     {
         reads.clear();
@@ -247,6 +254,7 @@ impl<'a, L: Ledger, G: Gate> Runner<'a, L, G> {
         ensures tries { OnOk result (AreTriesOf self.now.tries script.now.operations tickets.new.items reads.new.items) }
         ensures parts { worker.new.seat.share.parts ≡ worker.old.seat.share.parts }
         ensures tried { OnOk result (AreTried script.now.operations tickets.new.items worker.old.seat worker.new.seat) }
+        ensures halt { IfErr result (AreStopped script.now.operations tickets.new.items worker.old.seat worker.new.seat) }
         ensures fault { IfErr result IsOfCall }
     {
         for _ in 0..self.tries {
