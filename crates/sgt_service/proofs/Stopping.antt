@@ -5,8 +5,8 @@ use Rattle.sgt_workers.specs.declared.ticket.Ending.{Ending}
 use Rattle.sgt_agreed.specs.declared.fault.ServiceFault.{ServiceFault}
 use Rattle.sgt_service.specs.Refused.{IsOfCall, IsOfWithdraw, IsOfCommit}
 use Rattle.sgt_service.specs.Seats.{IsBack}
-use Rattle.sgt_service.specs.Stops.{IsStop, IsUndecidedBy, back_of}
-use Rattle.sgt_service.specs.Undecided.{IsUncommitted, IsNotWithdrawn}
+use Rattle.sgt_service.specs.Stops.{ComesBackBy, IsStop, IsUndecidedBy, back_of}
+use Rattle.sgt_service.specs.Undecided.{IsToldOfCommit, IsToldOfWithdraw, IsUncommitted, IsNotWithdrawn}
 use Rattle.sgt_service.specs.declared.active.Active.{Active}
 use Rattle.sgt_service.specs.declared.seat.Seat.{Seat}
 use Rattle.sgt_service.specs.declared.ending.Stop.{Stop}
@@ -24,24 +24,38 @@ weaker P Q q (Undecided fault) why = q fault why
 weaker P Q q (Lost verdict site) why = tt
 
 pub commit_stop : (sites : ℕ) (lost : Option ℕ) (k : Kept) (active : Active) (stop : Stop)
-    → IsUndecidedBy (IsUncommitted sites lost k active) stop → IsUndecidedBy IsOfCommit stop
-commit_stop sites lost k active stop why = weaker (IsUncommitted sites lost k active) IsOfCommit (commit_told sites lost k active) stop why
+    → IsUndecidedBy (IsUncommitted sites lost k active) stop → IsUndecidedBy (IsToldOfCommit sites active) stop
+commit_stop sites lost k active stop why = weaker (IsUncommitted sites lost k active) (IsToldOfCommit sites active) (λ f u. (lost, k, u)) stop why
 
 pub withdraw_stop : (sites : ℕ) (lost : Option ℕ) (k : Kept) (active : Active) (stop : Stop)
-    → IsUndecidedBy (IsNotWithdrawn sites lost k active) stop → IsUndecidedBy IsOfWithdraw stop
-withdraw_stop sites lost k active stop why = weaker (IsNotWithdrawn sites lost k active) IsOfWithdraw (withdraw_told sites lost k active) stop why
+    → IsUndecidedBy (IsNotWithdrawn sites lost k active) stop → IsUndecidedBy (IsToldOfWithdraw sites active) stop
+withdraw_stop sites lost k active stop why = weaker (IsNotWithdrawn sites lost k active) (IsToldOfWithdraw sites active) (λ f u. (lost, k, u)) stop why
 
-pub commit_call : (stop : Stop) → IsUndecidedBy IsOfCommit stop → IsUndecidedBy IsOfCall stop
-commit_call stop why = weaker IsOfCommit IsOfCall commit_of_call stop why
+commit_of : (sites : ℕ) (active : Active) (f : ServiceFault) → IsToldOfCommit sites active f → IsOfCommit f
+commit_of sites active f told = commit_told sites told.0 told.1 active f told.2
 
-pub withdraw_call : (stop : Stop) → IsUndecidedBy IsOfWithdraw stop → IsUndecidedBy IsOfCall stop
-withdraw_call stop why = weaker IsOfWithdraw IsOfCall withdraw_of_call stop why
+withdraw_of : (sites : ℕ) (active : Active) (f : ServiceFault) → IsToldOfWithdraw sites active f → IsOfWithdraw f
+withdraw_of sites active f told = withdraw_told sites told.0 told.1 active f told.2
+
+pub commit_call : (sites : ℕ) (active : Active) (stop : Stop) → IsUndecidedBy (IsToldOfCommit sites active) stop → IsUndecidedBy IsOfCall stop
+commit_call sites active stop why =
+    weaker (IsToldOfCommit sites active) IsOfCall (λ f told. commit_of_call f (commit_of sites active f told)) stop why
+
+pub withdraw_call : (sites : ℕ) (active : Active) (stop : Stop) → IsUndecidedBy (IsToldOfWithdraw sites active) stop → IsUndecidedBy IsOfCall stop
+withdraw_call sites active stop why =
+    weaker (IsToldOfWithdraw sites active) IsOfCall (λ f told. withdraw_of_call f (withdraw_of sites active f told)) stop why
 
 -- and of the fault that comes back
-pub commit_fault : (active : Active) (stop : Stop) → IsUndecidedBy IsOfCommit stop → IsOfCommit (back_of active stop).fault
-commit_fault active (Undecided fault) why = why
-commit_fault active (Lost verdict site) why = tt
+pub commit_fault : (sites : ℕ) (active : Active) (stop : Stop) → IsUndecidedBy (IsToldOfCommit sites active) stop
+    → IsOfCommit (back_of active stop).fault
+commit_fault sites active (Undecided fault) why = commit_of sites active fault why
+commit_fault sites active (Lost verdict site) why = tt
 
-pub withdraw_fault : (active : Active) (stop : Stop) → IsUndecidedBy IsOfWithdraw stop → IsOfWithdraw (back_of active stop).fault
-withdraw_fault active (Undecided fault) why = why
-withdraw_fault active (Lost verdict site) why = tt
+pub withdraw_fault : (sites : ℕ) (active : Active) (stop : Stop) → IsUndecidedBy (IsToldOfWithdraw sites active) stop
+    → IsOfWithdraw (back_of active stop).fault
+withdraw_fault sites active (Undecided fault) why = withdraw_of sites active fault why
+withdraw_fault sites active (Lost verdict site) why = tt
+
+pub stop_told : (P : ServiceFault → Type 0) (active : Active) (stop : Stop) → IsUndecidedBy P stop → ComesBackBy P (back_of active stop)
+stop_told P active (Undecided fault) why = why
+stop_told P active (Lost verdict site) why = tt

@@ -1,5 +1,5 @@
 -- Why a transaction has no ticket, before it is handed back.
-use Rattle.std.specs.Prelude.{◌≡◌, ℕ, Option, Some, None}
+use Rattle.std.specs.Prelude.{◌≡◌, ℕ, Option, Some, None, IfSome}
 use Rattle.sgt_certifier.specs.Kept.{Kept}
 use Rattle.sgt_workers.specs.declared.ticket.Ending.{Ending}
 use Rattle.sgt_agreed.specs.declared.fault.ServiceFault.{ServiceFault}
@@ -20,6 +20,10 @@ back_of active (Lost verdict site) = record { active = None; fault = NotPledged 
 abbrev pub NotesLoss : Option ℕ → Option ℕ → ServiceFault → Type 0
 NotesLoss was lost fault =
     ((site : ℕ) → fault ≡ NotPledged site → lost ≡ Some site) × (((site : ℕ) → fault ≡ NotPledged site → ⊥) → lost ≡ was)
+
+-- this is why the transaction comes back, where it does
+abbrev pub ComesBackBy : (ServiceFault → Type 0) → Back → Type 0
+ComesBackBy why back = IfSome back.active (λ same. why back.fault)
 
 -- what a step that was stopped leaves under the certifier's lock. Where nothing is decided, the history is as it was
 abbrev pub LeavesGuard : Kept → Kept → Option ℕ → Option ℕ → Stop → Type 0

@@ -92,3 +92,11 @@ pub data IsNotWithdrawn (sites : ℕ) (lost : Option ℕ) (k : Kept) (active : A
       → IsNotWithdrawn sites lost k active f
   declined : (f : ServiceFault) → IsHeld lost k.state active → AreThere sites active → HandsOn k.state (withdraw active.handle) f
       → IsNotWithdrawn sites lost k active f
+
+-- why some certifier with so many sites doesn't commit the transaction, with some site found to have lost its pledge or none; and why some
+-- certifier doesn't withdraw it
+abbrev pub IsToldOfCommit : ℕ → Active → ServiceFault → Type 0
+IsToldOfCommit sites active f = (lost : Option ℕ) × (k : Kept) × IsUncommitted sites lost k active f
+
+abbrev pub IsToldOfWithdraw : ℕ → Active → ServiceFault → Type 0
+IsToldOfWithdraw sites active f = (lost : Option ℕ) × (k : Kept) × IsNotWithdrawn sites lost k active f

@@ -46,9 +46,9 @@ impl<L: Ledger> Service<L> {
     ghost use Rattle.sgt_agreed.specs.declared.fault.ServiceFault.TheVariants.{NotPledged};
     ghost use Rattle.sgt_workers.specs.declared.ticket.Ending.TheVariants.{Withdrawn};
     ghost use Rattle.sgt_service.specs.Guarded.{TakesStep, TakesBack, IsDecidedBy, IsWithdrawnBy};
-    ghost use Rattle.sgt_service.specs.Stops.{IsStop, IsUndecidedBy, LeavesGuard};
+    ghost use Rattle.sgt_service.specs.Stops.{ComesBackBy, IsStop, IsUndecidedBy, LeavesGuard};
     ghost use Rattle.sgt_service.specs.Refused.{IsOfCommit, IsOfWithdraw};
-    ghost use Rattle.sgt_service.specs.Undecided.{IsUncommitted, IsNotWithdrawn};
+    ghost use Rattle.sgt_service.specs.Undecided.{IsToldOfCommit, IsToldOfWithdraw, IsUncommitted, IsNotWithdrawn};
     ghost use Rattle.sgt_service.specs.declared.ending.Stop.TheVariants.{Undecided};
     ghost use Rattle.sgt_service.specs.Seats.{CountsEnd, IsBack};
 
@@ -64,6 +64,7 @@ impl<L: Ledger> Service<L> {
         ensures step { IfOk result (IsDecidedBy (vec_len self.now.sites) active) }
         ensures back { IfErr result (IsBack (λ verdict. verdict ≢ Withdrawn) active seat.old seat.new) }
         ensures fault { IfErr result (λ back. IsOfCommit back.fault) }
+        ensures refused { IfErr result (ComesBackBy (IsToldOfCommit (vec_len self.now.sites) active)) }
     {
         self.commit_at(rt, alloc, seat, active, 0, &NoGate)
     }
@@ -95,6 +96,7 @@ impl<L: Ledger> Service<L> {
         ensures step { IfOk result (IsDecidedBy (vec_len self.now.sites) active) }
         ensures back { IfErr result (IsBack (λ verdict. verdict ≢ Withdrawn) active seat.old seat.new) }
         ensures fault { IfErr result (λ back. IsOfCommit back.fault) }
+        ensures refused { IfErr result (ComesBackBy (IsToldOfCommit (vec_len self.now.sites) active)) }
     {
         match self.certify(rt, alloc, seat, &active, worker, gate) {
             Ok(ticket) => Ok(ticket),
@@ -120,6 +122,7 @@ impl<L: Ledger> Service<L> {
         ensures step { IfOk result (IsWithdrawnBy active) }
         ensures back { IfErr result (IsBack (λ verdict. verdict ≡ Withdrawn) active seat.old seat.new) }
         ensures fault { IfErr result (λ back. IsOfWithdraw back.fault) }
+        ensures refused { IfErr result (ComesBackBy (IsToldOfWithdraw (vec_len self.now.sites) active)) }
     {
         match self.take_back(rt, seat, &active) {
             Ok(ticket) => Ok(ticket),
@@ -141,7 +144,7 @@ impl<L: Ledger> Service<L> {
             × CountsEnd t.verdict active.now seat.old seat.new) }
         ensures step { IfOk result (IsDecidedBy (vec_len self.now.sites) active.now) }
         ensures stop { IfErr result (IsStop (λ verdict. verdict ≢ Withdrawn) active.now seat.old seat.new) }
-        ensures why { IfErr result (IsUndecidedBy IsOfCommit) }
+        ensures why { IfErr result (IsUndecidedBy (IsToldOfCommit (vec_len self.now.sites) active.now)) }
     {
         let mut guard = self.certifier.lock(rt);
         let guarded = &mut *guard;
@@ -209,7 +212,7 @@ impl<L: Ledger> Service<L> {
             × CountsEnd Withdrawn active.now seat.old seat.new) }
         ensures step { IfOk result (IsWithdrawnBy active.now) }
         ensures stop { IfErr result (IsStop (λ verdict. verdict ≡ Withdrawn) active.now seat.old seat.new) }
-        ensures why { IfErr result (IsUndecidedBy IsOfWithdraw) }
+        ensures why { IfErr result (IsUndecidedBy (IsToldOfWithdraw (vec_len self.now.sites) active.now)) }
     {
         let mut guard = self.certifier.lock(rt);
         let guarded = &mut *guard;
