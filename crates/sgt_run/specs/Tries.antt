@@ -1,5 +1,5 @@
 -- The tries of a script.
-use Rattle.std.specs.Prelude.{◌≡◌, ◌⊎◌, ◌<◌, ◌+◌, ℕ, zero, suc, List, [], ◌∷◌, ◌++◌, length, All, None, Some, IfSome, IsSome}
+use Rattle.std.specs.Prelude.{◌≡◌, ◌⊎◌, ◌<◌, ◌+◌, ℕ, zero, suc, List, [], ◌∷◌, ◌++◌, length, All, None, IfSome, IsSome}
 use Rattle.std.specs.List.{last_or, range_with_len}
 use Rattle.sgt_names.specs.Draft.{at_site, kept_in}
 use Rattle.sgt_names.specs.declared.draft.Touch.{Touch}
