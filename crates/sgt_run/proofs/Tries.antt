@@ -1,5 +1,5 @@
 -- The tickets of the tries so far.
-use Rattle.std.proofs.Common.{◌≡◌, ◌∙◌, false, ◌≤◌, ◌<◌, ℕ, ◌+◌, List, [], ◌∷◌, ◌++◌, length, refl, sym, ap, arith, subst, subst₂, All, inl, inr}
+use Rattle.std.proofs.Common.{◌≡◌, ◌∙◌, false, ◌≤◌, ◌<◌, ℕ, ◌+◌, List, [], ◌∷◌, ◌++◌, length, refl, sym, ap, arith, subst, subst₂, All}
 use Rattle.std.specs.Prelude.{Bool, ◌↔◌, None, IfSome}
 use Rattle.std.specs.List.{last_or}
 use Rattle.std.proofs.lemmas.List.{length-append}
