@@ -6,6 +6,7 @@ use sgt_certifier::Certifier;
 use sgt_names::{SiteNo, Tx};
 use sgt_site::Site;
 use sgt_workers::Ending;
+use std::sync::MutexGuard;
 use std::sync::ledger::Ledger;
 
 /// The pledges that a transaction took at those sites below a number that it touches, but for those from the first on that were given back.
@@ -20,6 +21,7 @@ impl Pledges {
     ghost use Rattle.sgt_names.specs.Draft.{at_site};
     ghost use Rattle.sgt_site.specs.State.{IsPledged, IsPledgedFor};
     ghost use Rattle.sgt_service.specs.Guarded.{IsDecided};
+    ghost use Rattle.std.specs.Sync.Mutex.{mutex_guard_value as held};
 
     /// None is taken yet.
     pub(crate) fn none() -> Pledges
@@ -35,15 +37,16 @@ impl Pledges {
         self.below
     }
 
-    /// That of the next site was taken: it stands at the site that is lent, which is the one of this number, for the transaction's draft.
-    pub(crate) fn take(&mut self, site: &Site, active: &Active, here: SiteNo)
+    /// That of the next site was taken: it stands at the site whose lock is let go, which is the one of this number, for the transaction's
+    /// draft.
+    pub(crate) fn take(&mut self, guard: MutexGuard<'_, Site>, active: &Active, here: SiteNo)
         requires next { here ≡ self.old.below }
         requires touched { at_site here active.now.draft.touched ≢ [] }
-        requires number { site.now.number ≡ here }
-        requires pledged { IsPledgedFor site.now active.now.tx active.now.draft.touched }
+        requires number { (held guard).number ≡ here }
+        requires pledged { IsPledgedFor (held guard) active.now.tx active.now.draft.touched }
         ensures { (self.new.given ≡ self.old.given) × (self.new.below ≡ self.old.below + 1) }
     {
-        let _ = site;
+        drop(guard);
         let _ = active;
         self.below = here.number() as usize + 1;
     }
@@ -58,14 +61,14 @@ impl Pledges {
         self.below = here.number() as usize + 1;
     }
 
-    /// The next one is given back at the site that is lent, if it stands there.
-    pub(crate) fn free(&mut self, site: &mut Site, tx: Tx)
-        requires { self.old.given < self.old.below }
-        ensures given { IsPledged site.old tx → site.new ≡ record site.old { pledge = None } }
-        ensures none { (IsPledged site.old tx → ⊥) → site.new ≡ site.old }
-        ensures next { (self.new.given ≡ self.old.given + 1) × (self.new.below ≡ self.old.below) }
+    /// The next one is given back: the site whose lock is let go has no pledge of the transaction.
+    pub(crate) fn free(&mut self, guard: MutexGuard<'_, Site>, tx: Tx)
+        requires below { self.old.given < self.old.below }
+        requires given { IsPledged (held guard) tx → ⊥ }
+        ensures { (self.new.given ≡ self.old.given + 1) × (self.new.below ≡ self.old.below) }
     {
-        let _ = site.unpledge(tx);
+        drop(guard);
+        let _ = tx;
         self.given += 1;
     }
 
@@ -111,16 +114,23 @@ impl Blocks {
     ghost use Rattle.std.specs.Prelude.{◌≡◌, ◌≢◌, ◌<◌, ◌+◌, [], Some};
     ghost use Rattle.sgt_names.specs.Draft.{at_site};
     ghost use Rattle.sgt_service.specs.Pledges.{HasBlock};
+    ghost use Rattle.std.specs.Sync.Mutex.{mutex_guard_value as held};
 
-    /// The next one was written: it ends the log of the site that is lent, which is the one of this number.
-    pub(crate) fn write(&mut self, site: &Site, active: &Active, verdict: Ending, here: SiteNo)
+    /// The next one was written: it ends the log of the site whose lock is let go, which is the one of this number.
+    pub(crate) fn write(
+        &mut self,
+        guard: MutexGuard<'_, Site>,
+        active: &Active,
+        verdict: Ending,
+        here: SiteNo,
+    )
         requires next { here ≡ self.old.written }
         requires below { self.old.written < self.old.below }
         requires touched { at_site here active.now.draft.touched ≢ [] }
-        requires ended { HasBlock verdict active.now here site.now }
+        requires ended { HasBlock verdict active.now here (held guard) }
         ensures { (self.new.written ≡ self.old.written + 1) × (self.new.below ≡ self.old.below) }
     {
-        let _ = site;
+        drop(guard);
         let _ = active;
         let _ = verdict;
         self.written = here.number() as usize + 1;

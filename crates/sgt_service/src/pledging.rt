@@ -1,9 +1,9 @@
 //! The sites of a transaction, one after another, while the certifier's lock is held.
 
-ghost use Rattle.std.specs.Prelude.{◌≡◌, ◌≢◌, ◌↔◌, ◌<◌, [], false, All, IsTrue, IfErr, OnOk, OnErr, count_by};
+ghost use Rattle.std.specs.Prelude.{◌≡◌, ◌≢◌, ◌↔◌, ◌<◌, [], false, None, All, IsTrue, IfErr, OnOk, OnErr, count_by};
 ghost use Rattle.sgt_service.specs.Counts.{block_length, is_at, is_changed_at};
 ghost use Rattle.sgt_names.specs.Draft.{at_site};
-ghost use Rattle.sgt_site.specs.State.{IsPledgedFor};
+ghost use Rattle.sgt_site.specs.State.{IsPledged, IsPledgedFor};
 ghost use Rattle.sgt_service.specs.Undecided.{RefusesPledgeAt};
 
 use crate::active::Active;
@@ -13,7 +13,7 @@ use crate::seat::Seat;
 use crate::service::Service;
 use sgt_agreed::ServiceFault;
 use sgt_edges::EdgeList;
-use sgt_names::{Draft, SiteNo, Touch};
+use sgt_names::{Draft, SiteNo, Touch, Tx};
 use sgt_site::{Site, SiteFault};
 use sgt_workers::{Ending, Gate, Place};
 use std::alloc::Global;
@@ -78,7 +78,9 @@ impl<L: Ledger> Service<L> {
         for place in 0..pledges.below() {
             let here = self.number_at(place);
             if touches(active, here) {
-                pledges.free(&mut self.lock_site(rt, here), active.tx);
+                let mut guard = self.lock_site(rt, here);
+                unpledge_held(&mut guard, active.tx);
+                pledges.free(guard, active.tx);
             } else {
                 pledges.pass(active, here);
             }
@@ -123,9 +125,8 @@ impl<L: Ledger> Service<L> {
         ensures refused { IfErr result (λ f. (s : SiteState) × RefusesPledgeAt here s active.now f) }
     {
         let mut guard = self.lock_site(rt, here);
-        let site = &mut *guard;
-        pledge_held(site, here, active)?;
-        pledges.take(site, active, here);
+        pledge_held(&mut guard, here, active)?;
+        pledges.take(guard, active, here);
         Ok(())
     }
 
@@ -256,9 +257,8 @@ impl<L: Ledger> Service<L> {
         ensures refused { IfErr result (λ f. (s : SiteState) × RefusesGather guarded.now.certifier.history here s active.now f) }
     {
         let mut guard = self.lock_site(rt, here);
-        let site = &mut *guard;
-        guarded.gather(alloc, site, here, active, edges)?;
-        pledges.take(site, active, here);
+        guarded.gather(alloc, &mut guard, here, active, edges)?;
+        pledges.take(guard, active, here);
         Ok(())
     }
 
@@ -388,12 +388,11 @@ impl<L: Ledger> Service<L> {
         ensures same { guarded.new.lost ≡ guarded.old.lost }
     {
         let mut guard = self.lock_site(rt, here);
-        let site = &mut *guard;
         gate.arrive(worker, Place::InInstall(here));
-        if !guarded.end(site, here, active, verdict) {
+        if !guarded.end(&mut guard, here, active, verdict) {
             return false;
         }
-        blocks.write(site, active, verdict, here);
+        blocks.write(guard, active, verdict, here);
         true
     }
 }
@@ -410,6 +409,15 @@ fn pledge_held(held: &mut Site, here: SiteNo, active: &Active) -> Result<(), Ser
     }
     held.pledge(active.tx, &active.draft)?;
     Ok(())
+}
+
+// Gives the transaction's pledge back at the site that is lent, if it stands there.
+fn unpledge_held(held: &mut Site, tx: Tx)
+    ensures given { IsPledged held.old tx → held.new ≡ record held.old { pledge = None } }
+    ensures none { (IsPledged held.old tx → ⊥) → held.new ≡ held.old }
+    ensures gone { IsPledged held.new tx → ⊥ }
+{
+    let _ = held.unpledge(tx);
 }
 
 // Whether the transaction touches an item at the site.
