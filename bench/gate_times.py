@@ -5,6 +5,9 @@ usage: gate_times.py COMMAND [WORD ..]
 
 It looks at the running provers five times a second, so up to a fifth of a second of each is missed. The last line has the time
 of everything that ran, as the system counts it.
+
+Minutes of one machine are not minutes of another, so each row is also told in units: the processor time of the proof of
+sgt_names in the same run is one unit. (Where sgt_names was kept from an earlier run there are none.)
 """
 import os
 import re
@@ -14,6 +17,8 @@ import sys
 import time
 
 TICKS = os.sysconf("SC_CLK_TCK")
+PARTS = ("proofs", "tests", "edits")
+UNIT = "sgt_names"
 
 
 def look(seen, top):
@@ -50,6 +55,15 @@ def kind(words, folder):
     return "tests" if "--test" in words else "proofs"
 
 
+def line(name, minutes, unit):
+    told = " ".join(f"{each:8.1f}" for each in [*minutes, sum(minutes)])
+    return f"{name:20} {told} {sum(minutes) / unit:8.1f}" if unit else f"{name:20} {told} {'-':>8}"
+
+
+def in_units(minutes, unit):
+    return f", {minutes / unit:.1f} units," if unit else ""
+
+
 def main():
     started, seen = time.time(), {}
     running = subprocess.Popen(sys.argv[1:])
@@ -59,15 +73,16 @@ def main():
     table = {}
     for words, folder, seconds in seen.values():
         name = words[words.index("--crate-name") + 1] if "--crate-name" in words else "other"
-        row = table.setdefault(name, {"proofs": 0.0, "tests": 0.0, "edits": 0.0})
+        row = table.setdefault(name, dict.fromkeys(PARTS, 0.0))
         row[kind(words, folder)] += seconds / 60
-    print(f"{'crate':20} {'proofs':>8} {'tests':>8} {'edits':>8} {'all':>8}   (processor minutes)")
+    unit = table.get(UNIT, {}).get("proofs", 0.0)
+    print(f"{'crate':20} {'proofs':>8} {'tests':>8} {'edits':>8} {'all':>8} {'units':>8}   (processor minutes; a unit: the proof of {UNIT})")
     for name, row in sorted(table.items()):
-        print(f"{name:20} " + " ".join(f"{row[part]:8.1f}" for part in ("proofs", "tests", "edits")) + f" {sum(row.values()):8.1f}")
-    whole = [sum(row[part] for row in table.values()) for part in ("proofs", "tests", "edits")]
-    print(f"{'together':20} " + " ".join(f"{each:8.1f}" for each in whole) + f" {sum(whole):8.1f}")
+        print(line(name, [row[part] for part in PARTS], unit))
+    print(line("together", [sum(row[part] for row in table.values()) for part in PARTS], unit))
     used = resource.getrusage(resource.RUSAGE_CHILDREN)
-    print(f"all that ran: {(used.ru_utime + used.ru_stime) / 60:.1f} processor minutes in {(time.time() - started) / 60:.1f} minutes")
+    minutes = (used.ru_utime + used.ru_stime) / 60
+    print(f"all that ran: {minutes:.1f} processor minutes{in_units(minutes, unit)} in {(time.time() - started) / 60:.1f} minutes")
     sys.exit(running.returncode)
 
 
