@@ -18,10 +18,10 @@ use Rattle.sgt_audit.specs.declared.faults.FirstFault.{FirstFault}
 use Rattle.sgt_audit.specs.declared.faults.Fault.TheVariants as fault
 use Rattle.sgt_audit.specs.declared.kept.Kept.{Kept}
 use Rattle.sgt_audit.specs.declared.machine.Progress.TheVariants as at
-use Rattle.sgt_audit.specs.Faults.{fault_number, IsLineIn, Keeps, KeepsItself, Stage, start, headed, within, complete, lines_so_far, Piece, whole, last, Rule, Breaks}
+use Rattle.sgt_audit.specs.Faults.{fault_number, IsLineIn, Keeps, KeepsItself, Stage, start, headed, within, complete, lines_so_far, Piece, whole, last, Rule, Breaks, bytes_of}
 use Rattle.sgt_audit.specs.Reading.{Begun, IsBegun, lines_read}
 use Rattle.sgt_audit.specs.Kept.{Means, Holds, IsAt, IsStageOf}
-use Rattle.sgt_audit.specs.private.NextLine.{Follows, bytes_of}
+use Rattle.sgt_audit.specs.private.NextLine.{Follows}
 use Rattle.sgt_audit.specs.private.Ending.{IsComplete, limit_of}
 use Rattle.sgt_audit.proofs.LinePlaces.{no_cons}
 use Rattle.sgt_audit.proofs.MayFollow.{whole-sections, are-sections}

@@ -14,7 +14,7 @@ use Rattle.sgt_cert.proofs.OneLine.{certificate-one_line}
 use Rattle.sgt_cert.proofs.OneText.{format-one_line, line_front, sections-one}
 use Rattle.sgt_audit.specs.declared.faults.Fault.{Fault}
 use Rattle.sgt_audit.specs.declared.faults.Fault.TheVariants as fault
-use Rattle.sgt_audit.specs.Faults.{fault_number, IsLineIn, Keeps, KeepsItself, AllKept, Stage, start, headed, within, complete, lines_so_far, IsFaultless, Piece, whole, last, ComesNext, Rule, Breaks, FirstFault, HasNoFault}
+use Rattle.sgt_audit.specs.Faults.{fault_number, IsLineIn, Keeps, KeepsItself, AllKept, Stage, start, headed, within, complete, lines_so_far, IsFaultless, Piece, whole, last, ComesNext, Rule, Breaks, FirstFault, HasNoFault, bytes_of, reach}
 use Rattle.sgt_audit.proofs.FaultNumbers.{number-one}
 use Rattle.sgt_audit.proofs.Formats.{format-one}
 
@@ -267,6 +267,15 @@ first_fault-one bytes m n f g first other =
         first.number ∙ ap (λ s. length (lines_so_far s) + 1) both.0 ∙ sym other.number,
         least-one (Rule other.stage other.next) f g (subst (λ s. Breaks (Rule s other.next) f) both.0 (subst (λ p. Breaks (Rule first.stage p) f) both.1 first.breaks)) other.breaks,
       )
+      | inr (inl on) ↦ absurd (first.breaks.broken (on.keeps f))
+      | inr (inr on) ↦ absurd (other.breaks.broken (on.keeps g))
+    ]
+
+-- and they reach as far
+pub reach-one : (bytes : List ℕ) (m n : ℕ) (f g : Fault) (first : FirstFault bytes m f) (other : FirstFault bytes n g) → reach bytes m f first ≡ reach bytes n g other
+reach-one bytes m n f g first other =
+    elim (meet first.stage other.stage first.rest other.rest first.next other.next first.faultless other.faultless first.comes other.comes (sym first.text ∙ other.text)) [
+      | inl both ↦ ap₂ (λ s p. length (text_of_lines (lines_so_far s)) + length (bytes_of p) + 1) both.0 both.1
       | inr (inl on) ↦ absurd (first.breaks.broken (on.keeps f))
       | inr (inr on) ↦ absurd (other.breaks.broken (on.keeps g))
     ]

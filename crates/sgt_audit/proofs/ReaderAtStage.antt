@@ -1,5 +1,5 @@
 -- How far a text was read, against all that its reader told.
-use Rattle.std.proofs.Common.{◌≡◌, ◌≢◌, ℕ, zero, suc, ◌+◌, ◌<◌, ◌≤◌, List, [], ◌∷◌, ◌++◌, length, take, Option, Some, None, IfSome, refl, sym, ap, ◌∙◌, subst, arith, inl, inr, ◌⊎◌, append_assoc}
+use Rattle.std.proofs.Common.{◌≡◌, ◌≢◌, Bool, ℕ, zero, suc, ◌+◌, ◌<◌, ◌≤◌, List, [], ◌∷◌, ◌++◌, length, take, Option, Some, None, IfSome, refl, sym, ap, ◌∙◌, subst, arith, inl, inr, ◌⊎◌, append_assoc}
 use Rattle.std.specs.Prelude.{IfOk, Result, Ok, Err}
 use Rattle.std.specs.List.{AllByRecursion}
 use Rattle.std.proofs.lemmas.Bool.{cases_eq, cases_order}
@@ -7,7 +7,7 @@ use Rattle.std.proofs.lemmas.List.{append-nil, length-append}
 use Rattle.std.proofs.lemmas.List.Elements.{recursion_from_All, All-cons}
 use Rattle.sgt_notation.specs.Spelling.{text_of_lines, HasNoLf, line_text}
 use Rattle.sgt_notation.specs.Limits.{most_reads}
-use Rattle.sgt_notation.specs.Lines.{Ahead, GaveNext, Gives, MetReadFault, Spends, Stream, passed, stream}
+use Rattle.sgt_notation.specs.Lines.{Ahead, GaveNext, Gives, MetReadFault, ReadFaultIsDue, Spends, Stream, passed, stream}
 use Rattle.sgt_notation.proofs.Fronts.{passed-next}
 use Rattle.sgt_notation.proofs.Short.{line-no_lf, line-short}
 use Rattle.sgt_notation.specs.declared.lines.Next.TheVariants.{Line, Cut, TooLong, End}
@@ -17,13 +17,14 @@ use Rattle.sgt_audit.specs.declared.kept.Kept.{Kept}
 use Rattle.sgt_audit.specs.declared.machine.Progress.{Progress}
 use Rattle.sgt_audit.specs.declared.machine.Progress.TheVariants as at
 use Rattle.sgt_audit.specs.declared.faults.FirstFault as found
-use Rattle.sgt_audit.specs.Faults.{Stage, lines_so_far, IsFaultless, Piece, whole, last, ComesNext, Rule, Breaks, FirstFault}
+use Rattle.sgt_audit.specs.Faults.{Stage, start, headed, within, complete, lines_so_far, IsFaultless, Piece, whole, last, ComesNext, Rule, Breaks, FirstFault, HasNoFault, ReadsNoFurther, bytes_of, reach}
 use Rattle.sgt_audit.specs.Kept.{Means, IsStageOf}
 use Rattle.sgt_audit.specs.Reading.{Begun}
 use Rattle.sgt_audit.specs.Progress.{Stands}
-use Rattle.sgt_audit.specs.private.NextLine.{Follows, bytes_of}
-use Rattle.sgt_audit.specs.private.Ending.{EndsWith, limit_of}
-use Rattle.sgt_audit.specs.private.Stops.{FedFront, Goes, IsJudged, IsRest, IsStop, IsWhole}
+use Rattle.sgt_audit.specs.private.NextLine.{Follows}
+use Rattle.sgt_audit.specs.private.Ending.{EndsWith, IsComplete, limit_of}
+use Rattle.sgt_audit.specs.private.Stops.{FedFront, Goes, IsJudged, IsRest, IsStop, IsWhole, MeetsFault}
+use Rattle.sgt_audit.proofs.OneFault.{first_fault-excluded, reach-one}
 
 -- what the machine has kept has no fault
 stage-faultless : (k : Kept) (b : Begun) (before : List SectionLine) (s : Stage) → Means k.second k.certificate b before → IsStageOf k.second k.certificate before s → IsFaultless s
@@ -53,28 +54,49 @@ rest-line s t limit (Some bytes) (Some xs) None l e rest gives = absurd gives
 rest-line s t limit (Some bytes) (Some xs) (Some ys) l e rest gives =
     rest ∙ ap (λ (t : List ℕ). text_of_lines (lines_so_far s) ++ t) gives.2 ∙ sym (one-line (lines_so_far s) l ys) ∙ ap (λ ls. text_of_lines ls ++ ys) (sym e)
 
-pub after-line : (told : Option (List ℕ)) (p q : Progress) (limit n : ℕ) (old new : Option (List ℕ)) (l : List ℕ) → Goes told p old n → Gives limit old Line l new → ((s : Stage) → Stands p s → Follows s l q None) → Goes told q new (n + 1)
-after-line told p q limit n old new l (s, stands, rest, number) gives follows =
-    let t = follows s stands in
-    (t.0, t.1, rest-line s t.0 limit told old new l t.2 rest gives, omega (arith, number, ap length t.2, length-append (lines_so_far s) (l ∷ [])))
+-- a line more, with its LF
+text-grows : (xs ys : List (List ℕ)) (l : List ℕ) → ys ≡ xs ++ l ∷ [] → length (text_of_lines ys) ≡ length (text_of_lines xs) + length l + 1
+text-grows xs ys l same =
+    let grown = ap length (sym (append-nil (text_of_lines ys)) ∙ ap (λ zs. text_of_lines zs ++ []) same ∙ one-line xs l []) in
+    let cut = length-append (text_of_lines xs) (l ++ 10 ∷ []) in
+    let line = length-append l (10 ∷ []) in
+    let plain = ap length (append-nil (text_of_lines ys)) in
+    omega (arith, grown, cut, line)
+
+pub after-line : (told : Option (List ℕ)) (p q : Progress) (limit n : ℕ) (old new : Option (List ℕ)) (l : List ℕ) (reads reads' : ℕ) → Goes told p old n reads → reads' ≤ reads + length l + 1 → Gives limit old Line l new
+    → ((s : Stage) → Stands p s → Follows s l q None) → Goes told q new (n + 1) reads'
+after-line told p q limit n old new l reads reads' (s, stands, rest, number, few) more gives follows =
+    let t = follows s stands in (
+      t.0,
+      t.1,
+      rest-line s t.0 limit told old new l t.2 rest gives,
+      omega (arith, number, ap length t.2, length-append (lines_so_far s) (l ∷ [])),
+      omega (arith, few, more, text-grows (lines_so_far s) (lines_so_far t.0) l t.2),
+    )
 
 -- ---- a fault
 
--- the next piece of what comes breaks a rule
-pub fault-at : (told coming : Option (List ℕ)) (p : Progress) (n : ℕ) (f : Fault) (s : Stage) → Stands p s → IsRest s told coming → n ≡ length (lines_so_far s) + 1
-    → IfSome coming (λ rest. (next : Piece) × ComesNext rest next × Breaks (Rule s next) f) → IfSome told (λ bytes. FirstFault bytes n f)
-fault-at None coming p n f s stands rest number found = tt
-fault-at (Some bytes) None p n f s stands rest number found = absurd rest
-fault-at (Some bytes) (Some xs) p n f s stands rest number (next, comes, breaks) =
-    record { stage = s; rest = xs; next = next; text = rest; faultless = faultless p s stands; number = number; comes = comes; breaks = breaks }
+-- the next piece of what comes breaks a rule, and there were no more reads than bytes up to its end
+abbrev BreaksNext : Stage → Fault → ℕ → List ℕ → Type 0
+BreaksNext s f reads rest = (next : Piece) × ComesNext rest next × Breaks (Rule s next) f × (reads ≤ length (text_of_lines (lines_so_far s)) + length (bytes_of next) + 1)
 
-line-comes : (limit : ℕ) (old new : Option (List ℕ)) (l : List ℕ) (s : Stage) (f : Fault) → Gives limit old Line l new → Breaks (Rule s (whole l)) f → IfSome old (λ rest. (next : Piece) × ComesNext rest next × Breaks (Rule s next) f)
-line-comes limit None new l s f gives breaks = tt
-line-comes limit (Some xs) None l s f gives breaks = absurd gives
-line-comes limit (Some xs) (Some ys) l s f gives breaks = (whole l, (ys, gives.2, gives.0), breaks)
+pub fault-at : (told coming : Option (List ℕ)) (p : Progress) (n : ℕ) (f : Fault) (reads : ℕ) (s : Stage) → Stands p s → IsRest s told coming → n ≡ length (lines_so_far s) + 1
+    → IfSome coming (BreaksNext s f reads) → IfSome told (λ bytes. MeetsFault bytes n f reads)
+fault-at None coming p n f reads s stands rest number found = tt
+fault-at (Some bytes) None p n f reads s stands rest number found = absurd rest
+fault-at (Some bytes) (Some xs) p n f reads s stands rest number (next, comes, breaks, few) =
+    (record { stage = s; rest = xs; next = next; text = rest; faultless = faultless p s stands; number = number; comes = comes; breaks = breaks }, few)
 
-pub fault-line : (told : Option (List ℕ)) (p q : Progress) (limit n : ℕ) (old new : Option (List ℕ)) (l : List ℕ) (f : Fault) → Goes told p old n → Gives limit old Line l new → ((s : Stage) → Stands p s → Follows s l q (Some f)) → IfSome told (λ bytes. FirstFault bytes n f)
-fault-line told p q limit n old new l f (s, stands, rest, number) gives follows = fault-at told old p n f s stands rest number (line-comes limit old new l s f gives (follows s stands))
+line-comes : (limit : ℕ) (old new : Option (List ℕ)) (l : List ℕ) (s : Stage) (f : Fault) (reads : ℕ) → Gives limit old Line l new → Breaks (Rule s (whole l)) f
+    → reads ≤ length (text_of_lines (lines_so_far s)) + length l + 1 → IfSome old (BreaksNext s f reads)
+line-comes limit None new l s f reads gives breaks few = tt
+line-comes limit (Some xs) None l s f reads gives breaks few = absurd gives
+line-comes limit (Some xs) (Some ys) l s f reads gives breaks few = (whole l, (ys, gives.2, gives.0), breaks, few)
+
+pub fault-line : (told : Option (List ℕ)) (p q : Progress) (limit n : ℕ) (old new : Option (List ℕ)) (l : List ℕ) (f : Fault) (reads reads' : ℕ) → Goes told p old n reads → reads' ≤ reads + length l + 1 → Gives limit old Line l new
+    → ((s : Stage) → Stands p s → Follows s l q (Some f)) → IfSome told (λ bytes. MeetsFault bytes n f reads')
+fault-line told p q limit n old new l f reads reads' (s, stands, rest, number, few) more gives follows =
+    fault-at told old p n f reads' s stands rest number (line-comes limit old new l s f reads' gives (follows s stands) (omega (arith, few, more)))
 
 -- ---- the end of the input
 
@@ -95,13 +117,30 @@ end-left limit (Some xs) None l gives = absurd gives
 end-left limit (Some xs) (Some ys) l gives = gives.0 ∙ sym gives.1
 
 -- reading stops there, in line n, with these bytes behind the last LF
-pub stops-cut : (told : Option (List ℕ)) (p : Progress) (limit n : ℕ) (old new : Option (List ℕ)) (l : List ℕ) → Goes told p old n → Gives limit old Cut l new
-    → ((s : Stage) → Stands p s → length l ≤ limit_of s) → HasNoLf l → IsStop told (Ok n) p l
-stops-cut told p limit n old new l (s, stands, rest, number) gives short none = (s, stands, short s stands, none, at-stop told old s l n rest number (cut-left limit old new l gives))
+pub stops-cut : (told : Option (List ℕ)) (p : Progress) (limit n : ℕ) (old new : Option (List ℕ)) (l : List ℕ) (reads reads' : ℕ) → Goes told p old n reads → reads' ≤ reads + length l + 1 → Gives limit old Cut l new
+    → ((s : Stage) → Stands p s → length l ≤ limit_of s) → HasNoLf l → IsStop told (Ok n) p l reads'
+stops-cut told p limit n old new l reads reads' (s, stands, rest, number, few) more gives short none =
+    (s, stands, short s stands, none, omega (arith, few, more), at-stop told old s l n rest number (cut-left limit old new l gives))
 
-pub stops-end : (told : Option (List ℕ)) (p : Progress) (limit n : ℕ) (old new : Option (List ℕ)) (l : List ℕ) → Goes told p old n → Gives limit old End l new
-    → ((s : Stage) → Stands p s → length l ≤ limit_of s) → HasNoLf l → IsStop told (Ok n) p l
-stops-end told p limit n old new l (s, stands, rest, number) gives short none = (s, stands, short s stands, none, at-stop told old s l n rest number (end-left limit old new l gives))
+pub stops-end : (told : Option (List ℕ)) (p : Progress) (limit n : ℕ) (old new : Option (List ℕ)) (l : List ℕ) (reads reads' : ℕ) → Goes told p old n reads → reads' ≤ reads + length l + 1 → Gives limit old End l new
+    → ((s : Stage) → Stands p s → length l ≤ limit_of s) → HasNoLf l → IsStop told (Ok n) p l reads'
+stops-end told p limit n old new l reads reads' (s, stands, rest, number, few) more gives short none =
+    (s, stands, short s stands, none, omega (arith, few, more), at-stop told old s l n rest number (end-left limit old new l gives))
+
+-- a text that is read whole has no fault
+complete-faultless : (s : Stage) → IsComplete s → IsFaultless s → (bytes : List ℕ) → bytes ≡ text_of_lines (lines_so_far s) → HasNoFault bytes
+complete-faultless (complete second c before) done good bytes text = (second, c, before, good, text)
+complete-faultless start done good bytes text = absurd done
+complete-faultless (headed second) done good bytes text = absurd done
+complete-faultless (within second c before) done good bytes text = absurd done
+
+-- no more reads than bytes up to the first fault
+no_further : (bytes : List ℕ) (n : ℕ) (f : Fault) (reads : ℕ) → (first : FirstFault bytes n f) → reads ≤ reach bytes n f first → ReadsNoFurther bytes reads
+no_further bytes n f reads first few = λ m g other. omega (arith, few, reach-one bytes n m f g first other)
+
+pub told-met : (told : Option (List ℕ)) (n : ℕ) (f : Fault) (reads : ℕ) → IfSome told (λ bytes. MeetsFault bytes n f reads) → IfSome told (λ bytes. ReadsNoFurther bytes reads)
+told-met None n f reads met = tt
+told-met (Some bytes) n f reads met = no_further bytes n f reads met.0 met.1
 
 -- what the machine says of the text that ends there
 module _ (s : Stage) (l : List ℕ) (n : ℕ) (good : IsFaultless s) (none : HasNoLf l) where
@@ -114,15 +153,28 @@ module _ (s : Stage) (l : List ℕ) (n : ℕ) (good : IsFaultless s) (none : Has
   told-judged None j ends at = tt
   told-judged (Some bytes) j ends at = text-judged bytes j ends at
 
+  text-no_further : (bytes : List ℕ) (j : Result Kept found.FirstFault) (reads : ℕ) → EndsWith s l n j → reads ≤ length (text_of_lines (lines_so_far s)) + length l + 1
+      → (bytes ≡ text_of_lines (lines_so_far s) ++ l) × (n ≡ length (lines_so_far s) + 1) → ReadsNoFurther bytes reads
+  text-no_further bytes (Ok k) reads ends few at =
+      λ m f first. absurd (first_fault-excluded bytes m f first (complete-faultless s ends.1 good bytes (at.0 ∙ ap (λ (t : List ℕ). text_of_lines (lines_so_far s) ++ t) ends.2 ∙ append-nil (text_of_lines (lines_so_far s)))))
+  text-no_further bytes (Err first) reads ends few at =
+      no_further bytes first.line first.fault reads (record { stage = s; rest = l; next = last l; text = at.0; faultless = good; number = ends.0 ∙ at.1; comes = (refl, none); breaks = ends.1 }) few
+
+  told-no_further : (told : Option (List ℕ)) (j : Result Kept found.FirstFault) (reads : ℕ) → EndsWith s l n j → reads ≤ length (text_of_lines (lines_so_far s)) + length l + 1
+      → IfSome told (λ bytes. (bytes ≡ text_of_lines (lines_so_far s) ++ l) × (n ≡ length (lines_so_far s) + 1)) → IfSome told (λ bytes. ReadsNoFurther bytes reads)
+  told-no_further None j reads ends few at = tt
+  told-no_further (Some bytes) j reads ends few at = text-no_further bytes j reads ends few at
+
   ended-whole : (j : Result Kept found.FirstFault) → EndsWith s l n j → IfOk j IsWhole
   ended-whole (Ok k) ends = (s, ends.0, ends.1)
   ended-whole (Err first) ends = tt
 
-pub stop-judged : (told : Option (List ℕ)) (p : Progress) (n : ℕ) (l : List ℕ) (j : Result Kept found.FirstFault) → IsStop told (Ok n) p l → ((s : Stage) → Stands p s → length l ≤ limit_of s → EndsWith s l n j) → IfSome told (IsJudged j) × IfOk j IsWhole
-stop-judged told p n l j (s, stands, short, none, at) ends =
+pub stop-judged : (told : Option (List ℕ)) (p : Progress) (n : ℕ) (l : List ℕ) (reads : ℕ) (j : Result Kept found.FirstFault) → IsStop told (Ok n) p l reads
+    → ((s : Stage) → Stands p s → length l ≤ limit_of s → EndsWith s l n j) → IfSome told (IsJudged j) × IfOk j IsWhole × IfSome told (λ bytes. ReadsNoFurther bytes reads)
+stop-judged told p n l reads j (s, stands, short, none, few, at) ends =
     let e = ends s stands short in
     let good = faultless p s stands in
-    (told-judged s l n good none told j e at, ended-whole s l n good none j e)
+    (told-judged s l n good none told j e at, ended-whole s l n good none j e, told-no_further s l n good none told j reads e few at)
 
 -- ---- a line that is too long
 
@@ -152,41 +204,41 @@ piece-long limit bytes (whole l) (more, is, none) lt front =
     ]
 piece-long limit bytes (last l) (is, none) lt front = omega (arith, ap length is)
 
-long-comes : (limit : ℕ) (old new : Option (List ℕ)) (l : List ℕ) (s : Stage) (f : Fault) → Gives limit old TooLong l new → ((next : Piece) → limit < length (bytes_of next) → Breaks (Rule s next) f) → IfSome old (λ rest. (next : Piece) × ComesNext rest next × Breaks (Rule s next) f)
-long-comes limit None new l s f gives breaks = tt
-long-comes limit (Some xs) None l s f gives breaks = absurd gives
-long-comes limit (Some xs) (Some ys) l s f gives breaks = let p = piece xs in (p.0, p.1, breaks p.0 (piece-long limit xs p.0 p.1 gives.0.0 gives.0.1))
+long-comes : (limit : ℕ) (old new : Option (List ℕ)) (l : List ℕ) (s : Stage) (f : Fault) (reads : ℕ) → Gives limit old TooLong l new → ((next : Piece) → limit < length (bytes_of next) → Breaks (Rule s next) f)
+    → reads ≤ length (text_of_lines (lines_so_far s)) + limit + 1 → IfSome old (BreaksNext s f reads)
+long-comes limit None new l s f reads gives breaks few = tt
+long-comes limit (Some xs) None l s f reads gives breaks few = absurd gives
+long-comes limit (Some xs) (Some ys) l s f reads gives breaks few =
+    let p = piece xs in
+    let long = piece-long limit xs p.0 p.1 gives.0.0 gives.0.1 in
+    (p.0, p.1, breaks p.0 long, omega (arith, few, long))
 
-pub at-long : (told : Option (List ℕ)) (p : Progress) (limit n : ℕ) (old new : Option (List ℕ)) (l : List ℕ) (f : Fault) → Goes told p old n → Gives limit old TooLong l new
-    → ((s : Stage) → Stands p s → (next : Piece) → limit < length (bytes_of next) → Breaks (Rule s next) f) → IfSome told (λ bytes. FirstFault bytes n f)
-at-long told p limit n old new l f (s, stands, rest, number) gives breaks = fault-at told old p n f s stands rest number (long-comes limit old new l s f gives (breaks s stands))
+pub at-long : (told : Option (List ℕ)) (p : Progress) (limit n : ℕ) (old new : Option (List ℕ)) (l : List ℕ) (f : Fault) (reads reads' : ℕ) → Goes told p old n reads → reads' ≤ reads + length l + 1 → length l ≤ limit → Gives limit old TooLong l new
+    → ((s : Stage) → Stands p s → (next : Piece) → limit < length (bytes_of next) → Breaks (Rule s next) f) → IfSome told (λ bytes. MeetsFault bytes n f reads')
+at-long told p limit n old new l f reads reads' (s, stands, rest, number, few) more short gives breaks =
+    fault-at told old p n f reads' s stands rest number (long-comes limit old new l s f reads' gives (breaks s stands) (omega (arith, few, more, short)))
 
 -- ---- the reads
 
-pub spends_on : (told mid new : Option (List ℕ)) (a b c : ℕ) → Spends a told b mid → Spends b mid c new → Spends a told c new
-spends_on None mid new a b c first later = tt
-spends_on (Some xs) None new a b c first later = absurd first
-spends_on (Some xs) (Some ys) None a b c first later = absurd later
-spends_on (Some xs) (Some ys) (Some zs) a b c first later = omega arith
-
-pub spends-same : (a : ℕ) (told : Option (List ℕ)) → Spends a told a told
-spends-same a None = tt
-spends-same a (Some xs) = omega arith
+pub spends_on : (told mid new : Option (List ℕ)) (a b b' c : ℕ) → Spends a told b mid → b' ≡ b → Spends b' mid c new → Spends a told c new
+spends_on None mid new a b b' c first same later = tt
+spends_on (Some xs) None new a b b' c first same later = absurd first
+spends_on (Some xs) (Some ys) None a b b' c first same later = absurd later
+spends_on (Some xs) (Some ys) (Some zs) a b b' c first same later = omega (arith, first, same, later)
 
 -- no read was left, so each of them took a byte
-all-spent : (told mid new : Option (List ℕ)) (reads : ℕ) → Spends 4294967295 told reads mid → Spends reads mid 0 new → IfSome told (λ bytes. most_reads ≤ length bytes)
-all-spent None mid new reads first later = tt
-all-spent (Some xs) None new reads first later = absurd first
-all-spent (Some xs) (Some ys) None reads first later = absurd later
-all-spent (Some xs) (Some ys) (Some zs) reads first later = let all : 4294967295 ≤ length xs = omega arith in all
+all-spent : (told new : Option (List ℕ)) → Spends 4294967295 told 0 new → IfSome told (λ bytes. most_reads ≤ length bytes)
+all-spent None new spends = tt
+all-spent (Some xs) None spends = absurd spends
+all-spent (Some xs) (Some ys) spends = let all : 4294967295 ≤ length xs = omega arith in all
 
 -- a read fault is one of the source, or all reads were made
-pub fault-met : (told : Option (List ℕ)) (failures : ℕ) (old new : Stream) (line : List ℕ) → old.failures ≡ failures → Spends 4294967295 told old.ahead.reads old.told → MetReadFault old line new
-    → (failures < new.failures) ⊎ IfSome told (λ bytes. most_reads ≤ length bytes)
-fault-met told failures old new line quiet spends met =
+pub fault-met : (told : Option (List ℕ)) (failures asked asked' reads : ℕ) (old new : Stream) (line : List ℕ) → old.failures ≡ failures → Spends 4294967295 told reads old.told → old.ahead.reads ≡ reads
+    → asked' + new.ahead.reads ≡ asked + 4294967295 → MetReadFault old line new → ReadFaultIsDue told failures new.failures asked asked'
+fault-met told failures asked asked' reads old new line quiet spends same counts met =
     elim met.cause [
       | inl failed ↦ inl (omega (arith, failed.0, quiet))
-      | inr spent ↦ inr (all-spent told old.told new.told old.ahead.reads spends spent.2)
+      | inr spent ↦ inr (omega (arith, spent.0, counts), all-spent told new.told (spends_on told old.told new.told 4294967295 reads old.ahead.reads 0 spends same spent.2))
     ]
 
 -- a line that was fed at the front is what comes next

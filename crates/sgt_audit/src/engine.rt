@@ -1,8 +1,9 @@
 //! The audit of all that a reader gives.
 
-ghost use Rattle.std.specs.Prelude.{◌≡◌, ◌≢◌, ◌<◌, ◌≤◌, ◌⊎◌, Err, length, IfOk, OnErr, IfSome, IsErrOf};
+ghost use Rattle.std.specs.Prelude.{◌≡◌, ◌≢◌, ◌-◌, ◌<◌, ◌≤◌, ◌⊎◌, Err, length, IfOk, OnErr, IfSome, IsErrOf};
 ghost use Rattle.std.specs.Io.KnownBytes.{Appends};
-ghost use Rattle.sgt_notation.specs.Limits.{most_reads};
+ghost use Rattle.sgt_notation.specs.Lines.{ReadFaultIsDue};
+ghost use Rattle.sgt_audit.specs.Faults.{ReadsNoFurther};
 ghost use Rattle.sgt_audit.specs.Verdict.{IsVerdict, IsAudited, HandsOutValid, SaysHeadline, WroteFront, text_of};
 
 use crate::faults::Fault;
@@ -30,9 +31,11 @@ pub enum Audited {
 pub fn audit_bundle<R: Source>(alloc: Global, reader: &mut R) -> Result<Audited, EngineFail>
     ensures audited { IfOk result (λ a. IfSome (R.tells reader.old) (λ bytes. IsAudited bytes a)) }
     ensures valid { IfOk result HandsOutValid }
+    ensures no_further { IfOk result (λ a. IfSome (R.tells reader.old) (λ bytes.
+        ReadsNoFurther bytes (R.asked reader.new - R.asked reader.old))) }
     ensures quiet { result ≢ Err EngineFail.ReadFault → R.failures reader.new ≡ R.failures reader.old }
-    ensures read_fault { IsErrOf result EngineFail.ReadFault →
-        ((R.failures reader.old < R.failures reader.new) ⊎ IfSome (R.tells reader.old) (λ bytes. most_reads ≤ length bytes)) }
+    ensures read_fault { IsErrOf result EngineFail.ReadFault → ReadFaultIsDue (R.tells reader.old)
+        (R.failures reader.old) (R.failures reader.new) (R.asked reader.old) (R.asked reader.new) }
     ensures write_fault { result ≢ Err EngineFail.WriteFault }
 {
     match judge(alloc, true, reader) {
@@ -77,14 +80,16 @@ pub fn audit<R: Source, W: Sink>(
 ) -> Result<Verdict, EngineFail>
     ensures verdict { IfOk result (λ v. IfSome (R.tells reader.old) (λ bytes. IsVerdict bytes v)) }
     ensures headline { IfOk result (λ v. IfSome (R.tells reader.old) (λ bytes. SaysHeadline bytes v)) }
+    ensures no_further { IfOk result (λ v. IfSome (R.tells reader.old) (λ bytes.
+        ReadsNoFurther bytes (R.asked reader.new - R.asked reader.old))) }
     ensures written { IfOk result (λ v. Appends (W.holds writer.old) (W.holds writer.new) (text_of v)) }
     ensures quiet_reader { result ≢ Err EngineFail.ReadFault → R.failures reader.new ≡ R.failures reader.old }
     ensures quiet_writer { result ≢ Err EngineFail.WriteFault → W.failures writer.new ≡ W.failures writer.old }
     ensures front { OnErr result (WroteFront (R.tells reader.old) (W.holds writer.old) (W.holds writer.new)) }
     ensures unwritten { IsErrOf result EngineFail.ReadFault → writer.new ≡ writer.old }
     ensures untouched { IsErrOf result EngineFail.Memory → writer.new ≡ writer.old }
-    ensures read_fault { IsErrOf result EngineFail.ReadFault →
-        ((R.failures reader.old < R.failures reader.new) ⊎ IfSome (R.tells reader.old) (λ bytes. most_reads ≤ length bytes)) }
+    ensures read_fault { IsErrOf result EngineFail.ReadFault → ReadFaultIsDue (R.tells reader.old)
+        (R.failures reader.old) (R.failures reader.new) (R.asked reader.old) (R.asked reader.new) }
     ensures write_fault { IsErrOf result EngineFail.WriteFault → W.failures writer.old < W.failures writer.new }
 {
     let verdict = match judge(alloc, false, reader) {

@@ -34,10 +34,10 @@ pub struct Machine {
 }
 
 impl Machine {
-    ghost use Rattle.sgt_audit.specs.Faults.{Stage, Piece, start, headed, Rule, Breaks};
+    ghost use Rattle.sgt_audit.specs.Faults.{Stage, Piece, start, headed, Rule, Breaks, bytes_of};
     ghost use Rattle.sgt_audit.specs.private.Ending.{EndsWith, IsKeeping, limit_of};
     ghost use Rattle.sgt_audit.specs.Progress.{Stands};
-    ghost use Rattle.sgt_audit.specs.private.NextLine.{AnswersCertificate, Follows, bytes_of};
+    ghost use Rattle.sgt_audit.specs.private.NextLine.{AnswersCertificate, Follows};
 
     /// Before the first line. The sections are to be handed out, or only judged.
     pub(crate) fn new(alloc: Global, keeps: bool) -> Machine

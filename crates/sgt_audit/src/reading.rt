@@ -1,9 +1,9 @@
 //! A text judged as its lines come from a reader.
 
-ghost use Rattle.std.specs.Prelude.{◌≡◌, ◌≢◌, ℕ, ◌+◌, ◌^◌, ◌<◌, ◌≤◌, ◌⊎◌, List, [], Option, Err, length, Bool, IsTrue, IfOk, IfSome, IfNone, IsErrOf, IsSome, is_some};
+ghost use Rattle.std.specs.Prelude.{◌≡◌, ◌≢◌, ℕ, ◌+◌, ◌-◌, ◌^◌, ◌<◌, ◌≤◌, ◌⊎◌, List, [], Option, Err, length, Bool, IsTrue, IfOk, IfSome, IfNone, IsErrOf, IsSome, is_some};
 ghost use Rattle.sgt_notation.specs.Limits.{most_reads};
-ghost use Rattle.sgt_notation.specs.Lines.{Spends, coming, most_left};
-ghost use Rattle.sgt_audit.specs.Faults.{start};
+ghost use Rattle.sgt_notation.specs.Lines.{ReadFaultIsDue, coming, most_left};
+ghost use Rattle.sgt_audit.specs.Faults.{ReadsNoFurther, start};
 ghost use Rattle.sgt_audit.specs.private.Ending.{IsKeeping};
 ghost use Rattle.sgt_audit.specs.Progress.{Stands};
 ghost use Rattle.sgt_audit.specs.declared.machine.Progress.TheVariants.{Reading};
@@ -40,9 +40,9 @@ fn feed_kept(
     number: &mut u64,
 ) -> Result<Option<Fault>, AllocError>
     requires { number.old + most_left lines.old ≤ 2 ^ 48 }
-    ensures goes { (all : Option (List ℕ)) (told : Option (List ℕ)) → Goes all (Reading kept.old) (coming lines.old told) number.old
-        → IfOk result (FedHeld all told (Reading kept.new) lines.new number.new) }
-    ensures spends { (told : Option (List ℕ)) → Spends lines.old.reads told lines.new.reads told }
+    ensures goes { (all told : Option (List ℕ)) (reads : ℕ) → Goes all (Reading kept.old) (coming lines.old told) number.old reads
+        → IfOk result (FedHeld all told (Reading kept.new) lines.new number.new reads) }
+    ensures unread { lines.new.reads ≡ lines.old.reads }
     ensures few { number.new + most_left lines.new ≤ number.old + most_left lines.old }
     ensures bounded { most_left lines.new ≤ most_left lines.old }
     ensures sections { is_some kept.new.sections ≡ is_some kept.old.sections }
@@ -64,9 +64,9 @@ fn feed_held(
     number: &mut u64,
 ) -> Result<Option<Fault>, AllocError>
     requires { number.old + most_left lines.old ≤ 2 ^ 48 }
-    ensures goes { (all : Option (List ℕ)) (told : Option (List ℕ)) → Goes all machine.old.progress (coming lines.old told) number.old
-        → IfOk result (FedHeld all told machine.new.progress lines.new number.new) }
-    ensures spends { (told : Option (List ℕ)) → Spends lines.old.reads told lines.new.reads told }
+    ensures goes { (all told : Option (List ℕ)) (reads : ℕ) → Goes all machine.old.progress (coming lines.old told) number.old reads
+        → IfOk result (FedHeld all told machine.new.progress lines.new number.new reads) }
+    ensures unread { lines.new.reads ≡ lines.old.reads }
     ensures few { number.new + most_left lines.new ≤ number.old + most_left lines.old }
     ensures bounded { most_left lines.new ≤ most_left lines.old }
     ensures kept { (keeps : Bool) → IsKeeping keeps machine.old → IsKeeping keeps machine.new }
@@ -88,10 +88,11 @@ fn feed_lines<R: Source>(
 ) -> Result<Result<u64, FirstFault>, EngineFail>
     requires fresh { lines.old ≡ record { held = []; reads = most_reads } }
     requires starts { Stands machine.old.progress start }
-    ensures stops { IfOk result (λ stop. IsStop (R.tells reader.old) stop machine.new.progress line.new.items) }
+    ensures stops { IfOk result (λ stop. IsStop (R.tells reader.old) stop machine.new.progress line.new.items
+        (R.asked reader.new - R.asked reader.old)) }
     ensures quiet { result ≢ Err EngineFail.ReadFault → R.failures reader.new ≡ R.failures reader.old }
-    ensures read_fault { IsErrOf result EngineFail.ReadFault →
-        ((R.failures reader.old < R.failures reader.new) ⊎ IfSome (R.tells reader.old) (λ bytes. most_reads ≤ length bytes)) }
+    ensures read_fault { IsErrOf result EngineFail.ReadFault → ReadFaultIsDue (R.tells reader.old)
+        (R.failures reader.old) (R.failures reader.new) (R.asked reader.old) (R.asked reader.new) }
     ensures write_fault { result ≢ Err EngineFail.WriteFault }
     ensures kept { (keeps : Bool) → IsKeeping keeps machine.old → IsKeeping keeps machine.new }
 {
@@ -137,10 +138,12 @@ pub(crate) fn judge<R: Source>(
 ) -> Result<Result<Kept, FirstFault>, EngineFail>
     ensures judged { IfOk result (λ j. IfSome (R.tells reader.old) (IsJudged j)) }
     ensures all { IfOk result (λ j. IfOk j IsWhole) }
+    ensures no_further { IfOk result (λ j. IfSome (R.tells reader.old) (λ bytes.
+        ReadsNoFurther bytes (R.asked reader.new - R.asked reader.old))) }
     ensures kept { IsTrue keeps → IfOk result (λ j. IfOk j (λ k. IsSome k.sections)) }
     ensures quiet { result ≢ Err EngineFail.ReadFault → R.failures reader.new ≡ R.failures reader.old }
-    ensures read_fault { IsErrOf result EngineFail.ReadFault →
-        ((R.failures reader.old < R.failures reader.new) ⊎ IfSome (R.tells reader.old) (λ bytes. most_reads ≤ length bytes)) }
+    ensures read_fault { IsErrOf result EngineFail.ReadFault → ReadFaultIsDue (R.tells reader.old)
+        (R.failures reader.old) (R.failures reader.new) (R.asked reader.old) (R.asked reader.new) }
     ensures write_fault { result ≢ Err EngineFail.WriteFault }
 {
     let mut lines = Lines::new(alloc)?;

@@ -1,93 +1,73 @@
-ghost use Rattle.std.specs.Prelude.{◌≡◌, ◌∷◌, ◌++◌, IfSome, IfNone};
-ghost use Rattle.sgt_notation.specs.Spelling.{HasNoLf};
+//! The auditor that is fed, and the bundles that are handed out.
 
+use crate::bundles::{INCREMENTS, ONLY_CYCLE, OWN_READ_BEFORE_WRITE, READER_TORN};
 use sgt_audit::{Audited, Auditor, Fault, Verdict, audit_bundle, read_bundle};
 use sgt_cert::from_line;
 use sgt_names::MemSource;
-use sgt_notation::find_lf;
 use std::alloc::Global;
 use std::test::Fail;
 
-const OWN_READ: &str =
-    "sgt 1\n{\"decisions\":[{\"commit\":1,\"rank\":0}],\"sites\":1}\nsite 0\nitem x=5\nr1[x]=5\nw1[x]=6\nc1\nfinal x=6\nend\n";
-
-const INCREMENTS: &str =
-    "sgt 2\n{\"decisions\":[{\"commit\":2,\"rank\":0},{\"commit\":1,\"rank\":1}],\"sites\":1}\nsite 0\nitem x=5\nd2[x]=4\nc2\nd1[x]=3\nc1\nfinal x=12\nend\n";
-
-// The first line, without its LF, and the bytes behind it.
-fn split_line(bytes: &[u8]) -> Option<(&[u8], &[u8])>
-    ensures some { IfSome result (λ r. HasNoLf r.0.now × (bytes.now ≡ r.0.now ++ 10 ∷ r.1.now)) }
-    ensures none { IfNone result (HasNoLf bytes.now) }
-{
-    match find_lf(bytes) {
-        Some(n) => Some((&bytes[..n], &bytes[n + 1..])),
-        None => None,
-    }
-}
-
-// What an auditor of one of the two formats says that is fed the lines of this text, from line 3 on.
-fn fed(alloc: Global, second: bool, text: &[u8]) -> Result<Option<Verdict>, Fail> {
-    let Some((_, behind)) = split_line(text) else {
-        return Ok(None);
-    };
-    let Some((line, mut rest)) = split_line(behind) else {
-        return Ok(None);
-    };
-    let Ok(certificate) = from_line(alloc, line) else {
-        return Ok(None);
-    };
+/// What an auditor of one of the two formats says that is fed the lines of one section.
+fn fed(alloc: Global, second: bool, decisions: &str, section: &str) -> Result<Verdict, Fail> {
+    let line = format!(in alloc; "{{\"decisions\":[{decisions}],\"sites\":1}}")?;
+    let certificate = from_line(alloc, line.as_bytes())?;
     let mut auditor = if second {
         Auditor::new_2(alloc, certificate)?
     } else {
         Auditor::new(alloc, certificate)?
     };
-    'lines: while let Some((line, more)) = split_line(rest) {
-        auditor.feed(line)?;
-        rest = more;
+    for line in section.split('/') {
+        auditor.feed(line.as_bytes())?;
     }
-    Ok(Some(auditor.end()?))
+    Ok(auditor.end()?)
 }
 
-// The line behind which an auditor of the first format first tells a fault, and what it tells when all lines were fed.
-fn told(alloc: Global, text: &[u8]) -> Result<Option<(u64, u64, Fault)>, Fail> {
-    let Some((_, behind)) = split_line(text) else {
-        return Ok(None);
-    };
-    let Some((line, mut rest)) = split_line(behind) else {
-        return Ok(None);
-    };
-    let Ok(certificate) = from_line(alloc, line) else {
-        return Ok(None);
-    };
-    let mut auditor = Auditor::new(alloc, certificate)?;
-    let mut without = 2u64;
-    'lines: while let Some((line, more)) = split_line(rest) {
-        auditor.feed(line)?;
+/// How many lines an auditor is fed, with the first two, until it tells a fault; and what it tells when all were fed.
+fn told(
+    alloc: Global,
+    decisions: &str,
+    section: &str,
+) -> Result<Option<(u64, u64, Fault)>, Fail> {
+    let line = format!(in alloc; "{{\"decisions\":[{decisions}],\"sites\":1}}")?;
+    let mut auditor = Auditor::new(alloc, from_line(alloc, line.as_bytes())?)?;
+    let mut lines = 3u64;
+    for line in section.split('/') {
+        auditor.feed(line.as_bytes())?;
         if auditor.fault().is_none() {
-            without = without.saturating_add(1);
+            lines = lines.saturating_add(1);
         }
-        rest = more;
     }
-    Ok(
-        auditor
-            .fault()
-            .map(|found| (without.saturating_add(1), found.0, found.1)),
-    )
+    Ok(auditor.fault().map(|found| (lines, found.0, found.1)))
 }
 
 #[test]
 fn faults_are_told_at_once(rt: HostRuntime) -> Result<(), Fail> {
-    let values_agree: &str =
-        "sgt 1\n{\"decisions\":[{\"commit\":1,\"rank\":1},{\"commit\":2,\"rank\":0}],\"sites\":1}\nsite 0\nitem x=5\nw1[x]=7\nc1\nw2[x]=7\nc2\nfinal x=7\nend\n";
-    assert!(rt; told(rt.alloc(), values_agree.as_bytes())? == Some((7, 7, Fault::RankOrder)));
-    assert!(rt; told(rt.alloc(), OWN_READ.as_bytes())?.is_none());
+    let values_cannot_tell = "site 0/item x=5/w1[x]=7/c1/w2[x]=7/c2/final x=7/end";
+    let ranks = "{\"commit\":1,\"rank\":1},{\"commit\":2,\"rank\":0}";
+    let found = told(rt.alloc(), ranks, values_cannot_tell)?;
+    assert!(rt; found == Some((7, 7, Fault::RankOrder)));
+    Ok(())
+}
+
+#[test]
+fn auditors_are_fed(rt: HostRuntime) -> Result<(), Fail> {
+    let alloc = rt.alloc();
+    let increments = "site 0/item x=5/d2[x]=4/c2/d1[x]=3/c1/final x=12/end";
+    let ranks = "{\"commit\":2,\"rank\":0},{\"commit\":1,\"rank\":1}";
+    for (second, wanted) in [
+        (true, "yes 2 committed 0 refused 0 withdrawn\n"),
+        (false, "no line 5 F2\n"),
+    ] {
+        let verdict = fed(alloc, second, ranks, increments)?;
+        assert!(rt; verdict.to_line(alloc)?.as_str() == wanted, "{wanted}");
+    }
     Ok(())
 }
 
 #[test]
 fn bundles_are_handed_out(rt: HostRuntime) -> Result<(), Fail> {
     let alloc = rt.alloc();
-    for text in [OWN_READ, INCREMENTS] {
+    for text in [OWN_READ_BEFORE_WRITE, READER_TORN, INCREMENTS] {
         let mut reader = MemSource::new(text.as_bytes(), 7, None);
         match audit_bundle(alloc, &mut reader)? {
             Audited::Valid(bundle) => assert!(rt;
@@ -104,30 +84,20 @@ fn bundles_are_handed_out(rt: HostRuntime) -> Result<(), Fail> {
 }
 
 #[test]
-fn auditors_are_fed(rt: HostRuntime) -> Result<(), Fail> {
-    let alloc = rt.alloc();
-    let one = Verdict::Yes {
-        committed: 1,
-        refused: 0,
-        withdrawn: 0,
-    };
-    let two = Verdict::Yes {
-        committed: 2,
-        refused: 0,
-        withdrawn: 0,
-    };
-    let no = Verdict::No {
-        line: 5,
-        fault: Fault::Notation,
-    };
-    for (text, second, verdict) in [
-        (OWN_READ, false, one),
-        (OWN_READ, true, one),
-        (INCREMENTS, true, two),
-        (INCREMENTS, false, no),
+fn no_bundle_is_spelled(rt: HostRuntime) -> Result<(), Fail> {
+    for text in [
+        "",
+        "sgt 3\n{\"decisions\":[],\"sites\":1}\nsite 0\nend\n",
+        "sgt 1\n{\"sites\":1}\nsite 0\nend\n",
+        "sgt 1\n{\"decisions\":[],\"sites\":1}\nsite 0\nitem X=5\nend\n",
+        "sgt 1\n{\"decisions\":[],\"sites\":1}\nsite 0\n",
+        "sgt 1\n{\"decisions\":[],\"sites\":1}\nsite 1\nend\n",
+        "sgt 1\n{\"decisions\":[],\"sites\":1}\nsite 0\nend\nend\n",
     ] {
-        assert!(rt; fed(alloc, second, text.as_bytes())? == Some(verdict));
+        assert!(rt; read_bundle(rt.alloc(), text.as_bytes())?.is_none(), "{text}");
     }
-    assert!(rt; no.to_line(alloc)?.as_str() == "no line 5 F2\n");
+    // A bundle that isn't valid is spelled all the same.
+    let refused = ONLY_CYCLE.replace(rt.alloc(), "r1[x]=5", "r1[x]=4")?;
+    assert!(rt; read_bundle(rt.alloc(), refused.as_bytes())?.is_some());
     Ok(())
 }

@@ -1,58 +1,134 @@
-use sgt_audit::audit;
+//! Readers and writers that fail at each place, and growths that are refused.
+
+use crate::bundles::{ONLY_CYCLE, OWN_READ_BEFORE_WRITE, RANK_MOVES, READER_TORN};
+use sgt_audit::{Verdict, audit};
 use sgt_names::{EngineFail, MemSink, MemSource};
+use sgt_serial::serial;
 use std::alloc::Global;
 use std::test::Fail;
 
-const OWN_READ: &str =
-    "sgt 1\n{\"decisions\":[{\"commit\":1,\"rank\":0}],\"sites\":1}\nsite 0\nitem x=5\nr1[x]=5\nw1[x]=6\nc1\nfinal x=6\nend\n";
-
-// Whether a reader that fails at this read, one byte each, is answered as that, and nothing written.
-fn read_fails(alloc: Global, good: u64) -> Result<bool, Fail> {
-    let mut reader = MemSource::new(OWN_READ.as_bytes(), 1, Some(good));
-    let mut writer = MemSink::new(alloc, 100)?;
-    let answer = audit(alloc, &mut reader, &mut writer);
-    Ok(answer == Err(EngineFail::ReadFault) && writer.bytes().is_empty())
+/// How the audit or the serial run of a text ends, by a reader and a writer.
+fn fail_of(
+    alloc: Global,
+    serially: bool,
+    reader: &mut MemSource<'_>,
+    writer: &mut MemSink,
+) -> Option<EngineFail> {
+    if serially {
+        serial(alloc, reader, writer).err()
+    } else {
+        audit(alloc, reader, writer).err()
+    }
 }
 
+/// Whether a reader of one byte a read that fails at this read is answered as that, and nothing written.
+fn read_fails(alloc: Global, serially: bool, text: &str, read: u64) -> Result<bool, Fail> {
+    let mut reader = MemSource::new(text.as_bytes(), 1, Some(read));
+    let mut writer = MemSink::new(alloc, 100)?;
+    let fail = fail_of(alloc, serially, &mut reader, &mut writer);
+    Ok(fail == Some(EngineFail::ReadFault) && writer.bytes().is_empty())
+}
+
+// Also the read that would tell the end.
 #[test]
 fn each_read_fails(rt: HostRuntime) -> Result<(), Fail> {
-    let alloc = rt.alloc();
-    for good in 1..=OWN_READ.len() as u64 {
-        assert!(rt; read_fails(alloc, good)?);
+    for (serially, text, reads) in [
+        (false, OWN_READ_BEFORE_WRITE, 104u64),
+        (true, RANK_MOVES, 156),
+    ] {
+        for read in 1..=reads {
+            assert!(rt; read_fails(rt.alloc(), serially, text, read)?, "{read}");
+        }
+        assert!(rt; !read_fails(rt.alloc(), serially, text, reads.saturating_add(1))?);
     }
     Ok(())
 }
 
-// Whether a writer that takes so many bytes and then fails is answered as that, and holds that front of the line.
-fn write_fails(alloc: Global, takes: usize, line: &str) -> Result<bool, Fail> {
-    let mut reader = MemSource::new(OWN_READ.as_bytes(), 9, None);
+/// Whether a writer that takes so many bytes and then fails is answered as that, and holds that front of the answer.
+fn write_fails(
+    alloc: Global,
+    serially: bool,
+    text: &str,
+    takes: usize,
+    answer: &str,
+) -> Result<bool, Fail> {
+    let mut reader = MemSource::new(text.as_bytes(), 9, None);
     let mut writer = MemSink::new(alloc, takes)?;
-    let answer = audit(alloc, &mut reader, &mut writer);
+    let fail = fail_of(alloc, serially, &mut reader, &mut writer);
     Ok(
-        answer == Err(EngineFail::WriteFault)
+        fail == Some(EngineFail::WriteFault)
             && writer.bytes().len() == takes
-            && line.as_bytes().starts_with(writer.bytes()),
+            && answer.as_bytes().starts_with(writer.bytes()),
     )
 }
 
 #[test]
 fn each_write_fails(rt: HostRuntime) -> Result<(), Fail> {
-    let alloc = rt.alloc();
-    let line = "yes 1 committed 0 refused 0 withdrawn\n";
-    for takes in 0..line.len() {
-        assert!(rt; write_fails(alloc, takes, line)?);
+    for (serially, text, answer) in [
+        (
+            false,
+            OWN_READ_BEFORE_WRITE,
+            "yes 1 committed 0 refused 0 withdrawn\n",
+        ),
+        (
+            true,
+            RANK_MOVES,
+            "t1\nr1[0.x]=5\nw1[0.y]=3\nt2\nw2[0.x]=6\nfinal 0.x=6\nfinal 0.y=3\n",
+        ),
+    ] {
+        for takes in 0..answer.len() {
+            let fails = write_fails(rt.alloc(), serially, text, takes, answer)?;
+            assert!(rt; fails, "{takes}");
+        }
     }
     Ok(())
 }
 
+// A reader that fails behind the line with the fault isn't met.
 #[test]
 fn no_read_behind_a_fault(rt: HostRuntime) -> Result<(), Fail> {
-    let alloc = rt.alloc();
     let wrong =
         "sgt 1\n{\"decisions\":[{\"commit\":1,\"rank\":0}],\"sites\":1}\nsite 0\nitem x=5\nr1[x]=4\n";
-    let mut reader = MemSource::new(wrong.as_bytes(), 1, Some(wrong.len() as u64 + 1));
-    let mut writer = MemSink::new(alloc, 100)?;
-    audit(alloc, &mut reader, &mut writer)?;
-    assert!(rt; writer.bytes() == b"no line 5 F10\n".as_slice());
+    for serially in [false, true] {
+        let mut reader = MemSource::new(wrong.as_bytes(), 1, Some(wrong.len() as u64 + 1));
+        let mut writer = MemSink::new(rt.alloc(), 100)?;
+        let fail = fail_of(rt.alloc(), serially, &mut reader, &mut writer);
+        assert!(rt; fail.is_none() && writer.bytes() == b"no line 5 F10\n".as_slice());
+    }
+    Ok(())
+}
+
+/// What is answered on the text: want of memory as None.
+fn answer(alloc: Global, text: &str) -> Option<Result<Verdict, EngineFail>> {
+    let mut reader = MemSource::new(text.as_bytes(), 65_536, None);
+    match MemSink::new(alloc, 100) {
+        Ok(mut writer) => match audit(alloc, &mut reader, &mut writer) {
+            Err(EngineFail::Memory) => None,
+            other => Some(other),
+        },
+        Err(_) => None,
+    }
+}
+
+// Where one growth is refused, one of the three wants memory, and the others have their verdicts.
+#[test]
+fn growth_audit(rt: HostRuntime) -> Result<(), Fail> {
+    let mut answered = 0u8;
+    for (text, committed, refused) in [
+        (OWN_READ_BEFORE_WRITE, 1u64, 0u64),
+        (ONLY_CYCLE, 1, 1),
+        (READER_TORN, 1, 1),
+    ] {
+        let verdict = Verdict::Yes {
+            committed,
+            refused,
+            withdrawn: 0,
+        };
+        if let Some(answer) = answer(rt.alloc(), text) {
+            assert!(rt; answer == Ok(verdict));
+            answered = answered.saturating_add(1);
+        }
+    }
+    assert!(rt; answered >= 2);
     Ok(())
 }

@@ -1,9 +1,12 @@
+//! Texts that break a rule, and the line that is written on each.
+
+use crate::bundles::{ONLY_CYCLE, OWN_READ_BEFORE_WRITE, READER_TORN};
 use sgt_audit::audit;
 use sgt_names::{MemSink, MemSource};
 use std::alloc::Global;
 use std::test::Fail;
 
-// Whether this line is written on the text.
+/// Whether this line is written on the text.
 fn is_said(alloc: Global, text: &[u8], wanted: &str) -> Result<bool, Fail> {
     let mut reader = MemSource::new(text, 65_536, None);
     let mut writer = MemSink::new(alloc, 100)?;
@@ -11,7 +14,7 @@ fn is_said(alloc: Global, text: &[u8], wanted: &str) -> Result<bool, Fail> {
     Ok(writer.bytes() == wanted.as_bytes())
 }
 
-// The format's number, the decisions, the number of sites, the lines of the sections with `/` for LF, and the verdict.
+/// The format's number, the decisions, the number of sites, the lines of the sections with `/` for LF, and the verdict.
 const BUNDLES: [(&str, &str, u8, &str, &str); 22] = [
     // two commits of one rank
     (
@@ -181,7 +184,7 @@ fn least_faults_and_formats(rt: HostRuntime) -> Result<(), Fail> {
     Ok(())
 }
 
-// Puts so many letters behind the bytes, and an LF.
+/// Puts so many letters behind the bytes, and an LF.
 fn lengthen(bytes: &mut Vec<u8>, letters: usize, ended: bool) -> Result<(), Fail> {
     for _ in 0..letters {
         bytes.push(b'c')?;
@@ -223,6 +226,23 @@ fn long_lines(rt: HostRuntime) -> Result<(), Fail> {
         lengthen(&mut text, letters, ended)?;
         let said = is_said(alloc, text.as_slice(), wanted)?;
         assert!(rt; said, "{wanted}");
+    }
+    Ok(())
+}
+
+#[test]
+fn cut_bundles(rt: HostRuntime) -> Result<(), Fail> {
+    for text in [OWN_READ_BEFORE_WRITE, ONLY_CYCLE, READER_TORN] {
+        let mut line = 1u64;
+        for (bytes, last) in text.as_bytes().iter().enumerate() {
+            let wanted = format!(in rt.alloc(); "no line {line} F18\n")?;
+            let front = text.as_bytes().get(..bytes).unwrap_or(b"");
+            let said = is_said(rt.alloc(), front, wanted.as_str())?;
+            assert!(rt; said, "{bytes} bytes");
+            if *last == b'\n' {
+                line = line.saturating_add(1);
+            }
+        }
     }
     Ok(())
 }

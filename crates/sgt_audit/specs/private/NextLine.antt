@@ -16,8 +16,3 @@ Follows s l new (Some f) = Breaks (Rule s (whole l)) f
 abbrev pub AnswersCertificate : Bool → List ℕ → Result Kept Fault → Type 0
 AnswersCertificate second l (Ok k) = Follows (headed second) l (Reading k) None
 AnswersCertificate second l (Err f) = Breaks (Rule (headed second) (whole l)) f
-
--- the bytes of a piece, without an LF
-abbrev pub bytes_of : Piece → List ℕ
-bytes_of (whole l) = l
-bytes_of (last l) = l

@@ -1,52 +1,54 @@
 use Rattle.std.proofs.Common.{◌∙◌, ◌<◌, ◌≤◌, List, Some, None, Err, ℕ, length, ap, subst, arith, refl}
 use Rattle.sgt_notation.specs.Lines.{most_left}
 use Rattle.sgt_audit.specs.private.Ending.{limit_of}
-use Rattle.sgt_audit.specs.private.NextLine.{Follows, bytes_of}
+use Rattle.sgt_audit.specs.Faults.{bytes_of}
+use Rattle.sgt_audit.specs.private.NextLine.{Follows}
 use Rattle.sgt_audit.proofs.ReaderAtStage.{after-line, fault-line, stops-cut, stops-end, at-long, fault-met, spends_on}
 use Rattle.sgt_audit.proofs.reading.feed_lines.Goals as goal
 
 pub lines-preserved : goal.lines-preserved
 lines-preserved g c =
-    let held = rw c.in_default.is at (c.in_ok-fault.ensures.goes _ _ c.lines.invariant.0) in
+    let held = rw c.in_default.is at (c.in_ok-fault.ensures.goes _ _ _ c.lines.invariant.0) in
     let gave = rw c.in-Ok-Line.field-0-is at c.in-Ok-Line.ensures.ok in (
-      after-line _ _ _ _ _ _ _ _ held gave.gives
+      after-line _ _ _ _ _ _ _ _ _ _ held (omega (arith, c.in_ok-fault.ensures.unread, c.in-Ok-Line.ensures.asks, c.in-Ok-Line.ensures.few)) gave.gives
           (λ s stands. subst (λ (l : List ℕ). Follows s l c.line.new.self.progress None) c.as_slice.ensures.value (rw c.in-Ok-None.field-0-is at (c.in-Ok-None.ensures.follows s stands))),
       gave.quiet ∙ c.lines.invariant.1,
-      spends_on _ _ _ _ _ _ (spends_on _ _ _ _ _ _ c.lines.invariant.2 (c.in_ok-fault.ensures.spends _)) gave.spends,
+      spends_on _ _ _ _ _ _ _ c.lines.invariant.2 c.in_ok-fault.ensures.unread gave.spends,
       omega (arith, gave.falls refl, c.in_ok-fault.ensures.few, c.lines.invariant.3),
       λ keeps kept. c.in-Ok-None.ensures.kept keeps (c.in_ok-fault.ensures.kept keeps (c.lines.invariant.4 keeps kept)),
+      omega (arith, c.in_ok-fault.ensures.unread, c.in-Ok-Line.ensures.asks, c.lines.invariant.5),
     )
 
 pub returns-in-Ok-Some-clause-stops : goal.returns-in-Ok-Some-clause-stops
 returns-in-Ok-Some-clause-stops g c =
-    let held = rw c.in_default.is at (c.in_ok-fault.ensures.goes _ _ c.lines.invariant.0) in
+    let held = rw c.in_default.is at (c.in_ok-fault.ensures.goes _ _ _ c.lines.invariant.0) in
     let gave = rw c.in-Ok-Line.field-0-is at c.in-Ok-Line.ensures.ok in
-    fault-line _ _ c.line.new.self.progress _ _ _ _ _ _ held gave.gives
+    fault-line _ _ c.line.new.self.progress _ _ _ _ _ _ _ _ held (omega (arith, c.in_ok-fault.ensures.unread, c.in-Ok-Line.ensures.asks, c.in-Ok-Line.ensures.few)) gave.gives
     (λ s stands. subst (λ (l : List ℕ). Follows s l c.line.new.self.progress (Some c.in-Ok-Some.fault)) c.as_slice.ensures.value (rw c.in-Ok-Some.field-0-is at (c.in-Ok-Some.ensures.follows s stands)))
 
 pub returns-in-Ok-Cut-clause-stops : goal.returns-in-Ok-Cut-clause-stops
 returns-in-Ok-Cut-clause-stops g c =
-    let held = rw c.in_default.is at (c.in_ok-fault.ensures.goes _ _ c.lines.invariant.0) in
+    let held = rw c.in_default.is at (c.in_ok-fault.ensures.goes _ _ _ c.lines.invariant.0) in
     let gave = rw c.in-Ok-Cut.field-0-is at c.in-Ok-Cut.ensures.ok in
-    stops-cut _ _ _ _ _ _ _ held gave.gives (λ s stands. subst (λ n. length c.next.new.line.items ≤ n) (c.limit.ensures s stands) c.in-Ok-Cut.ensures.line.1) c.in-Ok-Cut.ensures.line.0
+    stops-cut _ _ _ _ _ _ _ _ _ held (omega (arith, c.in_ok-fault.ensures.unread, c.in-Ok-Cut.ensures.asks, c.in-Ok-Cut.ensures.few)) gave.gives (λ s stands. subst (λ n. length c.next.new.line.items ≤ n) (c.limit.ensures s stands) c.in-Ok-Cut.ensures.line.1) c.in-Ok-Cut.ensures.line.0
 
 pub returns-in-Ok-End-clause-stops : goal.returns-in-Ok-End-clause-stops
 returns-in-Ok-End-clause-stops g c =
-    let held = rw c.in_default.is at (c.in_ok-fault.ensures.goes _ _ c.lines.invariant.0) in
+    let held = rw c.in_default.is at (c.in_ok-fault.ensures.goes _ _ _ c.lines.invariant.0) in
     let gave = rw c.in-Ok-End.field-0-is at c.in-Ok-End.ensures.ok in
-    stops-end _ _ _ _ _ _ _ held gave.gives (λ s stands. subst (λ n. length c.next.new.line.items ≤ n) (c.limit.ensures s stands) c.in-Ok-End.ensures.line.1) c.in-Ok-End.ensures.line.0
+    stops-end _ _ _ _ _ _ _ _ _ held (omega (arith, c.in_ok-fault.ensures.unread, c.in-Ok-End.ensures.asks, c.in-Ok-End.ensures.few)) gave.gives (λ s stands. subst (λ n. length c.next.new.line.items ≤ n) (c.limit.ensures s stands) c.in-Ok-End.ensures.line.1) c.in-Ok-End.ensures.line.0
 
 pub returns-in-Ok-TooLong-clause-stops : goal.returns-in-Ok-TooLong-clause-stops
 returns-in-Ok-TooLong-clause-stops g c =
-    let held = rw c.in_default.is at (c.in_ok-fault.ensures.goes _ _ c.lines.invariant.0) in
+    let held = rw c.in_default.is at (c.in_ok-fault.ensures.goes _ _ _ c.lines.invariant.0) in
     let gave = rw c.in-Ok-TooLong.field-0-is at c.in-Ok-TooLong.ensures.ok in
-    at-long _ _ _ _ _ _ _ _ held gave.gives
+    at-long _ _ _ _ _ _ _ _ _ _ held (omega (arith, c.in_ok-fault.ensures.unread, c.in-Ok-TooLong.ensures.asks, c.in-Ok-TooLong.ensures.few)) c.in-Ok-TooLong.ensures.line.1 gave.gives
     (λ s stands next long.
     c.too_long.ensures s next stands (λ second here. gave.unlimited (c.limit.ensures s stands ∙ ap limit_of here) refl)
     (subst (λ n. n < length (bytes_of next)) (c.limit.ensures s stands) long))
 
 pub returns-in-Some-clause-stops : goal.returns-in-Some-clause-stops
-returns-in-Some-clause-stops g c = rw c.in-Some.is at (c.in_ok-fault.ensures.goes _ _ c.lines.invariant.0)
+returns-in-Some-clause-stops g c = rw c.in-Some.is at (c.in_ok-fault.ensures.goes _ _ _ c.lines.invariant.0)
 
 pub lines-smaller : goal.lines-smaller
 lines-smaller g c =
@@ -55,7 +57,8 @@ lines-smaller g c =
 
 pub returns-in-Err-ReadFault-clause-read_fault : goal.returns-in-Err-ReadFault-clause-read_fault
 returns-in-Err-ReadFault-clause-read_fault g c same =
-    fault-met _ _ _ _ _ c.lines.invariant.1 (spends_on _ _ _ _ _ _ c.lines.invariant.2 (c.in_ok-fault.ensures.spends _)) (c.in-Err-ReadFault.ensures.read_fault (ap Err c.in-Err-ReadFault.field-0-is))
+    fault-met _ _ _ _ _ _ _ _ c.lines.invariant.1 c.lines.invariant.2 c.in_ok-fault.ensures.unread
+    (omega (arith, c.in_ok-fault.ensures.unread, c.in-Err-ReadFault.ensures.asks, c.lines.invariant.5)) (c.in-Err-ReadFault.ensures.read_fault (ap Err c.in-Err-ReadFault.field-0-is))
 
 pub returns-in_err-fault-clause-kept : goal.returns-in_err-fault-clause-kept
 returns-in_err-fault-clause-kept g c keeps kept = c.in_err-fault.ensures.kept keeps (c.lines.invariant.4 keeps kept)

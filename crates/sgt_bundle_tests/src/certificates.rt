@@ -19,10 +19,22 @@ fn answers(alloc: Global, line: &str, wanted: Option<CertFault>) -> bool {
 #[test]
 fn whole_lines(rt: HostRuntime) -> Result<(), Fail> {
     for (line, wanted) in [
-        ("{\"decisions\":[],\"sites\":64}", None),
-        ("{\"decisions\":[],\"sites\":65}", Some(CertFault::Range)),
+        ("{\"decisions\":[],\"sites\":1}", None),
         ("{\"sites\":1 , \"decisions\":[]}", Some(CertFault::Range)),
         ("{\"decisions\":[],\"sites\":1.0}", Some(CertFault::Range)),
+        ("{\"decisions\":[],\"sites\":1,}", Some(CertFault::NotJson)),
+        ("{\"sites\":1}", Some(CertFault::Shape)),
+        (
+            "{\"decisions\":[{\"commit\":\"1\",\"rank\":0}],\"sites\":0}",
+            Some(CertFault::Shape),
+        ),
+        (
+            "{\"decisions\":[{\"commit\":0,\"rank\":0}],\"sites\":1}",
+            Some(CertFault::Range),
+        ),
+        ("{\"decisions\":[],\"sites\":17}", None),
+        ("{\"decisions\":[],\"sites\":64}", None),
+        ("{\"decisions\":[],\"sites\":65}", Some(CertFault::Range)),
         (
             "{\"decisions\":[],\"\\u0073ites\":1}",
             Some(CertFault::Range),
@@ -33,7 +45,6 @@ fn whole_lines(rt: HostRuntime) -> Result<(), Fail> {
         ),
         ("{\"decisions\":[],\"sites\":01}", Some(CertFault::NotJson)),
         ("", Some(CertFault::NotJson)),
-        ("{\"sites\":0}", Some(CertFault::Shape)),
     ] {
         assert!(rt; answers(rt.alloc(), line, wanted), "{line}");
     }

@@ -1,5 +1,0 @@
-//! Tests of certificates by themselves: what no proof reaches.
-#![tactic(auto)]
-
-#[cfg(test)]
-mod tests;

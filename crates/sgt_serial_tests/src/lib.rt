@@ -1,5 +1,0 @@
-//! Tests of the serial run.
-#![tactic(auto)]
-
-#[cfg(test)]
-mod tests;
