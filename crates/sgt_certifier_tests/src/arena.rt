@@ -1,9 +1,8 @@
-//! The arena: that its calls succeed, its limits, how often and in which order values are dropped, and that its memory is given back.
+//! The arena: that its calls succeed, its limits, and how often and in which order values are dropped.
 
 use crate::common::handle;
 use sgt_arena::{Arena, ArenaFault, MAX_PLACES};
 use std::alloc::Global;
-use std::fs;
 use std::sync::atomic::{AtomicU64, Ordering};
 use std::test::Fail;
 
@@ -83,43 +82,4 @@ fn each_value_is_dropped_once_in_order(rt: HostRuntime) {
             assert_eq!(rt; drops.load(Ordering::SeqCst), size);
         }
     }
-}
-
-// In each of so many windows a value is placed, of 512 bytes, so that a block has 32 KiB: whether all were.
-fn places_in_windows(alloc: Global, windows: u32) -> bool {
-    let mut arena = Arena::new(alloc);
-    for _ in 0..windows {
-        if arena.place([1u64; 64]).is_err() || arena.close().is_err() {
-            return false;
-        }
-    }
-    true
-}
-
-// The same in an arena of its own each, which is dropped with what it holds.
-fn places_in_arenas(alloc: Global, arenas: u32) -> bool {
-    for _ in 0..arenas {
-        let mut arena = Arena::new(alloc);
-        if arena.place([1u64; 64]).is_err() {
-            return false;
-        }
-    }
-    true
-}
-
-// How many pages of memory this process has, as Linux tells it.
-fn pages(rt: &HostRuntime) -> Result<u64, Fail> {
-    let told = fs::read_to_string(rt, "/proc/self/statm")?;
-    let first = told.as_str().split(' ').next().unwrap_or_default();
-    Ok(first.parse().unwrap_or(0))
-}
-
-// Were the blocks of 20,000 windows not freed, they would take 640 MB, which is 160,000 pages.
-#[test]
-fn blocks_are_freed(rt: HostRuntime) -> Result<(), Fail> {
-    let before = pages(&rt)?;
-    assert!(rt; places_in_windows(rt.alloc(), 20_000) && places_in_arenas(rt.alloc(), 20_000));
-    let after = pages(&rt)?;
-    assert!(rt; before > 0 && after < before + 10_000, "{before} {after}");
-    Ok(())
 }

@@ -3,10 +3,10 @@
 use crate::common::{Names, handle};
 use sgt_arena::Handle;
 use sgt_cert::Decision;
-use sgt_certifier::{Certifier, CertifierFault, Decided};
+use sgt_certifier::{Certifier, CertifierFault, Decided, HandedEdges, Incident};
 use sgt_edges::{Edge, EdgeList};
 use sgt_names::{Draft, Kind, Tx};
-use std::alloc::Global;
+use std::alloc::{AllocError, Global};
 use std::test::Fail;
 
 // What is asked of a certifier. A decision is asked with two edges at most.
@@ -44,7 +44,7 @@ fn decide(
     let edges = EdgeList::from_vec(Vec::from_slice(alloc, edges)?);
     match certifier.decide(handle, edges)? {
         Decided::Committed { number } => Ok(Answer::Decided(number, 0)),
-        Decided::Refused { number, walk } => Ok(Answer::Decided(number, walk.as_slice().len())),
+        Decided::Refused { number, walk } => Ok(Answer::Decided(number, walk.into_vec().len())),
     }
 }
 
@@ -190,5 +190,26 @@ fn an_install(rt: HostRuntime) -> Result<(), Fail> {
         (put, again, certifier.history().len()),
         (true, Err(CertifierFault::Unknown), 3)
     );
+    Ok(())
+}
+
+// Whether an edge that leads out of the node, kept by its other end, is that edge again, and the vector is given back.
+fn is_handed(alloc: Global, node: Handle, edge: &Edge) -> Result<bool, AllocError> {
+    let incident = Incident {
+        other: edge.to,
+        label: edge.label,
+        leads_out: true,
+    };
+    let handed = HandedEdges::from_vec(alloc, node, vec![in alloc; incident]?)?;
+    let is_edge = handed.count() == 1 && handed.at(0) == *edge;
+    let (center, incidents) = handed.into_vec();
+    Ok(is_edge && center == node && incidents.len() == 1)
+}
+
+#[test]
+fn an_edge_by_its_other_end(rt: HostRuntime) -> Result<(), Fail> {
+    let (names, node) = (Names::at(0)?, handle(1, 0));
+    let edge = names.edge(node, handle(0, 0), Kind::Rw);
+    assert_eq!(rt; is_handed(rt.alloc(), node, &edge), Ok(true));
     Ok(())
 }
