@@ -31,24 +31,34 @@ fn graphs(alloc: Global, tx: Tx, many: u32) -> bool {
     true
 }
 
-// How many pages of memory this process has, as Linux tells it.
+// How many pages of memory this process holds, as Linux tells it.
 fn pages(rt: &HostRuntime) -> Result<u64, Fail> {
     let told = fs::read_to_string(rt, "/proc/self/statm")?;
-    let first = told.as_str().split(' ').next().unwrap_or_default();
-    Ok(first.parse().unwrap_or(0))
+    let resident = told.as_str().split(' ').nth(1).unwrap_or_default();
+    Ok(resident.parse().unwrap_or(0))
 }
 
-// A block has 64 places for a node, which are 4 KiB at least. Were those of 30,000 windows or graphs not freed, they would take
-// 120 MB, which is 30,000 pages.
+// Whether fewer pages came than the blocks of 100,000 windows or graphs would take, which are 150,000 or more. The limit leaves
+// room for an allocator that holds freed memory back for a while, to see wrong uses of it.
+fn are_few(before: u64, after: u64) -> bool {
+    before > 0 && after.saturating_sub(before) < 110_000
+}
+
 #[test]
-fn blocks_are_freed(rt: HostRuntime) -> Result<(), Fail> {
+fn closed_windows_are_freed(rt: HostRuntime) -> Result<(), Fail> {
     let before = pages(&rt)?;
     let mut certifier = Certifier::new(rt.alloc());
-    assert!(rt; windows(&mut certifier, 30_000));
-    let closed = pages(&rt)?;
-    assert!(rt; graphs(rt.alloc(), Tx::new(1)?, 30_000));
-    let dropped = pages(&rt)?;
-    assert!(rt; before > 0 && closed < before + 8_000, "{before} {closed}");
-    assert!(rt; dropped < closed + 8_000, "{closed} {dropped}");
+    let closed = windows(&mut certifier, 100_000);
+    let after = pages(&rt)?;
+    assert!(rt; closed && are_few(before, after), "{before} {after}");
+    Ok(())
+}
+
+#[test]
+fn dropped_graphs_are_freed(rt: HostRuntime) -> Result<(), Fail> {
+    let before = pages(&rt)?;
+    let dropped = graphs(rt.alloc(), Tx::new(1)?, 100_000);
+    let after = pages(&rt)?;
+    assert!(rt; dropped && are_few(before, after), "{before} {after}");
     Ok(())
 }
