@@ -8,4 +8,4 @@ returns-clause-all c = ok_then c.add_readers.result c.add_readers.ensures.all (Î
 pub returns-clause-once : goal.returns-clause-once
 returns-clause-once c = ok_then c.add_readers.result c.add_readers.ensures.once (Î» readers own.
     once-both _ _ _ _ _ _ (change-parts c.args.site.now c.args.touch.now c.args.me c.in-Some.change _ _ c.in-Some.is c.changes_before-before.ensures.before c.reads_before-readers.ensures.before) (ww-rw-differ c.args.touch.now c.args.me _ _)
-        c.in_ok-add_before.ensures.all (c.in_ok-add_before.ensures.once (c.changes_before-before.ensures.apart (c.requires.apart own))) (readers (c.reads_before-readers.ensures.apart own)))
+    c.in_ok-add_before.ensures.all (c.in_ok-add_before.ensures.once (c.changes_before-before.ensures.apart (c.requires.apart own))) (readers (c.reads_before-readers.ensures.apart own)))

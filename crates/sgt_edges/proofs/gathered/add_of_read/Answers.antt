@@ -20,5 +20,5 @@ returns-clause-once c =
     let front = c.in_front-before.ensures.neighbours c.args.site.now c.args.touch.now.item c.requires.writers in
     let later = c.behind.ensures.neighbours c.args.site.now c.args.touch.now.item c.requires.writers in
     ok_then c.add_after.result c.add_after.ensures.once (λ after apart.
-        once-both _ _ _ _ _ _ (read-parts c.args.site.now c.args.touch.now c.args.me c.in-Some.seen _ _ c.in-Some.is front later) (wr-rw-differ c.args.touch.now c.args.me _ _)
-            c.in_ok-add_before.ensures.all (c.in_ok-add_before.ensures.once (c.in_front-before.ensures.apart apart)) (after (c.behind.ensures.apart apart)))
+    once-both _ _ _ _ _ _ (read-parts c.args.site.now c.args.touch.now c.args.me c.in-Some.seen _ _ c.in-Some.is front later) (wr-rw-differ c.args.touch.now c.args.me _ _)
+    c.in_ok-add_before.ensures.all (c.in_ok-add_before.ensures.once (c.in_front-before.ensures.apart apart)) (after (c.behind.ensures.apart apart)))
