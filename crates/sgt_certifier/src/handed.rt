@@ -11,7 +11,7 @@ use std::alloc::{AllocError, Global};
 use std::marker::Model;
 
 /// An edge of a node that is known, by its other end. It takes less room than the edge.
-#[derive(Clone, Copy, Debug, PartialEq, Eq)]
+#[derive(Clone, Copy)]
 pub struct Incident {
     pub other: Handle,
     pub label: Label,
@@ -53,10 +53,31 @@ impl HandedEdges {
         ensures { IfOk result (λ handed. handed ≡ edges.now) }
     {
         let incidents = incidents_of(alloc, node, edges)?;
+        HandedEdges::from_vec(alloc, node, incidents)
+    }
+
+    /// The edges of the node to and from these other ends. It takes memory for the vector's own place and the node, and copies
+    /// none of them.
+    pub fn from_vec(
+        alloc: Global,
+        node: Handle,
+        incidents: Vec<Incident>,
+    ) -> Result<HandedEdges, AllocError>
+        ensures { IfOk result (λ handed. handed ≡ map (edge_of node) incidents.items) }
+    {
         match Box::new(alloc, Star { node, incidents }) {
             Ok(star) => Ok(HandedEdges { star }),
             Err(_) => Err(AllocError),
         }
+    }
+
+    /// The node, and the vector of the other ends. It takes no memory.
+    pub fn into_vec(self) -> (Handle, Vec<Incident>)
+        ensures { map (edge_of result.0) result.1.items ≡ self }
+    {
+        let HandedEdges { star } = self;
+        let Star { node, incidents } = Box::into_inner(star);
+        (node, incidents)
     }
 
     /// How many there are.

@@ -11,7 +11,7 @@ mod ranking;
 
 pub use call::{Call, CertifierFault, Decided, Walk};
 pub use certifier::Certifier;
-pub use handed::HandedEdges;
+pub use handed::{HandedEdges, Incident};
 pub use laws::{
     histories_are_sound, installs_are_counted, installs_are_noted_once,
     serial_orders_are_topological,

@@ -73,11 +73,11 @@ module _ {A : Type 0} (Q : A → Edge → Type 0) (xs : List A) where
   pub each-none : (es : List Edge) → AddsAll (λ e. Any (λ a. Q a e) (take 0 xs)) es es
   each-none es = adds-nothing (λ e. Any (λ a. Q a e) (take 0 xs)) es (λ e any. absurd (omega (arith, any.2)))
 
-  pub each-next : (i : ℕ) (a : A) (old mid new : List Edge) → slice_get xs i ≡ Some a → AddsAll (λ e. Any (λ b. Q b e) (take i xs)) old mid → AddsAll (Q a) mid new → AddsAll (λ e. Any (λ b. Q b e) (take (i + 1) xs)) old new
-  each-next i a old mid new at so_far added = adds-both (λ e. Any (λ b. Q b e) (take i xs)) (Q a) (λ e. Any (λ b. Q b e) (take (i + 1) xs)) old mid new (λ e. (λ any. apart e any, λ which. joined e which)) so_far added
+  pub one-more : (i : ℕ) (a : A) (e : Edge) → slice_get xs i ≡ Some a → Any (λ b. Q b e) (take (i + 1) xs) ↔ (Any (λ b. Q b e) (take i xs) ⊎ Q a e)
+  one-more i a e at = (apart, joined)
     where
-      apart : (e : Edge) → Any (λ b. Q b e) (take (i + 1) xs) → Any (λ b. Q b e) (take i xs) ⊎ Q a e
-      apart e any =
+      apart : Any (λ b. Q b e) (take (i + 1) xs) → Any (λ b. Q b e) (take i xs) ⊎ Q a e
+      apart any =
           let b = Any_at (λ b. Q b e) (take (i + 1) xs) any in
           let there = slice_get-take xs (i + 1) b.0 b.1 b.2 in
           elim (cases_lt b.0 i) [
@@ -87,14 +87,17 @@ module _ {A : Type 0} (Q : A → Edge → Type 0) (xs : List A) where
                 inr (subst (λ c. Q c e) (same_Some b.1 a (sym there.1 ∙ ap (slice_get xs) here ∙ at)) b.3)
           ]
 
-      joined : (e : Edge) → Any (λ b. Q b e) (take i xs) ⊎ Q a e → Any (λ b. Q b e) (take (i + 1) xs)
-      joined e (inl any) =
+      joined : Any (λ b. Q b e) (take i xs) ⊎ Q a e → Any (λ b. Q b e) (take (i + 1) xs)
+      joined (inl any) =
           let b = Any_at (λ b. Q b e) (take i xs) any in
           let there = slice_get-take xs i b.0 b.1 b.2 in
           Any-from_at (λ b. Q b e) (take (i + 1) xs) b.0 b.1 (slice_get-take_at xs (i + 1) b.0 b.1 (let lt = there.0 in omega (arith, lt)) there.1) b.3
-      joined e (inr q) = Any-from_at (λ b. Q b e) (take (i + 1) xs) i a (slice_get-take_at xs (i + 1) i a (omega arith) at) q
+      joined (inr q) = Any-from_at (λ b. Q b e) (take (i + 1) xs) i a (slice_get-take_at xs (i + 1) i a (omega arith) at) q
 
-  all-taken : (i : ℕ) (e : Edge) → length xs ≤ i → Any (λ b. Q b e) (take i xs) ↔ Any (λ b. Q b e) xs
+  pub each-next : (i : ℕ) (a : A) (old mid new : List Edge) → slice_get xs i ≡ Some a → AddsAll (λ e. Any (λ b. Q b e) (take i xs)) old mid → AddsAll (Q a) mid new → AddsAll (λ e. Any (λ b. Q b e) (take (i + 1) xs)) old new
+  each-next i a old mid new at so_far added = adds-both (λ e. Any (λ b. Q b e) (take i xs)) (Q a) (λ e. Any (λ b. Q b e) (take (i + 1) xs)) old mid new (λ e. one-more i a e at) so_far added
+
+  pub all-taken : (i : ℕ) (e : Edge) → length xs ≤ i → Any (λ b. Q b e) (take i xs) ↔ Any (λ b. Q b e) xs
   all-taken i e end = (
     λ any. let b = Any_at (λ b. Q b e) (take i xs) any in Any-from_at (λ b. Q b e) xs b.0 b.1 (slice_get-take xs i b.0 b.1 b.2).1 b.3,
     λ any. let b = Any_at (λ b. Q b e) xs any in let lt = slice_get_within xs b.0 b.1 b.2 in Any-from_at (λ b. Q b e) (take i xs) b.0 b.1 (slice_get-take_at xs i b.0 b.1 (omega (arith, lt, end)) b.2) b.3,
@@ -113,7 +116,7 @@ module _ {A : Type 0} (Q : A → Edge → Type 0) (xs : List A) where
 
 module _ (s : SiteState) where
   -- what one touched item keeps, and is to be changed by
-  saw-one : (t : Touch) (x : Name) (n : ℕ) → SawAt s (t ∷ []) x n → (t.site ≡ s.number) × (t.item ≡ x) × ((v : ℕ) × (t.seen ≡ Some (record { value = v; version = n })))
+  pub saw-one : (t : Touch) (x : Name) (n : ℕ) → SawAt s (t ∷ []) x n → (t.site ≡ s.number) × (t.item ≡ x) × ((v : ℕ) × (t.seen ≡ Some (record { value = v; version = n })))
   saw-one t x n saw =
       let k = kept-from s.number (t ∷ []) x saw.0 n saw.1 in
       let same = is_single t k.0 k.1 in
@@ -122,7 +125,7 @@ module _ (s : SiteState) where
   one-saw : (t : Touch) (seen : Seen) → t.site ≡ s.number → t.seen ≡ Some seen → SawAt s (t ∷ []) t.item seen.version
   one-saw t seen here some = (seen.value, kept-to s.number (t ∷ []) t seen (itself t) here some)
 
-  changes-one : (t : Touch) (x : Name) (c : Change) → IsToChange s (t ∷ []) x c → (t.site ≡ s.number) × (t.item ≡ x) × (t.change ≡ Some c)
+  pub changes-one : (t : Touch) (x : Name) (c : Change) → IsToChange s (t ∷ []) x c → (t.site ≡ s.number) × (t.item ≡ x) × (t.change ≡ Some c)
   changes-one t x c asks =
       let k = change-from s.number (t ∷ []) x c asks in
       let same = is_single t k.0 k.1 in

@@ -6,3 +6,4 @@ pub mod Logged
 pub mod Unlisted
 pub mod Neighbours
 pub mod Slices
+pub mod Once

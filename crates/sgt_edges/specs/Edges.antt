@@ -1,5 +1,5 @@
 -- The edges of a draft at a site: the conflicts of its reads and changes there with the committed transactions.
-use Rattle.std.specs.Prelude.{◌≡◌, ◌≢◌, ℕ, false, ◌<◌, ◌≤◌, ◌⊎◌, List, ◌++◌, map, Some, Any, Contains, slice_get}
+use Rattle.std.specs.Prelude.{◌≡◌, ◌≢◌, ℕ, false, ◌<◌, ◌≤◌, ◌⊎◌, List, ◌++◌, map, Some, Any, AllPairs, Contains, slice_get}
 use Rattle.sgt_names.specs.Name.{Name}
 use Rattle.sgt_names.specs.Log.{Conflicts}
 use Rattle.sgt_names.specs.Draft.{at_site, kept_in, writing_in}
@@ -73,6 +73,14 @@ pub data Walks (s : SiteState) (x : Name) (edges : List Edge) : Handle → Handl
 -- the edges stand for all of the draft's here: each one that isn't given is such a walk
 abbrev pub StandsForAll : SiteState → List Touch → Handle → List Edge → Type 0
 StandsForAll s touched me edges = (x : Name) (f t : Handle) (k : Kind) → IsEdge s touched me x f t k → Walks s x edges f t
+
+-- no two committed transactions of the site have the same handle
+abbrev pub HaveOwnHandles : SiteState → Type 0
+HaveOwnHandles s = (a b : ℕ) (h : Handle) → handle_of s.installed a ≡ Some h → handle_of s.installed b ≡ Some h → a ≡ b
+
+-- no two edges are the same
+abbrev pub AreApart : List Edge → Type 0
+AreApart edges = AllPairs (λ e f. e ≢ f) edges
 
 -- an edge between me and a committed transaction, from its handle to mine or from mine to it, and the two differ
 pub record JoinsCommitted (s : SiteState) (me from to : Handle) : Type 0 where

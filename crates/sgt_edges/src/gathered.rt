@@ -1,10 +1,11 @@
 //! The edges of a draft at a site.
 
-ghost use Rattle.std.specs.Prelude.{◌≡◌, ◌↔◌, ◌+◌, ◌≤◌, ◌∷◌, [], length, All, Any, Contains, IsTrue, IfOk, IfErr, OnOk};
+ghost use Rattle.std.specs.Prelude.{◌≡◌, ◌↔◌, ◌∷◌, [], All, Any, Contains, IsTrue, IfOk, IfErr, OnOk};
 ghost use Rattle.sgt_site.specs.State.{IsSite};
-ghost use Rattle.sgt_edges.specs.Edges.{IsGiven, StandsForAll, SeesTooNew, RefusesEdges};
+ghost use Rattle.sgt_names.specs.Draft.{AreRising};
+ghost use Rattle.sgt_edges.specs.Edges.{IsGiven, StandsForAll, SeesTooNew, RefusesEdges, HaveOwnHandles, AreApart};
 ghost use Rattle.sgt_edges.specs.declared.edge.Edge.{Edge as AnEdge};
-ghost use Rattle.sgt_edges.specs.private.Gathered.{AreWriters, IsTooNew, IsNear, IsBetween, AddsAll, FromWriter, ToWriter, FromReader, IsOfRead, IsOfChange};
+ghost use Rattle.sgt_edges.specs.private.Gathered.{AreWriters, WritersApart, ReadersApart, IsTooNew, IsNear, IsBetween, AddsAll, AddsOnce, FromWriter, ToWriter, FromReader, IsOfRead, IsOfChange};
 
 use crate::edge::{Edge, EdgeList};
 use crate::fault::EdgeFault;
@@ -23,6 +24,7 @@ use std::alloc::{AllocError, Global};
 pub fn gather(alloc: Global, site: &Site, draft: &Draft, me: Handle) -> Result<EdgeList, EdgeFault>
     ensures given { IfOk result (λ edges. All (IsGiven site.now draft.now.touched me) edges) }
     ensures stands { IfOk result (StandsForAll site.now draft.now.touched me) }
+    ensures once { HaveOwnHandles site.now → IfOk result AreApart }
     ensures allowed { OnOk result (SeesTooNew site.now draft.now.touched → ⊥) }
     ensures refused { IfErr result (RefusesEdges site.now draft.now.touched) }
 {
@@ -43,8 +45,10 @@ fn to_neighbours(
     touched: &[Touch],
     me: Handle,
 ) -> Result<EdgeList, AllocError>
-    requires { Any (IsTooNew site.now) touched.now → ⊥ }
+    requires seen { Any (IsTooNew site.now) touched.now → ⊥ }
+    requires rising { AreRising touched.now }
     ensures near { IfOk result (λ edges. (e : AnEdge) → Contains edges e ↔ IsNear site.now touched.now me e) }
+    ensures once { HaveOwnHandles site.now → IfOk result AreApart }
     ensures site { IsSite site.now }
 {
     let here = site.number();
@@ -83,7 +87,9 @@ fn add_edges(
 ) -> Result<(), AllocError>
     requires number { here ≡ site.now.number }
     requires seen { IsTooNew site.now touch.now → ⊥ }
-    ensures { OnOk result (AddsAll (IsNear site.now (touch.now ∷ []) me) edges.old edges.new) }
+    ensures all { OnOk result (AddsAll (IsNear site.now (touch.now ∷ []) me) edges.old edges.new) }
+    ensures once { OnOk result
+        (HaveOwnHandles site.now → AddsOnce (IsNear site.now (touch.now ∷ []) me) edges.old edges.new) }
 {
     if touch.site != here {
         return Ok(());
@@ -104,7 +110,9 @@ fn add_of_read(
     requires writers { AreWriters site.now touch.now.item writers.now }
     requires here { touch.now.site ≡ site.now.number }
     requires seen { IsTooNew site.now touch.now → ⊥ }
-    ensures { OnOk result (AddsAll (IsOfRead site.now touch.now me) edges.old edges.new) }
+    ensures all { OnOk result (AddsAll (IsOfRead site.now touch.now me) edges.old edges.new) }
+    ensures once { OnOk result
+        (WritersApart writers.now → AddsOnce (IsOfRead site.now touch.now me) edges.old edges.new) }
 {
     let Some(seen) = touch.seen else {
         return Ok(());
@@ -122,8 +130,11 @@ fn add_of_change(
     writers: &[Writer],
     me: Handle,
 ) -> Result<(), AllocError>
-    requires { AreWriters site.now touch.now.item writers.now }
-    ensures { OnOk result (AddsAll (IsOfChange site.now touch.now me) edges.old edges.new) }
+    requires writers { AreWriters site.now touch.now.item writers.now }
+    requires apart { HaveOwnHandles site.now → WritersApart writers.now }
+    ensures all { OnOk result (AddsAll (IsOfChange site.now touch.now me) edges.old edges.new) }
+    ensures once { OnOk result
+        (HaveOwnHandles site.now → AddsOnce (IsOfChange site.now touch.now me) edges.old edges.new) }
 {
     let Some(change) = touch.change else {
         return Ok(());
@@ -143,7 +154,8 @@ fn add_before(
     me: Handle,
 ) -> Result<(), AllocError>
     ensures all { OnOk result (AddsAll (λ e. Any (λ w. FromWriter touch.now kind me w e) writers.now) edges.old edges.new) }
-    ensures once { OnOk result (length edges.new ≤ length edges.old + length writers.now) }
+    ensures once { OnOk result
+        (WritersApart writers.now → AddsOnce (λ e. Any (λ w. FromWriter touch.now kind me w e) writers.now) edges.old edges.new) }
 {
     for w in writers {
         add(edges, touch, kind, w.handle, me)?;
@@ -159,7 +171,8 @@ fn add_after(
     me: Handle,
 ) -> Result<(), AllocError>
     ensures all { OnOk result (AddsAll (λ e. Any (λ w. ToWriter touch.now me w e) writers.now) edges.old edges.new) }
-    ensures once { OnOk result (length edges.new ≤ length edges.old + length writers.now) }
+    ensures once { OnOk result
+        (WritersApart writers.now → AddsOnce (λ e. Any (λ w. ToWriter touch.now me w e) writers.now) edges.old edges.new) }
 {
     for w in writers {
         add(edges, touch, Kind::Rw, me, w.handle)?;
@@ -175,7 +188,8 @@ fn add_readers(
     me: Handle,
 ) -> Result<(), AllocError>
     ensures all { OnOk result (AddsAll (λ e. Any (λ r. FromReader touch.now me r e) readers.now) edges.old edges.new) }
-    ensures once { OnOk result (length edges.new ≤ length edges.old + length readers.now) }
+    ensures once { OnOk result
+        (ReadersApart readers.now → AddsOnce (λ e. Any (λ r. FromReader touch.now me r e) readers.now) edges.old edges.new) }
 {
     for r in readers {
         add(edges, touch, Kind::Rw, r.handle, me)?;
@@ -192,7 +206,7 @@ fn add(
     to: Handle,
 ) -> Result<(), AllocError>
     ensures all { OnOk result (AddsAll (IsBetween touch.now kind from to) edges.old edges.new) }
-    ensures once { OnOk result (length edges.new ≤ length edges.old + 1) }
+    ensures once { OnOk result (AddsOnce (IsBetween touch.now kind from to) edges.old edges.new) }
 {
     if from == to {
         return Ok(());

@@ -6,8 +6,9 @@ ghost use Rattle.sgt_names.specs.Name.{Name};
 ghost use Rattle.sgt_site.specs.State.{SiteState, IsSite, IsReader, IsVersionWritten, version_at, writers_of};
 ghost use Rattle.sgt_site.specs.declared.cell.Reader.{Reader as CommittedReader};
 ghost use Rattle.sgt_site.specs.declared.cell.Writer.{Writer as CommittedWriter};
+ghost use Rattle.sgt_edges.specs.Edges.{HaveOwnHandles};
 ghost use Rattle.sgt_edges.specs.Neighbours.{IsInFront, IsBehind, IsLastWrite};
-ghost use Rattle.sgt_edges.specs.private.Gathered.{AreWriters, IsRunLength, ChangesBefore, ReadsBefore};
+ghost use Rattle.sgt_edges.specs.private.Gathered.{AreWriters, IsRunLength, ChangesBefore, ReadsBefore, WritersApart, ReadersApart};
 
 use sgt_names::{Change, Item};
 use sgt_site::{Reader, Site, Writer};
@@ -15,6 +16,7 @@ use sgt_site::{Reader, Site, Writer};
 /// The writers of the item. One that isn't at the site has none.
 pub(crate) fn writers_at(site: &Site, item: Item) -> &[Writer]
     ensures writers { AreWriters site.now item result.now }
+    ensures apart { HaveOwnHandles site.now → WritersApart result.now }
     ensures site { IsSite site.now }
 {
     match site.writers(item) {
@@ -38,6 +40,7 @@ fn version_written_at(site: &Site, item: Item) -> u64
 fn readers_at(site: &Site, item: Item) -> &[Reader]
     ensures readers { (r : CommittedReader) → Contains result.now r ↔ IsReader site.now.installed site.now.entries item r }
     ensures by_version { AllPairs (λ a b. a.version ≤ b.version) result.now }
+    ensures apart { HaveOwnHandles site.now → ReadersApart result.now }
     ensures site { IsSite site.now }
 {
     match site.readers(item) {
@@ -50,8 +53,9 @@ fn readers_at(site: &Site, item: Item) -> &[Reader]
 /// it is empty.
 pub(crate) fn in_front(writers: &[Writer], version: u64) -> &[Writer]
     requires { version ≤ length writers.now }
-    ensures { (s : SiteState) (x : Name) → AreWriters s x writers.now
+    ensures neighbours { (s : SiteState) (x : Name) → AreWriters s x writers.now
         → (w : CommittedWriter) → Contains result.now w ↔ ((k : ℕ) × IsInFront s x version k w) }
+    ensures apart { WritersApart writers.now → WritersApart result.now }
 {
     let before = &writers[..version as usize];
     let written = last_written(before);
@@ -75,8 +79,9 @@ fn last_written(writers: &[Writer]) -> usize
 /// Of an item's writers those from a version on, up to and with the next write.
 pub(crate) fn behind(writers: &[Writer], version: u64) -> &[Writer]
     requires { version ≤ length writers.now }
-    ensures { (s : SiteState) (x : Name) → AreWriters s x writers.now
+    ensures neighbours { (s : SiteState) (x : Name) → AreWriters s x writers.now
         → (w : CommittedWriter) → Contains result.now w ↔ ((k : ℕ) × IsBehind s x version k w) }
+    ensures apart { WritersApart writers.now → WritersApart result.now }
 {
     let after = &writers[version as usize..];
     let run = run_length(after);
@@ -106,7 +111,8 @@ pub(crate) fn changes_before<'a>(
     change: Change,
 ) -> &'a [Writer]
     requires { AreWriters site.now item writers.now }
-    ensures { (w : CommittedWriter) → Contains result.now w ↔ ChangesBefore site.now item change w }
+    ensures before { (w : CommittedWriter) → Contains result.now w ↔ ChangesBefore site.now item change w }
+    ensures apart { WritersApart writers.now → WritersApart result.now }
 {
     match change {
         Change::Put(_) => in_front(writers, writers.len() as u64),
@@ -117,7 +123,8 @@ pub(crate) fn changes_before<'a>(
 // Of the item's writers the last one that is a write, if there is one.
 fn last_write<'a>(site: &Site, item: Item, writers: &'a [Writer]) -> &'a [Writer]
     requires { AreWriters site.now item writers.now }
-    ensures { (w : CommittedWriter) → Contains result.now w ↔ ((k : ℕ) × IsLastWrite site.now item k w) }
+    ensures last { (w : CommittedWriter) → Contains result.now w ↔ ((k : ℕ) × IsLastWrite site.now item k w) }
+    ensures apart { WritersApart writers.now → WritersApart result.now }
 {
     let written = version_written_at(site, item) as usize;
     &writers[written.saturating_sub(1)..written]
@@ -127,7 +134,8 @@ fn last_write<'a>(site: &Site, item: Item, writers: &'a [Writer]) -> &'a [Writer
 /// write.
 pub(crate) fn reads_before(site: &Site, item: Item, version: u64, change: Change) -> &[Reader]
     requires { version ≡ version_at site.now.entries item }
-    ensures { (r : CommittedReader) → Contains result.now r ↔ ReadsBefore site.now item change r }
+    ensures before { (r : CommittedReader) → Contains result.now r ↔ ReadsBefore site.now item change r }
+    ensures apart { HaveOwnHandles site.now → ReadersApart result.now }
 {
     match change {
         Change::Put(_) => readers_since(readers_at(site, item), version),
@@ -138,7 +146,8 @@ pub(crate) fn reads_before(site: &Site, item: Item, version: u64, change: Change
 // The readers of this version and of later ones.
 fn readers_since(readers: &[Reader], version: u64) -> &[Reader]
     requires { AllPairs (λ a b. a.version ≤ b.version) readers.now }
-    ensures { (r : CommittedReader) → Contains result.now r ↔ (Contains readers.now r × (version ≤ r.version)) }
+    ensures since { (r : CommittedReader) → Contains result.now r ↔ (Contains readers.now r × (version ≤ r.version)) }
+    ensures apart { ReadersApart readers.now → ReadersApart result.now }
 {
     match readers.iter().rposition(|r| r.version < version) {
         Some(at) => &readers[at + 1..],

@@ -14,14 +14,14 @@ use std::alloc::{AllocError, Global};
 use std::marker::Model;
 
 /// A committed transaction, with the handle that was given for it.
-#[derive(Clone, Copy, Debug, PartialEq, Eq)]
+#[derive(Clone, Copy)]
 pub struct Install {
     pub tx: Tx,
     pub handle: Handle,
 }
 
 /// A committed transaction that wrote an item or added to it, with the handle that was given for it.
-#[derive(Clone, Copy, Debug, PartialEq, Eq)]
+#[derive(Clone, Copy, PartialEq)]
 pub struct Writer {
     pub tx: Tx,
     pub handle: Handle,
@@ -30,7 +30,7 @@ pub struct Writer {
 }
 
 /// A committed transaction with its handle, and the version of the item that it read.
-#[derive(Clone, Copy, Debug, PartialEq, Eq)]
+#[derive(Clone, Copy, PartialEq)]
 pub struct Reader {
     pub tx: Tx,
     pub handle: Handle,

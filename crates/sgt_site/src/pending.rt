@@ -10,7 +10,7 @@ use crate::readings::insert;
 use sgt_names::{Item, Tx};
 
 /// A read of a transaction that has no end yet.
-#[derive(Clone, Copy, Debug, PartialEq, Eq)]
+#[derive(Clone, Copy)]
 pub struct PendingRead {
     pub tx: Tx,
     pub item: Item,

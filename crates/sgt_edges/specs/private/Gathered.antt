@@ -1,5 +1,5 @@
 -- The edges of one touched item.
-use Rattle.std.specs.Prelude.{◌≡◌, ◌≢◌, ◌⊎◌, ◌↔◌, ◌<◌, ◌≤◌, ℕ, true, false, List, Some, Contains, length, slice_get}
+use Rattle.std.specs.Prelude.{◌≡◌, ◌≢◌, ◌⊎◌, ◌↔◌, ◌<◌, ◌≤◌, ℕ, true, false, List, Some, AllPairs, Contains, length, slice_get}
 use Rattle.sgt_names.specs.Name.{Name}
 use Rattle.sgt_names.specs.declared.draft.Seen.{Seen}
 use Rattle.sgt_names.specs.declared.draft.Touch.{Touch}
@@ -11,7 +11,7 @@ use Rattle.sgt_arena.specs.declared.handle.Handle.{Handle}
 use Rattle.sgt_site.specs.State.{SiteState, version_at, writers_of}
 use Rattle.sgt_site.specs.declared.cell.Reader.{Reader}
 use Rattle.sgt_site.specs.declared.cell.Writer.{Writer}
-use Rattle.sgt_edges.specs.Edges.{HasReader}
+use Rattle.sgt_edges.specs.Edges.{HasReader, AreApart}
 use Rattle.sgt_edges.specs.Neighbours.{AddsOnly, IsInFront, IsBehind, IsLastWrite, IsNeighbour}
 use Rattle.sgt_edges.specs.declared.edge.Edge.{Edge}
 
@@ -31,6 +31,17 @@ IsBetween t kind from to e =
 -- the edges that are so were added, and no others
 abbrev pub AddsAll : (Edge → Type 0) → List Edge → List Edge → Type 0
 AddsAll P old new = (e : Edge) → Contains new e ↔ (Contains old e ⊎ P e)
+
+-- if no two were the same and none of them was there, no two are the same
+abbrev pub AddsOnce : (Edge → Type 0) → List Edge → List Edge → Type 0
+AddsOnce P old new = AreApart old → ((e : Edge) → Contains old e → P e → ⊥) → AreApart new
+
+-- no two of the writers, or of the readers, have the same handle
+abbrev pub WritersApart : List Writer → Type 0
+WritersApart ws = AllPairs (λ a b. a.handle ≢ b.handle) ws
+
+abbrev pub ReadersApart : List Reader → Type 0
+ReadersApart rs = AllPairs (λ a b. a.handle ≢ b.handle) rs
 
 -- those to me from a writer, from me to a writer, to me from a reader
 abbrev pub FromWriter : Touch → Kind → Handle → Writer → Edge → Type 0

@@ -1,6 +1,6 @@
 use Rattle.std.proofs.Common.{sym, ◌∙◌}
-use Rattle.sgt_site_tests.proofs.Unread.{unread}
-use Rattle.sgt_site_tests.proofs.random_drafts.read.Goals as goal
+use Rattle.sgt_certifier_tests.proofs.Unread.{unread}
+use Rattle.sgt_certifier_tests.proofs.random_drafts.read.Goals as goal
 
 pub seen-requires : goal.seen-requires
 seen-requires c = unread c.args.draft.now.touched (c.args.here, c.args.item) (sym c.look.ensures ∙ c.in-None.is)

@@ -1,7 +1,7 @@
 //! Random drafts: walks over the edges that are given lead wherever those over all edges of the
 //! rule do, so the same is decided on them.
 
-use crate::common::{Names, opened};
+use crate::common::{Names, handle, opened, random};
 use sgt_arena::Handle;
 use sgt_edges::gather;
 use sgt_names::{Change, Draft, Entry, Item, SiteNo, Touch, Tx};
@@ -154,10 +154,7 @@ fn is_part(edges: &[u64; 64], all: &[u64; 64]) -> bool {
 // over those that were given lead wherever walks over all do.
 fn decide(alloc: Global, site: &mut Site, decided: &mut Decided, tx: Tx, draft: &Draft) -> bool {
     let number = tx.number();
-    let me = Handle {
-        index: number,
-        generation: 0,
-    };
+    let me = handle(number, 0);
     let all = all_edges(site, draft, number, decided.committed);
     let Some(given) = with_given(alloc, site, draft, me, decided.given) else {
         return false;
@@ -175,14 +172,6 @@ fn decide(alloc: Global, site: &mut Site, decided: &mut Decided, tx: Tx, draft: 
     decided.given = given;
     decided.committed |= bit(number);
     site.install(tx, me, draft).is_ok()
-}
-
-// The next of a row of numbers that look random.
-fn random(state: &mut u64) -> u64 {
-    *state = state
-        .wrapping_mul(6_364_136_223_846_793_005)
-        .wrapping_add(1_442_695_040_888_963_407);
-    *state >> 40
 }
 
 // The transaction reads the item, if it has not and has no write of it, and may.

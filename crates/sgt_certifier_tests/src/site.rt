@@ -1,0 +1,151 @@
+//! What no clause of a site says: that the calls succeed, on values from outside, and that a pledge is covered.
+
+use crate::common::{Names, handle, is_used_by, opened};
+use sgt_names::{Draft, Entry, Holding, Item, Seen, Tx};
+use sgt_site::{Reader, Site, SiteFault, Writer};
+use std::alloc::Global;
+use std::test::Fail;
+
+// A draft that saw x=5 at version 0, and adds 1 to y. What is refused memory is tried again.
+fn drafted(alloc: Global, names: &Names) -> Draft {
+    let mut draft = Draft::new(alloc);
+    if draft.room().is_err() {
+        let _ = draft.room();
+    }
+    let _ = draft.seen(names.site, names.x, 5, 0);
+    if draft.add(names.site, names.y, 1).is_err() {
+        let _ = draft.add(names.site, names.y, 1);
+    }
+    draft
+}
+
+// What a read answers. What is refused memory is tried again.
+fn read(site: &mut Site, tx: Tx, item: Item) -> Result<Seen, SiteFault> {
+    match site.read(tx, item) {
+        Err(SiteFault::Memory) => site.read(tx, item),
+        answer => answer,
+    }
+}
+
+// The transaction reads x as its draft says, and is pledged: whether it was.
+fn pledge(site: &mut Site, draft: &Draft, names: &Names, tx: Tx) -> bool {
+    let first = Seen {
+        value: 5,
+        version: 0,
+    };
+    read(site, tx, names.x) == Ok(first) && pledge_again(site, draft, tx).is_ok()
+}
+
+fn pledge_again(site: &mut Site, draft: &Draft, tx: Tx) -> Result<(), SiteFault> {
+    match site.pledge(tx, draft) {
+        Err(SiteFault::Memory) => site.pledge(tx, draft),
+        answer => answer,
+    }
+}
+
+// What the calls answer by which the pledge is taken back and given again, and the transaction is withdrawn.
+fn withdraw(site: &mut Site, draft: &Draft, tx: Tx) -> [Result<(), SiteFault>; 4] {
+    let unpledged = site.unpledge(tx);
+    let early = site.withdraw(tx);
+    let pledged = site.pledge(tx, draft);
+    let withdrawn = site.withdraw(tx);
+    [unpledged, early, pledged, withdrawn]
+}
+
+// Transaction 1 is refused and 2 withdrawn: the log, and the values at its end.
+#[test]
+fn a_refused_and_a_withdrawn_transaction(rt: HostRuntime) -> Result<(), Fail> {
+    let names = Names::at(3)?;
+    let (x, y, one, two) = (names.x, names.y, names.one, names.two);
+    let mut site = opened(rt.alloc(), &names, u64::MAX)?;
+    let draft = drafted(rt.alloc(), &names);
+    assert!(rt; pledge(&mut site, &draft, &names, one) && site.refuse(one, &draft).is_ok());
+    assert!(rt; pledge(&mut site, &draft, &names, two));
+    assert_eq!(rt;
+        withdraw(&mut site, &draft, two),
+        [Ok(()), Err(SiteFault::NotPledged), Ok(()), Ok(())]
+    );
+    let value = 1;
+    let log = [
+        Entry::Read {
+            tx: one,
+            item: x,
+            value: 5,
+        },
+        Entry::WantAdd {
+            tx: one,
+            item: y,
+            value,
+        },
+        Entry::Refuse { tx: one },
+        Entry::Read {
+            tx: two,
+            item: x,
+            value: 5,
+        },
+        Entry::Withdraw { tx: two },
+    ];
+    assert!(rt; site.log() == log.as_slice());
+    Ok(())
+}
+
+// How many of the transactions from 2 to before this one read the first value of y.
+fn read_by_many(site: &mut Site, y: Item, end: u64) -> u64 {
+    let first = Seen {
+        value: u64::MAX,
+        version: 0,
+    };
+    let mut count = 0u64;
+    for number in 2..end {
+        if let Ok(tx) = Tx::new(number) {
+            if read(site, tx, y) == Ok(first) {
+                count = count.wrapping_add(1);
+            }
+        }
+    }
+    count
+}
+
+// Whether these are the items' values at the end of the log. What is refused memory is tried again.
+fn ends_with(alloc: Global, site: &Site, items: &[Holding]) -> bool {
+    for _ in 0..2 {
+        if let Ok(finals) = site.final_values(alloc) {
+            return finals.as_slice() == items;
+        }
+    }
+    false
+}
+
+// Under a pledge a thousand others read, and then the install takes no memory. Holds also where one growth is refused, whichever it
+// is: what is refused is tried again, but not the install.
+#[test]
+fn pledge_holds(rt: HostRuntime) -> Result<(), Fail> {
+    let names = Names::at(3)?;
+    let (x, y, tx, handle) = (names.x, names.y, names.one, handle(7, 2));
+    let mut site = match opened(rt.alloc(), &names, u64::MAX) {
+        Ok(site) => site,
+        Err(_) => opened(rt.alloc(), &names, u64::MAX)?,
+    };
+    let draft = drafted(rt.alloc(), &names);
+    assert!(rt; pledge(&mut site, &draft, &names, tx));
+    assert_eq!(rt; read_by_many(&mut site, y, 1002), 1000);
+    assert_eq!(rt; site.install(tx, handle, &draft), Ok(()));
+    assert_eq!(rt;
+        (site.log().len(), site.items().len(), site.number().number()),
+        (1003, 2, 3)
+    );
+    let writer = Writer {
+        tx,
+        handle,
+        increment: true,
+    };
+    let reader = Reader {
+        tx,
+        handle,
+        version: 0,
+    };
+    assert!(rt; is_used_by(&site, x, &[], &[reader]) && is_used_by(&site, y, &[writer], &[]));
+    let after = [Holding { item: x, value: 5 }, Holding { item: y, value: 0 }];
+    assert!(rt; ends_with(rt.alloc(), &site, &after));
+    Ok(())
+}
