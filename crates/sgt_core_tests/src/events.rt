@@ -224,16 +224,35 @@ z -> z 1",
     },
 ];
 
+/// What is a part of a step: a gather for an install, a decision for a commit.
+fn part_of(event: Event) -> Option<Event> {
+    match event {
+        Event::Install { tx, site } => Some(Event::Gather { tx, site }),
+        Event::Commit { tx } => Some(Event::Decide { tx }),
+        _ => None,
+    }
+}
+
+/// The part of a step that stands behind a word.
+fn part_in(line: &[u8]) -> Option<Event> {
+    match read_event(line) {
+        Ok(EventLine::One(event)) => part_of(event),
+        _ => None,
+    }
+}
+
 /// What the core replies to what the text spells.
 fn serve(core: &mut Core, text: &str) -> Option<Reply> {
-    let (part, line) = text.split_once(' ').unwrap_or(("", text));
-    match read_event(line.as_bytes()) {
-        Ok(EventLine::One(Event::Install { tx, site })) if part == "gather" => {
-            Some(core.step(Event::Gather { tx, site }))
-        }
-        Ok(EventLine::One(Event::Commit { tx })) if part == "decide" => {
-            Some(core.step(Event::Decide { tx }))
-        }
+    let bytes = text.as_bytes();
+    if let Some(line) = bytes.strip_prefix(b"gather ") {
+        let event = part_in(line)?;
+        return Some(core.step(event));
+    }
+    if let Some(line) = bytes.strip_prefix(b"decide ") {
+        let event = part_in(line)?;
+        return Some(core.step(event));
+    }
+    match read_event(bytes) {
         Ok(EventLine::One(event)) => Some(core.step(event)),
         Ok(EventLine::ToDecide(tx)) => Some(core.to_decide(tx)),
         Err(_) => None,
