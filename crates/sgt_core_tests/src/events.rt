@@ -241,6 +241,13 @@ fn part_in(line: &[u8]) -> Option<Event> {
     }
 }
 
+fn serve_line(core: &mut Core, line: &EventLine) -> Reply {
+    match line {
+        EventLine::One(event) => core.step(*event),
+        EventLine::ToDecide(tx) => core.to_decide(*tx),
+    }
+}
+
 /// What the core replies to what the text spells.
 fn serve(core: &mut Core, text: &str) -> Option<Reply> {
     let bytes = text.as_bytes();
@@ -252,11 +259,8 @@ fn serve(core: &mut Core, text: &str) -> Option<Reply> {
         let event = part_in(line)?;
         return Some(core.step(event));
     }
-    match read_event(bytes) {
-        Ok(EventLine::One(event)) => Some(core.step(event)),
-        Ok(EventLine::ToDecide(tx)) => Some(core.to_decide(tx)),
-        Err(_) => None,
-    }
+    let line = read_event(bytes).ok()?;
+    Some(serve_line(core, &line))
 }
 
 /// Whether the core answers a line's event as the line says.
