@@ -1,5 +1,7 @@
 -- Each event has an answer, and so each list of events a run.
 use Rattle.std.proofs.Common.{ℕ, List, [], ◌∷◌, refl, inl, inr}
+use Rattle.std.specs.Prelude.{All}
+use Rattle.std.proofs.lemmas.List.Elements.{All-cons, All-nil}
 use Rattle.sgt_names.specs.declared.entry.Holding.{Holding}
 use Rattle.sgt_notation.specs.declared.event.Event.{Event}
 use Rattle.sgt_notation.specs.declared.event.Event.TheVariants.{Begin, Read, Put, Add, Gather, Decide, Install, Commit, Withdraw, Close}
@@ -9,7 +11,7 @@ use Rattle.sgt_core.specs.declared.reply.CoreFault.{CoreFault}
 use Rattle.sgt_core.specs.declared.reply.CoreFault.TheVariants as fault
 use Rattle.sgt_core.specs.Core.{CoreState, fresh, touched}
 use Rattle.sgt_core.specs.Step.{IsRefused, IsAllowed, Serves, ServesAll, parts_of_decision, replies_of_decision, MayDecide, MayStep, Run}
-use Rattle.sgt_core.specs.Runs.{IsAnswer}
+use Rattle.sgt_core.specs.Runs.{IsAnswer, IsMemory}
 use Rattle.sgt_core.proofs.Kept.{IsKept}
 use Rattle.sgt_core.proofs.Runs.{may_step-kept, fresh-kept}
 use Rattle.sgt_core.proofs.Faults.{allowed_or_refused, no_memory}
@@ -53,22 +55,34 @@ unfoldable pub refused-answered : (c : CoreState) (event : Event) (f : CoreFault
 refused-answered c event fault.Memory r = absurd (no_memory c event r.0)
 refused-answered c event f r = (r, refl)
 
-unfoldable pub answered : (c : CoreState) (event : Event) → IsKept c → (reply : Reply) × (new : CoreState) × MayStep c event reply new
+answer-no_memory : (r : Reply) → IsAnswer r → IsMemory r → ⊥
+answer-no_memory (Fault f) answer memory = absurd answer
+answer-no_memory r answer memory = memory
+
+refused-no_memory : (c : CoreState) (event : Event) (f : CoreFault) → IsRefused c event f → IsMemory (Fault f) → ⊥
+refused-no_memory c event fault.Memory r memory = no_memory c event r.0
+refused-no_memory c event f r memory = memory
+
+-- an event has a reply other than want of memory
+unfoldable pub answered : (c : CoreState) (event : Event) → IsKept c
+    → (reply : Reply) × (new : CoreState) × MayStep c event reply new × (IsMemory reply → ⊥)
 answered c event k = elim (allowed_or_refused c event) [
-  | inl allowed ↦ let r = allowed-answered c event k allowed in (r.0, r.1, r.2)
-  | inr refused ↦ (Fault refused.0, c, refused-answered c event refused.0 refused.1)
+  | inl allowed ↦ let r = allowed-answered c event k allowed in (r.0, r.1, r.2, answer-no_memory r.0 r.3)
+  | inr refused ↦ (Fault refused.0, c, refused-answered c event refused.0 refused.1, refused-no_memory c event refused.0 refused.1)
 ]
 
--- each list of events has a run
-unfoldable pub plays : (c : CoreState) (events : List Event) → IsKept c → (replies : List Reply) × (new : CoreState) × Run c events replies new
-plays c [] k = ([], c, refl)
+-- each list of events has a run without want of memory
+unfoldable pub plays : (c : CoreState) (events : List Event) → IsKept c
+    → (replies : List Reply) × (new : CoreState) × Run c events replies new × All (λ r. IsMemory r → ⊥) replies
+plays c [] k = ([], c, refl, All-nil (λ r. IsMemory r → ⊥))
 plays c (event ∷ events) k =
     let r = answered c event k in
     let rest = plays r.1 events (may_step-kept c event r.0 r.1 k r.2) in
-    (r.0 ∷ rest.0, rest.1, (r.1, r.2, rest.2))
+    (r.0 ∷ rest.0, rest.1, (r.1, r.2, rest.2), All-cons (λ q. IsMemory q → ⊥) r.0 rest.0 r.3 rest.3)
 
 -- from sites where nothing has happened
-unfoldable pub played : (items : List (List Holding)) (events : List Event) → (replies : List Reply) × (new : CoreState) × Run (fresh items) events replies new
+unfoldable pub played : (items : List (List Holding)) (events : List Event)
+    → (replies : List Reply) × (new : CoreState) × Run (fresh items) events replies new × All (λ r. IsMemory r → ⊥) replies
 played items events = plays (fresh items) events (fresh-kept items)
 
 -- ---- a decision as a whole

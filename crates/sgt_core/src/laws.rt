@@ -1,6 +1,6 @@
 //! Laws of every run of the core.
 
-ghost use Rattle.std.specs.Prelude.{◌≡◌, ◌⊎◌, ℕ, List, [], count_by};
+ghost use Rattle.std.specs.Prelude.{◌≡◌, ◌⊎◌, ℕ, List, [], All, count_by};
 ghost use Rattle.sgt_names.specs.Name.{Name};
 ghost use Rattle.sgt_names.specs.declared.entry.Holding.{Holding};
 ghost use Rattle.sgt_site.specs.State.{version_at};
@@ -44,10 +44,10 @@ pub fn refusals_are_determined()
     ensures one { (c : CoreState) (event : Event) (f g : CoreFault) → IsRefused c event f → IsRefused c event g → f ≡ g }
 {}
 
-/// Every list of events has a run, and after each run an event that is allowed has an answer.
+/// Every list of events has a run in which want of memory is never answered, and after each run an event that is allowed has an answer.
 pub fn runs_go_on()
     ensures run { (items : List (List Holding)) (events : List Event)
-        → (replies : List Reply) × (c : CoreState) × Run (fresh items) events replies c }
+        → (replies : List Reply) × (c : CoreState) × Run (fresh items) events replies c × All (λ reply. IsMemory reply → ⊥) replies }
     ensures answered { (items : List (List Holding)) (events : List Event) (replies : List Reply) (c : CoreState) (event : Event)
         → Run (fresh items) events replies c → IsAllowed c event
         → (reply : Reply) × (new : CoreState) × MayStep c event reply new × IsAnswer reply }

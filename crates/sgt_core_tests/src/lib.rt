@@ -1,11 +1,13 @@
-//! Tests of the core.
+//! Tests of the core and of its replay.
 #![tactic(auto)]
 
 #[cfg(test)]
-mod model;
+mod devices;
 #[cfg(test)]
-mod random_runs;
+mod events;
 #[cfg(test)]
-mod tests;
+mod growths;
 #[cfg(test)]
-mod told;
+mod inputs;
+#[cfg(test)]
+mod rows;

@@ -1,5 +1,7 @@
 -- What the words of the command line ask for.
-use Rattle.std.specs.Prelude.{◌≡◌, ◌<◌, ◌≤◌, ℕ, ◌⊎◌, List, [], ◌∷◌, drop, take, codes, length, string_bytes, ⊤}
+use Rattle.std.specs.Prelude.{◌≡◌, ◌≢◌, ◌<◌, ◌≤◌, ℕ, ◌⊎◌, List, [], ◌∷◌, drop, take, codes, length, string_bytes, ⊤}
+use Rattle.clap.specs.declared.error.kind.ErrorKind.{ErrorKind}
+use Rattle.clap.specs.declared.error.kind.ErrorKind.TheVariants.{DisplayHelp, DisplayVersion}
 use Rattle.sgt_program.specs.Options.{SaysRun}
 use Rattle.sgt_program.specs.declared.choice.Choice.{Choice}
 use Rattle.sgt_program.specs.declared.choice.Choice.TheVariants.{Audit, Replay, Run, Serial}
@@ -61,3 +63,17 @@ abbrev pub HasText : NoChoice → Type 0
 HasText (Help text) = 0 < length (string_bytes text)
 HasText (Usage text) = 0 < length (string_bytes text)
 HasText Memory = ⊤
+
+-- help was asked for
+abbrev pub IsHelp : NoChoice → Type 0
+IsHelp (Help text) = ⊤
+IsHelp _ = ⊥
+
+-- the words are no command
+abbrev pub IsUsage : NoChoice → Type 0
+IsUsage (Usage text) = ⊤
+IsUsage _ = ⊥
+
+-- clap was asked neither for its help nor for the version
+abbrev pub AsksOther : ErrorKind → Type 0
+AsksOther kind = (kind ≢ DisplayHelp) × (kind ≢ DisplayVersion)

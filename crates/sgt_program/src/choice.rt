@@ -2,7 +2,7 @@
 
 ghost use Rattle.std.specs.Prelude.{◌≡◌, ◌<◌, ◌⊎◌, ◌↔◌, ℕ, Ok, Err, IfOk, IfErr, IsTrue, map, length, string_bytes};
 ghost use Rattle.clap.specs.Words.{kind_of};
-ghost use Rattle.sgt_program.specs.Words.{AsksAudit, AsksSerial, AsksReplay, AsksRun, AsksFor, AsksPlain, HasText, NamesRun};
+ghost use Rattle.sgt_program.specs.Words.{AsksAudit, AsksSerial, AsksReplay, AsksRun, AsksFor, AsksOther, AsksPlain, HasText, IsHelp, IsUsage, NamesRun};
 
 use crate::options::{choose_run, run_line};
 use clap::error::ErrorKind;
@@ -95,6 +95,8 @@ fn message(alloc: Global, error: &Error) -> Result<String, AllocError>
 /// What a fault of clap comes to: help, usage, or want of memory.
 pub fn refused(alloc: Global, error: &Error) -> NoChoice
     ensures text { HasText result }
+    ensures help { IsHelp result → AsksOther (kind_of error.now) → ⊥ }
+    ensures usage { IsUsage result → AsksOther (kind_of error.now) }
     ensures memory { kind_of error.now ≡ ErrorKind.OutOfMemory → result ≡ NoChoice.Memory }
 {
     if error.kind() == ErrorKind::OutOfMemory {
@@ -109,7 +111,8 @@ pub fn refused(alloc: Global, error: &Error) -> NoChoice
 
 /// The usage text for words that clap would take and that are no command.
 pub fn no_command(alloc: Global, line: &mut Command) -> Result<NoChoice, AllocError>
-    ensures { IfOk result HasText }
+    ensures text { IfOk result HasText }
+    ensures usage { IfOk result (λ no. IsHelp no → ⊥) }
 {
     let error = line.error(ErrorKind::UnknownArgument, "the words are no command")?;
     Ok(refused(alloc, &error))

@@ -1,6 +1,8 @@
 //! The engines behind the commands, and the help, each with how it ended.
 
-ghost use Rattle.std.specs.Prelude.{◌≡◌, ◌<◌, length, IfOk, IfErr};
+ghost use Rattle.std.specs.Prelude.{◌≡◌, ◌<◌, length, IfOk, IfErr, OnErr, OnOk};
+ghost use Rattle.std.specs.Io.KnownBytes.{Appends};
+ghost use Rattle.sgt_names.specs.Device.{WritesFront};
 ghost use Rattle.sgt_program.specs.Commands.{Answers, AnswersOthers, outcome};
 ghost use Rattle.sgt_program.specs.Ending.{LeavesDevices, ReadFailed, status_of};
 ghost use Rattle.sgt_program.specs.Words.{CanRun};
@@ -58,6 +60,8 @@ pub fn run_choice<H: Threads + Wait + Sync, R: Source, W: Sink>(
 /// Writes the help.
 pub fn show_help<W: Sink>(writer: &mut W, text: &str) -> Result<Outcome, EngineFail>
     requires { 0 < length text.now }
+    ensures text { OnOk result (Appends (W.holds writer.old) (W.holds writer.new) text.now) }
+    ensures front { OnErr result (WritesFront (W.holds writer.old) (W.holds writer.new) text.now) }
     ensures others { AnswersOthers (status_of (Ran result)) (W.holds writer.old) (W.holds writer.new) }
     ensures yes { IfOk result (λ outcome. (outcome ≡ Outcome.Yes) × (W.failures writer.new ≡ W.failures writer.old)) }
     ensures fault { IfErr result (λ fail. (fail ≡ EngineFail.WriteFault) × (W.failures writer.old < W.failures writer.new)) }

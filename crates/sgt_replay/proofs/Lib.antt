@@ -4,4 +4,5 @@ pub mod Running
 pub mod Served
 pub mod Writing
 pub mod OneText
+pub mod Unreadable
 pub mod KeptLines

@@ -1,8 +1,9 @@
 //! Events, kept as the text of their lines.
 
-ghost use Rattle.std.specs.Prelude.{◌≡◌, ◌≢◌, ℕ, List, ◌++◌, ◌∷◌, [], ◌+◌, ◌<◌, drop, length, true, false, IfNone, IfOk, IfSome, OnOk, OnErr};
+ghost use Rattle.std.specs.Prelude.{◌≡◌, ◌≢◌, ℕ, List, ◌++◌, ◌∷◌, [], ◌+◌, ◌<◌, ◌≤◌, ◌^◌, drop, length, map, true, false, IfNone, IfOk, IfSome, OnOk, OnErr};
 ghost use Rattle.std.specs.List.{flat_map};
 ghost use Rattle.sgt_notation.specs.Events.{IsEventLine, event_text};
+ghost use Rattle.sgt_notation.specs.Spelling.{text_of_lines};
 ghost use Rattle.sgt_notation.specs.declared.event.EventLine.{EventLine};
 ghost use Rattle.sgt_replay.specs.Texts.{AreLines, SpellsEvents, StandsFirst, spells-prop};
 ghost use Rattle.sgt_replay.specs.private.Taking.{TakesEvent};
@@ -122,7 +123,8 @@ impl Block {
     }
 
     fn is_full(&self) -> bool
-        ensures { result ≡ true → self.now ≢ [] }
+        ensures filled { result ≡ true → self.now ≢ [] }
+        ensures large { result ≡ true → 2 ^ 19 ≤ length (text_of_lines (map event_text self.now)) }
     {
         self.text.len() > BLOCK - ROOM
     }

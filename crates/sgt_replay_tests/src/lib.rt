@@ -1,5 +1,0 @@
-//! Tests of the replay.
-#![tactic(auto)]
-
-#[cfg(test)]
-mod tests;

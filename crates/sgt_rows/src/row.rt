@@ -1,0 +1,61 @@
+//! Worked rows, read from their folders.
+
+use std::alloc::{AllocError, Global};
+use std::rt::Files;
+use std::{fs, io};
+
+/// A worked row of the program.
+#[derive(Drop)]
+pub struct Row {
+    /// The words of the command line, the program's name first.
+    pub words: Vec<String>,
+    /// Standard input. None: nothing is read, so each read would fail.
+    pub input: Option<String>,
+    /// Standard output. None: the threads of a run leave it open, but for what it must have.
+    pub output: Option<String>,
+    /// Lines that the output must have.
+    pub must: String,
+    pub status: u8,
+}
+
+/// The words of a line, the program's name before them.
+pub fn words_of(alloc: Global, line: &str) -> Result<Vec<String>, AllocError> {
+    let mut words = Vec::new(alloc);
+    words.push(String::from_str(alloc, "sgt")?)?;
+    for word in line.split_whitespace() {
+        words.push(String::from_str(alloc, word)?)?;
+    }
+    Ok(words)
+}
+
+/// The text of a file of the row's folder, if it is there.
+fn text_of<R: Files + AllocGlobal>(rt: &R, name: &str, file: &str) -> io::Result<Option<String>> {
+    let path = format!(in rt.alloc(); "rows/{name}/{file}")?;
+    if !fs::exists(rt, path.as_str())? {
+        return Ok(None);
+    }
+    Ok(Some(fs::read_to_string(rt, path.as_str())?))
+}
+
+/// The same, and no text where there is no such file.
+fn text_or_none<R: Files + AllocGlobal>(rt: &R, name: &str, file: &str) -> io::Result<String> {
+    match text_of(rt, name, file)? {
+        Some(text) => Ok(text),
+        None => Ok(String::new(rt.alloc())),
+    }
+}
+
+impl Row {
+    /// The row in the folder of this name, with the files `args` (none: no words), `stdin`, `stdout`, `status` (none: 0) and `must`.
+    pub fn read<R: Files + AllocGlobal>(rt: &R, name: &str) -> io::Result<Row> {
+        let args = text_or_none(rt, name, "args")?;
+        let status = text_or_none(rt, name, "status")?;
+        Ok(Row {
+            words: words_of(rt.alloc(), args.as_str())?,
+            input: text_of(rt, name, "stdin")?,
+            output: text_of(rt, name, "stdout")?,
+            must: text_or_none(rt, name, "must")?,
+            status: status.trim().parse::<u8>().unwrap_or(0),
+        })
+    }
+}

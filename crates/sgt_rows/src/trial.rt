@@ -1,0 +1,155 @@
+//! Whether the program answers a row as the row says.
+
+ghost use Rattle.std.specs.Prelude.{◌<◌};
+
+use crate::row::{Row, words_of};
+use sgt_names::{MemSink, MemSource};
+use sgt_program::program;
+use std::alloc::{AllocError, Global};
+use std::sync::Wait;
+use std::thread::Threads;
+
+/// How many bytes the sinks of a trial take.
+const ROOM: usize = 4_000_000;
+
+/// What the program answered.
+#[derive(Drop)]
+struct Answer {
+    status: u8,
+    output: MemSink,
+    errors: MemSink,
+}
+
+/// Runs the program on this input.
+fn run<H: Threads + Wait + Sync>(
+    rt: &H,
+    alloc: Global,
+    words: &[String],
+    mut input: MemSource<'_>,
+) -> Result<Answer, AllocError> {
+    let mut output = MemSink::new(alloc, ROOM)?;
+    let mut errors = MemSink::new(alloc, ROOM)?;
+    let status = program(rt, alloc, words, &mut input, &mut output, &mut errors);
+    Ok(Answer {
+        status,
+        output,
+        errors,
+    })
+}
+
+/// The row's input, read in pieces of so many bytes.
+fn source_of(row: &Row, per_read: usize) -> MemSource<'_>
+    requires { 0 < per_read }
+{
+    match &row.input {
+        Some(text) => MemSource::new(text.as_bytes(), per_read, None),
+        None => MemSource::new(b"sgt 1\n", per_read, Some(1)),
+    }
+}
+
+/// What the audit of the text says.
+fn verdict_of<H: Threads + Wait + Sync>(
+    rt: &H,
+    alloc: Global,
+    text: &str,
+) -> Result<Answer, AllocError> {
+    let words = words_of(alloc, "audit")?;
+    let source = MemSource::new(text.as_bytes(), 65_536, None);
+    run(rt, alloc, words.as_slice(), source)
+}
+
+/// Whether the bundle behind `---`, if there is one, audits as yes, and as the output says where it says so.
+fn has_a_valid_bundle<H: Threads + Wait + Sync>(
+    rt: &H,
+    alloc: Global,
+    output: &str,
+) -> Result<bool, AllocError> {
+    let Some((front, bundle)) = output.split_once("---\n") else {
+        return Ok(true);
+    };
+    let answer = verdict_of(rt, alloc, bundle)?;
+    let verdict = answer.output.bytes();
+    let told = front.contains("\nyes ") || front.starts_with("yes ");
+    Ok(answer.status == 0 && (!told || front.as_bytes().ends_with(verdict)))
+}
+
+/// How many of the scripts were committed, where each line of a script, the verdict and the last value of x agree on that.
+fn agreed_count(alloc: Global, output: &str, scripts: usize) -> Result<Option<usize>, AllocError> {
+    let mut committed = 0usize;
+    for line in output.lines().take(scripts) {
+        if line.starts_with('s') && line.contains(" committed ") {
+            committed = committed.saturating_add(1);
+        }
+    }
+    let verdict = format!(in alloc; "\nyes {committed} committed ")?;
+    let last = format!(in alloc; "\nfinal x={committed}\nend\n")?;
+    if output.contains(verdict.as_str()) && output.ends_with(last.as_str()) {
+        return Ok(Some(committed));
+    }
+    Ok(None)
+}
+
+/// Whether the output and the status are those of scripts that add 1 to x, one a line behind the line of the site.
+fn counts_sums(alloc: Global, row: &Row, output: &str, status: u8) -> Result<bool, AllocError> {
+    let scripts = match &row.input {
+        Some(text) => text.lines().count().saturating_sub(1),
+        None => 0,
+    };
+    let Some(count) = agreed_count(alloc, output, scripts)? else {
+        return Ok(false);
+    };
+    Ok(status == if count == scripts { 0 } else { 1 })
+}
+
+/// Whether the output has each of the lines that it must have.
+fn has_lines(output: &str, must: &str) -> bool {
+    for line in must.lines() {
+        if !output.lines().any(|told| told == line) {
+            return false;
+        }
+    }
+    true
+}
+
+/// Whether this is the row's output and status.
+fn is_answer(alloc: Global, row: &Row, output: &str, status: u8) -> Result<bool, AllocError> {
+    match &row.output {
+        Some(wanted) => Ok(status == row.status && output == wanted.as_str()),
+        None => counts_sums(alloc, row, output, status),
+    }
+}
+
+/// Whether the program, which reads so many bytes at once, answers as the row says. The error stream is told something exactly where
+/// the words are no command.
+fn answers<H: Threads + Wait + Sync>(
+    rt: &H,
+    alloc: Global,
+    row: &Row,
+    per_read: usize,
+) -> Result<bool, AllocError>
+    requires { 0 < per_read }
+{
+    let answer = run(rt, alloc, row.words.as_slice(), source_of(row, per_read))?;
+    let Ok(output) = str::from_utf8(answer.output.bytes()) else {
+        return Ok(false);
+    };
+    let is_usage = answer.status == 2 && output.is_empty();
+    if answer.errors.bytes().is_empty() == is_usage || !has_lines(output, row.must.as_str()) {
+        return Ok(false);
+    }
+    Ok(is_answer(alloc, row, output, answer.status)? && has_a_valid_bundle(rt, alloc, output)?)
+}
+
+/// Whether the program answers as the row says, whatever pieces it reads.
+pub fn holds<H: Threads + Wait + Sync>(
+    rt: &H,
+    alloc: Global,
+    row: &Row,
+) -> Result<bool, AllocError> {
+    for per_read in [1usize, 3, 65_536] {
+        if !answers(rt, alloc, row, per_read)? {
+            return Ok(false);
+        }
+    }
+    Ok(true)
+}
