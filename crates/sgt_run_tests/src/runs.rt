@@ -107,13 +107,18 @@ fn rows_of_one_worker(rt: HostRuntime) -> Result<(), Fail> {
 
 // Of a write that is read back. The last read, which would tell the end of the input, has the number of its bytes and one more.
 #[test]
-fn devices_that_fail(rt: HostRuntime) -> Result<(), Fail> {
+fn readers_that_fail(rt: HostRuntime) -> Result<(), Fail> {
     for at in 1..=INPUT.len() as u64 + 1 {
         let mut writer = MemSink::new(rt.alloc(), ROOM)?;
         let ended = ended(&rt, rt.alloc(), INPUT, Some(at), &mut writer);
         assert_eq!(rt; ended, Err(EngineFail::ReadFault), "at read {at}");
         assert!(rt; writer.bytes().is_empty());
     }
+    Ok(())
+}
+
+#[test]
+fn writers_that_fail(rt: HostRuntime) -> Result<(), Fail> {
     for takes in 0..OUTPUT.len() {
         let mut writer = MemSink::new(rt.alloc(), takes)?;
         let ended = ended(&rt, rt.alloc(), INPUT, None, &mut writer);
