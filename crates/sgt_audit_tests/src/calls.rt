@@ -23,11 +23,7 @@ fn fed(alloc: Global, second: bool, decisions: &str, section: &str) -> Result<Ve
 }
 
 /// How many lines an auditor is fed, with the first two, until it tells a fault; and what it tells when all were fed.
-fn told(
-    alloc: Global,
-    decisions: &str,
-    section: &str,
-) -> Result<Option<(u64, u64, Fault)>, Fail> {
+fn told(alloc: Global, decisions: &str, section: &str) -> Result<Option<(u64, u64, Fault)>, Fail> {
     let line = format!(in alloc; "{{\"decisions\":[{decisions}],\"sites\":1}}")?;
     let mut auditor = Auditor::new(alloc, from_line(alloc, line.as_bytes())?)?;
     let mut lines = 3u64;
@@ -94,7 +90,10 @@ fn no_bundle_is_spelled(rt: HostRuntime) -> Result<(), Fail> {
         "sgt 1\n{\"decisions\":[],\"sites\":1}\nsite 1\nend\n",
         "sgt 1\n{\"decisions\":[],\"sites\":1}\nsite 0\nend\nend\n",
     ] {
-        assert!(rt; read_bundle(rt.alloc(), text.as_bytes())?.is_none(), "{text}");
+        assert!(rt;
+            read_bundle(rt.alloc(), text.as_bytes())?.is_none(),
+            "{text}"
+        );
     }
     // A bundle that isn't valid is spelled all the same.
     let refused = ONLY_CYCLE.replace(rt.alloc(), "r1[x]=5", "r1[x]=4")?;
