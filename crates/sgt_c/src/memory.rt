@@ -1,12 +1,13 @@
 //! A reader of bytes in memory that never fails, and writers into memory and nowhere.
 
-use sgt_names::{Failed, Sink, Source};
+use sgt_names::{Asks, Failed, Sink, Source};
 use std::alloc::Global;
 
 /// Bytes in memory. Reading them never fails.
 #[derive(Drop)]
 pub struct Given<'a> {
     pub rest: &'a [u8],
+    pub asks: Asks,
 }
 
 impl Source for Given<'_> {
@@ -16,7 +17,10 @@ impl Source for Given<'_> {
 
     ghost failures = { λ s. 0 };
 
+    ghost asked = { λ s. s.asks.count };
+
     fn read(&mut self, buffer: &mut [u8]) -> Result<usize, Failed> {
+        self.asks = self.asks.one_more();
         let n = self.rest.len().min(buffer.len());
         buffer[..n].copy_from_slice(&self.rest[..n]);
         self.rest = &self.rest[n..];

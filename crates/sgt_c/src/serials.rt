@@ -6,7 +6,7 @@ ghost use Rattle.sgt_c.specs.Answers.{IsAnswered, IsNumber, IsSerialText};
 
 use crate::answers::{NoAnswer, SGT_LONG, SGT_NO, SGT_ROOM, SGT_YES};
 use crate::memory::{Given, Written};
-use sgt_names::{EngineFail, Outcome};
+use sgt_names::{Asks, EngineFail, Outcome};
 use sgt_serial::serial;
 use std::alloc::Global;
 
@@ -22,7 +22,10 @@ fn serial_text(alloc: Global, bytes: &[u8]) -> Result<SerialText, NoAnswer>
     ensures text { IfOk result (λ s. IsSerialText bytes.now s.number s.text.items) }
     ensures long { result ≡ Err NoAnswer.Long → most_reads ≤ length bytes.now }
 {
-    let mut reader = Given { rest: bytes };
+    let mut reader = Given {
+        rest: bytes,
+        asks: Asks::none(),
+    };
     let mut writer = Written::new(alloc);
     let number = match serial(alloc, &mut reader, &mut writer) {
         Ok(Outcome::Yes) => SGT_YES,
