@@ -1,0 +1,40 @@
+-- What C is answered: numbers, and the verdict as a struct.
+use Rattle.std.specs.Prelude.{◌≡◌, ◌⊎◌, ℕ, List, Some}
+use Rattle.sgt_names.specs.declared.outcome.Outcome.TheVariants as outcome
+use Rattle.sgt_audit.specs.Faults.{fault_number}
+use Rattle.sgt_audit.specs.declared.verdict.Verdict.{Verdict}
+use Rattle.sgt_audit.specs.declared.verdict.Verdict.TheVariants.{Yes, No}
+use Rattle.sgt_serial.specs.Answer.{IsAnswer}
+use Rattle.sgt_c.specs.declared.answers.SgtVerdict.{SgtVerdict}
+use Rattle.sgt_c.specs.declared.answers.NoAnswer.{NoAnswer}
+use Rattle.sgt_c.specs.declared.answers.NoAnswer.TheVariants.{Memory, Long}
+
+-- a yes is 0 and a no is 1
+abbrev pub IsAnswered : ℕ → Type 0
+IsAnswered n = (n ≡ 0) ⊎ (n ≡ 1)
+
+-- why there is no answer
+abbrev pub number_of : NoAnswer → ℕ
+number_of Memory = 3
+number_of Long = 4
+
+-- an answer, or why there is none
+abbrev pub IsNumber : ℕ → Type 0
+IsNumber n = IsAnswered n ⊎ ((n ≡ 3) ⊎ (n ≡ 4))
+
+-- what C is told of a verdict
+abbrev pub told_verdict : Verdict → SgtVerdict
+told_verdict (Yes committed refused withdrawn) =
+    record { kind = 0; fault = 0; line = 0; committed = committed; refused = refused; withdrawn = withdrawn }
+told_verdict (No line f) =
+    record { kind = 1; fault = fault_number f; line = line; committed = 0; refused = 0; withdrawn = 0 }
+
+-- what C is told where there is none
+abbrev pub told_none : NoAnswer → SgtVerdict
+told_none why = record { kind = number_of why; fault = 0; line = 0; committed = 0; refused = 0; withdrawn = 0 }
+
+-- the text that the bytes are answered by: with a yes the serial run of the bundle that they spell, with a no the line of their
+-- first fault
+abbrev pub IsSerialText : List ℕ → ℕ → List ℕ → Type 0
+IsSerialText bytes n text =
+    ((n ≡ 0) × IsAnswer (Some bytes) outcome.Yes text) ⊎ ((n ≡ 1) × IsAnswer (Some bytes) outcome.No text)

@@ -1,0 +1,125 @@
+"""The proved auditor of `sgt`, from Python: `audit(bundle)` and `serial(bundle)` of some bytes.
+
+The library is `libsgt.so`, at the path that SGT_LIB names, else in `examples/out`, where `examples/run.sh` puts it.
+
+usage: python3 sgt.py [audit|serial] < BUNDLE     (prints what the program `sgt` prints, and ends with its status)
+"""
+import ctypes
+import os
+import sys
+from typing import NamedTuple, Union
+
+YES, NO, MEMORY, LONG, ROOM = 0, 1, 3, 4, 5
+VERSION = 1
+
+
+class Yes(NamedTuple):
+    """The bytes spell a valid bundle, with so many decisions of each kind."""
+    committed: int
+    refused: int
+    withdrawn: int
+
+    def __str__(self):
+        return f"yes {self.committed} committed {self.refused} refused {self.withdrawn} withdrawn"
+
+
+class No(NamedTuple):
+    """The bytes have a fault, at this line first, counted from 1. The fault is a number from 1 to 19."""
+    line: int
+    fault: int
+
+    def __str__(self):
+        return f"no line {self.line} F{self.fault}"
+
+
+class TooLong(ValueError):
+    """The bytes are too many: 4294967295 or more."""
+
+
+class RawVerdict(ctypes.Structure):
+    """`sgt_verdict` of sgt.h."""
+    _fields_ = [
+        ("kind", ctypes.c_uint32),
+        ("fault", ctypes.c_uint32),
+        ("line", ctypes.c_uint64),
+        ("committed", ctypes.c_uint64),
+        ("refused", ctypes.c_uint64),
+        ("withdrawn", ctypes.c_uint64),
+    ]
+
+
+def load(path=None):
+    """The library, with the types of its calls."""
+    beside = os.path.join(os.path.dirname(os.path.abspath(__file__)), "../out/libsgt.so")
+    library = ctypes.CDLL(path or os.environ.get("SGT_LIB") or beside)
+    length = ctypes.POINTER(ctypes.c_size_t)
+    for name, types in [
+        ("sgt_version", []),
+        ("sgt_audit", [ctypes.c_char_p, ctypes.c_size_t, ctypes.POINTER(RawVerdict)]),
+        ("sgt_serial_len", [ctypes.c_char_p, ctypes.c_size_t, length]),
+        ("sgt_serial", [ctypes.c_char_p, ctypes.c_size_t, ctypes.c_char_p, ctypes.c_size_t, length]),
+    ]:
+        call = getattr(library, name)
+        call.argtypes, call.restype = types, ctypes.c_uint32
+    if library.sgt_version() != VERSION:
+        raise ImportError(f"libsgt.so is of version {library.sgt_version()}, and not {VERSION}")
+    return library
+
+
+LIBRARY = load()
+
+
+def fail(number):
+    """What is raised where there is no answer."""
+    if number == MEMORY:
+        return MemoryError("sgt: memory")
+    if number == LONG:
+        return TooLong("sgt: too many bytes")
+    return RuntimeError(f"sgt: the library answered {number}")
+
+
+def audit(bundle: bytes) -> Union[Yes, No]:
+    """The verdict on the bytes."""
+    verdict = RawVerdict()
+    number = LIBRARY.sgt_audit(bundle, len(bundle), ctypes.byref(verdict))
+    if number == YES:
+        return Yes(verdict.committed, verdict.refused, verdict.withdrawn)
+    if number == NO:
+        return No(verdict.line, verdict.fault)
+    raise fail(number)
+
+
+def serial(bundle: bytes) -> tuple[bool, bytes]:
+    """Whether the bytes spell a valid bundle, and the lines of its serial run, else the auditor's line."""
+    length = ctypes.c_size_t()
+    number = LIBRARY.sgt_serial_len(bundle, len(bundle), ctypes.byref(length))
+    if number not in (YES, NO):
+        raise fail(number)
+    text = ctypes.create_string_buffer(length.value + 1)
+    number = LIBRARY.sgt_serial(bundle, len(bundle), text, length, ctypes.byref(length))
+    if number not in (YES, NO):
+        raise fail(number)
+    return number == YES, text.raw[:length.value]
+
+
+def main():
+    bundle = sys.stdin.buffer.read()
+    try:
+        if sys.argv[1:] == ["serial"]:
+            is_valid, text = serial(bundle)
+            sys.stdout.buffer.write(text)
+        else:
+            verdict = audit(bundle)
+            is_valid = isinstance(verdict, Yes)
+            print(verdict)
+    except MemoryError as error:
+        print(error, file=sys.stderr)
+        sys.exit(3)
+    except TooLong as error:
+        print(error, file=sys.stderr)
+        sys.exit(4)
+    sys.exit(0 if is_valid else 1)
+
+
+if __name__ == "__main__":
+    main()

@@ -1,0 +1,70 @@
+#!/bin/sh
+# Builds the library and the examples in C, Rust and Python, runs each on the stored bundle and on a broken one, and compares what
+# they print with what the program prints, by the README and, where it is built, by itself. Ends with status 1 at a difference.
+set -eu
+export PYTHONDONTWRITEBYTECODE=1
+cd "$(dirname "$0")/.."
+kit=$(dirname "$(dirname "$(readlink -f "$(command -v rt)")")")
+out=examples/out
+mkdir -p $out
+
+(cd crates/sgt_c && rt lib) > $out/rt.log 2>&1 || { cat $out/rt.log; exit 1; }
+rm -f $out/libsgt.a
+printf 'CREATE %s\nADDLIB crates/sgt_c/out/libsgt_c.a\nADDLIB %s/c/liblibc_c.a\nSAVE\nEND\n' $out/libsgt.a "$kit" | ar -M
+echo '{ global: sgt_*; local: *; };' > $out/sgt.map
+gcc -shared -Wl,--version-script=$out/sgt.map -Wl,--gc-sections -Wl,--whole-archive $out/libsgt.a -Wl,--no-whole-archive -o $out/libsgt.so
+
+python3 examples/check_header.py
+gcc -std=c11 -O2 -Wall -Wextra -Werror -Icrates/sgt_c examples/c/audit.c $out/libsgt.a -o $out/audit
+gcc -std=c11 -g -Wall -Wextra -Werror -fsanitize=address,undefined -Icrates/sgt_c examples/c/audit.c $out/libsgt.a -o $out/audit_asan
+cargo build --quiet --release --offline --manifest-path examples/rust/Cargo.toml --target-dir $out/cargo
+
+cp crates/sgt/stdin $out/stored
+sed 's/r1.x.=5/r1[x]=4/' crates/sgt/stdin > $out/broken
+failed=0
+
+# compare NAME BUNDLE WORD STATUS EXPECTED COMMAND..: what the command prints of the bundle, and its status
+compare() {
+    name=$1 bundle=$2 word=$3 status=$4 expected=$5
+    shift 5
+    found=0
+    "$@" "$word" < "$bundle" > $out/found 2> $out/errors || found=$?
+    if [ $found = "$status" ] && cmp -s $out/found "$expected" && [ ! -s $out/errors ]; then
+        return 0
+    fi
+    echo "differs: $name $word < $bundle: status $found"
+    cat $out/found $out/errors
+    failed=1
+}
+
+printf 'yes 1 committed 0 refused 0 withdrawn\n' > $out/stored.audit
+printf 't1\nr1[0.x]=5\nw1[0.x]=6\nfinal 0.x=6\n' > $out/stored.serial
+printf 'no line 5 F10\n' > $out/broken.audit
+cp $out/broken.audit $out/broken.serial
+for bundle in stored broken; do
+    status=0
+    [ $bundle = stored ] || status=1
+    for word in audit serial; do
+        wanted=$out/$bundle.$word
+        compare c $out/$bundle $word $status $wanted $out/audit
+        compare c-asan $out/$bundle $word $status $wanted $out/audit_asan
+        compare rust $out/$bundle $word $status $wanted $out/cargo/release/sgt
+        compare python $out/$bundle $word $status $wanted python3 examples/python/sgt.py
+        if command -v valgrind > /dev/null; then
+            compare c-valgrind $out/$bundle $word $status $wanted valgrind -q --leak-check=full --error-exitcode=99 $out/audit
+        fi
+        if [ -x crates/sgt/out/sgt ]; then
+            compare program $out/$bundle $word $status $wanted crates/sgt/out/sgt
+        fi
+        echo "$bundle $word: $(head -n 1 $wanted)"
+    done
+done
+
+python3 examples/python/store.py | tail -n 1 > $out/store
+python3 examples/python/store.py careless | tail -n 1 > $out/careless
+echo "store: $(cat $out/store)"
+echo "careless store: $(cat $out/careless)"
+[ "$(cat $out/store)" = 'yes 2 committed 0 refused 1 withdrawn' ] || failed=1
+[ "$(cat $out/careless)" = 'no line 10 F11' ] || failed=1
+[ $failed = 0 ] && echo 'all agree'
+exit $failed
