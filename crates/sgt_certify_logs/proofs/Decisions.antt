@@ -1,9 +1,9 @@
 -- What a valid certificate says of the entries of its logs.
-use Rattle.std.proofs.Common.{◌≡◌, ◌≢◌, ℕ, ◌<◌, ◌≤◌, List, Some, refl, sym, ap, ◌∙◌, subst, arith, inl, inr, Contains}
+use Rattle.std.proofs.Common.{◌≡◌, ◌≢◌, ℕ, ◌<◌, List, Some, sym, ap, ◌∙◌, subst, arith, inl, inr, Contains}
 use Rattle.std.specs.Prelude.{slice_get}
 use Rattle.std.proofs.lemmas.Bool.{cases_order}
 use Rattle.std.proofs.lemmas.Option.{same_Some}
-use Rattle.sgt_names.proofs.Places.{All_at, AllPairs_at, Contains_at, Contains-from_at}
+use Rattle.sgt_names.proofs.Places.{All_at, AllPairs_at, Contains_at}
 use Rattle.sgt_names.proofs.Lists.{All_in}
 use Rattle.sgt_names.specs.Entry.{tx_of, IsEnd}
 use Rattle.sgt_names.specs.declared.entry.Entry.{Entry}
@@ -14,7 +14,7 @@ use Rattle.sgt_cert.specs.Valid.{IsDecided, IsValidLog, IsValid, EndInOrder, Ris
 use Rattle.sgt_cert.specs.declared.certificate.Decision.{Decision}
 use Rattle.sgt_cert.specs.declared.certificate.Decision.TheVariants.{Commit, Refuse, Withdraw}
 use Rattle.sgt_cert.specs.declared.bundle.SiteLog.{SiteLog}
-use Rattle.sgt_certify_logs.specs.Witness.{IsIn, HasEnd, EndsBefore, PrecedesCommitted}
+use Rattle.sgt_certify_logs.specs.Witness.{IsIn, EndsBefore, PrecedesCommitted}
 
 -- the decision of this number is on the transaction
 abbrev pub Decides : List Decision → ℕ → ℕ → Type 0

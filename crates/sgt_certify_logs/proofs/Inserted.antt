@@ -1,9 +1,7 @@
 -- A certificate's line, put into the text of logs.
-use Rattle.std.proofs.Common.{◌≡◌, ◌≢◌, ℕ, suc, ◌+◌, ◌≤◌, List, [], ◌∷◌, ◌++◌, length, map, refl, sym, ap, ap₂, ◌∙◌, subst, arith, All}
-use Rattle.std.specs.List.{AllByRecursion}
+use Rattle.std.proofs.Common.{◌≡◌, ◌≢◌, ℕ, suc, List, [], ◌∷◌, ◌++◌, length, map, refl, sym, ap, ap₂, ◌∙◌, subst, arith}
 use Rattle.std.proofs.lemmas.List.Elements.{recursion_from_All}
 use Rattle.sgt_notation.specs.Spelling.{line_text, text_of_lines, HasNoLf}
-use Rattle.sgt_notation.specs.declared.SectionLine.{SectionLine}
 use Rattle.sgt_notation.proofs.OneSpelling.{HasNot, cut_at_byte}
 use Rattle.sgt_cert.specs.Parts.{Parts, IsShaped}
 use Rattle.sgt_cert.specs.Text.{certificate_text, format_line, sections_from, IsCertificate, Spells}

@@ -1,7 +1,7 @@
 -- Whoever is decided first outside a stuck set would have to be refused with no cycle.
-use Rattle.std.proofs.Common.{◌≡◌, ◌≢◌, ℕ, zero, suc, ◌+◌, ◌<◌, ◌≤◌, List, [], ◌∷◌, ◌++◌, Some, refl, sym, ap, ◌∙◌, subst, arith, inl, inr, ◌⊎◌, All, Any, Contains}
+use Rattle.std.proofs.Common.{◌≡◌, ℕ, zero, suc, ◌<◌, ◌≤◌, List, [], ◌∷◌, Some, refl, sym, ap, ◌∙◌, subst, arith, inl, inr, All, Any, Contains}
 use Rattle.std.specs.Prelude.{slice_get}
-use Rattle.std.proofs.lemmas.Bool.{cases_eq, cases_order}
+use Rattle.std.proofs.lemmas.Bool.{cases_eq}
 use Rattle.std.proofs.lemmas.Option.{same_Some}
 use Rattle.std.proofs.lemmas.List.Elements.{All-from_recursion}
 use Rattle.std.specs.List.{AllByRecursion}
@@ -9,18 +9,17 @@ use Rattle.sgt_names.proofs.Places.{All_at, All-from_at, Contains-from_at}
 use Rattle.sgt_names.proofs.Lists.{All_in, Any_at, front_at}
 use Rattle.sgt_notation.proofs.Decidable.{Decidable, decidable-Contains}
 use Rattle.sgt_names.specs.Entry.{tx_of, IsEnd}
-use Rattle.sgt_names.specs.Log.{Conflicts}
 use Rattle.sgt_names.specs.declared.entry.Entry.{Entry}
 use Rattle.sgt_names.specs.declared.entry.Entry.TheVariants as entry
 use Rattle.sgt_cert.specs.Parts.{Parts}
-use Rattle.sgt_cert.specs.Certificate.{decided_tx, IsDecidedOnce, IsCommitted, Suits, stops}
-use Rattle.sgt_cert.specs.Valid.{IsDecided, IsValid, AreLogged}
+use Rattle.sgt_cert.specs.Certificate.{decided_tx, IsCommitted, Suits, stops}
+use Rattle.sgt_cert.specs.Valid.{IsValid, AreLogged}
 use Rattle.sgt_cert.specs.declared.certificate.Decision.{Decision}
 use Rattle.sgt_cert.specs.declared.certificate.Decision.TheVariants.{Commit, Refuse, Withdraw}
 use Rattle.sgt_cert.specs.declared.certificate.Step.{Step}
 use Rattle.sgt_cert.specs.declared.bundle.SiteLog.{SiteLog}
 use Rattle.sgt_certify_logs.specs.Certifiable.{AreCertifiable}
-use Rattle.sgt_certify_logs.specs.Witness.{IsIn, HasEnd, EndsBefore, IsFree, LiesOnCycle, IsStuck}
+use Rattle.sgt_certify_logs.specs.Witness.{IsIn, HasEnd, IsFree, IsStuck}
 use Rattle.sgt_certify_logs.proofs.Decisions.{Decides, one-number, ds, log_of, decided_in, ends-rise}
 
 number_cases : (m n : ℕ) → Decidable (m ≡ n)
