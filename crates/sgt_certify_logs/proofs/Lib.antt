@@ -1,0 +1,4 @@
+pub mod Decisions
+pub mod Cycles
+pub mod Stuck
+pub mod Inserted

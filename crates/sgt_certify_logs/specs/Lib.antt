@@ -1,0 +1,2 @@
+pub mod Certifiable
+pub mod Witness
