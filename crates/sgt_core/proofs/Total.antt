@@ -55,11 +55,11 @@ unfoldable pub refused-answered : (c : CoreState) (event : Event) (f : CoreFault
 refused-answered c event fault.Memory r = absurd (no_memory c event r.0)
 refused-answered c event f r = (r, refl)
 
-answer-no_memory : (r : Reply) → IsAnswer r → IsMemory r → ⊥
+pub answer-no_memory : (r : Reply) → IsAnswer r → IsMemory r → ⊥
 answer-no_memory (Fault f) answer memory = absurd answer
 answer-no_memory r answer memory = memory
 
-refused-no_memory : (c : CoreState) (event : Event) (f : CoreFault) → IsRefused c event f → IsMemory (Fault f) → ⊥
+pub refused-no_memory : (c : CoreState) (event : Event) (f : CoreFault) → IsRefused c event f → IsMemory (Fault f) → ⊥
 refused-no_memory c event fault.Memory r memory = no_memory c event r.0
 refused-no_memory c event f r memory = memory
 
