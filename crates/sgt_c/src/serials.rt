@@ -1,7 +1,8 @@
 //! The exports of the serial run.
 
-ghost use Rattle.std.specs.Prelude.{◌≡◌, ◌≤◌, ◌<◌, ◌⊎◌, ◌++◌, ℕ, List, Err, IfOk, length, drop};
+ghost use Rattle.std.specs.Prelude.{◌≡◌, ◌≤◌, ◌<◌, ◌⊎◌, ◌++◌, ℕ, List, Some, Err, IfOk, length, drop};
 ghost use Rattle.sgt_notation.specs.Limits.{most_reads};
+ghost use Rattle.sgt_serial.specs.Answer.{IsAnswer};
 ghost use Rattle.sgt_c.specs.Answers.{IsAnswered, IsNumber, IsSerialText};
 
 use crate::answers::{NoAnswer, SGT_LONG, SGT_NO, SGT_ROOM, SGT_YES};
@@ -17,6 +18,17 @@ struct SerialText {
     text: Vec<u8>,
 }
 
+/// The number of an outcome of the serial run, which finds no input unreadable.
+fn number_of_answer(outcome: Outcome) -> u32
+    ensures { (bytes text : List ℕ) → IsAnswer (Some bytes) outcome text → IsSerialText bytes result text }
+{
+    match outcome {
+        Outcome::Yes => SGT_YES,
+        Outcome::No => SGT_NO,
+        Outcome::Unreadable => SGT_NO,
+    }
+}
+
 /// What the serial run of the bytes answers.
 fn serial_text(alloc: Global, bytes: &[u8]) -> Result<SerialText, NoAnswer>
     ensures text { IfOk result (λ s. IsSerialText bytes.now s.number s.text.items) }
@@ -27,17 +39,15 @@ fn serial_text(alloc: Global, bytes: &[u8]) -> Result<SerialText, NoAnswer>
         asks: Asks::none(),
     };
     let mut writer = Written::new(alloc);
-    let number = match serial(alloc, &mut reader, &mut writer) {
-        Ok(Outcome::Yes) => SGT_YES,
-        Ok(Outcome::No) => SGT_NO,
-        Ok(Outcome::Unreadable) => unreachable!(),
-        Err(EngineFail::Memory | EngineFail::WriteFault) => return Err(NoAnswer::Memory),
-        Err(EngineFail::ReadFault) => return Err(NoAnswer::Long),
-    };
-    Ok(SerialText {
-        number,
-        text: writer.bytes,
-    })
+    match serial(alloc, &mut reader, &mut writer) {
+        Ok(outcome) => Ok(SerialText {
+            number: number_of_answer(outcome),
+            text: writer.bytes,
+        }),
+        Err(EngineFail::Memory) => Err(NoAnswer::Memory),
+        Err(EngineFail::WriteFault) => Err(NoAnswer::Memory),
+        Err(EngineFail::ReadFault) => Err(NoAnswer::Long),
+    }
 }
 
 /// How long the text of the serial run is: what `sgt_serial` writes into enough room.
