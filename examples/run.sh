@@ -23,16 +23,16 @@ cp crates/sgt/stdin $out/stored
 sed 's/r1.x.=5/r1[x]=4/' crates/sgt/stdin > $out/broken
 failed=0
 
-# compare NAME BUNDLE WORD STATUS EXPECTED COMMAND..: what the command prints of the bundle, and its status
+# compare WHO TEXT WORD STATUS EXPECTED COMMAND..: what the command prints of the text, and its status
 compare() {
-    name=$1 bundle=$2 word=$3 status=$4 expected=$5
+    who=$1 text=$2 verb=$3 ends=$4 expected=$5
     shift 5
     found=0
-    "$@" "$word" < "$bundle" > $out/found 2> $out/errors || found=$?
-    if [ $found = "$status" ] && cmp -s $out/found "$expected" && [ ! -s $out/errors ]; then
+    "$@" "$verb" < "$text" > $out/found 2> $out/errors || found=$?
+    if [ $found = "$ends" ] && cmp -s $out/found "$expected" && [ ! -s $out/errors ]; then
         return 0
     fi
-    echo "differs: $name $word < $bundle: status $found"
+    echo "differs: $who $verb < $text: status $found"
     cat $out/found $out/errors
     failed=1
 }
