@@ -51,13 +51,13 @@ fn decide(
 fn ask(
     alloc: Global,
     certifier: &mut Certifier,
-    asked: Asked<'_>,
+    asked: &Asked<'_>,
 ) -> Result<Answer, CertifierFault> {
     match asked {
         Asked::Begin => begin(certifier),
-        Asked::Decide(handle, edges) => decide(alloc, certifier, handle, edges),
-        Asked::Finish(tx) => certifier.finish_step(tx).map(|_| Answer::Told(0)),
-        Asked::Withdraw(handle) => certifier.withdraw(handle).map(Answer::Told),
+        Asked::Decide(handle, edges) => decide(alloc, certifier, *handle, edges),
+        Asked::Finish(tx) => certifier.finish_step(*tx).map(|_| Answer::Told(0)),
+        Asked::Withdraw(handle) => certifier.withdraw(*handle).map(Answer::Told),
         Asked::Close => certifier.close().map(Answer::Told),
     }
 }
@@ -65,7 +65,7 @@ fn ask(
 // Whether the certifier answers as the rows tell, and has then served so many calls.
 fn answers(alloc: Global, certifier: &mut Certifier, rows: &[Row<'_>], served: usize) -> bool {
     for row in rows {
-        if ask(alloc, certifier, row.0) != row.1 {
+        if ask(alloc, certifier, &row.0) != row.1 {
             return false;
         }
     }
