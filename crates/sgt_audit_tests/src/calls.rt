@@ -4,8 +4,18 @@ use crate::bundles::{INCREMENTS, ONLY_CYCLE, OWN_READ_BEFORE_WRITE, READER_TORN}
 use sgt_audit::{Audited, Auditor, Fault, Verdict, audit_bundle, read_bundle};
 use sgt_cert::from_line;
 use sgt_names::MemSource;
+use sgt_notation::find_lf;
 use std::alloc::Global;
 use std::test::Fail;
+
+/// Feeds the auditor a line, if it holds no LF.
+fn feed(auditor: &mut Auditor, line: &str) -> Result<(), Fail> {
+    let line = line.as_bytes();
+    match find_lf(line) {
+        None => Ok(auditor.feed(line)?),
+        Some(_) => Ok(()),
+    }
+}
 
 /// What an auditor of one of the two formats says that is fed the lines of one section.
 fn fed(alloc: Global, second: bool, decisions: &str, section: &str) -> Result<Verdict, Fail> {
@@ -17,7 +27,7 @@ fn fed(alloc: Global, second: bool, decisions: &str, section: &str) -> Result<Ve
         Auditor::new(alloc, certificate)?
     };
     for line in section.split('/') {
-        auditor.feed(line.as_bytes())?;
+        feed(&mut auditor, line)?;
     }
     Ok(auditor.end()?)
 }
@@ -28,7 +38,7 @@ fn told(alloc: Global, decisions: &str, section: &str) -> Result<Option<(u64, u6
     let mut auditor = Auditor::new(alloc, from_line(alloc, line.as_bytes())?)?;
     let mut lines = 3u64;
     for line in section.split('/') {
-        auditor.feed(line.as_bytes())?;
+        feed(&mut auditor, line)?;
         if auditor.fault().is_none() {
             lines = lines.saturating_add(1);
         }
