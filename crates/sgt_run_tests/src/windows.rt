@@ -23,9 +23,6 @@ fn ended(number: u64, tx: Tx, verdict: Ending) -> Answer {
 
 // The verdict on the bundle of a settled run.
 fn verdict_on(alloc: Global, settled: &Settled) -> Option<Verdict> {
-    if settled.sites().is_empty() {
-        return None;
-    }
     let text = bundle(alloc, settled).ok()?.to_text(alloc).ok()?;
     let mut reader = MemSource::new(text.as_slice(), 64, None);
     let mut writer = MemSink::new(alloc, 100).ok()?;

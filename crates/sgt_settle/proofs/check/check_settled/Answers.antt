@@ -32,6 +32,7 @@ returns-in-Some-first_uncounted-clause-err c =
 
 pub returns-clause-ok : goal.returns-clause-ok
 returns-clause-ok c = record {
+  kept = record { replays = c.history-history.ensures.replays; sites = c.know_sites.ensures };
   tickets = tickets_told _ _ c.args.certifier.now.state c.args.dones.now c.history-history.ensures.replays c.history-history.ensures.is c.in_default.ensures.ok;
   sites = rw c.in_default-differing.is at c.in_ok-differing.ensures.ok;
   versions = rw c.in_default-first_uncounted.is at c.first_uncounted.ensures;

@@ -1,6 +1,6 @@
 use Rattle.sgt_agreed.proofs.Agreeing.{given-back}
 use Rattle.sgt_service.proofs.Gathering.{gathered_there}
-use Rattle.sgt_service.proofs.guarded.Guarded.gather.Goals as goal
+use Rattle.sgt_service.proofs.guarded.Guarded.gather_held.Goals as goal
 
 pub returns-in-Ok-clause-edges : goal.returns-in-Ok-clause-edges
 returns-in-Ok-clause-edges g c = (
