@@ -281,10 +281,7 @@ impl<L: Ledger> Guarded<L> {
     {
         match self.gather_held(alloc, site, here, active, edges) {
             Ok(()) => Ok(()),
-            Err(fault) => {
-                let _ = self.noted(fault);
-                Err(fault)
-            }
+            Err(fault) => Err(self.noted(fault)),
         }
     }
 
@@ -344,10 +341,7 @@ impl<L: Ledger> Guarded<L> {
     {
         match pledge_held(site, here, active) {
             Ok(()) => Ok(()),
-            Err(fault) => {
-                let _ = self.noted(fault);
-                Err(fault)
-            }
+            Err(fault) => Err(self.noted(fault)),
         }
     }
 
