@@ -2,6 +2,7 @@
 //! the engines are generic over.
 #![tactic(auto)]
 
+mod asks;
 mod draft;
 mod entry;
 mod item;
@@ -16,6 +17,7 @@ mod site_no;
 mod source;
 mod standard;
 
+pub use asks::Asks;
 pub use draft::{Draft, Seen, Touch};
 pub use entry::{Change, Entry, Holding, Kind, Label};
 pub use item::{BadName, Item};

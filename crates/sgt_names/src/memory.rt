@@ -4,6 +4,7 @@ ghost use Rattle.std.specs.Prelude.{◌≡◌, ◌+◌, ◌-◌, ◌<◌, ◌≤
 ghost use Rattle.sgt_names.specs.Device.{AtMost, CountsFailures, PutsBehind, TakesFront, TakesSome};
 ghost use Rattle.sgt_names.specs.Memory.{MustFail, Supplies, IsFull, IsSpent, Takes};
 
+use crate::asks::Asks;
 use crate::sink::Sink;
 use crate::source::{Failed, Source};
 use std::alloc::{AllocError, Global};
@@ -17,6 +18,7 @@ pub struct MemSource<'a> {
     // how many more reads succeed, where not all do
     good: Option<u64>,
     failed: u64,
+    asks: Asks,
 }
 
 impl<'a> Model for MemSource<'a> {
@@ -25,7 +27,7 @@ impl<'a> Model for MemSource<'a> {
 
     ghost Value = { Supply };
 
-    ghost view = { λ s. record { rest = s.rest.now; per_read = s.per_read; good = s.good; failures = s.failed } };
+    ghost view = { λ s. record { rest = s.rest.now; per_read = s.per_read; good = s.good; failures = s.failed; asked = s.asks.count } };
 
     ghost invariant = { λ s. 0 < s.per_read };
 }
@@ -35,13 +37,14 @@ impl<'a> MemSource<'a> {
     /// one fails (2^64 - 1 of them); 0 counts as 1.
     pub fn new(bytes: &'a [u8], per_read: usize, fail_at: Option<u64>) -> MemSource<'a>
         requires { 0 < per_read }
-        ensures { result ≡ record { rest = bytes.entry.now; per_read = per_read; good = option_map (λ at. at - 1) fail_at; failures = 0 } }
+        ensures { result ≡ record { rest = bytes.entry.now; per_read = per_read; good = option_map (λ at. at - 1) fail_at; failures = 0; asked = 0 } }
     {
         MemSource {
             rest: bytes,
             per_read,
             good: fail_at.map(|at| at.saturating_sub(1)),
             failed: 0,
+            asks: Asks::none(),
         }
     }
 }
@@ -51,16 +54,21 @@ impl Source for MemSource<'_> {
 
     ghost failures = { λ s. s.failures };
 
+    ghost asked = { λ s. s.asked };
+
     fn read(&mut self, buffer: &mut [u8]) -> Result<usize, Failed>
         ensures bytes { TakesFront (Some self.old.rest) (Some self.new.rest) result buffer.new }
         ensures count { AtMost result (length buffer.old) }
         ensures fails { CountsFailures result self.old.failures self.new.failures }
+        ensures counts { self.new.asked ≡ self.old.asked + 1 }
 
         // and, of this source, exactly when it fails and what it gives
         ensures must_fail { IsErr result ↔ MustFail self.old }
         ensures ok { IfOk result (Supplies self.old self.new buffer.old buffer.new) }
-        ensures err { OnErr result ((self.new ≡ record self.old { failures = self.old.failures + 1 }) × (buffer.new ≡ buffer.old)) }
+        ensures err { OnErr result ((self.new ≡ record self.old { failures = self.old.failures + 1; asked = self.old.asked + 1 })
+            × (buffer.new ≡ buffer.old)) }
     {
+        self.asks = self.asks.one_more();
         if let Some(good) = self.good {
             if good == 0 && self.failed < u64::MAX {
                 self.failed += 1;

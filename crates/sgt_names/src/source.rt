@@ -1,6 +1,6 @@
 //! Where bytes come from.
 
-ghost use Rattle.std.specs.Prelude.{ℕ, List, Option, length};
+ghost use Rattle.std.specs.Prelude.{◌≡◌, ◌+◌, ℕ, List, Option, length};
 ghost use Rattle.sgt_names.specs.Device.{AtMost, CountsFailures, TakesFront};
 
 use thiserror::Error;
@@ -18,10 +18,14 @@ pub trait Source {
     // how often it has failed
     ghost failures: { Self → ℕ };
 
+    // how often it was asked for bytes
+    ghost asked: { Self → ℕ };
+
     /// Reads some bytes into the front of the buffer. 0 comes only at the end, or where the buffer has no room.
     /// After an Err the source tells its bytes as before or tells nothing, and what is in the buffer is not promised.
     fn read(&mut self, buffer: &mut [u8]) -> Result<usize, Failed>
         ensures bytes { TakesFront (tells self.old) (tells self.new) result buffer.new }
         ensures count { AtMost result (length buffer.old) }
-        ensures fails { CountsFailures result (failures self.old) (failures self.new) };
+        ensures fails { CountsFailures result (failures self.old) (failures self.new) }
+        ensures counts { asked self.new ≡ asked self.old + 1 };
 }

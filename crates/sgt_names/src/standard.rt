@@ -2,6 +2,7 @@
 
 ghost use Rattle.std.specs.Prelude.{◌≡◌, ◌-◌, ◌^◌, None, if◌then◌else◌, nat_lt};
 
+use crate::asks::Asks;
 use crate::sink::Sink;
 use crate::source::{Failed, Source};
 use std::io::{Read, Write};
@@ -12,15 +13,21 @@ use std::io::{Read, Write};
 pub struct FromRead<R> {
     inner: R,
     failed: u64,
+    asks: Asks,
 }
 
 impl<R: Read> FromRead<R> {
-    /// The reader, with no failure so far.
+    /// The reader, with no failure so far, and not asked yet.
     pub fn new(inner: R) -> FromRead<R>
         ensures bytes { ⟦<FromRead<R> as Source>⟧.tells result ≡ R.remaining inner }
         ensures fails { ⟦<FromRead<R> as Source>⟧.failures result ≡ 0 }
+        ensures asks { ⟦<FromRead<R> as Source>⟧.asked result ≡ 0 }
     {
-        FromRead { inner, failed: 0 }
+        FromRead {
+            inner,
+            failed: 0,
+            asks: Asks::none(),
+        }
     }
 }
 
@@ -29,7 +36,10 @@ impl<R: Read> Source for FromRead<R> {
 
     ghost failures = { λ s. s.failed };
 
+    ghost asked = { λ s. s.asks.count };
+
     fn read(&mut self, buffer: &mut [u8]) -> Result<usize, Failed> {
+        self.asks = self.asks.one_more();
         match self.inner.read(buffer) {
             Ok(n) => Ok(n),
             Err(_) => {

@@ -2,7 +2,7 @@
 use Rattle.std.specs.Prelude.{◌≡◌, ◌≢◌, ◌<◌, ◌≤◌, ℕ, ◌+◌, ◌-◌, ◌*◌, ◌^◌, ◌⊎◌, ⊤}
 use Rattle.std.specs.Prelude.{List, [], ◌∷◌, ◌++◌, length, take, drop, Option, Some, None, IfSome}
 use Rattle.std.specs.Io.KnownBytes.{prepend_known, Consumes}
-use Rattle.sgt_notation.specs.Limits.{buffer_size}
+use Rattle.sgt_notation.specs.Limits.{buffer_size, most_reads}
 use Rattle.sgt_notation.specs.Spelling.{HasNoLf}
 use Rattle.sgt_notation.specs.declared.lines.Next.{Next}
 use Rattle.sgt_notation.specs.declared.lines.Next.TheVariants.{Line, Cut, TooLong, End}
@@ -86,6 +86,12 @@ pub record GaveNext (limit : ℕ) (old : Stream) (next : Next) (line : List ℕ)
   -- the end is met by a read that is counted
   pub ended : (next ≡ Cut) ⊎ (next ≡ End) → new.ahead.reads < old.ahead.reads
   pub unlimited : limit ≡ 2 ^ 64 - 1 → next ≢ TooLong
+
+-- a read fault is due: the source failed between these counts of its failures; or it was asked as often as lines may ask it, and each
+-- read took a byte at least
+abbrev pub ReadFaultIsDue : Option (List ℕ) → (failures failures' asked asked' : ℕ) → Type 0
+ReadFaultIsDue told failures failures' asked asked' = (failures < failures')
+    ⊎ ((asked' ≡ asked + most_reads) × IfSome told (λ bytes. most_reads ≤ length bytes))
 
 -- the source failed, once, at a read that is counted
 abbrev pub Failed : Stream → Stream → Type 0

@@ -190,6 +190,7 @@ impl Lines {
             ((S.failures source.new ≡ S.failures source.old + 1) × (self.old.reads ≡ self.new.reads + 1))
             ⊎ ((self.old.reads ≡ 0) × (self.new.reads ≡ 0) × (source.new ≡ source.old))) }
         ensures counted { self.old.reads ≤ self.new.reads + 1 }
+        ensures asks { S.asked source.new + self.new.reads ≡ S.asked source.old + self.old.reads }
         ensures left { OnErr result ((self.new.held ≡ []) × Leaves (S.tells source.old) [] (S.tells source.new)) }
         ensures err { IfErr result (λ e. e ≡ LinesFault.ReadFault) }
     {
@@ -258,6 +259,10 @@ impl Lines {
         ensures line { HasNoLf line.new.items × (length line.new.items ≤ limit) }
         ensures capacity { vec_capacity line.old ≤ vec_capacity line.new }
         ensures reads { self.new.reads ≤ self.old.reads }
+        // the reads that are counted are those that the source was asked for
+        ensures asks { S.asked source.new + self.new.reads ≡ S.asked source.old + self.old.reads }
+        // they are no more than the bytes of the line, and one
+        ensures few { self.old.reads ≤ self.new.reads + length line.new.items + 1 }
         // each read that was counted gave a byte, but for the last; and a count gave no more bytes than the buffer holds
         ensures counted { self.old.reads + length self.old.held
             ≤ self.new.reads + length self.new.held + length line.new.items + 1 }

@@ -1,4 +1,4 @@
-use Rattle.std.proofs.Common.{◌≡◌, ◌≤◌, ◌+◌, length, vec_capacity}
+use Rattle.std.proofs.Common.{◌≡◌, ◌≤◌, ◌+◌, [], length, vec_capacity}
 use Rattle.std.specs.Io.KnownBytes.{Consumes}
 use Rattle.sgt_notation.specs.Lines.{Spends, coming, most_left}
 use Rattle.sgt_notation.specs.Spelling.{HasNoLf}
@@ -16,6 +16,9 @@ invariant-reads g l =
     × (l.initial.self.reads + length l.initial.self.held ≤ l.self.reads + length l.self.held + length l.line.items)
     × (most_left l.self + length l.line.items ≤ most_left l.initial.self)
     × (vec_capacity l.initial.line ≤ vec_capacity l.line)
+    × (g.S.Source.asked l.source + l.self.reads ≡ g.S.Source.asked l.initial.source + l.initial.self.reads)
+    × (l.initial.self.reads ≤ l.self.reads + length l.line.items + 1)
+    × (l.self.held ≡ [] → l.initial.self.reads ≤ l.self.reads + length l.line.items)
 
 abbrev pub decreases-reads : goal.decreases-reads
 decreases-reads g l = l.self.reads
