@@ -4,7 +4,7 @@ ghost use Rattle.std.specs.Prelude.{IfOk};
 ghost use Rattle.sgt_audit.specs.Verdict.{IsVerdict, SaysHeadline};
 
 use sgt_audit::{Verdict, audit};
-use sgt_names::{EngineFail, Failed, Sink, Source};
+use sgt_names::{Asks, EngineFail, Failed, Sink, Source};
 use sgt_notation::MOST_READS;
 use std::alloc::{AllocError, Global};
 
@@ -12,6 +12,7 @@ use std::alloc::{AllocError, Global};
 #[derive(Drop)]
 struct Text<'a> {
     rest: &'a [u8],
+    asks: Asks,
 }
 
 impl Source for Text<'_> {
@@ -21,7 +22,10 @@ impl Source for Text<'_> {
 
     ghost failures = { λ s. 0 };
 
+    ghost asked = { λ s. s.asks.count };
+
     fn read(&mut self, buffer: &mut [u8]) -> Result<usize, Failed> {
+        self.asks = self.asks.one_more();
         let n = self.rest.len().min(buffer.len());
         buffer[..n].copy_from_slice(&self.rest[..n]);
         self.rest = &self.rest[n..];
@@ -52,7 +56,10 @@ pub fn verdict_on(alloc: Global, text: &[u8]) -> Result<Verdict, AllocError>
     ensures headline { IfOk result (SaysHeadline text.now) }
 {
     let few = text.len() < MOST_READS as usize;
-    let mut reader = Text { rest: text };
+    let mut reader = Text {
+        rest: text,
+        asks: Asks::none(),
+    };
     let mut writer = Nowhere;
     match audit(alloc, &mut reader, &mut writer) {
         Ok(verdict) => Ok(verdict),
