@@ -1,0 +1,144 @@
+//! Gates that hold whoever arrives at a place until somebody arrived at another.
+
+use sgt_workers::{Gate, Place};
+use std::sync::atomic::{AtomicBool, Ordering};
+use std::thread;
+
+const MOST_TURNS: u64 = 1_000_000;
+
+/// It holds for at most 1,000,000 turns that yield, and then notes a failure.
+#[derive(Drop)]
+pub struct HoldUntil {
+    at: Place,
+    until: Place,
+    arrived: AtomicBool,
+    failed: AtomicBool,
+}
+
+impl HoldUntil {
+    pub fn new(at: Place, until: Place) -> HoldUntil {
+        HoldUntil {
+            at,
+            until,
+            arrived: AtomicBool::new(false),
+            failed: AtomicBool::new(false),
+        }
+    }
+
+    pub fn failed(&self) -> bool {
+        self.failed.load(Ordering::SeqCst)
+    }
+
+    // Notes that somebody arrived at the place that is waited for.
+    fn tell(&self, place: &Place) {
+        if *place == self.until {
+            self.arrived.store(true, Ordering::SeqCst);
+        }
+    }
+
+    // Holds whoever arrived at its place.
+    fn hold(&self, place: &Place) {
+        if *place != self.at {
+            return;
+        }
+        for _ in 0..MOST_TURNS {
+            if self.arrived.load(Ordering::SeqCst) {
+                return;
+            }
+            thread::yield_now();
+        }
+        self.failed.store(true, Ordering::SeqCst);
+    }
+}
+
+impl Gate for HoldUntil {
+    fn arrive(&self, _worker: usize, place: Place) {
+        self.tell(&place);
+        self.hold(&place);
+    }
+}
+
+/// Three that hold one after another. Each is told before one holds.
+#[derive(Drop)]
+pub struct HoldThree {
+    first: HoldUntil,
+    second: HoldUntil,
+    third: HoldUntil,
+}
+
+impl HoldThree {
+    pub fn new(first: HoldUntil, second: HoldUntil, third: HoldUntil) -> HoldThree {
+        HoldThree {
+            first,
+            second,
+            third,
+        }
+    }
+
+    pub fn failed(&self) -> bool {
+        self.first.failed() || self.second.failed() || self.third.failed()
+    }
+}
+
+impl Gate for HoldThree {
+    fn arrive(&self, _worker: usize, place: Place) {
+        self.first.tell(&place);
+        self.second.tell(&place);
+        self.third.tell(&place);
+        self.first.hold(&place);
+        self.second.hold(&place);
+        self.third.hold(&place);
+    }
+}
+
+/// Holds the workers of the numbers 0 and 1 once they have taken a job, until the other has. Another number is a failure.
+#[derive(Drop)]
+pub struct BothTake {
+    first: AtomicBool,
+    second: AtomicBool,
+    failed: AtomicBool,
+}
+
+impl BothTake {
+    pub fn new() -> BothTake {
+        BothTake {
+            first: AtomicBool::new(false),
+            second: AtomicBool::new(false),
+            failed: AtomicBool::new(false),
+        }
+    }
+
+    pub fn failed(&self) -> bool {
+        self.failed.load(Ordering::SeqCst)
+    }
+
+    // Waits until it is so, or notes a failure.
+    fn wait(&self, is_so: &AtomicBool) {
+        for _ in 0..MOST_TURNS {
+            if is_so.load(Ordering::SeqCst) {
+                return;
+            }
+            thread::yield_now();
+        }
+        self.failed.store(true, Ordering::SeqCst);
+    }
+}
+
+impl Gate for BothTake {
+    fn arrive(&self, worker: usize, place: Place) {
+        if place != Place::Taken {
+            return;
+        }
+        match worker {
+            0 => {
+                self.first.store(true, Ordering::SeqCst);
+                self.wait(&self.second);
+            }
+            1 => {
+                self.second.store(true, Ordering::SeqCst);
+                self.wait(&self.first);
+            }
+            _ => self.failed.store(true, Ordering::SeqCst),
+        }
+    }
+}

@@ -1,0 +1,5 @@
+//! Tests of the service: what no proof reaches.
+#![tactic(auto)]
+
+#[cfg(test)]
+mod tests;

@@ -1,0 +1,129 @@
+//! The work of the tests.
+
+ghost use Rattle.std.specs.Prelude.{◌≡◌};
+
+use sgt_names::SiteNo;
+use sgt_workers::{Done, Gate, Job, Place, PoolFail, PoolFault, Work, pool};
+use std::alloc::{AllocError, Global};
+use std::sync::Wait;
+use std::sync::atomic::{AtomicU64, Ordering};
+use std::thread;
+use std::thread::Threads;
+
+/// A script of the tests.
+#[derive(Clone, Copy)]
+pub enum Errand {
+    /// Answers this value as a read at the site.
+    Read(SiteNo, u64),
+    /// Fails after it arrived behind a read of this site.
+    Fail(SiteNo),
+    /// Asks for more memory than there is.
+    Grow,
+}
+
+/// How an errand fails.
+#[derive(Clone, Copy, Debug, PartialEq, Eq)]
+pub enum Mishap {
+    Failed(u64),
+    Memory,
+}
+
+/// Runs errands, and counts the calls that began and those that ended.
+#[derive(Drop)]
+pub struct Clerk<'a, G: Gate> {
+    alloc: Global,
+    gate: &'a G,
+    begun: AtomicU64,
+    ended: AtomicU64,
+}
+
+impl<'a, G: Gate> Clerk<'a, G> {
+    pub fn new(alloc: Global, gate: &'a G) -> Clerk<'a, G> {
+        Clerk {
+            alloc,
+            gate,
+            begun: AtomicU64::new(0),
+            ended: AtomicU64::new(0),
+        }
+    }
+
+    /// How many calls began, and how many ended.
+    pub fn calls(&self) -> (u64, u64) {
+        (
+            self.begun.load(Ordering::SeqCst),
+            self.ended.load(Ordering::SeqCst),
+        )
+    }
+
+    fn reads(&self, worker: usize, script: Errand, number: u64) -> Result<Vec<u64>, Mishap> {
+        match script {
+            Errand::Read(site, value) => {
+                self.gate.arrive(worker, Place::InRead(site));
+                self.gate.arrive(worker, Place::AfterRead(site));
+                one_read(self.alloc, value).map_err(|_| Mishap::Memory)
+            }
+            Errand::Fail(site) => {
+                self.gate.arrive(worker, Place::AfterRead(site));
+                Err(Mishap::Failed(number))
+            }
+            Errand::Grow => Vec::with_capacity(self.alloc, 1 << 58).map_err(|_| Mishap::Memory),
+        }
+    }
+}
+
+impl<'a, G: Gate> Work<usize, Errand, Mishap> for Clerk<'a, G> {
+    ghost answers = { λ clerk number errand done. Unit {0} };
+
+    ghost faults = { λ clerk mishap. Unit {0} };
+
+    ghost keeps = { λ s t. Unit {0} };
+
+    ghost does = { λ clerk s number errand done t. t ≡ s };
+
+    fn work<R: Wait>(
+        &self,
+        _rt: &R,
+        worker: &mut usize,
+        job: Job<&Errand>,
+    ) -> Result<Done, Mishap> {
+        self.begun.fetch_add(1, Ordering::SeqCst);
+        self.gate.arrive(*worker, Place::Taken);
+        let reads = self.reads(*worker, *job.script, job.number);
+        for _ in 0..100 {
+            thread::yield_now();
+        }
+        self.ended.fetch_add(1, Ordering::SeqCst);
+        Ok(Done {
+            job: job.number,
+            tickets: Vec::new(self.alloc),
+            reads: reads?,
+        })
+    }
+
+    ghost keeps_same = { λ s. tt };
+
+    ghost keeps_on = { λ r s t a b. tt };
+}
+
+fn one_read(alloc: Global, value: u64) -> Result<Vec<u64>, AllocError> {
+    let mut reads = Vec::new(alloc);
+    reads.push(value)?;
+    Ok(reads)
+}
+
+/// Runs the errands by so many workers, of which each has its number as its state.
+pub fn run<R: Threads + Wait + Sync, G: Gate + Sync>(
+    rt: &R,
+    clerk: &Clerk<G>,
+    errands: &[Errand],
+    workers: usize,
+) -> Result<(Vec<Done>, Vec<usize>), PoolFail<Mishap>> {
+    let mut states = Vec::new(clerk.alloc);
+    for number in 0..workers {
+        states.push(number).map_err(|_| AllocError)?;
+    }
+    if states.is_empty() {
+        return Err(PoolFail::Pool(PoolFault::Memory));
+    }
+    pool(rt, clerk.alloc, errands, states, clerk)
+}
