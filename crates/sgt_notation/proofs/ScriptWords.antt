@@ -114,7 +114,8 @@ some_op line (op ∷ ops) e = omega arith
 
 pub wanting : (line : List ℕ) (items : List Op) (kept : Bool) → KeepsAll (words line) items kept → length line ≤ max_line
     → ReadsScript line (Err Memory)
-wanting line items kept k short = (record { operations = k.ops }, k.each, spells line k.ops k.spelled, short)
+wanting line items kept k short =
+    (record { operations = k.ops }, k.each, some_op line k.ops k.spelled, spells line k.ops k.spelled, short)
 
 pub script-kept : (line : List ℕ) (items : List Op) (kept : Bool) → KeepsAll (words line) items kept → kept ≡ true
     → AreSourcesNamed items → length line ≤ max_line → KeepsScript line items (Ok tt)
