@@ -1,0 +1,19 @@
+use Rattle.std.proofs.Common.{◌∙◌, [], ◌∷◌, ◌++◌, List, ℕ, ap, refl}
+use Rattle.sgt_certify.proofs.Taken.{nothing-taken, line-taken, cut-taken, end-taken, spends_on, spends-none}
+use Rattle.sgt_certify.proofs.taking.take_lines.Goals as goal
+
+pub lines-init : goal.lines-init
+lines-init g c = (
+  nothing-taken _ c.args.lines.now _ c.requires.none (ap (λ a. a.held) c.requires.fresh),
+  refl,
+  spends-none _ _ _ (ap (λ a. a.reads) c.requires.fresh),
+)
+
+pub lines-preserved : goal.lines-preserved
+lines-preserved g c =
+    let gave = rw c.in-Ok-Line.field-0-is at c.in-Ok-Line.ensures.ok in (
+      line-taken _ _ _ _ _ _ _ c.lines.invariant.0 gave.gives
+          (c.in_ok-push_line.ensures ∙ ap (λ (l : List ℕ). (c.lines.text.items ++ l) ++ 10 ∷ []) c.as_slice.ensures.value),
+      gave.quiet ∙ c.lines.invariant.1,
+      spends_on _ _ _ _ _ _ c.lines.invariant.2 gave.spends,
+    )
