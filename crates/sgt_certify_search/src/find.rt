@@ -1,11 +1,11 @@
 //! What is found of a text.
 
-use crate::history::History;
 use crate::reading::Reader;
 use crate::report::{fault_text, order_text, ranks_text, walk_text};
 use crate::search::{Finding, search};
 use crate::steps::{conflict_steps, end_steps};
 use sgt_cert::Certificate;
+use sgt_certify_history::History;
 use sgt_certify_logs::{ConflictStep, EndStep};
 use sgt_names::Listed;
 use sgt_notation::{MAX_LINE, find_lf};

@@ -1,9 +1,9 @@
 //! The lines of logs without a certificate, judged one by one, and kept for the search.
 
-use crate::history::{
+use sgt_certify_history::{
     Act, End, Ending, Fate, History, ItemHistory, Life, Operation, Place, act_of, fate_of,
+    number_at,
 };
-use crate::lists::number_at;
 use sgt_names::{Entry, Holding, Item, MAX_ITEMS, MAX_SITES, SiteNo, Tx};
 use sgt_notation::{SectionLine, read_section};
 use std::alloc::{AllocError, Global};

@@ -1,8 +1,6 @@
 //! The reasons why there is no certificate, written.
 
-use crate::ends::Before;
-use crate::history::{End, Fate, History};
-use crate::walks::Link;
+use sgt_certify_history::{Before, End, Fate, History, Link};
 use sgt_names::Kind;
 use sgt_notation::push_number;
 use std::alloc::{AllocError, Global};

@@ -1,11 +1,10 @@
 //! The search for a certificate of what the logs say.
 
-use crate::ends::{Before, Front};
-use crate::history::{End, Fate, History};
-use crate::lists::{is_marked, number_at, set_mark, set_number};
-use crate::ranks::rank_order;
-use crate::walks::{Link, walk_of};
 use sgt_cert::{Decision, Step};
+use sgt_certify_history::{
+    Before, End, Fate, Front, History, Link, is_marked, number_at, rank_order, set_mark,
+    set_number, walk_of,
+};
 use sgt_names::{Listed, Tx};
 use std::alloc::{AllocError, Global};
 

@@ -1,9 +1,6 @@
 //! The cycles that were found, as steps that can be checked against the logs.
 
-use crate::ends::Before;
-use crate::history::History;
-use crate::lists::number_at;
-use crate::walks::Link;
+use sgt_certify_history::{Before, History, Link, number_at};
 use sgt_certify_logs::{ConflictStep, EndStep, Spot};
 use std::alloc::{AllocError, Global};
 

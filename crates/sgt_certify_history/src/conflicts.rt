@@ -12,7 +12,7 @@ pub struct Conflict {
 }
 
 /// The kind of conflict of two operations in this order, if they are in conflict.
-pub(crate) fn kind_of(first: Act, second: Act) -> Option<Kind> {
+pub fn kind_of(first: Act, second: Act) -> Option<Kind> {
     match (first, second) {
         (Act::Read, Act::Read) => None,
         (Act::Add, Act::Add) => None,
@@ -52,11 +52,10 @@ fn conflict_of(history: &History, first: &Place, second: &Place) -> Option<Confl
 }
 
 /// The one of the lesser kind.
-fn lesser(old: Option<Conflict>, new: Option<Conflict>) -> Option<Conflict> {
-    match (old, new) {
-        (Some(a), Some(b)) if order_of(b.label.kind) < order_of(a.label.kind) => Some(b),
-        (Some(a), _) => Some(a),
-        (None, new) => new,
+fn lesser(old: Option<Conflict>, new: Conflict) -> Conflict {
+    match old {
+        Some(old) if order_of(old.label.kind) <= order_of(new.label.kind) => old,
+        _ => new,
     }
 }
 
@@ -73,7 +72,7 @@ fn on_item(places: &[Place], item: usize) -> &[Place] {
 }
 
 /// The least conflict of the first transaction with the second, by site, item and kind.
-pub(crate) fn least_conflict(history: &History, from: usize, to: usize) -> Option<Conflict> {
+pub fn least_conflict(history: &History, from: usize, to: usize) -> Option<Conflict> {
     if from == to {
         return None;
     }
@@ -88,7 +87,9 @@ pub(crate) fn least_conflict(history: &History, from: usize, to: usize) -> Optio
             item = first.item;
         }
         for second in on_item(others, item) {
-            best = lesser(best, conflict_of(history, first, second));
+            if let Some(conflict) = conflict_of(history, first, second) {
+                best = Some(lesser(best, conflict));
+            }
         }
     }
     best

@@ -1,7 +1,7 @@
 //! Numbers by their place, where a place that isn't there has a zero.
 
 /// The number at this place.
-pub(crate) fn number_at(numbers: &[usize], place: usize) -> usize {
+pub fn number_at(numbers: &[usize], place: usize) -> usize {
     match numbers.get(place) {
         Some(number) => *number,
         None => 0,
@@ -9,14 +9,14 @@ pub(crate) fn number_at(numbers: &[usize], place: usize) -> usize {
 }
 
 /// Puts the number at this place.
-pub(crate) fn set_number(numbers: &mut [usize], place: usize, number: usize) {
+pub fn set_number(numbers: &mut [usize], place: usize, number: usize) {
     if let Some(old) = numbers.get_mut(place) {
         *old = number;
     }
 }
 
 /// Whether the mark at this place is set.
-pub(crate) fn is_marked(marks: &[bool], place: usize) -> bool {
+pub fn is_marked(marks: &[bool], place: usize) -> bool {
     match marks.get(place) {
         Some(mark) => *mark,
         None => false,
@@ -24,7 +24,7 @@ pub(crate) fn is_marked(marks: &[bool], place: usize) -> bool {
 }
 
 /// Sets the mark at this place.
-pub(crate) fn set_mark(marks: &mut [bool], place: usize) {
+pub fn set_mark(marks: &mut [bool], place: usize) {
     if let Some(old) = marks.get_mut(place) {
         *old = true;
     }

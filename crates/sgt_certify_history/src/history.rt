@@ -22,7 +22,7 @@ pub enum Act {
 }
 
 /// What an entry does, if it is an operation.
-pub(crate) fn act_of(entry: &Entry) -> Option<Act> {
+pub fn act_of(entry: &Entry) -> Option<Act> {
     match entry {
         Entry::Read { .. } => Some(Act::Read),
         Entry::Write { .. } | Entry::Want { .. } => Some(Act::Put),
@@ -32,7 +32,7 @@ pub(crate) fn act_of(entry: &Entry) -> Option<Act> {
 }
 
 /// The end that an entry asks for, if it asks for one.
-pub(crate) fn fate_of(entry: &Entry) -> Option<Fate> {
+pub fn fate_of(entry: &Entry) -> Option<Fate> {
     match entry {
         Entry::Write { .. } | Entry::Add { .. } | Entry::Commit { .. } => Some(Fate::Commit),
         Entry::Want { .. } | Entry::WantAdd { .. } | Entry::Refuse { .. } => Some(Fate::Refuse),
@@ -101,7 +101,7 @@ pub struct History {
 
 impl History {
     /// Nothing so far.
-    pub(crate) fn new(alloc: Global) -> History {
+    pub fn new(alloc: Global) -> History {
         History {
             items: Vec::new(alloc),
             sites: Vec::new(alloc),
@@ -111,7 +111,7 @@ impl History {
     }
 
     /// The end that the transaction has.
-    pub(crate) fn fate(&self, tx: usize) -> Option<Fate> {
+    pub fn fate(&self, tx: usize) -> Option<Fate> {
         match self.lives.get(tx) {
             Some(life) => life.fate,
             None => None,
@@ -119,7 +119,7 @@ impl History {
     }
 
     /// Whether the transaction is committed.
-    pub(crate) fn is_committed(&self, tx: usize) -> bool {
+    pub fn is_committed(&self, tx: usize) -> bool {
         match self.fate(tx) {
             Some(fate) => fate == Fate::Commit,
             None => false,
@@ -127,7 +127,7 @@ impl History {
     }
 
     /// Whether it is refused.
-    pub(crate) fn is_refused(&self, tx: usize) -> bool {
+    pub fn is_refused(&self, tx: usize) -> bool {
         match self.fate(tx) {
             Some(fate) => fate == Fate::Refuse,
             None => false,
@@ -135,7 +135,7 @@ impl History {
     }
 
     /// The operations on the item.
-    pub(crate) fn operations(&self, item: usize) -> &[Operation] {
+    pub fn operations(&self, item: usize) -> &[Operation] {
         match self.items.get(item) {
             Some(history) => history.operations.as_slice(),
             None => &[],
@@ -143,7 +143,7 @@ impl History {
     }
 
     /// Where the transaction's operations stand.
-    pub(crate) fn places(&self, tx: usize) -> &[Place] {
+    pub fn places(&self, tx: usize) -> &[Place] {
         match self.lives.get(tx) {
             Some(life) => life.places.as_slice(),
             None => &[],
@@ -151,7 +151,7 @@ impl History {
     }
 
     /// Where the transaction ends.
-    pub(crate) fn endings(&self, tx: usize) -> &[Ending] {
+    pub fn endings(&self, tx: usize) -> &[Ending] {
         match self.lives.get(tx) {
             Some(life) => life.endings.as_slice(),
             None => &[],
@@ -159,7 +159,7 @@ impl History {
     }
 
     /// The end at this place of the site.
-    pub(crate) fn end_at(&self, site: usize, at: usize) -> Option<End> {
+    pub fn end_at(&self, site: usize, at: usize) -> Option<End> {
         match self.sites.get(site) {
             Some(ends) => ends.get(at).copied(),
             None => None,
@@ -167,7 +167,7 @@ impl History {
     }
 
     /// The transactions by rising number, where the map has them in another order.
-    pub(crate) fn sorted(
+    pub fn sorted(
         self,
         alloc: Global,
         known: &BTreeMap<u32, usize>,

@@ -29,7 +29,7 @@ pub struct Before {
 
 impl Front {
     /// Nothing is decided.
-    pub(crate) fn new(alloc: Global, history: &History) -> Result<Front, AllocError> {
+    pub fn new(alloc: Global, history: &History) -> Result<Front, AllocError> {
         let mut waits = Vec::new(alloc);
         for life in history.lives.as_slice() {
             waits.push(life.endings.len())?;
@@ -47,7 +47,7 @@ impl Front {
     }
 
     /// The next end of the site.
-    pub(crate) fn next_end(&self, history: &History, site: usize) -> Option<End> {
+    pub fn next_end(&self, history: &History, site: usize) -> Option<End> {
         history.end_at(site, number_at(self.next.as_slice(), site))
     }
 
@@ -65,7 +65,7 @@ impl Front {
     }
 
     /// The free transaction is decided.
-    pub(crate) fn decide(&mut self, history: &History, tx: usize) -> Result<(), AllocError> {
+    pub fn decide(&mut self, history: &History, tx: usize) -> Result<(), AllocError> {
         self.free.retain(|other| *other != tx);
         self.decided = self.decided.saturating_add(1);
         for ending in history.endings(tx) {
@@ -105,11 +105,7 @@ impl Front {
     }
 
     /// The cycle of ends that there is where some are left and none is free: told forwards, from its least transaction on.
-    pub(crate) fn cycle(
-        &self,
-        alloc: Global,
-        history: &History,
-    ) -> Result<Vec<Before>, AllocError> {
+    pub fn cycle(&self, alloc: Global, history: &History) -> Result<Vec<Before>, AllocError> {
         let mut steps: Vec<Before> = Vec::new(alloc);
         let mut met = vec![in alloc; 0usize; history.lives.len()]?;
         let Some(end) = self.first_left(history) else {

@@ -25,6 +25,13 @@ struct Run {
     members: Vec<usize>,
 }
 
+impl Run {
+    /// Whether another operation of this act belongs to the run.
+    fn goes_on(&self, act: Act) -> bool {
+        self.act == act && act != Act::Put
+    }
+}
+
 impl Edges {
     fn new(alloc: Global, transactions: usize) -> Result<Edges, AllocError> {
         let mut leads: Vec<Vec<usize>> = Vec::new(alloc);
@@ -118,35 +125,37 @@ impl Edges {
         history: &History,
         operations: &[Operation],
     ) -> Result<(), AllocError> {
-        let mut last: Option<Run> = None;
-        let mut open: Option<Run> = None;
-        for operation in operations {
-            if !history.is_committed(operation.tx) {
-                continue;
+        let runs = runs_of(alloc, history, operations)?;
+        let mut last: Option<&Run> = None;
+        for run in runs.as_slice() {
+            if let Some(first) = last {
+                self.link(alloc, first, run)?;
             }
-            let goes_on = match &open {
-                Some(run) => run.act == operation.act && operation.act != Act::Put,
-                None => false,
-            };
-            if !goes_on {
-                if let (Some(first), Some(second)) = (&last, &open) {
-                    self.link(alloc, first, second)?;
-                }
-                last = open.take();
-                open = Some(Run {
-                    act: operation.act,
-                    members: Vec::new(alloc),
-                });
-            }
-            if let Some(run) = &mut open {
-                run.members.push(operation.tx)?;
-            }
-        }
-        if let (Some(first), Some(second)) = (&last, &open) {
-            self.link(alloc, first, second)?;
+            last = Some(run);
         }
         Ok(())
     }
+}
+
+/// The committed operations, cut into runs: reads in a row, increments in a row, and each other change alone.
+fn runs_of(
+    alloc: Global,
+    history: &History,
+    operations: &[Operation],
+) -> Result<Vec<Run>, AllocError> {
+    let mut runs: Vec<Run> = Vec::new(alloc);
+    for operation in operations {
+        if history.is_committed(operation.tx) {
+            match runs.last_mut() {
+                Some(run) if run.goes_on(operation.act) => run.members.push(operation.tx)?,
+                _ => runs.push(Run {
+                    act: operation.act,
+                    members: vec![in alloc; operation.tx]?,
+                })?,
+            }
+        }
+    }
+    Ok(runs)
 }
 
 /// Who is ready to be ranked, and the joints that are ready.
@@ -157,6 +166,25 @@ struct Ready {
 }
 
 impl Ready {
+    /// Those to which no node leads: joints, and committed transactions.
+    fn new(
+        alloc: Global,
+        history: &History,
+        transactions: usize,
+        behind: &[usize],
+    ) -> Result<Ready, AllocError> {
+        let mut ready = Ready {
+            transactions: BTreeSet::new(alloc),
+            joints: Vec::new(alloc),
+        };
+        for (node, count) in behind.iter().enumerate() {
+            if *count == 0 && (node >= transactions || history.is_committed(node)) {
+                ready.add(node, transactions)?;
+            }
+        }
+        Ok(ready)
+    }
+
     fn add(&mut self, node: usize, transactions: usize) -> Result<(), AllocError> {
         if node < transactions {
             self.transactions.insert(node)?;
@@ -166,46 +194,60 @@ impl Ready {
         Ok(())
     }
 
+    /// A joint that is ready, or else the least transaction.
     fn next(&mut self) -> Option<usize> {
         match self.joints.pop() {
             Some(joint) => Some(joint),
             None => self.transactions.pop_first(),
         }
     }
+
+    /// One node less leads to each of these.
+    fn release(
+        &mut self,
+        nodes: &[usize],
+        behind: &mut [usize],
+        transactions: usize,
+    ) -> Result<(), AllocError> {
+        for node in nodes {
+            let count = number_at(behind, *node).saturating_sub(1);
+            set_number(behind, *node, count);
+            if count == 0 {
+                self.add(*node, transactions)?;
+            }
+        }
+        Ok(())
+    }
 }
 
-/// The committed transactions in the order of their ranks: all of them where their conflicts are in no cycle.
-pub(crate) fn rank_order(alloc: Global, history: &History) -> Result<Vec<usize>, AllocError> {
-    let transactions = history.lives.len();
-    let mut edges = Edges::new(alloc, transactions)?;
+/// The edges of all items.
+fn edges_of(alloc: Global, history: &History) -> Result<Edges, AllocError> {
+    let mut edges = Edges::new(alloc, history.lives.len())?;
     for item in history.items.as_slice() {
         edges.add_item(alloc, history, item.operations.as_slice())?;
     }
-    let mut ready = Ready {
-        transactions: BTreeSet::new(alloc),
-        joints: Vec::new(alloc),
-    };
-    for (node, count) in edges.behind.iter().enumerate() {
-        if *count == 0 && (node >= transactions || history.is_committed(node)) {
-            ready.add(node, transactions)?;
-        }
-    }
+    Ok(edges)
+}
+
+/// The committed transactions in the order of their ranks: all of them where their conflicts are in no cycle.
+pub fn rank_order(alloc: Global, history: &History) -> Result<Vec<usize>, AllocError> {
+    let Edges {
+        transactions,
+        leads,
+        mut behind,
+        ..
+    } = edges_of(alloc, history)?;
+    let mut ready = Ready::new(alloc, history, transactions, behind.as_slice())?;
     let mut order = Vec::new(alloc);
-    for _ in 0..edges.leads.len() {
+    for _ in 0..leads.len() {
         let Some(node) = ready.next() else {
             break;
         };
         if node < transactions {
             order.push(node)?;
         }
-        if let Some(leads) = edges.leads.get(node) {
-            for to in leads.as_slice() {
-                let count = number_at(edges.behind.as_slice(), *to).saturating_sub(1);
-                set_number(edges.behind.as_mut_slice(), *to, count);
-                if count == 0 {
-                    ready.add(*to, transactions)?;
-                }
-            }
+        if let Some(nodes) = leads.get(node) {
+            ready.release(nodes.as_slice(), behind.as_mut_slice(), transactions)?;
         }
     }
     Ok(order)
