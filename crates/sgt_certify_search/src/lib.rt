@@ -1,10 +1,12 @@
 //! The search for the certificate of logs that have none. What it finds is checked by who asks for it.
 #![tactic(auto)]
 
+mod faults;
 mod find;
 mod reading;
 mod report;
 mod search;
 mod steps;
 
-pub use find::{Found, Proof, find};
+pub use faults::LineFault;
+pub use find::{Found, Proof, Reason, find};

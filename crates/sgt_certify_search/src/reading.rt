@@ -1,8 +1,8 @@
 //! The lines of logs without a certificate, judged one by one, and kept for the search.
 
+use crate::faults::LineFault;
 use sgt_certify_history::{
-    Act, End, Ending, Fate, History, ItemHistory, Life, Operation, Place, act_of, fate_of,
-    number_at,
+    Act, End, Ending, History, ItemHistory, Life, Operation, Place, act_of, fate_of,
 };
 use sgt_names::{Entry, Holding, Item, MAX_ITEMS, MAX_SITES, SiteNo, Tx};
 use sgt_notation::{SectionLine, read_section};
@@ -66,7 +66,7 @@ fn continues(first: &Entry, second: &Entry) -> bool {
         }
 }
 
-/// The value of the item before the entry, and behind it.
+/// The value of the item behind the entry, where it was this one before.
 fn value_behind(entry: &Entry, value: u64) -> u64 {
     match *entry {
         Entry::Write { value: put, .. } => put,
@@ -76,22 +76,50 @@ fn value_behind(entry: &Entry, value: u64) -> u64 {
 }
 
 impl Section {
-    /// Whether the line goes on with the block that is open, if one is.
-    fn continues(&self, line: &SectionLine) -> bool {
-        if self.finals != 0 {
-            return true;
+    /// Whether one more item may be listed.
+    fn may_list(&self) -> bool {
+        self.last.is_none() && self.finals == 0 && self.values.len() < MAX_ITEMS
+    }
+
+    /// Keeps an operation on the item at this place.
+    fn keep(&mut self, entry: &Entry, at: usize) {
+        self.last = Some(*entry);
+        if let Some(value) = self.values.get_mut(at) {
+            *value = value_behind(entry, *value);
         }
-        match (&self.last, line) {
-            (Some(last), SectionLine::Logged(entry)) => !is_open(last) || continues(last, entry),
-            (Some(last), _) => !is_open(last),
-            (None, _) => true,
+    }
+
+    /// Whether a block is open.
+    fn is_inside(&self) -> bool {
+        match &self.last {
+            Some(last) => self.finals == 0 && is_open(last),
+            None => false,
+        }
+    }
+
+    /// Whether the entry goes on with the block that is open, if one is.
+    fn takes(&self, entry: &Entry) -> bool {
+        match &self.last {
+            Some(last) => !is_open(last) || continues(last, entry),
+            None => true,
+        }
+    }
+
+    /// Whether the entry, if it is a read of this item of the section, has its value.
+    fn is_legal(&self, entry: &Entry, item: usize) -> bool {
+        match entry {
+            Entry::Read { value, .. } => match self.values.get(item) {
+                Some(now) => *now == *value,
+                None => false,
+            },
+            _ => true,
         }
     }
 }
 
 impl Reader {
     /// Before the first line.
-    pub(crate) fn new(alloc: Global) -> Reader {
+    pub fn new(alloc: Global) -> Reader {
         Reader {
             alloc,
             format: None,
@@ -104,7 +132,7 @@ impl Reader {
     }
 
     /// The number of the next line.
-    pub(crate) fn number(&self) -> usize {
+    pub fn number(&self) -> usize {
         self.line
     }
 
@@ -114,29 +142,31 @@ impl Reader {
     }
 
     /// The fault of a line that is too long.
-    pub(crate) fn too_long(&self) -> u8 {
+    pub fn too_long(&self) -> LineFault {
         if self.format.is_none() {
-            1
+            LineFault::Format
         } else if self.is_full() {
-            19
+            LineFault::Behind
         } else {
-            2
+            LineFault::Notation
         }
     }
 
-    /// The fault of the input's end, with so many bytes behind the last LF.
-    pub(crate) fn end(&self, rest: usize) -> Option<u8> {
+    /// The fault of the input's end, with so many bytes behind the last LF, if it has one.
+    pub fn end(&self, rest: usize) -> Option<LineFault> {
         if self.open.is_some() || self.history.sites.is_empty() {
-            return Some(18);
+            Some(LineFault::Truncated)
+        } else if rest == 0 {
+            None
+        } else if self.is_full() {
+            Some(LineFault::Behind)
+        } else {
+            Some(LineFault::Truncated)
         }
-        if rest == 0 {
-            return None;
-        }
-        Some(if self.is_full() { 19 } else { 18 })
     }
 
     /// What the logs say.
-    pub(crate) fn finish(self) -> Result<History, AllocError> {
+    pub fn finish(self) -> Result<History, AllocError> {
         let Reader {
             alloc,
             history,
@@ -147,50 +177,54 @@ impl Reader {
     }
 
     /// The next line, without its LF: its least fault, if it has one.
-    pub(crate) fn next(&mut self, line: &[u8]) -> Result<Option<u8>, AllocError> {
-        let Some(second) = self.format else {
-            if line == b"sgt 1".as_slice() {
-                self.format = Some(false);
-            } else if line == b"sgt 2".as_slice() {
-                self.format = Some(true);
-            } else {
-                return Ok(Some(1));
-            }
-            self.line = self.line.saturating_add(1);
-            return Ok(None);
+    pub fn next(&mut self, line: &[u8]) -> Result<Option<LineFault>, AllocError> {
+        let fault = match self.format {
+            None => self.start(line),
+            Some(second) => self.read(line, second)?,
         };
-        if self.is_full() {
-            return Ok(Some(19));
-        }
-        let Ok(read) = read_section(line) else {
-            return Ok(Some(2));
-        };
-        if let SectionLine::Logged(entry) = &read {
-            if entry.is_increment() && !second {
-                return Ok(Some(2));
-            }
-        }
-        let fault = self.enter(&read)?;
         if fault.is_none() {
             self.line = self.line.saturating_add(1);
         }
         Ok(fault)
     }
 
-    /// One more line of a section: its least fault, if it has one.
-    fn enter(&mut self, line: &SectionLine) -> Result<Option<u8>, AllocError> {
-        match line {
-            SectionLine::Site(site) => self.begin(*site),
-            SectionLine::Initial(holding) => self.list(holding),
-            SectionLine::Logged(entry) => self.log(entry),
-            SectionLine::Final(holding) => Ok(self.settle(holding)),
-            SectionLine::End => Ok(self.close()),
+    /// The first line.
+    fn start(&mut self, line: &[u8]) -> Option<LineFault> {
+        if line == b"sgt 1".as_slice() {
+            self.format = Some(false);
+            None
+        } else if line == b"sgt 2".as_slice() {
+            self.format = Some(true);
+            None
+        } else {
+            Some(LineFault::Format)
         }
     }
 
-    fn begin(&mut self, site: SiteNo) -> Result<Option<u8>, AllocError> {
+    /// A later line, of the second format or the first.
+    fn read(&mut self, line: &[u8], second: bool) -> Result<Option<LineFault>, AllocError> {
+        if self.is_full() {
+            return Ok(Some(LineFault::Behind));
+        }
+        match read_section(line) {
+            Ok(SectionLine::Site(site)) => self.begin(site),
+            Ok(SectionLine::Initial(holding)) => self.list(&holding),
+            Ok(SectionLine::Logged(entry)) => {
+                if entry.is_increment() && !second {
+                    Ok(Some(LineFault::Notation))
+                } else {
+                    self.log(&entry)
+                }
+            }
+            Ok(SectionLine::Final(holding)) => Ok(self.settle(&holding)),
+            Ok(SectionLine::End) => Ok(self.close()),
+            Err(_) => Ok(Some(LineFault::Notation)),
+        }
+    }
+
+    fn begin(&mut self, site: SiteNo) -> Result<Option<LineFault>, AllocError> {
         if self.open.is_some() || site.number() as usize != self.history.sites.len() {
-            return Ok(Some(7));
+            return Ok(Some(LineFault::Section));
         }
         self.history.sites.push(Vec::new(self.alloc))?;
         self.history.bases.push(0)?;
@@ -205,20 +239,16 @@ impl Reader {
         Ok(None)
     }
 
-    fn list(&mut self, holding: &Holding) -> Result<Option<u8>, AllocError> {
-        let Some(section) = &mut self.open else {
-            return Ok(Some(7));
-        };
-        let behind = match self.history.items.last() {
-            Some(last) => section.values.is_empty() || last.item < holding.item,
+    fn list(&mut self, holding: &Holding) -> Result<Option<LineFault>, AllocError> {
+        let rises = match self.history.items.last() {
+            Some(last) => last.item < holding.item,
             None => true,
         };
-        if section.last.is_some()
-            || section.finals != 0
-            || section.values.len() >= MAX_ITEMS
-            || !behind
-        {
-            return Ok(Some(7));
+        let Some(section) = &mut self.open else {
+            return Ok(Some(LineFault::Section));
+        };
+        if !section.may_list() || !(rises || section.values.is_empty()) {
+            return Ok(Some(LineFault::Section));
         }
         section.values.push(holding.value)?;
         self.history.items.push(ItemHistory {
@@ -229,63 +259,56 @@ impl Reader {
         Ok(None)
     }
 
-    /// The number of the item among all items.
+    /// The place of the item among those of the section that begin here.
     fn find(&self, first: usize, item: &Item) -> Option<usize> {
         let here = self.history.items.as_slice().get(first..)?;
         let at = here.partition_point(|other| other.item < *item);
         match here.get(at) {
-            Some(other) if other.item == *item => first.checked_add(at),
+            Some(other) if other.item == *item => Some(at),
             _ => None,
         }
     }
 
     /// The number of the transaction so far.
     fn transaction(&mut self, tx: Tx) -> Result<usize, AllocError> {
-        match self.known.get(&tx.number()) {
-            Some(place) => Ok(*place),
-            None => {
-                let place = self.visits.len();
-                self.known.insert(tx.number(), place)?;
-                self.history.lives.push(Life {
-                    tx,
-                    fate: None,
-                    places: Vec::new(self.alloc),
-                    endings: Vec::new(self.alloc),
-                })?;
-                self.visits.push(Visit {
-                    section: 0,
-                    before: 0,
-                    ended: false,
-                })?;
-                Ok(place)
-            }
+        if let Some(place) = self.known.get(&tx.number()) {
+            return Ok(*place);
         }
+        let place = self.visits.len();
+        self.known.insert(tx.number(), place)?;
+        self.history.lives.push(Life {
+            tx,
+            fate: None,
+            places: Vec::new(self.alloc),
+            endings: Vec::new(self.alloc),
+        })?;
+        self.visits.push(Visit {
+            section: 0,
+            before: 0,
+            ended: false,
+        })?;
+        Ok(place)
     }
 
-    /// What the transaction did in this section, from now on.
+    /// What the transaction did in this section so far. Its first entry here counts it among the live.
     fn visit(&mut self, tx: usize) -> Visit {
         let section = self.history.sites.len();
-        let before = self.history.places(tx).len();
-        match self.visits.get_mut(tx) {
-            Some(visit) => {
-                if visit.section != section {
-                    *visit = Visit {
-                        section,
-                        before,
-                        ended: false,
-                    };
-                    if let Some(open) = &mut self.open {
-                        open.live = open.live.saturating_add(1);
-                    }
-                }
-                *visit
-            }
-            None => Visit {
-                section,
-                before,
-                ended: false,
-            },
+        let fresh = Visit {
+            section,
+            before: self.history.places(tx).len(),
+            ended: false,
+        };
+        let Some(visit) = self.visits.get_mut(tx) else {
+            return fresh;
+        };
+        if visit.section == section {
+            return *visit;
         }
+        *visit = fresh;
+        if let Some(open) = &mut self.open {
+            open.live = open.live.saturating_add(1);
+        }
+        fresh
     }
 
     /// Whether the transaction did so to the item in this section: read it, or change it or ask to.
@@ -298,48 +321,71 @@ impl Reader {
         }
     }
 
-    fn log(&mut self, entry: &Entry) -> Result<Option<u8>, AllocError> {
+    /// An operation or an end.
+    fn log(&mut self, entry: &Entry) -> Result<Option<LineFault>, AllocError> {
         let first = match &self.open {
             Some(section) if section.finals == 0 => section.first,
-            _ => return Ok(Some(7)),
+            _ => return Ok(Some(LineFault::Section)),
         };
-        let place = match entry.item() {
-            Some(item) => match self.find(first, &item) {
-                Some(place) => Some(place),
-                None => return Ok(Some(8)),
+        match (entry.item(), act_of(entry)) {
+            (Some(item), Some(act)) => match self.find(first, &item) {
+                Some(at) => self.operate(entry, act, first, at),
+                None => Ok(Some(LineFault::Item)),
             },
-            None => None,
-        };
+            _ => self.finish_one(entry),
+        }
+    }
+
+    /// An operation on the item at this place of those of the section, of which the first has this number.
+    fn operate(
+        &mut self,
+        entry: &Entry,
+        act: Act,
+        first: usize,
+        at: usize,
+    ) -> Result<Option<LineFault>, AllocError> {
         let tx = self.transaction(entry.tx())?;
         let visit = self.visit(tx);
-        if let (Some(place), Some(act)) = (place, act_of(entry)) {
-            if self.repeats(tx, &visit, place, act) {
-                return Ok(Some(9));
-            }
+        let item = first.saturating_add(at);
+        if self.repeats(tx, &visit, item, act) {
+            return Ok(Some(LineFault::Twice));
         }
-        if !self.is_legal(entry, first, place) {
-            return Ok(Some(10));
+        let Some(section) = &mut self.open else {
+            return Ok(Some(LineFault::Section));
+        };
+        if !section.is_legal(entry, at) {
+            return Ok(Some(LineFault::ReadValue));
         }
-        if let Some(section) = &self.open {
-            if !section.continues(&SectionLine::Logged(*entry)) {
-                return Ok(Some(12));
-            }
+        if !section.takes(entry) {
+            return Ok(Some(LineFault::Block));
         }
+        section.keep(entry, at);
         if visit.ended || !self.suits(tx, entry) {
-            return Ok(Some(13));
+            return Ok(Some(LineFault::End));
         }
-        self.keep(tx, entry, first, place)?;
+        self.keep(tx, entry);
+        self.keep_operation(tx, item, act)?;
         Ok(None)
     }
 
-    /// Whether the entry, if it is a read, has the value of its item.
-    fn is_legal(&self, entry: &Entry, first: usize, place: Option<usize>) -> bool {
-        match (entry, place, &self.open) {
-            (Entry::Read { value, .. }, Some(place), Some(section)) => {
-                section.values.get(place.saturating_sub(first)).copied() == Some(*value)
-            }
-            _ => true,
+    /// An end.
+    fn finish_one(&mut self, entry: &Entry) -> Result<Option<LineFault>, AllocError> {
+        let tx = self.transaction(entry.tx())?;
+        let visit = self.visit(tx);
+        let Some(section) = &mut self.open else {
+            return Ok(Some(LineFault::Section));
+        };
+        if !section.takes(entry) {
+            return Ok(Some(LineFault::Block));
         }
+        section.last = Some(*entry);
+        section.live = section.live.saturating_sub(1);
+        if visit.ended || !self.suits(tx, entry) {
+            return Ok(Some(LineFault::End));
+        }
+        self.keep(tx, entry);
+        self.keep_end(tx)?;
+        Ok(None)
     }
 
     /// Whether no earlier line asks for another end of its transaction.
@@ -350,33 +396,17 @@ impl Reader {
         }
     }
 
-    /// Keeps an entry that has no fault.
-    fn keep(
-        &mut self,
-        tx: usize,
-        entry: &Entry,
-        first: usize,
-        place: Option<usize>,
-    ) -> Result<(), AllocError> {
-        if let Some(section) = &mut self.open {
-            if section.last.is_none() {
-                if let Some(base) = self.history.bases.last_mut() {
-                    *base = self.line;
-                }
-            }
-            section.last = Some(*entry);
-            if let Some(place) = place {
-                if let Some(value) = section.values.get_mut(place.saturating_sub(first)) {
-                    *value = value_behind(entry, *value);
-                }
+    /// Keeps the line of the section's first entry, and the end that the entry asks for.
+    fn keep(&mut self, tx: usize, entry: &Entry) {
+        if let Some(base) = self.history.bases.last_mut() {
+            if *base == 0 {
+                *base = self.line;
             }
         }
-        if let (Some(life), Some(fate)) = (self.history.lives.get_mut(tx), fate_of(entry)) {
-            life.fate = Some(fate);
-        }
-        match (place, act_of(entry)) {
-            (Some(item), Some(act)) => self.keep_operation(tx, item, act),
-            _ => self.keep_end(tx),
+        if let Some(fate) = fate_of(entry) {
+            if let Some(life) = self.history.lives.get_mut(tx) {
+                life.fate = Some(fate);
+            }
         }
     }
 
@@ -396,55 +426,58 @@ impl Reader {
         if let Some(visit) = self.visits.get_mut(tx) {
             visit.ended = true;
         }
-        if let Some(section) = &mut self.open {
-            section.live = section.live.saturating_sub(1);
-        }
         let site = self.history.sites.len().saturating_sub(1);
         let line = self.line;
-        if let Some(ends) = self.history.sites.get_mut(site) {
-            let at = ends.len();
+        let mut at = 0;
+        if let Some(ends) = self.history.sites.last_mut() {
+            at = ends.len();
             ends.push(End { tx, line })?;
-            if let Some(life) = self.history.lives.get_mut(tx) {
-                life.endings.push(Ending { site, at })?;
-            }
+        }
+        if let Some(life) = self.history.lives.get_mut(tx) {
+            life.endings.push(Ending { site, at })?;
         }
         Ok(())
     }
 
-    fn settle(&mut self, holding: &Holding) -> Option<u8> {
+    /// A final value.
+    fn settle(&mut self, holding: &Holding) -> Option<LineFault> {
         let Some(section) = &mut self.open else {
-            return Some(7);
+            return Some(LineFault::Section);
         };
         let at = section.first.saturating_add(section.finals);
-        match self.history.items.get(at) {
-            Some(item) if item.item == holding.item => {}
-            _ => return Some(7),
+        let fits = match self.history.items.get(at) {
+            Some(item) => item.item == holding.item,
+            None => false,
+        };
+        if !fits {
+            return Some(LineFault::Section);
         }
-        if !section.continues(&SectionLine::Final(*holding)) {
-            return Some(12);
+        if section.is_inside() {
+            return Some(LineFault::Block);
         }
         if section.live != 0 {
-            return Some(15);
+            return Some(LineFault::NotEnded);
         }
         if section.values.get(section.finals).copied() != Some(holding.value) {
-            return Some(16);
+            return Some(LineFault::Final);
         }
         section.finals = section.finals.saturating_add(1);
         None
     }
 
-    fn close(&mut self) -> Option<u8> {
+    /// The end of the section.
+    fn close(&mut self) -> Option<LineFault> {
         let Some(section) = &self.open else {
-            return Some(7);
+            return Some(LineFault::Section);
         };
         if section.finals != section.values.len() {
-            return Some(7);
+            return Some(LineFault::Section);
         }
-        if !section.continues(&SectionLine::End) {
-            return Some(12);
+        if section.is_inside() {
+            return Some(LineFault::Block);
         }
         if section.live != 0 {
-            return Some(15);
+            return Some(LineFault::NotEnded);
         }
         self.open = None;
         None

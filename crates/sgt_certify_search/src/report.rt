@@ -1,6 +1,6 @@
 //! The reasons why there is no certificate, written.
 
-use sgt_certify_history::{Before, End, Fate, History, Link};
+use sgt_certify_history::{Before, Fate, History, Link};
 use sgt_names::Kind;
 use sgt_notation::push_number;
 use std::alloc::{AllocError, Global};
@@ -16,23 +16,31 @@ fn push_tx(out: &mut Vec<u8>, history: &History, tx: usize) -> Result<(), AllocE
     }
 }
 
-/// The line of a fault, behind `no line `.
-pub(crate) fn fault_text(alloc: Global, line: usize, fault: u8) -> Result<Vec<u8>, AllocError> {
-    let mut out = Vec::new(alloc);
-    push_size(&mut out, line)?;
-    out.extend_from_slice(b" F")?;
-    push_number(&mut out, u64::from(fault))?;
-    out.extend_from_slice(b"\n")?;
-    Ok(out)
+/// A kind of conflict between two numbers.
+fn kind_text(kind: Kind) -> &'static [u8] {
+    match kind {
+        Kind::Rw => b" rw ",
+        Kind::Wr => b" wr ",
+        Kind::Ww => b" ww ",
+    }
+}
+
+/// The letter of an end.
+fn letter_of(fate: Option<Fate>) -> &'static [u8] {
+    match fate {
+        Some(Fate::Commit) => b"c",
+        Some(Fate::Refuse) => b"n",
+        _ => b"a",
+    }
 }
 
 /// The lines of a cycle of ends.
-pub(crate) fn order_text(
+pub fn order_text(
     alloc: Global,
     history: &History,
     cycle: &[Before],
 ) -> Result<Vec<u8>, AllocError> {
-    let mut out = Vec::from_slice(alloc, b"no order\n")?;
+    let mut out = Vec::new(alloc);
     for step in cycle {
         push_tx(&mut out, history, step.from)?;
         out.extend_from_slice(b" before ")?;
@@ -53,19 +61,11 @@ fn push_lines(out: &mut Vec<u8>, first: usize, second: usize) -> Result<(), Allo
 }
 
 /// The lines of a cycle of conflicts.
-pub(crate) fn ranks_text(
-    alloc: Global,
-    history: &History,
-    cycle: &[Link],
-) -> Result<Vec<u8>, AllocError> {
-    let mut out = Vec::from_slice(alloc, b"no ranks\n")?;
+pub fn ranks_text(alloc: Global, history: &History, cycle: &[Link]) -> Result<Vec<u8>, AllocError> {
+    let mut out = Vec::new(alloc);
     for link in cycle {
         push_tx(&mut out, history, link.from)?;
-        out.extend_from_slice(match link.conflict.label.kind {
-            Kind::Rw => b" rw ",
-            Kind::Wr => b" wr ",
-            Kind::Ww => b" ww ",
-        })?;
+        out.extend_from_slice(kind_text(link.conflict.label.kind))?;
         push_tx(&mut out, history, link.to)?;
         out.extend_from_slice(b" site ")?;
         push_number(&mut out, u64::from(link.conflict.label.site.number()))?;
@@ -76,24 +76,16 @@ pub(crate) fn ranks_text(
     Ok(out)
 }
 
-/// The lines of the next ends, where no walk is left, behind `no walk`.
-pub(crate) fn walk_text(
-    alloc: Global,
-    history: &History,
-    left: &[(usize, End)],
-) -> Result<Vec<u8>, AllocError> {
+/// The lines of the next ends, where no walk is left.
+pub fn walk_text(alloc: Global, history: &History, left: &[Left]) -> Result<Vec<u8>, AllocError> {
     let mut out = Vec::new(alloc);
-    for (site, end) in left {
-        out.extend_from_slice(match history.fate(end.tx) {
-            Some(Fate::Commit) => b"c",
-            Some(Fate::Refuse) => b"n",
-            _ => b"a",
-        })?;
-        push_tx(&mut out, history, end.tx)?;
+    for next in left {
+        out.extend_from_slice(letter_of(history.fate(next.end.tx)))?;
+        push_tx(&mut out, history, next.end.tx)?;
         out.extend_from_slice(b" site ")?;
-        push_size(&mut out, *site)?;
+        push_size(&mut out, next.site)?;
         out.extend_from_slice(b" line ")?;
-        push_size(&mut out, end.line)?;
+        push_size(&mut out, next.end.line)?;
         out.extend_from_slice(b"\n")?;
     }
     Ok(out)

@@ -5,6 +5,7 @@ use sgt_certify_history::{
     Before, End, Fate, Front, History, Link, is_marked, number_at, rank_order, set_mark,
     set_number, walk_of,
 };
+use sgt_certify_stuck::{Circle, StuckSet};
 use sgt_names::{Listed, Tx};
 use std::alloc::{AllocError, Global};
 
@@ -17,8 +18,15 @@ pub enum Finding {
     Order(Vec<Before>),
     /// A cycle of committed conflicts.
     Ranks(Vec<Link>),
-    /// The next ends, where only refused ones without a walk are free.
-    Walk(Vec<(usize, End)>),
+    /// The next ends, where only refused ones without a walk are free, and what was decided by then.
+    Walk(Vec<Left>, StuckSet),
+}
+
+/// The next end of a site.
+#[derive(Clone, Copy, Debug)]
+pub struct Left {
+    pub site: usize,
+    pub end: End,
 }
 
 /// A choice of the next decision: a transaction, and its walk if it is refused.
@@ -209,22 +217,76 @@ fn steps_of(alloc: Global, history: &History, walk: &[Link]) -> Result<Vec<Step>
 }
 
 /// The next end of each site with ends left.
-fn ends_left(
-    alloc: Global,
-    history: &History,
-    front: &Front,
-) -> Result<Vec<(usize, End)>, AllocError> {
+fn ends_left(alloc: Global, history: &History, front: &Front) -> Result<Vec<Left>, AllocError> {
     let mut left = Vec::new(alloc);
     for site in 0..history.sites.len() {
         if let Some(end) = front.next_end(history, site) {
-            left.push((site, end))?;
+            left.push(Left { site, end })?;
         }
     }
     Ok(left)
 }
 
+/// The numbers of the transactions.
+fn numbers_of(alloc: Global, history: &History, places: &[usize]) -> Result<Vec<Tx>, AllocError> {
+    let mut numbers = Vec::new(alloc);
+    for place in places {
+        if let Some(life) = history.lives.get(*place) {
+            numbers.push(life.tx)?;
+        }
+    }
+    Ok(numbers)
+}
+
+impl Greedy {
+    /// All that conflicts lead to from each free one on, through those that are committed.
+    fn circles(&self, alloc: Global, history: &History) -> Result<Vec<Circle>, AllocError> {
+        let mut circles = Vec::new(alloc);
+        for place in self.front.free.as_slice() {
+            if let Some(life) = history.lives.get(*place) {
+                let met = met_from(alloc, history, self.committed.as_slice(), *place)?;
+                circles.push(Circle {
+                    tx: life.tx,
+                    met: numbers_of(alloc, history, met.as_slice())?,
+                })?;
+            }
+        }
+        Ok(circles)
+    }
+
+    /// What was decided, where only refused ones without a walk are free.
+    fn stuck_set(&self, alloc: Global, history: &History) -> Result<StuckSet, AllocError> {
+        let mut committed = Vec::new(alloc);
+        let mut others = Vec::new(alloc);
+        for decision in self.decisions.as_slice() {
+            match decision {
+                Decision::Commit { tx, .. } => committed.push(*tx)?,
+                Decision::Refuse { tx, .. } => others.push(*tx)?,
+                Decision::Withdraw { tx } => others.push(*tx)?,
+            }
+        }
+        Ok(StuckSet {
+            committed,
+            others,
+            circles: self.circles(alloc, history)?,
+        })
+    }
+}
+
+/// The decisions in order, as far as there are some.
+fn decide_all(alloc: Global, history: &History, order: &[usize]) -> Result<Greedy, AllocError> {
+    let mut greedy = Greedy::new(alloc, history, order)?;
+    for _ in 0..history.lives.len() {
+        match greedy.choice(alloc, history)? {
+            Some(choice) => greedy.decide(alloc, history, choice)?,
+            None => break,
+        }
+    }
+    Ok(greedy)
+}
+
 /// The decisions, or the first of the reasons why there are none.
-pub(crate) fn search(alloc: Global, history: &History) -> Result<Finding, AllocError> {
+pub fn search(alloc: Global, history: &History) -> Result<Finding, AllocError> {
     if let Some(cycle) = order_cycle(alloc, history)? {
         return Ok(Finding::Order(cycle));
     }
@@ -232,16 +294,12 @@ pub(crate) fn search(alloc: Global, history: &History) -> Result<Finding, AllocE
     if order.len() < committed_count(history) {
         return Ok(Finding::Ranks(rank_cycle(alloc, history, order.as_slice())?));
     }
-    let mut greedy = Greedy::new(alloc, history, order.as_slice())?;
-    for _ in 0..history.lives.len() {
-        match greedy.choice(alloc, history)? {
-            Some(choice) => greedy.decide(alloc, history, choice)?,
-            None => break,
-        }
-    }
+    let greedy = decide_all(alloc, history, order.as_slice())?;
     if greedy.front.decided < history.lives.len() {
-        return Ok(Finding::Walk(ends_left(alloc, history, &greedy.front)?));
+        return Ok(Finding::Walk(
+            ends_left(alloc, history, &greedy.front)?,
+            greedy.stuck_set(alloc, history)?,
+        ));
     }
-    let Greedy { decisions, .. } = greedy;
-    Ok(Finding::Decided(decisions))
+    Ok(Finding::Decided(greedy.decisions))
 }

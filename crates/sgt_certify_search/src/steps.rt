@@ -53,7 +53,7 @@ fn conflict_step(history: &History, link: &Link) -> Option<ConflictStep> {
 }
 
 /// The steps of a cycle of ends.
-pub(crate) fn end_steps(
+pub fn end_steps(
     alloc: Global,
     history: &History,
     cycle: &[Before],
@@ -68,7 +68,7 @@ pub(crate) fn end_steps(
 }
 
 /// The steps of a cycle of conflicts.
-pub(crate) fn conflict_steps(
+pub fn conflict_steps(
     alloc: Global,
     history: &History,
     cycle: &[Link],

@@ -7,13 +7,11 @@ use Rattle.sgt_names.specs.Name.{Name}
 use Rattle.sgt_names.specs.Entry.{tx_of, is_increment, Reads, Writes}
 use Rattle.sgt_names.specs.Log.{Conflicts}
 use Rattle.sgt_names.specs.declared.entry.Entry.{Entry}
-use Rattle.sgt_names.specs.declared.entry.Entry.TheVariants.{Refuse}
 use Rattle.sgt_names.specs.declared.entry.Kind.{Kind}
 use Rattle.sgt_cert.specs.Certificate.{stops}
 use Rattle.sgt_cert.specs.Valid.{AreLogged}
 use Rattle.sgt_cert.specs.declared.certificate.Step.{Step}
 use Rattle.sgt_cert.specs.declared.bundle.SiteLog.{SiteLog}
-use Rattle.sgt_certify_logs.specs.Witness.{IsFree, IsIn, LiesOnCycle}
 use Rattle.sgt_certify_stuck.specs.declared.apart.Class.{Class}
 use Rattle.sgt_certify_stuck.specs.declared.apart.Class.TheVariants as class
 
@@ -44,7 +42,3 @@ AreApart entries sources barred = (kind : Kind) (x : Name) (a b : ℕ) → Confl
 abbrev pub HasNoWalk : List SiteLog → List ℕ → ℕ → Type 0
 HasNoWalk sites through tx = (walk : List Step) (between : List ℕ) → AreLogged sites tx walk → stops walk ≡ between ++ tx ∷ []
     → All (Contains through) between → ⊥
-
--- where the transaction can be decided next, it is refused and lies on no cycle through the decided ones
-abbrev pub IsShown : List SiteLog → List ℕ → ℕ → Type 0
-IsShown sites decided tx = IsFree sites decided tx → IsIn sites (Refuse tx) × (LiesOnCycle sites decided tx → ⊥)

@@ -124,10 +124,12 @@ fn are_apart(
         first: Class::Put,
         second: Class::Change,
     };
-    Ok(is_clear(alloc, entries, sources, barred, reads)?
-        && is_clear(alloc, entries, sources, barred, changes)?
-        && is_clear(alloc, entries, sources, barred, puts)?
-        && is_clear(alloc, entries, sources, barred, put_over)?)
+    Ok(
+        is_clear(alloc, entries, sources, barred, reads)?
+            && is_clear(alloc, entries, sources, barred, changes)?
+            && is_clear(alloc, entries, sources, barred, puts)?
+            && is_clear(alloc, entries, sources, barred, put_over)?,
+    )
 }
 
 /// Whether no conflict of any log leads from a source to a barred one.

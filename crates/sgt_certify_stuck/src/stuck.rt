@@ -1,12 +1,9 @@
 //! Whether a set of transactions is stuck.
 
-ghost use Rattle.std.specs.Prelude.{◌≡◌, ℕ, ◌++◌, false, IsTrue, IfOk, Contains};
-ghost use Rattle.std.specs.BTreeSet.{contains};
-ghost use Rattle.std.specs.Ordering.{nat_cmp};
-ghost use Rattle.sgt_names.specs.declared.entry.Entry.TheVariants.{Refuse as Refused};
-ghost use Rattle.sgt_certify_logs.specs.Witness.{EndsBefore, IsIn, IsStuck};
-ghost use Rattle.sgt_certify_stuck.specs.Apart.{HasNoWalk, HasTx};
-ghost use Rattle.sgt_certify_stuck.specs.private.Ends.{IsShown};
+ghost use Rattle.std.specs.Prelude.{◌++◌, IsTrue, IfOk};
+ghost use Rattle.sgt_certify_logs.specs.Witness.{IsStuck};
+ghost use Rattle.sgt_certify_stuck.specs.Apart.{HasNoWalk};
+ghost use Rattle.sgt_certify_stuck.specs.private.Ends.{AreShown, IsShown};
 
 use crate::apart::are_all_apart;
 use crate::ends::{are_uncommitted, first_left, is_refused, waits};
@@ -43,9 +40,11 @@ fn has_no_walk(
     let own = set_of(alloc, &[circle.tx])?;
     let met = set_of(alloc, circle.met.as_slice())?;
     let beyond = others_of(alloc, committed, &met)?;
-    Ok(are_all_apart(alloc, sites, &own, &beyond)?
-        && are_all_apart(alloc, sites, &met, &beyond)?
-        && are_all_apart(alloc, sites, &met, &own)?)
+    Ok(
+        are_all_apart(alloc, sites, &own, &beyond)?
+            && are_all_apart(alloc, sites, &met, &beyond)?
+            && are_all_apart(alloc, sites, &met, &own)?,
+    )
 }
 
 /// Whether one of the circles shows that no walk leads from the transaction back to it through these.
