@@ -51,14 +51,23 @@ impl Section {
 
     /// One more line.
     fn add(&mut self, line: u64, read: SectionLine) -> Result<(), AllocError> {
-        self.last = Some(read);
-        match read {
-            SectionLine::Site(site) => self.begin(site),
-            SectionLine::Initial(holding) => self.items.push(Stated { line, holding })?,
-            SectionLine::Logged(entry) => self.entries.push(Logged { line, entry })?,
-            SectionLine::Final(holding) => self.finals.push(Stated { line, holding })?,
+        match &read {
+            SectionLine::Site(site) => self.begin(*site),
+            SectionLine::Initial(holding) => self.items.push(Stated {
+                line,
+                holding: *holding,
+            })?,
+            SectionLine::Logged(entry) => self.entries.push(Logged {
+                line,
+                entry: *entry,
+            })?,
+            SectionLine::Final(holding) => self.finals.push(Stated {
+                line,
+                holding: *holding,
+            })?,
             SectionLine::End => {}
         }
+        self.last = Some(read);
         Ok(())
     }
 

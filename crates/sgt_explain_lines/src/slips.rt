@@ -88,7 +88,7 @@ fn slip_of_value(text: &[u8]) -> Option<Slip> {
 
 fn slip_of_tx(text: &[u8]) -> Option<Slip> {
     match read_number(text) {
-        Ok(1..=4_294_967_295) => None,
+        Ok(number) if number >= 1 && number <= 4_294_967_295 => None,
         Ok(_) => Some(Slip::NoTransaction),
         Err(slip) => Some(slip),
     }
@@ -96,7 +96,7 @@ fn slip_of_tx(text: &[u8]) -> Option<Slip> {
 
 fn slip_of_site(text: &[u8]) -> Option<Slip> {
     match read_number(text) {
-        Ok(0..=63) => None,
+        Ok(number) if number < 64 => None,
         Ok(_) => Some(Slip::NoSite),
         Err(slip) => Some(slip),
     }

@@ -57,8 +57,10 @@ pub fn last_had(section: &Section, item: &Item, value: Value) -> Option<u64> {
     let mut made = initial_of(section.items.as_slice(), item)?;
     let mut last = None;
     for logged in section.entries.as_slice() {
+        let before = made.value;
         let next = made_by(made, logged, item);
-        if made.value == value && next.value != value {
+        let after = next.value;
+        if before == value && after != value {
             last = Some(logged.line.saturating_sub(1));
         }
         made = next;

@@ -1,0 +1,41 @@
+//! Which decision is on a transaction.
+
+use sgt_cert::Decision;
+use sgt_names::Tx;
+use std::alloc::{AllocError, Global};
+
+/// A transaction, and the number of a decision on it.
+#[derive(Clone, Copy)]
+pub struct Placed {
+    pub tx: Tx,
+    pub number: usize,
+}
+
+/// The decisions by their transactions; those of one transaction by their numbers.
+pub fn placed_in(alloc: Global, decisions: &[Decision]) -> Result<Vec<Placed>, AllocError> {
+    let mut placed = Vec::new(alloc);
+    for (number, decision) in decisions.iter().enumerate() {
+        placed.push(Placed {
+            tx: decision.tx(),
+            number,
+        })?;
+    }
+    placed.sort_by_key(|one| one.tx.number())?;
+    Ok(placed)
+}
+
+/// The number of the first decision on the transaction, where these are sorted by transaction. A binary search.
+pub fn number_on(placed: &[Placed], tx: Tx) -> Option<usize> {
+    let at = placed.partition_point(|one| one.tx.number() < tx.number());
+    match placed.get(at) {
+        Some(found) if found.tx == tx => Some(found.number),
+        _ => None,
+    }
+}
+
+/// The rank that the transaction is committed with, and the number of the decision.
+pub fn rank_on(decisions: &[Decision], placed: &[Placed], tx: Tx) -> Option<(u32, usize)> {
+    let number = number_on(placed, tx)?;
+    let rank = decisions.get(number)?.rank()?;
+    Some((rank, number))
+}
