@@ -4,6 +4,7 @@ pub mod Doing
 pub mod Faults
 pub mod Keeping
 pub mod OneInput
+pub mod Ordering
 pub mod OneText
 pub mod Placing
 pub mod Reader

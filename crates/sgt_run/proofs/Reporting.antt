@@ -31,7 +31,8 @@ use Rattle.sgt_cert.specs.Text.{text_of}
 use Rattle.sgt_audit.specs.Verdict.{IsVerdict, SaysHeadline}
 use Rattle.sgt_audit.specs.Verdict as auditor
 use Rattle.sgt_audit.specs.declared.verdict.Verdict.{Verdict}
-use Rattle.sgt_run.specs.Bundle.{IsBundleOf, IsRefused}
+use Rattle.sgt_run.specs.Bundle.{ArePutInOrder, IsBundleOf, IsRefused}
+use Rattle.sgt_run.proofs.Ordering.{numbered_rise}
 use Rattle.sgt_run.specs.Results.{done_text}
 use Rattle.sgt_run.specs.Tries.{AreDonesOf}
 use Rattle.sgt_run.specs.Input.{IsInput}
@@ -144,11 +145,19 @@ module _ {L : Type 0} where
   }
 
   -- a run that is refused ends unsettled
-  pub ends_unsettled : (scripts : List Script) (places tries parts named : ℕ) (old new : List (Seat L)) (dones : List Done) (f : ServiceFault) → All (IsNew places) old → length old ≡ parts
+  ends_told : (scripts : List Script) (places tries parts named : ℕ) (old new : List (Seat L)) (dones : List Done) (f : ServiceFault) → All (IsNew places) old → length old ≡ parts
       → parts_of new ≡ parts_of old → amount_of new ≡ amount_of old + length (tickets_of dones) → AreDonesOf scripts tries dones
       → named ≡ places → IsRefused named parts new dones f → EndsUnsettled scripts places tries f
-  ends_unsettled scripts places tries parts named old new dones f fresh many stay grown of there (inl (run, left, is)) =
-      inl (run, left_of scripts places tries parts named old new dones run fresh many stay grown of there left.told left.many left.decided, is)
-  ends_unsettled scripts places tries parts named old new dones f fresh many stay grown of there (inr (c, counted, alone)) =
+  ends_told scripts places tries parts named old new dones f fresh many stay grown of there (inl (run, left, kept, is)) =
+      inl (run, left_of scripts places tries parts named old new dones run fresh many stay grown of there left.told left.many left.decided, kept, is)
+  ends_told scripts places tries parts named old new dones f fresh many stay grown of there (inr (c, counted, replays, alone)) =
       let decided = all_decided places parts (length (tickets_of dones)) (decision_count c) old new fresh many stay grown counted in
-      inr (c, dones, record { dones_of = of; decided = decided }, alone)
+      inr (c, dones, record { dones_of = of; decided = decided }, replays, alone)
+
+  -- so does one whose Dones were put in order
+  pub ends_unsettled : (scripts : List Script) (places tries parts named : ℕ) (old new : List (Seat L)) (dones : List Done) (f : ServiceFault) → All (IsNew places) old → length old ≡ parts
+      → parts_of new ≡ parts_of old → amount_of new ≡ amount_of old + length (tickets_of dones) → AreDonesOf scripts tries dones
+      → named ≡ places → (told : List Done) × ArePutInOrder dones told × IsRefused named parts new told f → EndsUnsettled scripts places tries f
+  ends_unsettled scripts places tries parts named old new dones f fresh many stay grown of there r =
+      ends_told scripts places tries parts named old new dones f fresh many stay grown of there
+      (subst (λ (ds : List Done). IsRefused named parts new ds f) (r.1.kept (numbered_rise 1 dones (length scripts) of.jobs)) r.2)

@@ -11,6 +11,7 @@ use Rattle.sgt_notation.specs.declared.fault.NotationFault.TheVariants as notati
 use Rattle.sgt_notation.specs.declared.script.Script.{Script}
 use Rattle.sgt_cert.specs.Parts.{Parts}
 use Rattle.sgt_cert.specs.Text.{text_of}
+use Rattle.sgt_certifier.specs.History.{Replays}
 use Rattle.sgt_certifier.specs.Kept.{Kept}
 use Rattle.sgt_agreed.specs.declared.fault.ServiceFault.{ServiceFault}
 use Rattle.sgt_agreed.specs.declared.fault.ServiceFault.TheVariants as fault
@@ -26,7 +27,7 @@ use Rattle.sgt_audit.specs.declared.verdict.Verdict.{Verdict}
 use Rattle.sgt_audit.specs.declared.verdict.Verdict.TheVariants.{Yes, No}
 use Rattle.sgt_service.specs.Guarded.{decision_count}
 use Rattle.sgt_service.specs.Refused.{IsOfCall}
-use Rattle.sgt_settle.specs.Settled.{IsSettled, Run, tickets_of}
+use Rattle.sgt_settle.specs.Settled.{AreKept, IsSettled, Run, tickets_of}
 use Rattle.sgt_settle.specs.Fault.{IsUnsettled}
 use Rattle.sgt_run.specs.Bundle.{IsBundleOf, IsToldAlone}
 use Rattle.sgt_run.specs.Input.{FirstUnreadable, Spells}
@@ -104,8 +105,8 @@ pub record AreToldOf (scripts : List Script) (tries : ℕ) (c : Kept) (dones : L
 
 -- a run of these scripts isn't settled; or its certifier and its tickets tell the fault without the sites
 abbrev pub EndsUnsettled : List Script → (places tries : ℕ) → ServiceFault → Type 0
-EndsUnsettled scripts places tries f = ((run : Run) × IsRunOf scripts places tries run × IsUnsettled run f)
-    ⊎ ((c : Kept) × (dones : List Done) × AreToldOf scripts tries c dones × IsToldAlone c dones f)
+EndsUnsettled scripts places tries f = ((run : Run) × IsRunOf scripts places tries run × AreKept run × IsUnsettled run f)
+    ⊎ ((c : Kept) × (dones : List Done) × AreToldOf scripts tries c dones × Replays c.history c.state × IsToldAlone c dones f)
 
 -- the site of this number is the first that has other items or first values than were given
 pub record BeganOtherwise (given found : List (List Holding)) (number : ℕ) : Type 0 where

@@ -133,7 +133,6 @@ fn outcome_of(dones: &[Done], verdict: Verdict) -> Outcome
 
 // The text of a settled run, with the verdict on its own bundle. Err: memory ran out.
 fn run_text(alloc: Global, settled: &Settled) -> Result<Answer, AllocError>
-    requires { 1 ≤ length settled.now.sites }
     ensures { IfOk result (λ answer. IsTextOf settled.now answer.outcome answer.text.items) }
 {
     let whole = bundle(alloc, settled)?;
@@ -163,7 +162,7 @@ fn run_and_settle<L: Ledger + Send + Sync, G: Gate + Sync, R: Threads + Wait + S
 ) -> Result<Settled, PoolFail<ServiceFault>>
     requires ledger { (blank.name ≡ L.name) × (blank.parts ≡ L.parts) × (blank.parts ≡ workers) }
     requires some { (1 ≤ workers) × (1 ≤ tries) }
-    requires sites { length sites.now ≤ max_sites }
+    requires sites { (1 ≤ length sites.now) × (length sites.now ≤ max_sites) }
     requires items { All AreItems sites.now }
     ensures settled { IfOk result IsSettled }
     ensures run { IfOk result (IsRunOf scripts.now (length sites.now) tries) }
@@ -193,7 +192,7 @@ fn settled_run<L: Ledger + Send + Sync, G: Gate + Sync, R: Threads + Wait + Sync
 ) -> Result<Settled, PoolFail<ServiceFault>>
     requires ledger { (blank.name ≡ L.name) × (blank.parts ≡ L.parts) × (blank.parts ≡ workers) }
     requires some { (1 ≤ workers) × (1 ≤ tries) }
-    requires sites { length sites.now ≤ max_sites }
+    requires sites { (1 ≤ length sites.now) × (length sites.now ≤ max_sites) }
     requires items { All AreItems sites.now }
     ensures settled { IfOk result IsSettled }
     ensures run { IfOk result (IsRunOf scripts.now (length sites.now) tries) }

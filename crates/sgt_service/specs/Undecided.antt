@@ -7,7 +7,7 @@ use Rattle.sgt_site.specs.Refused.{RefusesPledge, MayPledge}
 use Rattle.sgt_site.specs.declared.fault.SiteFault.{SiteFault}
 use Rattle.sgt_site.specs.declared.fault.SiteFault.TheVariants as site
 use Rattle.sgt_certifier.specs.Certifier.{State}
-use Rattle.sgt_certifier.specs.History.{expect, decide, withdraw, tx_under, IsAllowed}
+use Rattle.sgt_certifier.specs.History.{expect, decide, withdraw, tx_under, IsAllowed, Replays}
 use Rattle.sgt_certifier.specs.Kept.{Kept}
 use Rattle.sgt_certifier.specs.declared.call.Call.{Call}
 use Rattle.sgt_certifier.specs.declared.call.CertifierFault.TheVariants as certifier
@@ -93,10 +93,12 @@ pub data IsNotWithdrawn (sites : ℕ) (lost : Option ℕ) (k : Kept) (active : A
   declined : (f : ServiceFault) → IsHeld lost k.state active → AreThere sites active → HandsOn k.state (withdraw active.handle) f
       → IsNotWithdrawn sites lost k active f
 
--- why some certifier with so many sites doesn't commit the transaction, with some site found to have lost its pledge or none; and why some
--- certifier doesn't withdraw it
+-- why some certifier with so many sites, whose state is the replay of its history, doesn't commit the transaction, with some site found to
+-- have lost its pledge or none; and why some such certifier doesn't withdraw it
 abbrev pub IsToldOfCommit : ℕ → Active → ServiceFault → Type 0
-IsToldOfCommit sites active f = (lost : Option ℕ) × (k : Kept) × IsUncommitted sites lost k active f
+IsToldOfCommit sites active f =
+    (lost : Option ℕ) × (k : Kept) × Replays k.history k.state × IsUncommitted sites lost k active f
 
 abbrev pub IsToldOfWithdraw : ℕ → Active → ServiceFault → Type 0
-IsToldOfWithdraw sites active f = (lost : Option ℕ) × (k : Kept) × IsNotWithdrawn sites lost k active f
+IsToldOfWithdraw sites active f =
+    (lost : Option ℕ) × (k : Kept) × Replays k.history k.state × IsNotWithdrawn sites lost k active f

@@ -16,7 +16,7 @@ returns-in-Err-clause-refused g c =
       site,
       omega (arith, c.number_at-here.ensures, c.loop-place-test.true),
       c.touches.ensures.some c.if-touches.true,
-      subst (RefusesGather c.args.guarded.now.certifier.history here site active) (sym c.noted.ensures.same) at_start,
+      at_start,
     )
 
 pub loop-place-preserved : goal.loop-place-preserved
@@ -28,8 +28,8 @@ loop-place-preserved g c =
     let here = c.number_at-here.result in
     let before = c.loop-place.edges in
     record {
-      certifier = i.certifier;
-      lost = i.lost;
+      certifier = search rules;
+      lost = search rules;
       given = search rules;
       below = search rules;
       within = omega (arith, c.loop-place-test.true);
