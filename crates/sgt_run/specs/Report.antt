@@ -1,5 +1,5 @@
 -- What a run of an input writes: a line for each script, the verdict on the run's own bundle, and the bundle.
-use Rattle.std.specs.Prelude.{◌≡◌, ◌≢◌, ◌⊎◌, ◌++◌, ⊤, ℕ, List, [], length, map, take, codes, decimal, All, Option, IfSome, slice_get}
+use Rattle.std.specs.Prelude.{◌≡◌, ◌≢◌, ◌⊎◌, ◌↔◌, ◌++◌, ⊤, ℕ, List, [], length, map, take, codes, decimal, All, Option, IfSome, slice_get}
 use Rattle.std.specs.Io.KnownBytes.{Appends}
 use Rattle.sgt_names.specs.Device.{AppendsOrForgets, WritesFront}
 use Rattle.sgt_names.specs.declared.entry.Holding.{Holding}
@@ -171,6 +171,10 @@ IsAnswer tries told outcome.No text =
     (input : Input) × IfSome told (λ bytes. Spells bytes input) × IsRunAnswer input tries outcome.No text
 IsAnswer tries told outcome.Unreadable text = (line : ℕ) × (f : NotationFault) × (f ≢ notation.Memory)
     × IfSome told (λ bytes. FirstUnreadable bytes line f) × (text ≡ unreadable_text line f)
+
+-- it is called unreadable exactly where the bytes spell no input
+abbrev pub TellsUnreadable : List ℕ → Outcome → Type 0
+TellsUnreadable bytes o = (o ≡ outcome.Unreadable) ↔ ((input : Input) → Spells bytes input → ⊥)
 
 -- that text was written
 abbrev pub WroteAnswer : ℕ → (told : Option (List ℕ)) → Outcome → (old new : Option (List ℕ)) → Type 0
