@@ -9,7 +9,7 @@ use sgt_edges::EdgeList;
 use sgt_names::{Draft, Holding, Item, Listed, SiteNo, Tx};
 use sgt_notation::Script;
 use sgt_run::{run, settle};
-use sgt_service::{Guarded, Service};
+use sgt_service::Service;
 use sgt_workers::{Gate, NoGate, Place, PoolFail};
 use std::alloc::Global;
 use std::marker::Brand;
@@ -68,7 +68,7 @@ fn unpledged<L: Ledger + Send + Sync, R: Threads + Wait + Sync>(
 ) -> Option<(ServiceFault, ServiceFault)>
     requires { (blank.name ≡ L.name) × (blank.parts ≡ L.parts) × (blank.parts ≡ 2) }
 {
-    if sites.len() > 64 {
+    if sites.is_empty() || sites.len() > 64 {
         return None;
     }
     let (service, mut seats) = Service::<L>::new(alloc, blank, sites, 2).ok()?;
@@ -120,7 +120,7 @@ fn read_behind<L: Ledger + Send + Sync, R: Threads + Wait + Sync>(
 ) -> Option<ServiceFault>
     requires { (blank.name ≡ L.name) × (blank.parts ≡ L.parts) × (blank.parts ≡ 2) }
 {
-    if sites.len() > 64 {
+    if sites.is_empty() || sites.len() > 64 {
         return None;
     }
     let (service, mut seats) = Service::<L>::new(alloc, blank, sites, 2).ok()?;
@@ -172,13 +172,7 @@ fn of_another_history(alloc: Global, site: SiteNo, item: Item) -> Option<Certifi
 
 // Puts another certifier with as many decisions behind the lock.
 fn replace<L: Ledger, R: Wait>(rt: &R, service: &Service<L>, other: Certifier) -> bool {
-    let mut guarded = service.certifier.lock(rt);
-    let Guarded { certifier, .. } = &mut *guarded;
-    if certifier.decided() != other.decided() {
-        return false;
-    }
-    *certifier = other;
-    true
+    service.certifier.lock(rt).exchange_in_a_test(other)
 }
 
 // The fault of settling a run whose certifier was replaced by this one.
@@ -192,7 +186,7 @@ fn replaced<L: Ledger + Send + Sync, R: Threads + Wait + Sync>(
 ) -> Option<ServiceFault>
     requires { (blank.name ≡ L.name) × (blank.parts ≡ L.parts) × (blank.parts ≡ 1) }
 {
-    if sites.len() > 64 {
+    if sites.is_empty() || sites.len() > 64 {
         return None;
     }
     let (service, seats) = Service::<L>::new(alloc, blank, sites, 1).ok()?;

@@ -29,7 +29,7 @@ fn ran<L: Ledger + Send + Sync, G: Gate + Sync, R: Threads + Wait + Sync>(
     requires ledger { (blank.name ≡ L.name) × (blank.parts ≡ L.parts) × (blank.parts ≡ 2) }
     requires tries { 1 ≤ tries }
 {
-    if sites.len() > 64 {
+    if sites.is_empty() || sites.len() > 64 {
         return None;
     }
     let (service, seats) = Service::<L>::new(alloc, blank, sites, 2).ok()?;

@@ -2,7 +2,7 @@
 use Rattle.std.specs.Prelude.{◌≡◌, ◌≢◌, ◌<◌, ◌≤◌, ◌⊎◌, ℕ, List, [], Option, Some, None}
 use Rattle.sgt_names.specs.Draft.{at_site}
 use Rattle.sgt_edges.specs.declared.edge.Edge.{Edge}
-use Rattle.sgt_site.specs.State.{SiteState}
+use Rattle.sgt_site.specs.State.{SiteState, IsSite}
 use Rattle.sgt_site.specs.Refused.{RefusesPledge, MayPledge}
 use Rattle.sgt_site.specs.declared.fault.SiteFault.{SiteFault}
 use Rattle.sgt_site.specs.declared.fault.SiteFault.TheVariants as site
@@ -50,11 +50,11 @@ RefusesPledgeAt here s active f =
 -- one of so many sites, which the transaction touches, refuses its gathering; and refuses its pledge
 abbrev pub IsUngathered : ℕ → List Call → Active → ServiceFault → Type 0
 IsUngathered sites history active f =
-    (here : ℕ) × (s : SiteState) × (here < sites) × TouchesAt active here × RefusesGather history here s active f
+    (here : ℕ) × (s : SiteState) × IsSite s × (here < sites) × TouchesAt active here × RefusesGather history here s active f
 
 abbrev pub IsUnpledged : ℕ → Active → ServiceFault → Type 0
 IsUnpledged sites active f =
-    (here : ℕ) × (s : SiteState) × (here < sites) × TouchesAt active here × RefusesPledgeAt here s active f
+    (here : ℕ) × (s : SiteState) × IsSite s × (here < sites) × TouchesAt active here × RefusesPledgeAt here s active f
 
 -- no site was found to have lost its pledge, and the certifier has the transaction's number under its handle
 abbrev pub IsHeld : Option ℕ → State → Active → Type 0

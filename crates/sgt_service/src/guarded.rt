@@ -41,7 +41,7 @@ impl<L: Ledger> Guarded<L> {
     ghost use Rattle.sgt_edges.specs.declared.edge.Edge.{Edge as AnEdge};
     ghost use Rattle.sgt_agreed.specs.declared.fault.ServiceFault.TheVariants.{NotPledged};
     ghost use Rattle.sgt_workers.specs.declared.ticket.Ending.TheVariants.{Committed, Withdrawn};
-    ghost use Rattle.sgt_site.specs.State.{IsPledged, IsPledgedFor};
+    ghost use Rattle.sgt_site.specs.State.{IsPledged, IsPledgedFor, IsSite};
     ghost use Rattle.sgt_certifier.specs.Certifier.{opening};
     ghost use Rattle.sgt_service.specs.Guarded.{decision_count, ticket_of, AwaitsInstalls, IsDecided, IsEnded, IsGathered};
     ghost use Rattle.sgt_service.specs.Refused.{HandsOn, IsRefusedBy};
@@ -275,10 +275,12 @@ impl<L: Ledger> Guarded<L> {
             × IsGathered self.old.certifier.history active.now here site.new more) }
         ensures err { OnErr result (site.new ≡ site.old) }
         ensures refused { IfErr result (RefusesGather self.old.certifier.history here site.old active.now) }
+        ensures site { IsSite site.old }
         ensures certifier { self.new.certifier ≡ self.old.certifier }
         ensures kept { OnOk result (self.new.lost ≡ self.old.lost) }
         ensures noted { IfErr result (NotesLoss self.old.lost self.new.lost) }
     {
+        let _items = site.items();
         match self.gather_held(alloc, site, here, active, edges) {
             Ok(()) => Ok(()),
             Err(fault) => Err(self.noted(fault)),
@@ -335,10 +337,12 @@ impl<L: Ledger> Guarded<L> {
         ensures pledged { OnOk result (IsPledgedFor site.new active.now.tx active.now.draft.touched) }
         ensures err { OnErr result (site.new ≡ site.old) }
         ensures refused { IfErr result (RefusesPledgeAt here site.old active.now) }
+        ensures site { IsSite site.old }
         ensures certifier { self.new.certifier ≡ self.old.certifier }
         ensures kept { OnOk result (self.new.lost ≡ self.old.lost) }
         ensures noted { IfErr result (NotesLoss self.old.lost self.new.lost) }
     {
+        let _items = site.items();
         match pledge_held(site, here, active) {
             Ok(()) => Ok(()),
             Err(fault) => Err(self.noted(fault)),

@@ -36,7 +36,7 @@ impl<L: Ledger> Service<L> {
     ghost use Rattle.sgt_service.specs.Counts.{AreCounted, only_at, with_others, blocks_of, below};
     ghost use Rattle.sgt_service.specs.Guarded.{AwaitsInstalls, IsGathered, IsGatheredBelow, notes_at, notes_below};
     ghost use Rattle.sgt_service.specs.Pledges.{IsWhole, Stops, TakesNext, WritesNext};
-    ghost use Rattle.sgt_site.specs.State.{SiteState};
+    ghost use Rattle.sgt_site.specs.State.{SiteState, IsSite};
     ghost use Rattle.sgt_edges.specs.declared.edge.Edge.{Edge as AnEdge};
     ghost use Rattle.sgt_service.specs.Stops.{NotesLoss};
     ghost use Rattle.sgt_service.specs.Undecided.{IsHeld, MayGather, IsUncommitted, IsUngathered, IsNotWithdrawn, IsUnpledged, RefusesGather, RefusesPledgeAt};
@@ -130,7 +130,7 @@ impl<L: Ledger> Service<L> {
         requires touched { at_site here active.now.draft.touched ≢ [] }
         ensures taken { OnOk result (TakesNext pledges.old pledges.new) }
         ensures err { OnErr result (pledges.new ≡ pledges.old) }
-        ensures refused { IfErr result (λ f. (s : SiteState) × RefusesPledgeAt here s active.now f) }
+        ensures refused { IfErr result (λ f. (s : SiteState) × IsSite s × RefusesPledgeAt here s active.now f) }
         ensures certifier { guarded.new.certifier ≡ guarded.old.certifier }
         ensures kept { OnOk result (guarded.new.lost ≡ guarded.old.lost) }
         ensures noted { IfErr result (NotesLoss guarded.old.lost guarded.new.lost) }
@@ -265,7 +265,7 @@ impl<L: Ledger> Service<L> {
             × IsGathered guarded.old.certifier.history active.now here s more) }
         ensures taken { OnOk result (TakesNext pledges.old pledges.new) }
         ensures err { OnErr result (pledges.new ≡ pledges.old) }
-        ensures refused { IfErr result (λ f. (s : SiteState) × RefusesGather guarded.old.certifier.history here s active.now f) }
+        ensures refused { IfErr result (λ f. (s : SiteState) × IsSite s × RefusesGather guarded.old.certifier.history here s active.now f) }
         ensures certifier { guarded.new.certifier ≡ guarded.old.certifier }
         ensures kept { OnOk result (guarded.new.lost ≡ guarded.old.lost) }
         ensures noted { IfErr result (NotesLoss guarded.old.lost guarded.new.lost) }

@@ -6,7 +6,7 @@ use sgt_agreed::ServiceFault;
 use sgt_certifier::{Certifier, CertifierFault};
 use sgt_edges::EdgeList;
 use sgt_names::{Draft, Entry, Holding, Item, Listed, SiteNo, Tx};
-use sgt_service::{Active, Back, EntryCounts, Guarded, Seat, Service};
+use sgt_service::{Active, Back, EntryCounts, Seat, Service};
 use sgt_workers::{Ending, Ticket};
 use std::alloc::Global;
 use std::marker::Brand;
@@ -210,13 +210,7 @@ fn of_another_history(alloc: Global, of: Case) -> Option<Certifier> {
 
 // Puts another certifier with as many decisions behind the lock.
 fn replace<L: Ledger, R: Wait>(rt: &R, service: &Service<L>, other: Certifier) -> bool {
-    let mut guarded = service.certifier.lock(rt);
-    let Guarded { certifier, .. } = &mut *guarded;
-    if certifier.decided() != other.decided() {
-        return false;
-    }
-    *certifier = other;
-    true
+    service.certifier.lock(rt).exchange_in_a_test(other)
 }
 
 fn other_history_as<L: Ledger, R: Wait + Abort>(
