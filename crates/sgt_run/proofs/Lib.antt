@@ -13,3 +13,4 @@ pub mod Sums
 pub mod Tries
 pub mod Unreadable
 pub mod Walks
+pub mod Shares

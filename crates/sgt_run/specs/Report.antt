@@ -32,17 +32,19 @@ use Rattle.sgt_settle.specs.Fault.{IsUnsettled}
 use Rattle.sgt_run.specs.Bundle.{IsBundleOf, IsToldAlone}
 use Rattle.sgt_run.specs.Input.{FirstUnreadable, Spells}
 use Rattle.sgt_run.specs.Results.{IsCommitted, done_text}
+use Rattle.sgt_run.specs.Tallies.{AreCountsOf}
 use Rattle.sgt_run.specs.Tries.{AreDonesOf}
 use Rattle.sgt_run.specs.declared.input.Input.{Input}
 
 -- ---- a run of an input
 
--- a run of these scripts at so many sites: each script has its tries, each site is there, and as many decisions were taken as there
--- are tickets
+-- a run of these scripts at so many sites: each script has its tries, each site is there, as many decisions were taken as there are tickets,
+-- and what was counted at the sites is what the workers of these tries wrote there
 pub record IsRunOf (scripts : List Script) (places tries : ℕ) (run : Run) : Type 0 where
   pub dones : AreDonesOf scripts tries run.dones
   pub sites : length run.sites ≡ places
   pub decided : decision_count run.certifier ≡ length (tickets_of run.dones)
+  pub counted : AreCountsOf scripts places run.dones run.counts
 
 -- the items of each site with their first values
 abbrev pub site_items : Run → List (List Holding)

@@ -4,6 +4,7 @@ ghost use Rattle.std.specs.Prelude.{◌≡◌, ◌≤◌, ◌↔◌, List, Err, 
 ghost use Rattle.std.specs.List.{AllZip};
 ghost use Rattle.sgt_agreed.specs.declared.fault.ServiceFault.TheVariants.{Memory};
 ghost use Rattle.sgt_site.specs.State.{IsSite};
+ghost use Rattle.sgt_certifier.specs.History.{Replays};
 ghost use Rattle.sgt_certifier.specs.Kept.{Kept};
 ghost use Rattle.sgt_service.specs.Guarded.{decision_count};
 ghost use Rattle.sgt_service.specs.Together.{parts_of, amount_of, counts_of};
@@ -140,8 +141,8 @@ pub fn settle<L: Ledger>(
         → decision_count s.certifier ≡ amount_of seats.items) }
     ensures refused { IfErr result (λ f. (told : List ADone) × ArePutInOrder dones.items told
         × IsRefused (vec_len service.names) L.parts seats.items told f) }
-    ensures memory { result ≡ Err Memory → (c : Kept) × (told : List ADone) × ArePutInOrder dones.items told
-        × AreTickets c.state.rulings told }
+    ensures memory { result ≡ Err Memory → (c : Kept) × (told : List ADone) × Replays c.history c.state
+        × ArePutInOrder dones.items told × AreTickets c.state.rulings told }
 {
     let told = put_in_order(dones);
     match service.open(alloc, seats) {

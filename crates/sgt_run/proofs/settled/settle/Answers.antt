@@ -27,6 +27,7 @@ returns-in-Err-clause-memory g c want =
     let good = memory_told certifier c.as_slice.result.now told.result c.told_alone.result told.ensures.ok told.ensures.memory c.told_alone.ensures (ap fault_in want) in (
       certifier,
       c.put_in_order-told.result.items,
+      told.ensures.replays,
       c.put_in_order-told.ensures,
       subst (λ (ds : List Done). AreTickets certifier.state.rulings ds) c.as_slice.ensures.value good,
     )

@@ -11,9 +11,10 @@ returns-in-Err-clause-refused g c =
     let here = c.number_at-here.result in
     let site = c.in-Err.ensures.refused.0 in
     let active = c.args.active.now in
-    let at_start = subst (λ (k : Kept). RefusesGather k.history here site active c.in-Err.fault) c.loop-place.invariant.certifier c.in-Err.ensures.refused.1 in (
+    let at_start = subst (λ (k : Kept). RefusesGather k.history here site active c.in-Err.fault) c.loop-place.invariant.certifier c.in-Err.ensures.refused.2 in (
       here,
       site,
+      c.in-Err.ensures.refused.1,
       omega (arith, c.number_at-here.ensures, c.loop-place-test.true),
       c.touches.ensures.some c.if-touches.true,
       at_start,
