@@ -7,7 +7,11 @@ use Rattle.sgt_names.specs.declared.outcome.Outcome.TheVariants.{Yes, No, Unread
 use Rattle.sgt_cert.specs.Parts.{Parts}
 use Rattle.sgt_cert.specs.Text.{Spells, certificate_text}
 use Rattle.sgt_cert.specs.Valid.{IsValid}
+use Rattle.sgt_cert.specs.declared.bundle.SiteLog.{SiteLog}
 use Rattle.sgt_certify_logs.specs.Certifiable.{HasNoCertificate, IsWithLine, SpellsLogs}
+use Rattle.sgt_certify_logs.specs.Witness.{HaveConflictsInACycle, HaveEndsInACycle, IsStuck}
+use Rattle.sgt_certify.specs.declared.refuting.Refusal.{Refusal}
+use Rattle.sgt_certify.specs.declared.refuting.Refusal.TheVariants.{Order, Ranks, Walk}
 
 -- the text is the bytes with a certificate put in as their second line, and spells a valid bundle of the very logs that they spell
 pub record IsCertified (bytes text : List ℕ) : Type 0 where
@@ -17,15 +21,36 @@ pub record IsCertified (bytes text : List ℕ) : Type 0 where
   pub spelled : Spells text bundle
   pub valid : IsValid bundle
 
--- a reason of which no proof is given: a fault, the want of a walk, or that what was found didn't pass its check
-abbrev pub IsUnproved : List ℕ → Type 0
-IsUnproved text = (rest : List ℕ) × ((text ≡ codes "no line " ++ rest) ⊎ ((text ≡ codes "no walk\n" ++ rest) ⊎ (text ≡ codes "! certify\n")))
+-- the first line of a refusal
+abbrev pub refusal_text : Refusal → List ℕ
+refusal_text Order = codes "no order\n"
+refusal_text Ranks = codes "no ranks\n"
+refusal_text Walk = codes "no walk\n"
 
--- the text that the bytes are answered by: with a yes the bundle; with a no a reason, and where that is `no order` or `no ranks` there
--- is no certificate
+-- what the logs have, by which no certificate makes them valid: ends in a cycle, committed conflicts in a cycle, a stuck set
+abbrev pub Excludes : Refusal → List SiteLog → Type 0
+Excludes Order sites = HaveEndsInACycle sites
+Excludes Ranks sites = HaveConflictsInACycle sites
+Excludes Walk sites = (decided : List ℕ) × IsStuck sites decided
+
+-- the text begins with the line of a refusal, the logs that the bytes spell have what that line says, and so no certificate
+pub record IsRefused (bytes text : List ℕ) : Type 0 where
+  pub refusal : Refusal
+  pub lines : List ℕ
+  pub told : text ≡ refusal_text refusal ++ lines
+  pub sites : List SiteLog
+  pub logs : SpellsLogs bytes sites
+  pub shown : Excludes refusal sites
+  pub none : HasNoCertificate bytes
+
+-- a text of which nothing is proved: the line of a fault, or that what was found didn't pass its check
+abbrev pub IsUnproved : List ℕ → Type 0
+IsUnproved text = (rest : List ℕ) × ((text ≡ codes "no line " ++ rest) ⊎ (text ≡ codes "! certify\n"))
+
+-- the text that the bytes are answered by: with a yes the bundle, with a no a refusal or what isn't proved
 abbrev pub IsAnswer : List ℕ → Outcome → List ℕ → Type 0
 IsAnswer bytes Yes text = IsCertified bytes text
-IsAnswer bytes No text = HasNoCertificate bytes ⊎ IsUnproved text
+IsAnswer bytes No text = IsRefused bytes text ⊎ IsUnproved text
 IsAnswer bytes Unreadable text = ⊥
 
 -- that text was written

@@ -7,3 +7,4 @@ mod refuting;
 mod taking;
 
 pub use engine::certify;
+pub use refuting::Refusal;

@@ -13,7 +13,7 @@ use sgt_notation::find_lf;
 use std::alloc::{AllocError, Global};
 
 /// The text with the certificate's line put in behind its first one, if it has one.
-pub(crate) fn with_certificate(
+pub fn with_certificate(
     alloc: Global,
     text: &[u8],
     certificate: &Certificate,
@@ -33,7 +33,7 @@ pub(crate) fn with_certificate(
 }
 
 /// The text with the certificate put in, where that spells a valid bundle.
-pub(crate) fn certified(
+pub fn certified(
     alloc: Global,
     text: &[u8],
     certificate: &Certificate,

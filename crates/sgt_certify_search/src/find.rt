@@ -10,7 +10,7 @@ use sgt_certify_history::History;
 use sgt_certify_logs::{ConflictStep, EndStep};
 use sgt_certify_stuck::StuckSet;
 use sgt_names::Listed;
-use sgt_notation::{MAX_LINE, find_lf};
+use sgt_notation::find_lf;
 use std::alloc::{AllocError, Global};
 
 /// What shows that there is no certificate.
@@ -43,22 +43,22 @@ pub enum Found {
     Fault { line: usize, fault: LineFault },
 }
 
-/// Feeds the reader the lines of the text, up to the first with a fault.
-fn feed(reader: &mut Reader, text: &[u8]) -> Result<Option<LineFault>, AllocError> {
-    let mut rest = text;
-    'lines: while let Some(at) = find_lf(rest) {
-        if at > MAX_LINE {
-            return Ok(Some(reader.too_long()));
-        }
-        if let Some(fault) = reader.next(&rest[..at])? {
+/// Feeds the reader the lines of the text, up to the first with a fault: that, if there is one. Else what is left behind the last LF
+/// is put into `rest`.
+fn feed(
+    reader: &mut Reader,
+    text: &[u8],
+    rest: &mut usize,
+) -> Result<Option<LineFault>, AllocError> {
+    let mut ahead = text;
+    'lines: while let Some(at) = find_lf(ahead) {
+        if let Some(fault) = reader.next(&ahead[..at])? {
             return Ok(Some(fault));
         }
-        rest = &rest[at + 1..];
+        ahead = &ahead[at + 1..];
     }
-    if rest.len() > MAX_LINE {
-        return Ok(Some(reader.too_long()));
-    }
-    Ok(reader.end(rest.len()))
+    *rest = ahead.len();
+    Ok(None)
 }
 
 /// The number of the sites.
@@ -108,7 +108,12 @@ fn found_in(alloc: Global, history: &History) -> Result<Found, AllocError> {
 /// Looks for a certificate of the logs that the text spells, or for the reason why there is none. Err: memory ran out.
 pub fn find(alloc: Global, text: &[u8]) -> Result<Found, AllocError> {
     let mut reader = Reader::new(alloc);
-    match feed(&mut reader, text)? {
+    let mut rest = 0;
+    let fault = match feed(&mut reader, text, &mut rest)? {
+        Some(fault) => Some(fault),
+        None => reader.end(rest),
+    };
+    match fault {
         Some(fault) => Ok(Found::Fault {
             line: reader.number(),
             fault,
@@ -118,4 +123,15 @@ pub fn find(alloc: Global, text: &[u8]) -> Result<Found, AllocError> {
             found_in(alloc, &history)
         }
     }
+}
+
+/// The first line with a fault of a text with a line behind it that is too long, and its fault. Err: memory ran out.
+pub fn long_line(alloc: Global, text: &[u8]) -> Result<(usize, LineFault), AllocError> {
+    let mut reader = Reader::new(alloc);
+    let mut rest = 0;
+    let fault = match feed(&mut reader, text, &mut rest)? {
+        Some(fault) => fault,
+        None => reader.too_long(),
+    };
+    Ok((reader.number(), fault))
 }

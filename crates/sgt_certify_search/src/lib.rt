@@ -9,4 +9,4 @@ mod search;
 mod steps;
 
 pub use faults::LineFault;
-pub use find::{Found, Proof, Reason, find};
+pub use find::{Found, Proof, Reason, find, long_line};

@@ -46,13 +46,13 @@ does-item class.Put x e h = writes-item x e h.0
 
 -- what was seen of the first n entries
 pub record HasSeen (entries : List Entry) (n : ℕ) (sources barred : BTreeSet ℕ) (first second : Class) (seen : BTreeSet (List ℕ)) : Type 0 where
-  pub seen : (p : ℕ) (e : Entry) (x : Name) → p < n → slice_get entries p ≡ Some e → HasTx sources (tx_of e) → Does first x e → HasItem seen x
+  pub kept : (p : ℕ) (e : Entry) (x : Name) → p < n → slice_get entries p ≡ Some e → HasTx sources (tx_of e) → Does first x e → HasItem seen x
   pub clear : (p q : ℕ) (e f : Entry) (x : Name) → p < q → q < n → slice_get entries p ≡ Some e → slice_get entries q ≡ Some f
       → HasTx sources (tx_of e) → HasTx barred (tx_of f) → Does first x e → Does second x f → ⊥
 
 pub none-seen : (entries : List Entry) (sources barred : BTreeSet ℕ) (first second : Class) (seen : BTreeSet (List ℕ)) → HasSeen entries 0 sources barred first second seen
 none-seen entries sources barred first second seen = record {
-  seen = λ p e x lt. absurd (omega arith);
+  kept = λ p e x lt. absurd (omega arith);
   clear = λ p q e f x lt within. absurd (omega arith);
 }
 
@@ -63,18 +63,18 @@ pub seen-next : (entries : List Entry) (n : ℕ) (sources barred : BTreeSet ℕ)
     → ((x : Name) → HasTx sources (tx_of e) → Does first x e → HasItem next x)
     → HasSeen entries (n + 1) sources barred first second next
 seen-next entries n sources barred first second seen next e had at misses kept added = record {
-  seen = λ p f x lt at_p source does.
+  kept = λ p f x lt at_p source does.
       elim (cases_eq p n) [
         | inl last ↦
             let one : f ≡ e = same_Some f e (sym at_p ∙ ap (slice_get entries) last ∙ at) in
             added x (subst (λ (g : Entry). HasTx sources (tx_of g)) one source) (subst (λ (g : Entry). Does first x g) one does)
-        | inr before ↦ kept x (had.seen p f x (omega arith) at_p source does)
+        | inr before ↦ kept x (had.kept p f x (omega arith) at_p source does)
       ];
   clear = λ p q f g x lt within at_p at_q source bars does then.
       elim (cases_eq q n) [
         | inl last ↦
             let one : g ≡ e = same_Some g e (sym at_q ∙ ap (slice_get entries) last ∙ at) in
-            misses x (had.seen p f x (omega arith) at_p source does) (subst (λ (h : Entry). HasTx barred (tx_of h)) one bars)
+            misses x (had.kept p f x (omega arith) at_p source does) (subst (λ (h : Entry). HasTx barred (tx_of h)) one bars)
             (subst (λ (h : Entry). Does second x h) one then)
         | inr before ↦ had.clear p q f g x lt (omega arith) at_p at_q source bars does then
       ];

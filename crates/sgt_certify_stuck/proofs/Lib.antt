@@ -1,2 +1,2 @@
 pub mod Clear
-pub mod Stuck
+pub mod StuckSets

@@ -1,6 +1,6 @@
 -- What a check of a stuck set says: that some transactions are never followed by some others in conflict.
-use Rattle.std.specs.Prelude.{◌≡◌, ℕ, ◌<◌, true, IsTrue, List, [], ◌∷◌, ◌++◌, All, Contains, Some, BTreeSet, slice_get}
-use Rattle.std.specs.BTreeSet.{contains}
+use Rattle.std.specs.Prelude.{◌≡◌, ℕ, ◌<◌, true, IsTrue, List, [], ◌∷◌, ◌++◌, All, Contains, Some, slice_get}
+use Rattle.std.specs.BTreeSet.{BTreeSet, contains}
 use Rattle.std.specs.Ordering.{nat_cmp}
 use Rattle.std.specs.Cmp.Lexicographic.{slice_cmp}
 use Rattle.sgt_names.specs.Name.{Name}

@@ -28,17 +28,18 @@ pub struct StuckSet {
     pub circles: Vec<Circle>,
 }
 
-/// Whether no walk of conflicts leads from the transaction back to it through these.
+/// Whether no walk of conflicts leads from the transaction back to it through these. Those that were met show it.
 fn has_no_walk(
     alloc: Global,
     sites: &[SiteLog],
     committed: &[Tx],
-    circle: &Circle,
+    tx: Tx,
+    met: &[Tx],
 ) -> Result<bool, AllocError>
-    ensures { IfOk result (λ none. IsTrue none → HasNoWalk sites.now committed.now circle.now.tx) }
+    ensures { IfOk result (λ none. IsTrue none → HasNoWalk sites.now committed.now tx) }
 {
-    let own = set_of(alloc, &[circle.tx])?;
-    let met = set_of(alloc, circle.met.as_slice())?;
+    let own = set_of(alloc, &[tx])?;
+    let met = set_of(alloc, met)?;
     let beyond = others_of(alloc, committed, &met)?;
     Ok(
         are_all_apart(alloc, sites, &own, &beyond)?
@@ -47,7 +48,17 @@ fn has_no_walk(
     )
 }
 
-/// Whether one of the circles shows that no walk leads from the transaction back to it through these.
+/// The circle of the transaction, if there is one.
+fn circle_of(circles: &[Circle], tx: Tx) -> Option<&Circle> {
+    for circle in circles {
+        if circle.tx == tx {
+            return Some(circle);
+        }
+    }
+    None
+}
+
+/// Whether the circle of the transaction shows that no walk leads from it back to it through committed ones of the set.
 fn has_circle(
     alloc: Global,
     sites: &[SiteLog],
@@ -56,12 +67,16 @@ fn has_circle(
 ) -> Result<bool, AllocError>
     ensures { IfOk result (λ none. IsTrue none → HasNoWalk sites.now stuck.now.committed.items tx) }
 {
-    for circle in stuck.circles.as_slice() {
-        if circle.tx == tx {
-            return has_no_walk(alloc, sites, stuck.committed.as_slice(), circle);
-        }
+    match circle_of(stuck.circles.as_slice(), tx) {
+        Some(circle) => has_no_walk(
+            alloc,
+            sites,
+            stuck.committed.as_slice(),
+            tx,
+            circle.met.as_slice(),
+        ),
+        None => Ok(false),
     }
-    Ok(false)
 }
 
 /// Whether the transaction can't be decided next, or is refused and no walk leads from it back to it.
