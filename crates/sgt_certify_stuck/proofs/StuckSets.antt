@@ -17,7 +17,7 @@ use Rattle.sgt_cert.specs.declared.certificate.Step.{Step}
 use Rattle.sgt_cert.specs.declared.bundle.SiteLog.{SiteLog}
 use Rattle.sgt_certify_logs.specs.Witness.{EndsBefore, HasEnd, IsFree, IsIn, IsStuck, LiesOnCycle}
 use Rattle.sgt_certify_stuck.specs.Apart.{AreApart, HasNoWalk, HasTx}
-use Rattle.sgt_certify_stuck.specs.private.Ends.{AllDecided, AreShown, IsFirstLeft, IsLogShown, IsShown}
+use Rattle.sgt_certify_stuck.specs.private.Ends.{AllDecided, AreShown, IsBehind, IsFirstLeft, IsLeft, IsLogShown, IsShown}
 
 -- ---- no walk
 
@@ -115,16 +115,43 @@ module _ (sites : List SiteLog) (committed others : List ℕ) (decided rest : BT
             })))
       ]
 
-  pub is-stuck : AreShown sites decided committed → IsStuck sites (committed ++ others)
-  is-stuck (left, logs) = record {
+  pub is-stuck : IsLeft sites decided → AreShown sites decided committed → IsStuck sites (committed ++ others)
+  is-stuck left logs = record {
     left = (left.0, left.1, not-in left.0 left.2);
     refused = λ t free.
         let e = free.ends.0 in
         let log = free.ends.1.0 in
-        let at_log = Contains_at sites log free.ends.1.1 in
         let at = Contains_at log.entries e free.ends.1.2 in
         let is = free.ends.3 in
         let of_e : IsFree sites (committed ++ others) (tx_of e) = subst (IsFree sites (committed ++ others)) (sym is) free in
         subst (λ (u : ℕ). IsIn sites (Refuse u) × (LiesOnCycle sites (committed ++ others) u → ⊥)) is
-        (log-shown log free.ends.1.1 at.0 e at.1 free.ends.2 of_e (logs at_log.0 log at_log.1));
+        (log-shown log free.ends.1.1 at.0 e at.1 free.ends.2 of_e (logs log free.ends.1.1));
   }
+
+-- ---- ends
+
+pub behind-waits : (sites : List SiteLog) (log : SiteLog) (decided : BTreeSet ℕ) (tx : ℕ) → Contains sites log → IsBehind log.entries decided tx
+    → (u : ℕ) × EndsBefore sites u tx × (contains nat_cmp decided u ≡ false)
+behind-waits sites log decided tx here (q, f, left, at, end, is) = (
+  tx_of left.1,
+  record {
+    log = log;
+    here = here;
+    p = left.0;
+    q = q;
+    e = left.1;
+    f = f;
+    before = left.2;
+    first = left.3;
+    second = at;
+    from = refl;
+    to = is;
+    ends = (left.4, end);
+  },
+  left.5,
+)
+
+pub left-is : (sites : List SiteLog) (log : SiteLog) (decided : BTreeSet ℕ) (tx : ℕ) → Contains sites log
+    → (k : ℕ) × IsFirstLeft log.entries decided k tx → IsLeft sites decided
+left-is sites log decided tx here (k, e, at, end, is, out, before) =
+    (tx, (e, (log, here, Contains-from_at log.entries k e at), end, is), out)

@@ -124,12 +124,19 @@ fn are_apart(
         first: Class::Put,
         second: Class::Change,
     };
-    Ok(
-        is_clear(alloc, entries, sources, barred, reads)?
-            && is_clear(alloc, entries, sources, barred, changes)?
-            && is_clear(alloc, entries, sources, barred, puts)?
-            && is_clear(alloc, entries, sources, barred, put_over)?,
-    )
+    let free_of_reads = is_clear(alloc, entries, sources, barred, reads)?;
+    if !free_of_reads {
+        return Ok(false);
+    }
+    let free_of_changes = is_clear(alloc, entries, sources, barred, changes)?;
+    if !free_of_changes {
+        return Ok(false);
+    }
+    let free_of_puts = is_clear(alloc, entries, sources, barred, puts)?;
+    if !free_of_puts {
+        return Ok(false);
+    }
+    is_clear(alloc, entries, sources, barred, put_over)
 }
 
 /// Whether no conflict of any log leads from a source to a barred one.

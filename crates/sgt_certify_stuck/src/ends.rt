@@ -5,7 +5,7 @@ ghost use Rattle.std.specs.BTreeSet.{contains};
 ghost use Rattle.std.specs.Ordering.{nat_cmp};
 ghost use Rattle.sgt_names.specs.declared.entry.Entry.TheVariants.{Commit as Committed, Refuse as Refused};
 ghost use Rattle.sgt_certify_logs.specs.Witness.{EndsBefore, IsIn};
-ghost use Rattle.sgt_certify_stuck.specs.private.Ends.{AllDecided, IsBehind, IsFirstLeft};
+ghost use Rattle.sgt_certify_stuck.specs.private.Ends.{AllDecided, IsBehind, IsFirstLeft, IsLeft};
 
 use sgt_cert::SiteLog;
 use sgt_names::{Entry, Tx};
@@ -22,6 +22,18 @@ pub fn first_left(entries: &[Entry], decided: &BTreeSet<Tx>) -> Option<Tx>
         }
     }
     None
+}
+
+/// Whether some log ends a transaction that isn't decided.
+pub fn has_left(sites: &[SiteLog], decided: &BTreeSet<Tx>) -> bool
+    ensures { IsTrue result → IsLeft sites.now decided.now }
+{
+    for log in sites {
+        if let Some(_) = first_left(log.entries.as_slice(), decided) {
+            return true;
+        }
+    }
+    false
 }
 
 /// Whether in this log an end of a transaction that isn't decided stands before one of this.

@@ -1,12 +1,12 @@
 //! Whether a set of transactions is stuck.
 
-ghost use Rattle.std.specs.Prelude.{◌++◌, IsTrue, IfOk};
+ghost use Rattle.std.specs.Prelude.{ℕ, ◌++◌, Contains, IsTrue, IfOk};
 ghost use Rattle.sgt_certify_logs.specs.Witness.{IsStuck};
-ghost use Rattle.sgt_certify_stuck.specs.Apart.{HasNoWalk};
-ghost use Rattle.sgt_certify_stuck.specs.private.Ends.{AreShown, IsShown};
+ghost use Rattle.sgt_certify_stuck.specs.Apart.{HasNoWalk, HasTx};
+ghost use Rattle.sgt_certify_stuck.specs.private.Ends.{AreShown, IsLogShown, IsShown};
 
 use crate::apart::are_all_apart;
-use crate::ends::{are_uncommitted, first_left, is_refused, waits};
+use crate::ends::{are_uncommitted, first_left, has_left, is_refused, waits};
 use crate::sets::{others_of, set_of};
 use sgt_cert::SiteLog;
 use sgt_names::Tx;
@@ -41,11 +41,15 @@ fn has_no_walk(
     let own = set_of(alloc, &[tx])?;
     let met = set_of(alloc, met)?;
     let beyond = others_of(alloc, committed, &met)?;
-    Ok(
-        are_all_apart(alloc, sites, &own, &beyond)?
-            && are_all_apart(alloc, sites, &met, &beyond)?
-            && are_all_apart(alloc, sites, &met, &own)?,
-    )
+    let first = are_all_apart(alloc, sites, &own, &beyond)?;
+    if !first {
+        return Ok(false);
+    }
+    let onward = are_all_apart(alloc, sites, &met, &beyond)?;
+    if !onward {
+        return Ok(false);
+    }
+    are_all_apart(alloc, sites, &met, &own)
 }
 
 /// The circle of the transaction, if there is one.
@@ -92,10 +96,29 @@ fn is_shown(
     if waits(sites, decided, tx) {
         return Ok(true);
     }
-    Ok(is_refused(sites, tx) && has_circle(alloc, sites, stuck, tx)?)
+    if !is_refused(sites, tx) {
+        return Ok(false);
+    }
+    has_circle(alloc, sites, stuck, tx)
 }
 
-/// Whether some transaction is left, and each that can be decided next is shown to have no walk.
+/// Whether that is so of whoever ends first in this log of those that aren't decided.
+fn is_log_shown(
+    alloc: Global,
+    sites: &[SiteLog],
+    stuck: &StuckSet,
+    decided: &BTreeSet<Tx>,
+    log: &SiteLog,
+) -> Result<bool, AllocError>
+    ensures { IfOk result (λ shown. IsTrue shown → IsLogShown sites.now decided.now stuck.now.committed.items log.now) }
+{
+    match first_left(log.entries.as_slice(), decided) {
+        Some(tx) => is_shown(alloc, sites, stuck, decided, tx),
+        None => Ok(true),
+    }
+}
+
+/// Whether that is so in each log.
 fn are_shown(
     alloc: Global,
     sites: &[SiteLog],
@@ -104,16 +127,23 @@ fn are_shown(
 ) -> Result<bool, AllocError>
     ensures { IfOk result (λ shown. IsTrue shown → AreShown sites.now decided.now stuck.now.committed.items) }
 {
-    let mut left = false;
     for log in sites {
-        if let Some(tx) = first_left(log.entries.as_slice(), decided) {
-            if !is_shown(alloc, sites, stuck, decided, tx)? {
-                return Ok(false);
-            }
-            left = true;
+        let shown = is_log_shown(alloc, sites, stuck, decided, log)?;
+        if !shown {
+            return Ok(false);
         }
     }
-    Ok(left)
+    Ok(true)
+}
+
+/// The transactions of the set.
+fn decided_of(alloc: Global, stuck: &StuckSet) -> Result<BTreeSet<Tx>, AllocError>
+    ensures has { IfOk result (λ set. (t : ℕ) → Contains (stuck.now.committed.items ++ stuck.now.others.items) t → HasTx set t) }
+    ensures only { IfOk result (λ set. (t : ℕ) → HasTx set t → Contains (stuck.now.committed.items ++ stuck.now.others.items) t) }
+{
+    let mut all = Vec::from_slice(alloc, stuck.committed.as_slice())?;
+    all.extend_from_slice(stuck.others.as_slice())?;
+    set_of(alloc, all.as_slice())
 }
 
 /// Whether the set is stuck in these logs: some transaction is left, and each that can be decided next is refused and lies on no cycle
@@ -125,8 +155,9 @@ pub fn is_stuck(alloc: Global, sites: &[SiteLog], stuck: &StuckSet) -> Result<bo
     if !are_uncommitted(sites, &others) {
         return Ok(false);
     }
-    let mut all = Vec::from_slice(alloc, stuck.committed.as_slice())?;
-    all.extend_from_slice(stuck.others.as_slice())?;
-    let decided = set_of(alloc, all.as_slice())?;
+    let decided = decided_of(alloc, stuck)?;
+    if !has_left(sites, &decided) {
+        return Ok(false);
+    }
     are_shown(alloc, sites, stuck, &decided)
 }

@@ -1,5 +1,5 @@
 -- Ends of a log against a set of decided transactions.
-use Rattle.std.specs.Prelude.{◌≡◌, ◌⊎◌, ℕ, ◌<◌, false, List, length, Some, slice_get}
+use Rattle.std.specs.Prelude.{◌≡◌, ◌⊎◌, ℕ, ◌<◌, false, List, length, Contains, Some, slice_get}
 use Rattle.std.specs.BTreeSet.{BTreeSet, contains}
 use Rattle.std.specs.Ordering.{nat_cmp}
 use Rattle.sgt_names.specs.Entry.{tx_of, IsEnd}
@@ -41,7 +41,6 @@ IsLogShown sites decided committed log = AllDecided log.entries decided (length 
 abbrev pub IsLeft : List SiteLog → BTreeSet ℕ → Type 0
 IsLeft sites decided = (t : ℕ) × HasEnd sites t × (contains nat_cmp decided t ≡ false)
 
--- somebody is left, and each log is shown
+-- each log is shown
 abbrev pub AreShown : List SiteLog → BTreeSet ℕ → List ℕ → Type 0
-AreShown sites decided committed = IsLeft sites decided
-    × ((k : ℕ) (log : SiteLog) → slice_get sites k ≡ Some log → IsLogShown sites decided committed log)
+AreShown sites decided committed = (log : SiteLog) → Contains sites log → IsLogShown sites decided committed log
