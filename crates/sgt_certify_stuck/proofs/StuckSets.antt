@@ -153,5 +153,5 @@ behind-waits sites log decided tx here (q, f, left, at, end, is) = (
 
 pub left-is : (sites : List SiteLog) (log : SiteLog) (decided : BTreeSet ℕ) (tx : ℕ) → Contains sites log
     → (k : ℕ) × IsFirstLeft log.entries decided k tx → IsLeft sites decided
-left-is sites log decided tx here (k, e, at, end, is, out, before) =
+left-is sites log decided tx here (k, (e, at, end, is, out, before)) =
     (tx, (e, (log, here, Contains-from_at log.entries k e at), end, is), out)
