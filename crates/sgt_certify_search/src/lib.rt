@@ -2,11 +2,11 @@
 #![tactic(auto)]
 
 mod faults;
-mod find;
+mod finding;
 mod reading;
 mod report;
 mod search;
 mod steps;
 
 pub use faults::LineFault;
-pub use find::{Found, Proof, Reason, find, long_line};
+pub use finding::{Found, Proof, Reason, find, long_line};

@@ -207,18 +207,25 @@ impl Reader {
             return Ok(Some(LineFault::Behind));
         }
         match read_section(line) {
-            Ok(SectionLine::Site(site)) => self.begin(site),
-            Ok(SectionLine::Initial(holding)) => self.list(&holding),
-            Ok(SectionLine::Logged(entry)) => {
+            Ok(line) => self.enter(&line, second),
+            Err(_) => Ok(Some(LineFault::Notation)),
+        }
+    }
+
+    /// A line of a section, of the second format or the first.
+    fn enter(&mut self, line: &SectionLine, second: bool) -> Result<Option<LineFault>, AllocError> {
+        match line {
+            SectionLine::Site(site) => self.begin(*site),
+            SectionLine::Initial(holding) => self.list(holding),
+            SectionLine::Logged(entry) => {
                 if entry.is_increment() && !second {
                     Ok(Some(LineFault::Notation))
                 } else {
-                    self.log(&entry)
+                    self.log(entry)
                 }
             }
-            Ok(SectionLine::Final(holding)) => Ok(self.settle(&holding)),
-            Ok(SectionLine::End) => Ok(self.close()),
-            Err(_) => Ok(Some(LineFault::Notation)),
+            SectionLine::Final(holding) => Ok(self.settle(holding)),
+            SectionLine::End => Ok(self.close()),
         }
     }
 

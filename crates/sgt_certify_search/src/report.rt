@@ -1,5 +1,6 @@
 //! The reasons why there is no certificate, written.
 
+use crate::search::Left;
 use sgt_certify_history::{Before, Fate, History, Link};
 use sgt_names::Kind;
 use sgt_notation::push_number;

@@ -2,7 +2,7 @@
 
 use sgt_cert::{Decision, Step};
 use sgt_certify_history::{
-    Before, End, Fate, Front, History, Link, is_marked, number_at, rank_order, set_mark,
+    Before, End, Fate, Front, History, Link, is_marked, met_from, number_at, rank_order, set_mark,
     set_number, walk_of,
 };
 use sgt_certify_stuck::{Circle, StuckSet};
