@@ -193,15 +193,14 @@ pub fn push_fate(
     let Some(decision) = decisions.get(number) else {
         return Ok(());
     };
-    out.push_str("transaction: ")?;
     push_decision(out, number, decision)?;
-    out.push_str("\n")?;
     match decision.walk() {
         Some(walk) => {
+            out.push_str(", since it would close a cycle:\n")?;
             let sought = sought_in(alloc, decisions, bytes)?;
             push_cycle(out, sought.as_slice(), tx, walk)
         }
-        None => Ok(()),
+        None => out.push_str("\n"),
     }
 }
 
@@ -219,7 +218,7 @@ pub fn push_dealings(
     }
     push_own(out, own.as_slice())?;
     let sorted = by_item(alloc, own.as_slice())?;
-    out.push_str("in conflict\n")?;
+    out.push_str("in conflict:\n")?;
     let count = push_conflicts(out, sorted.as_slice(), bytes, end)?;
     match count {
         0 => out.push_str("  with nobody\n"),
