@@ -92,50 +92,81 @@ fn unended(alloc: Global, entries: &[Logged]) -> Result<Option<Logged>, AllocErr
     Ok(None)
 }
 
-/// The end with the greatest decision number below this one, and the end with the least above it.
-fn around(
-    placed: &[Placed],
-    entries: &[Logged],
-    own: usize,
-) -> (Option<(usize, Logged)>, Option<(usize, Logged)>) {
-    let mut before: Option<(usize, Logged)> = None;
-    let mut behind: Option<(usize, Logged)> = None;
+/// An end, and the number of the decision on its transaction.
+#[derive(Clone, Copy)]
+struct DecidedEnd {
+    number: usize,
+    line: u64,
+}
+
+/// The entry as an end, if it is one of a decided transaction.
+fn decided_end(placed: &[Placed], logged: &Logged) -> Option<DecidedEnd> {
+    if !logged.entry.is_end() {
+        return None;
+    }
+    let number = number_on(placed, logged.entry.tx())?;
+    Some(DecidedEnd {
+        number,
+        line: logged.line,
+    })
+}
+
+/// Whichever was decided later.
+fn later_of(found: Option<DecidedEnd>, end: DecidedEnd) -> DecidedEnd {
+    match found {
+        Some(other) if other.number > end.number => other,
+        _ => end,
+    }
+}
+
+/// Whichever was decided earlier.
+fn earlier_of(found: Option<DecidedEnd>, end: DecidedEnd) -> DecidedEnd {
+    match found {
+        Some(other) if other.number < end.number => other,
+        _ => end,
+    }
+}
+
+/// Of the ends that were decided before this one, the last decided.
+fn last_before(placed: &[Placed], entries: &[Logged], own: usize) -> Option<DecidedEnd> {
+    let mut found = None;
     for logged in entries {
-        if !logged.entry.is_end() {
-            continue;
-        }
-        let Some(number) = number_on(placed, logged.entry.tx()) else {
-            continue;
-        };
-        if number < own && before.is_none_or(|(least, _)| least < number) {
-            before = Some((number, *logged));
-        }
-        if number > own && behind.is_none_or(|(most, _)| number < most) {
-            behind = Some((number, *logged));
+        match decided_end(placed, logged) {
+            Some(end) if end.number < own => found = Some(later_of(found, end)),
+            _ => {}
         }
     }
-    (before, behind)
+    found
+}
+
+/// Of the ends that were decided behind this one, the first decided.
+fn first_behind(placed: &[Placed], entries: &[Logged], own: usize) -> Option<DecidedEnd> {
+    let mut found = None;
+    for logged in entries {
+        match decided_end(placed, logged) {
+            Some(end) if end.number > own => found = Some(earlier_of(found, end)),
+            _ => {}
+        }
+    }
+    found
 }
 
 /// How the end of a decision reads: `n2`.
 fn push_wanted_end(out: &mut String, decision: &Decision) -> Result<(), AllocError> {
     let tx = decision.tx();
     match decision {
-        Decision::Commit { .. } => write!(out, ": c{tx} has to stand"),
-        Decision::Refuse { .. } => write!(out, ": n{tx} has to stand"),
-        Decision::Withdraw { .. } => write!(out, ": a{tx} has to stand"),
+        Decision::Commit { .. } => writeln!(out, ": c{tx} has to stand among the entries"),
+        Decision::Refuse { .. } => writeln!(out, ": n{tx} has to stand among the entries"),
+        Decision::Withdraw { .. } => writeln!(out, ": a{tx} has to stand among the entries"),
     }
 }
 
 /// An end and the number of its decision, in a line of words.
-fn push_near(
-    out: &mut String,
-    word: &str,
-    found: Option<(usize, Logged)>,
-) -> Result<(), AllocError> {
-    if let Some((number, logged)) = found {
-        let line = logged.line;
-        write!(out, " {word} the end of decision {number} (line {line})")?;
+fn push_near(out: &mut String, word: &str, found: Option<DecidedEnd>) -> Result<(), AllocError> {
+    if let Some(end) = found {
+        let number = end.number;
+        let line = end.line;
+        writeln!(out, "{word} the end of decision {number} (line {line})")?;
     }
     Ok(())
 }
@@ -156,15 +187,8 @@ fn push_place(
     };
     push_decision(out, number, decision)?;
     push_wanted_end(out, decision)?;
-    let (before, behind) = around(placed, entries, number);
-    match (before, behind) {
-        (None, None) => out.push_str(" among the entries")?,
-        _ => {
-            push_near(out, "behind", before)?;
-            push_near(out, "before", behind)?;
-        }
-    }
-    out.push_str("\n")
+    push_near(out, "behind", last_before(placed, entries, number))?;
+    push_near(out, "before", first_behind(placed, entries, number))
 }
 
 /// F15: a transaction with entries and no end.
