@@ -32,7 +32,7 @@ pub no_lf : (l : List ℕ) → HasNoLf l → HasNot 10 l
 no_lf l h = recursion_from_All (λ b. b ≢ 10) l h
 
 -- where a line stands, that line comes next
-comes_line : (l more rest : List ℕ) (p : Piece) → HasNot 10 l → rest ≡ l ++ 10 ∷ more → ComesNext rest p → p ≡ whole l
+pub comes_line : (l more rest : List ℕ) (p : Piece) → HasNot 10 l → rest ≡ l ++ 10 ∷ more → ComesNext rest p → p ≡ whole l
 comes_line l more rest (whole m) h e (after, is, one) = ap whole (cut_at_byte 10 m l after more (no_lf m one) h (sym is ∙ e)).0
 comes_line l more rest (last m) h e (is, one) = absurd (has_lf l more (subst HasNoLf (sym is ∙ e) one))
 

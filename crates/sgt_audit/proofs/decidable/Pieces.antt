@@ -47,24 +47,24 @@ module _ (second : Bool) (c : Certificate) (before : List SectionLine) (held : H
       (decidable-keeps c before held line f (λ lt. below lt line is e))
   of_line f below (inr none) = inl (λ line is e. absurd (none (line, is, e)))
 
-  decidable-within : (f : Fault) → (fault_number fault.Section < fault_number f → Rule (within second c before) (whole l) fault.Section) → Decidable (Rule (within second c before) (whole l) f)
+  pub decidable-within : (f : Fault) → (fault_number fault.Section < fault_number f → Rule (within second c before) (whole l) fault.Section) → Decidable (Rule (within second c before) (whole l) f)
   decidable-within fault.Notation below = decidable-line second l
   decidable-within f below = of_line f below (decidable-line second l)
 
-decidable-certified : (second : Bool) (l : List ℕ) (f : Fault) → Decidable (Rule (headed second) (whole l) f)
+pub decidable-certified : (second : Bool) (l : List ℕ) (f : Fault) → Decidable (Rule (headed second) (whole l) f)
 decidable-certified second l fault.Certificate = decidable-certificate l
 decidable-certified second l f = of_certificate l f (decidable-certificate l)
 
-decidable-first : (l : List ℕ) (f : Fault) → Decidable (Rule start (whole l) f)
+pub decidable-first : (l : List ℕ) (f : Fault) → Decidable (Rule start (whole l) f)
 decidable-first l fault.Format = decidable-format l
 decidable-first l _ = inl tt
 
-decidable-trailing : (second : Bool) (c : Certificate) (before : List SectionLine) (l : List ℕ) (f : Fault) → Decidable (Rule (complete second c before) (whole l) f)
+pub decidable-trailing : (second : Bool) (c : Certificate) (before : List SectionLine) (l : List ℕ) (f : Fault) → Decidable (Rule (complete second c before) (whole l) f)
 decidable-trailing second c before l fault.Trailing = inr (λ h. h)
 decidable-trailing second c before l _ = inl tt
 
 -- at the end of the input
-decidable-last : (s : Stage) (l : List ℕ) (f : Fault) → Decidable (Rule s (last l) f)
+pub decidable-last : (s : Stage) (l : List ℕ) (f : Fault) → Decidable (Rule s (last l) f)
 decidable-last start l fault.Format = decidable-most (length l) max_line
 decidable-last (within second c before) l fault.Notation = decidable-most (length l) max_line
 decidable-last (complete second c before) l fault.Trailing = decidable-text l []
