@@ -1,6 +1,6 @@
 use Rattle.std.proofs.Common.{◌≡◌, [], ◌∷◌, ap, sym, ◌∙◌, codes, get_or, rules, arith, string_bytes}
-use Rattle.sgt_program.proofs.OneWord.{second_word}
-use Rattle.sgt_program.proofs.choice.names_run.Goals as goal
+use Rattle.sgt_words.proofs.OneWord.{second_word}
+use Rattle.sgt_words.proofs.choice.names_run.Goals as goal
 
 pub returns-in-len2-up : goal.returns-in-len2-up
 returns-in-len2-up c =

@@ -2,23 +2,33 @@
 use Rattle.std.specs.Prelude.{◌≡◌, ◌≢◌, ◌<◌, ◌≤◌, ℕ, ◌⊎◌, List, [], ◌∷◌, drop, take, codes, length, string_bytes, ⊤}
 use Rattle.clap.specs.declared.error.kind.ErrorKind.{ErrorKind}
 use Rattle.clap.specs.declared.error.kind.ErrorKind.TheVariants.{DisplayHelp, DisplayVersion}
-use Rattle.sgt_program.specs.Options.{SaysRun}
-use Rattle.sgt_program.specs.declared.choice.Choice.{Choice}
-use Rattle.sgt_program.specs.declared.choice.Choice.TheVariants.{Audit, Replay, Run, Serial}
-use Rattle.sgt_program.specs.declared.choice.NoChoice.{NoChoice}
-use Rattle.sgt_program.specs.declared.choice.NoChoice.TheVariants.{Help, Usage, Memory}
+use Rattle.sgt_words.specs.Options.{SaysRun}
+use Rattle.sgt_words.specs.declared.choice.Choice.{Choice}
+use Rattle.sgt_words.specs.declared.choice.Choice.TheVariants.{Audit, Certify, Explain, Replay, Run, Serial}
+use Rattle.sgt_words.specs.declared.choice.NoChoice.{NoChoice}
+use Rattle.sgt_words.specs.declared.choice.NoChoice.TheVariants.{Help, Usage, Memory}
 
 -- the words ask for the audit: behind the program's name stands no word, or the one word `audit`
 abbrev pub AsksAudit : List (List ℕ) → Type 0
 AsksAudit words = (drop 1 words ≡ []) ⊎ (drop 1 words ≡ codes "audit" ∷ [])
 
--- the words ask for the serial run: behind the program's name stands the one word `serial`
-abbrev pub AsksSerial : List (List ℕ) → Type 0
-AsksSerial words = drop 1 words ≡ codes "serial" ∷ []
+-- the name of a command
+abbrev pub name_of : Choice → List ℕ
+name_of Audit = codes "audit"
+name_of Serial = codes "serial"
+name_of Replay = codes "replay"
+name_of Certify = codes "certify"
+name_of Explain = codes "explain"
+name_of (Run workers tries) = codes "run"
 
--- the words ask for a replay: behind the program's name stands the one word `replay`
-abbrev pub AsksReplay : List (List ℕ) → Type 0
-AsksReplay words = drop 1 words ≡ codes "replay" ∷ []
+-- a command without options
+abbrev pub IsPlain : Choice → Type 0
+IsPlain (Run workers tries) = ⊥
+IsPlain _ = ⊤
+
+-- the words ask for this command: behind the program's name stands its name alone
+abbrev pub AsksNamed : List (List ℕ) → Choice → Type 0
+AsksNamed words choice = drop 1 words ≡ name_of choice ∷ []
 
 -- behind the program's name stands `run`, and maybe more
 abbrev pub NamesRun : List (List ℕ) → Type 0
@@ -34,24 +44,21 @@ abbrev pub IsRunOf : List (List ℕ) → Choice → Type 0
 IsRunOf words (Run workers tries) = SaysRun words workers tries
 IsRunOf words _ = ⊥
 
--- other words are help or no command
-abbrev pub AsksNone : List (List ℕ) → Type 0
-AsksNone words = (AsksAudit words → ⊥) × (AsksSerial words → ⊥) × (AsksReplay words → ⊥)
-    × ((workers tries : ℕ) → AsksRun words workers tries → ⊥)
-
 -- the words ask for this, which is no run
 abbrev pub AsksPlain : List (List ℕ) → Choice → Type 0
 AsksPlain words Audit = AsksAudit words
-AsksPlain words Serial = AsksSerial words
-AsksPlain words Replay = AsksReplay words
 AsksPlain words (Run workers tries) = ⊥
+AsksPlain words choice = AsksNamed words choice
 
 -- the words ask for this
 abbrev pub AsksFor : List (List ℕ) → Choice → Type 0
 AsksFor words Audit = AsksAudit words
-AsksFor words Serial = AsksSerial words
-AsksFor words Replay = AsksReplay words
 AsksFor words (Run workers tries) = AsksRun words workers tries
+AsksFor words choice = AsksNamed words choice
+
+-- other words are help or no command
+abbrev pub AsksNone : List (List ℕ) → Type 0
+AsksNone words = (choice : Choice) → AsksFor words choice → ⊥
 
 -- a run has a worker and a try
 abbrev pub CanRun : Choice → Type 0

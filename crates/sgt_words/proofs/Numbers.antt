@@ -6,9 +6,9 @@ use Rattle.clap.specs.declared.error.kind.ErrorKind.TheVariants.{OutOfMemory}
 use Rattle.clap.specs.declared.parser.matches.ArgMatches.{ArgMatches}
 use Rattle.clap.proofs.OnLiterals.{clap_on_literals}
 use Rattle.clap.proofs.WalkLemmas.{one_text-rows}
-use Rattle.sgt_program.specs.Options.{ReadsNumber, SaysRun, run_line}
-use Rattle.sgt_program.specs.declared.choice.Choice.TheVariants.{Run}
-use Rattle.sgt_program.specs.private.Found.{FindsRun}
+use Rattle.sgt_words.specs.Options.{ReadsNumber, SaysRun, run_line}
+use Rattle.sgt_words.specs.declared.choice.Choice.TheVariants.{Run}
+use Rattle.sgt_words.specs.private.Found.{FindsRun}
 
 pub line_is_free : is_simple_and_free run_line ≡ true
 unfolding clap_on_literals

@@ -1,7 +1,7 @@
 use Rattle.std.proofs.Common.{List, ℕ, string_bytes, subst}
-use Rattle.sgt_program.specs.Options.{SaysRun}
-use Rattle.sgt_program.proofs.OneWord.{map_rest}
-use Rattle.sgt_program.proofs.choice.choose.Goals as goal
+use Rattle.sgt_words.specs.Options.{SaysRun}
+use Rattle.sgt_words.proofs.OneWord.{map_rest}
+use Rattle.sgt_words.proofs.choice.choose.Goals as goal
 
 pub returns-in-len1-up-clause-run : goal.returns-in-len1-up-clause-run
 returns-in-len1-up-clause-run c = λ workers tries asks.

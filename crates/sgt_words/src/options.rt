@@ -2,11 +2,12 @@
 
 ghost use Rattle.std.specs.Prelude.{◌≡◌, ◌⊎◌, ◌≤◌, ℕ, Ok, Err, Some, IfOk, IfErr, IfSome, false, map, string_bytes};
 ghost use Rattle.clap.specs.Words.{app_of, found_of, one_text, rule_of};
-ghost use Rattle.sgt_program.specs.Options.{ReadsNumber, SaysRun, number_rule, run_line};
-ghost use Rattle.sgt_program.specs.Words.{HasText, IsRunOf};
-ghost use Rattle.sgt_program.specs.private.Found.{FindsRun};
+ghost use Rattle.sgt_words.specs.Options.{ReadsNumber, SaysRun, number_rule, run_line};
+ghost use Rattle.sgt_words.specs.Words.{HasText, IsRunOf};
+ghost use Rattle.sgt_words.specs.private.Found.{FindsRun};
 
-use crate::choice::{Choice, MORE, NoChoice, no_command, refused};
+use crate::choice::{Choice, NoChoice};
+use crate::line::{MORE, no_command, refused};
 use clap::builder::ValueParser;
 use clap::{Arg, ArgMatches, Command};
 use std::alloc::{AllocError, Global};

@@ -1,5 +1,5 @@
-use Rattle.sgt_program.proofs.Numbers.{not_found}
-use Rattle.sgt_program.proofs.options.numbers_of.Goals as goal
+use Rattle.sgt_words.proofs.Numbers.{not_found}
+use Rattle.sgt_words.proofs.options.numbers_of.Goals as goal
 
 pub returns-in_err-workers-clause-all : goal.returns-in_err-workers-clause-all
 returns-in_err-workers-clause-all c = λ workers tries found.

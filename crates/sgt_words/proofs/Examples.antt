@@ -2,7 +2,7 @@
 use Rattle.std.proofs.Common.{◌≡◌, ℕ, [], ◌∷◌, refl, sym, ◌∙◌, codes, arith, length, ap}
 use Rattle.clap.specs.Words.{fault_of}
 use Rattle.clap.proofs.OnLiterals.{clap_on_literals}
-use Rattle.sgt_program.specs.Options.{SaysRun, run_line}
+use Rattle.sgt_words.specs.Options.{SaysRun, run_line}
 
 -- without options: one worker, four tries
 alone : SaysRun (codes "run" ∷ []) 1 4

@@ -1,8 +1,8 @@
 use Rattle.std.proofs.Common.{Ok, Err, inl, inr, ap, map, string_bytes}
 use Rattle.clap.specs.Words.{app_of}
 use Rattle.clap.specs.declared.parser.matches.ArgMatches.{ArgMatches}
-use Rattle.sgt_program.proofs.Numbers.{finds, same_numbers, says, wants_memory}
-use Rattle.sgt_program.proofs.options.choose_run.Goals as goal
+use Rattle.sgt_words.proofs.Numbers.{finds, same_numbers, says, wants_memory}
+use Rattle.sgt_words.proofs.options.choose_run.Goals as goal
 
 pub returns-in-Err-clause-run : goal.returns-in-Err-clause-run
 returns-in-Err-clause-run c = λ workers tries asked.
