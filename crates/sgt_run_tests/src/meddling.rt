@@ -8,7 +8,7 @@ use sgt_certifier::Certifier;
 use sgt_names::{Holding, Item, Listed, SiteNo, Tx};
 use sgt_notation::Script;
 use sgt_run::{run, settle};
-use sgt_service::{Guarded, Seat, Service};
+use sgt_service::{Seat, Service};
 use sgt_site::Site;
 use sgt_workers::{Done, Ending, Gate, Place, PoolFail, Ticket};
 use std::alloc::Global;
@@ -73,13 +73,7 @@ enum End {
 
 /// Puts another certifier with as many decisions behind the lock.
 pub fn replace<L: Ledger, R: Wait>(rt: &R, service: &Service<L>, other: Certifier) -> bool {
-    let mut guarded = service.certifier.lock(rt);
-    let Guarded { certifier, .. } = &mut *guarded;
-    if certifier.decided() != other.decided() {
-        return false;
-    }
-    *certifier = other;
-    true
+    service.certifier.lock(rt).exchange_in_a_test(other)
 }
 
 fn exchange<L: Ledger, R: Wait>(rt: &R, service: &Service<L>, exchanged: Exchanged) -> bool {
@@ -265,11 +259,11 @@ fn foreign_tickets(rt: HostRuntime) -> Result<(), Fail> {
         (&[first], &[refused], stray),
         (&[first], &[fifth], far),
         (
-            &[first, first],
+            &[commit_of(0), commit_of(0)],
             &[second],
             End::Unsettled(ServiceFault::TwoTickets(0)),
         ),
-        (&[first, first], &[fifth], far),
+        (&[commit_of(0), commit_of(0)], &[fifth], far),
         (
             &[first],
             &[],

@@ -47,9 +47,9 @@ fn touch<L: Ledger, R: Wait>(
     seat: &mut Seat<L>,
     active: &mut Active,
     site: SiteNo,
-    step: Step,
+    step: &Step,
 ) -> Answer {
-    let kept = match step {
+    let kept = match *step {
         Step::Read(item) => {
             return match service.read(rt, seat, active, site, item) {
                 Ok(value) => Answer::Seen(value),
@@ -73,9 +73,9 @@ fn end<L: Ledger, R: Wait>(
     service: &Service<L>,
     seat: &mut Seat<L>,
     active: Active,
-    step: Step,
+    step: &Step,
 ) -> (Answer, Option<Active>) {
-    let ended = match step {
+    let ended = match *step {
         Step::Commit => service.commit(rt, alloc, seat, active),
         _ => service.withdraw(rt, seat, active),
     };
@@ -98,9 +98,9 @@ fn call<L: Ledger, R: Wait>(
     seat: &mut Seat<L>,
     active: &mut Option<Active>,
     site: SiteNo,
-    step: Step,
+    step: &Step,
 ) -> Answer {
-    match step {
+    match *step {
         Step::Begin => match service.begin(rt, alloc, seat) {
             Ok(begun) => {
                 let answer = Answer::Begun(begun.tx().number(), begun.handle().generation);
@@ -146,12 +146,12 @@ fn first_wrong<L: Ledger, R: Wait>(
     tickets: &mut Vec<Ticket>,
 ) -> Option<usize> {
     for k in 0..steps.len() {
-        let (step, expected) = steps[k];
+        let (step, expected) = &steps[k];
         let mut found = call(rt, alloc, service, seat, active, site, step);
         if is_want(found) {
             found = call(rt, alloc, service, seat, active, site, step);
         }
-        if found != expected {
+        if found != *expected {
             return Some(k);
         }
         if let Answer::Ended(ticket) = found {
