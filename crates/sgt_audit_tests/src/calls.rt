@@ -43,7 +43,10 @@ fn told(alloc: Global, decisions: &str, section: &str) -> Result<Option<(u64, u6
             lines = lines.saturating_add(1);
         }
     }
-    Ok(auditor.fault().map(|found| (lines, found.0, found.1)))
+    match auditor.fault() {
+        Some((line, fault)) => Ok(Some((lines, line, fault))),
+        None => Ok(None),
+    }
 }
 
 #[test]

@@ -169,17 +169,32 @@ const BUNDLES: [(&str, &str, u8, &str, &str); 22] = [
     ),
 ];
 
+/// The text of a bundle whose lines stand with `/` for LF.
+fn bundle_of(
+    alloc: Global,
+    format: &str,
+    decisions: &str,
+    sites: u8,
+    lines: &str,
+) -> Result<String, Fail> {
+    let lines = lines.replace(alloc, "/", "\n")?;
+    Ok(format!(in alloc;
+        "sgt {format}\n{{\"decisions\":[{decisions}],\"sites\":{sites}}}\n{lines}\n"
+    )?)
+}
+
+/// Whether the verdict on the text is this line.
+fn has_verdict(alloc: Global, text: &str, verdict: &str) -> Result<bool, Fail> {
+    let wanted = format!(in alloc; "{verdict}\n")?;
+    is_said(alloc, text.as_bytes(), wanted.as_str())
+}
+
 #[test]
 fn least_faults_and_formats(rt: HostRuntime) -> Result<(), Fail> {
     let alloc = rt.alloc();
     for (format, decisions, sites, lines, verdict) in BUNDLES {
-        let lines = lines.replace(alloc, "/", "\n")?;
-        let text = format!(in alloc;
-            "sgt {format}\n{{\"decisions\":[{decisions}],\"sites\":{sites}}}\n{lines}\n"
-        )?;
-        let wanted = format!(in alloc; "{verdict}\n")?;
-        let said = is_said(alloc, text.as_str().as_bytes(), wanted.as_str())?;
-        assert!(rt; said, "{verdict}");
+        let text = bundle_of(alloc, format, decisions, sites, lines)?;
+        assert!(rt; has_verdict(alloc, text.as_str(), verdict)?, "{verdict}");
     }
     Ok(())
 }
