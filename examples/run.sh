@@ -41,10 +41,17 @@ printf 'yes 1 committed 0 refused 0 withdrawn\n' > $out/stored.audit
 printf 't1\nr1[0.x]=5\nw1[0.x]=6\nfinal 0.x=6\n' > $out/stored.serial
 printf 'no line 5 F10\n' > $out/broken.audit
 cp $out/broken.audit $out/broken.serial
-for bundle in stored broken; do
+# the same logs without their certificate, and two updates that lose one
+sed 2d crates/sgt/stdin > $out/logs
+cp $out/stored $out/logs.certify
+printf 'sgt 1\nsite 0\nitem x=5\nr1[x]=5\nr2[x]=5\nw1[x]=6\nc1\nw2[x]=7\nc2\nfinal x=7\nend\n' > $out/lost
+printf 'no ranks\n1 rw 2 site 0 item x lines 4 8\n2 rw 1 site 0 item x lines 5 6\n' > $out/lost.certify
+for bundle in stored broken logs lost; do
     status=0
-    [ $bundle = stored ] || status=1
-    for word in audit serial; do
+    [ $bundle = stored ] || [ $bundle = logs ] || status=1
+    words='audit serial'
+    [ -f $out/$bundle.audit ] || words=certify
+    for word in $words; do
         wanted=$out/$bundle.$word
         compare c $out/$bundle $word $status $wanted $out/audit
         compare c-asan $out/$bundle $word $status $wanted $out/audit_asan
@@ -58,6 +65,16 @@ for bundle in stored broken; do
         fi
         echo "$bundle $word: $(head -n 1 $wanted)"
     done
+done
+
+# what is explained begins with the auditor's line
+for bundle in stored broken; do
+    for who in $out/audit $out/audit_asan $out/cargo/release/sgt "python3 examples/python/sgt.py"; do
+        $who explain < $out/$bundle > $out/found || true
+        head -n 1 $out/found | cmp -s - $out/$bundle.audit || { echo "differs: $who explain < $bundle"; failed=1; }
+        [ ! -x crates/sgt/out/sgt ] || crates/sgt/out/sgt explain < $out/$bundle | cmp -s - $out/found || { echo "differs: $who explain"; failed=1; }
+    done
+    echo "$bundle explain: $(wc -l < $out/found) lines"
 done
 
 python3 examples/python/store.py | tail -n 1 > $out/store

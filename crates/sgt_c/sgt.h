@@ -20,11 +20,11 @@ extern "C" {
 #endif
 
 /* What a call returns: where the program `sgt` has an exit status for it, that one. */
-#define SGT_YES 0    /* the bytes spell a valid bundle */
-#define SGT_NO 1     /* they spell none: they have a fault */
+#define SGT_YES 0    /* the bytes spell a valid bundle; sgt_certify: one was made */
+#define SGT_NO 1     /* they spell none: they have a fault; sgt_certify: none was made */
 #define SGT_MEMORY 3 /* no answer: malloc refused */
 #define SGT_LONG 4   /* no answer: too many reads. Only of 4294967295 bytes or more */
-#define SGT_ROOM 5   /* sgt_serial alone: the text is longer than `room` */
+#define SGT_ROOM 5   /* no text was written: it is longer than `room` */
 
 /* The version of these calls and numbers: of what this header declares. It changes where a caller has to. */
 #define SGT_VERSION 1
@@ -60,6 +60,21 @@ uint32_t sgt_serial_len(const uint8_t *bytes, size_t len, size_t *text_len);
  * SGT_NO it is the auditor's line, "no line L FN", and its LF. Behind the text `out` stays as it was.
  * With SGT_ROOM `*text_len` is the room that is wanted, and with SGT_MEMORY and SGT_LONG 0; nothing is written to `out` then. */
 uint32_t sgt_serial(const uint8_t *bytes, size_t len, uint8_t *out, size_t room, size_t *text_len);
+
+/* How long the text is that `sgt_certify` writes: as `sgt_serial_len` beside `sgt_serial`. */
+uint32_t sgt_certify_len(const uint8_t *bytes, size_t len, size_t *text_len);
+
+/* Makes the certificate of logs that have none. The bytes are a bundle's text without its second line. With SGT_YES the text is the
+ * whole bundle, which `sgt_audit` answers with SGT_YES; with SGT_NO it is the reason why none was made, in lines, as `sgt certify`
+ * prints it. Room and lengths as for `sgt_serial`. */
+uint32_t sgt_certify(const uint8_t *bytes, size_t len, uint8_t *out, size_t room, size_t *text_len);
+
+/* How long the text is that `sgt_explain` writes: as `sgt_serial_len` beside `sgt_serial`. */
+uint32_t sgt_explain_len(const uint8_t *bytes, size_t len, size_t *text_len);
+
+/* Explains a bundle: the auditor's line, and what it means, as `sgt explain` prints it. SGT_YES and SGT_NO are the verdict's. Room and
+ * lengths as for `sgt_serial`. */
+uint32_t sgt_explain(const uint8_t *bytes, size_t len, uint8_t *out, size_t room, size_t *text_len);
 
 #ifdef __cplusplus
 }

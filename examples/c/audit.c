@@ -1,6 +1,6 @@
-/* Prints what `sgt audit` and `sgt serial` print of a bundle on standard input, and ends with the program's status.
+/* Prints what `sgt audit`, `sgt serial`, `sgt certify` and `sgt explain` print of standard input, and ends with the program's status.
  *
- * usage: audit [audit|serial] < BUNDLE */
+ * usage: audit [audit|serial|certify|explain] < BUNDLE */
 #include "sgt.h"
 
 #include <inttypes.h>
@@ -43,16 +43,26 @@ static uint32_t print_verdict(const uint8_t *bytes, size_t len) {
     return verdict.kind;
 }
 
-static uint32_t print_serial(const uint8_t *bytes, size_t len) {
+typedef uint32_t measure(const uint8_t *bytes, size_t len, size_t *text_len);
+typedef uint32_t write_text(const uint8_t *bytes, size_t len, uint8_t *out, size_t room, size_t *text_len);
+
+static uint32_t print_text(measure *measured, write_text *written, const uint8_t *bytes, size_t len) {
     size_t text_len;
-    uint32_t answer = sgt_serial_len(bytes, len, &text_len);
+    uint32_t answer = measured(bytes, len, &text_len);
     if (answer != SGT_YES && answer != SGT_NO) return answer;
     uint8_t *text = malloc(text_len + 1);
     if (text == NULL) return SGT_MEMORY;
-    answer = sgt_serial(bytes, len, text, text_len, &text_len);
+    answer = written(bytes, len, text, text_len, &text_len);
     if (answer == SGT_YES || answer == SGT_NO) fwrite(text, 1, text_len, stdout);
     free(text);
     return answer;
+}
+
+static uint32_t print_answer(const char *word, const uint8_t *bytes, size_t len) {
+    if (strcmp(word, "serial") == 0) return print_text(sgt_serial_len, sgt_serial, bytes, len);
+    if (strcmp(word, "certify") == 0) return print_text(sgt_certify_len, sgt_certify, bytes, len);
+    if (strcmp(word, "explain") == 0) return print_text(sgt_explain_len, sgt_explain, bytes, len);
+    return print_verdict(bytes, len);
 }
 
 int main(int argc, char **argv) {
@@ -66,7 +76,7 @@ int main(int argc, char **argv) {
         fprintf(stderr, "sgt: read fault\n");
         return DEVICE;
     }
-    uint32_t answer = argc > 1 && strcmp(argv[1], "serial") == 0 ? print_serial(bytes, len) : print_verdict(bytes, len);
+    uint32_t answer = print_answer(argc > 1 ? argv[1] : "audit", bytes, len);
     free(bytes);
     if (answer == SGT_MEMORY) fprintf(stderr, "sgt: memory\n");
     if (fflush(stdout) != 0) {

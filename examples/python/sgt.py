@@ -1,8 +1,8 @@
-"""The proved auditor of `sgt`, from Python: `audit(bundle)` and `serial(bundle)` of some bytes.
+"""The proved auditor and certificate maker of `sgt`, from Python: `audit`, `serial`, `certify` and `explain` of some bytes.
 
 The library is `libsgt.so`, at the path that SGT_LIB names, else in `examples/out`, where `examples/run.sh` puts it.
 
-usage: python3 sgt.py [audit|serial] < BUNDLE     (prints what the program `sgt` prints, and ends with its status)
+usage: python3 sgt.py [audit|serial|certify|explain] < BUNDLE     (prints what the program `sgt` prints, and ends with its status)
 """
 import ctypes
 import os
@@ -11,6 +11,7 @@ from typing import NamedTuple, Union
 
 YES, NO, MEMORY, LONG, ROOM = 0, 1, 3, 4, 5
 VERSION = 1
+TEXTS = ("serial", "certify", "explain")
 
 
 class Yes(NamedTuple):
@@ -56,8 +57,8 @@ def load(path=None):
     for name, types in [
         ("sgt_version", []),
         ("sgt_audit", [ctypes.c_char_p, ctypes.c_size_t, ctypes.POINTER(RawVerdict)]),
-        ("sgt_serial_len", [ctypes.c_char_p, ctypes.c_size_t, length]),
-        ("sgt_serial", [ctypes.c_char_p, ctypes.c_size_t, ctypes.c_char_p, ctypes.c_size_t, length]),
+        *[(f"sgt_{word}_len", [ctypes.c_char_p, ctypes.c_size_t, length]) for word in TEXTS],
+        *[(f"sgt_{word}", [ctypes.c_char_p, ctypes.c_size_t, ctypes.c_char_p, ctypes.c_size_t, length]) for word in TEXTS],
     ]:
         call = getattr(library, name)
         call.argtypes, call.restype = types, ctypes.c_uint32
@@ -89,24 +90,39 @@ def audit(bundle: bytes) -> Union[Yes, No]:
     raise fail(number)
 
 
-def serial(bundle: bytes) -> tuple[bool, bytes]:
-    """Whether the bytes spell a valid bundle, and the lines of its serial run, else the auditor's line."""
+def text_of(word: str, given: bytes) -> tuple[bool, bytes]:
+    """Whether the answer is a yes, and its text."""
     length = ctypes.c_size_t()
-    number = LIBRARY.sgt_serial_len(bundle, len(bundle), ctypes.byref(length))
+    number = getattr(LIBRARY, f"sgt_{word}_len")(given, len(given), ctypes.byref(length))
     if number not in (YES, NO):
         raise fail(number)
     text = ctypes.create_string_buffer(length.value + 1)
-    number = LIBRARY.sgt_serial(bundle, len(bundle), text, length, ctypes.byref(length))
+    number = getattr(LIBRARY, f"sgt_{word}")(given, len(given), text, length, ctypes.byref(length))
     if number not in (YES, NO):
         raise fail(number)
     return number == YES, text.raw[:length.value]
 
 
+def serial(bundle: bytes) -> tuple[bool, bytes]:
+    """Whether the bytes spell a valid bundle, and the lines of its serial run, else the auditor's line."""
+    return text_of("serial", bundle)
+
+
+def certify(logs: bytes) -> tuple[bool, bytes]:
+    """Whether a certificate of the logs was made, and the whole bundle, else the reason. The logs are a bundle without its second line."""
+    return text_of("certify", logs)
+
+
+def explain(bundle: bytes) -> tuple[bool, bytes]:
+    """Whether the bytes spell a valid bundle, and the auditor's line with what it means."""
+    return text_of("explain", bundle)
+
+
 def main():
     bundle = sys.stdin.buffer.read()
     try:
-        if sys.argv[1:] == ["serial"]:
-            is_valid, text = serial(bundle)
+        if sys.argv[1:] and sys.argv[1] in TEXTS:
+            is_valid, text = text_of(sys.argv[1], bundle)
             sys.stdout.buffer.write(text)
         else:
             verdict = audit(bundle)

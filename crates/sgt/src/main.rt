@@ -1,16 +1,146 @@
-//! `sgt` reads standard input and writes standard output.
+//! `sgt` reads standard input or files, and writes standard output.
 #![tactic(auto)]
 
-use sgt_names::{EngineFail, FromRead, ToWrite};
+mod answers;
+mod devices;
+mod line;
+
+use crate::answers::{cut, has_refusal};
+use crate::devices::{Held, Steady};
+use crate::line::Line;
+use sgt_names::{EngineFail, FromRead, MemSink, Sink, ToWrite, write_all};
 use sgt_program::{give_up, program, refuse_words};
+use sgt_words::choose;
+use std::fs::File;
+use std::io::{IsTerminal, Read, Write};
 use std::process::ExitCode;
 use std::{env, io};
 
-fn main(rt: HostRuntime) -> ExitCode {
-    let mut reader = FromRead::new(rt.stdin());
-    let mut writer = ToWrite::new(rt.stdout());
+// How much of a verdict's line is kept where it isn't written at once.
+const LINE: usize = 200;
+
+// Says why a file could not be read or written, and gives the status.
+fn refuse_file(rt: &HostRuntime, name: &str, why: &io::Error) -> u8 {
+    let _ = eprintln!(rt; "sgt: {name}: {why}");
+    4
+}
+
+// Runs the program over a reader and a writer, and gives the status.
+fn over<R: Read, W: Sink>(
+    rt: &HostRuntime,
+    words: &[String],
+    name: &str,
+    inner: R,
+    writer: &mut W,
+) -> u8 {
+    let mut steady = Steady::new(inner);
     let mut errors = ToWrite::new(rt.stderr());
-    let words: Vec<String> = match env::args(&rt) {
+    let status = {
+        let mut reader = FromRead::new(&mut steady);
+        program(rt, rt.alloc(), words, &mut reader, writer, &mut errors)
+    };
+    match &steady.why {
+        Some(why) => refuse_file(rt, name, why),
+        None => status,
+    }
+}
+
+// The same over standard input or a file; the words are judged before the file is opened.
+fn over_file<W: Sink>(rt: &HostRuntime, words: &[String], name: &str, writer: &mut W) -> u8 {
+    let is_command = choose(rt.alloc(), words).is_ok();
+    if name == "-" || !is_command {
+        let input = rt.stdin();
+        if is_command && name == "-" && input.is_terminal() {
+            let _ = eprintln!(rt; "sgt: reading from the terminal; Ctrl-D ends the input");
+        }
+        return over(rt, words, "standard input", input, writer);
+    }
+    match File::open(rt, name) {
+        Ok(file) => over(rt, words, name, file, writer),
+        Err(why) => refuse_file(rt, name, &why),
+    }
+}
+
+// A line for each file, its name in front. The status is the greatest.
+fn audit_each(rt: &HostRuntime, line: &Line) -> Result<u8, EngineFail> {
+    let mut status = 0;
+    let mut output = ToWrite::new(rt.stdout());
+    for name in &line.files {
+        let mut verdict = MemSink::new(rt.alloc(), LINE)?;
+        let found = over_file(rt, line.words.as_slice(), name.as_str(), &mut verdict);
+        status = status.max(found);
+        if found <= 1 && !line.is_quiet {
+            let head = format!(in rt.alloc(); "{name}: ")?;
+            for text in [head.as_bytes(), verdict.bytes()] {
+                if write_all(&mut output, text).is_err() {
+                    return Err(EngineFail::WriteFault);
+                }
+            }
+        }
+    }
+    Ok(status)
+}
+
+// The bundle goes to its file, and what is in front of it to standard output.
+fn deliver(rt: &HostRuntime, line: &Line, text: &[u8]) -> Result<Option<u8>, EngineFail> {
+    let mut output = ToWrite::new(rt.stdout());
+    let (front, bundle) = match &line.bundle {
+        Some(_) => cut(text),
+        None => (text, None),
+    };
+    if write_all(&mut output, front).is_err() {
+        return Err(EngineFail::WriteFault);
+    }
+    if let (Some(name), Some(bundle)) = (&line.bundle, bundle) {
+        let written = match File::create(rt, name.as_str()) {
+            Ok(mut file) => file.write_all(bundle),
+            Err(why) => Err(why),
+        };
+        if let Err(why) = written {
+            return Ok(Some(refuse_file(rt, name.as_str(), &why)));
+        }
+    }
+    Ok(None)
+}
+
+// A replay or a run whose bundle has a file of its own, or a strict replay.
+fn run_held(rt: &HostRuntime, line: &Line, name: &str) -> Result<u8, EngineFail> {
+    let mut held = Held::new(rt.alloc());
+    let status = over_file(rt, line.words.as_slice(), name, &mut held);
+    if held.refused > 0 {
+        return Err(EngineFail::Memory);
+    }
+    if let Some(failed) = deliver(rt, line, held.bytes())? {
+        return Ok(failed);
+    }
+    if status == 0 && line.is_strict && has_refusal(cut(held.bytes()).0) {
+        return Ok(1);
+    }
+    Ok(status)
+}
+
+fn run_line(rt: &HostRuntime, line: &Line) -> Result<u8, EngineFail> {
+    if line.files.len() > 1 {
+        return audit_each(rt, line);
+    }
+    let name = match line.files.first() {
+        Some(name) => name.as_str(),
+        None => "-",
+    };
+    if line.bundle.is_some() || line.is_strict {
+        return run_held(rt, line, name);
+    }
+    if line.is_quiet && choose(rt.alloc(), line.words.as_slice()).is_ok() {
+        let mut verdict = MemSink::new(rt.alloc(), LINE)?;
+        return Ok(over_file(rt, line.words.as_slice(), name, &mut verdict));
+    }
+    let mut output = ToWrite::new(rt.stdout());
+    Ok(over_file(rt, line.words.as_slice(), name, &mut output))
+}
+
+fn main(rt: HostRuntime) -> ExitCode {
+    let mut errors = ToWrite::new(rt.stderr());
+    let given: Vec<String> = match env::args(&rt) {
         Ok(words) => match words.collect(rt.alloc()) {
             Ok(words) => words,
             Err(_) => return ExitCode::from(give_up(&mut errors, EngineFail::Memory)),
@@ -20,13 +150,12 @@ fn main(rt: HostRuntime) -> ExitCode {
         }
         Err(_) => return ExitCode::from(refuse_words(&mut errors)),
     };
-    let status = program(
-        &rt,
-        rt.alloc(),
-        words.as_slice(),
-        &mut reader,
-        &mut writer,
-        &mut errors,
-    );
+    let status = match Line::of(rt.alloc(), given) {
+        Ok(line) => match run_line(&rt, &line) {
+            Ok(status) => status,
+            Err(fail) => give_up(&mut errors, fail),
+        },
+        Err(_) => give_up(&mut errors, EngineFail::Memory),
+    };
     ExitCode::from(status)
 }

@@ -1,10 +1,13 @@
 -- What C is answered: numbers, and the verdict as a struct.
 use Rattle.std.specs.Prelude.{◌≡◌, ◌⊎◌, ℕ, List, Some}
+use Rattle.sgt_names.specs.declared.outcome.Outcome.{Outcome}
 use Rattle.sgt_names.specs.declared.outcome.Outcome.TheVariants as outcome
 use Rattle.sgt_audit.specs.Faults.{fault_number}
 use Rattle.sgt_audit.specs.declared.verdict.Verdict.{Verdict}
 use Rattle.sgt_audit.specs.declared.verdict.Verdict.TheVariants.{Yes, No}
 use Rattle.sgt_serial.specs.Answer.{IsAnswer}
+use Rattle.sgt_certify.specs.Answer as certify
+use Rattle.sgt_explain.specs.Explained.{IsExplained}
 use Rattle.sgt_c.specs.declared.answers.SgtVerdict.{SgtVerdict}
 use Rattle.sgt_c.specs.declared.answers.NoAnswer.{NoAnswer}
 use Rattle.sgt_c.specs.declared.answers.NoAnswer.TheVariants.{Memory, Long}
@@ -12,6 +15,12 @@ use Rattle.sgt_c.specs.declared.answers.NoAnswer.TheVariants.{Memory, Long}
 -- a yes is 0 and a no is 1
 abbrev pub IsAnswered : ℕ → Type 0
 IsAnswered n = (n ≡ 0) ⊎ (n ≡ 1)
+
+-- the number of an outcome; none of the calls finds its input unreadable
+abbrev pub number_of_outcome : Outcome → ℕ
+number_of_outcome outcome.Yes = 0
+number_of_outcome outcome.No = 1
+number_of_outcome outcome.Unreadable = 1
 
 -- why there is no answer
 abbrev pub number_of : NoAnswer → ℕ
@@ -38,3 +47,13 @@ told_none why = record { kind = number_of why; fault = 0; line = 0; committed = 
 abbrev pub IsSerialText : List ℕ → ℕ → List ℕ → Type 0
 IsSerialText bytes n text =
     ((n ≡ 0) × IsAnswer (Some bytes) outcome.Yes text) ⊎ ((n ≡ 1) × IsAnswer (Some bytes) outcome.No text)
+
+-- the text that logs without a certificate are answered by: with a yes the bundle that was made, with a no why there is none
+abbrev pub IsCertifyText : List ℕ → ℕ → List ℕ → Type 0
+IsCertifyText bytes n text =
+    ((n ≡ 0) × certify.IsAnswer bytes outcome.Yes text) ⊎ ((n ≡ 1) × certify.IsAnswer bytes outcome.No text)
+
+-- the text that the bytes are explained by
+abbrev pub IsExplainText : List ℕ → ℕ → List ℕ → Type 0
+IsExplainText bytes n text =
+    ((n ≡ 0) × IsExplained (Some bytes) outcome.Yes text) ⊎ ((n ≡ 1) × IsExplained (Some bytes) outcome.No text)

@@ -1,15 +1,20 @@
-//! The auditor for C: the exports of a static library. `sgt.h` declares them.
+//! The auditor and the certificate maker for C: the exports of a static library. `sgt.h` declares them.
 #![tactic(auto)]
 
 mod answers;
 mod audits;
+mod certificates;
+mod explanations;
 mod memory;
 mod serials;
 #[cfg(test)]
 mod tests;
+mod texts;
 
 pub use answers::{
     SGT_LONG, SGT_MEMORY, SGT_NO, SGT_ROOM, SGT_VERSION, SGT_YES, SgtVerdict, sgt_version,
 };
 pub use audits::sgt_audit;
+pub use certificates::{sgt_certify, sgt_certify_len};
+pub use explanations::{sgt_explain, sgt_explain_len};
 pub use serials::{sgt_serial, sgt_serial_len};

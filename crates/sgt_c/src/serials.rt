@@ -1,52 +1,28 @@
 //! The exports of the serial run.
 
-ghost use Rattle.std.specs.Prelude.{◌≡◌, ◌≤◌, ◌<◌, ◌⊎◌, ◌++◌, ℕ, List, Some, Err, IfOk, length, drop};
+ghost use Rattle.std.specs.Prelude.{◌≡◌, ◌≤◌, ◌<◌, ◌⊎◌, ◌++◌, ℕ, List, Err, IfOk, length, drop};
 ghost use Rattle.sgt_notation.specs.Limits.{most_reads};
-ghost use Rattle.sgt_serial.specs.Answer.{IsAnswer};
 ghost use Rattle.sgt_c.specs.Answers.{IsAnswered, IsNumber, IsSerialText};
 
-use crate::answers::{NoAnswer, SGT_LONG, SGT_NO, SGT_ROOM, SGT_YES};
+use crate::answers::{NoAnswer, SGT_LONG, SGT_ROOM};
 use crate::memory::{Given, Written};
-use sgt_names::{Asks, EngineFail, Outcome};
+use crate::texts::{Answered, measure, no_answer, number_of_answer, put};
 use sgt_serial::serial;
 use std::alloc::Global;
 
-/// `SGT_YES` with the lines of the serial run, or `SGT_NO` with the auditor's line.
-#[derive(Drop)]
-struct SerialText {
-    number: u32,
-    text: Vec<u8>,
-}
-
-/// The number of an outcome of the serial run, which finds no input unreadable.
-fn number_of_answer(outcome: Outcome) -> u32
-    ensures { (bytes text : List ℕ) → IsAnswer (Some bytes) outcome text → IsSerialText bytes result text }
-{
-    match outcome {
-        Outcome::Yes => SGT_YES,
-        Outcome::No => SGT_NO,
-        Outcome::Unreadable => SGT_NO,
-    }
-}
-
 /// What the serial run of the bytes answers.
-fn serial_text(alloc: Global, bytes: &[u8]) -> Result<SerialText, NoAnswer>
-    ensures text { IfOk result (λ s. IsSerialText bytes.now s.number s.text.items) }
+fn serial_text(alloc: Global, bytes: &[u8]) -> Result<Answered, NoAnswer>
+    ensures text { IfOk result (λ a. IsSerialText bytes.now a.number a.text.items) }
     ensures long { result ≡ Err NoAnswer.Long → most_reads ≤ length bytes.now }
 {
-    let mut reader = Given {
-        rest: bytes,
-        asks: Asks::none(),
-    };
+    let mut reader = Given::new(bytes);
     let mut writer = Written::new(alloc);
     match serial(alloc, &mut reader, &mut writer) {
-        Ok(outcome) => Ok(SerialText {
+        Ok(outcome) => Ok(Answered {
             number: number_of_answer(outcome),
             text: writer.bytes,
         }),
-        Err(EngineFail::Memory) => Err(NoAnswer::Memory),
-        Err(EngineFail::WriteFault) => Err(NoAnswer::Memory),
-        Err(EngineFail::ReadFault) => Err(NoAnswer::Long),
+        Err(fail) => Err(no_answer(fail)),
     }
 }
 
@@ -58,16 +34,7 @@ pub extern "C" fn sgt_serial_len(alloc: Global, bytes: &[u8], text_len: &mut usi
     ensures none { (IsAnswered result → ⊥) → text_len.new ≡ 0 }
     ensures long { result ≡ SGT_LONG → most_reads ≤ length bytes.now }
 {
-    match serial_text(alloc, bytes) {
-        Ok(answer) => {
-            *text_len = answer.text.len();
-            answer.number
-        }
-        Err(why) => {
-            *text_len = 0;
-            why.number()
-        }
-    }
+    measure(&serial_text(alloc, bytes), text_len)
 }
 
 /// Puts the text of the serial run into the front of `out`: with `SGT_YES` the committed transactions alone, one after another by
@@ -89,18 +56,5 @@ pub extern "C" fn sgt_serial(
     ensures none { (IsAnswered result ⊎ (result ≡ SGT_ROOM) → ⊥) → text_len.new ≡ 0 }
     ensures long { result ≡ SGT_LONG → most_reads ≤ length bytes.now }
 {
-    let answer = match serial_text(alloc, bytes) {
-        Ok(answer) => answer,
-        Err(why) => {
-            *text_len = 0;
-            return why.number();
-        }
-    };
-    let n = answer.text.len();
-    *text_len = n;
-    if out.len() < n {
-        return SGT_ROOM;
-    }
-    out[..n].copy_from_slice(answer.text.as_slice());
-    answer.number
+    put(&serial_text(alloc, bytes), out, text_len)
 }

@@ -1,18 +1,19 @@
 -- What the engines' answers say, by the status.
 use Rattle.std.proofs.Common.{◌≡◌, ◌≤◌, ℕ, List, [], ◌∷◌, Option, Result, Ok, Err, subst, arith}
-use Rattle.std.specs.Prelude.{IfSome, IfOk, OnErr}
+use Rattle.std.specs.Prelude.{IfSome, IfOk, OnErr, OnOk}
 use Rattle.std.specs.Io.KnownBytes.{Appends}
 use Rattle.sgt_names.specs.declared.outcome.EngineFail.{EngineFail}
 use Rattle.sgt_names.specs.declared.outcome.EngineFail.TheVariants.{Memory, ReadFault, WriteFault}
 use Rattle.sgt_names.specs.declared.outcome.Outcome.{Outcome}
 use Rattle.sgt_names.specs.declared.outcome.Outcome.TheVariants as Outcome_
+use Rattle.sgt_names.specs.Device.{WritesFront}
 use Rattle.sgt_names.proofs.Devices.{wrote_nothing}
 use Rattle.sgt_audit.specs.Verdict as audit
 use Rattle.sgt_audit.specs.Verdict.{IsVerdict, SaysHeadline, text_of}
 use Rattle.sgt_audit.specs.declared.verdict.Verdict.{Verdict}
 use Rattle.sgt_audit.specs.declared.verdict.Verdict.TheVariants.{Yes, No}
 use Rattle.sgt_serial.specs.Answer as serial
-use Rattle.sgt_program.specs.Commands.{AnswersAudit, AnswersSerial, AnswersOthers, ByStatus, outcome}
+use Rattle.sgt_program.specs.Commands.{AnswersAudit, AnswersRule, AnswersSerial, AnswersOthers, ByStatus, outcome}
 use Rattle.sgt_program.specs.Ending.{status_of}
 use Rattle.sgt_program.specs.declared.ending.Ending.TheVariants.{Ran}
 
@@ -108,3 +109,21 @@ memory-answers status held is = record {
   known = λ e. absurd (omega arith);
   front = λ le. (0 ∷ [], (0, omega arith, wrote_nothing held));
 }
+
+-- a rule was shown, or the writer failed
+pub rule-answers : (old new : Option (List ℕ)) (r : Result Outcome EngineFail) → IfOk r (λ o. o ≡ Outcome_.Yes) → OnOk r ((text : List ℕ) × Appends old new text)
+    → OnErr r ((text : List ℕ) × WritesFront old new text) → AnswersRule (status_of (Ran r)) old new
+rule-answers old new (Ok Outcome_.Yes) yes shown front = record {
+  rule = λ e. shown;
+  known = (λ e. absurd (omega arith), λ e. absurd (omega arith));
+  front = λ le. absurd (omega arith);
+}
+rule-answers old new (Ok Outcome_.No) yes shown front = absurd (let e : Outcome_.No ≡ Outcome_.Yes = yes in cc)
+rule-answers old new (Ok Outcome_.Unreadable) yes shown front = absurd (let e : Outcome_.Unreadable ≡ Outcome_.Yes = yes in cc)
+rule-answers old new (Err fail) yes shown front =
+    let high = failing fail in
+    record {
+      rule = λ e. absurd (omega (arith, high, e));
+      known = (λ e. absurd (omega (arith, high, e)), λ e. absurd (omega (arith, high, e)));
+      front = λ le. front;
+    }

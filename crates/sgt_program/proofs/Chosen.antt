@@ -1,10 +1,10 @@
 -- What was chosen is what the words ask for.
 use Rattle.std.proofs.Common.{◌≡◌, ◌⊎◌, ◌∙◌, ℕ, Bool, true, false, not, List, Result, Ok, Err, inl, inr, ap, sym, subst}
-use Rattle.sgt_program.specs.Words.{AsksFor, AsksNone}
-use Rattle.sgt_program.specs.declared.choice.Choice.{Choice}
-use Rattle.sgt_program.specs.declared.choice.Choice.TheVariants.{Audit, Replay, Run, Serial}
-use Rattle.sgt_program.specs.declared.choice.NoChoice.{NoChoice}
-use Rattle.sgt_program.specs.declared.choice.NoChoice.TheVariants.{Help, Usage, Memory}
+use Rattle.sgt_words.specs.Words.{AsksFor, AsksNone}
+use Rattle.sgt_words.specs.declared.choice.Choice.{Choice}
+use Rattle.sgt_words.specs.declared.choice.Choice.TheVariants.{Audit, Replay, Run, Serial}
+use Rattle.sgt_words.specs.declared.choice.NoChoice.{NoChoice}
+use Rattle.sgt_words.specs.declared.choice.NoChoice.TheVariants.{Help, Usage, Memory}
 
 abbrev chosen : Result Choice NoChoice → Choice
 chosen (Ok choice) = choice
@@ -26,13 +26,6 @@ same_run r x y P is either p = elim either [
   | inl is_y ↦ same_choice r x y P is is_y p
   | inr e ↦ (let bad : true ≡ false = sym (ap is_chosen is) ∙ ap is_chosen e in cc)
 ]
-
--- words that ask for nothing are no choice
-pub asks_none : (words : List (List ℕ)) (choice : Choice) → AsksNone words → AsksFor words choice → ⊥
-asks_none words Audit none asks = none.0 asks
-asks_none words Serial none asks = none.1 asks
-asks_none words Replay none asks = none.2 asks
-asks_none words (Run workers tries) none asks = none.3 workers tries asks
 
 abbrev pub is_memory : NoChoice → Bool
 is_memory (Help text) = false

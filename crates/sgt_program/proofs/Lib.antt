@@ -1,6 +1,3 @@
 mod Answered
 mod Chosen
-mod Examples
-mod Numbers
-mod OneWord
 mod Told

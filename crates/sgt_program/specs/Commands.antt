@@ -9,12 +9,14 @@ use Rattle.sgt_audit.specs.Verdict.{IsVerdict, HoldsHeadline, text_of}
 use Rattle.sgt_audit.specs.declared.faults.Fault.{Fault}
 use Rattle.sgt_audit.specs.declared.verdict.Verdict.{Verdict}
 use Rattle.sgt_audit.specs.declared.verdict.Verdict.TheVariants.{Yes, No}
-use Rattle.sgt_program.specs.declared.choice.Choice.{Choice}
-use Rattle.sgt_program.specs.declared.choice.Choice.TheVariants.{Audit, Replay, Run, Serial}
+use Rattle.sgt_certify.specs.Answer as certify
+use Rattle.sgt_explain.specs.Explained as explain
 use Rattle.sgt_replay.specs.Replay as replay
 use Rattle.sgt_run.specs.Report as run
 use Rattle.sgt_serial.specs.Answer as serial
 use Rattle.sgt_serial.specs.Answer.{IsAnswer}
+use Rattle.sgt_words.specs.declared.choice.Choice.{Choice}
+use Rattle.sgt_words.specs.declared.choice.Choice.TheVariants.{Audit, Certify, Explain, Replay, Rule, Run, Serial, Transaction}
 
 abbrev pub outcome : Verdict → Outcome
 outcome (Yes c r w) = Outcome_.Yes
@@ -74,11 +76,31 @@ abbrev pub AnswersRun : (tries status : ℕ) (told written written' : Option (Li
 AnswersRun tries status told written written' =
     ByStatus (λ outcome. run.WroteAnswer tries told outcome written written') (run.WroteAnswerFront tries told written written') status
 
+-- the certificate of logs that have none: at 0 the bundle that was made, and at 1 a reason
+abbrev pub AnswersCertify : (status : ℕ) (told written written' : Option (List ℕ)) → Type 0
+AnswersCertify status told written written' =
+    ByStatus (λ outcome. certify.WroteAnswer told outcome written written') (certify.WroteAnswerFront told written written') status
+
+-- the explanation: the line of the verdict, a yes at 0 and a no at 1, and what it means
+abbrev pub AnswersExplain : (status : ℕ) (told written written' : Option (List ℕ)) → Type 0
+AnswersExplain status told written written' =
+    ByStatus (λ outcome. explain.WroteExplained told outcome written written') (explain.WroteExplainedFront told written written') status
+
+-- a rule: its text at 0, and nothing else but a front at 3 and 4
+pub record AnswersRule (status : ℕ) (written written' : Option (List ℕ)) : Type 0 where
+  pub rule : status ≡ 0 → (text : List ℕ) × Appends written written' text
+  pub known : (status ≢ 1) × (status ≢ 2)
+  pub front : 3 ≤ status → (text : List ℕ) × WritesFront written written' text
+
 -- what was chosen
 abbrev pub Answers : Choice → (status : ℕ) (told written written' : Option (List ℕ)) → Type 0
 Answers Audit = AnswersAudit
 Answers Serial = AnswersSerial
 Answers Replay = AnswersReplay
+Answers Certify = AnswersCertify
+Answers Explain = AnswersExplain
+Answers (Transaction tx) = AnswersExplain
+Answers (Rule topic) = λ status told written written'. AnswersRule status written written'
 Answers (Run workers tries) = AnswersRun tries
 
 -- other words: help, or no command

@@ -1,5 +1,2 @@
-pub mod Options
-pub mod Words
 pub mod Ending
 pub mod Commands
-pub mod private

@@ -1,16 +1,17 @@
 //! The program over any reader and writers.
 
 ghost use Rattle.std.specs.Prelude.{◌≡◌, ◌<◌, ℕ, Err, map, length, string_bytes, IfErr, IsOk, codes};
-ghost use Rattle.sgt_program.specs.Commands.{AnswersAudit, AnswersSerial, AnswersReplay, AnswersRun, AnswersOthers};
+ghost use Rattle.sgt_program.specs.Commands.{AnswersAudit, AnswersCertify, AnswersExplain, AnswersSerial, AnswersReplay, AnswersRun, AnswersOthers};
 ghost use Rattle.sgt_program.specs.Ending.{LeavesDevices, ReadFailed, TellsErrors, WroteOrFailed, status_of, text_of_fail};
-ghost use Rattle.sgt_program.specs.Words.{AsksAudit, AsksSerial, AsksReplay, AsksRun, AsksNone};
+ghost use Rattle.sgt_words.specs.Words.{AsksAudit, AsksNamed, AsksNone, AsksRun};
+ghost use Rattle.sgt_words.specs.declared.choice.Choice.TheVariants as choice;
 ghost use Rattle.sgt_program.specs.declared.ending.Ending.{Ending};
 ghost use Rattle.sgt_program.specs.declared.ending.Ending.TheVariants.{Ran, NoCommand};
 
-use crate::choice::{NoChoice, choose};
 use crate::ending::{Ending, status, tell, tell_fail};
 use crate::engines::{run_choice, show_help};
 use sgt_names::{EngineFail, Outcome, Sink, Source};
+use sgt_words::{NoChoice, choose};
 use std::alloc::Global;
 use std::sync::Wait;
 use std::thread::Threads;
@@ -72,10 +73,14 @@ pub fn program<H: Threads + Wait + Sync, R: Source, W: Sink, E: Sink>(
     // what each command answers
     ensures audit { AsksAudit (map string_bytes words.now)
         → AnswersAudit result (R.tells reader.old) (W.holds writer.old) (W.holds writer.new) }
-    ensures serial { AsksSerial (map string_bytes words.now)
+    ensures serial { AsksNamed (map string_bytes words.now) choice.Serial
         → AnswersSerial result (R.tells reader.old) (W.holds writer.old) (W.holds writer.new) }
-    ensures replay { AsksReplay (map string_bytes words.now)
+    ensures replay { AsksNamed (map string_bytes words.now) choice.Replay
         → AnswersReplay result (R.tells reader.old) (W.holds writer.old) (W.holds writer.new) }
+    ensures certify { AsksNamed (map string_bytes words.now) choice.Certify
+        → AnswersCertify result (R.tells reader.old) (W.holds writer.old) (W.holds writer.new) }
+    ensures explain { AsksNamed (map string_bytes words.now) choice.Explain
+        → AnswersExplain result (R.tells reader.old) (W.holds writer.old) (W.holds writer.new) }
     ensures run { (workers tries : ℕ) → AsksRun (map string_bytes words.now) workers tries
         → AnswersRun tries result (R.tells reader.old) (W.holds writer.old) (W.holds writer.new) }
     ensures others { AsksNone (map string_bytes words.now)

@@ -5,15 +5,17 @@ ghost use Rattle.std.specs.Io.KnownBytes.{Appends};
 ghost use Rattle.sgt_names.specs.Device.{WritesFront};
 ghost use Rattle.sgt_program.specs.Commands.{Answers, AnswersOthers, outcome};
 ghost use Rattle.sgt_program.specs.Ending.{LeavesDevices, ReadFailed, status_of};
-ghost use Rattle.sgt_program.specs.Words.{CanRun};
+ghost use Rattle.sgt_words.specs.Words.{CanRun};
 ghost use Rattle.sgt_program.specs.declared.ending.Ending.TheVariants.{Ran};
 
-use crate::choice::Choice;
 use sgt_audit::{Verdict, audit};
+use sgt_certify::certify;
+use sgt_explain::{explain, explain_topic, explain_transaction};
 use sgt_names::{EngineFail, Outcome, Sink, Source, write_all};
 use sgt_replay::replay;
 use sgt_run::run_scripts;
 use sgt_serial::serial;
+use sgt_words::Choice;
 use sgt_workers::NoGate;
 use std::alloc::Global;
 use std::sync::Wait;
@@ -51,6 +53,10 @@ pub fn run_choice<H: Threads + Wait + Sync, R: Source, W: Sink>(
         },
         Choice::Serial => serial(alloc, reader, writer),
         Choice::Replay => replay(alloc, reader, writer),
+        Choice::Certify => certify(alloc, reader, writer),
+        Choice::Explain => explain(alloc, reader, writer),
+        Choice::Transaction(tx) => explain_transaction(alloc, tx, reader, writer),
+        Choice::Rule(topic) => explain_topic(topic, writer),
         Choice::Run { workers, tries } => {
             run_scripts(rt, alloc, reader, writer, workers, tries, &NoGate)
         }

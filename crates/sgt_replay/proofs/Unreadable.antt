@@ -1,5 +1,5 @@
 -- Bytes spell an input or have a first line that can't be read, not both, and one such line.
-use Rattle.std.proofs.Common.{◌≡◌, ◌≢◌, ◌==◌, ℕ, zero, suc, true, false, ◌+◌, ◌*◌, ◌<◌, ◌≤◌, List, [], ◌∷◌, ◌++◌, length, map, take, refl, sym, ap, ap₂, ◌∙◌, subst, arith, lit<, lit≤, inl, inr, ◌⊎◌, append_assoc}
+use Rattle.std.proofs.Common.{◌≡◌, ◌≢◌, ◌==◌, ℕ, zero, suc, true, false, ◌+◌, ◌*◌, ◌<◌, ◌≤◌, List, [], ◌∷◌, ◌++◌, length, map, take, refl, sym, ap, ap₂, ◌∙◌, subst, arith, lit<, lit≤, inl, inr, ◌⊎◌, append_assoc, Option, Some, None, IfSome}
 use Rattle.std.specs.Prelude.{All, Bool, codes, decimal}
 use Rattle.std.specs.List.{AllByRecursion, join_with_byte, range_with_len}
 use Rattle.std.proofs.lemmas.Bool.{eqb-false, eqb-true}
@@ -7,6 +7,8 @@ use Rattle.std.proofs.lemmas.Fmt.{length-decimal-le}
 use Rattle.std.proofs.lemmas.List.{append-nil, length-append, length-map}
 use Rattle.std.proofs.lemmas.List.Elements.{All-cons, All-from_recursion, All-head, All-nil, All-tail, recursion_from_All}
 use Rattle.sgt_names.specs.declared.entry.Holding.{Holding}
+use Rattle.sgt_names.specs.declared.outcome.Outcome.{Outcome}
+use Rattle.sgt_names.specs.declared.outcome.Outcome.TheVariants as outcome
 use Rattle.sgt_names.proofs.Lists.{heads, list_cases, tails}
 use Rattle.sgt_notation.specs.Events.{IsEventLine, IsSiteLine, event_text, site_text}
 use Rattle.sgt_notation.specs.Limits.{max_line}
@@ -25,6 +27,7 @@ use Rattle.sgt_notation.proofs.Short.{name-short, value-short}
 use Rattle.sgt_notation.proofs.Unspelled.{never}
 use Rattle.sgt_replay.specs.declared.input.Input.{Input}
 use Rattle.sgt_replay.specs.Input.{Begins, Blocks, FirstUnreadable, IsBegun, Spells, input_lines}
+use Rattle.sgt_replay.specs.Replay.{IsAnswer, TellsUnreadable}
 use Rattle.sgt_replay.specs.private.OneEvents.{first_line, no_line}
 
 nonempty : {A : Type 0} (x : A) (xs : List A) → x ∷ xs ≡ [] → ⊥
@@ -355,3 +358,10 @@ none-begins = (
   },
   refl,
 )
+
+-- an answer calls the bytes unreadable, or there is an input that they spell
+pub answer-unreadable : (told : Option (List ℕ)) (o : Outcome) (text : List ℕ) → IsAnswer told o text → IfSome told (λ bytes. TellsUnreadable bytes o)
+answer-unreadable None o text a = tt
+answer-unreadable (Some bytes) outcome.Yes text a = ((λ same. absurd cc), λ none. absurd (none a.0 a.1))
+answer-unreadable (Some bytes) outcome.No text a = ((λ same. absurd cc), λ none. absurd (none a.0 a.1))
+answer-unreadable (Some bytes) outcome.Unreadable text a = ((λ same input spells. input-no_fault bytes input a.0 a.1 spells a.3), λ none. refl)

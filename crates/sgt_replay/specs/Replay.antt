@@ -1,5 +1,5 @@
 -- What a replay writes: the replies to the events of its input, and how the run ends.
-use Rattle.std.specs.Prelude.{◌≡◌, ◌≢◌, ◌⊎◌, ℕ, List, [], ◌∷◌, ◌++◌, map, codes, decimal, Option, IfSome}
+use Rattle.std.specs.Prelude.{◌≡◌, ◌≢◌, ◌⊎◌, ◌↔◌, ℕ, List, [], ◌∷◌, ◌++◌, map, codes, decimal, Option, IfSome}
 use Rattle.std.specs.Io.KnownBytes.{Appends}
 use Rattle.sgt_names.specs.Device.{AppendsOrForgets, WritesFront}
 use Rattle.sgt_names.specs.declared.outcome.Outcome.{Outcome}
@@ -66,6 +66,10 @@ IsAnswer told outcome.Yes text = (input : Input) × IfSome told (λ bytes. Spell
 IsAnswer told outcome.No text = (input : Input) × IfSome told (λ bytes. Spells bytes input) × IsRunText input outcome.No text
 IsAnswer told outcome.Unreadable text = (line : ℕ) × (f : NotationFault) × (f ≢ fault.Memory)
     × IfSome told (λ bytes. FirstUnreadable bytes line f) × (text ≡ unreadable_text line f)
+
+-- it is called unreadable exactly where the bytes spell no input
+abbrev pub TellsUnreadable : List ℕ → Outcome → Type 0
+TellsUnreadable bytes o = (o ≡ outcome.Unreadable) ↔ ((input : Input) → Spells bytes input → ⊥)
 
 -- that text was written
 abbrev pub WroteAnswer : (told : Option (List ℕ)) → Outcome → (old new : Option (List ℕ)) → Type 0

@@ -6,11 +6,11 @@ ghost use Rattle.sgt_names.specs.Device.{CountsFailures, WritesFront};
 ghost use Rattle.sgt_names.specs.Limits.{max_sites};
 ghost use Rattle.sgt_notation.specs.Events.{IsSiteLine};
 ghost use Rattle.sgt_notation.specs.declared.event.EventLine.{EventLine};
-ghost use Rattle.sgt_notation.specs.Limits.{most_reads};
+ghost use Rattle.sgt_notation.specs.Lines.{ReadFaultIsDue};
 ghost use Rattle.sgt_core.specs.Core.{CoreState, fresh};
 ghost use Rattle.sgt_core.specs.Machine.{StandsFor};
 ghost use Rattle.sgt_replay.specs.Input.{IsInput, IsRead, IsUsable};
-ghost use Rattle.sgt_replay.specs.Replay.{EndsWith, IsAnswer, IsRunText, WroteAnswer, WroteAnswerFront, unreadable_text};
+ghost use Rattle.sgt_replay.specs.Replay.{EndsWith, IsAnswer, IsRunText, TellsUnreadable, WroteAnswer, WroteAnswerFront, unreadable_text};
 ghost use Rattle.sgt_replay.specs.Texts.{AreLines};
 ghost use Rattle.sgt_replay.specs.private.Running.{AnswersLine, WritesReplies, events_of};
 
@@ -217,13 +217,14 @@ pub fn replay<R: Source, W: Sink>(
     writer: &mut W,
 ) -> Result<Outcome, EngineFail>
     ensures answer { IfOk result (λ outcome. WroteAnswer (R.tells reader.old) outcome (W.holds writer.old) (W.holds writer.new)) }
+    ensures unreadable { IfOk result (λ outcome. IfSome (R.tells reader.old) (λ bytes. TellsUnreadable bytes outcome)) }
     ensures front { OnErr result (WroteAnswerFront (R.tells reader.old) (W.holds writer.old) (W.holds writer.new)) }
     ensures unwritten { IsErrOf result EngineFail.ReadFault → writer.new ≡ writer.old }
     ensures untouched { IsErrOf result EngineFail.Memory → writer.new ≡ writer.old }
 
     // A fault tells of its device, and no fault of a device is passed over.
-    ensures read_fault { IsErrOf result EngineFail.ReadFault →
-        ((R.failures reader.old < R.failures reader.new) ⊎ IfSome (R.tells reader.old) (λ bytes. most_reads ≤ length bytes)) }
+    ensures read_fault { IsErrOf result EngineFail.ReadFault → ReadFaultIsDue (R.tells reader.old)
+        (R.failures reader.old) (R.failures reader.new) (R.asked reader.old) (R.asked reader.new) }
     ensures write_fault { IsErrOf result EngineFail.WriteFault → W.failures writer.old < W.failures writer.new }
     ensures quiet_reader { result ≢ Err EngineFail.ReadFault → R.failures reader.new ≡ R.failures reader.old }
     ensures quiet_writer { result ≢ Err EngineFail.WriteFault → W.failures writer.new ≡ W.failures writer.old }

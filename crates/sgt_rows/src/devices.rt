@@ -54,7 +54,7 @@ fn gives_up<H: Threads + Wait + Sync>(
     fail_at: Option<u64>,
     takes: usize,
 ) -> Result<bool, AllocError> {
-    let (text, wanted) = match (&row.input, &row.output) {
+    let (text, wanted) = match (&row.given.input, &row.wanted.output) {
         (Some(text), Some(wanted)) => (text.as_str(), wanted.as_str()),
         (None, Some(wanted)) => ("", wanted.as_str()),
         _ => return Ok(false),
@@ -62,7 +62,7 @@ fn gives_up<H: Threads + Wait + Sync>(
     let mut input = MemSource::new(text.as_bytes(), 1, fail_at);
     let mut output = MemSink::new(alloc, takes)?;
     let mut errors = MemSink::new(alloc, 100)?;
-    let words = row.words.as_slice();
+    let words = row.given.words.as_slice();
     let status = program(rt, alloc, words, &mut input, &mut output, &mut errors);
     let (told, length) = match fail_at {
         Some(_) => ("sgt: read fault\n", 0),
@@ -79,7 +79,7 @@ pub fn devices_tell<H: Threads + Wait + Sync>(
     alloc: Global,
     row: &Row,
 ) -> Result<bool, AllocError> {
-    let reads = match &row.input {
+    let reads = match &row.given.input {
         Some(text) => (text.len() as u64).saturating_add(1),
         None => 0,
     };
@@ -88,7 +88,7 @@ pub fn devices_tell<H: Threads + Wait + Sync>(
             return Ok(false);
         }
     }
-    let length = match &row.output {
+    let length = match &row.wanted.output {
         Some(text) => text.len(),
         None => 0,
     };

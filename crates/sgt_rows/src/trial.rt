@@ -41,7 +41,7 @@ fn run<H: Threads + Wait + Sync>(
 fn source_of(row: &Row, per_read: usize) -> MemSource<'_>
     requires { 0 < per_read }
 {
-    match &row.input {
+    match &row.given.input {
         Some(text) => MemSource::new(text.as_bytes(), per_read, None),
         None => MemSource::new(b"sgt 1\n", per_read, Some(1)),
     }
@@ -91,7 +91,7 @@ fn agreed_count(alloc: Global, output: &str, scripts: usize) -> Result<Option<us
 
 /// Whether the output and the status are those of scripts that add 1 to x, one a line behind the line of the site.
 fn counts_sums(alloc: Global, row: &Row, output: &str, status: u8) -> Result<bool, AllocError> {
-    let scripts = match &row.input {
+    let scripts = match &row.given.input {
         Some(text) => text.lines().count().saturating_sub(1),
         None => 0,
     };
@@ -113,8 +113,8 @@ fn has_lines(output: &str, must: &str) -> bool {
 
 /// Whether this is the row's output and status.
 fn is_answer(alloc: Global, row: &Row, output: &str, status: u8) -> Result<bool, AllocError> {
-    match &row.output {
-        Some(wanted) => Ok(status == row.status && output == wanted.as_str()),
+    match &row.wanted.output {
+        Some(wanted) => Ok(status == row.wanted.status && output == wanted.as_str()),
         None => counts_sums(alloc, row, output, status),
     }
 }
@@ -129,12 +129,19 @@ fn answers<H: Threads + Wait + Sync>(
 ) -> Result<bool, AllocError>
     requires { 0 < per_read }
 {
-    let answer = run(rt, alloc, row.words.as_slice(), source_of(row, per_read))?;
+    let answer = run(
+        rt,
+        alloc,
+        row.given.words.as_slice(),
+        source_of(row, per_read),
+    )?;
     let Ok(output) = str::from_utf8(answer.output.bytes()) else {
         return Ok(false);
     };
     let is_usage = answer.status == 2 && output.is_empty();
-    if answer.errors.bytes().is_empty() == is_usage || !has_lines(output, row.must.as_str()) {
+    if answer.errors.bytes().is_empty() == is_usage
+        || !has_lines(output, row.wanted.must.as_str())
+    {
         return Ok(false);
     }
     Ok(is_answer(alloc, row, output, answer.status)? && has_a_valid_bundle(rt, alloc, output)?)

@@ -5,9 +5,12 @@ pub mod Faults
 pub mod Keeping
 pub mod OneInput
 pub mod OneText
+pub mod Ordering
 pub mod Placing
 pub mod Reader
 pub mod Reporting
 pub mod Sums
 pub mod Tries
+pub mod Unreadable
 pub mod Walks
+pub mod Shares

@@ -16,11 +16,11 @@ use Rattle.sgt_run.specs.declared.input.Input.{Input}
 use Rattle.sgt_run.specs.Input.{Spells, input_lines}
 use Rattle.sgt_run.proofs.OneInput.{script-no_site, scripts-plain}
 
-no_line : (l more : List ℕ) → l ++ 10 ∷ more ≡ [] → ⊥
+pub no_line : (l more : List ℕ) → l ++ 10 ∷ more ≡ [] → ⊥
 no_line [] more e = cc
 no_line (x ∷ l) more e = cc
 
-first_line : (l : List ℕ) (ls : List (List ℕ)) → text_of_lines (l ∷ ls) ≡ l ++ 10 ∷ text_of_lines ls
+pub first_line : (l : List ℕ) (ls : List (List ℕ)) → text_of_lines (l ∷ ls) ≡ l ++ 10 ∷ text_of_lines ls
 first_line l ls = append_assoc l (10 ∷ []) (text_of_lines ls)
 
 -- lines without an LF are cut in one way

@@ -6,9 +6,9 @@ use Rattle.std.proofs.lemmas.List.{append-nil, length-append}
 use Rattle.std.proofs.lemmas.List.Elements.{All-nil}
 use Rattle.sgt_notation.specs.Events.{IsSiteLine, site_text}
 use Rattle.sgt_notation.specs.Scripts.{script_text}
-use Rattle.sgt_notation.specs.Limits.{max_line}
+use Rattle.sgt_notation.specs.Limits.{max_line, most_reads}
 use Rattle.sgt_notation.specs.Spelling.{text_of_lines}
-use Rattle.sgt_notation.specs.Lines.{Ahead, Gives, Spends, coming}
+use Rattle.sgt_notation.specs.Lines.{Ahead, Gives, MetReadFault, ReadFaultIsDue, Spends, Stream, coming}
 use Rattle.sgt_notation.specs.declared.event.SiteLine.{SiteLine}
 use Rattle.sgt_notation.specs.declared.fault.NotationFault.{NotationFault}
 use Rattle.sgt_notation.specs.declared.fault.NotationFault.TheVariants.{NotALine, TooLong as Long}
@@ -171,3 +171,18 @@ spends_on (Some xs) (Some ys) (Some zs) a b c first later = omega arith
 pub spends-none : (told : Option (List ℕ)) (a b : ℕ) → b ≡ a → Spends a told b told
 spends-none None a b same = tt
 spends-none (Some xs) a b same = omega arith
+
+-- no read was left, so each of them took a byte
+all-spent : (told new : Option (List ℕ)) → Spends 4294967295 told 0 new → IfSome told (λ bytes. most_reads ≤ length bytes)
+all-spent None new spends = tt
+all-spent (Some xs) None spends = absurd spends
+all-spent (Some xs) (Some ys) spends = let all : 4294967295 ≤ length xs = omega arith in all
+
+-- a read fault is one of the source, or all reads were made
+pub fault-met : (told : Option (List ℕ)) (failures asked asked' reads : ℕ) (old new : Stream) (line : List ℕ) → old.failures ≡ failures → Spends 4294967295 told reads old.told → old.ahead.reads ≡ reads
+    → asked' + new.ahead.reads ≡ asked + 4294967295 → MetReadFault old line new → ReadFaultIsDue told failures new.failures asked asked'
+fault-met told failures asked asked' reads old new line quiet spends same counts met =
+    elim met.cause [
+      | inl failed ↦ inl (omega (arith, failed.0, quiet))
+      | inr spent ↦ inr (omega (arith, spent.0, counts), all-spent told new.told (spends_on told old.told new.told 4294967295 reads 0 spends (subst (λ (n : ℕ). Spends n old.told 0 new.told) same spent.2)))
+    ]

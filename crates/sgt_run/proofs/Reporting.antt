@@ -14,14 +14,14 @@ use Rattle.sgt_site.specs.State.{AreItems}
 use Rattle.sgt_site.specs.declared.fault.SiteFault.TheVariants as site
 use Rattle.sgt_agreed.specs.declared.fault.ServiceFault.{ServiceFault}
 use Rattle.sgt_agreed.specs.declared.fault.ServiceFault.TheVariants as fault
-use Rattle.sgt_workers.specs.Answers.{IsFault}
+use Rattle.sgt_workers.specs.Answers.{AreShared, IsFault}
 use Rattle.sgt_workers.specs.declared.ticket.Done.{Done}
 use Rattle.sgt_workers.specs.declared.fault.PoolFail.{PoolFail}
 use Rattle.sgt_workers.specs.declared.fault.PoolFail.TheVariants.{Work, Pool}
 use Rattle.sgt_workers.specs.declared.fault.PoolFault.TheVariants as pool
 use Rattle.sgt_service.specs.Refused.{IsOfCall, RefusesSites}
 use Rattle.sgt_service.specs.Seats.{IsNew}
-use Rattle.sgt_service.specs.Together.{parts_of, amount_of}
+use Rattle.sgt_service.specs.Together.{parts_of, amount_of, counts_of}
 use Rattle.sgt_service.specs.declared.seat.Seat.{Seat}
 use Rattle.sgt_settle.specs.Settled.{IsSettled, Run, tickets_of}
 use Rattle.sgt_service.specs.Guarded.{decision_count}
@@ -31,9 +31,12 @@ use Rattle.sgt_cert.specs.Text.{text_of}
 use Rattle.sgt_audit.specs.Verdict.{IsVerdict, SaysHeadline}
 use Rattle.sgt_audit.specs.Verdict as auditor
 use Rattle.sgt_audit.specs.declared.verdict.Verdict.{Verdict}
-use Rattle.sgt_run.specs.Bundle.{IsBundleOf, IsRefused}
+use Rattle.sgt_run.specs.Bundle.{ArePutInOrder, IsBundleOf, IsRefused}
+use Rattle.sgt_run.proofs.Ordering.{numbered_rise}
 use Rattle.sgt_run.specs.Results.{done_text}
-use Rattle.sgt_run.specs.Tries.{AreDonesOf}
+use Rattle.sgt_run.specs.Tallies.{AreCountsOf}
+use Rattle.sgt_run.specs.Tries.{AreDonesOf, TriesJob}
+use Rattle.sgt_run.proofs.Shares.{counts_tried}
 use Rattle.sgt_run.specs.Input.{IsInput}
 use Rattle.sgt_run.specs.Report.{EndsRun, EndsUnsettled, IsOfRun, IsOutcome, IsRunAnswer, IsRunOf, IsTextOf, IsWant, site_items}
 use Rattle.sgt_run.specs.declared.input.Input.{Input}
@@ -133,22 +136,33 @@ module _ {L : Type 0} where
 
   -- what is left of a run on a new service with so many sites
   pub left_of : (scripts : List Script) (places tries parts named : ℕ) (old new : List (Seat L)) (dones : List Done) (run : Run) → All (IsNew places) old → length old ≡ parts
-      → parts_of new ≡ parts_of old → amount_of new ≡ amount_of old + length (tickets_of dones) → AreDonesOf scripts tries dones
-      → named ≡ places → run.dones ≡ dones → length run.sites ≡ named → (parts_of new ≡ parts → decision_count run.certifier ≡ amount_of new)
+      → parts_of new ≡ parts_of old → amount_of new ≡ amount_of old + length (tickets_of dones) → AreDonesOf scripts tries dones → AreShared TriesJob scripts old dones new
+      → named ≡ places → run.dones ≡ dones → length run.sites ≡ named → run.counts ≡ counts_of named new
+      → (parts_of new ≡ parts → decision_count run.certifier ≡ amount_of new)
       → IsRunOf scripts places tries run
-  left_of scripts places tries parts named old new dones run fresh many stay grown of there told sites counted = record {
+  left_of scripts places tries parts named old new dones run fresh many stay grown of shared there told sites counts decided = record {
     dones = subst (AreDonesOf scripts tries) (sym told) of;
     sites = sites ∙ there;
-    decided = all_decided places parts (length (tickets_of dones)) (decision_count run.certifier) old new fresh many stay grown counted
+    decided = all_decided places parts (length (tickets_of dones)) (decision_count run.certifier) old new fresh many stay grown decided
         ∙ ap (λ (ds : List Done). length (tickets_of ds)) (sym told);
+    counted = subst (λ (ds : List Done). AreCountsOf scripts places ds run.counts) (sym told)
+        (counts_tried scripts places old new dones run.counts fresh shared (counts ∙ ap (λ n. counts_of n new) there));
   }
 
   -- a run that is refused ends unsettled
-  pub ends_unsettled : (scripts : List Script) (places tries parts named : ℕ) (old new : List (Seat L)) (dones : List Done) (f : ServiceFault) → All (IsNew places) old → length old ≡ parts
-      → parts_of new ≡ parts_of old → amount_of new ≡ amount_of old + length (tickets_of dones) → AreDonesOf scripts tries dones
+  ends_told : (scripts : List Script) (places tries parts named : ℕ) (old new : List (Seat L)) (dones : List Done) (f : ServiceFault) → All (IsNew places) old → length old ≡ parts
+      → parts_of new ≡ parts_of old → amount_of new ≡ amount_of old + length (tickets_of dones) → AreDonesOf scripts tries dones → AreShared TriesJob scripts old dones new
       → named ≡ places → IsRefused named parts new dones f → EndsUnsettled scripts places tries f
-  ends_unsettled scripts places tries parts named old new dones f fresh many stay grown of there (inl (run, left, is)) =
-      inl (run, left_of scripts places tries parts named old new dones run fresh many stay grown of there left.told left.many left.decided, is)
-  ends_unsettled scripts places tries parts named old new dones f fresh many stay grown of there (inr (c, counted, alone)) =
+  ends_told scripts places tries parts named old new dones f fresh many stay grown of shared there (inl (run, left, kept, is)) =
+      inl (run, left_of scripts places tries parts named old new dones run fresh many stay grown of shared there left.told left.many left.counted left.decided, kept, is)
+  ends_told scripts places tries parts named old new dones f fresh many stay grown of shared there (inr (c, counted, replays, alone)) =
       let decided = all_decided places parts (length (tickets_of dones)) (decision_count c) old new fresh many stay grown counted in
-      inr (c, dones, record { dones_of = of; decided = decided }, alone)
+      inr (c, dones, record { dones_of = of; decided = decided }, replays, alone)
+
+  -- so does one whose Dones were put in order
+  pub ends_unsettled : (scripts : List Script) (places tries parts named : ℕ) (old new : List (Seat L)) (dones : List Done) (f : ServiceFault) → All (IsNew places) old → length old ≡ parts
+      → parts_of new ≡ parts_of old → amount_of new ≡ amount_of old + length (tickets_of dones) → AreDonesOf scripts tries dones → AreShared TriesJob scripts old dones new
+      → named ≡ places → (told : List Done) × ArePutInOrder dones told × IsRefused named parts new told f → EndsUnsettled scripts places tries f
+  ends_unsettled scripts places tries parts named old new dones f fresh many stay grown of shared there r =
+      ends_told scripts places tries parts named old new dones f fresh many stay grown of shared there
+      (subst (λ (ds : List Done). IsRefused named parts new ds f) (r.1.kept (numbered_rise 1 dones (length scripts) of.jobs)) r.2)

@@ -1,7 +1,6 @@
 -- What the seats of a pool have together.
-use Rattle.std.proofs.Common.{◌≡◌, ℕ, ◌+◌, ◌-◌, ◌^◌, ◌≤◌, ◌⊎◌, inl, inr, List, [], ◌∷◌, ◌++◌, length, map, refl, sym, ◌∙◌, ap, ap₂, subst, arith}
+use Rattle.std.proofs.Common.{◌≡◌, ℕ, ◌+◌, ◌-◌, ◌^◌, ◌≤◌, ◌⊎◌, inl, inr, List, [], ◌∷◌, ◌++◌, length, map, refl, sym, ◌∙◌, ap, ap₂, arith}
 use Rattle.std.specs.Prelude.{sum_by}
-use Rattle.std.specs.List.Sorted.{IsPermutation}
 use Rattle.std.proofs.lemmas.Bool.{cases_lt}
 use Rattle.std.proofs.Math.Nat.{min-eq_left, min-eq_right}
 use Rattle.std.specs.List.{AllZip, flat_map, range_with_len}
@@ -19,6 +18,7 @@ use Rattle.sgt_service.specs.Together.{amount_of, begun_of, parts_of}
 use Rattle.sgt_service.specs.declared.seat.Seat.{Seat}
 use Rattle.sgt_settle.specs.Settled.{tickets_of}
 use Rattle.sgt_run.specs.Tries.{AreTried, TriesJob}
+use Rattle.sgt_run.proofs.Shares.{shared_seen}
 use Rattle.sgt_run.specs.declared.runner.Worker.{Worker}
 
 pub sum_zip : {A B : Type 0} (f : A → ℕ) (h : B → ℕ) (xs : List A) (ys : List B) → AllZip (λ x y. h y ≡ f x) xs ys → sum_by h ys ≡ sum_by f xs
@@ -173,37 +173,6 @@ module _ {L : Type 0} where
     abbrev by_seat : Worker L → ℕ → C → Done → Worker L → Type 0
     by_seat w number c d v = does w.seat number c d v.seat
 
-    abbrev seat_share : List Done × Worker L → List Done × Seat L
-    seat_share share = (share.0, share.1.seat)
-
-    runs_by_seat : (w v : Worker L) (ds : List Done) → Runs by_seat scripts w ds v → Runs does scripts w.seat ds v.seat
-    runs_by_seat w v [] same = ap seat_of same
-    runs_by_seat w v (d ∷ ds) runs = (runs.0, runs.1.seat, runs.2, runs.3, runs_by_seat runs.1 v ds runs.4)
-
-    zip_by_seat : (ws : List (Worker L)) (shares : List (List Done × Worker L))
-        → AllZip (λ w (share : List Done × Worker L). IsShare by_seat scripts w share.0 share.1) ws shares
-        → AllZip (λ s (share : List Done × Seat L). IsShare does scripts s share.0 share.1) (map seat_of ws) (map seat_share shares)
-    zip_by_seat [] [] z = tt
-    zip_by_seat [] (share ∷ shares) z = absurd z
-    zip_by_seat (w ∷ ws) [] z = absurd z
-    zip_by_seat (w ∷ ws) (share ∷ shares) z = ((z.0.0, runs_by_seat w share.1 share.0 z.0.1), zip_by_seat ws shares z.1)
-
-    ends_by_seat : (shares : List (List Done × Worker L))
-        → map (λ (share : List Done × Seat L). share.1) (map seat_share shares) ≡ map seat_of (map (λ (share : List Done × Worker L). share.1) shares)
-    ends_by_seat [] = refl
-    ends_by_seat (share ∷ shares) = ap (λ ss. share.1.seat ∷ ss) (ends_by_seat shares)
-
-    dones_by_seat : (shares : List (List Done × Worker L))
-        → flat_map (λ (share : List Done × Seat L). share.0) (map seat_share shares) ≡ flat_map (λ (share : List Done × Worker L). share.0) shares
-    dones_by_seat [] = refl
-    dones_by_seat (share ∷ shares) = ap (λ ds. share.0 ++ ds) (dones_by_seat shares)
-
     pub shared_by_seat : (ws vs : List (Worker L)) (dones : List Done) (old new : List (Seat L)) → map seat_of ws ≡ old
         → AreShared by_seat scripts ws dones vs → new ≡ map seat_of vs → AreShared does scripts old dones new
-    shared_by_seat ws vs dones old new before shared after = (
-      map seat_share shared.0,
-      subst (λ ss. AllZip (λ s (share : List Done × Seat L). IsShare does scripts s share.0 share.1) ss (map seat_share shared.0)) before
-          (zip_by_seat ws shared.0 shared.1),
-      ends_by_seat shared.0 ∙ (ap (map seat_of) shared.2 ∙ sym after),
-      subst (λ ds. IsPermutation ds dones) (sym (dones_by_seat shared.0)) shared.3,
-    )
+    shared_by_seat ws vs dones old new before shared after = shared_seen seat_of by_seat does (λ w n c d v h. h) scripts ws vs dones old new before shared after

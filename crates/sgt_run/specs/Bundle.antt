@@ -1,22 +1,36 @@
 -- A run that is left of a service, and its bundle.
 use Rattle.std.specs.Prelude.{◌≡◌, ◌⊎◌, ℕ, List, length}
 use Rattle.std.specs.List.{AllZip}
+use Rattle.std.specs.List.Sorted.{IsPermutation, IsNonDecreasingBy}
 use Rattle.sgt_names.specs.Log.{names, FinalsAreLegal}
 use Rattle.sgt_site.specs.State.{SiteState}
 use Rattle.sgt_cert.specs.Parts.{Parts}
 use Rattle.sgt_cert.specs.declared.bundle.SiteLog.{SiteLog}
 use Rattle.sgt_certifier.specs.Certifier.{certificate_of}
+use Rattle.sgt_certifier.specs.History.{Replays}
 use Rattle.sgt_certifier.specs.Kept.{Kept}
 use Rattle.sgt_agreed.specs.declared.fault.ServiceFault.{ServiceFault}
 use Rattle.sgt_agreed.specs.declared.fault.ServiceFault.TheVariants.{Memory}
+use Rattle.sgt_workers.specs.Answers.{JobsRise}
 use Rattle.sgt_workers.specs.declared.ticket.Done.{Done}
+use Rattle.sgt_service.specs.declared.opened.Opened.{Opened}
 use Rattle.sgt_service.specs.Guarded.{decision_count}
 use Rattle.sgt_service.specs.Together.{parts_of, amount_of, counts_of}
 use Rattle.sgt_service.specs.declared.seat.Seat.{Seat}
-use Rattle.sgt_settle.specs.Settled.{AreTickets, Run}
+use Rattle.sgt_settle.specs.Settled.{AreKept, AreTickets, Run}
 use Rattle.sgt_settle.specs.Fault.{IsUnsettled}
 
 -- ---- what is left of a service
+
+-- the same Dones by rising job; those that rise already stay as they are
+pub record ArePutInOrder (given found : List Done) : Type 0 where
+  pub same : IsPermutation given found
+  pub rising : IsNonDecreasingBy (λ d. d.job) found
+  pub kept : JobsRise given → found ≡ given
+
+-- what was found behind the locks, and what was told of it
+abbrev pub run_of : Opened → List Done → Run
+run_of o dones = record { certifier = o.certifier; sites = o.sites.items; counts = o.counts.items; dones = dones }
 
 -- if these seats have all parts of the ledger, the certifier has as many decisions as their shares together
 abbrev pub IsCountedBy : {L : Type 0} → (parts : ℕ) → List (Seat L) → Kept → Type 0
@@ -38,8 +52,8 @@ IsToldAlone c dones f =
 -- what is left isn't settled; or its sites are not known, and its certifier, whose decisions the seats count, tells the fault without them
 abbrev pub IsRefused : {L : Type 0} → (sites parts : ℕ) → List (Seat L) → List Done → ServiceFault → Type 0
 IsRefused sites parts seats dones f =
-    ((r : Run) × IsLeftOf sites parts seats dones r × IsUnsettled r f)
-    ⊎ ((c : Kept) × IsCountedBy parts seats c × IsToldAlone c dones f)
+    ((r : Run) × IsLeftOf sites parts seats dones r × AreKept r × IsUnsettled r f)
+    ⊎ ((c : Kept) × IsCountedBy parts seats c × Replays c.history c.state × IsToldAlone c dones f)
 
 -- ---- the bundle
 

@@ -5,3 +5,4 @@ pub mod Report
 pub mod Results
 pub mod Tries
 pub mod private
+pub mod Tallies

@@ -1,5 +1,5 @@
 -- What a run of an input writes: a line for each script, the verdict on the run's own bundle, and the bundle.
-use Rattle.std.specs.Prelude.{◌≡◌, ◌≢◌, ◌⊎◌, ◌++◌, ⊤, ℕ, List, [], length, map, take, codes, decimal, All, Option, IfSome, slice_get}
+use Rattle.std.specs.Prelude.{◌≡◌, ◌≢◌, ◌⊎◌, ◌↔◌, ◌++◌, ⊤, ℕ, List, [], length, map, take, codes, decimal, All, Option, IfSome, slice_get}
 use Rattle.std.specs.Io.KnownBytes.{Appends}
 use Rattle.sgt_names.specs.Device.{AppendsOrForgets, WritesFront}
 use Rattle.sgt_names.specs.declared.entry.Holding.{Holding}
@@ -11,6 +11,7 @@ use Rattle.sgt_notation.specs.declared.fault.NotationFault.TheVariants as notati
 use Rattle.sgt_notation.specs.declared.script.Script.{Script}
 use Rattle.sgt_cert.specs.Parts.{Parts}
 use Rattle.sgt_cert.specs.Text.{text_of}
+use Rattle.sgt_certifier.specs.History.{Replays}
 use Rattle.sgt_certifier.specs.Kept.{Kept}
 use Rattle.sgt_agreed.specs.declared.fault.ServiceFault.{ServiceFault}
 use Rattle.sgt_agreed.specs.declared.fault.ServiceFault.TheVariants as fault
@@ -26,22 +27,24 @@ use Rattle.sgt_audit.specs.declared.verdict.Verdict.{Verdict}
 use Rattle.sgt_audit.specs.declared.verdict.Verdict.TheVariants.{Yes, No}
 use Rattle.sgt_service.specs.Guarded.{decision_count}
 use Rattle.sgt_service.specs.Refused.{IsOfCall}
-use Rattle.sgt_settle.specs.Settled.{IsSettled, Run, tickets_of}
+use Rattle.sgt_settle.specs.Settled.{AreKept, IsSettled, Run, tickets_of}
 use Rattle.sgt_settle.specs.Fault.{IsUnsettled}
 use Rattle.sgt_run.specs.Bundle.{IsBundleOf, IsToldAlone}
 use Rattle.sgt_run.specs.Input.{FirstUnreadable, Spells}
 use Rattle.sgt_run.specs.Results.{IsCommitted, done_text}
+use Rattle.sgt_run.specs.Tallies.{AreCountsOf}
 use Rattle.sgt_run.specs.Tries.{AreDonesOf}
 use Rattle.sgt_run.specs.declared.input.Input.{Input}
 
 -- ---- a run of an input
 
--- a run of these scripts at so many sites: each script has its tries, each site is there, and as many decisions were taken as there
--- are tickets
+-- a run of these scripts at so many sites: each script has its tries, each site is there, as many decisions were taken as there are tickets,
+-- and what was counted at the sites is what the workers of these tries wrote there
 pub record IsRunOf (scripts : List Script) (places tries : ℕ) (run : Run) : Type 0 where
   pub dones : AreDonesOf scripts tries run.dones
   pub sites : length run.sites ≡ places
   pub decided : decision_count run.certifier ≡ length (tickets_of run.dones)
+  pub counted : AreCountsOf scripts places run.dones run.counts
 
 -- the items of each site with their first values
 abbrev pub site_items : Run → List (List Holding)
@@ -104,8 +107,8 @@ pub record AreToldOf (scripts : List Script) (tries : ℕ) (c : Kept) (dones : L
 
 -- a run of these scripts isn't settled; or its certifier and its tickets tell the fault without the sites
 abbrev pub EndsUnsettled : List Script → (places tries : ℕ) → ServiceFault → Type 0
-EndsUnsettled scripts places tries f = ((run : Run) × IsRunOf scripts places tries run × IsUnsettled run f)
-    ⊎ ((c : Kept) × (dones : List Done) × AreToldOf scripts tries c dones × IsToldAlone c dones f)
+EndsUnsettled scripts places tries f = ((run : Run) × IsRunOf scripts places tries run × AreKept run × IsUnsettled run f)
+    ⊎ ((c : Kept) × (dones : List Done) × AreToldOf scripts tries c dones × Replays c.history c.state × IsToldAlone c dones f)
 
 -- the site of this number is the first that has other items or first values than were given
 pub record BeganOtherwise (given found : List (List Holding)) (number : ℕ) : Type 0 where
@@ -170,6 +173,10 @@ IsAnswer tries told outcome.No text =
     (input : Input) × IfSome told (λ bytes. Spells bytes input) × IsRunAnswer input tries outcome.No text
 IsAnswer tries told outcome.Unreadable text = (line : ℕ) × (f : NotationFault) × (f ≢ notation.Memory)
     × IfSome told (λ bytes. FirstUnreadable bytes line f) × (text ≡ unreadable_text line f)
+
+-- it is called unreadable exactly where the bytes spell no input
+abbrev pub TellsUnreadable : List ℕ → Outcome → Type 0
+TellsUnreadable bytes o = (o ≡ outcome.Unreadable) ↔ ((input : Input) → Spells bytes input → ⊥)
 
 -- that text was written
 abbrev pub WroteAnswer : ℕ → (told : Option (List ℕ)) → Outcome → (old new : Option (List ℕ)) → Type 0

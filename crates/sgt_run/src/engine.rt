@@ -2,11 +2,11 @@
 
 ghost use Rattle.std.specs.Prelude.{◌≡◌, ◌≢◌, ◌⊎◌, ◌++◌, ◌<◌, ◌≤◌, ℕ, List, Option, All, Err, codes, decimal, length, map, IfOk, IfErr, IfSome, OnErr, IsErrOf};
 ghost use Rattle.sgt_names.specs.Limits.{max_sites};
-ghost use Rattle.sgt_notation.specs.Limits.{most_reads};
+ghost use Rattle.sgt_notation.specs.Lines.{ReadFaultIsDue};
 ghost use Rattle.sgt_site.specs.State.{AreItems};
 ghost use Rattle.sgt_settle.specs.Settled.{IsSettled};
 ghost use Rattle.sgt_run.specs.Input.{IsInput, IsRead, IsUsable};
-ghost use Rattle.sgt_run.specs.Report.{EndsRun, IsAnswer, IsFaultLine, IsOutcome, IsRunAnswer, IsRunOf, IsTextOf, IsWant, WroteAnswer, WroteAnswerFront, pool_fault_number, service_fault_number, site_items, unreadable_text};
+ghost use Rattle.sgt_run.specs.Report.{EndsRun, IsAnswer, IsFaultLine, IsOutcome, IsRunAnswer, IsRunOf, IsTextOf, IsWant, TellsUnreadable, WroteAnswer, WroteAnswerFront, pool_fault_number, service_fault_number, site_items, unreadable_text};
 
 use crate::audited::verdict_on;
 use crate::begun::first_other;
@@ -133,7 +133,6 @@ fn outcome_of(dones: &[Done], verdict: Verdict) -> Outcome
 
 // The text of a settled run, with the verdict on its own bundle. Err: memory ran out.
 fn run_text(alloc: Global, settled: &Settled) -> Result<Answer, AllocError>
-    requires { 1 ≤ length settled.now.sites }
     ensures { IfOk result (λ answer. IsTextOf settled.now answer.outcome answer.text.items) }
 {
     let whole = bundle(alloc, settled)?;
@@ -163,7 +162,7 @@ fn run_and_settle<L: Ledger + Send + Sync, G: Gate + Sync, R: Threads + Wait + S
 ) -> Result<Settled, PoolFail<ServiceFault>>
     requires ledger { (blank.name ≡ L.name) × (blank.parts ≡ L.parts) × (blank.parts ≡ workers) }
     requires some { (1 ≤ workers) × (1 ≤ tries) }
-    requires sites { length sites.now ≤ max_sites }
+    requires sites { (1 ≤ length sites.now) × (length sites.now ≤ max_sites) }
     requires items { All AreItems sites.now }
     ensures settled { IfOk result IsSettled }
     ensures run { IfOk result (IsRunOf scripts.now (length sites.now) tries) }
@@ -193,7 +192,7 @@ fn settled_run<L: Ledger + Send + Sync, G: Gate + Sync, R: Threads + Wait + Sync
 ) -> Result<Settled, PoolFail<ServiceFault>>
     requires ledger { (blank.name ≡ L.name) × (blank.parts ≡ L.parts) × (blank.parts ≡ workers) }
     requires some { (1 ≤ workers) × (1 ≤ tries) }
-    requires sites { length sites.now ≤ max_sites }
+    requires sites { (1 ≤ length sites.now) × (length sites.now ≤ max_sites) }
     requires items { All AreItems sites.now }
     ensures settled { IfOk result IsSettled }
     ensures run { IfOk result (IsRunOf scripts.now (length sites.now) tries) }
@@ -288,13 +287,14 @@ pub fn run_scripts<S: Source, W: Sink, G: Gate + Sync, R: Threads + Wait + Sync>
 ) -> Result<Outcome, EngineFail>
     requires { (1 ≤ workers) × (1 ≤ tries) }
     ensures answer { IfOk result (λ outcome. WroteAnswer tries (S.tells reader.old) outcome (W.holds writer.old) (W.holds writer.new)) }
+    ensures unreadable { IfOk result (λ outcome. IfSome (S.tells reader.old) (λ bytes. TellsUnreadable bytes outcome)) }
     ensures front { OnErr result (WroteAnswerFront tries (S.tells reader.old) (W.holds writer.old) (W.holds writer.new)) }
     ensures unwritten { IsErrOf result EngineFail.ReadFault → writer.new ≡ writer.old }
     ensures untouched { IsErrOf result EngineFail.Memory → writer.new ≡ writer.old }
 
     // A fault tells of its device, and no fault of a device is passed over.
-    ensures read_fault { IsErrOf result EngineFail.ReadFault →
-        ((S.failures reader.old < S.failures reader.new) ⊎ IfSome (S.tells reader.old) (λ bytes. most_reads ≤ length bytes)) }
+    ensures read_fault { IsErrOf result EngineFail.ReadFault → ReadFaultIsDue (S.tells reader.old)
+        (S.failures reader.old) (S.failures reader.new) (S.asked reader.old) (S.asked reader.new) }
     ensures write_fault { IsErrOf result EngineFail.WriteFault → W.failures writer.old < W.failures writer.new }
     ensures quiet_reader { result ≢ Err EngineFail.ReadFault → S.failures reader.new ≡ S.failures reader.old }
     ensures quiet_writer { result ≢ Err EngineFail.WriteFault → W.failures writer.new ≡ W.failures writer.old }

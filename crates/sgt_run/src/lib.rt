@@ -15,7 +15,7 @@ mod taking;
 
 pub use engine::run_scripts;
 pub use input::{Input, MAX_SCRIPTS, Reading};
-pub use laws::inputs_have_one_reading;
+pub use laws::{inputs_have_one_reading, unreadable_lines_are_determined};
 pub use reading::read_input;
 pub use running::run;
 pub use settled::{Settled, bundle, settle};

@@ -1,7 +1,8 @@
 //! The input of a run, read from a reader.
 
-ghost use Rattle.std.specs.Prelude.{◌≡◌, ◌≢◌, ◌<◌, ◌≤◌, ◌⊎◌, [], Err, length, IfOk, IfSome, IsErrOf};
+ghost use Rattle.std.specs.Prelude.{◌≡◌, ◌≢◌, [], Err, IfOk, IfSome, IsErrOf};
 ghost use Rattle.sgt_notation.specs.Limits.{most_reads};
+ghost use Rattle.sgt_notation.specs.Lines.{ReadFaultIsDue};
 ghost use Rattle.sgt_run.specs.Input.{IsRead, IsUsable};
 ghost use Rattle.sgt_run.specs.private.Stopping.{IsStop};
 
@@ -42,8 +43,8 @@ fn take_lines<R: Source>(
     requires no_scripts { scripts.old.items ≡ [] }
     ensures stops { IfOk result (IsStop (R.tells reader.old) (record { sites = sites.new.items; scripts = scripts.new.items })) }
     ensures quiet { result ≢ Err EngineFail.ReadFault → R.failures reader.new ≡ R.failures reader.old }
-    ensures read_fault { IsErrOf result EngineFail.ReadFault →
-        ((R.failures reader.old < R.failures reader.new) ⊎ IfSome (R.tells reader.old) (λ bytes. most_reads ≤ length bytes)) }
+    ensures read_fault { IsErrOf result EngineFail.ReadFault → ReadFaultIsDue (R.tells reader.old)
+        (R.failures reader.old) (R.failures reader.new) (R.asked reader.old) (R.asked reader.new) }
     ensures write_fault { result ≢ Err EngineFail.WriteFault }
 {
     let mut line = Vec::new(alloc);
@@ -87,8 +88,8 @@ pub fn read_input<R: Source>(alloc: Global, reader: &mut R) -> Result<Reading, E
     ensures read { IfOk result (λ reading. IfSome (R.tells reader.old) (λ bytes. IsRead bytes reading)) }
     ensures usable { IfOk result IsUsable }
     ensures quiet { result ≢ Err EngineFail.ReadFault → R.failures reader.new ≡ R.failures reader.old }
-    ensures read_fault { IsErrOf result EngineFail.ReadFault →
-        ((R.failures reader.old < R.failures reader.new) ⊎ IfSome (R.tells reader.old) (λ bytes. most_reads ≤ length bytes)) }
+    ensures read_fault { IsErrOf result EngineFail.ReadFault → ReadFaultIsDue (R.tells reader.old)
+        (R.failures reader.old) (R.failures reader.new) (R.asked reader.old) (R.asked reader.new) }
     ensures write_fault { result ≢ Err EngineFail.WriteFault }
 {
     let mut lines = Lines::new(alloc)?;

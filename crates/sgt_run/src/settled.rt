@@ -1,14 +1,17 @@
 //! A run that is over, checked as a whole, and its bundle.
 
-ghost use Rattle.std.specs.Prelude.{◌≡◌, ◌≤◌, Err, IfOk, IfErr, MatchResult, length, vec_len};
+ghost use Rattle.std.specs.Prelude.{◌≡◌, ◌≤◌, ◌↔◌, List, Err, IsTrue, IfOk, IfErr, MatchResult, length, vec_len};
 ghost use Rattle.std.specs.List.{AllZip};
 ghost use Rattle.sgt_agreed.specs.declared.fault.ServiceFault.TheVariants.{Memory};
 ghost use Rattle.sgt_site.specs.State.{IsSite};
+ghost use Rattle.sgt_certifier.specs.History.{Replays};
 ghost use Rattle.sgt_certifier.specs.Kept.{Kept};
 ghost use Rattle.sgt_service.specs.Guarded.{decision_count};
 ghost use Rattle.sgt_service.specs.Together.{parts_of, amount_of, counts_of};
 ghost use Rattle.sgt_settle.specs.Settled.{AreTickets, IsSettled};
-ghost use Rattle.sgt_run.specs.Bundle.{IsBundleOf, IsLogOf, IsRefused};
+ghost use Rattle.sgt_workers.specs.Answers.{JobsRise};
+ghost use Rattle.sgt_workers.specs.declared.ticket.Done.{Done as ADone};
+ghost use Rattle.sgt_run.specs.Bundle.{ArePutInOrder, IsBundleOf, IsLogOf, IsRefused};
 
 use sgt_agreed::{EntryCounts, ServiceFault};
 use sgt_cert::{Bundle, SiteLog};
@@ -50,19 +53,55 @@ impl Model for Settled {
       sites = s.sites.items;
       counts = s.counts.items;
       dones = s.dones.items;
-    }) × (length s.sites.items ≤ max_sites) };
+    }) × (1 ≤ length s.sites.items) × (length s.sites.items ≤ max_sites) };
 }
 
 impl Settled {
-    ghost use Rattle.std.specs.Prelude.{◌≡◌};
-    ghost use Rattle.sgt_settle.specs.Settled.{IsSettled};
+    ghost use Rattle.std.specs.Prelude.{◌≡◌, ◌≤◌, IfOk, IfErr, vec_len};
+    ghost use Rattle.sgt_names.specs.Limits.{max_sites};
+    ghost use Rattle.sgt_settle.specs.Settled.{AreKept, IsSettled};
+    ghost use Rattle.sgt_settle.specs.Fault.{IsUnsettled};
+    ghost use Rattle.sgt_run.specs.Bundle.{run_of};
 
-    /// What each script was told, in the order in which it was given.
+    /// What each script was told, by rising job.
     pub fn dones(&self) -> &[Done]
         ensures dones { result.now ≡ self.now.dones }
         ensures settled { IsSettled self.now }
     {
         self.dones.as_slice()
+    }
+
+    /// The run of which this was left behind the locks and counted, and whose callers were told this, where it is settled. Else the
+    /// fault that `check_settled` tells of it.
+    pub fn of_opened(
+        alloc: Global,
+        opened: Opened,
+        dones: Vec<Done>,
+    ) -> Result<Settled, ServiceFault>
+        requires sites { (1 ≤ vec_len opened.sites) × (vec_len opened.sites ≤ max_sites) }
+        requires counts { vec_len opened.counts ≡ vec_len opened.sites }
+        ensures settled { IfOk result (λ s. (s ≡ run_of opened dones.items) × IsSettled s) }
+        ensures refused { IfErr result (IsUnsettled (run_of opened dones.items)) }
+        ensures kept { AreKept (run_of opened dones.items) }
+    {
+        let Opened {
+            certifier,
+            sites,
+            counts,
+        } = opened;
+        check_settled(
+            alloc,
+            &certifier,
+            sites.as_slice(),
+            counts.as_slice(),
+            dones.as_slice(),
+        )?;
+        Ok(Settled {
+            certifier,
+            sites,
+            counts,
+            dones,
+        })
     }
 
     /// The sites with their logs, by number.
@@ -81,9 +120,10 @@ impl Settled {
 }
 
 /// Takes a service apart, once all its callers are done, and checks what was left against what they were told. Where the seats
-/// are all that there are, the history has as many decisions as their shares together. It waits for nobody.
+/// are all that there are, the history has as many decisions as their shares together. It waits for nobody. The Dones come back by
+/// rising job, in whatever order they were given.
 ///
-/// A run that isn't settled is refused as `check_settled` refuses it: V1, V2, V6, V8, V9 and V10, in this order, each with the
+/// A run that isn't settled is refused as `Settled::of_opened` refuses it: V1, V2, V6, V8, V9 and V10, in this order, each with the
 /// least number of its kind. V3: there was no memory, and the tickets are the decisions. Where there is none for the sites, the
 /// certifier and the tickets alone are looked at.
 #[tactic(auto, using(crate::proofs::Counts::counts_many))]
@@ -94,37 +134,46 @@ pub fn settle<L: Ledger>(
     seats: Vec<Seat<L>>,
 ) -> Result<Settled, ServiceFault>
     ensures settled { IfOk result IsSettled }
-    ensures dones { IfOk result (λ s. s.dones ≡ dones.items) }
+    ensures dones { IfOk result (λ s. ArePutInOrder dones.items s.dones) }
     ensures counts { IfOk result (λ s. s.counts ≡ counts_of (vec_len service.names) seats.items) }
     ensures sites { IfOk result (λ s. length s.sites ≡ vec_len service.names) }
     ensures decisions { IfOk result (λ s. parts_of seats.items ≡ L.parts
         → decision_count s.certifier ≡ amount_of seats.items) }
-    ensures refused { IfErr result (IsRefused (vec_len service.names) L.parts seats.items dones.items) }
-    ensures memory { result ≡ Err Memory → (c : Kept) × AreTickets c.state.rulings dones.items }
+    ensures refused { IfErr result (λ f. (told : List ADone) × ArePutInOrder dones.items told
+        × IsRefused (vec_len service.names) L.parts seats.items told f) }
+    ensures memory { result ≡ Err Memory → (c : Kept) × (told : List ADone) × Replays c.history c.state
+        × ArePutInOrder dones.items told × AreTickets c.state.rulings told }
 {
-    let Opened {
-        certifier,
-        sites,
-        counts,
-    } = match service.open(alloc, seats) {
-        Ok(opened) => opened,
-        Err(certifier) => {
-            return Err(told_alone(check_told(alloc, &certifier, dones.as_slice())));
+    let told = put_in_order(dones);
+    match service.open(alloc, seats) {
+        Ok(opened) => Settled::of_opened(alloc, opened, told),
+        Err(certifier) => Err(told_alone(check_told(alloc, &certifier, told.as_slice()))),
+    }
+}
+
+// The Dones by rising job.
+fn put_in_order(dones: Vec<Done>) -> Vec<Done>
+    ensures { ArePutInOrder dones.items result.items }
+{
+    let mut dones = dones;
+    let rises = rise(dones.as_slice());
+    if rises {
+        return dones;
+    }
+    dones.sort_unstable_by_key(|done| done.job);
+    dones
+}
+
+// Whether the jobs rise.
+fn rise(dones: &[Done]) -> bool
+    ensures { IsTrue result ↔ JobsRise dones.now }
+{
+    for i in 1..dones.len() {
+        if dones[i].job <= dones[i - 1].job {
+            return false;
         }
-    };
-    check_settled(
-        alloc,
-        &certifier,
-        sites.as_slice(),
-        counts.as_slice(),
-        dones.as_slice(),
-    )?;
-    Ok(Settled {
-        certifier,
-        sites,
-        counts,
-        dones,
-    })
+    }
+    true
 }
 
 // The fault of a run whose sites there is no memory for.
@@ -137,10 +186,8 @@ fn told_alone(told: Result<(), ServiceFault>) -> ServiceFault
     }
 }
 
-/// The certificate and the logs that were found behind the locks. A bundle has a site at least, so a run without one has none.
-/// It errs where there is no memory.
+/// The certificate and the logs that were found behind the locks. It errs where there is no memory.
 pub fn bundle(alloc: Global, settled: &Settled) -> Result<Bundle, AllocError>
-    requires { 1 ≤ length settled.now.sites }
     ensures { IfOk result (IsBundleOf settled.now) }
 {
     let count = settled.sites.len() as u8;

@@ -1,7 +1,7 @@
 //! Gates that hold whoever arrives at a place until somebody arrived at another.
 
 use sgt_workers::{Gate, Place};
-use std::sync::atomic::{AtomicBool, Ordering};
+use std::sync::atomic::{AtomicBool, AtomicU64, Ordering};
 use std::thread;
 
 const MOST_TURNS: u64 = 1_000_000;
@@ -91,19 +91,18 @@ impl Gate for HoldThree {
     }
 }
 
-/// Holds the workers of the numbers 0 and 1 once they have taken a job, until the other has. Another number is a failure.
+/// Holds each of sixteen workers once it has taken a job, until all sixteen have, each with a number of its own from 0 to 15.
 #[derive(Drop)]
-pub struct BothTake {
-    first: AtomicBool,
-    second: AtomicBool,
+pub struct SixteenTake {
+    // the sum of the powers of two to the numbers of those that arrived
+    arrived: AtomicU64,
     failed: AtomicBool,
 }
 
-impl BothTake {
-    pub fn new() -> BothTake {
-        BothTake {
-            first: AtomicBool::new(false),
-            second: AtomicBool::new(false),
+impl SixteenTake {
+    pub fn new() -> SixteenTake {
+        SixteenTake {
+            arrived: AtomicU64::new(0),
             failed: AtomicBool::new(false),
         }
     }
@@ -111,34 +110,22 @@ impl BothTake {
     pub fn failed(&self) -> bool {
         self.failed.load(Ordering::SeqCst)
     }
+}
 
-    // Waits until it is so, or notes a failure.
-    fn wait(&self, is_so: &AtomicBool) {
+impl Gate for SixteenTake {
+    fn arrive(&self, worker: usize, place: Place) {
+        if place != Place::Taken {
+            return;
+        }
+        if worker < 16 {
+            self.arrived.fetch_add(1 << worker, Ordering::SeqCst);
+        }
         for _ in 0..MOST_TURNS {
-            if is_so.load(Ordering::SeqCst) {
+            if self.arrived.load(Ordering::SeqCst) == 65_535 {
                 return;
             }
             thread::yield_now();
         }
         self.failed.store(true, Ordering::SeqCst);
-    }
-}
-
-impl Gate for BothTake {
-    fn arrive(&self, worker: usize, place: Place) {
-        if place != Place::Taken {
-            return;
-        }
-        match worker {
-            0 => {
-                self.first.store(true, Ordering::SeqCst);
-                self.wait(&self.second);
-            }
-            1 => {
-                self.second.store(true, Ordering::SeqCst);
-                self.wait(&self.first);
-            }
-            _ => self.failed.store(true, Ordering::SeqCst),
-        }
     }
 }

@@ -1,26 +1,58 @@
-//! Sites and scripts, from their lines.
+//! Sites and scripts from their lines, and what is put in the place of a certifier or a site.
 
-use sgt_names::{Holding, Listed};
+use sgt_arena::Handle;
+use sgt_certifier::Certifier;
+use sgt_edges::EdgeList;
+use sgt_names::{Draft, Holding, Item, Listed, SiteNo, Tx};
 use sgt_notation::{Script, read_script, read_site};
+use sgt_site::Site;
 use std::alloc::Global;
 use std::test::Fail;
 
-pub fn sites_of(alloc: Global, lines: &[&str]) -> Result<Vec<Listed<Holding>>, Fail> {
+pub fn sites_of(alloc: Global, lines: &[&str]) -> Option<Vec<Listed<Holding>>> {
     let mut sites = Vec::new(alloc);
     for line in lines {
-        let site = read_site(alloc, line.as_bytes())?;
-        sites.reserve(1)?;
-        sites.push_reserved(site.items);
+        let site = read_site(alloc, line.as_bytes()).ok()?;
+        sites.push(site.items).ok()?;
     }
-    Ok(sites)
+    Some(sites)
 }
 
 pub fn scripts_of(alloc: Global, lines: &[&str]) -> Result<Vec<Script>, Fail> {
     let mut scripts = Vec::new(alloc);
     for line in lines {
-        let script = read_script(alloc, line.as_bytes())?;
-        scripts.reserve(1)?;
-        scripts.push_reserved(script);
+        scripts.push(read_script(alloc, line.as_bytes())?)?;
     }
     Ok(scripts)
+}
+
+// A draft that writes the item at site 0.
+fn write_of(alloc: Global, item: Item) -> Result<Draft, Fail> {
+    let mut draft = Draft::new(alloc);
+    draft.put(SiteNo::new(0)?, item, 6)?;
+    Ok(draft)
+}
+
+/// A certifier whose first transaction installed the item at site 0, and whose second may be active.
+pub fn other_certifier(alloc: Global, item: Item, is_active: bool) -> Result<Certifier, Fail> {
+    let mut certifier = Certifier::new(alloc);
+    let draft = write_of(alloc, item)?;
+    let (tx, handle) = certifier.begin()?;
+    certifier.expect(handle, &draft)?;
+    certifier.decide(handle, EdgeList::new(alloc))?;
+    certifier.installed(tx, SiteNo::new(0)?, &draft)?;
+    certifier.finish_step(tx)?;
+    if is_active {
+        certifier.begin()?;
+    }
+    Ok(certifier)
+}
+
+/// Site 0 with these items, where transaction 1 wrote this one.
+pub fn other_site(alloc: Global, items: &[Holding], item: Item) -> Result<Site, Fail> {
+    let mut site = Site::new(alloc, SiteNo::new(0)?, items)?;
+    let draft = write_of(alloc, item)?;
+    site.pledge(Tx::new(1)?, &draft)?;
+    site.install(Tx::new(1)?, Handle::default(), &draft)?;
+    Ok(site)
 }

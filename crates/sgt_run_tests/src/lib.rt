@@ -1,17 +1,23 @@
-//! Tests of runs: what no proof reaches.
+//! Tests of agreement, workers, service, settling and runs: what no proof reaches.
 #![tactic(auto)]
 
+#[cfg(test)]
+mod clerk;
 #[cfg(test)]
 mod gates;
 #[cfg(test)]
 mod given;
 #[cfg(test)]
-mod locking;
+mod meddling;
 #[cfg(test)]
-mod rows;
+mod pools;
+#[cfg(test)]
+mod runs;
 #[cfg(test)]
 mod schedules;
 #[cfg(test)]
-mod settled;
+mod settling;
 #[cfg(test)]
-mod tests;
+mod steps;
+#[cfg(test)]
+mod windows;

@@ -108,13 +108,13 @@ pub commit_told : (sites : ℕ) (lost : Option ℕ) (k : Kept) (active : Active)
 commit_told sites lost k active f (at_first g r) = active_commit lost k.state active g r
 commit_told sites lost k active f (unexpected g held r) = subst IsOfCommit (sym r.2) (expect_by k.state active.handle r.0 r.1)
 commit_told sites lost k active f (beyond here held allowed past touches) = tt
-commit_told sites lost k active f (ungathered g may r) = gather_told k.history r.0 r.1 active g r.4
+commit_told sites lost k active f (ungathered g may r) = gather_told k.history r.0 r.1 active g r.5
 commit_told sites lost k active f (undecided edges g may e r) = subst IsOfCommit (sym r.2) (decide_by k.state active.handle edges r.0 r.1)
 
 pub withdraw_told : (sites : ℕ) (lost : Option ℕ) (k : Kept) (active : Active) (f : ServiceFault) → IsNotWithdrawn sites lost k active f → IsOfWithdraw f
 withdraw_told sites lost k active f (held_back g r) = active_withdraw lost k.state active g r
 withdraw_told sites lost k active f (absent here held past touches) = tt
-withdraw_told sites lost k active f (unpledged g held there r) = pledge_at_told r.0 r.1 active g r.4
+withdraw_told sites lost k active f (unpledged g held there r) = pledge_at_told r.0 r.1 active g r.5
 withdraw_told sites lost k active f (declined g held there r) = subst IsOfWithdraw (sym r.2) (withdraw_by k.state active.handle r.0 r.1)
 
 -- ---- each is a fault of some call

@@ -4,6 +4,7 @@ pub mod Decisions
 pub mod Faults
 pub mod Gathering
 pub mod Items
+pub mod Losing
 pub mod Noting
 pub mod Reading
 pub mod Stopping

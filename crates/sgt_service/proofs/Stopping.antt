@@ -1,5 +1,6 @@
 -- What comes back of a transaction without a ticket.
 use Rattle.std.proofs.Common.{ℕ, Option, refl}
+use Rattle.sgt_certifier.specs.History.{Replays}
 use Rattle.sgt_certifier.specs.Kept.{Kept}
 use Rattle.sgt_workers.specs.declared.ticket.Ending.{Ending}
 use Rattle.sgt_agreed.specs.declared.fault.ServiceFault.{ServiceFault}
@@ -23,19 +24,21 @@ weaker : (P Q : ServiceFault → Type 0) → ((f : ServiceFault) → P f → Q f
 weaker P Q q (Undecided fault) why = q fault why
 weaker P Q q (Lost verdict site) why = tt
 
-pub commit_stop : (sites : ℕ) (lost : Option ℕ) (k : Kept) (active : Active) (stop : Stop)
+pub commit_stop : (sites : ℕ) (lost : Option ℕ) (k : Kept) (active : Active) (stop : Stop) → Replays k.history k.state
     → IsUndecidedBy (IsUncommitted sites lost k active) stop → IsUndecidedBy (IsToldOfCommit sites active) stop
-commit_stop sites lost k active stop why = weaker (IsUncommitted sites lost k active) (IsToldOfCommit sites active) (λ f u. (lost, k, u)) stop why
+commit_stop sites lost k active stop replays why =
+    weaker (IsUncommitted sites lost k active) (IsToldOfCommit sites active) (λ f u. (lost, k, replays, u)) stop why
 
-pub withdraw_stop : (sites : ℕ) (lost : Option ℕ) (k : Kept) (active : Active) (stop : Stop)
+pub withdraw_stop : (sites : ℕ) (lost : Option ℕ) (k : Kept) (active : Active) (stop : Stop) → Replays k.history k.state
     → IsUndecidedBy (IsNotWithdrawn sites lost k active) stop → IsUndecidedBy (IsToldOfWithdraw sites active) stop
-withdraw_stop sites lost k active stop why = weaker (IsNotWithdrawn sites lost k active) (IsToldOfWithdraw sites active) (λ f u. (lost, k, u)) stop why
+withdraw_stop sites lost k active stop replays why =
+    weaker (IsNotWithdrawn sites lost k active) (IsToldOfWithdraw sites active) (λ f u. (lost, k, replays, u)) stop why
 
 commit_of : (sites : ℕ) (active : Active) (f : ServiceFault) → IsToldOfCommit sites active f → IsOfCommit f
-commit_of sites active f told = commit_told sites told.0 told.1 active f told.2
+commit_of sites active f told = commit_told sites told.0 told.1 active f told.3
 
 withdraw_of : (sites : ℕ) (active : Active) (f : ServiceFault) → IsToldOfWithdraw sites active f → IsOfWithdraw f
-withdraw_of sites active f told = withdraw_told sites told.0 told.1 active f told.2
+withdraw_of sites active f told = withdraw_told sites told.0 told.1 active f told.3
 
 pub commit_call : (sites : ℕ) (active : Active) (stop : Stop) → IsUndecidedBy (IsToldOfCommit sites active) stop → IsUndecidedBy IsOfCall stop
 commit_call sites active stop why =

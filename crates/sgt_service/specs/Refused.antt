@@ -10,8 +10,8 @@ use Rattle.sgt_site.specs.Refused.{RefusesRead}
 use Rattle.sgt_site.specs.declared.fault.SiteFault.{SiteFault}
 use Rattle.sgt_site.specs.declared.fault.SiteFault.TheVariants as site
 use Rattle.sgt_certifier.specs.Certifier.{State}
-use Rattle.sgt_certifier.specs.History.{Request}
-use Rattle.sgt_certifier.specs.Kept.{IsTold}
+use Rattle.sgt_certifier.specs.History.{Replays, Request}
+use Rattle.sgt_certifier.specs.Kept.{IsTold, Kept}
 use Rattle.sgt_certifier.specs.declared.call.CertifierFault.{CertifierFault}
 use Rattle.sgt_certifier.specs.declared.call.CertifierFault.TheVariants as certifier
 use Rattle.sgt_agreed.specs.Fault.{of_site, of_certifier}
@@ -27,9 +27,9 @@ abbrev pub IsRefusedBy : Option ℕ → State → Request → ServiceFault → T
 IsRefusedBy (Some lost) s request f = f ≡ NotPledged lost
 IsRefusedBy None s request f = HandsOn s request f
 
--- so it is refused by some certifier, with some site found to have lost its pledge or none
+-- so it is refused by some certifier, whose state is the replay of its history, with some site found to have lost its pledge or none
 abbrev pub IsToldOf : Request → ServiceFault → Type 0
-IsToldOf request f = (lost : Option ℕ) × ((s : State) × IsRefusedBy lost s request f)
+IsToldOf request f = (lost : Option ℕ) × ((k : Kept) × Replays k.history k.state × IsRefusedBy lost k.state request f)
 
 -- the names of a site's items rise by their bytes
 abbrev pub NamesRise : List Name → Type 0

@@ -2,12 +2,12 @@
 use Rattle.std.specs.Prelude.{◌≡◌, ◌≢◌, ◌<◌, ◌≤◌, ◌⊎◌, ℕ, List, [], Option, Some, None}
 use Rattle.sgt_names.specs.Draft.{at_site}
 use Rattle.sgt_edges.specs.declared.edge.Edge.{Edge}
-use Rattle.sgt_site.specs.State.{SiteState}
+use Rattle.sgt_site.specs.State.{SiteState, IsSite}
 use Rattle.sgt_site.specs.Refused.{RefusesPledge, MayPledge}
 use Rattle.sgt_site.specs.declared.fault.SiteFault.{SiteFault}
 use Rattle.sgt_site.specs.declared.fault.SiteFault.TheVariants as site
 use Rattle.sgt_certifier.specs.Certifier.{State}
-use Rattle.sgt_certifier.specs.History.{expect, decide, withdraw, tx_under, IsAllowed}
+use Rattle.sgt_certifier.specs.History.{expect, decide, withdraw, tx_under, IsAllowed, Replays}
 use Rattle.sgt_certifier.specs.Kept.{Kept}
 use Rattle.sgt_certifier.specs.declared.call.Call.{Call}
 use Rattle.sgt_certifier.specs.declared.call.CertifierFault.TheVariants as certifier
@@ -50,11 +50,11 @@ RefusesPledgeAt here s active f =
 -- one of so many sites, which the transaction touches, refuses its gathering; and refuses its pledge
 abbrev pub IsUngathered : ℕ → List Call → Active → ServiceFault → Type 0
 IsUngathered sites history active f =
-    (here : ℕ) × (s : SiteState) × (here < sites) × TouchesAt active here × RefusesGather history here s active f
+    (here : ℕ) × (s : SiteState) × IsSite s × (here < sites) × TouchesAt active here × RefusesGather history here s active f
 
 abbrev pub IsUnpledged : ℕ → Active → ServiceFault → Type 0
 IsUnpledged sites active f =
-    (here : ℕ) × (s : SiteState) × (here < sites) × TouchesAt active here × RefusesPledgeAt here s active f
+    (here : ℕ) × (s : SiteState) × IsSite s × (here < sites) × TouchesAt active here × RefusesPledgeAt here s active f
 
 -- no site was found to have lost its pledge, and the certifier has the transaction's number under its handle
 abbrev pub IsHeld : Option ℕ → State → Active → Type 0
@@ -93,10 +93,12 @@ pub data IsNotWithdrawn (sites : ℕ) (lost : Option ℕ) (k : Kept) (active : A
   declined : (f : ServiceFault) → IsHeld lost k.state active → AreThere sites active → HandsOn k.state (withdraw active.handle) f
       → IsNotWithdrawn sites lost k active f
 
--- why some certifier with so many sites doesn't commit the transaction, with some site found to have lost its pledge or none; and why some
--- certifier doesn't withdraw it
+-- why some certifier with so many sites, whose state is the replay of its history, doesn't commit the transaction, with some site found to
+-- have lost its pledge or none; and why some such certifier doesn't withdraw it
 abbrev pub IsToldOfCommit : ℕ → Active → ServiceFault → Type 0
-IsToldOfCommit sites active f = (lost : Option ℕ) × (k : Kept) × IsUncommitted sites lost k active f
+IsToldOfCommit sites active f =
+    (lost : Option ℕ) × (k : Kept) × Replays k.history k.state × IsUncommitted sites lost k active f
 
 abbrev pub IsToldOfWithdraw : ℕ → Active → ServiceFault → Type 0
-IsToldOfWithdraw sites active f = (lost : Option ℕ) × (k : Kept) × IsNotWithdrawn sites lost k active f
+IsToldOfWithdraw sites active f =
+    (lost : Option ℕ) × (k : Kept) × Replays k.history k.state × IsNotWithdrawn sites lost k active f

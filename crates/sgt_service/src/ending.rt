@@ -45,6 +45,7 @@ impl<L: Ledger> Service<L> {
     ghost use Rattle.std.specs.Prelude.{◌≡◌, ◌≢◌, Err, IfOk, IfErr, IfSome, OnOk, vec_len};
     ghost use Rattle.sgt_agreed.specs.declared.fault.ServiceFault.TheVariants.{NotPledged};
     ghost use Rattle.sgt_workers.specs.declared.ticket.Ending.TheVariants.{Withdrawn};
+    ghost use Rattle.sgt_certifier.specs.History.{Replays};
     ghost use Rattle.sgt_service.specs.Guarded.{TakesStep, TakesBack, IsDecidedBy, IsWithdrawnBy};
     ghost use Rattle.sgt_service.specs.Stops.{ComesBackBy, IsStop, IsUndecidedBy, LeavesGuard};
     ghost use Rattle.sgt_service.specs.Refused.{IsOfCommit, IsOfWithdraw};
@@ -167,6 +168,7 @@ impl<L: Ledger> Service<L> {
         ensures stop { IfErr result (IsStop (λ verdict. verdict ≢ Withdrawn) active.now seat.old seat.new) }
         ensures why { IfErr result (IsUndecidedBy
             (IsUncommitted (vec_len self.now.sites) guarded.old.lost guarded.old.certifier active.now)) }
+        ensures replays { Replays guarded.old.certifier.history guarded.old.certifier.state }
         ensures step { IfOk result (λ t. TakesStep (vec_len self.now.sites) active.now t guarded.old.certifier guarded.new.certifier) }
         ensures first { IfSome guarded.old.lost (λ site. result ≡ Err (Undecided (NotPledged site))) }
         ensures kept { OnOk result (guarded.new.lost ≡ guarded.old.lost) }
@@ -183,7 +185,7 @@ impl<L: Ledger> Service<L> {
                 return Err(Stop::Undecided(fault));
             }
         };
-        let blocks = pledges.spend(&guarded.certifier, active.tx);
+        let blocks = pledges.spend(guarded.certifier(), active.tx);
         gate.arrive(worker, Place::InStep);
         if let Err(Lost { site }) = self.end_all(
             rt,
@@ -232,6 +234,7 @@ impl<L: Ledger> Service<L> {
         ensures stop { IfErr result (IsStop (λ verdict. verdict ≡ Withdrawn) active.now seat.old seat.new) }
         ensures why { IfErr result (IsUndecidedBy
             (IsNotWithdrawn (vec_len self.now.sites) guarded.old.lost guarded.old.certifier active.now)) }
+        ensures replays { Replays guarded.old.certifier.history guarded.old.certifier.state }
         ensures step { IfOk result (λ t. TakesBack active.now t guarded.old.certifier guarded.new.certifier) }
         ensures first { IfSome guarded.old.lost (λ site. result ≡ Err (Undecided (NotPledged site))) }
         ensures kept { OnOk result (guarded.new.lost ≡ guarded.old.lost) }
@@ -248,7 +251,7 @@ impl<L: Ledger> Service<L> {
                 return Err(Stop::Undecided(fault));
             }
         };
-        let blocks = pledges.spend(&guarded.certifier, active.tx);
+        let blocks = pledges.spend(guarded.certifier(), active.tx);
         if let Err(Lost { site }) = self.end_all(
             rt,
             guarded,

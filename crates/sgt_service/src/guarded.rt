@@ -1,7 +1,9 @@
 //! What the certifier's lock keeps: the certifier, with the book of its decisions.
 
-ghost use Rattle.std.specs.Prelude.{◌≡◌, ◌↔◌, ◌++◌, IsTrue, OnOk};
+ghost use Rattle.std.specs.Prelude.{◌≡◌, ◌↔◌, ◌++◌, IsTrue, IfErr, OnOk, OnErr};
+ghost use Rattle.sgt_site.specs.State.{IsPledgedFor};
 ghost use Rattle.sgt_service.specs.Guarded.{decision_count, ticket_of};
+ghost use Rattle.sgt_service.specs.Undecided.{RefusesPledgeAt};
 
 use crate::active::Active;
 use sgt_agreed::{ServiceFault, gather_agreed};
@@ -14,18 +16,17 @@ use sgt_workers::{Ending, Ticket};
 use std::alloc::{AllocError, Global};
 use std::sync::ledger::{Book, Ledger, Share};
 
-/// The certifier beside the book of its decisions. Whoever puts another one in its place, behind the service's back, can only take
-/// one with as many decisions. V7 and V10 tell of it where its installs aren't those of the sites, V1 and V9 where its decisions or
-/// edges aren't those that were told.
+/// The certifier beside the book of its decisions. Its own calls alone change it, and note that a site has lost its pledge; a test puts
+/// another certifier in its place, with as many decisions, by `exchange_in_a_test`.
 #[derive(Drop)]
 pub struct Guarded<L: Ledger> {
-    pub certifier: Certifier,
-    /// The site that was found to have lost its pledge.
+    certifier: Certifier,
+    // the site that was found to have lost its pledge
     lost: Option<SiteNo>,
-    /// The number of its decisions, in the ledger.
-    pub book: Book<L>,
-    /// A share with no part, into which the seats' shares are put together at the end.
-    pub none: Share<L>,
+    // the number of its decisions, in the ledger
+    book: Book<L>,
+    // a share with no part, into which the seats' shares are put together at the end
+    none: Share<L>,
     pub ghost counted: { book.total ≡ decision_count certifier },
     pub ghost empty: { (none.parts ≡ 0) × (none.amount ≡ 0) },
 }
@@ -40,12 +41,13 @@ impl<L: Ledger> Guarded<L> {
     ghost use Rattle.sgt_edges.specs.declared.edge.Edge.{Edge as AnEdge};
     ghost use Rattle.sgt_agreed.specs.declared.fault.ServiceFault.TheVariants.{NotPledged};
     ghost use Rattle.sgt_workers.specs.declared.ticket.Ending.TheVariants.{Committed, Withdrawn};
-    ghost use Rattle.sgt_site.specs.State.{IsPledged, IsPledgedFor};
+    ghost use Rattle.sgt_site.specs.State.{IsPledged, IsPledgedFor, IsSite};
     ghost use Rattle.sgt_certifier.specs.Certifier.{opening};
     ghost use Rattle.sgt_service.specs.Guarded.{decision_count, ticket_of, AwaitsInstalls, IsDecided, IsEnded, IsGathered};
     ghost use Rattle.sgt_service.specs.Refused.{HandsOn, IsRefusedBy};
     ghost use Rattle.sgt_service.specs.Stops.{NotesLoss};
-    ghost use Rattle.sgt_service.specs.Undecided.{RefusesActive, RefusesGather, IsHeld};
+    ghost use Rattle.sgt_service.specs.Pledges.{HasLostPledge};
+    ghost use Rattle.sgt_service.specs.Undecided.{RefusesActive, RefusesGather, RefusesPledgeAt, IsHeld};
 
     /// A certifier to which nothing has happened, with its empty book.
     pub(crate) fn new(alloc: Global, book: Book<L>, none: Share<L>) -> Guarded<L>
@@ -59,6 +61,44 @@ impl<L: Ledger> Guarded<L> {
             book,
             none,
         }
+    }
+
+    /// The certifier.
+    pub(crate) fn certifier(&self) -> &Certifier
+        ensures { result.now ≡ self.now.certifier }
+    {
+        &self.certifier
+    }
+
+    /// The certifier, the book of its decisions, and the share with no part.
+    pub(crate) fn into_parts(self) -> (Certifier, Book<L>, Share<L>)
+        ensures certifier { result.0 ≡ self.certifier }
+        ensures counted { result.1.total ≡ decision_count result.0 }
+        ensures none { (result.2.parts ≡ 0) × (result.2.amount ≡ 0) }
+    {
+        let Guarded {
+            certifier,
+            lost: _,
+            book,
+            none,
+        } = self;
+        (certifier, book, none)
+    }
+
+    /// For tests: puts another certifier in the place of this one, as somebody might behind a service's back. V7 and V10 tell of it
+    /// where its installs aren't those of the sites, V1 and V9 where its decisions or edges aren't those that were told. False, and
+    /// nothing is changed, where it hasn't as many decisions.
+    pub fn exchange_in_a_test(&mut self, other: Certifier) -> bool
+        ensures same_count { IsTrue result ↔ (decision_count other ≡ decision_count self.old.certifier) }
+        ensures exchanged { IsTrue result → self.new.certifier ≡ other }
+        ensures kept { result ≡ false → self.new.certifier ≡ self.old.certifier }
+        ensures lost { self.new.lost ≡ self.old.lost }
+    {
+        if self.certifier.decided() != other.decided() {
+            return false;
+        }
+        self.certifier = other;
+        true
     }
 
     /// Begins the next transaction.
@@ -170,8 +210,8 @@ impl<L: Ledger> Guarded<L> {
         }
     }
 
-    /// Notes that a site was found to have lost its pledge.
-    pub(crate) fn lose(&mut self, site: SiteNo)
+    // Notes that a site was found to have lost its pledge.
+    fn lose(&mut self, site: SiteNo)
         ensures certifier { self.new.certifier ≡ self.old.certifier }
         ensures lost { self.new.lost ≡ Some site }
     {
@@ -219,8 +259,36 @@ impl<L: Ledger> Guarded<L> {
     }
 
     /// Pledges a transaction at the site of this number and adds its edges there, under both locks. Where another site stands in its
-    /// place, that is V7 too.
+    /// place, that is V7 too. The site of a V7 is noted.
     pub(crate) fn gather(
+        &mut self,
+        alloc: Global,
+        site: &mut Site,
+        here: SiteNo,
+        active: &Active,
+        edges: &mut EdgeList,
+    ) -> Result<(), ServiceFault>
+        ensures pledged { OnOk result (site.new ≡ record site.old {
+          pledge = Some (record { tx = active.now.tx; part = at_site site.old.number active.now.draft.touched });
+        }) }
+        ensures edges { OnOk result ((more : List AnEdge) × (edges.new ≡ edges.old ++ more)
+            × IsGathered self.old.certifier.history active.now here site.new more) }
+        ensures err { OnErr result (site.new ≡ site.old) }
+        ensures refused { IfErr result (RefusesGather self.old.certifier.history here site.old active.now) }
+        ensures site { IsSite site.old }
+        ensures certifier { self.new.certifier ≡ self.old.certifier }
+        ensures kept { OnOk result (self.new.lost ≡ self.old.lost) }
+        ensures noted { IfErr result (NotesLoss self.old.lost self.new.lost) }
+    {
+        let _items = site.items();
+        match self.gather_held(alloc, site, here, active, edges) {
+            Ok(()) => Ok(()),
+            Err(fault) => Err(self.noted(fault)),
+        }
+    }
+
+    // The same, of which nothing is noted.
+    fn gather_held(
         &self,
         alloc: Global,
         site: &mut Site,
@@ -257,8 +325,32 @@ impl<L: Ledger> Guarded<L> {
         }
     }
 
-    /// The fault again. The site of a V7 is noted.
-    pub(crate) fn noted(&mut self, fault: ServiceFault) -> ServiceFault
+    /// Pledges a transaction at the site of this number, under both locks. Where another site stands in its place, that is V7, which is
+    /// noted.
+    pub(crate) fn pledge(
+        &mut self,
+        site: &mut Site,
+        here: SiteNo,
+        active: &Active,
+    ) -> Result<(), ServiceFault>
+        ensures number { OnOk result (site.new.number ≡ here) }
+        ensures pledged { OnOk result (IsPledgedFor site.new active.now.tx active.now.draft.touched) }
+        ensures err { OnErr result (site.new ≡ site.old) }
+        ensures refused { IfErr result (RefusesPledgeAt here site.old active.now) }
+        ensures site { IsSite site.old }
+        ensures certifier { self.new.certifier ≡ self.old.certifier }
+        ensures kept { OnOk result (self.new.lost ≡ self.old.lost) }
+        ensures noted { IfErr result (NotesLoss self.old.lost self.new.lost) }
+    {
+        let _items = site.items();
+        match pledge_held(site, here, active) {
+            Ok(()) => Ok(()),
+            Err(fault) => Err(self.noted(fault)),
+        }
+    }
+
+    // The fault again. The site of a V7 is noted.
+    fn noted(&mut self, fault: ServiceFault) -> ServiceFault
         ensures same { result ≡ fault }
         ensures certifier { self.new.certifier ≡ self.old.certifier }
         ensures lost { NotesLoss self.old.lost self.new.lost fault }
@@ -273,7 +365,7 @@ impl<L: Ledger> Guarded<L> {
     }
 
     /// Writes the block of a transaction that is decided so at the site of this number, under both locks; an install is noted in the
-    /// history. False where the pledge is lost or another site stands in its place, and then nothing changes.
+    /// history. False where the pledge is lost or another site stands in its place, which is noted, and then nothing else changes.
     pub(crate) fn end(
         &mut self,
         site: &mut Site,
@@ -288,11 +380,34 @@ impl<L: Ledger> Guarded<L> {
             (call.Installed active.now.tx here (changed_at active.now.draft.touched here)) self.new.certifier }
         ensures number { IsTrue result → site.old.number ≡ here }
         ensures ended { IsTrue result → IsEnded verdict active.now site.old site.new }
+        ensures quiet { (verdict ≡ Committed → ⊥) → self.new.certifier ≡ self.old.certifier }
+        ensures unchanged { result ≡ false → (site.new ≡ site.old) × (self.new.certifier ≡ self.old.certifier) }
+        ensures lost { result ≡ false → HasLostPledge verdict active.now here site.new }
+        ensures step { self.new.certifier.state.step ≡ self.old.certifier.state.step }
+        ensures kept { IsTrue result → self.new.lost ≡ self.old.lost }
+        ensures found { result ≡ false → self.new.lost ≡ Some here }
+    {
+        if !self.end_held(site, here, active, verdict) {
+            self.lose(here);
+            return false;
+        }
+        true
+    }
+
+    // The same, of which no loss is noted.
+    fn end_held(&mut self, site: &mut Site, here: SiteNo, active: &Active, verdict: Ending) -> bool
+        requires { verdict ≡ Committed → AwaitsInstalls self.old.certifier active.now.tx active.now.draft.touched here }
+        ensures awaits { IsTrue result → verdict ≡ Committed
+            → AwaitsInstalls self.new.certifier active.now.tx active.now.draft.touched (here + 1) }
+        ensures noted { IsTrue result → verdict ≡ Committed → Adds self.old.certifier
+            (call.Installed active.now.tx here (changed_at active.now.draft.touched here)) self.new.certifier }
+        ensures number { IsTrue result → site.old.number ≡ here }
+        ensures ended { IsTrue result → IsEnded verdict active.now site.old site.new }
+        ensures quiet { (verdict ≡ Committed → ⊥) → self.new.certifier ≡ self.old.certifier }
+        ensures unchanged { result ≡ false → (site.new ≡ site.old) × (self.new.certifier ≡ self.old.certifier) }
         ensures stands { site.old.number ≡ here → (verdict ≡ Withdrawn → ⊥)
             → IsPledgedFor site.old active.now.tx active.now.draft.touched → IsTrue result }
         ensures stands_withdrawn { site.old.number ≡ here → verdict ≡ Withdrawn → IsPledged site.old active.now.tx → IsTrue result }
-        ensures quiet { (verdict ≡ Committed → ⊥) → self.new.certifier ≡ self.old.certifier }
-        ensures lost { result ≡ false → (site.new ≡ site.old) × (self.new.certifier ≡ self.old.certifier) }
         ensures step { self.new.certifier.state.step ≡ self.old.certifier.state.step }
         ensures same { self.new.lost ≡ self.old.lost }
     {
@@ -336,6 +451,20 @@ pub(crate) fn is_numbered(site: &Site, here: SiteNo) -> bool
     ensures { IsTrue result ↔ (site.now.number ≡ here) }
 {
     site.number() == here
+}
+
+// Pledges at the site that is lent, if it is the one of this number.
+fn pledge_held(held: &mut Site, here: SiteNo, active: &Active) -> Result<(), ServiceFault>
+    ensures number { OnOk result (held.new.number ≡ here) }
+    ensures pledged { OnOk result (IsPledgedFor held.new active.now.tx active.now.draft.touched) }
+    ensures err { OnErr result (held.new ≡ held.old) }
+    ensures refused { IfErr result (RefusesPledgeAt here held.old active.now) }
+{
+    if !is_numbered(held, here) {
+        return Err(ServiceFault::NotPledged(here));
+    }
+    held.pledge(active.tx, &active.draft)?;
+    Ok(())
 }
 
 // Adds the edges of another list.

@@ -3,7 +3,6 @@
 ghost use Rattle.std.specs.Prelude.{◌≡◌, IfOk, vec_len};
 ghost use Rattle.sgt_service.specs.Together.{added, both};
 
-use crate::guarded::Guarded;
 use crate::seat::Seat;
 use crate::service::Service;
 use sgt_agreed::EntryCounts;
@@ -41,12 +40,7 @@ impl<L: Ledger> Service<L> {
             sites,
             names: _,
         } = self;
-        let Guarded {
-            certifier,
-            mut book,
-            none,
-            ..
-        } = certifier.into_inner();
+        let (certifier, mut book, none) = certifier.into_inner().into_parts();
         let counts = Service::counted(alloc, seats.as_slice(), sites.len());
         let mut all = Service::merged(none, seats);
         book.audit(&mut all);

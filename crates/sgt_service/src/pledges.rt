@@ -99,7 +99,11 @@ impl Pledges {
         let Pledges { given: _, below } = self;
         let _ = certifier;
         let _ = tx;
-        Blocks { written: 0, below }
+        Blocks {
+            written: 0,
+            below,
+            stopped: false,
+        }
     }
 }
 
@@ -108,12 +112,13 @@ impl Pledges {
 pub(crate) struct Blocks {
     written: usize,
     below: usize,
+    stopped: bool,
 }
 
 impl Blocks {
-    ghost use Rattle.std.specs.Prelude.{◌≡◌, ◌≢◌, ◌<◌, ◌+◌, [], Some};
+    ghost use Rattle.std.specs.Prelude.{◌≡◌, ◌≢◌, ◌<◌, ◌+◌, [], Some, true};
     ghost use Rattle.sgt_names.specs.Draft.{at_site};
-    ghost use Rattle.sgt_service.specs.Pledges.{HasBlock};
+    ghost use Rattle.sgt_service.specs.Pledges.{HasBlock, HasLostPledge};
     ghost use Rattle.std.specs.Sync.Mutex.{mutex_guard_value as held};
 
     /// The next one was written: it ends the log of the site whose lock is let go, which is the one of this number.
@@ -154,17 +159,39 @@ impl Blocks {
         let Blocks {
             written: _,
             below: _,
+            stopped: _,
         } = self;
     }
 
-    /// The next site has lost its pledge, which is noted: no further one is written.
-    pub(crate) fn stop<L: Ledger>(self, guarded: &Guarded<L>, here: SiteNo)
+    /// The next one can't be written: the site whose lock is let go has lost the pledge.
+    pub(crate) fn stop(
+        &mut self,
+        guard: MutexGuard<'_, Site>,
+        active: &Active,
+        verdict: Ending,
+        here: SiteNo,
+    )
+        requires next { here ≡ self.old.written }
+        requires lost { HasLostPledge verdict active.now here (held guard) }
+        ensures { (self.new.stopped ≡ true) × (self.new.written ≡ self.old.written) × (self.new.below ≡ self.old.below) }
+    {
+        drop(guard);
+        let _ = active;
+        let _ = verdict;
+        let _ = here;
+        self.stopped = true;
+    }
+
+    /// No further one is written, since the next site has lost its pledge, which is noted.
+    pub(crate) fn give_up<L: Ledger>(self, guarded: &Guarded<L>, here: SiteNo)
+        requires stopped { self.stopped ≡ true }
         requires next { here ≡ self.written }
         requires noted { guarded.now.lost ≡ Some here }
     {
         let Blocks {
             written: _,
             below: _,
+            stopped: _,
         } = self;
         let _ = guarded;
         let _ = here;

@@ -1,13 +1,12 @@
 //! The sites of a transaction, one after another, while the certifier's lock is held.
 
-ghost use Rattle.std.specs.Prelude.{◌≡◌, ◌≢◌, ◌↔◌, ◌<◌, [], false, None, All, IsTrue, IfErr, OnOk, OnErr, count_by};
+ghost use Rattle.std.specs.Prelude.{◌≡◌, ◌≢◌, ◌↔◌, ◌<◌, [], false, None, All, IsTrue, count_by};
 ghost use Rattle.sgt_service.specs.Counts.{block_length, is_at, is_changed_at};
 ghost use Rattle.sgt_names.specs.Draft.{at_site};
-ghost use Rattle.sgt_site.specs.State.{IsPledged, IsPledgedFor};
-ghost use Rattle.sgt_service.specs.Undecided.{RefusesPledgeAt};
+ghost use Rattle.sgt_site.specs.State.{IsPledged};
 
 use crate::active::Active;
-use crate::guarded::{Guarded, is_numbered};
+use crate::guarded::Guarded;
 use crate::pledges::{Blocks, Pledges};
 use crate::seat::Seat;
 use crate::service::Service;
@@ -36,8 +35,8 @@ impl<L: Ledger> Service<L> {
     ghost use Rattle.sgt_certifier.specs.declared.call.Call.TheVariants as call;
     ghost use Rattle.sgt_service.specs.Counts.{AreCounted, only_at, with_others, blocks_of, below};
     ghost use Rattle.sgt_service.specs.Guarded.{AwaitsInstalls, IsGathered, IsGatheredBelow, notes_at, notes_below};
-    ghost use Rattle.sgt_service.specs.Pledges.{IsWhole, TakesNext, WritesNext};
-    ghost use Rattle.sgt_site.specs.State.{SiteState};
+    ghost use Rattle.sgt_service.specs.Pledges.{IsWhole, Stops, TakesNext, WritesNext};
+    ghost use Rattle.sgt_site.specs.State.{SiteState, IsSite};
     ghost use Rattle.sgt_edges.specs.declared.edge.Edge.{Edge as AnEdge};
     ghost use Rattle.sgt_service.specs.Stops.{NotesLoss};
     ghost use Rattle.sgt_service.specs.Undecided.{IsHeld, MayGather, IsUncommitted, IsUngathered, IsNotWithdrawn, IsUnpledged, RefusesGather, RefusesPledgeAt};
@@ -88,16 +87,24 @@ impl<L: Ledger> Service<L> {
         pledges.all_given();
     }
 
-    // Pledges at each site that the draft touches. Where a site refuses, none of these pledges is left.
-    fn pledge_all<R: Wait>(&self, rt: &R, active: &Active) -> Result<Pledges, ServiceFault>
+    // Pledges at each site that the draft touches. Where a site refuses, none of these pledges is left, and the site of a V7 is noted.
+    fn pledge_all<R: Wait>(
+        &self,
+        rt: &R,
+        guarded: &mut Guarded<L>,
+        active: &Active,
+    ) -> Result<Pledges, ServiceFault>
         ensures below { IfOk result (IsWhole (vec_len self.now.sites)) }
+        ensures certifier { guarded.new.certifier ≡ guarded.old.certifier }
+        ensures kept { OnOk result (guarded.new.lost ≡ guarded.old.lost) }
+        ensures noted { IfErr result (NotesLoss guarded.old.lost guarded.new.lost) }
         ensures refused { IfErr result (IsUnpledged (vec_len self.now.sites) active.now) }
     {
         let mut pledges = Pledges::none();
         for place in 0..self.sites.len() {
             let here = self.number_at(place);
             if touches(active, here) {
-                let pledged = self.pledge_at(rt, here, active, &mut pledges);
+                let pledged = self.pledge_at(rt, guarded, here, active, &mut pledges);
                 if let Err(fault) = pledged {
                     self.give_back(rt, active, pledges);
                     return Err(fault);
@@ -109,10 +116,11 @@ impl<L: Ledger> Service<L> {
         Ok(pledges)
     }
 
-    // Pledges at a site, under its lock.
+    // Pledges at a site, under its lock. The site of a V7 is noted.
     fn pledge_at<R: Wait>(
         &self,
         rt: &R,
+        guarded: &mut Guarded<L>,
         here: SiteNo,
         active: &Active,
         pledges: &mut Pledges,
@@ -122,10 +130,13 @@ impl<L: Ledger> Service<L> {
         requires touched { at_site here active.now.draft.touched ≢ [] }
         ensures taken { OnOk result (TakesNext pledges.old pledges.new) }
         ensures err { OnErr result (pledges.new ≡ pledges.old) }
-        ensures refused { IfErr result (λ f. (s : SiteState) × RefusesPledgeAt here s active.now f) }
+        ensures refused { IfErr result (λ f. (s : SiteState) × IsSite s × RefusesPledgeAt here s active.now f) }
+        ensures certifier { guarded.new.certifier ≡ guarded.old.certifier }
+        ensures kept { OnOk result (guarded.new.lost ≡ guarded.old.lost) }
+        ensures noted { IfErr result (NotesLoss guarded.old.lost guarded.new.lost) }
     {
         let mut guard = self.lock_site(rt, here);
-        pledge_held(&mut guard, here, active)?;
+        guarded.pledge(&mut guard, here, active)?;
         pledges.take(guard, active, here);
         Ok(())
     }
@@ -153,9 +164,9 @@ impl<L: Ledger> Service<L> {
         if !self.has_sites(&active.draft) {
             return Err(ServiceFault::Site(SiteFault::UnknownItem));
         }
-        match self.pledge_all(rt, active) {
+        match self.pledge_all(rt, guarded, active) {
             Ok(pledges) => Ok(pledges),
-            Err(fault) => Err(guarded.noted(fault)),
+            Err(fault) => Err(fault),
         }
     }
 
@@ -227,7 +238,7 @@ impl<L: Ledger> Service<L> {
                 );
                 if let Err(fault) = gathered {
                     self.give_back(rt, active, pledges);
-                    return Err(guarded.noted(fault));
+                    return Err(fault);
                 }
             } else {
                 pledges.skip(active, here);
@@ -236,12 +247,12 @@ impl<L: Ledger> Service<L> {
         Ok(pledges)
     }
 
-    // Gathers the edges at a site, under its lock, and pledges there.
+    // Gathers the edges at a site, under its lock, and pledges there. The site of a V7 is noted.
     fn gather_at<R: Wait>(
         &self,
         rt: &R,
         alloc: Global,
-        guarded: &Guarded<L>,
+        guarded: &mut Guarded<L>,
         here: SiteNo,
         active: &Active,
         edges: &mut EdgeList,
@@ -251,10 +262,13 @@ impl<L: Ledger> Service<L> {
         requires next { here ≡ pledges.old.below }
         requires touched { at_site here active.now.draft.touched ≢ [] }
         ensures edges { OnOk result ((s : SiteState) × (more : List AnEdge) × (edges.new ≡ edges.old ++ more)
-            × IsGathered guarded.now.certifier.history active.now here s more) }
+            × IsGathered guarded.old.certifier.history active.now here s more) }
         ensures taken { OnOk result (TakesNext pledges.old pledges.new) }
         ensures err { OnErr result (pledges.new ≡ pledges.old) }
-        ensures refused { IfErr result (λ f. (s : SiteState) × RefusesGather guarded.now.certifier.history here s active.now f) }
+        ensures refused { IfErr result (λ f. (s : SiteState) × IsSite s × RefusesGather guarded.old.certifier.history here s active.now f) }
+        ensures certifier { guarded.new.certifier ≡ guarded.old.certifier }
+        ensures kept { OnOk result (guarded.new.lost ≡ guarded.old.lost) }
+        ensures noted { IfErr result (NotesLoss guarded.old.lost guarded.new.lost) }
     {
         let mut guard = self.lock_site(rt, here);
         guarded.gather(alloc, &mut guard, here, active, edges)?;
@@ -305,7 +319,7 @@ impl<L: Ledger> Service<L> {
                 worker,
                 gate,
             ) {
-                blocks.stop(guarded, here);
+                blocks.give_up(guarded, here);
                 return Err(Lost { site: here });
             }
         }
@@ -343,7 +357,7 @@ impl<L: Ledger> Service<L> {
         ensures noted { result ≡ false → guarded.new.lost ≡ Some here }
         ensures touched { result ≡ false → at_site here active.now.draft.touched ≢ [] }
         ensures written { IsTrue result → WritesNext blocks.old blocks.new }
-        ensures unwritten { result ≡ false → blocks.new ≡ blocks.old }
+        ensures stopped { result ≡ false → Stops blocks.old blocks.new }
         ensures same { result ≡ false → seat.new.counts.items ≡ seat.old.counts.items }
     {
         let entries = block_at(active.draft.touched(), here, verdict);
@@ -352,14 +366,13 @@ impl<L: Ledger> Service<L> {
             return true;
         }
         if !self.end_at(rt, guarded, here, active, verdict, blocks, worker, gate) {
-            guarded.lose(here);
             return false;
         }
         seat.count_others(here, entries);
         true
     }
 
-    // Writes the block at a site, under its lock. False where it has lost the pledge, or another site stands in its place.
+    // Writes the block at a site, under its lock. False where it has lost the pledge, or another site stands in its place, which is noted.
     fn end_at<R: Wait, G: Gate>(
         &self,
         rt: &R,
@@ -377,7 +390,7 @@ impl<L: Ledger> Service<L> {
             → AwaitsInstalls guarded.old.certifier active.now.tx active.now.draft.touched here }
         requires touched { at_site here active.now.draft.touched ≢ [] }
         ensures written { IsTrue result → WritesNext blocks.old blocks.new }
-        ensures unwritten { result ≡ false → blocks.new ≡ blocks.old }
+        ensures stopped { result ≡ false → Stops blocks.old blocks.new }
         ensures awaits { IsTrue result → verdict ≡ Committed
             → AwaitsInstalls guarded.new.certifier active.now.tx active.now.draft.touched (here + 1) }
         ensures noted { IsTrue result → verdict ≡ Committed → Adds guarded.old.certifier
@@ -385,30 +398,18 @@ impl<L: Ledger> Service<L> {
         ensures quiet { (verdict ≡ Committed → ⊥) → guarded.new.certifier ≡ guarded.old.certifier }
         ensures lost { result ≡ false → guarded.new.certifier ≡ guarded.old.certifier }
         ensures step { guarded.new.certifier.state.step ≡ guarded.old.certifier.state.step }
-        ensures same { guarded.new.lost ≡ guarded.old.lost }
+        ensures kept { IsTrue result → guarded.new.lost ≡ guarded.old.lost }
+        ensures found { result ≡ false → guarded.new.lost ≡ Some here }
     {
         let mut guard = self.lock_site(rt, here);
         gate.arrive(worker, Place::InInstall(here));
         if !guarded.end(&mut guard, here, active, verdict) {
+            blocks.stop(guard, active, verdict, here);
             return false;
         }
         blocks.write(guard, active, verdict, here);
         true
     }
-}
-
-// Pledges at the site that is lent, if it is the one of this number.
-fn pledge_held(held: &mut Site, here: SiteNo, active: &Active) -> Result<(), ServiceFault>
-    ensures number { OnOk result (held.new.number ≡ here) }
-    ensures pledged { OnOk result (IsPledgedFor held.new active.now.tx active.now.draft.touched) }
-    ensures err { OnErr result (held.new ≡ held.old) }
-    ensures refused { IfErr result (RefusesPledgeAt here held.old active.now) }
-{
-    if !is_numbered(held, here) {
-        return Err(ServiceFault::NotPledged(here));
-    }
-    held.pledge(active.tx, &active.draft)?;
-    Ok(())
 }
 
 // Gives the transaction's pledge back at the site that is lent, if it stands there.

@@ -31,6 +31,7 @@ pub struct Service<L: Ledger> {
     /// The names of the sites' items, which never change.
     pub(crate) names: Vec<Listed<Item>>,
     pub ghost named: { vec_len names ≡ vec_len sites },
+    pub ghost some: { 1 ≤ vec_len sites },
     pub ghost few: { vec_len sites ≤ max_sites },
     pub ghost rising: { All NamesRise names.items },
 }
@@ -48,7 +49,7 @@ impl<L: Ledger> Service<L> {
     ghost use Rattle.sgt_service.specs.Guarded.{HasAdded};
     ghost use Rattle.sgt_service.specs.Refused.{HasItem, RefusesItem, RefusesSites, IsOfBegin, IsToldOf};
 
-    /// A service of these sites, none of which has an entry yet, and all its seats. The blank of the ledger has a part for each
+    /// A service of these sites, at least one, none of which has an entry yet, and all its seats. The blank of the ledger has a part for each
     /// seat. A site is named by its place.
     ///
     /// - V4 with S6: the names of a site's items don't rise, or there are more than 1,024.
@@ -60,7 +61,7 @@ impl<L: Ledger> Service<L> {
         seats: u64,
     ) -> Result<(Service<L>, Vec<Seat<L>>), ServiceFault>
         requires ledger { (blank.name ≡ L.name) × (blank.parts ≡ L.parts) × (blank.parts ≡ seats) }
-        requires sites { length sites.now ≤ max_sites }
+        requires sites { (1 ≤ length sites.now) × (length sites.now ≤ max_sites) }
         ensures seats { IfOk result (λ r. (vec_len r.1 ≡ seats) × All (IsNew (length sites.now)) r.1.items) }
         ensures names { IfOk result (λ r. r.0.names.items ≡ map names sites.now) }
         ensures allowed { OnOk result (All AreItems sites.now) }

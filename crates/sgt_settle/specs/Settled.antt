@@ -6,10 +6,11 @@ use Rattle.sgt_names.specs.Log.{Conflicts}
 use Rattle.sgt_names.specs.declared.entry.Entry.{Entry}
 use Rattle.sgt_names.specs.declared.entry.Entry.TheVariants.{Read}
 use Rattle.sgt_names.specs.declared.entry.Kind.{Kind}
-use Rattle.sgt_site.specs.State.{SiteState}
+use Rattle.sgt_site.specs.State.{SiteState, IsSite}
 use Rattle.sgt_edges.specs.declared.edge.Edge.{Edge}
 use Rattle.sgt_order.specs.Graph.{Reaches}
 use Rattle.sgt_certifier.specs.Certifier.{Ruling, committed, refused, withdrawn}
+use Rattle.sgt_certifier.specs.History.{Replays}
 use Rattle.sgt_certifier.specs.Kept.{Kept}
 use Rattle.sgt_certifier.specs.declared.call.Call.{Call}
 use Rattle.sgt_workers.specs.declared.ticket.Ticket.{Ticket}
@@ -112,12 +113,18 @@ pub record Run : Type 0 where
   pub counts : List EntryCounts
   pub dones : List Done
 
+-- the certifier's state is the replay of its history, and each site is one whose log its own calls made
+pub record AreKept (r : Run) : Type 0 where
+  pub replays : Replays r.certifier.history r.certifier.state
+  pub sites : All IsSite r.sites
+
 abbrev pub IsSettledAt : Run → ℕ → Type 0
 IsSettledAt r site = IsSiteSettled r.certifier.history r.certifier.state.rulings r.counts site (slice_get r.sites site)
 
 -- the tickets are the decisions of the history, at each place is the site of that number, which agrees with it, and each version is
 -- the number of installs that it counts
 pub record IsSettled (r : Run) : Type 0 where
+  pub kept : AreKept r
   pub tickets : AreTickets r.certifier.state.rulings r.dones
   pub sites : (site : ℕ) → IsSettledAt r site
   pub versions : All (VersionsAgree r.certifier.history) r.sites

@@ -1,8 +1,9 @@
 //! Whether a run is settled.
 
-ghost use Rattle.std.specs.Prelude.{◌≡◌, ◌≤◌, ◌<◌, ℕ, IfOk, IfErr, OnOk, OnErr, MatchOption, length, slice_get};
+ghost use Rattle.std.specs.Prelude.{◌≡◌, ◌≤◌, ◌<◌, ℕ, All, IfOk, IfErr, OnOk, OnErr, MatchOption, length, slice_get};
 ghost use Rattle.sgt_names.specs.Limits.{max_sites};
-ghost use Rattle.sgt_settle.specs.Settled.{AreCountedAt, IsSettled, IsSiteSettled};
+ghost use Rattle.sgt_site.specs.State.{IsSite};
+ghost use Rattle.sgt_settle.specs.Settled.{AreCountedAt, AreKept, IsSettled, IsSiteSettled};
 ghost use Rattle.sgt_settle.specs.Fault.{IsUnsettled};
 
 use crate::counts::has_first_counts;
@@ -49,6 +50,15 @@ fn first_differing(
     Ok(first_beyond(index.handed.as_slice(), sites.len()))
 }
 
+// What each site keeps of itself.
+fn know_sites(sites: &[Site])
+    ensures { All IsSite sites.now }
+{
+    for site in sites {
+        let _items = site.items();
+    }
+}
+
 /// Whether a run is settled: its tickets are the decisions of the certifier's history, each once and those of each job in order; at
 /// each place is the site of that number, its log has the entries that were counted there, and its conflicts are those that the
 /// decisions were handed; and each version is the number of installs that the history counts.
@@ -87,8 +97,15 @@ pub fn check_settled(
       counts = counts.now;
       dones = dones.now;
     })) }
+    ensures kept { AreKept (record {
+      certifier = certifier.now;
+      sites = sites.now;
+      counts = counts.now;
+      dones = dones.now;
+    }) }
 {
     let history = certifier.history();
+    know_sites(sites);
     if let Err(fault) = check_tickets(alloc, history, dones) {
         return Err(fault);
     }

@@ -2,6 +2,7 @@
 
 ghost use Rattle.std.specs.Prelude.{◌≡◌, ◌≢◌, OnOk, IfErr};
 ghost use Rattle.sgt_agreed.specs.declared.fault.ServiceFault.TheVariants.{Memory};
+ghost use Rattle.sgt_certifier.specs.History.{Replays};
 ghost use Rattle.sgt_settle.specs.Settled.{AreTickets, Run};
 ghost use Rattle.sgt_settle.specs.Fault.{IsUnsettled};
 
@@ -20,6 +21,7 @@ pub fn check_told(alloc: Global, certifier: &Certifier, dones: &[Done]) -> Resul
     ensures ok { OnOk result (AreTickets certifier.now.state.rulings dones.now) }
     ensures err { IfErr result (λ f. (r : Run) → r.certifier ≡ certifier.now → r.dones ≡ dones.now → IsUnsettled r f) }
     ensures memory { IfErr result (λ f. f ≢ Memory) }
+    ensures replays { Replays certifier.now.history certifier.now.state }
 {
     let history = certifier.history();
     check_tickets(alloc, history, dones)

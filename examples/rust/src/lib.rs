@@ -1,4 +1,4 @@
-//! The proved auditor of `sgt`, behind safe functions.
+//! The proved auditor and certificate maker of `sgt`, behind safe functions.
 
 use std::fmt;
 
@@ -28,14 +28,15 @@ mod raw {
         pub fn sgt_version() -> u32;
         pub fn sgt_audit(bytes: *const u8, len: usize, verdict: *mut Verdict) -> u32;
         pub fn sgt_serial_len(bytes: *const u8, len: usize, text_len: *mut usize) -> u32;
-        pub fn sgt_serial(
-            bytes: *const u8,
-            len: usize,
-            out: *mut u8,
-            room: usize,
-            text_len: *mut usize,
-        ) -> u32;
+        pub fn sgt_serial(bytes: *const u8, len: usize, out: *mut u8, room: usize, text_len: *mut usize) -> u32;
+        pub fn sgt_certify_len(bytes: *const u8, len: usize, text_len: *mut usize) -> u32;
+        pub fn sgt_certify(bytes: *const u8, len: usize, out: *mut u8, room: usize, text_len: *mut usize) -> u32;
+        pub fn sgt_explain_len(bytes: *const u8, len: usize, text_len: *mut usize) -> u32;
+        pub fn sgt_explain(bytes: *const u8, len: usize, out: *mut u8, room: usize, text_len: *mut usize) -> u32;
     }
+
+    pub type Measure = unsafe extern "C" fn(*const u8, usize, *mut usize) -> u32;
+    pub type Write = unsafe extern "C" fn(*const u8, usize, *mut u8, usize, *mut usize) -> u32;
 }
 
 /// The verdict on some bytes.
@@ -58,12 +59,12 @@ impl fmt::Display for Verdict {
     }
 }
 
-/// The serial run of a bundle.
+/// A text that some bytes are answered by.
 #[derive(Clone, Debug, PartialEq, Eq)]
-pub enum Serial {
-    /// The lines of the committed transactions, run alone one after another by rank, and then the final values.
+pub enum Text {
+    /// With a yes.
     Yes(Vec<u8>),
-    /// The auditor's line: the bytes have a fault.
+    /// With a no.
     No(Vec<u8>),
 }
 
@@ -127,23 +128,36 @@ pub fn audit(bundle: &[u8]) -> Result<Verdict, Error> {
     }
 }
 
-/// The serial run of a bundle.
-pub fn serial(bundle: &[u8]) -> Result<Serial, Error> {
+fn text_of(measure: raw::Measure, write: raw::Write, given: &[u8]) -> Result<Text, Error> {
     check_version()?;
     let mut len = 0;
     // SAFETY: as above.
-    let answer = unsafe { raw::sgt_serial_len(bundle.as_ptr(), bundle.len(), &mut len) };
+    let answer = unsafe { measure(given.as_ptr(), given.len(), &mut len) };
     if answer != raw::YES && answer != raw::NO {
         return Err(Error::of(answer));
     }
     let mut text = vec![0; len];
     // SAFETY: `text` has room for `len` bytes and is nobody else's.
-    let answer = unsafe {
-        raw::sgt_serial(bundle.as_ptr(), bundle.len(), text.as_mut_ptr(), text.len(), &mut len)
-    };
+    let answer = unsafe { write(given.as_ptr(), given.len(), text.as_mut_ptr(), text.len(), &mut len) };
     match answer {
-        raw::YES => Ok(Serial::Yes(text)),
-        raw::NO => Ok(Serial::No(text)),
+        raw::YES => Ok(Text::Yes(text)),
+        raw::NO => Ok(Text::No(text)),
         other => Err(Error::of(other)),
     }
+}
+
+/// The serial run of a bundle: the lines of the committed transactions, run alone one after another by rank, and the final values;
+/// or the auditor's line.
+pub fn serial(bundle: &[u8]) -> Result<Text, Error> {
+    text_of(raw::sgt_serial_len, raw::sgt_serial, bundle)
+}
+
+/// The certificate of logs that have none, which are a bundle without its second line: the whole bundle, or why none was made.
+pub fn certify(logs: &[u8]) -> Result<Text, Error> {
+    text_of(raw::sgt_certify_len, raw::sgt_certify, logs)
+}
+
+/// The auditor's line on a bundle, and what it means.
+pub fn explain(bundle: &[u8]) -> Result<Text, Error> {
+    text_of(raw::sgt_explain_len, raw::sgt_explain, bundle)
 }

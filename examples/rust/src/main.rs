@@ -1,8 +1,8 @@
-//! Prints what `sgt audit` and `sgt serial` print of a bundle on standard input, and ends with the program's status.
+//! Prints what `sgt audit`, `sgt serial`, `sgt certify` and `sgt explain` print of standard input, and ends with the program's status.
 //!
-//! usage: sgt [audit|serial] < BUNDLE
+//! usage: sgt [audit|serial|certify|explain] < BUNDLE
 
-use sgt::{audit, serial, Error, Serial, Verdict};
+use sgt::{audit, certify, explain, serial, Error, Text, Verdict};
 use std::error;
 use std::io::{self, Read, Write};
 use std::process::ExitCode;
@@ -11,10 +11,16 @@ fn run(word: Option<&str>) -> Result<u8, Box<dyn error::Error>> {
     let mut bundle = Vec::new();
     io::stdin().read_to_end(&mut bundle)?;
     let mut out = io::stdout();
-    if word == Some("serial") {
-        let (text, status) = match serial(&bundle)? {
-            Serial::Yes(text) => (text, 0),
-            Serial::No(text) => (text, 1),
+    let answer = match word {
+        Some("serial") => Some(serial(&bundle)?),
+        Some("certify") => Some(certify(&bundle)?),
+        Some("explain") => Some(explain(&bundle)?),
+        _ => None,
+    };
+    if let Some(answer) = answer {
+        let (text, status) = match answer {
+            Text::Yes(text) => (text, 0),
+            Text::No(text) => (text, 1),
         };
         out.write_all(&text)?;
         return Ok(status);

@@ -1,10 +1,10 @@
 use Rattle.std.proofs.Common.{ap, map, refl, string_bytes}
 use Rattle.sgt_program.proofs.Answered.{memory-answers}
-use Rattle.sgt_program.proofs.Chosen.{asks_none, is_memory, no_refusal, same_choice, same_run}
+use Rattle.sgt_program.proofs.Chosen.{is_memory, no_refusal, same_choice, same_run}
 use Rattle.sgt_program.proofs.Told.{helped, tells-errors}
 use Rattle.sgt_program.specs.Commands.{Answers}
 use Rattle.sgt_program.specs.Ending.{status_of}
-use Rattle.sgt_program.specs.declared.choice.Choice.TheVariants.{Audit, Run, Serial}
+use Rattle.sgt_words.specs.declared.choice.Choice.TheVariants.{Audit, Certify, Explain, Replay, Run, Serial}
 use Rattle.sgt_program.specs.declared.ending.Ending.TheVariants.{Ran, NoCommand}
 use Rattle.sgt_program.proofs.commands.program.Goals as goal
 
@@ -28,7 +28,28 @@ returns-in-Ok-clause-serial g c = λ asks.
     rw c.finish.ensures.status
     (same_choice c.choose.result _ Serial (λ choice. Answers choice (status_of (Ran c.run_choice.result))
     (g.R.Source.tells c.args.reader.now) (g.W.Sink.holds c.args.writer.now) (g.W.Sink.holds c.run_choice.new.writer))
-    c.in-Ok.is (c.choose.ensures.serial asks) c.run_choice.ensures.answers)
+    c.in-Ok.is (c.choose.ensures.plain Serial tt asks) c.run_choice.ensures.answers)
+
+pub returns-in-Ok-clause-replay : goal.returns-in-Ok-clause-replay
+returns-in-Ok-clause-replay g c = λ asks.
+    rw c.finish.ensures.status
+    (same_choice c.choose.result _ Replay (λ choice. Answers choice (status_of (Ran c.run_choice.result))
+    (g.R.Source.tells c.args.reader.now) (g.W.Sink.holds c.args.writer.now) (g.W.Sink.holds c.run_choice.new.writer))
+    c.in-Ok.is (c.choose.ensures.plain Replay tt asks) c.run_choice.ensures.answers)
+
+pub returns-in-Ok-clause-certify : goal.returns-in-Ok-clause-certify
+returns-in-Ok-clause-certify g c = λ asks.
+    rw c.finish.ensures.status
+    (same_choice c.choose.result _ Certify (λ choice. Answers choice (status_of (Ran c.run_choice.result))
+    (g.R.Source.tells c.args.reader.now) (g.W.Sink.holds c.args.writer.now) (g.W.Sink.holds c.run_choice.new.writer))
+    c.in-Ok.is (c.choose.ensures.plain Certify tt asks) c.run_choice.ensures.answers)
+
+pub returns-in-Ok-clause-explain : goal.returns-in-Ok-clause-explain
+returns-in-Ok-clause-explain g c = λ asks.
+    rw c.finish.ensures.status
+    (same_choice c.choose.result _ Explain (λ choice. Answers choice (status_of (Ran c.run_choice.result))
+    (g.R.Source.tells c.args.reader.now) (g.W.Sink.holds c.args.writer.now) (g.W.Sink.holds c.run_choice.new.writer))
+    c.in-Ok.is (c.choose.ensures.plain Explain tt asks) c.run_choice.ensures.answers)
 
 pub returns-in-Ok-clause-run : goal.returns-in-Ok-clause-run
 returns-in-Ok-clause-run g c = λ workers tries asks.
@@ -38,7 +59,7 @@ returns-in-Ok-clause-run g c = λ workers tries asks.
     c.in-Ok.is (c.choose.ensures.run workers tries asks) c.run_choice.ensures.answers)
 
 pub returns-in-Ok-clause-others : goal.returns-in-Ok-clause-others
-returns-in-Ok-clause-others g c = λ none. absurd (asks_none (map string_bytes c.args.words.now) c.in-Ok.choice none c.in-Ok.ensures.only)
+returns-in-Ok-clause-others g c = λ none. absurd (none c.in-Ok.choice c.in-Ok.ensures.only)
 
 pub returns-in-Err-Help-clause-run : goal.returns-in-Err-Help-clause-run
 returns-in-Err-Help-clause-run g c = λ workers tries asks.

@@ -1,5 +1,8 @@
+use Rattle.sgt_certify.specs.Answer as certify
+use Rattle.sgt_explain.specs.Explained as explain
+use Rattle.sgt_replay.specs.Replay as replay
 use Rattle.sgt_run.specs.Report as run
-use Rattle.sgt_program.proofs.Answered.{audit-fails, serial-answers, status-answers, verdict-answers}
+use Rattle.sgt_program.proofs.Answered.{audit-fails, rule-answers, serial-answers, status-answers, verdict-answers}
 use Rattle.sgt_program.proofs.engines.run_choice.Goals as goal
 
 pub returns-in-Ok-clause-answers : goal.returns-in-Ok-clause-answers
@@ -21,3 +24,41 @@ returns-in-Run-clause-answers g c =
     let new = g.W.Sink.holds c.run_scripts.new.writer in
     rw c.in-Run.is (status-answers (λ outcome. run.WroteAnswer c.in-Run.tries told outcome old new) (run.WroteAnswerFront c.in-Run.tries told old new)
     c.run_scripts.result c.run_scripts.ensures.answer c.run_scripts.ensures.front)
+
+pub returns-in-Replay-clause-answers : goal.returns-in-Replay-clause-answers
+returns-in-Replay-clause-answers g c =
+    let told = g.R.Source.tells c.args.reader.now in
+    let old = g.W.Sink.holds c.args.writer.now in
+    let new = g.W.Sink.holds c.replay.new.writer in
+    rw c.in-Replay.is (status-answers (λ outcome. replay.WroteAnswer told outcome old new) (replay.WroteAnswerFront told old new)
+    c.replay.result c.replay.ensures.answer c.replay.ensures.front)
+
+pub returns-in-Certify-clause-answers : goal.returns-in-Certify-clause-answers
+returns-in-Certify-clause-answers g c =
+    let told = g.R.Source.tells c.args.reader.now in
+    let old = g.W.Sink.holds c.args.writer.now in
+    let new = g.W.Sink.holds c.certify.new.writer in
+    rw c.in-Certify.is (status-answers (λ outcome. certify.WroteAnswer told outcome old new) (certify.WroteAnswerFront told old new)
+    c.certify.result c.certify.ensures.answer c.certify.ensures.front)
+
+pub returns-in-Explain-clause-answers : goal.returns-in-Explain-clause-answers
+returns-in-Explain-clause-answers g c =
+    let told = g.R.Source.tells c.args.reader.now in
+    let old = g.W.Sink.holds c.args.writer.now in
+    let new = g.W.Sink.holds c.explain.new.writer in
+    rw c.in-Explain.is (status-answers (λ outcome. explain.WroteExplained told outcome old new) (explain.WroteExplainedFront told old new)
+    c.explain.result c.explain.ensures.answer c.explain.ensures.front)
+
+pub returns-in-Transaction-clause-answers : goal.returns-in-Transaction-clause-answers
+returns-in-Transaction-clause-answers g c =
+    let told = g.R.Source.tells c.args.reader.now in
+    let old = g.W.Sink.holds c.args.writer.now in
+    let new = g.W.Sink.holds c.explain_transaction.new.writer in
+    rw c.in-Transaction.is (status-answers (λ outcome. explain.WroteExplained told outcome old new) (explain.WroteExplainedFront told old new)
+    c.explain_transaction.result c.explain_transaction.ensures.answer c.explain_transaction.ensures.front)
+
+pub returns-in-Rule-clause-answers : goal.returns-in-Rule-clause-answers
+returns-in-Rule-clause-answers g c =
+    let old = g.W.Sink.holds c.args.writer.now in
+    let new = g.W.Sink.holds c.explain_topic.new.writer in
+    rw c.in-Rule.is (rule-answers old new c.explain_topic.result c.explain_topic.ensures.ok c.explain_topic.ensures.text c.explain_topic.ensures.front)

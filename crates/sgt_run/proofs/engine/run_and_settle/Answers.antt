@@ -1,6 +1,7 @@
 use Rattle.std.proofs.Common.{◌≡◌, ◌∙◌, ap, arith, inl, inr, length, vec_len}
 use Rattle.std.proofs.lemmas.List.{length-map}
 use Rattle.sgt_names.specs.Log.{names}
+use Rattle.sgt_run.proofs.Ordering.{numbered_rise}
 use Rattle.sgt_run.proofs.Reporting.{ends_unsettled, left_of}
 use Rattle.sgt_run.proofs.engine.run_and_settle.Goals as goal
 
@@ -11,7 +12,8 @@ returns-in-Ok-settle-clause-run g c =
     let ledger = c.requires.ledger in
     let named : vec_len service.names ≡ length c.args.sites.now = service.names.ok.0 ∙ ap length c.in-Ok.ensures.names ∙ length-map c.args.sites.now names in
     left_of _ _ _ _ _ seats.items c.in_ok-dones.seats.items _ _ c.in-Ok.ensures.seats.1 (omega (arith, seats.ok.0, c.in-Ok.ensures.seats.0, ledger.1, ledger.2)) c.in_ok-dones.ensures.parts
-    c.in_ok-dones.ensures.counted c.in_ok-dones.ensures.dones named c.in-Ok-settle.ensures.dones c.in-Ok-settle.ensures.sites c.in-Ok-settle.ensures.decisions
+    c.in_ok-dones.ensures.counted c.in_ok-dones.ensures.dones c.in_ok-dones.ensures.tried named
+    (c.in-Ok-settle.ensures.dones.kept (numbered_rise 1 c.in_ok-dones.dones.items (length c.args.scripts.now) c.in_ok-dones.ensures.dones.jobs)) c.in-Ok-settle.ensures.sites c.in-Ok-settle.ensures.counts c.in-Ok-settle.ensures.decisions
 
 pub returns-in-Err-settle-clause-fault : goal.returns-in-Err-settle-clause-fault
 returns-in-Err-settle-clause-fault g c =
@@ -20,4 +22,4 @@ returns-in-Err-settle-clause-fault g c =
     let ledger = c.requires.ledger in
     let named : vec_len service.names ≡ length c.args.sites.now = service.names.ok.0 ∙ ap length c.in-Ok.ensures.names ∙ length-map c.args.sites.now names in
     inr (inr (inl (ends_unsettled _ _ _ _ _ seats.items c.in_ok-dones.seats.items _ _ c.in-Ok.ensures.seats.1 (omega (arith, seats.ok.0, c.in-Ok.ensures.seats.0, ledger.1, ledger.2))
-    c.in_ok-dones.ensures.parts c.in_ok-dones.ensures.counted c.in_ok-dones.ensures.dones named c.in-Err-settle.ensures.refused)))
+    c.in_ok-dones.ensures.parts c.in_ok-dones.ensures.counted c.in_ok-dones.ensures.dones c.in_ok-dones.ensures.tried named c.in-Err-settle.ensures.refused)))

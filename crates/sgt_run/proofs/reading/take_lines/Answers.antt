@@ -1,9 +1,9 @@
-use Rattle.std.proofs.Common.{◌∙◌, Bool, List, ℕ, ap, arith, false, refl, subst, sym, true}
+use Rattle.std.proofs.Common.{◌+◌, ◌∙◌, Bool, Err, List, ℕ, ap, arith, false, refl, subst, sym, true}
 use Rattle.sgt_notation.specs.Lines.{most_left}
 use Rattle.sgt_run.specs.private.Stopping.{IsStop}
 use Rattle.sgt_run.specs.private.Taking.{Takes}
 use Rattle.sgt_run.specs.declared.input.Input.{Input}
-use Rattle.sgt_run.proofs.Reader.{after-line, nothing-read, spends-none, spends_on, stops-cut, stops-empty, stops-end, stops-line, stops-long}
+use Rattle.sgt_run.proofs.Reader.{after-line, fault-met, nothing-read, spends-none, spends_on, stops-cut, stops-empty, stops-end, stops-line, stops-long}
 use Rattle.sgt_run.proofs.reading.take_lines.Goals as goal
 
 pub lines-init : goal.lines-init
@@ -12,6 +12,7 @@ lines-init g c = (
   refl,
   spends-none _ _ _ (ap (λ a. a.reads) c.requires.fresh),
   omega (arith, ap most_left c.requires.fresh),
+  ap (λ n. g.R.Source.asked c.args.reader.now + n) (ap (λ a. a.reads) c.requires.fresh),
 )
 
 pub lines-preserved : goal.lines-preserved
@@ -24,6 +25,7 @@ lines-preserved g c =
       gave.quiet ∙ c.lines.invariant.1,
       spends_on _ _ _ _ _ _ c.lines.invariant.2 gave.spends,
       omega (arith, gave.falls refl, c.lines.invariant.3),
+      omega (arith, c.in-Ok-Line.ensures.asks, c.lines.invariant.4),
     )
 
 pub returns-then-not-branch-clause-stops : goal.returns-then-not-branch-clause-stops
@@ -60,3 +62,8 @@ pub returns-then-number-gt1-clause-stops : goal.returns-then-number-gt1-clause-s
 returns-then-number-gt1-clause-stops g c =
     let gave = rw c.in-Ok-End.field-0-is at c.in-Ok-End.ensures.ok in
     stops-end _ _ _ _ _ _ c.lines.invariant.0 c.if-number-gt1.true gave.gives
+
+pub returns-in-Err-ReadFault-clause-read_fault : goal.returns-in-Err-ReadFault-clause-read_fault
+returns-in-Err-ReadFault-clause-read_fault g c same =
+    fault-met _ _ _ _ _ _ _ _ c.lines.invariant.1 c.lines.invariant.2 refl
+    (omega (arith, c.in-Err-ReadFault.ensures.asks, c.lines.invariant.4)) (c.in-Err-ReadFault.ensures.read_fault (ap Err c.in-Err-ReadFault.field-0-is))

@@ -9,6 +9,7 @@ invariant-lines g l =
     × (g.R.Source.failures l.reader ≡ g.R.Source.failures l.initial.reader)
     × Spends 4294967295 (g.R.Source.tells l.initial.reader) l.lines.reads (g.R.Source.tells l.reader)
     × (l.number + most_left l.lines ≤ 281474976710656)
+    × (g.R.Source.asked l.reader + l.lines.reads ≡ g.R.Source.asked l.initial.reader + 4294967295)
 
 abbrev pub decreases-lines : goal.decreases-lines
 decreases-lines g l = most_left l.lines

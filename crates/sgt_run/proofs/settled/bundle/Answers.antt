@@ -10,12 +10,11 @@ pub unreachable-requires : goal.unreachable-requires
 unreachable-requires c =
     let parts = c.settled.inside in
     let r : Run = record { certifier = parts.certifier; sites = parts.sites.items; counts = parts.counts.items; dones = parts.dones.items } in
-    let is : r ≡ c.args.settled.now = c.settled.view_is in
     let count : c.len-count.result ≡ length parts.sites.items = omega (arith, c.len-count.ensures, parts.sites.ok.0) in
     let certificate = c.in_ok-certificate.ensures ∙ ap (certificate_of parts.certifier.state) count in
     let logs = subst (λ sites. AllZip IsSiteLog sites c.in_ok-logs.logs.items) c.as_slice.ensures.value c.in_ok-logs.ensures in
     c.in-None.ensures (bundle-fits r c.in_ok-certificate.certificate c.in_ok-logs.logs.items c.settled.invariant.0 c.history-history.ensures.replays
-    (omega (arith, c.requires, ap (λ (s : Run). length s.sites) is)) c.settled.invariant.1 certificate logs)
+    c.settled.invariant.1 c.settled.invariant.2 certificate logs)
 
 pub returns : goal.returns
 returns c =

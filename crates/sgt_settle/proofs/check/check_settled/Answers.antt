@@ -32,7 +32,23 @@ returns-in-Some-first_uncounted-clause-err c =
 
 pub returns-clause-ok : goal.returns-clause-ok
 returns-clause-ok c = record {
+  kept = record { replays = c.history-history.ensures.replays; sites = c.know_sites.ensures };
   tickets = tickets_told _ _ c.args.certifier.now.state c.args.dones.now c.history-history.ensures.replays c.history-history.ensures.is c.in_default.ensures.ok;
   sites = rw c.in_default-differing.is at c.in_ok-differing.ensures.ok;
   versions = rw c.in_default-first_uncounted.is at c.first_uncounted.ensures;
 }
+
+pub returns-in-Err-clause-kept : goal.returns-in-Err-clause-kept
+returns-in-Err-clause-kept c = record { replays = c.history-history.ensures.replays; sites = c.know_sites.ensures }
+
+pub returns-in_err-differing-clause-kept : goal.returns-in_err-differing-clause-kept
+returns-in_err-differing-clause-kept c = record { replays = c.history-history.ensures.replays; sites = c.know_sites.ensures }
+
+pub returns-in-Some-clause-kept : goal.returns-in-Some-clause-kept
+returns-in-Some-clause-kept c = record { replays = c.history-history.ensures.replays; sites = c.know_sites.ensures }
+
+pub returns-in-Some-first_uncounted-clause-kept : goal.returns-in-Some-first_uncounted-clause-kept
+returns-in-Some-first_uncounted-clause-kept c = record { replays = c.history-history.ensures.replays; sites = c.know_sites.ensures }
+
+pub returns-clause-kept : goal.returns-clause-kept
+returns-clause-kept c = record { replays = c.history-history.ensures.replays; sites = c.know_sites.ensures }

@@ -11,12 +11,13 @@ returns-in-Err-clause-refused g c =
     let here = c.number_at-here.result in
     let site = c.in-Err.ensures.refused.0 in
     let active = c.args.active.now in
-    let at_start = subst (λ (k : Kept). RefusesGather k.history here site active c.in-Err.fault) c.loop-place.invariant.certifier c.in-Err.ensures.refused.1 in (
+    let at_start = subst (λ (k : Kept). RefusesGather k.history here site active c.in-Err.fault) c.loop-place.invariant.certifier c.in-Err.ensures.refused.2 in (
       here,
       site,
+      c.in-Err.ensures.refused.1,
       omega (arith, c.number_at-here.ensures, c.loop-place-test.true),
       c.touches.ensures.some c.if-touches.true,
-      subst (RefusesGather c.args.guarded.now.certifier.history here site active) (sym c.noted.ensures.same) at_start,
+      at_start,
     )
 
 pub loop-place-preserved : goal.loop-place-preserved
@@ -28,8 +29,8 @@ loop-place-preserved g c =
     let here = c.number_at-here.result in
     let before = c.loop-place.edges in
     record {
-      certifier = i.certifier;
-      lost = i.lost;
+      certifier = search rules;
+      lost = search rules;
       given = search rules;
       below = search rules;
       within = omega (arith, c.loop-place-test.true);

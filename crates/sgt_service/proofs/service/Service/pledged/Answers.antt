@@ -1,6 +1,4 @@
-use Rattle.std.proofs.Common.{subst, sym}
-use Rattle.std.specs.Prelude.{vec_len}
-use Rattle.sgt_service.specs.Undecided.{IsNotWithdrawn, held_back, absent, unpledged}
+use Rattle.sgt_service.specs.Undecided.{held_back, absent, unpledged}
 use Rattle.sgt_service.proofs.service.Service.pledged.Goals as goal
 
 pub returns-in-Err-clause-refused : goal.returns-in-Err-clause-refused
@@ -13,5 +11,4 @@ returns-then-not-has_sites-clause-refused g c =
 
 pub returns-in-Err-pledge_all-clause-refused : goal.returns-in-Err-pledge_all-clause-refused
 returns-in-Err-pledge_all-clause-refused g c =
-    subst (IsNotWithdrawn (vec_len c.args.self.now.sites) c.args.guarded.now.lost c.args.guarded.now.certifier c.args.active.now) (sym c.noted.ensures.same)
-    (unpledged c.in-Err-pledge_all.fault c.in_default.ensures.ok (c.has_sites.ensures.all c.if-not-has_sites.false) c.in-Err-pledge_all.ensures.refused)
+    unpledged c.in-Err-pledge_all.fault c.in_default.ensures.ok (c.has_sites.ensures.all c.if-not-has_sites.false) c.in-Err-pledge_all.ensures.refused

@@ -1,0 +1,19 @@
+//! What a replay or a run wrote, cut at its `---`.
+
+/// The lines in front of `---`, with their LFs, and the bundle behind it, if there is one.
+pub fn cut(text: &[u8]) -> (&[u8], Option<&[u8]>) {
+    if text.starts_with(b"---\n") {
+        return (&[], Some(&text[4..]));
+    }
+    for (place, window) in text.windows(5).enumerate() {
+        if window == b"\n---\n" {
+            return (&text[..place + 1], Some(&text[place + 5..]));
+        }
+    }
+    (text, None)
+}
+
+/// Whether one of the replies refuses its event.
+pub fn has_refusal(replies: &[u8]) -> bool {
+    replies.starts_with(b"! E") || replies.windows(4).any(|window| window == b"\n! E")
+}

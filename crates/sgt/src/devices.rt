@@ -1,0 +1,84 @@
+//! Readers and writers of the program.
+
+ghost use Rattle.std.specs.Prelude.{None};
+
+use sgt_names::{Failed, Sink};
+use std::alloc::Global;
+use std::io;
+use std::io::Read;
+
+// How often a read that a signal interrupts is begun.
+const TRIES: u32 = 1_000;
+
+/// A reader that begins a read again where a signal interrupted it, and keeps why a read failed.
+#[derive(Drop)]
+pub struct Steady<R> {
+    inner: R,
+    pub why: Option<io::Error>,
+}
+
+impl<R: Read> Steady<R> {
+    /// The reader, which has not failed.
+    pub fn new(inner: R) -> Steady<R> {
+        Steady { inner, why: None }
+    }
+}
+
+impl<R: Read> Read for &mut Steady<R> {
+    fn read(&mut self, buffer: &mut [u8]) -> io::Result<usize> {
+        for _ in 0..TRIES {
+            match self.inner.read(buffer) {
+                Err(e) if e.kind() == io::ErrorKind::Interrupted => {}
+                Ok(n) => return Ok(n),
+                Err(e) => {
+                    let kind = e.kind();
+                    self.why = Some(e);
+                    return Err(io::Error::from(kind));
+                }
+            }
+        }
+        Err(io::Error::from(io::ErrorKind::Interrupted))
+    }
+}
+
+/// What is written, kept in memory.
+#[derive(Drop)]
+pub struct Held {
+    bytes: Vec<u8>,
+    /// How often a growth was refused.
+    pub refused: u64,
+}
+
+impl Held {
+    /// Nothing yet.
+    pub fn new(alloc: Global) -> Held {
+        Held {
+            bytes: Vec::new(alloc),
+            refused: 0,
+        }
+    }
+
+    /// What was written.
+    pub fn bytes(&self) -> &[u8] {
+        self.bytes.as_slice()
+    }
+}
+
+impl Sink for Held {
+    ghost holds = { λ s. None };
+
+    ghost failures = { λ s. s.refused };
+
+    fn write(&mut self, bytes: &[u8]) -> Result<usize, Failed> {
+        match self.bytes.extend_from_slice(bytes) {
+            Ok(()) => Ok(bytes.len()),
+            Err(_) => {
+                if self.refused == u64::MAX {
+                    return Ok(bytes.len());
+                }
+                self.refused += 1;
+                Err(Failed)
+            }
+        }
+    }
+}

@@ -1,0 +1,136 @@
+//! What the words of the command line say of files, and what is left for the program.
+
+use std::alloc::{AllocError, Global};
+
+/// A command line whose files and switches were taken out.
+#[derive(Drop)]
+pub struct Line {
+    /// The words for the program, its name first.
+    pub words: Vec<String>,
+    /// The files to read, in their order; `-` is standard input.
+    pub files: Vec<String>,
+    /// Where the bundle of a replay or a run goes, if not behind `---`.
+    pub bundle: Option<String>,
+    /// Whether an audit answers by its status alone.
+    pub is_quiet: bool,
+    /// Whether a replay that refuses an event ends with status 1.
+    pub is_strict: bool,
+}
+
+// What a word is.
+#[derive(Clone, Copy, PartialEq, Eq)]
+enum Kind {
+    // A word for the program.
+    Plain,
+    // The same, and so is the next.
+    WithNumber,
+    File,
+    Bundle,
+    Quiet,
+    Strict,
+}
+
+// The command that a line begins with, as far as it says what the words behind it are.
+#[derive(Clone, Copy, PartialEq, Eq)]
+enum Command {
+    Audit,
+    Replay,
+    Run,
+    Explain,
+    OneFile,
+    Other,
+}
+
+fn command_of(word: &str) -> Command {
+    match word {
+        "audit" => Command::Audit,
+        "replay" => Command::Replay,
+        "run" => Command::Run,
+        "explain" => Command::Explain,
+        "serial" | "certify" => Command::OneFile,
+        _ => Command::Other,
+    }
+}
+
+// Whether this is the name of a rule, as `F10`.
+fn is_rule(word: &str) -> bool {
+    let bytes = word.as_bytes();
+    match bytes {
+        [b'F' | b'K', digits @ ..] => {
+            !digits.is_empty() && digits.iter().all(|b| b.is_ascii_digit())
+        }
+        _ => false,
+    }
+}
+
+fn kind_of(command: Command, word: &str) -> Kind {
+    if command == Command::Other {
+        return Kind::Plain;
+    }
+    match word {
+        "-q" | "--quiet" if command == Command::Audit => Kind::Quiet,
+        "--strict" if command == Command::Replay => Kind::Strict,
+        "--bundle" if command == Command::Replay || command == Command::Run => Kind::Bundle,
+        "--workers" | "--tries" if command == Command::Run => Kind::WithNumber,
+        "--tx" if command == Command::Explain => Kind::WithNumber,
+        "-" => Kind::File,
+        _ if word.starts_with('-') => Kind::Plain,
+        _ if command == Command::Explain && is_rule(word) => Kind::Plain,
+        _ => Kind::File,
+    }
+}
+
+impl Line {
+    fn new(alloc: Global) -> Line {
+        Line {
+            words: Vec::new(alloc),
+            files: Vec::new(alloc),
+            bundle: None,
+            is_quiet: false,
+            is_strict: false,
+        }
+    }
+
+    // A second file, or a second place for the bundle, is left for the program, which takes no such word.
+    fn add(&mut self, command: Command, kind: Kind, word: String) -> Result<(), AllocError> {
+        match kind {
+            Kind::Quiet => self.is_quiet = true,
+            Kind::Strict => self.is_strict = true,
+            Kind::File if command == Command::Audit || self.files.is_empty() => {
+                self.files.push(word)?;
+            }
+            _ => self.words.push(word)?,
+        }
+        Ok(())
+    }
+
+    /// The line of these words, the program's name first.
+    pub fn of(alloc: Global, given: Vec<String>) -> Result<Line, AllocError> {
+        let mut line = Line::new(alloc);
+        let mut command = Command::Other;
+        let mut before = Kind::Plain;
+        for (place, word) in given.into_iter().enumerate() {
+            let kind = match before {
+                Kind::WithNumber => Kind::Plain,
+                _ => kind_of(command, word.as_str()),
+            };
+            if place == 1 {
+                command = command_of(word.as_str());
+            }
+            if before == Kind::Bundle && line.bundle.is_none() {
+                line.bundle = Some(word);
+                before = Kind::Plain;
+                continue;
+            }
+            before = kind;
+            if kind == Kind::Bundle && line.bundle.is_none() {
+                continue;
+            }
+            line.add(command, kind, word)?;
+        }
+        if before == Kind::Bundle {
+            line.words.push(String::from_str(alloc, "--bundle")?)?;
+        }
+        Ok(line)
+    }
+}

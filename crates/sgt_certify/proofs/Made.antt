@@ -1,0 +1,54 @@
+-- What a text with a line put in shows of the bytes without it.
+use Rattle.std.proofs.Common.{◌≡◌, ℕ, List, [], ◌∷◌, ◌++◌, Option, Some, None, IfSome, sym, ap, ◌∙◌, subst, append_assoc}
+use Rattle.sgt_names.specs.declared.outcome.Outcome.{Outcome}
+use Rattle.sgt_cert.specs.Parts.{Parts}
+use Rattle.sgt_cert.specs.Text.{Spells}
+use Rattle.sgt_cert.specs.Valid.{IsValid}
+use Rattle.sgt_cert.specs.declared.bundle.SiteLog.{SiteLog}
+use Rattle.sgt_audit.specs.Spelled.{AnswersBundle}
+use Rattle.sgt_certify_logs.specs.Certifiable.{AreCertifiable, HasNoCertificate, IsWithLine, SpellsLogs}
+use Rattle.sgt_certify_logs.proofs.Cycles.{conflicts-no_cycle, ends-no_cycle}
+use Rattle.sgt_certify_logs.proofs.Inserted.{logs-one, with-logs}
+use Rattle.sgt_certify_logs.proofs.Stuck.{stuck-none}
+use Rattle.sgt_certify.specs.Answer.{Excludes, IsAnswer, IsCertified}
+use Rattle.sgt_certify.specs.declared.refuting.Refusal.{Refusal}
+use Rattle.sgt_certify.specs.declared.refuting.Refusal.TheVariants.{Order, Ranks, Walk}
+
+-- two lines with their LFs, and a rest, put behind one another
+pub put-together : (first second rest a b c d e : List ℕ) → a ≡ first → b ≡ a ++ 10 ∷ [] → c ≡ b ++ second → d ≡ c ++ 10 ∷ [] → e ≡ d ++ rest
+    → e ≡ first ++ 10 ∷ (second ++ 10 ∷ rest)
+put-together first second rest a b c d e ea eb ec ed ee =
+    ee ∙ ap (λ (t : List ℕ). t ++ rest) (ed ∙ ap (λ (t : List ℕ). t ++ 10 ∷ []) (ec ∙ ap (λ (t : List ℕ). t ++ second) (eb ∙ ap (λ (t : List ℕ). t ++ 10 ∷ []) ea)))
+    ∙ simp append_assoc
+
+pub certified-from : (bytes text line : List ℕ) (b : Parts) → IsWithLine bytes line text → Spells text b → IsValid b → IsCertified bytes text
+certified-from bytes text line b made s valid =
+    let w = with-logs bytes line text b made s in
+    record { bundle = b; logs = w.0; line = subst (λ l. IsWithLine bytes l text) w.1 made; spelled = s; valid = valid }
+
+-- the logs of a bundle that was read are those of the bytes without its certificate
+pub answers-logs : (bytes line text : List ℕ) (found : Option Parts) → IsWithLine bytes line text → AnswersBundle text found
+    → IfSome found (λ b. SpellsLogs bytes b.sites)
+answers-logs bytes line text None made answers = tt
+answers-logs bytes line text (Some b) made answers = (with-logs bytes line text b made answers).0
+
+-- what excludes a certificate of the logs excludes one of the bytes
+none-from : (bytes : List ℕ) (sites : List SiteLog) → SpellsLogs bytes sites → (AreCertifiable sites → ⊥) → HasNoCertificate bytes
+none-from bytes sites spelled none other h can = none (subst AreCertifiable (logs-one bytes other sites h spelled) can)
+
+pub none-shown : (refusal : Refusal) (bytes : List ℕ) (sites : List SiteLog) → SpellsLogs bytes sites → Excludes refusal sites → HasNoCertificate bytes
+none-shown Order bytes sites spelled shown = none-from bytes sites spelled (ends-no_cycle sites shown)
+none-shown Ranks bytes sites spelled shown = none-from bytes sites spelled (conflicts-no_cycle sites shown)
+none-shown Walk bytes sites spelled shown = none-from bytes sites spelled (stuck-none sites shown.0 shown.1)
+
+-- the answer to the text that was read is that to the bytes that were told
+pub told-answer : (told : Option (List ℕ)) (text written : List ℕ) (outcome : Outcome) → IfSome told (λ bytes. bytes ≡ text)
+    → IsAnswer text outcome written → IfSome told (λ bytes. IsAnswer bytes outcome written)
+told-answer None text written outcome same answer = tt
+told-answer (Some bytes) text written outcome same answer = subst (λ t. IsAnswer t outcome written) (sym same) answer
+
+-- an answer to all bytes is one to those that were told
+pub any-answer : (told : Option (List ℕ)) (written : List ℕ) (outcome : Outcome) → ((bytes : List ℕ) → IsAnswer bytes outcome written)
+    → IfSome told (λ bytes. IsAnswer bytes outcome written)
+any-answer None written outcome answer = tt
+any-answer (Some bytes) written outcome answer = answer bytes

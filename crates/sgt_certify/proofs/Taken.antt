@@ -1,0 +1,45 @@
+-- How far a reader was read, against all that it told.
+use Rattle.std.proofs.Common.{◌≡◌, ℕ, List, [], ◌∷◌, ◌++◌, Option, Some, None, IfSome, sym, ap, ap₂, ◌∙◌, arith, append_assoc}
+use Rattle.std.specs.Io.KnownBytes.{Consumes}
+use Rattle.std.proofs.lemmas.List.{append-nil}
+use Rattle.sgt_notation.specs.Lines.{Ahead, Gives, Spends, coming}
+use Rattle.sgt_notation.specs.declared.lines.Next.TheVariants.{Line, Cut, End}
+
+pub nothing-taken : (told : Option (List ℕ)) (ahead : Ahead) (text : List ℕ) → text ≡ [] → ahead.held ≡ [] → Consumes told (coming ahead told) text
+nothing-taken None ahead text none fresh = tt
+nothing-taken (Some bytes) ahead text none fresh = ap₂ (λ (t held : List ℕ). t ++ (held ++ bytes)) (sym none) (sym fresh)
+
+pub line-taken : (told old new : Option (List ℕ)) (limit : ℕ) (text line more : List ℕ) → Consumes told old text → Gives limit old Line line new
+    → more ≡ (text ++ line) ++ 10 ∷ [] → Consumes told new more
+line-taken None old new limit text line more rest gives is = tt
+line-taken (Some bytes) None new limit text line more rest gives is = absurd rest
+line-taken (Some bytes) (Some xs) None limit text line more rest gives is = absurd gives
+line-taken (Some bytes) (Some xs) (Some ys) limit text line more rest gives is =
+    rest ∙ ap (λ (t : List ℕ). text ++ t) gives.2 ∙ sym (append_assoc text line (10 ∷ ys))
+    ∙ sym (append_assoc (text ++ line) (10 ∷ []) ys) ∙ ap (λ (t : List ℕ). t ++ ys) (sym is)
+
+pub cut-taken : (told old new : Option (List ℕ)) (limit : ℕ) (text line more : List ℕ) → Consumes told old text → Gives limit old Cut line new
+    → more ≡ text ++ line → IfSome told (λ bytes. bytes ≡ more)
+cut-taken None old new limit text line more rest gives is = tt
+cut-taken (Some bytes) None new limit text line more rest gives is = absurd rest
+cut-taken (Some bytes) (Some xs) None limit text line more rest gives is = absurd gives
+cut-taken (Some bytes) (Some xs) (Some ys) limit text line more rest gives is = rest ∙ ap (λ (t : List ℕ). text ++ t) gives.3 ∙ sym is
+
+pub end-taken : (told old new : Option (List ℕ)) (limit : ℕ) (text line : List ℕ) → Consumes told old text → Gives limit old End line new
+    → IfSome told (λ bytes. bytes ≡ text)
+end-taken None old new limit text line rest gives = tt
+end-taken (Some bytes) None new limit text line rest gives = absurd rest
+end-taken (Some bytes) (Some xs) None limit text line rest gives = absurd gives
+end-taken (Some bytes) (Some xs) (Some ys) limit text line rest gives = rest ∙ ap (λ (t : List ℕ). text ++ t) gives.0 ∙ append-nil text
+
+-- ---- the reads
+
+pub spends_on : (told mid new : Option (List ℕ)) (a b c : ℕ) → Spends a told b mid → Spends b mid c new → Spends a told c new
+spends_on None mid new a b c first later = tt
+spends_on (Some xs) None new a b c first later = absurd first
+spends_on (Some xs) (Some ys) None a b c first later = absurd later
+spends_on (Some xs) (Some ys) (Some zs) a b c first later = omega arith
+
+pub spends-none : (told : Option (List ℕ)) (a b : ℕ) → b ≡ a → Spends a told b told
+spends-none None a b same = tt
+spends-none (Some xs) a b same = omega arith

@@ -1,0 +1,63 @@
+-- What logs without a certificate are answered by.
+use Rattle.std.specs.Prelude.{◌≡◌, ◌⊎◌, ℕ, List, [], ◌++◌, codes, Option, IfSome}
+use Rattle.std.specs.Io.KnownBytes.{Appends}
+use Rattle.sgt_names.specs.Device.{AppendsOrForgets, WritesFront}
+use Rattle.sgt_names.specs.declared.outcome.Outcome.{Outcome}
+use Rattle.sgt_names.specs.declared.outcome.Outcome.TheVariants.{Yes, No, Unreadable}
+use Rattle.sgt_cert.specs.Parts.{Parts}
+use Rattle.sgt_cert.specs.Text.{Spells, certificate_text}
+use Rattle.sgt_cert.specs.Valid.{IsValid}
+use Rattle.sgt_cert.specs.declared.bundle.SiteLog.{SiteLog}
+use Rattle.sgt_certify_logs.specs.Certifiable.{HasNoCertificate, IsWithLine, SpellsLogs}
+use Rattle.sgt_certify_logs.specs.Witness.{HaveConflictsInACycle, HaveEndsInACycle, IsStuck}
+use Rattle.sgt_certify.specs.declared.refuting.Refusal.{Refusal}
+use Rattle.sgt_certify.specs.declared.refuting.Refusal.TheVariants.{Order, Ranks, Walk}
+
+-- the text is the bytes with a certificate put in as their second line, and spells a valid bundle of the very logs that they spell
+pub record IsCertified (bytes text : List ℕ) : Type 0 where
+  pub bundle : Parts
+  pub logs : SpellsLogs bytes bundle.sites
+  pub line : IsWithLine bytes (certificate_text bundle.certificate) text
+  pub spelled : Spells text bundle
+  pub valid : IsValid bundle
+
+-- the first line of a refusal
+abbrev pub refusal_text : Refusal → List ℕ
+refusal_text Order = codes "no order\n"
+refusal_text Ranks = codes "no ranks\n"
+refusal_text Walk = codes "no walk\n"
+
+-- what the logs have, by which no certificate makes them valid: ends in a cycle, committed conflicts in a cycle, a stuck set
+abbrev pub Excludes : Refusal → List SiteLog → Type 0
+Excludes Order sites = HaveEndsInACycle sites
+Excludes Ranks sites = HaveConflictsInACycle sites
+Excludes Walk sites = (decided : List ℕ) × IsStuck sites decided
+
+-- the text begins with the line of a refusal, the logs that the bytes spell have what that line says, and so no certificate
+pub record IsRefused (bytes text : List ℕ) : Type 0 where
+  pub refusal : Refusal
+  pub lines : List ℕ
+  pub told : text ≡ refusal_text refusal ++ lines
+  pub sites : List SiteLog
+  pub logs : SpellsLogs bytes sites
+  pub shown : Excludes refusal sites
+  pub none : HasNoCertificate bytes
+
+-- a text of which nothing is proved: the line of a fault, or that what was found didn't pass its check
+abbrev pub IsUnproved : List ℕ → Type 0
+IsUnproved text = (rest : List ℕ) × ((text ≡ codes "no line " ++ rest) ⊎ (text ≡ codes "! certify\n"))
+
+-- the text that the bytes are answered by: with a yes the bundle, with a no a refusal or what isn't proved
+abbrev pub IsAnswer : List ℕ → Outcome → List ℕ → Type 0
+IsAnswer bytes Yes text = IsCertified bytes text
+IsAnswer bytes No text = IsRefused bytes text ⊎ IsUnproved text
+IsAnswer bytes Unreadable text = ⊥
+
+-- that text was written
+abbrev pub WroteAnswer : (told : Option (List ℕ)) → Outcome → (old new : Option (List ℕ)) → Type 0
+WroteAnswer told outcome old new = (text : List ℕ) × IfSome told (λ bytes. IsAnswer bytes outcome text) × Appends old new text
+
+-- nothing was written, or a front of that text, and less than the whole
+abbrev pub WroteAnswerFront : (told old new : Option (List ℕ)) → Type 0
+WroteAnswerFront told old new = AppendsOrForgets old new []
+    ⊎ ((outcome : Outcome) × (text : List ℕ) × IfSome told (λ bytes. IsAnswer bytes outcome text) × WritesFront old new text)

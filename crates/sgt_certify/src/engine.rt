@@ -1,0 +1,123 @@
+//! The certificate of all that a reader gives.
+
+ghost use Rattle.std.specs.Prelude.{◌≡◌, ◌≢◌, ◌++◌, ◌<◌, ℕ, List, Option, Err, codes, IfErr, IfOk, IfSome, IsErrOf, IsTrue, OnErr};
+ghost use Rattle.sgt_notation.specs.Lines.{ReadFaultIsDue};
+ghost use Rattle.sgt_certify.specs.Answer.{IsAnswer, WroteAnswer, WroteAnswerFront};
+
+use crate::making::certified;
+use crate::refuting::{joined, refused};
+use crate::taking::{Taken, take_text};
+use sgt_certify_search::{Found, LineFault, find, long_line};
+use sgt_names::{EngineFail, Outcome, Sink, Source, write_all};
+use sgt_notation::push_number;
+use std::alloc::{AllocError, Global};
+
+/// An outcome, and what is to be written.
+#[derive(Drop)]
+struct Answer {
+    outcome: Outcome,
+    text: Vec<u8>,
+}
+
+/// The line of a fault.
+fn fault_line(alloc: Global, line: usize, fault: LineFault) -> Result<Vec<u8>, AllocError>
+    ensures { IfOk result (λ text. (rest : List ℕ) × (text.items ≡ codes "no line " ++ rest)) }
+{
+    let mut rest = Vec::new(alloc);
+    push_number(&mut rest, line as u64)?;
+    rest.extend_from_slice(b" F")?;
+    push_number(&mut rest, u64::from(fault.number()))?;
+    rest.extend_from_slice(b"\n")?;
+    joined(alloc, b"no line ", rest.as_slice())
+}
+
+/// A no for a line with a fault.
+fn fault_answer(alloc: Global, line: usize, fault: LineFault) -> Result<Answer, AllocError>
+    ensures { IfOk result (λ a. (bytes : List ℕ) → IsAnswer bytes a.outcome a.text.items) }
+{
+    Ok(Answer {
+        outcome: Outcome::No,
+        text: fault_line(alloc, line, fault)?,
+    })
+}
+
+/// A no, where what was found didn't pass its check.
+fn unchecked_answer(alloc: Global) -> Result<Answer, AllocError>
+    ensures { IfOk result (λ a. (bytes : List ℕ) → IsAnswer bytes a.outcome a.text.items) }
+{
+    Ok(Answer {
+        outcome: Outcome::No,
+        text: Vec::from_slice(alloc, b"! certify\n")?,
+    })
+}
+
+/// The answer to a text, by what was found of it.
+fn found_answer(alloc: Global, text: &[u8], found: &Found) -> Result<Answer, EngineFail>
+    ensures answer { IfOk result (λ a. IsAnswer text.now a.outcome a.text.items) }
+    ensures err { IfErr result (λ e. e ≡ EngineFail.Memory) }
+{
+    match found {
+        Found::Certificate(certificate) => match certified(alloc, text, certificate)? {
+            Some(text) => Ok(Answer {
+                outcome: Outcome::Yes,
+                text,
+            }),
+            None => Ok(unchecked_answer(alloc)?),
+        },
+        Found::Refused(reason) => match refused(alloc, text, reason)? {
+            Some(text) => Ok(Answer {
+                outcome: Outcome::No,
+                text,
+            }),
+            None => Ok(unchecked_answer(alloc)?),
+        },
+        Found::Fault { line, fault } => Ok(fault_answer(alloc, *line, *fault)?),
+    }
+}
+
+/// The answer to what a reader gave.
+fn answer_to(alloc: Global, taken: &Taken) -> Result<Answer, EngineFail>
+    ensures answer { IfOk result (λ a. (told : Option (List ℕ)) → (IsTrue taken.now.all → IfSome told (λ bytes. bytes ≡ taken.now.text.items))
+        → IfSome told (λ bytes. IsAnswer bytes a.outcome a.text.items)) }
+    ensures err { IfErr result (λ e. e ≡ EngineFail.Memory) }
+{
+    let text = taken.text.as_slice();
+    if !taken.all {
+        let (line, fault) = long_line(alloc, text)?;
+        return Ok(fault_answer(alloc, line, fault)?);
+    }
+    let found = find(alloc, text)?;
+    found_answer(alloc, text, &found)
+}
+
+/// Reads the text of a bundle without its second line, and writes it with the line of a certificate that makes its logs valid; or
+/// the reason why there is none: `no line L FN`, `no order`, `no ranks` or `no walk` and the lines that show it. Where what was
+/// found doesn't pass its check, the answer is `! certify`; no input is known for which it is. All but a line that is too long and
+/// what follows it is read before anything is written.
+///
+/// ReadFault where the reader failed, or no read is left, and Memory where a growth was refused: nothing was written.
+/// WriteFault where the writer failed: a front of the answer may have been written.
+pub fn certify<R: Source, W: Sink>(
+    alloc: Global,
+    reader: &mut R,
+    writer: &mut W,
+) -> Result<Outcome, EngineFail>
+    ensures answer { IfOk result (λ outcome. WroteAnswer (R.tells reader.old) outcome (W.holds writer.old) (W.holds writer.new)) }
+    ensures front { OnErr result (WroteAnswerFront (R.tells reader.old) (W.holds writer.old) (W.holds writer.new)) }
+    ensures unwritten { IsErrOf result EngineFail.ReadFault → writer.new ≡ writer.old }
+    ensures untouched { IsErrOf result EngineFail.Memory → writer.new ≡ writer.old }
+
+    // A fault tells of its device, and no fault of a device is passed over.
+    ensures read_fault { IsErrOf result EngineFail.ReadFault → ReadFaultIsDue (R.tells reader.old)
+        (R.failures reader.old) (R.failures reader.new) (R.asked reader.old) (R.asked reader.new) }
+    ensures write_fault { IsErrOf result EngineFail.WriteFault → W.failures writer.old < W.failures writer.new }
+    ensures quiet_reader { result ≢ Err EngineFail.ReadFault → R.failures reader.new ≡ R.failures reader.old }
+    ensures quiet_writer { result ≢ Err EngineFail.WriteFault → W.failures writer.new ≡ W.failures writer.old }
+{
+    let taken = take_text(alloc, reader)?;
+    let answer = answer_to(alloc, &taken)?;
+    match write_all(writer, answer.text.as_slice()) {
+        Ok(()) => Ok(answer.outcome),
+        Err(_) => Err(EngineFail::WriteFault),
+    }
+}

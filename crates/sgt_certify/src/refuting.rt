@@ -1,0 +1,97 @@
+//! Why a text of logs has no certificate, checked against the logs.
+
+ghost use Rattle.std.specs.Prelude.{◌≡◌, ◌++◌, IfOk, IfErr, IfSome};
+ghost use Rattle.sgt_certify.specs.Answer.{Excludes, IsRefused, refusal_text};
+ghost use Rattle.sgt_certify_logs.specs.Certifiable.{SpellsLogs};
+
+use crate::making::with_certificate;
+use sgt_audit::read_bundle;
+use sgt_cert::{Bundle, Certificate, SiteLog};
+use sgt_certify_logs::{is_conflict_cycle, is_end_cycle};
+use sgt_certify_search::{Proof, Reason};
+use sgt_certify_stuck::is_stuck;
+use sgt_names::{EngineFail, Listed};
+use std::alloc::{AllocError, Global};
+
+/// Why logs have no certificate.
+#[derive(Clone, Copy, Debug, PartialEq, Eq)]
+pub enum Refusal {
+    /// Their ends stand in no common order.
+    Order,
+    /// Their committed transactions conflict in a cycle.
+    Ranks,
+    /// Who could be decided next is refused, and has no walk.
+    Walk,
+}
+
+/// The first line of a refusal.
+fn line_of(refusal: Refusal) -> &'static [u8]
+    ensures { result.now ≡ refusal_text refusal }
+{
+    match refusal {
+        Refusal::Order => b"no order\n",
+        Refusal::Ranks => b"no ranks\n",
+        Refusal::Walk => b"no walk\n",
+    }
+}
+
+/// What the proof shows of the logs, if it does.
+fn shown(alloc: Global, sites: &[SiteLog], proof: &Proof) -> Result<Option<Refusal>, AllocError>
+    ensures { IfOk result (λ shown. IfSome shown (λ refusal. Excludes refusal sites.now)) }
+{
+    match proof {
+        Proof::Ends(steps) => Ok(if is_end_cycle(sites, steps.as_slice()) {
+            Some(Refusal::Order)
+        } else {
+            None
+        }),
+        Proof::Conflicts(steps) => Ok(if is_conflict_cycle(sites, steps.as_slice()) {
+            Some(Refusal::Ranks)
+        } else {
+            None
+        }),
+        Proof::Stuck(set) => Ok(if is_stuck(alloc, sites, set)? {
+            Some(Refusal::Walk)
+        } else {
+            None
+        }),
+    }
+}
+
+/// The logs that the text spells, if they are of so many sites.
+fn logs_of(alloc: Global, text: &[u8], sites: u8) -> Result<Option<Bundle>, EngineFail>
+    ensures logs { IfOk result (λ found. IfSome found (λ b. SpellsLogs text.now b.sites)) }
+    ensures err { IfErr result (λ e. e ≡ EngineFail.Memory) }
+{
+    let empty = Certificate {
+        sites,
+        decisions: Listed::new(Vec::new(alloc)),
+    };
+    match with_certificate(alloc, text, &empty)? {
+        Some(made) => read_bundle(alloc, made.as_slice()),
+        None => Ok(None),
+    }
+}
+
+/// One text, and then another.
+pub fn joined(alloc: Global, head: &[u8], rest: &[u8]) -> Result<Vec<u8>, AllocError>
+    ensures { IfOk result (λ text. text.items ≡ head.now ++ rest.now) }
+{
+    let mut text = Vec::from_slice(alloc, head)?;
+    text.extend_from_slice(rest)?;
+    Ok(text)
+}
+
+/// The text of the reason, where it passes its check against the logs.
+pub fn refused(alloc: Global, text: &[u8], reason: &Reason) -> Result<Option<Vec<u8>>, EngineFail>
+    ensures told { IfOk result (λ told. IfSome told (λ t. IsRefused text.now t.items)) }
+    ensures err { IfErr result (λ e. e ≡ EngineFail.Memory) }
+{
+    let Some(bundle) = logs_of(alloc, text, reason.sites)? else {
+        return Ok(None);
+    };
+    let Some(refusal) = shown(alloc, bundle.sites(), &reason.proof)? else {
+        return Ok(None);
+    };
+    Ok(Some(joined(alloc, line_of(refusal), reason.lines.as_slice())?))
+}

@@ -1,0 +1,71 @@
+//! All that a reader gives.
+
+ghost use Rattle.std.specs.Prelude.{◌≡◌, ◌≢◌, ◌∷◌, ◌++◌, [], Err, IfOk, IfSome, IsErrOf, IsTrue, OnOk};
+ghost use Rattle.sgt_notation.specs.Limits.{most_reads};
+ghost use Rattle.sgt_notation.specs.Lines.{ReadFaultIsDue};
+
+use sgt_names::{EngineFail, Source};
+use sgt_notation::{Lines, LinesFault, MAX_LINE, Next};
+use std::alloc::{AllocError, Global};
+
+/// One more line, with its LF.
+fn push_line(text: &mut Vec<u8>, line: &[u8]) -> Result<(), AllocError>
+    ensures { OnOk result (text.new.items ≡ (text.old.items ++ line.now) ++ 10 ∷ []) }
+{
+    text.extend_from_slice(line)?;
+    text.extend_from_slice(b"\n")
+}
+
+/// Adds all bytes to the text, or those of the lines before the first one that is too long: false then.
+fn take_lines<R: Source>(
+    alloc: Global,
+    reader: &mut R,
+    lines: &mut Lines,
+    text: &mut Vec<u8>,
+) -> Result<bool, EngineFail>
+    requires fresh { lines.old ≡ record { held = []; reads = most_reads } }
+    requires none { text.old.items ≡ [] }
+    ensures all { IfOk result (λ all. IsTrue all → IfSome (R.tells reader.old) (λ bytes. bytes ≡ text.new.items)) }
+    ensures quiet { result ≢ Err EngineFail.ReadFault → R.failures reader.new ≡ R.failures reader.old }
+    ensures read_fault { IsErrOf result EngineFail.ReadFault → ReadFaultIsDue (R.tells reader.old)
+        (R.failures reader.old) (R.failures reader.new) (R.asked reader.old) (R.asked reader.new) }
+    ensures write_fault { result ≢ Err EngineFail.WriteFault }
+{
+    let mut line = Vec::new(alloc);
+    'lines: loop {
+        match lines.next(reader, &mut line, MAX_LINE) {
+            Ok(Next::Line) => push_line(text, line.as_slice())?,
+            Ok(Next::Cut) => {
+                text.extend_from_slice(line.as_slice())?;
+                return Ok(true);
+            }
+            Ok(Next::End) => return Ok(true),
+            Ok(Next::TooLong) => return Ok(false),
+            Err(LinesFault::Memory) => return Err(EngineFail::Memory),
+            Err(LinesFault::ReadFault) => return Err(EngineFail::ReadFault),
+        }
+    }
+}
+
+/// What a reader gave.
+#[derive(Drop)]
+pub struct Taken {
+    pub text: Vec<u8>,
+    /// Whether that is all: false where a line behind it is too long.
+    pub all: bool,
+}
+
+/// Reads all bytes, or as far as to the first line that is too long. An Err is ReadFault, where a read failed or too many were
+/// needed, or Memory.
+pub fn take_text<R: Source>(alloc: Global, reader: &mut R) -> Result<Taken, EngineFail>
+    ensures all { IfOk result (λ taken. IsTrue taken.all → IfSome (R.tells reader.old) (λ bytes. bytes ≡ taken.text.items)) }
+    ensures quiet { result ≢ Err EngineFail.ReadFault → R.failures reader.new ≡ R.failures reader.old }
+    ensures read_fault { IsErrOf result EngineFail.ReadFault → ReadFaultIsDue (R.tells reader.old)
+        (R.failures reader.old) (R.failures reader.new) (R.asked reader.old) (R.asked reader.new) }
+    ensures write_fault { result ≢ Err EngineFail.WriteFault }
+{
+    let mut lines = Lines::new(alloc)?;
+    let mut text = Vec::new(alloc);
+    let all = take_lines(alloc, reader, &mut lines, &mut text)?;
+    Ok(Taken { text, all })
+}

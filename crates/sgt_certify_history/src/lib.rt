@@ -1,0 +1,19 @@
+//! What the logs of sites without a certificate say, and searches over it: the order of the ends, ranks, and cycles of conflicts.
+//! What they find is checked by who asks for it.
+#![tactic(auto)]
+
+mod conflicts;
+mod ends;
+mod history;
+mod lists;
+mod ranks;
+mod walks;
+
+pub use conflicts::{Conflict, kind_of, least_conflict};
+pub use ends::{Before, Front};
+pub use history::{
+    Act, End, Ending, Fate, History, ItemHistory, Life, Operation, Place, act_of, fate_of,
+};
+pub use lists::{is_marked, number_at, set_mark, set_number};
+pub use ranks::rank_order;
+pub use walks::{Link, met_from, walk_of};

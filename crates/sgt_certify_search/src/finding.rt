@@ -1,0 +1,147 @@
+//! What is found of a text.
+
+ghost use Rattle.std.specs.Prelude.{◌<◌, length, IfSome};
+
+use crate::faults::LineFault;
+use crate::reading::Reader;
+use crate::report::{order_text, ranks_text, walk_text};
+use crate::search::{Finding, search};
+use crate::steps::{conflict_steps, end_steps};
+use sgt_cert::Certificate;
+use sgt_certify_history::History;
+use sgt_certify_logs::{ConflictStep, EndStep};
+use sgt_certify_stuck::StuckSet;
+use sgt_names::Listed;
+use sgt_notation::find_lf;
+use std::alloc::{AllocError, Global};
+
+/// What shows that there is no certificate.
+#[derive(Drop)]
+pub enum Proof {
+    /// A cycle of ends.
+    Ends(Vec<EndStep>),
+    /// A cycle of conflicts.
+    Conflicts(Vec<ConflictStep>),
+    /// A stuck set.
+    Stuck(StuckSet),
+}
+
+/// Why there is no certificate of logs of so many sites: what may show it, and the lines that tell it.
+#[derive(Drop)]
+pub struct Reason {
+    pub sites: u8,
+    pub proof: Proof,
+    pub lines: Vec<u8>,
+}
+
+/// What was found of a text of logs.
+#[derive(Drop)]
+pub enum Found {
+    /// This may be its certificate.
+    Certificate(Certificate),
+    /// There is none, for this reason.
+    Refused(Reason),
+    /// There is none: this line has a fault that no certificate mends.
+    Fault { line: usize, fault: LineFault },
+}
+
+/// The first line, without its LF, and what stands behind it.
+fn split_line(text: &[u8]) -> Option<(&[u8], &[u8])>
+    ensures { IfSome result (λ split. length split.1.now < length text.now) }
+{
+    let at = find_lf(text)?;
+    Some((&text[..at], &text[at + 1..]))
+}
+
+/// Feeds the reader the lines of the text, up to the first with a fault: that, if there is one. Else what is left behind the last LF
+/// is put into `rest`.
+fn feed(
+    reader: &mut Reader,
+    text: &[u8],
+    rest: &mut usize,
+) -> Result<Option<LineFault>, AllocError> {
+    let mut ahead = text;
+    'lines: while let Some((line, behind)) = split_line(ahead) {
+        if let Some(fault) = reader.next(line)? {
+            return Ok(Some(fault));
+        }
+        ahead = behind;
+    }
+    *rest = ahead.len();
+    Ok(None)
+}
+
+/// The number of the sites.
+fn count_of(history: &History) -> u8 {
+    match u8::try_from(history.sites.len()) {
+        Ok(sites) => sites,
+        Err(_) => 0,
+    }
+}
+
+/// The lines that tell what was found, and what may show it.
+fn told(alloc: Global, history: &History, finding: Finding) -> Result<Found, AllocError> {
+    let sites = count_of(history);
+    let (proof, lines) = match finding {
+        Finding::Decided(decisions) => {
+            return Ok(Found::Certificate(Certificate {
+                sites,
+                decisions: Listed::new(decisions),
+            }));
+        }
+        Finding::Order(cycle) => (
+            Proof::Ends(end_steps(alloc, history, cycle.as_slice())?),
+            order_text(alloc, history, cycle.as_slice())?,
+        ),
+        Finding::Ranks(cycle) => (
+            Proof::Conflicts(conflict_steps(alloc, history, cycle.as_slice())?),
+            ranks_text(alloc, history, cycle.as_slice())?,
+        ),
+        Finding::Walk(left, stuck) => (
+            Proof::Stuck(stuck),
+            walk_text(alloc, history, left.as_slice())?,
+        ),
+    };
+    Ok(Found::Refused(Reason {
+        sites,
+        proof,
+        lines,
+    }))
+}
+
+/// What the search finds in what the logs say.
+fn found_in(alloc: Global, history: &History) -> Result<Found, AllocError> {
+    let finding = search(alloc, history)?;
+    told(alloc, history, finding)
+}
+
+/// Looks for a certificate of the logs that the text spells, or for the reason why there is none. Err: memory ran out.
+pub fn find(alloc: Global, text: &[u8]) -> Result<Found, AllocError> {
+    let mut reader = Reader::new(alloc);
+    let mut rest = 0;
+    let fault = match feed(&mut reader, text, &mut rest)? {
+        Some(fault) => Some(fault),
+        None => reader.end(rest),
+    };
+    match fault {
+        Some(fault) => Ok(Found::Fault {
+            line: reader.number(),
+            fault,
+        }),
+        None => {
+            let history = reader.finish()?;
+            found_in(alloc, &history)
+        }
+    }
+}
+
+/// The first line with a fault of a text with a line behind it that is too long, and its fault. Err: memory ran out.
+pub fn long_line(alloc: Global, text: &[u8]) -> Result<(usize, LineFault), AllocError> {
+    let mut reader = Reader::new(alloc);
+    let mut rest = 0;
+    let fault = match feed(&mut reader, text, &mut rest)? {
+        Some(fault) => fault,
+        None => reader.too_long(),
+    };
+    Ok((reader.number(), fault))
+}

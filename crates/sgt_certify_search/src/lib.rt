@@ -1,0 +1,12 @@
+//! The search for the certificate of logs that have none. What it finds is checked by who asks for it.
+#![tactic(auto)]
+
+mod faults;
+mod finding;
+mod reading;
+mod report;
+mod search;
+mod steps;
+
+pub use faults::LineFault;
+pub use finding::{Found, Proof, Reason, find, long_line};

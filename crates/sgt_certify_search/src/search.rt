@@ -1,0 +1,305 @@
+//! The search for a certificate of what the logs say.
+
+use sgt_cert::{Decision, Step};
+use sgt_certify_history::{
+    Before, End, Fate, Front, History, Link, is_marked, met_from, number_at, rank_order, set_mark,
+    set_number, walk_of,
+};
+use sgt_certify_stuck::{Circle, StuckSet};
+use sgt_names::{Listed, Tx};
+use std::alloc::{AllocError, Global};
+
+/// What the search found.
+#[derive(Drop)]
+pub enum Finding {
+    /// These decisions.
+    Decided(Vec<Decision>),
+    /// A cycle of ends.
+    Order(Vec<Before>),
+    /// A cycle of committed conflicts.
+    Ranks(Vec<Link>),
+    /// The next ends, where only refused ones without a walk are free, and what was decided by then.
+    Walk(Vec<Left>, StuckSet),
+}
+
+/// The next end of a site.
+#[derive(Clone, Copy, Debug)]
+pub struct Left {
+    pub site: usize,
+    pub end: End,
+}
+
+/// A choice of the next decision: a transaction, and its walk if it is refused.
+#[derive(Drop)]
+struct Choice {
+    tx: usize,
+    walk: Vec<Link>,
+}
+
+/// The decisions so far.
+#[derive(Drop)]
+struct Greedy {
+    front: Front,
+    ranks: Vec<usize>,
+    /// Who is committed by a decision.
+    committed: Vec<bool>,
+    commits: usize,
+    /// Of each transaction one more than how many were committed when it had no walk.
+    asked: Vec<usize>,
+    decisions: Vec<Decision>,
+}
+
+/// How many are committed by the logs.
+fn committed_count(history: &History) -> usize {
+    let mut count: usize = 0;
+    for life in history.lives.as_slice() {
+        if life.fate == Some(Fate::Commit) {
+            count = count.saturating_add(1);
+        }
+    }
+    count
+}
+
+/// The cycle of ends, if there is one.
+fn order_cycle(alloc: Global, history: &History) -> Result<Option<Vec<Before>>, AllocError> {
+    let mut front = Front::new(alloc, history)?;
+    for _ in 0..history.lives.len() {
+        match front.free.last() {
+            Some(tx) => {
+                let tx = *tx;
+                front.decide(history, tx)?;
+            }
+            None => break,
+        }
+    }
+    if front.decided >= history.lives.len() {
+        return Ok(None);
+    }
+    Ok(Some(front.cycle(alloc, history)?))
+}
+
+/// The cycle of the least transaction that lies on one, of those that have no rank.
+fn rank_cycle(alloc: Global, history: &History, order: &[usize]) -> Result<Vec<Link>, AllocError> {
+    let mut ranked = vec![in alloc; false; history.lives.len()]?;
+    for tx in order {
+        set_mark(ranked.as_mut_slice(), *tx);
+    }
+    let mut allowed = vec![in alloc; false; history.lives.len()]?;
+    for tx in 0..history.lives.len() {
+        if history.is_committed(tx) && !is_marked(ranked.as_slice(), tx) {
+            set_mark(allowed.as_mut_slice(), tx);
+        }
+    }
+    for tx in 0..history.lives.len() {
+        if is_marked(allowed.as_slice(), tx) {
+            let walk = walk_of(alloc, history, allowed.as_slice(), tx)?;
+            if !walk.is_empty() {
+                return Ok(walk);
+            }
+        }
+    }
+    Ok(Vec::new(alloc))
+}
+
+impl Greedy {
+    fn new(alloc: Global, history: &History, order: &[usize]) -> Result<Greedy, AllocError> {
+        let many = history.lives.len();
+        let mut ranks = vec![in alloc; 0usize; many]?;
+        for (rank, tx) in order.iter().enumerate() {
+            set_number(ranks.as_mut_slice(), *tx, rank);
+        }
+        Ok(Greedy {
+            front: Front::new(alloc, history)?,
+            ranks,
+            committed: vec![in alloc; false; many]?,
+            commits: 0,
+            asked: vec![in alloc; 0usize; many]?,
+            decisions: Vec::new(alloc),
+        })
+    }
+
+    /// The least of the free ones that isn't refused.
+    fn plain_choice(&self, history: &History) -> Option<usize> {
+        let mut least: Option<usize> = None;
+        for tx in self.front.free.as_slice() {
+            if !history.is_refused(*tx) {
+                least = match least {
+                    Some(other) if other < *tx => Some(other),
+                    _ => Some(*tx),
+                };
+            }
+        }
+        least
+    }
+
+    /// The least of the free refused ones that has a walk.
+    fn refused_choice(
+        &mut self,
+        alloc: Global,
+        history: &History,
+    ) -> Result<Option<Choice>, AllocError> {
+        let mut free = Vec::from_slice(alloc, self.front.free.as_slice())?;
+        free.sort()?;
+        let now = self.commits.saturating_add(1);
+        for tx in free.as_slice() {
+            if number_at(self.asked.as_slice(), *tx) == now {
+                continue;
+            }
+            let walk = walk_of(alloc, history, self.committed.as_slice(), *tx)?;
+            if !walk.is_empty() {
+                return Ok(Some(Choice { tx: *tx, walk }));
+            }
+            set_number(self.asked.as_mut_slice(), *tx, now);
+        }
+        Ok(None)
+    }
+
+    fn choice(&mut self, alloc: Global, history: &History) -> Result<Option<Choice>, AllocError> {
+        match self.plain_choice(history) {
+            Some(tx) => Ok(Some(Choice {
+                tx,
+                walk: Vec::new(alloc),
+            })),
+            None => self.refused_choice(alloc, history),
+        }
+    }
+
+    /// Decides on the choice.
+    fn decide(
+        &mut self,
+        alloc: Global,
+        history: &History,
+        choice: Choice,
+    ) -> Result<(), AllocError> {
+        let Choice { tx, walk } = choice;
+        if let Some(life) = history.lives.get(tx) {
+            let decision = match life.fate {
+                Some(Fate::Commit) => {
+                    set_mark(self.committed.as_mut_slice(), tx);
+                    self.commits = self.commits.saturating_add(1);
+                    Decision::Commit {
+                        tx: life.tx,
+                        rank: rank_of(self.ranks.as_slice(), tx),
+                    }
+                }
+                Some(Fate::Refuse) => Decision::Refuse {
+                    tx: life.tx,
+                    walk: Listed::new(steps_of(alloc, history, walk.as_slice())?),
+                },
+                _ => Decision::Withdraw { tx: life.tx },
+            };
+            self.decisions.push(decision)?;
+        }
+        self.front.decide(history, tx)
+    }
+}
+
+/// The rank of the transaction.
+fn rank_of(ranks: &[usize], tx: usize) -> u32 {
+    match u32::try_from(number_at(ranks, tx)) {
+        Ok(rank) => rank,
+        Err(_) => u32::MAX,
+    }
+}
+
+/// The steps of a walk.
+fn steps_of(alloc: Global, history: &History, walk: &[Link]) -> Result<Vec<Step>, AllocError> {
+    let mut steps = Vec::new(alloc);
+    for link in walk {
+        if let Some(life) = history.lives.get(link.to) {
+            steps.push(Step {
+                label: link.conflict.label,
+                to: life.tx,
+            })?;
+        }
+    }
+    Ok(steps)
+}
+
+/// The next end of each site with ends left.
+fn ends_left(alloc: Global, history: &History, front: &Front) -> Result<Vec<Left>, AllocError> {
+    let mut left = Vec::new(alloc);
+    for site in 0..history.sites.len() {
+        if let Some(end) = front.next_end(history, site) {
+            left.push(Left { site, end })?;
+        }
+    }
+    Ok(left)
+}
+
+/// The numbers of the transactions.
+fn numbers_of(alloc: Global, history: &History, places: &[usize]) -> Result<Vec<Tx>, AllocError> {
+    let mut numbers = Vec::new(alloc);
+    for place in places {
+        if let Some(life) = history.lives.get(*place) {
+            numbers.push(life.tx)?;
+        }
+    }
+    Ok(numbers)
+}
+
+impl Greedy {
+    /// All that conflicts lead to from each free one on, through those that are committed.
+    fn circles(&self, alloc: Global, history: &History) -> Result<Vec<Circle>, AllocError> {
+        let mut circles = Vec::new(alloc);
+        for place in self.front.free.as_slice() {
+            if let Some(life) = history.lives.get(*place) {
+                let met = met_from(alloc, history, self.committed.as_slice(), *place)?;
+                circles.push(Circle {
+                    tx: life.tx,
+                    met: numbers_of(alloc, history, met.as_slice())?,
+                })?;
+            }
+        }
+        Ok(circles)
+    }
+
+    /// What was decided, where only refused ones without a walk are free.
+    fn stuck_set(&self, alloc: Global, history: &History) -> Result<StuckSet, AllocError> {
+        let mut committed = Vec::new(alloc);
+        let mut others = Vec::new(alloc);
+        for decision in self.decisions.as_slice() {
+            match decision {
+                Decision::Commit { tx, .. } => committed.push(*tx)?,
+                Decision::Refuse { tx, .. } => others.push(*tx)?,
+                Decision::Withdraw { tx } => others.push(*tx)?,
+            }
+        }
+        Ok(StuckSet {
+            committed,
+            others,
+            circles: self.circles(alloc, history)?,
+        })
+    }
+}
+
+/// The decisions in order, as far as there are some.
+fn decide_all(alloc: Global, history: &History, order: &[usize]) -> Result<Greedy, AllocError> {
+    let mut greedy = Greedy::new(alloc, history, order)?;
+    for _ in 0..history.lives.len() {
+        match greedy.choice(alloc, history)? {
+            Some(choice) => greedy.decide(alloc, history, choice)?,
+            None => break,
+        }
+    }
+    Ok(greedy)
+}
+
+/// The decisions, or the first of the reasons why there are none.
+pub fn search(alloc: Global, history: &History) -> Result<Finding, AllocError> {
+    if let Some(cycle) = order_cycle(alloc, history)? {
+        return Ok(Finding::Order(cycle));
+    }
+    let order = rank_order(alloc, history)?;
+    if order.len() < committed_count(history) {
+        return Ok(Finding::Ranks(rank_cycle(alloc, history, order.as_slice())?));
+    }
+    let greedy = decide_all(alloc, history, order.as_slice())?;
+    if greedy.front.decided < history.lives.len() {
+        return Ok(Finding::Walk(
+            ends_left(alloc, history, &greedy.front)?,
+            greedy.stuck_set(alloc, history)?,
+        ));
+    }
+    Ok(Finding::Decided(greedy.decisions))
+}

@@ -1,0 +1,97 @@
+-- A pass over a log that keeps the items that were seen.
+use Rattle.std.proofs.Common.{◌≡◌, inl, inr, ◌⊎◌, ℕ, ◌+◌, ◌<◌, ◌≤◌, Bool, true, false, List, [], Option, Some, BTreeSet, IsTrue, refl, sym, ap, ◌∙◌, subst, arith}
+use Rattle.std.specs.Prelude.{slice_get}
+use Rattle.std.proofs.lemmas.Bool.{cases_eq, true≢false}
+use Rattle.std.proofs.lemmas.Option.{same_Some}
+use Rattle.sgt_names.specs.Name.{Name}
+use Rattle.sgt_names.specs.Entry.{tx_of, item_of, is_increment, Reads, Writes}
+use Rattle.sgt_names.specs.Log.{Conflicts}
+use Rattle.sgt_names.specs.declared.entry.Entry.{Entry}
+use Rattle.sgt_names.specs.declared.entry.Entry.TheVariants.{Read, Write, Add, Want, WantAdd, Commit, Refuse, Withdraw}
+use Rattle.sgt_names.specs.declared.entry.Kind.{Kind}
+use Rattle.sgt_names.specs.declared.entry.Kind.TheVariants.{Wr, Rw, Ww}
+use Rattle.sgt_certify_stuck.specs.Apart.{AreApart, Does, HasItem, HasTx, IsClear}
+use Rattle.sgt_certify_stuck.specs.declared.apart.Class.{Class}
+use Rattle.sgt_certify_stuck.specs.declared.apart.Class.TheVariants as class
+
+bool_cases : (b : Bool) → (b ≡ true) ⊎ (b ≡ false)
+bool_cases true = inl refl
+bool_cases false = inr refl
+
+reads-item : (x : Name) (e : Entry) → Reads x e → item_of e ≡ Some x
+reads-item x (Read t y v) h = ap Some h
+reads-item x (Write t y v) h = absurd h
+reads-item x (Add t y v) h = absurd h
+reads-item x (Want t y v) h = absurd h
+reads-item x (WantAdd t y v) h = absurd h
+reads-item x (Commit t) h = absurd h
+reads-item x (Refuse t) h = absurd h
+reads-item x (Withdraw t) h = absurd h
+
+writes-item : (x : Name) (e : Entry) → Writes x e → item_of e ≡ Some x
+writes-item x (Read t y v) h = absurd h
+writes-item x (Write t y v) h = ap Some h
+writes-item x (Add t y v) h = ap Some h
+writes-item x (Want t y v) h = ap Some h
+writes-item x (WantAdd t y v) h = ap Some h
+writes-item x (Commit t) h = absurd h
+writes-item x (Refuse t) h = absurd h
+writes-item x (Withdraw t) h = absurd h
+
+-- whoever does something to an item is an operation on it
+pub does-item : (k : Class) (x : Name) (e : Entry) → Does k x e → item_of e ≡ Some x
+does-item class.Read x e h = reads-item x e h
+does-item class.Change x e h = writes-item x e h
+does-item class.Put x e h = writes-item x e h.0
+
+-- what was seen of the first n entries
+pub record HasSeen (entries : List Entry) (n : ℕ) (sources barred : BTreeSet ℕ) (first second : Class) (seen : BTreeSet (List ℕ)) : Type 0 where
+  pub kept : (p : ℕ) (e : Entry) (x : Name) → p < n → slice_get entries p ≡ Some e → HasTx sources (tx_of e) → Does first x e → HasItem seen x
+  pub clear : (p q : ℕ) (e f : Entry) (x : Name) → p < q → q < n → slice_get entries p ≡ Some e → slice_get entries q ≡ Some f
+      → HasTx sources (tx_of e) → HasTx barred (tx_of f) → Does first x e → Does second x f → ⊥
+
+pub none-seen : (entries : List Entry) (sources barred : BTreeSet ℕ) (first second : Class) (seen : BTreeSet (List ℕ)) → HasSeen entries 0 sources barred first second seen
+none-seen entries sources barred first second seen = record {
+  kept = λ p e x lt. absurd (omega arith);
+  clear = λ p q e f x lt within. absurd (omega arith);
+}
+
+pub seen-next : (entries : List Entry) (n : ℕ) (sources barred : BTreeSet ℕ) (first second : Class) (seen next : BTreeSet (List ℕ)) (e : Entry)
+    → HasSeen entries n sources barred first second seen → slice_get entries n ≡ Some e
+    → ((x : Name) → HasItem seen x → HasTx barred (tx_of e) → Does second x e → ⊥)
+    → ((x : Name) → HasItem seen x → HasItem next x)
+    → ((x : Name) → HasTx sources (tx_of e) → Does first x e → HasItem next x)
+    → HasSeen entries (n + 1) sources barred first second next
+seen-next entries n sources barred first second seen next e had at misses kept added = record {
+  kept = λ p f x lt at_p source does.
+      elim (cases_eq p n) [
+        | inl last ↦
+            let one : f ≡ e = same_Some f e (sym at_p ∙ ap (slice_get entries) last ∙ at) in
+            added x (subst (λ (g : Entry). HasTx sources (tx_of g)) one source) (subst (λ (g : Entry). Does first x g) one does)
+        | inr before ↦ kept x (had.kept p f x (omega arith) at_p source does)
+      ];
+  clear = λ p q f g x lt within at_p at_q source bars does then.
+      elim (cases_eq q n) [
+        | inl last ↦
+            let one : g ≡ e = same_Some g e (sym at_q ∙ ap (slice_get entries) last ∙ at) in
+            misses x (had.kept p f x (omega arith) at_p source does) (subst (λ (h : Entry). HasTx barred (tx_of h)) one bars)
+            (subst (λ (h : Entry). Does second x h) one then)
+        | inr before ↦ had.clear p q f g x lt (omega arith) at_p at_q source bars does then
+      ];
+}
+
+-- the four passes find each conflict
+pub apart-from : (entries : List Entry) (sources barred : BTreeSet ℕ) → IsClear entries sources barred class.Change class.Read
+    → IsClear entries sources barred class.Read class.Change → IsClear entries sources barred class.Change class.Put
+    → IsClear entries sources barred class.Put class.Change → AreApart entries sources barred
+apart-from entries sources barred reads changes puts over Wr x a b c source bars =
+    reads c.p c.q c.e c.f x c.before c.first c.second (subst (HasTx sources) (sym c.from) source) (subst (HasTx barred) (sym c.to) bars) c.clash.0 c.clash.1
+apart-from entries sources barred reads changes puts over Rw x a b c source bars =
+    changes c.p c.q c.e c.f x c.before c.first c.second (subst (HasTx sources) (sym c.from) source) (subst (HasTx barred) (sym c.to) bars) c.clash.0 c.clash.1
+apart-from entries sources barred reads changes puts over Ww x a b c source bars =
+    let from = subst (HasTx sources) (sym c.from) source in
+    let to = subst (HasTx barred) (sym c.to) bars in
+    elim (bool_cases (is_increment c.e)) [
+      | inl adds ↦ puts c.p c.q c.e c.f x c.before c.first c.second from to c.clash.0 (c.clash.1, λ (both : IsTrue (is_increment c.f)). c.clash.2 adds both)
+      | inr writes ↦ over c.p c.q c.e c.f x c.before c.first c.second from to (c.clash.0, λ (adds : IsTrue (is_increment c.e)). true≢false (sym adds ∙ writes)) c.clash.1
+    ]

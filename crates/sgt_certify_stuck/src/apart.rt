@@ -1,0 +1,157 @@
+//! Conflicts that lead from some transactions to some others, looked for in one pass over a log.
+
+ghost use Rattle.std.specs.Prelude.{◌≡◌, IsTrue, IfOk, OnOk, Contains, Some};
+ghost use Rattle.sgt_names.specs.Name.{Name};
+ghost use Rattle.sgt_names.specs.Entry.{tx_of};
+ghost use Rattle.sgt_cert.specs.declared.bundle.SiteLog.{SiteLog as Log};
+ghost use Rattle.sgt_certify_stuck.specs.Apart.{AreApart, Does, HasItem, HasTx, IsClear};
+
+use sgt_cert::SiteLog;
+use sgt_names::{Entry, Item, Tx};
+use std::alloc::{AllocError, Global};
+use std::collections::BTreeSet;
+
+/// What an entry does to an item.
+#[derive(Clone, Copy)]
+pub enum Class {
+    Read,
+    /// It changes it or asks to.
+    Change,
+    /// It does so by a write.
+    Put,
+}
+
+fn does(class: Class, entry: &Entry, item: &Item) -> bool
+    ensures { Does class item.now entry.now → IsTrue result }
+{
+    match class {
+        Class::Read => entry.reads(item),
+        Class::Change => entry.writes(item),
+        Class::Put => entry.writes(item) && !entry.is_increment(),
+    }
+}
+
+/// The item to which the entry does this, if it does it.
+fn item_by(class: Class, entry: &Entry) -> Option<Item>
+    ensures { (x : Name) → Does class x entry.now → result ≡ Some x }
+{
+    match entry.item() {
+        Some(item) if does(class, entry, &item) => Some(item),
+        _ => None,
+    }
+}
+
+/// Whether the entry is of a barred transaction and does this to an item that was seen.
+fn meets(seen: &BTreeSet<Item>, barred: &BTreeSet<Tx>, class: Class, entry: &Entry) -> bool
+    ensures { (x : Name) → HasItem seen.now x → HasTx barred.now (tx_of entry.now) → Does class x entry.now → IsTrue result }
+{
+    if !barred.contains(&entry.tx()) {
+        return false;
+    }
+    match item_by(class, entry) {
+        Some(item) => seen.contains(&item),
+        None => false,
+    }
+}
+
+/// Adds the item to which the entry does this, if it is of a source.
+fn note(
+    seen: &mut BTreeSet<Item>,
+    sources: &BTreeSet<Tx>,
+    class: Class,
+    entry: &Entry,
+) -> Result<(), AllocError>
+    ensures kept { OnOk result ((x : Name) → HasItem seen.old x → HasItem seen.new x) }
+    ensures added { OnOk result ((x : Name) → HasTx sources.now (tx_of entry.now) → Does class x entry.now → HasItem seen.new x) }
+{
+    if sources.contains(&entry.tx()) {
+        if let Some(item) = item_by(class, entry) {
+            seen.insert(item)?;
+        }
+    }
+    Ok(())
+}
+
+/// Two things that are done to an item, one before the other.
+#[derive(Clone, Copy)]
+pub struct Pair {
+    first: Class,
+    second: Class,
+}
+
+/// Whether no source does the first of the pair to an item before a barred one does the second to it.
+fn is_clear(
+    alloc: Global,
+    entries: &[Entry],
+    sources: &BTreeSet<Tx>,
+    barred: &BTreeSet<Tx>,
+    pair: Pair,
+) -> Result<bool, AllocError>
+    ensures { IfOk result (λ clear. IsTrue clear → IsClear entries.now sources.now barred.now pair.first pair.second) }
+{
+    let mut seen = BTreeSet::new(alloc);
+    for entry in entries {
+        if meets(&seen, barred, pair.second, entry) {
+            return Ok(false);
+        }
+        note(&mut seen, sources, pair.first, entry)?;
+    }
+    Ok(true)
+}
+
+/// Whether no conflict of the log leads from a source to a barred one.
+fn are_apart(
+    alloc: Global,
+    entries: &[Entry],
+    sources: &BTreeSet<Tx>,
+    barred: &BTreeSet<Tx>,
+) -> Result<bool, AllocError>
+    ensures { IfOk result (λ apart. IsTrue apart → AreApart entries.now sources.now barred.now) }
+{
+    let reads = Pair {
+        first: Class::Change,
+        second: Class::Read,
+    };
+    let changes = Pair {
+        first: Class::Read,
+        second: Class::Change,
+    };
+    let puts = Pair {
+        first: Class::Change,
+        second: Class::Put,
+    };
+    let put_over = Pair {
+        first: Class::Put,
+        second: Class::Change,
+    };
+    let free_of_reads = is_clear(alloc, entries, sources, barred, reads)?;
+    if !free_of_reads {
+        return Ok(false);
+    }
+    let free_of_changes = is_clear(alloc, entries, sources, barred, changes)?;
+    if !free_of_changes {
+        return Ok(false);
+    }
+    let free_of_puts = is_clear(alloc, entries, sources, barred, puts)?;
+    if !free_of_puts {
+        return Ok(false);
+    }
+    is_clear(alloc, entries, sources, barred, put_over)
+}
+
+/// Whether no conflict of any log leads from a source to a barred one.
+pub fn are_all_apart(
+    alloc: Global,
+    sites: &[SiteLog],
+    sources: &BTreeSet<Tx>,
+    barred: &BTreeSet<Tx>,
+) -> Result<bool, AllocError>
+    ensures { IfOk result (λ apart. IsTrue apart → (log : Log) → Contains sites.now log → AreApart log.entries sources.now barred.now) }
+{
+    for log in sites {
+        if !are_apart(alloc, log.entries.as_slice(), sources, barred)? {
+            return Ok(false);
+        }
+    }
+    Ok(true)
+}

@@ -1,0 +1,18 @@
+use Rattle.std.proofs.Common.{ℕ, List, ◌++◌, ap, subst}
+use Rattle.std.specs.Prelude.{string_bytes}
+use Rattle.sgt_audit.specs.Verdict.{IsVerdict}
+use Rattle.sgt_explain.proofs.Taken.{told-of}
+use Rattle.sgt_explain.proofs.engine.answer.Goals as goal
+
+pub returns-in-Ok-clause-answer : goal.returns-in-Ok-clause-answer
+returns-in-Ok-clause-answer g c =
+    let told = g.R.Source.tells c.args.reader.now in
+    let text = c.in_ok-text.text.items in
+    let v = c.in_ok-verdict.verdict in
+    let meaning = string_bytes c.in-Ok.answer.meaning in (
+      v,
+      meaning,
+      told-of told text (λ bytes. IsVerdict bytes v) c.in_ok-text.ensures.all (subst (λ (t : List ℕ). IsVerdict t v) c.as_slice.ensures.value c.in_ok-verdict.ensures.verdict),
+      c.in-Ok.ensures.outcome,
+      ap (λ (l : List ℕ). l ++ meaning) c.in-Ok.ensures.line,
+    )

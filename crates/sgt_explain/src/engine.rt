@@ -1,0 +1,135 @@
+//! The explanation of all that a reader gives.
+
+ghost use Rattle.std.specs.Prelude.{◌≡◌, ◌≢◌, ◌⊎◌, ◌<◌, ◌≤◌, ◌++◌, [], ℕ, List, Err, length, string_bytes, IfOk, OnOk, OnErr, IfSome, IsErrOf};
+ghost use Rattle.std.specs.Io.KnownBytes.{Appends};
+ghost use Rattle.sgt_names.specs.Device.{CountsFailures, WritesFront};
+ghost use Rattle.sgt_notation.specs.Limits.{most_reads};
+ghost use Rattle.sgt_explain.specs.Explained.{IsExplained, WroteExplained, WroteExplainedFront};
+
+use crate::answers::{Answer, answer_to};
+use crate::judging::verdict_on;
+use crate::reading::read_all;
+use crate::rules::rule_of;
+use crate::topics::Topic;
+use sgt_names::{EngineFail, Failed, Outcome, Sink, Source, Tx, write_all};
+use std::alloc::Global;
+
+/// The answer to all that the reader gives.
+fn answer<R: Source>(alloc: Global, reader: &mut R, asked: Option<Tx>) -> Result<Answer, EngineFail>
+    ensures answer { IfOk result (λ answer. IsExplained (R.tells reader.old) answer.outcome
+        (string_bytes answer.line ++ string_bytes answer.meaning)) }
+    ensures quiet { result ≢ Err EngineFail.ReadFault → R.failures reader.new ≡ R.failures reader.old }
+    ensures read_fault { IsErrOf result EngineFail.ReadFault →
+        ((R.failures reader.old < R.failures reader.new) ⊎ IfSome (R.tells reader.old) (λ bytes. most_reads ≤ length bytes)) }
+    ensures write_fault { result ≢ Err EngineFail.WriteFault }
+{
+    let text = read_all(alloc, reader)?;
+    let verdict = verdict_on(alloc, text.as_slice())?;
+    match answer_to(alloc, text.as_slice(), verdict, asked) {
+        Ok(answer) => Ok(answer),
+        Err(_) => Err(EngineFail::Memory),
+    }
+}
+
+/// Writes two texts, one behind the other. An Err is the writer's, as in `write_all`.
+fn write_both<W: Sink>(writer: &mut W, first: &[u8], second: &[u8]) -> Result<(), Failed>
+    ensures ok { OnOk result (Appends (W.holds writer.old) (W.holds writer.new) (first.now ++ second.now)) }
+    ensures err { OnErr result (WritesFront (W.holds writer.old) (W.holds writer.new) (first.now ++ second.now)) }
+    ensures fails { CountsFailures result (W.failures writer.old) (W.failures writer.new) }
+{
+    match write_all(writer, first) {
+        Ok(()) => write_all(writer, second),
+        Err(failed) => Err(failed),
+    }
+}
+
+/// Explains all that the reader gives, of which one transaction may be asked for.
+fn explain_asked<R: Source, W: Sink>(
+    alloc: Global,
+    asked: Option<Tx>,
+    reader: &mut R,
+    writer: &mut W,
+) -> Result<Outcome, EngineFail>
+    ensures answer { IfOk result (λ outcome. WroteExplained (R.tells reader.old) outcome (W.holds writer.old) (W.holds writer.new)) }
+    ensures front { OnErr result (WroteExplainedFront (R.tells reader.old) (W.holds writer.old) (W.holds writer.new)) }
+    ensures unwritten { IsErrOf result EngineFail.ReadFault → writer.new ≡ writer.old }
+    ensures untouched { IsErrOf result EngineFail.Memory → writer.new ≡ writer.old }
+    ensures read_fault { IsErrOf result EngineFail.ReadFault →
+        ((R.failures reader.old < R.failures reader.new) ⊎ IfSome (R.tells reader.old) (λ bytes. most_reads ≤ length bytes)) }
+    ensures write_fault { IsErrOf result EngineFail.WriteFault → W.failures writer.old < W.failures writer.new }
+    ensures quiet_reader { result ≢ Err EngineFail.ReadFault → R.failures reader.new ≡ R.failures reader.old }
+    ensures quiet_writer { result ≢ Err EngineFail.WriteFault → W.failures writer.new ≡ W.failures writer.old }
+{
+    let answer = answer(alloc, reader, asked)?;
+    match write_both(writer, answer.line.as_bytes(), answer.meaning.as_bytes()) {
+        Ok(()) => Ok(answer.outcome),
+        Err(_) => Err(EngineFail::WriteFault),
+    }
+}
+
+/// Explains all that the reader gives: first the verdict's line as `audit` writes it, and behind it what the verdict means. Of a
+/// no that are ten lines at most: the rule, the lines concerned, what was found and what is wanted. Of a yes each refused
+/// transaction with its cycle, every step with its site, its item, its kind in words and its two lines. The input is read whole
+/// and kept in memory, also behind a fault.
+///
+/// ReadFault where the reader failed, or too many reads were needed (`MOST_READS` of sgt_notation), and Memory where a growth
+/// was refused: nothing was written. WriteFault where the writer failed: a front of the answer may have been written.
+pub fn explain<R: Source, W: Sink>(
+    alloc: Global,
+    reader: &mut R,
+    writer: &mut W,
+) -> Result<Outcome, EngineFail>
+    ensures answer { IfOk result (λ outcome. WroteExplained (R.tells reader.old) outcome (W.holds writer.old) (W.holds writer.new)) }
+    ensures front { OnErr result (WroteExplainedFront (R.tells reader.old) (W.holds writer.old) (W.holds writer.new)) }
+    ensures unwritten { IsErrOf result EngineFail.ReadFault → writer.new ≡ writer.old }
+    ensures untouched { IsErrOf result EngineFail.Memory → writer.new ≡ writer.old }
+
+    // A fault tells of its device, and no fault of a device is passed over.
+    ensures read_fault { IsErrOf result EngineFail.ReadFault →
+        ((R.failures reader.old < R.failures reader.new) ⊎ IfSome (R.tells reader.old) (λ bytes. most_reads ≤ length bytes)) }
+    ensures write_fault { IsErrOf result EngineFail.WriteFault → W.failures writer.old < W.failures writer.new }
+    ensures quiet_reader { result ≢ Err EngineFail.ReadFault → R.failures reader.new ≡ R.failures reader.old }
+    ensures quiet_writer { result ≢ Err EngineFail.WriteFault → W.failures writer.new ≡ W.failures writer.old }
+{
+    explain_asked(alloc, None, reader, writer)
+}
+
+/// The same, and behind it what the transaction did: its decision and rank, or the cycle where it was refused, its entries at
+/// each site with their lines, and whom it is in conflict with, in which direction. Of a text with a fault the lines before that
+/// are shown. In place of the cycles of a yes: of this transaction alone.
+pub fn explain_transaction<R: Source, W: Sink>(
+    alloc: Global,
+    tx: Tx,
+    reader: &mut R,
+    writer: &mut W,
+) -> Result<Outcome, EngineFail>
+    ensures answer { IfOk result (λ outcome. WroteExplained (R.tells reader.old) outcome (W.holds writer.old) (W.holds writer.new)) }
+    ensures front { OnErr result (WroteExplainedFront (R.tells reader.old) (W.holds writer.old) (W.holds writer.new)) }
+    ensures unwritten { IsErrOf result EngineFail.ReadFault → writer.new ≡ writer.old }
+    ensures untouched { IsErrOf result EngineFail.Memory → writer.new ≡ writer.old }
+
+    // A fault tells of its device, and no fault of a device is passed over.
+    ensures read_fault { IsErrOf result EngineFail.ReadFault →
+        ((R.failures reader.old < R.failures reader.new) ⊎ IfSome (R.tells reader.old) (λ bytes. most_reads ≤ length bytes)) }
+    ensures write_fault { IsErrOf result EngineFail.WriteFault → W.failures writer.old < W.failures writer.new }
+    ensures quiet_reader { result ≢ Err EngineFail.ReadFault → R.failures reader.new ≡ R.failures reader.old }
+    ensures quiet_writer { result ≢ Err EngineFail.WriteFault → W.failures writer.new ≡ W.failures writer.old }
+{
+    explain_asked(alloc, Some(tx), reader, writer)
+}
+
+/// Writes the rule of the topic, with an example of a line that breaks it. WriteFault where the writer failed: a front of the
+/// text may have been written.
+pub fn explain_topic<W: Sink>(topic: Topic, writer: &mut W) -> Result<Outcome, EngineFail>
+    ensures ok { IfOk result (λ outcome. outcome ≡ Outcome.Yes) }
+    ensures text { OnOk result ((text : List ℕ) × Appends (W.holds writer.old) (W.holds writer.new) text) }
+    ensures front { OnErr result ((text : List ℕ) × WritesFront (W.holds writer.old) (W.holds writer.new) text) }
+    ensures only { OnErr result (result ≡ Err EngineFail.WriteFault) }
+    ensures write_fault { OnErr result (W.failures writer.old < W.failures writer.new) }
+    ensures quiet_writer { OnOk result (W.failures writer.new ≡ W.failures writer.old) }
+{
+    match write_all(writer, rule_of(topic).as_bytes()) {
+        Ok(()) => Ok(Outcome::Yes),
+        Err(_) => Err(EngineFail::WriteFault),
+    }
+}

@@ -1,0 +1,14 @@
+//! Verdicts explained: what a no means, line by line, and of a yes why transactions were refused.
+#![tactic(auto)]
+
+mod answers;
+mod engine;
+mod judging;
+mod noes;
+mod reading;
+mod rules;
+mod topics;
+mod yeses;
+
+pub use engine::{explain, explain_topic, explain_transaction};
+pub use topics::Topic;

@@ -1,0 +1,60 @@
+//! All that a reader gives, kept in memory.
+
+ghost use Rattle.std.specs.Prelude.{◌≡◌, ◌≢◌, ◌++◌, ◌<◌, ◌≤◌, ◌⊎◌, Err, length, take, IfOk, IfSome, IsErrOf};
+ghost use Rattle.std.specs.Io.KnownBytes.{Consumes, IsAtEnd};
+ghost use Rattle.sgt_notation.specs.Limits.{most_reads};
+
+use sgt_names::{EngineFail, Source};
+use sgt_notation::{BUFFER, MOST_READS};
+use std::alloc::{AllocError, Global};
+
+fn empty_buffer(alloc: Global) -> Result<Vec<u8>, AllocError>
+    ensures { IfOk result (λ buffer. length buffer.items ≡ 65536) }
+{
+    vec![in alloc; 0; BUFFER]
+}
+
+/// Reads once, and adds what comes to the text: how many bytes came, 0 at the end.
+fn take_some<R: Source>(
+    reader: &mut R,
+    buffer: &mut [u8],
+    text: &mut Vec<u8>,
+) -> Result<usize, EngineFail>
+    requires { 0 < length buffer.old }
+    ensures taken { IfOk result (λ n. Consumes (R.tells reader.old) (R.tells reader.new) (take n buffer.new)
+        × (text.new.items ≡ text.old.items ++ take n buffer.new) × (n ≤ length buffer.new)
+        × (n ≡ 0 → IsAtEnd (R.tells reader.new))) }
+    ensures same { length buffer.new ≡ length buffer.old }
+    ensures quiet { result ≢ Err EngineFail.ReadFault → R.failures reader.new ≡ R.failures reader.old }
+    ensures read_fault { IsErrOf result EngineFail.ReadFault → R.failures reader.old < R.failures reader.new }
+    ensures write_fault { result ≢ Err EngineFail.WriteFault }
+{
+    match reader.read(buffer) {
+        Ok(n) => {
+            text.extend_from_slice(&buffer[..n])?;
+            Ok(n)
+        }
+        Err(_) => Err(EngineFail::ReadFault),
+    }
+}
+
+/// All that the reader gives. ReadFault where a read failed or too many were needed (`MOST_READS` of sgt_notation); Memory where
+/// a growth was refused.
+pub fn read_all<R: Source>(alloc: Global, reader: &mut R) -> Result<Vec<u8>, EngineFail>
+    ensures all { IfOk result (λ text. IfSome (R.tells reader.old) (λ bytes. text.items ≡ bytes)) }
+    ensures quiet { result ≢ Err EngineFail.ReadFault → R.failures reader.new ≡ R.failures reader.old }
+    ensures read_fault { IsErrOf result EngineFail.ReadFault →
+        ((R.failures reader.old < R.failures reader.new) ⊎ IfSome (R.tells reader.old) (λ bytes. most_reads ≤ length bytes)) }
+    ensures write_fault { result ≢ Err EngineFail.WriteFault }
+{
+    let mut buffer = empty_buffer(alloc)?;
+    let mut text = Vec::new(alloc);
+    let mut reads = 0u32;
+    'reads: while reads < MOST_READS {
+        if take_some(reader, buffer.as_mut_slice(), &mut text)? == 0 {
+            return Ok(text);
+        }
+        reads += 1;
+    }
+    Err(EngineFail::ReadFault)
+}

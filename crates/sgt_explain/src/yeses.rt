@@ -1,0 +1,40 @@
+//! What is said of a yes, and of one transaction.
+
+use crate::noes::certificate_of;
+use sgt_audit::Verdict;
+use sgt_explain_decisions::{push_cycles, push_dealings, push_fate, sought_in};
+use sgt_names::Tx;
+use std::alloc::{AllocError, Global};
+
+/// Each refused transaction of a valid bundle with its cycle.
+pub fn push_yes(alloc: Global, out: &mut String, bytes: &[u8]) -> Result<(), AllocError> {
+    let Some(certificate) = certificate_of(alloc, bytes)? else {
+        return Ok(());
+    };
+    let decisions = certificate.decisions();
+    let sought = sought_in(alloc, decisions, bytes)?;
+    push_cycles(out, decisions, sought.as_slice())
+}
+
+/// The line behind the last that may be shown of a transaction: all lines of a valid bundle, else those before the first fault.
+fn end_of(verdict: Verdict) -> u64 {
+    match verdict {
+        Verdict::Yes { .. } => u64::MAX,
+        Verdict::No { line, .. } => line,
+    }
+}
+
+/// What is said of one transaction.
+pub fn push_transaction(
+    alloc: Global,
+    out: &mut String,
+    bytes: &[u8],
+    verdict: Verdict,
+    tx: Tx,
+) -> Result<(), AllocError> {
+    match certificate_of(alloc, bytes)? {
+        Some(certificate) => push_fate(alloc, out, certificate.decisions(), bytes, tx)?,
+        None => out.push_str("line 2 is no certificate\n")?,
+    }
+    push_dealings(alloc, out, bytes, end_of(verdict), tx)
+}

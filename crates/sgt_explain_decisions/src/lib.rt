@@ -1,0 +1,24 @@
+//! What an explanation says of the decisions of a bundle: of its second line, and of the logs against it.
+#![tactic(auto)]
+
+mod certificate;
+mod compact;
+mod cycles;
+mod dealings;
+mod ends;
+mod order;
+mod placed;
+mod ranks;
+mod sought;
+mod walks;
+mod words;
+
+pub use certificate::push_certificate;
+pub use cycles::{push_cycles, push_walk_step};
+pub use dealings::{push_dealings, push_fate};
+pub use ends::{push_end, push_not_ended};
+pub use order::{push_decision_order, push_rank_order};
+pub use placed::{Placed, number_on, placed_in};
+pub use ranks::{push_decided_twice, push_ranks};
+pub use sought::{Sought, sought_in};
+pub use walks::push_walk_shape;

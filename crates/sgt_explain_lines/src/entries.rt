@@ -1,0 +1,95 @@
+//! Two entries of a log in conflict, in words.
+
+ghost use Rattle.std.specs.Prelude.{◌≢◌, IfSome};
+ghost use Rattle.sgt_names.specs.Name.{Name};
+ghost use Rattle.sgt_names.specs.Entry.{Clash, tx_of};
+
+use crate::section::Logged;
+use sgt_names::{Entry, Item, Kind};
+use std::alloc::AllocError;
+use std::fmt::Write;
+
+/// The kind of the conflict that the second entry is in with the first, on the item.
+fn clash_on(item: &Item, first: &Entry, second: &Entry) -> Option<Kind>
+    ensures { IfSome result (λ kind. Clash kind item.now first.now second.now) }
+{
+    if first.reads(item) && second.writes(item) {
+        return Some(Kind::Rw);
+    }
+    if !first.writes(item) {
+        return None;
+    }
+    if second.reads(item) {
+        return Some(Kind::Wr);
+    }
+    if second.writes(item) && !(first.is_increment() && second.is_increment()) {
+        Some(Kind::Ww)
+    } else {
+        None
+    }
+}
+
+/// The kind of the conflict that the second entry is in with the first, which stands before it and is another transaction's.
+pub fn clash(first: &Entry, second: &Entry) -> Option<Kind>
+    ensures clash { IfSome result (λ kind. (x : Name) × Clash kind x first.now second.now) }
+    ensures apart { IfSome result (λ _. tx_of first.now ≢ tx_of second.now) }
+{
+    let Some(item) = first.item() else {
+        return None;
+    };
+    if first.tx() == second.tx() {
+        return None;
+    }
+    clash_on(&item, first, second)
+}
+
+/// What the entry does to its item, in words.
+pub fn verb(entry: &Entry) -> &'static str {
+    match entry {
+        Entry::Read { .. } => "read",
+        Entry::Write { .. } => "wrote",
+        Entry::Add { .. } => "added to",
+        Entry::Want { .. } => "asked to write",
+        Entry::WantAdd { .. } => "asked to add to",
+        Entry::Commit { .. } => "was committed",
+        Entry::Refuse { .. } => "was refused",
+        Entry::Withdraw { .. } => "was withdrawn",
+    }
+}
+
+/// The name of a kind of conflict.
+pub fn kind_name(kind: Kind) -> &'static str {
+    match kind {
+        Kind::Wr => "wr",
+        Kind::Rw => "rw",
+        Kind::Ww => "ww",
+    }
+}
+
+/// The two entries on the item in words, without their lines: `2 read y before 1 wrote it`.
+fn push_order(
+    out: &mut String,
+    item: &Item,
+    first: &Entry,
+    second: &Entry,
+) -> Result<(), AllocError> {
+    let from = first.tx();
+    let to = second.tx();
+    let before = verb(first);
+    let after = verb(second);
+    write!(out, "{from} {before} {item} before {to} {after} it")
+}
+
+/// Two entries on the item in words, with their lines: `2 read y before 1 wrote it: site 0, lines 6 and 7`.
+pub fn push_conflict(
+    out: &mut String,
+    site: u8,
+    item: &Item,
+    first: &Logged,
+    second: &Logged,
+) -> Result<(), AllocError> {
+    push_order(out, item, &first.entry, &second.entry)?;
+    let one = first.line;
+    let other = second.line;
+    write!(out, ": site {site}, lines {one} and {other}")
+}

@@ -1,0 +1,146 @@
+//! What is said of a line by itself, or by its place: of line 1, of a line that spells nothing, of the end of the input.
+
+use crate::input::line_at;
+use crate::section::Section;
+use crate::shown::push_numbered;
+use crate::slips::push_slip;
+use sgt_names::{Item, MAX_ITEMS};
+use sgt_notation::{MAX_LINE, SectionLine, read_section};
+use std::alloc::AllocError;
+use std::fmt::Write;
+
+/// F1: line 1 is no format.
+pub fn push_format(out: &mut String, bytes: &[u8]) -> Result<(), AllocError> {
+    out.push_str("Format: line 1 has to be `sgt 1`, or `sgt 2` where there are increments\n")?;
+    let line = line_at(bytes, 1).unwrap_or(b"");
+    push_numbered(out, 1, line)?;
+    match line.last() {
+        _ if line.len() > MAX_LINE => out.push_str("it is longer than 1048576 bytes\n"),
+        None => out.push_str("it is empty\n"),
+        Some(b'\r') => out.push_str("a CR stands at its end: a line ends with LF alone\n"),
+        Some(b'}') => out.push_str("the certificate is line 2: the line before it was left out\n"),
+        Some(_) => Ok(()),
+    }
+}
+
+/// F2: a line spells nothing.
+pub fn push_notation(out: &mut String, bytes: &[u8], number: u64) -> Result<(), AllocError> {
+    out.push_str("Notation: this line is none that a section has\n")?;
+    let line = line_at(bytes, number).unwrap_or(b"");
+    push_numbered(out, number, line)?;
+    push_slip(out, line)
+}
+
+/// The name of the next final, where one is wanted.
+fn next_final(section: &Section) -> Option<Item> {
+    let stated = section.items.get(section.finals.len())?;
+    Some(stated.holding.item)
+}
+
+/// The next line behind the entries.
+fn push_next_final(out: &mut String, section: &Section) -> Result<(), AllocError> {
+    match next_final(section) {
+        Some(item) => write!(out, "`final {item}=..`"),
+        None => out.push_str("`end`"),
+    }
+}
+
+/// What may follow the lines of the section, as a line.
+pub fn push_allowed(out: &mut String, section: &Section) -> Result<(), AllocError> {
+    let site = section.site_number();
+    match section.last {
+        None => out.push_str("the first section begins with `site 0`\n"),
+        Some(SectionLine::End) => {
+            let next = site.saturating_add(1);
+            writeln!(
+                out,
+                "the section of site {site} is over: the next begins with `site {next}`"
+            )
+        }
+        Some(SectionLine::Site(_) | SectionLine::Initial(_)) => {
+            out.push_str("here may stand: an item of a greater name, an entry, or ")?;
+            push_next_final(out, section)?;
+            out.push_str("\n")
+        }
+        Some(SectionLine::Logged(_)) => {
+            out.push_str("here may stand: an entry, or ")?;
+            push_next_final(out, section)?;
+            out.push_str("\n")
+        }
+        Some(SectionLine::Final(_)) => {
+            out.push_str("here has to stand: ")?;
+            push_next_final(out, section)?;
+            out.push_str("\n")
+        }
+    }
+}
+
+/// F18: the input ends.
+pub fn push_truncated(
+    out: &mut String,
+    bytes: &[u8],
+    number: u64,
+    section: &Section,
+) -> Result<(), AllocError> {
+    out.push_str("Truncated: the input ends before its bundle does\n")?;
+    match line_at(bytes, number) {
+        Some(line) => {
+            push_numbered(out, number, line)?;
+            writeln!(out, "line {number} has no LF, so it isn't whole")?;
+        }
+        None => writeln!(out, "line {number} isn't there")?,
+    }
+    match number {
+        1 => out.push_str("line 1 has to be `sgt 1` or `sgt 2`\n"),
+        2 => out.push_str("line 2 has to be the certificate\n"),
+        _ => push_allowed(out, section),
+    }
+}
+
+/// F19: more follows the last section.
+pub fn push_trailing(out: &mut String, bytes: &[u8], number: u64) -> Result<(), AllocError> {
+    out.push_str("Trailing: the bundle is over, and more bytes follow\n")?;
+    push_numbered(out, number, line_at(bytes, number).unwrap_or(b""))?;
+    let last = number.saturating_sub(1);
+    writeln!(
+        out,
+        "line {last} is the `end` of the last site: nothing may stand behind it"
+    )
+}
+
+/// Why an item's line isn't allowed where an item may stand.
+fn push_item_rule(out: &mut String, section: &Section, item: &Item) -> Result<(), AllocError> {
+    if section.items.len() >= MAX_ITEMS {
+        return out.push_str("a site has at most 1024 items\n");
+    }
+    match section.items.last() {
+        Some(last) if last.holding.item >= *item => {
+            let before = last.holding.item;
+            writeln!(
+                out,
+                "the names of items rise by their bytes, and {item} isn't behind {before}"
+            )
+        }
+        _ => Ok(()),
+    }
+}
+
+/// F7: a line that the section doesn't allow.
+pub fn push_section(
+    out: &mut String,
+    bytes: &[u8],
+    number: u64,
+    section: &Section,
+) -> Result<(), AllocError> {
+    out.push_str("Section: the section doesn't allow this line here\n")?;
+    let before = number.saturating_sub(1);
+    if before > 2 {
+        push_numbered(out, before, line_at(bytes, before).unwrap_or(b""))?;
+    }
+    let line = line_at(bytes, number).unwrap_or(b"");
+    push_numbered(out, number, line)?;
+    if let Ok(SectionLine::Initial(holding)) = read_section(line) {
+        push_item_rule(out, section, &holding.item)?;
+    }
+    push_allowed(out, section)
+}

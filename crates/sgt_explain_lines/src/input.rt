@@ -1,0 +1,38 @@
+//! The lines of a text, by number.
+
+use sgt_notation::find_lf;
+
+/// The first line without its LF, and what stands behind it. Where there is no LF, all bytes are the line.
+pub fn cut_line(bytes: &[u8]) -> (&[u8], &[u8]) {
+    match find_lf(bytes) {
+        Some(n) => (&bytes[..n], &bytes[n + 1..]),
+        None => (bytes, &bytes[..0]),
+    }
+}
+
+/// What stands behind so many lines. Nothing where there are fewer.
+pub fn after_line(bytes: &[u8], number: u64) -> &[u8] {
+    let mut rest = bytes;
+    for _ in 0..number {
+        rest = cut_line(rest).1;
+        if rest.is_empty() {
+            return rest;
+        }
+    }
+    rest
+}
+
+/// The line of this number, counted from 1, without its LF. `None` where the text ends before it.
+pub fn line_at(bytes: &[u8], number: u64) -> Option<&[u8]> {
+    let rest = after_line(bytes, number.saturating_sub(1));
+    if rest.is_empty() {
+        None
+    } else {
+        Some(cut_line(rest).0)
+    }
+}
+
+/// Whether the line of this number has its LF.
+pub fn is_whole(bytes: &[u8], number: u64) -> bool {
+    find_lf(after_line(bytes, number.saturating_sub(1))).is_some()
+}

@@ -1,0 +1,201 @@
+//! What is said of an entry by the entries before it on its item.
+
+use crate::entries::verb;
+use crate::section::{Logged, Section, Stated};
+use crate::shown::{push_aside, push_logged, push_numbered};
+use crate::values::{Made, last_had, value_of};
+use sgt_names::{Entry, Holding, Item, Value};
+use std::alloc::AllocError;
+use std::fmt::Write;
+
+/// The name nearest before this one, and the nearest behind it. Names rise.
+fn neighbours(items: &[Stated], item: &Item) -> (Option<Item>, Option<Item>) {
+    let mut before = None;
+    for stated in items {
+        let other = stated.holding.item;
+        if other > *item {
+            return (before, Some(other));
+        }
+        before = Some(other);
+    }
+    (before, None)
+}
+
+/// F8: an item that isn't there.
+pub fn push_item(out: &mut String, section: &Section, logged: &Logged) -> Result<(), AllocError> {
+    let Some(item) = logged.entry.item() else {
+        return Ok(());
+    };
+    let site = section.site_number();
+    writeln!(out, "Item: site {site} has no item {item}")?;
+    push_logged(out, logged)?;
+    match neighbours(section.items.as_slice(), &item) {
+        (None, None) => out.push_str("\nthe site has no items\n"),
+        (Some(one), None) => writeln!(out, "\nthe nearest by name there: {one}"),
+        (None, Some(one)) => writeln!(out, "\nthe nearest by name there: {one}"),
+        (Some(one), Some(other)) => writeln!(out, "\nthe nearest by name there: {one}, {other}"),
+    }
+}
+
+/// The entry before this one that it repeats.
+fn repeated(entries: &[Logged], entry: &Entry, item: &Item) -> Option<Logged> {
+    for other in entries {
+        let is_same = other.entry.tx() == entry.tx();
+        if is_same && entry.reads(item) && other.entry.reads(item) {
+            return Some(*other);
+        }
+        if is_same && entry.writes(item) && other.entry.writes(item) {
+            return Some(*other);
+        }
+    }
+    None
+}
+
+/// F9: a second read or change.
+pub fn push_twice(out: &mut String, section: &Section, logged: &Logged) -> Result<(), AllocError> {
+    let entry = logged.entry;
+    let Some(item) = entry.item() else {
+        return Ok(());
+    };
+    let tx = entry.tx();
+    let site = section.site_number();
+    let what = if entry.reads(&item) {
+        "reads"
+    } else {
+        "changes, or asks to change,"
+    };
+    writeln!(
+        out,
+        "Twice: transaction {tx} {what} item {item} of site {site} a second time"
+    )?;
+    if let Some(first) = repeated(section.entries.as_slice(), &entry, &item) {
+        push_logged(out, &first)?;
+        out.push_str("\n")?;
+    }
+    push_logged(out, logged)?;
+    out.push_str(
+        "\na transaction reads an item once at most, and changes it or asks to once at most\n",
+    )
+}
+
+/// Who made a value: what is said of its line.
+fn push_maker(out: &mut String, made: &Made, entry: &Entry) -> Result<(), AllocError> {
+    let tx = entry.tx();
+    let value = made.value;
+    match entry {
+        Entry::Add { .. } => writeln!(out, "transaction {tx} added to it, which gave {value}"),
+        _ => writeln!(out, "transaction {tx} wrote it"),
+    }
+}
+
+/// The line that made the value of an item.
+fn push_made(out: &mut String, item: &Item, made: &Made) -> Result<(), AllocError> {
+    match &made.by {
+        Some(logged) => {
+            push_aside(out, logged)?;
+            push_maker(out, made, &logged.entry)
+        }
+        None => {
+            let line = made.listed;
+            let value = made.value;
+            writeln!(out, "{line:>4} | item {item}={value}     its initial value")
+        }
+    }
+}
+
+/// Until when the item had the value.
+fn push_until(
+    out: &mut String,
+    section: &Section,
+    item: &Item,
+    value: Value,
+) -> Result<(), AllocError> {
+    match last_had(section, item, value) {
+        Some(line) => write!(out, "{value} was its value up to line {line}"),
+        None => write!(out, "{value} was never its value before"),
+    }
+}
+
+/// F10: a read of another value than the item has.
+pub fn push_read(out: &mut String, section: &Section, logged: &Logged) -> Result<(), AllocError> {
+    let Entry::Read { tx, item, value } = logged.entry else {
+        return Ok(());
+    };
+    let Some(made) = value_of(section, &item) else {
+        return Ok(());
+    };
+    let site = section.site_number();
+    let found = made.value;
+    writeln!(
+        out,
+        "ReadValue: r{tx}[{item}]={value}, but {item} at site {site} is {found} here"
+    )?;
+    push_made(out, &item, &made)?;
+    push_until(out, section, &item, value)?;
+    match last_had(section, &item, value) {
+        Some(_) => out.push_str(": a read of an old version, or the log is wrong\n"),
+        None => out.push_str(": a read of something else, or the log is wrong\n"),
+    }
+}
+
+/// F16: a final of another value than the item has.
+pub fn push_final(
+    out: &mut String,
+    section: &Section,
+    holding: &Holding,
+) -> Result<(), AllocError> {
+    let item = holding.item;
+    let value = holding.value;
+    let Some(made) = value_of(section, &item) else {
+        return Ok(());
+    };
+    let site = section.site_number();
+    let found = made.value;
+    writeln!(
+        out,
+        "Final: final {item}={value}, but {item} at site {site} is {found} at the end"
+    )?;
+    push_made(out, &item, &made)?;
+    push_until(out, section, &item, value)?;
+    out.push_str("\n")
+}
+
+/// The lines that may follow an entry of an open block.
+fn push_block_rule(out: &mut String, open: &Logged) -> Result<(), AllocError> {
+    let line = open.line;
+    let tx = open.entry.tx();
+    match open.entry {
+        Entry::Want { .. } | Entry::WantAdd { .. } => {
+            writeln!(
+                out,
+                "directly behind line {line} may stand p, q or n of {tx} alone"
+            )
+        }
+        _ => writeln!(
+            out,
+            "directly behind line {line} may stand w, d or c of {tx} alone"
+        ),
+    }
+}
+
+/// F12: a line that cuts a block. The line itself is shown by the caller's text.
+pub fn push_block(
+    out: &mut String,
+    section: &Section,
+    number: u64,
+    text: &[u8],
+) -> Result<(), AllocError> {
+    let Some(open) = section.entries.last() else {
+        return Ok(());
+    };
+    let tx = open.entry.tx();
+    let done = verb(&open.entry);
+    writeln!(
+        out,
+        "Block: what transaction {tx} {done} isn't followed by its next line"
+    )?;
+    push_logged(out, open)?;
+    out.push_str("\n")?;
+    push_numbered(out, number, text)?;
+    push_block_rule(out, open)
+}

@@ -1,0 +1,116 @@
+//! What the lines of a section say, up to a line of it.
+
+use crate::input::cut_line;
+use sgt_names::{Entry, Holding, SiteNo};
+use sgt_notation::{SectionLine, read_section};
+use std::alloc::{AllocError, Global};
+
+/// An entry with the number of its line.
+#[derive(Clone, Copy)]
+pub struct Logged {
+    pub line: u64,
+    pub entry: Entry,
+}
+
+/// An item with a value, and the number of the line that says so.
+#[derive(Clone, Copy)]
+pub struct Stated {
+    pub line: u64,
+    pub holding: Holding,
+}
+
+/// The section that is open before a line: its site, if there is one, and what was said of it; and the line before.
+#[derive(Drop)]
+pub struct Section {
+    pub site: Option<SiteNo>,
+    pub items: Vec<Stated>,
+    pub entries: Vec<Logged>,
+    pub finals: Vec<Stated>,
+    pub last: Option<SectionLine>,
+}
+
+impl Section {
+    /// Before the first section.
+    fn new(alloc: Global) -> Section {
+        Section {
+            site: None,
+            items: Vec::new(alloc),
+            entries: Vec::new(alloc),
+            finals: Vec::new(alloc),
+            last: None,
+        }
+    }
+
+    /// A section begins.
+    fn begin(&mut self, site: SiteNo) {
+        self.site = Some(site);
+        self.items.clear();
+        self.entries.clear();
+        self.finals.clear();
+    }
+
+    /// One more line.
+    fn add(&mut self, line: u64, read: SectionLine) -> Result<(), AllocError> {
+        match &read {
+            SectionLine::Site(site) => self.begin(*site),
+            SectionLine::Initial(holding) => self.items.push(Stated {
+                line,
+                holding: *holding,
+            })?,
+            SectionLine::Logged(entry) => self.entries.push(Logged {
+                line,
+                entry: *entry,
+            })?,
+            SectionLine::Final(holding) => self.finals.push(Stated {
+                line,
+                holding: *holding,
+            })?,
+            SectionLine::End => {}
+        }
+        self.last = Some(read);
+        Ok(())
+    }
+
+    /// The number of the site, 0 where none was begun.
+    pub fn site_number(&self) -> u8 {
+        match self.site {
+            Some(site) => site.number(),
+            None => 0,
+        }
+    }
+}
+
+/// The section that is open before the line of this number: what its lines say, from line 3 on. Lines that spell nothing are
+/// left out.
+pub fn section_before(alloc: Global, bytes: &[u8], number: u64) -> Result<Section, AllocError> {
+    let mut section = Section::new(alloc);
+    let mut rest = bytes;
+    for line in 1..number {
+        let (text, behind) = cut_line(rest);
+        if line > 2 {
+            if let Ok(read) = read_section(text) {
+                section.add(line, read)?;
+            }
+        }
+        rest = behind;
+        if rest.is_empty() {
+            break;
+        }
+    }
+    Ok(section)
+}
+
+/// The entry that the line spells, if it is an entry's. Where it begins a section, the site becomes that of the section.
+pub fn entry_of(site: &mut u8, text: &[u8]) -> Option<Entry> {
+    let Ok(read) = read_section(text) else {
+        return None;
+    };
+    match &read {
+        SectionLine::Site(begun) => {
+            *site = begun.number();
+            None
+        }
+        SectionLine::Logged(entry) => Some(*entry),
+        _ => None,
+    }
+}

@@ -1,0 +1,91 @@
+//! The value of an item, and the line that made it.
+
+ghost use Rattle.std.specs.Prelude.{◌≡◌, Some, None, IfSome, IfNone, option_map, fold};
+ghost use Rattle.sgt_names.specs.Entry.{change_of};
+ghost use Rattle.sgt_names.specs.Log.{value_in, value_with_any, value_after, value_at};
+ghost use Rattle.sgt_explain_lines.specs.Values.{holdings_of, entries_of, latest, last_change};
+
+use crate::section::{Logged, Section, Stated};
+use sgt_names::{Item, Value};
+
+/// A value of an item: the line of the item that says so, and the entry that made it, where one did.
+#[derive(Clone, Copy)]
+pub struct Made {
+    pub value: Value,
+    pub listed: u64,
+    pub by: Option<Logged>,
+}
+
+/// The value that the item is listed with.
+fn initial_of(items: &[Stated], item: &Item) -> Option<Made>
+    ensures value { option_map (λ m. m.value) result ≡ value_in (holdings_of items.now) item.now }
+    ensures by { IfSome result (λ m. m.by ≡ None) }
+{
+    for stated in items {
+        if stated.holding.item == *item {
+            return Some(Made {
+                value: stated.holding.value,
+                listed: stated.line,
+                by: None,
+            });
+        }
+    }
+    None
+}
+
+/// What a value of the item becomes by an entry.
+fn made_by(made: Made, logged: &Logged, item: &Item) -> Made
+    ensures value { Some result.value ≡ value_with_any (Some made.value) (change_of item.now logged.now.entry) }
+    ensures by { result.by ≡ latest item.now made.by logged.now }
+{
+    match logged.entry.change(item) {
+        Some(change) => Made {
+            value: change.apply(made.value),
+            listed: made.listed,
+            by: Some(*logged),
+        },
+        None => made,
+    }
+}
+
+/// What a value of the item becomes by these entries.
+fn made_by_all(first: Made, entries: &[Logged], item: &Item) -> Made
+    ensures value { Some result.value ≡ value_after (Some first.value) (entries_of entries.now) item.now }
+    ensures by { result.by ≡ fold (latest item.now) first.by entries.now }
+{
+    let mut made = first;
+    for logged in entries {
+        made = made_by(made, logged, item);
+    }
+    made
+}
+
+/// The value of the item behind the entries of the section, with the last of them that changes the item: it made the value.
+/// `None` where the section lists no such item.
+pub fn value_of(section: &Section, item: &Item) -> Option<Made>
+    ensures value { IfSome result (λ m.
+        Some m.value ≡ value_at (holdings_of section.now.items.items) (entries_of section.now.entries.items) item.now) }
+    ensures none { IfNone result (value_in (holdings_of section.now.items.items) item.now ≡ None) }
+    ensures by { IfSome result (λ m. m.by ≡ last_change item.now section.now.entries.items) }
+{
+    match initial_of(section.items.as_slice(), item) {
+        Some(first) => Some(made_by_all(first, section.entries.as_slice(), item)),
+        None => None,
+    }
+}
+
+/// The last line up to which the item had this value, where it has another one behind the entries of the section.
+pub fn last_had(section: &Section, item: &Item, value: Value) -> Option<u64> {
+    let mut made = initial_of(section.items.as_slice(), item)?;
+    let mut last = None;
+    for logged in section.entries.as_slice() {
+        let before = made.value;
+        let next = made_by(made, logged, item);
+        let after = next.value;
+        if before == value && after != value {
+            last = Some(logged.line.saturating_sub(1));
+        }
+        made = next;
+    }
+    last
+}

@@ -1,0 +1,126 @@
+//! The command line, and what its refusals come to.
+
+ghost use Rattle.std.specs.Prelude.{◌≡◌, ◌<◌, IfOk, length, string_bytes};
+ghost use Rattle.clap.specs.Words.{kind_of};
+ghost use Rattle.sgt_words.specs.Words.{AsksOther, HasText, IsHelp, IsUsage};
+
+use crate::choice::NoChoice;
+use crate::options::run_line;
+use clap::error::ErrorKind;
+use clap::{Arg, Command, Error};
+use std::alloc::{AllocError, Global};
+
+const VERSION: &str = "0.4.0 (bundles: sgt 1, sgt 2)";
+
+const ABOUT: &str =
+    "Audits the logs of certified runs, replays runs from events, and runs scripts. Reads standard input and writes standard output.";
+
+const AUDIT: &str =
+    "Writes `yes C committed R refused W withdrawn` for a valid bundle, else `no line L FN` (the default)";
+
+const SERIAL: &str =
+    "Runs a valid bundle's committed transactions one after another by rank, else writes audit's `no` line";
+
+const REPLAY: &str =
+    "Reads sites and events, and writes a reply to each event, then `---` and the bundle, or `! E8`";
+
+const CERTIFY: &str =
+    "Makes the certificate of logs that have none, and writes the bundle, or why there is no certificate";
+
+const EXPLAIN: &str = "Writes audit's line on a bundle, and what it means";
+
+/// What the help of each command ends with.
+pub const MORE: &str =
+    "L is the first line with a fault and FN the fault: docs/FORMAT.md has the faults and the formats of a bundle, a replay and scripts.
+
+Exit status:
+  0  yes or done, or help was asked for
+  1  no: the bundle is not valid, a replay ended with a transaction active, a script was not committed, or a fault ended a run
+  2  the words are no command and nothing was read, or `! LN line L`: line L of events or scripts is the first that can't be read
+  3  want of memory
+  4  a read or a write failed";
+
+// Adds a command that has no option.
+fn add<'a>(
+    alloc: Global,
+    line: Command<'a>,
+    name: &'a str,
+    about: &'a str,
+) -> Result<Command<'a>, AllocError> {
+    line.subcommand(Command::new(alloc, name).about(about).after_help(MORE))
+}
+
+fn explain_line<'a>(alloc: Global) -> Result<Command<'a>, AllocError> {
+    let rule = Arg::new(alloc, "RULE").help("Says what this rule is, from F1 to F19 or K1 to K4");
+    let tx = Arg::new(alloc, "tx")
+        .long("tx")
+        .value_name("N")
+        .help("Says what transaction N did");
+    Command::new(alloc, "explain")
+        .about(EXPLAIN)
+        .after_help(MORE)
+        .arg(rule)?
+        .arg(tx)
+}
+
+fn command<'a>(alloc: Global) -> Result<Command<'a>, AllocError> {
+    let line = Command::new(alloc, "sgt")
+        .about(ABOUT)
+        .after_help(MORE)
+        .version(VERSION)
+        .disable_help_subcommand(true);
+    let line = add(alloc, line, "audit", AUDIT)?;
+    let line = add(alloc, line, "serial", SERIAL)?;
+    let line = add(alloc, line, "replay", REPLAY)?;
+    let line = line.subcommand(run_line(alloc)?)?;
+    let line = add(alloc, line, "certify", CERTIFY)?;
+    line.subcommand(explain_line(alloc)?)
+}
+
+// What clap says, or this where it says nothing.
+fn message(alloc: Global, error: &Error) -> Result<String, AllocError>
+    ensures { IfOk result (λ text. 0 < length (string_bytes text)) }
+{
+    let text = error.to_string(alloc)?;
+    if text.is_empty() {
+        return String::from_str(alloc, "sgt: see --help\n");
+    }
+    Ok(text)
+}
+
+/// What a fault of clap comes to: help, usage, or want of memory.
+pub fn refused(alloc: Global, error: &Error) -> NoChoice
+    ensures text { HasText result }
+    ensures help { IsHelp result → AsksOther (kind_of error.now) → ⊥ }
+    ensures usage { IsUsage result → AsksOther (kind_of error.now) }
+    ensures memory { kind_of error.now ≡ ErrorKind.OutOfMemory → result ≡ NoChoice.Memory }
+{
+    if error.kind() == ErrorKind::OutOfMemory {
+        return NoChoice::Memory;
+    }
+    match message(alloc, error) {
+        Ok(text) if error.use_stderr() => NoChoice::Usage(text),
+        Ok(text) => NoChoice::Help(text),
+        Err(_) => NoChoice::Memory,
+    }
+}
+
+/// The usage text for words that clap would take and that are no command.
+pub fn no_command(alloc: Global, line: &mut Command) -> Result<NoChoice, AllocError>
+    ensures text { IfOk result HasText }
+    ensures usage { IfOk result (λ no. IsHelp no → ⊥) }
+{
+    let error = line.error(ErrorKind::UnknownArgument, "the words are no command")?;
+    Ok(refused(alloc, &error))
+}
+
+/// The help or the usage text for words that are not plain. What clap would take for a command here, as `audit --`, is none.
+pub fn no_choice(alloc: Global, words: &[String]) -> Result<NoChoice, AllocError>
+    ensures { IfOk result HasText }
+{
+    let mut command = command(alloc)?;
+    match command.try_get_matches_from_mut(words) {
+        Ok(_) => no_command(alloc, &mut command),
+        Err(error) => Ok(refused(alloc, &error)),
+    }
+}

@@ -1,0 +1,104 @@
+//! The options of `run`, read by clap.
+
+ghost use Rattle.std.specs.Prelude.{◌≡◌, ◌⊎◌, ◌≤◌, ℕ, Ok, Err, Some, IfOk, IfErr, IfSome, false, map, string_bytes};
+ghost use Rattle.clap.specs.Words.{app_of, found_of, one_text, rule_of};
+ghost use Rattle.sgt_words.specs.Options.{ReadsNumber, SaysRun, number_rule, run_line};
+ghost use Rattle.sgt_words.specs.Words.{HasText, IsRunOf};
+ghost use Rattle.sgt_words.specs.private.Found.{FindsRun};
+
+use crate::choice::{Choice, NoChoice};
+use crate::line::{MORE, no_command, refused};
+use clap::builder::ValueParser;
+use clap::{Arg, ArgMatches, Command};
+use std::alloc::{AllocError, Global};
+
+const MAX_WORKERS: u64 = 16;
+
+const MAX_TRIES: u64 = 4;
+
+const RUN: &str =
+    "Runs scripts by threads, and writes a line for each, audit's line on the run's own bundle, then `---` and the bundle";
+
+fn number_option<'a>(
+    alloc: Global,
+    name: &'a str,
+    most: u64,
+    default: &'a str,
+    help: &'a str,
+) -> Arg<'a>
+    ensures rule { rule_of result ≡ number_rule name.entry.now most default.entry.now }
+    ensures own { result.global ≡ false }
+{
+    Arg::new(alloc, name)
+        .long(name)
+        .value_name("N")
+        .value_parser(ValueParser::unsigned(1, most))
+        .default_value(default)
+        .help(help)
+}
+
+/// The command line of `run`, for its words and for the help.
+pub fn run_line<'a>(alloc: Global) -> Result<Command<'a>, AllocError>
+    ensures { IfOk result (λ line. app_of line ≡ run_line) }
+{
+    let workers = number_option(
+        alloc,
+        "workers",
+        MAX_WORKERS,
+        "1",
+        "How many threads run scripts, from 1 to 16",
+    );
+    let tries = number_option(
+        alloc,
+        "tries",
+        MAX_TRIES,
+        "4",
+        "How often a script is tried until it isn't refused, from 1 to 4",
+    );
+    Command::new(alloc, "run")
+        .about(RUN)
+        .after_help(MORE)
+        .bin_name("sgt run")?
+        .arg(workers)?
+        .arg(tries)
+}
+
+// The number that clap found for the option, where it is in its range.
+fn number_of(matches: &ArgMatches, name: &str, most: u64) -> Option<u64>
+    ensures found { IfSome result (λ n. ReadsNumber (one_text (found_of matches.now) name.now) n × (1 ≤ n) × (n ≤ most)) }
+    ensures all { (n : ℕ) → ReadsNumber (one_text (found_of matches.now) name.now) n → 1 ≤ n → n ≤ most → result ≡ Some n }
+{
+    let number = matches.get_one::<u64>(name)?;
+    if 1 <= number && number <= most {
+        return Some(number);
+    }
+    None
+}
+
+// The workers and the tries that clap found, where they are in their ranges.
+fn numbers_of(matches: &ArgMatches) -> Option<(u64, u64)>
+    ensures found { IfSome result (λ n. FindsRun matches.now n.0 n.1) }
+    ensures all { (workers tries : ℕ) → FindsRun matches.now workers tries → result ≡ Some (workers, tries) }
+{
+    let workers = number_of(matches, "workers", MAX_WORKERS)?;
+    let tries = number_of(matches, "tries", MAX_TRIES)?;
+    Some((workers, tries))
+}
+
+/// What `run` and its options ask for; the first word is `run` itself.
+pub fn choose_run(alloc: Global, words: &[String]) -> Result<Choice, NoChoice>
+    ensures run { (workers tries : ℕ) → SaysRun (map string_bytes words.now) workers tries
+        → (result ≡ Ok (Choice.Run workers tries)) ⊎ (result ≡ Err NoChoice.Memory) }
+    ensures only { IfOk result (IsRunOf (map string_bytes words.now)) }
+    ensures text { IfErr result HasText }
+{
+    let mut line = run_line(alloc)?;
+    let matches = match line.try_get_matches_from_mut(words) {
+        Ok(matches) => matches,
+        Err(error) => return Err(refused(alloc, &error)),
+    };
+    match numbers_of(&matches) {
+        Some((workers, tries)) => Ok(Choice::Run { workers, tries }),
+        None => Err(no_command(alloc, &mut line)?),
+    }
+}

@@ -1,0 +1,180 @@
+#!/usr/bin/env python3
+"""Turns what a system logged about its transactions into the text that `sgt certify` reads.
+
+    export.py LOG.jsonl [NAMES.json] > LOGS
+
+LOG.jsonl has an event a line, in the order in which the events took effect; docs/EXPORT.md says what the events are. NAMES.json gets
+what the names, numbers and values of the text stand for. Status 1 and a message: the log has something that the text can't hold.
+"""
+import json
+import re
+import sys
+
+NAME = re.compile(r"[a-z][a-z0-9_]{0,15}")
+MOST_ITEMS = 1024
+MOST_SITES = 64
+LETTERS = {"commit": "c", "refuse": "n", "abort": "a"}
+
+
+class Bad(Exception):
+    pass
+
+
+class Codes:
+    """Numbers for values: a whole number in range stands for itself, as long as each value is one."""
+
+    def __init__(self, events):
+        values = [v for e in events for v in values_of(e)]
+        self.plain = all(type(v) is int and 0 <= v < 2**64 for v in values)
+        self.numbers = {}
+
+    def number(self, value):
+        if self.plain:
+            return value
+        return self.numbers.setdefault(json.dumps(value, sort_keys=True), len(self.numbers))
+
+
+def values_of(event):
+    for group in ("items", "final"):
+        yield from event.get(group, {}).values()
+    if "value" in event:
+        yield event["value"]
+
+
+class Log:
+    """One site's entries so far. Changes stay with their transaction until it ends."""
+
+    def __init__(self):
+        self.initial, self.now, self.final = {}, {}, {}
+        self.entries = []  # (letter, transaction, item or None, value)
+        self.reads = {}  # (transaction, item): how often the item had been changed
+        self.asked = {}  # transaction: {item: (letter, value)}
+        self.changes = {}  # item: how often it was changed
+        self.ended, self.live = set(), set()
+
+    def meet(self, item, value):
+        if item not in self.initial:
+            self.initial[item] = self.now[item] = value
+
+    def read(self, tx, item, value):
+        if item in self.asked.get(tx, {}):
+            return  # its own change, which nobody else could see
+        if (tx, item) in self.reads:
+            if self.reads[tx, item] != self.changes.get(item, 0):
+                raise Bad("a second read of %s, behind a change of it" % item)
+            return
+        self.meet(item, value)
+        self.reads[tx, item] = self.changes.get(item, 0)
+        self.entries.append(("r", tx, item, value))
+
+    def change(self, tx, item, letter, value):
+        self.meet(item, 0)
+        asked = self.asked.setdefault(tx, {})
+        if letter == "d" and item in asked:
+            letter, value = asked[item][0], (asked[item][1] + value) % 2**64
+        asked[item] = (letter, value)
+
+    def end(self, tx, how):
+        asked = self.asked.pop(tx, {})
+        if how != "a":
+            for item, (letter, value) in sorted(asked.items()):
+                if how == "c":
+                    self.changes[item] = self.changes.get(item, 0) + 1
+                    self.now[item] = value if letter == "w" else (self.now[item] + value) % 2**64
+                self.entries.append((letter if how == "c" else {"w": "p", "d": "q"}[letter], tx, item, value))
+        self.entries.append((how, tx, None, 0))
+        self.ended.add(tx)
+
+    def take(self, tx, event, codes):
+        if tx in self.ended:
+            raise Bad("an event of a transaction behind its end here")
+        self.live.add(tx)
+        if "read" in event:
+            self.read(tx, event["read"], codes.number(event["value"]))
+        elif "write" in event:
+            self.change(tx, event["write"], "w", codes.number(event["value"]))
+        elif "add" in event:
+            if not codes.plain:
+                raise Bad("an increment beside values that are no whole numbers")
+            self.change(tx, event["add"], "d", event["value"])
+        elif event.get("end") in LETTERS:
+            self.end(tx, LETTERS[event["end"]])
+        else:
+            raise Bad("an event that is none")
+
+
+def logs_of(events, codes):
+    """The logs by site, and the numbers of the transactions."""
+    logs, numbers = {}, {}
+    for number, event in enumerate(sorted(events, key=lambda e: e.get("at", 0)), 1):
+        try:
+            log = logs.setdefault(event["site"], Log())
+            for item, value in event.get("items", {}).items():
+                log.meet(item, codes.number(value))
+            for item, value in event.get("final", {}).items():
+                log.final[item] = codes.number(value)
+            if "tx" in event:
+                log.take(numbers.setdefault(str(event["tx"]), len(numbers) + 1), event, codes)
+        except (Bad, KeyError) as why:
+            raise Bad("event %d: %s" % (number, why))
+    for site, log in logs.items():
+        for tx in sorted(log.live - log.ended):
+            raise Bad("transaction %s has no end at site %s" % ([t for t, n in numbers.items() if n == tx][0], site))
+    return logs, numbers
+
+
+def short_names(logs):
+    """A name of the text for each item, over all sites."""
+    items = sorted({item for log in logs.values() for item in log.initial})
+    if all(NAME.fullmatch(item) for item in items):
+        return {item: item for item in items}
+    return {item: "i%d" % n for n, item in enumerate(items, 1)}
+
+
+def section(k, log, names, here):
+    """The section of the items `here`."""
+    order = sorted(here, key=lambda item: names[item])
+    touched = {tx for _, tx, item, _ in log.entries if item in here}
+    idle = log.ended - {tx for _, tx, item, _ in log.entries if item is not None}
+    lines = ["site %d" % k] + ["item %s=%d" % (names[i], log.initial[i]) for i in order]
+    for letter, tx, item, value in log.entries:
+        if item in here:
+            lines.append("%s%d[%s]=%d" % (letter, tx, names[item], value))
+        elif item is None and (tx in touched or tx in idle):
+            lines.append("%s%d" % (letter, tx))
+    return lines + ["final %s=%d" % (names[i], log.final.get(i, log.now[i])) for i in order] + ["end"]
+
+
+def text_of(logs, names):
+    lines, places = [], []
+    for site, log in logs.items():
+        items = sorted(log.initial, key=lambda item: names[item])
+        for first in range(0, max(len(items), 1), MOST_ITEMS):
+            here = set(items[first : first + MOST_ITEMS])
+            lines += section(len(places), log, names, here)
+            places.append(site)
+    if not 1 <= len(places) <= MOST_SITES:
+        raise Bad("%d sections, and not 1 to %d" % (len(places), MOST_SITES))
+    second = any(re.match("[dq]", line) and "[" in line for line in lines)
+    return "\n".join(["sgt 2" if second else "sgt 1"] + lines) + "\n", places
+
+
+def main(path, names_path=None):
+    with open(path) as source:
+        events = [json.loads(line) for line in source if line.strip()]
+    codes = Codes(events)
+    logs, numbers = logs_of(events, codes)
+    names = short_names(logs)
+    text, places = text_of(logs, names)
+    if names_path:
+        told = {"sites": places, "transactions": numbers, "items": names, "values": codes.numbers}
+        with open(names_path, "w") as out:
+            json.dump(told, out, indent=1)
+    sys.stdout.write(text)
+
+
+if __name__ == "__main__":
+    try:
+        main(*sys.argv[1:])
+    except Bad as why:
+        sys.exit("export.py: %s" % why)
