@@ -105,7 +105,7 @@ fn names_run(words: &[String]) -> bool
 
 // Whether behind the program's name stands `explain`, and more.
 fn names_explain(words: &[String]) -> bool
-    ensures { IsTrue result → NamesExplain (map string_bytes words.now) }
+    ensures named { IsTrue result → NamesExplain (map string_bytes words.now) }
     ensures more { IsTrue result → 3 ≤ length words.now }
 {
     match words {
