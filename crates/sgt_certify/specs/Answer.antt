@@ -1,5 +1,5 @@
 -- What logs without a certificate are answered by.
-use Rattle.std.specs.Prelude.{◌≡◌, ◌⊎◌, ℕ, List, [], ◌++◌, codes, Option, IfSome}
+use Rattle.std.specs.Prelude.{◌≡◌, ◌⊎◌, ℕ, List, [], ◌++◌, codes, decimal, Option, IfSome}
 use Rattle.std.specs.Io.KnownBytes.{Appends}
 use Rattle.sgt_names.specs.Device.{AppendsOrForgets, WritesFront}
 use Rattle.sgt_names.specs.declared.outcome.Outcome.{Outcome}
@@ -43,9 +43,13 @@ pub record IsRefused (bytes text : List ℕ) : Type 0 where
   pub shown : Excludes refusal sites
   pub none : HasNoCertificate bytes
 
--- a text of which nothing is proved: the line of a fault, or that what was found didn't pass its check
+-- the line of a fault
+abbrev pub fault_text : (line number : ℕ) → List ℕ
+fault_text line number = codes "no line " ++ (decimal line ++ (codes " F" ++ (decimal number ++ codes "\n")))
+
+-- a text that claims nothing which is proved: the line of a fault, or that what was found didn't pass its check
 abbrev pub IsUnproved : List ℕ → Type 0
-IsUnproved text = (rest : List ℕ) × ((text ≡ codes "no line " ++ rest) ⊎ (text ≡ codes "! certify\n"))
+IsUnproved text = ((line : ℕ) × (number : ℕ) × (text ≡ fault_text line number)) ⊎ (text ≡ codes "! certify\n")
 
 -- the text that the bytes are answered by: with a yes the bundle, with a no a refusal or what isn't proved
 abbrev pub IsAnswer : List ℕ → Outcome → List ℕ → Type 0

@@ -1,11 +1,11 @@
 //! The certificate of all that a reader gives.
 
-ghost use Rattle.std.specs.Prelude.{◌≡◌, ◌≢◌, ◌++◌, ◌<◌, ℕ, List, Option, Err, codes, IfErr, IfOk, IfSome, IsErrOf, IsTrue, OnErr};
+ghost use Rattle.std.specs.Prelude.{◌≡◌, ◌≢◌, ◌<◌, ℕ, List, Option, Err, IfErr, IfOk, IfSome, IsErrOf, IsTrue, OnErr};
 ghost use Rattle.sgt_notation.specs.Lines.{ReadFaultIsDue};
-ghost use Rattle.sgt_certify.specs.Answer.{IsAnswer, WroteAnswer, WroteAnswerFront};
+ghost use Rattle.sgt_certify.specs.Answer.{IsAnswer, fault_text, WroteAnswer, WroteAnswerFront};
 
 use crate::making::certified;
-use crate::refuting::{joined, refused};
+use crate::refuting::refused;
 use crate::taking::{Taken, take_text};
 use sgt_certify_search::{Found, LineFault, find, long_line};
 use sgt_names::{EngineFail, Outcome, Sink, Source, write_all};
@@ -20,15 +20,15 @@ struct Answer {
 }
 
 /// The line of a fault.
-fn fault_line(alloc: Global, line: usize, fault: LineFault) -> Result<Vec<u8>, AllocError>
-    ensures { IfOk result (λ text. (rest : List ℕ) × (text.items ≡ codes "no line " ++ rest)) }
+fn fault_line(alloc: Global, line: usize, number: u8) -> Result<Vec<u8>, AllocError>
+    ensures { IfOk result (λ text. text.items ≡ fault_text line number) }
 {
-    let mut rest = Vec::new(alloc);
-    push_number(&mut rest, line as u64)?;
-    rest.extend_from_slice(b" F")?;
-    push_number(&mut rest, u64::from(fault.number()))?;
-    rest.extend_from_slice(b"\n")?;
-    joined(alloc, b"no line ", rest.as_slice())
+    let mut text = Vec::from_slice(alloc, b"no line ")?;
+    push_number(&mut text, line as u64)?;
+    text.extend_from_slice(b" F")?;
+    push_number(&mut text, u64::from(number))?;
+    text.extend_from_slice(b"\n")?;
+    Ok(text)
 }
 
 /// A no for a line with a fault.
@@ -37,7 +37,7 @@ fn fault_answer(alloc: Global, line: usize, fault: LineFault) -> Result<Answer, 
 {
     Ok(Answer {
         outcome: Outcome::No,
-        text: fault_line(alloc, line, fault)?,
+        text: fault_line(alloc, line, fault.number())?,
     })
 }
 

@@ -74,7 +74,7 @@ fn logs_of(alloc: Global, text: &[u8], sites: u8) -> Result<Option<Bundle>, Engi
 }
 
 /// One text, and then another.
-pub fn joined(alloc: Global, head: &[u8], rest: &[u8]) -> Result<Vec<u8>, AllocError>
+fn joined(alloc: Global, head: &[u8], rest: &[u8]) -> Result<Vec<u8>, AllocError>
     ensures { IfOk result (λ text. text.items ≡ head.now ++ rest.now) }
 {
     let mut text = Vec::from_slice(alloc, head)?;

@@ -1,13 +1,13 @@
 -- What the checks of a set tell: that it is stuck.
-use Rattle.std.proofs.Common.{◌≡◌, inl, inr, ◌⊎◌, ℕ, ◌<◌, true, false, List, [], ◌∷◌, ◌++◌, length, Some, BTreeSet, sym, refl, ap, ◌∙◌, subst, suc, arith, All, Contains}
+use Rattle.std.proofs.Common.{◌≡◌, inl, inr, ◌⊎◌, ℕ, true, false, List, [], ◌∷◌, ◌++◌, Some, BTreeSet, sym, refl, ap, ◌∙◌, subst, suc, Contains}
 use Rattle.std.specs.Prelude.{slice_get}
 use Rattle.std.specs.BTreeSet.{contains}
 use Rattle.std.specs.Ordering.{nat_cmp}
 use Rattle.std.proofs.lemmas.Bool.{cases_order, true≢false}
 use Rattle.std.proofs.lemmas.Option.{same_Some, slice_get_within}
-use Rattle.std.proofs.lemmas.List.Elements.{Contains-append_cases, Contains-append_left, Contains-append_right}
+use Rattle.std.proofs.lemmas.List.Elements.{Contains-append_cases}
 use Rattle.sgt_names.proofs.Places.{All_at, Contains_at, Contains-from_at}
-use Rattle.sgt_names.proofs.Lists.{All_in, All-weaken, heads, tails}
+use Rattle.sgt_names.proofs.Lists.{All-weaken, heads, tails}
 use Rattle.sgt_names.specs.Entry.{tx_of, IsEnd}
 use Rattle.sgt_names.specs.declared.entry.Entry.{Entry}
 use Rattle.sgt_names.specs.declared.entry.Entry.TheVariants.{Commit, Refuse}
@@ -15,9 +15,9 @@ use Rattle.sgt_cert.specs.Certificate.{stops}
 use Rattle.sgt_cert.specs.Valid.{AreLogged}
 use Rattle.sgt_cert.specs.declared.certificate.Step.{Step}
 use Rattle.sgt_cert.specs.declared.bundle.SiteLog.{SiteLog}
-use Rattle.sgt_certify_logs.specs.Witness.{EndsBefore, HasEnd, IsFree, IsIn, IsStuck, LiesOnCycle}
+use Rattle.sgt_certify_logs.specs.Witness.{EndsBefore, IsFree, IsIn, IsStuck, LiesOnCycle}
 use Rattle.sgt_certify_stuck.specs.Apart.{AreApart, HasNoWalk, HasTx}
-use Rattle.sgt_certify_stuck.specs.private.Ends.{AllDecided, AreShown, IsBehind, IsFirstLeft, IsLeft, IsLogShown, IsShown}
+use Rattle.sgt_certify_stuck.specs.private.Ends.{AreShown, IsBehind, IsFirstLeft, IsLeft, IsLogShown, IsShown}
 
 -- ---- no walk
 

@@ -7,8 +7,9 @@ use sgt_explain_decisions::{
     push_not_ended, push_rank_order, push_ranks, push_walk_shape, push_walk_step, sought_in,
 };
 use sgt_explain_lines::{
-    Logged, Section, line_at, push_block, push_final, push_format, push_item, push_notation,
-    push_read, push_section, push_trailing, push_truncated, push_twice, section_before,
+    Logged, Section, after_line, line_at, push_block, push_final, push_format, push_item,
+    push_notation, push_read, push_section, push_trailing, push_truncated, push_twice,
+    section_before,
 };
 use sgt_notation::{SectionLine, read_section};
 use std::alloc::{AllocError, Global};
@@ -20,6 +21,13 @@ pub fn certificate_of(alloc: Global, bytes: &[u8]) -> Result<Option<Certificate>
         Err(CertFault::Memory) => Err(AllocError),
         Err(_) => Ok(None),
     }
+}
+
+/// The lines before the line of this number.
+pub fn lines_before(bytes: &[u8], number: u64) -> &[u8] {
+    let rest = after_line(bytes, number.saturating_sub(1));
+    let length = bytes.len().saturating_sub(rest.len());
+    bytes.get(..length).unwrap_or(bytes)
 }
 
 /// The entry of a line, if it is one.
@@ -124,7 +132,7 @@ fn push_of_certificate(
         Fault::DecidedTwice => push_decided_twice(alloc, out, decisions),
         Fault::WalkShape => push_walk_shape(alloc, out, decisions),
         Fault::WalkStep => {
-            let sought = sought_in(alloc, decisions, bytes)?;
+            let sought = sought_in(alloc, decisions, lines_before(bytes, first.0))?;
             push_walk_step(out, decisions, sought.as_slice())
         }
         _ => push_by_certificate(alloc, out, bytes, first, certificate),

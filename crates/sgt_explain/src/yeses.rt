@@ -1,6 +1,6 @@
 //! What is said of a yes, and of one transaction.
 
-use crate::noes::certificate_of;
+use crate::noes::{certificate_of, lines_before};
 use sgt_audit::Verdict;
 use sgt_explain_decisions::{push_cycles, push_dealings, push_fate, sought_in};
 use sgt_names::Tx;
@@ -32,9 +32,13 @@ pub fn push_transaction(
     verdict: Verdict,
     tx: Tx,
 ) -> Result<(), AllocError> {
+    let end = end_of(verdict);
     match certificate_of(alloc, bytes)? {
-        Some(certificate) => push_fate(alloc, out, certificate.decisions(), bytes, tx)?,
+        Some(certificate) => {
+            let seen = lines_before(bytes, end);
+            push_fate(alloc, out, certificate.decisions(), seen, tx)?;
+        }
         None => out.push_str("line 2 is no certificate\n")?,
     }
-    push_dealings(alloc, out, bytes, end_of(verdict), tx)
+    push_dealings(alloc, out, bytes, end, tx)
 }

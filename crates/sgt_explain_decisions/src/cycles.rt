@@ -30,7 +30,11 @@ fn shown_by(sought: &[Sought], from: Tx, step: &Step) -> Option<(Logged, Logged)
 /// A step in words: `2 read y before 1 wrote it: site 0, lines 6 and 7`.
 fn push_step(out: &mut String, sought: &[Sought], from: Tx, step: &Step) -> Result<(), AllocError> {
     let Some((one, other)) = shown_by(sought, from, step) else {
-        return Ok(());
+        let to = step.to;
+        return writeln!(
+            out,
+            "  {from} to {to}: not shown by the lines before the fault"
+        );
     };
     let site = step.label.site.number();
     out.push_str("  ")?;

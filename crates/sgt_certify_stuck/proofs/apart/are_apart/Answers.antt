@@ -1,4 +1,3 @@
-use Rattle.std.proofs.Common.{IsTrue}
 use Rattle.std.proofs.lemmas.Result.{IfOk-weaker}
 use Rattle.sgt_certify_stuck.proofs.Clear.{apart-from}
 use Rattle.sgt_certify_stuck.proofs.apart.are_apart.Goals as goal

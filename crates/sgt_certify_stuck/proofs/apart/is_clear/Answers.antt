@@ -1,4 +1,4 @@
-use Rattle.std.proofs.Common.{true, false, sym, ◌∙◌, arith}
+use Rattle.std.proofs.Common.{sym, ◌∙◌, arith}
 use Rattle.std.proofs.lemmas.Bool.{true≢false}
 use Rattle.std.proofs.lemmas.Option.{slice_get_within}
 use Rattle.sgt_names.proofs.Lists.{element_at}

@@ -1,4 +1,4 @@
-use Rattle.std.proofs.Common.{IsTrue, [], ◌∷◌, refl}
+use Rattle.std.proofs.Common.{[], ◌∷◌, refl}
 use Rattle.std.proofs.lemmas.Result.{IfOk-weaker}
 use Rattle.sgt_names.proofs.Places.{Contains-from_at}
 use Rattle.sgt_certify_stuck.proofs.StuckSets.{no-walk}

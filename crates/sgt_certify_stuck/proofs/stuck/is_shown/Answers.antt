@@ -1,4 +1,4 @@
-use Rattle.std.proofs.Common.{IsTrue, inl, inr}
+use Rattle.std.proofs.Common.{inl, inr}
 use Rattle.std.proofs.lemmas.Result.{IfOk-weaker}
 use Rattle.sgt_certify_stuck.proofs.stuck.is_shown.Goals as goal
 
