@@ -113,14 +113,14 @@ memory-answers status held is = record {
 -- a rule was shown, or the writer failed
 pub rule-answers : (old new : Option (List ℕ)) (r : Result Outcome EngineFail) → IfOk r (λ o. o ≡ Outcome_.Yes) → OnOk r ((text : List ℕ) × Appends old new text)
     → OnErr r ((text : List ℕ) × WritesFront old new text) → AnswersRule (status_of (Ran r)) old new
-rule-answers old new (Ok Outcome_.Yes) yes shown front = record {
+rule-answers old new (Ok Outcome_.Yes) is shown front = record {
   rule = λ e. shown;
   known = (λ e. absurd (omega arith), λ e. absurd (omega arith));
   front = λ le. absurd (omega arith);
 }
-rule-answers old new (Ok Outcome_.No) yes shown front = absurd (let e : Outcome_.No ≡ Outcome_.Yes = yes in cc)
-rule-answers old new (Ok Outcome_.Unreadable) yes shown front = absurd (let e : Outcome_.Unreadable ≡ Outcome_.Yes = yes in cc)
-rule-answers old new (Err fail) yes shown front =
+rule-answers old new (Ok Outcome_.No) is shown front = absurd (let e : Outcome_.No ≡ Outcome_.Yes = is in cc)
+rule-answers old new (Ok Outcome_.Unreadable) is shown front = absurd (let e : Outcome_.Unreadable ≡ Outcome_.Yes = is in cc)
+rule-answers old new (Err fail) is shown front =
     let high = failing fail in
     record {
       rule = λ e. absurd (omega (arith, high, e));

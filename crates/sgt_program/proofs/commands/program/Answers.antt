@@ -1,4 +1,4 @@
-use Rattle.std.proofs.Common.{ap, map, refl, string_bytes}
+use Rattle.std.proofs.Common.{ap, inl, map, refl, string_bytes}
 use Rattle.sgt_program.proofs.Answered.{memory-answers}
 use Rattle.sgt_program.proofs.Chosen.{is_memory, no_refusal, same_choice, same_run}
 use Rattle.sgt_program.proofs.Told.{helped, tells-errors}
@@ -85,3 +85,43 @@ returns-in-Err-Help-clause-ends g c =
       helped c.show_help.result _ _ _ _ _ shown.yes shown.fault,
       tells-errors c.show_help.result _ _ finished.silent finished.told,
     )
+
+pub returns-in-Err-Help-clause-serial : goal.returns-in-Err-Help-clause-serial
+returns-in-Err-Help-clause-serial g c = λ asks.
+    let said = c.in-Err-Help in
+    absurd (no_refusal c.choose.result Serial said.field-0 (inl (c.choose.ensures.plain Serial tt asks)) said.is (ap is_memory said.field-0-is))
+
+pub returns-in-Err-Usage-clause-serial : goal.returns-in-Err-Usage-clause-serial
+returns-in-Err-Usage-clause-serial g c = λ asks.
+    let said = c.in-Err-Usage in
+    absurd (no_refusal c.choose.result Serial said.field-0 (inl (c.choose.ensures.plain Serial tt asks)) said.is (ap is_memory said.field-0-is))
+
+pub returns-in-Err-Help-clause-replay : goal.returns-in-Err-Help-clause-replay
+returns-in-Err-Help-clause-replay g c = λ asks.
+    let said = c.in-Err-Help in
+    absurd (no_refusal c.choose.result Replay said.field-0 (inl (c.choose.ensures.plain Replay tt asks)) said.is (ap is_memory said.field-0-is))
+
+pub returns-in-Err-Usage-clause-replay : goal.returns-in-Err-Usage-clause-replay
+returns-in-Err-Usage-clause-replay g c = λ asks.
+    let said = c.in-Err-Usage in
+    absurd (no_refusal c.choose.result Replay said.field-0 (inl (c.choose.ensures.plain Replay tt asks)) said.is (ap is_memory said.field-0-is))
+
+pub returns-in-Err-Help-clause-certify : goal.returns-in-Err-Help-clause-certify
+returns-in-Err-Help-clause-certify g c = λ asks.
+    let said = c.in-Err-Help in
+    absurd (no_refusal c.choose.result Certify said.field-0 (inl (c.choose.ensures.plain Certify tt asks)) said.is (ap is_memory said.field-0-is))
+
+pub returns-in-Err-Usage-clause-certify : goal.returns-in-Err-Usage-clause-certify
+returns-in-Err-Usage-clause-certify g c = λ asks.
+    let said = c.in-Err-Usage in
+    absurd (no_refusal c.choose.result Certify said.field-0 (inl (c.choose.ensures.plain Certify tt asks)) said.is (ap is_memory said.field-0-is))
+
+pub returns-in-Err-Help-clause-explain : goal.returns-in-Err-Help-clause-explain
+returns-in-Err-Help-clause-explain g c = λ asks.
+    let said = c.in-Err-Help in
+    absurd (no_refusal c.choose.result Explain said.field-0 (inl (c.choose.ensures.plain Explain tt asks)) said.is (ap is_memory said.field-0-is))
+
+pub returns-in-Err-Usage-clause-explain : goal.returns-in-Err-Usage-clause-explain
+returns-in-Err-Usage-clause-explain g c = λ asks.
+    let said = c.in-Err-Usage in
+    absurd (no_refusal c.choose.result Explain said.field-0 (inl (c.choose.ensures.plain Explain tt asks)) said.is (ap is_memory said.field-0-is))
