@@ -6,7 +6,7 @@ pub fn cut(text: &[u8]) -> (&[u8], Option<&[u8]>) {
         return (&[], Some(&text[4..]));
     }
     for (place, window) in text.windows(5).enumerate() {
-        if window == b"\n---\n" {
+        if window == b"\n---\n".as_slice() {
             return (&text[..place + 1], Some(&text[place + 5..]));
         }
     }
@@ -15,5 +15,5 @@ pub fn cut(text: &[u8]) -> (&[u8], Option<&[u8]>) {
 
 /// Whether one of the replies refuses its event.
 pub fn has_refusal(replies: &[u8]) -> bool {
-    replies.starts_with(b"! E") || replies.windows(4).any(|window| window == b"\n! E")
+    replies.starts_with(b"! E") || replies.windows(4).any(|window| window == b"\n! E".as_slice())
 }

@@ -10,7 +10,7 @@ ghost use Rattle.sgt_c.specs.Answers.{IsAnswered, IsNumber, told_none, told_verd
 use crate::answers::{NoAnswer, SGT_LONG, SGT_YES, SgtVerdict};
 use crate::memory::{Given, Nowhere};
 use sgt_audit::{Verdict, audit};
-use sgt_names::EngineFail;
+use sgt_names::{Asks, EngineFail};
 use std::alloc::Global;
 
 /// The auditor's verdict on the bytes.
@@ -19,7 +19,10 @@ fn verdict_on(alloc: Global, bytes: &[u8]) -> Result<Verdict, NoAnswer>
     ensures headline { IfOk result (SaysHeadline bytes.now) }
     ensures long { result ≡ Err NoAnswer.Long → most_reads ≤ length bytes.now }
 {
-    let mut reader = Given::new(bytes);
+    let mut reader = Given {
+        rest: bytes,
+        asks: Asks::none(),
+    };
     match audit(alloc, &mut reader, &mut Nowhere) {
         Ok(verdict) => Ok(verdict),
         Err(EngineFail::Memory) => Err(NoAnswer::Memory),

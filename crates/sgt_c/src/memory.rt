@@ -6,23 +6,8 @@ use std::alloc::Global;
 /// Bytes in memory. Reading them never fails.
 #[derive(Drop)]
 pub struct Given<'a> {
-    rest: &'a [u8],
-    asks: Asks,
-}
-
-impl<'a> Given<'a> {
-    ghost use Rattle.std.specs.Prelude.{◌≡◌, Some};
-
-    /// These bytes, none of which was read.
-    pub fn new(bytes: &'a [u8]) -> Given<'a>
-        ensures tells { ⟦<Given<'a> as Source>⟧.tells result ≡ Some bytes.now }
-        ensures quiet { ⟦<Given<'a> as Source>⟧.failures result ≡ 0 }
-    {
-        Given {
-            rest: bytes,
-            asks: Asks::none(),
-        }
-    }
+    pub rest: &'a [u8],
+    pub asks: Asks,
 }
 
 impl Source for Given<'_> {

@@ -7,6 +7,7 @@ ghost use Rattle.sgt_c.specs.Answers.{IsAnswered, IsNumber, IsSerialText};
 use crate::answers::{NoAnswer, SGT_LONG, SGT_ROOM};
 use crate::memory::{Given, Written};
 use crate::texts::{Answered, measure, no_answer, number_of_answer, put};
+use sgt_names::Asks;
 use sgt_serial::serial;
 use std::alloc::Global;
 
@@ -15,7 +16,10 @@ fn serial_text(alloc: Global, bytes: &[u8]) -> Result<Answered, NoAnswer>
     ensures text { IfOk result (λ a. IsSerialText bytes.now a.number a.text.items) }
     ensures long { result ≡ Err NoAnswer.Long → most_reads ≤ length bytes.now }
 {
-    let mut reader = Given::new(bytes);
+    let mut reader = Given {
+        rest: bytes,
+        asks: Asks::none(),
+    };
     let mut writer = Written::new(alloc);
     match serial(alloc, &mut reader, &mut writer) {
         Ok(outcome) => Ok(Answered {
