@@ -15,5 +15,8 @@ pub fn cut(text: &[u8]) -> (&[u8], Option<&[u8]>) {
 
 /// Whether one of the replies refuses its event.
 pub fn has_refusal(replies: &[u8]) -> bool {
-    replies.starts_with(b"! E") || replies.windows(4).any(|window| window == b"\n! E".as_slice())
+    replies.starts_with(b"! E")
+        || replies
+            .windows(4)
+            .any(|window| window == b"\n! E".as_slice())
 }

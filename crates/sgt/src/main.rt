@@ -14,10 +14,19 @@ use sgt_words::choose;
 use std::fs::File;
 use std::io::{IsTerminal, Read, Write};
 use std::process::ExitCode;
+use std::sync::Wait;
+use std::thread::Threads;
 use std::{env, io};
 
 // How much of a verdict's line is kept where it isn't written at once.
 const LINE: usize = 200;
+
+// The system: its files and streams, and its threads.
+#[derive(Drop)]
+struct Host<'a, H> {
+    rt: &'a HostRuntime,
+    threads: &'a H,
+}
 
 // Says why a file could not be read or written, and gives the status.
 fn refuse_file(rt: &HostRuntime, name: &str, why: &io::Error) -> u8 {
@@ -26,18 +35,26 @@ fn refuse_file(rt: &HostRuntime, name: &str, why: &io::Error) -> u8 {
 }
 
 // Runs the program over a reader and a writer, and gives the status.
-fn over<R: Read, W: Sink>(
-    rt: &HostRuntime,
+fn over<H: Threads + Wait + Sync, R: Read + Drop, W: Sink>(
+    host: &Host<'_, H>,
     words: &[String],
     name: &str,
     inner: R,
     writer: &mut W,
 ) -> u8 {
+    let rt = host.rt;
     let mut steady = Steady::new(inner);
     let mut errors = ToWrite::new(rt.stderr());
     let status = {
         let mut reader = FromRead::new(&mut steady);
-        program(rt, rt.alloc(), words, &mut reader, writer, &mut errors)
+        program(
+            host.threads,
+            rt.alloc(),
+            words,
+            &mut reader,
+            writer,
+            &mut errors,
+        )
     };
     match &steady.why {
         Some(why) => refuse_file(rt, name, why),
@@ -46,28 +63,35 @@ fn over<R: Read, W: Sink>(
 }
 
 // The same over standard input or a file; the words are judged before the file is opened.
-fn over_file<W: Sink>(rt: &HostRuntime, words: &[String], name: &str, writer: &mut W) -> u8 {
+fn over_file<H: Threads + Wait + Sync, W: Sink>(
+    host: &Host<'_, H>,
+    words: &[String],
+    name: &str,
+    writer: &mut W,
+) -> u8 {
+    let rt = host.rt;
     let is_command = choose(rt.alloc(), words).is_ok();
     if name == "-" || !is_command {
         let input = rt.stdin();
         if is_command && name == "-" && input.is_terminal() {
             let _ = eprintln!(rt; "sgt: reading from the terminal; Ctrl-D ends the input");
         }
-        return over(rt, words, "standard input", input, writer);
+        return over(host, words, "standard input", input, writer);
     }
     match File::open(rt, name) {
-        Ok(file) => over(rt, words, name, file, writer),
+        Ok(file) => over(host, words, name, file, writer),
         Err(why) => refuse_file(rt, name, &why),
     }
 }
 
 // A line for each file, its name in front. The status is the greatest.
-fn audit_each(rt: &HostRuntime, line: &Line) -> Result<u8, EngineFail> {
+fn audit_each<H: Threads + Wait + Sync>(host: &Host<'_, H>, line: &Line) -> Result<u8, EngineFail> {
+    let rt = host.rt;
     let mut status = 0;
     let mut output = ToWrite::new(rt.stdout());
     for name in &line.files {
         let mut verdict = MemSink::new(rt.alloc(), LINE)?;
-        let found = over_file(rt, line.words.as_slice(), name.as_str(), &mut verdict);
+        let found = over_file(host, line.words.as_slice(), name.as_str(), &mut verdict);
         status = status.max(found);
         if found <= 1 && !line.is_quiet {
             let head = format!(in rt.alloc(); "{name}: ")?;
@@ -104,9 +128,14 @@ fn deliver(rt: &HostRuntime, line: &Line, text: &[u8]) -> Result<Option<u8>, Eng
 }
 
 // A replay or a run whose bundle has a file of its own, or a strict replay.
-fn run_held(rt: &HostRuntime, line: &Line, name: &str) -> Result<u8, EngineFail> {
+fn run_held<H: Threads + Wait + Sync>(
+    host: &Host<'_, H>,
+    line: &Line,
+    name: &str,
+) -> Result<u8, EngineFail> {
+    let rt = host.rt;
     let mut held = Held::new(rt.alloc());
-    let status = over_file(rt, line.words.as_slice(), name, &mut held);
+    let status = over_file(host, line.words.as_slice(), name, &mut held);
     if held.refused > 0 {
         return Err(EngineFail::Memory);
     }
@@ -119,23 +148,24 @@ fn run_held(rt: &HostRuntime, line: &Line, name: &str) -> Result<u8, EngineFail>
     Ok(status)
 }
 
-fn run_line(rt: &HostRuntime, line: &Line) -> Result<u8, EngineFail> {
+fn run_line<H: Threads + Wait + Sync>(host: &Host<'_, H>, line: &Line) -> Result<u8, EngineFail> {
+    let rt = host.rt;
     if line.files.len() > 1 {
-        return audit_each(rt, line);
+        return audit_each(host, line);
     }
     let name = match line.files.first() {
         Some(name) => name.as_str(),
         None => "-",
     };
     if line.bundle.is_some() || line.is_strict {
-        return run_held(rt, line, name);
+        return run_held(host, line, name);
     }
     if line.is_quiet && choose(rt.alloc(), line.words.as_slice()).is_ok() {
         let mut verdict = MemSink::new(rt.alloc(), LINE)?;
-        return Ok(over_file(rt, line.words.as_slice(), name, &mut verdict));
+        return Ok(over_file(host, line.words.as_slice(), name, &mut verdict));
     }
     let mut output = ToWrite::new(rt.stdout());
-    Ok(over_file(rt, line.words.as_slice(), name, &mut output))
+    Ok(over_file(host, line.words.as_slice(), name, &mut output))
 }
 
 fn main(rt: HostRuntime) -> ExitCode {
@@ -150,8 +180,12 @@ fn main(rt: HostRuntime) -> ExitCode {
         }
         Err(_) => return ExitCode::from(refuse_words(&mut errors)),
     };
+    let host = Host {
+        rt: &rt,
+        threads: &rt,
+    };
     let status = match Line::of(rt.alloc(), given) {
-        Ok(line) => match run_line(&rt, &line) {
+        Ok(line) => match run_line(&host, &line) {
             Ok(status) => status,
             Err(fail) => give_up(&mut errors, fail),
         },

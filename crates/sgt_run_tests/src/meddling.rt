@@ -147,52 +147,64 @@ fn later<L: Ledger, R: Wait>(
     }
 }
 
+// How a run of one write ends, of which this is changed behind its back.
+fn changed<R: Threads + Wait + Sync>(
+    rt: &R,
+    alloc: Global,
+    does: Meddling,
+    exchanged: Exchanged,
+) -> Result<Option<End>, Fail> {
+    let sites = sites_of(alloc, &["site 0 x=5 y=2"]).ok_or("no sites")?;
+    let scripts = scripts_of(alloc, &["w[0.x]=7"])?;
+    Ok(ended::<Brand, _>(
+        rt,
+        alloc,
+        Blank::new(2),
+        sites.as_slice(),
+        scripts.as_slice(),
+        does,
+        exchanged,
+        None,
+    ))
+}
+
+// The same with another site in its place, as many of whose installs are of y.
+fn exchanged_site<R: Threads + Wait + Sync>(rt: &R, alloc: Global) -> Result<Option<End>, Fail> {
+    let (x, y) = (Item::new(b"x")?, Item::new(b"y")?);
+    let items = [Holding { item: x, value: 5 }, Holding { item: y, value: 2 }];
+    let other = other_site(alloc, &items, y)?;
+    changed(rt, alloc, Meddling::Nothing, Exchanged::Site(other))
+}
+
+// And with another certifier.
+fn exchanged_certifier<R: Threads + Wait + Sync>(
+    rt: &R,
+    alloc: Global,
+) -> Result<Option<End>, Fail> {
+    let other = other_certifier(alloc, Item::new(b"y")?, false)?;
+    changed(rt, alloc, Meddling::Nothing, Exchanged::Certifier(other))
+}
+
 #[test]
 fn site_changed_under_the_lock(rt: HostRuntime) -> Result<(), Fail> {
     let alloc = rt.alloc();
-    let (zero, x, y) = (SiteNo::new(0)?, Item::new(b"x")?, Item::new(b"y")?);
-    let sites = sites_of(alloc, &["site 0 x=5 y=2"]).ok_or("no sites")?;
-    let scripts = scripts_of(alloc, &["w[0.x]=7"])?;
+    let zero = SiteNo::new(0)?;
     let lost = ServiceFault::NotPledged(zero);
     let differs = End::Unsettled(ServiceFault::VersionsDiffer(zero));
-    let other = other_certifier(alloc, y, false)?;
-    let mut items = Vec::new(alloc);
-    for site in &sites {
-        items = Vec::from_slice(alloc, site.as_slice())?;
+    let rows = [
+        (Meddling::Nothing, End::Settled),
+        (Meddling::Unpledge(Tx::new(1)?), End::Stopped(lost, lost)),
+        (
+            Meddling::Read(Tx::new(9)?, Item::new(b"x")?),
+            End::Unsettled(ServiceFault::LogDiffers(zero)),
+        ),
+    ];
+    for (does, end) in rows {
+        assert_eq!(rt; changed(&rt, alloc, does, Exchanged::Nothing)?, Some(end));
     }
-    let exchanged = other_site(alloc, items.as_slice(), y)?;
-    let rows = Vec::from_array(
-        alloc,
-        [
-            (Meddling::Nothing, Exchanged::Nothing, End::Settled),
-            (
-                Meddling::Unpledge(Tx::new(1)?),
-                Exchanged::Nothing,
-                End::Stopped(lost, lost),
-            ),
-            (
-                Meddling::Read(Tx::new(9)?, x),
-                Exchanged::Nothing,
-                End::Unsettled(ServiceFault::LogDiffers(zero)),
-            ),
-            // as many decisions and installs, but of another item
-            (Meddling::Nothing, Exchanged::Certifier(other), differs),
-            (Meddling::Nothing, Exchanged::Site(exchanged), differs),
-        ],
-    )?;
-    for (does, exchanged, end) in rows {
-        let found = ended::<Brand, _>(
-            &rt,
-            alloc,
-            Blank::new(2),
-            sites.as_slice(),
-            scripts.as_slice(),
-            does,
-            exchanged,
-            None,
-        );
-        assert_eq!(rt; found, Some(end));
-    }
+    // as many decisions and installs, but of another item
+    assert_eq!(rt; exchanged_certifier(&rt, alloc)?, Some(differs));
+    assert_eq!(rt; exchanged_site(&rt, alloc)?, Some(differs));
     Ok(())
 }
 
@@ -237,12 +249,31 @@ pub fn dones(alloc: Global, first: &[Told], second: &[Told]) -> Result<Vec<Done>
     Ok(dones)
 }
 
-// The tickets of a write that is read back, changed.
+// How a run of a write that is read back ends, whose callers were told these tickets.
+fn told_otherwise<R: Threads + Wait + Sync>(
+    rt: &R,
+    alloc: Global,
+    first: &[Told],
+    second: &[Told],
+) -> Result<Option<End>, Fail> {
+    let told = dones(alloc, first, second)?;
+    let sites = sites_of(alloc, &["site 0 x=5 y=0"]).ok_or("no sites")?;
+    let scripts = scripts_of(alloc, &["w[0.x]=7", "r[0.x] w[0.y]=0.x+1"])?;
+    Ok(ended::<Brand, _>(
+        rt,
+        alloc,
+        Blank::new(2),
+        sites.as_slice(),
+        scripts.as_slice(),
+        Meddling::Nothing,
+        Exchanged::Nothing,
+        Some(told),
+    ))
+}
+
 #[test]
 fn foreign_tickets(rt: HostRuntime) -> Result<(), Fail> {
     let alloc = rt.alloc();
-    let sites = sites_of(alloc, &["site 0 x=5 y=0"]).ok_or("no sites")?;
-    let scripts = scripts_of(alloc, &["w[0.x]=7", "r[0.x] w[0.y]=0.x+1"])?;
     let (first, second) = (commit_of(0), commit_of(1));
     let refused = Told {
         verdict: Ending::Refused,
@@ -276,18 +307,7 @@ fn foreign_tickets(rt: HostRuntime) -> Result<(), Fail> {
         ),
     ];
     for row in &rows {
-        let told = dones(alloc, row.0, row.1)?;
-        let found = ended::<Brand, _>(
-            &rt,
-            alloc,
-            Blank::new(2),
-            sites.as_slice(),
-            scripts.as_slice(),
-            Meddling::Nothing,
-            Exchanged::Nothing,
-            Some(told),
-        );
-        assert_eq!(rt; found, Some(row.2));
+        assert_eq!(rt; told_otherwise(&rt, alloc, row.0, row.1)?, Some(row.2));
     }
     Ok(())
 }

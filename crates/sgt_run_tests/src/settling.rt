@@ -2,11 +2,13 @@
 
 use crate::meddling::{commit_of, dones};
 use sgt_agreed::{EntryCounts, ServiceFault, agrees, gather_agreed};
+use sgt_arena::Handle;
 use sgt_certifier::Certifier;
 use sgt_edges::{Edge, EdgeList, gather};
-use sgt_names::{Draft, Holding, Item, SiteNo};
+use sgt_names::{Draft, Holding, Item, SiteNo, Tx};
 use sgt_settle::{check_settled, check_told};
 use sgt_site::Site;
+use sgt_workers::Done;
 use std::alloc::Global;
 use std::test::Fail;
 
@@ -37,14 +39,8 @@ fn is_handed(handed: Handed, edge: &Edge) -> bool {
     }
 }
 
-// Runs one script.
-fn run(
-    alloc: Global,
-    certifier: &mut Certifier,
-    site: &mut Site,
-    errand: Errand,
-) -> Result<(), Fail> {
-    let (tx, handle) = certifier.begin()?;
+// What the script does before its commit.
+fn drafted(alloc: Global, site: &mut Site, tx: Tx, errand: Errand) -> Result<Draft, Fail> {
     let number = site.number();
     let mut draft = Draft::new(alloc);
     if let Some(item) = errand.read {
@@ -52,19 +48,44 @@ fn run(
         draft.seen(number, item, seen.value, seen.version)?;
     }
     draft.put(number, errand.written, errand.value)?;
-    site.pledge(tx, &draft)?;
-    let all = gather(alloc, site, &draft, handle)?;
+    Ok(draft)
+}
+
+// The edges that its decision is handed.
+fn handed_edges(
+    alloc: Global,
+    site: &mut Site,
+    draft: &Draft,
+    handle: Handle,
+    handed: Handed,
+) -> Result<EdgeList, Fail> {
+    let all = gather(alloc, site, draft, handle)?;
     let mut edges = EdgeList::new(alloc);
     for edge in all.as_slice() {
-        if is_handed(errand.handed, edge) {
+        if is_handed(handed, edge) {
             edges.push(*edge)?;
         }
     }
+    Ok(edges)
+}
+
+// Runs one script.
+fn run(
+    alloc: Global,
+    certifier: &mut Certifier,
+    site: &mut Site,
+    errand: Errand,
+) -> Result<(), Fail> {
+    let (handed, is_noted) = (errand.handed, errand.is_noted);
+    let (tx, handle) = certifier.begin()?;
+    let draft = drafted(alloc, site, tx, errand)?;
+    site.pledge(tx, &draft)?;
+    let edges = handed_edges(alloc, site, &draft, handle, handed)?;
     certifier.expect(handle, &draft)?;
     certifier.decide(handle, edges)?;
     site.install(tx, handle, &draft)?;
-    if errand.is_noted {
-        certifier.installed(tx, number, &draft)?;
+    if is_noted {
+        certifier.installed(tx, site.number(), &draft)?;
     }
     certifier.finish_step(tx)?;
     Ok(())
@@ -81,10 +102,80 @@ fn counts_of(reads: u64, others: u64) -> EntryCounts {
     EntryCounts { reads, others }
 }
 
+// A run of two scripts, or of three.
+#[derive(Clone, Copy)]
+struct Worked {
+    // what the two are handed, and whether installs are noted
+    handed: Handed,
+    is_noted: bool,
+    // what a third is handed
+    third: Option<u32>,
+    counted: EntryCounts,
+}
+
+// Runs the scripts: the first writes x, the second reads it and writes y, and the third writes x again.
+fn run_all(
+    alloc: Global,
+    certifier: &mut Certifier,
+    site: &mut Site,
+    worked: Worked,
+) -> Result<(), Fail> {
+    let (x, y) = (Item::new(b"x")?, Item::new(b"y")?);
+    let first = Errand {
+        read: None,
+        written: x,
+        value: 7,
+        handed: worked.handed,
+        is_noted: worked.is_noted,
+    };
+    let second = Errand {
+        read: Some(x),
+        written: y,
+        value: 8,
+        ..first
+    };
+    run(alloc, certifier, site, first)?;
+    run(alloc, certifier, site, second)?;
+    if let Some(index) = worked.third {
+        let handed = Handed::From(index);
+        run(alloc, certifier, site, Errand { handed, ..first })?;
+    }
+    Ok(())
+}
+
+// What the two jobs were told.
+fn told_of(alloc: Global, worked: Worked) -> Result<Vec<Done>, Fail> {
+    match worked.third {
+        Some(_) => dones(alloc, &[commit_of(0)], &[commit_of(1), commit_of(2)]),
+        None => dones(alloc, &[commit_of(0)], &[commit_of(1)]),
+    }
+}
+
+// What is found of the tickets, and of the whole.
+fn settled(
+    alloc: Global,
+    worked: Worked,
+) -> Result<(Result<(), ServiceFault>, Result<(), ServiceFault>), Fail> {
+    let (x, y) = (Item::new(b"x")?, Item::new(b"y")?);
+    let mut site = site_of(alloc, x, y)?;
+    let mut certifier = Certifier::new(alloc);
+    run_all(alloc, &mut certifier, &mut site, worked)?;
+    let told = told_of(alloc, worked)?;
+    let tickets = check_told(alloc, &certifier, told.as_slice());
+    let sites = Vec::from_array(alloc, [site])?;
+    let whole = check_settled(
+        alloc,
+        &certifier,
+        sites.as_slice(),
+        &[worked.counted],
+        told.as_slice(),
+    );
+    Ok((tickets, whole))
+}
+
 #[test]
 fn logs_edges_and_installs(rt: HostRuntime) -> Result<(), Fail> {
-    let alloc = rt.alloc();
-    let (zero, x, y) = (SiteNo::new(0)?, Item::new(b"x")?, Item::new(b"y")?);
+    let zero = SiteNo::new(0)?;
     let differs = Err(ServiceFault::LogDiffers(zero));
     let uncounted = Err(ServiceFault::VersionsDiffer(zero));
     // what all are handed, whether installs are noted, what a third script is handed, what is counted, and the answer
@@ -98,69 +189,44 @@ fn logs_edges_and_installs(rt: HostRuntime) -> Result<(), Fail> {
         (Handed::All, true, Some(1), counts_of(1, 6), Ok(())),
         (Handed::All, true, Some(0), counts_of(1, 6), differs),
     ];
-    for (handed, is_noted, third, counts, expected) in rows {
-        let mut certifier = Certifier::new(alloc);
-        let mut site = site_of(alloc, x, y)?;
-        let first = Errand {
-            read: None,
-            written: x,
-            value: 7,
+    for (handed, is_noted, third, counted, expected) in rows {
+        let worked = Worked {
             handed,
             is_noted,
+            third,
+            counted,
         };
-        let second = Errand {
-            read: Some(x),
-            written: y,
-            value: 8,
-            ..first
-        };
-        run(alloc, &mut certifier, &mut site, first)?;
-        run(alloc, &mut certifier, &mut site, second)?;
-        let mut told = dones(alloc, &[commit_of(0)], &[commit_of(1)])?;
-        if let Some(index) = third {
-            let handed = Handed::From(index);
-            run(alloc, &mut certifier, &mut site, Errand { handed, ..first })?;
-            told = dones(alloc, &[commit_of(0)], &[commit_of(1), commit_of(2)])?;
-        }
-        assert_eq!(rt; check_told(alloc, &certifier, told.as_slice()), Ok(()));
-        let sites = Vec::from_array(alloc, [site])?;
-        let found = check_settled(
-            alloc,
-            &certifier,
-            sites.as_slice(),
-            &[counts],
-            told.as_slice(),
-        );
-        assert_eq!(rt; found, expected);
+        assert_eq!(rt; settled(rt.alloc(), worked)?, (Ok(()), expected));
     }
     Ok(())
 }
 
+// Whether certifier and site agree after a run of one script, and how many edges the next change of its item is given.
+fn gathered(alloc: Global, is_noted: bool) -> Result<(bool, Result<usize, ServiceFault>), Fail> {
+    let (x, y) = (Item::new(b"x")?, Item::new(b"y")?);
+    let errand = Errand {
+        read: None,
+        written: x,
+        value: 6,
+        handed: Handed::All,
+        is_noted,
+    };
+    let mut site = site_of(alloc, x, y)?;
+    let mut certifier = Certifier::new(alloc);
+    run(alloc, &mut certifier, &mut site, errand)?;
+    let agree = agrees(&certifier, &site);
+    let (tx, handle) = certifier.begin()?;
+    let draft = drafted(alloc, &mut site, tx, errand)?;
+    match gather_agreed(alloc, &certifier, &mut site, tx, &draft, handle) {
+        Ok(edges) => Ok((agree, Ok(edges.as_slice().len()))),
+        Err(fault) => Ok((agree, Err(fault))),
+    }
+}
+
 #[test]
 fn versions_of_a_history(rt: HostRuntime) -> Result<(), Fail> {
-    let alloc = rt.alloc();
-    let (zero, x, y) = (SiteNo::new(0)?, Item::new(b"x")?, Item::new(b"y")?);
-    let lost = Err(ServiceFault::NotPledged(zero));
-    for (is_noted, expected) in [(true, Ok(1)), (false, lost)] {
-        let mut certifier = Certifier::new(alloc);
-        let mut site = site_of(alloc, x, y)?;
-        let errand = Errand {
-            read: None,
-            written: x,
-            value: 6,
-            handed: Handed::All,
-            is_noted,
-        };
-        run(alloc, &mut certifier, &mut site, errand)?;
-        assert_eq!(rt; agrees(&certifier, &site), is_noted);
-        let (tx, handle) = certifier.begin()?;
-        let mut draft = Draft::new(alloc);
-        draft.put(zero, x, 7)?;
-        let found = match gather_agreed(alloc, &certifier, &mut site, tx, &draft, handle) {
-            Ok(edges) => Ok(edges.as_slice().len()),
-            Err(fault) => Err(fault),
-        };
-        assert_eq!(rt; found, expected);
-    }
+    let lost = ServiceFault::NotPledged(SiteNo::new(0)?);
+    assert_eq!(rt; gathered(rt.alloc(), true)?, (true, Ok(1)));
+    assert_eq!(rt; gathered(rt.alloc(), false)?, (false, Err(lost)));
     Ok(())
 }
