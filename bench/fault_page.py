@@ -2,7 +2,7 @@
 """usage: fault_page.py PROGRAM [ROWS]: writes docs/FAULTS.md, the page of the faults, by running the program.
 
 PROGRAM is `sgt`, or a program that explains its standard input where it has no word, and else the topic that is named.
-ROWS is the folder of the rows whose inputs are explained: bench/explain_rows, or where those rows are kept."""
+ROWS is the folder of the rows whose inputs are explained: crates/sgt_rows/data/rows, say."""
 import os
 import subprocess
 import sys
