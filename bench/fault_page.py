@@ -55,7 +55,7 @@ def main():
     if len(sys.argv) not in (2, 3):
         sys.exit(__doc__)
     program = os.path.abspath(sys.argv[1])
-    rows = sys.argv[2] if len(sys.argv) == 3 else os.path.join(HERE, "explain_rows")
+    rows = sys.argv[2] if len(sys.argv) == 3 else os.path.join(HERE, "../crates/sgt_rows/data/rows")
     with open(os.path.join(rows, "explain_of_a_yes", "stdin"), "rb") as file:
         whole = file.read()
     page = [

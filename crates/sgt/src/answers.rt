@@ -3,11 +3,12 @@
 /// The lines in front of `---`, with their LFs, and the bundle behind it, if there is one.
 pub fn cut(text: &[u8]) -> (&[u8], Option<&[u8]>) {
     if text.starts_with(b"---\n") {
-        return (&[], Some(&text[4..]));
+        return (&[], text.get(4..));
     }
     for (place, window) in text.windows(5).enumerate() {
         if window == b"\n---\n".as_slice() {
-            return (&text[..place + 1], Some(&text[place + 5..]));
+            let front = text.get(..place.saturating_add(1)).unwrap_or(text);
+            return (front, text.get(place.saturating_add(5)..));
         }
     }
     (text, None)
