@@ -122,6 +122,9 @@ impl Line {
                 before = Kind::Plain;
                 continue;
             }
+            if command == Command::Explain && is_rule(word.as_str()) {
+                command = Command::Other;
+            }
             before = kind;
             if kind == Kind::Bundle && line.bundle.is_none() {
                 continue;

@@ -13,7 +13,7 @@ use std::alloc::{AllocError, Global};
 const VERSION: &str = "0.4.0 (bundles: sgt 1, sgt 2)";
 
 const ABOUT: &str =
-    "Audits the logs of certified runs, replays runs from events, and runs scripts. Reads standard input and writes standard output.";
+    "Audits the logs of certified runs, explains what is wrong, makes the certificate of logs that have none, replays runs from events, and runs scripts.";
 
 const AUDIT: &str =
     "Writes `yes C committed R refused W withdrawn` for a valid bundle, else `no line L FN` (the default)";
@@ -31,11 +31,13 @@ const EXPLAIN: &str = "Writes audit's line on a bundle, and what it means";
 
 /// What the help of each command ends with.
 pub const MORE: &str =
-    "L is the first line with a fault and FN the fault: docs/FORMAT.md has the faults and the formats of a bundle, a replay and scripts.
+    "Behind each command a FILE may stand; with none, or -, standard input is read. audit takes several files, and -q to answer by the status alone. replay and run take --bundle FILE, where the bundle goes then, and replay --strict.
+
+L is the first line with a fault and FN the fault: docs/FORMAT.md has the faults and the formats of a bundle, a replay and scripts.
 
 Exit status:
   0  yes or done, or help was asked for
-  1  no: the bundle is not valid, a replay ended with a transaction active, a script was not committed, or a fault ended a run
+  1  no: the bundle is not valid, no certificate was made, a replay ended with a transaction active or refused an event under --strict, a script was not committed, or a fault ended a run
   2  the words are no command and nothing was read, or `! LN line L`: line L of events or scripts is the first that can't be read
   3  want of memory
   4  a read or a write failed";
