@@ -31,7 +31,10 @@ class Codes:
     def number(self, value):
         if self.plain:
             return value
-        return self.numbers.setdefault(json.dumps(value, sort_keys=True), len(self.numbers))
+        if type(value) is float and value.is_integer():
+            value = int(value)
+        # 0 is the value that an item has where the log names none
+        return self.numbers.setdefault(json.dumps(value, sort_keys=True), len(self.numbers) + 1)
 
 
 def values_of(event):
@@ -47,7 +50,7 @@ class Log:
     def __init__(self):
         self.initial, self.now, self.final = {}, {}, {}
         self.entries = []  # (letter, transaction, item or None, value)
-        self.reads = {}  # (transaction, item): how often the item had been changed
+        self.reads = {}  # (transaction, item): how often the item had been changed, and the value
         self.asked = {}  # transaction: {item: (letter, value)}
         self.changes = {}  # item: how often it was changed
         self.ended, self.live = set(), set()
@@ -58,13 +61,17 @@ class Log:
 
     def read(self, tx, item, value):
         if item in self.asked.get(tx, {}):
+            letter, own = self.asked[tx][item]
+            if value != (own if letter == "w" else (self.now[item] + own) % 2**64):
+                raise Bad("a read of %s that isn't what the transaction's own change left" % item)
             return  # its own change, which nobody else could see
         if (tx, item) in self.reads:
-            if self.reads[tx, item] != self.changes.get(item, 0):
-                raise Bad("a second read of %s, behind a change of it" % item)
+            changes, first = self.reads[tx, item]
+            if changes != self.changes.get(item, 0) or value != first:
+                raise Bad("a second read of %s, behind a change of it or with another value" % item)
             return
         self.meet(item, value)
-        self.reads[tx, item] = self.changes.get(item, 0)
+        self.reads[tx, item] = (self.changes.get(item, 0), value)
         self.entries.append(("r", tx, item, value))
 
     def change(self, tx, item, letter, value):
@@ -95,12 +102,14 @@ class Log:
             self.change(tx, event["write"], "w", codes.number(event["value"]))
         elif "add" in event:
             if not codes.plain:
-                raise Bad("an increment beside values that are no whole numbers")
+                raise Bad("an increment beside values that are no whole numbers below 2^64")
+            if type(event["value"]) is not int or event["value"] < 0:
+                raise Bad("an increment by what is no whole number from 0 on")
             self.change(tx, event["add"], "d", event["value"])
         elif event.get("end") in LETTERS:
             self.end(tx, LETTERS[event["end"]])
         else:
-            raise Bad("an event that is none")
+            raise Bad("an event with a transaction and neither read, write, add nor end (commit, abort, refuse)")
 
 
 def logs_of(events, codes):
@@ -115,7 +124,9 @@ def logs_of(events, codes):
                 log.final[item] = codes.number(value)
             if "tx" in event:
                 log.take(numbers.setdefault(str(event["tx"]), len(numbers) + 1), event, codes)
-        except (Bad, KeyError) as why:
+        except KeyError as why:
+            raise Bad("event %d: no %s" % (number, why))
+        except Bad as why:
             raise Bad("event %d: %s" % (number, why))
     for site, log in logs.items():
         for tx in sorted(log.live - log.ended):
@@ -160,8 +171,14 @@ def text_of(logs, names):
 
 
 def main(path, names_path=None):
+    events = []
     with open(path) as source:
-        events = [json.loads(line) for line in source if line.strip()]
+        for number, line in enumerate(source, 1):
+            try:
+                if line.strip():
+                    events.append(json.loads(line))
+            except ValueError as why:
+                raise Bad("line %d: %s" % (number, why))
     codes = Codes(events)
     logs, numbers = logs_of(events, codes)
     names = short_names(logs)
@@ -174,7 +191,9 @@ def main(path, names_path=None):
 
 
 if __name__ == "__main__":
+    if len(sys.argv) not in (2, 3):
+        sys.exit(__doc__)
     try:
         main(*sys.argv[1:])
-    except Bad as why:
+    except (Bad, OSError) as why:
         sys.exit("export.py: %s" % why)
