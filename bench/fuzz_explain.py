@@ -3,7 +3,7 @@
 
 usage: fuzz_explain.py PROGRAM [ROUNDS [SEED]]
 
-PROGRAM is `sgt`, or a program that explains its standard input. Each round breaks an input of bench/explain_rows at one or two
+PROGRAM is `sgt`, or a program that explains its standard input. Each round breaks an input of the rows of sgt_rows that begin with explain at one or two
 places. The first line has to be the verdict of plain_audit.py; of a no, the second begins with the fault's name, there are at
 most ten lines, and each line that is shown with a number is that line of the input."""
 import os
@@ -105,8 +105,8 @@ def main():
     rng = random.Random(int(sys.argv[3]) if len(sys.argv) > 3 else 1)
     command = [program] + (["explain"] if os.path.basename(program) == "sgt" else [])
     inputs = []
-    for row in sorted(os.listdir(os.path.join(HERE, "explain_rows"))):
-        path = os.path.join(HERE, "explain_rows", row, "stdin")
+    for row in sorted(it for it in os.listdir(os.path.join(HERE, "../crates/sgt_rows/data/rows")) if it.startswith("explain")):
+        path = os.path.join(HERE, "../crates/sgt_rows/data/rows", row, "stdin")
         if os.path.exists(path):
             with open(path, "rb") as file:
                 inputs.append(file.read())
