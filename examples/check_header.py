@@ -5,7 +5,8 @@ usage: check_header.py [COMPILER]
 
 It reads the numbers, the fields of the struct and the exports from crates/sgt_c/src, which Rattle compiles, and writes of them
 static assertions and declarations that the C compiler reads behind the header: each number, the size of the struct and the place
-and type of each field, and the type of each call. What the header has beyond them is told too.
+and type of each field, and the type of each call. What the header has beyond them is told too. The numbers of the Rust and the
+Python binding are compared as well, and the fields of their structs.
 """
 import os
 import re
@@ -69,9 +70,40 @@ def declared(header):
     return {*re.findall(r"#define (SGT_\w+) \d", code), *re.findall(r"\w+ (\w+);", struct), *re.findall(r"\b(sgt_\w+)\(", code)}
 
 
+def of_rust(text):
+    """The numbers and the fields, with their types, of the Rust binding."""
+    fields = re.search(r"pub struct Verdict \{(.*?)\}", text, re.S)[1]
+    return dict(re.findall(r"pub const (\w+): u32 = (\d+);", text)), re.findall(r"pub (\w+): (\w+),", fields)
+
+
+def of_python(text):
+    """The same of the Python binding."""
+    names, numbers = re.search(r"^([A-Z]+(?:, [A-Z]+)+) = ([\d, ]+)$", text, re.M).groups()
+    numbers = dict(zip(names.split(", "), numbers.split(", "), strict=True))
+    numbers["VERSION"] = re.search(r"^VERSION = (\d+)$", text, re.M)[1]
+    return numbers, re.findall(r'\("(\w+)", ctypes\.c_uint(\d+)\)', text)
+
+
+def bindings_differ(rattle):
+    """What a binding says otherwise than the source."""
+    numbers = dict(re.findall(r"^pub const SGT_(\w+): u32 = (\d+);", rattle, re.M))
+    body = re.search(r"pub struct SgtVerdict \{(.*?)\n\}", rattle, re.S)[1]
+    fields = [(name, kind.lstrip("u")) for name, kind in re.findall(r"^    pub (\w+): (\w+),", body, re.M)]
+    for path, read in [("examples/rust/src/lib.rs", of_rust), ("examples/python/sgt.py", of_python)]:
+        found, has = read(open(f"{TOP}/{path}").read())
+        wrong = [name for name, number in found.items() if numbers.get(name) != number]
+        if wrong or [(name, kind.lstrip("u")) for name, kind in has] != fields:
+            yield f"{path}: {' '.join(wrong) or 'the fields'}"
+
+
 def main():
     compiler = sys.argv[1] if len(sys.argv) > 1 else "gcc"
-    lines, names = assertions(source())
+    rattle = source()
+    lines, names = assertions(rattle)
+    differ = list(bindings_differ(rattle))
+    if differ:
+        print("other than in the source:", *differ)
+        sys.exit(1)
     more = names ^ declared(open(f"{CRATE}/sgt.h").read())
     if more:
         print("in one of sgt.h and the source alone:", *sorted(more))

@@ -82,6 +82,11 @@ python3 examples/python/store.py careless | tail -n 1 > $out/careless
 echo "store: $(cat $out/store)"
 echo "careless store: $(cat $out/careless)"
 [ "$(cat $out/store)" = 'yes 2 committed 0 refused 1 withdrawn' ] || failed=1
+# the store's three counts differ, so that no binding can exchange them
+python3 examples/python/store.py | sed '$d' > $out/store.bundle
+compare c $out/store.bundle audit 0 $out/store $out/audit
+compare rust $out/store.bundle audit 0 $out/store $out/cargo/release/sgt
+compare python $out/store.bundle audit 0 $out/store python3 examples/python/sgt.py
 [ "$(cat $out/careless)" = 'no line 10 F11' ] || failed=1
 [ $failed = 0 ] && echo 'all agree'
 exit $failed

@@ -1,8 +1,8 @@
 //! Expected values are worked by hand, of the example of docs/FORMAT.md.
 
 use crate::{
-    SGT_NO, SGT_ROOM, SGT_VERSION, SGT_YES, SgtVerdict, sgt_audit, sgt_serial, sgt_serial_len,
-    sgt_version,
+    SGT_NO, SGT_ROOM, SGT_VERSION, SGT_YES, SgtVerdict, sgt_audit, sgt_certify, sgt_certify_len,
+    sgt_explain, sgt_explain_len, sgt_serial, sgt_serial_len, sgt_version,
 };
 use std::alloc::Global;
 
@@ -13,6 +13,16 @@ const WRONG_READ: &str =
     "sgt 1\n{\"decisions\":[{\"commit\":1,\"rank\":0}],\"sites\":1}\nsite 0\nitem x=5\nr1[x]=4\nw1[x]=6\nc1\nfinal x=6\nend\n";
 
 const OWN_RUN: &str = "t1\nr1[0.x]=5\nw1[0.x]=6\nfinal 0.x=6\n";
+
+// The logs of OWN_READ, without a certificate.
+const OWN_LOGS: &str = "sgt 1\nsite 0\nitem x=5\nr1[x]=5\nw1[x]=6\nc1\nfinal x=6\nend\n";
+
+// Two updates of which one is lost, and the cycle that shows it.
+const LOST: &str =
+    "sgt 1\nsite 0\nitem x=5\nr1[x]=5\nr2[x]=5\nw1[x]=6\nc1\nw2[x]=7\nc2\nfinal x=7\nend\n";
+
+const LOST_CYCLE: &str =
+    "no ranks\n1 rw 2 site 0 item x lines 4 8\n2 rw 1 site 0 item x lines 5 6\n";
 
 // Whether the text is answered by this verdict, and by this text of the serial run.
 fn is_answered(alloc: Global, text: &str, wanted: SgtVerdict, run: &str) -> bool {
@@ -55,4 +65,46 @@ fn bundles_are_answered(rt: HostRuntime) {
     assert!(rt; is_answered(rt.alloc(), OWN_READ, yes, OWN_RUN));
     assert!(rt; is_answered(rt.alloc(), WRONG_READ, no, "no line 5 F10\n"));
     assert!(rt; sgt_version() == SGT_VERSION);
+}
+
+// Whether both calls answer by this number and this text.
+fn is_certified(alloc: Global, logs: &str, number: u32, text: &str) -> bool {
+    let mut n = 0;
+    let mut out = [0u8; 128];
+    let bytes = logs.as_bytes();
+    let is_measured = sgt_certify_len(alloc, bytes, &mut n) == number && n == text.len();
+    let is_short = sgt_certify(alloc, bytes, &mut out[..3], &mut n) == SGT_ROOM && n == text.len();
+    let is_made = sgt_certify(alloc, bytes, &mut out, &mut n) == number && n == text.len();
+    is_measured && is_short && is_made && out.starts_with(text.as_bytes())
+}
+
+// Whether both calls answer by this number and a text that begins so.
+fn is_explained(alloc: Global, bundle: &str, number: u32, front: &str) -> bool {
+    let mut n = 0;
+    let mut told = 0;
+    let mut out = [0u8; 512];
+    let bytes = bundle.as_bytes();
+    let is_measured = sgt_explain_len(alloc, bytes, &mut n) == number && n >= front.len();
+    let is_told = sgt_explain(alloc, bytes, &mut out, &mut told) == number && told == n;
+    is_measured && is_told && out.starts_with(front.as_bytes())
+}
+
+#[test]
+fn logs_are_certified(rt: HostRuntime) {
+    assert!(rt; is_certified(rt.alloc(), OWN_LOGS, SGT_YES, OWN_READ));
+    assert!(rt; is_certified(rt.alloc(), LOST, SGT_NO, LOST_CYCLE));
+}
+
+#[test]
+fn bundles_are_explained(rt: HostRuntime) {
+    let alloc = rt.alloc();
+    assert!(rt;
+        is_explained(
+            alloc,
+            OWN_READ,
+            SGT_YES,
+            "yes 1 committed 0 refused 0 withdrawn\n"
+        )
+    );
+    assert!(rt; is_explained(alloc, WRONG_READ, SGT_NO, "no line 5 F10\nReadValue: "));
 }
