@@ -9,8 +9,9 @@ ghost use Rattle.sgt_c.specs.Answers.{IsAnswered, IsNumber, told_none, told_verd
 
 use crate::answers::{NoAnswer, SGT_LONG, SGT_YES, SgtVerdict};
 use crate::memory::{Given, Nowhere};
+use crate::texts::no_answer;
 use sgt_audit::{Verdict, audit};
-use sgt_names::{Asks, EngineFail};
+use sgt_names::Asks;
 use std::alloc::Global;
 
 /// The auditor's verdict on the bytes.
@@ -25,9 +26,7 @@ fn verdict_on(alloc: Global, bytes: &[u8]) -> Result<Verdict, NoAnswer>
     };
     match audit(alloc, &mut reader, &mut Nowhere) {
         Ok(verdict) => Ok(verdict),
-        Err(EngineFail::Memory) => Err(NoAnswer::Memory),
-        Err(EngineFail::ReadFault) => Err(NoAnswer::Long),
-        Err(EngineFail::WriteFault) => unreachable!(),
+        Err(fail) => Err(no_answer(fail)),
     }
 }
 

@@ -25,7 +25,8 @@ pub fn number_of_answer(outcome: Outcome) -> u32
 
 /// Why there is no answer. A writer into memory fails for want of memory alone.
 pub fn no_answer(fail: EngineFail) -> NoAnswer
-    ensures { result ≡ NoAnswer.Long → fail ≡ EngineFail.ReadFault }
+    ensures long { result ≡ NoAnswer.Long → fail ≡ EngineFail.ReadFault }
+    ensures told { fail ≡ EngineFail.ReadFault → result ≡ NoAnswer.Long }
 {
     match fail {
         EngineFail::Memory | EngineFail::WriteFault => NoAnswer::Memory,
