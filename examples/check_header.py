@@ -79,7 +79,7 @@ def of_rust(text):
 def of_python(text):
     """The same of the Python binding."""
     names, numbers = re.search(r"^([A-Z]+(?:, [A-Z]+)+) = ([\d, ]+)$", text, re.M).groups()
-    numbers = dict(zip(names.split(", "), numbers.split(", "), strict=True))
+    numbers = dict(zip(names.split(", "), numbers.split(", ")))
     numbers["VERSION"] = re.search(r"^VERSION = (\d+)$", text, re.M)[1]
     return numbers, re.findall(r'\("(\w+)", ctypes\.c_uint(\d+)\)', text)
 

@@ -2,7 +2,8 @@
  *
  * Memory: a call reads `len` bytes at `bytes`, writes what its pointers lead to, and keeps none of them when it returns. What it
  * needs beside them it takes by malloc, realloc and free, and has given back when it returns. No pointer may be NULL, also where
- * `len` or `room` is 0, and what a call writes overlaps nothing else that it is given.
+ * `len` or `room` is 0; `verdict` and `text_len` stand where C puts such values; and what a call writes overlaps nothing else that
+ * it is given. `len` counts no 0 byte behind the text. None of this is checked.
  *
  * Threads: no call has memory of its own between calls, so calls may run side by side, each with its own `verdict`, `out` and
  * `text_len`; the bytes may be shared while nobody writes them. Not from a signal handler, nor in a forked child of a process with
@@ -23,7 +24,7 @@ extern "C" {
 #define SGT_YES 0    /* the bytes spell a valid bundle; sgt_certify: one was made */
 #define SGT_NO 1     /* they spell none: they have a fault; sgt_certify: none was made */
 #define SGT_MEMORY 3 /* no answer: malloc refused */
-#define SGT_LONG 4   /* no answer: too many reads. Only of 4294967295 bytes or more */
+#define SGT_LONG 4   /* no answer: too many reads. Proved: only of 4294967295 bytes or more. A read is of up to 65536 */
 #define SGT_ROOM 5   /* no text was written: it is longer than `room` */
 
 /* The version of these calls and numbers: of what this header declares. It changes where a caller has to. */

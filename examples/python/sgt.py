@@ -1,6 +1,7 @@
 """The proved auditor and certificate maker of `sgt`, from Python: `audit`, `serial`, `certify` and `explain` of some bytes.
 
-The library is `libsgt.so`, at the path that SGT_LIB names, else in `examples/out`, where `examples/run.sh` puts it.
+The library is `libsgt.so`: the file that SGT_LIB names, or in the folder that it names, else in `examples/out`, where
+`examples/run.sh` puts it.
 
 usage: python3 sgt.py [audit|serial|certify|explain] < BUNDLE     (prints what the program `sgt` prints, and ends with its status)
 """
@@ -52,7 +53,8 @@ class RawVerdict(ctypes.Structure):
 def load(path=None):
     """The library, with the types of its calls."""
     beside = os.path.join(os.path.dirname(os.path.abspath(__file__)), "../out/libsgt.so")
-    library = ctypes.CDLL(path or os.environ.get("SGT_LIB") or beside)
+    path = path or os.environ.get("SGT_LIB") or beside
+    library = ctypes.CDLL(os.path.join(path, "libsgt.so") if os.path.isdir(path) else path)
     length = ctypes.POINTER(ctypes.c_size_t)
     for name, types in [
         ("sgt_version", []),
