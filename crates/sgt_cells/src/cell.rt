@@ -126,7 +126,17 @@ fn checked(cells: &[Cell], place: usize, item: &Item) -> Option<usize>
     if is_of(cell, item) { Some(place) } else { None }
 }
 
-/// The place of the item's cell, looked for.
+/// The place of the item's cell, by halves. Some is the place; where the names don't rise, None says nothing.
+fn halved(cells: &[Cell], item: &Item) -> Option<usize>
+    ensures { IfSome result (λ n. (c : Cell) × (slice_get cells.now n ≡ Some c) × (c.name ≡ item.now)) }
+{
+    match cells.binary_search_by(|cell| cell.name.cmp(item)) {
+        Ok(place) => checked(cells, place, item),
+        Err(_) => None,
+    }
+}
+
+/// The place of the item's cell, looked for one by one.
 fn search(cells: &[Cell], item: &Item) -> Option<usize>
     ensures some { IfSome result (λ n. (c : Cell) × (slice_get cells.now n ≡ Some c) × (c.name ≡ item.now)) }
     ensures none { IfNone result (All (λ c. c.name ≢ item.now) cells.now) }
@@ -134,12 +144,16 @@ fn search(cells: &[Cell], item: &Item) -> Option<usize>
     cells.iter().position(|cell| is_of(cell, item))
 }
 
-/// The place of the item's cell. The hint is tried first; nothing need be known of it.
+/// The place of the item's cell. The hint is tried first, and then a search by halves; nothing need be known of either. A name
+/// that is not listed costs a look at each cell.
 pub(crate) fn place_of(cells: &[Cell], hint: usize, item: &Item) -> Option<usize>
     ensures some { IfSome result (λ n. (c : Cell) × (slice_get cells.now n ≡ Some c) × (c.name ≡ item.now)) }
     ensures none { IfNone result (All (λ c. c.name ≢ item.now) cells.now) }
 {
-    match checked(cells, hint, item) {
+    if let Some(place) = checked(cells, hint, item) {
+        return Some(place);
+    }
+    match halved(cells, item) {
         Some(place) => Some(place),
         None => search(cells, item),
     }
