@@ -6,7 +6,7 @@ _sgt() {
         return
     fi
     case $command in
-        audit) options='--quiet --help' ;;
+        audit) options='--quiet -q --help' ;;
         replay) options='--strict --bundle --help' ;;
         run) options='--workers --tries --bundle --help' ;;
         explain) options='--tx --help F1 F2 F3 F4 F5 F6 F7 F8 F9 F10 F11 F12 F13 F14 F15 F16 F17 F18 F19 K1 K2 K3 K4' ;;
