@@ -47,7 +47,7 @@ def long_pages():
 
 def missing_words():
     for page in ("docs/sgt.1", "docs/sgt.bash"):
-        text = text_of(page).replace("\\-", "-")
+        text = re.sub(r"\\f[A-Z]", " ", text_of(page).replace("\\-", "-")).replace("Fl -", "--").replace("| -", "| --")
         for word in COMMANDS + OPTIONS:
             if not re.search(rf"(?<![\w-]){re.escape(word)}(?![\w-])", text):
                 yield f"{page}: nothing of {word}"
