@@ -60,11 +60,7 @@ fn access_of(scene: &Scene, entry: &Entry) -> Option<Access> {
 }
 
 /// The operations at a site, item by item, each in the order of the log.
-fn accesses_in(
-    alloc: Global,
-    scene: &Scene,
-    entries: &[Entry],
-) -> Result<Vec<Access>, AllocError> {
+fn accesses_in(alloc: Global, scene: &Scene, entries: &[Entry]) -> Result<Vec<Access>, AllocError> {
     let mut accesses = Vec::new(alloc);
     for entry in entries {
         if let Some(access) = access_of(scene, entry) {
@@ -164,11 +160,7 @@ impl Table {
 }
 
 /// The conflicts between neighbours among the committed transactions that are drawn, by their places and kinds.
-pub fn edges_in(
-    alloc: Global,
-    scene: &Scene,
-    sites: &[SiteLog],
-) -> Result<Vec<Edge>, AllocError> {
+pub fn edges_in(alloc: Global, scene: &Scene, sites: &[SiteLog]) -> Result<Vec<Edge>, AllocError> {
     let mut table = Table::new(alloc, scene.committed.len().min(1_000) as u32)?;
     let mut site = 0u64;
     for log in sites {

@@ -6,7 +6,12 @@ ghost use Rattle.sgt_audit.specs.Faults.{ReadsNoFurther};
 ghost use Rattle.sgt_audit.specs.Verdict.{IsAudited, HandsOutValid};
 ghost use Rattle.sgt_draw.specs.Drawn.{IsDrawn, WroteDrawn, WroteDrawnFront};
 
-use crate::canvas::{Canvas, Part};
+use crate::canvas::Canvas;
+use crate::dot;
+use crate::edges::edges_in;
+use crate::lanes::laid_in;
+use crate::scene::Scene;
+use crate::svg::{Picture, put_alone};
 use sgt_audit::{Audited, Verdict, audit_bundle};
 use sgt_cert::Bundle;
 use sgt_names::{EngineFail, Outcome, Sink, Source, Tx, write_all};
@@ -21,10 +26,39 @@ pub struct Wanted {
     pub is_dot: bool,
 }
 
+/// All of a bundle.
+fn put_all(
+    alloc: Global,
+    canvas: &mut Canvas,
+    is_dot: bool,
+    bundle: &Bundle,
+) -> Result<(), AllocError> {
+    let decisions = bundle.certificate().decisions();
+    let scene = Scene::of(alloc, decisions)?;
+    let mut edges = edges_in(alloc, &scene, bundle.sites())?;
+    if is_dot {
+        return dot::put_graph(canvas, &scene, decisions, edges.as_slice());
+    }
+    let is_named = scene.is_small();
+    let laid = laid_in(alloc, &mut edges, is_named)?;
+    let picture = Picture {
+        scene: &scene,
+        decisions,
+        laid: laid.as_slice(),
+        is_named,
+    };
+    picture.put(canvas)
+}
+
 /// The picture of a bundle.
 fn picture(alloc: Global, wanted: Wanted, bundle: &Bundle) -> Result<Vec<u8>, AllocError> {
     let mut canvas = Canvas::new(alloc);
-    canvas.put(&[Part::Markup("<svg>")])?;
+    let decisions = bundle.certificate().decisions();
+    match wanted.tx {
+        Some(tx) if wanted.is_dot => dot::put_alone(&mut canvas, decisions, tx)?,
+        Some(tx) => put_alone(&mut canvas, decisions, tx)?,
+        None => put_all(alloc, &mut canvas, wanted.is_dot, bundle)?,
+    }
     Ok(canvas.into_text())
 }
 

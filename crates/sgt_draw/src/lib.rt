@@ -2,8 +2,13 @@
 #![tactic(auto)]
 
 mod canvas;
+mod cycles;
+mod dot;
 mod edges;
 mod engine;
+mod lanes;
+mod marks;
 mod scene;
+mod svg;
 
 pub use engine::{Wanted, draw};

@@ -121,6 +121,8 @@ impl Scene {
     /// Whether some transactions are not drawn.
     pub fn leaves_out(&self) -> bool {
         let counts = self.counts;
-        counts.committed > MOST_DRAWN || counts.refused > MOST_DRAWN || counts.withdrawn > MOST_DRAWN
+        counts.committed > MOST_DRAWN
+            || counts.refused > MOST_DRAWN
+            || counts.withdrawn > MOST_DRAWN
     }
 }
