@@ -37,6 +37,7 @@ enum Command {
     Replay,
     Run,
     Explain,
+    Draw,
     OneFile,
     Other,
 }
@@ -47,6 +48,7 @@ fn command_of(word: &str) -> Command {
         "replay" => Command::Replay,
         "run" => Command::Run,
         "explain" => Command::Explain,
+        "draw" => Command::Draw,
         "serial" | "certify" => Command::OneFile,
         _ => Command::Other,
     }
@@ -72,7 +74,7 @@ fn kind_of(command: Command, word: &str) -> Kind {
         "--strict" if command == Command::Replay => Kind::Strict,
         "--bundle" if command == Command::Replay || command == Command::Run => Kind::Bundle,
         "--workers" | "--tries" if command == Command::Run => Kind::WithNumber,
-        "--tx" if command == Command::Explain => Kind::WithNumber,
+        "--tx" if command == Command::Explain || command == Command::Draw => Kind::WithNumber,
         "-" => Kind::File,
         _ if word.starts_with('-') => Kind::Plain,
         _ if command == Command::Explain && is_rule(word) => Kind::Plain,

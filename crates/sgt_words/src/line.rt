@@ -7,13 +7,13 @@ ghost use Rattle.sgt_words.specs.Words.{AsksOther, HasText, IsHelp, IsUsage};
 use crate::choice::NoChoice;
 use crate::options::run_line;
 use clap::error::ErrorKind;
-use clap::{Arg, Command, Error};
+use clap::{Arg, ArgAction, Command, Error};
 use std::alloc::{AllocError, Global};
 
 const VERSION: &str = "0.4.0 (bundles: sgt 1, sgt 2)";
 
 const ABOUT: &str =
-    "Audits the logs of certified runs, explains what is wrong, makes the certificate of logs that have none, replays runs from events, and runs scripts.";
+    "Audits the logs of certified runs, explains what is wrong, draws, makes the certificate of logs that have none, replays runs from events, and runs scripts.";
 
 const AUDIT: &str =
     "Writes `yes C committed R refused W withdrawn` for a valid bundle, else `no line L FN` (the default)";
@@ -28,6 +28,9 @@ const CERTIFY: &str =
     "Makes the certificate of logs that have none, and writes the bundle, or why there is no certificate";
 
 const EXPLAIN: &str = "Writes audit's line on a bundle, and what it means";
+
+const DRAW: &str =
+    "Draws a valid bundle as SVG: the committed transactions by rank with their conflicts, and each refused one's cycle; else writes audit's `no` line. Example: sgt draw bundle.txt > bundle.svg";
 
 /// What the help of each command ends with.
 pub const MORE: &str =
@@ -65,6 +68,22 @@ fn explain_line<'a>(alloc: Global) -> Result<Command<'a>, AllocError> {
         .arg(tx)
 }
 
+fn draw_line<'a>(alloc: Global) -> Result<Command<'a>, AllocError> {
+    let tx = Arg::new(alloc, "tx")
+        .long("tx")
+        .value_name("N")
+        .help("Draws the cycle of refused transaction N alone");
+    let dot = Arg::new(alloc, "dot")
+        .long("dot")
+        .action(ArgAction::SetTrue)
+        .help("Writes Graphviz text in place of SVG");
+    Command::new(alloc, "draw")
+        .about(DRAW)
+        .after_help(MORE)
+        .arg(tx)?
+        .arg(dot)
+}
+
 fn command<'a>(alloc: Global) -> Result<Command<'a>, AllocError> {
     let line = Command::new(alloc, "sgt")
         .about(ABOUT)
@@ -76,7 +95,8 @@ fn command<'a>(alloc: Global) -> Result<Command<'a>, AllocError> {
     let line = add(alloc, line, "replay", REPLAY)?;
     let line = line.subcommand(run_line(alloc)?)?;
     let line = add(alloc, line, "certify", CERTIFY)?;
-    line.subcommand(explain_line(alloc)?)
+    let line = line.subcommand(explain_line(alloc)?)?;
+    line.subcommand(draw_line(alloc)?)
 }
 
 // What clap says, or this where it says nothing.
