@@ -1,6 +1,6 @@
 //! What is found of a text.
 
-ghost use Rattle.std.specs.Prelude.{◌<◌, length, IfSome};
+ghost use Rattle.std.specs.Prelude.{◌<◌, ◌≤◌, length, IfOk, IfSome};
 
 use crate::faults::LineFault;
 use crate::reading::Reader;
@@ -12,7 +12,7 @@ use sgt_certify_history::History;
 use sgt_certify_logs::{ConflictStep, EndStep};
 use sgt_certify_stuck::StuckSet;
 use sgt_names::Listed;
-use sgt_notation::find_lf;
+use sgt_notation::{SectionLine, find_lf, front_line};
 use std::alloc::{AllocError, Global};
 
 /// What shows that there is no certificate.
@@ -53,6 +53,37 @@ fn split_line(text: &[u8]) -> Option<(&[u8], &[u8])>
     Some((&text[..at], &text[at + 1..]))
 }
 
+/// The line of a section that is found at the front, and what stands behind it.
+fn split_front(text: &[u8]) -> Option<(SectionLine, &[u8])>
+    ensures { IfSome result (λ split. length split.1.now < length text.now) }
+{
+    let (line, n) = front_line(text)?;
+    if n == 0 {
+        return None;
+    }
+    Some((line, &text[n..]))
+}
+
+/// Feeds the reader the line at the front, if one is there: how many bytes it has with its LF, and its fault.
+fn feed_front(
+    reader: &mut Reader,
+    text: &[u8],
+) -> Result<Option<(usize, Option<LineFault>)>, AllocError>
+    ensures { IfOk result (λ fed. IfSome fed (λ r. (0 < r.0) × (r.0 ≤ length text.now))) }
+{
+    if let Some((line, behind)) = split_front(text) {
+        let fault = reader.next_read(&line)?;
+        return Ok(Some((text.len() - behind.len(), fault)));
+    }
+    match split_line(text) {
+        Some((line, behind)) => {
+            let fault = reader.next(line)?;
+            Ok(Some((text.len() - behind.len(), fault)))
+        }
+        None => Ok(None),
+    }
+}
+
 /// Feeds the reader the lines of the text, up to the first with a fault: that, if there is one. Else what is left behind the last LF
 /// is put into `rest`.
 fn feed(
@@ -61,11 +92,11 @@ fn feed(
     rest: &mut usize,
 ) -> Result<Option<LineFault>, AllocError> {
     let mut ahead = text;
-    'lines: while let Some((line, behind)) = split_line(ahead) {
-        if let Some(fault) = reader.next(line)? {
-            return Ok(Some(fault));
+    'lines: while let Some((n, fault)) = feed_front(reader, ahead)? {
+        if fault.is_some() {
+            return Ok(fault);
         }
-        ahead = behind;
+        ahead = &ahead[n..];
     }
     *rest = ahead.len();
     Ok(None)
@@ -117,7 +148,7 @@ fn found_in(alloc: Global, history: &History) -> Result<Found, AllocError> {
 
 /// Looks for a certificate of the logs that the text spells, or for the reason why there is none. Err: memory ran out.
 pub fn find(alloc: Global, text: &[u8]) -> Result<Found, AllocError> {
-    let mut reader = Reader::new(alloc);
+    let mut reader = Reader::new(alloc, text.len());
     let mut rest = 0;
     let fault = match feed(&mut reader, text, &mut rest)? {
         Some(fault) => Some(fault),
@@ -137,7 +168,7 @@ pub fn find(alloc: Global, text: &[u8]) -> Result<Found, AllocError> {
 
 /// The first line with a fault of a text with a line behind it that is too long, and its fault. Err: memory ran out.
 pub fn long_line(alloc: Global, text: &[u8]) -> Result<(usize, LineFault), AllocError> {
-    let mut reader = Reader::new(alloc);
+    let mut reader = Reader::new(alloc, text.len());
     let mut rest = 0;
     let fault = match feed(&mut reader, text, &mut rest)? {
         Some(fault) => fault,
