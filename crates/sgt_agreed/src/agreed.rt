@@ -4,7 +4,7 @@ ghost use Rattle.std.specs.Prelude.{◌≡◌, ◌↔◌, Some, All, IsTrue, IfO
 ghost use Rattle.sgt_names.specs.Draft.{at_site};
 ghost use Rattle.sgt_site.specs.State.{version_at};
 ghost use Rattle.sgt_site.specs.Refused.{MayPledge};
-ghost use Rattle.sgt_edges.specs.Edges.{IsGiven, StandsForAll};
+ghost use Rattle.sgt_edges.specs.Edges.{AreApart, HaveOwnHandles, IsGiven, StandsForAll};
 ghost use Rattle.sgt_agreed.specs.Agreed.{AgreesOn, VersionsAgree, RefusesAgreed};
 
 use crate::fault::ServiceFault;
@@ -78,6 +78,7 @@ pub fn gather_agreed(
     }) }
     ensures given { IfOk result (λ edges. All (IsGiven site.new draft.now.touched me) edges) }
     ensures stands { IfOk result (StandsForAll site.new draft.now.touched me) }
+    ensures once { HaveOwnHandles site.old → IfOk result AreApart }
     ensures err { OnErr result (site.new ≡ site.old) }
     ensures refused { IfErr result (RefusesAgreed certifier.now.history site.old tx draft.now.touched) }
 {
