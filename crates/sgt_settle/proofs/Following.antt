@@ -28,10 +28,12 @@ use Rattle.sgt_settle.specs.declared.link.Cut.{Cut}
 use Rattle.sgt_settle.specs.declared.joined.Deed.{Deed}
 use Rattle.sgt_settle.specs.declared.joined.Run.{Run}
 use Rattle.sgt_settle.specs.declared.joined.Source.{Source}
+use Rattle.sgt_settle.specs.private.Words.{IsItemAt}
 use Rattle.sgt_settle.specs.private.Search.{InRows}
 use Rattle.sgt_settle.specs.private.Index.{IsIn, IsPaired, AreCarried}
-use Rattle.sgt_settle.specs.private.Joined.{IsItemAt, upto, AreNoted, IsJoined, IsLinked, Follows, FollowsLast, IsAdded, IsStep, AreCarriedBelow, HasDeed, IsInRun, IsLed, IsParted, AreKeptBelow}
+use Rattle.sgt_settle.specs.private.Joined.{upto, AreNoted, IsJoined, IsLinked, Follows, FollowsLast, IsAdded, IsStep, AreCarriedBelow, HasDeed, IsInRun, IsLed, IsParted, AreKeptBelow}
 use Rattle.sgt_settle.proofs.Lists.{before_or_here, push_new, push_old}
+use Rattle.sgt_settle.proofs.Placing.{one_item, one_place}
 use Rattle.sgt_settle.proofs.Carrying.{clash_items, reaches_map}
 
 -- ---- the greater of two numbers
@@ -177,31 +179,6 @@ reaches_join R a b c first second = leads_join R a b c first.0 first.1 second
 
 linked_walk : (index : Index) (cut : Cut) (to d : Deed) → d.tx ≢ to.tx → IsLinked index cut to d → Reaches (InRows index.out.items (upto cut (max d.number to.number))) d.tx to.tx
 linked_walk index cut to d apart linked = elim linked [ inl same ↦ absurd (apart same) | inr edge ↦ ([], edge) ]
-
--- ---- where an item stands
-
-one_item : (items : List Holding) (x y : Name) (n : ℕ) → IsItemAt items x n → IsItemAt items y n → x ≡ y
-one_item items x y n first second = let h = within_at items n first.within in sym (first.is h.0 h.1) ∙ second.is h.0 h.1
-
-not_before : (items : List Holding) (x : Name) (m n : ℕ) → IsRisingBy (λ (h : Holding). h.item) (slice_cmp nat_cmp) items → IsItemAt items x m → IsItemAt items x n → m < n → ⊥
-not_before items x m n rising first second lt =
-    let g = within_at items m first.within in
-    let h = within_at items n second.within in
-    let less = AllPairs_at (λ (a b : Holding). slice_cmp nat_cmp a.item b.item ≡ Less) items m n g.0 h.0 rising lt g.1 h.1 in
-    let same : slice_cmp nat_cmp x x ≡ Less = subst (λ z. slice_cmp nat_cmp z x ≡ Less) (first.is g.0 g.1) (subst (λ z. slice_cmp nat_cmp g.0.item z ≡ Less) (second.is h.0 h.1) less) in
-    let tied : Less ≡ Equal = sym same ∙ tied_itself nat_list_cmp_total x in
-    absurd cc
-
-one_place : (items : List Holding) (x : Name) (m n : ℕ) → IsRisingBy (λ (h : Holding). h.item) (slice_cmp nat_cmp) items → IsItemAt items x m → IsItemAt items x n → m ≡ n
-one_place items x m n rising first second =
-    elim (cases_lt m n) [
-      | inl lt ↦ absurd (not_before items x m n rising first second lt)
-      | inr le ↦
-          elim (cases_lt n m) [
-            | inl lt ↦ absurd (not_before items x n m rising second first lt)
-            | inr ge ↦ omega (arith, le, ge)
-          ]
-    ]
 
 one_number : (commits : List (Rattle.std.proofs.Common.Option ℕ)) (tx m n : ℕ) → IsIn commits tx m → IsIn commits tx n → m ≡ n
 one_number commits tx m n first second = same_Some m n (same_Some (Some m) (Some n) (sym first ∙ second))

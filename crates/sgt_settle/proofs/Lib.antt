@@ -12,6 +12,7 @@ pub mod Rising
 pub mod Fitting
 pub mod Tallying
 pub mod Tabling
+pub mod Placing
 pub mod Acting
 pub mod Telling
 pub mod Settling

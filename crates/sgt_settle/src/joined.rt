@@ -7,16 +7,16 @@ ghost use Rattle.std.specs.Cmp.Lexicographic.{slice_cmp};
 ghost use Rattle.sgt_names.specs.Ordered.{IsRisingBy};
 ghost use Rattle.sgt_names.specs.Entry.{tx_of, item_of};
 ghost use Rattle.sgt_settle.specs.private.Index.{IsIn, IsPaired, AreCarried};
-ghost use Rattle.sgt_settle.specs.private.Joined.{IsItemAt, IsJoined, Follows, FollowsLast, FollowsAsIncrement, FollowsAsOther, IsAdded};
+ghost use Rattle.sgt_settle.specs.private.Joined.{IsJoined, Follows, FollowsLast, FollowsAsIncrement, FollowsAsOther, IsAdded};
 ghost use Rattle.sgt_settle.specs.declared.joined.Deed.{Deed as ADeed};
 
+use crate::acts::place_of;
 use crate::carried::cut_at;
 use crate::counts::is_read;
 use crate::index::Index;
 use crate::link::{Arc, Cut};
-use sgt_names::{Entry, Holding, Item, SiteNo, Tx};
+use sgt_names::{Entry, Holding, SiteNo, Tx};
 use std::alloc::{AllocError, Global};
-use std::cmp::Ordering;
 
 /// What a committed transaction did to an item, with the number of its decision.
 #[derive(Clone, Copy, Debug, PartialEq, Eq)]
@@ -162,20 +162,6 @@ fn add(run: &mut Run, entry: &Entry, deed: &Deed) -> Result<(), AllocError>
     Ok(())
 }
 
-fn order(held: &Holding, item: &Item) -> Ordering
-    ensures { result ≡ slice_cmp nat_cmp held.now.item item.now }
-{
-    held.item.cmp(item)
-}
-
-// Where the item is.
-fn place_of(items: &[Holding], item: Item) -> Result<usize, usize>
-    requires { IsRisingBy (λ h. h.item) (slice_cmp nat_cmp) items.now }
-    ensures { IfOk result (IsItemAt items.now item) }
-{
-    items.binary_search_by(|held| order(held, &item))
-}
-
 // An empty run for each item.
 fn no_runs(alloc: Global, all: usize) -> Result<Vec<Run>, AllocError>
     ensures { IfOk result (λ runs. length runs.items ≡ all) }
@@ -250,7 +236,7 @@ impl Joiner {
             → IsStep index.now items.now cut.now entry.now self.old.runs.items self.new.runs.items) }
         ensures runs { IfOk result (λ yes. IsTrue yes → length self.new.runs.items ≡ length items.now) }
     {
-        let Ok(place) = place_of(items, cut.item) else {
+        let Some(place) = place_of(items, cut.item) else {
             return Ok(false);
         };
         let tx = entry.tx();

@@ -10,10 +10,10 @@ ghost use Rattle.sgt_settle.specs.Settled.{AreEntriesCounted, AreCountedAt, IsCo
 ghost use Rattle.sgt_settle.specs.declared.handed.Handed.{Handed as AHanded};
 ghost use Rattle.sgt_settle.specs.private.Words.{IsLeastOf, lesser};
 ghost use Rattle.sgt_settle.specs.private.Index.{IsPaired};
-ghost use Rattle.sgt_settle.specs.private.Acts.{AreActs, AreNamedBelow};
+ghost use Rattle.sgt_settle.specs.private.Acts.{AreKnown, AreActs, AreByActor};
 ghost use Rattle.sgt_settle.specs.private.Sites.{AreLogged, IsLogFit, IsSiteFit, IsFitAt};
 
-use crate::acts::{Act, above_names, acts_of};
+use crate::acts::{Act, acts_of};
 use crate::carried::are_carried;
 use crate::counts::has_counts;
 use crate::handed::Handed;
@@ -26,12 +26,21 @@ use sgt_site::Site;
 use std::alloc::{AllocError, Global};
 
 // Whether each edge on the site is a conflict of its log.
-fn are_logged(windows: &[Vec<Tx>], acts: &[Vec<Act>], handed: &[Handed], site: SiteNo) -> bool
-    requires { AreNamedBelow windows.now (length acts.now) }
-    ensures { (log : List AnEntry) → AreActs log acts.now → IsTrue result ↔ AreLogged windows.now handed.now site log }
+fn are_logged(
+    windows: &[Vec<Tx>],
+    items: &[Holding],
+    acts: &[Vec<Act>],
+    handed: &[Handed],
+    site: SiteNo,
+) -> bool
+    requires rising { IsRisingBy (λ h. h.item) (slice_cmp nat_cmp) items.now }
+    requires long { length acts.now ≡ length items.now }
+    requires sorted { AreByActor acts.now }
+    ensures { (log : List AnEntry) → AreKnown items.now log → AreActs items.now log acts.now
+        → IsTrue result ↔ AreLogged windows.now handed.now site log }
 {
     for one in handed {
-        if one.edge.label.site == site && !is_logged(windows, acts, &one.edge) {
+        if one.edge.label.site == site && !is_logged(windows, items, acts, &one.edge) {
             return false;
         }
     }
@@ -49,15 +58,17 @@ fn is_log_fit(
 ) -> Result<bool, AllocError>
     requires paired { IsPaired index.now }
     requires rising { IsRisingBy (λ h. h.item) (slice_cmp nat_cmp) items.now }
+    requires known { AreKnown items.now log.now }
     ensures ok { IfOk result (λ yes. IsTrue yes ↔ IsLogFit index.now site counts log.now) }
     ensures err { OnErr result (AreEntriesCounted counts log.now) }
 {
     if !has_counts(log, counts) {
         return Ok(false);
     }
+    let acts = acts_of(alloc, items, log)?;
     let windows = index.windows.as_slice();
-    let acts = acts_of(alloc, log, above_names(windows))?;
-    if !are_logged(windows, acts.as_slice(), index.handed.as_slice(), site) {
+    let handed = index.handed.as_slice();
+    if !are_logged(windows, items, acts.as_slice(), handed, site) {
         return Ok(false);
     }
     let joined = are_joined(alloc, index, site, items, log)?;

@@ -1,7 +1,6 @@
 -- The operations on an item since its last write, and the edges that join them.
 use Rattle.std.specs.Prelude.{◌≡◌, ◌≢◌, ◌⊎◌, ◌≤◌, ◌<◌, ◌++◌, ◌∷◌, [], ℕ, max, Bool, true, false, not, List, None, Some, All, Contains, slice_get}
 use Rattle.sgt_names.specs.Name.{Name}
-use Rattle.sgt_names.specs.Ordered.{IsAt}
 use Rattle.sgt_names.specs.Entry.{tx_of, item_of, is_increment, Clash}
 use Rattle.sgt_names.specs.declared.entry.Entry.{Entry}
 use Rattle.sgt_names.specs.declared.entry.Holding.{Holding}
@@ -14,12 +13,9 @@ use Rattle.sgt_settle.specs.declared.link.Cut.{Cut}
 use Rattle.sgt_settle.specs.declared.joined.Deed.{Deed}
 use Rattle.sgt_settle.specs.declared.joined.Run.{Run}
 use Rattle.sgt_settle.specs.declared.joined.Source.{Source}
+use Rattle.sgt_settle.specs.private.Words.{IsItemAt}
 use Rattle.sgt_settle.specs.private.Search.{InRows, IsTarget}
 use Rattle.sgt_settle.specs.private.Index.{IsIn}
-
--- where an item stands
-abbrev pub IsItemAt : List Holding → Name → ℕ → Type 0
-IsItemAt items x at = IsAt (λ (h : Holding). h.item) items x at
 
 -- which edges count, up to this decision
 abbrev pub upto : Cut → ℕ → Cut

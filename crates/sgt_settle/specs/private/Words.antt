@@ -1,6 +1,9 @@
--- Rows, and the least of the elements that something holds of.
+-- Rows, where an item stands, and the least of the elements that something holds of.
 use Rattle.std.specs.Prelude.{◌≡◌, ◌≤◌, ◌++◌, ◌∷◌, [], ℕ, min, List, Option, Some, None, Contains, Vec, slice_get}
 use Rattle.std.specs.declared.alloc.Global.{Global}
+use Rattle.sgt_names.specs.Name.{Name}
+use Rattle.sgt_names.specs.Ordered.{IsAt}
+use Rattle.sgt_names.specs.declared.entry.Holding.{Holding}
 use Rattle.sgt_edges.specs.declared.edge.Edge.{Edge}
 use Rattle.sgt_settle.specs.declared.handed.Handed.{Handed}
 
@@ -19,6 +22,10 @@ pub record Pushed {T : Type 0} (old : List (Vec T Global)) (k : ℕ) (x : T) (ne
   pub was : slice_get old k ≡ Some before
   pub now : slice_get new k ≡ Some after
   pub more : after.items ≡ before.items ++ x ∷ []
+
+-- where an item stands
+abbrev pub IsItemAt : List Holding → Name → ℕ → Type 0
+IsItemAt items x at = IsAt (λ (h : Holding). h.item) items x at
 
 -- the lesser, where there is a first
 abbrev pub lesser : Option ℕ → ℕ → ℕ

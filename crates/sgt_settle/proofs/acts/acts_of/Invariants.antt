@@ -1,6 +1,11 @@
 use Rattle.std.proofs.Common.{◌≡◌, length}
-use Rattle.sgt_settle.proofs.Acting.{AreActsTo}
+use Rattle.sgt_settle.specs.private.Acts.{AreActs}
+use Rattle.sgt_settle.proofs.Acting.{AreByActorTo}
 use Rattle.sgt_settle.proofs.acts.acts_of.Given as goal
 
-abbrev pub invariant-loop-place : goal.invariant-loop-place
-invariant-loop-place l = record { long : length l.acts.items ≡ l.all; acts : AreActsTo l.log l.place l.acts.items }
+abbrev pub invariant-loop-at : goal.invariant-loop-at
+invariant-loop-at l = record {
+  long : length l.acts.items ≡ length l.items;
+  acts : AreActs l.items l.log l.acts.items;
+  sorted : AreByActorTo l.at l.acts.items;
+}

@@ -5,24 +5,18 @@ use Rattle.sgt_names.specs.Log.{Conflicts}
 use Rattle.sgt_settle.proofs.Linking.{names_same}
 use Rattle.sgt_settle.proofs.logged.is_logged.Goals as goal
 
-pub is_between-requires-clause-from : goal.is_between-requires-clause-from
-is_between-requires-clause-from c = c.requires c.args.edge.now.from c.in-Some.from ((c.tx_under.ensures c.in-Some.from).0 c.in-Some.is)
-
-pub is_between-requires-clause-to : goal.is_between-requires-clause-to
-is_between-requires-clause-to c = c.requires c.args.edge.now.to c.in-Some-tx_under.to ((c.tx_under-2.ensures c.in-Some-tx_under.to).0 c.in-Some-tx_under.is)
-
 pub returns-in_default : goal.returns-in_default
-returns-in_default c log are = (λ told. absurd (true≢false (sym told)), λ k. absurd (none-some k.0 (sym c.in_default.is ∙ (c.tx_under.ensures k.0).1 k.2)))
+returns-in_default c log known are = (λ told. absurd (true≢false (sym told)), λ k. absurd (none-some k.0 (sym c.in_default.is ∙ (c.tx_under.ensures k.0).1 k.2)))
 
 pub returns-in_default-tx_under : goal.returns-in_default-tx_under
-returns-in_default-tx_under c log are = (λ told. absurd (true≢false (sym told)), λ k. absurd (none-some k.1 (sym c.in_default-tx_under.is ∙ (c.tx_under-2.ensures k.1).1 k.3)))
+returns-in_default-tx_under c log known are = (λ told. absurd (true≢false (sym told)), λ k. absurd (none-some k.1 (sym c.in_default-tx_under.is ∙ (c.tx_under-2.ensures k.1).1 k.3)))
 
 pub returns : goal.returns
-returns c log are =
+returns c log known are =
     let from = (c.tx_under.ensures c.in-Some.from).0 c.in-Some.is in
     let to = (c.tx_under-2.ensures c.in-Some-tx_under.to).0 c.in-Some-tx_under.is in
     let e = c.args.edge.now in
-    let told_by = c.is_between.ensures log are in (
+    let told_by = c.is_between.ensures log known are in (
       λ told. (c.in-Some.from, c.in-Some-tx_under.to, from, to, told_by.0 told),
       λ k.
           let a = names_same c.args.windows.now e.from k.0 c.in-Some.from k.2 from in

@@ -1,25 +1,23 @@
 use Rattle.std.proofs.Common.{◌≡◌, ◌∙◌, ap, length, refl, sym, subst}
 use Rattle.std.proofs.lemmas.Bool.{true≢false}
-use Rattle.sgt_settle.specs.private.Acts.{AreActs, AreNamedBelow}
+use Rattle.sgt_settle.specs.private.Acts.{AreActs, AreByActor}
 use Rattle.sgt_settle.proofs.sites.is_log_fit.Goals as goal
 
-pub are_logged-requires : goal.are_logged-requires
-are_logged-requires c =
-    let long : length c.as_slice.result.now ≡ c.above_names.result = ap length c.as_slice.ensures.value ∙ c.in_ok-acts.ensures.long in
-    subst (AreNamedBelow c.as_slice-windows.result.now) (sym long) c.above_names.ensures
+pub are_logged-requires-clause-sorted : goal.are_logged-requires-clause-sorted
+are_logged-requires-clause-sorted c = subst AreByActor (sym c.as_slice.ensures.value) c.in_ok-acts.ensures.sorted
 
 pub returns-then-not-are_logged-clause-ok : goal.returns-then-not-are_logged-clause-ok
 returns-then-not-are_logged-clause-ok c =
-    let are : AreActs c.args.log.now c.as_slice.result.now = rw c.as_slice.ensures.value c.in_ok-acts.ensures.acts in
-    let logged = rw c.as_slice-windows.ensures.value at (rw c.as_slice-2.ensures.value at (c.are_logged.ensures c.args.log.now are)) in (
+    let are : AreActs c.args.items.now c.args.log.now c.as_slice.result.now = rw c.as_slice.ensures.value c.in_ok-acts.ensures.acts in
+    let logged = rw c.as_slice-windows.ensures.value at (rw c.as_slice-handed.ensures.value at (c.are_logged.ensures c.args.log.now c.requires.known are)) in (
       λ told. absurd (true≢false (sym told)),
       λ fit. absurd (true≢false (sym (logged.1 fit.edges) ∙ c.if-not-are_logged.true)),
     )
 
 pub returns-then-joined-clause-ok : goal.returns-then-joined-clause-ok
 returns-then-joined-clause-ok c =
-    let are : AreActs c.args.log.now c.as_slice.result.now = rw c.as_slice.ensures.value c.in_ok-acts.ensures.acts in
-    let logged = rw c.as_slice-windows.ensures.value at (rw c.as_slice-2.ensures.value at (c.are_logged.ensures c.args.log.now are)) in (
+    let are : AreActs c.args.items.now c.args.log.now c.as_slice.result.now = rw c.as_slice.ensures.value c.in_ok-acts.ensures.acts in
+    let logged = rw c.as_slice-windows.ensures.value at (rw c.as_slice-handed.ensures.value at (c.are_logged.ensures c.args.log.now c.requires.known are)) in (
       λ told. record {
         counted = c.has_counts.ensures.0 c.if-not-has_counts.false;
         edges = logged.0 c.if-not-are_logged.false;
@@ -30,8 +28,8 @@ returns-then-joined-clause-ok c =
 
 pub returns-clause-ok : goal.returns-clause-ok
 returns-clause-ok c =
-    let are : AreActs c.args.log.now c.as_slice.result.now = rw c.as_slice.ensures.value c.in_ok-acts.ensures.acts in
-    let logged = rw c.as_slice-windows.ensures.value at (rw c.as_slice-2.ensures.value at (c.are_logged.ensures c.args.log.now are)) in (
+    let are : AreActs c.args.items.now c.args.log.now c.as_slice.result.now = rw c.as_slice.ensures.value c.in_ok-acts.ensures.acts in
+    let logged = rw c.as_slice-windows.ensures.value at (rw c.as_slice-handed.ensures.value at (c.are_logged.ensures c.args.log.now c.requires.known are)) in (
       λ told. record {
         counted = c.has_counts.ensures.0 c.if-not-has_counts.false;
         edges = logged.0 c.if-not-are_logged.false;
