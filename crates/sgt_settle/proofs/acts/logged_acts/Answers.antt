@@ -1,7 +1,5 @@
-use Rattle.std.proofs.Common.{◌≡◌, ◌∙◌, ◌+◌, ap, sym, subst, arith, length, Some}
-use Rattle.sgt_names.specs.Entry.{item_of}
+use Rattle.std.proofs.Common.{◌≡◌, ◌∙◌, ◌+◌, ap, sym, subst, arith, length}
 use Rattle.sgt_names.specs.declared.entry.Entry.{Entry as AnEntry}
-use Rattle.sgt_settle.specs.private.Words.{IsItemAt}
 use Rattle.std.proofs.lemmas.Option.{none-some}
 use Rattle.sgt_settle.proofs.Lists.{read}
 use Rattle.sgt_settle.proofs.Rowing.{written_back}

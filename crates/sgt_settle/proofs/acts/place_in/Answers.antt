@@ -1,4 +1,4 @@
-use Rattle.std.proofs.Common.{Some, sym, ◌∙◌, subst}
+use Rattle.std.proofs.Common.{sym, ◌∙◌, subst}
 use Rattle.std.proofs.lemmas.Option.{same_Some}
 use Rattle.sgt_settle.specs.private.Words.{IsItemAt}
 use Rattle.sgt_settle.proofs.acts.place_in.Goals as goal

@@ -1,9 +1,7 @@
-use Rattle.std.proofs.Common.{◌≡◌, ◌≢◌, ◌∙◌, sym, subst, arith, Some, List, Contains}
-use Rattle.std.specs.Prelude.{slice_get}
+use Rattle.std.proofs.Common.{◌≢◌, ◌∙◌, sym, subst, arith}
 use Rattle.std.proofs.lemmas.Bool.{true≢false, eqb-true, eqb-false}
 use Rattle.std.proofs.lemmas.Option.{none-some}
 use Rattle.std.specs.List.Sorted.{IsNonDecreasingBy}
-use Rattle.sgt_settle.specs.declared.acts.Act.{Act as AnAct}
 use Rattle.sgt_settle.specs.private.Acts.{actor}
 use Rattle.sgt_settle.proofs.Lists.{read}
 use Rattle.sgt_settle.proofs.Carrying.{clash_items}

@@ -1,4 +1,4 @@
-use Rattle.std.proofs.Common.{◌≡◌, ◌∙◌, ap, length, refl, sym, subst}
+use Rattle.std.proofs.Common.{◌∙◌, refl, sym, subst}
 use Rattle.std.proofs.lemmas.Bool.{true≢false}
 use Rattle.sgt_settle.specs.private.Acts.{AreActs, AreByActor}
 use Rattle.sgt_settle.proofs.sites.is_log_fit.Goals as goal
