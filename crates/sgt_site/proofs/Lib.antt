@@ -10,6 +10,7 @@ pub mod Touching
 pub mod PendingReads
 pub mod Tails
 pub mod Keeps
+pub mod SitePart
 pub mod Pledges
 pub mod Refusals
 pub mod Installs

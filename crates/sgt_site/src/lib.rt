@@ -8,6 +8,7 @@ mod laws;
 mod pending;
 mod readings;
 mod site;
+mod site_part;
 
 pub use cell::{Install, Reader, Writer};
 pub use fault::SiteFault;

@@ -1,15 +1,16 @@
 //! The blocks that end a transaction, written under its pledge.
 
 ghost use Rattle.std.specs.Prelude.{◌≡◌, ◌↔◌, ◌+◌, ◌≤◌, ◌++◌, length, map, vec_len, vec_capacity, IsTrue};
-ghost use Rattle.sgt_names.specs.Draft.{at_site, writing_in};
+ghost use Rattle.sgt_names.specs.Draft.{writing_in};
 ghost use Rattle.sgt_site.specs.State.{change_entry, want_entry};
 
 use super::{Site, add_ended, is_pledged};
 use crate::cell::Install;
 use crate::fault::SiteFault;
 use crate::pending::drop_reads;
+use crate::site_part::part_at;
 use sgt_arena::Handle;
-use sgt_names::{Change, Draft, Entry, Item, SiteNo, Touch, Tx};
+use sgt_names::{Change, Draft, Entry, Item, Touch, Tx};
 
 impl Site {
     ghost use Rattle.std.specs.Prelude.{◌≡◌, ◌↔◌, ◌∷◌, ◌++◌, [], None, IsOk, OnOk, OnErr, IfErr};
@@ -22,7 +23,7 @@ impl Site {
     ///
     /// - S5: no pledge of the transaction stands, or the draft reads or writes otherwise here than the one that was pledged.
     ///
-    /// Goes over the draft, with a search of the items for each that it touches here. Where it read an item, the committed readers
+    /// Goes over what the draft touches here, with a search of the items for each. Where it read an item, the committed readers
     /// of newer versions move by a place, and so do the reads of transactions of greater numbers that have no end.
     pub fn install(&mut self, tx: Tx, handle: Handle, draft: &Draft) -> Result<(), SiteFault>
         ensures ok { OnOk result (self.new ≡ record self.old {
@@ -35,7 +36,7 @@ impl Site {
         ensures refused { IfErr result (λ f. f ≡ SiteFault.NotPledged) }
     {
         if !is_pledged(self.pledged, tx)
-            || !is_part(self.part.as_slice(), self.number, draft.touched())
+            || !are_same(self.part.as_slice(), part_at(draft.touched(), self.number))
         {
             return Err(SiteFault::NotPledged);
         }
@@ -52,7 +53,7 @@ impl Site {
     }
 
     /// Ends a transaction as refused, under its pledge for this draft: what it asked for by rising item, and its end. No value
-    /// changes. Takes no memory, and goes over the draft; the reads of transactions of greater numbers that have no end move up.
+    /// changes. Takes no memory, and goes over what the draft touches here; the reads of transactions of greater numbers that have no end move up.
     ///
     /// - S5: no pledge of the transaction stands, or the draft reads or writes otherwise here than the one that was pledged.
     pub fn refuse(&mut self, tx: Tx, draft: &Draft) -> Result<(), SiteFault>
@@ -65,7 +66,7 @@ impl Site {
         ensures refused { IfErr result (λ f. f ≡ SiteFault.NotPledged) }
     {
         if !is_pledged(self.pledged, tx)
-            || !is_part(self.part.as_slice(), self.number, draft.touched())
+            || !are_same(self.part.as_slice(), part_at(draft.touched(), self.number))
         {
             return Err(SiteFault::NotPledged);
         }
@@ -79,17 +80,15 @@ impl Site {
     }
 }
 
-// Whether this is what is touched at the site.
-fn is_part(part: &[Touch], number: SiteNo, touched: &[Touch]) -> bool
-    ensures { IsTrue result ↔ (part.now ≡ at_site number touched.now) }
+// Whether these are the same.
+fn are_same(part: &[Touch], here: &[Touch]) -> bool
+    ensures { IsTrue result ↔ (part.now ≡ here.now) }
 {
     let mut rest = part;
-    for t in touched {
-        if t.site == number {
-            match rest {
-                [first, others @ ..] if same_touch(first, t) => rest = others,
-                _ => return false,
-            }
+    for t in here {
+        match rest {
+            [first, others @ ..] if same_touch(first, t) => rest = others,
+            _ => return false,
         }
     }
     rest.is_empty()
