@@ -2,6 +2,7 @@
 
 ghost use Rattle.std.specs.Prelude.{None};
 
+use crate::progress::Progress;
 use sgt_names::{Failed, Sink};
 use std::alloc::Global;
 use std::io;
@@ -10,26 +11,36 @@ use std::io::Read;
 // How often a read that a signal interrupts is begun.
 const TRIES: u32 = 1_000;
 
-/// A reader that begins a read again where a signal interrupted it, and keeps why a read failed.
+/// A reader that begins a read again where a signal interrupted it, keeps why a read failed, and tells of what was read.
 #[derive(Drop)]
-pub struct Steady<R> {
+pub struct Steady<'a, R> {
     inner: R,
+    progress: Option<Progress<'a>>,
     pub why: Option<io::Error>,
 }
 
-impl<R: Read> Steady<R> {
+impl<'a, R: Read> Steady<'a, R> {
     /// The reader, which has not failed.
-    pub fn new(inner: R) -> Steady<R> {
-        Steady { inner, why: None }
+    pub fn new(inner: R, progress: Option<Progress<'a>>) -> Steady<'a, R> {
+        Steady {
+            inner,
+            progress,
+            why: None,
+        }
     }
 }
 
-impl<R: Read> Read for &mut Steady<R> {
+impl<R: Read> Read for &mut Steady<'_, R> {
     fn read(&mut self, buffer: &mut [u8]) -> io::Result<usize> {
         for _ in 0..TRIES {
             match self.inner.read(buffer) {
                 Err(e) if e.kind() == io::ErrorKind::Interrupted => {}
-                Ok(n) => return Ok(n),
+                Ok(n) => {
+                    if let Some(progress) = &mut self.progress {
+                        progress.pass(buffer.get(..n).unwrap_or(&[]));
+                    }
+                    return Ok(n);
+                }
                 Err(e) => {
                     let kind = e.kind();
                     self.why = Some(e);

@@ -15,6 +15,8 @@ pub struct Line {
     pub is_quiet: bool,
     /// Whether a replay that refuses an event ends with status 1.
     pub is_strict: bool,
+    /// Whether standard error is told of each million lines that were read.
+    pub tells_lines: bool,
 }
 
 // What a word is.
@@ -28,15 +30,18 @@ enum Kind {
     Bundle,
     Quiet,
     Strict,
+    Progress,
 }
 
 // The command that a line begins with, as far as it says what the words behind it are.
 #[derive(Clone, Copy, PartialEq, Eq)]
 enum Command {
     Audit,
+    Serial,
     Replay,
     Run,
     Explain,
+    Draw,
     OneFile,
     Other,
 }
@@ -44,12 +49,22 @@ enum Command {
 fn command_of(word: &str) -> Command {
     match word {
         "audit" => Command::Audit,
+        "serial" => Command::Serial,
         "replay" => Command::Replay,
         "run" => Command::Run,
         "explain" => Command::Explain,
-        "serial" | "certify" => Command::OneFile,
+        "draw" => Command::Draw,
+        "certify" => Command::OneFile,
         _ => Command::Other,
     }
+}
+
+// Whether the command tells of the lines that it reads, where it is asked to.
+fn tells_lines(command: Command) -> bool {
+    matches!(
+        command,
+        Command::Audit | Command::Serial | Command::Replay
+    )
 }
 
 // Whether this is the name of a rule, as `F10`.
@@ -70,9 +85,10 @@ fn kind_of(command: Command, word: &str) -> Kind {
     match word {
         "-q" | "--quiet" if command == Command::Audit => Kind::Quiet,
         "--strict" if command == Command::Replay => Kind::Strict,
+        "--progress" if tells_lines(command) => Kind::Progress,
         "--bundle" if command == Command::Replay || command == Command::Run => Kind::Bundle,
         "--workers" | "--tries" if command == Command::Run => Kind::WithNumber,
-        "--tx" if command == Command::Explain => Kind::WithNumber,
+        "--tx" if command == Command::Explain || command == Command::Draw => Kind::WithNumber,
         "-" => Kind::File,
         _ if word.starts_with('-') => Kind::Plain,
         _ if command == Command::Explain && is_rule(word) => Kind::Plain,
@@ -88,6 +104,7 @@ impl Line {
             bundle: None,
             is_quiet: false,
             is_strict: false,
+            tells_lines: false,
         }
     }
 
@@ -96,6 +113,7 @@ impl Line {
         match kind {
             Kind::Quiet => self.is_quiet = true,
             Kind::Strict => self.is_strict = true,
+            Kind::Progress => self.tells_lines = true,
             Kind::File if command == Command::Audit || self.files.is_empty() => {
                 self.files.push(word)?;
             }

@@ -4,10 +4,12 @@
 mod answers;
 mod devices;
 mod line;
+mod progress;
 
 use crate::answers::{cut, has_refusal};
 use crate::devices::{Held, Steady};
 use crate::line::Line;
+use crate::progress::Progress;
 use sgt_names::{EngineFail, FromRead, MemSink, Sink, ToWrite, write_all};
 use sgt_program::{give_up, program, refuse_words};
 use sgt_words::choose;
@@ -21,11 +23,12 @@ use std::{env, io};
 // How much of a verdict's line is kept where it isn't written at once.
 const LINE: usize = 200;
 
-// The system: its files and streams, and its threads.
+// The system: its files and streams, and its threads; and whether lines are told as they are read.
 #[derive(Drop)]
 struct Host<'a, H> {
     rt: &'a HostRuntime,
     threads: &'a H,
+    tells_lines: bool,
 }
 
 // Says why a file could not be read or written, and gives the status.
@@ -43,7 +46,12 @@ fn over<H: Threads + Wait + Sync, R: Read + Drop, W: Sink>(
     writer: &mut W,
 ) -> u8 {
     let rt = host.rt;
-    let mut steady = Steady::new(inner);
+    let progress = if host.tells_lines {
+        Some(Progress::new(rt))
+    } else {
+        None
+    };
+    let mut steady = Steady::new(inner, progress);
     let mut errors = ToWrite::new(rt.stderr());
     let status = {
         let mut reader = FromRead::new(&mut steady);
@@ -180,15 +188,18 @@ fn main(rt: HostRuntime) -> ExitCode {
         }
         Err(_) => return ExitCode::from(refuse_words(&mut errors)),
     };
-    let host = Host {
-        rt: &rt,
-        threads: &rt,
-    };
     let status = match Line::of(rt.alloc(), given) {
-        Ok(line) => match run_line(&host, &line) {
-            Ok(status) => status,
-            Err(fail) => give_up(&mut errors, fail),
-        },
+        Ok(line) => {
+            let host = Host {
+                rt: &rt,
+                threads: &rt,
+                tells_lines: line.tells_lines,
+            };
+            match run_line(&host, &line) {
+                Ok(status) => status,
+                Err(fail) => give_up(&mut errors, fail),
+            }
+        }
         Err(_) => give_up(&mut errors, EngineFail::Memory),
     };
     ExitCode::from(status)

@@ -10,13 +10,14 @@ use Rattle.sgt_audit.specs.declared.faults.Fault.{Fault}
 use Rattle.sgt_audit.specs.declared.verdict.Verdict.{Verdict}
 use Rattle.sgt_audit.specs.declared.verdict.Verdict.TheVariants.{Yes, No}
 use Rattle.sgt_certify.specs.Answer as certify
+use Rattle.sgt_draw.specs.Drawn as draw
 use Rattle.sgt_explain.specs.Explained as explain
 use Rattle.sgt_replay.specs.Replay as replay
 use Rattle.sgt_run.specs.Report as run
 use Rattle.sgt_serial.specs.Answer as serial
 use Rattle.sgt_serial.specs.Answer.{IsAnswer}
 use Rattle.sgt_words.specs.declared.choice.Choice.{Choice}
-use Rattle.sgt_words.specs.declared.choice.Choice.TheVariants.{Audit, Certify, Explain, Replay, Rule, Run, Serial, Transaction}
+use Rattle.sgt_words.specs.declared.choice.Choice.TheVariants.{Audit, Certify, Draw, DrawWith, Explain, Replay, Rule, Run, Serial, Transaction}
 
 abbrev pub outcome : Verdict → Outcome
 outcome (Yes c r w) = Outcome_.Yes
@@ -86,6 +87,11 @@ abbrev pub AnswersExplain : (status : ℕ) (told written written' : Option (List
 AnswersExplain status told written written' =
     ByStatus (λ outcome. explain.WroteExplained told outcome written written') (explain.WroteExplainedFront told written written') status
 
+-- the picture of a valid bundle at 0, and at 1 the line of a no
+abbrev pub AnswersDraw : (status : ℕ) (told written written' : Option (List ℕ)) → Type 0
+AnswersDraw status told written written' =
+    ByStatus (λ outcome. draw.WroteDrawn told outcome written written') (draw.WroteDrawnFront told written written') status
+
 -- a rule: its text at 0, and nothing else but a front at 3 and 4
 pub record AnswersRule (status : ℕ) (written written' : Option (List ℕ)) : Type 0 where
   pub rule : status ≡ 0 → (text : List ℕ) × Appends written written' text
@@ -101,6 +107,8 @@ Answers Certify = AnswersCertify
 Answers Explain = AnswersExplain
 Answers (Transaction tx) = AnswersExplain
 Answers (Rule topic) = λ status told written written'. AnswersRule status written written'
+Answers Draw = AnswersDraw
+Answers (DrawWith tx is_dot) = AnswersDraw
 Answers (Run workers tries) = AnswersRun tries
 
 -- other words: help, or no command

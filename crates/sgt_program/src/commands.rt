@@ -1,7 +1,7 @@
 //! The program over any reader and writers.
 
 ghost use Rattle.std.specs.Prelude.{◌≡◌, ◌<◌, ℕ, Err, map, length, string_bytes, IfErr, IsOk, codes};
-ghost use Rattle.sgt_program.specs.Commands.{AnswersAudit, AnswersCertify, AnswersExplain, AnswersSerial, AnswersReplay, AnswersRun, AnswersOthers};
+ghost use Rattle.sgt_program.specs.Commands.{AnswersAudit, AnswersCertify, AnswersDraw, AnswersExplain, AnswersSerial, AnswersReplay, AnswersRun, AnswersOthers};
 ghost use Rattle.sgt_program.specs.Ending.{LeavesDevices, ReadFailed, TellsErrors, WroteOrFailed, status_of, text_of_fail};
 ghost use Rattle.sgt_words.specs.Words.{AsksAudit, AsksNamed, AsksNone, AsksRun};
 ghost use Rattle.sgt_words.specs.declared.choice.Choice.TheVariants as choice;
@@ -81,6 +81,8 @@ pub fn program<H: Threads + Wait + Sync, R: Source, W: Sink, E: Sink>(
         → AnswersCertify result (R.tells reader.old) (W.holds writer.old) (W.holds writer.new) }
     ensures explain { AsksNamed (map string_bytes words.now) choice.Explain
         → AnswersExplain result (R.tells reader.old) (W.holds writer.old) (W.holds writer.new) }
+    ensures draw { AsksNamed (map string_bytes words.now) choice.Draw
+        → AnswersDraw result (R.tells reader.old) (W.holds writer.old) (W.holds writer.new) }
     ensures run { (workers tries : ℕ) → AsksRun (map string_bytes words.now) workers tries
         → AnswersRun tries result (R.tells reader.old) (W.holds writer.old) (W.holds writer.new) }
     ensures others { AsksNone (map string_bytes words.now)

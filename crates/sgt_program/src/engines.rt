@@ -10,6 +10,7 @@ ghost use Rattle.sgt_program.specs.declared.ending.Ending.TheVariants.{Ran};
 
 use sgt_audit::{Verdict, audit};
 use sgt_certify::certify;
+use sgt_draw::{Wanted, draw};
 use sgt_explain::{explain, explain_topic, explain_transaction};
 use sgt_names::{EngineFail, Outcome, Sink, Source, write_all};
 use sgt_replay::replay;
@@ -57,6 +58,14 @@ pub fn run_choice<H: Threads + Wait + Sync, R: Source, W: Sink>(
         Choice::Explain => explain(alloc, reader, writer),
         Choice::Transaction(tx) => explain_transaction(alloc, tx, reader, writer),
         Choice::Rule(topic) => explain_topic(topic, writer),
+        Choice::Draw => {
+            let wanted = Wanted {
+                tx: None,
+                is_dot: false,
+            };
+            draw(alloc, wanted, reader, writer)
+        }
+        Choice::DrawWith { tx, is_dot } => draw(alloc, Wanted { tx, is_dot }, reader, writer),
         Choice::Run { workers, tries } => {
             run_scripts(rt, alloc, reader, writer, workers, tries, &NoGate)
         }

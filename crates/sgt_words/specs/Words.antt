@@ -5,7 +5,7 @@ use Rattle.clap.specs.declared.error.kind.ErrorKind.TheVariants.{DisplayHelp, Di
 use Rattle.sgt_explain.specs.Topics.{topic_name}
 use Rattle.sgt_words.specs.Options.{SaysRun}
 use Rattle.sgt_words.specs.declared.choice.Choice.{Choice}
-use Rattle.sgt_words.specs.declared.choice.Choice.TheVariants.{Audit, Certify, Explain, Replay, Rule, Run, Serial, Transaction}
+use Rattle.sgt_words.specs.declared.choice.Choice.TheVariants.{Audit, Certify, Draw, DrawWith, Explain, Replay, Rule, Run, Serial, Transaction}
 use Rattle.sgt_words.specs.declared.choice.NoChoice.{NoChoice}
 use Rattle.sgt_words.specs.declared.choice.NoChoice.TheVariants.{Help, Usage, Memory}
 
@@ -22,6 +22,8 @@ name_of Certify = codes "certify"
 name_of Explain = codes "explain"
 name_of (Transaction tx) = codes "explain"
 name_of (Rule topic) = codes "explain"
+name_of Draw = codes "draw"
+name_of (DrawWith tx is_dot) = codes "draw"
 name_of (Run workers tries) = codes "run"
 
 -- a command without options
@@ -29,6 +31,7 @@ abbrev pub IsPlain : Choice → Type 0
 IsPlain (Run workers tries) = ⊥
 IsPlain (Transaction tx) = ⊥
 IsPlain (Rule topic) = ⊥
+IsPlain (DrawWith tx is_dot) = ⊥
 IsPlain _ = ⊤
 
 -- the words ask for this command: behind the program's name stands its name alone
@@ -59,12 +62,17 @@ AsksMore words (Transaction tx) = NamesExplain words
 AsksMore words (Rule topic) = NamesExplain words × (drop 2 words ≡ topic_name topic ∷ [])
 AsksMore words choice = ⊥
 
+-- behind the program's name stands `draw`, and maybe more
+abbrev pub NamesDraw : List (List ℕ) → Type 0
+NamesDraw words = take 1 (drop 1 words) ≡ codes "draw" ∷ []
+
 -- the words ask for this, by a command without options
 abbrev pub AsksPlain : List (List ℕ) → Choice → Type 0
 AsksPlain words Audit = AsksAudit words
 AsksPlain words (Run workers tries) = ⊥
 AsksPlain words (Transaction tx) = ⊥
 AsksPlain words (Rule topic) = ⊥
+AsksPlain words (DrawWith tx is_dot) = ⊥
 AsksPlain words choice = AsksNamed words choice
 
 -- the words ask for this
@@ -73,6 +81,7 @@ AsksFor words Audit = AsksAudit words
 AsksFor words (Run workers tries) = AsksRun words workers tries
 AsksFor words (Transaction tx) = AsksMore words (Transaction tx)
 AsksFor words (Rule topic) = AsksMore words (Rule topic)
+AsksFor words (DrawWith tx is_dot) = NamesDraw words
 AsksFor words choice = AsksNamed words choice
 
 -- other words are help or no command

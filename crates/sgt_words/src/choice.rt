@@ -1,8 +1,8 @@
 //! What the words of the command line ask for.
 
 ghost use Rattle.std.specs.Prelude.{◌≡◌, ◌⊎◌, ◌↔◌, ◌∷◌, ◌≤◌, [], ℕ, Ok, Err, Some, IfOk, IfErr, IfSome, IsTrue, drop, length, map, string_bytes};
-ghost use Rattle.sgt_words.specs.private.More.{SaysMore};
-ghost use Rattle.sgt_words.specs.Words.{AsksAudit, AsksFor, AsksMore, AsksPlain, AsksRun, HasText, IsPlain, NamesExplain, NamesRun, name_of};
+ghost use Rattle.sgt_words.specs.private.More.{IsDrawWith, SaysMore};
+ghost use Rattle.sgt_words.specs.Words.{AsksAudit, AsksFor, AsksMore, AsksPlain, AsksRun, HasText, IsPlain, NamesDraw, NamesExplain, NamesRun, name_of};
 
 use crate::line::no_choice;
 use crate::options::choose_run;
@@ -27,6 +27,10 @@ pub enum Choice {
     Transaction(Tx),
     /// Say what a rule is.
     Rule(Topic),
+    /// Judge a bundle, and draw it where it is valid.
+    Draw,
+    /// The same, of this refused transaction's cycle alone, or as Graphviz text.
+    DrawWith { tx: Option<Tx>, is_dot: bool },
     /// Run scripts by so many workers, each of them tried so often at most, and write what became of them and the bundle.
     Run { workers: u64, tries: u64 },
 }
@@ -72,6 +76,9 @@ fn plain_of(word: &str) -> Option<Choice>
     }
     if word == "explain" {
         return Some(Choice::Explain);
+    }
+    if word == "draw" {
+        return Some(Choice::Draw);
     }
     None
 }
@@ -159,8 +166,60 @@ fn choose_explain(alloc: Global, words: &[String]) -> Result<Choice, NoChoice>
     }
 }
 
-/// What the words ask for; the first word is the program's name. The options of `run` are read by clap, and
-/// `explain` may have a rule's name or `--tx N` behind it; else a command stands alone. Other words are help or no command.
+// Whether behind the program's name stands `draw`, and more.
+fn names_draw(words: &[String]) -> bool
+    ensures named { IsTrue result → NamesDraw (map string_bytes words.now) }
+    ensures more { IsTrue result → 3 ≤ length words.now }
+{
+    match words {
+        [_, word, _, ..] => word.as_str() == "draw",
+        _ => false,
+    }
+}
+
+// What the words behind `draw` ask for: `--dot`, and a transaction's number behind `--tx` or `--tx=`, each once at most.
+fn drawn_by(options: &[String]) -> Option<Choice>
+    ensures { IfSome result IsDrawWith }
+{
+    let mut tx = None;
+    let mut is_dot = false;
+    let mut wants_number = false;
+    for option in options {
+        let word = option.as_str();
+        if wants_number {
+            tx = Some(tx_of(word)?);
+            wants_number = false;
+        } else if word == "--dot" && !is_dot {
+            is_dot = true;
+        } else if tx.is_some() {
+            return None;
+        } else if word == "--tx" {
+            wants_number = true;
+        } else {
+            tx = Some(tx_of(word.strip_prefix("--tx=")?)?);
+        }
+    }
+    if wants_number {
+        return None;
+    }
+    Some(Choice::DrawWith { tx, is_dot })
+}
+
+// What `draw` with more words behind it asks for. Other words than its options are help or no command.
+fn choose_draw(alloc: Global, words: &[String]) -> Result<Choice, NoChoice>
+    requires { NamesDraw (map string_bytes words.now) }
+    ensures only { IfOk result (AsksFor (map string_bytes words.now)) }
+    ensures text { IfErr result HasText }
+{
+    match drawn_by(words.get(2..).unwrap_or(&[])) {
+        Some(choice) => Ok(choice),
+        None => Err(no_choice(alloc, words)?),
+    }
+}
+
+/// What the words ask for; the first word is the program's name. The options of `run` are read by clap, `explain` may have a
+/// rule's name or `--tx N` behind it, and `draw` `--tx N` and `--dot`; else a command stands alone. Other words are help or no
+/// command.
 pub fn choose(alloc: Global, words: &[String]) -> Result<Choice, NoChoice>
     ensures audit { AsksAudit (map string_bytes words.now) → result ≡ Ok Choice.Audit }
     ensures plain { (choice : Choice) → IsPlain choice → drop 1 (map string_bytes words.now) ≡ name_of choice ∷ [] → result ≡ Ok choice }
@@ -172,6 +231,7 @@ pub fn choose(alloc: Global, words: &[String]) -> Result<Choice, NoChoice>
     match words {
         [_, line @ ..] if names_run(words) => choose_run(alloc, line),
         _ if names_explain(words) => choose_explain(alloc, words),
+        _ if names_draw(words) => choose_draw(alloc, words),
         _ => choose_plain(alloc, words),
     }
 }

@@ -7,13 +7,13 @@ ghost use Rattle.sgt_words.specs.Words.{AsksOther, HasText, IsHelp, IsUsage};
 use crate::choice::NoChoice;
 use crate::options::run_line;
 use clap::error::ErrorKind;
-use clap::{Arg, Command, Error};
+use clap::{Arg, ArgAction, Command, Error};
 use std::alloc::{AllocError, Global};
 
 const VERSION: &str = "0.4.0 (bundles: sgt 1, sgt 2)";
 
 const ABOUT: &str =
-    "Audits the logs of certified runs, explains what is wrong, makes the certificate of logs that have none, replays runs from events, and runs scripts.";
+    "Audits the logs of certified runs, explains and draws them, makes the certificate of logs that have none, replays runs from events, and runs scripts.";
 
 const AUDIT: &str =
     "Writes `yes C committed R refused W withdrawn` for a valid bundle, else `no line L FN` (the default)";
@@ -29,9 +29,31 @@ const CERTIFY: &str =
 
 const EXPLAIN: &str = "Writes audit's line on a bundle, and what it means";
 
+const DRAW: &str =
+    "Draws a valid bundle as SVG: transactions by rank, their conflicts, and refused ones with their cycles; else writes audit's `no` line";
+
+// The usage of each command, with an example. What of it is a file or about files is taken out of the words before.
+const AUDIT_USAGE: &str =
+    "sgt audit [-q] [--progress] [FILE]...\n  e.g. sgt audit bundle.txt";
+
+const SERIAL_USAGE: &str =
+    "sgt serial [--progress] [FILE]\n  e.g. sgt serial bundle.txt";
+
+const REPLAY_USAGE: &str =
+    "sgt replay [--strict] [--progress] [--bundle FILE] [FILE]\n  e.g. sgt replay --bundle bundle.txt events.txt";
+
+const CERTIFY_USAGE: &str =
+    "sgt certify [FILE]\n  e.g. sgt certify logs.txt > bundle.txt";
+
+const EXPLAIN_USAGE: &str =
+    "sgt explain [--tx N] [FILE]\n       sgt explain RULE\n  e.g. sgt explain bundle.txt";
+
+const DRAW_USAGE: &str =
+    "sgt draw [--tx N] [--dot] [FILE]\n  e.g. sgt draw bundle.txt > bundle.svg";
+
 /// What the help of each command ends with.
 pub const MORE: &str =
-    "Behind each command a FILE may stand; with none, or -, standard input is read. audit takes several files, and -q to answer by the status alone. replay and run take --bundle FILE, where the bundle goes then, and replay --strict.
+    "Behind each command a FILE may stand; with none, or -, standard input is read. audit takes several files, and -q to answer by the status alone. replay and run take --bundle FILE, where the bundle goes then, and replay --strict. With --progress audit, serial and replay tell standard error of every million lines read.
 
 L is the first line with a fault and FN the fault: docs/FORMAT.md has the faults and the formats of a bundle, a replay and scripts.
 
@@ -42,14 +64,16 @@ Exit status:
   3  want of memory
   4  a read or a write failed";
 
-// Adds a command that has no option.
+// Adds a command that has no option but about files.
 fn add<'a>(
     alloc: Global,
     line: Command<'a>,
     name: &'a str,
     about: &'a str,
+    usage: &'a str,
 ) -> Result<Command<'a>, AllocError> {
-    line.subcommand(Command::new(alloc, name).about(about).after_help(MORE))
+    let command = Command::new(alloc, name).about(about).after_help(MORE);
+    line.subcommand(command.override_usage(usage))
 }
 
 fn explain_line<'a>(alloc: Global) -> Result<Command<'a>, AllocError> {
@@ -60,9 +84,27 @@ fn explain_line<'a>(alloc: Global) -> Result<Command<'a>, AllocError> {
         .help("Says what transaction N did");
     Command::new(alloc, "explain")
         .about(EXPLAIN)
+        .override_usage(EXPLAIN_USAGE)
         .after_help(MORE)
         .arg(rule)?
         .arg(tx)
+}
+
+fn draw_line<'a>(alloc: Global) -> Result<Command<'a>, AllocError> {
+    let tx = Arg::new(alloc, "tx")
+        .long("tx")
+        .value_name("N")
+        .help("Draws the cycle of refused transaction N alone");
+    let dot = Arg::new(alloc, "dot")
+        .long("dot")
+        .action(ArgAction::SetTrue)
+        .help("Writes Graphviz text in place of SVG");
+    Command::new(alloc, "draw")
+        .about(DRAW)
+        .override_usage(DRAW_USAGE)
+        .after_help(MORE)
+        .arg(tx)?
+        .arg(dot)
 }
 
 fn command<'a>(alloc: Global) -> Result<Command<'a>, AllocError> {
@@ -71,12 +113,13 @@ fn command<'a>(alloc: Global) -> Result<Command<'a>, AllocError> {
         .after_help(MORE)
         .version(VERSION)
         .disable_help_subcommand(true);
-    let line = add(alloc, line, "audit", AUDIT)?;
-    let line = add(alloc, line, "serial", SERIAL)?;
-    let line = add(alloc, line, "replay", REPLAY)?;
+    let line = add(alloc, line, "audit", AUDIT, AUDIT_USAGE)?;
+    let line = add(alloc, line, "serial", SERIAL, SERIAL_USAGE)?;
+    let line = add(alloc, line, "replay", REPLAY, REPLAY_USAGE)?;
     let line = line.subcommand(run_line(alloc)?)?;
-    let line = add(alloc, line, "certify", CERTIFY)?;
-    line.subcommand(explain_line(alloc)?)
+    let line = add(alloc, line, "certify", CERTIFY, CERTIFY_USAGE)?;
+    let line = line.subcommand(explain_line(alloc)?)?;
+    line.subcommand(draw_line(alloc)?)
 }
 
 // What clap says, or this where it says nothing.

@@ -19,6 +19,9 @@ const MAX_TRIES: u64 = 4;
 const RUN: &str =
     "Runs scripts by threads, and writes a line for each, audit's line on the run's own bundle, then `---` and the bundle";
 
+const USAGE: &str =
+    "sgt run [--workers N] [--tries N] [--bundle FILE] [FILE]\n  e.g. sgt run --workers 4 scripts.txt";
+
 fn number_option<'a>(
     alloc: Global,
     name: &'a str,
@@ -57,6 +60,7 @@ pub fn run_line<'a>(alloc: Global) -> Result<Command<'a>, AllocError>
     );
     Command::new(alloc, "run")
         .about(RUN)
+        .override_usage(USAGE)
         .after_help(MORE)
         .bin_name("sgt run")?
         .arg(workers)?

@@ -4,7 +4,7 @@ use Rattle.sgt_program.proofs.Chosen.{is_memory, no_refusal, same_choice, same_r
 use Rattle.sgt_program.proofs.Told.{helped, tells-errors}
 use Rattle.sgt_program.specs.Commands.{Answers}
 use Rattle.sgt_program.specs.Ending.{status_of}
-use Rattle.sgt_words.specs.declared.choice.Choice.TheVariants.{Audit, Certify, Explain, Replay, Run, Serial}
+use Rattle.sgt_words.specs.declared.choice.Choice.TheVariants.{Audit, Certify, Draw, Explain, Replay, Run, Serial}
 use Rattle.sgt_program.specs.declared.ending.Ending.TheVariants.{Ran, NoCommand}
 use Rattle.sgt_program.proofs.commands.program.Goals as goal
 
@@ -125,3 +125,20 @@ pub returns-in-Err-Usage-clause-explain : goal.returns-in-Err-Usage-clause-expla
 returns-in-Err-Usage-clause-explain g c = λ asks.
     let said = c.in-Err-Usage in
     absurd (no_refusal c.choose.result Explain said.field-0 (inl (c.choose.ensures.plain Explain tt asks)) said.is (ap is_memory said.field-0-is))
+
+pub returns-in-Ok-clause-draw : goal.returns-in-Ok-clause-draw
+returns-in-Ok-clause-draw g c = λ asks.
+    rw c.finish.ensures.status
+    (same_choice c.choose.result _ Draw (λ choice. Answers choice (status_of (Ran c.run_choice.result))
+    (g.R.Source.tells c.args.reader.now) (g.W.Sink.holds c.args.writer.now) (g.W.Sink.holds c.run_choice.new.writer))
+    c.in-Ok.is (c.choose.ensures.plain Draw tt asks) c.run_choice.ensures.answers)
+
+pub returns-in-Err-Help-clause-draw : goal.returns-in-Err-Help-clause-draw
+returns-in-Err-Help-clause-draw g c = λ asks.
+    let said = c.in-Err-Help in
+    absurd (no_refusal c.choose.result Draw said.field-0 (inl (c.choose.ensures.plain Draw tt asks)) said.is (ap is_memory said.field-0-is))
+
+pub returns-in-Err-Usage-clause-draw : goal.returns-in-Err-Usage-clause-draw
+returns-in-Err-Usage-clause-draw g c = λ asks.
+    let said = c.in-Err-Usage in
+    absurd (no_refusal c.choose.result Draw said.field-0 (inl (c.choose.ensures.plain Draw tt asks)) said.is (ap is_memory said.field-0-is))

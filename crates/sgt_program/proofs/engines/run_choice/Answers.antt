@@ -1,4 +1,5 @@
 use Rattle.sgt_certify.specs.Answer as certify
+use Rattle.sgt_draw.specs.Drawn as draw
 use Rattle.sgt_explain.specs.Explained as explain
 use Rattle.sgt_replay.specs.Replay as replay
 use Rattle.sgt_run.specs.Report as run
@@ -62,3 +63,19 @@ returns-in-Rule-clause-answers g c =
     let old = g.W.Sink.holds c.args.writer.now in
     let new = g.W.Sink.holds c.explain_topic.new.writer in
     rw c.in-Rule.is (rule-answers old new c.explain_topic.result c.explain_topic.ensures.ok c.explain_topic.ensures.text c.explain_topic.ensures.front)
+
+pub returns-in-Draw-clause-answers : goal.returns-in-Draw-clause-answers
+returns-in-Draw-clause-answers g c =
+    let told = g.R.Source.tells c.args.reader.now in
+    let old = g.W.Sink.holds c.args.writer.now in
+    let new = g.W.Sink.holds c.draw.new.writer in
+    rw c.in-Draw.is (status-answers (λ outcome. draw.WroteDrawn told outcome old new) (draw.WroteDrawnFront told old new)
+    c.draw.result c.draw.ensures.answer c.draw.ensures.front)
+
+pub returns-in-DrawWith-clause-answers : goal.returns-in-DrawWith-clause-answers
+returns-in-DrawWith-clause-answers g c =
+    let told = g.R.Source.tells c.args.reader.now in
+    let old = g.W.Sink.holds c.args.writer.now in
+    let new = g.W.Sink.holds c.draw-in-DrawWith.new.writer in
+    rw c.in-DrawWith.is (status-answers (λ outcome. draw.WroteDrawn told outcome old new) (draw.WroteDrawnFront told old new)
+    c.draw-in-DrawWith.result c.draw-in-DrawWith.ensures.answer c.draw-in-DrawWith.ensures.front)

@@ -1,0 +1,126 @@
+//! The picture of all that a reader gives.
+
+ghost use Rattle.std.specs.Prelude.{◌≡◌, ◌≢◌, ◌-◌, ◌<◌, ◌≤◌, ℕ, List, Option, Err, length, OnErr, IfOk, IfSome, IsErrOf};
+ghost use Rattle.sgt_notation.specs.Lines.{ReadFaultIsDue};
+ghost use Rattle.sgt_audit.specs.Faults.{ReadsNoFurther};
+ghost use Rattle.sgt_audit.specs.Verdict.{IsAudited, HandsOutValid};
+ghost use Rattle.sgt_draw.specs.Drawn.{IsDrawn, WroteDrawn, WroteDrawnFront};
+
+use crate::canvas::Canvas;
+use crate::dot;
+use crate::edges::edges_in;
+use crate::lanes::laid_in;
+use crate::scene::Scene;
+use crate::svg::{Picture, put_alone};
+use sgt_audit::{Audited, Verdict, audit_bundle};
+use sgt_cert::Bundle;
+use sgt_names::{EngineFail, Outcome, Sink, Source, Tx, write_all};
+use std::alloc::{AllocError, Global};
+
+/// What is to be drawn of a bundle, and how.
+#[derive(Clone, Copy, Debug, PartialEq, Eq)]
+pub struct Wanted {
+    /// The cycle of this refused transaction alone, in place of all.
+    pub tx: Option<Tx>,
+    /// Whether Graphviz text is written in place of SVG.
+    pub is_dot: bool,
+}
+
+/// All of a bundle.
+fn put_all(
+    alloc: Global,
+    canvas: &mut Canvas,
+    is_dot: bool,
+    bundle: &Bundle,
+) -> Result<(), AllocError> {
+    let decisions = bundle.certificate().decisions();
+    let scene = Scene::of(alloc, decisions)?;
+    let mut edges = edges_in(alloc, &scene, bundle.sites())?;
+    if is_dot {
+        return dot::put_graph(canvas, &scene, decisions, edges.as_slice());
+    }
+    let is_named = scene.is_small();
+    let laid = laid_in(alloc, &mut edges, is_named)?;
+    let picture = Picture {
+        scene: &scene,
+        decisions,
+        laid: laid.as_slice(),
+        is_named,
+    };
+    picture.put(canvas)
+}
+
+/// The picture of a bundle.
+fn picture(alloc: Global, wanted: Wanted, bundle: &Bundle) -> Result<Vec<u8>, AllocError> {
+    let mut canvas = Canvas::new(alloc);
+    let decisions = bundle.certificate().decisions();
+    match wanted.tx {
+        Some(tx) if wanted.is_dot => dot::put_alone(&mut canvas, decisions, tx)?,
+        Some(tx) => put_alone(&mut canvas, decisions, tx)?,
+        None => put_all(alloc, &mut canvas, wanted.is_dot, bundle)?,
+    }
+    Ok(canvas.into_text())
+}
+
+/// An outcome, and what is to be written.
+#[derive(Drop)]
+struct Answer {
+    outcome: Outcome,
+    text: Vec<u8>,
+}
+
+/// The answer to what was audited.
+fn answer_to(alloc: Global, wanted: Wanted, audited: Audited) -> Result<Answer, AllocError>
+    requires { HandsOutValid audited }
+    ensures { IfOk result (λ answer. (told : Option (List ℕ)) → IfSome told (λ bytes. IsAudited bytes audited)
+        → IsDrawn told answer.outcome answer.text.items) }
+{
+    match audited {
+        Audited::Valid(bundle) => Ok(Answer {
+            outcome: Outcome::Yes,
+            text: picture(alloc, wanted, &bundle)?,
+        }),
+        Audited::No { line, fault } => {
+            let verdict = Verdict::No { line, fault }.to_line(alloc)?;
+            Ok(Answer {
+                outcome: Outcome::No,
+                text: Vec::from_slice(alloc, verdict.as_bytes())?,
+            })
+        }
+    }
+}
+
+/// Audits all that the reader gives, as `audit` does. A no is written as its line, and nothing is drawn. For a yes one picture
+/// is written: SVG without scripts and without other files, or Graphviz text. It shows the first 200 transactions by rank, as
+/// many refused and as many withdrawn ones, and a line says so where there are more. The reader is read once, and no further
+/// than the first line with a fault. The bundle and the picture stand in memory.
+///
+/// ReadFault where the reader failed, or no read is left, and Memory where a growth was refused: nothing was written.
+/// WriteFault where the writer failed: a front of the answer may have been written.
+pub fn draw<R: Source, W: Sink>(
+    alloc: Global,
+    wanted: Wanted,
+    reader: &mut R,
+    writer: &mut W,
+) -> Result<Outcome, EngineFail>
+    ensures answer { IfOk result (λ outcome. WroteDrawn (R.tells reader.old) outcome (W.holds writer.old) (W.holds writer.new)) }
+    ensures no_further { IfOk result (λ outcome. IfSome (R.tells reader.old) (λ bytes.
+        ReadsNoFurther bytes (R.asked reader.new - R.asked reader.old))) }
+    ensures front { OnErr result (WroteDrawnFront (R.tells reader.old) (W.holds writer.old) (W.holds writer.new)) }
+    ensures unwritten { IsErrOf result EngineFail.ReadFault → writer.new ≡ writer.old }
+    ensures untouched { IsErrOf result EngineFail.Memory → writer.new ≡ writer.old }
+
+    // A fault tells of its device, and no fault of a device is passed over.
+    ensures read_fault { IsErrOf result EngineFail.ReadFault → ReadFaultIsDue (R.tells reader.old)
+        (R.failures reader.old) (R.failures reader.new) (R.asked reader.old) (R.asked reader.new) }
+    ensures write_fault { IsErrOf result EngineFail.WriteFault → W.failures writer.old < W.failures writer.new }
+    ensures quiet_reader { result ≢ Err EngineFail.ReadFault → R.failures reader.new ≡ R.failures reader.old }
+    ensures quiet_writer { result ≢ Err EngineFail.WriteFault → W.failures writer.new ≡ W.failures writer.old }
+{
+    let audited = audit_bundle(alloc, reader)?;
+    let answer = answer_to(alloc, wanted, audited)?;
+    match write_all(writer, answer.text.as_slice()) {
+        Ok(()) => Ok(answer.outcome),
+        Err(_) => Err(EngineFail::WriteFault),
+    }
+}

@@ -1,0 +1,16 @@
+//! Valid bundles drawn: the committed transactions by rank with their conflicts, and the cycles of refused ones.
+#![tactic(auto)]
+
+mod canvas;
+mod cycles;
+mod dot;
+mod edges;
+mod engine;
+mod lanes;
+mod marks;
+mod scene;
+mod svg;
+#[cfg(test)]
+mod tests;
+
+pub use engine::{Wanted, draw};

@@ -1,0 +1,46 @@
+//! Expected texts are worked by hand.
+
+use crate::{Wanted, draw};
+use sgt_names::{MemSink, MemSource, Outcome, Tx};
+use std::alloc::Global;
+use std::test::Fail;
+
+// Two transactions in each other's way: the second is refused.
+const CYCLE: &str =
+    "sgt 1\n{\"decisions\":[{\"commit\":1,\"rank\":0},{\"refuse\":2,\"walk\":[{\"item\":\"y\",\"kind\":\"rw\",\"site\":0,\"to\":1},{\"item\":\"x\",\"kind\":\"rw\",\"site\":0,\"to\":2}]}],\"sites\":1}\nsite 0\nitem x=5\nitem y=2\nr1[x]=5\nr2[y]=2\nw1[y]=7\nc1\np2[x]=8\nn2\nfinal x=5\nfinal y=7\nend\n";
+
+const GRAPH: &str =
+    "digraph sgt {\n  rankdir=LR;\n  node [shape=box];\n  1;\n  2 [style=filled, fillcolor=\"#ffd9d0\", color=\"#a00000\"];\n  2 -> 1 [label=\"rw 0.y\", color=\"#d55e00\", style=dashed, penwidth=3, constraint=false];\n  1 -> 2 [label=\"rw 0.x\", color=\"#d55e00\", style=dashed, penwidth=3, constraint=false];\n}\n";
+
+// What is drawn of the text.
+fn drawn(alloc: Global, wanted: Wanted, text: &str) -> Result<(Outcome, String), Fail> {
+    let mut input = MemSource::new(text.as_bytes(), 65_536, None);
+    let mut output = MemSink::new(alloc, 100_000)?;
+    let outcome = draw(alloc, wanted, &mut input, &mut output)?;
+    let text = String::from_utf8(Vec::from_slice(alloc, output.bytes())?)?;
+    Ok((outcome, text))
+}
+
+#[test]
+fn a_cycle(rt: HostRuntime) -> Result<(), Fail> {
+    let alloc = rt.alloc();
+    let all = Wanted {
+        tx: None,
+        is_dot: true,
+    };
+    let (outcome, text) = drawn(alloc, all, CYCLE)?;
+    assert!(rt; outcome == Outcome::Yes && text.as_str() == GRAPH, "{text}");
+    let alone = Wanted {
+        tx: Some(Tx::new(2)?),
+        is_dot: false,
+    };
+    let (outcome, text) = drawn(alloc, alone, CYCLE)?;
+    assert!(rt; outcome == Outcome::Yes && text.starts_with("<svg ") && text.ends_with("</svg>\n"));
+    for words in ["transaction 2 would close<", ">rw 0.y<", ">rw 0.x<", ">refused<"] {
+        assert!(rt; text.contains(words), "{words}");
+    }
+    let broken = CYCLE.replace(alloc, "r2[y]=2", "r2[y]=3")?;
+    let (outcome, text) = drawn(alloc, alone, broken.as_str())?;
+    assert!(rt; outcome == Outcome::No && text.as_str() == "no line 7 F10\n");
+    Ok(())
+}
