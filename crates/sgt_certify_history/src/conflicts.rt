@@ -7,8 +7,8 @@ use sgt_names::{Kind, Label};
 #[derive(Clone, Copy, Debug)]
 pub struct Conflict {
     pub label: Label,
-    pub first: usize,
-    pub second: usize,
+    pub first: u32,
+    pub second: u32,
 }
 
 /// The kind of conflict of two operations in this order, if they are in conflict.
@@ -37,13 +37,13 @@ fn conflict_of(history: &History, first: &Place, second: &Place) -> Option<Confl
         return None;
     }
     let kind = kind_of(first.act, second.act)?;
-    let item = history.items.get(first.item)?;
-    let from = item.operations.get(first.at)?;
-    let to = item.operations.get(second.at)?;
+    let named = history.items.get(usize::from(first.item))?;
+    let from = history.operations.get(first.at as usize)?;
+    let to = history.operations.get(second.at as usize)?;
     Some(Conflict {
         label: Label {
-            site: item.site,
-            item: item.item,
+            site: named.site,
+            item: named.item,
             kind,
         },
         first: from.line,
@@ -60,7 +60,7 @@ fn lesser(old: Option<Conflict>, new: Conflict) -> Conflict {
 }
 
 /// The places on the item among these, which rise by item.
-fn on_item(places: &[Place], item: usize) -> &[Place] {
+fn on_item(places: &[Place], item: u16) -> &[Place] {
     let start = places.partition_point(|place| place.item < item);
     match places.get(start..) {
         Some(rest) => match rest.get(..2) {
@@ -72,21 +72,21 @@ fn on_item(places: &[Place], item: usize) -> &[Place] {
 }
 
 /// The least conflict of the first transaction with the second, by site, item and kind.
-pub fn least_conflict(history: &History, from: usize, to: usize) -> Option<Conflict> {
+pub fn least_conflict(history: &History, from: u32, to: u32) -> Option<Conflict> {
     if from == to {
         return None;
     }
     let others = history.places(to);
     let mut best: Option<Conflict> = None;
-    let mut item = usize::MAX;
+    let mut item = None;
     for first in history.places(from) {
-        if first.item != item {
+        if item != Some(first.item) {
             if best.is_some() {
                 return best;
             }
-            item = first.item;
+            item = Some(first.item);
         }
-        for second in on_item(others, item) {
+        for second in on_item(others, first.item) {
             if let Some(conflict) = conflict_of(history, first, second) {
                 best = Some(lesser(best, conflict));
             }

@@ -1,9 +1,8 @@
 //! What the logs say, as the search sees it: of each item its operations, of each site its ends, of each transaction
 //! its operations and ends. A transaction is named by its place in the order of the numbers.
 
+use crate::groups::Groups;
 use sgt_names::{Entry, Item, SiteNo, Tx};
-use std::alloc::{AllocError, Global};
-use std::collections::BTreeMap;
 
 /// How a transaction ends.
 #[derive(Clone, Copy, Debug, PartialEq, Eq)]
@@ -44,82 +43,91 @@ pub fn fate_of(entry: &Entry) -> Option<Fate> {
 /// An operation on an item.
 #[derive(Clone, Copy, Debug)]
 pub struct Operation {
-    pub tx: usize,
+    pub tx: u32,
+    pub line: u32,
     pub act: Act,
-    pub line: usize,
 }
 
-/// The operations on an item, in the order of the log.
-#[derive(Drop)]
-pub struct ItemHistory {
+/// An item of a site.
+#[derive(Clone, Copy, Debug)]
+pub struct Named {
     pub site: SiteNo,
     pub item: Item,
-    pub operations: Vec<Operation>,
 }
 
-/// Where an operation stands: its item, and its place among the item's operations.
+/// Where an operation stands: its item, and its place among all operations.
 #[derive(Clone, Copy, Debug)]
 pub struct Place {
-    pub item: usize,
-    pub at: usize,
+    pub at: u32,
+    pub item: u16,
     pub act: Act,
 }
 
 /// An end, and its line.
 #[derive(Clone, Copy, Debug)]
 pub struct End {
-    pub tx: usize,
-    pub line: usize,
+    pub tx: u32,
+    pub line: u32,
 }
 
-/// Where a transaction ends: the site, and the place among its ends.
+/// Where a transaction ends: the site, and the place among all ends.
 #[derive(Clone, Copy, Debug)]
 pub struct Ending {
-    pub site: usize,
-    pub at: usize,
+    pub site: u32,
+    pub at: u32,
 }
 
-/// What a transaction did.
-#[derive(Drop)]
+/// A transaction, and its end.
+#[derive(Clone, Copy, Debug)]
 pub struct Life {
     pub tx: Tx,
     pub fate: Option<Fate>,
-    pub places: Vec<Place>,
-    pub endings: Vec<Ending>,
 }
 
 /// What the logs say.
 #[derive(Drop)]
 pub struct History {
-    pub items: Vec<ItemHistory>,
-    /// Of each site its ends.
-    pub sites: Vec<Vec<End>>,
+    /// The items of all sites, by site and name.
+    pub items: Vec<Named>,
+    /// The operations by item, those on an item in the order of its log.
+    pub operations: Vec<Operation>,
+    pub by_item: Groups,
+    /// Where they stand by transaction, those of one by item and in the order of the log.
+    pub places: Vec<Place>,
+    pub by_transaction: Groups,
+    /// The ends in the order of the logs.
+    pub ends: Vec<End>,
+    /// Of each site the place of its first end.
+    pub sites: Vec<u32>,
+    /// Where they stand by transaction, those of one by site.
+    pub endings: Vec<Ending>,
+    pub ended_by: Groups,
     /// Of each site the line of its first entry, if it has one.
     pub bases: Vec<usize>,
     pub lives: Vec<Life>,
 }
 
 impl History {
-    /// Nothing so far.
-    pub fn new(alloc: Global) -> History {
-        History {
-            items: Vec::new(alloc),
-            sites: Vec::new(alloc),
-            bases: Vec::new(alloc),
-            lives: Vec::new(alloc),
-        }
+    /// How many transactions there are.
+    pub fn count(&self) -> usize {
+        self.lives.len()
+    }
+
+    /// The transaction and its end.
+    pub fn life(&self, tx: u32) -> Option<Life> {
+        self.lives.get(tx as usize).copied()
     }
 
     /// The end that the transaction has.
-    pub fn fate(&self, tx: usize) -> Option<Fate> {
-        match self.lives.get(tx) {
+    pub fn fate(&self, tx: u32) -> Option<Fate> {
+        match self.lives.get(tx as usize) {
             Some(life) => life.fate,
             None => None,
         }
     }
 
     /// Whether the transaction is committed.
-    pub fn is_committed(&self, tx: usize) -> bool {
+    pub fn is_committed(&self, tx: u32) -> bool {
         match self.fate(tx) {
             Some(fate) => fate == Fate::Commit,
             None => false,
@@ -127,7 +135,7 @@ impl History {
     }
 
     /// Whether it is refused.
-    pub fn is_refused(&self, tx: usize) -> bool {
+    pub fn is_refused(&self, tx: u32) -> bool {
         match self.fate(tx) {
             Some(fate) => fate == Fate::Refuse,
             None => false,
@@ -136,78 +144,47 @@ impl History {
 
     /// The operations on the item.
     pub fn operations(&self, item: usize) -> &[Operation] {
-        match self.items.get(item) {
-            Some(history) => history.operations.as_slice(),
+        match self.operations.get(self.by_item.span(item)) {
+            Some(operations) => operations,
             None => &[],
         }
     }
 
     /// Where the transaction's operations stand.
-    pub fn places(&self, tx: usize) -> &[Place] {
-        match self.lives.get(tx) {
-            Some(life) => life.places.as_slice(),
+    pub fn places(&self, tx: u32) -> &[Place] {
+        match self.places.get(self.by_transaction.span(tx as usize)) {
+            Some(places) => places,
             None => &[],
         }
     }
 
     /// Where the transaction ends.
-    pub fn endings(&self, tx: usize) -> &[Ending] {
-        match self.lives.get(tx) {
-            Some(life) => life.endings.as_slice(),
+    pub fn endings(&self, tx: u32) -> &[Ending] {
+        match self.endings.get(self.ended_by.span(tx as usize)) {
+            Some(endings) => endings,
             None => &[],
         }
     }
 
-    /// The end at this place of the site.
-    pub fn end_at(&self, site: usize, at: usize) -> Option<End> {
-        match self.sites.get(site) {
-            Some(ends) => ends.get(at).copied(),
-            None => None,
+    /// The end of this place among all.
+    pub fn end_at(&self, at: u32) -> Option<End> {
+        self.ends.get(at as usize).copied()
+    }
+
+    /// The place behind the site's last end.
+    fn end_of(&self, site: usize) -> usize {
+        match self.sites.get(site.saturating_add(1)) {
+            Some(start) => *start as usize,
+            None => self.ends.len(),
         }
     }
 
-    /// The transactions by rising number, where the map has them in another order.
-    pub fn sorted(
-        self,
-        alloc: Global,
-        known: &BTreeMap<u32, usize>,
-    ) -> Result<History, AllocError> {
-        let History {
-            mut items,
-            mut sites,
-            bases,
-            lives,
-        } = self;
-        let mut places = vec![in alloc; 0usize; lives.len()]?;
-        for (new, old) in known.values().enumerate() {
-            if let Some(place) = places.get_mut(*old) {
-                *place = new;
-            }
+    /// The end of this place, if it is one of the site.
+    pub fn end_in(&self, site: usize, at: u32) -> Option<End> {
+        if (at as usize) < self.end_of(site) {
+            self.end_at(at)
+        } else {
+            None
         }
-        for item in items.iter_mut() {
-            for operation in item.operations.iter_mut() {
-                if let Some(place) = places.get(operation.tx) {
-                    operation.tx = *place;
-                }
-            }
-        }
-        for ends in sites.iter_mut() {
-            for end in ends.iter_mut() {
-                if let Some(place) = places.get(end.tx) {
-                    end.tx = *place;
-                }
-            }
-        }
-        let mut lives = lives;
-        for life in lives.iter_mut() {
-            life.places.sort_by_key(|place| (place.item, place.at))?;
-        }
-        lives.sort_by_key(|life| life.tx)?;
-        Ok(History {
-            items,
-            sites,
-            bases,
-            lives,
-        })
     }
 }

@@ -4,16 +4,21 @@
 
 mod conflicts;
 mod ends;
+mod groups;
 mod history;
 mod lists;
+mod logs;
+mod numbers;
 mod ranks;
 mod walks;
 
 pub use conflicts::{Conflict, kind_of, least_conflict};
 pub use ends::{Before, Front};
+pub use groups::Groups;
 pub use history::{
-    Act, End, Ending, Fate, History, ItemHistory, Life, Operation, Place, act_of, fate_of,
+    Act, End, Ending, Fate, History, Life, Named, Operation, Place, act_of, fate_of,
 };
-pub use lists::{is_marked, number_at, set_mark, set_number};
+pub use lists::{is_marked, number_at, set_mark, set_number, short};
+pub use logs::Logs;
 pub use ranks::rank_order;
-pub use walks::{Link, met_from, walk_of};
+pub use walks::{Bounds, Link, met_from, walk_of};

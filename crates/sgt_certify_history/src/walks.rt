@@ -3,27 +3,47 @@
 use crate::conflicts::{Conflict, kind_of, least_conflict};
 use crate::history::{Act, History, Operation, Place};
 use crate::lists::is_marked;
+use sgt_names::SiteNo;
 use std::alloc::{AllocError, Global};
 use std::collections::BTreeMap;
 
 /// A step of a cycle: a conflict with the transaction that it leads to.
 #[derive(Clone, Copy, Debug)]
 pub struct Link {
-    pub from: usize,
-    pub to: usize,
+    pub from: u32,
+    pub to: u32,
     pub conflict: Conflict,
 }
 
-/// A search from one transaction, layer by layer, through those that are allowed.
+/// Who a search may go through.
+#[derive(Clone, Copy)]
+pub struct Bounds<'a> {
+    /// These transactions alone.
+    pub allowed: &'a [bool],
+    /// At each site's place a line that none of them has an operation at or behind, where one is known.
+    pub ends: &'a [u32],
+}
+
+impl Bounds<'_> {
+    /// The line for the site.
+    fn end_of(&self, site: SiteNo) -> u32 {
+        match self.ends.get(site.number() as usize) {
+            Some(line) => *line,
+            None => u32::MAX,
+        }
+    }
+}
+
+/// A search from one transaction, layer by layer, within these bounds.
 #[derive(Drop)]
 struct Spread<'a> {
     history: &'a History,
-    allowed: &'a [bool],
-    start: usize,
+    bounds: Bounds<'a>,
+    start: u32,
     /// Of an item and what leads there, the least place that has led on.
-    low: BTreeMap<(usize, u8), usize>,
+    low: BTreeMap<(u16, u8), usize>,
     /// Who was met, from whom each was met first.
-    met: BTreeMap<usize, usize>,
+    met: BTreeMap<u32, u32>,
 }
 
 fn code(act: Act) -> u8 {
@@ -36,10 +56,10 @@ fn code(act: Act) -> u8 {
 
 impl<'a> Spread<'a> {
     /// Nothing was met so far.
-    fn new(alloc: Global, history: &'a History, allowed: &'a [bool], start: usize) -> Spread<'a> {
+    fn new(alloc: Global, history: &'a History, bounds: Bounds<'a>, start: u32) -> Spread<'a> {
         Spread {
             history,
-            allowed,
+            bounds,
             start,
             low: BTreeMap::new(alloc),
             met: BTreeMap::new(alloc),
@@ -48,18 +68,17 @@ impl<'a> Spread<'a> {
 
     /// The operations behind the place that no earlier one has led to.
     fn ahead(&mut self, place: &Place) -> Result<&'a [Operation], AllocError> {
-        let operations = self.history.operations(place.item);
         let key = (place.item, code(place.act));
         let low = match self.low.get(&key) {
             Some(low) => *low,
-            None => operations.len(),
+            None => self.history.by_item.span(usize::from(place.item)).end,
         };
-        let from = place.at.saturating_add(1);
+        let from = (place.at as usize).saturating_add(1);
         if from >= low {
             return Ok(&[]);
         }
         self.low.insert(key, from)?;
-        match operations.get(from..low) {
+        match self.history.operations.get(from..low) {
             Some(span) => Ok(span),
             None => Ok(&[]),
         }
@@ -68,7 +87,7 @@ impl<'a> Spread<'a> {
     /// Whether the search goes on to the transaction of the operation, that stands behind one of this act.
     fn meets(&self, act: Act, operation: &Operation) -> bool {
         kind_of(act, operation.act).is_some()
-            && is_marked(self.allowed, operation.tx)
+            && is_marked(self.bounds.allowed, operation.tx as usize)
             && operation.tx != self.start
             && !self.met.contains_key(&operation.tx)
     }
@@ -76,11 +95,18 @@ impl<'a> Spread<'a> {
     /// Those that the operation leads to and that were not met yet.
     fn list(
         &mut self,
-        parent: usize,
+        parent: u32,
         place: &Place,
-        children: &mut Vec<usize>,
+        children: &mut Vec<u32>,
     ) -> Result<(), AllocError> {
+        let end = match self.history.items.get(usize::from(place.item)) {
+            Some(named) => self.bounds.end_of(named.site),
+            None => u32::MAX,
+        };
         for operation in self.ahead(place)? {
+            if operation.line >= end {
+                break;
+            }
             if self.meets(place.act, operation) {
                 self.met.insert(operation.tx, parent)?;
                 children.push(operation.tx)?;
@@ -90,7 +116,7 @@ impl<'a> Spread<'a> {
     }
 
     /// The next layer behind this one.
-    fn spread(&mut self, alloc: Global, layer: &[usize]) -> Result<Vec<usize>, AllocError> {
+    fn spread(&mut self, alloc: Global, layer: &[u32]) -> Result<Vec<u32>, AllocError> {
         let mut next = Vec::new(alloc);
         for parent in layer {
             let mut children = Vec::new(alloc);
@@ -104,7 +130,7 @@ impl<'a> Spread<'a> {
     }
 
     /// The path from the start to the transaction and back to the start.
-    fn path(&self, alloc: Global, last: usize) -> Result<Vec<usize>, AllocError> {
+    fn path(&self, alloc: Global, last: u32) -> Result<Vec<u32>, AllocError> {
         let mut path = vec![in alloc; self.start, last]?;
         let mut tx = last;
         for _ in 0..self.met.len() {
@@ -124,7 +150,7 @@ impl<'a> Spread<'a> {
     }
 
     /// The path of the first of the layer with a conflict into the start; empty where there is none.
-    fn closed(&self, alloc: Global, layer: &[usize]) -> Result<Vec<usize>, AllocError> {
+    fn closed(&self, alloc: Global, layer: &[u32]) -> Result<Vec<u32>, AllocError> {
         for last in layer {
             if least_conflict(self.history, *last, self.start).is_some() {
                 return self.path(alloc, *last);
@@ -135,7 +161,7 @@ impl<'a> Spread<'a> {
 }
 
 /// The links between each one of the path and the next.
-fn links_of(alloc: Global, history: &History, path: &[usize]) -> Result<Vec<Link>, AllocError> {
+fn links_of(alloc: Global, history: &History, path: &[u32]) -> Result<Vec<Link>, AllocError> {
     let mut links = Vec::new(alloc);
     for (at, from) in path.iter().enumerate() {
         if let Some(to) = path.get(at.saturating_add(1)) {
@@ -151,16 +177,16 @@ fn links_of(alloc: Global, history: &History, path: &[usize]) -> Result<Vec<Link
     Ok(links)
 }
 
-/// The least of the shortest cycles through the transaction, over those that are allowed; empty where there is none.
+/// The least of the shortest cycles through the transaction, within the bounds; empty where there is none.
 pub fn walk_of(
     alloc: Global,
     history: &History,
-    allowed: &[bool],
-    start: usize,
+    bounds: Bounds<'_>,
+    start: u32,
 ) -> Result<Vec<Link>, AllocError> {
-    let mut spread = Spread::new(alloc, history, allowed, start);
+    let mut spread = Spread::new(alloc, history, bounds, start);
     let mut layer = vec![in alloc; start]?;
-    for _ in 0..history.lives.len() {
+    for _ in 0..history.count() {
         layer = spread.spread(alloc, layer.as_slice())?;
         let path = spread.closed(alloc, layer.as_slice())?;
         if !path.is_empty() || layer.is_empty() {
@@ -170,17 +196,17 @@ pub fn walk_of(
     Ok(Vec::new(alloc))
 }
 
-/// All that conflicts lead to from the transaction on, through those that are allowed.
+/// All that conflicts lead to from the transaction on, within the bounds.
 pub fn met_from(
     alloc: Global,
     history: &History,
-    allowed: &[bool],
-    start: usize,
-) -> Result<Vec<usize>, AllocError> {
-    let mut spread = Spread::new(alloc, history, allowed, start);
+    bounds: Bounds<'_>,
+    start: u32,
+) -> Result<Vec<u32>, AllocError> {
+    let mut spread = Spread::new(alloc, history, bounds, start);
     let mut layer = vec![in alloc; start]?;
     let mut met = Vec::new(alloc);
-    for _ in 0..history.lives.len() {
+    for _ in 0..history.count() {
         layer = spread.spread(alloc, layer.as_slice())?;
         if layer.is_empty() {
             break;

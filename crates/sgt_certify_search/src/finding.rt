@@ -12,7 +12,7 @@ use sgt_certify_history::History;
 use sgt_certify_logs::{ConflictStep, EndStep};
 use sgt_certify_stuck::StuckSet;
 use sgt_names::Listed;
-use sgt_notation::find_lf;
+use sgt_notation::{SectionLine, find_lf, front_line};
 use std::alloc::{AllocError, Global};
 
 /// What shows that there is no certificate.
@@ -53,6 +53,44 @@ fn split_line(text: &[u8]) -> Option<(&[u8], &[u8])>
     Some((&text[..at], &text[at + 1..]))
 }
 
+/// A line at the front of a text: read already, where it is one of a section, or its bytes.
+#[derive(Drop)]
+enum Ahead<'a> {
+    Read(SectionLine),
+    Bytes(&'a [u8]),
+}
+
+/// The line of a section that is found at the front, and what stands behind it.
+fn split_front(text: &[u8]) -> Option<(SectionLine, &[u8])>
+    ensures { IfSome result (λ split. length split.1.now < length text.now) }
+{
+    match front_line(text) {
+        Some((line, n)) if n > 0 => Some((line, &text[n..])),
+        _ => None,
+    }
+}
+
+/// The first line, and what stands behind it.
+fn split_ahead(text: &[u8]) -> Option<(Ahead<'_>, &[u8])>
+    ensures { IfSome result (λ split. length split.1.now < length text.now) }
+{
+    if let Some((line, behind)) = split_front(text) {
+        return Some((Ahead::Read(line), behind));
+    }
+    match split_line(text) {
+        Some((line, behind)) => Some((Ahead::Bytes(line), behind)),
+        None => None,
+    }
+}
+
+/// Feeds the reader the line: its fault, if it has one.
+fn feed_one(reader: &mut Reader, ahead: &Ahead) -> Result<Option<LineFault>, AllocError> {
+    match ahead {
+        Ahead::Read(line) => reader.next_read(line),
+        Ahead::Bytes(line) => reader.next(line),
+    }
+}
+
 /// Feeds the reader the lines of the text, up to the first with a fault: that, if there is one. Else what is left behind the last LF
 /// is put into `rest`.
 fn feed(
@@ -61,8 +99,8 @@ fn feed(
     rest: &mut usize,
 ) -> Result<Option<LineFault>, AllocError> {
     let mut ahead = text;
-    'lines: while let Some((line, behind)) = split_line(ahead) {
-        if let Some(fault) = reader.next(line)? {
+    'lines: while let Some((line, behind)) = split_ahead(ahead) {
+        if let Some(fault) = feed_one(reader, &line)? {
             return Ok(Some(fault));
         }
         ahead = behind;
@@ -117,7 +155,7 @@ fn found_in(alloc: Global, history: &History) -> Result<Found, AllocError> {
 
 /// Looks for a certificate of the logs that the text spells, or for the reason why there is none. Err: memory ran out.
 pub fn find(alloc: Global, text: &[u8]) -> Result<Found, AllocError> {
-    let mut reader = Reader::new(alloc);
+    let mut reader = Reader::new(alloc, text.len());
     let mut rest = 0;
     let fault = match feed(&mut reader, text, &mut rest)? {
         Some(fault) => Some(fault),
@@ -137,7 +175,7 @@ pub fn find(alloc: Global, text: &[u8]) -> Result<Found, AllocError> {
 
 /// The first line with a fault of a text with a line behind it that is too long, and its fault. Err: memory ran out.
 pub fn long_line(alloc: Global, text: &[u8]) -> Result<(usize, LineFault), AllocError> {
-    let mut reader = Reader::new(alloc);
+    let mut reader = Reader::new(alloc, text.len());
     let mut rest = 0;
     let fault = match feed(&mut reader, text, &mut rest)? {
         Some(fault) => fault,

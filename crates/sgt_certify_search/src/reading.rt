@@ -1,22 +1,10 @@
 //! The lines of logs without a certificate, judged one by one, and kept for the search.
 
 use crate::faults::LineFault;
-use sgt_certify_history::{
-    Act, End, Ending, History, ItemHistory, Life, Operation, Place, act_of, fate_of,
-};
+use sgt_certify_history::{Act, History, Logs, act_of, fate_of};
 use sgt_names::{Entry, Holding, Item, MAX_ITEMS, MAX_SITES, SiteNo, Tx};
 use sgt_notation::{SectionLine, read_section};
 use std::alloc::{AllocError, Global};
-use std::collections::BTreeMap;
-
-/// What a transaction did in the section that it was last met in.
-#[derive(Clone, Copy)]
-struct Visit {
-    section: usize,
-    /// How many operations it had before.
-    before: usize,
-    ended: bool,
-}
 
 /// The section that is open.
 #[derive(Drop)]
@@ -36,9 +24,7 @@ struct Section {
 pub struct Reader {
     alloc: Global,
     format: Option<bool>,
-    history: History,
-    known: BTreeMap<u32, usize>,
-    visits: Vec<Visit>,
+    logs: Logs,
     open: Option<Section>,
     line: usize,
 }
@@ -118,14 +104,12 @@ impl Section {
 }
 
 impl Reader {
-    /// Before the first line.
-    pub fn new(alloc: Global) -> Reader {
+    /// Before the first line of a text of so many bytes.
+    pub fn new(alloc: Global, bytes: usize) -> Reader {
         Reader {
             alloc,
             format: None,
-            history: History::new(alloc),
-            known: BTreeMap::new(alloc),
-            visits: Vec::new(alloc),
+            logs: Logs::new(alloc, bytes),
             open: None,
             line: 1,
         }
@@ -138,7 +122,7 @@ impl Reader {
 
     /// Whether the greatest number of sections is whole.
     fn is_full(&self) -> bool {
-        self.open.is_none() && self.history.sites.len() >= MAX_SITES as usize
+        self.open.is_none() && self.logs.sections() >= MAX_SITES as usize
     }
 
     /// The fault of a line that is too long.
@@ -154,7 +138,7 @@ impl Reader {
 
     /// The fault of the input's end, with so many bytes behind the last LF, if it has one.
     pub fn end(&self, rest: usize) -> Option<LineFault> {
-        if self.open.is_some() || self.history.sites.is_empty() {
+        if self.open.is_some() || self.logs.sections() == 0 {
             Some(LineFault::Truncated)
         } else if rest == 0 {
             None
@@ -167,13 +151,8 @@ impl Reader {
 
     /// What the logs say.
     pub fn finish(self) -> Result<History, AllocError> {
-        let Reader {
-            alloc,
-            history,
-            known,
-            ..
-        } = self;
-        history.sorted(alloc, &known)
+        let Reader { logs, .. } = self;
+        logs.finish()
     }
 
     /// The next line, without its LF: its least fault, if it has one.
@@ -182,10 +161,26 @@ impl Reader {
             None => self.start(line),
             Some(second) => self.read(line, second)?,
         };
+        self.pass(&fault);
+        Ok(fault)
+    }
+
+    /// The next line, where it is one of a section and was read before: its least fault, if it has one.
+    pub fn next_read(&mut self, line: &SectionLine) -> Result<Option<LineFault>, AllocError> {
+        let fault = match self.format {
+            None => Some(LineFault::Format),
+            Some(_) if self.is_full() => Some(LineFault::Behind),
+            Some(second) => self.enter(line, second)?,
+        };
+        self.pass(&fault);
+        Ok(fault)
+    }
+
+    /// Counts the line, if it has no fault.
+    fn pass(&mut self, fault: &Option<LineFault>) {
         if fault.is_none() {
             self.line = self.line.saturating_add(1);
         }
-        Ok(fault)
     }
 
     /// The first line.
@@ -230,14 +225,13 @@ impl Reader {
     }
 
     fn begin(&mut self, site: SiteNo) -> Result<Option<LineFault>, AllocError> {
-        if self.open.is_some() || site.number() as usize != self.history.sites.len() {
+        if self.open.is_some() || site.number() as usize != self.logs.sections() {
             return Ok(Some(LineFault::Section));
         }
-        self.history.sites.push(Vec::new(self.alloc))?;
-        self.history.bases.push(0)?;
+        self.logs.begin()?;
         self.open = Some(Section {
             site,
-            first: self.history.items.len(),
+            first: self.logs.items.len(),
             values: Vec::new(self.alloc),
             finals: 0,
             last: None,
@@ -247,7 +241,7 @@ impl Reader {
     }
 
     fn list(&mut self, holding: &Holding) -> Result<Option<LineFault>, AllocError> {
-        let rises = match self.history.items.last() {
+        let rises = match self.logs.items.last() {
             Some(last) => last.item < holding.item,
             None => true,
         };
@@ -258,17 +252,13 @@ impl Reader {
             return Ok(Some(LineFault::Section));
         }
         section.values.push(holding.value)?;
-        self.history.items.push(ItemHistory {
-            site: section.site,
-            item: holding.item,
-            operations: Vec::new(self.alloc),
-        })?;
+        self.logs.list(section.site, holding.item)?;
         Ok(None)
     }
 
     /// The place of the item among those of the section that begin here.
     fn find(&self, first: usize, item: &Item) -> Option<usize> {
-        let here = self.history.items.as_slice().get(first..)?;
+        let here = self.logs.items.as_slice().get(first..)?;
         let at = here.partition_point(|other| other.item < *item);
         match here.get(at) {
             Some(other) if other.item == *item => Some(at),
@@ -276,56 +266,15 @@ impl Reader {
         }
     }
 
-    /// The number of the transaction so far.
-    fn transaction(&mut self, tx: Tx) -> Result<usize, AllocError> {
-        if let Some(place) = self.known.get(&tx.number()) {
-            return Ok(*place);
+    /// The place of the entry's transaction. Its first entry in this section counts it among the live.
+    fn visit(&mut self, entry: &Entry) -> Result<usize, AllocError> {
+        let tx = self.logs.transaction(entry.tx())?;
+        if self.logs.is_first_visit(tx) {
+            if let Some(open) = &mut self.open {
+                open.live = open.live.saturating_add(1);
+            }
         }
-        let place = self.visits.len();
-        self.known.insert(tx.number(), place)?;
-        self.history.lives.push(Life {
-            tx,
-            fate: None,
-            places: Vec::new(self.alloc),
-            endings: Vec::new(self.alloc),
-        })?;
-        self.visits.push(Visit {
-            section: 0,
-            before: 0,
-            ended: false,
-        })?;
-        Ok(place)
-    }
-
-    /// What the transaction did in this section so far. Its first entry here counts it among the live.
-    fn visit(&mut self, tx: usize) -> Visit {
-        let section = self.history.sites.len();
-        let fresh = Visit {
-            section,
-            before: self.history.places(tx).len(),
-            ended: false,
-        };
-        let Some(visit) = self.visits.get_mut(tx) else {
-            return fresh;
-        };
-        if visit.section == section {
-            return *visit;
-        }
-        *visit = fresh;
-        if let Some(open) = &mut self.open {
-            open.live = open.live.saturating_add(1);
-        }
-        fresh
-    }
-
-    /// Whether the transaction did so to the item in this section: read it, or change it or ask to.
-    fn repeats(&self, tx: usize, visit: &Visit, item: usize, act: Act) -> bool {
-        let reads = act == Act::Read;
-        match self.history.places(tx).get(visit.before..) {
-            Some(places) => places.iter().any(|place| place.item == item
-                && (place.act == Act::Read) == reads),
-            None => false,
-        }
+        Ok(tx)
     }
 
     /// An operation or an end.
@@ -351,10 +300,9 @@ impl Reader {
         first: usize,
         at: usize,
     ) -> Result<Option<LineFault>, AllocError> {
-        let tx = self.transaction(entry.tx())?;
-        let visit = self.visit(tx);
+        let tx = self.visit(entry)?;
         let item = first.saturating_add(at);
-        if self.repeats(tx, &visit, item, act) {
+        if self.logs.repeats(tx, item, act) {
             return Ok(Some(LineFault::Twice));
         }
         let Some(section) = &mut self.open else {
@@ -367,18 +315,17 @@ impl Reader {
             return Ok(Some(LineFault::Block));
         }
         section.keep(entry, at);
-        if visit.ended || !self.suits(tx, entry) {
+        if self.logs.has_ended(tx) || !self.suits(tx, entry) {
             return Ok(Some(LineFault::End));
         }
-        self.keep(tx, entry);
-        self.keep_operation(tx, item, act)?;
+        self.logs.keep(tx, self.line, fate_of(entry));
+        self.logs.add_operation(tx, self.line, item, act)?;
         Ok(None)
     }
 
     /// An end.
     fn finish_one(&mut self, entry: &Entry) -> Result<Option<LineFault>, AllocError> {
-        let tx = self.transaction(entry.tx())?;
-        let visit = self.visit(tx);
+        let tx = self.visit(entry)?;
         let Some(section) = &mut self.open else {
             return Ok(Some(LineFault::Section));
         };
@@ -387,63 +334,20 @@ impl Reader {
         }
         section.last = Some(*entry);
         section.live = section.live.saturating_sub(1);
-        if visit.ended || !self.suits(tx, entry) {
+        if self.logs.has_ended(tx) || !self.suits(tx, entry) {
             return Ok(Some(LineFault::End));
         }
-        self.keep(tx, entry);
-        self.keep_end(tx)?;
+        self.logs.keep(tx, self.line, fate_of(entry));
+        self.logs.add_end(tx, self.line)?;
         Ok(None)
     }
 
     /// Whether no earlier line asks for another end of its transaction.
     fn suits(&self, tx: usize, entry: &Entry) -> bool {
-        match (fate_of(entry), self.history.fate(tx)) {
+        match (fate_of(entry), self.logs.fate(tx)) {
             (Some(fate), Some(earlier)) => fate == earlier,
             _ => true,
         }
-    }
-
-    /// Keeps the line of the section's first entry, and the end that the entry asks for.
-    fn keep(&mut self, tx: usize, entry: &Entry) {
-        if let Some(base) = self.history.bases.last_mut() {
-            if *base == 0 {
-                *base = self.line;
-            }
-        }
-        if let Some(fate) = fate_of(entry) {
-            if let Some(life) = self.history.lives.get_mut(tx) {
-                life.fate = Some(fate);
-            }
-        }
-    }
-
-    fn keep_operation(&mut self, tx: usize, item: usize, act: Act) -> Result<(), AllocError> {
-        let at = self.history.operations(item).len();
-        let line = self.line;
-        if let Some(history) = self.history.items.get_mut(item) {
-            history.operations.push(Operation { tx, act, line })?;
-        }
-        if let Some(life) = self.history.lives.get_mut(tx) {
-            life.places.push(Place { item, at, act })?;
-        }
-        Ok(())
-    }
-
-    fn keep_end(&mut self, tx: usize) -> Result<(), AllocError> {
-        if let Some(visit) = self.visits.get_mut(tx) {
-            visit.ended = true;
-        }
-        let site = self.history.sites.len().saturating_sub(1);
-        let line = self.line;
-        let mut at = 0;
-        if let Some(ends) = self.history.sites.last_mut() {
-            at = ends.len();
-            ends.push(End { tx, line })?;
-        }
-        if let Some(life) = self.history.lives.get_mut(tx) {
-            life.endings.push(Ending { site, at })?;
-        }
-        Ok(())
     }
 
     /// A final value.
@@ -452,7 +356,7 @@ impl Reader {
             return Some(LineFault::Section);
         };
         let at = section.first.saturating_add(section.finals);
-        let fits = match self.history.items.get(at) {
+        let fits = match self.logs.items.get(at) {
             Some(item) => item.item == holding.item,
             None => false,
         };

@@ -6,12 +6,8 @@ use sgt_names::Kind;
 use sgt_notation::push_number;
 use std::alloc::{AllocError, Global};
 
-fn push_size(out: &mut Vec<u8>, number: usize) -> Result<(), AllocError> {
-    push_number(out, number as u64)
-}
-
-fn push_tx(out: &mut Vec<u8>, history: &History, tx: usize) -> Result<(), AllocError> {
-    match history.lives.get(tx) {
+fn push_tx(out: &mut Vec<u8>, history: &History, tx: u32) -> Result<(), AllocError> {
+    match history.life(tx) {
         Some(life) => push_number(out, u64::from(life.tx.number())),
         None => Ok(()),
     }
@@ -47,17 +43,17 @@ pub fn order_text(
         out.extend_from_slice(b" before ")?;
         push_tx(&mut out, history, step.to)?;
         out.extend_from_slice(b" site ")?;
-        push_size(&mut out, step.site)?;
+        push_number(&mut out, u64::from(step.site))?;
         push_lines(&mut out, step.first, step.second)?;
     }
     Ok(out)
 }
 
-fn push_lines(out: &mut Vec<u8>, first: usize, second: usize) -> Result<(), AllocError> {
+fn push_lines(out: &mut Vec<u8>, first: u32, second: u32) -> Result<(), AllocError> {
     out.extend_from_slice(b" lines ")?;
-    push_size(out, first)?;
+    push_number(out, u64::from(first))?;
     out.extend_from_slice(b" ")?;
-    push_size(out, second)?;
+    push_number(out, u64::from(second))?;
     out.extend_from_slice(b"\n")
 }
 
@@ -84,9 +80,9 @@ pub fn walk_text(alloc: Global, history: &History, left: &[Left]) -> Result<Vec<
         out.extend_from_slice(letter_of(history.fate(next.end.tx)))?;
         push_tx(&mut out, history, next.end.tx)?;
         out.extend_from_slice(b" site ")?;
-        push_size(&mut out, next.site)?;
+        push_number(&mut out, u64::from(next.site))?;
         out.extend_from_slice(b" line ")?;
-        push_size(&mut out, next.end.line)?;
+        push_number(&mut out, u64::from(next.end.line))?;
         out.extend_from_slice(b"\n")?;
     }
     Ok(out)

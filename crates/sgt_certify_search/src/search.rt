@@ -2,8 +2,8 @@
 
 use sgt_cert::{Decision, Step};
 use sgt_certify_history::{
-    Before, End, Fate, Front, History, Link, is_marked, met_from, number_at, rank_order, set_mark,
-    set_number, walk_of,
+    Before, Bounds, End, Fate, Front, History, Link, is_marked, met_from, number_at, rank_order,
+    set_mark, set_number, short, walk_of,
 };
 use sgt_certify_stuck::{Circle, StuckSet};
 use sgt_names::{Listed, Tx};
@@ -25,14 +25,14 @@ pub enum Finding {
 /// The next end of a site.
 #[derive(Clone, Copy, Debug)]
 pub struct Left {
-    pub site: usize,
+    pub site: u32,
     pub end: End,
 }
 
 /// A choice of the next decision: a transaction, and its walk if it is refused.
 #[derive(Drop)]
 struct Choice {
-    tx: usize,
+    tx: u32,
     walk: Vec<Link>,
 }
 
@@ -40,12 +40,12 @@ struct Choice {
 #[derive(Drop)]
 struct Greedy {
     front: Front,
-    ranks: Vec<usize>,
+    ranks: Vec<u32>,
     /// Who is committed by a decision.
     committed: Vec<bool>,
-    commits: usize,
+    commits: u32,
     /// Of each transaction one more than how many were committed when it had no walk.
-    asked: Vec<usize>,
+    asked: Vec<u32>,
     decisions: Vec<Decision>,
 }
 
@@ -63,7 +63,7 @@ fn committed_count(history: &History) -> usize {
 /// The cycle of ends, if there is one.
 fn order_cycle(alloc: Global, history: &History) -> Result<Option<Vec<Before>>, AllocError> {
     let mut front = Front::new(alloc, history)?;
-    for _ in 0..history.lives.len() {
+    for _ in 0..history.count() {
         match front.free.last() {
             Some(tx) => {
                 let tx = *tx;
@@ -72,27 +72,31 @@ fn order_cycle(alloc: Global, history: &History) -> Result<Option<Vec<Before>>, 
             None => break,
         }
     }
-    if front.decided >= history.lives.len() {
+    if front.decided >= history.count() {
         return Ok(None);
     }
     Ok(Some(front.cycle(alloc, history)?))
 }
 
 /// The cycle of the least transaction that lies on one, of those that have no rank.
-fn rank_cycle(alloc: Global, history: &History, order: &[usize]) -> Result<Vec<Link>, AllocError> {
-    let mut ranked = vec![in alloc; false; history.lives.len()]?;
+fn rank_cycle(alloc: Global, history: &History, order: &[u32]) -> Result<Vec<Link>, AllocError> {
+    let mut ranked = vec![in alloc; false; history.count()]?;
     for tx in order {
-        set_mark(ranked.as_mut_slice(), *tx);
+        set_mark(ranked.as_mut_slice(), *tx as usize);
     }
-    let mut allowed = vec![in alloc; false; history.lives.len()]?;
-    for tx in 0..history.lives.len() {
-        if history.is_committed(tx) && !is_marked(ranked.as_slice(), tx) {
-            set_mark(allowed.as_mut_slice(), tx);
+    let mut allowed = vec![in alloc; false; history.count()]?;
+    for tx in 0..short(history.count()) {
+        if history.is_committed(tx) && !is_marked(ranked.as_slice(), tx as usize) {
+            set_mark(allowed.as_mut_slice(), tx as usize);
         }
     }
-    for tx in 0..history.lives.len() {
-        if is_marked(allowed.as_slice(), tx) {
-            let walk = walk_of(alloc, history, allowed.as_slice(), tx)?;
+    let bounds = Bounds {
+        allowed: allowed.as_slice(),
+        ends: &[],
+    };
+    for tx in 0..short(history.count()) {
+        if is_marked(bounds.allowed, tx as usize) {
+            let walk = walk_of(alloc, history, bounds, tx)?;
             if !walk.is_empty() {
                 return Ok(walk);
             }
@@ -102,25 +106,25 @@ fn rank_cycle(alloc: Global, history: &History, order: &[usize]) -> Result<Vec<L
 }
 
 impl Greedy {
-    fn new(alloc: Global, history: &History, order: &[usize]) -> Result<Greedy, AllocError> {
-        let many = history.lives.len();
-        let mut ranks = vec![in alloc; 0usize; many]?;
+    fn new(alloc: Global, history: &History, order: &[u32]) -> Result<Greedy, AllocError> {
+        let many = history.count();
+        let mut ranks = vec![in alloc; 0u32; many]?;
         for (rank, tx) in order.iter().enumerate() {
-            set_number(ranks.as_mut_slice(), *tx, rank);
+            set_number(ranks.as_mut_slice(), *tx as usize, short(rank));
         }
         Ok(Greedy {
             front: Front::new(alloc, history)?,
             ranks,
             committed: vec![in alloc; false; many]?,
             commits: 0,
-            asked: vec![in alloc; 0usize; many]?,
-            decisions: Vec::new(alloc),
+            asked: vec![in alloc; 0u32; many]?,
+            decisions: Vec::with_capacity(alloc, many)?,
         })
     }
 
     /// The least of the free ones that isn't refused.
-    fn plain_choice(&self, history: &History) -> Option<usize> {
-        let mut least: Option<usize> = None;
+    fn plain_choice(&self, history: &History) -> Option<u32> {
+        let mut least: Option<u32> = None;
         for tx in self.front.free.as_slice() {
             if !history.is_refused(*tx) {
                 least = match least {
@@ -140,16 +144,21 @@ impl Greedy {
     ) -> Result<Option<Choice>, AllocError> {
         let mut free = Vec::from_slice(alloc, self.front.free.as_slice())?;
         free.sort()?;
+        let ends = self.front.end_lines(alloc, history)?;
         let now = self.commits.saturating_add(1);
         for tx in free.as_slice() {
-            if number_at(self.asked.as_slice(), *tx) == now {
+            if number_at(self.asked.as_slice(), *tx as usize) == now {
                 continue;
             }
-            let walk = walk_of(alloc, history, self.committed.as_slice(), *tx)?;
+            let bounds = Bounds {
+                allowed: self.committed.as_slice(),
+                ends: ends.as_slice(),
+            };
+            let walk = walk_of(alloc, history, bounds, *tx)?;
             if !walk.is_empty() {
                 return Ok(Some(Choice { tx: *tx, walk }));
             }
-            set_number(self.asked.as_mut_slice(), *tx, now);
+            set_number(self.asked.as_mut_slice(), *tx as usize, now);
         }
         Ok(None)
     }
@@ -172,14 +181,14 @@ impl Greedy {
         choice: Choice,
     ) -> Result<(), AllocError> {
         let Choice { tx, walk } = choice;
-        if let Some(life) = history.lives.get(tx) {
+        if let Some(life) = history.life(tx) {
             let decision = match life.fate {
                 Some(Fate::Commit) => {
-                    set_mark(self.committed.as_mut_slice(), tx);
+                    set_mark(self.committed.as_mut_slice(), tx as usize);
                     self.commits = self.commits.saturating_add(1);
                     Decision::Commit {
                         tx: life.tx,
-                        rank: rank_of(self.ranks.as_slice(), tx),
+                        rank: number_at(self.ranks.as_slice(), tx as usize),
                     }
                 }
                 Some(Fate::Refuse) => Decision::Refuse {
@@ -194,19 +203,11 @@ impl Greedy {
     }
 }
 
-/// The rank of the transaction.
-fn rank_of(ranks: &[usize], tx: usize) -> u32 {
-    match u32::try_from(number_at(ranks, tx)) {
-        Ok(rank) => rank,
-        Err(_) => u32::MAX,
-    }
-}
-
 /// The steps of a walk.
 fn steps_of(alloc: Global, history: &History, walk: &[Link]) -> Result<Vec<Step>, AllocError> {
     let mut steps = Vec::new(alloc);
     for link in walk {
-        if let Some(life) = history.lives.get(link.to) {
+        if let Some(life) = history.life(link.to) {
             steps.push(Step {
                 label: link.conflict.label,
                 to: life.tx,
@@ -221,17 +222,20 @@ fn ends_left(alloc: Global, history: &History, front: &Front) -> Result<Vec<Left
     let mut left = Vec::new(alloc);
     for site in 0..history.sites.len() {
         if let Some(end) = front.next_end(history, site) {
-            left.push(Left { site, end })?;
+            left.push(Left {
+                site: short(site),
+                end,
+            })?;
         }
     }
     Ok(left)
 }
 
 /// The numbers of the transactions.
-fn numbers_of(alloc: Global, history: &History, places: &[usize]) -> Result<Vec<Tx>, AllocError> {
+fn numbers_of(alloc: Global, history: &History, places: &[u32]) -> Result<Vec<Tx>, AllocError> {
     let mut numbers = Vec::new(alloc);
     for place in places {
-        if let Some(life) = history.lives.get(*place) {
+        if let Some(life) = history.life(*place) {
             numbers.push(life.tx)?;
         }
     }
@@ -241,10 +245,15 @@ fn numbers_of(alloc: Global, history: &History, places: &[usize]) -> Result<Vec<
 impl Greedy {
     /// All that conflicts lead to from each free one on, through those that are committed.
     fn circles(&self, alloc: Global, history: &History) -> Result<Vec<Circle>, AllocError> {
+        let ends = self.front.end_lines(alloc, history)?;
+        let bounds = Bounds {
+            allowed: self.committed.as_slice(),
+            ends: ends.as_slice(),
+        };
         let mut circles = Vec::new(alloc);
         for place in self.front.free.as_slice() {
-            if let Some(life) = history.lives.get(*place) {
-                let met = met_from(alloc, history, self.committed.as_slice(), *place)?;
+            if let Some(life) = history.life(*place) {
+                let met = met_from(alloc, history, bounds, *place)?;
                 circles.push(Circle {
                     tx: life.tx,
                     met: numbers_of(alloc, history, met.as_slice())?,
@@ -274,9 +283,9 @@ impl Greedy {
 }
 
 /// The decisions in order, as far as there are some.
-fn decide_all(alloc: Global, history: &History, order: &[usize]) -> Result<Greedy, AllocError> {
+fn decide_all(alloc: Global, history: &History, order: &[u32]) -> Result<Greedy, AllocError> {
     let mut greedy = Greedy::new(alloc, history, order)?;
-    for _ in 0..history.lives.len() {
+    for _ in 0..history.count() {
         match greedy.choice(alloc, history)? {
             Some(choice) => greedy.decide(alloc, history, choice)?,
             None => break,
@@ -287,19 +296,22 @@ fn decide_all(alloc: Global, history: &History, order: &[usize]) -> Result<Greed
 
 /// The decisions, or the first of the reasons why there are none.
 pub fn search(alloc: Global, history: &History) -> Result<Finding, AllocError> {
-    if let Some(cycle) = order_cycle(alloc, history)? {
-        return Ok(Finding::Order(cycle));
-    }
     let order = rank_order(alloc, history)?;
     if order.len() < committed_count(history) {
-        return Ok(Finding::Ranks(rank_cycle(alloc, history, order.as_slice())?));
+        return match order_cycle(alloc, history)? {
+            Some(cycle) => Ok(Finding::Order(cycle)),
+            None => Ok(Finding::Ranks(rank_cycle(alloc, history, order.as_slice())?)),
+        };
     }
     let greedy = decide_all(alloc, history, order.as_slice())?;
-    if greedy.front.decided < history.lives.len() {
-        return Ok(Finding::Walk(
+    if greedy.front.decided >= history.count() {
+        return Ok(Finding::Decided(greedy.decisions));
+    }
+    match order_cycle(alloc, history)? {
+        Some(cycle) => Ok(Finding::Order(cycle)),
+        None => Ok(Finding::Walk(
             ends_left(alloc, history, &greedy.front)?,
             greedy.stuck_set(alloc, history)?,
-        ));
+        )),
     }
-    Ok(Finding::Decided(greedy.decisions))
 }

@@ -1,41 +1,46 @@
 //! The cycles that were found, as steps that can be checked against the logs.
 
-use sgt_certify_history::{Before, History, Link, number_at};
+use sgt_certify_history::{Before, History, Link};
 use sgt_certify_logs::{ConflictStep, EndStep, Spot};
 use std::alloc::{AllocError, Global};
 
 /// The place of the entry of this line.
-fn entry_at(history: &History, site: usize, line: usize) -> usize {
-    line.saturating_sub(number_at(history.bases.as_slice(), site))
+fn entry_at(history: &History, site: usize, line: u32) -> usize {
+    match history.bases.get(site) {
+        Some(base) => (line as usize).saturating_sub(*base),
+        None => line as usize,
+    }
 }
 
 /// Where the transaction ends first.
-fn first_end(history: &History, tx: usize) -> Option<Spot> {
+fn first_end(history: &History, tx: u32) -> Option<Spot> {
     let ending = history.endings(tx).first()?;
-    let end = history.end_at(ending.site, ending.at)?;
+    let end = history.end_at(ending.at)?;
+    let site = ending.site as usize;
     Some(Spot {
-        site: ending.site,
-        entry: entry_at(history, ending.site, end.line),
+        site,
+        entry: entry_at(history, site, end.line),
     })
 }
 
 fn end_step(history: &History, step: &Before) -> Option<EndStep> {
-    let from = history.lives.get(step.from)?;
-    let to = history.lives.get(step.to)?;
+    let from = history.life(step.from)?;
+    let to = history.life(step.to)?;
+    let site = step.site as usize;
     Some(EndStep {
         from: from.tx,
         to: to.tx,
         first: Spot {
-            site: step.site,
-            entry: entry_at(history, step.site, step.first),
+            site,
+            entry: entry_at(history, site, step.first),
         },
-        second: entry_at(history, step.site, step.second),
+        second: entry_at(history, site, step.second),
     })
 }
 
 fn conflict_step(history: &History, link: &Link) -> Option<ConflictStep> {
-    let from = history.lives.get(link.from)?;
-    let to = history.lives.get(link.to)?;
+    let from = history.life(link.from)?;
+    let to = history.life(link.to)?;
     let site = link.conflict.label.site.number() as usize;
     Some(ConflictStep {
         from: from.tx,
