@@ -1,5 +1,6 @@
 #!/usr/bin/env python3
-"""Looks over the pages: links and anchors that lead nowhere, pages that are too long, commands and options that a page lacks.
+"""Looks over the pages: links and anchors that lead nowhere, pages that are too long, and commands,
+options and statuses that a page lacks of the code's, or has beyond them.
 
 usage: check_pages.py        (at the top of a checkout; the status is 1 if anything was found)
 """
@@ -9,13 +10,31 @@ import re
 import sys
 
 PAGES = ["README.md", *sorted(glob.glob("docs/*.md")), *sorted(glob.glob("crates/*/README.md"))]
-COMMANDS = "audit serial replay run certify explain".split()
-OPTIONS = "--workers --tries --tx --bundle --strict --quiet --version --help".split()
+WORDS = "crates/sgt_words/src"
+FILES = "crates/sgt/src/line.rt"
 
 
 def text_of(path):
     with open(path, encoding="utf-8") as file:
         return file.read()
+
+
+def commands():
+    """The commands that the code knows: those without options, and those that are read apart."""
+    plain = re.findall(r'if word == "(\w+)"', text_of(f"{WORDS}/choice.rt"))
+    return sorted({*plain, *re.findall(r'word\.as_str\(\) == "(\w+)"', text_of(f"{WORDS}/choice.rt"))})
+
+
+def options():
+    """The options that the code knows, by their long names."""
+    named = re.findall(r'\.long\("(\w+)"\)', text_of(f"{WORDS}/line.rt"))
+    named += re.findall(r'number_option\(\s*alloc,\s*"(\w+)"', text_of(f"{WORDS}/options.rt"))
+    return sorted({*(f"--{name}" for name in named), *re.findall(r'"(--\w+)"', text_of(FILES)), "--help", "--version"})
+
+
+def statuses():
+    """The statuses that the help of each command has."""
+    return re.findall(r"^  (\d)  ", text_of(f"{WORDS}/line.rt"), flags=re.M)
 
 
 def anchor(heading):
@@ -48,19 +67,38 @@ def long_pages():
 def missing_words():
     for page in ("docs/sgt.1", "docs/sgt.bash"):
         text = re.sub(r"\\f[A-Z]", " ", text_of(page).replace("\\-", "-")).replace("Fl -", "--").replace("| -", "| --")
-        for word in COMMANDS + OPTIONS:
+        for word in commands() + options():
             if not re.search(rf"(?<![\w-]){re.escape(word)}(?![\w-])", text):
                 yield f"{page}: nothing of {word}"
-    for word in COMMANDS:
+    for word in commands():
         if f"`sgt {word}" not in text_of("README.md"):
             yield f"README.md: nothing of sgt {word}"
-    for status in range(5):
+    for status in statuses():
         if f"\n| {status} |" not in text_of("README.md"):
             yield f"README.md: nothing of status {status}"
+        if f"\n.It {status}\n" not in text_of("docs/sgt.1"):
+            yield f"docs/sgt.1: nothing of status {status}"
+
+
+def more_words():
+    """Commands, options and statuses that a page has and the code doesn't."""
+    page = text_of("README.md")
+    for word in sorted(set(re.findall(r"^\| `sgt (\w+)", page, flags=re.M)) - set(commands())):
+        yield f"README.md: there is no command {word}"
+    for status in sorted(set(re.findall(r"^\| (\d) \|", page, flags=re.M)) - set(statuses())):
+        yield f"README.md: there is no status {status}"
+    manual = text_of("docs/sgt.1")
+    told = {word for line in re.findall(r"^\.It Cm (.*)$", manual, flags=re.M) for word in line.split()}
+    for word in sorted(told - set(commands())):
+        yield f"docs/sgt.1: there is no command {word}"
+    for word in sorted({f"-{word}" for word in re.findall(r"Fl (-\w+)", manual)} - set(options())):
+        yield f"docs/sgt.1: there is no option {word}"
+    for word in sorted(set(re.findall(r"--\w+", text_of("docs/sgt.bash"))) - set(options())):
+        yield f"docs/sgt.bash: there is no option {word}"
 
 
 def main():
-    found = [*dead_links(), *long_pages(), *missing_words()]
+    found = [*dead_links(), *long_pages(), *missing_words(), *more_words()]
     print("\n".join([*found, f"{len(PAGES)} pages, {len(found)} found"]))
     sys.exit(bool(found))
 
