@@ -29,7 +29,8 @@ abbrev pub AreActsTo : List Holding → List Entry → ℕ → List (Vec Act Glo
 AreActsTo items log m acts = (at : ℕ) (x : Name) (row : Vec Act Global) → IsItemAt items x at → slice_get acts at ≡ Some row
     → (a : Act) → Contains row.items a ↔ ((a.place < m) × IsActOn log x a)
 
-pub acts_none : (items : List Holding) (log : List Entry) (acts : List (Vec Act Global)) → ((k n : ℕ) (a : Act) → At acts k n a → ⊥) → AreActsTo items log 0 acts
+pub acts_none : (items : List Holding) (log : List Entry) (acts : List (Vec Act Global)) → ((k n : ℕ) (a : Act) → At acts k n a → ⊥)
+    → AreActsTo items log 0 acts
 acts_none items log acts none at x row item here a = (
   λ c. let k = Contains_at row.items a c in absurd (none at k.0 a (row, here, k.1)),
   λ k. absurd (omega (arith, k.0)),
@@ -38,8 +39,10 @@ acts_none items log acts none at x row item here a = (
 act_same : (a b : Act) → a.place ≡ b.place → a.entry ≡ b.entry → a ≡ b
 act_same a b place entry = λ i. record { place = place i; entry = entry i }
 
-pub acts_next : (items : List Holding) (log : List Entry) (m at0 : ℕ) (e : Entry) (y : Name) (acts new : List (Vec Act Global)) → IsRisingBy (λ (h : Holding). h.item) (slice_cmp nat_cmp) items
-    → slice_get log m ≡ Some e → item_of e ≡ Some y → IsItemAt items y at0 → Pushed acts at0 (record { place = m; entry = e }) new → AreActsTo items log m acts → AreActsTo items log (m + 1) new
+pub acts_next : (items : List Holding) (log : List Entry) (m at0 : ℕ) (e : Entry) (y : Name) (acts new : List (Vec Act Global))
+    → IsRisingBy (λ (h : Holding). h.item) (slice_cmp nat_cmp) items
+    → slice_get log m ≡ Some e → item_of e ≡ Some y → IsItemAt items y at0 → Pushed acts at0 (record { place = m; entry = e }) new
+    → AreActsTo items log m acts → AreActsTo items log (m + 1) new
 acts_next items log m at0 e y acts new rising here mine there p old at x row item at_row a =
     let act : Act = record { place = m; entry = e } in
     elim (cases_eq at at0) [
@@ -53,7 +56,8 @@ acts_next items log m at0 e y acts new rising here mine there p old at x row ite
               | inr last ↦
                   let place : m ≡ a.place = ap (λ (b : Act). b.place) last in
                   let entry : e ≡ a.entry = ap (λ (b : Act). b.entry) last in
-                  (omega (arith, place), (ap (slice_get log) (sym place) ∙ (here ∙ ap Some entry), ap item_of (sym entry) ∙ (mine ∙ ap Some (sym is))))
+                  let item = ap item_of (sym entry) ∙ (mine ∙ ap Some (sym is)) in
+                  (omega (arith, place), (ap (slice_get log) (sym place) ∙ (here ∙ ap Some entry), item))
             ],
             λ k. subst (λ xs. Contains xs a) (sym more) (elim (before_or_here log m a.place e a.entry here k.1.0 k.0) [
               | inl early ↦ push_old p.before.items act a (was.1 (early, k.1))
@@ -73,7 +77,9 @@ acts_next items log m at0 e y acts new rising here mine there p old at x row ite
     ]
 
 -- an entry whose item isn't there
-pub acts_skip : (items : List Holding) (log : List Entry) (m : ℕ) (e : Entry) (acts : List (Vec Act Global)) → slice_get log m ≡ Some e → ((at : ℕ) (x : Name) → item_of e ≡ Some x → IsItemAt items x at → ⊥) → AreActsTo items log m acts → AreActsTo items log (m + 1) acts
+pub acts_skip : (items : List Holding) (log : List Entry) (m : ℕ) (e : Entry) (acts : List (Vec Act Global))
+    → slice_get log m ≡ Some e → ((at : ℕ) (x : Name) → item_of e ≡ Some x → IsItemAt items x at → ⊥) → AreActsTo items log m acts
+    → AreActsTo items log (m + 1) acts
 acts_skip items log m e acts here none old at x row item at_row a = (
   λ c. let k = (old at x row item at_row a).0 c in (omega (arith, k.0), k.1),
   λ k. elim (before_or_here log m a.place e a.entry here k.1.0 k.0) [
@@ -82,7 +88,8 @@ acts_skip items log m e acts here none old at x row item at_row a = (
   ],
 )
 
-pub acts_all : (items : List Holding) (log : List Entry) (m : ℕ) (acts : List (Vec Act Global)) → length log ≤ m → AreActsTo items log m acts → AreActs items log acts
+pub acts_all : (items : List Holding) (log : List Entry) (m : ℕ) (acts : List (Vec Act Global)) → length log ≤ m
+    → AreActsTo items log m acts → AreActs items log acts
 acts_all items log m acts whole old at x row item at_row a = (
   λ c. ((old at x row item at_row a).0 c).1,
   λ k. (old at x row item at_row a).1 (let within = slice_get_within log a.place a.entry k.0 in omega (arith, within, whole), k),
@@ -90,7 +97,8 @@ acts_all items log m acts whole old at x row item at_row a = (
 
 -- ---- rows that are put in order
 
-pub sorted_row : (acts : List (Vec Act Global)) (at : ℕ) (old row : Vec Act Global) → slice_get acts at ≡ Some old → IsPermutation old.items row.items → IsNonDecreasingBy actor row.items → IsSortedAt acts at (slice_set acts at row)
+pub sorted_row : (acts : List (Vec Act Global)) (at : ℕ) (old row : Vec Act Global) → slice_get acts at ≡ Some old
+    → IsPermutation old.items row.items → IsNonDecreasingBy actor row.items → IsSortedAt acts at (slice_set acts at row)
 sorted_row acts at old row here same sorted = record {
   others = λ k other. get_set_other acts at k row other;
   before = old;
@@ -101,13 +109,16 @@ sorted_row acts at old row here same sorted = record {
   sorted = sorted;
 }
 
-pub acts_sorted : (items : List Holding) (log : List Entry) (at : ℕ) (acts new : List (Vec Act Global)) → IsSortedAt acts at new → AreActs items log acts → AreActs items log new
+pub acts_sorted : (items : List Holding) (log : List Entry) (at : ℕ) (acts new : List (Vec Act Global)) → IsSortedAt acts at new
+    → AreActs items log acts → AreActs items log new
 acts_sorted items log at acts new s old k x row item here a =
     elim (cases_eq k at) [
       | inl same ↦
           let is : s.after ≡ row = same_Some s.after row (sym s.now ∙ (ap (slice_get new) (sym same) ∙ here)) in
           let was = old at x s.before (subst (IsItemAt items x) same item) s.was a in (
-            λ c. was.0 (Contains-permutation s.after.items s.before.items a (IsPermutation-sym s.before.items s.after.items s.same) (subst (λ (v : Vec Act Global). Contains v.items a) (sym is) c)),
+            λ c.
+                let there : Contains s.after.items a = subst (λ (v : Vec Act Global). Contains v.items a) (sym is) c in
+                was.0 (Contains-permutation s.after.items s.before.items a (IsPermutation-sym s.before.items s.after.items s.same) there),
             λ d. subst (λ (v : Vec Act Global). Contains v.items a) is (Contains-permutation s.before.items s.after.items a s.same (was.1 d)),
           )
       | inr other ↦ old k x row item (sym (s.others k other) ∙ here) a
@@ -131,8 +142,10 @@ by_actor_all n acts whole old at row here = old at row (let low = slice_get_with
 
 -- ---- the acts of two transactions on an item tell their conflicts there
 
-pub between_conflicts : (items : List Holding) (log : List Entry) (acts : List (Vec Act Global)) (at from to : ℕ) (row : Vec Act Global) (f t : List Act) (kind : Kind) (x : Name) → AreActs items log acts → IsItemAt items x at → slice_get acts at ≡ Some row → from ≢ to
-    → ((a : Act) → Contains f a ↔ (Contains row.items a × (actor a ≡ from))) → ((a : Act) → Contains t a ↔ (Contains row.items a × (actor a ≡ to))) → AreBetween f t kind x ↔ Conflicts log kind x from to
+pub between_conflicts : (items : List Holding) (log : List Entry) (acts : List (Vec Act Global)) (at from to : ℕ) (row : Vec Act Global)
+    → (f t : List Act) (kind : Kind) (x : Name) → AreActs items log acts → IsItemAt items x at → slice_get acts at ≡ Some row → from ≢ to
+    → ((a : Act) → Contains f a ↔ (Contains row.items a × (actor a ≡ from)))
+    → ((a : Act) → Contains t a ↔ (Contains row.items a × (actor a ≡ to))) → AreBetween f t kind x ↔ Conflicts log kind x from to
 between_conflicts items log acts at from to row f t kind x are item here apart firsts seconds = (
   λ b.
       let mine = (firsts b.a).0 (Contains-from_at f b.n b.a b.first) in
