@@ -2,7 +2,7 @@
 
 ghost use Rattle.std.specs.Prelude.{◌≡◌, ◌↔◌, ◌<◌, Some, [], length, All, IsTrue, IsSome, vec_len, vec_capacity, ◌+◌};
 ghost use Rattle.std.specs.Option.{ForSome};
-ghost use Rattle.sgt_names.specs.Draft.{at_site};
+ghost use Rattle.sgt_names.specs.Draft.{AreRising};
 ghost use Rattle.sgt_site.specs.private.Cells.{HasItem, InCells, KeepsItem};
 ghost use Rattle.sgt_site.specs.private.Pending.{AreByTx};
 
@@ -11,11 +11,12 @@ use crate::cell::Install;
 use crate::cells::Cells;
 use crate::fault::SiteFault;
 use crate::pending::{PendingRead, reads_of};
-use sgt_names::{Draft, Entry, Item, Seen, SiteNo, Touch, Tx};
+use crate::site_part::{keeps, part_at};
+use sgt_names::{Draft, Entry, Seen, SiteNo, Touch, Tx};
 
 impl Site {
     ghost use Rattle.std.specs.Prelude.{◌≡◌, ◌↔◌, Some, None, IsOk, OnOk, OnErr, IfErr};
-    ghost use Rattle.sgt_names.specs.Draft.{at_site};
+    ghost use Rattle.sgt_names.specs.Draft.{AreRising, at_site};
     ghost use Rattle.sgt_site.specs.declared.fault.SiteFault.{SiteFault};
     ghost use Rattle.sgt_site.specs.State.{IsPledged};
     ghost use Rattle.sgt_site.specs.Refused.{RefusesPledge, MayPledge};
@@ -30,8 +31,9 @@ impl Site {
     /// - S8: the draft's reads here aren't the transaction's in the log, each with its value and version.
     /// - S4: there was no memory.
     ///
-    /// Goes over the draft, with a search of the items for each that it touches here, and for each read of the transaction here;
-    /// it doesn't go over the log.
+    /// Searches the draft for what it touches here, in the logarithm of its length, and goes over that alone, with a search of
+    /// the items for each. For each read of the transaction here it searches what the draft touches here. It doesn't go over the
+    /// log, nor over what the draft touches elsewhere.
     pub fn pledge(&mut self, tx: Tx, draft: &Draft) -> Result<(), SiteFault>
         ensures ok { OnOk result (self.new ≡ record self.old {
           pledge = Some (record { tx = tx; part = at_site self.old.number draft.now.touched });
@@ -42,10 +44,10 @@ impl Site {
         ensures allowed { OnOk result (MayPledge self.old tx draft.now.touched) }
         ensures refused { IfErr result (RefusesPledge self.old tx draft.now.touched) }
     {
-        let touched = draft.touched();
-        self.may_pledge(tx, touched)?;
+        let here = part_at(draft.touched(), self.number);
+        self.may_pledge(tx, here)?;
         self.part.clear();
-        if !copy_part(&mut self.part, self.number, touched) {
+        if !copy_part(&mut self.part, here) {
             return Err(SiteFault::Memory);
         }
         let part = self.part.as_slice();
@@ -78,6 +80,7 @@ impl Site {
 
     // Whether a pledge may be given, memory aside.
     fn may_pledge(&self, tx: Tx, touched: &[Touch]) -> Result<(), SiteFault>
+        requires rising { AreRising touched.now }
         ensures allowed { OnOk result (MayPledge self.now tx touched.now) }
         ensures refused { IfErr result (RefusesPledge self.now tx touched.now) }
     {
@@ -133,7 +136,8 @@ fn keeps_reads(
     number: SiteNo,
     touched: &[Touch],
 ) -> bool
-    requires { AreByTx pending.now }
+    requires by_tx { AreByTx pending.now }
+    requires rising { AreRising touched.now }
     ensures logged { IsTrue result → All (λ t. t.site ≡ number → ForSome t.seen (InCells cells.now tx t.item)) touched.now }
     ensures kept { IsTrue result → All (λ r. r.tx ≡ tx → KeepsItem touched.now number r.item) pending.now }
     ensures differs { All (λ t. t.site ≡ number → ForSome t.seen (InCells cells.now tx t.item)) touched.now
@@ -172,6 +176,7 @@ fn is_same(there: Option<Seen>, seen: Seen) -> bool
 
 // Whether the draft keeps each of these reads.
 fn all_kept(own: &[PendingRead], number: SiteNo, touched: &[Touch]) -> bool
+    requires { AreRising touched.now }
     ensures { IsTrue result ↔ All (λ r. KeepsItem touched.now number r.item) own.now }
 {
     for read in own {
@@ -182,30 +187,12 @@ fn all_kept(own: &[PendingRead], number: SiteNo, touched: &[Touch]) -> bool
     true
 }
 
-// Whether the draft keeps a read of the item at the site.
-fn keeps(number: SiteNo, touched: &[Touch], item: Item) -> bool
-    ensures { IsTrue result ↔ KeepsItem touched.now number item }
-{
-    touched.iter().any(|t| is_of(number, t, item))
-}
-
-fn is_of(number: SiteNo, touch: &Touch, item: Item) -> bool
-    ensures { IsTrue result ↔ ((touch.now.site ≡ number) × IsSome touch.now.seen × (touch.now.item ≡ item)) }
-{
-    touch.site == number && touch.seen.is_some() && touch.item == item
-}
-
-// Copies what is touched at the site.
-fn copy_part(part: &mut Vec<Touch>, number: SiteNo, touched: &[Touch]) -> bool
+// Copies these.
+fn copy_part(part: &mut Vec<Touch>, here: &[Touch]) -> bool
     requires { part.old.items ≡ [] }
-    ensures { IsTrue result → part.new.items ≡ at_site number touched.now }
+    ensures { IsTrue result → part.new.items ≡ here.now }
 {
-    for t in touched {
-        if t.site == number && part.push(*t).is_err() {
-            return false;
-        }
-    }
-    true
+    part.extend_from_slice(here).is_ok()
 }
 
 // Makes room for the block of what is touched, its handle and its end.

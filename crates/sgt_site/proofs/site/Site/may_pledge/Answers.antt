@@ -27,8 +27,8 @@ returns-then-is_some-clause-refused c = rw (← c.self.view_is, ← c.self.invar
   (λ none. pledged_some c.self.inside.pledged c.self.inside.part.items (sym c.if-is_some.ensures) none),
 )
 
-pub keeps_reads-requires : goal.keeps_reads-requires
-keeps_reads-requires c = rw c.as_slice-2.ensures.value c.self.invariant.1.by_tx
+pub keeps_reads-requires-clause-by_tx : goal.keeps_reads-requires-clause-by_tx
+keeps_reads-requires-clause-by_tx c = rw c.as_slice-2.ensures.value c.self.invariant.1.by_tx
 
 pub returns-then-not-keeps_reads-clause-refused : goal.returns-then-not-keeps_reads-clause-refused
 returns-then-not-keeps_reads-clause-refused c =
