@@ -61,10 +61,7 @@ fn command_of(word: &str) -> Command {
 
 // Whether the command tells of the lines that it reads, where it is asked to.
 fn tells_lines(command: Command) -> bool {
-    matches!(
-        command,
-        Command::Audit | Command::Serial | Command::Replay
-    )
+    matches!(command, Command::Audit | Command::Serial | Command::Replay)
 }
 
 // Whether this is the name of a rule, as `F10`.

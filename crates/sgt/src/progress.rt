@@ -20,7 +20,11 @@ impl Place {
         match self {
             Place::Word(count) if SITE.get(count) == Some(&byte) => {
                 let next = count.saturating_add(1);
-                if next == SITE.len() { Place::Number(0) } else { Place::Word(next) }
+                if next == SITE.len() {
+                    Place::Number(0)
+                } else {
+                    Place::Word(next)
+                }
             }
             Place::Number(number) if byte.is_ascii_digit() => {
                 let digit = u64::from(byte.saturating_sub(b'0'));

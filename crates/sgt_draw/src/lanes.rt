@@ -14,9 +14,9 @@ fn span(edge: &Edge) -> u32 {
     edge.to.saturating_sub(edge.from)
 }
 
-/// The gaps between places that an edge and its label stand over, a bit each. A short edge's label is wider than the edge.
+/// The gaps between places that an edge and its label stand over, a bit each. A short edge's label may be wider than the edge.
 fn gaps_under(edge: &Edge) -> u64 {
-    let (from, behind) = if span(edge) < 2 {
+    let (from, behind) = if span(edge) < 3 {
         (edge.from, edge.to.saturating_add(2))
     } else {
         (edge.from.saturating_add(1), edge.to.saturating_add(1))

@@ -222,26 +222,21 @@ impl Picture<'_> {
         Ok(())
     }
 
-    /// An edge, as an arc.
+    /// An edge, as half of an ellipse.
     fn put_arc(&self, canvas: &mut Canvas, laid: &Laid, row: u64) -> Result<(), AllocError> {
         let from = self.x_of(u64::from(laid.edge.from));
         let to = self.x_of(u64::from(laid.edge.to));
         let foot = row.saturating_sub(if self.is_named { 12 } else { 4 });
-        let bend = foot.saturating_sub(self.rise(laid).saturating_mul(4) / 3);
         canvas.put(&[
             Part::Markup("<path stroke-width=\"1.5\" d=\"M"),
             Part::Number(from),
             Part::Markup(" "),
             Part::Number(foot),
-            Part::Markup("C"),
-            Part::Number(from),
+            Part::Markup("A"),
+            Part::Number(to.saturating_sub(from) / 2),
             Part::Markup(" "),
-            Part::Number(bend),
-            Part::Markup(" "),
-            Part::Number(to),
-            Part::Markup(" "),
-            Part::Number(bend),
-            Part::Markup(" "),
+            Part::Number(self.rise(laid)),
+            Part::Markup(" 0 0 1 "),
             Part::Number(to),
             Part::Markup(" "),
             Part::Number(foot),
@@ -252,13 +247,13 @@ impl Picture<'_> {
         self.put_title(canvas, laid)
     }
 
-    /// The label of an edge, above the middle of its arc.
+    /// The label of an edge, on the top of its arc.
     fn put_arc_label(&self, canvas: &mut Canvas, laid: &Laid, row: u64) -> Result<(), AllocError> {
         let from = self.x_of(u64::from(laid.edge.from));
         let to = self.x_of(u64::from(laid.edge.to));
         canvas.put(&[
             Part::Markup(
-                "<text text-anchor=\"middle\" stroke=\"#ffffff\" stroke-width=\"3\" paint-order=\"stroke\" x=\"",
+                "<text text-anchor=\"middle\" stroke=\"#ffffff\" stroke-width=\"6\" stroke-linejoin=\"round\" paint-order=\"stroke\" x=\"",
             ),
             Part::Number(from.saturating_add(to) / 2),
             Part::Markup("\" y=\""),

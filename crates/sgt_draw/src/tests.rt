@@ -36,7 +36,12 @@ fn a_cycle(rt: HostRuntime) -> Result<(), Fail> {
     };
     let (outcome, text) = drawn(alloc, alone, CYCLE)?;
     assert!(rt; outcome == Outcome::Yes && text.starts_with("<svg ") && text.ends_with("</svg>\n"));
-    for words in ["transaction 2 would close<", ">rw 0.y<", ">rw 0.x<", ">refused<"] {
+    for words in [
+        "transaction 2 would close<",
+        ">rw 0.y<",
+        ">rw 0.x<",
+        ">refused<",
+    ] {
         assert!(rt; text.contains(words), "{words}");
     }
     let broken = CYCLE.replace(alloc, "r2[y]=2", "r2[y]=3")?;

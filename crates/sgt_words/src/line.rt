@@ -33,17 +33,14 @@ const DRAW: &str =
     "Draws a valid bundle as SVG: transactions by rank, their conflicts, and refused ones with their cycles; else writes audit's `no` line";
 
 // The usage of each command, with an example. What of it is a file or about files is taken out of the words before.
-const AUDIT_USAGE: &str =
-    "sgt audit [-q] [--progress] [FILE]...\n  e.g. sgt audit bundle.txt";
+const AUDIT_USAGE: &str = "sgt audit [-q] [--progress] [FILE]...\n  e.g. sgt audit bundle.txt";
 
-const SERIAL_USAGE: &str =
-    "sgt serial [--progress] [FILE]\n  e.g. sgt serial bundle.txt";
+const SERIAL_USAGE: &str = "sgt serial [--progress] [FILE]\n  e.g. sgt serial bundle.txt";
 
 const REPLAY_USAGE: &str =
     "sgt replay [--strict] [--progress] [--bundle FILE] [FILE]\n  e.g. sgt replay --bundle bundle.txt events.txt";
 
-const CERTIFY_USAGE: &str =
-    "sgt certify [FILE]\n  e.g. sgt certify logs.txt > bundle.txt";
+const CERTIFY_USAGE: &str = "sgt certify [FILE]\n  e.g. sgt certify logs.txt > bundle.txt";
 
 const EXPLAIN_USAGE: &str =
     "sgt explain [--tx N] [FILE]\n       sgt explain RULE\n  e.g. sgt explain bundle.txt";
