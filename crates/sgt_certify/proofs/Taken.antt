@@ -9,6 +9,17 @@ pub nothing-taken : (told : Option (List ℕ)) (ahead : Ahead) (text : List ℕ)
 nothing-taken None ahead text none fresh = tt
 nothing-taken (Some bytes) ahead text none fresh = ap₂ (λ (t held : List ℕ). t ++ (held ++ bytes)) (sym none) (sym fresh)
 
+-- the lines that are held whole, moved to the text
+pub held-taken : (told rest : Option (List ℕ)) (n : ℕ) (ahead later : Ahead) (text more : List ℕ) → Consumes told (coming ahead rest) text
+    → later ≡ passed n ahead → more ≡ text ++ take n ahead.held → Consumes told (coming later rest) more
+held-taken None rest n ahead later text more met same is = tt
+held-taken (Some bytes) None n ahead later text more met same is = absurd met
+held-taken (Some bytes) (Some left) n ahead later text more met same is =
+    met ∙ ap (λ (h : List ℕ). text ++ (h ++ left)) (sym (take-drop n ahead.held))
+    ∙ ap (λ (t : List ℕ). text ++ t) (sym (append_assoc (take n ahead.held) (drop n ahead.held) left))
+    ∙ append_assoc text (take n ahead.held) (drop n ahead.held ++ left)
+    ∙ ap₂ (λ (t h : List ℕ). t ++ (h ++ left)) (sym is) (ap (λ (a : Ahead). a.held) (sym same))
+
 pub line-taken : (told old new : Option (List ℕ)) (limit : ℕ) (text line more : List ℕ) → Consumes told old text → Gives limit old Line line new
     → more ≡ (text ++ line) ++ 10 ∷ [] → Consumes told new more
 line-taken None old new limit text line more rest gives is = tt
