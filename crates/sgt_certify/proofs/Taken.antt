@@ -1,13 +1,24 @@
 -- How far a reader was read, against all that it told.
-use Rattle.std.proofs.Common.{◌≡◌, ℕ, List, [], ◌∷◌, ◌++◌, Option, Some, None, IfSome, sym, ap, ap₂, ◌∙◌, arith, append_assoc}
+use Rattle.std.proofs.Common.{◌≡◌, ℕ, List, [], ◌∷◌, ◌++◌, take, drop, Option, Some, None, IfSome, sym, ap, ap₂, ◌∙◌, arith, append_assoc}
 use Rattle.std.specs.Io.KnownBytes.{Consumes}
-use Rattle.std.proofs.lemmas.List.{append-nil}
-use Rattle.sgt_notation.specs.Lines.{Ahead, Gives, Spends, coming}
+use Rattle.std.proofs.lemmas.List.{append-nil, take-append-drop}
+use Rattle.sgt_notation.specs.Lines.{Ahead, Gives, Spends, coming, passed}
 use Rattle.sgt_notation.specs.declared.lines.Next.TheVariants.{Line, Cut, End}
 
 pub nothing-taken : (told : Option (List ℕ)) (ahead : Ahead) (text : List ℕ) → text ≡ [] → ahead.held ≡ [] → Consumes told (coming ahead told) text
 nothing-taken None ahead text none fresh = tt
 nothing-taken (Some bytes) ahead text none fresh = ap₂ (λ (t held : List ℕ). t ++ (held ++ bytes)) (sym none) (sym fresh)
+
+-- the lines that are held whole, moved to the text
+pub held-taken : (told rest : Option (List ℕ)) (n : ℕ) (ahead later : Ahead) (text more : List ℕ) → Consumes told (coming ahead rest) text
+    → later ≡ passed n ahead → more ≡ text ++ take n ahead.held → Consumes told (coming later rest) more
+held-taken None rest n ahead later text more met same is = tt
+held-taken (Some bytes) None n ahead later text more met same is = absurd met
+held-taken (Some bytes) (Some left) n ahead later text more met same is =
+    met ∙ ap (λ (h : List ℕ). text ++ (h ++ left)) (sym (take-append-drop n ahead.held))
+    ∙ ap (λ (t : List ℕ). text ++ t) (append_assoc (take n ahead.held) (drop n ahead.held) left)
+    ∙ sym (append_assoc text (take n ahead.held) (drop n ahead.held ++ left))
+    ∙ ap₂ (λ (t h : List ℕ). t ++ (h ++ left)) (sym is) (ap (λ (a : Ahead). a.held) (sym same))
 
 pub line-taken : (told old new : Option (List ℕ)) (limit : ℕ) (text line more : List ℕ) → Consumes told old text → Gives limit old Line line new
     → more ≡ (text ++ line) ++ 10 ∷ [] → Consumes told new more
@@ -34,11 +45,11 @@ end-taken (Some bytes) (Some xs) (Some ys) limit text line rest gives = rest ∙
 
 -- ---- the reads
 
-pub spends_on : (told mid new : Option (List ℕ)) (a b c : ℕ) → Spends a told b mid → Spends b mid c new → Spends a told c new
-spends_on None mid new a b c first later = tt
-spends_on (Some xs) None new a b c first later = absurd first
-spends_on (Some xs) (Some ys) None a b c first later = absurd later
-spends_on (Some xs) (Some ys) (Some zs) a b c first later = omega arith
+pub spends_on : (told mid new : Option (List ℕ)) (a b b' c : ℕ) → b' ≡ b → Spends a told b mid → Spends b' mid c new → Spends a told c new
+spends_on None mid new a b b' c same first later = tt
+spends_on (Some xs) None new a b b' c same first later = absurd first
+spends_on (Some xs) (Some ys) None a b b' c same first later = absurd later
+spends_on (Some xs) (Some ys) (Some zs) a b b' c same first later = omega arith
 
 pub spends-none : (told : Option (List ℕ)) (a b : ℕ) → b ≡ a → Spends a told b told
 spends-none None a b same = tt

@@ -13,6 +13,10 @@ use Rattle.sgt_certify_logs.specs.Witness.{HaveConflictsInACycle, HaveEndsInACyc
 use Rattle.sgt_certify.specs.declared.refuting.Refusal.{Refusal}
 use Rattle.sgt_certify.specs.declared.refuting.Refusal.TheVariants.{Order, Ranks, Walk}
 
+-- the text spells a valid bundle
+abbrev pub SpellsValid : List ℕ → Type 0
+SpellsValid text = (b : Parts) × Spells text b × IsValid b
+
 -- the text is the bytes with a certificate put in as their second line, and spells a valid bundle of the very logs that they spell
 pub record IsCertified (bytes text : List ℕ) : Type 0 where
   pub bundle : Parts

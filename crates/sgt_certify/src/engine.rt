@@ -52,8 +52,8 @@ fn unchecked_answer(alloc: Global) -> Result<Answer, AllocError>
 }
 
 /// The answer to a text, by what was found of it.
-fn found_answer(alloc: Global, text: &[u8], found: &Found) -> Result<Answer, EngineFail>
-    ensures answer { IfOk result (λ a. IsAnswer text.now a.outcome a.text.items) }
+fn found_answer(alloc: Global, text: Vec<u8>, found: Found) -> Result<Answer, EngineFail>
+    ensures answer { IfOk result (λ a. IsAnswer text.items a.outcome a.text.items) }
     ensures err { IfErr result (λ e. e ≡ EngineFail.Memory) }
 {
     match found {
@@ -64,30 +64,30 @@ fn found_answer(alloc: Global, text: &[u8], found: &Found) -> Result<Answer, Eng
             }),
             None => Ok(unchecked_answer(alloc)?),
         },
-        Found::Refused(reason) => match refused(alloc, text, reason)? {
+        Found::Refused(reason) => match refused(alloc, text, &reason)? {
             Some(text) => Ok(Answer {
                 outcome: Outcome::No,
                 text,
             }),
             None => Ok(unchecked_answer(alloc)?),
         },
-        Found::Fault { line, fault } => Ok(fault_answer(alloc, *line, *fault)?),
+        Found::Fault { line, fault } => Ok(fault_answer(alloc, line, fault)?),
     }
 }
 
 /// The answer to what a reader gave.
-fn answer_to(alloc: Global, taken: &Taken) -> Result<Answer, EngineFail>
-    ensures answer { IfOk result (λ a. (told : Option (List ℕ)) → (IsTrue taken.now.all → IfSome told (λ bytes. bytes ≡ taken.now.text.items))
+fn answer_to(alloc: Global, taken: Taken) -> Result<Answer, EngineFail>
+    ensures answer { IfOk result (λ a. (told : Option (List ℕ)) → (IsTrue taken.all → IfSome told (λ bytes. bytes ≡ taken.text.items))
         → IfSome told (λ bytes. IsAnswer bytes a.outcome a.text.items)) }
     ensures err { IfErr result (λ e. e ≡ EngineFail.Memory) }
 {
-    let text = taken.text.as_slice();
-    if !taken.all {
-        let (line, fault) = long_line(alloc, text)?;
+    let Taken { text, all } = taken;
+    if !all {
+        let (line, fault) = long_line(alloc, text.as_slice())?;
         return Ok(fault_answer(alloc, line, fault)?);
     }
-    let found = find(alloc, text)?;
-    found_answer(alloc, text, &found)
+    let found = find(alloc, text.as_slice())?;
+    found_answer(alloc, text, found)
 }
 
 /// Reads the text of a bundle without its second line, and writes it with the line of a certificate that makes its logs valid; or
@@ -115,7 +115,7 @@ pub fn certify<R: Source, W: Sink>(
     ensures quiet_writer { result ≢ Err EngineFail.WriteFault → W.failures writer.new ≡ W.failures writer.old }
 {
     let taken = take_text(alloc, reader)?;
-    let answer = answer_to(alloc, &taken)?;
+    let answer = answer_to(alloc, taken)?;
     match write_all(writer, answer.text.as_slice()) {
         Ok(()) => Ok(answer.outcome),
         Err(_) => Err(EngineFail::WriteFault),

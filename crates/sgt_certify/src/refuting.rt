@@ -59,15 +59,15 @@ fn shown(alloc: Global, sites: &[SiteLog], proof: &Proof) -> Result<Option<Refus
 }
 
 /// The logs that the text spells, if they are of so many sites.
-fn logs_of(alloc: Global, text: &[u8], sites: u8) -> Result<Option<Bundle>, EngineFail>
-    ensures logs { IfOk result (λ found. IfSome found (λ b. SpellsLogs text.now b.sites)) }
+fn logs_of(alloc: Global, text: Vec<u8>, sites: u8) -> Result<Option<Bundle>, EngineFail>
+    ensures logs { IfOk result (λ found. IfSome found (λ b. SpellsLogs text.items b.sites)) }
     ensures err { IfErr result (λ e. e ≡ EngineFail.Memory) }
 {
     let empty = Certificate {
         sites,
         decisions: Listed::new(Vec::new(alloc)),
     };
-    match with_certificate(alloc, text, &empty)? {
+    match with_certificate(alloc, text, empty)? {
         Some(made) => read_bundle(alloc, made.as_slice()),
         None => Ok(None),
     }
@@ -83,8 +83,8 @@ fn joined(alloc: Global, head: &[u8], rest: &[u8]) -> Result<Vec<u8>, AllocError
 }
 
 /// The text of the reason, where it passes its check against the logs.
-pub fn refused(alloc: Global, text: &[u8], reason: &Reason) -> Result<Option<Vec<u8>>, EngineFail>
-    ensures told { IfOk result (λ told. IfSome told (λ t. IsRefused text.now t.items)) }
+pub fn refused(alloc: Global, text: Vec<u8>, reason: &Reason) -> Result<Option<Vec<u8>>, EngineFail>
+    ensures told { IfOk result (λ told. IfSome told (λ t. IsRefused text.items t.items)) }
     ensures err { IfErr result (λ e. e ≡ EngineFail.Memory) }
 {
     let Some(bundle) = logs_of(alloc, text, reason.sites)? else {

@@ -1,9 +1,10 @@
 //! All that a reader gives.
 
-ghost use Rattle.std.specs.Prelude.{◌≡◌, ◌≢◌, ◌∷◌, ◌++◌, [], Err, IfOk, IfSome, IsErrOf, IsTrue, OnOk};
+ghost use Rattle.std.specs.Prelude.{◌≡◌, ◌≢◌, ◌≤◌, ◌∷◌, ◌++◌, ℕ, [], length, take, Err, IfOk, IfSome, IsErrOf, IsTrue, OnOk};
 ghost use Rattle.sgt_notation.specs.Limits.{most_reads};
-ghost use Rattle.sgt_notation.specs.Lines.{ReadFaultIsDue};
+ghost use Rattle.sgt_notation.specs.Lines.{ReadFaultIsDue, passed};
 
+use memchr::memrchr;
 use sgt_names::{EngineFail, Source};
 use sgt_notation::{Lines, LinesFault, MAX_LINE, Next};
 use std::alloc::{AllocError, Global};
@@ -14,6 +15,26 @@ fn push_line(text: &mut Vec<u8>, line: &[u8]) -> Result<(), AllocError>
 {
     text.extend_from_slice(line)?;
     text.extend_from_slice(b"\n")
+}
+
+/// How many bytes the lines have that stand whole in these, with their LFs.
+fn whole_lines(bytes: &[u8]) -> usize
+    ensures { result ≤ length bytes.now }
+{
+    match memrchr(b'\n', bytes) {
+        Some(last) => last + 1,
+        None => 0,
+    }
+}
+
+/// Moves the lines that are held whole to the text.
+fn take_held(lines: &mut Lines, text: &mut Vec<u8>) -> Result<(), AllocError>
+    ensures { OnOk result ((n : ℕ) × (lines.new ≡ passed n lines.old) × (text.new.items ≡ text.old.items ++ take n lines.old.held)) }
+{
+    let n = whole_lines(lines.held());
+    text.extend_from_slice(&lines.held()[..n])?;
+    lines.pass(n);
+    Ok(())
 }
 
 /// Adds all bytes to the text, or those of the lines before the first one that is too long: false then.
@@ -33,6 +54,7 @@ fn take_lines<R: Source>(
 {
     let mut line = Vec::new(alloc);
     'lines: loop {
+        take_held(lines, text)?;
         match lines.next(reader, &mut line, MAX_LINE) {
             Ok(Next::Line) => push_line(text, line.as_slice())?,
             Ok(Next::Cut) => {

@@ -8,5 +8,5 @@ pub returns-in-Some-clause-logs : goal.returns-in-Some-clause-logs
 returns-in-Some-clause-logs c =
     let made = rw c.in-Some.is at c.in_ok-made.ensures in
     IfOk-weaker c.read_bundle.result _ _
-    (λ found answers. answers-logs c.args.text.now _ _ found made (subst (λ (t : List ℕ). AnswersBundle t found) c.as_slice.ensures.value answers))
+    (λ found answers. answers-logs c.args.text.items _ _ found made (subst (λ (t : List ℕ). AnswersBundle t found) c.as_slice.ensures.value answers))
     c.read_bundle.ensures.bundle

@@ -16,5 +16,5 @@ returns-clause-told c =
       sites = c.in-Some.bundle.sites;
       logs = logs;
       shown = shown;
-      none = none-shown c.in-Some-2.refusal c.args.text.now c.in-Some.bundle.sites logs shown;
+      none = none-shown c.in-Some-2.refusal c.args.text.items c.in-Some.bundle.sites logs shown;
     }

@@ -1,6 +1,7 @@
 use Rattle.std.proofs.Common.{◌∙◌, [], ◌∷◌, ◌++◌, List, ℕ, ap, refl, arith, Err}
 use Rattle.sgt_audit.proofs.ReaderAtStage.{fault-met}
-use Rattle.sgt_certify.proofs.Taken.{nothing-taken, line-taken, spends_on, spends-none}
+use Rattle.sgt_certify.proofs.Taken.{nothing-taken, held-taken, line-taken, cut-taken, end-taken, spends_on, spends-none}
+use Rattle.sgt_notation.specs.Lines.{Ahead}
 use Rattle.sgt_certify.proofs.taking.take_lines.Goals as goal
 
 pub lines-init : goal.lines-init
@@ -13,15 +14,31 @@ lines-init g c = (
 
 pub lines-preserved : goal.lines-preserved
 lines-preserved g c =
-    let gave = rw c.in-Ok-Line.field-0-is at c.in-Ok-Line.ensures.ok in (
-      line-taken _ _ _ _ _ _ _ c.lines.invariant.0 gave.gives
-          (c.in_ok-push_line-in-Ok-Line.ensures ∙ ap (λ (l : List ℕ). (c.lines.text.items ++ l) ++ 10 ∷ []) c.as_slice.ensures.value),
+    let gave = rw c.in-Ok-Line.field-0-is at c.in-Ok-Line.ensures.ok in
+    let held = c.in_ok-take_held.ensures in
+    let reads = ap (λ (a : Ahead). a.reads) held.1 in (
+      line-taken _ _ _ _ _ _ _ (held-taken _ _ held.0 _ _ _ _ c.lines.invariant.0 held.1 held.2) gave.gives
+          (c.in_ok-push_line-in-Ok-Line.ensures ∙ ap (λ (l : List ℕ). (c.take_held.new.text.items ++ l) ++ 10 ∷ []) c.as_slice.ensures.value),
       gave.quiet ∙ c.lines.invariant.1,
-      spends_on _ _ _ _ _ _ c.lines.invariant.2 gave.spends,
-      omega (arith, c.in-Ok-Line.ensures.asks, c.lines.invariant.3),
+      spends_on _ _ _ _ _ _ _ reads c.lines.invariant.2 gave.spends,
+      omega (arith, c.in-Ok-Line.ensures.asks, c.lines.invariant.3, reads),
     )
+
+pub returns-in-Ok-Cut-clause-all : goal.returns-in-Ok-Cut-clause-all
+returns-in-Ok-Cut-clause-all g c _ =
+    let gave = rw c.in-Ok-Cut.field-0-is at c.in-Ok-Cut.ensures.ok in
+    let held = c.in_ok-take_held.ensures in
+    cut-taken _ _ _ _ _ _ _ (held-taken _ _ held.0 _ _ _ _ c.lines.invariant.0 held.1 held.2) gave.gives
+    (c.in_ok-extend_from_slice-in-Ok-Cut.ensures.items ∙ ap (λ (l : List ℕ). c.take_held.new.text.items ++ l) c.as_slice-in-Ok-Cut.ensures.value)
+
+pub returns-in-Ok-End-clause-all : goal.returns-in-Ok-End-clause-all
+returns-in-Ok-End-clause-all g c _ =
+    let gave = rw c.in-Ok-End.field-0-is at c.in-Ok-End.ensures.ok in
+    let held = c.in_ok-take_held.ensures in
+    end-taken _ _ _ _ _ _ (held-taken _ _ held.0 _ _ _ _ c.lines.invariant.0 held.1 held.2) gave.gives
 
 pub returns-in-Err-ReadFault-clause-read_fault : goal.returns-in-Err-ReadFault-clause-read_fault
 returns-in-Err-ReadFault-clause-read_fault g c same =
-    fault-met _ _ _ _ _ _ _ _ c.lines.invariant.1 c.lines.invariant.2 refl
-    (omega (arith, c.in-Err-ReadFault.ensures.asks, c.lines.invariant.3)) (c.in-Err-ReadFault.ensures.read_fault (ap Err c.in-Err-ReadFault.field-0-is))
+    let reads = ap (λ (a : Ahead). a.reads) c.in_ok-take_held.ensures.1 in
+    fault-met _ _ _ _ _ _ _ _ c.lines.invariant.1 c.lines.invariant.2 reads
+    (omega (arith, c.in-Err-ReadFault.ensures.asks, c.lines.invariant.3, reads)) (c.in-Err-ReadFault.ensures.read_fault (ap Err c.in-Err-ReadFault.field-0-is))
