@@ -155,10 +155,10 @@ module _ (t : Touch) (me : Handle) where
 near-item : (s : SiteState) (t : Touch) (me : Handle) (x : Name) (f h : Handle) (k : Kind) → IsNeighbour s (t ∷ []) me x f h k → (t.site ≡ s.number) × (t.item ≡ x)
 near-item s t me x f h k (in_front n m w saw near) = let one = saw-one s t x n saw in (one.0, one.1)
 near-item s t me x f h k (behind n m w saw near) = let one = saw-one s t x n saw in (one.0, one.1)
-near-item s t me x f h k (put_last v m w asks near) = let one = changes-one s t x (Put v) asks in (one.0, one.1)
+near-item s t me x f h k (put_last v m w asks near which) = let one = changes-one s t x (Put v) asks in (one.0, one.1)
 near-item s t me x f h k (add_last v m w asks near) = let one = changes-one s t x (Add v) asks in (one.0, one.1)
 near-item s t me x f h k (put_read v r asks is near) = let one = changes-one s t x (Put v) asks in (one.0, one.1)
-near-item s t me x f h k (add_read v r asks is near) = let one = changes-one s t x (Add v) asks in (one.0, one.1)
+near-item s t me x f h k (add_read v r asks near) = let one = changes-one s t x (Add v) asks in (one.0, one.1)
 
 pub touches-differ : (s : SiteState) (me : Handle) (ts : List Touch) → AreRising ts → AllPairs (λ t u. (e : Edge) → IsNear s (t ∷ []) me e → IsNear s (u ∷ []) me e → ⊥) ts
 touches-differ s me ts rising = AllPairs-from_at (λ t u. (e : Edge) → IsNear s (t ∷ []) me e → IsNear s (u ∷ []) me e → ⊥) ts by_places

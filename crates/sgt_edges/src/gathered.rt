@@ -117,9 +117,10 @@ fn add_of_read(
     let Some(seen) = touch.seen else {
         return Ok(());
     };
-    let before = in_front(writers, seen.version);
+    let before = in_front(site, touch.item, writers, seen.version);
     add_before(edges, touch, Kind::Wr, before, me)?;
-    add_after(edges, touch, behind(writers, seen.version), me)
+    let after = behind(site, touch.item, writers, seen.version);
+    add_after(edges, touch, after, me)
 }
 
 // Adds the edges of a touched item's change, if there is one. The item has these writers.

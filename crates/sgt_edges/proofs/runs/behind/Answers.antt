@@ -1,24 +1,21 @@
-use Rattle.std.proofs.Common.{arith, length, drop, sym}
-use Rattle.std.proofs.lemmas.List.{take_rest}
-use Rattle.std.proofs.Math.Seq.{take-length}
-use Rattle.sgt_edges.proofs.Once.{writers-take, writers-drop}
-use Rattle.sgt_edges.proofs.Slices.{behind-slice}
+use Rattle.std.proofs.Common.{rules, ◌≡◌, ◌↔◌, ◌≤◌, ◌<◌, ◌-◌, ◌⊎◌, ℕ, suc, true, false, Some, ltb, length, slice_get, AllPairs, Contains, IsTrue, ◌+◌, ◌*◌, ◌/◌, ◌%◌, Bool, nat_eq, List, [], ◌∷◌, ◌++◌, slice_index_or, slice_set, bit_and, bit_or, Fits, w8, w32, w64, Bor, MutBor}
+use Rattle.std.specs.List.Sorted.{IsPartitionPoint}
+use Rattle.sgt_site.specs.State.{IsSite, IsReader, IsVersionWritten, version_at, writers_of}
+use Rattle.sgt_site.specs.declared.cell.Reader.{Reader as CommittedReader}
+use Rattle.sgt_site.specs.declared.cell.Writer.{Writer as CommittedWriter}
+use Rattle.sgt_edges.specs.Edges.{HasReader, HaveOwnHandles}
+use Rattle.sgt_edges.specs.Neighbours.{IsUnread, IsInFront, IsBehind, IsLastWrite, IsLastReader}
+use Rattle.sgt_edges.specs.private.Gathered.{AreWriters, IsRunLength, IsBeforeWrite, ChangesBefore, ReadsBefore, WritersApart, ReadersApart}
 use Rattle.sgt_edges.proofs.runs.behind.Goals as goal
 
+-- src/runs.rt:145:1
 pub returns-then-run-after-clause-neighbours : goal.returns-then-run-after-clause-neighbours
-returns-then-run-after-clause-neighbours c = λ s x are w.
-    let run = rw take_rest at c.run_length-run.ensures in
-    rw take_rest (behind-slice s x c.args.writers.now are.0 c.args.version _ _ run (λ k le lt. omega (arith, le)) (λ k lt. omega (arith, lt)) w)
+returns-then-run-after-clause-neighbours c = ?
 
-pub returns-else-run-after-clause-neighbours : goal.returns-else-run-after-clause-neighbours
-returns-else-run-after-clause-neighbours c = λ s x are w.
-    let run = rw take_rest at c.run_length-run.ensures in
-    let all = rw take_rest at c.if-run-after.false in
-    let after = drop c.args.version c.args.writers.now in
-    rw (take_rest, sym (take-length after)) (behind-slice s x c.args.writers.now are.0 c.args.version _ (length after) run (λ k le lt. lt) (λ k lt. omega (arith, lt, all)) w)
-
+-- src/runs.rt:145:1
 pub returns-then-run-after-clause-apart : goal.returns-then-run-after-clause-apart
-returns-then-run-after-clause-apart c = λ apart. rw take_rest (writers-take _ _ (writers-drop _ c.args.version apart))
+returns-then-run-after-clause-apart c = ?
 
-pub returns-else-run-after-clause-apart : goal.returns-else-run-after-clause-apart
-returns-else-run-after-clause-apart c = λ apart. rw take_rest (writers-drop _ c.args.version apart)
+-- src/runs.rt:145:1
+pub returns-else-run-after-clause-neighbours : goal.returns-else-run-after-clause-neighbours
+returns-else-run-after-clause-neighbours c = ?

@@ -1,27 +1,22 @@
-use Rattle.std.proofs.Common.{arith}
-use Rattle.std.proofs.lemmas.List.{length-take-le, take_rest}
-use Rattle.sgt_edges.proofs.Once.{writers-take, writers-drop}
-use Rattle.sgt_edges.proofs.Slices.{front-slice}
+use Rattle.std.proofs.Common.{rules, ◌≡◌, ◌↔◌, ◌≤◌, ◌<◌, ◌-◌, ◌⊎◌, ℕ, suc, true, false, Some, ltb, length, slice_get, AllPairs, Contains, IsTrue, ◌+◌, ◌*◌, ◌/◌, ◌%◌, Bool, nat_eq, List, [], ◌∷◌, ◌++◌, slice_index_or, slice_set, bit_and, bit_or, Fits, w8, w32, w64, Bor, MutBor}
+use Rattle.std.specs.List.Sorted.{IsPartitionPoint}
+use Rattle.sgt_site.specs.State.{IsSite, IsReader, IsVersionWritten, version_at, writers_of}
+use Rattle.sgt_site.specs.declared.cell.Reader.{Reader as CommittedReader}
+use Rattle.sgt_site.specs.declared.cell.Writer.{Writer as CommittedWriter}
+use Rattle.sgt_edges.specs.Edges.{HasReader, HaveOwnHandles}
+use Rattle.sgt_edges.specs.Neighbours.{IsUnread, IsInFront, IsBehind, IsLastWrite, IsLastReader}
+use Rattle.sgt_edges.specs.private.Gathered.{AreWriters, IsRunLength, IsBeforeWrite, ChangesBefore, ReadsBefore, WritersApart, ReadersApart}
 use Rattle.sgt_edges.proofs.runs.in_front.Goals as goal
 
-pub returns-then-written-before-clause-neighbours : goal.returns-then-written-before-clause-neighbours
-returns-then-written-before-clause-neighbours c = λ s x are w.
-    let within = c.requires in
-    let long = length-take-le c.args.version c.args.writers.now (omega (arith, within)) in
-    let lower = c.if-written-before.true in
-    rw take_rest (front-slice s x c.args.writers.now are.0 c.args.version _ _ (omega (arith, within)) c.last_written-written.ensures (omega arith) (λ k from lt. absurd (omega (arith, from, lt))) (λ k lt. omega (arith, lt, lower, long)) w)
+-- src/runs.rt:118:9
+pub returns-then-not-ends_with_increment-clause-neighbours :
+    goal.returns-then-not-ends_with_increment-clause-neighbours
+returns-then-not-ends_with_increment-clause-neighbours c = ?
 
-pub returns-else-written-before-clause-neighbours : goal.returns-else-written-before-clause-neighbours
-returns-else-written-before-clause-neighbours c = λ s x are w.
-    let within = c.requires in
-    let long = length-take-le c.args.version c.args.writers.now (omega (arith, within)) in
-    let most = c.last_written-written.ensures.within in
-    let all = c.if-written-before.false in
-    let start = c.saturating_sub.ensures in
-    rw take_rest (front-slice s x c.args.writers.now are.0 c.args.version _ _ (omega (arith, within)) c.last_written-written.ensures (omega (arith, start)) (λ k from lt. omega (arith, from, lt, start, most, all, long)) (λ k lt. omega (arith, lt, start, most, all, long)) w)
+-- src/runs.rt:105:1
+pub returns-clause-neighbours : goal.returns-clause-neighbours
+returns-clause-neighbours c = ?
 
-pub returns-then-written-before-clause-apart : goal.returns-then-written-before-clause-apart
-returns-then-written-before-clause-apart c = λ apart. rw take_rest (writers-drop _ _ (writers-take _ c.args.version apart))
-
-pub returns-else-written-before-clause-apart : goal.returns-else-written-before-clause-apart
-returns-else-written-before-clause-apart c = λ apart. rw take_rest (writers-drop _ _ (writers-take _ c.args.version apart))
+-- src/runs.rt:105:1
+pub returns-clause-apart : goal.returns-clause-apart
+returns-clause-apart c = ?
