@@ -5,6 +5,7 @@ use Rattle.std.specs.Prelude.{slice_get, ◌↔◌, ltb}
 use Rattle.std.specs.List.Sorted.{IsPartitionPoint}
 use Rattle.std.proofs.lemmas.Bool.{cases_lt, cases_order, cases_Bool, ltb-true, ltb-false}
 use Rattle.std.proofs.lemmas.List.{length-take-le}
+use Rattle.std.proofs.Math.Seq.{take-length}
 use Rattle.std.proofs.lemmas.Option.{get_or_from_slice_get, same_Some, slice_get_within}
 use Rattle.sgt_names.specs.Name.{Name}
 use Rattle.sgt_names.specs.declared.entry.Change.TheVariants.{Put}
@@ -15,7 +16,7 @@ use Rattle.sgt_site.specs.declared.cell.Reader.{Reader}
 use Rattle.sgt_site.specs.declared.cell.Writer.{Writer}
 use Rattle.sgt_edges.specs.Edges.{IsWriter, HasReader}
 use Rattle.sgt_edges.specs.Neighbours.{AddsOnly, IsUnread, IsInFront, IsBehind, IsLastWrite, IsLastReader}
-use Rattle.sgt_edges.specs.private.Gathered.{IsRunLength, ReadsBefore}
+use Rattle.sgt_edges.specs.private.Gathered.{IsRunLength, IsBeforeWrite, ReadsBefore}
 use Rattle.sgt_edges.proofs.Neighbours.{reader_below}
 use Rattle.sgt_edges.proofs.Unlisted.{versions}
 
@@ -141,6 +142,21 @@ module _ (s : SiteState) (x : Name) (us : List Writer) (are : us ≡ writers_of 
           ]
         ],
       )
+
+  -- what a write has its edges from: those in front of it, where the present version is unread, or the last of them writes
+  module _ (many : length us ≡ version_at s.entries x) (ins : List Writer) (neighbours : (w : Writer) → Contains ins w ↔ ((k : ℕ) × IsInFront s x (length us) k w)) where
+    before-all : ((k : ℕ) (w : Writer) → IsInFront s x (length us) k w → (w.increment ≡ false) ⊎ IsUnread s x (version_at s.entries x) (suc (version_at s.entries x))) → (w : Writer) → Contains ins w ↔ ((k : ℕ) × IsBeforeWrite s x k w)
+    before-all which w = (
+      λ has. let near = (neighbours w).0 has in (near.0, (subst (λ n. IsInFront s x n near.0 w) many near.1, which near.0 w near.1)),
+      λ is. (neighbours w).1 (is.0, subst (λ n. IsInFront s x n is.0 w) (sym many) is.1.0),
+    )
+
+    pub before-unread : (((r : Reader) × HasReader s x r × (r.version ≡ length us)) → ⊥) → (w : Writer) → Contains ins w ↔ ((k : ℕ) × IsBeforeWrite s x k w)
+    before-unread none = before-all (λ k w near. inr (λ r is from below. none (r, is, omega (arith, many, from, below))))
+
+    pub before-written : (((u : Writer) × (slice_get us (length us - 1) ≡ Some u) × (u.increment ≡ true)) → ⊥) → (w : Writer) → Contains ins w ↔ ((k : ℕ) × IsBeforeWrite s x k w)
+    before-written writes = before-all (λ k w near. inl (front-writes (length us) (omega arith) k w near (λ adds.
+        writes (subst (λ (vs : List Writer). (u : Writer) × (slice_get vs (length vs - 1) ≡ Some u) × (u.increment ≡ true)) (take-length us) adds))))
 
   -- of the writers from version n on, up to the next version that was read: those up to the first write, and it
   module _ (n u r stop : ℕ) (more : n < u) (most : u ≤ length us) (read : (u ≡ length us) ⊎ ((q : Reader) × HasReader s x q × (q.version ≡ u))) (unread : IsUnread s x (suc n) u) (run : IsRunLength (take (u - n) (drop n us)) r)

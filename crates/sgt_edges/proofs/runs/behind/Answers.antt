@@ -1,21 +1,22 @@
-use Rattle.std.proofs.Common.{rules, ◌≡◌, ◌↔◌, ◌≤◌, ◌<◌, ◌-◌, ◌⊎◌, ℕ, suc, true, false, Some, ltb, length, slice_get, AllPairs, Contains, IsTrue, ◌+◌, ◌*◌, ◌/◌, ◌%◌, Bool, nat_eq, List, [], ◌∷◌, ◌++◌, slice_index_or, slice_set, bit_and, bit_or, Fits, w8, w32, w64, Bor, MutBor}
-use Rattle.std.specs.List.Sorted.{IsPartitionPoint}
-use Rattle.sgt_site.specs.State.{IsSite, IsReader, IsVersionWritten, version_at, writers_of}
-use Rattle.sgt_site.specs.declared.cell.Reader.{Reader as CommittedReader}
-use Rattle.sgt_site.specs.declared.cell.Writer.{Writer as CommittedWriter}
-use Rattle.sgt_edges.specs.Edges.{HasReader, HaveOwnHandles}
-use Rattle.sgt_edges.specs.Neighbours.{IsUnread, IsInFront, IsBehind, IsLastWrite, IsLastReader}
-use Rattle.sgt_edges.specs.private.Gathered.{AreWriters, IsRunLength, IsBeforeWrite, ChangesBefore, ReadsBefore, WritersApart, ReadersApart}
+use Rattle.std.proofs.Common.{arith, length, take, drop, sym, ◌+◌, ◌-◌}
+use Rattle.std.proofs.Math.Seq.{take-length}
+use Rattle.sgt_edges.proofs.Once.{writers-take, writers-drop}
+use Rattle.sgt_edges.proofs.Slices.{behind-slice}
 use Rattle.sgt_edges.proofs.runs.behind.Goals as goal
 
--- src/runs.rt:145:1
 pub returns-then-run-after-clause-neighbours : goal.returns-then-run-after-clause-neighbours
-returns-then-run-after-clause-neighbours c = ?
+returns-then-run-after-clause-neighbours c = λ w.
+    let above = c.read_above-upto.ensures in
+    behind-slice c.args.site.now c.args.item c.args.writers.now c.requires.writers.0 c.args.version c.read_above-upto.result c.run_length-run.result (c.run_length-run.result + 1)
+        above.above above.upto above.read above.unread c.run_length-run.ensures (λ k le lt. omega (arith, le)) (λ k lt. omega (arith, lt)) w
 
--- src/runs.rt:145:1
 pub returns-then-run-after-clause-apart : goal.returns-then-run-after-clause-apart
-returns-then-run-after-clause-apart c = ?
+returns-then-run-after-clause-apart c = λ apart. writers-take _ _ (writers-take _ _ (writers-drop _ c.args.version apart))
 
--- src/runs.rt:145:1
 pub returns-else-run-after-clause-neighbours : goal.returns-else-run-after-clause-neighbours
-returns-else-run-after-clause-neighbours c = ?
+returns-else-run-after-clause-neighbours c = λ w.
+    let above = c.read_above-upto.ensures in
+    let all = c.if-run-after.false in
+    let after = take (c.read_above-upto.result - c.args.version) (drop c.args.version c.args.writers.now) in
+    rw (sym (take-length after)) (behind-slice c.args.site.now c.args.item c.args.writers.now c.requires.writers.0 c.args.version c.read_above-upto.result c.run_length-run.result (length after)
+            above.above above.upto above.read above.unread c.run_length-run.ensures (λ k le lt. lt) (λ k lt. omega (arith, lt, all)) w)

@@ -1,22 +1,22 @@
-use Rattle.std.proofs.Common.{rules, ◌≡◌, ◌↔◌, ◌≤◌, ◌<◌, ◌-◌, ◌⊎◌, ℕ, suc, true, false, Some, ltb, length, slice_get, AllPairs, Contains, IsTrue, ◌+◌, ◌*◌, ◌/◌, ◌%◌, Bool, nat_eq, List, [], ◌∷◌, ◌++◌, slice_index_or, slice_set, bit_and, bit_or, Fits, w8, w32, w64, Bor, MutBor}
-use Rattle.std.specs.List.Sorted.{IsPartitionPoint}
-use Rattle.sgt_site.specs.State.{IsSite, IsReader, IsVersionWritten, version_at, writers_of}
-use Rattle.sgt_site.specs.declared.cell.Reader.{Reader as CommittedReader}
-use Rattle.sgt_site.specs.declared.cell.Writer.{Writer as CommittedWriter}
-use Rattle.sgt_edges.specs.Edges.{HasReader, HaveOwnHandles}
-use Rattle.sgt_edges.specs.Neighbours.{IsUnread, IsInFront, IsBehind, IsLastWrite, IsLastReader}
-use Rattle.sgt_edges.specs.private.Gathered.{AreWriters, IsRunLength, IsBeforeWrite, ChangesBefore, ReadsBefore, WritersApart, ReadersApart}
+use mathlib.Core.Bool.{false≢true}
+use Rattle.std.proofs.Common.{refl, take, drop}
+use Rattle.std.proofs.lemmas.List.{take_rest}
+use Rattle.sgt_edges.proofs.Once.{writers-take, writers-drop}
+use Rattle.sgt_edges.proofs.Slices.{front-last, front-run}
 use Rattle.sgt_edges.proofs.runs.in_front.Goals as goal
 
--- src/runs.rt:118:9
 pub returns-then-not-ends_with_increment-clause-neighbours :
     goal.returns-then-not-ends_with_increment-clause-neighbours
-returns-then-not-ends_with_increment-clause-neighbours c = ?
+returns-then-not-ends_with_increment-clause-neighbours c = λ w.
+    rw (take_rest, c.saturating_sub.ensures) (front-last c.args.site.now c.args.item c.args.writers.now c.requires.writers.0 c.args.version c.requires.known (λ adds. false≢true (c.if-not-ends_with_increment.ensures.1 adds)) w)
 
--- src/runs.rt:105:1
 pub returns-clause-neighbours : goal.returns-clause-neighbours
-returns-clause-neighbours c = ?
+returns-clause-neighbours c = λ w.
+    let last = rw take_rest at c.last_written.ensures in
+    rw (take_rest, take_rest) (front-run c.args.site.now c.args.item c.args.writers.now c.requires.writers.0 c.args.version c.requires.known c.read_below.result c.last_written.result
+            (c.if-not-ends_with_increment.ensures.0 refl) c.read_below.ensures.below c.read_below.ensures.read c.read_below.ensures.unread last w)
 
--- src/runs.rt:105:1
 pub returns-clause-apart : goal.returns-clause-apart
-returns-clause-apart c = ?
+returns-clause-apart c = λ apart.
+    let before = take c.args.version c.args.writers.now in
+    rw (take_rest, take_rest) (writers-drop (drop c.read_below.result before) c.last_written.result (writers-drop before c.read_below.result (writers-take c.args.writers.now c.args.version apart)))
