@@ -215,11 +215,11 @@ module _ (s : SiteState) (x : Name) (site : IsSite s) where
           | inr new ↦ elim (cases_lt (version_at (take p s.entries) x) m) [
             | inr late ↦ inl (λ r is here from below. let v = version_is r is here in omega (arith, late, below, v))
             | inl early ↦ inr (
-                record { tx = read.0; handle = owner.0; version = version_at (take p s.entries) x },
-                (owner.1, (read.1, record { place = p; at = some.1 ∙ ap Some read.2; version = refl })),
-                new,
-                early,
-              )
+              record { tx = read.0; handle = owner.0; version = version_at (take p s.entries) x },
+              (owner.1, (read.1, record { place = p; at = some.1 ∙ ap Some read.2; version = refl })),
+              new,
+              early,
+            )
           ]
         ]
       ]

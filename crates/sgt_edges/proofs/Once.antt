@@ -14,10 +14,10 @@ use Rattle.sgt_names.specs.declared.entry.Kind.{Kind}
 use Rattle.sgt_names.specs.declared.entry.Kind.TheVariants.{Wr, Rw, Ww}
 use Rattle.sgt_names.proofs.Increments.{change-writes}
 use Rattle.sgt_names.proofs.Lists.{Any_at, front_at, middle_at, within_at}
-use Rattle.sgt_names.proofs.Places.{AllPairs_at, AllPairs-from_at, Contains_at, Contains-from_at, slice_get-take}
+use Rattle.sgt_names.proofs.Places.{AllPairs_at, AllPairs-from_at, Contains-from_at, slice_get-take}
 use Rattle.sgt_names.proofs.Touched.{place_total}
 use Rattle.sgt_arena.specs.declared.handle.Handle.{Handle}
-use Rattle.sgt_site.specs.State.{SiteState, IsSite, IsReader, handle_of, version_at, writers_of}
+use Rattle.sgt_site.specs.State.{SiteState, IsSite, IsReader, version_at, writers_of}
 use Rattle.sgt_site.specs.declared.cell.Reader.{Reader}
 use Rattle.sgt_site.specs.declared.cell.Writer.{Writer}
 use Rattle.sgt_site.proofs.Projections.{writer_at}

@@ -71,8 +71,7 @@ module _ (s : SiteState) (x : Name) (us : List Writer) (are : us ≡ writers_of 
           let at = Contains_at (drop (length (take n us) - 1) (take n us)) w has in
           let there = slice_get-take us n (length (take n us) - 1 + at.0) w (sym (slice_get-drop (take n us) (length (take n us) - 1) at.0) ∙ at.1) in
           let long = length-take-le n us within in
-          let lt = there.0 in
-          (
+          let lt = there.0 in (
             length (take n us) - 1 + at.0,
             record {
               writer = writer-of (length (take n us) - 1 + at.0) w there.1;
@@ -121,8 +120,7 @@ module _ (s : SiteState) (x : Name) (us : List Writer) (are : us ≡ writers_of 
         λ has.
             let at = Contains_at (drop m (drop from (take n us))) w has in
             let here : slice_get (drop from (take n us)) (m + at.0) ≡ Some w = sym (slice_get-drop (drop from (take n us)) m at.0) ∙ at.1 in
-            let there = slice_get-take us n (from + (m + at.0)) w (sym (slice_get-drop (take n us) from (m + at.0)) ∙ here) in
-            (
+            let there = slice_get-take us n (from + (m + at.0)) w (sym (slice_get-drop (take n us) from (m + at.0)) ∙ here) in (
               from + (m + at.0),
               record {
                 writer = writer-of (from + (m + at.0)) w there.1;
@@ -192,8 +190,7 @@ module _ (s : SiteState) (x : Name) (us : List Writer) (are : us ≡ writers_of 
           let at = Contains_at (take stop (take (u - n) (drop n us))) w has in
           let there = slice_get-take (take (u - n) (drop n us)) stop at.0 w at.1 in
           let here = at_behind at.0 w there.1 in
-          let lt = here.0 in
-          (
+          let lt = here.0 in (
             n + at.0,
             record {
               writer = here.1;

@@ -19,8 +19,8 @@ use std::alloc::{AllocError, Global};
 /// node: never to itself, and to neighbours alone, over which walks lead to the others. Their order is not fixed. The source of
 /// the rule: Bernstein, Hadzilacos and Goodman 1987, ch. 2 and 4.4.
 ///
-/// Searches the site's items for each item of the draft, and then goes over the writers and readers that it gives edges of and
-/// at most one more in each direction.
+/// Searches the site's items for each item of the draft, and the item's readers for its versions, and then goes over the writers and
+/// readers that it gives edges of and at most one more in each direction.
 pub fn gather(alloc: Global, site: &Site, draft: &Draft, me: Handle) -> Result<EdgeList, EdgeFault>
     ensures given { IfOk result (λ edges. All (IsGiven site.now draft.now.touched me) edges) }
     ensures stands { IfOk result (StandsForAll site.now draft.now.touched me) }

@@ -14,7 +14,7 @@ pub returns-clause-neighbours : goal.returns-clause-neighbours
 returns-clause-neighbours c = λ w.
     let last = rw take_rest at c.last_written.ensures in
     rw (take_rest, take_rest) (front-run c.args.site.now c.args.item c.args.writers.now c.requires.writers.0 c.args.version c.requires.known c.read_below.result c.last_written.result
-            (c.if-not-ends_with_increment.ensures.0 refl) c.read_below.ensures.below c.read_below.ensures.read c.read_below.ensures.unread last w)
+    (c.if-not-ends_with_increment.ensures.0 refl) c.read_below.ensures.below c.read_below.ensures.read c.read_below.ensures.unread last w)
 
 pub returns-clause-apart : goal.returns-clause-apart
 returns-clause-apart c = λ apart.
