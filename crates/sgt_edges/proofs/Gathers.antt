@@ -160,18 +160,18 @@ module _ (s : SiteState) (me : Handle) where
   neighbour-whole : (ts : List Touch) (t : Touch) (x : Name) (f h : Handle) (k : Kind) → Contains ts t → IsNeighbour s (t ∷ []) me x f h k → IsNeighbour s ts me x f h k
   neighbour-whole ts t x f h k has (in_front n m w saw near) = in_front n m w (saw-whole s ts t x n has saw) near
   neighbour-whole ts t x f h k has (behind n m w saw near) = behind n m w (saw-whole s ts t x n has saw) near
-  neighbour-whole ts t x f h k has (put_last v m w asks near) = put_last v m w (changes-whole s ts t x (Put v) has asks) near
+  neighbour-whole ts t x f h k has (put_last v m w asks near which) = put_last v m w (changes-whole s ts t x (Put v) has asks) near which
   neighbour-whole ts t x f h k has (add_last v m w asks near) = add_last v m w (changes-whole s ts t x (Add v) has asks) near
   neighbour-whole ts t x f h k has (put_read v r asks is near) = put_read v r (changes-whole s ts t x (Put v) has asks) is near
-  neighbour-whole ts t x f h k has (add_read v r asks is near) = add_read v r (changes-whole s ts t x (Add v) has asks) is near
+  neighbour-whole ts t x f h k has (add_read v r asks near) = add_read v r (changes-whole s ts t x (Add v) has asks) near
 
   neighbour-part : (ts : List Touch) (x : Name) (f h : Handle) (k : Kind) → IsNeighbour s ts me x f h k → (t : Touch) × Contains ts t × IsNeighbour s (t ∷ []) me x f h k
   neighbour-part ts x f h k (in_front n m w saw near) = let t = saw-part s ts x n saw in (t.0, t.1, in_front n m w t.2 near)
   neighbour-part ts x f h k (behind n m w saw near) = let t = saw-part s ts x n saw in (t.0, t.1, behind n m w t.2 near)
-  neighbour-part ts x f h k (put_last v m w asks near) = let t = changes-part s ts x (Put v) asks in (t.0, t.1, put_last v m w t.2 near)
+  neighbour-part ts x f h k (put_last v m w asks near which) = let t = changes-part s ts x (Put v) asks in (t.0, t.1, put_last v m w t.2 near which)
   neighbour-part ts x f h k (add_last v m w asks near) = let t = changes-part s ts x (Add v) asks in (t.0, t.1, add_last v m w t.2 near)
   neighbour-part ts x f h k (put_read v r asks is near) = let t = changes-part s ts x (Put v) asks in (t.0, t.1, put_read v r t.2 is near)
-  neighbour-part ts x f h k (add_read v r asks is near) = let t = changes-part s ts x (Add v) asks in (t.0, t.1, add_read v r t.2 is near)
+  neighbour-part ts x f h k (add_read v r asks near) = let t = changes-part s ts x (Add v) asks in (t.0, t.1, add_read v r t.2 near)
 
   pub near-parts : (ts : List Touch) (e : Edge) → Any (λ t. IsNear s (t ∷ []) me e) ts ↔ IsNear s ts me e
   near-parts ts e = (
@@ -200,10 +200,10 @@ module _ (s : SiteState) (t : Touch) (me : Handle) (here : t.site ≡ s.number) 
   change-near e is = by_change is.change (one-changes s t is.change here is.asks) is.which
     where
       by_change : (c : Change) → IsToChange s (t ∷ []) t.item c → ((w : Writer) × ChangesBefore s t.item c w × FromWriter t Ww me w e) ⊎ ((r : Reader) × ReadsBefore s t.item c r × FromReader t me r e) → IsNear s (t ∷ []) me e
-      by_change (Put v) asks (inl w) = between-near Ww w.0.handle me e w.2 (put_last v w.1.0 w.0 asks w.1.1)
+      by_change (Put v) asks (inl w) = between-near Ww w.0.handle me e w.2 (put_last v w.1.0 w.0 asks w.1.1.0 w.1.1.1)
       by_change (Put v) asks (inr r) = between-near Rw r.0.handle me e r.2 (put_read v r.0 asks r.1.0 r.1.1)
       by_change (Add v) asks (inl w) = between-near Ww w.0.handle me e w.2 (add_last v w.1.0 w.0 asks w.1.1)
-      by_change (Add v) asks (inr r) = between-near Rw r.0.handle me e r.2 (add_read v r.0 asks r.1.0 r.1.1)
+      by_change (Add v) asks (inr r) = between-near Rw r.0.handle me e r.2 (add_read v r.0 asks r.1)
 
   near-one : (e : Edge) → IsNear s (t ∷ []) me e → IsOfRead s t me e ⊎ IsOfChange s t me e
   near-one e (site, apart, near) = by_case e.label.item e.from e.to e.label.kind refl refl refl refl apart near
@@ -226,12 +226,12 @@ module _ (s : SiteState) (t : Touch) (me : Handle) (here : t.site ≡ s.number) 
             keeps = one.2.1;
             which = inr (w, (m, subst (λ y. IsBehind s y n m w) (sym one.1) near), (far, edge_is x me w.handle Rw px pf ph pk one.1));
           }
-      by_case x f h k px pf ph pk far (put_last v m w asks near) =
+      by_case x f h k px pf ph pk far (put_last v m w asks near which) =
           let one = changes-one s t x (Put v) asks in
           inr record {
             change = Put v;
             asks = one.2;
-            which = inl (w, subst (λ y. ChangesBefore s y (Put v) w) (sym one.1) (m, near), (far, edge_is x w.handle me Ww px pf ph pk one.1));
+            which = inl (w, subst (λ y. ChangesBefore s y (Put v) w) (sym one.1) (m, (near, which)), (far, edge_is x w.handle me Ww px pf ph pk one.1));
           }
       by_case x f h k px pf ph pk far (add_last v m w asks near) =
           let one = changes-one s t x (Add v) asks in
@@ -247,12 +247,12 @@ module _ (s : SiteState) (t : Touch) (me : Handle) (here : t.site ≡ s.number) 
             asks = one.2;
             which = inr (r, subst (λ y. ReadsBefore s y (Put v) r) (sym one.1) (is, near), (far, edge_is x r.handle me Rw px pf ph pk one.1));
           }
-      by_case x f h k px pf ph pk far (add_read v r asks is near) =
+      by_case x f h k px pf ph pk far (add_read v r asks near) =
           let one = changes-one s t x (Add v) asks in
           inr record {
             change = Add v;
             asks = one.2;
-            which = inr (r, subst (λ y. ReadsBefore s y (Add v) r) (sym one.1) (is, near), (far, edge_is x r.handle me Rw px pf ph pk one.1));
+            which = inr (r, subst (λ y. ReadsBefore s y (Add v) r) (sym one.1) near, (far, edge_is x r.handle me Rw px pf ph pk one.1));
           }
 
   -- the read's and the change's are all

@@ -1,18 +1,21 @@
 -- Neighbours carry every conflict: over the writers between, each edge of the rule is a walk.
-use Rattle.std.proofs.Common.{◌≡◌, ◌≢◌, ℕ, zero, suc, true, false, ◌+◌, ◌<◌, ◌≤◌, ◌⊎◌, List, length, take, refl, sym, ap, ◌∙◌, subst, arith, inl, inr}
+use Rattle.std.proofs.Common.{◌≡◌, ◌≢◌, ℕ, zero, suc, true, false, Some, ◌+◌, ◌-◌, ◌<◌, ◌≤◌, ◌⊎◌, List, length, take, refl, sym, ap, ◌∙◌, subst, arith, inl, inr}
 use Rattle.std.specs.Prelude.{slice_get, ◌==◌}
 use Rattle.std.proofs.lemmas.Bool.{cases_lt, cases_order, cases_Bool, eqb-true, eqb-false}
 use Rattle.std.proofs.Math.Seq.{take-length}
 use Rattle.std.proofs.lemmas.Option.{same_Some, slice_get_within}
+use Rattle.std.proofs.lemmas.Slice.Eq.{bytes_eq-Decides}
+use Rattle.std.specs.Str.{bytes_eq}
 use Rattle.sgt_names.specs.Name.{Name}
-use Rattle.sgt_names.specs.Entry.{change_of, is_increment, Repeats}
+use Rattle.sgt_names.specs.Entry.{tx_of, change_of, is_increment, Reads, Repeats}
 use Rattle.sgt_names.specs.declared.draft.Touch.{Touch}
 use Rattle.sgt_names.specs.declared.entry.Change.TheVariants.{Put, Add}
-use Rattle.sgt_names.specs.declared.entry.Entry.TheVariants.{Read}
+use Rattle.sgt_names.specs.declared.entry.Entry.{Entry}
+use Rattle.sgt_names.specs.declared.entry.Entry.TheVariants.{Read, Write, Add as AddEntry, Want, WantAdd, Commit, Refuse, Withdraw}
 use Rattle.sgt_names.specs.declared.entry.Kind.{Kind}
 use Rattle.sgt_names.specs.declared.entry.Kind.TheVariants.{Wr, Rw, Ww}
 use Rattle.sgt_names.proofs.Increments.{change-writes}
-use Rattle.sgt_names.proofs.Lists.{within_at, Any-from_at}
+use Rattle.sgt_names.proofs.Lists.{option_cases, within_at, Any-from_at}
 use Rattle.sgt_names.proofs.Places.{AllPairs_at, Contains_at}
 use Rattle.sgt_arena.specs.declared.handle.Handle.{Handle}
 use Rattle.sgt_site.specs.State.{SiteState, IsSite, version_at, handle_of, writers_of}
@@ -21,7 +24,7 @@ use Rattle.sgt_site.specs.declared.cell.Writer.{Writer}
 use Rattle.sgt_site.proofs.Appends.{count-rises, count-next}
 use Rattle.sgt_site.proofs.Projections.{writer_at, length-writers, all_given}
 use Rattle.sgt_edges.specs.Edges.{IsWriter, HasReader, SawAt, IsToChange, Precedes, wrote_before, wrote_after, wrote_too, read_it, IsEdge, IsOldEdge, Walks, given, old, on, StandsForAll, SeesTooNew}
-use Rattle.sgt_edges.specs.Neighbours.{AddsOnly, IsInFront, IsBehind, IsLastWrite, IsNeighbour, in_front, behind, put_last, add_last, put_read, add_read, HaveNeighbours}
+use Rattle.sgt_edges.specs.Neighbours.{AddsOnly, IsUnread, IsInFront, IsBehind, IsLastWrite, IsNeighbour, in_front, behind, put_last, add_last, put_read, add_read, HaveNeighbours}
 use Rattle.sgt_edges.proofs.Logged.{read-changes_nothing}
 use Rattle.sgt_edges.specs.declared.edge.Edge.{Edge}
 
@@ -34,6 +37,20 @@ handle_or a b = elim (cases_Bool (a.index == b.index)) [
   ]
   | inr miss ↦ inr (λ e. eqb-false a.index b.index miss (ap (λ (h : Handle). h.index) e))
 ]
+
+-- an entry reads the item, or doesn't
+reads_or : (x : Name) (e : Entry) → (Reads x e → ⊥) ⊎ ((tx v : ℕ) × (e ≡ Read tx x v))
+reads_or x (Read tx y v) = elim (cases_Bool (bytes_eq y x)) [
+  | inl hit ↦ inr (tx, v, ap (λ (z : Name). Read tx z v) ((bytes_eq-Decides y x).0 hit))
+  | inr miss ↦ inl (λ same. absurd (let e = sym miss ∙ (bytes_eq-Decides y x).1 same in cc))
+]
+reads_or x (Write tx y v) = inl (λ reads. reads)
+reads_or x (AddEntry tx y v) = inl (λ reads. reads)
+reads_or x (Want tx y v) = inl (λ reads. reads)
+reads_or x (WantAdd tx y v) = inl (λ reads. reads)
+reads_or x (Commit tx) = inl (λ reads. reads)
+reads_or x (Refuse tx) = inl (λ reads. reads)
+reads_or x (Withdraw tx) = inl (λ reads. reads)
 
 module _ (s : SiteState) (x : Name) (site : IsSite s) where
   abbrev last : ℕ
@@ -137,6 +154,36 @@ module _ (s : SiteState) (x : Name) (site : IsSite s) where
         };
       }
 
+  -- a change has an edge to each later reader of another transaction
+  old_reader : (k : ℕ) (w : Writer) (r : Reader) → IsWriter s x k w → HasReader s x r → k < r.version → w.tx ≢ r.tx → IsOldEdge s x w.handle r.handle
+  old_reader k w r is reads lt other =
+      let l = reads.1.1 in
+      let b = writer_at s site x k w is in
+      let order : b.place < l.place = elim (cases_lt b.place l.place) [
+        | inl less ↦ less
+        | inr le ↦ let more = count-rises (change_of x) s.entries l.place b.place le in absurd (omega (arith, more, b.number, l.version, lt))
+      ] in
+      record {
+        first = w.tx;
+        second = r.tx;
+        from_first = b.is.given;
+        to_second = reads.0;
+        kind = Wr;
+        conflict = record {
+          p = b.place;
+          q = l.place;
+          e = b.entry;
+          f = Read r.tx x reads.1.0;
+          before = order;
+          first = b.at;
+          second = l.at;
+          from = b.is.tx;
+          to = refl;
+          apart = other;
+          clash = (change-writes x b.entry b.is.change b.is.changes, refl);
+        };
+      }
+
   -- a reader that changed the item itself has one handle
   same_handle : (r : Reader) (m : ℕ) (u : Writer) → HasReader s x r → IsWriter s x m u → r.tx ≡ u.tx → r.handle ≡ u.handle
   same_handle r m u reads is same = same_Some r.handle u.handle (sym reads.0 ∙ ap (handle_of s.installed) same ∙ (writer_at s site x m u is).is.given)
@@ -148,6 +195,61 @@ module _ (s : SiteState) (x : Name) (site : IsSite s) where
       let more = count-rises (change_of x) s.entries l.place (length s.entries) (omega (arith, lt)) in
       let whole : version_at (take (length s.entries) s.entries) x ≡ last = ap (λ es. version_at es x) (take-length s.entries) in
       omega (arith, more, whole, l.version)
+
+  -- a committed reader of a version from n on and below m
+  abbrev IsRead : ℕ → ℕ → Type 0
+  IsRead n m = (r : Reader) × HasReader s x r × (n ≤ r.version) × (r.version < m)
+
+  -- there is one whose read has this place in the log, or one whose read has an earlier place, or one at all, or there is none
+  read_at : (n m p : ℕ) → ((r : Reader) (is : HasReader s x r) → is.1.1.place ≡ p → n ≤ r.version → r.version < m → ⊥) ⊎ IsRead n m
+  read_at n m p = elim (option_cases (slice_get s.entries p)) [
+    | inl none ↦ inl (λ r is here from below. absurd (let e = sym none ∙ ap (slice_get s.entries) (sym here) ∙ is.1.1.at in cc))
+    | inr some ↦ elim (reads_or x some.0) [
+      | inl other ↦ inl (λ r is here from below. other (subst (Reads x) (sym (read_is some.0 some.1 r is here)) refl))
+      | inr read ↦ elim (option_cases (handle_of s.installed read.0)) [
+        | inl none ↦ inl (λ r is here from below.
+            let same : read.0 ≡ r.tx = ap tx_of (sym read.2 ∙ read_is some.0 some.1 r is here) in
+            absurd (let e = sym none ∙ ap (handle_of s.installed) same ∙ is.0 in cc))
+        | inr owner ↦ elim (cases_lt (version_at (take p s.entries) x) n) [
+          | inl older ↦ inl (λ r is here from below. let v = version_is r is here in omega (arith, older, from, v))
+          | inr new ↦ elim (cases_lt (version_at (take p s.entries) x) m) [
+            | inr late ↦ inl (λ r is here from below. let v = version_is r is here in omega (arith, late, below, v))
+            | inl early ↦ inr (
+              record { tx = read.0; handle = owner.0; version = version_at (take p s.entries) x },
+              (owner.1, (read.1, record { place = p; at = some.1 ∙ ap Some read.2; version = refl })),
+              new,
+              early,
+            )
+          ]
+        ]
+      ]
+    ]
+  ]
+    where
+      read_is : (e : Entry) → slice_get s.entries p ≡ Some e → (r : Reader) (is : HasReader s x r) → is.1.1.place ≡ p → e ≡ Read r.tx x is.1.0
+      read_is e at r is here = same_Some e (Read r.tx x is.1.0) (sym at ∙ ap (slice_get s.entries) (sym here) ∙ is.1.1.at)
+
+      version_is : (r : Reader) (is : HasReader s x r) → is.1.1.place ≡ p → version_at (take p s.entries) x ≡ r.version
+      version_is r is here = ap (λ q. version_at (take q s.entries) x) (sym here) ∙ is.1.1.version
+
+  read_within : (n m p : ℕ) → ((r : Reader) (is : HasReader s x r) → is.1.1.place < p → n ≤ r.version → r.version < m → ⊥) ⊎ IsRead n m
+  read_within n m zero = inl (λ r is lt from below. omega (arith, lt))
+  read_within n m (suc p) = elim (read_within n m p) [
+    | inr found ↦ inr found
+    | inl none ↦ elim (read_at n m p) [
+      | inr found ↦ inr found
+      | inl not_here ↦ inl (λ r is lt from below. elim (cases_lt is.1.1.place p) [
+        | inl early ↦ none r is early from below
+        | inr late ↦ not_here r is (omega (arith, lt, late)) from below
+      ])
+    ]
+  ]
+
+  read_or_not : (n m : ℕ) → IsUnread s x n m ⊎ IsRead n m
+  read_or_not n m = elim (read_within n m (length s.entries)) [
+    | inr found ↦ inr found
+    | inl none ↦ inl (λ r is from below. none r is (slice_get_within s.entries is.1.1.place (Read r.tx x is.1.0) is.1.1.at) from below)
+  ]
 
   module _ (touched : List Touch) (me : Handle) (edges : List Edge) (have : HaveNeighbours s touched me edges) where
     -- one is me, or a walk leads from it to me; and the same from me
@@ -177,6 +279,33 @@ module _ (s : SiteState) (x : Name) (site : IsSite s) where
       | inr far ↦ inr (given (record { from = me; to = h; label = record { site = s.number; item = x; kind = kind } }) (have x me h kind far near) refl)
     ]
 
+    -- a reader leads over a later change
+    reader_over : (r : Reader) (m : ℕ) (u : Writer) → HasReader s x r → IsWriter s x m u → r.version ≤ m → ToMe u.handle → ToMe r.handle
+    reader_over r m u reads is le leads = elim (cases_Bool (r.tx == u.tx)) [
+      | inl hit ↦ subst ToMe (sym (same_handle r m u reads is (eqb-true r.tx u.tx hit))) leads
+      | inr miss ↦ over_old r.handle u.handle (reader_old r m u reads is le (eqb-false r.tx u.tx miss)) leads
+    ]
+
+    -- a change leads over a later reader
+    writer_over : (k : ℕ) (w : Writer) (r : Reader) → IsWriter s x k w → HasReader s x r → k < r.version → ToMe r.handle → ToMe w.handle
+    writer_over k w r is reads lt leads = elim (cases_Bool (w.tx == r.tx)) [
+      | inl hit ↦ subst ToMe (same_handle r k w reads is (sym (eqb-true w.tx r.tx hit))) leads
+      | inr miss ↦ over_old w.handle r.handle (old_reader k w r is reads lt (eqb-false w.tx r.tx miss)) leads
+    ]
+
+    -- and where one is led to, so is the other behind it
+    reader_from : (k : ℕ) (w : Writer) (r : Reader) → IsWriter s x k w → HasReader s x r → k < r.version → FromMe w.handle → FromMe r.handle
+    reader_from k w r is reads lt leads = elim (cases_Bool (w.tx == r.tx)) [
+      | inl hit ↦ subst FromMe (sym (same_handle r k w reads is (sym (eqb-true w.tx r.tx hit)))) leads
+      | inr miss ↦ old_over w.handle r.handle leads (old_reader k w r is reads lt (eqb-false w.tx r.tx miss))
+    ]
+
+    writer_from : (r : Reader) (m : ℕ) (u : Writer) → HasReader s x r → IsWriter s x m u → r.version ≤ m → FromMe r.handle → FromMe u.handle
+    writer_from r m u reads is le leads = elim (cases_Bool (r.tx == u.tx)) [
+      | inl hit ↦ subst FromMe (same_handle r m u reads is (eqb-true r.tx u.tx hit)) leads
+      | inr miss ↦ old_over r.handle u.handle leads (reader_old r m u reads is le (eqb-false r.tx u.tx miss))
+    ]
+
     -- each writer in front of a version leads over those directly in front of it
     front : (fuel n k : ℕ) (w : Writer) → n ≤ last → n ≤ k + fuel → k < n → IsWriter s x k w → ((j : ℕ) (u : Writer) → IsInFront s x n j u → ToMe u.handle) → ToMe w.handle
     front zero n k w le far lt is near = absurd (omega (arith, far, lt))
@@ -185,18 +314,26 @@ module _ (s : SiteState) (x : Name) (site : IsSite s) where
           let more = found.2 in
           over_old w.handle found.1.handle (writers_old k found.0 w found.1 (omega (arith, more)) is found.4 (inr found.5)) (front fuel n found.0 found.1 le (omega (arith, far, more)) found.3 found.4 near)
       | inl run ↦ elim (cases_Bool w.increment) [
-        | inl adds ↦ near k w record { writer = is; before = lt; run = run; which = inl adds }
+        | inl adds ↦ elim (read_or_not (suc k) n) [
+          | inl unread ↦ near k w record { writer = is; before = lt; run = run; which = inl adds; unread = unread }
+          | inr read ↦
+              let later = read.2 in
+              let below = read.3 in
+              let u = writer_there read.0.version (omega (arith, below, le)) in
+              let leads = front fuel n read.0.version u.0 le (omega (arith, far, later)) below u.1 near in
+              writer_over k w read.0 is read.1 (omega (arith, later)) (reader_over read.0 read.0.version u.0 read.1 u.1 (omega arith) leads)
+        ]
         | inr write ↦ elim (cases_lt (suc k) n) [
-          | inr end ↦ near k w record { writer = is; before = lt; run = run; which = inr (let e : suc k ≡ n = omega (arith, lt, end) in e) }
+          | inr end ↦ near k w record {
+            writer = is;
+            before = lt;
+            run = run;
+            which = inr (let e : suc k ≡ n = omega (arith, lt, end) in e);
+            unread = λ r reads from below. omega (arith, end, from, below);
+          }
           | inl less ↦
               let u = writer_there (suc k) (omega (arith, less, le)) in
-              let first : suc k ≤ suc k = omega arith in
-              over_old w.handle u.0.handle (writers_old k (suc k) w u.0 (omega arith) is u.1 (inl write)) (near (suc k) u.0 record {
-                writer = u.1;
-                before = less;
-                run = λ j v from below at. run j v (omega (arith, from)) below at;
-                which = inl (run (suc k) u.0 first less u.1);
-              })
+              over_old w.handle u.0.handle (writers_old k (suc k) w u.0 (omega arith) is u.1 (inl write)) (front fuel n (suc k) u.0 le (omega (arith, far)) less u.1 near)
         ]
       ]
     ]
@@ -213,23 +350,44 @@ module _ (s : SiteState) (x : Name) (site : IsSite s) where
 
     -- and each writer from a version on is led to over those up to the next write
     after : (fuel n k : ℕ) (w : Writer) → k ≤ fuel → n ≤ k → IsWriter s x k w → ((j : ℕ) (u : Writer) → IsBehind s x n j u → FromMe u.handle) → FromMe w.handle
-    after zero n k w far le is near = near k w record { writer = is; after = le; run = λ j u from below at. absurd (omega (arith, far, below)) }
+    after zero n k w far le is near = near k w record {
+      writer = is;
+      after = le;
+      run = λ j u from below at. absurd (omega (arith, far, below));
+      unread = λ r reads from below. omega (arith, far, from, below);
+    }
     after (suc fuel) n k w far le is near = elim (run_or_write n k (let lt = writer_below k w is in omega (arith, lt))) [
-      | inl run ↦ near k w record { writer = is; after = le; run = run }
+      | inl run ↦ elim (read_or_not (suc n) (suc k)) [
+        | inl unread ↦ near k w record { writer = is; after = le; run = run; unread = unread }
+        | inr read ↦
+            let later = read.2 in
+            let below = read.3 in
+            let most = writer_below k w is in
+            let u = writer_there (read.0.version - 1) (omega (arith, later, below, most)) in
+            let leads = after fuel n (read.0.version - 1) u.0 (omega (arith, far, below)) (omega (arith, later)) u.1 near in
+            writer_from read.0 k w read.1 is (omega (arith, below)) (reader_from (read.0.version - 1) u.0 read.0 u.1 read.1 (omega (arith, later)) leads)
+      ]
       | inr found ↦
           let lt = found.3 in
           old_over found.1.handle w.handle (after fuel n found.0 found.1 (omega (arith, far, lt)) found.2 found.4 near) (writers_old found.0 k found.1 w lt found.4 is (inl found.5))
     ]
 
-    -- a reader leads over a later change
-    reader_over : (r : Reader) (m : ℕ) (u : Writer) → HasReader s x r → IsWriter s x m u → r.version ≤ m → ToMe u.handle → ToMe r.handle
-    reader_over r m u reads is le leads = elim (cases_Bool (r.tx == u.tx)) [
-      | inl hit ↦ subst ToMe (sym (same_handle r m u reads is (eqb-true r.tx u.tx hit))) leads
-      | inr miss ↦ over_old r.handle u.handle (reader_old r m u reads is le (eqb-false r.tx u.tx miss)) leads
+    -- an increment directly in front of a write leads over a reader of the present version
+    put_near : (v k : ℕ) (w : Writer) → IsToChange s touched x (Put v) → IsInFront s x last k w → ToMe w.handle
+    put_near v k w asks near = elim (cases_Bool w.increment) [
+      | inr write ↦ to_me w.handle Ww (put_last v k w asks near (inl write))
+      | inl adds ↦ elim (read_or_not last (suc last)) [
+        | inl unread ↦ to_me w.handle Ww (put_last v k w asks near (inr unread))
+        | inr read ↦
+            let le = read.2 in
+            let lt = read.3 in
+            let before = near.before in
+            writer_over k w read.0 near.writer read.1 (omega (arith, before, le)) (to_me read.0.handle Rw (put_read v read.0 asks read.1 (omega (arith, le, lt))))
+      ]
     ]
 
     put_front : (v k : ℕ) (w : Writer) → IsToChange s touched x (Put v) → IsWriter s x k w → ToMe w.handle
-    put_front v k w asks is = front last last k w (omega arith) (omega arith) (writer_below k w is) is (λ j u near. to_me u.handle Ww (put_last v j u asks near))
+    put_front v k w asks is = front last last k w (omega arith) (omega arith) (writer_below k w is) is (λ j u near. put_near v j u asks near)
 
     add_front : (v k : ℕ) (w : Writer) → IsToChange s touched x (Add v) → IsWriter s x k w → w.increment ≡ false → ToMe w.handle
     add_front v k w asks is write = front_write last k w (omega arith) is write (λ j u near. to_me u.handle Ww (add_last v j u asks near))
@@ -240,9 +398,22 @@ module _ (s : SiteState) (x : Name) (site : IsSite s) where
       | inr more ↦ let le = reader_below r reads in to_me r.handle Rw (put_read v r asks reads (omega (arith, le, more)))
     ]
 
+    -- a reader since the last write leads over the last ones
+    reader_since : (fuel v : ℕ) (r : Reader) → last ≤ r.version + fuel → IsToChange s touched x (Add v) → HasReader s x r → AddsOnly s x r.version last → ToMe r.handle
+    reader_since zero v r far asks reads run = to_me r.handle Rw (add_read v r asks record { reader = reads; run = run; unread = λ q is from below. omega (arith, far, from, below) })
+    reader_since (suc fuel) v r far asks reads run = elim (read_or_not (suc r.version) (suc last)) [
+      | inl unread ↦ to_me r.handle Rw (add_read v r asks record { reader = reads; run = run; unread = unread })
+      | inr read ↦
+          let later = read.2 in
+          let below = read.3 in
+          let u = writer_there r.version (omega (arith, later, below)) in
+          let leads = reader_since fuel v read.0 (omega (arith, far, later)) asks read.1 (λ j w from less is. run j w (omega (arith, from, later)) less is) in
+          reader_over r r.version u.0 reads u.1 (omega arith) (writer_over r.version u.0 read.0 u.1 read.1 (omega (arith, later)) leads)
+    ]
+
     add_reader : (v : ℕ) (r : Reader) → IsToChange s touched x (Add v) → HasReader s x r → ToMe r.handle
     add_reader v r asks reads = elim (run_or_write r.version last (omega arith)) [
-      | inl run ↦ to_me r.handle Rw (add_read v r asks reads run)
+      | inl run ↦ reader_since last v r (omega arith) asks reads run
       | inr found ↦ reader_over r found.0 found.1 reads found.4 found.2 (add_front v found.0 found.1 asks found.4 found.5)
     ]
 
@@ -278,7 +449,7 @@ neighbour-edge s touched me x f t kind far near = (far, by_case f t kind near)
     by_case : (f t : Handle) (kind : Kind) → IsNeighbour s touched me x f t kind → Precedes s touched me x f t kind
     by_case f t kind (in_front n k w saw front) = wrote_before n k w saw front.before front.writer
     by_case f t kind (behind n k w saw after) = wrote_after n k w saw after.after after.writer
-    by_case f t kind (put_last v k w asks front) = wrote_too (Put v) k w asks front.writer tt
+    by_case f t kind (put_last v k w asks front which) = wrote_too (Put v) k w asks front.writer tt
     by_case f t kind (add_last v k w asks last) = wrote_too (Add v) k w asks last.writer last.write
     by_case f t kind (put_read v r asks reads present) = read_it (Put v) r asks reads
-    by_case f t kind (add_read v r asks reads run) = read_it (Add v) r asks reads
+    by_case f t kind (add_read v r asks last) = read_it (Add v) r asks last.reader

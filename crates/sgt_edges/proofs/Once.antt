@@ -14,10 +14,10 @@ use Rattle.sgt_names.specs.declared.entry.Kind.{Kind}
 use Rattle.sgt_names.specs.declared.entry.Kind.TheVariants.{Wr, Rw, Ww}
 use Rattle.sgt_names.proofs.Increments.{change-writes}
 use Rattle.sgt_names.proofs.Lists.{Any_at, front_at, middle_at, within_at}
-use Rattle.sgt_names.proofs.Places.{AllPairs_at, AllPairs-from_at, Contains_at, Contains-from_at, slice_get-take}
+use Rattle.sgt_names.proofs.Places.{AllPairs_at, AllPairs-from_at, Contains-from_at, slice_get-take}
 use Rattle.sgt_names.proofs.Touched.{place_total}
 use Rattle.sgt_arena.specs.declared.handle.Handle.{Handle}
-use Rattle.sgt_site.specs.State.{SiteState, IsSite, IsReader, handle_of, version_at, writers_of}
+use Rattle.sgt_site.specs.State.{SiteState, IsSite, IsReader, version_at, writers_of}
 use Rattle.sgt_site.specs.declared.cell.Reader.{Reader}
 use Rattle.sgt_site.specs.declared.cell.Writer.{Writer}
 use Rattle.sgt_site.proofs.Projections.{writer_at}
@@ -155,10 +155,10 @@ module _ (t : Touch) (me : Handle) where
 near-item : (s : SiteState) (t : Touch) (me : Handle) (x : Name) (f h : Handle) (k : Kind) → IsNeighbour s (t ∷ []) me x f h k → (t.site ≡ s.number) × (t.item ≡ x)
 near-item s t me x f h k (in_front n m w saw near) = let one = saw-one s t x n saw in (one.0, one.1)
 near-item s t me x f h k (behind n m w saw near) = let one = saw-one s t x n saw in (one.0, one.1)
-near-item s t me x f h k (put_last v m w asks near) = let one = changes-one s t x (Put v) asks in (one.0, one.1)
+near-item s t me x f h k (put_last v m w asks near which) = let one = changes-one s t x (Put v) asks in (one.0, one.1)
 near-item s t me x f h k (add_last v m w asks near) = let one = changes-one s t x (Add v) asks in (one.0, one.1)
 near-item s t me x f h k (put_read v r asks is near) = let one = changes-one s t x (Put v) asks in (one.0, one.1)
-near-item s t me x f h k (add_read v r asks is near) = let one = changes-one s t x (Add v) asks in (one.0, one.1)
+near-item s t me x f h k (add_read v r asks near) = let one = changes-one s t x (Add v) asks in (one.0, one.1)
 
 pub touches-differ : (s : SiteState) (me : Handle) (ts : List Touch) → AreRising ts → AllPairs (λ t u. (e : Edge) → IsNear s (t ∷ []) me e → IsNear s (u ∷ []) me e → ⊥) ts
 touches-differ s me ts rising = AllPairs-from_at (λ t u. (e : Edge) → IsNear s (t ∷ []) me e → IsNear s (u ∷ []) me e → ⊥) ts by_places

@@ -16,18 +16,25 @@ use Rattle.sgt_edges.specs.Edges.{IsWriter, HasReader, SawAt, IsToChange}
 abbrev pub AddsOnly : SiteState → Name → ℕ → ℕ → Type 0
 AddsOnly s x n m = (j : ℕ) (w : Writer) → n ≤ j → j < m → IsWriter s x j w → w.increment ≡ true
 
--- a writer directly in front of version n: an increment of the run there, or the write at its beginning where the run is empty
+-- no committed transaction read the item at a version from n on and below m
+abbrev pub IsUnread : SiteState → Name → ℕ → ℕ → Type 0
+IsUnread s x n m = (r : Reader) → HasReader s x r → n ≤ r.version → r.version < m → ⊥
+
+-- a writer directly in front of version n: an increment of the run there, or the write at its beginning where the run is empty.
+-- No version between the two was read
 pub record IsInFront (s : SiteState) (x : Name) (n k : ℕ) (w : Writer) : Type 0 where
   pub writer : IsWriter s x k w
   pub before : k < n
   pub run : AddsOnly s x (suc k) n
   pub which : (w.increment ≡ true) ⊎ (suc k ≡ n)
+  pub unread : IsUnread s x (suc k) n
 
--- a writer from version n on, up to and with the next write
+-- a writer from version n on, up to and with the next write. No version between the two was read
 pub record IsBehind (s : SiteState) (x : Name) (n k : ℕ) (w : Writer) : Type 0 where
   pub writer : IsWriter s x k w
   pub after : n ≤ k
   pub run : AddsOnly s x n k
+  pub unread : IsUnread s x (suc n) (suc k)
 
 -- the last write of the item
 pub record IsLastWrite (s : SiteState) (x : Name) (k : ℕ) (w : Writer) : Type 0 where
@@ -35,18 +42,25 @@ pub record IsLastWrite (s : SiteState) (x : Name) (k : ℕ) (w : Writer) : Type 
   pub write : w.increment ≡ false
   pub run : AddsOnly s x (suc k) (version_at s.entries x)
 
--- what precedes or follows mine as a neighbour: for a read the run in front of its version, and what comes up to the next write;
--- for a write the present run and the readers of the present version; for an increment the last write and the readers since then
+-- a reader of the last version that was read, if the item was only added to since then
+pub record IsLastReader (s : SiteState) (x : Name) (r : Reader) : Type 0 where
+  pub reader : HasReader s x r
+  pub run : AddsOnly s x r.version (version_at s.entries x)
+  pub unread : IsUnread s x (suc r.version) (suc (version_at s.entries x))
+
+-- what precedes or follows mine as a neighbour: for a read the run in front of its version, and what comes up to the next write, each
+-- as far as no committed read stands between; for a write the readers of the present version, and the present run as far as nobody
+-- has read it since; for an increment the last write and the last readers since then
 pub data IsNeighbour (s : SiteState) (touched : List Touch) (me : Handle) (x : Name) : Handle → Handle → Kind → Type 0 where
   in_front : (n k : ℕ) (w : Writer) → SawAt s touched x n → IsInFront s x n k w → IsNeighbour s touched me x w.handle me Wr
   behind : (n k : ℕ) (w : Writer) → SawAt s touched x n → IsBehind s x n k w → IsNeighbour s touched me x me w.handle Rw
   put_last : (v k : ℕ) (w : Writer) → IsToChange s touched x (Put v) → IsInFront s x (version_at s.entries x) k w
+      → (w.increment ≡ false) ⊎ IsUnread s x (version_at s.entries x) (suc (version_at s.entries x))
       → IsNeighbour s touched me x w.handle me Ww
   add_last : (v k : ℕ) (w : Writer) → IsToChange s touched x (Add v) → IsLastWrite s x k w → IsNeighbour s touched me x w.handle me Ww
   put_read : (v : ℕ) (r : Reader) → IsToChange s touched x (Put v) → HasReader s x r → r.version ≡ version_at s.entries x
       → IsNeighbour s touched me x r.handle me Rw
-  add_read : (v : ℕ) (r : Reader) → IsToChange s touched x (Add v) → HasReader s x r → AddsOnly s x r.version (version_at s.entries x)
-      → IsNeighbour s touched me x r.handle me Rw
+  add_read : (v : ℕ) (r : Reader) → IsToChange s touched x (Add v) → IsLastReader s x r → IsNeighbour s touched me x r.handle me Rw
 
 -- each neighbour under another handle is among the edges
 abbrev pub HaveNeighbours : SiteState → List Touch → Handle → List Edge → Type 0

@@ -19,8 +19,8 @@ use std::alloc::{AllocError, Global};
 /// node: never to itself, and to neighbours alone, over which walks lead to the others. Their order is not fixed. The source of
 /// the rule: Bernstein, Hadzilacos and Goodman 1987, ch. 2 and 4.4.
 ///
-/// Searches the site's items for each item of the draft, and then goes over the writers and readers that it gives edges of and
-/// at most one more in each direction.
+/// Searches the site's items for each item of the draft, and the item's readers for its versions, and then goes over the writers and
+/// readers that it gives edges of and at most one more in each direction.
 pub fn gather(alloc: Global, site: &Site, draft: &Draft, me: Handle) -> Result<EdgeList, EdgeFault>
     ensures given { IfOk result (λ edges. All (IsGiven site.now draft.now.touched me) edges) }
     ensures stands { IfOk result (StandsForAll site.now draft.now.touched me) }
@@ -117,9 +117,10 @@ fn add_of_read(
     let Some(seen) = touch.seen else {
         return Ok(());
     };
-    let before = in_front(writers, seen.version);
+    let before = in_front(site, touch.item, writers, seen.version);
     add_before(edges, touch, Kind::Wr, before, me)?;
-    add_after(edges, touch, behind(writers, seen.version), me)
+    let after = behind(site, touch.item, writers, seen.version);
+    add_after(edges, touch, after, me)
 }
 
 // Adds the edges of a touched item's change, if there is one. The item has these writers.

@@ -1,5 +1,5 @@
 -- The edges of one touched item.
-use Rattle.std.specs.Prelude.{◌≡◌, ◌≢◌, ◌⊎◌, ◌↔◌, ◌<◌, ◌≤◌, ℕ, true, false, List, Some, AllPairs, Contains, length, slice_get}
+use Rattle.std.specs.Prelude.{◌≡◌, ◌≢◌, ◌⊎◌, ◌↔◌, ◌<◌, ◌≤◌, ℕ, suc, true, false, List, Some, AllPairs, Contains, length, slice_get}
 use Rattle.sgt_names.specs.Name.{Name}
 use Rattle.sgt_names.specs.declared.draft.Seen.{Seen}
 use Rattle.sgt_names.specs.declared.draft.Touch.{Touch}
@@ -12,7 +12,7 @@ use Rattle.sgt_site.specs.State.{SiteState, version_at, writers_of}
 use Rattle.sgt_site.specs.declared.cell.Reader.{Reader}
 use Rattle.sgt_site.specs.declared.cell.Writer.{Writer}
 use Rattle.sgt_edges.specs.Edges.{HasReader, AreApart}
-use Rattle.sgt_edges.specs.Neighbours.{AddsOnly, IsInFront, IsBehind, IsLastWrite, IsNeighbour}
+use Rattle.sgt_edges.specs.Neighbours.{IsUnread, IsInFront, IsBehind, IsLastWrite, IsLastReader, IsNeighbour}
 use Rattle.sgt_edges.specs.declared.edge.Edge.{Edge}
 
 -- the item is at the site, and was read at a version that exceeds the site's
@@ -63,15 +63,21 @@ pub record IsRunLength (ws : List Writer) (n : ℕ) : Type 0 where
   pub run : (k : ℕ) (w : Writer) → k < n → slice_get ws k ≡ Some w → w.increment ≡ true
   pub write : (w : Writer) → slice_get ws n ≡ Some w → w.increment ≡ false
 
--- the writers that a change has its edges from: for a write those directly in front of it, for an increment the last write
+-- a writer that a write has its edge from: one directly in front of it, but no increment where the present version was read
+abbrev pub IsBeforeWrite : SiteState → Name → ℕ → Writer → Type 0
+IsBeforeWrite s x k w =
+    IsInFront s x (version_at s.entries x) k w
+    × ((w.increment ≡ false) ⊎ IsUnread s x (version_at s.entries x) (suc (version_at s.entries x)))
+
+-- the writers that a change has its edges from: for a write those in front of it, for an increment the last write
 abbrev pub ChangesBefore : SiteState → Name → Change → Writer → Type 0
-ChangesBefore s x (Put v) w = (k : ℕ) × IsInFront s x (version_at s.entries x) k w
+ChangesBefore s x (Put v) w = (k : ℕ) × IsBeforeWrite s x k w
 ChangesBefore s x (Add v) w = (k : ℕ) × IsLastWrite s x k w
 
--- and the readers: for a write those of the present version, for an increment those since the last write
+-- and the readers: for a write those of the present version, for an increment the last ones since the last write
 abbrev pub ReadsBefore : SiteState → Name → Change → Reader → Type 0
 ReadsBefore s x (Put v) r = HasReader s x r × (r.version ≡ version_at s.entries x)
-ReadsBefore s x (Add v) r = HasReader s x r × AddsOnly s x r.version (version_at s.entries x)
+ReadsBefore s x (Add v) r = IsLastReader s x r
 
 -- the edges of a touched item's read: from the writers in front of its version, and to those behind it
 pub record IsOfRead (s : SiteState) (t : Touch) (me : Handle) (e : Edge) : Type 0 where

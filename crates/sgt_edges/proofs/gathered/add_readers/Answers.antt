@@ -1,6 +1,6 @@
 use Rattle.sgt_names.proofs.Lists.{element_at}
 use Rattle.sgt_edges.specs.private.Gathered.{FromReader}
-use Rattle.sgt_edges.proofs.Gathers.{each-none, each-next, each-all, ok_then}
+use Rattle.sgt_edges.proofs.Gathers.{each-none, each-next, each-all}
 use Rattle.sgt_edges.proofs.Once.{once-next, once-all, from-readers-differ}
 use Rattle.sgt_edges.proofs.gathered.add_readers.Goals as goal
 

@@ -1,7 +1,7 @@
 use Rattle.sgt_edges.proofs.runs.changes_before.Goals as goal
 
 pub returns-in-Put-clause-before : goal.returns-in-Put-clause-before
-returns-in-Put-clause-before c = λ w. rw (c.in-Put.is, ← c.requires.1) (c.in_front.ensures.neighbours c.args.site.now c.args.item c.requires w)
+returns-in-Put-clause-before c = λ w. rw c.in-Put.is (c.before_write.ensures.before w)
 
 pub returns-in-Add-clause-before : goal.returns-in-Add-clause-before
 returns-in-Add-clause-before c = λ w. rw c.in-Add.is (c.last_write.ensures.last w)

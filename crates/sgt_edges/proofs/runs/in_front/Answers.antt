@@ -1,27 +1,22 @@
-use Rattle.std.proofs.Common.{arith}
-use Rattle.std.proofs.lemmas.List.{length-take-le, take_rest}
+use mathlib.Core.Bool.{false≢true}
+use Rattle.std.proofs.Common.{refl, take, drop}
+use Rattle.std.proofs.lemmas.List.{take_rest}
 use Rattle.sgt_edges.proofs.Once.{writers-take, writers-drop}
-use Rattle.sgt_edges.proofs.Slices.{front-slice}
+use Rattle.sgt_edges.proofs.Slices.{front-last, front-run}
 use Rattle.sgt_edges.proofs.runs.in_front.Goals as goal
 
-pub returns-then-written-before-clause-neighbours : goal.returns-then-written-before-clause-neighbours
-returns-then-written-before-clause-neighbours c = λ s x are w.
-    let within = c.requires in
-    let long = length-take-le c.args.version c.args.writers.now (omega (arith, within)) in
-    let lower = c.if-written-before.true in
-    rw take_rest (front-slice s x c.args.writers.now are.0 c.args.version _ _ (omega (arith, within)) c.last_written-written.ensures (omega arith) (λ k from lt. absurd (omega (arith, from, lt))) (λ k lt. omega (arith, lt, lower, long)) w)
+pub returns-then-not-ends_with_increment-clause-neighbours :
+    goal.returns-then-not-ends_with_increment-clause-neighbours
+returns-then-not-ends_with_increment-clause-neighbours c = λ w.
+    rw (take_rest, c.saturating_sub.ensures) (front-last c.args.site.now c.args.item c.args.writers.now c.requires.writers.0 c.args.version c.requires.known (λ adds. false≢true (c.if-not-ends_with_increment.ensures.1 adds)) w)
 
-pub returns-else-written-before-clause-neighbours : goal.returns-else-written-before-clause-neighbours
-returns-else-written-before-clause-neighbours c = λ s x are w.
-    let within = c.requires in
-    let long = length-take-le c.args.version c.args.writers.now (omega (arith, within)) in
-    let most = c.last_written-written.ensures.within in
-    let all = c.if-written-before.false in
-    let start = c.saturating_sub.ensures in
-    rw take_rest (front-slice s x c.args.writers.now are.0 c.args.version _ _ (omega (arith, within)) c.last_written-written.ensures (omega (arith, start)) (λ k from lt. omega (arith, from, lt, start, most, all, long)) (λ k lt. omega (arith, lt, start, most, all, long)) w)
+pub returns-clause-neighbours : goal.returns-clause-neighbours
+returns-clause-neighbours c = λ w.
+    let last = rw take_rest at c.last_written.ensures in
+    rw (take_rest, take_rest) (front-run c.args.site.now c.args.item c.args.writers.now c.requires.writers.0 c.args.version c.requires.known c.read_below.result c.last_written.result
+    (c.if-not-ends_with_increment.ensures.0 refl) c.read_below.ensures.below c.read_below.ensures.read c.read_below.ensures.unread last w)
 
-pub returns-then-written-before-clause-apart : goal.returns-then-written-before-clause-apart
-returns-then-written-before-clause-apart c = λ apart. rw take_rest (writers-drop _ _ (writers-take _ c.args.version apart))
-
-pub returns-else-written-before-clause-apart : goal.returns-else-written-before-clause-apart
-returns-else-written-before-clause-apart c = λ apart. rw take_rest (writers-drop _ _ (writers-take _ c.args.version apart))
+pub returns-clause-apart : goal.returns-clause-apart
+returns-clause-apart c = λ apart.
+    let before = take c.args.version c.args.writers.now in
+    rw (take_rest, take_rest) (writers-drop (drop c.read_below.result before) c.last_written.result (writers-drop before c.read_below.result (writers-take c.args.writers.now c.args.version apart)))
