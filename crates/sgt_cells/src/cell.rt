@@ -119,6 +119,7 @@ fn is_of(cell: &Cell, item: &Item) -> bool
 }
 
 /// The place, where it is that of the item's cell.
+#[inline(always)]
 fn checked(cells: &[Cell], place: usize, item: &Item) -> Option<usize>
     ensures { IfSome result (λ n. (c : Cell) × (slice_get cells.now n ≡ Some c) × (c.name ≡ item.now)) }
 {
@@ -144,18 +145,28 @@ fn search(cells: &[Cell], item: &Item) -> Option<usize>
     cells.iter().position(|cell| is_of(cell, item))
 }
 
+/// The place of the item's cell, where no hint led to it.
+#[inline(never)]
+fn unhinted(cells: &[Cell], item: &Item) -> Option<usize>
+    ensures some { IfSome result (λ n. (c : Cell) × (slice_get cells.now n ≡ Some c) × (c.name ≡ item.now)) }
+    ensures none { IfNone result (All (λ c. c.name ≢ item.now) cells.now) }
+{
+    match halved(cells, item) {
+        Some(place) => Some(place),
+        None => search(cells, item),
+    }
+}
+
 /// The place of the item's cell. The hint is tried first, and then a search by halves; nothing need be known of either. A name
 /// that is not listed costs a look at each cell.
+#[inline(always)]
 pub(crate) fn place_of(cells: &[Cell], hint: usize, item: &Item) -> Option<usize>
     ensures some { IfSome result (λ n. (c : Cell) × (slice_get cells.now n ≡ Some c) × (c.name ≡ item.now)) }
     ensures none { IfNone result (All (λ c. c.name ≢ item.now) cells.now) }
 {
-    if let Some(place) = checked(cells, hint, item) {
-        return Some(place);
-    }
-    match halved(cells, item) {
+    match checked(cells, hint, item) {
         Some(place) => Some(place),
-        None => search(cells, item),
+        None => unhinted(cells, item),
     }
 }
 

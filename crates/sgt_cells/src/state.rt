@@ -54,12 +54,14 @@ fn key_of(name: &[u8]) -> u64 {
 }
 
 /// Where the hint for an item is.
+#[inline(always)]
 fn slot_of(item: &Item) -> usize {
     let spread = key_of(item.as_bytes()).wrapping_mul(0x9e37_79b9_7f4a_7c15);
     (spread >> 52) as usize % HINTS
 }
 
 /// The place that is hinted for an item.
+#[inline(always)]
 fn hint_of(hints: &[u16], item: &Item) -> usize {
     match hints.get(slot_of(item)) {
         Some(hint) => *hint as usize,
@@ -190,6 +192,7 @@ impl SiteState {
     }
 
     /// The place of the item.
+    #[inline(always)]
     pub fn place_of(&self, item: &Item) -> Option<usize>
         ensures some { IfSome result (λ place. (ds : List Decision) (items : List Holding) (entries : List Entry)
             → TracksOpen ds items entries self.now → slice_get (names items) place ≡ Some item.now) }
@@ -201,6 +204,7 @@ impl SiteState {
     }
 
     /// The place of the entry's item, if it has one that is listed.
+    #[inline(always)]
     pub fn place_of_entry(&self, entry: &Entry) -> Option<usize>
         ensures { (ds : List Decision) (items : List Holding) (entries : List Entry) → TracksOpen ds items entries self.now
             → IsPlaceAmong (names items) entry.now result }
@@ -212,6 +216,7 @@ impl SiteState {
     }
 
     /// Whether the item at this place has this value.
+    #[inline(always)]
     pub fn has_value(&self, place: usize, value: Value) -> bool
         ensures { (ds : List Decision) (items : List Holding) (entries : List Entry) (x : Name) → TracksOpen ds items entries self.now
             → slice_get (names items) place ≡ Some x → (IsTrue result ↔ (value_at items entries x ≡ Some value)) }
@@ -224,6 +229,7 @@ impl SiteState {
 
     /// Whether the entry, on the item at this place, is not its transaction's second read of the item, nor its second change,
     /// made or asked for. The transaction is decided by this number, if it is.
+    #[inline(always)]
     pub fn is_first(&self, place: usize, entry: &Entry, number: Option<usize>) -> bool
         ensures { (ds : List Decision) (items : List Holding) (entries : List Entry) (x : Name) → TracksOpen ds items entries self.now
             → slice_get (names items) place ≡ Some x → item_of entry.now ≡ Some x → IsNumberOf ds (tx_of entry.now) number
@@ -240,6 +246,7 @@ impl SiteState {
 
     /// Whether the entry, on the item at this place, conflicts with no entry before it of a committed transaction of greater
     /// rank, if its own is committed with this one.
+    #[inline(always)]
     pub fn is_in_rank(&self, place: usize, entry: &Entry, rank: Option<u32>) -> bool
         ensures { (ds : List Decision) (items : List Holding) (entries : List Entry) (x : Name) → IsDecidedOnce ds → AreRanks (ranks ds)
             → TracksOpen ds items entries self.now → slice_get (names items) place ≡ Some x → item_of entry.now ≡ Some x
@@ -252,6 +259,7 @@ impl SiteState {
     }
 
     /// Whether the transaction, decided by this number, has no end yet.
+    #[inline(always)]
     pub fn is_active(&self, number: usize) -> bool
         ensures { (ds : List Decision) (items : List Holding) (entries : List Entry) (tx : ℕ) → TracksOpen ds items entries self.now
             → Decides ds number tx → (IsTrue result ↔ All (λ f. IsEnd f → tx_of f ≢ tx) entries) }
@@ -263,6 +271,7 @@ impl SiteState {
     }
 
     /// Whether no end before the entry, if it is one, was decided later. The entry is decided by this number.
+    #[inline(always)]
     pub fn is_in_order(&self, entry: &Entry, number: usize) -> bool
         ensures { (ds : List Decision) (items : List Holding) (entries : List Entry) → IsDecidedOnce ds
             → TracksOpen ds items entries self.now → IsDecided ds entry.now number
@@ -315,6 +324,7 @@ impl SiteState {
 
     /// One more entry, on the item at this place or an end, decided by this number, of a transaction that is committed with this
     /// rank or isn't.
+    #[inline(always)]
     pub fn enter(
         &mut self,
         place: Option<usize>,
