@@ -2,8 +2,8 @@
 use Rattle.std.proofs.Common.{◌≡◌, ℕ, zero, suc, ◌+◌, ◌-◌, ◌<◌, ◌≤◌, Bool, true, false, leb, nat_lt, List, [], ◌∷◌, length, take, drop, refl, sym, ap, ◌∙◌, subst, arith, inl, inr, All, AllPairs, Some}
 use Rattle.std.specs.Prelude.{slice_get, slice_range, filter, IsSome, ◌==◌, ◌↔◌}
 use Rattle.std.specs.List.Sorted.{IsPartitionPoint}
-use Rattle.std.specs.Ordering.{nat_cmp, ordering_then}
-use Rattle.std.specs.declared.cmp.Ordering.TheVariants.{Less, Equal, Greater}
+use Rattle.std.specs.Ordering.{nat_cmp}
+use Rattle.std.specs.declared.cmp.Ordering.TheVariants.{Less, Greater}
 use Rattle.std.proofs.lemmas.Cmp.{tied_itself}
 use Rattle.std.proofs.lemmas.Bool.{cases_Bool, cases_lt, ltb-true, ltb-false, leb-true, leb-false}
 use Rattle.std.proofs.lemmas.Bool.Decides.{nat_tests}
@@ -85,10 +85,10 @@ module _ (ts : List Touch) (n from to : ℕ) (low : IsPartitionPoint (λ t. nat_
   part-between le = between (λ (t : Touch). t.site == n) ts from (to - from)
       (λ m t lt at. apart t.site n (λ same. let less = below m t lt at in absurd (omega (arith, less, same))))
       (λ m t from_on lt at.
-          let more = not_below m t from_on at in
-          let less = upto m t (omega (arith, lt, le)) at in
-          let same : t.site ≡ n = omega (arith, more, less) in
-          grind (arith, nat_tests, same))
+      let more = not_below m t from_on at in
+      let less = upto m t (omega (arith, lt, le)) at in
+      let same : t.site ≡ n = omega (arith, more, less) in
+      grind (arith, nat_tests, same))
       (λ m t le_m at. apart t.site n (λ same. let more = above m t (omega (arith, le_m, le)) at in absurd (omega (arith, more, same))))
 
 -- ---- the part of the part

@@ -61,5 +61,9 @@ fn search(touched: &[Touch], number: SiteNo, item: Item) -> Result<usize, usize>
 fn order(touch: &Touch, number: SiteNo, item: &Item) -> Ordering
     ensures { result ≡ place_cmp (place_of touch.now) (number, item.now) }
 {
-    touch.site.number().cmp(&number.number()).then(touch.item.cmp(item))
+    touch
+        .site
+        .number()
+        .cmp(&number.number())
+        .then(touch.item.cmp(item))
 }
