@@ -60,16 +60,17 @@ impl Kept {
         ensures follows { IsLineIn self.old.second line.now → (s : Stage) → IsAt self.old s
             → IfOk result (Follows s (line_text line.now) (Reading self.new)) }
     {
-        match *line {
-            SectionLine::Logged(Entry::Read { tx, item, value }) => {
-                self.follow_line(&SectionLine::Logged(Entry::Read { tx, item, value }))
-            }
-            SectionLine::Logged(Entry::Write { tx, item, value }) => {
-                self.follow_line(&SectionLine::Logged(Entry::Write { tx, item, value }))
-            }
-            SectionLine::Logged(Entry::Commit { tx }) => {
-                self.follow_line(&SectionLine::Logged(Entry::Commit { tx }))
-            }
+        match line {
+            SectionLine::Logged(entry) => match *entry {
+                Entry::Read { tx, item, value } => self.follow_line(&SectionLine::Logged(
+                    Entry::Read { tx, item, value },
+                )),
+                Entry::Write { tx, item, value } => self.follow_line(&SectionLine::Logged(
+                    Entry::Write { tx, item, value },
+                )),
+                Entry::Commit { tx } => self.follow_line(&SectionLine::Logged(Entry::Commit { tx })),
+                _ => self.follow_other(line),
+            },
             _ => self.follow_other(line),
         }
     }
