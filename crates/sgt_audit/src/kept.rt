@@ -11,6 +11,7 @@ use crate::known::look_up;
 use crate::sections::{Sections, add_to};
 use crate::tracked::Tracked;
 use sgt_decided::Decided;
+use sgt_names::Entry;
 use sgt_notation::SectionLine;
 use std::alloc::AllocError;
 
@@ -52,8 +53,41 @@ impl Kept {
         }
     }
 
-    /// The next line, which is one of the format.
+    /// The next line, which is one of the format. The kinds of entry that are most frequent go ways of their own, on which the kind
+    /// is known and not asked for again.
     fn follow(&mut self, line: &SectionLine) -> Result<Option<Fault>, AllocError>
+        ensures sections { is_some self.new.sections ≡ is_some self.old.sections }
+        ensures follows { IsLineIn self.old.second line.now → (s : Stage) → IsAt self.old s
+            → IfOk result (Follows s (line_text line.now) (Reading self.new)) }
+    {
+        match line {
+            SectionLine::Logged(entry) => match *entry {
+                Entry::Read { tx, item, value } => self.follow_line(&SectionLine::Logged(
+                    Entry::Read { tx, item, value },
+                )),
+                Entry::Write { tx, item, value } => self.follow_line(&SectionLine::Logged(
+                    Entry::Write { tx, item, value },
+                )),
+                Entry::Commit { tx } => self.follow_line(&SectionLine::Logged(Entry::Commit { tx })),
+                _ => self.follow_other(line),
+            },
+            _ => self.follow_other(line),
+        }
+    }
+
+    /// The next line, of a kind that is less frequent.
+    #[inline(never)]
+    fn follow_other(&mut self, line: &SectionLine) -> Result<Option<Fault>, AllocError>
+        ensures sections { is_some self.new.sections ≡ is_some self.old.sections }
+        ensures follows { IsLineIn self.old.second line.now → (s : Stage) → IsAt self.old s
+            → IfOk result (Follows s (line_text line.now) (Reading self.new)) }
+    {
+        self.follow_line(line)
+    }
+
+    /// The next line, of whatever kind.
+    #[inline(always)]
+    fn follow_line(&mut self, line: &SectionLine) -> Result<Option<Fault>, AllocError>
         ensures sections { is_some self.new.sections ≡ is_some self.old.sections }
         ensures follows { IsLineIn self.old.second line.now → (s : Stage) → IsAt self.old s
             → IfOk result (Follows s (line_text line.now) (Reading self.new)) }

@@ -33,6 +33,7 @@ fn come_before(items: &[Item], item: &Item) -> bool
 
 impl OpenPlace {
     /// The entry that was read last, if no final stands behind it.
+    #[inline(always)]
     pub(crate) fn last_entry(&self) -> Option<&Entry>
         ensures some { (log : SiteLog) → IsOpenPlace log self.now
             → IfSome result (λ e. (log.finals ≡ []) × (slice_get log.entries (length log.entries - 1) ≡ Some e.now)) }
@@ -48,6 +49,7 @@ impl OpenPlace {
     }
 
     /// Whether the line may stand next.
+    #[inline(always)]
     fn has_room_for(&self, line: &SectionLine) -> bool
         ensures { IsTrue result ↔ FitsAt self.now line.now }
     {
@@ -69,6 +71,7 @@ impl OpenPlace {
     }
 
     /// One more line.
+    #[inline(always)]
     fn enter(&mut self, line: &SectionLine) -> Result<(), AllocError>
         ensures { OnOk result ((log : SiteLog) → IsOpenLog log → Fits log line.now
             → IsOpenPlace log self.old → IsOpenPlace (with_line log line.now) self.new) }
@@ -115,6 +118,7 @@ impl Place {
     }
 
     /// Whether all sections were read, and none is open.
+    #[inline(always)]
     pub(crate) fn is_complete(&self) -> bool
         ensures { (b : Begun) → IsBegun b → IsPlace b self.now → (IsTrue result ↔ AreSections b.sites (lines_read b)) }
     {
@@ -125,6 +129,7 @@ impl Place {
     }
 
     /// Whether some sections begin with the lines that were read and this one.
+    #[inline(always)]
     pub(crate) fn may_go_on(&self, line: &SectionLine) -> bool
         ensures { (b : Begun) → IsBegun b → IsPlace b self.now → (IsTrue result ↔ Begins b.sites (lines_read b ++ line.now ∷ [])) }
     {
@@ -140,6 +145,7 @@ impl Place {
     }
 
     /// One more line.
+    #[inline(always)]
     pub(crate) fn enter(&mut self, line: &SectionLine) -> Result<(), AllocError>
         ensures { OnOk result ((b : Begun) → IsBegun b → MayFollow b b.current line.now
             → IsPlace b self.old → IsPlace (with_next b b.current line.now) self.new) }

@@ -10,8 +10,8 @@ use Rattle.sgt_audit.proofs.MayFollow.{added-begun, added-lines, are-sections}
 use Rattle.sgt_audit.proofs.Places.{next-sites}
 use Rattle.sgt_audit.proofs.SiteStates.{line-tracked}
 use Rattle.sgt_decided.proofs.Loops.{refuted}
-use Rattle.sgt_audit.proofs.kept.Kept.follow.Goals as goal
-use Rattle.sgt_audit.proofs.kept.Kept.follow.Goals.{else-is_complete-2-via-then-is_complete-2+else-not-self, else-is_complete-2-via-else-is_complete-2}
+use Rattle.sgt_audit.proofs.kept.Kept.follow_line.Goals as goal
+use Rattle.sgt_audit.proofs.kept.Kept.follow_line.Goals.{else-is_complete-2-via-then-is_complete-2+else-not-self, else-is_complete-2-via-else-is_complete-2}
 
 pub returns-then-is_complete-clause-follows : goal.returns-then-is_complete-clause-follows
 returns-then-is_complete-clause-follows k f s (b, before, h, stage) =
