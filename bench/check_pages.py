@@ -9,8 +9,8 @@ import re
 import sys
 
 PAGES = ["README.md", *sorted(glob.glob("docs/*.md")), *sorted(glob.glob("crates/*/README.md"))]
-COMMANDS = "audit serial replay run certify explain".split()
-OPTIONS = "--workers --tries --tx --bundle --strict --quiet --version --help".split()
+COMMANDS = "audit serial replay run certify explain draw".split()
+OPTIONS = "--workers --tries --tx --dot --progress --bundle --strict --quiet --version --help".split()
 
 
 def text_of(path):
