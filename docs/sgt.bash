@@ -2,15 +2,17 @@
 _sgt() {
     local word=${COMP_WORDS[COMP_CWORD]} command=${COMP_WORDS[1]} options=
     if [ "$COMP_CWORD" = 1 ]; then
-        COMPREPLY=($(compgen -W 'audit serial replay run certify explain --help --version' -- "$word"))
+        COMPREPLY=($(compgen -W 'audit serial replay run certify explain draw --help --version' -- "$word"))
         return
     fi
     case $command in
-        audit) options='--quiet -q --help' ;;
-        replay) options='--strict --bundle --help' ;;
+        audit) options='--quiet -q --progress --help' ;;
+        replay) options='--strict --progress --bundle --help' ;;
         run) options='--workers --tries --bundle --help' ;;
         explain) options='--tx --help F1 F2 F3 F4 F5 F6 F7 F8 F9 F10 F11 F12 F13 F14 F15 F16 F17 F18 F19 K1 K2 K3 K4' ;;
-        serial | certify) options='--help' ;;
+        draw) options='--tx --dot --help' ;;
+        serial) options='--progress --help' ;;
+        certify) options='--help' ;;
     esac
     COMPREPLY=($(compgen -W "$options" -- "$word") $(compgen -f -- "$word"))
 }
