@@ -68,7 +68,9 @@ impl Kept {
                 Entry::Write { tx, item, value } => self.follow_line(&SectionLine::Logged(
                     Entry::Write { tx, item, value },
                 )),
-                Entry::Commit { tx } => self.follow_line(&SectionLine::Logged(Entry::Commit { tx })),
+                Entry::Commit { tx } => self.follow_line(&SectionLine::Logged(Entry::Commit {
+                    tx,
+                })),
                 _ => self.follow_other(line),
             },
             _ => self.follow_other(line),
