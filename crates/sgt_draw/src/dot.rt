@@ -71,7 +71,7 @@ fn put_walk(canvas: &mut Canvas, tx: Tx, walk: &[Step]) -> Result<(), AllocError
         )?;
         canvas.put(&[
             Part::Markup(style_of(label.kind)),
-            Part::Markup(", penwidth=3, constraint=false];\n"),
+            Part::Markup(", penwidth=3];\n"),
         ])?;
         from = step.to;
     }

@@ -10,7 +10,7 @@ const CYCLE: &str =
     "sgt 1\n{\"decisions\":[{\"commit\":1,\"rank\":0},{\"refuse\":2,\"walk\":[{\"item\":\"y\",\"kind\":\"rw\",\"site\":0,\"to\":1},{\"item\":\"x\",\"kind\":\"rw\",\"site\":0,\"to\":2}]}],\"sites\":1}\nsite 0\nitem x=5\nitem y=2\nr1[x]=5\nr2[y]=2\nw1[y]=7\nc1\np2[x]=8\nn2\nfinal x=5\nfinal y=7\nend\n";
 
 const GRAPH: &str =
-    "digraph sgt {\n  rankdir=LR;\n  node [shape=box];\n  1;\n  2 [style=filled, fillcolor=\"#ffd9d0\", color=\"#a00000\"];\n  2 -> 1 [label=\"rw 0.y\", color=\"#d55e00\", style=dashed, penwidth=3, constraint=false];\n  1 -> 2 [label=\"rw 0.x\", color=\"#d55e00\", style=dashed, penwidth=3, constraint=false];\n}\n";
+    "digraph sgt {\n  rankdir=LR;\n  node [shape=box];\n  1;\n  2 [style=filled, fillcolor=\"#ffd9d0\", color=\"#a00000\"];\n  2 -> 1 [label=\"rw 0.y\", color=\"#d55e00\", style=dashed, penwidth=3];\n  1 -> 2 [label=\"rw 0.x\", color=\"#d55e00\", style=dashed, penwidth=3];\n}\n";
 
 // What is drawn of the text.
 fn drawn(alloc: Global, wanted: Wanted, text: &str) -> Result<(Outcome, String), Fail> {
