@@ -1,50 +1,61 @@
 -- The reads of transactions that have no end yet.
-use Rattle.std.proofs.Common.{◌≡◌, ◌≢◌, ◌⊎◌, ◌+◌, ◌-◌, ◌<◌, ◌≤◌, ℕ, zero, suc, true, false, leb, nat_lt, List, [], ◌∷◌, ◌++◌, length, take, drop, Some, refl, sym, ap, ◌∙◌, subst, arith, inl, inr, All, Contains, length-take-le}
-use Rattle.std.specs.Prelude.{slice_get, ◌↔◌, slice_range}
-use Rattle.std.specs.List.Sorted.{IsPartitionPoint}
-use Rattle.std.proofs.lemmas.Bool.{cases_lt, ltb-true, ltb-false, leb-true, leb-false}
-use Rattle.std.proofs.lemmas.Option.{slice_get_within, get_or_from_slice_get}
+use Rattle.std.proofs.Common.{◌≡◌, ◌≢◌, ℕ, zero, suc, true, false, List, [], ◌∷◌, ◌++◌, length, take, Some, Result, Ok, Err, OnErr, refl, sym, ap, ◌∙◌, subst, arith, inl, inr, All, Contains}
+use Rattle.std.specs.Prelude.{slice_get, ◌↔◌, ◌==◌, Option, Vec}
+use Rattle.std.specs.BTreeMap.{Updates}
+use Rattle.std.specs.Ordering.{nat_cmp, is_eq}
+use Rattle.std.specs.declared.alloc.Global.{Global}
+use Rattle.std.specs.declared.cmp.Ordering.{Ordering}
+use Rattle.std.specs.declared.cmp.Ordering.TheVariants.{Less, Equal, Greater}
+use Rattle.std.proofs.lemmas.Bool.{cases_Bool, eqb-true, eqb-false}
+use Rattle.std.proofs.lemmas.Map.Lookups.{exact_unsigned}
+use Rattle.std.proofs.lemmas.List.Elements.{Contains-append_cases, Contains-append_left, Contains-append_right}
 use Rattle.sgt_names.specs.Name.{Name}
 use Rattle.sgt_names.specs.Entry.{tx_of, Reads, IsEnd}
 use Rattle.sgt_names.specs.declared.entry.Entry.{Entry}
 use Rattle.sgt_names.specs.declared.entry.Entry.TheVariants.{Read, Withdraw}
-use Rattle.sgt_names.specs.declared.draft.Touch.{Touch}
-use Rattle.sgt_names.proofs.Lists.{front_at, middle_at, within_at, Any_at, Any-from_at, All_in}
-use Rattle.sgt_names.proofs.Places.{Contains_at, Contains-from_at, All-from_at, AllPairs_at, AllPairs-from_at, slice_get-take, slice_get-take_at, slice_get-drop}
+use Rattle.sgt_names.proofs.Lists.{front_at, middle_at, Any_at, Any-from_at, All_in}
+use Rattle.sgt_names.proofs.Places.{Contains-from_at, All-from_at}
 use Rattle.sgt_site.specs.State.{HasRead, HasEnded, LogsRead, version_at}
-use Rattle.sgt_site.specs.private.Cells.{KeepsItem}
-use Rattle.sgt_site.specs.private.Pending.{AreByTx, ArePending}
-use Rattle.sgt_site.specs.declared.pending.PendingRead.{PendingRead}
+use Rattle.sgt_site.specs.private.Pending.{or_nothing, items_by, AddsRead, AreSame, ArePending}
+use Rattle.sgt_site.specs.declared.pending.Pending.{Pending}
 use Rattle.sgt_site.proofs.Appends.{get_cases, HasEnded-append, HasEnded-append_right, HasEnded-cases}
 use Rattle.sgt_site.proofs.Entries.{read_is}
 use Rattle.sgt_site.proofs.Basics.{is_single}
-use Rattle.std.proofs.lemmas.List.Elements.{Contains-append_left, Contains-append_right}
 
--- ---- the reads of one transaction stand together
+-- ---- a change at one transaction
 
-pub reads-between : (reads : List PendingRead) (tx from to : ℕ) → IsPartitionPoint (λ r. nat_lt r.tx tx ≡ true) (λ r. nat_lt r.tx tx ≡ false) reads from → IsPartitionPoint (λ r. leb r.tx tx ≡ true) (λ r. leb r.tx tx ≡ false) reads to
-    → (r : PendingRead) → Contains (slice_range reads from to) r ↔ (Contains reads r × (r.tx ≡ tx))
-reads-between reads tx from to low high r = (
-  λ has.
-      let at = Contains_at (slice_range reads from to) r has in
-      let front = slice_get-take (drop from reads) (to - from) at.0 r at.1 in
-      let here : slice_get reads (from + at.0) ≡ Some r = sym (slice_get-drop reads from at.0) ∙ front.1 in
-      let no_less = ltb-false r.tx tx (subst (λ (s : PendingRead). nat_lt s.tx tx ≡ false) (get_or_from_slice_get reads (from + at.0) r r here) (low.1 (from + at.0) r (omega arith) (slice_get_within reads (from + at.0) r here))) in
-      let no_more = leb-true r.tx tx (subst (λ (s : PendingRead). leb s.tx tx ≡ true) (get_or_from_slice_get reads (from + at.0) r r here) (high.0 (from + at.0) r (omega arith) (let lt = front.0 in omega (arith, lt)))) in
-      (Contains-from_at reads (from + at.0) r here, omega (arith, no_less, no_more)),
-  λ both.
-      let at = Contains_at reads r both.0 in
-      let after : from ≤ at.0 = elim (cases_lt at.0 from) [
-        | inl lt ↦ let less = ltb-true r.tx tx (subst (λ (s : PendingRead). nat_lt s.tx tx ≡ true) (get_or_from_slice_get reads at.0 r r at.1) (low.0 at.0 r (omega arith) lt)) in let same = both.1 in absurd (omega (arith, less, same))
-        | inr le ↦ le
-      ] in
-      let before : at.0 < to = elim (cases_lt at.0 to) [
-        | inl lt ↦ lt
-        | inr le ↦ let more = leb-false r.tx tx (subst (λ (s : PendingRead). leb s.tx tx ≡ false) (get_or_from_slice_get reads at.0 r r at.1) (high.1 at.0 r le (slice_get_within reads at.0 r at.1))) in let same = both.1 in absurd (omega (arith, more, same))
-      ] in
-      let place : from + (at.0 - from) ≡ at.0 = omega (arith, after) in
-      Contains-from_at (slice_range reads from to) (at.0 - from) r (slice_get-take_at (drop from reads) (to - from) (at.0 - from) r (omega (arith, after, before)) (slice_get-drop reads from (at.0 - from) ∙ ap (slice_get reads) place ∙ at.1)),
-)
+apart : (t u : ℕ) → u ≢ t → is_eq (nat_cmp t u) ≡ false
+apart t u other = elim (cases_Bool (is_eq (nat_cmp t u))) [
+  | inl tie ↦ absurd (other (sym (exact_unsigned t u (ties (nat_cmp t u) tie))))
+  | inr none ↦ none
+]
+  where
+    ties : (o : Ordering) → is_eq o ≡ true → o ≡ Equal
+    ties Less e = absurd cc
+    ties Equal e = refl
+    ties Greater e = absurd cc
+
+module _ (old new : Pending) (tx : ℕ) (w : Option (Vec Name Global)) (updates : Updates nat_cmp old.reads new.reads tx w) where
+  changed-own : items_by new tx ≡ or_nothing w
+  changed-own = ap or_nothing updates.1
+
+  pub changed-others : (t : ℕ) → t ≢ tx → items_by new t ≡ items_by old t
+  changed-others t other = ap or_nothing (updates.2 t (apart tx t other))
+
+  pub added : (x : Name) → or_nothing w ≡ items_by old tx ++ x ∷ [] → AddsRead old new tx x
+  added x is = record { own = changed-own ∙ is; others = changed-others }
+
+  same-still : items_by old tx ≡ or_nothing w → AreSame old new
+  same-still same t = elim (cases_Bool (t == tx)) [
+    | inl hit ↦ subst (λ u. items_by new u ≡ items_by old u) (sym (eqb-true t tx hit)) (changed-own ∙ sym same)
+    | inr miss ↦ changed-others t (eqb-false t tx miss)
+  ]
+
+-- a value that is written back as it was
+pub unchanged : {A E : Type 0} (r : Result A E) (old new : Pending) (tx : ℕ) (w : Option (Vec Name Global))
+    → Updates nat_cmp old.reads new.reads tx w → items_by old tx ≡ or_nothing w → OnErr r (AreSame old new)
+unchanged (Ok a) old new tx w updates same = tt
+unchanged (Err e) old new tx w updates same = same-still old new tx w updates same
 
 -- ---- reads in a longer log
 
@@ -71,14 +82,29 @@ HasRead-cases es bs tx x has front back =
 
 -- ---- what stays pending
 
-pub pending-fresh : ArePending [] []
-pending-fresh = record {
-  by_tx = λ i j d lt within. absurd (omega arith);
-  each = λ r. (λ has. absurd (omega (arith, has.1)), λ both. absurd (let at = read_at [] r.tx r.item both.0 in let none = at.2 in cc));
-}
+nothing_in : (x : Name) → Contains [] x → ⊥
+nothing_in x has = absurd (omega (arith, has.1))
+
+pub pending-fresh : (p : Pending) → ((tx : ℕ) → items_by p tx ≡ []) → ArePending p []
+pending-fresh p none tx x = (
+  λ has. absurd (nothing_in x (subst (λ xs. Contains xs x) (none tx) has)),
+  λ both. absurd (let at = read_at [] tx x both.0 in let is = at.2 in cc),
+)
+
+pub pending-same : (p new : Pending) (es : List Entry) → ArePending p es → AreSame p new → ArePending new es
+pending-same p new es pending same tx x = subst (λ xs. Contains xs x ↔ (HasRead es tx x × (HasEnded es tx → ⊥))) (sym (same tx)) (pending tx x)
+
+-- a read that was added and taken back
+pub added-back : (p mid new : Pending) (tx : ℕ) (x : Name) → AddsRead p mid tx x
+    → ((items : List Name) (item : Name) → items_by mid tx ≡ items ++ item ∷ [] → items_by new tx ≡ items)
+    → ((t : ℕ) → t ≢ tx → items_by new t ≡ items_by mid t) → AreSame p new
+added-back p mid new tx x adds own others t = elim (cases_Bool (t == tx)) [
+  | inl hit ↦ subst (λ u. items_by new u ≡ items_by p u) (sym (eqb-true t tx hit)) (own (items_by p tx) x adds.own)
+  | inr miss ↦ let apart = eqb-false t tx miss in others t apart ∙ adds.others t apart
+]
 
 -- a read of a transaction that has no end
-module _ (reads new : List PendingRead) (es : List Entry) (tx : ℕ) (x : Name) (v : ℕ) (pending : ArePending reads es) (active : HasEnded es tx → ⊥) where
+module _ (p new : Pending) (es : List Entry) (tx : ℕ) (x : Name) (v : ℕ) (pending : ArePending p es) (active : HasEnded es tx → ⊥) where
   abbrev one : List Entry
   one = Read tx x v ∷ []
 
@@ -90,139 +116,85 @@ module _ (reads new : List PendingRead) (es : List Entry) (tx : ℕ) (x : Name) 
   open_still : (t : ℕ) → (HasEnded es t → ⊥) → HasEnded (es ++ one) t → ⊥
   open_still t unended ended = HasEnded-cases es one t ended unended (no_end t)
 
-  from_either : (r : PendingRead) → (r ≡ record { tx = tx; item = x }) ⊎ Contains reads r → HasRead (es ++ one) r.tx r.item × (HasEnded (es ++ one) r.tx → ⊥)
-  from_either r (inl is) = subst (λ (s : PendingRead). HasRead (es ++ one) s.tx s.item × (HasEnded (es ++ one) s.tx → ⊥)) (sym is) (read_in (es ++ one) tx x (length es) v (middle_at es (Read tx x v) []), open_still tx active)
-  from_either r (inr has) = let old = (pending.each r).0 has in (HasRead-append es one r.tx r.item old.0, open_still r.tx old.1)
+  was_there : (t : ℕ) (y : Name) → Contains (items_by p t) y → HasRead (es ++ one) t y × (HasEnded (es ++ one) t → ⊥)
+  was_there t y has = let old = (pending t y).0 has in (HasRead-append es one t y old.0, open_still t old.1)
 
-  is_new : (r : PendingRead) (m w : ℕ) → slice_get one m ≡ Some (Read r.tx r.item w) → r ≡ record { tx = tx; item = x }
-  is_new r zero w at =
-      let own : r.tx ≡ tx = cc in
-      let item : r.item ≡ x = cc in
-      λ i. record { tx = own i; item = item i }
-  is_new r (suc m) w at = absurd cc
+  is_now : HasRead (es ++ one) tx x × (HasEnded (es ++ one) tx → ⊥)
+  is_now = (read_in (es ++ one) tx x (length es) v (middle_at es (Read tx x v) []), open_still tx active)
 
-  pub pending-read : AreByTx new → ((r : PendingRead) → Contains new r ↔ ((r ≡ record { tx = tx; item = x }) ⊎ Contains reads r)) → ArePending new (es ++ one)
-  pending-read by_tx more = record {
-    by_tx = by_tx;
-    each = λ r. (λ has. from_either r ((more r).0 has), λ both. (more r).1 (HasRead-cases es one r.tx r.item both.0 (λ old. inr ((pending.each r).1 (old, λ ended. both.1 (HasEnded-append es one r.tx ended)))) (λ m w at. inl (is_new r m w at))));
-  }
+  is_new : (t : ℕ) (y : Name) (m w : ℕ) → slice_get one m ≡ Some (Read t y w) → (t ≡ tx) × (y ≡ x)
+  is_new t y zero w at = let own : t ≡ tx = cc in let item : y ≡ x = cc in (own, item)
+  is_new t y (suc m) w at = absurd cc
+
+  was_read : (t : ℕ) (y : Name) → HasRead es t y → (HasEnded (es ++ one) t → ⊥) → Contains (items_by p t) y
+  was_read t y has active_still = (pending t y).1 (has, λ ended. active_still (HasEnded-append es one t ended))
+
+  pub pending-read : AddsRead p new tx x → ArePending new (es ++ one)
+  pending-read adds t y = elim (cases_Bool (t == tx)) [
+    | inl hit ↦
+        let same = eqb-true t tx hit in
+        let own : items_by new t ≡ items_by p t ++ x ∷ [] = subst (λ u. items_by new u ≡ items_by p u ++ x ∷ []) (sym same) adds.own in (
+          λ has. elim (Contains-append_cases (items_by p t) (x ∷ []) y (subst (λ xs. Contains xs y) own has)) [
+            | inl old ↦ was_there t y old
+            | inr last ↦
+                let is = is_single x y last in
+                subst (λ u. HasRead (es ++ one) u y × (HasEnded (es ++ one) u → ⊥)) (sym same)
+                (subst (λ z. HasRead (es ++ one) tx z × (HasEnded (es ++ one) tx → ⊥)) (sym is) is_now)
+          ],
+          λ both. subst (λ xs. Contains xs y) (sym own) (
+              HasRead-cases es one t y both.0
+              (λ old. Contains-append_left (items_by p t) (x ∷ []) y (was_read t y old both.1))
+              (λ m w at. Contains-append_right (items_by p t) (x ∷ []) y (Contains-from_at (x ∷ []) 0 y (ap Some (sym (is_new t y m w at).1))))
+              ),
+        )
+    | inr miss ↦
+        let apart = eqb-false t tx miss in
+        let kept = adds.others t apart in (
+          λ has. was_there t y (subst (λ xs. Contains xs y) kept has),
+          λ both. subst (λ xs. Contains xs y) (sym kept) (
+              HasRead-cases es one t y both.0 (λ old. was_read t y old both.1) (λ m w at. absurd (apart (is_new t y m w at).0))
+              ),
+        )
+  ]
 
 -- a block that ends a transaction and reads nothing
-pub pending-ended : (reads new : List PendingRead) (es bs : List Entry) (tx : ℕ) → ArePending reads es → HasEnded bs tx → ((t : ℕ) → HasEnded bs t → t ≡ tx) → ((m t : ℕ) (x : Name) (v : ℕ) → slice_get bs m ≡ Some (Read t x v) → ⊥) → AreByTx new
-    → ((r : PendingRead) → Contains new r ↔ (Contains reads r × (r.tx ≢ tx))) → ArePending new (es ++ bs)
-pending-ended reads new es bs tx pending ending alone quiet by_tx fewer = record {
-  by_tx = by_tx;
-  each = λ r. (
-    λ has.
-        let both = (fewer r).0 has in
-        let old = (pending.each r).0 both.0 in
-        (HasRead-append es bs r.tx r.item old.0, λ ended. HasEnded-cases es bs r.tx ended old.1 (λ now. both.1 (alone r.tx now))),
-    λ both. (fewer r).1 (
-      (pending.each r).1 (
-        HasRead-cases es bs r.tx r.item both.0 (λ old. old) (λ m v at. absurd (quiet m r.tx r.item v at)),
-        λ ended. both.1 (HasEnded-append es bs r.tx ended),
-      ),
-      λ same. both.1 (HasEnded-append_right es bs r.tx (subst (HasEnded bs) (sym same) ending)),
-    ),
-  );
-}
-
--- ---- what a draft keeps of them
-
-module _ (reads : List PendingRead) (es : List Entry) (tx : ℕ) (touched : List Touch) (number : ℕ) (pending : ArePending reads es) where
-  pub own-kept : (HasEnded es tx → ⊥) → All (λ r. r.tx ≡ tx → KeepsItem touched number r.item) reads → (x : Name) → HasRead es tx x → KeepsItem touched number x
-  own-kept active kept x has = All_in (λ (r : PendingRead). r.tx ≡ tx → KeepsItem touched number r.item) reads (record { tx = tx; item = x }) kept ((pending.each (record { tx = tx; item = x })).1 (has, active)) refl
-
-  pub kept-own : ((x : Name) → HasRead es tx x → KeepsItem touched number x) → All (λ r. r.tx ≡ tx → KeepsItem touched number r.item) reads
-  kept-own keeps = All-from_at (λ (r : PendingRead). r.tx ≡ tx → KeepsItem touched number r.item) reads (λ n r at same. keeps r.item (subst (λ t. HasRead es t r.item) same ((pending.each r).0 (Contains-from_at reads n r at)).0))
-
--- a test of the transaction's own reads is one of all
-pub all-own : (P : Name → Type 0) (reads own : List PendingRead) (tx : ℕ) → ((r : PendingRead) → Contains own r ↔ (Contains reads r × (r.tx ≡ tx))) → All (λ r. P r.item) own ↔ All (λ r. r.tx ≡ tx → P r.item) reads
-all-own P reads own tx parts = (
-  λ all. All-from_at (λ (r : PendingRead). r.tx ≡ tx → P r.item) reads (λ n r at same. All_in (λ (r : PendingRead). P r.item) own r all ((parts r).1 (Contains-from_at reads n r at, same))),
-  λ all. All-from_at (λ (r : PendingRead). P r.item) own (λ n r at. let both = (parts r).0 (Contains-from_at own n r at) in All_in (λ (r : PendingRead). r.tx ≡ tx → P r.item) reads r all both.0 both.1),
-)
+module _ (p new : Pending) (es bs : List Entry) (tx : ℕ) (pending : ArePending p es) (ending : HasEnded bs tx) (alone : (t : ℕ) → HasEnded bs t → t ≡ tx) where
+  pub pending-ended : ((m t : ℕ) (x : Name) (v : ℕ) → slice_get bs m ≡ Some (Read t x v) → ⊥) → items_by new tx ≡ []
+      → ((t : ℕ) → t ≢ tx → items_by new t ≡ items_by p t) → ArePending new (es ++ bs)
+  pending-ended quiet own others t y = elim (cases_Bool (t == tx)) [
+    | inl hit ↦
+        let same = eqb-true t tx hit in (
+          λ has. absurd (nothing_in y (subst (λ xs. Contains xs y) (ap (items_by new) same ∙ own) has)),
+          λ both. absurd (both.1 (HasEnded-append_right es bs t (subst (HasEnded bs) (sym same) ending))),
+        )
+    | inr miss ↦
+        let apart = eqb-false t tx miss in
+        let kept = others t apart in (
+          λ has.
+              let old = (pending t y).0 (subst (λ xs. Contains xs y) kept has) in
+              (HasRead-append es bs t y old.0, λ ended. HasEnded-cases es bs t ended old.1 (λ now. apart (alone t now))),
+          λ both. subst (λ xs. Contains xs y) (sym kept) ((pending t y).1 (
+            HasRead-cases es bs t y both.0 (λ old. old) (λ m v at. absurd (quiet m t y v at)),
+            λ ended. both.1 (HasEnded-append es bs t ended),
+          )),
+        )
+  ]
 
 -- a withdrawal
-pub pending-withdrawn : (reads new : List PendingRead) (es : List Entry) (tx : ℕ) → ArePending reads es → AreByTx new → ((r : PendingRead) → Contains new r ↔ (Contains reads r × (r.tx ≢ tx))) → ArePending new (es ++ Withdraw tx ∷ [])
-pending-withdrawn reads new es tx pending by_tx fewer = pending-ended reads new es (Withdraw tx ∷ []) tx pending
+pub pending-withdrawn : (p new : Pending) (es : List Entry) (tx : ℕ) → ArePending p es → items_by new tx ≡ []
+    → ((t : ℕ) → t ≢ tx → items_by new t ≡ items_by p t) → ArePending new (es ++ Withdraw tx ∷ [])
+pending-withdrawn p new es tx pending own others = pending-ended p new es (Withdraw tx ∷ []) tx pending
     (Any-from_at (λ e. (tx_of e ≡ tx) × IsEnd e) (Withdraw tx ∷ []) 0 (Withdraw tx) refl (refl, tt))
     (λ t has. let a = Any_at (λ e. (tx_of e ≡ t) × IsEnd e) (Withdraw tx ∷ []) has in sym a.3.0 ∙ ap tx_of (is_single (Withdraw tx) a.1 (Contains-from_at (Withdraw tx ∷ []) a.0 a.1 a.2)))
     (λ m t x v at. let e = is_single (Withdraw tx) (Read t x v) (Contains-from_at (Withdraw tx ∷ []) m (Read t x v) at) in absurd cc)
-    by_tx fewer
+    own others
 
--- ---- the ends of what one transaction has, and what the others have
+-- ---- what a draft keeps of them
 
-pub from_to : (reads : List PendingRead) (tx from to : ℕ) → from ≤ length reads → IsPartitionPoint (λ r. nat_lt r.tx tx ≡ true) (λ r. nat_lt r.tx tx ≡ false) reads from → IsPartitionPoint (λ r. leb r.tx tx ≡ true) (λ r. leb r.tx tx ≡ false) reads to → from ≤ to
-from_to reads tx from to within low high = elim (cases_lt to from) [
-  | inl lt ↦
-      let at = within_at reads to (omega (arith, lt, within)) in
-      let less = ltb-true at.0.tx tx (subst (λ (s : PendingRead). nat_lt s.tx tx ≡ true) (get_or_from_slice_get reads to at.0 at.0 at.1) (low.0 to at.0 (omega arith) lt)) in
-      let more = leb-false at.0.tx tx (subst (λ (s : PendingRead). leb s.tx tx ≡ false) (get_or_from_slice_get reads to at.0 at.0 at.1) (high.1 to at.0 (omega arith) (omega (arith, lt, within)))) in
-      absurd (omega (arith, less, more))
-  | inr le ↦ le
-]
+-- a test of each of them is one of all that the log has
+module _ (P : Name → Type 0) (p : Pending) (es : List Entry) (tx : ℕ) (pending : ArePending p es) where
+  pub own-kept : (HasEnded es tx → ⊥) → All P (items_by p tx) → (x : Name) → HasRead es tx x → P x
+  own-kept active kept x has = All_in P (items_by p tx) x kept ((pending tx x).1 (has, active))
 
--- the reads without those of one transaction
-module _ (reads : List PendingRead) (tx from to : ℕ) (order : from ≤ to) (within : to ≤ length reads) where
-  abbrev left : List PendingRead
-  left = take from reads ++ drop to reads
-
-  -- one that is left, where it was: in front of the part, or behind it
-  was_at : (k : ℕ) (r : PendingRead) → slice_get left k ≡ Some r → (m : ℕ) × (slice_get reads m ≡ Some r) × (((m < from) × (m ≡ k)) ⊎ ((to ≤ m) × (m + from ≡ to + k)))
-  was_at k r at = get_cases (take from reads) (drop to reads) k r at
-      (λ here. let front = slice_get-take reads from k r here in (k, front.1, inl (front.0, refl)))
-      (λ m is here. let long = length-take-le from reads (omega (arith, order, within)) in (to + m, sym (slice_get-drop reads to m) ∙ here, inr (omega arith, omega (arith, is, long))))
-
-  pub left-by_tx : AreByTx reads → AreByTx left
-  left-by_tx sorted = AllPairs-from_at (λ (a b : PendingRead). a.tx ≤ b.tx) left (λ p q a b lt at_p at_q.
-      let was_p = was_at p a at_p in
-      let was_q = was_at q b at_q in
-      AllPairs_at (λ (c d : PendingRead). c.tx ≤ d.tx) reads was_p.0 was_q.0 a b sorted (before was_p.0 was_q.0 p q lt was_p.2 was_q.2) was_p.1 was_q.1)
-    where
-      before : (m n p q : ℕ) → p < q → ((m < from) × (m ≡ p)) ⊎ ((to ≤ m) × (m + from ≡ to + p)) → ((n < from) × (n ≡ q)) ⊎ ((to ≤ n) × (n + from ≡ to + q)) → m < n
-      before m n p q lt (inl f) (inl g) = omega (arith, lt, f.1, g.1)
-      before m n p q lt (inl f) (inr g) = omega (arith, f.0, g.0, order)
-      before m n p q lt (inr f) (inl g) = absurd (omega (arith, lt, f.0, f.1, g.0, g.1, order))
-      before m n p q lt (inr f) (inr g) = omega (arith, lt, f.1, g.1)
-
-  pub left-others : IsPartitionPoint (λ r. nat_lt r.tx tx ≡ true) (λ r. nat_lt r.tx tx ≡ false) reads from → IsPartitionPoint (λ r. leb r.tx tx ≡ true) (λ r. leb r.tx tx ≡ false) reads to
-      → (r : PendingRead) → Contains left r ↔ (Contains reads r × (r.tx ≢ tx))
-  left-others low high r = (
-    λ has.
-        let at = Contains_at left r has in
-        let was = was_at at.0 r at.1 in (
-          Contains-from_at reads was.0 r was.1,
-          other was.0 was.1 (elim was.2 [
-            | inl f ↦ inl f.0
-            | inr g ↦ inr g.0
-          ]),
-        ),
-    λ both.
-        let at = Contains_at reads r both.0 in
-        elim (cases_lt at.0 from) [
-          | inl front ↦ Contains-append_left (take from reads) (drop to reads) r (Contains-from_at (take from reads) at.0 r (slice_get-take_at reads from at.0 r front at.1))
-          | inr no_front ↦ elim (cases_lt at.0 to) [
-            | inl inside ↦ absurd (both.1 (own at.0 at.1 no_front inside))
-            | inr back ↦
-                let place : to + (at.0 - to) ≡ at.0 = omega (arith, back) in
-                Contains-append_right (take from reads) (drop to reads) r (Contains-from_at (drop to reads) (at.0 - to) r (slice_get-drop reads to (at.0 - to) ∙ ap (slice_get reads) place ∙ at.1))
-          ]
-        ],
-  )
-    where
-      less : (m : ℕ) → slice_get reads m ≡ Some r → m < from → r.tx < tx
-      less m at lt = ltb-true r.tx tx (subst (λ (s : PendingRead). nat_lt s.tx tx ≡ true) (get_or_from_slice_get reads m r r at) (low.0 m r (omega arith) lt))
-
-      more : (m : ℕ) → slice_get reads m ≡ Some r → to ≤ m → tx < r.tx
-      more m at le = leb-false r.tx tx (subst (λ (s : PendingRead). leb s.tx tx ≡ false) (get_or_from_slice_get reads m r r at) (high.1 m r le (slice_get_within reads m r at)))
-
-      other : (m : ℕ) → slice_get reads m ≡ Some r → (m < from) ⊎ (to ≤ m) → r.tx ≢ tx
-      other m at (inl lt) = λ same. let below = less m at lt in absurd (omega (arith, below, same))
-      other m at (inr le) = λ same. let above = more m at le in absurd (omega (arith, above, same))
-
-      own : (m : ℕ) → slice_get reads m ≡ Some r → from ≤ m → m < to → r.tx ≡ tx
-      own m at le lt =
-          let no_less = ltb-false r.tx tx (subst (λ (s : PendingRead). nat_lt s.tx tx ≡ false) (get_or_from_slice_get reads m r r at) (low.1 m r le (slice_get_within reads m r at))) in
-          let no_more = leb-true r.tx tx (subst (λ (s : PendingRead). leb s.tx tx ≡ true) (get_or_from_slice_get reads m r r at) (high.0 m r (omega arith) lt)) in
-          omega (arith, no_less, no_more)
+  pub kept-own : ((x : Name) → HasRead es tx x → P x) → All P (items_by p tx)
+  kept-own keeps = All-from_at P (items_by p tx) (λ n x at. keeps x ((pending tx x).0 (Contains-from_at (items_by p tx) n x at)).0)

@@ -1,78 +1,72 @@
 //! The reads of transactions that have no end yet.
 
-ghost use Rattle.std.specs.Prelude.{◌≡◌, ◌≢◌, ◌↔◌, ◌⊎◌, ◌<◌, ◌≤◌, true, false, leb, nat_lt, length, vec_len, vec_capacity, Contains};
-ghost use Rattle.std.specs.List.{remove_range};
-ghost use Rattle.std.specs.List.Sorted.{IsPartitionPoint};
-ghost use Rattle.sgt_site.specs.private.Pending.{AreByTx};
-ghost use Rattle.sgt_site.specs.declared.pending.PendingRead.{PendingRead as APendingRead};
-
-use crate::readings::insert;
 use sgt_names::{Item, Tx};
+use std::alloc::{AllocError, Global};
+use std::collections::BTreeMap;
 
-/// A read of a transaction that has no end yet.
-#[derive(Clone, Copy)]
-pub struct PendingRead {
-    pub tx: Tx,
-    pub item: Item,
+/// The items that each such transaction has read, in the order of its reads.
+#[derive(Drop)]
+pub(crate) struct Pending {
+    alloc: Global,
+    reads: BTreeMap<Tx, Vec<Item>>,
 }
 
-/// Adds a read that there is room for.
-pub(crate) fn add_read(pending: &mut Vec<PendingRead>, read: PendingRead)
-    requires by_tx { AreByTx pending.old.items }
-    requires room { vec_len pending.old < vec_capacity pending.old }
-    ensures by_tx { AreByTx pending.new.items }
-    ensures each { (r : APendingRead) → Contains pending.new.items r ↔ ((r ≡ read) ⊎ Contains pending.old.items r) }
-{
-    let at = count_upto(pending.as_slice(), read.tx);
-    insert(pending, at, read);
-}
+impl Pending {
+    ghost use Rattle.std.specs.Prelude.{◌≡◌, ◌≢◌, ℕ, [], ◌∷◌, ◌++◌, List, OnOk, OnErr};
+    ghost use Rattle.sgt_names.specs.Name.{Name};
+    ghost use Rattle.sgt_site.specs.private.Pending.{items_by, AddsRead, AreSame};
 
-/// The reads of a transaction. Two binary searches.
-pub(crate) fn reads_of(pending: &[PendingRead], tx: Tx) -> &[PendingRead]
-    requires { AreByTx pending.now }
-    ensures { (r : APendingRead) → Contains result.now r ↔ (Contains pending.now r × (r.tx ≡ tx)) }
-{
-    let from = count_below(pending, tx);
-    let to = count_upto(pending, tx);
-    &pending[from..to]
-}
+    /// Nothing was read.
+    pub(crate) fn new(alloc: Global) -> Pending
+        ensures { (tx : ℕ) → items_by result tx ≡ [] }
+    {
+        Pending {
+            alloc,
+            reads: BTreeMap::new(alloc),
+        }
+    }
 
-/// Drops the reads of a transaction. Two binary searches; the reads of transactions of greater numbers move up.
-pub(crate) fn drop_reads(pending: &mut Vec<PendingRead>, tx: Tx)
-    requires { AreByTx pending.old.items }
-    ensures by_tx { AreByTx pending.new.items }
-    ensures each { (r : APendingRead) → Contains pending.new.items r ↔ (Contains pending.old.items r × (r.tx ≢ tx)) }
-{
-    let from = count_below(pending.as_slice(), tx);
-    let to = count_upto(pending.as_slice(), tx);
-    cut(pending, from, to);
-}
+    /// Adds a read. A search of the transactions.
+    pub(crate) fn add(&mut self, tx: Tx, item: Item) -> Result<(), AllocError>
+        ensures ok { OnOk result (AddsRead self.old self.new tx item) }
+        ensures err { OnErr result (AreSame self.old self.new) }
+    {
+        match self.reads.get_mut(&tx) {
+            Some(items) => items.push(item)?,
+            None => {
+                let mut items = Vec::new(self.alloc);
+                items.push(item)?;
+                self.reads.insert(tx, items)?;
+            }
+        }
+        Ok(())
+    }
 
-// Takes a part out.
-fn cut(pending: &mut Vec<PendingRead>, from: usize, to: usize)
-    requires order { from ≤ to }
-    requires within { to ≤ length pending.old.items }
-    ensures { pending.new.items ≡ remove_range pending.old.items from to }
-{
-    let end = pending.len();
-    pending.copy_within(to..end, from);
-    pending.truncate(end - (to - from));
-}
+    /// Takes the transaction's last read back. A search of the transactions.
+    pub(crate) fn take_back(&mut self, tx: Tx)
+        ensures own { (items : List Name) (item : Name) → items_by self.old tx ≡ items ++ item ∷ [] → items_by self.new tx ≡ items }
+        ensures others { (t : ℕ) → t ≢ tx → items_by self.new t ≡ items_by self.old t }
+    {
+        if let Some(items) = self.reads.get_mut(&tx) {
+            let _ = items.pop();
+        }
+    }
 
-// How many are of smaller transactions.
-fn count_below(pending: &[PendingRead], tx: Tx) -> usize
-    requires { AreByTx pending.now }
-    ensures within { result ≤ length pending.now }
-    ensures point { IsPartitionPoint (λ r. nat_lt r.tx tx ≡ true) (λ r. nat_lt r.tx tx ≡ false) pending.now result }
-{
-    pending.partition_point(|r| r.tx.number() < tx.number())
-}
+    /// The items that the transaction has read. A search of the transactions.
+    pub(crate) fn items_of(&self, tx: Tx) -> &[Item]
+        ensures { result.now ≡ items_by self.now tx }
+    {
+        match self.reads.get(&tx) {
+            Some(items) => items.as_slice(),
+            None => &[],
+        }
+    }
 
-// How many are of this transaction or smaller ones.
-fn count_upto(pending: &[PendingRead], tx: Tx) -> usize
-    requires { AreByTx pending.now }
-    ensures within { result ≤ length pending.now }
-    ensures point { IsPartitionPoint (λ r. leb r.tx tx ≡ true) (λ r. leb r.tx tx ≡ false) pending.now result }
-{
-    pending.partition_point(|r| r.tx.number() <= tx.number())
+    /// Drops the reads of a transaction. A search of the transactions.
+    pub(crate) fn drop_reads(&mut self, tx: Tx)
+        ensures own { items_by self.new tx ≡ [] }
+        ensures others { (t : ℕ) → t ≢ tx → items_by self.new t ≡ items_by self.old t }
+    {
+        let _ = self.reads.remove(&tx);
+    }
 }

@@ -19,7 +19,7 @@ mod pledges;
 use crate::cell::{Cell, Install, Reader, Writer};
 use crate::cells::Cells;
 use crate::fault::SiteFault;
-use crate::pending::{PendingRead, add_read, drop_reads};
+use crate::pending::Pending;
 use crate::readings::insert;
 use sgt_names::{Entry, Holding, Item, MAX_ITEMS, Seen, SiteNo, Touch, Tx};
 use std::alloc::{AllocError, Global};
@@ -39,8 +39,8 @@ pub struct Site {
     // whose pledge stands, and what its draft touches here
     pledged: Option<Tx>,
     part: Vec<Touch>,
-    // the reads of transactions that have no end here, by rising transaction
-    pending: Vec<PendingRead>,
+    // the reads of transactions that have no end here
+    pending: Pending,
 }
 
 impl Model for Site {
@@ -69,7 +69,7 @@ impl Model for Site {
       log = vec_capacity s.log - vec_len s.log;
       installed = vec_capacity s.installed - vec_len s.installed;
       ended = vec_capacity s.ended - vec_len s.ended;
-    }) × ArePending s.pending.items s.log.items };
+    }) × ArePending s.pending s.log.items };
 }
 
 impl Site {
@@ -109,7 +109,7 @@ impl Site {
             ended: Vec::new(alloc),
             pledged: None,
             part: Vec::new(alloc),
-            pending: Vec::new(alloc),
+            pending: Pending::new(alloc),
         })
     }
 
@@ -158,9 +158,8 @@ impl Site {
     /// - S7: the pledge that stands is its own.
     /// - S4: there was no memory.
     ///
-    /// Searches the items, the reads of this one, the ended transactions and the reads of the others, each in the logarithm of
-    /// their number, and not the log. The reads of this item by transactions of greater numbers move by a place, and so do all
-    /// reads of those that have no end.
+    /// Searches the items, the reads of this one, the ended transactions and those that have read and have no end, each in the
+    /// logarithm of their number, and not the log. The reads of this item by transactions of greater numbers move by a place.
     pub fn read(&mut self, tx: Tx, item: Item) -> Result<Seen, SiteFault>
         ensures value { IfOk result (λ seen. value_at self.old.items self.old.entries item ≡ Some seen.value) }
         ensures version { IfOk result (λ seen. seen.version ≡ version_at self.old.entries item) }
@@ -190,22 +189,24 @@ impl Site {
         if !make_room(&mut self.log, room) {
             return Err(SiteFault::Memory);
         }
-        if !make_room(&mut self.pending, 1) {
+        let Ok(()) = self.pending.add(tx, item) else {
             return Err(SiteFault::Memory);
-        }
+        };
         match self.cells.answer(at, tx) {
             Ok(seen) => {
                 let value = seen.value;
                 self.log.push_reserved(Entry::Read { tx, item, value });
-                add_read(&mut self.pending, PendingRead { tx, item });
                 Ok(seen)
             }
-            Err(_) => Err(SiteFault::Memory),
+            Err(_) => {
+                self.pending.take_back(tx);
+                Err(SiteFault::Memory)
+            }
         }
     }
 
     /// Ends a transaction as withdrawn, under its pledge for whichever draft. Takes no memory; the cost is a search of the ended
-    /// transactions and one of the reads of those that have no end; those of greater numbers move.
+    /// transactions, of which those of greater numbers move, and one of those that have read and have no end.
     ///
     /// - S5: no pledge of the transaction stands.
     pub fn withdraw(&mut self, tx: Tx) -> Result<(), SiteFault>
@@ -219,7 +220,7 @@ impl Site {
         }
         self.log.push_reserved(Entry::Withdraw { tx });
         add_ended(&mut self.ended, tx);
-        drop_reads(&mut self.pending, tx);
+        self.pending.drop_reads(tx);
         self.pledged = None;
         self.part.clear();
         Ok(())

@@ -7,7 +7,6 @@ ghost use Rattle.sgt_site.specs.State.{change_entry, want_entry};
 use super::{Site, add_ended, is_pledged};
 use crate::cell::Install;
 use crate::fault::SiteFault;
-use crate::pending::drop_reads;
 use crate::site_part::part_at;
 use sgt_arena::Handle;
 use sgt_names::{Change, Draft, Entry, Item, Touch, Tx};
@@ -24,7 +23,7 @@ impl Site {
     /// - S5: no pledge of the transaction stands, or the draft reads or writes otherwise here than the one that was pledged.
     ///
     /// Goes over what the draft touches here, with a search of the items for each. Where it read an item, the committed readers
-    /// of newer versions move by a place, and so do the reads of transactions of greater numbers that have no end.
+    /// of newer versions move by a place.
     pub fn install(&mut self, tx: Tx, handle: Handle, draft: &Draft) -> Result<(), SiteFault>
         ensures ok { OnOk result (self.new ≡ record self.old {
           entries = self.old.entries ++ commit_block tx (writing_in (at_site self.old.number draft.now.touched));
@@ -46,14 +45,14 @@ impl Site {
         self.cells.note(&install, self.part.as_slice());
         self.installed.push_reserved(install);
         add_ended(&mut self.ended, tx);
-        drop_reads(&mut self.pending, tx);
+        self.pending.drop_reads(tx);
         self.pledged = None;
         self.part.clear();
         Ok(())
     }
 
     /// Ends a transaction as refused, under its pledge for this draft: what it asked for by rising item, and its end. No value
-    /// changes. Takes no memory, and goes over what the draft touches here; the reads of transactions of greater numbers that have no end move up.
+    /// changes. Takes no memory, and goes over what the draft touches here.
     ///
     /// - S5: no pledge of the transaction stands, or the draft reads or writes otherwise here than the one that was pledged.
     pub fn refuse(&mut self, tx: Tx, draft: &Draft) -> Result<(), SiteFault>
@@ -73,7 +72,7 @@ impl Site {
         log_wants(&mut self.log, tx, self.part.as_slice());
         self.log.push_reserved(Entry::Refuse { tx });
         add_ended(&mut self.ended, tx);
-        drop_reads(&mut self.pending, tx);
+        self.pending.drop_reads(tx);
         self.pledged = None;
         self.part.clear();
         Ok(())

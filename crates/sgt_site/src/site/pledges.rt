@@ -4,15 +4,15 @@ ghost use Rattle.std.specs.Prelude.{◌≡◌, ◌↔◌, ◌<◌, Some, [], len
 ghost use Rattle.std.specs.Option.{ForSome};
 ghost use Rattle.sgt_names.specs.Draft.{AreRising};
 ghost use Rattle.sgt_site.specs.private.Cells.{HasItem, InCells, KeepsItem};
-ghost use Rattle.sgt_site.specs.private.Pending.{AreByTx};
+ghost use Rattle.sgt_site.specs.private.Pending.{items_by};
 
 use super::{Site, has_ended, is_pledged, make_room};
 use crate::cell::Install;
 use crate::cells::Cells;
 use crate::fault::SiteFault;
-use crate::pending::{PendingRead, reads_of};
+use crate::pending::Pending;
 use crate::site_part::{keeps, part_at};
-use sgt_names::{Draft, Entry, Seen, SiteNo, Touch, Tx};
+use sgt_names::{Draft, Entry, Item, Seen, SiteNo, Touch, Tx};
 
 impl Site {
     ghost use Rattle.std.specs.Prelude.{◌≡◌, ◌↔◌, Some, None, IsOk, OnOk, OnErr, IfErr};
@@ -93,13 +93,7 @@ impl Site {
         if self.pledged.is_some() {
             return Err(SiteFault::PledgeOpen);
         }
-        if !keeps_reads(
-            &self.cells,
-            self.pending.as_slice(),
-            tx,
-            self.number,
-            touched,
-        ) {
+        if !keeps_reads(&self.cells, &self.pending, tx, self.number, touched) {
             return Err(SiteFault::DraftDiffers);
         }
         Ok(())
@@ -129,21 +123,14 @@ fn is_known(cells: &Cells, number: SiteNo, touch: &Touch) -> bool
 }
 
 // Whether the draft's reads at the site are those of the transaction.
-fn keeps_reads(
-    cells: &Cells,
-    pending: &[PendingRead],
-    tx: Tx,
-    number: SiteNo,
-    touched: &[Touch],
-) -> bool
-    requires by_tx { AreByTx pending.now }
+fn keeps_reads(cells: &Cells, pending: &Pending, tx: Tx, number: SiteNo, touched: &[Touch]) -> bool
     requires rising { AreRising touched.now }
     ensures logged { IsTrue result → All (λ t. t.site ≡ number → ForSome t.seen (InCells cells.now tx t.item)) touched.now }
-    ensures kept { IsTrue result → All (λ r. r.tx ≡ tx → KeepsItem touched.now number r.item) pending.now }
+    ensures kept { IsTrue result → All (KeepsItem touched.now number) (items_by pending.now tx) }
     ensures differs { All (λ t. t.site ≡ number → ForSome t.seen (InCells cells.now tx t.item)) touched.now
-        → All (λ r. r.tx ≡ tx → KeepsItem touched.now number r.item) pending.now → IsTrue result }
+        → All (KeepsItem touched.now number) (items_by pending.now tx) → IsTrue result }
 {
-    all_logged(cells, tx, number, touched) && all_kept(reads_of(pending, tx), number, touched)
+    all_logged(cells, tx, number, touched) && all_kept(pending.items_of(tx), number, touched)
 }
 
 // Whether each read that the draft keeps at the site is the transaction's.
@@ -174,13 +161,13 @@ fn is_same(there: Option<Seen>, seen: Seen) -> bool
     there == Some(seen)
 }
 
-// Whether the draft keeps each of these reads.
-fn all_kept(own: &[PendingRead], number: SiteNo, touched: &[Touch]) -> bool
+// Whether the draft keeps a read of each of these items.
+fn all_kept(own: &[Item], number: SiteNo, touched: &[Touch]) -> bool
     requires { AreRising touched.now }
-    ensures { IsTrue result ↔ All (λ r. KeepsItem touched.now number r.item) own.now }
+    ensures { IsTrue result ↔ All (KeepsItem touched.now number) own.now }
 {
-    for read in own {
-        if !keeps(number, touched, read.item) {
+    for item in own {
+        if !keeps(number, touched, *item) {
             return false;
         }
     }

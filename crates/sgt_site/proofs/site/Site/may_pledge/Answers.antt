@@ -27,9 +27,6 @@ returns-then-is_some-clause-refused c = rw (← c.self.view_is, ← c.self.invar
   (λ none. pledged_some c.self.inside.pledged c.self.inside.part.items (sym c.if-is_some.ensures) none),
 )
 
-pub keeps_reads-requires-clause-by_tx : goal.keeps_reads-requires-clause-by_tx
-keeps_reads-requires-clause-by_tx c = rw c.as_slice-2.ensures.value c.self.invariant.1.by_tx
-
 pub returns-then-not-keeps_reads-clause-refused : goal.returns-then-not-keeps_reads-clause-refused
 returns-then-not-keeps_reads-clause-refused c =
     let logged = keeps-logged _ c.self.inside.cells c.self.invariant.0.site c.self.invariant.0.names_same c.self.invariant.0.each c.args.tx c.args.touched.now in
@@ -42,7 +39,7 @@ returns-then-not-keeps_reads-clause-refused c =
         ),
         ap (λ o. pledge_of o c.self.inside.part.items) (pledged_none c.self.inside.pledged (sym c.if-is_some.ensures)),
       ),
-      (λ keeps. false≢true (c.if-not-keeps_reads.ensures.differs (logged keeps) (rw c.as_slice-2.ensures.value (kept-own _ _ _ _ _ c.self.invariant.1 (own keeps))))),
+      (λ keeps. false≢true (c.if-not-keeps_reads.ensures.differs (logged keeps) (kept-own _ c.self.inside.pending _ _ c.self.invariant.1 (own keeps)))),
     )
 
 pub returns-clause-allowed : goal.returns-clause-allowed
@@ -52,5 +49,5 @@ returns-clause-allowed c =
       known = rw (← c.self.invariant.0.names_same) (known-part _ (HasItem c.self.inside.cells) _ (c.if-not-changes_known.ensures.0 refl));
       active = λ ended. false≢true (c.if-has_ended.ensures.1 (rw c.as_slice.ensures.value ((c.self.invariant.0.ends c.args.tx).1 ended)));
       free = ap (λ o. pledge_of o c.self.inside.part.items) (pledged_none c.self.inside.pledged (sym c.if-is_some.ensures));
-      same = keeps-from _ c.self.inside.cells c.self.invariant.0.site c.self.invariant.0.names_same c.self.invariant.0.each _ _ (c.if-not-keeps_reads.ensures.logged refl) (own-kept _ _ _ _ _ c.self.invariant.1 active (rw c.as_slice-2.ensures.value at (c.if-not-keeps_reads.ensures.kept refl)));
+      same = keeps-from _ c.self.inside.cells c.self.invariant.0.site c.self.invariant.0.names_same c.self.invariant.0.each _ _ (c.if-not-keeps_reads.ensures.logged refl) (own-kept _ c.self.inside.pending _ _ c.self.invariant.1 active (c.if-not-keeps_reads.ensures.kept refl));
     }

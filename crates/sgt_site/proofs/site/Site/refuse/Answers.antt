@@ -33,9 +33,6 @@ add_ended-requires-clause-room c =
     let room = (c.self.invariant.0.room _ pledge).ended in
     omega (arith, room)
 
-pub drop_reads-requires : goal.drop_reads-requires
-drop_reads-requires c = c.self.invariant.1.by_tx
-
 pub invariant_of-self : goal.invariant_of-self
 invariant_of-self c =
     let pledge = pledged_is c.self.inside.pledged c.self.inside.part.items c.args.tx (c.if-not-is_pledged.ensures.0 refl) in
@@ -43,9 +40,9 @@ invariant_of-self c =
     let changes = writing_in c.self.inside.part.items in
     rw (c.push_reserved.ensures.items, c.log_wants.ensures.entries, append_assoc, c.as_slice-2.ensures.value) (
       kept-refuse _ _ covered c.self.inside.cells _ _ _ _ c.self.invariant.0 record { rising = c.add_ended.ensures.rising; each = c.add_ended.ensures.each },
-      pending-ended _ _ _ _ c.args.tx c.self.invariant.1
+      pending-ended c.self.inside.pending c.drop_reads.new.self _ _ c.args.tx c.self.invariant.1
           (block_ends want_entry Refuse refusals-blocks c.args.tx changes)
           (block_alone want_entry Refuse refusals-blocks c.args.tx changes)
           (no_reads want_entry Refuse refusals-blocks c.args.tx changes)
-          c.drop_reads.ensures.by_tx c.drop_reads.ensures.each,
+          c.drop_reads.ensures.own c.drop_reads.ensures.others,
     )

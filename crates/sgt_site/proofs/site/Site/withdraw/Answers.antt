@@ -20,14 +20,11 @@ add_ended-requires-clause-room c =
     let room = (c.self.invariant.0.room _ pledge).ended in
     omega (arith, room)
 
-pub drop_reads-requires : goal.drop_reads-requires
-drop_reads-requires c = c.self.invariant.1.by_tx
-
 pub invariant_of-self : goal.invariant_of-self
 invariant_of-self c =
     let pledge = pledged_is c.self.inside.pledged c.self.inside.part.items c.args.tx (c.if-not-is_pledged.ensures.0 refl) in
     let covered = c.self.invariant.0.site.pledged _ pledge in
     rw c.push_reserved.ensures.items (
       kept-withdraw _ c.args.tx c.self.invariant.0.site covered.active c.self.inside.cells _ _ _ _ c.self.invariant.0 record { rising = c.add_ended.ensures.rising; each = c.add_ended.ensures.each },
-      pending-withdrawn _ _ _ c.args.tx c.self.invariant.1 c.drop_reads.ensures.by_tx c.drop_reads.ensures.each,
+      pending-withdrawn c.self.inside.pending c.drop_reads.new.self _ c.args.tx c.self.invariant.1 c.drop_reads.ensures.own c.drop_reads.ensures.others,
     )
