@@ -2,7 +2,6 @@
 use Rattle.std.proofs.Common.{◌≡◌, ℕ, Bool, List, [], ◌∷◌, map, get_or, Option, Some, None, Result, Ok, Err, refl, sym, ap, ◌∙◌, subst, arith, inl, inr, Contains}
 use mathlib.Core.Bool.{false≢true}
 use Rattle.std.specs.Prelude.{slice_get, set, IsTrue, is_some, is_ok, OnOk, OnErr, IfOk, IfErr, IfSome, IfNone, option_map, ◌↔◌}
-use Rattle.std.specs.List.{insert}
 use Rattle.std.specs.Ordering.{nat_cmp}
 use Rattle.std.specs.Cmp.{IsTotalOrder}
 use Rattle.std.specs.Cmp.Lexicographic.{slice_cmp}
@@ -16,7 +15,6 @@ use Rattle.sgt_names.specs.Ordered.{IsRisingBy, IsAt, IsGapFor}
 use Rattle.sgt_names.specs.declared.draft.Seen.{Seen}
 use Rattle.sgt_names.proofs.Lists.{map_at, Any_at, Any-from_at}
 use Rattle.sgt_names.proofs.Places.{Contains_at, Contains-from_at, AllPairs_at}
-use Rattle.sgt_names.proofs.Ranged.{rising-insert}
 use Rattle.sgt_site.specs.private.Cells.{Contents, items_of, HasItem, InCells, AreReadings, IsAnswering, IsAnswered, AnswersAt, CellsRise, answer_of}
 use Rattle.sgt_site.specs.declared.readings.Reading.{Reading}
 
@@ -87,10 +85,6 @@ seen-nowhere readings tx n gap seen = (
   λ e. absurd cc,
   λ has. absurd (no_key (λ (m : Reading). m.tx) nat_cmp nat_cmp_total readings tx n gap (record { tx = tx; seen = seen }) has refl),
 )
-
--- reads with one more
-pub readings-rise : (old : List Reading) (tx n : ℕ) (seen : Seen) → AreReadings old → IsGapFor (λ m. m.tx) nat_cmp old tx n → AreReadings (insert old n (record { tx = tx; seen = seen }))
-readings-rise old tx n seen rising gap = rising-insert (λ (m : Reading). m.tx) nat_cmp nat_cmp_total old n (record { tx = tx; seen = seen }) gap rising
 
 -- a transaction that is found has one of the reads
 pub found_reading : (readings : List Reading) (tx n : ℕ) → IsAt (λ m. m.tx) readings tx n → IsAnswering readings tx

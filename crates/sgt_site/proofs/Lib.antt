@@ -8,6 +8,7 @@ pub mod Blocks
 pub mod Parts
 pub mod Touching
 pub mod PendingReads
+pub mod LateReads
 pub mod Tails
 pub mod Keeps
 pub mod SitePart

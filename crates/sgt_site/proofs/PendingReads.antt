@@ -24,7 +24,7 @@ use Rattle.sgt_site.proofs.Basics.{is_single}
 
 -- ---- a change at one transaction
 
-apart : (t u : ℕ) → u ≢ t → is_eq (nat_cmp t u) ≡ false
+pub apart : (t u : ℕ) → u ≢ t → is_eq (nat_cmp t u) ≡ false
 apart t u other = elim (cases_Bool (is_eq (nat_cmp t u))) [
   | inl tie ↦ absurd (other (sym (exact_unsigned t u (ties (nat_cmp t u) tie))))
   | inr none ↦ none

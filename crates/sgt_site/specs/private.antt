@@ -2,4 +2,5 @@
 pub mod Cells
 pub mod Kept
 pub mod Pending
+pub mod Readings
 pub mod Tails

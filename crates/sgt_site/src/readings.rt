@@ -8,6 +8,7 @@ ghost use Rattle.sgt_site.specs.private.Tails.{IsBelow};
 
 use sgt_names::{Seen, Tx};
 use std::alloc::{AllocError, Global};
+use std::collections::BTreeMap;
 use std::marker::Model;
 
 /// A read in the log: the transaction, and what the read answered.
@@ -17,10 +18,13 @@ pub(crate) struct Reading {
     pub(crate) seen: Seen,
 }
 
-/// The reads of an item, by rising transaction.
+/// The reads of an item.
 #[derive(Drop)]
 pub(crate) struct Readings {
+    // by rising transaction
     readings: Vec<Reading>,
+    // those that came behind one of a greater transaction, so that no other is moved for them
+    late: BTreeMap<Tx, Seen>,
 }
 
 impl Model for Readings {
@@ -29,11 +33,11 @@ impl Model for Readings {
 
     ghost Value = { List Member };
 
-    ghost use Rattle.sgt_site.specs.private.Cells.{AreReadings};
+    ghost use Rattle.sgt_site.specs.private.Readings.{all_readings, AreParted};
 
-    ghost view = { λ r. r.readings.items };
+    ghost view = { λ r. all_readings r.readings.items r.late };
 
-    ghost invariant = { λ r. AreReadings r.readings.items };
+    ghost invariant = { λ r. AreParted r.readings.items r.late };
 }
 
 impl Readings {
@@ -46,6 +50,7 @@ impl Readings {
     {
         Readings {
             readings: Vec::new(alloc),
+            late: BTreeMap::new(alloc),
         }
     }
 
@@ -55,19 +60,21 @@ impl Readings {
     {
         match search(self.readings.as_slice(), tx) {
             Ok(at) => Some(self.readings[at].seen),
-            Err(_) => None,
+            Err(_) => self.late.get(&tx).copied(),
         }
     }
 
-    /// Keeps the read of a transaction that has none yet.
+    /// Keeps the read of a transaction that has none yet. Where one of a greater transaction came before it, that is a search
+    /// of the reads that came so.
     pub(crate) fn add(&mut self, tx: Tx, seen: Seen) -> Result<(), AllocError>
         requires { IsAnswering self.old tx → ⊥ }
         ensures ok { OnOk result (ReadsAlso self.old self.new (record { tx = tx; seen = seen })) }
         ensures err { OnErr result (self.new ≡ self.old) }
     {
-        self.readings.reserve(1)?;
-        if let Err(at) = search(self.readings.as_slice(), tx) {
-            insert(&mut self.readings, at, Reading { tx, seen });
+        if are_below(self.readings.as_slice(), self.readings.len(), tx) {
+            self.readings.push(Reading { tx, seen })?;
+        } else {
+            self.late.insert(tx, seen)?;
         }
         Ok(())
     }
@@ -113,7 +120,7 @@ fn are_below(readings: &[Reading], place: usize, tx: Tx) -> bool
     requires within { place ≤ length readings.now }
     ensures { IsTrue result → IsBelow (λ m. m.tx) nat_cmp readings.now tx place }
 {
-    place > 0 && readings[place - 1].tx.number() < tx.number()
+    place == 0 || readings[place - 1].tx.number() < tx.number()
 }
 
 // Where the transaction's read is, or where it would go, by a binary search.

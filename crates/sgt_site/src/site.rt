@@ -159,7 +159,7 @@ impl Site {
     /// - S4: there was no memory.
     ///
     /// Searches the items, the reads of this one, the ended transactions and those that have read and have no end, each in the
-    /// logarithm of their number, and not the log. The reads of this item by transactions of greater numbers move by a place.
+    /// logarithm of their number, and not the log.
     pub fn read(&mut self, tx: Tx, item: Item) -> Result<Seen, SiteFault>
         ensures value { IfOk result (λ seen. value_at self.old.items self.old.entries item ≡ Some seen.value) }
         ensures version { IfOk result (λ seen. seen.version ≡ version_at self.old.entries item) }

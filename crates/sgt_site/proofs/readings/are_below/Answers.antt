@@ -4,10 +4,10 @@ use Rattle.sgt_site.specs.declared.readings.Reading.{Reading}
 use Rattle.sgt_site.proofs.Tails.{below-end}
 use Rattle.sgt_site.proofs.readings.are_below.Goals as goal
 
-pub returns-then-place-gt0 : goal.returns-then-place-gt0
-returns-then-place-gt0 c = λ hit.
+pub returns-else-place-eq0 : goal.returns-else-place-eq0
+returns-else-place-eq0 c = λ hit.
     let last = c.index-readings-place.result in
     let same = ap (λ (m : Reading). m.tx) c.index-readings-place.is in
     let less = ltb-true _ _ hit in
-    below-end (λ (m : Reading). m.tx) _ _ _ last c.requires.rising (omega (arith, c.if-place-gt0.true)) c.requires.within c.index-readings-place.is
-    (omega (arith, same, less, c.number.ensures.is, c.number-then-place-gt0.ensures.is))
+    below-end (λ (m : Reading). m.tx) _ _ _ last c.requires.rising (omega (arith, c.if-place-eq0.false)) c.requires.within c.index-readings-place.is
+    (omega (arith, same, less, c.number.ensures.is, c.number-else-place-eq0.ensures.is))

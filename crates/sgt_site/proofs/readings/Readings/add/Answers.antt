@@ -1,14 +1,25 @@
-use Rattle.sgt_site.proofs.Found.{found_reading, readings-rise}
-use Rattle.sgt_site.proofs.Inserts.{Contains-insert}
+use Rattle.std.proofs.Common.{◌≡◌, arith, length, refl}
+use Rattle.sgt_site.proofs.LateReads.{also-late, also-push, parted-late, parted-tried}
 use Rattle.sgt_site.proofs.readings.Readings.add.Goals as goal
 
-pub returns-in-Err-clause-ok : goal.returns-in-Err-clause-ok
-returns-in-Err-clause-ok c = rw (← c.self.view_is, c.insert.ensures.items, c.reserve.ensures.items) (λ m. Contains-insert _ _ _ m)
+pub invariant_of-self : goal.invariant_of-self
+invariant_of-self c =
+    let long : c.len.result ≡ length c.self.inside.readings.items = omega (arith, c.len.ensures, c.self.inside.readings.ok) in
+    let below = rw (c.as_slice.ensures.value, long) at (c.if-are_below.ensures refl) in
+    parted-tried _ _ c.self.invariant c.args.tx c.args.seen (rw (← c.self.view_is) at c.requires) c.push.result _ c.push.ensures.items below
 
-pub returns-in_default-clause-ok : goal.returns-in_default-clause-ok
-returns-in_default-clause-ok c =
-    let f = found_reading _ _ _ (rw (c.as_slice.ensures.value, c.reserve.ensures.items) at c.in_default.ensures.found) in
-    absurd (c.requires (rw (← c.self.view_is) f))
+pub invariant_of-self-in_ok-insert : goal.invariant_of-self-in_ok-insert
+invariant_of-self-in_ok-insert c =
+    parted-late _ c.self.inside.late c.self.invariant c.args.tx c.args.seen (rw (← c.self.view_is) at c.requires) c.insert.new.self
+    c.insert.ensures.ordered c.in_ok-insert.ensures.updates
 
-pub invariant_of-self-in-Err : goal.invariant_of-self-in-Err
-invariant_of-self-in-Err c = rw (c.insert.ensures.items, c.reserve.ensures.items) (readings-rise _ _ _ _ c.self.invariant (rw (c.as_slice.ensures.value, c.reserve.ensures.items) at c.in-Err.ensures.absent))
+pub returns-in_ok-push-clause-ok : goal.returns-in_ok-push-clause-ok
+returns-in_ok-push-clause-ok c =
+    rw (← c.self.view_is, c.in_ok-push.ensures.items)
+    (also-push _ c.self.inside.late c.self.invariant c.args.tx c.args.seen (rw (← c.self.view_is) at c.requires))
+
+pub returns-in_ok-insert-clause-ok : goal.returns-in_ok-insert-clause-ok
+returns-in_ok-insert-clause-ok c =
+    rw (← c.self.view_is)
+    (also-late _ c.self.inside.late c.self.invariant c.args.tx c.args.seen (rw (← c.self.view_is) at c.requires) c.insert.new.self
+    c.insert.ensures.ordered c.in_ok-insert.ensures.updates)
