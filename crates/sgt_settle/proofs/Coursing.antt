@@ -1,16 +1,24 @@
 -- The course of what was done to an item, as deeds are added.
-use Rattle.std.proofs.Common.{◌≡◌, ◌⊎◌, ℕ, suc, ◌+◌, ◌<◌, ◌≤◌, List, [], ◌∷◌, ◌++◌, length, true, false, Some, refl, sym, ap, ◌∙◌, subst, arith, inl, inr, Contains, Vec}
+use Rattle.std.proofs.Common.{◌≡◌, ◌⊎◌, ℕ, suc, ◌+◌, ◌-◌, ◌<◌, ◌≤◌, List, [], ◌∷◌, ◌++◌, length, take, drop, All, true, false, Some, refl, sym, ap, ◌∙◌, subst, arith, inl, inr, Contains, Vec}
 use Rattle.std.specs.Prelude.{slice_get, slice_set}
 use Rattle.std.specs.declared.alloc.Global.{Global}
 use Rattle.std.proofs.lemmas.Bool.{cases_Bool, cases_eq, cases_lt, true≢false}
 use Rattle.std.proofs.lemmas.Option.{same_Some, slice_get_within}
 use Rattle.std.proofs.lemmas.List.{length-set, length_push}
+use Rattle.sgt_names.proofs.Places.{All_at, slice_get-drop, slice_get-take_at}
 use Rattle.sgt_order.proofs.Lists.{get_set_same, get_set_other, get_push_cases, get_push_last}
 use Rattle.sgt_certifier.proofs.Members.{place_left, nil_none}
 use Rattle.sgt_settle.specs.declared.course.Course.{Course}
 use Rattle.sgt_settle.specs.declared.deeds.Deed.{Deed}
 use Rattle.sgt_settle.specs.private.Course.{IsCourse, Fits, IsReadAdded, IsChangeAdded}
 use Rattle.sgt_settle.proofs.Lists.{push_contains, push_old, push_new}
+
+-- what holds of a part of a list holds at its places
+pub all_between : (J : Deed → Type 0) (xs : List Deed) (first end v : ℕ) (d : Deed) → All J (take (end - first) (drop first xs)) → first ≤ v → v < end → slice_get xs v ≡ Some d → J d
+all_between J xs first end v d all low high at =
+    let place : first + (v - first) ≡ v = omega (arith, low) in
+    let dropped : slice_get (drop first xs) (v - first) ≡ Some d = slice_get-drop xs first (v - first) ∙ (ap (slice_get xs) place ∙ at) in
+    All_at J (take (end - first) (drop first xs)) (v - first) d all (slice_get-take_at (drop first xs) (end - first) (v - first) d (omega (arith, low, high)) dropped)
 
 pub read_added : (done : List Deed) (old : Course) (d : Deed) (new : Course) → IsCourse done old → d.read ≡ true → IsReadAdded old d new → IsCourse (done ++ d ∷ []) new
 read_added done old d new is reads a =

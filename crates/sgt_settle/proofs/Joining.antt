@@ -1,17 +1,18 @@
 -- The edges on an item, the marks that note them, and the conflicts that they carry.
-use Rattle.std.proofs.Common.{◌≡◌, ◌⊎◌, ℕ, zero, suc, ◌+◌, ◌<◌, ◌≤◌, max, List, [], ◌∷◌, drop, length, Some, refl, sym, ap, ◌∙◌, subst, arith, inl, inr, All, Contains, Vec}
+use Rattle.std.proofs.Common.{◌≡◌, ◌⊎◌, ℕ, zero, suc, ◌+◌, ◌<◌, ◌≤◌, max, List, [], ◌∷◌, take, drop, length, Some, refl, sym, ap, ◌∙◌, subst, arith, inl, inr, All, Contains, Vec}
 use Rattle.std.specs.Prelude.{slice_get, slice_set}
 use Rattle.std.specs.Ordering.{nat_cmp}
 use Rattle.std.specs.Cmp.Lexicographic.{slice_cmp}
 use Rattle.std.specs.declared.alloc.Global.{Global}
+use Rattle.std.specs.List.Sorted.{IsNonDecreasingBy}
 use Rattle.std.proofs.lemmas.Bool.{cases_eq}
-use Rattle.std.proofs.lemmas.Option.{same_Some, slice_get_within}
+use Rattle.std.proofs.lemmas.Option.{same_Some, slice_get_within, get_or_from_slice_get}
 use Rattle.sgt_names.specs.Name.{Name}
 use Rattle.sgt_names.specs.Ordered.{IsRisingBy}
 use Rattle.sgt_names.specs.Entry.{tx_of}
 use Rattle.sgt_names.specs.declared.entry.Entry.{Entry}
 use Rattle.sgt_names.specs.declared.entry.Holding.{Holding}
-use Rattle.sgt_names.proofs.Places.{Contains_at, Contains-from_at, slice_get-drop}
+use Rattle.sgt_names.proofs.Places.{Contains_at, Contains-from_at, slice_get-drop, slice_get-take}
 use Rattle.sgt_names.proofs.Lists.{All-weaken}
 use Rattle.sgt_order.specs.Graph.{Reaches}
 use Rattle.sgt_order.proofs.Lists.{get_set_other}
@@ -102,6 +103,22 @@ pub follows_all : (links : List Link) (n : ℕ) (c : Course) (d : Deed) → Foll
 follows_all links n c d follows =
     follows_map (ComesTo (drop n links) d) (LeadsTo (drop n links) d) (ComesTo links d) (LeadsTo links d) (λ e how. elim how [ inl own ↦ inl own | inr edge ↦ inr (handed_all links n d.number e.tx d.tx edge) ])
     (λ e how. elim how [ inl own ↦ inl own | inr edge ↦ inr (handed_all links n d.number d.tx e.tx edge) ]) c d follows
+
+-- ---- in the order of the decisions
+
+-- an earlier deed was decided no later
+pub number_early : (order : List Deed) (n : ℕ) (d e : Deed) → IsNonDecreasingBy (λ (x : Deed). x.number) order → slice_get order n ≡ Some d → Contains (take n order) e → e.number ≤ d.number
+number_early order n d e sorted here has =
+    let at = Contains_at (take n order) e has in
+    let front = slice_get-take order n at.0 e at.1 in
+    let before = front.0 in
+    let le = sorted at.0 n d (omega (arith, before)) (slice_get_within order n d here) in
+    let mine = ap (λ (x : Deed). x.number) (get_or_from_slice_get order at.0 e d front.1) in
+    let yours = ap (λ (x : Deed). x.number) (get_or_from_slice_get order n d d here) in
+    omega (arith, le, mine, yours)
+
+pub front_contains : (order : List Deed) (n : ℕ) (e : Deed) → Contains (take n order) e → Contains order e
+front_contains order n e has = let at = Contains_at (take n order) e has in Contains-from_at order at.0 e (slice_get-take order n at.0 e at.1).1
 
 -- ---- edges
 

@@ -26,10 +26,10 @@ loop-link-preserved c =
       step = inv.step;
       under = record {
         from = under_far old.from.items c.mark_far.new.marks.items link.to link.from d.tx old.step c.mark_far.ensures inv.under.from;
-        to = under_far old.to.items c.mark_far-2.new.marks.items link.from link.to d.tx old.step c.mark_far-2.ensures inv.under.to;
+        to = under_far old.to.items c.mark_far-in-loop-link.new.marks.items link.from link.to d.tx old.step c.mark_far-in-loop-link.ensures inv.under.to;
       };
       noted = record {
         from = noted_far (λ a. IsHanded links d.number a d.tx) old.from.items c.mark_far.new.marks.items link.to link.from d.tx old.step c.mark_far.ensures (λ near. (link, has, refl, near, early)) inv.noted.from;
-        to = noted_far (λ b. IsHanded links d.number d.tx b) old.to.items c.mark_far-2.new.marks.items link.from link.to d.tx old.step c.mark_far-2.ensures (λ near. (link, has, near, refl, early)) inv.noted.to;
+        to = noted_far (λ b. IsHanded links d.number d.tx b) old.to.items c.mark_far-in-loop-link.new.marks.items link.from link.to d.tx old.step c.mark_far-in-loop-link.ensures (λ near. (link, has, near, refl, early)) inv.noted.to;
       };
     }
