@@ -1,8 +1,8 @@
 -- The course of what was done to an item, as deeds are added.
-use Rattle.std.proofs.Common.{◌≡◌, ◌⊎◌, ℕ, suc, ◌+◌, ◌-◌, ◌<◌, ◌≤◌, List, [], ◌∷◌, ◌++◌, length, take, drop, All, true, false, Some, refl, sym, ap, ◌∙◌, subst, arith, inl, inr, Contains, Vec}
-use Rattle.std.specs.Prelude.{slice_get, slice_set}
+use Rattle.std.proofs.Common.{◌≡◌, ◌⊎◌, ℕ, suc, ◌+◌, ◌-◌, ◌<◌, ◌≤◌, List, [], ◌∷◌, ◌++◌, length, take, drop, All, true, false, Some, sym, ap, ◌∙◌, subst, arith, inl, inr, Contains, Vec}
+use Rattle.std.specs.Prelude.{slice_get}
 use Rattle.std.specs.declared.alloc.Global.{Global}
-use Rattle.std.proofs.lemmas.Bool.{cases_Bool, cases_eq, cases_lt, true≢false}
+use Rattle.std.proofs.lemmas.Bool.{cases_Bool, cases_eq, true≢false}
 use Rattle.std.proofs.lemmas.Option.{same_Some, slice_get_within}
 use Rattle.std.proofs.lemmas.List.{length-set, length_push}
 use Rattle.sgt_names.proofs.Places.{All_at, slice_get-drop, slice_get-take_at}
@@ -10,7 +10,7 @@ use Rattle.sgt_order.proofs.Lists.{get_set_same, get_set_other, get_push_cases, 
 use Rattle.sgt_certifier.proofs.Members.{place_left, nil_none}
 use Rattle.sgt_settle.specs.declared.course.Course.{Course}
 use Rattle.sgt_settle.specs.declared.deeds.Deed.{Deed}
-use Rattle.sgt_settle.specs.private.Course.{IsCourse, Fits, IsReadAdded, IsChangeAdded}
+use Rattle.sgt_settle.specs.private.Course.{IsCourse, IsReadAdded, IsChangeAdded}
 use Rattle.sgt_settle.proofs.Lists.{push_contains, push_old, push_new}
 
 -- what holds of a part of a list holds at its places

@@ -1,7 +1,6 @@
 -- Where each operation of an item is joined to its neighbours among those decided before, edges carry all conflicts there.
-use Rattle.std.proofs.Common.{◌≡◌, ◌≢◌, ◌⊎◌, ℕ, suc, ◌+◌, ◌-◌, ◌<◌, ◌≤◌, max, List, [], ◌∷◌, ◌++◌, length, true, false, None, Some, refl, sym, ap, ◌∙◌, subst, arith, inl, inr, All, Contains, Vec}
+use Rattle.std.proofs.Common.{◌≡◌, ℕ, suc, ◌-◌, ◌<◌, ◌≤◌, max, List, [], ◌∷◌, ◌++◌, length, true, false, Some, sym, ap, ◌∙◌, subst, arith, inl, inr, Contains}
 use Rattle.std.specs.Prelude.{slice_get}
-use Rattle.std.specs.declared.alloc.Global.{Global}
 use Rattle.std.proofs.Math.Nat.{le-max_left, le-max_right}
 use Rattle.std.proofs.lemmas.Bool.{cases_Bool, cases_lt, true≢false}
 use Rattle.std.proofs.lemmas.Option.{same_Some, slice_get_within, slice_get_cases}
@@ -11,8 +10,8 @@ use Rattle.sgt_order.specs.Graph.{Leads, Reaches}
 use Rattle.sgt_settle.specs.declared.course.Course.{Course}
 use Rattle.sgt_settle.specs.declared.deeds.Deed.{Deed}
 use Rattle.sgt_settle.specs.declared.link.Link.{Link}
-use Rattle.sgt_settle.specs.private.Deeds.{IsSound, IsBefore}
-use Rattle.sgt_settle.specs.private.Course.{IsWriteAt, IsReadAt, IsCourse, Fits, AreFrontNoted, AreBackNoted, AreReadsNoted, FollowsAsIncrement, FollowsAsWrite, Follows}
+use Rattle.sgt_settle.specs.private.Deeds.{IsSound}
+use Rattle.sgt_settle.specs.private.Course.{IsCourse, Fits, AreFrontNoted, AreBackNoted, FollowsAsIncrement, FollowsAsWrite, Follows}
 use Rattle.sgt_settle.specs.private.Joined.{IsHanded, GetsTo, Precedes, AreDeedsCarried, ComesTo, LeadsTo}
 use Rattle.sgt_settle.proofs.Lists.{push_contains}
 use Rattle.sgt_settle.proofs.Carrying.{reaches_map}

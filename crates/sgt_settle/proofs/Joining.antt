@@ -1,14 +1,11 @@
 -- The edges on an item, the marks that note them, and the conflicts that they carry.
-use Rattle.std.proofs.Common.{◌≡◌, ◌⊎◌, ℕ, zero, suc, ◌+◌, ◌<◌, ◌≤◌, max, List, [], ◌∷◌, take, drop, length, Some, refl, sym, ap, ◌∙◌, subst, arith, inl, inr, All, Contains, Vec}
+use Rattle.std.proofs.Common.{◌≡◌, ◌⊎◌, ℕ, zero, suc, ◌+◌, ◌<◌, ◌≤◌, max, List, [], ◌∷◌, take, drop, length, Some, sym, ap, ◌∙◌, subst, arith, inl, inr, Contains, Vec}
 use Rattle.std.specs.Prelude.{slice_get, slice_set}
-use Rattle.std.specs.Ordering.{nat_cmp}
-use Rattle.std.specs.Cmp.Lexicographic.{slice_cmp}
 use Rattle.std.specs.declared.alloc.Global.{Global}
 use Rattle.std.specs.List.Sorted.{IsNonDecreasingBy}
 use Rattle.std.proofs.lemmas.Bool.{cases_eq}
 use Rattle.std.proofs.lemmas.Option.{same_Some, slice_get_within, get_or_from_slice_get}
 use Rattle.sgt_names.specs.Name.{Name}
-use Rattle.sgt_names.specs.Ordered.{IsRisingBy}
 use Rattle.sgt_names.specs.Entry.{tx_of}
 use Rattle.sgt_names.specs.declared.entry.Entry.{Entry}
 use Rattle.sgt_names.specs.declared.entry.Holding.{Holding}
@@ -22,7 +19,7 @@ use Rattle.sgt_settle.specs.declared.deeds.Deed.{Deed}
 use Rattle.sgt_settle.specs.declared.deeds.Track.{Track}
 use Rattle.sgt_settle.specs.declared.index.Index.{Index}
 use Rattle.sgt_settle.specs.declared.link.Link.{Link}
-use Rattle.sgt_settle.specs.private.Words.{At, IsItemAt, Pushed}
+use Rattle.sgt_settle.specs.private.Words.{IsItemAt, Pushed}
 use Rattle.sgt_settle.specs.private.Search.{InRows}
 use Rattle.sgt_settle.specs.private.Index.{IsIn, IsPaired, AreCarried}
 use Rattle.sgt_settle.specs.private.Acts.{AreKnown}

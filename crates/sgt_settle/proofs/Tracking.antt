@@ -20,9 +20,9 @@ use Rattle.sgt_settle.specs.declared.deeds.Deed.{Deed}
 use Rattle.sgt_settle.specs.declared.deeds.Track.{Track}
 use Rattle.sgt_settle.specs.private.Words.{IsItemAt}
 use Rattle.sgt_settle.specs.private.Index.{IsIn}
-use Rattle.sgt_settle.specs.private.Deeds.{deed_of, IsBefore, IsTrack, IsTracked, AreTracks, AreBare}
+use Rattle.sgt_settle.specs.private.Deeds.{deed_of, IsBefore, IsTrack, AreTracks, AreBare}
 use Rattle.sgt_settle.proofs.Lists.{before_or_here, push_contains, push_old, push_new}
-use Rattle.sgt_settle.proofs.Placing.{one_item, one_place}
+use Rattle.sgt_settle.proofs.Placing.{one_place}
 
 -- ---- reads, increments and writes
 

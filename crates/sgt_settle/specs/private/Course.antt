@@ -1,5 +1,5 @@
 -- What was done to an item, as its operations are decided one by one, and whom the next one is joined to.
-use Rattle.std.specs.Prelude.{◌≡◌, ◌≢◌, ◌⊎◌, ◌≤◌, ◌<◌, ◌++◌, ◌∷◌, [], ℕ, suc, true, false, List, Some, All, Contains, Vec, length, slice_get, slice_set}
+use Rattle.std.specs.Prelude.{◌≡◌, ◌⊎◌, ◌≤◌, ◌<◌, ◌++◌, ◌∷◌, [], ℕ, suc, true, false, List, Some, All, Contains, Vec, length, slice_get, slice_set}
 use Rattle.std.specs.declared.alloc.Global.{Global}
 use Rattle.sgt_settle.specs.declared.deeds.Deed.{Deed}
 use Rattle.sgt_settle.specs.declared.course.Course.{Course}

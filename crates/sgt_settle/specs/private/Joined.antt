@@ -1,11 +1,10 @@
 -- The edges on an item, and the conflicts there that they carry.
-use Rattle.std.specs.Prelude.{◌≡◌, ◌⊎◌, ◌≤◌, ◌<◌, ◌+◌, ℕ, max, true, false, List, Some, Contains, slice_get, Vec}
+use Rattle.std.specs.Prelude.{◌≡◌, ◌⊎◌, ◌≤◌, ◌<◌, ℕ, max, true, false, List, Some, Contains, slice_get, Vec}
 use Rattle.std.specs.declared.alloc.Global.{Global}
 use Rattle.sgt_names.specs.declared.entry.Holding.{Holding}
 use Rattle.sgt_order.specs.Graph.{Reaches}
 use Rattle.sgt_settle.specs.declared.course.Marks.{Marks}
 use Rattle.sgt_settle.specs.declared.deeds.Deed.{Deed}
-use Rattle.sgt_settle.specs.declared.deeds.Track.{Track}
 use Rattle.sgt_settle.specs.declared.link.Link.{Link}
 use Rattle.sgt_settle.specs.private.Words.{At, IsItemAt}
 use Rattle.sgt_settle.specs.private.Deeds.{IsBefore}

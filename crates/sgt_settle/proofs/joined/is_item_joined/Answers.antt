@@ -1,4 +1,4 @@
-use Rattle.std.proofs.Common.{◌≡◌, ◌∙◌, ◌+◌, take, drop, sym, subst, arith, List, ◌∷◌, ◌++◌, [], Contains}
+use Rattle.std.proofs.Common.{take, drop, sym, subst, arith, List, Contains}
 use Rattle.std.proofs.lemmas.List.{take_rest, take_all}
 use Rattle.std.proofs.lemmas.List.Sorted.{Contains-permutation, IsPermutation-sym}
 use Rattle.std.specs.List.Sorted.{IsNonDecreasingBy, IsPermutation}
