@@ -18,5 +18,7 @@ pub mod Telling
 pub mod Settling
 pub mod Whole
 pub mod Alone
+pub mod Tracking
+pub mod Coursing
 pub mod Joining
 pub mod Following

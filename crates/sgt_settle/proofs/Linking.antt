@@ -100,8 +100,8 @@ links_carry history rulings windows commits handed links names by is are cut a b
       (at.0, l, at.1, refl, refl, record { site = c.here; item = c.item; early = c.early }),
 )
 
-pub whole_index : (history : List Call) (rulings : List Ruling) (index : Index) (links : List Link) → AreNamed history index.windows.items → AreCommits rulings index.commits.items → index.handed.items ≡ handed_in history → AreLinks index.windows.items index.commits.items index.handed.items links → length index.out.items ≡ length index.commits.items → length index.back.items ≡ length index.commits.items → Hold index.out.items (LinksBy links) → Hold index.back.items (λ cut a b. LinksBy links cut b a) → IsIndex history rulings index
-whole_index history rulings index links names by is are out_long back_long out back =
+pub whole_index : (history : List Call) (rulings : List Ruling) (index : Index) (links : List Link) → index.links.items ≡ links → AreNamed history index.windows.items → AreCommits rulings index.commits.items → index.handed.items ≡ handed_in history → AreLinks index.windows.items index.commits.items index.handed.items links → length index.out.items ≡ length index.commits.items → length index.back.items ≡ length index.commits.items → Hold index.out.items (LinksBy links) → Hold index.back.items (λ cut a b. LinksBy links cut b a) → IsIndex history rulings index
+whole_index history rulings index links same names by is are out_long back_long out back =
     let carry = links_carry history rulings index.windows.items index.commits.items index.handed.items links names by is are in
     let ends = are_ends index.windows.items index.commits.items index.handed.items links are in
     record {
@@ -116,6 +116,7 @@ whole_index history rulings index links names by is are out_long back_long out b
             let l = (out cut a b).0 e in
             let low = ends l.0 l.1 l.2 in
             (subst (λ k. k < length index.commits.items) l.3 low.0, subst (λ k. k < length index.commits.items) l.4 low.1);
+        links = λ cut a b l. (out cut a b).1 (subst (λ ls. LinksBy ls cut a b) same l);
         turned = λ cut a b. (λ e. (out cut a b).1 ((back cut b a).0 e), λ e. (back cut b a).1 ((out cut a b).0 e));
       };
     }

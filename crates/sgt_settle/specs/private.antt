@@ -5,4 +5,6 @@ pub mod Index
 pub mod Acts
 pub mod Tickets
 pub mod Sites
+pub mod Deeds
+pub mod Course
 pub mod Joined

@@ -23,7 +23,9 @@ pub struct Index {
     pub commits: Vec<Option<u64>>,
     /// The edges that the decisions were handed.
     pub handed: Vec<Handed>,
-    /// Those between committed transactions, by the one that they come from, and by the one that they lead to.
+    /// Those between committed transactions, in the order of those decisions; and by the transaction that they come from, and by the one
+    /// that they lead to.
+    pub links: Vec<Link>,
     pub out: Vec<Vec<Arc>>,
     pub back: Vec<Vec<Arc>>,
 }
@@ -98,6 +100,7 @@ pub(crate) fn index_of(alloc: Global, certifier: &Certifier) -> Result<Index, Al
         windows,
         commits,
         handed,
+        links,
         out,
         back,
     })

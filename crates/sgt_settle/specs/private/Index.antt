@@ -18,7 +18,7 @@ use Rattle.sgt_settle.specs.declared.link.Cut.{Cut}
 use Rattle.sgt_settle.specs.declared.link.Link.{Link}
 use Rattle.sgt_settle.specs.declared.index.Index.{Index}
 use Rattle.sgt_settle.specs.private.Words.{At}
-use Rattle.sgt_settle.specs.private.Search.{InRows, Hold, IsMarked}
+use Rattle.sgt_settle.specs.private.Search.{InRows, Hold, LinksBy, IsMarked}
 
 -- the windows name the transaction under the handle
 abbrev pub Names : List (Vec ℕ Global) → Handle → ℕ → Type 0
@@ -58,6 +58,7 @@ pub record IsPaired (index : Index) : Type 0 where
   pub out : length index.out.items ≡ length index.commits.items
   pub back : length index.back.items ≡ length index.commits.items
   pub within : (cut : Cut) (a b : ℕ) → InRows index.out.items cut a b → (a < length index.commits.items) × (b < length index.commits.items)
+  pub links : (cut : Cut) (a b : ℕ) → LinksBy index.links.items cut a b → InRows index.out.items cut a b
   pub turned : (cut : Cut) (a b : ℕ) → InRows index.back.items cut b a ↔ InRows index.out.items cut a b
 
 -- the index is that of the history

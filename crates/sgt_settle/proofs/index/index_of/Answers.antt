@@ -1,4 +1,4 @@
-use Rattle.std.proofs.Common.{◌≡◌, ◌∙◌, ap, subst, arith, Some}
+use Rattle.std.proofs.Common.{◌≡◌, ◌∙◌, ap, refl, subst, arith, Some}
 use Rattle.std.specs.Prelude.{slice_get}
 use Rattle.sgt_settle.specs.Told.{handed_in}
 use Rattle.sgt_settle.proofs.Linking.{are_ends, whole_index}
@@ -19,7 +19,7 @@ entering-requires c n l at =
 pub returns : goal.returns
 returns c =
     let are = rw c.as_slice.ensures.value at (rw c.as_slice-2.ensures.value at (rw c.as_slice-3.ensures.value at c.in_ok-links.ensures)) in
-    whole_index c.args.certifier.now.history c.args.certifier.now.state.rulings _ c.in_ok-links.links.items c.in_ok-windows.ensures c.in_ok-commits.ensures
+    whole_index c.args.certifier.now.history c.args.certifier.now.state.rulings _ c.in_ok-links.links.items refl c.in_ok-windows.ensures c.in_ok-commits.ensures
     (c.in_ok-handed.ensures ∙ ap handed_in c.history-history.ensures.is) are
     (omega (arith, c.in_ok-out.ensures.long, c.len.ensures, c.in_ok-commits.commits.ok.0))
     (omega (arith, c.in_ok-back.ensures.long, c.len-2.ensures, c.in_ok-commits.commits.ok.0))

@@ -1,55 +1,53 @@
-use Rattle.std.proofs.Common.{◌≡◌, ◌∙◌, ℕ, Some, ap, arith, length, refl, subst, sym}
-use Rattle.std.proofs.lemmas.Option.{none-some, slice_get_within}
-use Rattle.sgt_names.specs.Entry.{tx_of, item_of}
-use Rattle.sgt_names.specs.Name.{Name}
-use Rattle.sgt_names.specs.declared.entry.Entry.{Entry as AnEntry}
-use Rattle.sgt_settle.specs.private.Index.{IsIn}
+use Rattle.std.proofs.Common.{◌≡◌, ◌∙◌, ◌<◌, ap, sym, subst, arith, inl, inr, length, Contains, Vec, Global}
+use Rattle.std.specs.Prelude.{slice_get}
+use Rattle.std.proofs.lemmas.Bool.{cases_lt}
+use Rattle.std.proofs.lemmas.Option.{same_Some, slice_get_within}
+use Rattle.sgt_settle.specs.declared.deeds.Track.{Track as ATrack}
+use Rattle.sgt_settle.specs.declared.link.Link.{Link as ALink}
+use Rattle.sgt_settle.specs.private.Deeds.{AreTracks}
+use Rattle.sgt_settle.specs.private.Joined.{AreItemLinks, AreDeedsCarried}
 use Rattle.sgt_settle.proofs.Lists.{read}
-use Rattle.sgt_settle.proofs.Following.{all_carried, carried_next, carried_past, kept_next, kept_past}
+use Rattle.sgt_settle.proofs.Joining.{all_carried}
 use Rattle.sgt_settle.proofs.joined.are_joined.Goals as goal
-use Rattle.sgt_settle.proofs.joined.are_joined.Goals.{in-Some+in_ok-joined+else-not-joined, in_default}
 
-pub join-requires-clause-commit : goal.join-requires-clause-commit
-join-requires-clause-commit c =
-    let k = (c.cut_at.ensures c.in-Some.cut).0 c.in-Some.is in
-    let low = slice_get_within c.as_slice.result.now (tx_of c.index-log-place.result) (Some c.in-Some.cut.last) k.1 in
-    omega (arith, low, ap length c.as_slice.ensures.value)
+pub is_item_joined-requires-clause-sound : goal.is_item_joined-requires-clause-sound
+is_item_joined-requires-clause-sound c d has =
+    let tracks = c.in_ok-tracks.tracks.items in
+    let low : c.loop-at.at < length tracks = omega (arith, c.loop-at-test.true, c.in_ok-tracks.ensures.long) in
+    let here = read tracks c.loop-at.at c.index.result.now low c.index.ensures in
+    (c.in_ok-tracks.ensures.tracks.each c.loop-at.at c.index.result.now here).sound d (subst (λ xs. Contains xs d) c.as_slice-deeds.ensures.value has)
 
-pub loop-place-preserved : goal.loop-place-preserved
-loop-place-preserved c =
+pub loop-at-preserved : goal.loop-at-preserved
+loop-at-preserved c = record {
+  under = c.in_ok-joined.ensures.under c.if-not-joined.false;
+  carried = λ k t row low at_t at_row. elim (cases_lt k c.loop-at.at) [
+    | inl early ↦ c.loop-at.invariant.carried k t row early at_t at_row
+    | inr late ↦
+        let tracks = c.in_ok-tracks.tracks.items in
+        let rows = c.in_ok-links.links.items in
+        let at = c.loop-at.at in
+        let track = c.index.result.now in
+        let own = c.index-in-loop-at.result.now in
+        let same : at ≡ k = omega (arith, late, low) in
+        let in_tracks : at < length tracks = omega (arith, c.loop-at-test.true, c.in_ok-tracks.ensures.long) in
+        let in_rows : at < length rows = omega (arith, c.loop-at-test.true, c.in_ok-links.ensures.long) in
+        let is_t : track ≡ t = same_Some track t (sym (read tracks at track in_tracks c.index.ensures) ∙ (ap (slice_get tracks) same ∙ at_t)) in
+        let is_row : own ≡ row = same_Some own row (sym (read rows at own in_rows c.index-in-loop-at.ensures) ∙ (ap (slice_get rows) same ∙ at_row)) in
+        let known = c.in_ok-joined.ensures.carried c.if-not-joined.false in
+        let in_row : AreDeedsCarried own.items c.as_slice-deeds.result.now = subst (λ ls. AreDeedsCarried ls c.as_slice-deeds.result.now) c.as_slice-in-loop-at.ensures.value known in
+        let both : AreDeedsCarried own.items track.deeds.items = subst (λ xs. AreDeedsCarried own.items xs) c.as_slice-deeds.ensures.value in_row in
+        subst (λ (r : Vec ALink Global). AreDeedsCarried r.items t.deeds.items) is_row (subst (λ (u : ATrack). AreDeedsCarried own.items u.deeds.items) is_t both)
+  ];
+}
+
+pub returns : goal.returns
+returns c = λ yes.
     let index = c.args.index.now in
     let items = c.args.items.now in
     let log = c.args.log.now in
-    let site = c.args.site in
-    let n = c.loop-place.place in
-    let inv = c.loop-place.invariant in
-    let seen : AnEntry = c.index-log-place.result in
-    let here = read log n seen c.loop-place-test.true c.index-log-place.is in
-    let commits = c.as_slice.ensures.value in
-    elim c.match-cut_at.branch [
-      | in-Some+in_ok-joined+else-not-joined w ↦
-          let cut = w.in-Some.cut in
-          let k = (c.cut_at.ensures cut).0 w.in-Some.is in
-          let commit : IsIn index.commits.items (tx_of seen) cut.last = subst (λ xs. IsIn xs (tx_of seen) cut.last) commits k.1 in
-          let old = c.loop-place.joiner.runs.items in
-          let new = w.join.new.self.runs.items in
-          let step = w.in_ok-joined.ensures.step w.if-not-joined.false in
-          rw w.joiner-is (record {
-            runs = w.in_ok-joined.ensures.runs w.if-not-joined.false;
-            before = w.in_ok-joined.ensures.before w.if-not-joined.false;
-            carried = carried_next index site items log c.requires.rising n cut seen old new here k.0 commit k.2 step inv.kept inv.carried;
-            kept = kept_next index site items log c.requires.rising n cut seen old new here k.0 commit step inv.kept;
-          })
-      | in_default w ↦
-          let none : (m : ℕ) (x : Name) → item_of seen ≡ Some x → IsIn index.commits.items (tx_of seen) m → ⊥ = λ m x item commit.
-          none-some _ (sym w.in_default.is ∙ (c.cut_at.ensures (record { site = site; item = x; last = m })).1 (item, subst (λ xs. IsIn xs (tx_of seen) m) (sym commits) commit, refl)) in
-          rw w.joiner-is (record {
-            runs = inv.runs;
-            before = λ a s at. let low = inv.before a s at in omega (arith, low);
-            carried = carried_past index site items log c.requires.rising n seen here none inv.carried;
-            kept = kept_past index site items log c.requires.rising n seen c.loop-place.joiner.runs.items here none inv.kept;
-          })
-    ]
-
-pub returns : goal.returns
-returns c = λ yes. all_carried c.args.index.now c.args.site c.args.items.now c.args.log.now c.requires.rising c.loop-place.place (omega (arith, c.loop-place-test.false)) c.loop-place.invariant.carried
+    let tracks = c.in_ok-tracks.tracks.items in
+    let rows = c.in_ok-links.links.items in
+    let links : AreItemLinks index.links.items c.args.site items rows = subst (λ ls. AreItemLinks ls c.args.site items rows) c.as_slice-2.ensures.value c.in_ok-links.ensures.links in
+    let are : AreTracks index.commits.items items log (length log) tracks = subst (λ cs. AreTracks cs items log (length log) tracks) c.as_slice.ensures.value c.in_ok-tracks.ensures.tracks in
+    all_carried index c.args.site items log tracks rows c.requires.paired c.requires.known links c.in_ok-links.ensures.long are
+    (λ k t row at_t at_row. c.loop-at.invariant.carried k t row (let low = slice_get_within tracks k t at_t in omega (arith, low, c.in_ok-tracks.ensures.long, c.loop-at-test.false)) at_t at_row)

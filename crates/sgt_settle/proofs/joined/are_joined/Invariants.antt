@@ -1,11 +1,14 @@
-use Rattle.std.proofs.Common.{◌≡◌, ◌+◌, length}
-use Rattle.sgt_settle.specs.private.Joined.{AreBefore, AreCarriedBelow, AreKeptBelow}
+use Rattle.std.proofs.Common.{◌≡◌, ◌+◌, ◌<◌, ℕ, Some, Vec}
+use Rattle.std.specs.Prelude.{slice_get}
+use Rattle.std.specs.declared.alloc.Global.{Global}
+use Rattle.sgt_settle.specs.declared.deeds.Track.{Track}
+use Rattle.sgt_settle.specs.declared.link.Link.{Link}
+use Rattle.sgt_settle.specs.private.Joined.{AreUnder, AreDeedsCarried}
 use Rattle.sgt_settle.proofs.joined.are_joined.Given as goal
 
-abbrev pub invariant-loop-place : goal.invariant-loop-place
-invariant-loop-place l = record {
-  runs : length l.joiner.runs.items ≡ length l.items;
-  before : AreBefore l.joiner.sources.items (l.place + 1);
-  carried : AreCarriedBelow l.index l.site l.log l.place;
-  kept : AreKeptBelow l.index l.items l.log l.place l.joiner.runs.items;
+abbrev pub invariant-loop-at : goal.invariant-loop-at
+invariant-loop-at l = record {
+  under : AreUnder l.marks (l.marks.step + 1);
+  carried : (k : ℕ) (t : Track) (row : Vec Link Global) → k < l.at → slice_get l.tracks.items k ≡ Some t → slice_get l.links.items k ≡ Some row
+      → AreDeedsCarried row.items t.deeds.items;
 }
