@@ -105,23 +105,16 @@ impl Sections {
         ensures sites { self.new.sites ≡ self.old.sites }
         ensures next { OnOk result (self.new ≡ with_next self.old self.old.current line) }
     {
-        match self.current.take() {
-            None => {
-                self.current = Some(OpenLog::new(self.alloc));
-                Ok(())
+        if let Some(log) = &mut self.current {
+            if !matches!(line, SectionLine::End) {
+                return log.add(line);
             }
-            Some(mut log) => match line {
-                SectionLine::End => {
-                    self.whole.push(log.into_log())?;
-                    Ok(())
-                }
-                _ => {
-                    let added = log.add(line);
-                    self.current = Some(log);
-                    added
-                }
-            },
         }
+        match self.current.take() {
+            Some(log) => self.whole.push(log.into_log())?,
+            None => self.current = Some(OpenLog::new(self.alloc)),
+        }
+        Ok(())
     }
 
     /// The logs.

@@ -10,6 +10,7 @@ mod report;
 mod run;
 mod store;
 mod text;
+mod written;
 
 pub use engine::serial;
 pub use laws::{agreement_excludes_differences, first_differences_are_one, runs_agree_or_differ};
