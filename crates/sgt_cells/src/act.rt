@@ -25,6 +25,7 @@ pub struct Act {
 }
 
 /// What the entry does to its item, if it has one.
+#[inline(always)]
 pub(crate) fn deed_of(entry: &Entry) -> Deed
     ensures { result ≡ deed_of entry.now }
 {
@@ -36,6 +37,7 @@ pub(crate) fn deed_of(entry: &Entry) -> Deed
 }
 
 /// The entry at this place, on the item at that place.
+#[inline(always)]
 pub(crate) fn act_of(at: usize, place: u32, entry: &Entry) -> Act
     ensures { result ≡ act at place entry.now }
 {
@@ -48,6 +50,7 @@ pub(crate) fn act_of(at: usize, place: u32, entry: &Entry) -> Act
 
 impl Deed {
     /// Whether it changes the item.
+    #[inline(always)]
     fn changes(self) -> bool
         ensures { result ≡ changes self }
     {
@@ -81,6 +84,7 @@ fn deeds_clash(kind: Kind, first: Deed, second: Deed) -> bool
 
 impl Act {
     /// Whether it is on the item at this place and reads it, as the deed does, or changes it, as the deed does.
+    #[inline(always)]
     pub(crate) fn is_of(&self, place: usize, deed: Deed) -> bool
         ensures { IsTrue result ↔ IsOf place (changes deed) self.now }
     {
