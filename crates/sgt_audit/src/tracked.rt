@@ -22,7 +22,7 @@ ghost use Rattle.sgt_cells.specs.declared.state.SiteState.{SiteState};
 use crate::known::Known;
 use crate::place::Place;
 use crate::walks::Walks;
-use sgt_cells::SiteState;
+use sgt_cells::{SiteState, item_in};
 use sgt_decided::Decided;
 use sgt_names::{Entry, Holding};
 use sgt_notation::SectionLine;
@@ -46,7 +46,7 @@ pub(crate) fn is_listed(known: &Known, entry: &Entry) -> bool
 {
     match known.place {
         Some(_) => true,
-        None => entry.item().is_none(),
+        None => item_in(entry).is_none(),
     }
 }
 

@@ -2,10 +2,11 @@
 
 ghost use Rattle.std.specs.Prelude.{◌≡◌, ◌↔◌, ◌<◌, List, IsTrue, Any};
 ghost use Rattle.sgt_names.specs.declared.entry.Entry.{Entry};
+ghost use Rattle.sgt_names.specs.Entry.{item_of};
 ghost use Rattle.sgt_cells.specs.Records.{deed_of};
 ghost use Rattle.sgt_cells.specs.private.Deeds.{act, changes, adds, deeds_clash, IsOf, ClashesWith};
 
-use sgt_names::{Entry, Kind};
+use sgt_names::{Entry, Item, Kind};
 
 /// What an operation does to its item, or asks for: it reads it, puts a value into it, or adds to it.
 #[derive(Clone, Copy, Debug, Default, PartialEq, Eq)]
@@ -22,6 +23,20 @@ pub struct Act {
     pub place: u32,
     pub deed: Deed,
     pub at: usize,
+}
+
+/// The item of an operation. An end has none. It is compiled where it is used, so that no copy of the item is made there.
+#[inline(always)]
+pub fn item_in(entry: &Entry) -> Option<Item>
+    ensures { result ≡ item_of entry.now }
+{
+    match *entry {
+        Entry::Read { item, .. } | Entry::Write { item, .. } | Entry::Add { item, .. } => {
+            Some(item)
+        }
+        Entry::Want { item, .. } | Entry::WantAdd { item, .. } => Some(item),
+        Entry::Commit { .. } | Entry::Refuse { .. } | Entry::Withdraw { .. } => None,
+    }
 }
 
 /// What the entry does to its item, if it has one.

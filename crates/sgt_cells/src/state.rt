@@ -215,7 +215,7 @@ impl SiteState {
         ensures { (ds : List Decision) (items : List Holding) (entries : List Entry) → TracksOpen ds items entries self.now
             → IsPlaceAmong (names items) entry.now result }
     {
-        match entry.item() {
+        match act::item_in(entry) {
             Some(item) => self.place_of(&item),
             None => None,
         }
