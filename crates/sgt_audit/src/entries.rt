@@ -6,6 +6,7 @@ ghost use Rattle.sgt_names.specs.Entry.{IsOpen, Continues};
 use sgt_names::Entry;
 
 /// Whether it changes an item or asks to, so that another entry of its block has to follow directly.
+#[inline(always)]
 pub(crate) fn is_open(entry: &Entry) -> bool
     ensures { IsTrue result ↔ IsOpen entry.now }
 {
@@ -16,6 +17,7 @@ pub(crate) fn is_open(entry: &Entry) -> bool
 }
 
 /// Whether the second may stand directly behind the first in a block.
+#[inline(always)]
 pub(crate) fn continues(first: &Entry, second: &Entry) -> bool
     ensures { IsTrue result ↔ Continues first.now second.now }
 {

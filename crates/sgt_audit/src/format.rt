@@ -23,6 +23,7 @@ pub(crate) fn read_format(line: &[u8]) -> Option<bool>
 }
 
 /// Whether the line, if it is one, is one of the format.
+#[inline(always)]
 pub(crate) fn is_allowed(second: bool, line: &SectionLine) -> bool
     ensures { IsTrue result ↔ Allows second line.now }
 {

@@ -32,6 +32,7 @@ use sgt_notation::SectionLine;
 use std::alloc::{AllocError, Global};
 
 /// Whether the line goes on with the block that is open at the end of the log, if one is.
+#[inline(always)]
 fn continues_log(place: &OpenPlace, line: &SectionLine) -> bool
     ensures { (log : SiteLog) → IsOpenPlace log place.now → (IsTrue result ↔ ContinuesLog log line.now) }
 {
@@ -45,6 +46,7 @@ fn continues_log(place: &OpenPlace, line: &SectionLine) -> bool
 }
 
 /// The least fault of a line that is this entry, of which this is known.
+#[inline(always)]
 fn judge_entry(
     state: &SiteState,
     place: &OpenPlace,
@@ -117,6 +119,7 @@ fn judge_end(state: &SiteState, place: &OpenPlace) -> Option<Fault>
 }
 
 /// The least fault of a line in the open section, of which this is known, but for the walks.
+#[inline(always)]
 fn judge_inside(
     state: &SiteState,
     place: &OpenPlace,
@@ -142,6 +145,7 @@ fn judge_inside(
 }
 
 /// The least fault of a line behind the sections that were read, of which this is known, but for the walks.
+#[inline(always)]
 pub(crate) fn judge_line(
     tracked: &Tracked,
     line: &SectionLine,

@@ -61,18 +61,9 @@ impl Kept {
             → IfOk result (Follows s (line_text line.now) (Reading self.new)) }
     {
         match line {
-            SectionLine::Logged(entry) => match *entry {
-                Entry::Read { tx, item, value } => self.follow_line(&SectionLine::Logged(
-                    Entry::Read { tx, item, value },
-                )),
-                Entry::Write { tx, item, value } => self.follow_line(&SectionLine::Logged(
-                    Entry::Write { tx, item, value },
-                )),
-                Entry::Commit { tx } => self.follow_line(&SectionLine::Logged(Entry::Commit {
-                    tx,
-                })),
-                _ => self.follow_other(line),
-            },
+            SectionLine::Logged(Entry::Read { .. }) => self.follow_line(line),
+            SectionLine::Logged(Entry::Write { .. }) => self.follow_line(line),
+            SectionLine::Logged(Entry::Commit { .. }) => self.follow_line(line),
             _ => self.follow_other(line),
         }
     }

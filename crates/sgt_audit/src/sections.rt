@@ -127,6 +127,7 @@ impl Sections {
 }
 
 /// One more line, where the sections are kept.
+#[inline(always)]
 pub(crate) fn add_to(sections: &mut Option<Sections>, line: &SectionLine) -> Result<(), AllocError>
     ensures kept { is_some sections.new ≡ is_some sections.old }
     ensures next { OnOk result ((b : Begun) → IfSome sections.old (λ s. s ≡ b)

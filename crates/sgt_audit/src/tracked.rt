@@ -22,7 +22,7 @@ ghost use Rattle.sgt_cells.specs.declared.state.SiteState.{SiteState};
 use crate::known::Known;
 use crate::place::Place;
 use crate::walks::Walks;
-use sgt_cells::SiteState;
+use sgt_cells::{SiteState, item_in};
 use sgt_decided::Decided;
 use sgt_names::{Entry, Holding};
 use sgt_notation::SectionLine;
@@ -38,6 +38,7 @@ pub struct Tracked {
 }
 
 /// Whether the entry's item is listed. An end has none.
+#[inline(always)]
 pub(crate) fn is_listed(known: &Known, entry: &Entry) -> bool
     ensures { (ds : List Decision) (state : SiteState) (items : List Holding) (entries : List Entry)
         → IsKnownOf ds state entry.now known.now → TracksOpen ds items entries state
@@ -45,11 +46,12 @@ pub(crate) fn is_listed(known: &Known, entry: &Entry) -> bool
 {
     match known.place {
         Some(_) => true,
-        None => entry.item().is_none(),
+        None => item_in(entry).is_none(),
     }
 }
 
 /// Whether the entry is not the second read of its item by its transaction, nor its second change, made or asked for.
+#[inline(always)]
 pub(crate) fn is_first(state: &SiteState, known: &Known, entry: &Entry) -> bool
     ensures { (ds : List Decision) (items : List Holding) (entries : List Entry) → IsKnownOf ds state.now entry.now known.now
         → TracksOpen ds items entries state.now → ForSome (item_of entry.now) (Contains (names items))
@@ -73,6 +75,7 @@ pub(crate) fn holds_value(state: &SiteState, holding: &Holding) -> bool
 }
 
 /// Whether the entry, on a listed item if it is a read, has the value of its item then.
+#[inline(always)]
 pub(crate) fn is_legal(state: &SiteState, known: &Known, entry: &Entry) -> bool
     ensures { (ds : List Decision) (items : List Holding) (entries : List Entry) → IsKnownOf ds state.now entry.now known.now
         → TracksOpen ds items entries state.now → ForSome (item_of entry.now) (Contains (names items))
@@ -88,6 +91,7 @@ pub(crate) fn is_legal(state: &SiteState, known: &Known, entry: &Entry) -> bool
 }
 
 /// Whether the entry conflicts with no entry before it of a committed transaction of greater rank, if its own is committed.
+#[inline(always)]
 pub(crate) fn is_in_rank(state: &SiteState, known: &Known, entry: &Entry) -> bool
     ensures { (ds : List Decision) (items : List Holding) (entries : List Entry) → IsDecidedOnce ds → AreRanks (ranks ds)
         → IsKnownOf ds state.now entry.now known.now
@@ -101,6 +105,7 @@ pub(crate) fn is_in_rank(state: &SiteState, known: &Known, entry: &Entry) -> boo
 }
 
 /// Whether the entry of which this is known has its transaction decided as it says, with no end before it.
+#[inline(always)]
 pub(crate) fn is_active(state: &SiteState, known: &Known) -> bool
     ensures { (ds : List Decision) (e : Entry) (items : List Holding) (entries : List Entry) → IsKnownOf ds state.now e known.now
         → TracksOpen ds items entries state.now → (IsTrue result ↔ (((number : ℕ) × IsDecided ds e number)
@@ -113,6 +118,7 @@ pub(crate) fn is_active(state: &SiteState, known: &Known) -> bool
 }
 
 /// Whether no end before the entry, if it is one, was decided later.
+#[inline(always)]
 pub(crate) fn is_in_order(state: &SiteState, known: &Known, entry: &Entry) -> bool
     ensures { (ds : List Decision) (items : List Holding) (entries : List Entry) → IsDecidedOnce ds
         → IsKnownOf ds state.now entry.now known.now → TracksOpen ds items entries state.now
@@ -125,6 +131,7 @@ pub(crate) fn is_in_order(state: &SiteState, known: &Known, entry: &Entry) -> bo
 }
 
 /// One more entry, of which this is known.
+#[inline(always)]
 fn enter(state: &mut SiteState, known: &Known, entry: &Entry) -> Result<(), AllocError>
     ensures section { state.new.section ≡ state.old.section }
     ensures tracks { OnOk result ((ds : List Decision) (items : List Holding) (entries : List Entry)
@@ -139,6 +146,7 @@ fn enter(state: &mut SiteState, known: &Known, entry: &Entry) -> Result<(), Allo
 }
 
 /// One more line, which has no fault but perhaps one of a walk.
+#[inline(always)]
 fn enter_line(
     state: &mut SiteState,
     line: &SectionLine,
@@ -184,6 +192,7 @@ impl Tracked {
     }
 
     /// One more line, of which this is known, and which has no fault but perhaps one of a walk.
+    #[inline(always)]
     pub(crate) fn enter(
         &mut self,
         certificate: &Decided,

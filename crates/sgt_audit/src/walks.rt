@@ -65,6 +65,7 @@ impl Walks {
     }
 
     /// One more line. The end of a section makes its log whole.
+    #[inline(always)]
     pub(crate) fn pass(&mut self, certificate: &Decided, state: &SiteState, line: &SectionLine)
         ensures { (b : Begun) → MayFollow b b.current line.now → Tracks certificate.now.decisions b state.now
             → MeansMet certificate.now.decisions b.whole self.old

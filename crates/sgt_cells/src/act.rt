@@ -2,10 +2,11 @@
 
 ghost use Rattle.std.specs.Prelude.{◌≡◌, ◌↔◌, ◌<◌, List, IsTrue, Any};
 ghost use Rattle.sgt_names.specs.declared.entry.Entry.{Entry};
+ghost use Rattle.sgt_names.specs.Entry.{item_of};
 ghost use Rattle.sgt_cells.specs.Records.{deed_of};
 ghost use Rattle.sgt_cells.specs.private.Deeds.{act, changes, adds, deeds_clash, IsOf, ClashesWith};
 
-use sgt_names::{Entry, Kind};
+use sgt_names::{Entry, Item, Kind};
 
 /// What an operation does to its item, or asks for: it reads it, puts a value into it, or adds to it.
 #[derive(Clone, Copy, Debug, Default, PartialEq, Eq)]
@@ -24,7 +25,22 @@ pub struct Act {
     pub at: usize,
 }
 
+/// The item of an operation. An end has none. It is compiled where it is used, so that no copy of the item is made there.
+#[inline(always)]
+pub fn item_in(entry: &Entry) -> Option<Item>
+    ensures { result ≡ item_of entry.now }
+{
+    match *entry {
+        Entry::Read { item, .. } | Entry::Write { item, .. } | Entry::Add { item, .. } => {
+            Some(item)
+        }
+        Entry::Want { item, .. } | Entry::WantAdd { item, .. } => Some(item),
+        Entry::Commit { .. } | Entry::Refuse { .. } | Entry::Withdraw { .. } => None,
+    }
+}
+
 /// What the entry does to its item, if it has one.
+#[inline(always)]
 pub(crate) fn deed_of(entry: &Entry) -> Deed
     ensures { result ≡ deed_of entry.now }
 {
@@ -36,6 +52,7 @@ pub(crate) fn deed_of(entry: &Entry) -> Deed
 }
 
 /// The entry at this place, on the item at that place.
+#[inline(always)]
 pub(crate) fn act_of(at: usize, place: u32, entry: &Entry) -> Act
     ensures { result ≡ act at place entry.now }
 {
@@ -48,6 +65,7 @@ pub(crate) fn act_of(at: usize, place: u32, entry: &Entry) -> Act
 
 impl Deed {
     /// Whether it changes the item.
+    #[inline(always)]
     fn changes(self) -> bool
         ensures { result ≡ changes self }
     {
@@ -81,6 +99,7 @@ fn deeds_clash(kind: Kind, first: Deed, second: Deed) -> bool
 
 impl Act {
     /// Whether it is on the item at this place and reads it, as the deed does, or changes it, as the deed does.
+    #[inline(always)]
     pub(crate) fn is_of(&self, place: usize, deed: Deed) -> bool
         ensures { IsTrue result ↔ IsOf place (changes deed) self.now }
     {

@@ -26,6 +26,7 @@ pub struct Cell {
 }
 
 /// Whether the greatest rank is no greater than this one.
+#[inline(always)]
 fn is_up_to(top: Option<u32>, rank: u32) -> bool
     ensures { IsTrue result ↔ IsUpTo rank top }
 {
@@ -35,6 +36,7 @@ fn is_up_to(top: Option<u32>, rank: u32) -> bool
     }
 }
 
+#[inline(always)]
 fn passes(cell: &Cell, entry: &Entry, rank: Option<u32>) -> bool
     ensures { IsTrue result ↔ Passes cell.now entry.now rank }
 {
@@ -54,6 +56,7 @@ fn passes(cell: &Cell, entry: &Entry, rank: Option<u32>) -> bool
 }
 
 /// Whether the entry conflicts with no entry before it of a committed transaction of greater rank, if its own has this one.
+#[inline(always)]
 pub(crate) fn is_in_rank(cell: &Cell, entry: &Entry, rank: Option<u32>) -> bool
     ensures { (ds : List Decision) (items : List Holding) (entries : List Entry) → IsDecidedOnce ds → AreRanks (ranks ds)
         → IsCell ds items entries cell.now → item_of entry.now ≡ Some cell.now.name → IsRankOf ds (tx_of entry.now) rank
@@ -63,6 +66,7 @@ pub(crate) fn is_in_rank(cell: &Cell, entry: &Entry, rank: Option<u32>) -> bool
 }
 
 /// Whether the item has this value.
+#[inline(always)]
 pub(crate) fn has_value(cell: &Cell, value: Value) -> bool
     ensures { (ds : List Decision) (items : List Holding) (entries : List Entry) → IsCell ds items entries cell.now
         → (IsTrue result ↔ (value_at items entries cell.now.name ≡ Some value)) }
@@ -70,6 +74,7 @@ pub(crate) fn has_value(cell: &Cell, value: Value) -> bool
     cell.value == value
 }
 
+#[inline(always)]
 fn raise(top: Option<u32>, rank: Option<u32>) -> Option<u32>
     ensures { result ≡ raised top rank }
 {
@@ -82,6 +87,7 @@ fn raise(top: Option<u32>, rank: Option<u32>) -> Option<u32>
     }
 }
 
+#[inline(always)]
 fn change(cell: &mut Cell, entry: &Entry, rank: Option<u32>)
     ensures { cell.new ≡ noted cell.old entry.now rank }
 {
@@ -102,6 +108,7 @@ fn change(cell: &mut Cell, entry: &Entry, rank: Option<u32>)
 }
 
 /// One more entry, on the cell's item.
+#[inline(always)]
 pub(crate) fn note(cell: &mut Cell, entry: &Entry, rank: Option<u32>)
     ensures cell { (ds : List Decision) (items : List Holding) (entries : List Entry) → IsDecidedOnce ds
         → IsCell ds items entries cell.old → item_of entry.now ≡ Some cell.old.name → IsRankOf ds (tx_of entry.now) rank
@@ -112,6 +119,7 @@ pub(crate) fn note(cell: &mut Cell, entry: &Entry, rank: Option<u32>)
 }
 
 /// Whether the cell is the item's.
+#[inline(always)]
 fn is_of(cell: &Cell, item: &Item) -> bool
     ensures { IsTrue result ↔ (cell.now.name ≡ item.now) }
 {
@@ -171,6 +179,7 @@ pub(crate) fn place_of(cells: &[Cell], hint: usize, item: &Item) -> Option<usize
 }
 
 /// Enters one more entry into the cell of its item.
+#[inline(always)]
 pub(crate) fn enter(cells: &mut [Cell], place: usize, entry: &Entry, rank: Option<u32>)
     requires { place < length cells.old }
     ensures { (ds : List Decision) (items : List Holding) (entries : List Entry) → IsDecidedOnce ds → AllPairs (λ x y. x ≢ y) (names items)

@@ -7,4 +7,5 @@ mod record;
 mod record_table;
 mod state;
 
+pub use act::item_in;
 pub use state::SiteState;

@@ -42,6 +42,7 @@ impl Record {
     }
 
     /// What it did in the section.
+    #[inline(always)]
     pub(crate) fn acts_in(&self, section: usize) -> &[Act]
         ensures { result.now ≡ acts_in section self.now }
     {
@@ -53,6 +54,7 @@ impl Record {
     }
 
     /// Whether it did such a thing to the item at this place in the section: read it, or changed it.
+    #[inline(always)]
     fn has_done(&self, section: usize, place: usize, deed: Deed) -> bool
         ensures { IsTrue result ↔ Any (IsOf place (changes deed)) (acts_in section self.now) }
     {
@@ -63,6 +65,7 @@ impl Record {
 
     /// Whether the entry, on the item at this place, is not its transaction's second read of the item, nor its second change,
     /// made or asked for.
+    #[inline(always)]
     pub(crate) fn is_first(&self, section: usize, place: usize, entry: &Entry) -> bool
         ensures { (ns : List Name) (entries : List Entry) (x : Name) → slice_get ns place ≡ Some x → item_of entry.now ≡ Some x
             → AreActs ns entries (tx_of entry.now) (acts_in section self.now)
@@ -72,6 +75,7 @@ impl Record {
     }
 
     /// Whether it ended in the section.
+    #[inline(always)]
     pub(crate) fn has_ended(&self, section: usize) -> bool
         ensures { result ≡ has_ended_in section self.now }
     {
@@ -79,6 +83,7 @@ impl Record {
     }
 
     /// Whether it came in the section and did not end.
+    #[inline(always)]
     pub(crate) fn is_live(&self, section: usize) -> bool
         ensures { result ≡ is_live_in section self.now }
     {
@@ -86,6 +91,7 @@ impl Record {
     }
 
     /// Nothing done so far in this section, if it was last touched in another.
+    #[inline(always)]
     fn begin(&mut self, section: usize)
         ensures section { self.new.section ≡ section }
         ensures ended { self.new.ended ≡ has_ended_in section self.old }
@@ -99,6 +105,7 @@ impl Record {
     }
 
     /// One more act, if there is one.
+    #[inline(always)]
     fn add(&mut self, act: Option<Act>) -> Result<(), AllocError>
         ensures section { self.new.section ≡ self.old.section }
         ensures ended { self.new.ended ≡ self.old.ended }
@@ -131,6 +138,7 @@ impl Record {
 }
 
 /// How many are live, where so many of at most so many were, and one of them was live or not and is live or not.
+#[inline(always)]
 pub(crate) fn live_after(live: usize, most: usize, was: bool, is: bool) -> usize
     ensures same { was ≡ is → result ≡ live }
     ensures more { was ≡ false → is ≡ true → live < most → result ≡ live + 1 }

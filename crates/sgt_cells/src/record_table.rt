@@ -46,6 +46,7 @@ impl Model for RecordTable {
 
 /// The place of the record of the transaction of this number, if it was met. A number from the bound on was not: its place is
 /// not looked at.
+#[inline(always)]
 fn find(places: &[usize], met: &[Met], bound: usize, number: usize) -> Option<usize>
     requires { AreBelow bound met.now }
     ensures within { IfSome result (λ i. i < length met.now) }
@@ -95,6 +96,7 @@ impl RecordTable {
     }
 
     /// How many there are.
+    #[inline(always)]
     pub(crate) fn len(&self) -> usize
         ensures { result ≡ length self.now }
     {
@@ -102,6 +104,7 @@ impl RecordTable {
     }
 
     /// The record of the transaction of this number.
+    #[inline(always)]
     pub(crate) fn get(&self, number: usize) -> Option<&Record>
         ensures some { IfSome result (λ r. slice_get self.now number ≡ Some r.now) }
         ensures none { IfNone result (length self.now ≤ number) }
@@ -122,6 +125,7 @@ impl RecordTable {
     }
 
     /// One more entry of the transaction of this number, and whether it was live before and is with it.
+    #[inline(always)]
     pub(crate) fn enter(
         &mut self,
         number: usize,

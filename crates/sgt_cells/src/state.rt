@@ -44,6 +44,7 @@ pub struct SiteState {
 }
 
 /// A number made of the bytes of a name.
+#[inline(always)]
 fn key_of(name: &[u8]) -> u64 {
     match (name.first_chunk::<4>(), name.last_chunk::<4>()) {
         (Some(front), Some(back)) => {
@@ -92,6 +93,7 @@ fn fresh_cell(holding: &Holding) -> Cell
 }
 
 /// The entry at this place, on the item at that place, if it has one.
+#[inline(always)]
 fn act_at(at: usize, place: Option<usize>, entry: &Entry) -> Result<Option<Act>, AllocError>
     ensures { IfOk result (λ found. found ≡ option_map (λ i. act at i entry.now) place) }
 {
@@ -105,6 +107,7 @@ fn act_at(at: usize, place: Option<usize>, entry: &Entry) -> Result<Option<Act>,
 }
 
 /// One more, if there is a number for it.
+#[inline(always)]
 fn one_more(count: usize) -> Result<usize, AllocError>
     ensures { IfOk result (λ next. next ≡ count + 1) }
 {
@@ -115,6 +118,7 @@ fn one_more(count: usize) -> Result<usize, AllocError>
 }
 
 /// One more entry, on the item at this place, if it has one.
+#[inline(always)]
 fn enter_cell(cells: &mut [Cell], place: Option<usize>, entry: &Entry, rank: Option<u32>)
     ensures { (ds : List Decision) (items : List Holding) (entries : List Entry) → IsDecidedOnce ds
         → AllPairs (λ x y. x ≢ y) (names items) → AreCells ds items entries cells.old → IsPlaceOf (names items) entry.now place
@@ -128,6 +132,7 @@ fn enter_cell(cells: &mut [Cell], place: Option<usize>, entry: &Entry, rank: Opt
 }
 
 /// The greatest number of a decision that ended a transaction, after one more entry, decided by this number.
+#[inline(always)]
 fn later_end(last: Option<usize>, entry: &Entry, number: usize) -> Option<usize>
     ensures end { IsEnd entry.now → result ≡ raised last (Some number) }
     ensures other { (IsEnd entry.now → ⊥) → result ≡ last }
@@ -142,6 +147,7 @@ fn later_end(last: Option<usize>, entry: &Entry, number: usize) -> Option<usize>
 }
 
 /// Whether the greatest number is no greater than this one.
+#[inline(always)]
 fn is_up_to(last: Option<usize>, number: usize) -> bool
     ensures { IsTrue result ↔ IsUpTo number last }
 {
@@ -209,7 +215,7 @@ impl SiteState {
         ensures { (ds : List Decision) (items : List Holding) (entries : List Entry) → TracksOpen ds items entries self.now
             → IsPlaceAmong (names items) entry.now result }
     {
-        match entry.item() {
+        match act::item_in(entry) {
             Some(item) => self.place_of(&item),
             None => None,
         }

@@ -44,6 +44,7 @@ pub struct Ruling {
 }
 
 /// Of a transaction in no decision.
+#[inline(always)]
 fn no_ruling() -> Ruling
     ensures { result ≡ record { number = None; rank = None; suiting = None } }
 {
@@ -55,6 +56,7 @@ fn no_ruling() -> Ruling
 }
 
 /// The number, where it is to be told.
+#[inline(always)]
 fn told_if(tells: bool, number: usize) -> Option<usize>
     ensures told { IsTrue tells → result ≡ Some number }
     ensures untold { tells ≡ false → result ≡ None }
@@ -124,6 +126,7 @@ impl Decided {
     }
 
     /// What is decided on the entry's transaction, which is looked up once.
+    #[inline(always)]
     pub fn ruling_on(&self, entry: &Entry) -> Ruling
         ensures { IsRulingOn self.now.decisions entry.now result }
     {

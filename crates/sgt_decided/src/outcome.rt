@@ -27,6 +27,7 @@ pub(crate) fn outcome_of(decision: &Decision) -> Outcome
 
 impl Outcome {
     /// The rank of a commit.
+    #[inline(always)]
     pub(crate) fn rank(&self) -> Option<u32>
         ensures { result ≡ rank_with self.now }
     {
@@ -37,6 +38,7 @@ impl Outcome {
     }
 
     /// Whether it suits an entry of its transaction.
+    #[inline(always)]
     pub(crate) fn suits(&self, entry: &Entry) -> bool
         ensures { IsTrue result ↔ SuitsWith entry.now self.now }
     {

@@ -126,6 +126,7 @@ impl Table {
     }
 
     /// What stands there for the transaction.
+    #[inline(always)]
     pub(crate) fn get(&self, tx: Tx) -> Option<Placed<usize>>
         ensures { result ≡ placed_at self.now tx }
     {
