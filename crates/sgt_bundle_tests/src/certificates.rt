@@ -84,6 +84,47 @@ fn decisions(rt: HostRuntime) -> Result<(), Fail> {
     Ok(())
 }
 
+#[test]
+fn lines_with_spaces(rt: HostRuntime) -> Result<(), Fail> {
+    for (line, wanted) in [
+        (
+            "{\"decisions\":[{\"commit\":1,\"rank\":0}],\"sites\":1} ",
+            Some(CertFault::Range),
+        ),
+        (
+            "{\"decisions\": [{\"refuse\": 2, \"walk\": [{\"item\": \"x\", \"kind\": \"rw\", \"site\": 0, \"to\": 2}]}, {\"withdraw\": 3}], \"sites\": 1}",
+            Some(CertFault::Range),
+        ),
+        (
+            "{\"decisions\": [{\"commit\": 1, \"rank\": null}], \"sites\": 1}",
+            Some(CertFault::Shape),
+        ),
+        (
+            "{\"decisions\": [{\"commit\": 1}], \"sites\": 1}",
+            Some(CertFault::Shape),
+        ),
+        (
+            "{\"decisions\": [], \"sites\": 1, \"sites\": \"1\"}",
+            Some(CertFault::Shape),
+        ),
+        (
+            "{\"sites\": \"1\", \"decisions\": [], \"sites\": 1}",
+            Some(CertFault::Range),
+        ),
+        (
+            "{\"decisions\": [], \"sites\": 1} x",
+            Some(CertFault::NotJson),
+        ),
+        (
+            "{\"decisions\": [], \"sites\": 1e999}",
+            Some(CertFault::NotJson),
+        ),
+    ] {
+        assert!(rt; answers(rt.alloc(), line, wanted), "{line}");
+    }
+    Ok(())
+}
+
 /// Whether what is read from the line is written as it.
 fn is_written_back(
     alloc: Global,

@@ -16,7 +16,7 @@ use Rattle.sgt_cert.specs.declared.certificate.Decision.{Decision}
 use Rattle.sgt_cert.specs.declared.certificate.Decision.TheVariants.{Commit, Refuse, Withdraw}
 use Rattle.sgt_cert.specs.declared.certificate.Certificate.{Certificate}
 
-pub high : (c : ℕ) → is_name_byte c ≡ true → 32 ≤ c
+pub high : (c : ℕ) → is_name_byte c ≡ true → 33 ≤ c
 high c h =
     elim (or_cases (is_small_letter c || (nat_le 48 c && nat_le c 57)) (c == 95) h) [
       | inl two ↦ elim (or_cases (is_small_letter c) (nat_le 48 c && nat_le c 57) two) [
@@ -27,7 +27,7 @@ high c h =
     ]
 
 fine : (c : ℕ) → IsTrue (is_name_byte c) → (c ≡ 34 → ⊥) × (c ≡ 92 → ⊥) × (32 ≤ c)
-fine c h = (λ e. true≢false (sym h ∙ ap is_name_byte e), λ e. true≢false (sym h ∙ ap is_name_byte e), high c h)
+fine c h = (λ e. true≢false (sym h ∙ ap is_name_byte e), λ e. true≢false (sym h ∙ ap is_name_byte e), omega (arith, high c h))
 
 -- no byte of a name is escaped
 escape-plain : (x : List ℕ) → list_all is_name_byte x ≡ true → escape x ≡ x

@@ -1,9 +1,14 @@
--- Words of private clauses alone: the certificate in a JSON value that has the shape of one, and the answer to a line.
-use Rattle.std.specs.Prelude.{◌≡◌, ℕ, ◌+◌, ◌^◌, List, [], ◌∷◌, ◌++◌, length, ◌&&◌, Bool, false, nat_le, nat_lt, if◌then◌else◌}
+-- Words of private clauses alone: the certificate in a JSON value that has the shape of one, the answer to a line, and the
+-- tokens of JSON that has the shape.
+use Rattle.std.specs.Prelude.{◌≡◌, ℕ, ◌+◌, ◌≤◌, ◌<◌, ◌^◌, List, [], ◌∷◌, ◌++◌, length, ◌&&◌, Bool, false, true, nat_le, nat_lt, if◌then◌else◌, decimal}
 use Rattle.std.specs.List.{list_all}
 use Rattle.std.specs.Prelude.{Option, Some, None, option_map, option_and_then, codes, Result, Ok, Err}
 use Rattle.std.specs.Str.{bytes_eq}
-use Rattle.serde_json.specs.Data.{Data}
+use Rattle.json.specs.Token.{Token}
+use Rattle.json.specs.Json as json
+use Rattle.json.specs.Tree as tree
+use Rattle.serde_json.specs.Data.{Data, Items}
+use Rattle.serde_json.specs.Read.{of_json, of_items}
 use Rattle.serde_json.specs.Written.{compact_text}
 use Rattle.serde_json.specs.Find.{get, as_number, as_str, as_array, as_u64}
 use Rattle.sgt_names.specs.Limits.{max_sites}
@@ -112,3 +117,26 @@ Answers (Err NotJson) answer = answer ≡ Err NotJson
 Answers (Err Shape) answer = answer ≡ Err Shape
 Answers (Err Range) answer = answer ≡ Err Range
 Answers (Err Memory) answer = Unit {0}
+
+-- ---- JSON of a certificate's shape, as it is seen in tokens
+
+-- the text of a number below 2^64
+abbrev pub IsWhole : List ℕ → Type 0
+IsWhole text = (n : ℕ) × (n < 2 ^ 64) × (text ≡ decimal n)
+
+-- a number, or a string, and then the other tokens
+abbrev pub HasNumber : (old new : List Token) → Type 0
+HasNumber old new = (text : List ℕ) × IsWhole text × (old ≡ Token.number text ∷ new)
+
+abbrev pub HasText : (old new : List Token) → Type 0
+HasText old new = (text : List ℕ) × (old ≡ Token.string text ∷ new)
+
+-- a value that passes the test and nests no deeper, and then the other tokens
+abbrev pub HasValue : (Data → Bool) → ℕ → (old new : List Token) → Type 0
+HasValue test deep old new = (j : json.Json) × (d : Data) × (old ≡ tree.json_tokens j ++ new) × (of_json j ≡ Some d)
+    × (test d ≡ true) × (tree.depth j ≤ deep)
+
+-- such values up to the closing bracket
+abbrev pub HasItems : (Data → Bool) → ℕ → (old new : List Token) → Type 0
+HasItems test deep old new = (js : json.Items) × (ds : Items) × (old ≡ tree.items_tokens js ++ new) × (of_items js ≡ Some ds)
+    × (list_all test (items_list ds) ≡ true) × (tree.items_depth js ≤ deep)

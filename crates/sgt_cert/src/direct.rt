@@ -23,7 +23,7 @@ fn behind<'b>(bytes: &'b [u8], word: &[u8]) -> Option<&'b [u8]>
 
 /// The number in front, and what stands behind it.
 #[inline(always)]
-fn number(bytes: &[u8]) -> Option<(u64, &[u8])>
+pub(crate) fn number(bytes: &[u8]) -> Option<(u64, &[u8])>
     ensures { IfSome result (λ r. bytes.now ≡ decimal r.0 ++ r.1.now) }
 {
     let (n, number) = read_digits(bytes, 0, 0);

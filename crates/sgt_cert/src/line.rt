@@ -18,6 +18,7 @@ use crate::direct::spelled;
 use crate::fault::CertFault;
 use crate::fits::decisions_fit;
 use crate::shape::has_shape;
+use crate::tokens;
 use serde_json::Value;
 use sgt_names::Kind;
 use sgt_notation::push_number;
@@ -226,6 +227,22 @@ fn read_value(alloc: Global, line: &[u8]) -> Result<Certificate, CertFault>
     }
 }
 
+/// What `from_line` answers, by the line's tokens where they show a fault, else by its value.
+fn read_otherwise(alloc: Global, line: &[u8]) -> Result<Certificate, CertFault>
+    ensures ok { IfOk result (λ c. IsCertificate c × (line.now ≡ certificate_text c)) }
+    ensures only { (c : Certificate) → IsCertificate c → line.now ≡ certificate_text c
+        → MatchResult result (λ found. found ≡ c) (λ e. e ≡ CertFault.Memory) }
+    ensures refuses { IfErr result (Refuses line.now) }
+    ensures each { (e : CertFault) → e ≢ CertFault.Memory → Refuses line.now e
+        → MatchResult result (λ _. ⊥) (λ f. (f ≡ e) ⊎ (f ≡ CertFault.Memory)) }
+{
+    match tokens::fault(alloc, line) {
+        Ok(Some(fault)) => Err(fault),
+        Ok(None) => read_value(alloc, line),
+        Err(_) => Err(CertFault::Memory),
+    }
+}
+
 /// Reads the line of a certificate, which is given without its LF. Ok exactly for the text that `to_line` gives of a
 /// certificate whose sites are 1 to `MAX_SITES`, with each step at one of them. Any other line is refused: with K1 where no JSON
 /// value is read from it, else with K2 where the value's members are not those of a certificate, else with K3. K4 where
@@ -240,7 +257,7 @@ pub fn from_line(alloc: Global, line: &[u8]) -> Result<Certificate, CertFault>
 {
     match read_directly(alloc, line) {
         Ok(Some(certificate)) => Ok(certificate),
-        Ok(None) => read_value(alloc, line),
+        Ok(None) => read_otherwise(alloc, line),
         Err(_) => Err(CertFault::Memory),
     }
 }
