@@ -4,9 +4,9 @@ use Rattle.clap.specs.declared.parser.matches.ArgMatches.{ArgMatches}
 use Rattle.sgt_words.proofs.Numbers.{finds, same_numbers, says, wants_memory}
 use Rattle.sgt_words.proofs.options.choose_run.Goals as goal
 
-pub returns-in-Err-clause-run : goal.returns-in-Err-clause-run
-returns-in-Err-clause-run c = λ workers tries asked.
-    inr (ap Err (c.refused.ensures.memory (wants_memory ArgMatches (app_of c.in_ok-line.line) (map string_bytes c.args.words.now) c.in-Err.error
+pub returns-in_ok-told_of-in-Err-clause-run : goal.returns-in_ok-told_of-in-Err-clause-run
+returns-in_ok-told_of-in-Err-clause-run c = λ workers tries asked.
+    inr (ap Err (c.in_ok-told_of-in-Err.ensures.memory (wants_memory ArgMatches (app_of c.in_ok-line.line) (map string_bytes c.args.words.now) c.in-Err.error
     c.in_ok-line.ensures c.in-Err.ensures.kinds asked.taken)))
 
 pub returns-in-Some-clause-only : goal.returns-in-Some-clause-only
