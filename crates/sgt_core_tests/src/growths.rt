@@ -37,7 +37,9 @@ impl Shown {
 fn ask_transaction(core: &mut Core, tx: Tx, replies: &mut Vec<Reply>) -> Option<()> {
     let site = SiteNo::new(63).ok()?;
     let item = Item::new(b"x").ok()?;
-    replies.push(core.step(Event::Read { tx, site, item })).ok()?;
+    replies
+        .push(core.step(Event::Read { tx, site, item }))
+        .ok()?;
     replies.push(core.step(Event::Gather { tx, site })).ok()?;
     replies.push(core.step(Event::Install { tx, site })).ok()
 }
@@ -142,7 +144,8 @@ fn leaves_its_output(alloc: Global, row: &Row) -> Option<bool> {
     let Ok(bundle) = bundle_again(alloc, &core) else {
         return Some(false);
     };
-    text.extend_from_slice(bundle.to_text(alloc).ok()?.as_slice()).ok()?;
+    text.extend_from_slice(bundle.to_text(alloc).ok()?.as_slice())
+        .ok()?;
     Some(text.as_slice() == row.output.as_bytes())
 }
 

@@ -1,6 +1,6 @@
 //! The command line, and what its refusals come to.
 
-ghost use Rattle.std.specs.Prelude.{◌≡◌, ◌<◌, ◌↔◌, ◌++◌, ℕ, List, IfOk, IsTrue, drop, length, map, string_bytes};
+ghost use Rattle.std.specs.Prelude.{◌≡◌, ◌<◌, ◌↔◌, ◌++◌, ℕ, Any, List, IfOk, IsTrue, drop, length, map, string_bytes};
 ghost use Rattle.clap.specs.Words.{kind_of};
 ghost use Rattle.sgt_words.specs.Words.{AsksHelp, AsksOther, HasText, IsHelp, IsUsage, NamesHelp};
 
@@ -173,9 +173,14 @@ fn names_help(word: &str) -> bool
 
 // Whether one of the words is.
 fn asks_help(words: &[String]) -> bool
-    ensures { IsTrue result → AsksHelp (map string_bytes words.now) }
+    ensures { IsTrue result → Any (λ word. NamesHelp (string_bytes word)) words.now }
 {
-    words.iter().any(|word| names_help(word.as_str()))
+    for word in words {
+        if names_help(word.as_str()) {
+            return true;
+        }
+    }
+    false
 }
 
 /// What clap's fault in these words comes to, which stand behind the program's name. It is help only where one of them asks for it.
@@ -186,7 +191,7 @@ pub fn told_of(
     error: &Error,
 ) -> Result<NoChoice, AllocError>
     ensures text { IfOk result HasText }
-    ensures help { IfOk result (λ no. IsHelp no → AsksHelp (map string_bytes words.now)) }
+    ensures help { IfOk result (λ no. IsHelp no → Any (λ word. NamesHelp (string_bytes word)) words.now) }
     ensures memory { IfOk result (λ no. kind_of error.now ≡ ErrorKind.OutOfMemory → no ≡ NoChoice.Memory) }
 {
     if error.use_stderr() || asks_help(words) {
@@ -195,15 +200,24 @@ pub fn told_of(
     no_command(alloc, line)
 }
 
+// The words behind the first.
+fn behind_first(words: &[String]) -> &[String]
+    ensures { map string_bytes result.now ≡ drop 1 (map string_bytes words.now) }
+{
+    match words {
+        [_, behind @ ..] => behind,
+        [] => words,
+    }
+}
+
 /// The help or the usage text for words that are not plain. What clap would take for a command here, as `audit --`, is none.
 pub fn no_choice(alloc: Global, words: &[String]) -> Result<NoChoice, AllocError>
     ensures text { IfOk result HasText }
     ensures help { IfOk result (λ no. IsHelp no → AsksHelp (drop 1 (map string_bytes words.now))) }
 {
     let mut command = command(alloc)?;
-    let behind = words.get(1..).unwrap_or(&[]);
     match command.try_get_matches_from_mut(words) {
         Ok(_) => no_command(alloc, &mut command),
-        Err(error) => told_of(alloc, &mut command, behind, &error),
+        Err(error) => told_of(alloc, &mut command, behind_first(words), &error),
     }
 }
