@@ -4,14 +4,78 @@
 use crate::rows::{ROWS, Row, opened};
 use sgt_cert::Bundle;
 use sgt_core::{Core, CoreFault, Event, Reply};
-use sgt_names::{SiteNo, Tx};
-use sgt_notation::EventLine;
+use sgt_names::{Item, SiteNo, Tx};
+use sgt_notation::{EventLine, read_event};
+use sgt_replay::write_reply;
 use std::alloc::Global;
 use std::test::Fail;
 
 const REFUSED: Reply = Reply::Fault {
     fault: CoreFault::Memory,
 };
+
+/// What can be seen of a core without a change of it.
+#[derive(Drop)]
+struct Shown {
+    active: u64,
+    /// What it answers to events that it refuses in each state, by its state, and to reads from drafts. None takes memory.
+    replies: Vec<Reply>,
+    /// Its bundle, where no transaction is active.
+    bundle: Vec<u8>,
+}
+
+impl Shown {
+    fn is(&self, other: &Shown) -> bool {
+        self.active == other.active
+            && self.replies.as_slice() == other.replies.as_slice()
+            && self.bundle.as_slice() == other.bundle.as_slice()
+    }
+}
+
+/// Asks the transaction for a read and for parts of a step at a site that isn't there: which refusal is told says whether it was begun,
+/// has ended, is decided, and whether its step or another's is open.
+fn ask_transaction(core: &mut Core, tx: Tx, replies: &mut Vec<Reply>) -> Option<()> {
+    let site = SiteNo::new(63).ok()?;
+    let item = Item::new(b"x").ok()?;
+    replies
+        .push(core.step(Event::Read { tx, site, item }))
+        .ok()?;
+    replies.push(core.step(Event::Gather { tx, site })).ok()?;
+    replies.push(core.step(Event::Install { tx, site })).ok()
+}
+
+/// Asks for what an active transaction read or changed, once more: it is read from its draft.
+fn ask_again(core: &mut Core, line: &EventLine, replies: &mut Vec<Reply>) -> Option<()> {
+    match *line {
+        EventLine::One(Event::Read { tx, site, item } | Event::Put { tx, site, item, .. }) => {
+            replies.push(core.step(Event::Read { tx, site, item })).ok()
+        }
+        _ => Some(()),
+    }
+}
+
+/// What the core shows behind these events. None: a growth was refused.
+fn shown(alloc: Global, core: &mut Core, served: &[EventLine]) -> Option<Shown> {
+    let active = core.active();
+    let mut replies = Vec::new(alloc);
+    for number in 1..4 {
+        ask_transaction(core, Tx::new(number).ok()?, &mut replies)?;
+    }
+    for line in served {
+        ask_again(core, line, &mut replies)?;
+    }
+    let bundle = if active > 0 {
+        replies.push(core.step(Event::Close)).ok()?;
+        Vec::new(alloc)
+    } else {
+        core.bundle(alloc).ok()?.to_text(alloc).ok()?
+    };
+    Some(Shown {
+        active,
+        replies,
+        bundle,
+    })
+}
 
 /// Gathers the transaction at each of these sites, and decides it.
 fn to_decide(core: &mut Core, tx: Tx, sites: &[SiteNo]) -> Reply {
@@ -31,25 +95,38 @@ fn serve(core: &mut Core, event: &EventLine, sites: &[SiteNo]) -> Reply {
     }
 }
 
-/// What is replied to the event; where a growth was refused and as many are active as before, to the event given again, of a step
-/// from its first gather on.
-fn serve_again(core: &mut Core, event: &EventLine, sites: &[SiteNo]) -> Reply {
-    let active = core.active();
+/// What is replied to the event behind those that were served. Where a growth was refused and the core shows what it did before, it is
+/// what is replied to the event given again, of a step from its first gather on. None: a growth was refused to the test.
+fn serve_again(
+    alloc: Global,
+    core: &mut Core,
+    served: &[EventLine],
+    event: &EventLine,
+    sites: &[SiteNo],
+) -> Option<Reply> {
+    let before = shown(alloc, core, served)?;
     let reply = serve(core, event, sites);
-    if reply == REFUSED && core.active() == active {
-        return serve(core, event, sites);
+    if reply == REFUSED && before.is(&shown(alloc, core, served)?) {
+        return Some(serve(core, event, sites));
     }
-    reply
+    Some(reply)
 }
 
-/// Whether no event is refused, given again where need be.
-fn serve_all(core: &mut Core, events: &[EventLine], sites: &[SiteNo]) -> bool {
-    for event in events {
-        if matches!(serve_again(core, event, sites), Reply::Fault { .. }) {
-            return false;
+/// The lines of the replies to the row's events, each given again where need be. None: a growth was refused to the test.
+fn replies_to(alloc: Global, core: &mut Core, row: &Row) -> Option<Vec<u8>> {
+    let sites = [SiteNo::new(0).ok()?, SiteNo::new(1).ok()?];
+    let mut served = Vec::new(alloc);
+    let mut text = Vec::new(alloc);
+    for line in row.input.lines() {
+        // the lines of sites are no events
+        if let Ok(event) = read_event(line.as_bytes()) {
+            let reply = serve_again(alloc, core, served.as_slice(), &event, sites.as_slice())?;
+            write_reply(&mut text, line.as_bytes(), &reply).ok()?;
+            text.extend_from_slice(b"\n").ok()?;
+            served.extend_from_slice(&[event]).ok()?;
         }
     }
-    true
+    Some(text)
 }
 
 fn bundle_again(alloc: Global, core: &Core) -> Result<Bundle, CoreFault> {
@@ -59,28 +136,25 @@ fn bundle_again(alloc: Global, core: &Core) -> Result<Bundle, CoreFault> {
     }
 }
 
-/// Whether the events of the row are served, and leave the row's bundle. None: a growth was refused where there is no core.
-fn leaves_its_bundle(alloc: Global, row: &Row) -> Option<bool> {
-    let (mut core, texts) = opened(alloc, row.input)?;
-    let events = texts.to_vec(alloc).ok()?;
-    let sites = [SiteNo::new(0).ok()?, SiteNo::new(1).ok()?];
-    if !serve_all(&mut core, events.as_slice(), sites.as_slice()) {
-        return Some(false);
-    }
+/// Whether the row's events are answered as the row says, and leave its bundle, byte for byte. None: a growth was refused to the test.
+fn leaves_its_output(alloc: Global, row: &Row) -> Option<bool> {
+    let (mut core, _events) = opened(alloc, row.input)?;
+    let mut text = replies_to(alloc, &mut core, row)?;
+    text.extend_from_slice(b"---\n").ok()?;
     let Ok(bundle) = bundle_again(alloc, &core) else {
         return Some(false);
     };
-    let text = bundle.to_text(alloc).ok()?;
-    let (_, wanted) = row.output.split_once("---\n")?;
-    Some(text.as_slice() == wanted.as_bytes())
+    text.extend_from_slice(bundle.to_text(alloc).ok()?.as_slice())
+        .ok()?;
+    Some(text.as_slice() == row.output.as_bytes())
 }
 
 #[test]
 fn growth_core(rt: HostRuntime) -> Result<(), Fail> {
     for row in &ROWS {
         // one growth is refused at most, so the second time none is
-        let held = match leaves_its_bundle(rt.alloc(), row) {
-            None => leaves_its_bundle(rt.alloc(), row),
+        let held = match leaves_its_output(rt.alloc(), row) {
+            None => leaves_its_output(rt.alloc(), row),
             held => held,
         };
         assert!(rt; held == Some(true), "{}", row.name);

@@ -1,5 +1,5 @@
 -- Events kept as the text of their lines.
-use Rattle.std.proofs.Common.{◌≡◌, ◌≢◌, ℕ, List, [], ◌∷◌, ◌++◌, Option, Some, None, true, refl, sym, ap, ◌∙◌, append_assoc}
+use Rattle.std.proofs.Common.{◌≡◌, ◌≢◌, ℕ, List, [], ◌∷◌, ◌++◌, All, Option, Some, None, true, refl, sym, ap, ◌∙◌, append_assoc, arith}
 use Rattle.std.specs.Prelude.{map, Result, Ok, Err, OnOk, OnErr, IfNone}
 use Rattle.std.specs.Result.{result_ok}
 use Rattle.std.specs.List.{flat_map}
@@ -13,7 +13,7 @@ use Rattle.sgt_notation.specs.declared.fault.NotationFault.{NotationFault}
 use Rattle.sgt_notation.proofs.OneEvent.{event-no_lf}
 use Rattle.sgt_notation.proofs.OneSpelling.{cut_at_byte}
 use Rattle.sgt_notation.proofs.Unspelled.{never}
-use Rattle.sgt_replay.specs.Texts.{AreLines, SpellsEvents, spells-prop}
+use Rattle.sgt_replay.specs.Texts.{AreLines, IsLarge, SpellsEvents, spells-prop}
 use Rattle.sgt_replay.specs.private.OneEvents.{no_line}
 use Rattle.sgt_replay.specs.private.Taking.{TakesEvent}
 use Rattle.sgt_replay.proofs.OneInput.{map-push}
@@ -93,11 +93,12 @@ pub not_read : (line : List ℕ) (r : Result EventLine NotationFault) (o : Optio
 not_read line (Ok e) o reads same none = absurd cc
 not_read line (Err f) o reads same none = reads.1
 
--- one block more, with an event in it
-pub filled_more : (blocks more : List (List EventLine)) (block : List EventLine) → block ≢ [] → more ≡ blocks ++ block ∷ [] → flat_map (λ (es : List EventLine). es) more ≢ []
-filled_more [] more block some whole none = some (sym (append-nil block) ∙ (sym (ap (flat_map (λ (es : List EventLine). es)) whole) ∙ none))
-filled_more (b ∷ blocks) more block some whole none = filled_last b (flat_map (λ (es : List EventLine). es) (blocks ++ block ∷ [])) (filled_more blocks (blocks ++ block ∷ []) block some refl) (sym (ap (flat_map (λ (es : List EventLine). es)) whole) ∙ none)
-  where
-    filled_last : (xs ys : List EventLine) → ys ≢ [] → xs ++ ys ≢ []
-    filled_last [] ys is empty = is empty
-    filled_last (x ∷ xs) ys is empty = absurd cc
+-- a large block has an event, and so have some large blocks together
+large_filled : (events : List EventLine) → IsLarge events → events ≢ []
+large_filled [] large none = absurd (omega (arith, large))
+large_filled (e ∷ es) large none = absurd cc
+
+pub large_front : (blocks : List (List EventLine)) → All IsLarge blocks → blocks ≢ [] → flat_map (λ (es : List EventLine). es) blocks ≢ []
+large_front [] large some none = some refl
+large_front (b ∷ blocks) large some none =
+    filled_front b (flat_map (λ (es : List EventLine). es) blocks) (large_filled b (recursion_from_All IsLarge (b ∷ blocks) large).0) none

@@ -1,5 +1,5 @@
 -- Events kept as the text of their lines.
-use Rattle.std.specs.Prelude.{◌≡◌, ℕ, ◌+◌, ◌<◌, List, ◌∷◌, ◌++◌, All, drop, length, map, take}
+use Rattle.std.specs.Prelude.{◌≡◌, ℕ, ◌+◌, ◌<◌, ◌≤◌, ◌^◌, List, ◌∷◌, ◌++◌, All, drop, length, map, take}
 use Rattle.std.specs.Coded.{Coded-set, Π_prop, ×_prop, coded_ℕ, coded_list}
 use Rattle.std.proofs.Common.{sym, ap, ◌∙◌, subst}
 use Rattle.sgt_notation.specs.Events.{IsEventLine, event_text}
@@ -24,6 +24,10 @@ pub spells-prop : (text : List ℕ) → IsProp (SpellsEvents text)
 spells-prop text (es, a) (fs, b) =
     subst (λ (gs : List EventLine). (c : AreLines gs text) → (es, a) ≡ (gs, c)) (events-one es fs a.0 b.0 (sym a.1 ∙ b.1))
     (λ c. ap (λ (d : AreLines es text). (es, d)) (lines-prop text es a c)) b
+
+-- their lines are half a MiB at least
+abbrev pub IsLarge : List EventLine → Type 0
+IsLarge events = 2 ^ 19 ≤ length (text_of_lines (map event_text events))
 
 -- the line of the event stands at the front of the bytes, with its LF behind so many bytes
 pub record StandsFirst (event : EventLine) (n : ℕ) (bytes : List ℕ) : Type 0 where

@@ -5,7 +5,7 @@ ghost use Rattle.std.specs.List.{flat_map};
 ghost use Rattle.sgt_notation.specs.Events.{IsEventLine, event_text};
 ghost use Rattle.sgt_notation.specs.Spelling.{text_of_lines};
 ghost use Rattle.sgt_notation.specs.declared.event.EventLine.{EventLine};
-ghost use Rattle.sgt_replay.specs.Texts.{AreLines, SpellsEvents, StandsFirst, spells-prop};
+ghost use Rattle.sgt_replay.specs.Texts.{AreLines, IsLarge, SpellsEvents, StandsFirst, spells-prop};
 ghost use Rattle.sgt_replay.specs.private.Taking.{TakesEvent};
 
 use sgt_notation::{EventLine, find_lf, read_event};
@@ -35,7 +35,7 @@ impl Model for Block {
     ghost view = { λ b. b.spelled.0 };
 }
 
-/// Events in order, kept as the text of their lines, in blocks.
+/// Events in order, kept as the text of their lines, in blocks: a block is large before the next is begun.
 #[derive(Drop)]
 pub struct EventTexts {
     full: Vec<Block>,
@@ -43,15 +43,16 @@ pub struct EventTexts {
 }
 
 impl Model for EventTexts {
-    ghost use Rattle.std.specs.Prelude.{◌≢◌, List, ◌++◌, []};
+    ghost use Rattle.std.specs.Prelude.{All, List, ◌++◌};
     ghost use Rattle.std.specs.List.{flat_map};
     ghost use Rattle.sgt_notation.specs.declared.event.EventLine.{EventLine};
+    ghost use Rattle.sgt_replay.specs.Texts.{IsLarge};
 
     ghost Value = { List EventLine };
 
     ghost view = { λ s. flat_map (λ (es : List EventLine). es) s.full.items ++ s.last };
 
-    ghost invariant = { λ s. s.full.items ≢ [] → flat_map (λ (es : List EventLine). es) s.full.items ≢ [] };
+    ghost invariant = { λ s. All IsLarge s.full.items };
 }
 
 /// The event whose line stands at the front, and how many bytes stand before its LF.
@@ -123,8 +124,7 @@ impl Block {
     }
 
     fn is_full(&self) -> bool
-        ensures filled { result ≡ true → self.now ≢ [] }
-        ensures large { result ≡ true → 2 ^ 19 ≤ length (text_of_lines (map event_text self.now)) }
+        ensures { result ≡ true → IsLarge self.now }
     {
         self.text.len() > BLOCK - ROOM
     }

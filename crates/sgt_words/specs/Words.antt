@@ -1,5 +1,5 @@
 -- What the words of the command line ask for.
-use Rattle.std.specs.Prelude.{◌≡◌, ◌≢◌, ◌<◌, ◌≤◌, ℕ, ◌⊎◌, List, [], ◌∷◌, drop, take, codes, length, string_bytes, ⊤}
+use Rattle.std.specs.Prelude.{◌≡◌, ◌≢◌, ◌<◌, ◌≤◌, ℕ, ◌⊎◌, Any, List, [], ◌∷◌, ◌++◌, drop, take, codes, length, string_bytes, ⊤}
 use Rattle.clap.specs.declared.error.kind.ErrorKind.{ErrorKind}
 use Rattle.clap.specs.declared.error.kind.ErrorKind.TheVariants.{DisplayHelp, DisplayVersion}
 use Rattle.sgt_explain.specs.Topics.{topic_name}
@@ -103,6 +103,19 @@ HasText Memory = ⊤
 abbrev pub IsHelp : NoChoice → Type 0
 IsHelp (Help text) = ⊤
 IsHelp _ = ⊥
+
+-- the word is clap's for help or for the version, the short ones with more letters behind them or none
+abbrev pub NamesHelp : List ℕ → Type 0
+NamesHelp word = ((word ≡ codes "--help") ⊎ (word ≡ codes "--version"))
+    ⊎ (((rest : List ℕ) × (word ≡ codes "-h" ++ rest)) ⊎ ((rest : List ℕ) × (word ≡ codes "-V" ++ rest)))
+
+-- one of the words does
+abbrev pub AsksHelp : List (List ℕ) → Type 0
+AsksHelp words = Any NamesHelp words
+
+-- help is told only where one of the words behind the program's name asks for it
+abbrev pub TellsHelp : List (List ℕ) → NoChoice → Type 0
+TellsHelp words told = IsHelp told → AsksHelp (drop 1 words)
 
 -- the words are no command
 abbrev pub IsUsage : NoChoice → Type 0

@@ -2,7 +2,7 @@
 
 ghost use Rattle.std.specs.Prelude.{◌≡◌, ◌⊎◌, ◌↔◌, ◌∷◌, ◌≤◌, [], ℕ, Ok, Err, Some, IfOk, IfErr, IfSome, IsTrue, drop, length, map, string_bytes};
 ghost use Rattle.sgt_words.specs.private.More.{IsDrawWith, SaysMore};
-ghost use Rattle.sgt_words.specs.Words.{AsksAudit, AsksFor, AsksMore, AsksPlain, AsksRun, HasText, IsPlain, NamesDraw, NamesExplain, NamesRun, name_of};
+ghost use Rattle.sgt_words.specs.Words.{AsksAudit, AsksFor, AsksMore, AsksPlain, AsksRun, HasText, IsPlain, NamesDraw, NamesExplain, NamesRun, TellsHelp, name_of};
 
 use crate::line::no_choice;
 use crate::options::choose_run;
@@ -89,6 +89,7 @@ fn choose_plain(alloc: Global, words: &[String]) -> Result<Choice, NoChoice>
     ensures plain { (choice : Choice) → IsPlain choice → drop 1 (map string_bytes words.now) ≡ name_of choice ∷ [] → result ≡ Ok choice }
     ensures only { IfOk result (AsksPlain (map string_bytes words.now)) }
     ensures text { IfErr result HasText }
+    ensures help { IfErr result (TellsHelp (map string_bytes words.now)) }
 {
     match words {
         [] | [_] => Ok(Choice::Audit),
@@ -159,6 +160,7 @@ fn choose_explain(alloc: Global, words: &[String]) -> Result<Choice, NoChoice>
     requires { NamesExplain (map string_bytes words.now) }
     ensures only { IfOk result (AsksMore (map string_bytes words.now)) }
     ensures text { IfErr result HasText }
+    ensures help { IfErr result (TellsHelp (map string_bytes words.now)) }
 {
     match asked_behind(words) {
         Some(choice) => Ok(choice),
@@ -210,6 +212,7 @@ fn choose_draw(alloc: Global, words: &[String]) -> Result<Choice, NoChoice>
     requires { NamesDraw (map string_bytes words.now) }
     ensures only { IfOk result (AsksFor (map string_bytes words.now)) }
     ensures text { IfErr result HasText }
+    ensures help { IfErr result (TellsHelp (map string_bytes words.now)) }
 {
     match drawn_by(words.get(2..).unwrap_or(&[])) {
         Some(choice) => Ok(choice),
@@ -227,6 +230,7 @@ pub fn choose(alloc: Global, words: &[String]) -> Result<Choice, NoChoice>
         → (result ≡ Ok (Choice.Run workers tries)) ⊎ (result ≡ Err NoChoice.Memory) }
     ensures only { IfOk result (AsksFor (map string_bytes words.now)) }
     ensures text { IfErr result HasText }
+    ensures help { IfErr result (TellsHelp (map string_bytes words.now)) }
 {
     match words {
         [_, line @ ..] if names_run(words) => choose_run(alloc, line),

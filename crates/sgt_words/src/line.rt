@@ -1,8 +1,8 @@
 //! The command line, and what its refusals come to.
 
-ghost use Rattle.std.specs.Prelude.{◌≡◌, ◌<◌, IfOk, length, string_bytes};
+ghost use Rattle.std.specs.Prelude.{◌≡◌, ◌<◌, ◌↔◌, ◌++◌, ℕ, Any, List, IfOk, IsTrue, drop, length, map, string_bytes};
 ghost use Rattle.clap.specs.Words.{kind_of};
-ghost use Rattle.sgt_words.specs.Words.{AsksOther, HasText, IsHelp, IsUsage};
+ghost use Rattle.sgt_words.specs.Words.{AsksHelp, AsksOther, HasText, IsHelp, IsUsage, NamesHelp};
 
 use crate::choice::NoChoice;
 use crate::options::run_line;
@@ -156,13 +156,68 @@ pub fn no_command(alloc: Global, line: &mut Command) -> Result<NoChoice, AllocEr
     Ok(refused(alloc, &error))
 }
 
+// Whether the text begins so.
+fn begins(text: &[u8], front: &[u8]) -> bool
+    ensures { IsTrue result ↔ ((rest : List ℕ) × (text.now ≡ front.now ++ rest)) }
+{
+    text.starts_with(front)
+}
+
+// Whether the word is clap's for help or for the version.
+fn names_help(word: &str) -> bool
+    ensures { IsTrue result ↔ NamesHelp word.now }
+{
+    let is_long = word == "--help" || word == "--version";
+    is_long || begins(word.as_bytes(), b"-h") || begins(word.as_bytes(), b"-V")
+}
+
+// Whether one of the words is.
+fn asks_help(words: &[String]) -> bool
+    ensures { IsTrue result → Any (λ word. NamesHelp (string_bytes word)) words.now }
+{
+    for word in words {
+        if names_help(word.as_str()) {
+            return true;
+        }
+    }
+    false
+}
+
+/// What clap's fault in these words comes to, which stand behind the program's name. It is help only where one of them asks for it.
+pub fn told_of(
+    alloc: Global,
+    line: &mut Command,
+    words: &[String],
+    error: &Error,
+) -> Result<NoChoice, AllocError>
+    ensures text { IfOk result HasText }
+    ensures help { IfOk result (λ no. IsHelp no → Any (λ word. NamesHelp (string_bytes word)) words.now) }
+    ensures memory { IfOk result (λ no. kind_of error.now ≡ ErrorKind.OutOfMemory → no ≡ NoChoice.Memory) }
+{
+    if error.use_stderr() || asks_help(words) {
+        return Ok(refused(alloc, error));
+    }
+    no_command(alloc, line)
+}
+
+// The words behind the first.
+fn behind_first(words: &[String]) -> &[String]
+    ensures { map string_bytes result.now ≡ drop 1 (map string_bytes words.now) }
+{
+    match words {
+        [_, behind @ ..] => behind,
+        [] => words,
+    }
+}
+
 /// The help or the usage text for words that are not plain. What clap would take for a command here, as `audit --`, is none.
 pub fn no_choice(alloc: Global, words: &[String]) -> Result<NoChoice, AllocError>
-    ensures { IfOk result HasText }
+    ensures text { IfOk result HasText }
+    ensures help { IfOk result (λ no. IsHelp no → AsksHelp (drop 1 (map string_bytes words.now))) }
 {
     let mut command = command(alloc)?;
     match command.try_get_matches_from_mut(words) {
         Ok(_) => no_command(alloc, &mut command),
-        Err(error) => Ok(refused(alloc, &error)),
+        Err(error) => told_of(alloc, &mut command, behind_first(words), &error),
     }
 }

@@ -3,11 +3,11 @@
 ghost use Rattle.std.specs.Prelude.{◌≡◌, ◌⊎◌, ◌≤◌, ℕ, Ok, Err, Some, IfOk, IfErr, IfSome, false, map, string_bytes};
 ghost use Rattle.clap.specs.Words.{app_of, found_of, one_text, rule_of};
 ghost use Rattle.sgt_words.specs.Options.{ReadsNumber, SaysRun, number_rule, run_line};
-ghost use Rattle.sgt_words.specs.Words.{HasText, IsRunOf};
+ghost use Rattle.sgt_words.specs.Words.{AsksHelp, HasText, IsHelp, IsRunOf};
 ghost use Rattle.sgt_words.specs.private.Found.{FindsRun};
 
 use crate::choice::{Choice, NoChoice};
-use crate::line::{MORE, no_command, refused};
+use crate::line::{MORE, no_command, told_of};
 use clap::builder::ValueParser;
 use clap::{Arg, ArgMatches, Command};
 use std::alloc::{AllocError, Global};
@@ -95,11 +95,12 @@ pub fn choose_run(alloc: Global, words: &[String]) -> Result<Choice, NoChoice>
         → (result ≡ Ok (Choice.Run workers tries)) ⊎ (result ≡ Err NoChoice.Memory) }
     ensures only { IfOk result (IsRunOf (map string_bytes words.now)) }
     ensures text { IfErr result HasText }
+    ensures help { IfErr result (λ no. IsHelp no → AsksHelp (map string_bytes words.now)) }
 {
     let mut line = run_line(alloc)?;
     let matches = match line.try_get_matches_from_mut(words) {
         Ok(matches) => matches,
-        Err(error) => return Err(refused(alloc, &error)),
+        Err(error) => return Err(told_of(alloc, &mut line, words, &error)?),
     };
     match numbers_of(&matches) {
         Some((workers, tries)) => Ok(Choice::Run { workers, tries }),

@@ -1,13 +1,19 @@
 use Rattle.std.proofs.Common.{Ok, Err, inl, inr, ap, map, string_bytes}
 use Rattle.clap.specs.Words.{app_of}
 use Rattle.clap.specs.declared.parser.matches.ArgMatches.{ArgMatches}
+use Rattle.sgt_words.specs.Words.{NamesHelp}
+use Rattle.sgt_words.proofs.Helping.{any_mapped}
 use Rattle.sgt_words.proofs.Numbers.{finds, same_numbers, says, wants_memory}
 use Rattle.sgt_words.proofs.options.choose_run.Goals as goal
 
 pub returns-in-Err-clause-run : goal.returns-in-Err-clause-run
 returns-in-Err-clause-run c = λ workers tries asked.
-    inr (ap Err (c.refused.ensures.memory (wants_memory ArgMatches (app_of c.in_ok-line.line) (map string_bytes c.args.words.now) c.in-Err.error
+    inr (ap Err (c.in_ok-told_of-in-Err.ensures.memory (wants_memory ArgMatches (app_of c.in_ok-line.line) (map string_bytes c.args.words.now) c.in-Err.error
     c.in_ok-line.ensures c.in-Err.ensures.kinds asked.taken)))
+
+pub returns-in-Err-clause-help : goal.returns-in-Err-clause-help
+returns-in-Err-clause-help c = λ is.
+    any_mapped string_bytes NamesHelp c.args.words.now (c.in_ok-told_of-in-Err.ensures.help is)
 
 pub returns-in-Some-clause-only : goal.returns-in-Some-clause-only
 returns-in-Some-clause-only c =
