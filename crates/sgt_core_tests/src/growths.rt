@@ -55,7 +55,7 @@ fn ask_again(core: &mut Core, line: &EventLine, replies: &mut Vec<Reply>) -> Opt
 }
 
 /// What the core shows behind these events. None: a growth was refused.
-fn shown(alloc: Global, core: &mut Core, served: &[EventLine]) -> Option<Shown> {
+fn show(alloc: Global, core: &mut Core, served: &[EventLine]) -> Option<Shown> {
     let active = core.active();
     let mut replies = Vec::new(alloc);
     for number in 1..4 {
@@ -104,9 +104,9 @@ fn serve_again(
     event: &EventLine,
     sites: &[SiteNo],
 ) -> Option<Reply> {
-    let before = shown(alloc, core, served)?;
+    let before = show(alloc, core, served)?;
     let reply = serve(core, event, sites);
-    if reply == REFUSED && before.is(&shown(alloc, core, served)?) {
+    if reply == REFUSED && before.is(&show(alloc, core, served)?) {
         return Some(serve(core, event, sites));
     }
     Some(reply)
