@@ -94,7 +94,8 @@ fn breaks_off(alloc: Global, log: &OpenLog, line: &SectionLine) -> Result<bool, 
         → KeepsAlone (lines_read b) line.now fault.NotEnded → ⊥) }
 {
     match line {
-        SectionLine::Final(_) | SectionLine::End => leave_one_open(alloc, log.entries()),
+        SectionLine::Final(_) => leave_one_open(alloc, log.entries()),
+        SectionLine::End => leave_one_open(alloc, log.entries()),
         _ => Ok(false),
     }
 }

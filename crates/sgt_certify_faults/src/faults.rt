@@ -62,7 +62,13 @@ fn end_breaks(sections: &Sections, rest: &[u8], fault: Fault) -> bool
     if !is_same(fault, Fault::Truncated) {
         return false;
     }
-    !rest.is_empty() || sections.current().is_some() || sections.whole().is_empty()
+    if !rest.is_empty() {
+        return true;
+    }
+    match sections.current() {
+        Some(_) => true,
+        None => sections.whole().is_empty(),
+    }
 }
 
 /// Whether the line that is too long breaks the rule, which follows these sections and bytes.
