@@ -1,5 +1,5 @@
 -- Entries that a decision suits ask for its kind of end.
-use Rattle.std.proofs.Common.{◌≡◌, Option, Some, None, IfSome, refl, sym, ◌∙◌, subst}
+use Rattle.std.proofs.Common.{◌≡◌, Some, IfSome, refl, sym, ◌∙◌, subst}
 use Rattle.sgt_names.specs.declared.entry.Entry.{Entry}
 use Rattle.sgt_names.specs.declared.entry.Entry.TheVariants as entry
 use Rattle.sgt_cert.specs.Certificate.{Suits}

@@ -1,5 +1,5 @@
 -- What is broken behind lines that were read.
-use Rattle.std.proofs.Common.{◌≡◌, ◌≢◌, ℕ, ◌<◌, ◌≤◌, ◌-◌, Bool, List, [], ◌∷◌, ◌++◌, length, map, Option, Some, None, refl, sym, ap, ap₂, ◌∙◌, subst, arith, append_assoc, suc, ◌+◌, All, Contains}
+use Rattle.std.proofs.Common.{◌≡◌, ◌≢◌, ℕ, ◌≤◌, ◌-◌, Bool, List, [], ◌∷◌, ◌++◌, length, map, Option, Some, None, refl, sym, ap, ap₂, ◌∙◌, subst, arith, append_assoc, suc, ◌+◌, All, Contains}
 use Rattle.std.specs.Prelude.{slice_get}
 use Rattle.std.specs.List.{filter_map}
 use Rattle.std.proofs.lemmas.List.Elements.{All-cons, All-nil}
@@ -17,18 +17,17 @@ use Rattle.sgt_names.proofs.Places.{All_at, All-from_at}
 use Rattle.sgt_notation.specs.Spelling.{line_text}
 use Rattle.sgt_notation.specs.declared.SectionLine.{SectionLine}
 use Rattle.sgt_notation.specs.declared.SectionLine.TheVariants.{Site, Initial, Logged, Final, End}
-use Rattle.sgt_cert.specs.Text.{sections_from, section_lines, Begins, AreSections}
-use Rattle.sgt_cert.specs.Parts.{IsShaped}
+use Rattle.sgt_cert.specs.Text.{sections_from, section_lines, AreSections}
 use Rattle.sgt_cert.specs.declared.bundle.SiteLog.{SiteLog}
 use Rattle.sgt_audit.specs.declared.faults.Fault.{Fault}
 use Rattle.sgt_audit.specs.declared.faults.Fault.TheVariants as fault
-use Rattle.sgt_audit.specs.Faults.{entries_in, items_in, logged_in, IsLineIn, Piece, whole, last}
+use Rattle.sgt_audit.specs.Faults.{entries_in, items_in, logged_in, IsLineIn, whole}
 use Rattle.sgt_audit.specs.Reading.{Begun, IsBegun, lines_read, open_lines}
 use Rattle.sgt_audit.specs.private.Judging.{HasOpen}
-use Rattle.sgt_audit.specs.private.Following.{MayFollow, FitsBetween}
+use Rattle.sgt_audit.specs.private.Following.{MayFollow}
 use Rattle.sgt_audit.proofs.MayFollow.{are-sections, begins-follow, sections-whole, whole-sections}
 use Rattle.sgt_audit.proofs.OpenLogs.{has_open}
-use Rattle.sgt_certify_faults.specs.Faults.{AreAll, EndAlike, KeepsAlone, RuleAlone, behind, undecided}
+use Rattle.sgt_certify_faults.specs.Faults.{AreAll, EndAlike, KeepsAlone, RuleAlone, behind}
 use Rattle.sgt_certify_faults.proofs.KeptAlone.{open-logged, section-logged}
 
 -- ---- which sections may begin so

@@ -12,7 +12,7 @@ use Rattle.sgt_names.specs.Log.{names, value_at, AllEnded}
 use Rattle.sgt_names.specs.declared.entry.Entry.{Entry}
 use Rattle.sgt_names.specs.declared.entry.Entry.TheVariants as entry
 use Rattle.sgt_names.specs.declared.entry.Holding.{Holding}
-use Rattle.sgt_names.proofs.Places.{All_at, AllPairs_at, All-from_at, slice_get-take, Contains_at, Contains-from_at}
+use Rattle.sgt_names.proofs.Places.{All_at, AllPairs_at, All-from_at, slice_get-take, Contains-from_at}
 use Rattle.sgt_names.proofs.Lists.{front_at}
 use Rattle.sgt_notation.specs.declared.SectionLine.{SectionLine}
 use Rattle.sgt_notation.specs.declared.SectionLine.TheVariants.{Site, Initial, Logged, Final, End}

@@ -1,5 +1,5 @@
 -- Lines of logs that were read, and what follows them.
-use Rattle.std.proofs.Common.{◌≡◌, ◌≢◌, ℕ, ◌+◌, ◌<◌, ◌≤◌, Bool, List, [], ◌∷◌, ◌++◌, length, map, Option, Some, None, refl, sym, ap, ◌∙◌, subst, arith, append_assoc, inl, inr, take, ◌-◌, All}
+use Rattle.std.proofs.Common.{◌≡◌, ◌≢◌, ℕ, ◌+◌, ◌<◌, ◌≤◌, Bool, true, false, List, [], ◌∷◌, ◌++◌, length, map, Option, Some, None, refl, sym, ap, ◌∙◌, subst, arith, append_assoc, inl, inr, take, ◌-◌, All}
 use Rattle.std.specs.Prelude.{slice_get}
 use Rattle.std.proofs.lemmas.Bool.{cases_order}
 use Rattle.std.proofs.lemmas.List.{append-nil, length-append, length-map}
@@ -12,17 +12,18 @@ use Rattle.sgt_notation.specs.Limits.{max_line}
 use Rattle.sgt_notation.specs.Lines.{IsLongerThan}
 use Rattle.sgt_notation.specs.Spelling.{HasNoLf, line_text, text_of_lines}
 use Rattle.sgt_notation.specs.declared.SectionLine.{SectionLine}
-use Rattle.sgt_notation.specs.declared.SectionLine.TheVariants.{Site, Initial, Logged, Final, End}
 use Rattle.sgt_cert.specs.Text.{format_line}
 use Rattle.sgt_cert.specs.declared.bundle.SiteLog.{SiteLog}
 use Rattle.sgt_cert.proofs.OneText.{line_front}
 use Rattle.sgt_audit.specs.declared.faults.Fault.{Fault}
-use Rattle.sgt_audit.specs.Faults.{IsLineIn, Piece, whole, last, ComesNext, bytes_of}
-use Rattle.sgt_audit.specs.Reading.{Begun, IsBegun, lines_read}
+use Rattle.sgt_audit.specs.declared.faults.Fault.TheVariants as fault
+use Rattle.sgt_audit.specs.Faults.{IsLineIn, Piece, whole, last, ComesNext, bytes_of, Rule, start}
+use Rattle.sgt_audit.specs.Reading.{Begun, lines_read}
 use Rattle.sgt_audit.specs.private.Following.{MayFollow, with_next}
 use Rattle.sgt_audit.proofs.MayFollow.{next-begun, next-lines}
 use Rattle.sgt_audit.proofs.ReaderAtStage.{piece}
 use Rattle.sgt_certify_faults.specs.Faults.{HasFault, RuleAlone, behind}
+use Rattle.sgt_certify_faults.specs.Faults as front
 use Rattle.sgt_certify_faults.specs.private.Reading.{IsReadTo}
 
 -- ---- line by line
@@ -114,3 +115,51 @@ long-comes rest more (whole l) none long (after, is, one) =
 
 pub long-next : (rest more : List ℕ) → HasNoLf rest → IsLongerThan max_line more → (next : Piece) × ComesNext (rest ++ more) next × (max_line < length (bytes_of next))
 long-next rest more none long = let p = piece (rest ++ more) in (p.0, p.1, long-comes rest more p.0 none long p.1)
+
+-- ---- the first line
+
+first-broken : (l : List ℕ) → ((second : Bool) → l ≡ format_line second → ⊥) → (f : Fault) → f ≡ fault.Format → RuleAlone front.none (whole l) f → ⊥
+first-broken l other f is rule = let kept = subst (λ (f : Fault). Rule start (whole l) f) is rule in other kept.0 kept.1
+
+pub first-line : (text line after more : List ℕ) (f : Fault) → HasNoLf line → text ≡ line ++ 10 ∷ after → ((second : Bool) → line ≡ format_line second → ⊥) → f ≡ fault.Format → HasFault (text ++ more) 1 f
+first-line text line after more f one cut other is = record {
+  front = front.none;
+  rest = text ++ more;
+  next = whole line;
+  text = refl;
+  spelled = tt;
+  number = refl;
+  comes = line-comes text line after more one cut;
+  broken = first-broken line other f is;
+}
+
+pub first-end : (text more : List ℕ) (f : Fault) → HasNoLf text → more ≡ [] → f ≡ fault.Truncated → HasFault (text ++ more) 1 f
+first-end text more f one nothing is = record {
+  front = front.none;
+  rest = text ++ more;
+  next = last text;
+  text = refl;
+  spelled = tt;
+  number = refl;
+  comes = end-comes text more one nothing;
+  broken = λ rule. subst (λ (f : Fault). Rule start (last text) f) is rule;
+}
+
+long-first : (next : Piece) → max_line < length (bytes_of next) → Rule start next fault.Format → ⊥
+long-first (whole l) long (false, is) = absurd (omega (arith, ap length is, long))
+long-first (whole l) long (true, is) = absurd (omega (arith, ap length is, long))
+long-first (last l) long short = absurd (omega (arith, short, long))
+
+pub first-long : (text more : List ℕ) (f : Fault) → HasNoLf text → IsLongerThan max_line more → f ≡ fault.Format → HasFault (text ++ more) 1 f
+first-long text more f one long is =
+    let next = long-next text more one long in
+    record {
+      front = front.none;
+      rest = text ++ more;
+      next = next.0;
+      text = refl;
+      spelled = tt;
+      number = refl;
+      comes = next.1;
+      broken = λ rule. long-first next.0 next.2 (subst (λ (f : Fault). Rule start next.0 f) is rule);
+    }

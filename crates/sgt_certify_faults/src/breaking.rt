@@ -47,9 +47,13 @@ fn are_at_odds(logs: &[SiteLog], entry: &Entry) -> bool
 fn breaks_end(whole: &[SiteLog], log: &OpenLog, entry: &Entry) -> bool
     ensures { IsTrue result → (b : Begun) → HasLogs b whole.now log.now → KeepsAlone (lines_read b) (Logged entry.now) fault.End → ⊥ }
 {
-    is_behind_its_end(log.entries(), entry)
-        || is_at_odds(log.entries(), entry)
-        || are_at_odds(whole, entry)
+    if is_behind_its_end(log.entries(), entry) {
+        return true;
+    }
+    if is_at_odds(log.entries(), entry) {
+        return true;
+    }
+    are_at_odds(whole, entry)
 }
 
 /// Whether an entry behind the open log breaks the rule.

@@ -26,7 +26,10 @@ fn breaks_first(text: &[u8], all: bool, fault: Fault) -> bool
     ensures { IsTrue result → (more : List ℕ) → GoesOn all more → HasFault (text.now ++ more) 1 fault }
 {
     match split_line(text) {
-        Some((line, _)) => is_same(fault, Fault::Format) && read_format(line).is_none(),
+        Some((line, _)) => match read_format(line) {
+            Some(_) => false,
+            None => is_same(fault, Fault::Format),
+        },
         None if all => is_same(fault, Fault::Truncated),
         None => is_same(fault, Fault::Format),
     }

@@ -4,7 +4,6 @@ use Rattle.sgt_names.specs.declared.entry.Entry.{Entry}
 use Rattle.sgt_names.proofs.Lists.{element_at}
 use Rattle.sgt_names.proofs.Places.{All_at}
 use Rattle.sgt_cert.specs.declared.bundle.SiteLog.{SiteLog}
-use Rattle.std.proofs.Common.{List}
 use Rattle.sgt_certify_faults.specs.Faults.{EndAlike}
 use Rattle.sgt_certify_faults.proofs.Broken.{one-end}
 use Rattle.sgt_certify_faults.proofs.breaking.are_at_odds.Goals as goal

@@ -1,4 +1,3 @@
-use Rattle.std.proofs.Common.{ℕ, List}
 use Rattle.sgt_names.proofs.Lists.{element_at}
 use Rattle.sgt_names.proofs.Places.{All_at}
 use Rattle.sgt_names.specs.Name.{Name}

@@ -1,4 +1,4 @@
-use Rattle.std.proofs.Common.{ℕ, List, All}
+use Rattle.std.proofs.Common.{ℕ, List}
 use Rattle.std.proofs.lemmas.Bool.{false≢true, true≢false}
 use Rattle.std.proofs.Common.{refl, sym, ◌∙◌}
 use Rattle.sgt_names.specs.declared.entry.Holding.{Holding}
