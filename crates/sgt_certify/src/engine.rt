@@ -123,13 +123,7 @@ fn answer_to(alloc: Global, taken: Taken) -> Result<Answer, EngineFail>
     let Taken { text, all } = taken;
     if !all {
         let (line, fault) = long_line(alloc, text.as_slice())?;
-        return Ok(fault_answer(
-            alloc,
-            text.as_slice(),
-            false,
-            line,
-            fault,
-        )?);
+        return Ok(fault_answer(alloc, text.as_slice(), false, line, fault)?);
     }
     let found = find(alloc, text.as_slice())?;
     found_answer(alloc, text, found)
