@@ -1,6 +1,8 @@
 -- What a text with a line put in shows of the bytes without it.
-use Rattle.std.proofs.Common.{◌≡◌, ℕ, List, [], ◌∷◌, ◌++◌, Option, Some, None, IfSome, sym, ap, ◌∙◌, subst, append_assoc}
+use Rattle.std.proofs.Common.{◌≡◌, ℕ, Bool, true, List, [], ◌∷◌, ◌++◌, Option, Some, None, IfSome, refl, sym, ap, ◌∙◌, subst, inl, inr, append_assoc}
+use Rattle.std.proofs.lemmas.List.{append-nil}
 use Rattle.sgt_names.specs.declared.outcome.Outcome.{Outcome}
+use Rattle.sgt_names.specs.declared.outcome.Outcome.TheVariants.{No}
 use Rattle.sgt_cert.specs.Parts.{Parts}
 use Rattle.sgt_cert.specs.Text.{Spells}
 use Rattle.sgt_cert.specs.Valid.{IsValid}
@@ -10,7 +12,11 @@ use Rattle.sgt_certify_logs.specs.Certifiable.{AreCertifiable, HasNoCertificate,
 use Rattle.sgt_certify_logs.proofs.Cycles.{conflicts-no_cycle, ends-no_cycle}
 use Rattle.sgt_certify_logs.proofs.Inserted.{logs-one, with-logs}
 use Rattle.sgt_certify_logs.proofs.Stuck.{stuck-none}
-use Rattle.sgt_certify.specs.Answer.{Excludes, IsAnswer, IsCertified}
+use Rattle.sgt_audit.specs.declared.faults.Fault.{Fault}
+use Rattle.sgt_audit.specs.Faults.{fault_number}
+use Rattle.sgt_certify_faults.specs.Faults.{GoesOn, HasFault}
+use Rattle.sgt_certify_faults.proofs.NoCertificate.{fault-none}
+use Rattle.sgt_certify.specs.Answer.{Excludes, IsAnswer, IsCertified, IsTaken, fault_text}
 use Rattle.sgt_certify.specs.declared.refuting.Refusal.{Refusal}
 use Rattle.sgt_certify.specs.declared.refuting.Refusal.TheVariants.{Order, Ranks, Walk}
 
@@ -41,14 +47,22 @@ none-shown Order bytes sites spelled shown = none-from bytes sites spelled (ends
 none-shown Ranks bytes sites spelled shown = none-from bytes sites spelled (conflicts-no_cycle sites shown)
 none-shown Walk bytes sites spelled shown = none-from bytes sites spelled (stuck-none sites shown.0 shown.1)
 
--- the answer to the text that was read is that to the bytes that were told
-pub told-answer : (told : Option (List ℕ)) (text written : List ℕ) (outcome : Outcome) → IfSome told (λ bytes. bytes ≡ text)
-    → IsAnswer text outcome written → IfSome told (λ bytes. IsAnswer bytes outcome written)
-told-answer None text written outcome same answer = tt
-told-answer (Some bytes) text written outcome same answer = subst (λ t. IsAnswer t outcome written) (sym same) answer
+-- the answer to all texts that go on so is that to the bytes that were told
+pub taken-answer : (told : Option (List ℕ)) (text written : List ℕ) (all : Bool) (outcome : Outcome) → IsTaken told text all
+    → ((more : List ℕ) → GoesOn all more → IsAnswer (text ++ more) outcome written) → IfSome told (λ bytes. IsAnswer bytes outcome written)
+taken-answer None text written all outcome taken answer = tt
+taken-answer (Some bytes) text written all outcome (more, is, goes) answer = subst (λ t. IsAnswer t outcome written) (sym is) (answer more goes)
 
--- an answer to all bytes is one to those that were told
-pub any-answer : (told : Option (List ℕ)) (written : List ℕ) (outcome : Outcome) → ((bytes : List ℕ) → IsAnswer bytes outcome written)
-    → IfSome told (λ bytes. IsAnswer bytes outcome written)
-any-answer None written outcome answer = tt
-any-answer (Some bytes) written outcome answer = answer bytes
+-- the answer to a text is that to it with nothing behind it
+pub whole-answer : (text written : List ℕ) (outcome : Outcome) → IsAnswer text outcome written → (more : List ℕ) → GoesOn true more → IsAnswer (text ++ more) outcome written
+whole-answer text written outcome answer more none =
+    subst (λ t. IsAnswer t outcome written) (sym (ap (λ (t : List ℕ). text ++ t) none ∙ append-nil text)) answer
+
+pub alone-answer : (text written : List ℕ) (outcome : Outcome) → ((more : List ℕ) → GoesOn true more → IsAnswer (text ++ more) outcome written) → IsAnswer text outcome written
+alone-answer text written outcome answer = subst (λ t. IsAnswer t outcome written) (append-nil text) (answer [] refl)
+
+-- a fault that the bytes have at the line told
+pub faulty-answer : (text more written : List ℕ) (line : ℕ) (fault : Fault) → HasFault (text ++ more) line fault → written ≡ fault_text line (fault_number fault)
+    → IsAnswer (text ++ more) No written
+faulty-answer text more written line fault shown told =
+    inr (inl (record { line = line; fault = fault; told = told; shown = shown; none = fault-none (text ++ more) line fault shown }))

@@ -1,9 +1,11 @@
 -- How far a reader was read, against all that it told.
-use Rattle.std.proofs.Common.{◌≡◌, ℕ, List, [], ◌∷◌, ◌++◌, take, drop, Option, Some, None, IfSome, sym, ap, ap₂, ◌∙◌, arith, append_assoc}
+use Rattle.std.proofs.Common.{◌≡◌, ℕ, List, [], ◌∷◌, ◌++◌, take, drop, Option, Some, None, true, false, refl, sym, ap, ap₂, ◌∙◌, arith, append_assoc}
 use Rattle.std.specs.Io.KnownBytes.{Consumes}
 use Rattle.std.proofs.lemmas.List.{append-nil, take-append-drop}
+use Rattle.sgt_notation.specs.Limits.{max_line}
 use Rattle.sgt_notation.specs.Lines.{Ahead, Gives, Spends, coming, passed}
-use Rattle.sgt_notation.specs.declared.lines.Next.TheVariants.{Line, Cut, End}
+use Rattle.sgt_notation.specs.declared.lines.Next.TheVariants.{Line, Cut, TooLong, End}
+use Rattle.sgt_certify.specs.Answer.{IsTaken}
 
 pub nothing-taken : (told : Option (List ℕ)) (ahead : Ahead) (text : List ℕ) → text ≡ [] → ahead.held ≡ [] → Consumes told (coming ahead told) text
 nothing-taken None ahead text none fresh = tt
@@ -30,18 +32,26 @@ line-taken (Some bytes) (Some xs) (Some ys) limit text line more rest gives is =
     ∙ sym (append_assoc (text ++ line) (10 ∷ []) ys) ∙ ap (λ (t : List ℕ). t ++ ys) (sym is)
 
 pub cut-taken : (told old new : Option (List ℕ)) (limit : ℕ) (text line more : List ℕ) → Consumes told old text → Gives limit old Cut line new
-    → more ≡ text ++ line → IfSome told (λ bytes. bytes ≡ more)
+    → more ≡ text ++ line → IsTaken told more true
 cut-taken None old new limit text line more rest gives is = tt
 cut-taken (Some bytes) None new limit text line more rest gives is = absurd rest
 cut-taken (Some bytes) (Some xs) None limit text line more rest gives is = absurd gives
-cut-taken (Some bytes) (Some xs) (Some ys) limit text line more rest gives is = rest ∙ ap (λ (t : List ℕ). text ++ t) gives.3 ∙ sym is
+cut-taken (Some bytes) (Some xs) (Some ys) limit text line more rest gives is =
+    ([], rest ∙ ap (λ (t : List ℕ). text ++ t) gives.3 ∙ sym is ∙ sym (append-nil more), refl)
 
 pub end-taken : (told old new : Option (List ℕ)) (limit : ℕ) (text line : List ℕ) → Consumes told old text → Gives limit old End line new
-    → IfSome told (λ bytes. bytes ≡ text)
+    → IsTaken told text true
 end-taken None old new limit text line rest gives = tt
 end-taken (Some bytes) None new limit text line rest gives = absurd rest
 end-taken (Some bytes) (Some xs) None limit text line rest gives = absurd gives
-end-taken (Some bytes) (Some xs) (Some ys) limit text line rest gives = rest ∙ ap (λ (t : List ℕ). text ++ t) gives.0 ∙ append-nil text
+end-taken (Some bytes) (Some xs) (Some ys) limit text line rest gives = ([], rest ∙ ap (λ (t : List ℕ). text ++ t) gives.0, refl)
+
+pub long-taken : (told old new : Option (List ℕ)) (text line : List ℕ) → Consumes told old text → Gives max_line old TooLong line new
+    → IsTaken told text false
+long-taken None old new text line rest gives = tt
+long-taken (Some bytes) None new text line rest gives = absurd rest
+long-taken (Some bytes) (Some xs) None text line rest gives = absurd gives
+long-taken (Some bytes) (Some xs) (Some ys) text line rest gives = (xs, rest, gives.0)
 
 -- ---- the reads
 

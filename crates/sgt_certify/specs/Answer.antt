@@ -1,5 +1,5 @@
 -- What logs without a certificate are answered by.
-use Rattle.std.specs.Prelude.{◌≡◌, ◌⊎◌, ℕ, List, [], ◌++◌, codes, decimal, Option, IfSome}
+use Rattle.std.specs.Prelude.{◌≡◌, ◌⊎◌, ℕ, Bool, List, [], ◌++◌, codes, decimal, Option, IfSome}
 use Rattle.std.specs.Io.KnownBytes.{Appends}
 use Rattle.sgt_names.specs.Device.{AppendsOrForgets, WritesFront}
 use Rattle.sgt_names.specs.declared.outcome.Outcome.{Outcome}
@@ -8,6 +8,9 @@ use Rattle.sgt_cert.specs.Parts.{Parts}
 use Rattle.sgt_cert.specs.Text.{Spells, certificate_text}
 use Rattle.sgt_cert.specs.Valid.{IsValid}
 use Rattle.sgt_cert.specs.declared.bundle.SiteLog.{SiteLog}
+use Rattle.sgt_audit.specs.declared.faults.Fault.{Fault}
+use Rattle.sgt_audit.specs.Faults.{fault_number}
+use Rattle.sgt_certify_faults.specs.Faults.{GoesOn, HasFault}
 use Rattle.sgt_certify_logs.specs.Certifiable.{HasNoCertificate, IsWithLine, SpellsLogs}
 use Rattle.sgt_certify_logs.specs.Witness.{HaveConflictsInACycle, HaveEndsInACycle, IsStuck}
 use Rattle.sgt_certify.specs.declared.refuting.Refusal.{Refusal}
@@ -51,15 +54,24 @@ pub record IsRefused (bytes text : List ℕ) : Type 0 where
 abbrev pub fault_text : (line number : ℕ) → List ℕ
 fault_text line number = codes "no line " ++ (decimal line ++ (codes " F" ++ (decimal number ++ codes "\n")))
 
--- a text that claims nothing which is proved: the line of a fault, or that what was found didn't pass its check
-abbrev pub IsUnproved : List ℕ → Type 0
-IsUnproved text = ((line : ℕ) × (number : ℕ) × (text ≡ fault_text line number)) ⊎ (text ≡ codes "! certify\n")
+-- the text is the line of a fault, the bytes have it at that line whatever certificate is put in, and so none makes their logs valid
+pub record IsFaulty (bytes text : List ℕ) : Type 0 where
+  pub line : ℕ
+  pub fault : Fault
+  pub told : text ≡ fault_text line (fault_number fault)
+  pub shown : HasFault bytes line fault
+  pub none : HasNoCertificate bytes
 
--- the text that the bytes are answered by: with a yes the bundle, with a no a refusal or what isn't proved
+-- the text that the bytes are answered by: with a yes the bundle, with a no a refusal, a fault, or that what was found didn't pass its
+-- check, which claims nothing
 abbrev pub IsAnswer : List ℕ → Outcome → List ℕ → Type 0
 IsAnswer bytes Yes text = IsCertified bytes text
-IsAnswer bytes No text = IsRefused bytes text ⊎ IsUnproved text
+IsAnswer bytes No text = IsRefused bytes text ⊎ (IsFaulty bytes text ⊎ (text ≡ codes "! certify\n"))
 IsAnswer bytes Unreadable text = ⊥
+
+-- the text is all that was told, or all that stands in front of a line that is too long
+abbrev pub IsTaken : Option (List ℕ) → List ℕ → Bool → Type 0
+IsTaken told text all = IfSome told (λ bytes. (more : List ℕ) × (bytes ≡ text ++ more) × GoesOn all more)
 
 -- that text was written
 abbrev pub WroteAnswer : (told : Option (List ℕ)) → Outcome → (old new : Option (List ℕ)) → Type 0

@@ -1,12 +1,16 @@
 //! The certificate of all that a reader gives.
 
-ghost use Rattle.std.specs.Prelude.{◌≡◌, ◌≢◌, ◌<◌, ℕ, List, Option, Err, IfErr, IfOk, IfSome, IsErrOf, IsTrue, OnErr};
+ghost use Rattle.std.specs.Prelude.{◌≡◌, ◌≢◌, ◌<◌, ◌++◌, ℕ, List, Option, Err, IfErr, IfOk, IfSome, IsErrOf, OnErr};
 ghost use Rattle.sgt_notation.specs.Lines.{ReadFaultIsDue};
-ghost use Rattle.sgt_certify.specs.Answer.{IsAnswer, fault_text, WroteAnswer, WroteAnswerFront};
+ghost use Rattle.sgt_audit.specs.Faults.{fault_number};
+ghost use Rattle.sgt_certify.specs.Answer.{IsAnswer, IsTaken, fault_text, WroteAnswer, WroteAnswerFront};
+ghost use Rattle.sgt_certify_faults.specs.Faults.{GoesOn};
 
 use crate::making::certified;
 use crate::refuting::refused;
 use crate::taking::{Taken, take_text};
+use sgt_audit::Fault;
+use sgt_certify_faults::has_fault;
 use sgt_certify_search::{Found, LineFault, find, long_line};
 use sgt_names::{EngineFail, Outcome, Sink, Source, write_all};
 use sgt_notation::push_number;
@@ -20,25 +24,33 @@ struct Answer {
 }
 
 /// The line of a fault.
-fn fault_line(alloc: Global, line: usize, number: u8) -> Result<Vec<u8>, AllocError>
-    ensures { IfOk result (λ text. text.items ≡ fault_text line number) }
+fn fault_line(alloc: Global, line: usize, fault: Fault) -> Result<Vec<u8>, AllocError>
+    ensures { IfOk result (λ text. text.items ≡ fault_text line (fault_number fault)) }
 {
     let mut text = Vec::from_slice(alloc, b"no line ")?;
     push_number(&mut text, line as u64)?;
     text.extend_from_slice(b" F")?;
-    push_number(&mut text, u64::from(number))?;
+    push_number(&mut text, u64::from(fault.number()))?;
     text.extend_from_slice(b"\n")?;
     Ok(text)
 }
 
-/// A no for a line with a fault.
-fn fault_answer(alloc: Global, line: usize, fault: LineFault) -> Result<Answer, AllocError>
-    ensures { IfOk result (λ a. (bytes : List ℕ) → IsAnswer bytes a.outcome a.text.items) }
-{
-    Ok(Answer {
-        outcome: Outcome::No,
-        text: fault_line(alloc, line, fault.number())?,
-    })
+/// The auditor's name of a fault.
+fn fault_of(fault: LineFault) -> Fault {
+    match fault {
+        LineFault::Format => Fault::Format,
+        LineFault::Notation => Fault::Notation,
+        LineFault::Section => Fault::Section,
+        LineFault::Item => Fault::Item,
+        LineFault::Twice => Fault::Twice,
+        LineFault::ReadValue => Fault::ReadValue,
+        LineFault::Block => Fault::Block,
+        LineFault::End => Fault::End,
+        LineFault::NotEnded => Fault::NotEnded,
+        LineFault::Final => Fault::Final,
+        LineFault::Truncated => Fault::Truncated,
+        LineFault::Behind => Fault::Trailing,
+    }
 }
 
 /// A no, where what was found didn't pass its check.
@@ -48,6 +60,27 @@ fn unchecked_answer(alloc: Global) -> Result<Answer, AllocError>
     Ok(Answer {
         outcome: Outcome::No,
         text: Vec::from_slice(alloc, b"! certify\n")?,
+    })
+}
+
+/// A no for a line with a fault, where it passes its check. Behind the text comes nothing more, where that is all, else a line that is
+/// too long.
+fn fault_answer(
+    alloc: Global,
+    text: &[u8],
+    all: bool,
+    line: usize,
+    found: LineFault,
+) -> Result<Answer, AllocError>
+    ensures { IfOk result (λ a. (more : List ℕ) → GoesOn all more → IsAnswer (text.now ++ more) a.outcome a.text.items) }
+{
+    let fault = fault_of(found);
+    if !has_fault(alloc, text, all, line, fault)? {
+        return unchecked_answer(alloc);
+    }
+    Ok(Answer {
+        outcome: Outcome::No,
+        text: fault_line(alloc, line, fault)?,
     })
 }
 
@@ -71,20 +104,26 @@ fn found_answer(alloc: Global, text: Vec<u8>, found: Found) -> Result<Answer, En
             }),
             None => Ok(unchecked_answer(alloc)?),
         },
-        Found::Fault { line, fault } => Ok(fault_answer(alloc, line, fault)?),
+        Found::Fault { line, fault } => Ok(fault_answer(
+            alloc,
+            text.as_slice(),
+            true,
+            line,
+            fault,
+        )?),
     }
 }
 
 /// The answer to what a reader gave.
 fn answer_to(alloc: Global, taken: Taken) -> Result<Answer, EngineFail>
-    ensures answer { IfOk result (λ a. (told : Option (List ℕ)) → (IsTrue taken.all → IfSome told (λ bytes. bytes ≡ taken.text.items))
+    ensures answer { IfOk result (λ a. (told : Option (List ℕ)) → IsTaken told taken.text.items taken.all
         → IfSome told (λ bytes. IsAnswer bytes a.outcome a.text.items)) }
     ensures err { IfErr result (λ e. e ≡ EngineFail.Memory) }
 {
     let Taken { text, all } = taken;
     if !all {
         let (line, fault) = long_line(alloc, text.as_slice())?;
-        return Ok(fault_answer(alloc, line, fault)?);
+        return Ok(fault_answer(alloc, text.as_slice(), false, line, fault)?);
     }
     let found = find(alloc, text.as_slice())?;
     found_answer(alloc, text, found)

@@ -1,8 +1,9 @@
 //! All that a reader gives.
 
-ghost use Rattle.std.specs.Prelude.{◌≡◌, ◌≢◌, ◌≤◌, ◌∷◌, ◌++◌, ℕ, [], length, take, Err, IfOk, IfSome, IsErrOf, IsTrue, OnOk};
+ghost use Rattle.std.specs.Prelude.{◌≡◌, ◌≢◌, ◌≤◌, ◌∷◌, ◌++◌, ℕ, [], length, take, Err, IfOk, IsErrOf, OnOk};
 ghost use Rattle.sgt_notation.specs.Limits.{most_reads};
 ghost use Rattle.sgt_notation.specs.Lines.{ReadFaultIsDue, passed};
+ghost use Rattle.sgt_certify.specs.Answer.{IsTaken};
 
 use memchr::memrchr;
 use sgt_names::{EngineFail, Source};
@@ -46,7 +47,7 @@ fn take_lines<R: Source>(
 ) -> Result<bool, EngineFail>
     requires fresh { lines.old ≡ record { held = []; reads = most_reads } }
     requires none { text.old.items ≡ [] }
-    ensures all { IfOk result (λ all. IsTrue all → IfSome (R.tells reader.old) (λ bytes. bytes ≡ text.new.items)) }
+    ensures taken { IfOk result (λ all. IsTaken (R.tells reader.old) text.new.items all) }
     ensures quiet { result ≢ Err EngineFail.ReadFault → R.failures reader.new ≡ R.failures reader.old }
     ensures read_fault { IsErrOf result EngineFail.ReadFault → ReadFaultIsDue (R.tells reader.old)
         (R.failures reader.old) (R.failures reader.new) (R.asked reader.old) (R.asked reader.new) }
@@ -80,7 +81,7 @@ pub struct Taken {
 /// Reads all bytes, or as far as to the first line that is too long. An Err is ReadFault, where a read failed or too many were
 /// needed, or Memory.
 pub fn take_text<R: Source>(alloc: Global, reader: &mut R) -> Result<Taken, EngineFail>
-    ensures all { IfOk result (λ taken. IsTrue taken.all → IfSome (R.tells reader.old) (λ bytes. bytes ≡ taken.text.items)) }
+    ensures taken { IfOk result (λ taken. IsTaken (R.tells reader.old) taken.text.items taken.all) }
     ensures quiet { result ≢ Err EngineFail.ReadFault → R.failures reader.new ≡ R.failures reader.old }
     ensures read_fault { IsErrOf result EngineFail.ReadFault → ReadFaultIsDue (R.tells reader.old)
         (R.failures reader.old) (R.failures reader.new) (R.asked reader.old) (R.asked reader.new) }

@@ -9,6 +9,6 @@ returns-clause-front g c =
     inr (
       answer.outcome,
       answer.text.items,
-      c.in_ok-answer.ensures.answer told c.in_ok-taken.ensures.all,
+      c.in_ok-answer.ensures.answer told c.in_ok-taken.ensures.taken,
       subst (λ (text : List ℕ). WritesFront (g.W.Sink.holds c.args.writer.now) (g.W.Sink.holds c.write_all.new.writer) text) c.as_slice.ensures.value c.in-Err.ensures.err,
     )

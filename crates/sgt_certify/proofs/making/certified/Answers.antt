@@ -1,4 +1,4 @@
-use Rattle.std.proofs.Common.{ℕ, List, subst}
+use Rattle.std.proofs.Common.{subst}
 use Rattle.sgt_certify.specs.Answer.{SpellsValid}
 use Rattle.sgt_certify.proofs.Made.{certified-from}
 use Rattle.sgt_certify.proofs.making.certified.Goals as goal

@@ -1,6 +1,6 @@
 use Rattle.std.proofs.Common.{◌∙◌, [], ◌∷◌, ◌++◌, List, ℕ, ap, refl, arith, Err}
 use Rattle.sgt_audit.proofs.ReaderAtStage.{fault-met}
-use Rattle.sgt_certify.proofs.Taken.{nothing-taken, held-taken, line-taken, cut-taken, end-taken, spends_on, spends-none}
+use Rattle.sgt_certify.proofs.Taken.{nothing-taken, held-taken, line-taken, cut-taken, end-taken, long-taken, spends_on, spends-none}
 use Rattle.sgt_notation.specs.Lines.{Ahead}
 use Rattle.sgt_certify.proofs.taking.take_lines.Goals as goal
 
@@ -24,18 +24,24 @@ lines-preserved g c =
       omega (arith, c.in-Ok-Line.ensures.asks, c.lines.invariant.3, reads),
     )
 
-pub returns-in-Ok-Cut-clause-all : goal.returns-in-Ok-Cut-clause-all
-returns-in-Ok-Cut-clause-all g c _ =
+pub returns-in-Ok-Cut-clause-taken : goal.returns-in-Ok-Cut-clause-taken
+returns-in-Ok-Cut-clause-taken g c =
     let gave = rw c.in-Ok-Cut.field-0-is at c.in-Ok-Cut.ensures.ok in
     let held = c.in_ok-take_held.ensures in
     cut-taken _ _ _ _ _ _ _ (held-taken _ _ held.0 _ _ _ _ c.lines.invariant.0 held.1 held.2) gave.gives
     (c.in_ok-extend_from_slice-in-Ok-Cut.ensures.items ∙ ap (λ (l : List ℕ). c.take_held.new.text.items ++ l) c.as_slice-in-Ok-Cut.ensures.value)
 
-pub returns-in-Ok-End-clause-all : goal.returns-in-Ok-End-clause-all
-returns-in-Ok-End-clause-all g c _ =
+pub returns-in-Ok-End-clause-taken : goal.returns-in-Ok-End-clause-taken
+returns-in-Ok-End-clause-taken g c =
     let gave = rw c.in-Ok-End.field-0-is at c.in-Ok-End.ensures.ok in
     let held = c.in_ok-take_held.ensures in
     end-taken _ _ _ _ _ _ (held-taken _ _ held.0 _ _ _ _ c.lines.invariant.0 held.1 held.2) gave.gives
+
+pub returns-in-Ok-TooLong-clause-taken : goal.returns-in-Ok-TooLong-clause-taken
+returns-in-Ok-TooLong-clause-taken g c =
+    let gave = rw c.in-Ok-TooLong.field-0-is at c.in-Ok-TooLong.ensures.ok in
+    let held = c.in_ok-take_held.ensures in
+    long-taken _ _ _ _ _ (held-taken _ _ held.0 _ _ _ _ c.lines.invariant.0 held.1 held.2) gave.gives
 
 pub returns-in-Err-ReadFault-clause-read_fault : goal.returns-in-Err-ReadFault-clause-read_fault
 returns-in-Err-ReadFault-clause-read_fault g c same =

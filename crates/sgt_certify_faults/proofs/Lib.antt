@@ -1,0 +1,6 @@
+pub mod Asked
+pub mod Broken
+pub mod KeptAlone
+pub mod NoCertificate
+pub mod ReadLines
+pub mod Valued
