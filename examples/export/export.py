@@ -115,6 +115,9 @@ class Log:
 def logs_of(events, codes):
     """The logs by site, and the numbers of the transactions."""
     logs, numbers = {}, {}
+    timed = {"at" in event for event in events if "tx" in event}
+    if len(timed) > 1:
+        raise Bad("some events of transactions have an \"at\" and some have none")
     for number, event in enumerate(sorted(events, key=lambda e: e.get("at", 0)), 1):
         try:
             log = logs.setdefault(event["site"], Log())

@@ -33,6 +33,9 @@ class No(NamedTuple):
     def __str__(self):
         return f"no line {self.line} F{self.fault}"
 
+    def __bool__(self):
+        return False
+
 
 class TooLong(ValueError):
     """The bytes are too many: 4294967295 or more."""
