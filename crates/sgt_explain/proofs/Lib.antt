@@ -1,2 +1,3 @@
+pub mod FaultyLine
 pub mod Taken
 pub mod Writing

@@ -7,6 +7,7 @@ mod judging;
 mod noes;
 mod reading;
 mod rules;
+mod shown;
 mod topics;
 mod yeses;
 

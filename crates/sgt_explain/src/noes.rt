@@ -1,5 +1,6 @@
 //! What a no means.
 
+use crate::shown::{final_shown, read_shown};
 use sgt_audit::Fault;
 use sgt_cert::{CertFault, Certificate, from_line};
 use sgt_explain_decisions::{
@@ -50,29 +51,34 @@ fn push_by_section(
         Fault::Section => push_section(out, bytes, line, section),
         Fault::Truncated => push_truncated(out, bytes, line, section),
         Fault::Block => push_block(out, section, line, line_at(bytes, line).unwrap_or(b"")),
-        Fault::Final => match read_section(line_at(bytes, line).unwrap_or(b"")) {
-            Ok(SectionLine::Final(holding)) => push_final(out, section, &holding),
-            _ => Ok(()),
+        Fault::Item => match logged_at(bytes, line) {
+            Some(logged) => push_item(out, section, &logged),
+            None => Ok(()),
         },
         _ => match logged_at(bytes, line) {
-            Some(logged) => push_by_item(out, fault, section, &logged),
+            Some(logged) => push_twice(out, section, &logged),
             None => Ok(()),
         },
     }
 }
 
-/// Of an entry that the entries before it on its item show to be wrong.
-fn push_by_item(
+/// Of a line that gives an item another value than the item has there.
+fn push_by_value(
+    alloc: Global,
     out: &mut String,
+    bytes: &[u8],
+    line: u64,
     fault: Fault,
-    section: &Section,
-    logged: &Logged,
 ) -> Result<(), AllocError> {
-    match fault {
-        Fault::Item => push_item(out, section, logged),
-        Fault::Twice => push_twice(out, section, logged),
-        Fault::ReadValue => push_read(out, section, logged),
-        _ => Ok(()),
+    if fault == Fault::ReadValue {
+        return match read_shown(alloc, bytes, line)? {
+            Some((tx, shown)) => push_read(out, tx, &shown),
+            None => Ok(()),
+        };
+    }
+    match final_shown(alloc, bytes, line)? {
+        Some(shown) => push_final(out, &shown),
+        None => Ok(()),
     }
 }
 
@@ -152,14 +158,11 @@ pub fn push_no(
         Fault::Notation => push_notation(out, bytes, line),
         Fault::Trailing => push_trailing(out, bytes, line),
         Fault::Certificate => push_certificate(alloc, out, line_at(bytes, 2).unwrap_or(b"")),
-        Fault::Section | Fault::Truncated | Fault::Block | Fault::Final => {
+        Fault::Section | Fault::Truncated | Fault::Block | Fault::Item | Fault::Twice => {
             let section = section_before(alloc, bytes, line)?;
             push_by_section(out, bytes, line, fault, &section)
         }
-        Fault::Item | Fault::Twice | Fault::ReadValue => {
-            let section = section_before(alloc, bytes, line)?;
-            push_by_section(out, bytes, line, fault, &section)
-        }
+        Fault::ReadValue | Fault::Final => push_by_value(alloc, out, bytes, line, fault),
         _ => {
             let Some(certificate) = certificate_of(alloc, bytes)? else {
                 return Ok(());

@@ -1,0 +1,113 @@
+-- What is shown of a value that a line gives its item, by the section before that line.
+use Rattle.std.proofs.Common.{◌≡◌, ◌≢◌, ℕ, suc, zero, List, [], ◌∷◌, Option, Some, None, true, false, refl, sym, ap, ap₂, ◌∙◌, subst, ◌⊎◌, inl, inr, Contains}
+use Rattle.std.specs.Prelude.{cond, slice_get, unwrap_or}
+use Rattle.std.specs.Str.{bytes_eq}
+use Rattle.std.proofs.lemmas.Bool.{cases_Bool}
+use Rattle.std.proofs.lemmas.Option.{same_Some, none-some}
+use Rattle.std.proofs.lemmas.Slice.Eq.{bytes_eq-Decides}
+use Rattle.sgt_names.proofs.Places.{Contains_at}
+use Rattle.sgt_names.specs.Name.{Name}
+use Rattle.sgt_names.specs.Log.{names, value_in, value_at}
+use Rattle.sgt_names.specs.declared.entry.Entry.{Entry}
+use Rattle.sgt_names.specs.declared.entry.Entry.TheVariants.{Read, Write, Add, Want, WantAdd, Commit, Refuse, Withdraw}
+use Rattle.sgt_names.specs.declared.entry.Holding.{Holding}
+use Rattle.sgt_notation.specs.Spelling.{line_text}
+use Rattle.sgt_notation.specs.declared.SectionLine.{SectionLine}
+use Rattle.sgt_notation.specs.declared.SectionLine.TheVariants.{Site, Initial, Logged, Final, End}
+use Rattle.sgt_cert.specs.declared.certificate.Certificate.{Certificate}
+use Rattle.sgt_audit.specs.declared.faults.Fault.TheVariants as fault
+use Rattle.sgt_audit.specs.Faults.{items_in, entries_in, Keeps, Stage, Piece, whole, within, bytes_of, FirstFault}
+use Rattle.sgt_explain_lines.specs.Numbered.{HasLine, IsSectionOf, open_site, numbered_items, numbered_entries}
+use Rattle.sgt_explain_lines.specs.Values.{holdings_of, entries_of, last_change}
+use Rattle.sgt_explain_lines.specs.declared.section.Section.{Section}
+use Rattle.sgt_explain_lines.specs.declared.values.Misvalued.{Misvalued}
+use Rattle.sgt_explain.specs.Shown.{lines_before, ShowsValue, ShowsRead, ShowsFinal, read_in, final_in}
+use Rattle.sgt_explain.proofs.FaultyLine.{FaultyLine, items-same, entries-same, read-line, final-line}
+
+-- an item that is listed has a value
+listed-at : (hs : List Holding) (x : Name) (n : ℕ) → slice_get (names hs) n ≡ Some x → value_in hs x ≡ None → ⊥
+listed-at [] x n at none = none-some x at
+listed-at (h ∷ hs) x zero at none =
+    none-some h.value (sym none ∙ ap (λ b. cond b (Some h.value) (value_in hs x)) ((bytes_eq-Decides h.item x).1 (same_Some h.item x at)))
+listed-at (h ∷ hs) x (suc n) at none =
+    elim (cases_Bool (bytes_eq h.item x)) [
+      | inl hit ↦ none-some h.value (sym none ∙ ap (λ b. cond b (Some h.value) (value_in hs x)) hit)
+      | inr miss ↦ listed-at hs x n at (sym (ap (λ b. cond b (Some h.value) (value_in hs x)) miss) ∙ none)
+    ]
+
+listed : (hs : List Holding) (x : Name) → Contains (names hs) x → value_in hs x ≡ None → ⊥
+listed hs x has none = let at = Contains_at (names hs) x has in listed-at hs x at.0 at.1 none
+
+-- ---- the parts of a line
+
+read-parts : (line : SectionLine) (o : ℕ × Name × ℕ) → Some o ≡ read_in line → line ≡ Logged (Read o.0 o.1 o.2)
+read-parts (Logged (Read t x v)) o e = ap (λ (p : ℕ × Name × ℕ). Logged (Read p.0 p.1 p.2)) (same_Some (t, x, v) o (sym e))
+read-parts l o e = absurd (none-some o (sym e))
+
+-- a line that is no read keeps the rule of reads
+no-read : (c : Certificate) (before : List SectionLine) (line : SectionLine) → None ≡ read_in line → Keeps c before line fault.ReadValue
+no-read c before (Logged (Read t x v)) e = absurd (none-some (t, x, v) e)
+no-read c before l e = tt
+
+final-parts : (line : SectionLine) (o : Name × ℕ) → Some o ≡ final_in line → line ≡ Final (record { item = o.0; value = o.1 })
+final-parts (Final h) o e = ap (λ (p : Name × ℕ). Final (record { item = p.0; value = p.1 })) (same_Some (h.item, h.value) o (sym e))
+final-parts l o e = absurd (none-some o (sym e))
+
+no-final : (c : Certificate) (before : List SectionLine) (line : SectionLine) → None ≡ final_in line → Keeps c before line fault.Final
+no-final c before (Final h) e = absurd (none-some (h.item, h.value) e)
+no-final c before l e = tt
+
+-- ---- the value that is shown
+
+shows-value : (before : List SectionLine) (section : Section) (m : Misvalued) → IsSectionOf before section → m.site ≡ unwrap_or section.site 0
+    → value_at (holdings_of section.items.items) (entries_of section.entries.items) m.item ≡ Some m.made.value → m.made.by ≡ last_change m.item section.entries.items
+    → (value_at (items_in before) (entries_in before) m.item ≡ Some m.given → ⊥) → ShowsValue before m
+shows-value before section m is site value by broken =
+    let items : holdings_of section.items.items ≡ items_in before = ap holdings_of is.items ∙ items-same before in
+    let entries : entries_of section.entries.items ≡ entries_in before = ap entries_of is.entries ∙ entries-same before in
+    let there : value_at (items_in before) (entries_in before) m.item ≡ Some m.made.value = ap₂ (λ hs es. value_at hs es m.item) (sym items) (sym entries) ∙ value in
+    record {
+      site = site ∙ ap (λ o. unwrap_or o 0) is.site;
+      value = there;
+      other = λ e. broken (there ∙ ap Some e);
+      by = by ∙ ap (last_change m.item) is.entries;
+    }
+
+-- ---- F10
+
+module _ (bytes : List ℕ) (n : ℕ) (first : FirstFault bytes n fault.ReadValue) where
+  found : FaultyLine bytes n fault.ReadValue first.stage first.next
+  found = read-line bytes n first
+
+  pub no-line : ((before : List SectionLine) (l : SectionLine) → HasLine bytes n before l → None ≡ Some l) → ⊥
+  no-line reads = none-some found.line (reads found.before found.line found.has)
+
+  module _ (line : SectionLine) (reads : (before : List SectionLine) (l : SectionLine) → HasLine bytes n before l → Some line ≡ Some l) where
+    same_line : line ≡ found.line
+    same_line = same_Some line found.line (reads found.before found.line found.has)
+
+    pub some-read : None ≡ read_in line → ⊥
+    some-read none = found.broken (no-read found.c found.before found.line (none ∙ ap read_in same_line))
+
+    module _ (section : Section) (are : (before : List SectionLine) (l : SectionLine) → HasLine bytes n before l → IsSectionOf before section) (tx : ℕ) (x : Name) (v : ℕ) (read : Some (tx, x, v) ≡ read_in line) where
+      line-is : found.line ≡ Logged (Read tx x v)
+      line-is = sym same_line ∙ read-parts line (tx, x, v) read
+
+      section-is : IsSectionOf found.before section
+      section-is = are found.before found.line found.has
+
+      pub some-value : value_in (holdings_of section.items.items) x ≡ None → ⊥
+      some-value none =
+          let known = subst (λ l. Keeps found.c found.before l fault.Item) line-is found.known in
+          listed (items_in found.before) x (known x refl) (ap (λ hs. value_in hs x) (sym (ap holdings_of section-is.items ∙ items-same found.before)) ∙ none)
+
+      pub shows-read : (m : Misvalued) → (m.item ≡ x) × (m.given ≡ v) → m.site ≡ unwrap_or section.site 0
+          → value_at (holdings_of section.items.items) (entries_of section.entries.items) m.item ≡ Some m.made.value → m.made.by ≡ last_change m.item section.entries.items
+          → ShowsRead (lines_before first.stage) (bytes_of first.next) tx m
+      shows-read m same site value by =
+          let is : found.line ≡ Logged (Read tx m.item m.given) = line-is ∙ ap₂ (λ y w. Logged (Read tx y w)) (sym same.0) (sym same.1) in
+          let broken = subst (λ l. Keeps found.c found.before l fault.ReadValue → ⊥) is found.broken in
+          subst (λ s. ShowsRead (lines_before s) (bytes_of first.next) tx m) (sym found.at) (record {
+            read = ap bytes_of found.comes ∙ ap line_text is;
+            there = shows-value found.before section m section-is site value by broken;
+          })
