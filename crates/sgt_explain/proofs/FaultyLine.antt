@@ -1,5 +1,5 @@
 -- The line of a section that has the first fault of a text, and the lines before it.
-use Rattle.std.proofs.Common.{◌≡◌, ℕ, suc, ◌+◌, ◌<◌, List, [], ◌∷◌, ◌++◌, length, map, take, drop, Option, Some, None, Bool, refl, sym, ap, ap₂, ◌∙◌, subst, arith, append_assoc, take-append-drop, All}
+use Rattle.std.proofs.Common.{◌≡◌, ◌≢◌, ℕ, suc, ◌+◌, ◌<◌, List, [], ◌∷◌, ◌++◌, length, map, take, drop, Option, Some, None, Bool, refl, sym, ap, ap₂, ◌∙◌, subst, arith, append_assoc, take-append-drop, All}
 use Rattle.std.specs.Prelude.{fold, slice_get}
 use Rattle.std.specs.List.{filter_map, enumerate_from}
 use Rattle.std.proofs.lemmas.Grind.{flat_map-append}
@@ -14,7 +14,7 @@ use Rattle.sgt_notation.proofs.OneSpelling.{line-one}
 use Rattle.sgt_cert.specs.Text.{certificate_text, format_line, IsCertificate}
 use Rattle.sgt_cert.specs.declared.certificate.Certificate.{Certificate}
 use Rattle.sgt_cert.proofs.OneLine.{certificate-one_line}
-use Rattle.sgt_cert.proofs.OneText.{format-one_line}
+use Rattle.sgt_cert.proofs.OneText.{format-one_line, line_front}
 use Rattle.sgt_audit.specs.declared.faults.Fault.{Fault}
 use Rattle.sgt_audit.specs.declared.faults.Fault.TheVariants as fault
 use Rattle.sgt_audit.specs.Faults.{fault_number, section_with, open_section, initial_in, items_in, entries_in, IsLineIn, Keeps, AllKept, Stage, start, headed, within, complete, lines_so_far, IsFaultless, Piece, whole, last, ComesNext, Rule, Breaks, FirstFault}
@@ -74,6 +74,7 @@ pub record FaultyLine (bytes : List ℕ) (n : ℕ) (f : Fault) (stage : Stage) (
   pub comes : next ≡ whole (line_text line)
   pub has : HasLine bytes n before line
   pub kept : AllKept second c before
+  pub certified : (first : List ℕ) × (more : List ℕ) × HasNoLf first × (bytes ≡ first ++ 10 ∷ (certificate_text c ++ 10 ∷ more))
   pub known : Keeps c before line fault.Item
   pub broken : Keeps c before line f → ⊥
 
@@ -119,6 +120,13 @@ module _ (bytes rest l : List ℕ) (n : ℕ) (second : Bool) (c : Certificate) (
     comes = ap whole spelled.2;
     has = has-line spelled.0 spelled.1.0 spelled.2;
     kept = faultless.0;
+    certified = (
+      format_line second,
+      text_of_lines (map line_text before) ++ rest,
+      All-from_recursion (λ b. b ≢ 10) (format_line second) (format-one_line second),
+      text ∙ line_front (format_line second) (certificate_text c ∷ map line_text before) rest
+          ∙ ap (λ (r : List ℕ). format_line second ++ 10 ∷ r) (line_front (certificate_text c) (map line_text before) rest),
+    );
     known = known spelled.0 spelled.1 spelled.2;
     broken = λ keeps. broken (λ m is e. subst (λ k. Keeps c before k f) (line-one spelled.0 m spelled.1.0 is.0 (sym spelled.2 ∙ e)) keeps);
   }
@@ -148,6 +156,21 @@ module _ (bytes rest : List ℕ) (n : ℕ) where
   final-of (complete second c before) (last l) text kept number comes breaks = absurd (breaks.broken tt)
   final-of (within second c before) (whole l) text kept number comes breaks =
       inside bytes rest l n second c before text kept number comes fault.Final (breaks.least fault.Notation (omega arith)) (breaks.least fault.Item (omega arith)) breaks.broken
+
+  rank-of : (stage : Stage) (next : Piece) → bytes ≡ text_of_lines (lines_so_far stage) ++ rest → IsFaultless stage → n ≡ length (lines_so_far stage) + 1 → ComesNext rest next
+      → Breaks (Rule stage next) fault.RankOrder → FaultyLine bytes n fault.RankOrder stage next
+  rank-of start (whole l) text kept number comes breaks = absurd (breaks.broken tt)
+  rank-of start (last l) text kept number comes breaks = absurd (breaks.broken tt)
+  rank-of (headed second) (whole l) text kept number comes breaks = absurd (breaks.broken (λ c is e. tt))
+  rank-of (headed second) (last l) text kept number comes breaks = absurd (breaks.broken tt)
+  rank-of (within second c before) (last l) text kept number comes breaks = absurd (breaks.broken tt)
+  rank-of (complete second c before) (whole l) text kept number comes breaks = absurd (breaks.broken tt)
+  rank-of (complete second c before) (last l) text kept number comes breaks = absurd (breaks.broken tt)
+  rank-of (within second c before) (whole l) text kept number comes breaks =
+      inside bytes rest l n second c before text kept number comes fault.RankOrder (breaks.least fault.Notation (omega arith)) (breaks.least fault.Item (omega arith)) breaks.broken
+
+pub rank-line : (bytes : List ℕ) (n : ℕ) (first : FirstFault bytes n fault.RankOrder) → FaultyLine bytes n fault.RankOrder first.stage first.next
+rank-line bytes n first = rank-of bytes first.rest n first.stage first.next first.text first.faultless first.number first.comes first.breaks
 
 pub read-line : (bytes : List ℕ) (n : ℕ) (first : FirstFault bytes n fault.ReadValue) → FaultyLine bytes n fault.ReadValue first.stage first.next
 read-line bytes n first = read-of bytes first.rest n first.stage first.next first.text first.faultless first.number first.comes first.breaks

@@ -1,3 +1,4 @@
 pub mod FaultyLine
+pub mod ShownValues
 pub mod Taken
 pub mod Writing

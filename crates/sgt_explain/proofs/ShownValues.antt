@@ -1,5 +1,5 @@
 -- What is shown of a value that a line gives its item, by the section before that line.
-use Rattle.std.proofs.Common.{◌≡◌, ◌≢◌, ℕ, suc, zero, List, [], ◌∷◌, Option, Some, None, true, false, refl, sym, ap, ap₂, ◌∙◌, subst, ◌⊎◌, inl, inr, Contains}
+use Rattle.std.proofs.Common.{◌≡◌, ◌≢◌, ℕ, suc, zero, List, [], ◌∷◌, ◌++◌, Option, Some, None, true, false, refl, sym, ap, ap₂, ◌∙◌, subst, ◌⊎◌, inl, inr, Contains}
 use Rattle.std.specs.Prelude.{cond, slice_get, unwrap_or}
 use Rattle.std.specs.Str.{bytes_eq}
 use Rattle.std.proofs.lemmas.Bool.{cases_Bool}
@@ -7,22 +7,28 @@ use Rattle.std.proofs.lemmas.Option.{same_Some, none-some}
 use Rattle.std.proofs.lemmas.Slice.Eq.{bytes_eq-Decides}
 use Rattle.sgt_names.proofs.Places.{Contains_at}
 use Rattle.sgt_names.specs.Name.{Name}
+use Rattle.sgt_names.specs.Entry.{tx_of}
 use Rattle.sgt_names.specs.Log.{names, value_in, value_at}
 use Rattle.sgt_names.specs.declared.entry.Entry.{Entry}
 use Rattle.sgt_names.specs.declared.entry.Entry.TheVariants.{Read, Write, Add, Want, WantAdd, Commit, Refuse, Withdraw}
 use Rattle.sgt_names.specs.declared.entry.Holding.{Holding}
-use Rattle.sgt_notation.specs.Spelling.{line_text}
+use Rattle.sgt_notation.specs.Spelling.{line_text, HasNoLf}
 use Rattle.sgt_notation.specs.declared.SectionLine.{SectionLine}
 use Rattle.sgt_notation.specs.declared.SectionLine.TheVariants.{Site, Initial, Logged, Final, End}
+use Rattle.sgt_cert.specs.Certificate.{IsCommitted}
+use Rattle.sgt_cert.specs.Text.{certificate_text, IsCertificate}
 use Rattle.sgt_cert.specs.declared.certificate.Certificate.{Certificate}
 use Rattle.sgt_audit.specs.declared.faults.Fault.TheVariants as fault
 use Rattle.sgt_audit.specs.Faults.{items_in, entries_in, Keeps, Stage, Piece, whole, within, bytes_of, FirstFault}
-use Rattle.sgt_explain_lines.specs.Numbered.{HasLine, IsSectionOf, open_site, numbered_items, numbered_entries}
+use Rattle.sgt_explain_lines.specs.Numbered.{HasLine, IsSectionOf, open_site, logged_in, numbered_items, numbered_entries}
 use Rattle.sgt_explain_lines.specs.Values.{holdings_of, entries_of, last_change}
+use Rattle.sgt_explain_lines.specs.declared.section.Logged.{Logged as LoggedEntry}
 use Rattle.sgt_explain_lines.specs.declared.section.Section.{Section}
 use Rattle.sgt_explain_lines.specs.declared.values.Misvalued.{Misvalued}
-use Rattle.sgt_explain.specs.Shown.{lines_before, ShowsValue, ShowsRead, ShowsFinal, read_in, final_in}
-use Rattle.sgt_explain.proofs.FaultyLine.{FaultyLine, items-same, entries-same, read-line, final-line}
+use Rattle.sgt_explain_decisions.specs.Against.{StandAgainst}
+use Rattle.sgt_explain.specs.declared.shown.RanksShown.{RanksShown}
+use Rattle.sgt_explain.specs.Shown.{lines_before, decisions_before, ShowsValue, ShowsRead, ShowsFinal, ShowsRanks, read_in, final_in}
+use Rattle.sgt_explain.proofs.FaultyLine.{FaultyLine, items-same, entries-same, read-line, final-line, rank-line}
 
 -- an item that is listed has a value
 listed-at : (hs : List Holding) (x : Name) (n : ℕ) → slice_get (names hs) n ≡ Some x → value_in hs x ≡ None → ⊥
@@ -111,3 +117,61 @@ module _ (bytes : List ℕ) (n : ℕ) (first : FirstFault bytes n fault.ReadValu
             read = ap bytes_of found.comes ∙ ap line_text is;
             there = shows-value found.before section m section-is site value by broken;
           })
+
+-- ---- F16
+
+module _ (bytes : List ℕ) (n : ℕ) (first : FirstFault bytes n fault.Final) where
+  found_final : FaultyLine bytes n fault.Final first.stage first.next
+  found_final = final-line bytes n first
+
+  module _ (line : SectionLine) (reads : (before : List SectionLine) (l : SectionLine) → HasLine bytes n before l → Some line ≡ Some l)
+      (section : Section) (are : (before : List SectionLine) (l : SectionLine) → HasLine bytes n before l → IsSectionOf before section)
+      (x : Name) (v : ℕ) (final : Some (x, v) ≡ final_in line) where
+    pub shows-final : (m : Misvalued) → (m.item ≡ x) × (m.given ≡ v) → m.site ≡ unwrap_or section.site 0
+        → value_at (holdings_of section.items.items) (entries_of section.entries.items) m.item ≡ Some m.made.value → m.made.by ≡ last_change m.item section.entries.items
+        → ShowsFinal (lines_before first.stage) (bytes_of first.next) m
+    shows-final m same site value by =
+        let line-is = sym (same_Some line found_final.line (reads found_final.before found_final.line found_final.has)) ∙ final-parts line (x, v) final in
+        let is : found_final.line ≡ Final (record { item = m.item; value = m.given }) =
+            line-is ∙ ap₂ (λ y w. Final (record { item = y; value = w })) (sym same.0) (sym same.1) in
+        let broken = subst (λ l. Keeps found_final.c found_final.before l fault.Final → ⊥) is found_final.broken in
+        subst (λ s. ShowsFinal (lines_before s) (bytes_of first.next) m) (sym found_final.at) (record {
+          final = ap bytes_of found_final.comes ∙ ap line_text is;
+          there = shows-value found_final.before section m (are found_final.before found_final.line found_final.has) site value by broken;
+        })
+
+-- ---- F11
+
+logged-parts : (n : ℕ) (l : SectionLine) (o : LoggedEntry) → Some o ≡ logged_in (n, l) → (l ≡ Logged o.entry) × (o.line ≡ n)
+logged-parts n (Logged e) o eq =
+    let same = same_Some (record { line = n; entry = e }) o (sym eq) in
+    (ap (λ (g : LoggedEntry). Logged g.entry) same, sym (ap (λ (g : LoggedEntry). g.line) same))
+logged-parts n l o eq = absurd (none-some o (sym eq))
+
+module _ (bytes : List ℕ) (n : ℕ) (first : FirstFault bytes n fault.RankOrder) where
+  found_ranks : FaultyLine bytes n fault.RankOrder first.stage first.next
+  found_ranks = rank-line bytes n first
+
+  pub shows-ranks : (section : Section) (d : Certificate) (logged : LoggedEntry) (shown : RanksShown)
+      → ((before : List SectionLine) (l : SectionLine) → HasLine bytes n before l → IsSectionOf before section)
+      → ((front : List ℕ) (c : Certificate) (rest : List ℕ) → HasNoLf front → IsCertificate c → bytes ≡ front ++ 10 ∷ (certificate_text c ++ 10 ∷ rest) → Some d ≡ Some c)
+      → ((before : List SectionLine) (l : SectionLine) → HasLine bytes n before l → Some logged ≡ logged_in (n, l))
+      → shown.site ≡ unwrap_or section.site 0 → Contains section.entries.items shown.first.logged → shown.second.logged ≡ logged
+      → IsCommitted d.decisions shown.first.number (tx_of shown.first.logged.entry) shown.first.rank
+      → IsCommitted d.decisions shown.second.number (tx_of shown.second.logged.entry) shown.second.rank → StandAgainst shown.first shown.second
+      → ShowsRanks (decisions_before first.stage) (lines_before first.stage) (bytes_of first.next) n shown
+  shows-ranks section d logged shown are one at site among same one-rank other-rank stand =
+      let is = are found_ranks.before found_ranks.line found_ranks.has in
+      let cert = found_ranks.certified in
+      let decisions : d.decisions ≡ found_ranks.c.decisions =
+          ap (λ (k : Certificate). k.decisions) (same_Some d found_ranks.c (one cert.0 found_ranks.c cert.1 cert.2 found_ranks.kept.spelled cert.3)) in
+      let parts = logged-parts n found_ranks.line logged (at found_ranks.before found_ranks.line found_ranks.has) in
+      subst (λ s. ShowsRanks (decisions_before s) (lines_before s) (bytes_of first.next) n shown) (sym found_ranks.at) (record {
+        site = site ∙ ap (λ o. unwrap_or o 0) is.site;
+        entry = ap bytes_of found_ranks.comes ∙ ap line_text parts.0 ∙ ap (λ (g : LoggedEntry). line_text (Logged g.entry)) (sym same);
+        counted = ap (λ (g : LoggedEntry). g.line) same ∙ parts.1;
+        among = subst (λ es. Contains es shown.first.logged) is.entries among;
+        first = subst (λ ds. IsCommitted ds shown.first.number (tx_of shown.first.logged.entry) shown.first.rank) decisions one-rank;
+        second = subst (λ ds. IsCommitted ds shown.second.number (tx_of shown.second.logged.entry) shown.second.rank) decisions other-rank;
+        stand = stand;
+      })

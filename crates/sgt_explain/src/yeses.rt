@@ -1,6 +1,7 @@
 //! What is said of a yes, and of one transaction.
 
-use crate::noes::{certificate_of, lines_before};
+use crate::noes::lines_before;
+use crate::shown::certificate_of;
 use sgt_audit::Verdict;
 use sgt_explain_decisions::{push_cycles, push_dealings, push_fate, sought_in};
 use sgt_names::Tx;

@@ -17,7 +17,7 @@ pub use certificate::push_certificate;
 pub use cycles::{push_cycles, push_walk_step};
 pub use dealings::{push_dealings, push_fate};
 pub use ends::{push_end, push_not_ended};
-pub use order::{push_decision_order, push_rank_order};
+pub use order::{Ranked, against_ranks, push_decision_order, push_rank_order};
 pub use placed::{Placed, number_on, placed_in};
 pub use ranks::{push_decided_twice, push_ranks};
 pub use sought::{Sought, sought_in};
