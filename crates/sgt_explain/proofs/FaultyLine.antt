@@ -75,6 +75,7 @@ pub record FaultyLine (bytes : List ℕ) (n : ℕ) (f : Fault) (stage : Stage) (
   pub has : HasLine bytes n before line
   pub kept : AllKept second c before
   pub certified : (first : List ℕ) × (more : List ℕ) × HasNoLf first × (bytes ≡ first ++ 10 ∷ (certificate_text c ++ 10 ∷ more))
+  pub begun : Keeps c before line fault.Section
   pub known : Keeps c before line fault.Item
   pub broken : Keeps c before line f → ⊥
 
@@ -109,9 +110,9 @@ module _ (bytes rest l : List ℕ) (n : ℕ) (second : Bool) (c : Certificate) (
         counted = omega (arith, number, lines, long);
       }
 
-  inside : (f : Fault) → Rule (within second c before) (whole l) fault.Notation → Rule (within second c before) (whole l) fault.Item → (((line : SectionLine) → IsLineIn second line → l ≡ line_text line → Keeps c before line f) → ⊥)
+  inside : (f : Fault) → Rule (within second c before) (whole l) fault.Notation → Rule (within second c before) (whole l) fault.Section → Rule (within second c before) (whole l) fault.Item → (((line : SectionLine) → IsLineIn second line → l ≡ line_text line → Keeps c before line f) → ⊥)
       → FaultyLine bytes n f (within second c before) (whole l)
-  inside f spelled known broken = record {
+  inside f spelled begun known broken = record {
     second = second;
     c = c;
     before = before;
@@ -127,6 +128,7 @@ module _ (bytes rest l : List ℕ) (n : ℕ) (second : Bool) (c : Certificate) (
       text ∙ line_front (format_line second) (certificate_text c ∷ map line_text before) rest
           ∙ ap (λ (r : List ℕ). format_line second ++ 10 ∷ r) (line_front (certificate_text c) (map line_text before) rest),
     );
+    begun = begun spelled.0 spelled.1 spelled.2;
     known = known spelled.0 spelled.1 spelled.2;
     broken = λ keeps. broken (λ m is e. subst (λ k. Keeps c before k f) (line-one spelled.0 m spelled.1.0 is.0 (sym spelled.2 ∙ e)) keeps);
   }
@@ -143,7 +145,7 @@ module _ (bytes rest : List ℕ) (n : ℕ) where
   read-of (complete second c before) (whole l) text kept number comes breaks = absurd (breaks.broken tt)
   read-of (complete second c before) (last l) text kept number comes breaks = absurd (breaks.broken tt)
   read-of (within second c before) (whole l) text kept number comes breaks =
-      inside bytes rest l n second c before text kept number comes fault.ReadValue (breaks.least fault.Notation (omega arith)) (breaks.least fault.Item (omega arith)) breaks.broken
+      inside bytes rest l n second c before text kept number comes fault.ReadValue (breaks.least fault.Notation (omega arith)) (breaks.least fault.Section (omega arith)) (breaks.least fault.Item (omega arith)) breaks.broken
 
   final-of : (stage : Stage) (next : Piece) → bytes ≡ text_of_lines (lines_so_far stage) ++ rest → IsFaultless stage → n ≡ length (lines_so_far stage) + 1 → ComesNext rest next
       → Breaks (Rule stage next) fault.Final → FaultyLine bytes n fault.Final stage next
@@ -155,7 +157,7 @@ module _ (bytes rest : List ℕ) (n : ℕ) where
   final-of (complete second c before) (whole l) text kept number comes breaks = absurd (breaks.broken tt)
   final-of (complete second c before) (last l) text kept number comes breaks = absurd (breaks.broken tt)
   final-of (within second c before) (whole l) text kept number comes breaks =
-      inside bytes rest l n second c before text kept number comes fault.Final (breaks.least fault.Notation (omega arith)) (breaks.least fault.Item (omega arith)) breaks.broken
+      inside bytes rest l n second c before text kept number comes fault.Final (breaks.least fault.Notation (omega arith)) (breaks.least fault.Section (omega arith)) (breaks.least fault.Item (omega arith)) breaks.broken
 
   rank-of : (stage : Stage) (next : Piece) → bytes ≡ text_of_lines (lines_so_far stage) ++ rest → IsFaultless stage → n ≡ length (lines_so_far stage) + 1 → ComesNext rest next
       → Breaks (Rule stage next) fault.RankOrder → FaultyLine bytes n fault.RankOrder stage next
@@ -167,7 +169,7 @@ module _ (bytes rest : List ℕ) (n : ℕ) where
   rank-of (complete second c before) (whole l) text kept number comes breaks = absurd (breaks.broken tt)
   rank-of (complete second c before) (last l) text kept number comes breaks = absurd (breaks.broken tt)
   rank-of (within second c before) (whole l) text kept number comes breaks =
-      inside bytes rest l n second c before text kept number comes fault.RankOrder (breaks.least fault.Notation (omega arith)) (breaks.least fault.Item (omega arith)) breaks.broken
+      inside bytes rest l n second c before text kept number comes fault.RankOrder (breaks.least fault.Notation (omega arith)) (breaks.least fault.Section (omega arith)) (breaks.least fault.Item (omega arith)) breaks.broken
 
 pub rank-line : (bytes : List ℕ) (n : ℕ) (first : FirstFault bytes n fault.RankOrder) → FaultyLine bytes n fault.RankOrder first.stage first.next
 rank-line bytes n first = rank-of bytes first.rest n first.stage first.next first.text first.faultless first.number first.comes first.breaks

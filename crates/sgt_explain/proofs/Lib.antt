@@ -1,4 +1,5 @@
 pub mod FaultyLine
+pub mod ListedItems
 pub mod ShownValues
 pub mod Taken
 pub mod Writing

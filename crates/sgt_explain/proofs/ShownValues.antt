@@ -29,6 +29,7 @@ use Rattle.sgt_explain_decisions.specs.Against.{StandAgainst}
 use Rattle.sgt_explain.specs.declared.shown.RanksShown.{RanksShown}
 use Rattle.sgt_explain.specs.Shown.{lines_before, decisions_before, ShowsValue, ShowsRead, ShowsFinal, ShowsRanks, read_in, final_in}
 use Rattle.sgt_explain.proofs.FaultyLine.{FaultyLine, items-same, entries-same, read-line, final-line, rank-line}
+use Rattle.sgt_explain.proofs.ListedItems.{final-listed}
 
 -- an item that is listed has a value
 listed-at : (hs : List Holding) (x : Name) (n : ℕ) → slice_get (names hs) n ≡ Some x → value_in hs x ≡ None → ⊥
@@ -124,21 +125,41 @@ module _ (bytes : List ℕ) (n : ℕ) (first : FirstFault bytes n fault.Final) w
   found_final : FaultyLine bytes n fault.Final first.stage first.next
   found_final = final-line bytes n first
 
-  module _ (line : SectionLine) (reads : (before : List SectionLine) (l : SectionLine) → HasLine bytes n before l → Some line ≡ Some l)
-      (section : Section) (are : (before : List SectionLine) (l : SectionLine) → HasLine bytes n before l → IsSectionOf before section)
-      (x : Name) (v : ℕ) (final : Some (x, v) ≡ final_in line) where
-    pub shows-final : (m : Misvalued) → (m.item ≡ x) × (m.given ≡ v) → m.site ≡ unwrap_or section.site 0
-        → value_at (holdings_of section.items.items) (entries_of section.entries.items) m.item ≡ Some m.made.value → m.made.by ≡ last_change m.item section.entries.items
-        → ShowsFinal (lines_before first.stage) (bytes_of first.next) m
-    shows-final m same site value by =
-        let line-is = sym (same_Some line found_final.line (reads found_final.before found_final.line found_final.has)) ∙ final-parts line (x, v) final in
-        let is : found_final.line ≡ Final (record { item = m.item; value = m.given }) =
-            line-is ∙ ap₂ (λ y w. Final (record { item = y; value = w })) (sym same.0) (sym same.1) in
-        let broken = subst (λ l. Keeps found_final.c found_final.before l fault.Final → ⊥) is found_final.broken in
-        subst (λ s. ShowsFinal (lines_before s) (bytes_of first.next) m) (sym found_final.at) (record {
-          final = ap bytes_of found_final.comes ∙ ap line_text is;
-          there = shows-value found_final.before section m (are found_final.before found_final.line found_final.has) site value by broken;
-        })
+  pub no-final_line : ((before : List SectionLine) (l : SectionLine) → HasLine bytes n before l → None ≡ Some l) → ⊥
+  no-final_line reads = none-some found_final.line (reads found_final.before found_final.line found_final.has)
+
+  module _ (line : SectionLine) (reads : (before : List SectionLine) (l : SectionLine) → HasLine bytes n before l → Some line ≡ Some l) where
+    same_final : line ≡ found_final.line
+    same_final = same_Some line found_final.line (reads found_final.before found_final.line found_final.has)
+
+    pub some-final : None ≡ final_in line → ⊥
+    some-final none = found_final.broken (no-final found_final.c found_final.before found_final.line (none ∙ ap final_in same_final))
+
+    module _ (section : Section) (are : (before : List SectionLine) (l : SectionLine) → HasLine bytes n before l → IsSectionOf before section)
+        (x : Name) (v : ℕ) (final : Some (x, v) ≡ final_in line) where
+      final-is : found_final.line ≡ Final (record { item = x; value = v })
+      final-is = sym same_final ∙ final-parts line (x, v) final
+
+      final_section-is : IsSectionOf found_final.before section
+      final_section-is = are found_final.before found_final.line found_final.has
+
+      pub some-final_value : value_in (holdings_of section.items.items) x ≡ None → ⊥
+      some-final_value none =
+          let begun = subst (λ l. Keeps found_final.c found_final.before l fault.Section) final-is found_final.begun in
+          listed (items_in found_final.before) x (final-listed found_final.c.sites found_final.before (record { item = x; value = v }) begun)
+          (ap (λ hs. value_in hs x) (sym (ap holdings_of final_section-is.items ∙ items-same found_final.before)) ∙ none)
+
+      pub shows-final : (m : Misvalued) → (m.item ≡ x) × (m.given ≡ v) → m.site ≡ unwrap_or section.site 0
+          → value_at (holdings_of section.items.items) (entries_of section.entries.items) m.item ≡ Some m.made.value → m.made.by ≡ last_change m.item section.entries.items
+          → ShowsFinal (lines_before first.stage) (bytes_of first.next) m
+      shows-final m same site value by =
+          let is : found_final.line ≡ Final (record { item = m.item; value = m.given }) =
+              final-is ∙ ap₂ (λ y w. Final (record { item = y; value = w })) (sym same.0) (sym same.1) in
+          let broken = subst (λ l. Keeps found_final.c found_final.before l fault.Final → ⊥) is found_final.broken in
+          subst (λ s. ShowsFinal (lines_before s) (bytes_of first.next) m) (sym found_final.at) (record {
+            final = ap bytes_of found_final.comes ∙ ap line_text is;
+            there = shows-value found_final.before section m final_section-is site value by broken;
+          })
 
 -- ---- F11
 

@@ -112,7 +112,7 @@ pub fn final_shown(
     number: u64,
 ) -> Result<Option<Misvalued>, AllocError>
     ensures { (first : FirstFault bytes.now number Final) → IfOk result (λ found.
-        IfSome found (ShowsFinal (lines_before first.stage) (bytes_of first.next))) }
+        IsSomeAnd found (ShowsFinal (lines_before first.stage) (bytes_of first.next))) }
 {
     let section = section_before(alloc, bytes, number)?;
     let Some(line) = section_line_at(bytes, number) else {
