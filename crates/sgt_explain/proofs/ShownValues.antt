@@ -154,7 +154,7 @@ module _ (bytes : List ℕ) (n : ℕ) (first : FirstFault bytes n fault.Final) w
           → ShowsFinal (lines_before first.stage) (bytes_of first.next) m
       shows-final m same site value by =
           let is : found_final.line ≡ Final (record { item = m.item; value = m.given }) =
-              final-is ∙ ap₂ (λ y w. Final (record { item = y; value = w })) (sym same.0) (sym same.1) in
+          final-is ∙ ap₂ (λ y w. Final (record { item = y; value = w })) (sym same.0) (sym same.1) in
           let broken = subst (λ l. Keeps found_final.c found_final.before l fault.Final → ⊥) is found_final.broken in
           subst (λ s. ShowsFinal (lines_before s) (bytes_of first.next) m) (sym found_final.at) (record {
             final = ap bytes_of found_final.comes ∙ ap line_text is;
@@ -185,7 +185,7 @@ module _ (bytes : List ℕ) (n : ℕ) (first : FirstFault bytes n fault.RankOrde
       let is = are found_ranks.before found_ranks.line found_ranks.has in
       let cert = found_ranks.certified in
       let decisions : d.decisions ≡ found_ranks.c.decisions =
-          ap (λ (k : Certificate). k.decisions) (same_Some d found_ranks.c (one cert.0 found_ranks.c cert.1 cert.2 found_ranks.kept.spelled cert.3)) in
+      ap (λ (k : Certificate). k.decisions) (same_Some d found_ranks.c (one cert.0 found_ranks.c cert.1 cert.2 found_ranks.kept.spelled cert.3)) in
       let parts = logged-parts n found_ranks.line logged (at found_ranks.before found_ranks.line found_ranks.has) in
       subst (λ s. ShowsRanks (decisions_before s) (lines_before s) (bytes_of first.next) n shown) (sym found_ranks.at) (record {
         site = site ∙ ap (λ o. unwrap_or o 0) is.site;

@@ -12,7 +12,9 @@ ghost use Rattle.sgt_explain.specs.Shown.{lines_before, decisions_before, ShowsR
 
 use sgt_cert::{CertFault, Certificate, from_line};
 use sgt_explain_decisions::{Ranked, against_ranks, placed_in};
-use sgt_explain_lines::{Logged, Misvalued, cut_line, section_before, section_line_at, value_against};
+use sgt_explain_lines::{
+    Logged, Misvalued, cut_line, section_before, section_line_at, value_against,
+};
 use sgt_names::{Entry, Item, Tx, Value};
 use sgt_notation::SectionLine;
 use std::alloc::{AllocError, Global};
@@ -34,8 +36,10 @@ pub fn certificate_of(alloc: Global, bytes: &[u8]) -> Result<Option<Certificate>
     let (line, _) = cut_line(behind);
     match from_line(alloc, line) {
         Ok(certificate) => Ok(Some(certificate)),
-        Err(CertFault::Memory) => Err(AllocError),
-        Err(_) => Ok(None),
+        Err(fault) => match fault {
+            CertFault::Memory => Err(AllocError),
+            _ => Ok(None),
+        },
     }
 }
 
