@@ -171,6 +171,18 @@ module _ (bytes rest : List ℕ) (n : ℕ) where
   rank-of (within second c before) (whole l) text kept number comes breaks =
       inside bytes rest l n second c before text kept number comes fault.RankOrder (breaks.least fault.Notation (omega arith)) (breaks.least fault.Section (omega arith)) (breaks.least fault.Item (omega arith)) breaks.broken
 
+  step-of : (stage : Stage) (next : Piece) → bytes ≡ text_of_lines (lines_so_far stage) ++ rest → IsFaultless stage → n ≡ length (lines_so_far stage) + 1 → ComesNext rest next
+      → Breaks (Rule stage next) fault.WalkStep → FaultyLine bytes n fault.WalkStep stage next
+  step-of start (whole l) text kept number comes breaks = absurd (breaks.broken tt)
+  step-of start (last l) text kept number comes breaks = absurd (breaks.broken tt)
+  step-of (headed second) (whole l) text kept number comes breaks = absurd (breaks.broken (λ c is e. tt))
+  step-of (headed second) (last l) text kept number comes breaks = absurd (breaks.broken tt)
+  step-of (within second c before) (last l) text kept number comes breaks = absurd (breaks.broken tt)
+  step-of (complete second c before) (whole l) text kept number comes breaks = absurd (breaks.broken tt)
+  step-of (complete second c before) (last l) text kept number comes breaks = absurd (breaks.broken tt)
+  step-of (within second c before) (whole l) text kept number comes breaks =
+      inside bytes rest l n second c before text kept number comes fault.WalkStep (breaks.least fault.Notation (omega arith)) (breaks.least fault.Section (omega arith)) (breaks.least fault.Item (omega arith)) breaks.broken
+
 pub rank-line : (bytes : List ℕ) (n : ℕ) (first : FirstFault bytes n fault.RankOrder) → FaultyLine bytes n fault.RankOrder first.stage first.next
 rank-line bytes n first = rank-of bytes first.rest n first.stage first.next first.text first.faultless first.number first.comes first.breaks
 
@@ -179,3 +191,6 @@ read-line bytes n first = read-of bytes first.rest n first.stage first.next firs
 
 pub final-line : (bytes : List ℕ) (n : ℕ) (first : FirstFault bytes n fault.Final) → FaultyLine bytes n fault.Final first.stage first.next
 final-line bytes n first = final-of bytes first.rest n first.stage first.next first.text first.faultless first.number first.comes first.breaks
+
+pub step-line : (bytes : List ℕ) (n : ℕ) (first : FirstFault bytes n fault.WalkStep) → FaultyLine bytes n fault.WalkStep first.stage first.next
+step-line bytes n first = step-of bytes first.rest n first.stage first.next first.text first.faultless first.number first.comes first.breaks

@@ -26,7 +26,7 @@ use Rattle.sgt_explain_lines.specs.declared.section.Logged.{Logged as LoggedEntr
 use Rattle.sgt_explain_lines.specs.declared.section.Section.{Section}
 use Rattle.sgt_explain_lines.specs.declared.values.Misvalued.{Misvalued}
 use Rattle.sgt_explain_decisions.specs.Against.{StandAgainst}
-use Rattle.sgt_explain.specs.declared.shown.RanksShown.{RanksShown}
+use Rattle.sgt_explain_decisions.specs.declared.order.RanksShown.{RanksShown}
 use Rattle.sgt_explain.specs.Shown.{lines_before, decisions_before, ShowsValue, ShowsRead, ShowsFinal, ShowsRanks, read_in, final_in}
 use Rattle.sgt_explain.proofs.FaultyLine.{FaultyLine, items-same, entries-same, read-line, final-line, rank-line}
 use Rattle.sgt_explain.proofs.ListedItems.{final-listed}

@@ -13,7 +13,7 @@ use Rattle.sgt_explain_lines.specs.Numbered.{open_site, numbered_entries}
 use Rattle.sgt_explain_lines.specs.Values.{last_change}
 use Rattle.sgt_explain_lines.specs.declared.values.Misvalued.{Misvalued}
 use Rattle.sgt_explain_decisions.specs.Against.{StandAgainst}
-use Rattle.sgt_explain.specs.declared.shown.RanksShown.{RanksShown}
+use Rattle.sgt_explain_decisions.specs.declared.order.RanksShown.{RanksShown}
 
 -- the lines of sections that a text has before its first fault
 abbrev pub lines_before : Stage → List SectionLine

@@ -8,6 +8,7 @@ mod noes;
 mod reading;
 mod rules;
 mod shown;
+mod steps;
 mod topics;
 mod yeses;
 

@@ -1,24 +1,18 @@
 //! What a no means.
 
 use crate::shown::{certificate_of, final_shown, logged_at, ranks_shown, read_shown};
+use crate::steps::step_shown;
 use sgt_audit::Fault;
 use sgt_cert::Certificate;
 use sgt_explain_decisions::{
     placed_in, push_certificate, push_decided_twice, push_decision_order, push_end, push_not_ended,
-    push_rank_order, push_ranks, push_walk_shape, push_walk_step, sought_in,
+    push_rank_order, push_ranks, push_walk_shape, push_walk_step,
 };
 use sgt_explain_lines::{
     Section, after_line, line_at, push_block, push_final, push_format, push_item, push_notation,
     push_read, push_section, push_trailing, push_truncated, push_twice, section_before,
 };
 use std::alloc::{AllocError, Global};
-
-/// The lines before the line of this number.
-pub fn lines_before(bytes: &[u8], number: u64) -> &[u8] {
-    let rest = after_line(bytes, number.saturating_sub(1));
-    let length = bytes.len().saturating_sub(rest.len());
-    bytes.get(..length).unwrap_or(bytes)
-}
 
 /// Of a line that the lines before it in its section show to be wrong.
 fn push_by_section(
@@ -71,7 +65,20 @@ fn push_by_ranks(
     line: u64,
 ) -> Result<(), AllocError> {
     match ranks_shown(alloc, bytes, line)? {
-        Some(shown) => push_rank_order(out, shown.site, &shown.first, &shown.second),
+        Some(shown) => push_rank_order(out, &shown),
+        None => Ok(()),
+    }
+}
+
+/// Of a step that is no conflict of the logs.
+fn push_by_step(
+    alloc: Global,
+    out: &mut String,
+    bytes: &[u8],
+    line: u64,
+) -> Result<(), AllocError> {
+    match step_shown(alloc, bytes, line)? {
+        Some(unmet) => push_walk_step(out, &unmet),
         None => Ok(()),
     }
 }
@@ -112,10 +119,6 @@ fn push_of_certificate(
         Fault::Ranks => push_ranks(alloc, out, decisions),
         Fault::DecidedTwice => push_decided_twice(alloc, out, decisions),
         Fault::WalkShape => push_walk_shape(alloc, out, decisions),
-        Fault::WalkStep => {
-            let sought = sought_in(alloc, decisions, lines_before(bytes, first.0))?;
-            push_walk_step(out, decisions, sought.as_slice())
-        }
         _ => push_by_certificate(alloc, out, bytes, first, certificate),
     }
 }
@@ -139,6 +142,7 @@ pub fn push_no(
         }
         Fault::ReadValue | Fault::Final => push_by_value(alloc, out, bytes, line, fault),
         Fault::RankOrder => push_by_ranks(alloc, out, bytes, line),
+        Fault::WalkStep => push_by_step(alloc, out, bytes, line),
         _ => {
             let Some(certificate) = certificate_of(alloc, bytes)? else {
                 return Ok(());

@@ -11,20 +11,19 @@ ghost use Rattle.sgt_explain_lines.specs.Numbered.{HasLine, logged_in};
 ghost use Rattle.sgt_explain.specs.Shown.{lines_before, decisions_before, ShowsRead, ShowsFinal, ShowsRanks, read_in, final_in};
 
 use sgt_cert::{CertFault, Certificate, from_line};
-use sgt_explain_decisions::{Ranked, against_ranks, placed_in};
+use sgt_explain_decisions::{RanksShown, against_ranks, placed_in};
 use sgt_explain_lines::{
-    Logged, Misvalued, cut_line, section_before, section_line_at, value_against,
+    Logged, Misvalued, after_line, cut_line, section_before, section_line_at, value_against,
 };
 use sgt_names::{Entry, Item, Tx, Value};
 use sgt_notation::SectionLine;
 use std::alloc::{AllocError, Global};
 
-/// Two entries of a site, of which the first stands against the second.
-#[derive(Clone, Copy)]
-pub struct RanksShown {
-    pub site: u8,
-    pub first: Ranked,
-    pub second: Ranked,
+/// The lines before the line of this number.
+pub fn text_before(bytes: &[u8], number: u64) -> &[u8] {
+    let rest = after_line(bytes, number.saturating_sub(1));
+    let length = bytes.len().saturating_sub(rest.len());
+    bytes.get(..length).unwrap_or(bytes)
 }
 
 /// The certificate of line 2, if it is one. Err: memory ran out.

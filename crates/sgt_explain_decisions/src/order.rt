@@ -20,6 +20,14 @@ pub struct Ranked {
     pub number: usize,
 }
 
+/// Two entries of a site, of which the first stands against the second.
+#[derive(Clone, Copy)]
+pub struct RanksShown {
+    pub site: u8,
+    pub first: Ranked,
+    pub second: Ranked,
+}
+
 /// The entry with the rank of its transaction, if that is committed.
 fn with_rank(decisions: &[Decision], placed: &[Placed], logged: &Logged) -> Option<Ranked>
     ensures same { IfSome result (λ r. r.logged ≡ logged.now) }
@@ -81,17 +89,13 @@ fn push_ranked(out: &mut String, ranked: &Ranked) -> Result<(), AllocError> {
 }
 
 /// F11: two entries of a site that stand against the ranks.
-pub fn push_rank_order(
-    out: &mut String,
-    site: u8,
-    first: &Ranked,
-    second: &Ranked,
-) -> Result<(), AllocError> {
+pub fn push_rank_order(out: &mut String, shown: &RanksShown) -> Result<(), AllocError> {
     out.push_str("RankOrder: two operations in conflict stand against the ranks\n")?;
-    push_ranked(out, first)?;
-    push_ranked(out, second)?;
-    let one = &first.logged.entry;
-    let other = &second.logged.entry;
+    push_ranked(out, &shown.first)?;
+    push_ranked(out, &shown.second)?;
+    let site = shown.site;
+    let one = &shown.first.logged.entry;
+    let other = &shown.second.logged.entry;
     let (Some(item), Some(kind)) = (one.item(), clash(one, other)) else {
         return Ok(());
     };
