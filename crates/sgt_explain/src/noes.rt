@@ -64,8 +64,8 @@ fn push_by_ranks(
     bytes: &[u8],
     line: u64,
 ) -> Result<(), AllocError> {
-    match ranks_shown(alloc, bytes, line)? {
-        Some(shown) => push_rank_order(out, &shown),
+    match &ranks_shown(alloc, bytes, line)? {
+        Some(shown) => push_rank_order(out, shown),
         None => Ok(()),
     }
 }
@@ -77,8 +77,8 @@ fn push_by_step(
     bytes: &[u8],
     line: u64,
 ) -> Result<(), AllocError> {
-    match step_shown(alloc, bytes, line)? {
-        Some(unmet) => push_walk_step(out, &unmet),
+    match &step_shown(alloc, bytes, line)? {
+        Some(unmet) => push_walk_step(out, unmet),
         None => Ok(()),
     }
 }
