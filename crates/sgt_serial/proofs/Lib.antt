@@ -3,10 +3,13 @@ mod ByRank
 mod Changes
 mod Differences
 mod Either
+mod Counting
 mod Examples
 mod Grouping
 mod Items
 mod Lines
 mod Logged
+mod Places
 mod Running
 mod Sorting
+mod Windows

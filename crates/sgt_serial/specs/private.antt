@@ -1,4 +1,6 @@
 -- Words of private clauses.
+pub mod Grouped
+pub mod Groups
 pub mod Operations
 pub mod Order
 pub mod Values

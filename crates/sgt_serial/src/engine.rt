@@ -2,31 +2,14 @@
 
 ghost use Rattle.std.specs.Prelude.{◌≡◌, ◌≢◌, ◌-◌, ◌<◌, ◌≤◌, ℕ, List, Option, Err, length, OnErr, IfOk, IfSome, IsErrOf};
 ghost use Rattle.sgt_notation.specs.Lines.{ReadFaultIsDue};
-ghost use Rattle.sgt_cert.specs.Valid.{IsValid};
 ghost use Rattle.sgt_audit.specs.Faults.{ReadsNoFurther};
 ghost use Rattle.sgt_audit.specs.Verdict.{IsAudited, HandsOutValid};
 ghost use Rattle.sgt_serial.specs.Answer.{IsAnswer, WroteAnswer, WroteAnswerFront};
-ghost use Rattle.sgt_serial.specs.Report.{report_of};
-ghost use Rattle.sgt_serial.specs.Text.{report_text};
 
-use crate::report::SerialFail;
-use crate::run::serial_run;
+use crate::written::run_text;
 use sgt_audit::{Audited, Verdict, audit_bundle};
-use sgt_cert::Bundle;
 use sgt_names::{EngineFail, Outcome, Sink, Source, write_all};
 use std::alloc::{AllocError, Global};
-
-/// The text of a valid bundle's run.
-fn run_text(alloc: Global, bundle: &Bundle) -> Result<Vec<u8>, AllocError>
-    requires { IsValid bundle.now }
-    ensures { IfOk result (λ text. text.items ≡ report_text (report_of bundle.now)) }
-{
-    match serial_run(alloc, bundle) {
-        Ok(report) => report.to_text(alloc),
-        Err(SerialFail::Memory) => Err(AllocError),
-        Err(SerialFail::Differs(..)) => unreachable!(),
-    }
-}
 
 /// An outcome, and what is to be written.
 #[derive(Drop)]

@@ -3,13 +3,17 @@
 
 mod engine;
 mod finals;
+mod grouped;
+mod groups;
 mod laws;
 mod operations;
 mod order;
 mod report;
 mod run;
+mod sorted;
 mod store;
 mod text;
+mod written;
 
 pub use engine::serial;
 pub use laws::{agreement_excludes_differences, first_differences_are_one, runs_agree_or_differ};

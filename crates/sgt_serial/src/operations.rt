@@ -1,54 +1,36 @@
 //! The entries of all logs, by transaction.
 
-ghost use Rattle.std.specs.Prelude.{◌≡◌, ℕ, true, false, nat_lt, ◌++◌, ◌≤◌, length, map, OnOk, IfOk};
+ghost use Rattle.std.specs.Prelude.{◌≡◌, ◌≤◌, length, OnOk, IfOk};
 ghost use Rattle.std.specs.List.{filter, filter_map};
-ghost use Rattle.std.specs.List.Sorted.{IsNonDecreasingBy, IsPartitionPoint};
 ghost use Rattle.sgt_names.specs.Limits.{max_sites};
 ghost use Rattle.sgt_serial.specs.Report.{read_at, write_at, run_of};
-ghost use Rattle.sgt_serial.specs.private.Operations.{entry_at, owner, is_by, run_in};
+ghost use Rattle.sgt_serial.specs.private.Operations.{all_entries, is_by};
+ghost use Rattle.sgt_serial.specs.private.Grouped.{AreOperationsOf};
 
+use crate::grouped::Grouped;
 use crate::report::{SerialTx, SiteChange, SiteValue};
+use crate::sorted::Sorted;
 use sgt_cert::SiteLog;
 use sgt_names::{Change, Entry, Listed, SiteNo, Tx};
 use std::alloc::{AllocError, Global};
-use std::marker::Model;
 
 /// An entry of a site's log.
 #[derive(Clone, Copy)]
-struct SiteEntry {
-    site: SiteNo,
-    entry: Entry,
+pub struct SiteEntry {
+    pub site: SiteNo,
+    pub entry: Entry,
 }
 
 /// The entries of all logs by transaction; those of one transaction by site and then in log order.
 #[derive(Drop)]
-pub struct Operations {
-    entries: Vec<SiteEntry>,
+pub enum Operations {
+    /// Where they stand, where the numbers of the transactions are close together.
+    Grouped(Grouped),
+    /// Copies of them, in the order of the transactions.
+    Sorted(Sorted),
 }
 
-impl Model for Operations {
-    ghost use Rattle.std.specs.Prelude.{List};
-    ghost use Rattle.std.specs.List.Sorted.{IsNonDecreasingBy};
-    ghost use Rattle.sgt_serial.specs.private.Operations.{owner};
-    ghost use Rattle.sgt_serial.specs.declared.operations.SiteEntry.{SiteEntry};
-
-    ghost Value = { List SiteEntry };
-
-    ghost view = { λ o. o.entries.items };
-
-    ghost invariant = { λ o. IsNonDecreasingBy owner o.entries.items };
-}
-
-/// How many of the entries are of transactions of smaller numbers.
-fn count_below(entries: &[SiteEntry], number: u64) -> usize
-    requires { IsNonDecreasingBy owner entries.now }
-    ensures within { result ≤ length entries.now }
-    ensures point { IsPartitionPoint (λ e. nat_lt (owner e) number ≡ true) (λ e. nat_lt (owner e) number ≡ false) entries.now result }
-{
-    entries.partition_point(|own| u64::from(own.entry.tx().number()) < number)
-}
-
-fn read_of(own: &SiteEntry) -> Option<SiteValue>
+pub fn read_of(own: &SiteEntry) -> Option<SiteValue>
     ensures { result ≡ read_at own.now.site own.now.entry }
 {
     let site = own.site;
@@ -58,7 +40,7 @@ fn read_of(own: &SiteEntry) -> Option<SiteValue>
     }
 }
 
-fn write_of(own: &SiteEntry) -> Option<SiteChange>
+pub fn write_of(own: &SiteEntry) -> Option<SiteChange>
     ensures { result ≡ write_at own.now.site own.now.entry }
 {
     let site = own.site;
@@ -89,53 +71,48 @@ fn writes(alloc: Global, own: &[SiteEntry]) -> Result<Vec<SiteChange>, AllocErro
     own.iter().filter_map(write_of).collect(alloc)
 }
 
-/// Adds the entries of a site's log.
-fn add_site(entries: &mut Vec<SiteEntry>, site: SiteNo, logged: &[Entry]) -> Result<(), AllocError>
-    ensures { OnOk result (entries.new.items ≡ entries.old.items ++ map (entry_at site) logged.now) }
-{
-    for entry in logged {
-        entries.push(SiteEntry {
-            site,
-            entry: *entry,
-        })?;
-    }
-    Ok(())
-}
-
 impl Operations {
     /// Those of these logs.
-    pub fn new(alloc: Global, sites: &[SiteLog]) -> Result<Operations, AllocError>
-        requires { length sites.now ≤ max_sites }
-        ensures { IfOk result (λ o. (tx : ℕ) → run_in o tx ≡ run_of sites.now tx) }
+    pub fn new(alloc: Global, logs: &[SiteLog]) -> Result<Operations, AllocError>
+        requires { length logs.now ≤ max_sites }
+        ensures { IfOk result (AreOperationsOf logs.now) }
     {
-        let mut entries = Vec::new(alloc);
-        for (number, log) in sites.iter().enumerate() {
-            let site = SiteNo::new(number as u64).unwrap();
-            add_site(&mut entries, site, log.entries.as_slice())?;
+        match Grouped::new(alloc, logs)? {
+            Some(grouped) => Ok(Operations::Grouped(grouped)),
+            None => Ok(Operations::Sorted(Sorted::new(alloc, logs)?)),
         }
-        entries.sort_by_key(|own| own.entry.tx().number())?;
-        Ok(Operations { entries })
     }
 
-    /// Those of the transaction.
-    fn of(&self, tx: Tx) -> &[SiteEntry]
-        ensures { result.now ≡ filter (is_by tx) self.now }
+    /// Puts the entries of the transaction into the list, in place of what it has.
+    pub fn gather(
+        &self,
+        logs: &[SiteLog],
+        tx: Tx,
+        own: &mut Vec<SiteEntry>,
+    ) -> Result<(), AllocError>
+        requires { AreOperationsOf logs.now self.now }
+        ensures { OnOk result (own.new.items ≡ filter (is_by tx) (all_entries logs.now)) }
     {
-        let entries = self.entries.as_slice();
-        let number = u64::from(tx.number());
-        let later = &entries[count_below(entries, number)..];
-        &later[..count_below(later, number + 1)]
+        match self {
+            Operations::Grouped(grouped) => grouped.gather(logs, tx, own),
+            Operations::Sorted(sorted) => {
+                own.clear();
+                own.extend_from_slice(sorted.of(tx))
+            }
+        }
     }
 
     /// The transaction with its reads, and with its writes and increments.
-    pub fn run(&self, alloc: Global, tx: Tx) -> Result<SerialTx, AllocError>
-        ensures { IfOk result (λ run. run ≡ run_in self.now tx) }
+    pub fn run(&self, alloc: Global, logs: &[SiteLog], tx: Tx) -> Result<SerialTx, AllocError>
+        requires { AreOperationsOf logs.now self.now }
+        ensures { IfOk result (λ run. run ≡ run_of logs.now tx) }
     {
-        let own = self.of(tx);
+        let mut own = Vec::new(alloc);
+        self.gather(logs, tx, &mut own)?;
         Ok(SerialTx {
             tx,
-            reads: Listed::new(reads(alloc, own)?),
-            writes: Listed::new(writes(alloc, own)?),
+            reads: Listed::new(reads(alloc, own.as_slice())?),
+            writes: Listed::new(writes(alloc, own.as_slice())?),
         })
     }
 }

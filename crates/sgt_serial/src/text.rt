@@ -68,7 +68,7 @@ fn push_changes(out: &mut Vec<u8>, tx: Tx, writes: &[SiteChange]) -> Result<(), 
     Ok(())
 }
 
-fn push_run(out: &mut Vec<u8>, run: &SerialTx) -> Result<(), AllocError>
+pub fn push_run(out: &mut Vec<u8>, run: &SerialTx) -> Result<(), AllocError>
     ensures { OnOk result (out.new.items ≡ out.old.items ++ text_of_lines (run_lines run.now)) }
 {
     out.extend_from_slice(b"t")?;
@@ -87,7 +87,7 @@ fn push_final(out: &mut Vec<u8>, value: &SiteValue) -> Result<(), AllocError>
     push_number(out, value.value)
 }
 
-fn push_finals(out: &mut Vec<u8>, values: &[SiteValue]) -> Result<(), AllocError>
+pub fn push_finals(out: &mut Vec<u8>, values: &[SiteValue]) -> Result<(), AllocError>
     ensures { OnOk result (out.new.items ≡ out.old.items ++ text_of_lines (map final_line values.now)) }
 {
     for value in values {

@@ -16,6 +16,10 @@ entry_at s e = record { site = s; entry = e }
 abbrev pub all_entries : List SiteLog → List SiteEntry
 all_entries sites = by_site (λ s. map (entry_at s) (entries_of sites s)) sites
 
+-- the site of the entry
+abbrev pub site_of : SiteEntry → ℕ
+site_of e = e.site
+
 -- the transaction whose entry it is
 abbrev pub owner : SiteEntry → ℕ
 owner e = tx_of e.entry
