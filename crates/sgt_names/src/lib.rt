@@ -18,7 +18,7 @@ mod source;
 mod standard;
 
 pub use asks::Asks;
-pub use draft::{Draft, Seen, Touch};
+pub use draft::{Draft, Part, Seen, Touch};
 pub use entry::{Change, Entry, Holding, Kind, Label};
 pub use item::{BadName, Item};
 pub use laws::{
