@@ -11,3 +11,4 @@ pub mod Examples
 pub mod DraftExamples
 pub mod Rising
 mod Shown
+pub mod Parts

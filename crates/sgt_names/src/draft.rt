@@ -1,10 +1,10 @@
 //! Drafts: what a transaction has read and is to change. Its writes and increments are private until it is certified.
 
-ghost use Rattle.std.specs.Prelude.{◌≡◌, ◌<◌, ◌≤◌, IfOk, IfErr, IsOk, OnOk, OnErr, slice_get, vec_len, vec_capacity, insert, []};
+ghost use Rattle.std.specs.Prelude.{◌≡◌, ◌<◌, ◌≤◌, true, false, All, IfOk, IfErr, IsOk, OnOk, OnErr, slice_get, vec_len, vec_capacity, insert, []};
 ghost use Rattle.sgt_names.specs.Ordered.{IsAt, IsGapFor};
 ghost use Rattle.std.specs.Ordering.{nat_cmp};
 ghost use Rattle.sgt_names.specs.Draft.{AreRising, IsUsed, place_of, place_cmp, kept_in, writing_in, added_to, look_of};
-ghost use Rattle.sgt_names.specs.DraftParts.{PartsRise, InsertsPart, touched_in};
+ghost use Rattle.sgt_names.specs.DraftParts.{IsPart, PartsRise, InsertsPart, touched_in, all_fit};
 
 use crate::Value;
 use crate::entry::Change;
@@ -60,8 +60,9 @@ impl Model for Part {
 }
 
 impl Part {
-    ghost use Rattle.std.specs.Prelude.{◌≡◌, ◌⊎◌, true, IsTrue, IsSome, IsOk, OnOk, OnErr, Some, None, All, option_and_then};
+    ghost use Rattle.std.specs.Prelude.{◌≡◌, ◌⊎◌, true, IsTrue, IsSome, IsOk, OnOk, OnErr, Some, None, All, option_and_then, false};
     ghost use Rattle.sgt_names.specs.Draft.{AreRising, IsUsed, touched_at, seen_at, change_at, look_of, ChangesOnly};
+    ghost use Rattle.sgt_names.specs.DraftParts.{IsPart};
 
     pub fn site(&self) -> SiteNo
         ensures { result ≡ self.now.site }
@@ -81,7 +82,7 @@ impl Part {
 
     fn room(&mut self) -> Result<(), AllocError>
         ensures ok { OnOk result (self.new ≡ record self.old { has_room = true }) }
-        ensures err { OnErr result (self.new ≡ self.old) }
+        ensures err { OnErr result ((self.new ≡ self.old) × (self.old.has_room ≡ false)) }
     {
         self.touched.reserve(1)
     }
@@ -117,6 +118,7 @@ impl Part {
         ensures err { OnErr result (self.new ≡ self.old) }
         ensures succeeds { IsTrue self.old.has_room ⊎ IsSome (touched_at self.old.touched (self.old.site, item)) → IsOk result }
         ensures room { IsSome (touched_at self.old.touched (self.old.site, item)) → self.new.has_room ≡ self.old.has_room }
+        ensures part { IsPart self.new }
     {
         let site = self.site;
         match search(self.touched.as_slice(), site, item) {
@@ -149,6 +151,7 @@ impl Part {
         ensures err { OnErr result (self.new ≡ self.old) }
         ensures succeeds { IsTrue self.old.has_room ⊎ IsSome (touched_at self.old.touched (self.old.site, item)) → IsOk result }
         ensures room { IsSome (touched_at self.old.touched (self.old.site, item)) → self.new.has_room ≡ self.old.has_room }
+        ensures part { IsPart self.new }
     {
         let site = self.site;
         match search(self.touched.as_slice(), site, item) {
@@ -407,8 +410,8 @@ fn add_part(
     ensures ok { OnOk result (InsertsPart parts.old.items parts.new.items at touch) }
     ensures err { OnErr result ((parts.new.items ≡ parts.old.items) × (vec_len parts.new ≡ vec_len parts.old)) }
     ensures blank { spare.new.items ≡ [] }
-    ensures fits { OnErr result (vec_len parts.old < vec_capacity parts.old → 0 < vec_capacity spare.old → ⊥) }
-    ensures none { OnErr result (vec_len parts.new < vec_capacity parts.new → 0 < vec_capacity spare.new → ⊥) }
+    ensures full { OnErr result (vec_len parts.old < vec_capacity parts.old → 0 < vec_capacity spare.old → ⊥) }
+    ensures stays_full { OnErr result (vec_len parts.new < vec_capacity parts.new → 0 < vec_capacity spare.new → ⊥) }
 {
     spare.reserve(1)?;
     parts.reserve(1)?;
@@ -422,9 +425,13 @@ fn add_part(
 // Makes room for one more item at each site.
 fn make_rooms(parts: &mut Vec<Part>) -> Result<(), AllocError>
     ensures same { touched_in parts.new.items ≡ touched_in parts.old.items }
+    ensures parts { PartsRise parts.old.items × All IsPart parts.old.items → PartsRise parts.new.items × All IsPart parts.new.items }
+    ensures ok { OnOk result (all_fit parts.new.items ≡ true) }
+    ensures err { OnErr result ((all_fit parts.old.items ≡ false) × (all_fit parts.new.items ≡ false)) }
+    ensures slots { (vec_len parts.new ≡ vec_len parts.old) × (vec_capacity parts.new ≡ vec_capacity parts.old) }
 {
-    for part in parts.iter_mut() {
-        part.room()?;
+    for at in 0..parts.len() {
+        parts[at].room()?;
     }
     Ok(())
 }

@@ -1,10 +1,15 @@
-use Rattle.std.proofs.Common.{sym, ◌∙◌}
-use Rattle.sgt_names.proofs.Touched.{look_found, look_none}
+use Rattle.std.proofs.Common.{sym, ap, ◌∙◌}
+use Rattle.std.specs.Prelude.{option_and_then}
+use Rattle.sgt_names.specs.Draft.{look_of}
+use Rattle.sgt_names.proofs.Parts.{at_part, touched_no_part}
 use Rattle.sgt_names.proofs.draft.Draft.look.Goals as goal
 
 pub returns-in-Ok : goal.returns-in-Ok
 returns-in-Ok c =
-    rw (← c.self.view_is) (c.look_at.ensures ∙ sym (look_found _ _ _ _ c.self.invariant.0 (rw c.as_slice.ensures.value at c.in-Ok.ensures.found) c.index.ensures))
+    let found = rw c.as_slice.ensures.value at c.in-Ok.ensures.found in
+    rw (← c.self.view_is) (c.look.ensures ∙ ap (option_and_then look_of) (at_part c.self.inside.parts.items (c.args.site, c.args.item) c.in-Ok.at _ c.self.invariant.0 c.self.invariant.1 found c.index.ensures))
 
 pub returns-in-Err : goal.returns-in-Err
-returns-in-Err c = rw (← c.self.view_is) (sym (look_none _ _ _ (rw c.as_slice.ensures.value at c.in-Err.ensures.absent)))
+returns-in-Err c =
+    let gap = rw c.as_slice.ensures.value at c.in-Err.ensures.absent in
+    rw (← c.self.view_is) (sym (ap (option_and_then look_of) (touched_no_part c.self.inside.parts.items (c.args.site, c.args.item) c.in-Err.at c.self.invariant.1 gap)))
