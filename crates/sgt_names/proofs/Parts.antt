@@ -1,6 +1,6 @@
 -- A draft by its parts: what they touch rises, a site's items are those of its part, and an edit of one part is one of the draft.
-use Rattle.std.proofs.Common.{◌≡◌, ℕ, zero, suc, ◌<◌, ◌≤◌, Bool, true, false, List, [], ◌∷◌, ◌++◌, length, get_or, set, take, drop, Option, Some, None, refl, sym, ap, ap₂, ◌∙◌, subst, arith, inl, inr, ◌⊎◌, append_assoc, append-nil, All, AllPairs}
-use Rattle.std.specs.Prelude.{slice_get, nat_lt, Result, Ok, Err, OnOk, OnErr, find, filter, ◌&&◌, ◌==◌}
+use Rattle.std.proofs.Common.{◌≡◌, ℕ, zero, suc, ◌+◌, ◌<◌, ◌≤◌, Bool, true, false, List, [], ◌∷◌, ◌++◌, length, get_or, set, take, drop, Option, Some, None, refl, sym, ap, ap₂, ◌∙◌, subst, arith, inl, inr, ◌⊎◌, append_assoc, append-nil, All, Any, AllPairs}
+use Rattle.std.specs.Prelude.{slice_get, nat_lt, Result, Ok, Err, OnOk, OnErr, find, filter, option_and_then, ◌&&◌, ◌==◌}
 use Rattle.std.specs.List.{insert, AllByRecursion}
 use Rattle.std.specs.Option.{option_to_list}
 use Rattle.std.specs.Str.{bytes_eq}
@@ -15,11 +15,13 @@ use Rattle.std.proofs.lemmas.Bool.Decides.{nat_tests}
 use Rattle.std.proofs.lemmas.List.Elements.{All-append, All-set, All-from_recursion, recursion_from_All, filter-append}
 use Rattle.std.proofs.lemmas.Option.{same_Some, slice_get_read}
 use Rattle.sgt_names.specs.Ordered.{IsAt, IsGapFor}
-use Rattle.sgt_names.specs.Draft.{Place, place_of, place_cmp, AreRising, IsUsed, at_site, touched_at, ChangesOnly}
+use Rattle.sgt_names.specs.Draft.{Place, place_of, place_cmp, AreRising, IsUsed, at_site, touched_at, seen_at, change_at, Touches, ChangesOnly}
 use Rattle.sgt_names.specs.DraftParts.{PartView, IsPart, InsertsPart, PartsRise, touched_in, all_fit}
+use Rattle.sgt_names.specs.declared.draft.Seen.{Seen}
 use Rattle.sgt_names.specs.declared.draft.Touch.{Touch}
+use Rattle.sgt_names.specs.declared.entry.Change.{Change}
 use Rattle.sgt_names.proofs.Places.{All_at, All-from_at, PairsByRecursion, AllPairs-from_recursion, recursion_from_AllPairs}
-use Rattle.sgt_names.proofs.Lists.{All-weaken, AllByRecursion-append}
+use Rattle.sgt_names.proofs.Lists.{All-weaken, AllByRecursion-append, Any_at, Any-from_at, front_at, back_at}
 use Rattle.sgt_names.proofs.Ranged.{rising-set, rising-insert, All-insert}
 use Rattle.sgt_names.proofs.Touched.{inserted}
 
@@ -357,3 +359,76 @@ pub at_part : (ps : List PartView) (p : Place) (n : ℕ) (q : PartView) → Part
 at_part ps p n q rise all found read =
     let at = slice_get_read ps (length ps) n q refl found.within read in
     ap (λ (s : ℕ). touched_at q.touched (s, p.1)) (found.is q at) ∙ sym (touched_found_part ps p n q rise all found at)
+
+-- ---- the sites that are touched
+
+any_in : (P : Touch → Type 0) (ps : List PartView) (n : ℕ) (q : PartView) → slice_get ps n ≡ Some q → Any P q.touched → Any P (touched_in ps)
+any_in P [] n q at any = absurd cc
+any_in P (p ∷ ps) zero q at any =
+    let there = Any_at P p.touched (subst (λ (v : PartView). Any P v.touched) (sym (same_Some p q at)) any) in
+    Any-from_at P (p.touched ++ touched_in ps) there.0 there.1 (front_at p.touched (touched_in ps) there.0 there.1 there.2) there.3
+any_in P (p ∷ ps) (suc n) q at any =
+    let there = Any_at P (touched_in ps) (any_in P ps n q at any) in
+    Any-from_at P (p.touched ++ touched_in ps) (length p.touched + there.0) there.1 (back_at p.touched (touched_in ps) there.0 ∙ there.2) there.3
+
+some_any : (P : Touch → Type 0) (ts : List Touch) → (ts ≡ [] → ⊥) → All P ts → Any P ts
+some_any P [] some all = absurd (some refl)
+some_any P (t ∷ ts) some all = Any-from_at P (t ∷ ts) 0 t refl (All_at P (t ∷ ts) 0 t all refl)
+
+pub touches_found : (ps : List PartView) (s n : ℕ) (q : PartView) → All IsPart ps → IsAt (λ p. p.site) ps s n → slice_get ps n ≡ Some q → Touches (touched_in ps) s
+touches_found ps s n q all found at =
+    let is = All_at IsPart ps n q all at in
+    let both : All (λ (t : Touch). (t.site ≡ s) × IsUsed t) q.touched =
+        All-from_at (λ (t : Touch). (t.site ≡ s) × IsUsed t) q.touched (λ k t here. (All_at (λ (u : Touch). u.site ≡ q.site) q.touched k t is.here here ∙ found.is q at, All_at IsUsed q.touched k t is.used here)) in
+    any_in (λ (t : Touch). (t.site ≡ s) × IsUsed t) ps n q at (some_any (λ (t : Touch). (t.site ≡ s) × IsUsed t) q.touched is.some both)
+
+filter_some : (s : ℕ) (ts : List Touch) (k : ℕ) (t : Touch) → slice_get ts k ≡ Some t → t.site ≡ s → at_site s ts ≡ [] → ⊥
+filter_some s [] k t at is none = absurd cc
+filter_some s (u ∷ us) zero t at is none =
+    let hit = filter_hit (λ (v : Touch). v.site == s) u us (is_equal u.site s (ap (λ (v : Touch). v.site) (same_Some u t at) ∙ is)) in
+    absurd (let both : u ∷ at_site s us ≡ [] = sym hit ∙ none in cc)
+filter_some s (u ∷ us) (suc k) t at is none = elim (cases_Bool (u.site == s)) [
+  | inl hit ↦ absurd (let both : u ∷ at_site s us ≡ [] = sym (filter_hit (λ (v : Touch). v.site == s) u us hit) ∙ none in cc)
+  | inr miss ↦ filter_some s us k t at is (sym (filter_miss (λ (v : Touch). v.site == s) u us miss) ∙ none)
+]
+
+pub touches_none : (ps : List PartView) (s n : ℕ) → All IsPart ps → IsGapFor (λ p. p.site) nat_cmp ps s n → Touches (touched_in ps) s → ⊥
+touches_none ps s n all gap any =
+    let there = Any_at (λ (t : Touch). (t.site ≡ s) × IsUsed t) (touched_in ps) any in
+    filter_some s (touched_in ps) there.0 there.1 there.2 there.3.0 (at_gap ps s n all gap)
+
+-- ---- an edit of the part that a search found, as one of the draft
+
+module _ (ps : List PartView) (rise : PartsRise ps) (all : All IsPart ps) (p : Place) (n : ℕ) (q r : PartView) (found : IsAt (λ v. v.site) ps p.0 n) (read : q ≡ get_or ps n q) where
+  at_n : slice_get ps n ≡ Some q
+  at_n = slice_get_read ps (length ps) n q refl found.within read
+
+  pub lifts_seen : (s : Option Seen) → ChangesOnly q.touched r.touched (record { site = q.site; item = p.1; seen = s; change = change_at q.touched (q.site, p.1) }) → ChangesOnly (touched_in ps) (touched_in (set ps n r)) (record { site = p.0; item = p.1; seen = s; change = change_at (touched_in ps) p })
+  lifts_seen s changes =
+      let change : change_at q.touched (q.site, p.1) ≡ change_at (touched_in ps) p = ap (option_and_then (λ (t : Touch). t.change)) (at_part ps p n q rise all found read) in
+      let site : q.site ≡ p.0 = found.is q at_n in
+      let old : Touch = record { site = q.site; item = p.1; seen = s; change = change_at q.touched (q.site, p.1) } in
+      let new : Touch = record { site = p.0; item = p.1; seen = s; change = change_at (touched_in ps) p } in
+      let same : old ≡ new = λ i. record { site = site i; item = p.1; seen = s; change = change i } in
+      subst (λ (t : Touch). ChangesOnly (touched_in ps) (touched_in (set ps n r)) t) same (changes_part ps n q r old at_n changes)
+
+  pub lifts_change : (c : Option Change) → ChangesOnly q.touched r.touched (record { site = q.site; item = p.1; seen = seen_at q.touched (q.site, p.1); change = c }) → ChangesOnly (touched_in ps) (touched_in (set ps n r)) (record { site = p.0; item = p.1; seen = seen_at (touched_in ps) p; change = c })
+  lifts_change c changes =
+      let seen : seen_at q.touched (q.site, p.1) ≡ seen_at (touched_in ps) p = ap (option_and_then (λ (t : Touch). t.seen)) (at_part ps p n q rise all found read) in
+      let site : q.site ≡ p.0 = found.is q at_n in
+      let old : Touch = record { site = q.site; item = p.1; seen = seen_at q.touched (q.site, p.1); change = c } in
+      let new : Touch = record { site = p.0; item = p.1; seen = seen_at (touched_in ps) p; change = c } in
+      let same : old ≡ new = λ i. record { site = site i; item = p.1; seen = seen i; change = c } in
+      subst (λ (t : Touch). ChangesOnly (touched_in ps) (touched_in (set ps n r)) t) same (changes_part ps n q r old at_n changes)
+
+-- a new part, as an edit of the draft
+module _ (ps qs : List PartView) (all : All IsPart ps) (p : Place) (n : ℕ) (gap : IsGapFor (λ v. v.site) nat_cmp ps p.0 n) where
+  pub puts_seen : (s : Option Seen) → InsertsPart ps qs n (record { site = p.0; item = p.1; seen = s; change = None }) → ChangesOnly (touched_in ps) (touched_in qs) (record { site = p.0; item = p.1; seen = s; change = change_at (touched_in ps) p })
+  puts_seen s inserts =
+      let change : change_at (touched_in ps) p ≡ None = ap (option_and_then (λ (t : Touch). t.change)) (touched_no_part ps p n all gap) in
+      rw change (inserts_part ps qs n (record { site = p.0; item = p.1; seen = s; change = None }) inserts)
+
+  pub puts_change : (c : Option Change) → InsertsPart ps qs n (record { site = p.0; item = p.1; seen = None; change = c }) → ChangesOnly (touched_in ps) (touched_in qs) (record { site = p.0; item = p.1; seen = seen_at (touched_in ps) p; change = c })
+  puts_change c inserts =
+      let seen : seen_at (touched_in ps) p ≡ None = ap (option_and_then (λ (t : Touch). t.seen)) (touched_no_part ps p n all gap) in
+      rw seen (inserts_part ps qs n (record { site = p.0; item = p.1; seen = None; change = c }) inserts)
