@@ -10,4 +10,6 @@ pub mod Touched
 pub mod Examples
 pub mod DraftExamples
 pub mod Rising
+pub mod AtSite
 mod Shown
+pub mod Parts

@@ -64,7 +64,7 @@ module _ {B : Type 0} (f : Touch → Option B) (key : B → Name) (of : (t : Tou
 pub writings-rise : (n : ℕ) (part : List Touch) → All (λ t. t.site ≡ n) part → AreRising part → IsRisingBy (λ w. w.0) (slice_cmp nat_cmp) (writing_in part)
 writings-rise n part here rising = chosen-rise writing_of (λ (w : Name × Change). w.0) (λ t w h. (writing_is t w h).0) n part here rising
 
-keeps-rise : (n : ℕ) (part : List Touch) → All (λ t. t.site ≡ n) part → AreRising part → IsRisingBy (λ k. k.0) (slice_cmp nat_cmp) (kept_in part)
+pub keeps-rise : (n : ℕ) (part : List Touch) → All (λ t. t.site ≡ n) part → AreRising part → IsRisingBy (λ k. k.0) (slice_cmp nat_cmp) (kept_in part)
 keeps-rise n part here rising = chosen-rise kept_of (λ (k : Name × ℕ × ℕ). k.0) (λ t k h. ap (λ (p : Name × ℕ × ℕ). p.0) (kept_is t k h).2) n part here rising
 
 -- the touched items of one site are of that site, and rise

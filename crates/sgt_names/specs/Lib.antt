@@ -8,3 +8,5 @@ pub mod Device
 pub mod Memory
 pub mod Ordered
 pub mod Draft
+pub mod DraftParts
+pub mod DraftKept

@@ -4,6 +4,7 @@
 
 mod asks;
 mod draft;
+mod draft_parts;
 mod entry;
 mod item;
 mod laws;
@@ -16,9 +17,11 @@ mod sink;
 mod site_no;
 mod source;
 mod standard;
+mod touch_list;
 
 pub use asks::Asks;
 pub use draft::{Draft, Seen, Touch};
+pub use draft_parts::Part;
 pub use entry::{Change, Entry, Holding, Kind, Label};
 pub use item::{BadName, Item};
 pub use laws::{

@@ -1,7 +1,9 @@
 use Rattle.std.proofs.Common.{subst}
-use Rattle.sgt_names.specs.Draft.{DraftView, AreRising}
-use Rattle.sgt_names.proofs.Rising.{writing-by_item}
+use Rattle.sgt_names.specs.Draft.{AreRising, at_site}
+use Rattle.sgt_names.proofs.Rising.{writings-rise, site-here}
 use Rattle.sgt_names.proofs.draft.Draft.writing.Goals as goal
 
 pub returns-clause-rising : goal.returns-clause-rising
-returns-clause-rising c = writing-by_item c.args.site c.args.self.now.touched (subst (λ (p : DraftView). AreRising p.touched) c.self.view_is c.self.invariant.0)
+returns-clause-rising c =
+    let ts = c.args.self.now.touched in
+    writings-rise c.args.site (at_site c.args.site ts) (site-here c.args.site ts) (subst AreRising c.at.ensures.part c.at.ensures.rising)

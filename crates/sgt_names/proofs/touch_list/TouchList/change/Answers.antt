@@ -1,6 +1,6 @@
 use Rattle.std.proofs.Common.{sym}
 use Rattle.sgt_names.proofs.Touched.{change_found, change_none}
-use Rattle.sgt_names.proofs.draft.Draft.change.Goals as goal
+use Rattle.sgt_names.proofs.touch_list.TouchList.change.Goals as goal
 
 pub returns-in-Ok : goal.returns-in-Ok
 returns-in-Ok c =

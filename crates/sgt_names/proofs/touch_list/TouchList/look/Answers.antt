@@ -1,6 +1,6 @@
 use Rattle.std.proofs.Common.{sym, ◌∙◌}
 use Rattle.sgt_names.proofs.Touched.{look_found, look_none}
-use Rattle.sgt_names.proofs.draft.Draft.look.Goals as goal
+use Rattle.sgt_names.proofs.touch_list.TouchList.look.Goals as goal
 
 pub returns-in-Ok : goal.returns-in-Ok
 returns-in-Ok c =
