@@ -1,25 +1,22 @@
 -- A draft by its parts: what they touch rises, a site's items are those of its part, and an edit of one part is one of the draft.
-use Rattle.std.proofs.Common.{◌≡◌, ℕ, zero, suc, ◌+◌, ◌<◌, ◌≤◌, Bool, true, false, List, [], ◌∷◌, ◌++◌, length, get_or, set, take, drop, Option, Some, None, refl, sym, ap, ap₂, ◌∙◌, subst, arith, inl, inr, ◌⊎◌, append_assoc, append-nil, All, Any, AllPairs}
-use Rattle.std.specs.Prelude.{slice_get, nat_lt, Result, Ok, Err, OnOk, OnErr, IfOk, IfErr, IfSome, IsOk, ◌↔◌, find, filter, option_and_then, ◌&&◌, ◌==◌}
-use Rattle.std.specs.List.{insert, AllByRecursion}
+use Rattle.std.proofs.Common.{◌≡◌, ℕ, zero, suc, ◌+◌, ◌<◌, ◌≤◌, Bool, true, false, List, [], ◌∷◌, ◌++◌, length, get_or, set, take, drop, Option, Some, None, refl, sym, ap, ap₂, ◌∙◌, subst, arith, inl, inr, ◌⊎◌, append_assoc, append-nil, All, Any}
+use Rattle.std.specs.Prelude.{slice_get, nat_lt, Result, Ok, Err, OnOk, OnErr, IfOk, IfErr, IfSome, IsOk, ◌↔◌, find, filter, ◌&&◌, ◌==◌}
+use Rattle.std.specs.List.{AllByRecursion}
 use Rattle.std.specs.Option.{option_to_list}
 use Rattle.std.specs.Str.{bytes_eq}
 use Rattle.std.specs.Ordering.{nat_cmp, ordering_then, ordering_reverse}
 use Rattle.std.specs.Cmp.Lexicographic.{slice_cmp}
 use Rattle.std.specs.declared.cmp.Ordering.{Ordering}
-use Rattle.std.specs.declared.cmp.Ordering.TheVariants.{Less, Equal, Greater}
+use Rattle.std.specs.declared.cmp.Ordering.TheVariants.{Less, Greater}
 use Rattle.std.proofs.lemmas.Cmp.{nat_cmp_total, tied_itself}
-use Rattle.std.proofs.lemmas.List.{length-set}
 use Rattle.std.proofs.lemmas.Bool.{cases_Bool, cases_lt, ltb-true}
 use Rattle.std.proofs.lemmas.Bool.Decides.{nat_tests}
 use Rattle.std.proofs.lemmas.List.Elements.{All-append, All-set, All-from_recursion, recursion_from_All, filter-append}
 use Rattle.std.proofs.lemmas.Option.{same_Some, slice_get_read}
 use Rattle.sgt_names.specs.Ordered.{IsAt, IsGapFor}
-use Rattle.sgt_names.specs.Draft.{DraftView, Place, place_of, place_cmp, AreRising, IsUsed, at_site, touched_at, seen_at, change_at, Touches, ChangesOnly}
+use Rattle.sgt_names.specs.Draft.{DraftView, Place, place_of, place_cmp, AreRising, IsUsed, at_site, touched_at, Touches, ChangesOnly}
 use Rattle.sgt_names.specs.DraftParts.{PartView, IsPart, InsertsPart, PartsRise, touched_in, all_fit}
-use Rattle.sgt_names.specs.declared.draft.Seen.{Seen}
 use Rattle.sgt_names.specs.declared.draft.Touch.{Touch}
-use Rattle.sgt_names.specs.declared.entry.Change.{Change}
 use Rattle.sgt_names.proofs.Places.{AllPairs_at, slice_get-take, All_at, All-from_at, PairsByRecursion, AllPairs-from_recursion, recursion_from_AllPairs}
 use Rattle.sgt_names.proofs.Lists.{All-weaken, AllByRecursion-append, Any_at, Any-from_at, front_at, back_at, middle_at, within_at, take_next}
 use Rattle.sgt_names.proofs.Ranged.{rising-set, rising-insert, All-insert}

@@ -1,4 +1,4 @@
-use Rattle.std.proofs.Common.{◌≡◌, ◌∙◌, ◌+◌, List, refl, sym, ap, subst, arith, add-one, set, ap₂, length}
+use Rattle.std.proofs.Common.{◌∙◌, List, sym, ap, subst, arith, add-one, set, ap₂, length}
 use Rattle.std.specs.Prelude.{All, slice_get}
 use Rattle.sgt_names.specs.DraftParts.{PartView, IsPart, PartsRise, touched_in, all_fit}
 use Rattle.sgt_names.proofs.Lists.{element_at}

@@ -1,5 +1,5 @@
 use Rattle.std.proofs.Common.{◌≡◌}
-use Rattle.std.specs.Prelude.{vec_len, vec_capacity}
+use Rattle.std.specs.Prelude.{vec_capacity}
 use Rattle.sgt_names.proofs.Parts.{roomed}
 use Rattle.sgt_names.proofs.draft_parts.make_rooms.Given as goal
 

@@ -1,8 +1,8 @@
-use Rattle.std.proofs.Common.{◌≡◌, Some, refl, sym, ap, subst, inl, inr, length}
-use Rattle.std.specs.Prelude.{slice_get, nat_lt, vec_capacity, IsSome, ◌&&◌}
+use Rattle.std.proofs.Common.{refl, ap, subst, inl, inr, length}
+use Rattle.std.specs.Prelude.{nat_lt, vec_capacity, IsSome, ◌&&◌}
 use Rattle.std.proofs.lemmas.Option.{slice_get_read}
-use Rattle.sgt_names.specs.Draft.{place_of, touched_at}
-use Rattle.sgt_names.specs.DraftParts.{touched_in, all_fit}
+use Rattle.sgt_names.specs.Draft.{place_of}
+use Rattle.sgt_names.specs.DraftParts.{all_fit}
 use Rattle.sgt_names.proofs.Touched.{OnOk_then}
 use Rattle.sgt_names.proofs.Parts.{changes_part, inserts_part, parts_tried, touched_found_part, touched_no_part, fits_at, and_left, all_fit-set, fits_then}
 use Rattle.sgt_names.proofs.draft_parts.Parts.keep.Goals as goal

@@ -1,5 +1,4 @@
-use Rattle.std.proofs.Common.{◌∙◌, subst}
-use Rattle.std.proofs.Common.{take}
+use Rattle.std.proofs.Common.{subst}
 use Rattle.sgt_names.specs.Draft.{ChangesOnly}
 use Rattle.sgt_names.specs.declared.draft.Touch.{Touch}
 use Rattle.std.proofs.Common.{List}

@@ -1,6 +1,5 @@
-use Rattle.std.proofs.Common.{subst, sym, ◌∙◌}
 use Rattle.std.specs.Prelude.{◌==◌}
-use Rattle.sgt_names.specs.Draft.{AreRising, IsUsed, at_site}
+use Rattle.sgt_names.specs.Draft.{IsUsed}
 use Rattle.sgt_names.specs.declared.draft.Touch.{Touch}
 use Rattle.sgt_names.proofs.Rising.{site-rising}
 use Rattle.std.proofs.lemmas.List.Elements.{All-filter}

@@ -1,4 +1,4 @@
-use Rattle.std.proofs.Common.{refl, arith, inl, inr}
+use Rattle.std.proofs.Common.{arith, inl, inr}
 use Rattle.std.proofs.lemmas.Bool.Decides.{nat_tests}
 use Rattle.sgt_names.proofs.Touched.{changes_set, not_touched, tried}
 use Rattle.sgt_names.proofs.touch_list.TouchList.keep.Goals as goal
