@@ -41,7 +41,7 @@ fn reads_and_writes(rt: HostRuntime) -> Result<(), Fail> {
         (
             draft.writing(here, 0),
             draft.writing(here, 1),
-            draft.touched().len()
+            draft.touched().0.len()
         ),
         (Some((x, Change::Put(6))), None, 3)
     );

@@ -1,14 +1,18 @@
 -- The items that a draft changes at a site, in a walk over the draft.
-use Rattle.std.proofs.Common.{◌≡◌, ◌≢◌, ℕ, zero, suc, ◌+◌, Bool, true, false, List, [], ◌∷◌, ◌++◌, length, map, take, Any, Contains, ◌⊎◌, Some, sym, ◌∙◌, ap, subst, arith, inl, inr}
+use Rattle.std.proofs.Common.{◌≡◌, ◌≢◌, ℕ, zero, suc, ◌+◌, Bool, true, false, List, [], ◌∷◌, ◌++◌, length, map, take, Any, Contains, ◌⊎◌, Some, refl, sym, ◌∙◌, ap, ap₂, append_assoc, subst, arith, inl, inr}
 use Rattle.std.specs.Prelude.{slice_get, filter, is_some, ◌==◌, ◌&&◌}
 use Rattle.std.proofs.lemmas.Bool.{cases_Bool, eqb-true, and_parts}
 use Rattle.std.proofs.lemmas.List.{map-append}
+use Rattle.std.proofs.lemmas.List.Elements.{filter-append}
 use Rattle.std.proofs.lemmas.Option.{same_Some, slice_get_within}
 use Rattle.sgt_names.specs.Name.{Name}
+use Rattle.sgt_names.specs.Draft.{at_site}
+use Rattle.sgt_names.specs.DraftParts.{PartView, touched_in}
 use Rattle.sgt_names.specs.declared.draft.Touch.{Touch}
+use Rattle.sgt_names.proofs.Parts.{touched-next}
 use Rattle.sgt_order.proofs.Lists.{filter_hit, filter_miss}
 use Rattle.sgt_certifier.specs.declared.install.Prepared.{Prepared}
-use Rattle.sgt_certifier.specs.Kept.{changed_at}
+use Rattle.sgt_certifier.specs.Kept.{changed_at, IsExpected}
 
 abbrev pub is_changed : ℕ → Touch → Bool
 is_changed site t = (t.site == site) && is_some t.change
@@ -44,20 +48,21 @@ changed_some touched site n t at hit none =
 abbrev pub listed : List Touch → ℕ → Prepared
 listed touched site = record { site = site; items = changed_at touched site }
 
--- the site has no changes so far, or its list is made
-abbrev pub IsListed : List Touch → ℕ → List Prepared → ℕ → Type 0
-IsListed touched n lists site = (changed_at (take n touched) site ≡ []) ⊎ Contains lists (listed touched site)
+-- the site has no changes among the first of these, or its list is made
+abbrev pub IsListed : List Touch → List Touch → ℕ → List Prepared → ℕ → Type 0
+IsListed whole touched n lists site = (changed_at (take n touched) site ≡ []) ⊎ Contains lists (listed whole site)
 
-pub listed_next : (touched : List Touch) (lists next : List Prepared) (n : ℕ) (t : Touch) → slice_get touched n ≡ Some t → ((p : Prepared) → Contains lists p → Contains next p) → (is_changed t.site t ≡ true → Contains next (listed touched t.site)) → ((site : ℕ) → IsListed touched n lists site) → (site : ℕ) → IsListed touched (n + 1) next site
-listed_next touched lists next n t at grows new all site =
+pub listed_next : (whole touched : List Touch) (lists next : List Prepared) (n : ℕ) (t : Touch) → slice_get touched n ≡ Some t → ((p : Prepared) → Contains lists p → Contains next p) → (is_changed t.site t ≡ true → Contains next (listed whole t.site))
+    → ((site : ℕ) → IsListed whole touched n lists site) → (site : ℕ) → IsListed whole touched (n + 1) next site
+listed_next whole touched lists next n t at grows new all site =
     elim (all site) [
-      | inr made ↦ inr (grows (listed touched site) made)
+      | inr made ↦ inr (grows (listed whole site) made)
       | inl none ↦
           elim (cases_Bool (is_changed site t)) [
             | inr miss ↦ inl (changed_miss touched site n t at miss ∙ none)
             | inl hit ↦
                 let same : t.site ≡ site = eqb-true t.site site (and_parts _ _ hit).0 in
-                inr (subst (λ s. Contains next (listed touched s)) same (new (subst (λ s. is_changed s t ≡ true) (sym same) hit)))
+                inr (subst (λ s. Contains next (listed whole s)) same (new (subst (λ s. is_changed s t ≡ true) (sym same) hit)))
           ]
     ]
 
@@ -67,3 +72,41 @@ listed_at touched lists site each any =
     let member : Contains lists any.1 = (any.0, any.2, any.3) in
     let is : any.1 ≡ listed touched any.1.site = ap (λ items. record { site = any.1.site; items = items }) (each any.1 member) in
     subst (λ s. Contains lists (listed touched s)) any.4 (subst (Contains lists) is member)
+
+-- ---- by the parts of a draft
+
+pub changed-append : (xs ys : List Touch) (site : ℕ) → changed_at (xs ++ ys) site ≡ changed_at xs site ++ changed_at ys site
+changed-append xs ys site = ap (map item_of) (filter-append (is_changed site) xs ys) ∙ map-append item_of (filter (is_changed site) xs) (filter (is_changed site) ys)
+
+-- one part further
+pub listed_part : (whole few : List Touch) (ps : List PartView) (n : ℕ) (q : PartView) (lists next : List Prepared) → slice_get ps n ≡ Some q → ((p : Prepared) → Contains lists p → Contains next p)
+    → ((s : ℕ) → (changed_at q.touched s ≡ []) ⊎ Contains next (listed whole s)) → ((s : ℕ) → (changed_at (few ++ touched_in (take n ps)) s ≡ []) ⊎ Contains lists (listed whole s))
+    → (s : ℕ) → (changed_at (few ++ touched_in (take (n + 1) ps)) s ≡ []) ⊎ Contains next (listed whole s)
+listed_part whole few ps n q lists next at grows here before s = elim (before s) [
+  | inr made ↦ inr (grows (listed whole s) made)
+  | inl none ↦ elim (here s) [
+    | inr made ↦ inr made
+    | inl nothing ↦ inl (
+      ap (λ (ts : List Touch). changed_at (few ++ ts) s) (touched-next ps n q at) ∙ ap (λ (ts : List Touch). changed_at ts s) (sym (append_assoc few (touched_in (take n ps)) q.touched))
+      ∙ changed-append (few ++ touched_in (take n ps)) q.touched s ∙ ap₂ (λ (xs ys : List Name). xs ++ ys) none nothing
+    )
+  ]
+]
+
+-- ---- at one site
+
+pub changed_here : (s : ℕ) (ts here : List Touch) → here ≡ at_site s ts → changed_at here s ≡ changed_at ts s
+changed_here s ts here is = ap (λ (us : List Touch). changed_at us s) is ∙ ap (map item_of) (within s ts)
+  where
+    within : (s : ℕ) (ts : List Touch) → filter (is_changed s) (at_site s ts) ≡ filter (is_changed s) ts
+    within s [] = refl
+    within s (t ∷ ts) = elim (cases_Bool (t.site == s)) [
+      | inl hit ↦ elim (cases_Bool (is_some t.change)) [
+        | inl some ↦ rw (hit, hit, some) (ap (λ (us : List Touch). t ∷ us) (within s ts))
+        | inr none ↦ rw (hit, hit, none) (within s ts)
+      ]
+      | inr miss ↦ rw miss (within s ts)
+    ]
+
+pub expected_here : (s : ℕ) (ts here : List Touch) (lists : List Prepared) → here ≡ at_site s ts → IsExpected lists ts s → IsExpected lists here s
+expected_here s ts here lists is expected = subst (λ (items : List Name). (items ≡ []) ⊎ Contains lists (record { site = s; items = items })) (sym (changed_here s ts here is)) expected

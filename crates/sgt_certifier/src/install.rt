@@ -1,13 +1,13 @@
 //! The items that a draft changes at a site, listed for the history.
 
-ghost use Rattle.std.specs.Prelude.{◌≡◌, ◌≢◌, ◌↔◌, ◌==◌, ◌&&◌, ◌<◌, ℕ, List, [], vec_len, vec_capacity, All, Contains, IsTrue, is_some, IfOk, OnOk, OnErr, IfSome, IfNone, Any, slice_get};
+ghost use Rattle.std.specs.Prelude.{◌≡◌, ◌≢◌, ◌↔◌, ◌⊎◌, ◌==◌, ◌&&◌, ◌<◌, ℕ, List, [], vec_len, vec_capacity, All, Contains, IsTrue, is_some, IfOk, OnOk, OnErr, IfSome, IfNone, Any, slice_get};
 ghost use Rattle.sgt_names.specs.declared.draft.Touch.{Touch as Touched};
 ghost use Rattle.sgt_certifier.specs.declared.install.Prepared.{Prepared as APrepared};
 ghost use Rattle.sgt_certifier.specs.Counted.{HasPlace, HavePlaces, Widens};
 ghost use Rattle.sgt_certifier.specs.Kept.{changed_at, IsExpected};
 
 use crate::counts::Counts;
-use sgt_names::{Item, Listed, SiteNo, Touch};
+use sgt_names::{Draft, Item, Listed, SiteNo, Touch};
 use std::alloc::{AllocError, Global};
 
 /// The list of an install that is still to come, made in advance.
@@ -135,16 +135,38 @@ fn has_site(expected: &[Prepared], site: SiteNo) -> bool
 }
 
 // The lists of the items that the draft changes, one for each site where it changes any.
-pub fn prepared_lists(alloc: Global, touched: &[Touch]) -> Result<Vec<Prepared>, AllocError>
-    ensures { IfOk result (λ lists. (site : ℕ) → IsExpected lists.items touched.now site) }
+pub fn prepared_lists(alloc: Global, draft: &Draft) -> Result<Vec<Prepared>, AllocError>
+    ensures { IfOk result (λ lists. (site : ℕ) → IsExpected lists.items draft.now.touched site) }
 {
     let mut lists = Vec::new(alloc);
+    let (few, parts) = draft.touched();
+    add_lists(alloc, &mut lists, few, draft)?;
+    for part in parts {
+        add_lists(alloc, &mut lists, part.touched(), draft)?;
+    }
+    Ok(lists)
+}
+
+// Adds the lists of the draft's sites where one of these items is changed, but for those that are there.
+fn add_lists(
+    alloc: Global,
+    lists: &mut Vec<Prepared>,
+    touched: &[Touch],
+    draft: &Draft,
+) -> Result<(), AllocError>
+    requires each { (p : APrepared) → Contains lists.old.items p → p.items ≡ changed_at draft.now.touched p.site }
+    ensures each { OnOk result ((p : APrepared)
+        → Contains lists.new.items p → p.items ≡ changed_at draft.now.touched p.site) }
+    ensures kept { OnOk result ((p : APrepared) → Contains lists.old.items p → Contains lists.new.items p) }
+    ensures all { OnOk result ((s : ℕ) → (changed_at touched.now s ≡ [])
+        ⊎ Contains lists.new.items (record { site = s; items = changed_at draft.now.touched s })) }
+{
     for touch in touched {
         let site = touch.site;
         if is_changed(touch, site) && !has_site(lists.as_slice(), site) {
-            let items = changed_items(alloc, touched, site)?;
+            let items = changed_items(alloc, draft.at(site), site)?;
             lists.push(Prepared { site, items })?;
         }
     }
-    Ok(lists)
+    Ok(())
 }

@@ -106,7 +106,7 @@ fn change_of(touch: &Touch, tx: u32) -> Option<Operation> {
 }
 
 fn add_private(edges: &mut [u64; 64], first: &Operation, draft: &Draft, me: u32) {
-    for touch in draft.touched() {
+    for touch in draft.touched().0 {
         if let Some(second) = change_of(touch, me) {
             add_if_conflicting(edges, first, &second);
         }

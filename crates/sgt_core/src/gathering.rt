@@ -9,7 +9,7 @@ ghost use Rattle.sgt_core.specs.declared.machine.Running.{Running as ARunning};
 
 use crate::machine::{Open, Part, Phase, Place, Running};
 use sgt_edges::{EdgeFault, EdgeList, gather};
-use sgt_names::{Touch, Tx};
+use sgt_names::{Draft, Touch, Tx};
 use sgt_site::SiteFault;
 use std::alloc::{AllocError, Global};
 
@@ -128,9 +128,27 @@ pub(crate) fn misses(places: &[Place], table: &[Option<Running>], slot: usize) -
     ensures { (r : ARunning) → slice_get table.now slot ≡ Some (Some r) → IsTrue result ↔ Any (IsMissedAt places.now) r.draft.touched }
 {
     match &table[slot] {
-        Some(running) => running.draft.touched().iter().any(|t| is_missed(places, t)),
+        Some(running) => misses_any(places, &running.draft),
         None => false,
     }
+}
+
+// Whether the draft touches a site to which the open step hasn't come.
+fn misses_any(places: &[Place], draft: &Draft) -> bool
+    ensures { IsTrue result ↔ Any (IsMissedAt places.now) draft.now.touched }
+{
+    let (few, parts) = draft.touched();
+    are_missed(places, few)
+        || parts
+            .iter()
+            .any(|part| are_missed(places, part.touched()))
+}
+
+// Whether the open step hasn't come to the site of one of the touched items.
+fn are_missed(places: &[Place], touched: &[Touch]) -> bool
+    ensures { IsTrue result ↔ Any (IsMissedAt places.now) touched.now }
+{
+    touched.iter().any(|touch| is_missed(places, touch))
 }
 
 // Whether the open step hasn't come to the site of the touched item.

@@ -19,7 +19,7 @@ use std::alloc::{AllocError, Global};
 /// node: never to itself, and to neighbours alone, over which walks lead to the others. Their order is not fixed. The source of
 /// the rule: Bernstein, Hadzilacos and Goodman 1987, ch. 2 and 4.4.
 ///
-/// Searches the site's items for each item of the draft, and the item's readers for its versions, and then goes over the writers and
+/// Searches the site's items for each item that the draft touches there, and the item's readers for its versions, and then goes over the writers and
 /// readers that it gives edges of and at most one more in each direction.
 pub fn gather(alloc: Global, site: &Site, draft: &Draft, me: Handle) -> Result<EdgeList, EdgeFault>
     ensures given { IfOk result (λ edges. All (IsGiven site.now draft.now.touched me) edges) }
@@ -28,11 +28,11 @@ pub fn gather(alloc: Global, site: &Site, draft: &Draft, me: Handle) -> Result<E
     ensures allowed { OnOk result (SeesTooNew site.now draft.now.touched → ⊥) }
     ensures refused { IfErr result (RefusesEdges site.now draft.now.touched) }
 {
-    let touched = draft.touched();
-    if sees_too_new(site, touched) {
+    let here = draft.at(site.number());
+    if sees_too_new(site, here) {
         return Err(EdgeFault::SeenTooNew);
     }
-    match to_neighbours(alloc, site, touched, me) {
+    match to_neighbours(alloc, site, here, me) {
         Ok(edges) => Ok(edges),
         Err(_) => Err(EdgeFault::Memory),
     }

@@ -199,7 +199,7 @@ changes_part (p ∷ ps) (suc n) q r touch at changes =
       place = more.place;
     }
 
-touched_in-append : (ps qs : List PartView) → touched_in (ps ++ qs) ≡ touched_in ps ++ touched_in qs
+pub touched_in-append : (ps qs : List PartView) → touched_in (ps ++ qs) ≡ touched_in ps ++ touched_in qs
 touched_in-append [] qs = refl
 touched_in-append (p ∷ ps) qs = ap (λ (ts : List Touch). p.touched ++ ts) (touched_in-append ps qs) ∙ sym (append_assoc p.touched (touched_in ps) (touched_in qs))
 
@@ -439,3 +439,66 @@ pub next_kept : (ts us : List Touch) (k : ℕ) (t : Touch) → AreRising ts → 
 next_kept ts us k t rising at changes risen =
     keeps_last (take k ts) us t changes risen (λ n u at_u. let there = slice_get-take ts k n u at_u in AllPairs_at Rises ts n k u t rising there.0 there.1 at)
     ∙ sym (take_next ts k t at)
+
+-- ---- what a draft touches, in its list and in its parts
+
+front-All : (P : Touch → Type 0) (xs ys : List Touch) → All P (xs ++ ys) → All P xs
+front-All P xs ys all = All-from_at P xs (λ n t at. All_at P (xs ++ ys) n t all (front_at xs ys n t at))
+
+back-All : (P : Touch → Type 0) (xs ys : List Touch) → All P (xs ++ ys) → All P ys
+back-All P xs ys all = All-from_at P ys (λ n t at. All_at P (xs ++ ys) (length xs + n) t all (back_at xs ys n ∙ at))
+
+all_touched : (P : Touch → Type 0) (ps : List PartView) → AllByRecursion (λ p. All P p.touched) ps → All P (touched_in ps)
+all_touched P [] all = λ n d within. absurd (omega arith)
+all_touched P (p ∷ ps) all = All-append P p.touched (touched_in ps) all.0 (all_touched P ps all.1)
+
+all_parts : (P : Touch → Type 0) (ps : List PartView) → All P (touched_in ps) → AllByRecursion (λ p. All P p.touched) ps
+all_parts P [] all = tt
+all_parts P (p ∷ ps) all = (front-All P p.touched (touched_in ps) all, all_parts P ps (back-All P p.touched (touched_in ps) all))
+
+pub All-touched : (P : Touch → Type 0) (few : List Touch) (ps : List PartView) → (All P few × All (λ p. All P p.touched) ps) ↔ All P (few ++ touched_in ps)
+All-touched P few ps = (
+  λ both. All-append P few (touched_in ps) both.0 (all_touched P ps (recursion_from_All (λ (p : PartView). All P p.touched) ps both.1)),
+  λ all. (front-All P few (touched_in ps) all, All-from_recursion (λ (p : PartView). All P p.touched) ps (all_parts P ps (back-All P few (touched_in ps) all))),
+)
+
+any_split : (P : Touch → Type 0) (xs ys : List Touch) (n : ℕ) (t : Touch) → slice_get (xs ++ ys) n ≡ Some t → P t → Any P xs ⊎ Any P ys
+any_split P [] ys n t at is = inr (Any-from_at P ys n t at is)
+any_split P (x ∷ xs) ys zero t at is = inl (Any-from_at P (x ∷ xs) 0 t at is)
+any_split P (x ∷ xs) ys (suc n) t at is = elim (any_split P xs ys n t at is) [
+  | inl any ↦ let u = Any_at P xs any in inl (Any-from_at P (x ∷ xs) (suc u.0) u.1 u.2 u.3)
+  | inr any ↦ inr any
+]
+
+any_parts : (P : Touch → Type 0) (ps : List PartView) → Any P (touched_in ps) → Any (λ p. Any P p.touched) ps
+any_parts P [] any = absurd (let u = Any_at P [] any in let none : slice_get [] u.0 ≡ Some u.1 = u.2 in cc)
+any_parts P (p ∷ ps) any =
+    let u = Any_at P (p.touched ++ touched_in ps) any in
+    elim (any_split P p.touched (touched_in ps) u.0 u.1 u.2 u.3) [
+      | inl here ↦ Any-from_at_part (λ (q : PartView). Any P q.touched) (p ∷ ps) 0 p refl here
+      | inr later ↦
+          let v = Any_at (λ (q : PartView). Any P q.touched) ps (any_parts P ps later) in
+          Any-from_at_part (λ (q : PartView). Any P q.touched) (p ∷ ps) (suc v.0) v.1 v.2 v.3
+    ]
+  where
+    Any-from_at_part : (Q : PartView → Type 0) (qs : List PartView) (n : ℕ) (q : PartView) → slice_get qs n ≡ Some q → Q q → Any Q qs
+    Any-from_at_part Q qs n q at is = Any-from_at Q qs n q at is
+
+pub Any-touched : (P : Touch → Type 0) (few : List Touch) (ps : List PartView) → (Any P few ⊎ Any (λ p. Any P p.touched) ps) ↔ Any P (few ++ touched_in ps)
+Any-touched P few ps = (
+  λ either. elim either [
+    | inl any ↦ let u = Any_at P few any in Any-from_at P (few ++ touched_in ps) u.0 u.1 (front_at few (touched_in ps) u.0 u.1 u.2) u.3
+    | inr any ↦
+        let v = Any_at (λ (q : PartView). Any P q.touched) ps any in
+        let u = Any_at P (touched_in ps) (any_in P ps v.0 v.1 v.2 v.3) in
+        Any-from_at P (few ++ touched_in ps) (length few + u.0) u.1 (back_at few (touched_in ps) u.0 ∙ u.2) u.3
+  ],
+  λ any. let u = Any_at P (few ++ touched_in ps) any in elim (any_split P few (touched_in ps) u.0 u.1 u.2 u.3) [
+    | inl here ↦ inl here
+    | inr later ↦ inr (any_parts P ps later)
+  ],
+)
+
+-- the parts up to one and it too
+pub touched-next : (ps : List PartView) (n : ℕ) (q : PartView) → slice_get ps n ≡ Some q → touched_in (take (n + 1) ps) ≡ touched_in (take n ps) ++ q.touched
+touched-next ps n q at = ap touched_in (take_next ps n q at) ∙ touched_in-append (take n ps) (q ∷ []) ∙ ap (λ (ts : List Touch). touched_in (take n ps) ++ ts) (append-nil q.touched)

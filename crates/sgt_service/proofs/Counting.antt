@@ -7,6 +7,7 @@ use Rattle.std.proofs.lemmas.List.Elements.{All-nil, All-cons}
 use Rattle.std.proofs.lemmas.List.Sums.{length-filter}
 use Rattle.std.proofs.lemmas.Option.{slice_get_within, same_Some}
 use Rattle.sgt_site.proofs.Inserts.{get_set_same, get_set_other}
+use Rattle.sgt_site.proofs.SitePart.{filter-again}
 use Rattle.sgt_names.specs.Draft.{at_site, writing_in}
 use Rattle.sgt_names.specs.declared.draft.Touch.{Touch}
 use Rattle.sgt_names.specs.declared.entry.Change.{Change}
@@ -128,6 +129,13 @@ none_at s ts n items none = empty (at_site s ts) (length-filter (is_at s) ts ∙
     empty : (xs : List Touch) → length xs ≡ 0 → xs ≡ []
     empty [] e = refl
     empty (x ∷ xs) e = absurd (omega (arith, e))
+
+-- what is counted among the items of the site is counted among all
+pub block_here : (v : Ending) (s : ℕ) (ts here : List Touch) (n : ℕ) → n ≡ block_length v (at_site s here) → here ≡ at_site s ts → n ≡ block_length v (at_site s ts)
+block_here v s ts here n is part = is ∙ ap (λ (us : List Touch). block_length v (at_site s us)) part ∙ ap (block_length v) (filter-again (is_at s) ts)
+
+pub items_here : (s : ℕ) (ts here : List Touch) (n : ℕ) → n ≡ count_by (is_at s) here → here ≡ at_site s ts → n ≡ count_by (is_at s) ts
+items_here s ts here n is part = is ∙ ap (count_by (is_at s)) part ∙ sym (length-filter (is_at s) (at_site s ts)) ∙ ap length (filter-again (is_at s) ts) ∙ length-filter (is_at s) ts
 
 pub block_at_none : (v : Ending) (s : ℕ) (ts : List Touch) (n : ℕ) → n ≡ count_by (is_at s) ts → n ≡ 0 → 0 ≡ block_length v (at_site s ts)
 block_at_none v s ts n items none = sym (block_none v (at_site s ts) (none_at s ts n items none))

@@ -65,7 +65,7 @@ impl<L: Ledger> Service<L> {
         ensures all { IsTrue result → (site : ℕ) → vec_len self.now.sites ≤ site → at_site site draft.now.touched ≡ [] }
         ensures beyond { result ≡ false → (site : ℕ) × (vec_len self.now.sites ≤ site) × (at_site site draft.now.touched ≢ []) }
     {
-        are_below(draft.touched(), self.sites.len())
+        stays_below(draft, self.sites.len())
     }
 
     // Gives the pledges back, at one site after another.
@@ -360,7 +360,7 @@ impl<L: Ledger> Service<L> {
         ensures stopped { result ≡ false → Stops blocks.old blocks.new }
         ensures same { result ≡ false → seat.new.counts.items ≡ seat.old.counts.items }
     {
-        let entries = block_at(active.draft.touched(), here, verdict);
+        let entries = block_at(active.draft.at(here), here, verdict);
         if entries == 0 {
             blocks.pass(active, here);
             return true;
@@ -427,11 +427,22 @@ fn touches(active: &Active, site: SiteNo) -> bool
     ensures some { IsTrue result → at_site site active.now.draft.touched ≢ [] }
     ensures none { result ≡ false → at_site site active.now.draft.touched ≡ [] }
 {
-    let items = items_at(active.draft.touched(), site);
+    let items = items_at(active.draft.at(site), site);
     if items == 0 {
         return false;
     }
     true
+}
+
+// Whether the draft touches items at sites of smaller numbers alone.
+fn stays_below(draft: &Draft, sites: usize) -> bool
+    ensures { IsTrue result ↔ All (λ t. t.site < sites) draft.now.touched }
+{
+    let (few, parts) = draft.touched();
+    are_below(few, sites)
+        && parts
+            .iter()
+            .all(|part| are_below(part.touched(), sites))
 }
 
 // Whether the touched items are at sites of smaller numbers alone.

@@ -16,7 +16,7 @@ use Rattle.sgt_names.specs.declared.entry.Entry.TheVariants.{Read}
 use Rattle.sgt_names.specs.declared.entry.Holding.{Holding}
 use Rattle.sgt_names.proofs.Lists.{IsSome-value, All_in, map_at, Any_at, Any-from_at}
 use Rattle.sgt_names.proofs.Places.{AllPairs_at, Contains_at, Contains-from_at, All_at, All-from_at}
-use Rattle.sgt_names.proofs.Rising.{writing_is, kept_is, site-here, site-rising}
+use Rattle.sgt_names.proofs.Rising.{writing_is, kept_is, site-here}
 use Rattle.sgt_site.specs.State.{SiteState, Pledge, IsSite, IsCovered, HasRead, LogsRead, KeepsReads, version_at}
 use Rattle.sgt_site.specs.Refused.{MayPledge}
 use Rattle.sgt_site.specs.private.Cells.{Contents, InCells, KeepsItem, SameButRoom, AreChanged, items_of}
@@ -197,7 +197,7 @@ module _ (s : SiteState) (cells new : List Contents) (ended : List ℕ) (spare m
   }
 
   -- a pledge has its room
-  pub kept-pledge : (tx : ℕ) (touched : List Touch) → AreRising touched → MayPledge s tx touched → HasRoom (at_site s.number touched) new more → IsKept (record s { pledge = Some (record { tx = tx; part = at_site s.number touched }) }) new ended more
+  pub kept-pledge : (tx : ℕ) (touched : List Touch) → AreRising (at_site s.number touched) → MayPledge s tx touched → HasRoom (at_site s.number touched) new more → IsKept (record s { pledge = Some (record { tx = tx; part = at_site s.number touched }) }) new ended more
   kept-pledge tx touched rising may room = record {
     site = record {
       items = kept.site.items;
@@ -216,4 +216,4 @@ module _ (s : SiteState) (cells new : List Contents) (ended : List ℕ) (spare m
   }
     where
       covered : IsCovered (record s { pledge = Some (record { tx = tx; part = at_site s.number touched }) }) (record { tx = tx; part = at_site s.number touched })
-      covered = record { here = site-here s.number touched; rising = site-rising s.number touched rising; reads = may.same; known = may.known; active = may.active }
+      covered = record { here = site-here s.number touched; rising = rising; reads = may.same; known = may.known; active = may.active }

@@ -7,7 +7,6 @@ ghost use Rattle.sgt_site.specs.State.{change_entry, want_entry};
 use super::{Site, add_ended, is_pledged};
 use crate::cell::Install;
 use crate::fault::SiteFault;
-use crate::site_part::part_at;
 use sgt_arena::Handle;
 use sgt_names::{Change, Draft, Entry, Item, Touch, Tx};
 
@@ -34,9 +33,7 @@ impl Site {
         ensures succeeds { IsOk result ↔ IsPledgedFor self.old tx draft.now.touched }
         ensures refused { IfErr result (λ f. f ≡ SiteFault.NotPledged) }
     {
-        if !is_pledged(self.pledged, tx)
-            || !are_same(self.part.as_slice(), part_at(draft.touched(), self.number))
-        {
+        if !is_pledged(self.pledged, tx) || !are_same(self.part.as_slice(), draft.at(self.number)) {
             return Err(SiteFault::NotPledged);
         }
         log_changes(&mut self.log, tx, self.part.as_slice());
@@ -64,9 +61,7 @@ impl Site {
         ensures succeeds { IsOk result ↔ IsPledgedFor self.old tx draft.now.touched }
         ensures refused { IfErr result (λ f. f ≡ SiteFault.NotPledged) }
     {
-        if !is_pledged(self.pledged, tx)
-            || !are_same(self.part.as_slice(), part_at(draft.touched(), self.number))
-        {
+        if !is_pledged(self.pledged, tx) || !are_same(self.part.as_slice(), draft.at(self.number)) {
             return Err(SiteFault::NotPledged);
         }
         log_wants(&mut self.log, tx, self.part.as_slice());

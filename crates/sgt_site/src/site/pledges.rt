@@ -11,7 +11,7 @@ use crate::cell::Install;
 use crate::cells::Cells;
 use crate::fault::SiteFault;
 use crate::pending::Pending;
-use crate::site_part::{keeps, part_at};
+use crate::site_part::keeps;
 use sgt_names::{Draft, Entry, Item, Seen, SiteNo, Touch, Tx};
 
 impl Site {
@@ -31,8 +31,7 @@ impl Site {
     /// - S8: the draft's reads here aren't the transaction's in the log, each with its value and version.
     /// - S4: there was no memory.
     ///
-    /// Searches the draft for what it touches here, in the logarithm of its length, and goes over that alone, with a search of
-    /// the items for each. For each read of the transaction here it searches what the draft touches here. It doesn't go over the
+    /// Searches the draft for what it touches here, and goes over that alone, with a search of the items for each. For each read of the transaction here it searches what the draft touches here. It doesn't go over the
     /// log, nor over what the draft touches elsewhere.
     pub fn pledge(&mut self, tx: Tx, draft: &Draft) -> Result<(), SiteFault>
         ensures ok { OnOk result (self.new ≡ record self.old {
@@ -44,7 +43,7 @@ impl Site {
         ensures allowed { OnOk result (MayPledge self.old tx draft.now.touched) }
         ensures refused { IfErr result (RefusesPledge self.old tx draft.now.touched) }
     {
-        let here = part_at(draft.touched(), self.number);
+        let here = draft.at(self.number);
         self.may_pledge(tx, here)?;
         self.part.clear();
         if !copy_part(&mut self.part, here) {

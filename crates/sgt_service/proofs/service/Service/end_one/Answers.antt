@@ -1,7 +1,7 @@
 use Rattle.std.proofs.Common.{◌∙◌, ap, sym, subst, arith, ◌+◌}
 use Rattle.sgt_names.specs.Draft.{at_site}
 use Rattle.sgt_service.specs.Counts.{AreCounted, only_at, with_others, block_length}
-use Rattle.sgt_service.proofs.Counting.{gains_zero, block_none}
+use Rattle.sgt_service.proofs.Counting.{gains_zero, block_none, block_here}
 use Rattle.sgt_service.proofs.Decisions.{later}
 use Rattle.sgt_service.proofs.Noting.{notes_untouched, noted}
 use Rattle.sgt_service.proofs.service.Service.end_one.Goals as goal
@@ -12,22 +12,22 @@ returns-then-entries-eq0-clause-awaits g c _ verdict =
 
 pub returns-then-entries-eq0-clause-counted : goal.returns-then-entries-eq0-clause-counted
 returns-then-entries-eq0-clause-counted g c _ =
-    let is = c.block_at-entries.ensures ∙ ap (λ ts. block_length c.args.verdict (at_site c.args.here ts)) c.touched.ensures.all in
+    let is = block_here c.args.verdict c.args.here c.args.active.now.draft.touched _ _ c.block_at-entries.ensures c.at.ensures.part in
     gains_zero c.args.seat.now.counts.items c.args.here _ (sym is ∙ c.if-entries-eq0.true)
 
 pub returns-clause-counted : goal.returns-clause-counted
 returns-clause-counted g c _ =
-    let is = c.block_at-entries.ensures ∙ ap (λ ts. block_length c.args.verdict (at_site c.args.here ts)) c.touched.ensures.all in
+    let is = block_here c.args.verdict c.args.here c.args.active.now.draft.touched _ _ c.block_at-entries.ensures c.at.ensures.part in
     subst (λ n. AreCounted (only_at c.args.here (with_others n)) c.args.seat.now.counts.items c.count_others.new.self.counts.items) is c.count_others.ensures.counts
 
 pub returns-then-entries-eq0-clause-history : goal.returns-then-entries-eq0-clause-history
 returns-then-entries-eq0-clause-history g c _ =
-    let is = c.block_at-entries.ensures ∙ ap (λ ts. block_length c.args.verdict (at_site c.args.here ts)) c.touched.ensures.all in
+    let is = block_here c.args.verdict c.args.here c.args.active.now.draft.touched _ _ c.block_at-entries.ensures c.at.ensures.part in
     notes_untouched c.args.verdict c.args.active.now c.args.here c.args.guarded.now.certifier.history (sym is ∙ c.if-entries-eq0.true)
 
 pub returns-clause-history : goal.returns-clause-history
 returns-clause-history g c _ =
-    let is = c.block_at-entries.ensures ∙ ap (λ ts. block_length c.args.verdict (at_site c.args.here ts)) c.touched.ensures.all in
+    let is = block_here c.args.verdict c.args.here c.args.active.now.draft.touched _ _ c.block_at-entries.ensures c.at.ensures.part in
     let ended = c.end_at.ensures in
     noted c.args.verdict c.args.active.now c.args.here c.args.guarded.now.certifier c.end_at.new.guarded.certifier
     (λ none. c.if-entries-eq0.false (is ∙ none))
@@ -36,5 +36,5 @@ returns-clause-history g c _ =
 
 pub returns-then-not-end_at-clause-touched : goal.returns-then-not-end_at-clause-touched
 returns-then-not-end_at-clause-touched g c _ none =
-    let is = c.block_at-entries.ensures ∙ ap (λ ts. block_length c.args.verdict (at_site c.args.here ts)) c.touched.ensures.all in
+    let is = block_here c.args.verdict c.args.here c.args.active.now.draft.touched _ _ c.block_at-entries.ensures c.at.ensures.part in
     c.if-entries-eq0.false (is ∙ block_none c.args.verdict (at_site c.args.here c.args.active.now.draft.touched) none)

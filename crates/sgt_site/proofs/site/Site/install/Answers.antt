@@ -68,5 +68,5 @@ invariant_of-self c =
 
 pub returns-clause-ok : goal.returns-clause-ok
 returns-clause-ok c =
-    let part = rw (c.as_slice.ensures.value, c.part_at.ensures.part, c.touched.ensures.all) at (c.if-not-are_same.ensures.0 refl) in
+    let part = rw (c.as_slice.ensures.value, c.at.ensures.part) at (c.if-not-are_same.ensures.0 refl) in
     rw (← c.self.view_is, c.push_reserved-2.ensures.items, c.push_reserved.ensures.items, c.log_changes.ensures.entries, append_assoc, c.as_slice-2.ensures.value, ← part) refl
