@@ -80,3 +80,46 @@ fn increments(rt: HostRuntime) -> Result<(), Fail> {
     );
     Ok(())
 }
+
+#[test]
+fn many_items(rt: HostRuntime) -> Result<(), Fail> {
+    let [here, there] = [SiteNo::new(0)?, SiteNo::new(1)?];
+    let [first, last] = [Item::new(b"aa")?, Item::new(b"zz")?];
+    let mut draft = Draft::new(rt.alloc());
+    draft.seen(here, last, 5, 0)?;
+    for back in b'a'..=b'z' {
+        for front in b'a'..=b'z' {
+            let item = Item::new(&[front, back])?;
+            draft.put(there, item, 3)?;
+            draft.add(here, item, 4)?;
+            draft.room()?;
+        }
+    }
+    let (few, parts) = draft.touched();
+    assert_eq!(rt;
+        [
+            few.len(),
+            parts.len(),
+            draft.at(here).len(),
+            draft.at(there).len()
+        ],
+        [0, 2, 676, 676]
+    );
+    assert_eq!(rt;
+        [
+            draft.look(here, first),
+            draft.look(here, last),
+            draft.look(there, last)
+        ],
+        [None, Some(9), Some(3)]
+    );
+    assert_eq!(rt;
+        (
+            draft.kept(here, 0),
+            draft.writing(there, 675),
+            draft.touches(there)
+        ),
+        (Some((last, 5, 0)), Some((last, Change::Put(3))), true)
+    );
+    Ok(())
+}
