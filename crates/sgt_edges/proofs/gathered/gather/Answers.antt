@@ -1,5 +1,5 @@
 use mathlib.Core.Bool.{false≢true}
-use Rattle.std.proofs.Common.{◌≡◌, refl, ap, ◌∙◌}
+use Rattle.std.proofs.Common.{refl, ap, ◌∙◌}
 use Rattle.sgt_names.specs.Draft.{at_site}
 use Rattle.sgt_edges.proofs.Gathers.{near-given, near-stands, item-new, draft-new}
 use Rattle.sgt_edges.proofs.Touching.{given-whole, stands-whole, new-whole, new-part}
@@ -8,25 +8,29 @@ use Rattle.sgt_edges.proofs.gathered.gather.Goals as goal
 pub returns-then-sees_too_new-clause-refused : goal.returns-then-sees_too_new-clause-refused
 returns-then-sees_too_new-clause-refused c =
     let ts = c.args.draft.now.touched in
-    let part = rw (c.at-here.ensures.part, c.number.ensures.number) at (item-new c.args.site.now _ c.args.me (c.if-sees_too_new.ensures.0 refl)) in
-    new-whole c.args.site.now ts c.args.me part
+    let is = c.at-here.ensures.part ∙ ap (λ n. at_site n ts) c.number.ensures.number in
+    new-whole c.args.site.now ts c.args.me c.at-here.result.now is (item-new c.args.site.now _ c.args.me (c.if-sees_too_new.ensures.0 refl))
 
 pub returns-in-Ok-clause-given : goal.returns-in-Ok-clause-given
 returns-in-Ok-clause-given c =
-    let part = rw (c.at-here.ensures.part, c.number.ensures.number) at (near-given _ _ _ _ c.in-Ok.ensures.near) in
-    given-whole c.args.site.now c.args.draft.now.touched c.args.me _ part
+    let ts = c.args.draft.now.touched in
+    let is = c.at-here.ensures.part ∙ ap (λ n. at_site n ts) c.number.ensures.number in
+    given-whole c.args.site.now ts c.args.me c.at-here.result.now is _ (near-given _ _ _ _ c.in-Ok.ensures.near)
 
 pub returns-in-Ok-clause-stands : goal.returns-in-Ok-clause-stands
 returns-in-Ok-clause-stands c =
-    let part = rw (c.at-here.ensures.part, c.number.ensures.number) at (near-stands _ _ _ _ c.to_neighbours.ensures.site (λ new. false≢true (c.if-sees_too_new.ensures.1 (draft-new c.args.site.now _ c.args.me new))) c.in-Ok.ensures.near) in
-    stands-whole c.args.site.now c.args.draft.now.touched c.args.me _ part
+    let ts = c.args.draft.now.touched in
+    let is = c.at-here.ensures.part ∙ ap (λ n. at_site n ts) c.number.ensures.number in
+    stands-whole c.args.site.now ts c.args.me c.at-here.result.now is _ (near-stands _ _ _ _ c.to_neighbours.ensures.site (λ new. false≢true (c.if-sees_too_new.ensures.1 (draft-new c.args.site.now _ c.args.me new))) c.in-Ok.ensures.near)
 
 pub returns-in-Ok-clause-allowed : goal.returns-in-Ok-clause-allowed
 returns-in-Ok-clause-allowed c = λ new.
-    let part = rw (← c.number.ensures.number, ← c.at-here.ensures.part) at (new-part c.args.site.now c.args.draft.now.touched c.args.me new) in
-    false≢true (c.if-sees_too_new.ensures.1 (draft-new c.args.site.now _ c.args.me part))
+    let ts = c.args.draft.now.touched in
+    let is = c.at-here.ensures.part ∙ ap (λ n. at_site n ts) c.number.ensures.number in
+    false≢true (c.if-sees_too_new.ensures.1 (draft-new c.args.site.now _ c.args.me (new-part c.args.site.now ts c.args.me c.at-here.result.now is new)))
 
 pub returns-in-Err-clause-refused : goal.returns-in-Err-clause-refused
 returns-in-Err-clause-refused c = λ new.
-    let part = rw (← c.number.ensures.number, ← c.at-here.ensures.part) at (new-part c.args.site.now c.args.draft.now.touched c.args.me new) in
-    false≢true (c.if-sees_too_new.ensures.1 (draft-new c.args.site.now _ c.args.me part))
+    let ts = c.args.draft.now.touched in
+    let is = c.at-here.ensures.part ∙ ap (λ n. at_site n ts) c.number.ensures.number in
+    false≢true (c.if-sees_too_new.ensures.1 (draft-new c.args.site.now _ c.args.me (new-part c.args.site.now ts c.args.me c.at-here.result.now is new)))
