@@ -87,9 +87,9 @@ listed_part whole few ps n q lists next at grows here before s = elim (before s)
   | inl none ↦ elim (here s) [
     | inr made ↦ inr made
     | inl nothing ↦ inl (
-      ap (λ (ts : List Touch). changed_at (few ++ ts) s) (touched-next ps n q at) ∙ ap (λ (ts : List Touch). changed_at ts s) (sym (append_assoc few (touched_in (take n ps)) q.touched))
-      ∙ changed-append (few ++ touched_in (take n ps)) q.touched s ∙ ap₂ (λ (xs ys : List Name). xs ++ ys) none nothing
-    )
+        ap (λ (ts : List Touch). changed_at (few ++ ts) s) (touched-next ps n q at) ∙ ap (λ (ts : List Touch). changed_at ts s) (sym (append_assoc few (touched_in (take n ps)) q.touched))
+        ∙ changed-append (few ++ touched_in (take n ps)) q.touched s ∙ ap₂ (λ (xs ys : List Name). xs ++ ys) none nothing
+        )
   ]
 ]
 
