@@ -1,8 +1,8 @@
 -- The items that a draft changes at a site, in a walk over the draft.
-use Rattle.std.proofs.Common.{◌≡◌, ◌≢◌, ℕ, zero, suc, ◌+◌, Bool, true, false, List, [], ◌∷◌, ◌++◌, length, map, take, Any, Contains, ◌⊎◌, Some, refl, sym, ◌∙◌, ap, ap₂, append_assoc, subst, arith, inl, inr}
+use Rattle.std.proofs.Common.{◌≡◌, ◌≢◌, ◌≤◌, ℕ, zero, suc, ◌+◌, Bool, true, false, List, [], ◌∷◌, ◌++◌, length, map, take, Any, Contains, ◌⊎◌, Some, refl, sym, ◌∙◌, ap, ap₂, append_assoc, subst, arith, inl, inr}
 use Rattle.std.specs.Prelude.{slice_get, filter, is_some, ◌==◌, ◌&&◌}
 use Rattle.std.proofs.lemmas.Bool.{cases_Bool, eqb-true, and_parts}
-use Rattle.std.proofs.lemmas.List.{map-append}
+use Rattle.std.proofs.lemmas.List.{map-append, take_all}
 use Rattle.std.proofs.lemmas.List.Elements.{filter-append}
 use Rattle.std.proofs.lemmas.Option.{same_Some, slice_get_within}
 use Rattle.sgt_names.specs.Name.{Name}
@@ -79,16 +79,31 @@ pub changed-append : (xs ys : List Touch) (site : ℕ) → changed_at (xs ++ ys)
 changed-append xs ys site = ap (map item_of) (filter-append (is_changed site) xs ys) ∙ map-append item_of (filter (is_changed site) xs) (filter (is_changed site) ys)
 
 -- one part further
-pub listed_part : (whole few : List Touch) (ps : List PartView) (n : ℕ) (q : PartView) (lists next : List Prepared) → slice_get ps n ≡ Some q → ((p : Prepared) → Contains lists p → Contains next p)
-    → ((s : ℕ) → (changed_at q.touched s ≡ []) ⊎ Contains next (listed whole s)) → ((s : ℕ) → (changed_at (few ++ touched_in (take n ps)) s ≡ []) ⊎ Contains lists (listed whole s))
-    → (s : ℕ) → (changed_at (few ++ touched_in (take (n + 1) ps)) s ≡ []) ⊎ Contains next (listed whole s)
-listed_part whole few ps n q lists next at grows here before s = elim (before s) [
+pub listed_part : (whole : List Touch) (ps : List PartView) (n : ℕ) (q : PartView) (lists next : List Prepared) → slice_get ps n ≡ Some q → ((p : Prepared) → Contains lists p → Contains next p)
+    → ((s : ℕ) → (changed_at q.touched s ≡ []) ⊎ Contains next (listed whole s)) → ((s : ℕ) → (changed_at (touched_in (take n ps)) s ≡ []) ⊎ Contains lists (listed whole s))
+    → (s : ℕ) → (changed_at (touched_in (take (n + 1) ps)) s ≡ []) ⊎ Contains next (listed whole s)
+listed_part whole ps n q lists next at grows here before s = elim (before s) [
   | inr made ↦ inr (grows (listed whole s) made)
   | inl none ↦ elim (here s) [
     | inr made ↦ inr made
     | inl nothing ↦ inl (
-        ap (λ (ts : List Touch). changed_at (few ++ ts) s) (touched-next ps n q at) ∙ ap (λ (ts : List Touch). changed_at ts s) (sym (append_assoc few (touched_in (take n ps)) q.touched))
-        ∙ changed-append (few ++ touched_in (take n ps)) q.touched s ∙ ap₂ (λ (xs ys : List Name). xs ++ ys) none nothing
+        ap (λ (ts : List Touch). changed_at ts s) (touched-next ps n q at) ∙ changed-append (touched_in (take n ps)) q.touched s
+        ∙ ap₂ (λ (xs ys : List Name). xs ++ ys) none nothing
+        )
+  ]
+]
+
+-- behind the parts the list
+pub listed_all : (whole few : List Touch) (ps : List PartView) (n : ℕ) (lists next : List Prepared) → length ps ≤ n → ((p : Prepared) → Contains lists p → Contains next p)
+    → ((s : ℕ) → (changed_at few s ≡ []) ⊎ Contains next (listed whole s)) → ((s : ℕ) → (changed_at (touched_in (take n ps)) s ≡ []) ⊎ Contains lists (listed whole s))
+    → few ++ touched_in ps ≡ whole → (s : ℕ) → IsExpected next whole s
+listed_all whole few ps n lists next most grows here before is s = elim (before s) [
+  | inr made ↦ inr (grows (listed whole s) made)
+  | inl none ↦ elim (here s) [
+    | inr made ↦ inr made
+    | inl nothing ↦ inl (
+        ap (λ (ts : List Touch). changed_at ts s) (sym is) ∙ changed-append few (touched_in ps) s
+        ∙ ap₂ (λ (xs ys : List Name). xs ++ ys) nothing (ap (λ (qs : List PartView). changed_at (touched_in qs) s) (sym (take_all n ps most)) ∙ none)
         )
   ]
 ]

@@ -140,10 +140,10 @@ pub fn prepared_lists(alloc: Global, draft: &Draft) -> Result<Vec<Prepared>, All
 {
     let mut lists = Vec::new(alloc);
     let (few, parts) = draft.touched();
-    add_lists(alloc, &mut lists, few, draft)?;
     for part in parts {
         add_lists(alloc, &mut lists, part.touched(), draft)?;
     }
+    add_lists(alloc, &mut lists, few, draft)?;
     Ok(lists)
 }
 
