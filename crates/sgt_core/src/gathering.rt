@@ -9,7 +9,7 @@ ghost use Rattle.sgt_core.specs.declared.machine.Running.{Running as ARunning};
 
 use crate::machine::{Open, Part, Phase, Place, Running};
 use sgt_edges::{EdgeFault, EdgeList, gather};
-use sgt_names::{Draft, Touch, Tx};
+use sgt_names::{Draft, Part as DraftPart, Touch, Tx};
 use sgt_site::SiteFault;
 use std::alloc::{AllocError, Global};
 
@@ -138,10 +138,22 @@ fn misses_any(places: &[Place], draft: &Draft) -> bool
     ensures { IsTrue result ↔ Any (IsMissedAt places.now) draft.now.touched }
 {
     let (few, parts) = draft.touched();
-    are_missed(places, few)
-        || parts
-            .iter()
-            .any(|part| are_missed(places, part.touched()))
+    if are_missed(places, few) {
+        return true;
+    }
+    any_missed(places, parts)
+}
+
+fn any_missed(places: &[Place], parts: &[DraftPart]) -> bool
+    ensures { IsTrue result ↔ Any (λ p. Any (IsMissedAt places.now) p.touched) parts.now }
+{
+    parts.iter().any(|part| is_part_missed(places, part))
+}
+
+fn is_part_missed(places: &[Place], part: &DraftPart) -> bool
+    ensures { IsTrue result ↔ Any (IsMissedAt places.now) part.now.touched }
+{
+    are_missed(places, part.touched())
 }
 
 // Whether the open step hasn't come to the site of one of the touched items.

@@ -12,7 +12,7 @@ use crate::seat::Seat;
 use crate::service::Service;
 use sgt_agreed::ServiceFault;
 use sgt_edges::EdgeList;
-use sgt_names::{Draft, SiteNo, Touch, Tx};
+use sgt_names::{Draft, Part, SiteNo, Touch, Tx};
 use sgt_site::{Site, SiteFault};
 use sgt_workers::{Ending, Gate, Place};
 use std::alloc::Global;
@@ -439,10 +439,22 @@ fn stays_below(draft: &Draft, sites: usize) -> bool
     ensures { IsTrue result ↔ All (λ t. t.site < sites) draft.now.touched }
 {
     let (few, parts) = draft.touched();
-    are_below(few, sites)
-        && parts
-            .iter()
-            .all(|part| are_below(part.touched(), sites))
+    if !are_below(few, sites) {
+        return false;
+    }
+    parts_below(parts, sites)
+}
+
+fn parts_below(parts: &[Part], sites: usize) -> bool
+    ensures { IsTrue result ↔ All (λ p. All (λ t. t.site < sites) p.touched) parts.now }
+{
+    parts.iter().all(|part| is_part_below(part, sites))
+}
+
+fn is_part_below(part: &Part, sites: usize) -> bool
+    ensures { IsTrue result ↔ All (λ t. t.site < sites) part.now.touched }
+{
+    are_below(part.touched(), sites)
 }
 
 // Whether the touched items are at sites of smaller numbers alone.
