@@ -105,6 +105,13 @@ block_none Committed touched e = rw e refl
 block_none Refused touched e = rw e refl
 block_none Withdrawn touched e = rw e refl
 
+-- a block of no entries is of a site that is not touched
+pub block_empty : (verdict : Ending) (touched : List Touch) → block_length verdict touched ≡ 0 → touched ≡ []
+block_empty verdict [] e = refl
+block_empty Committed (t ∷ ts) e = absurd (omega (arith, e))
+block_empty Refused (t ∷ ts) e = absurd (omega (arith, e))
+block_empty Withdrawn (t ∷ ts) e = absurd (omega (arith, e))
+
 -- how many items are changed at the site
 changes_hit : (s : ℕ) (t : Touch) (ts : List Touch) (c : Option Change) → t.change ≡ c → (t.site == s) ≡ true
     → length (filter (is_changed_at s) ts) ≡ length (writing_in (filter (is_at s) ts))

@@ -1,7 +1,7 @@
 use Rattle.std.proofs.Common.{◌∙◌, ap, sym, subst, arith, ◌+◌}
 use Rattle.sgt_names.specs.Draft.{at_site}
 use Rattle.sgt_service.specs.Counts.{AreCounted, only_at, with_others, block_length}
-use Rattle.sgt_service.proofs.Counting.{gains_zero, block_none, block_here}
+use Rattle.sgt_service.proofs.Counting.{gains_zero, block_none, block_empty, block_here}
 use Rattle.sgt_service.proofs.Decisions.{later}
 use Rattle.sgt_service.proofs.Noting.{notes_untouched, noted}
 use Rattle.sgt_service.proofs.service.Service.end_one.Goals as goal
@@ -38,3 +38,8 @@ pub returns-then-not-end_at-clause-touched : goal.returns-then-not-end_at-clause
 returns-then-not-end_at-clause-touched g c _ none =
     let is = block_here c.args.verdict c.args.here c.args.active.now.draft.touched _ _ c.block_at-entries.ensures c.at.ensures.part in
     c.if-entries-eq0.false (is ∙ block_none c.args.verdict (at_site c.args.here c.args.active.now.draft.touched) none)
+
+pub pass-requires-clause-untouched : goal.pass-requires-clause-untouched
+pass-requires-clause-untouched g c =
+    let is = block_here c.args.verdict c.args.here c.args.active.now.draft.touched _ _ c.block_at-entries.ensures c.at.ensures.part in
+    block_empty c.args.verdict (at_site c.args.here c.args.active.now.draft.touched) (sym is ∙ c.if-entries-eq0.true)
