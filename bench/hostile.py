@@ -1,118 +1,74 @@
 #!/usr/bin/env python3
 """Looks for inputs whose cost grows faster than they do.
 
-usage: hostile.py PROGRAM [KIND ..]        (without a KIND all of them)
+usage: hostile.py PROGRAM [KIND ..]        (without a KIND all of them; KINDs are below, their inputs in hostile_inputs.py)
 
-Each kind of input is made at sizes that double, until a run takes three seconds or the input has 16 MB. A kind is named where
-the time of the last doubling (of a run of 0.2 s at least) grew by more than 2.3, or where the last run took over 1 s a MB.
-The status is the number of kinds that were found.
+Each kind of input is made at sizes that double, until a run takes three seconds or the input has 16 MB. The last two sizes are
+run three times, and the least time of each counts. A kind is named where the time of the last doubling (of a run of 0.2 s at
+least) grew by more than 2.3, or where the last run took over 1 s a MB. The status is the number of kinds that were found.
 """
 import resource
 import subprocess
 import sys
 import tempfile
 
-NAMES = ["a%03x" % j for j in range(1024)]
+import hostile_inputs as inputs
+
 MOST_TIME, MOST_SIZE, LEAST_TIME = 3.0, 16_000_000, 0.2
 
-
-def item(j):
-    return "%d.%s" % (j // 1024, NAMES[j % 1024])
-
-
-def sites(items):
-    parts = range((items + 1023) // 1024)
-    return "".join("site %d %s\n" % (s, " ".join(x + "=0" for x in NAMES[: min(items - 1024 * s, 1024)])) for s in parts)
-
-
-def windows(lines_of, n):
-    """Transactions one after another, with a new window after each 4,000."""
-    text = ["site 0 x=0\n"]
-    for i in range(1, n + 1):
-        text.append("b\n" + lines_of(i) + "c%d\n" % i)
-        if i % 4000 == 0:
-            text.append("z\n")
-    return "".join(text)
-
-
-def add_and_read(n):
-    return windows(lambda i: ("d%d[0.x]=1\n" if i % 2 else "r%d[0.x]\n") % i, n)
-
-
-def adds(n):
-    return windows(lambda i: "d%d[0.x]=1\n" % i, n)
-
-
-def read_and_write(n):
-    return windows(lambda i: "r%d[0.x]\nw%d[0.x]=%d\n" % (i, i, i), n)
-
-
-def old_reads(n):
-    """One half reads the first version; the other half writes, and commits first."""
-    n = min(n, 4000) // 2
-    begun = "".join("b\n" for _ in range(2 * n))
-    reads = "".join("r%d[0.x]\n" % i for i in range(1, n + 1))
-    writes = "".join("w%d[0.x]=%d\nc%d\n" % (i, i, i) for i in range(n + 1, 2 * n + 1))
-    return "site 0 x=0\n" + begun + reads + writes + "".join("c%d\n" % i for i in range(n, 0, -1))
-
-
-def pending(n, falling=True):
-    txs = list(range(1, (n + 999) // 1000 + 1))
-    reads = "".join("r%d[0.%s]\n" % (t, x) for t in (reversed(txs) if falling else txs) for x in NAMES[:1000])
-    return sites(1024) + "b\n" * len(txs) + reads + "".join("a%d\n" % t for t in txs)
-
-
-def draft(n):
-    n = min(n, 65536)
-    return sites(65536) + "b\n" + "".join("r1[%s]\nw1[%s]=1\n" % (item(j), item(j)) for j in range(65535, 65535 - n, -1)) + "c1\n"
-
-
-def blind_writes(n):
-    line = " ".join("w[%s]=1" % item(j) for j in range(min(n, 32768))) + "\n"
-    return sites(min(n, 32768)) + line * 2
-
-
-def adders(n):
-    lines = [" ".join(("d[%s]=1" if i % 2 else "r[%s]") % item(j) for j in range(200)) for i in range(n // 200 + 1)]
-    return sites(200) + "\n".join(lines) + "\n"
-
-
-def same_item(n):
-    return "site 0 x=0\n" + "r[0.x] w[0.x]=1\n" * min(n, 1000)
-
-
-def bundle(n, line2='{"decisions":[%s],"sites":1}', rank=lambda i, n: i - 1, order=lambda i, n: i):
-    """A log of reads of one item, by transactions in some order."""
-    decided = line2 % ",".join('{"commit":%d,"rank":%d}' % (i, rank(i, n)) for i in range(1, n + 1))
-    entries = "".join("r%d[x]=0\n" % order(i, n) for i in range(1, n + 1))
-    ends = "".join("c%d\n" % order(i, n) for i in range(1, n + 1))
-    return "sgt 1\n" + decided + "\nsite 0\nitem x=0\n" + entries + ends + "final x=0\nend\n"
-
-
-def uncertified(text):
-    first, _, rest = text.partition("\n")
-    return first + "\n" + rest.partition("\n")[2]
-
-
 KINDS = {
-    "add_and_read": (["replay"], add_and_read),
-    "adds": (["replay"], adds),
-    "read_and_write": (["replay"], read_and_write),
-    "old_reads": (["replay"], old_reads),
-    "pending_falling": (["replay"], pending),
-    "pending_rising": (["replay"], lambda n: pending(n, False)),
-    "draft": (["replay"], draft),
-    "blind_writes": (["run"], blind_writes),
-    "adders": (["run"], adders),
-    "same_item": (["run"], same_item),
-    "audit_rising": (["audit"], bundle),
-    "audit_falling": (["audit"], lambda n: bundle(n, order=lambda i, n: n + 1 - i)),
-    "audit_space": (["audit"], lambda n: bundle(n, line2='{"decisions": [%s],"sites":1}')),
-    "serial_falling": (["serial"], lambda n: bundle(n, rank=lambda i, n: n - i)),
-    "explain_falling": (["explain"], lambda n: bundle(n, order=lambda i, n: n + 1 - i)),
-    "certify_rising": (["certify"], lambda n: uncertified(bundle(n))),
-    "certify_falling": (["certify"], lambda n: uncertified(bundle(n, order=lambda i, n: n + 1 - i))),
+    "add_and_read": (["replay"], inputs.add_and_read),
+    "adds": (["replay"], inputs.adds),
+    "read_and_write": (["replay"], inputs.read_and_write),
+    "old_reads": (["replay"], inputs.old_reads),
+    "pending_falling": (["replay"], inputs.pending),
+    "pending_rising": (["replay"], lambda n: inputs.pending(n, False)),
+    "draft": (["replay"], inputs.draft),
+    "wide": (["replay"], inputs.wide),
+    "falling_ends": (["replay"], inputs.falling_ends),
+    "sums_and_reads": (["replay"], inputs.sums_and_reads),
+    "reads_and_sums": (["replay"], inputs.reads_and_sums),
+    "every_version": (["replay"], inputs.every_version),
+    "against": (["replay"], inputs.against),
+    "long_walks": (["replay"], inputs.long_walks),
+    "full_window": (["replay"], inputs.full_window),
+    "unknown_items": (["replay"], inputs.unknown_items),
+    "refused_events": (["replay"], inputs.refused_events),
+    "shared_hints": (["replay"], inputs.shared_hints),
+    "blind_writes": (["run"], inputs.blind_writes),
+    "adders": (["run"], inputs.adders),
+    "same_item": (["run"], inputs.same_item),
+    "wide_scripts": (["run"], inputs.wide_scripts),
+    "late_sources": (["run"], inputs.late_sources),
+    "same_reads": (["run"], inputs.same_reads),
+    "same_writes": (["run"], inputs.same_writes),
+    "reads_and_writes": (["run"], inputs.reads_and_writes),
+    "withdrawn": (["run"], inputs.withdrawn_scripts),
+    "audit_rising": (["audit"], inputs.bundle),
+    "audit_falling": (["audit"], lambda n: inputs.bundle(n, order=lambda i, n: n + 1 - i)),
+    "audit_space": (["audit"], lambda n: inputs.bundle(n, line2='{"decisions": [%s],"sites":1}')),
+    "other_order": (["audit"], inputs.other_order),
+    "out_of_range": (["audit"], inputs.out_of_range),
+    "missing_member": (["audit"], inputs.missing_member),
+    "unknown_members": (["audit"], inputs.unknown_members),
+    "deep": (["audit"], inputs.deep),
+    "serial_falling": (["serial"], lambda n: inputs.bundle(n, rank=lambda i, n: n - i)),
+    "explain_falling": (["explain"], lambda n: inputs.bundle(n, order=lambda i, n: n + 1 - i)),
+    "explain_order": (["explain"], inputs.other_order),
+    "explain_members": (["explain"], inputs.unknown_members),
+    "certify_rising": (["certify"], lambda n: inputs.uncertified(inputs.bundle(n))),
+    "certify_falling": (["certify"], lambda n: inputs.uncertified(inputs.bundle(n, order=lambda i, n: n + 1 - i))),
+    "certify_hub": (["certify"], lambda n: inputs.hub(n, True)),
+    "certify_stuck": (["certify"], lambda n: inputs.hub(n, False)),
+    "opposite_ends": (["certify"], inputs.opposite_ends),
+    "no_cycles": (["certify"], inputs.no_cycles),
+    "logged_sums": (["certify"], inputs.logged_sums),
 }
+for shape in ("hub_walks", "sparse", "many_sites", "many_items", "alternating", "blind"):
+    for word in ("audit", "serial", "explain", "draw"):
+        KINDS["%s_%s" % (word, shape)] = ([word], getattr(inputs, shape))
+for shape in ("sparse", "many_sites", "many_items", "alternating", "blind"):
+    KINDS["certify_" + shape] = (["certify"], lambda n, shape=shape: inputs.uncertified(getattr(inputs, shape)(n)))
 
 
 def time_of(program, words, text):
@@ -127,20 +83,19 @@ def time_of(program, words, text):
 
 def search(program, name):
     words, make = KINDS[name]
-    n, size, times = 1000, 0, []
-    while not times or (times[-1][1] < MOST_TIME and size < MOST_SIZE):
+    n, texts, last = 1000, [], 0.0
+    while not texts or (last < MOST_TIME and len(texts[-1]) < MOST_SIZE):
         text = make(n)
-        if len(text) <= size:
+        if texts and len(text) <= len(texts[-1]):
             break
-        size = len(text)
-        times.append((size, time_of(program, words, text)))
+        texts, last = [*texts[-1:], text], time_of(program, words, text)
         n *= 2
-    (size, last), grew = times[-1], 0.0
-    if len(times) > 1 and last >= LEAST_TIME:
-        wide = size / times[-2][0]
-        grew = last / max(times[-2][1], 0.001) * 2 / wide
+    times = [min(time_of(program, words, text) for _ in range(3)) for text in texts]
+    size, last, grew = len(texts[-1]), times[-1], 0.0
+    if len(texts) > 1 and last >= LEAST_TIME:
+        grew = last / max(times[0], 0.001) * 2 * len(texts[0]) / size
     found = grew > 2.3 or (last >= LEAST_TIME and last / size * 1e6 > 1.0)
-    print("%-16s %-8s %8.2f MB %7.2f s, grew by %.1f%s" % (name, words[0], size / 1e6, last, grew, "  FOUND" if found else ""), flush=True)
+    print("%-20s %-8s %8.2f MB %7.2f s, grew by %.1f%s" % (name, words[0], size / 1e6, last, grew, "  FOUND" if found else ""), flush=True)
     return found
 
 

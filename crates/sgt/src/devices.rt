@@ -6,10 +6,10 @@ use crate::progress::Progress;
 use sgt_names::{Failed, Sink};
 use std::alloc::Global;
 use std::io;
-use std::io::Read;
+use std::io::{Read, Write};
 
-// How often a read that a signal interrupts is begun.
-const TRIES: u32 = 1_000;
+// How often a read or a write that a signal interrupts is begun: so often that it never gives up.
+const TRIES: u64 = u64::MAX;
 
 /// A reader that begins a read again where a signal interrupted it, keeps why a read failed, and tells of what was read.
 #[derive(Drop)]
@@ -49,6 +49,35 @@ impl<R: Read> Read for &mut Steady<'_, R> {
             }
         }
         Err(io::Error::from(io::ErrorKind::Interrupted))
+    }
+}
+
+/// A writer that begins a write again where a signal interrupted it.
+#[derive(Drop)]
+pub struct Retrying<W> {
+    inner: W,
+}
+
+impl<W: Write> Retrying<W> {
+    /// The writer, which was given nothing.
+    pub fn new(inner: W) -> Retrying<W> {
+        Retrying { inner }
+    }
+}
+
+impl<W: Write> Write for Retrying<W> {
+    fn write(&mut self, bytes: &[u8]) -> io::Result<usize> {
+        for _ in 0..TRIES {
+            match self.inner.write(bytes) {
+                Err(e) if e.kind() == io::ErrorKind::Interrupted => {}
+                written => return written,
+            }
+        }
+        Err(io::Error::from(io::ErrorKind::Interrupted))
+    }
+
+    fn flush(&mut self) -> io::Result<()> {
+        self.inner.flush()
     }
 }
 

@@ -7,7 +7,7 @@ mod line;
 mod progress;
 
 use crate::answers::{cut, has_refusal};
-use crate::devices::{Held, Steady};
+use crate::devices::{Held, Retrying, Steady};
 use crate::line::Line;
 use crate::progress::Progress;
 use sgt_names::{EngineFail, FromRead, MemSink, Sink, ToWrite, write_all};
@@ -52,7 +52,7 @@ fn over<H: Threads + Wait + Sync, R: Read + Drop, W: Sink>(
         None
     };
     let mut steady = Steady::new(inner, progress);
-    let mut errors = ToWrite::new(rt.stderr());
+    let mut errors = ToWrite::new(Retrying::new(rt.stderr()));
     let status = {
         let mut reader = FromRead::new(&mut steady);
         program(
@@ -96,7 +96,7 @@ fn over_file<H: Threads + Wait + Sync, W: Sink>(
 fn audit_each<H: Threads + Wait + Sync>(host: &Host<'_, H>, line: &Line) -> Result<u8, EngineFail> {
     let rt = host.rt;
     let mut status = 0;
-    let mut output = ToWrite::new(rt.stdout());
+    let mut output = ToWrite::new(Retrying::new(rt.stdout()));
     for name in &line.files {
         let mut verdict = MemSink::new(rt.alloc(), LINE)?;
         let found = over_file(host, line.words.as_slice(), name.as_str(), &mut verdict);
@@ -115,7 +115,7 @@ fn audit_each<H: Threads + Wait + Sync>(host: &Host<'_, H>, line: &Line) -> Resu
 
 // The bundle goes to its file, and what is in front of it to standard output.
 fn deliver(rt: &HostRuntime, line: &Line, text: &[u8]) -> Result<Option<u8>, EngineFail> {
-    let mut output = ToWrite::new(rt.stdout());
+    let mut output = ToWrite::new(Retrying::new(rt.stdout()));
     let (front, bundle) = match &line.bundle {
         Some(_) => cut(text),
         None => (text, None),
@@ -172,12 +172,12 @@ fn run_line<H: Threads + Wait + Sync>(host: &Host<'_, H>, line: &Line) -> Result
         let mut verdict = MemSink::new(rt.alloc(), LINE)?;
         return Ok(over_file(host, line.words.as_slice(), name, &mut verdict));
     }
-    let mut output = ToWrite::new(rt.stdout());
+    let mut output = ToWrite::new(Retrying::new(rt.stdout()));
     Ok(over_file(host, line.words.as_slice(), name, &mut output))
 }
 
 fn main(rt: HostRuntime) -> ExitCode {
-    let mut errors = ToWrite::new(rt.stderr());
+    let mut errors = ToWrite::new(Retrying::new(rt.stderr()));
     let given: Vec<String> = match env::args(&rt) {
         Ok(words) => match words.collect(rt.alloc()) {
             Ok(words) => words,

@@ -8,6 +8,7 @@ use crate::input::MAX_SCRIPTS;
 use sgt_names::{Holding, Item, SiteNo};
 use sgt_notation::{NotationFault, Op, Script, SiteLine, read_script, read_site};
 use std::alloc::{AllocError, Global};
+use std::cmp::Ordering;
 
 /// Keeps the site, if the line spells the next one.
 fn take_site(alloc: Global, sites: &mut Vec<SiteLine>, line: &[u8]) -> Result<bool, AllocError>
@@ -31,11 +32,26 @@ fn is_named(held: &Holding, item: Item) -> bool
     held.item == item
 }
 
-/// Whether the item is among these.
+fn is_below(held: &Holding, item: &Item) -> bool {
+    held.item.cmp(item) == Ordering::Less
+}
+
+// Whether the item is where it would stand among names that rise.
+fn is_in_place(items: &[Holding], item: Item) -> bool
+    ensures { IsTrue result → Any (λ h. h.item ≡ item) items.now }
+{
+    let place = items.partition_point(|held| is_below(held, &item));
+    match items.get(place) {
+        Some(held) => is_named(held, item),
+        None => false,
+    }
+}
+
+/// Whether the item is among these. A binary search for one that is there, since the names of a site rise.
 fn holds(items: &[Holding], item: Item) -> bool
     ensures { IsTrue result ↔ Any (λ h. h.item ≡ item) items.now }
 {
-    items.iter().any(|held| is_named(held, item))
+    is_in_place(items, item) || items.iter().any(|held| is_named(held, item))
 }
 
 /// Whether the site is there, and has the item.
