@@ -1,13 +1,17 @@
 //! A plain auditor written for speed, without proofs: what the proved one is measured against (docs/BENCH.md).
 //! It knows no more of the format than docs/FORMAT.md. Build: rustc -O -C target-cpu=x86-64-v2 audit.rs
 use std::collections::HashMap;
-use std::io::{Read, Write};
+use std::io::Read;
 
 const LIMIT: usize = 1_048_576;
 type Fault = u8;
 
+/// Behind the bytes of a line so many more may be looked at, whatever they are.
+const SPARE: usize = 64;
+
 struct Lines<R> {
     reader: R,
+    /// The bytes that were read stand from `start` to `end`, and the last `SPARE` are never read into.
     buffer: Vec<u8>,
     start: usize,
     end: usize,
@@ -39,10 +43,11 @@ impl<R: Read> Lines<R> {
             self.buffer.copy_within(self.start..self.end, 0);
             self.end -= self.start;
             self.start = 0;
-            if self.end == self.buffer.len() {
-                self.buffer.resize(self.end * 2, 0);
+            if self.end + SPARE == self.buffer.len() {
+                self.buffer.resize(self.end * 2 + SPARE, 0);
             }
-            let n = self.reader.read(&mut self.buffer[self.end..]).expect("read");
+            let room = self.buffer.len() - SPARE;
+            let n = self.reader.read(&mut self.buffer[self.end..room]).expect("read");
             if n == 0 {
                 return if self.end == 0 { Next::End } else { Next::Cut };
             }
@@ -53,8 +58,8 @@ impl<R: Read> Lines<R> {
 
 fn find_feed(bytes: &[u8]) -> Option<usize> {
     let mut at = 0;
-    while at + 8 <= bytes.len() {
-        let word = u64::from_le_bytes(bytes[at..at + 8].try_into().unwrap()) ^ 0x0a0a_0a0a_0a0a_0a0a;
+    while let Some(chunk) = bytes[at..].first_chunk::<8>() {
+        let word = u64::from_le_bytes(*chunk) ^ 0x0a0a_0a0a_0a0a_0a0a;
         let hit = word.wrapping_sub(0x0101_0101_0101_0101) & !word & 0x8080_8080_8080_8080;
         if hit != 0 {
             return Some(at + hit.trailing_zeros() as usize / 8);
@@ -64,48 +69,129 @@ fn find_feed(bytes: &[u8]) -> Option<usize> {
     bytes[at..].iter().position(|b| *b == b'\n').map(|n| at + n)
 }
 
-/// A number at the front, with what is behind it.
-fn number(bytes: &[u8]) -> Option<(u64, &[u8])> {
-    let first = bytes.first()?.wrapping_sub(b'0');
-    if first > 9 {
-        return None;
+/// The bytes of the buffer, looked at by place: a place in a line or right behind it, where `SPARE` more bytes stand.
+#[derive(Clone, Copy)]
+struct Text<'a>(&'a [u8]);
+
+impl<'a> Text<'a> {
+    #[inline(always)]
+    fn byte(self, at: usize) -> u8 {
+        unsafe { *self.0.get_unchecked(at) }
     }
-    let (mut value, mut at) = (first as u64, 1);
-    while let Some(digit) = bytes.get(at).map(|b| b.wrapping_sub(b'0')).filter(|d| *d <= 9) {
-        if first == 0 {
+
+    #[inline(always)]
+    fn eight(self, at: usize) -> u64 {
+        unsafe { u64::from_le_bytes(self.0.as_ptr().add(at).cast::<[u8; 8]>().read()) }
+    }
+
+    /// Whether these bytes stand here; the place behind them.
+    #[inline(always)]
+    fn word<const N: usize>(self, at: usize, word: &[u8; N]) -> Option<usize> {
+        let here = unsafe { self.0.as_ptr().add(at).cast::<[u8; N]>().read() };
+        if here == *word { Some(at + N) } else { None }
+    }
+
+    /// A number in its one spelling, and the place behind it.
+    #[inline(always)]
+    fn number(self, at: usize) -> Option<(u64, usize)> {
+        let (value, n) = digits(self.eight(at));
+        if n == 0 || n > 1 && self.byte(at) == b'0' {
             return None;
         }
-        value = if at < 19 { value * 10 + digit as u64 } else { value.checked_mul(10)?.checked_add(digit as u64)? };
-        at += 1;
+        if n == 8 { self.long_number(at + 8, value) } else { Some((value, at + n)) }
     }
-    Some((value, &bytes[at..]))
-}
 
-fn tx(bytes: &[u8]) -> Option<(u32, &[u8])> {
-    let (n, rest) = number(bytes)?;
-    if n == 0 || n > u32::MAX as u64 { None } else { Some((n as u32, rest)) }
-}
-
-type Name = [u8; 16];
-
-fn name(bytes: &[u8]) -> Option<(Name, &[u8])> {
-    let mut name = [0; 16];
-    let mut n = 0;
-    while n < 16 && n < bytes.len() {
-        let b = bytes[n];
-        let fine = b.is_ascii_lowercase() || n > 0 && (b.is_ascii_digit() || b == b'_');
-        if !fine {
-            break;
+    /// The same behind eight digits.
+    #[cold]
+    fn long_number(self, at: usize, front: u64) -> Option<(u64, usize)> {
+        let (mut value, mut at) = (front, at);
+        loop {
+            let digit = self.byte(at).wrapping_sub(b'0');
+            if digit > 9 {
+                return Some((value, at));
+            }
+            value = value.checked_mul(10)?.checked_add(digit as u64)?;
+            at += 1;
         }
-        name[n] = b;
+    }
+
+    #[inline(always)]
+    fn tx(self, at: usize) -> Option<(u32, usize)> {
+        let (n, at) = self.number(at)?;
+        if n == 0 || n > u32::MAX as u64 { None } else { Some((n as u32, at)) }
+    }
+
+    /// A name, and the place behind it.
+    #[inline(always)]
+    fn name(self, at: usize) -> Option<(Name, usize)> {
+        if !self.byte(at).is_ascii_lowercase() {
+            return None;
+        }
+        let chunk = unsafe { self.0.as_ptr().add(at).cast::<[u8; 16]>().read() };
+        let n = name_len(&chunk);
+        Some((Name(u128::from_le_bytes(chunk) & FRONTS[n]), at + n))
+    }
+}
+
+/// The value of the digits at the front of eight bytes, and how many there are.
+#[inline(always)]
+fn digits(word: u64) -> (u64, usize) {
+    let word = word ^ 0x3030_3030_3030_3030;
+    // a byte above 9 gets its top bit; those behind the first such byte don't matter
+    let others = (word | word.wrapping_add(0x7676_7676_7676_7676)) & 0x8080_8080_8080_8080;
+    let n = others.trailing_zeros() as usize / 8;
+    if n == 0 {
+        return (0, 0);
+    }
+    let mut value = word << (64 - 8 * n);
+    value = value.wrapping_mul(10).wrapping_add(value >> 8) & 0x00ff_00ff_00ff_00ff;
+    value = value.wrapping_mul(100).wrapping_add(value >> 16) & 0x0000_ffff_0000_ffff;
+    (value.wrapping_mul(10_000).wrapping_add(value >> 32) & 0xffff_ffff, n)
+}
+
+/// A name in sixteen bytes, the first one lowest, with zeros behind it.
+#[derive(Clone, Copy, PartialEq, Eq)]
+struct Name(u128);
+
+impl Name {
+    /// Names come in the order of these.
+    fn order(self) -> u128 {
+        self.0.swap_bytes()
+    }
+
+    #[inline(always)]
+    fn hint(self) -> usize {
+        let mixed = self.0 as u64 ^ ((self.0 >> 64) as u64).rotate_left(29);
+        (mixed.wrapping_mul(0x9e37_79b9_7f4a_7c15) >> 52) as usize
+    }
+}
+
+/// All bits of so many first bytes.
+const FRONTS: [u128; 17] = {
+    let mut fronts = [u128::MAX; 17];
+    let mut n = 0;
+    while n < 16 {
+        fronts[n] = (1 << (8 * n)) - 1;
         n += 1;
     }
-    if n == 0 { None } else { Some((name, &bytes[n..])) }
+    fronts
+};
+
+/// How many of the bytes, from the first on, may stand in a name.
+#[inline(always)]
+fn name_len(chunk: &[u8; 16]) -> usize {
+    use std::arch::x86_64::*;
+    // shifted so that a range of bytes begins at the least signed number
+    unsafe {
+        let bytes = _mm_loadu_si128(chunk.as_ptr().cast::<__m128i>());
+        let moved = |first: u8| _mm_add_epi8(bytes, _mm_set1_epi8(0x80u8.wrapping_sub(first) as i8));
+        let within = |first, many: u8| _mm_cmplt_epi8(moved(first), _mm_set1_epi8(0x80u8.wrapping_add(many) as i8));
+        let line = _mm_cmpeq_epi8(bytes, _mm_set1_epi8(b'_' as i8));
+        let fine = _mm_or_si128(_mm_or_si128(within(b'a', 26), within(b'0', 10)), line);
+        (!_mm_movemask_epi8(fine)).trailing_zeros() as usize
+    }
 }
 
-fn word<'a>(bytes: &'a [u8], text: &[u8]) -> Option<&'a [u8]> {
-    bytes.strip_prefix(text)
-}
 
 #[derive(Clone, Copy, PartialEq)]
 enum Kind {
@@ -136,7 +222,9 @@ struct Record {
     tx: u32,
     ruling: Ruling,
     rank: u32,
-    first_watch: u32,
+    // where its steps stand among the watches
+    watches: u32,
+    watches_end: u32,
     stamp: u8,
     ended: bool,
 }
@@ -148,73 +236,68 @@ struct Certificate {
     table: Vec<u32>,
     sparse: HashMap<u32, u32>,
     steps: Vec<Step>,
-    watches: Vec<(u32, u32)>,
+    // steps, by the decisions whose transactions they begin or end at
+    watches: Vec<u32>,
 }
 
 impl Certificate {
-    fn read(line: &[u8]) -> Option<(Certificate, Vec<(usize, usize)>)> {
+    /// The certificate that the line from one place to another spells, and where its walks stand among its steps.
+    fn read(text: Text<'_>, from: usize, to: usize) -> Option<(Certificate, Vec<(usize, usize)>)> {
         let mut c = Certificate::default();
         let mut walks = Vec::new();
-        let mut at = word(line, b"{\"decisions\":[")?;
-        let mut first = true;
-        loop {
-            if let Some(rest) = word(at, b"]") {
-                at = rest;
-                break;
+        let mut at = text.word(from, b"{\"decisions\":[")?;
+        while text.byte(at) != b']' {
+            if !c.records.is_empty() {
+                at = text.word(at, b",")?;
             }
-            if !first {
-                at = word(at, b",")?;
-            }
-            first = false;
-            let mut record = Record { tx: 0, ruling: Ruling::Withdraw, rank: 0, first_watch: u32::MAX, stamp: 0, ended: false };
-            if let Some(rest) = word(at, b"{\"commit\":") {
-                let (n, rest) = tx(rest)?;
-                let (rank, rest) = number(word(rest, b",\"rank\":")?)?;
-                record.tx = n;
-                record.ruling = Ruling::Commit;
-                record.rank = u32::try_from(rank).ok()?;
-                at = word(rest, b"}")?;
-            } else if let Some(rest) = word(at, b"{\"refuse\":") {
-                let (n, rest) = tx(rest)?;
-                record.tx = n;
-                record.ruling = Ruling::Refuse;
-                at = word(rest, b",\"walk\":[")?;
-                let (begin, mut from) = (c.steps.len(), n);
-                loop {
-                    if let Some(rest) = word(at, b"]}") {
-                        at = rest;
-                        break;
-                    }
-                    if c.steps.len() > begin {
-                        at = word(at, b",")?;
-                    }
-                    let (item, rest) = name(word(at, b"{\"item\":\"")?)?;
-                    let rest = word(rest, b"\",\"kind\":\"")?;
-                    let kind = match rest.get(..2)? {
-                        b"wr" => Kind::Wr,
-                        b"rw" => Kind::Rw,
-                        b"ww" => Kind::Ww,
-                        _ => return None,
-                    };
-                    let (site, rest) = number(word(&rest[2..], b"\",\"site\":")?)?;
-                    let (to, rest) = tx(word(rest, b",\"to\":")?)?;
-                    at = word(rest, b"}")?;
-                    let site = u8::try_from(site).ok()?;
-                    c.steps.push(Step { kind, item, site, from, to, seen: false, seen_add: false, met: false });
-                    from = to;
-                }
+            let mut record = Record { tx: 0, ruling: Ruling::Withdraw, rank: 0, watches: 0, watches_end: 0, stamp: 0, ended: false };
+            if let Some(next) = text.word(at, b"{\"commit\":") {
+                let (tx, next) = text.tx(next)?;
+                let (rank, next) = text.number(text.word(next, b",\"rank\":")?)?;
+                (record.tx, record.ruling, record.rank) = (tx, Ruling::Commit, u32::try_from(rank).ok()?);
+                at = text.word(next, b"}")?;
+            } else if let Some(next) = text.word(at, b"{\"refuse\":") {
+                let (tx, next) = text.tx(next)?;
+                (record.tx, record.ruling) = (tx, Ruling::Refuse);
+                let begin = c.steps.len();
+                at = c.read_walk(text, text.word(next, b",\"walk\":[")?, tx)?;
                 walks.push((begin, c.steps.len()));
             } else {
-                let (n, rest) = tx(word(at, b"{\"withdraw\":")?)?;
-                record.tx = n;
-                at = word(rest, b"}")?;
+                let (tx, next) = text.tx(text.word(at, b"{\"withdraw\":")?)?;
+                record.tx = tx;
+                at = text.word(next, b"}")?;
             }
             c.records.push(record);
         }
-        let (sites, rest) = number(word(at, b",\"sites\":")?)?;
+        let (sites, at) = text.number(text.word(at, b"],\"sites\":")?)?;
         c.sites = sites;
-        let fits = rest == b"}" && (1..=64).contains(&sites) && c.steps.iter().all(|s| (s.site as u64) < sites);
-        if fits { Some((c, walks)) } else { None }
+        let fits = (1..=64).contains(&sites) && c.steps.iter().all(|s| (s.site as u64) < sites);
+        if fits && text.word(at, b"}")? == to { Some((c, walks)) } else { None }
+    }
+
+    /// The steps of a walk from this transaction on, and the place behind their `]}`.
+    fn read_walk(&mut self, text: Text<'_>, mut at: usize, mut from: u32) -> Option<usize> {
+        let begin = self.steps.len();
+        while text.byte(at) != b']' {
+            if self.steps.len() > begin {
+                at = text.word(at, b",")?;
+            }
+            let (item, next) = text.name(text.word(at, b"{\"item\":\"")?)?;
+            let next = text.word(next, b"\",\"kind\":\"")?;
+            let kind = match [text.byte(next), text.byte(next + 1)] {
+                [b'w', b'r'] => Kind::Wr,
+                [b'r', b'w'] => Kind::Rw,
+                [b'w', b'w'] => Kind::Ww,
+                _ => return None,
+            };
+            let (site, next) = text.number(text.word(next + 2, b"\",\"site\":")?)?;
+            let (to, next) = text.tx(text.word(next, b",\"to\":")?)?;
+            at = text.word(next, b"}")?;
+            let site = u8::try_from(site).ok()?;
+            self.steps.push(Step { kind, item, site, from, to, seen: false, seen_add: false, met: false });
+            from = to;
+        }
+        text.word(at, b"]}")
     }
 
     fn find(&self, tx: u32) -> Option<usize> {
@@ -265,22 +348,38 @@ impl Certificate {
                 }
             }
         }
-        for (s, step) in self.steps.iter().enumerate() {
-            for end in [step.from, step.to] {
-                self.watches.push((self.find(end).unwrap() as u32, s as u32));
-            }
-        }
-        self.watches.sort_unstable();
-        for (at, (n, _)) in self.watches.iter().enumerate().rev() {
-            self.records[*n as usize].first_watch = at as u32;
-        }
+        self.place_watches();
         None
+    }
+
+    /// For each decision the steps that begin or end at its transaction, side by side.
+    fn place_watches(&mut self) {
+        let mut ends = Vec::with_capacity(2 * self.steps.len());
+        for step in &self.steps {
+            ends.extend([step.from, step.to].map(|tx| self.find(tx).unwrap()));
+        }
+        for n in &ends {
+            self.records[*n].watches_end += 1;
+        }
+        let mut many = 0;
+        for record in &mut self.records {
+            let own = record.watches_end;
+            (record.watches, record.watches_end) = (many, many);
+            many += own;
+        }
+        self.watches = vec![0; ends.len()];
+        for (at, n) in ends.iter().enumerate() {
+            let record = &mut self.records[*n];
+            self.watches[record.watches_end as usize] = at as u32 / 2;
+            record.watches_end += 1;
+        }
     }
 }
 
 struct Cell {
     name: Name,
     value: u64,
+    // ranks plus 1, and 0 for none
     reader: u32,
     writer: u32,
     adder: u32,
@@ -294,64 +393,130 @@ enum Phase {
     Finals,
 }
 
+/// The block that is open: of writes or of wants, and by whom.
+type Block = Option<(bool, u32)>;
+
 struct Site {
     phase: Phase,
     number: u64,
     cells: Vec<Cell>,
-    hints: Vec<u16>,
+    hints: Box<[u16; 4096]>,
+    // for each decision two bits an item: whether it was read, whether it was changed
     acts: Vec<u64>,
     stride: usize,
     finals: usize,
     live: u64,
-    block: Option<(bool, u32)>,
+    block: Block,
     last_end: usize,
 }
 
-fn hint(name: &Name) -> usize {
-    let a = u64::from_le_bytes(name[..8].try_into().unwrap());
-    let b = u64::from_le_bytes(name[8..].try_into().unwrap());
-    ((a ^ b.rotate_left(29)).wrapping_mul(0x9e37_79b9_7f4a_7c15) >> 52) as usize
+/// Whether a line with this letter, of this transaction, may follow.
+#[inline(always)]
+fn goes_on(block: Block, letter: u8, tx: u32) -> bool {
+    match block {
+        None => true,
+        Some((true, open)) => open == tx && matches!(letter, b'p' | b'q' | b'n'),
+        Some((false, open)) => open == tx && matches!(letter, b'w' | b'd' | b'c'),
+    }
+}
+
+/// The block behind a line with this letter.
+#[inline(always)]
+fn block_behind(letter: u8, tx: u32) -> Block {
+    match letter {
+        b'w' | b'd' => Some((false, tx)),
+        b'p' | b'q' => Some((true, tx)),
+        _ => None,
+    }
+}
+
+/// Whether a decision suits a line with this letter.
+#[inline(always)]
+fn suits(ruling: Ruling, letter: u8) -> bool {
+    match letter {
+        b'r' => true,
+        b'w' | b'd' | b'c' => ruling == Ruling::Commit,
+        b'p' | b'q' | b'n' => ruling == Ruling::Refuse,
+        _ => ruling == Ruling::Withdraw,
+    }
+}
+
+impl Cell {
+    /// Whether an operation of a committed transaction of this rank plus 1 conflicts with none of greater rank.
+    #[inline(always)]
+    fn passes(&self, letter: u8, rank: u32) -> bool {
+        match letter {
+            b'r' => self.writer <= rank && self.adder <= rank,
+            b'd' | b'q' => self.writer <= rank && self.reader <= rank,
+            _ => self.writer <= rank && self.reader <= rank && self.adder <= rank,
+        }
+    }
+
+    /// What an operation makes of the item, its rank plus 1 or 0.
+    #[inline(always)]
+    fn take_in(&mut self, letter: u8, value: u64, rank: u32) {
+        match letter {
+            b'w' => self.value = value,
+            b'd' => self.value = self.value.wrapping_add(value),
+            _ => {}
+        }
+        match letter {
+            b'r' => self.reader = self.reader.max(rank),
+            b'd' | b'q' => self.adder = self.adder.max(rank),
+            _ => self.writer = self.writer.max(rank),
+        }
+    }
+}
+
+impl Record {
+    #[inline(always)]
+    fn rank_and_1(&self) -> u32 {
+        if self.ruling == Ruling::Commit { self.rank + 1 } else { 0 }
+    }
 }
 
 impl Site {
-    fn place(&self, name: &Name) -> Option<usize> {
-        let at = self.hints[hint(name)] as usize;
+    #[inline(always)]
+    fn place(&self, name: Name) -> Option<usize> {
+        let at = self.hints[name.hint()] as usize;
         match self.cells.get(at) {
-            Some(cell) if cell.name == *name => Some(at),
-            _ => self.cells.iter().position(|cell| cell.name == *name),
+            Some(cell) if cell.name == name => Some(at),
+            _ => self.cells.iter().position(|cell| cell.name == name),
         }
     }
 
-    /// The least fault of a line, or None and what it does.
-    fn judge(&mut self, c: &mut Certificate, line: &[u8], second: bool) -> Option<Fault> {
-        if line == b"end" {
+    /// The least fault of the line from one place to another, or None and what it does.
+    fn judge(&mut self, c: &mut Certificate, text: Text<'_>, from: usize, to: usize, second: bool) -> Option<Fault> {
+        let pair = |at| {
+            let (name, at) = text.name(at)?;
+            let (value, at) = text.number(text.word(at, b"=")?)?;
+            if at == to { Some((name, value)) } else { None }
+        };
+        if let Some(at) = text.word(from, b"final ") {
+            return pair(at).map_or(Some(2), |(name, value)| self.last_value(name, value));
+        }
+        if let Some(at) = text.word(from, b"item ") {
+            return pair(at).map_or(Some(2), |(name, value)| self.item(name, value));
+        }
+        if let Some(at) = text.word(from, b"site ") {
+            let Some((n, _)) = text.number(at).filter(|(n, at)| *at == to && *n < 64) else { return Some(2) };
+            let fits = self.phase == Phase::Between && n == self.number;
+            if fits {
+                self.phase = Phase::Items;
+            }
+            return if fits { None } else { Some(7) };
+        }
+        if text.word(from, b"end") == Some(to) {
             return self.end(c);
         }
-        if let Some((n, [])) = word(line, b"site ").and_then(number) {
-            if n > 63 {
-                return Some(2);
-            }
-            if self.phase != Phase::Between || n != self.number {
-                return Some(7);
-            }
-            self.phase = Phase::Items;
-            return None;
-        }
-        for (text, is_final) in [(b"item " as &[u8], false), (b"final ", true)] {
-            if let Some(rest) = word(line, text) {
-                let Some((name, rest)) = name(rest) else { return Some(2) };
-                let Some((value, [])) = word(rest, b"=").and_then(number) else { return Some(2) };
-                return if is_final { self.last_value(name, value) } else { self.item(name, value) };
-            }
-        }
-        self.entry(c, line, second)
+        self.entry(c, text, from, to, second)
     }
 
     fn item(&mut self, name: Name, value: u64) -> Option<Fault> {
-        if self.phase != Phase::Items || self.cells.len() == 1024 || self.cells.last().is_some_and(|c| c.name >= name) {
+        if self.phase != Phase::Items || self.cells.len() == 1024 || self.cells.last().is_some_and(|c| c.name.order() >= name.order()) {
             return Some(7);
         }
-        self.hints[hint(&name)] = self.cells.len() as u16;
+        self.hints[name.hint()] = self.cells.len() as u16;
         self.cells.push(Cell { name, value, reader: 0, writer: 0, adder: 0 });
         None
     }
@@ -395,22 +560,105 @@ impl Site {
         None
     }
 
-    fn entry(&mut self, c: &mut Certificate, line: &[u8], second: bool) -> Option<Fault> {
-        let Some((&letter, rest)) = line.split_first() else { return Some(2) };
-        let Some((tx, rest)) = tx(rest) else { return Some(2) };
-        let operation = match letter {
-            b'r' | b'w' | b'p' => true,
-            b'd' | b'q' if second => true,
-            b'c' | b'n' | b'a' => false,
-            _ => return Some(2),
-        };
+    /// The lines of entries from this place on that have no fault and are plain: the place behind them, and how many they are.
+    /// It stops at each other line, which `judge` then takes from the start.
+    fn plain_entries(&mut self, c: &mut Certificate, text: Text<'_>, from: usize, end: usize, second: bool) -> (usize, u64) {
+        let (mut at, mut count) = (from, 0);
+        while at < end {
+            let next = match text.byte(at) {
+                b'r' => self.plain_operation::<b'r'>(c, text, at, end),
+                b'w' => self.plain_operation::<b'w'>(c, text, at, end),
+                b'c' => self.plain_end::<b'c'>(c, text, at, end),
+                b'p' => self.plain_operation::<b'p'>(c, text, at, end),
+                b'n' => self.plain_end::<b'n'>(c, text, at, end),
+                b'a' => self.plain_end::<b'a'>(c, text, at, end),
+                b'd' if second => self.plain_operation::<b'd'>(c, text, at, end),
+                b'q' if second => self.plain_operation::<b'q'>(c, text, at, end),
+                _ => None,
+            };
+            let Some(next) = next else { break };
+            (at, count) = (next, count + 1);
+        }
+        (at, count)
+    }
+
+    #[inline(always)]
+    fn plain_operation<const LETTER: u8>(&mut self, c: &mut Certificate, text: Text<'_>, from: usize, end: usize) -> Option<usize> {
+        let (tx, at) = text.tx(from + 1)?;
+        let (name, at) = text.name(text.word(at, b"[")?)?;
+        let (value, at) = text.number(text.word(at, b"]=")?)?;
+        if text.byte(at) != b'\n' || at >= end {
+            return None;
+        }
+        let n = *c.table.get(tx as usize)? as usize;
+        let record = c.records.get_mut(n)?;
+        let place = self.hints[name.hint()] as usize;
+        let cell = self.cells.get_mut(place)?;
+        let fresh = record.stamp != self.number as u8 + 1;
+        let acts = self.acts.get_mut(n * self.stride..(n + 1) * self.stride)?;
+        let bit = 2 * place + usize::from(LETTER != b'r');
+        let done = *acts.get(bit / 64)? >> (bit % 64) & 1 == 1;
+        let rank = record.rank_and_1();
+        let least = if rank == 0 { u32::MAX } else { rank };
+        let fine = cell.name == name
+            && (fresh || !done && !record.ended)
+            && (LETTER != b'r' || cell.value == value)
+            && cell.passes(LETTER, least)
+            && goes_on(self.block, LETTER, tx)
+            && suits(record.ruling, LETTER);
+        if !fine {
+            return None;
+        }
+        if fresh {
+            (record.stamp, record.ended) = (self.number as u8 + 1, false);
+            self.live += 1;
+            acts.iter_mut().for_each(|word| *word = 0);
+        }
+        acts[bit / 64] |= 1 << (bit % 64);
+        cell.take_in(LETTER, value, rank);
+        self.block = block_behind(LETTER, tx);
+        if record.watches < record.watches_end {
+            self.notice(c, n, tx, name, LETTER);
+        }
+        Some(at + 1)
+    }
+
+    #[inline(always)]
+    fn plain_end<const LETTER: u8>(&mut self, c: &mut Certificate, text: Text<'_>, from: usize, end: usize) -> Option<usize> {
+        let (tx, at) = text.tx(from + 1)?;
+        if text.byte(at) != b'\n' || at >= end {
+            return None;
+        }
+        let n = *c.table.get(tx as usize)? as usize;
+        let record = c.records.get_mut(n)?;
+        let fresh = record.stamp != self.number as u8 + 1;
+        // an end without an operation here is rare
+        if fresh || record.ended || !goes_on(self.block, LETTER, tx) || !suits(record.ruling, LETTER) || n < self.last_end {
+            return None;
+        }
+        record.ended = true;
+        self.live -= 1;
+        self.block = None;
+        self.last_end = n;
+        Some(at + 1)
+    }
+
+    fn entry(&mut self, c: &mut Certificate, text: Text<'_>, from: usize, to: usize, second: bool) -> Option<Fault> {
+        let letter = text.byte(from);
+        let Some((tx, at)) = text.tx(from + 1).filter(|_| from < to) else { return Some(2) };
         let mut what = None;
-        if operation {
-            let Some((name, rest)) = word(rest, b"[").and_then(name) else { return Some(2) };
-            let Some((value, [])) = word(rest, b"]=").and_then(number) else { return Some(2) };
-            what = Some((name, value));
-        } else if !rest.is_empty() {
-            return Some(2);
+        match letter {
+            b'd' | b'q' if !second => return Some(2),
+            b'r' | b'w' | b'p' | b'd' | b'q' => {
+                let Some((name, at)) = text.word(at, b"[").and_then(|at| text.name(at)) else { return Some(2) };
+                let Some((value, at)) = text.word(at, b"]=").and_then(|at| text.number(at)) else { return Some(2) };
+                if at != to {
+                    return Some(2);
+                }
+                what = Some((name, value));
+            }
+            b'c' | b'n' | b'a' if at == to => {}
+            _ => return Some(2),
         }
         if matches!(self.phase, Phase::Between | Phase::Finals) {
             return Some(7);
@@ -432,7 +680,7 @@ impl Site {
         }
         let mut place = 0;
         if let Some((name, value)) = what {
-            let Some(at) = self.place(&name) else { return Some(8) };
+            let Some(at) = self.place(name) else { return Some(8) };
             place = at;
             let bit = 2 * place + usize::from(letter != b'r');
             if let Some(n) = found {
@@ -446,40 +694,21 @@ impl Site {
             if letter == b'r' && cell.value != value {
                 return Some(10);
             }
-            if let Some(record) = found.map(|n| &c.records[n]).filter(|r| r.ruling == Ruling::Commit) {
-                let rank = record.rank + 1;
-                let passes = match letter {
-                    b'r' => cell.writer.max(cell.adder) <= rank,
-                    b'd' | b'q' => cell.writer.max(cell.reader) <= rank,
-                    _ => cell.writer.max(cell.reader).max(cell.adder) <= rank,
-                };
-                if !passes {
-                    return Some(11);
-                }
+            if let Some(record) = found.map(|n| &c.records[n]).filter(|r| r.ruling == Ruling::Commit)
+                && !cell.passes(letter, record.rank + 1)
+            {
+                return Some(11);
             }
         }
-        if let Some((asked, open)) = self.block {
-            let goes_on = open == tx && if asked { matches!(letter, b'p' | b'q' | b'n') } else { matches!(letter, b'w' | b'd' | b'c') };
-            if !goes_on {
-                return Some(12);
-            }
+        if !goes_on(self.block, letter, tx) {
+            return Some(12);
         }
         let Some(n) = found else { return Some(13) };
         let record = &mut c.records[n];
-        let suits = match letter {
-            b'r' => true,
-            b'w' | b'd' | b'c' => record.ruling == Ruling::Commit,
-            b'p' | b'q' | b'n' => record.ruling == Ruling::Refuse,
-            _ => record.ruling == Ruling::Withdraw,
-        };
-        if record.ended || !suits {
+        if record.ended || !suits(record.ruling, letter) {
             return Some(13);
         }
-        self.block = match letter {
-            b'w' | b'd' => Some((false, tx)),
-            b'p' | b'q' => Some((true, tx)),
-            _ => None,
-        };
+        self.block = block_behind(letter, tx);
         let Some((name, value)) = what else {
             if n < self.last_end {
                 return Some(14);
@@ -489,45 +718,35 @@ impl Site {
             self.live -= 1;
             return None;
         };
-        let cell = &mut self.cells[place];
-        match letter {
-            b'w' => cell.value = value,
-            b'd' => cell.value = cell.value.wrapping_add(value),
-            _ => {}
-        }
-        if record.ruling == Ruling::Commit {
-            let rank = record.rank + 1;
-            match letter {
-                b'r' => cell.reader = cell.reader.max(rank),
-                b'd' | b'q' => cell.adder = cell.adder.max(rank),
-                _ => cell.writer = cell.writer.max(rank),
-            }
-        }
-        if record.first_watch != u32::MAX {
-            let mut at = record.first_watch as usize;
-            while at < c.watches.len() && c.watches[at].0 as usize == n {
-                let step = &mut c.steps[c.watches[at].1 as usize];
-                at += 1;
-                if step.site as u64 != self.number || step.item != name {
-                    continue;
-                }
-                let (opens_by_read, closes_by_read) = (step.kind == Kind::Rw, step.kind == Kind::Wr);
-                let adds = matches!(letter, b'd' | b'q');
-                if step.to == tx && step.seen && closes_by_read == (letter == b'r') && !(adds && step.seen_add) {
-                    step.met = true;
-                }
-                if step.from == tx && opens_by_read == (letter == b'r') {
-                    step.seen = true;
-                    step.seen_add = adds;
-                }
-            }
+        self.cells[place].take_in(letter, value, record.rank_and_1());
+        if record.watches < record.watches_end {
+            self.notice(c, n, tx, name, letter);
         }
         None
+    }
+
+    /// Notes an operation in the steps of walks that wait for it.
+    #[inline(never)]
+    fn notice(&self, c: &mut Certificate, n: usize, tx: u32, name: Name, letter: u8) {
+        let (reads, adds) = (letter == b'r', matches!(letter, b'd' | b'q'));
+        let record = &c.records[n];
+        for s in &c.watches[record.watches as usize..record.watches_end as usize] {
+            let step = &mut c.steps[*s as usize];
+            if step.site as u64 != self.number || step.item != name {
+                continue;
+            }
+            if step.to == tx && step.seen && (step.kind == Kind::Wr) == reads && !(adds && step.seen_add) {
+                step.met = true;
+            }
+            if step.from == tx && (step.kind == Kind::Rw) == reads {
+                (step.seen, step.seen_add) = (true, adds);
+            }
+        }
     }
 }
 
 fn audit(reader: impl Read) -> Result<Certificate, (u64, Fault)> {
-    let mut lines = Lines { reader, buffer: vec![0; 1 << 18], start: 0, end: 0 };
+    let mut lines = Lines { reader, buffer: vec![0; (1 << 18) + SPARE], start: 0, end: 0 };
     let second = match lines.next(LIMIT) {
         Next::Line(a, b) if lines.buffer[a..b] == *b"sgt 1" => false,
         Next::Line(a, b) if lines.buffer[a..b] == *b"sgt 2" => true,
@@ -535,18 +754,23 @@ fn audit(reader: impl Read) -> Result<Certificate, (u64, Fault)> {
         _ => return Err((1, 1)),
     };
     let Next::Line(a, b) = lines.next(usize::MAX) else { return Err((2, 18)) };
-    let Some((mut c, walks)) = Certificate::read(&lines.buffer[a..b]) else { return Err((2, 3)) };
+    let Some((mut c, walks)) = Certificate::read(Text(&lines.buffer), a, b) else { return Err((2, 3)) };
     if let Some(fault) = c.judge(&walks) {
         return Err((2, fault));
     }
     let mut site = Site {
-        phase: Phase::Between, number: 0, cells: Vec::new(), hints: vec![0; 4096], acts: Vec::new(), stride: 0, finals: 0, live: 0, block: None, last_end: 0,
+        phase: Phase::Between, number: 0, cells: Vec::new(), hints: Box::new([0; 4096]), acts: Vec::new(), stride: 0, finals: 0, live: 0, block: None, last_end: 0,
     };
     let mut number = 3;
     while site.number < c.sites || site.phase != Phase::Between {
+        if site.phase == Phase::Entries {
+            let (to, count) = site.plain_entries(&mut c, Text(&lines.buffer), lines.start, lines.end, second);
+            lines.start = to;
+            number += count;
+        }
         match lines.next(LIMIT) {
             Next::Line(a, b) => {
-                if let Some(fault) = site.judge(&mut c, &lines.buffer[a..b], second) {
+                if let Some(fault) = site.judge(&mut c, Text(&lines.buffer), a, b, second) {
                     return Err((number, fault));
                 }
             }
@@ -562,18 +786,14 @@ fn audit(reader: impl Read) -> Result<Certificate, (u64, Fault)> {
 }
 
 fn main() {
-    let mut out = std::io::stdout();
-    let status = match audit(std::io::stdin().lock()) {
+    let (line, status) = match audit(std::io::stdin().lock()) {
         Ok(c) => {
             let count = |ruling| c.records.iter().filter(|r| r.ruling == ruling).count();
             let (yes, no, back) = (count(Ruling::Commit), count(Ruling::Refuse), count(Ruling::Withdraw));
-            writeln!(out, "yes {yes} committed {no} refused {back} withdrawn").unwrap();
-            0
+            (format!("yes {yes} committed {no} refused {back} withdrawn"), 0)
         }
-        Err((line, fault)) => {
-            writeln!(out, "no line {line} F{fault}").unwrap();
-            1
-        }
+        Err((line, fault)) => (format!("no line {line} F{fault}"), 1),
     };
+    println!("{line}");
     std::process::exit(status);
 }

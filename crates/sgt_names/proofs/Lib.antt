@@ -4,6 +4,7 @@ pub mod Devices
 pub mod Chosen
 pub mod Increments
 pub mod Kept
+pub mod Lanes
 pub mod Stored
 pub mod Ranged
 pub mod Touched

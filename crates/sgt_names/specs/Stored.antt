@@ -1,5 +1,6 @@
 -- How the name of an item is tested and kept: words of private clauses alone.
-use Rattle.std.specs.Prelude.{◌≡◌, ◌≤◌, ℕ, zero, suc, ◌-◌, List, [], ◌∷◌, ◌++◌, length, replicate, Bool, true, false, IsTrue}
+use Rattle.std.specs.Prelude.{◌≡◌, ◌≤◌, ◌==◌, ℕ, zero, suc, ◌-◌, List, [], ◌∷◌, ◌++◌, length, replicate, Bool, true, false, IsTrue, if◌then◌else◌}
+use Rattle.std.specs.Int.{w64, trailing_zeros}
 use Rattle.std.specs.List.{list_all, take_while}
 use Rattle.std.proofs.Common.{sym}
 use Rattle.sgt_names.specs.Name.{Name, IsName, is_small_letter, is_name_byte}
@@ -18,6 +19,10 @@ AreNameBytes n = (length n ≤ 16) × IsTrue (list_all is_name_byte n)
 abbrev pub is_positive : ℕ → Bool
 is_positive zero = false
 is_positive (suc c) = true
+
+-- the place of the lowest bit that is set, or 16
+abbrev pub first_set : ℕ → ℕ
+first_set mask = if mask == 0 then 16 else trailing_zeros w64 mask
 
 -- the bytes in front of the zeros
 abbrev pub name_of : Inside → Name

@@ -10,7 +10,7 @@ ghost use Rattle.std.specs.Hash as fed;
 ghost use Rattle.std.specs.Cmp.Rules.{hashing};
 ghost use Rattle.std.specs.Cmp.Lexicographic.{slice_cmp, nat_list_eq_equiv, nat_list_cmp_total, texts_ties, texts_po};
 ghost use Rattle.sgt_names.specs.Name.{is_name_byte, is_small_letter};
-ghost use Rattle.sgt_names.specs.Stored.{BeginsName, AreNameBytes, is_positive, padded_name};
+ghost use Rattle.sgt_names.specs.Stored.{BeginsName, AreNameBytes, first_set, is_positive, padded_name};
 
 use std::cmp::Ordering;
 use std::fmt::{self, Debug, Display, Formatter, Write};
@@ -68,11 +68,12 @@ impl Item {
     }
 
     /// The name that the first bytes spell, so many of them, if they spell one. What stands behind them is not looked at.
+    #[inline(always)]
     pub fn front(bytes: &[u8; 16], len: usize) -> Option<Item>
         ensures is { IsSome result ↔ SpellsFront bytes.now len }
         ensures some { IfSome result (λ item. item ≡ take len bytes.now) }
     {
-        if len > 16 || !is_first(&bytes[..len]) || !are_name_bytes(&bytes[..len]) {
+        if len > 16 || !is_first(&bytes[..len]) || !are_name_bytes(bytes, len) {
             return None;
         }
         Some(Item {
@@ -81,6 +82,7 @@ impl Item {
     }
 
     /// The bytes of the name.
+    #[inline(always)]
     pub fn as_bytes(&self) -> &[u8]
         ensures bytes { result.now ≡ self.now }
         ensures name { IsName self.now }
@@ -94,8 +96,9 @@ impl PartialEq for Item {
 
     ghost laws = { partial_equiv_from_equiv nat_list_eq_equiv };
 
+    #[inline(always)]
     fn eq(&self, other: &Item) -> bool {
-        self.bytes == other.bytes
+        are_same(&self.bytes, &other.bytes)
     }
 }
 
@@ -168,6 +171,7 @@ fn is_later_byte(byte: u8) -> bool
 }
 
 // Whether a name may begin so.
+#[inline(always)]
 fn is_first(bytes: &[u8]) -> bool
     ensures { IsTrue result ↔ BeginsName bytes.now }
 {
@@ -177,11 +181,37 @@ fn is_first(bytes: &[u8]) -> bool
     }
 }
 
-// Whether each byte may stand in a name.
-fn are_name_bytes(bytes: &[u8]) -> bool
-    ensures { result ≡ list_all is_name_byte bytes.now }
+// The place of the lowest bit that is set, or 16.
+#[inline(always)]
+fn first_set(mask: u64) -> usize
+    ensures { result ≡ first_set mask }
 {
-    bytes.iter().all(|byte| is_later_byte(*byte))
+    if mask == 0 {
+        16
+    } else {
+        mask.trailing_zeros() as usize
+    }
+}
+
+// How many bytes stand in front of the first that may not stand in a name.
+#[inline(always)]
+fn name_bytes_len(bytes: &[u8; 16]) -> usize
+    ensures { result ≡ prefix_len is_name_byte bytes.now }
+{
+    let lanes = u8x16::from_array(*bytes);
+    let is_no_letter = lanes.simd_lt(u8x16::splat(b'a')) | lanes.simd_gt(u8x16::splat(b'z'));
+    let is_no_digit = lanes.simd_lt(u8x16::splat(b'0')) | lanes.simd_gt(u8x16::splat(b'9'));
+    let stops = is_no_letter & is_no_digit & lanes.simd_ne(u8x16::splat(b'_'));
+    first_set(stops.to_bitmask())
+}
+
+// Whether each of so many first bytes may stand in a name.
+#[inline(always)]
+fn are_name_bytes(bytes: &[u8; 16], len: usize) -> bool
+    requires { len ≤ 16 }
+    ensures { result ≡ list_all is_name_byte (take len bytes.now) }
+{
+    len <= name_bytes_len(bytes)
 }
 
 // Keeps the bytes in front of zeros, if there are at most 16 and each may stand in a name.
@@ -203,18 +233,25 @@ fn keep_name(padded: &mut [u8; 16], bytes: &[u8]) -> bool
 }
 
 // How many bytes stand in front of the first zero.
+#[inline(always)]
 fn name_len(bytes: &[u8; 16]) -> usize
     ensures { result ≡ prefix_len is_positive bytes.now }
 {
-    for at in 0..bytes.len() {
-        if bytes[at] == 0 {
-            return at;
-        }
-    }
-    bytes.len()
+    let zeros = u8x16::from_array(*bytes).simd_eq(u8x16::splat(0));
+    first_set(zeros.to_bitmask())
+}
+
+// Whether the bytes are the same.
+#[inline(always)]
+fn are_same(bytes: &[u8; 16], others: &[u8; 16]) -> bool
+    ensures { result ≡ bytes_eq bytes.now others.now }
+{
+    let differ = u8x16::from_array(*bytes).simd_ne(u8x16::from_array(*others));
+    differ.to_bitmask() == 0
 }
 
 // These bytes up to a place, and zeros from there on.
+#[inline(always)]
 fn kept_to(bytes: &[u8; 16], len: usize) -> [u8; 16]
     requires { len ≤ 16 }
     ensures { result ≡ take len bytes.now ++ replicate (16 - len) 0 }
