@@ -1,111 +1,13 @@
 //! A plain auditor written for speed, without proofs: what the proved one is measured against (docs/BENCH.md).
-//! It knows no more of the format than docs/FORMAT.md. Build: rustc -O -C target-cpu=x86-64-v2 audit.rs
+//! It knows no more of the format than docs/FORMAT.md. Build: rustc --edition 2024 -O -C target-cpu=x86-64-v2 audit.rs
+mod lines;
+
+use lines::{Front, Lines, Name, Next, front, name, number, tx, valued, word};
 use std::collections::HashMap;
 use std::io::{Read, Write};
 
 const LIMIT: usize = 1_048_576;
 type Fault = u8;
-
-struct Lines<R> {
-    reader: R,
-    buffer: Vec<u8>,
-    start: usize,
-    end: usize,
-}
-
-enum Next {
-    Line(usize, usize),
-    Cut,
-    TooLong,
-    End,
-}
-
-impl<R: Read> Lines<R> {
-    fn next(&mut self, limit: usize) -> Next {
-        let mut looked = self.start;
-        loop {
-            if let Some(n) = find_feed(&self.buffer[looked..self.end]) {
-                let (from, to) = (self.start, looked + n);
-                if to - from > limit {
-                    return Next::TooLong;
-                }
-                self.start = to + 1;
-                return Next::Line(from, to);
-            }
-            if self.end - self.start > limit {
-                return Next::TooLong;
-            }
-            looked = self.end - self.start;
-            self.buffer.copy_within(self.start..self.end, 0);
-            self.end -= self.start;
-            self.start = 0;
-            if self.end == self.buffer.len() {
-                self.buffer.resize(self.end * 2, 0);
-            }
-            let n = self.reader.read(&mut self.buffer[self.end..]).expect("read");
-            if n == 0 {
-                return if self.end == 0 { Next::End } else { Next::Cut };
-            }
-            self.end += n;
-        }
-    }
-}
-
-fn find_feed(bytes: &[u8]) -> Option<usize> {
-    let mut at = 0;
-    while at + 8 <= bytes.len() {
-        let word = u64::from_le_bytes(bytes[at..at + 8].try_into().unwrap()) ^ 0x0a0a_0a0a_0a0a_0a0a;
-        let hit = word.wrapping_sub(0x0101_0101_0101_0101) & !word & 0x8080_8080_8080_8080;
-        if hit != 0 {
-            return Some(at + hit.trailing_zeros() as usize / 8);
-        }
-        at += 8;
-    }
-    bytes[at..].iter().position(|b| *b == b'\n').map(|n| at + n)
-}
-
-/// A number at the front, with what is behind it.
-fn number(bytes: &[u8]) -> Option<(u64, &[u8])> {
-    let first = bytes.first()?.wrapping_sub(b'0');
-    if first > 9 {
-        return None;
-    }
-    let (mut value, mut at) = (first as u64, 1);
-    while let Some(digit) = bytes.get(at).map(|b| b.wrapping_sub(b'0')).filter(|d| *d <= 9) {
-        if first == 0 {
-            return None;
-        }
-        value = if at < 19 { value * 10 + digit as u64 } else { value.checked_mul(10)?.checked_add(digit as u64)? };
-        at += 1;
-    }
-    Some((value, &bytes[at..]))
-}
-
-fn tx(bytes: &[u8]) -> Option<(u32, &[u8])> {
-    let (n, rest) = number(bytes)?;
-    if n == 0 || n > u32::MAX as u64 { None } else { Some((n as u32, rest)) }
-}
-
-type Name = [u8; 16];
-
-fn name(bytes: &[u8]) -> Option<(Name, &[u8])> {
-    let mut name = [0; 16];
-    let mut n = 0;
-    while n < 16 && n < bytes.len() {
-        let b = bytes[n];
-        let fine = b.is_ascii_lowercase() || n > 0 && (b.is_ascii_digit() || b == b'_');
-        if !fine {
-            break;
-        }
-        name[n] = b;
-        n += 1;
-    }
-    if n == 0 { None } else { Some((name, &bytes[n..])) }
-}
-
-fn word<'a>(bytes: &'a [u8], text: &[u8]) -> Option<&'a [u8]> {
-    bytes.strip_prefix(text)
-}
 
 #[derive(Clone, Copy, PartialEq)]
 enum Kind {
@@ -134,9 +36,11 @@ enum Ruling {
 
 struct Record {
     tx: u32,
-    ruling: Ruling,
     rank: u32,
-    first_watch: u32,
+    /// where its watches end, and how many they are
+    watches_end: u32,
+    watches: u32,
+    ruling: Ruling,
     stamp: u8,
     ended: bool,
 }
@@ -148,25 +52,26 @@ struct Certificate {
     table: Vec<u32>,
     sparse: HashMap<u32, u32>,
     steps: Vec<Step>,
-    watches: Vec<(u32, u32)>,
+    watches: Vec<u32>,
 }
 
 impl Certificate {
     fn read(line: &[u8]) -> Option<(Certificate, Vec<(usize, usize)>)> {
-        let mut c = Certificate::default();
+        // no decision is shorter than a withdrawal
+        let mut c = Certificate { records: Vec::with_capacity(line.len() / 14), ..Certificate::default() };
         let mut walks = Vec::new();
         let mut at = word(line, b"{\"decisions\":[")?;
-        let mut first = true;
         loop {
-            if let Some(rest) = word(at, b"]") {
-                at = rest;
-                break;
+            match at.first()? {
+                b',' if !c.records.is_empty() => at = &at[1..],
+                b'{' if c.records.is_empty() => {}
+                b']' => {
+                    at = &at[1..];
+                    break;
+                }
+                _ => return None,
             }
-            if !first {
-                at = word(at, b",")?;
-            }
-            first = false;
-            let mut record = Record { tx: 0, ruling: Ruling::Withdraw, rank: 0, first_watch: u32::MAX, stamp: 0, ended: false };
+            let mut record = Record { tx: 0, ruling: Ruling::Withdraw, rank: 0, watches_end: 0, watches: 0, stamp: 0, ended: false };
             if let Some(rest) = word(at, b"{\"commit\":") {
                 let (n, rest) = tx(rest)?;
                 let (rank, rest) = number(word(rest, b",\"rank\":")?)?;
@@ -265,16 +170,29 @@ impl Certificate {
                 }
             }
         }
-        for (s, step) in self.steps.iter().enumerate() {
-            for end in [step.from, step.to] {
-                self.watches.push((self.find(end).unwrap() as u32, s as u32));
+        self.note_watches();
+        None
+    }
+
+    /// Lists for each transaction the steps that it is in.
+    fn note_watches(&mut self) {
+        let ends: Vec<[u32; 2]> = self.steps.iter().map(|s| [s.from, s.to].map(|tx| self.find(tx).unwrap() as u32)).collect();
+        for n in ends.iter().flatten() {
+            self.records[*n as usize].watches += 1;
+        }
+        let mut end = 0;
+        for record in &mut self.records {
+            record.watches_end = end;
+            end += record.watches;
+        }
+        self.watches = vec![0; end as usize];
+        for (s, pair) in ends.iter().enumerate() {
+            for n in pair {
+                let record = &mut self.records[*n as usize];
+                self.watches[record.watches_end as usize] = s as u32;
+                record.watches_end += 1;
             }
         }
-        self.watches.sort_unstable();
-        for (at, (n, _)) in self.watches.iter().enumerate().rev() {
-            self.records[*n as usize].first_watch = at as u32;
-        }
-        None
     }
 }
 
@@ -294,6 +212,18 @@ enum Phase {
     Finals,
 }
 
+const ASKS: u64 = 1 << 32;
+
+/// The block that an entry stands in: none for a read and for a withdrawal.
+#[inline(always)]
+fn block_of(letter: u8, tx: u32) -> u64 {
+    match letter {
+        b'w' | b'd' | b'c' => tx as u64,
+        b'p' | b'q' | b'n' => tx as u64 | ASKS,
+        _ => u64::MAX,
+    }
+}
+
 struct Site {
     phase: Phase,
     number: u64,
@@ -303,19 +233,20 @@ struct Site {
     stride: usize,
     finals: usize,
     live: u64,
-    block: Option<(bool, u32)>,
+    /// the transaction whose block is open, with `ASKS` where it is of wants; 0: none
+    block: u64,
     last_end: usize,
 }
 
-fn hint(name: &Name) -> usize {
-    let a = u64::from_le_bytes(name[..8].try_into().unwrap());
-    let b = u64::from_le_bytes(name[8..].try_into().unwrap());
+#[inline(always)]
+fn hint(key: Name) -> usize {
+    let (a, b) = (key as u64, (key >> 64) as u64);
     ((a ^ b.rotate_left(29)).wrapping_mul(0x9e37_79b9_7f4a_7c15) >> 52) as usize
 }
 
 impl Site {
     fn place(&self, name: &Name) -> Option<usize> {
-        let at = self.hints[hint(name)] as usize;
+        let at = self.hints[hint(*name)] as usize;
         match self.cells.get(at) {
             Some(cell) if cell.name == *name => Some(at),
             _ => self.cells.iter().position(|cell| cell.name == *name),
@@ -347,17 +278,148 @@ impl Site {
         self.entry(c, line, second)
     }
 
+    /// Takes a frequent entry that has no fault; else all is as before, but that its transaction was met here.
+    #[inline(always)]
+    fn takes(&mut self, c: &mut Certificate, line: &Front) -> bool {
+        let Some(&n) = c.table.get(line.tx as usize) else { return false };
+        let n = n as usize;
+        let Some(record) = c.records.get_mut(n) else { return false };
+        let stamp = self.number as u8 + 1;
+        if record.stamp != stamp {
+            record.stamp = stamp;
+            record.ended = false;
+            self.live += 1;
+            for act in &mut self.acts[n * self.stride..(n + 1) * self.stride] {
+                *act = 0;
+            }
+        }
+        if record.ended {
+            return false;
+        }
+        let is_watched = record.watches > 0;
+        let is_taken = match line.letter {
+            b'r' => self.takes_operation::<b'r'>(record, n, line),
+            b'w' => self.takes_operation::<b'w'>(record, n, line),
+            b'd' => self.takes_operation::<b'd'>(record, n, line),
+            b'p' => self.takes_operation::<b'p'>(record, n, line),
+            b'q' => self.takes_operation::<b'q'>(record, n, line),
+            letter => return self.takes_end(record, n, letter),
+        };
+        if is_taken && is_watched {
+            self.watch(c, n, line.key, line.letter);
+        }
+        is_taken
+    }
+
+    #[inline(always)]
+    fn takes_end(&mut self, record: &mut Record, n: usize, letter: u8) -> bool {
+        let suits = match letter {
+            b'c' => record.ruling == Ruling::Commit,
+            b'n' => record.ruling == Ruling::Refuse,
+            _ => record.ruling == Ruling::Withdraw,
+        };
+        let goes_on = self.block == 0 || self.block == block_of(letter, record.tx);
+        if !suits || !goes_on || n < self.last_end {
+            return false;
+        }
+        self.block = 0;
+        self.last_end = n;
+        record.ended = true;
+        self.live -= 1;
+        true
+    }
+
+    #[inline(always)]
+    fn takes_operation<const LETTER: u8>(&mut self, record: &Record, n: usize, line: &Front) -> bool {
+        let place = self.hints[hint(line.key)] as usize;
+        let Some(cell) = self.cells.get_mut(place) else { return false };
+        let asks = LETTER == b'p' || LETTER == b'q';
+        let adds = LETTER == b'd' || LETTER == b'q';
+        let reads = LETTER == b'r';
+        let is_committed = record.ruling == Ruling::Commit;
+        let suits = reads || if asks { record.ruling == Ruling::Refuse } else { is_committed };
+        let block = block_of(LETTER, record.tx);
+        let goes_on = self.block == 0 || self.block == block;
+        let bit = 2 * place + usize::from(!reads);
+        let act = &mut self.acts[n * self.stride + bit / 64];
+        if cell.name != line.key || !suits || !goes_on || *act & 1 << (bit % 64) != 0 || reads && cell.value != line.value {
+            return false;
+        }
+        if is_committed {
+            let rank = record.rank + 1;
+            let most = match LETTER {
+                b'r' => cell.writer.max(cell.adder),
+                b'd' => cell.writer.max(cell.reader),
+                _ => cell.writer.max(cell.reader).max(cell.adder),
+            };
+            if most > rank {
+                return false;
+            }
+            let kept = if reads { &mut cell.reader } else if adds { &mut cell.adder } else { &mut cell.writer };
+            *kept = rank.max(*kept);
+        }
+        *act |= 1 << (bit % 64);
+        match LETTER {
+            b'w' => cell.value = line.value,
+            b'd' => cell.value = cell.value.wrapping_add(line.value),
+            _ => {}
+        }
+        self.block = if reads { 0 } else { block };
+        true
+    }
+
+    /// What an operation is to the steps that its transaction is in.
+    fn watch(&self, c: &mut Certificate, n: usize, name: Name, letter: u8) {
+        let record = &c.records[n];
+        let (tx, end) = (record.tx, record.watches_end as usize);
+        let adds = matches!(letter, b'd' | b'q');
+        for s in &c.watches[end - record.watches as usize..end] {
+            let step = &mut c.steps[*s as usize];
+            if step.site as u64 != self.number || step.item != name {
+                continue;
+            }
+            let (opens_by_read, closes_by_read) = (step.kind == Kind::Rw, step.kind == Kind::Wr);
+            if step.to == tx && step.seen && closes_by_read == (letter == b'r') && !(adds && step.seen_add) {
+                step.met = true;
+            }
+            if step.from == tx && opens_by_read == (letter == b'r') {
+                step.seen = true;
+                step.seen_add = adds;
+            }
+        }
+    }
+
+    /// Takes a frequent line of an item or a final value that has no fault; how long it is.
+    #[inline(always)]
+    fn takes_valued(&mut self, bytes: &[u8; 64]) -> Option<usize> {
+        if self.phase == Phase::Finals && bytes[..6] == *b"final " {
+            let (key, value, len) = valued(bytes, 6)?;
+            let cell = self.cells.get(self.finals)?;
+            if cell.name != key || cell.value != value {
+                return None;
+            }
+            self.finals += 1;
+            return Some(len);
+        }
+        if self.phase != Phase::Items || self.cells.is_empty() || bytes[..5] != *b"item " {
+            return None;
+        }
+        let (key, value, len) = valued(bytes, 5)?;
+        let (name, _) = name(&bytes[5..])?;
+        if name != key || self.item(name, value).is_some() { None } else { Some(len) }
+    }
+
     fn item(&mut self, name: Name, value: u64) -> Option<Fault> {
-        if self.phase != Phase::Items || self.cells.len() == 1024 || self.cells.last().is_some_and(|c| c.name >= name) {
+        if self.phase != Phase::Items || self.cells.len() == 1024 || self.cells.last().is_some_and(|c| c.name.swap_bytes() >= name.swap_bytes()) {
             return Some(7);
         }
-        self.hints[hint(&name)] = self.cells.len() as u16;
+        self.hints[hint(name)] = self.cells.len() as u16;
         self.cells.push(Cell { name, value, reader: 0, writer: 0, adder: 0 });
         None
     }
 
     fn first_behind_the_entries(&self) -> Option<Fault> {
-        if self.block.is_some() {
+        if self.block != 0 {
             return Some(12);
         }
         if self.live > 0 { Some(15) } else { None }
@@ -391,7 +453,7 @@ impl Site {
         self.number += 1;
         self.phase = Phase::Between;
         self.cells.clear();
-        (self.finals, self.live, self.block, self.last_end, self.stride) = (0, 0, None, 0, 0);
+        (self.finals, self.live, self.block, self.last_end, self.stride) = (0, 0, 0, 0, 0);
         None
     }
 
@@ -419,7 +481,7 @@ impl Site {
         if self.stride == 0 {
             self.stride = (2 * self.cells.len()).div_ceil(64).max(1);
             if self.acts.len() < self.stride * c.records.len() {
-                self.acts.resize(self.stride * c.records.len(), 0);
+                self.acts = vec![0; self.stride * c.records.len()];
             }
         }
         let found = c.find(tx);
@@ -458,11 +520,8 @@ impl Site {
                 }
             }
         }
-        if let Some((asked, open)) = self.block {
-            let goes_on = open == tx && if asked { matches!(letter, b'p' | b'q' | b'n') } else { matches!(letter, b'w' | b'd' | b'c') };
-            if !goes_on {
-                return Some(12);
-            }
+        if self.block != 0 && self.block != block_of(letter, tx) {
+            return Some(12);
         }
         let Some(n) = found else { return Some(13) };
         let record = &mut c.records[n];
@@ -475,11 +534,7 @@ impl Site {
         if record.ended || !suits {
             return Some(13);
         }
-        self.block = match letter {
-            b'w' | b'd' => Some((false, tx)),
-            b'p' | b'q' => Some((true, tx)),
-            _ => None,
-        };
+        self.block = if matches!(letter, b'w' | b'd' | b'p' | b'q') { block_of(letter, tx) } else { 0 };
         let Some((name, value)) = what else {
             if n < self.last_end {
                 return Some(14);
@@ -503,31 +558,15 @@ impl Site {
                 _ => cell.writer = cell.writer.max(rank),
             }
         }
-        if record.first_watch != u32::MAX {
-            let mut at = record.first_watch as usize;
-            while at < c.watches.len() && c.watches[at].0 as usize == n {
-                let step = &mut c.steps[c.watches[at].1 as usize];
-                at += 1;
-                if step.site as u64 != self.number || step.item != name {
-                    continue;
-                }
-                let (opens_by_read, closes_by_read) = (step.kind == Kind::Rw, step.kind == Kind::Wr);
-                let adds = matches!(letter, b'd' | b'q');
-                if step.to == tx && step.seen && closes_by_read == (letter == b'r') && !(adds && step.seen_add) {
-                    step.met = true;
-                }
-                if step.from == tx && opens_by_read == (letter == b'r') {
-                    step.seen = true;
-                    step.seen_add = adds;
-                }
-            }
+        if record.watches > 0 {
+            self.watch(c, n, name, letter);
         }
         None
     }
 }
 
 fn audit(reader: impl Read) -> Result<Certificate, (u64, Fault)> {
-    let mut lines = Lines { reader, buffer: vec![0; 1 << 18], start: 0, end: 0 };
+    let mut lines = Lines { reader, buffer: vec![0; 1 << 20], start: 0, end: 0 };
     let second = match lines.next(LIMIT) {
         Next::Line(a, b) if lines.buffer[a..b] == *b"sgt 1" => false,
         Next::Line(a, b) if lines.buffer[a..b] == *b"sgt 2" => true,
@@ -540,10 +579,24 @@ fn audit(reader: impl Read) -> Result<Certificate, (u64, Fault)> {
         return Err((2, fault));
     }
     let mut site = Site {
-        phase: Phase::Between, number: 0, cells: Vec::new(), hints: vec![0; 4096], acts: Vec::new(), stride: 0, finals: 0, live: 0, block: None, last_end: 0,
+        phase: Phase::Between, number: 0, cells: Vec::new(), hints: vec![0; 4096], acts: Vec::new(), stride: 0, finals: 0, live: 0, block: 0, last_end: 0,
     };
     let mut number = 3;
     while site.number < c.sites || site.phase != Phase::Between {
+        if let Some(bytes) = lines.buffer[lines.start..lines.end].first_chunk() {
+            let len = match site.phase {
+                Phase::Entries => match front(bytes) {
+                    Some(line) if (second || !matches!(line.letter, b'd' | b'q')) && site.takes(&mut c, &line) => Some(line.len),
+                    _ => None,
+                },
+                _ => site.takes_valued(bytes),
+            };
+            if let Some(len) = len {
+                lines.start += len;
+                number += 1;
+                continue;
+            }
+        }
         match lines.next(LIMIT) {
             Next::Line(a, b) => {
                 if let Some(fault) = site.judge(&mut c, &lines.buffer[a..b], second) {
