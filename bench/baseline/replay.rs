@@ -2,454 +2,705 @@
 // It reads inputs in which every event is allowed (as make_events.py writes them) and prints what `sgt replay` prints.
 //
 // rustc --edition 2024 -O -C target-cpu=x86-64-v2 bench/baseline/replay.rs -o /tmp/replay
-use std::collections::HashMap;
-use std::fmt::Write as _;
 use std::io::{Read, Write};
 
-#[derive(Clone, Copy, PartialEq)]
-enum Kind {
-    Put,
-    Add,
+const NONE: u32 = u32::MAX;
+
+/// Bytes written one after another; `room` is asked for once before a line.
+struct Text {
+    bytes: Vec<u8>,
 }
 
+const PAIRS: &[u8; 200] = b"0001020304050607080910111213141516171819202122232425262728293031323334353637383940414243444546474849\
+5051525354555657585960616263646566676869707172737475767778798081828384858687888990919293949596979899";
+
+impl Text {
+    fn put(&mut self, bytes: &[u8]) {
+        self.bytes.extend_from_slice(bytes);
+    }
+
+    fn byte(&mut self, byte: u8) {
+        self.bytes.push(byte);
+    }
+
+    fn number(&mut self, mut n: u64) {
+        if n < 10 {
+            return self.bytes.push(b'0' + n as u8);
+        }
+        let mut digits = [0u8; 20];
+        let mut at = 20;
+        while n >= 100 {
+            let pair = (n % 100) as usize * 2;
+            n /= 100;
+            at -= 2;
+            digits[at..at + 2].copy_from_slice(&PAIRS[pair..pair + 2]);
+        }
+        if n >= 10 {
+            let pair = n as usize * 2;
+            at -= 2;
+            digits[at..at + 2].copy_from_slice(&PAIRS[pair..pair + 2]);
+        } else {
+            at -= 1;
+            digits[at] = b'0' + n as u8;
+        }
+        self.bytes.extend_from_slice(&digits[at..]);
+    }
+
+    fn flush(&mut self) {
+        std::io::stdout().write_all(&self.bytes).unwrap();
+        self.bytes.clear();
+    }
+}
+
+/// A name as the number of its bytes, with zeros behind it, and its length.
+#[derive(Clone, Copy)]
+struct Name {
+    bytes: [u8; 16],
+    len: u8,
+}
+
+impl Name {
+    fn key(&self) -> u128 {
+        u128::from_le_bytes(self.bytes)
+    }
+
+    fn new(word: &[u8]) -> Name {
+        let mut bytes = [0; 16];
+        bytes[..word.len()].copy_from_slice(word);
+        Name { bytes, len: word.len() as u8 }
+    }
+}
+
+fn hash(key: u128) -> usize {
+    let mixed = (key as u64).wrapping_mul(0x9e37_79b9_7f4a_7c15) ^ ((key >> 64) as u64).wrapping_mul(0xc2b2_ae3d_27d4_eb4f);
+    (mixed >> 40) as usize
+}
+
+/// An entry of a log; of an end the item is `NONE`.
 #[derive(Clone, Copy)]
 struct Entry {
-    letter: u8,
-    tx: u32,
-    item: u16,
     value: u64,
+    tx: u32,
+    item: u32,
+    letter: u8,
 }
 
-// an item: its value and version, who changed it last (a run of increments alone is kept together), who read it since
-#[derive(Clone, Default)]
+/// What is kept of an item: all of it concerns the open window but for the value and the version.
+#[derive(Default)]
 struct Cell {
     value: u64,
-    version: u64,
-    // the writers by version: transaction, whether by an increment
+    version: u32,
+    /// the version when the window was opened: the writers are those since
+    opened: u32,
+    /// the version of the last put, or of the opening
+    put: u32,
     writers: Vec<(u32, bool)>,
-    // committed readers: transaction, version read
-    readers: Vec<(u32, u64)>,
+    /// committed readers of versions from the last put on
+    readers: Vec<(u32, u32)>,
 }
 
 struct Site {
-    names: Vec<String>,
-    places: HashMap<Vec<u8>, u16>,
+    names: Vec<Name>,
     first: Vec<u64>,
-    cells: Vec<Cell>,
+    /// where the items' cells begin
+    base: u32,
+    table: Vec<(u128, u32)>,
     log: Vec<Entry>,
+}
+
+impl Site {
+    fn new(line: &[u8], base: u32, cells: &mut Vec<Cell>) -> Site {
+        let mut site = Site { names: Vec::new(), first: Vec::new(), base, table: Vec::new(), log: Vec::new() };
+        for word in line.split(|b| *b == b' ').skip(2) {
+            let mid = word.iter().position(|b| *b == b'=').unwrap();
+            let value = number(word, &mut (mid + 1));
+            site.names.push(Name::new(&word[..mid]));
+            site.first.push(value);
+            cells.push(Cell { value, ..Cell::default() });
+        }
+        let size = (site.names.len() * 4).next_power_of_two();
+        site.table = vec![(0, NONE); size];
+        for (n, name) in site.names.iter().enumerate() {
+            let mut at = hash(name.key()) & (size - 1);
+            while site.table[at].1 != NONE {
+                at = (at + 1) & (size - 1);
+            }
+            site.table[at] = (name.key(), base + n as u32);
+        }
+        site
+    }
+
+    fn find(&self, key: u128) -> u32 {
+        let mask = self.table.len() - 1;
+        let mut at = hash(key) & mask;
+        while self.table[at].0 != key {
+            at = (at + 1) & mask;
+        }
+        self.table[at].1
+    }
+}
+
+#[derive(Clone, Copy)]
+struct Seen {
+    item: u32,
+    version: u32,
+    value: u64,
+}
+
+#[derive(Clone, Copy)]
+struct Change {
+    item: u32,
+    is_add: bool,
+    value: u64,
 }
 
 #[derive(Default)]
 struct Draft {
-    reads: Vec<(u8, u16, u64, u64)>,
-    changes: Vec<(u8, u16, Kind, u64)>,
+    reads: Vec<Seen>,
+    changes: Vec<Change>,
+    sites: u64,
 }
 
-impl Draft {
-    fn touched(&self) -> Vec<u8> {
-        let mut sites: Vec<u8> = self.reads.iter().map(|r| r.0).chain(self.changes.iter().map(|c| c.0)).collect();
-        sites.sort_unstable();
-        sites.dedup();
-        sites
-    }
-
-    fn look(&self, site: u8, item: u16) -> Option<u64> {
-        let seen = self.reads.iter().find(|r| r.0 == site && r.1 == item).map(|r| r.2);
-        match self.changes.iter().find(|c| c.0 == site && c.1 == item) {
-            Some(c) if c.2 == Kind::Put => Some(c.3),
-            Some(c) => seen.map(|v| v.wrapping_add(c.3)),
-            None => seen,
-        }
-    }
-}
-
+#[derive(Clone, Copy)]
 struct Edge {
     from: u32,
     to: u32,
-    site: u8,
-    item: u16,
-    kind: &'static str,
+    item: u32,
+    kind: u8,
+    /// the next edge out of the same node
+    next: u32,
+}
+
+const KINDS: [&[u8]; 3] = [b"rw", b"wr", b"ww"];
+const RW: u8 = 0;
+const WR: u8 = 1;
+const WW: u8 = 2;
+
+/// A transaction of the open window.
+struct Node {
+    draft: Draft,
+    place: u32,
+    out: u32,
+    mark: u32,
+    /// the edge by which it was reached
+    by: u32,
+    is_committed: bool,
 }
 
 enum Decision {
     Commit(u32),
-    Refuse(u32, Vec<Edge>),
+    Refuse(u32, Vec<(u8, u32, u32)>),
     Withdraw(u32),
 }
 
+#[derive(Default)]
 struct Core {
     sites: Vec<Site>,
-    drafts: Vec<Option<Draft>>, // by transaction of this window
-    before: u32,
-    begun: u32,
+    cells: Vec<Cell>,
+    site_of: Vec<u8>,
+    nodes: Vec<Node>,
+    spare: Vec<Draft>,
+    edges: Vec<Edge>,
+    found: Vec<Edge>,
+    order: Vec<u32>,
+    moved: Vec<u32>,
+    stack: Vec<u32>,
     past: Vec<u32>,
-    order: Vec<u32>,              // of this window
-    place: Vec<usize>,            // by transaction of this window; usize::MAX: not committed
-    out_edges: Vec<Vec<u32>>,     // by transaction of this window: indexes
-    labels: Vec<Vec<(u8, u16, &'static str)>>,
-    decisions: Vec<Decision>,
-    committed: HashMap<u32, bool>, // open step's verdict
-    marks: Vec<u32>,
+    before: u32,
     mark: u32,
+    decisions: Vec<Decision>,
 }
 
 impl Core {
-    fn index(&self, tx: u32) -> usize {
-        (tx - self.before - 1) as usize
-    }
-
     fn begin(&mut self) -> u32 {
-        self.begun += 1;
-        self.drafts.push(Some(Draft::default()));
-        self.place.push(usize::MAX);
-        self.out_edges.push(Vec::new());
-        self.labels.push(Vec::new());
-        self.marks.push(0);
-        self.begun
+        let draft = self.spare.pop().unwrap_or_default();
+        self.nodes.push(Node { draft, place: NONE, out: NONE, mark: 0, by: NONE, is_committed: false });
+        self.before + self.nodes.len() as u32
     }
 
-    fn read(&mut self, tx: u32, site: u8, item: u16) -> u64 {
-        let n = self.index(tx);
-        let draft = self.drafts[n].as_mut().unwrap();
-        if let Some(v) = draft.look(site, item) {
-            return v;
-        }
-        let s = &mut self.sites[site as usize];
-        let cell = &s.cells[item as usize];
-        s.log.push(Entry { letter: b'r', tx, item, value: cell.value });
-        draft.reads.push((site, item, cell.value, cell.version));
-        draft.look(site, item).unwrap()
-    }
-
-    fn change(&mut self, tx: u32, site: u8, item: u16, kind: Kind, value: u64) {
-        let n = self.index(tx);
-        let draft = self.drafts[n].as_mut().unwrap();
-        match draft.changes.iter_mut().find(|c| c.0 == site && c.1 == item) {
-            Some(c) if kind == Kind::Add => c.3 = c.3.wrapping_add(value),
-            Some(c) => (c.2, c.3) = (kind, value),
-            None => draft.changes.push((site, item, kind, value)),
-        }
-    }
-
-    fn edges(&self, tx: u32) -> Vec<Edge> {
-        let draft = self.drafts[self.index(tx)].as_ref().unwrap();
-        let mut edges = Vec::new();
-        let mut push = |from: u32, to: u32, site: u8, item: u16, kind: &'static str| {
-            if from != to && from > self.before && to > self.before {
-                edges.push(Edge { from, to, site, item, kind });
-            }
+    fn read(&mut self, tx: u32, site: usize, item: u32) -> u64 {
+        let draft = &mut self.nodes[(tx - self.before - 1) as usize].draft;
+        let change = draft.changes.iter().find(|c| c.item == item);
+        let added = match change {
+            Some(c) if !c.is_add => return c.value,
+            Some(c) => c.value,
+            None => 0,
         };
-        for &(site, item, _, version) in &draft.reads {
-            let cell = &self.sites[site as usize].cells[item as usize];
-            let v = version as usize;
-            // the writers in front: the last one, and with it the run of increments that it ends
-            for n in (0..v).rev() {
-                push(cell.writers[n].0, tx, site, item, "wr");
-                if !cell.writers[n].1 || cell.writers[n].0 <= self.before {
+        if let Some(seen) = draft.reads.iter().find(|r| r.item == item) {
+            return seen.value.wrapping_add(added);
+        }
+        let cell = &self.cells[item as usize];
+        draft.reads.push(Seen { item, version: cell.version, value: cell.value });
+        draft.sites |= 1 << site;
+        self.sites[site].log.push(Entry { letter: b'r', tx, item, value: cell.value });
+        cell.value.wrapping_add(added)
+    }
+
+    fn change(&mut self, tx: u32, site: usize, new: Change) {
+        let draft = &mut self.nodes[(tx - self.before - 1) as usize].draft;
+        draft.sites |= 1 << site;
+        match draft.changes.iter_mut().find(|c| c.item == new.item) {
+            Some(c) if new.is_add => c.value = c.value.wrapping_add(new.value),
+            Some(c) => *c = new,
+            None => draft.changes.push(new),
+        }
+    }
+
+    /// The conflicts of a transaction with committed ones of the window, to `found`.
+    fn gather(&mut self, me: u32) {
+        self.found.clear();
+        let draft = &self.nodes[me as usize].draft;
+        for seen in &draft.reads {
+            let cell = &self.cells[seen.item as usize];
+            let mid = seen.version.saturating_sub(cell.opened) as usize;
+            for &(from, is_add) in cell.writers[..mid].iter().rev() {
+                self.found.push(Edge { from, to: me, item: seen.item, kind: WR, next: NONE });
+                if !is_add {
                     break;
                 }
             }
-            for n in v..cell.writers.len() {
-                push(tx, cell.writers[n].0, site, item, "rw");
-                if !cell.writers[n].1 {
+            for &(to, is_add) in &cell.writers[mid..] {
+                self.found.push(Edge { from: me, to, item: seen.item, kind: RW, next: NONE });
+                if !is_add {
                     break;
                 }
             }
         }
-        for &(site, item, kind, _) in &draft.changes {
-            let cell = &self.sites[site as usize].cells[item as usize];
-            let last = cell.writers.len();
-            if kind == Kind::Put {
-                for n in (0..last).rev() {
-                    push(cell.writers[n].0, tx, site, item, "ww");
-                    if !cell.writers[n].1 || cell.writers[n].0 <= self.before {
+        for change in &draft.changes {
+            let cell = &self.cells[change.item as usize];
+            let run = (cell.put - cell.opened) as usize;
+            if !change.is_add {
+                for &(from, is_add) in cell.writers[run.saturating_sub(1)..].iter().rev() {
+                    self.found.push(Edge { from, to: me, item: change.item, kind: WW, next: NONE });
+                    if !is_add {
                         break;
                     }
                 }
-            } else if let Some(w) = cell.writers.iter().rev().find(|w| !w.1 || w.0 <= self.before) {
-                push(w.0, tx, site, item, "ww");
+            } else if run > 0 {
+                let from = cell.writers[run - 1].0;
+                self.found.push(Edge { from, to: me, item: change.item, kind: WW, next: NONE });
             }
-            // readers since the last put (an increment keeps those in front of a run of increments)
-            let mut since = last;
-            while kind == Kind::Add && since > 0 && cell.writers[since - 1].1 && cell.writers[since - 1].0 > self.before {
-                since -= 1;
-            }
-            for &(reader, version) in cell.readers.iter().rev() {
-                if (version as usize) >= since {
-                    push(reader, tx, site, item, "rw");
+            for &(from, _) in &cell.readers {
+                if from != me {
+                    self.found.push(Edge { from, to: me, item: change.item, kind: RW, next: NONE });
                 }
             }
         }
-        edges
     }
 
-    // the nodes reached from the outgoing edges, as marks; whether the transaction itself is reached by its incoming ones
+    fn reach(&mut self, edge: usize) {
+        let to = self.edges[edge].to as usize;
+        let node = &mut self.nodes[to];
+        if node.mark != self.mark {
+            node.mark = self.mark;
+            node.by = edge as u32;
+            self.stack.push(to as u32);
+        }
+    }
+
     fn decide(&mut self, tx: u32) -> bool {
-        let edges = self.edges(tx);
-        let me = self.index(tx);
+        let me = tx - self.before - 1;
+        self.gather(me);
         self.mark += 1;
-        let mark = self.mark;
-        let mut stack = Vec::new();
-        let mut parent: HashMap<u32, (u32, (u8, u16, &'static str))> = HashMap::new();
-        for e in edges.iter().filter(|e| e.from == tx) {
-            let to = (e.to - self.before - 1) as usize;
-            if self.marks[to] != mark {
-                self.marks[to] = mark;
-                parent.insert(to as u32, (me as u32, (e.site, e.item, e.kind)));
-                stack.push(to as u32);
+        let kept = self.edges.len();
+        let mut least = NONE;
+        for n in 0..self.found.len() {
+            let edge = self.found[n];
+            if edge.from == me {
+                self.edges.push(edge);
+                self.reach(self.edges.len() - 1);
             }
         }
-        while let Some(n) = stack.pop() {
-            for k in 0..self.out_edges[n as usize].len() {
-                let to = self.out_edges[n as usize][k];
-                if self.marks[to as usize] != mark {
-                    self.marks[to as usize] = mark;
-                    parent.insert(to, (n, self.labels[n as usize][k]));
-                    stack.push(to);
-                }
+        self.moved.clear();
+        while let Some(n) = self.stack.pop() {
+            self.moved.push(n);
+            least = least.min(self.nodes[n as usize].place);
+            let mut at = self.nodes[n as usize].out;
+            while at != NONE {
+                self.reach(at as usize);
+                at = self.edges[at as usize].next;
             }
         }
-        if let Some(back) = edges.iter().find(|e| e.to == tx && self.marks[self.index(e.from)] == mark) {
-            let mut walk = vec![Edge { from: back.from, to: tx, site: back.site, item: back.item, kind: back.kind }];
-            let mut at = self.index(back.from) as u32;
-            while at != me as u32 {
-                let (from, label) = parent[&at];
-                walk.push(Edge { from: 0, to: self.before + 1 + at, site: label.0, item: label.1, kind: label.2 });
-                at = from;
+        if self.edges.len() > kept {
+            let back = self.found.iter().find(|e| e.to == me && self.nodes[e.from as usize].mark == self.mark);
+            if let Some(&back) = back {
+                self.refuse(tx, back);
+                self.edges.truncate(kept);
+                return false;
             }
-            walk.reverse();
-            self.decisions.push(Decision::Refuse(tx, walk));
-            return false;
         }
-        for e in edges {
-            let from = self.index(e.from);
-            self.out_edges[from].push((e.to - self.before - 1) as u32);
-            self.labels[from].push((e.site, e.item, e.kind));
+        for n in kept..self.edges.len() {
+            self.edges[n].next = self.nodes[me as usize].out;
+            self.nodes[me as usize].out = n as u32;
         }
-        let least = parent.keys().map(|k| self.place[*k as usize]).min().unwrap_or(self.order.len());
-        let tail: Vec<u32> = self.order.split_off(least);
-        let (moved, stay): (Vec<u32>, Vec<u32>) = tail.into_iter().partition(|n| self.marks[*n as usize] == mark);
-        self.order.extend(stay);
-        self.order.push(me as u32);
-        self.order.extend(moved);
-        for n in least..self.order.len() {
-            self.place[self.order[n] as usize] = n;
+        for n in 0..self.found.len() {
+            let mut edge = self.found[n];
+            if edge.to == me {
+                edge.next = self.nodes[edge.from as usize].out;
+                self.nodes[edge.from as usize].out = self.edges.len() as u32;
+                self.edges.push(edge);
+            }
         }
+        self.place(me, least);
+        self.nodes[me as usize].is_committed = true;
         self.decisions.push(Decision::Commit(tx));
         true
     }
 
-    fn install(&mut self, tx: u32, site: u8, is_committed: bool) {
-        let n = self.index(tx);
-        let draft = self.drafts[n].as_mut().unwrap();
-        let s = &mut self.sites[site as usize];
-        let mut changes: Vec<_> = draft.changes.iter().filter(|c| c.0 == site).copied().collect();
-        changes.sort_unstable_by_key(|c| c.1);
-        for (_, item, kind, value) in changes {
-            let is_add = kind == Kind::Add;
-            let letter = match (is_committed, is_add) {
+    /// Puts the node behind all that it doesn't lead to, and what it leads to behind it.
+    fn place(&mut self, me: u32, least: u32) {
+        if least == NONE {
+            self.nodes[me as usize].place = self.order.len() as u32;
+            return self.order.push(me);
+        }
+        self.moved.clear();
+        let mut end = least as usize;
+        for n in least as usize..self.order.len() {
+            let it = self.order[n];
+            if self.nodes[it as usize].mark == self.mark {
+                self.moved.push(it);
+            } else {
+                self.order[end] = it;
+                self.nodes[it as usize].place = end as u32;
+                end += 1;
+            }
+        }
+        self.order.truncate(end);
+        self.order.push(me);
+        self.order.extend_from_slice(&self.moved);
+        for n in end..self.order.len() {
+            self.nodes[self.order[n] as usize].place = n as u32;
+        }
+    }
+
+    fn refuse(&mut self, tx: u32, back: Edge) {
+        let me = tx - self.before - 1;
+        let mut walk = vec![(back.kind, back.item, tx)];
+        let mut at = back.from;
+        while at != me {
+            let edge = self.edges[self.nodes[at as usize].by as usize];
+            walk.push((edge.kind, edge.item, self.before + 1 + at));
+            at = edge.from;
+        }
+        walk.reverse();
+        self.decisions.push(Decision::Refuse(tx, walk));
+    }
+
+    fn install(&mut self, tx: u32, site: usize) {
+        let me = tx - self.before - 1;
+        let node = &self.nodes[me as usize];
+        let log = &mut self.sites[site].log;
+        for change in &node.draft.changes {
+            let item = change.item;
+            if self.site_of[item as usize] as usize != site {
+                continue;
+            }
+            let letter = match (node.is_committed, change.is_add) {
                 (true, false) => b'w',
                 (true, true) => b'd',
                 (false, false) => b'p',
                 (false, true) => b'q',
             };
-            s.log.push(Entry { letter, tx, item, value });
-            if is_committed {
-                let cell = &mut s.cells[item as usize];
-                cell.value = if is_add { cell.value.wrapping_add(value) } else { value };
+            log.push(Entry { letter, tx, item, value: change.value });
+            if node.is_committed {
+                let cell = &mut self.cells[item as usize];
+                cell.writers.push((me, change.is_add));
                 cell.version += 1;
-                cell.writers.push((tx, is_add));
-            }
-        }
-        if is_committed {
-            for &(at, item, _, version) in &draft.reads {
-                if at == site {
-                    let readers = &mut s.cells[item as usize].readers;
-                    let at = readers.partition_point(|r| r.1 <= version);
-                    readers.insert(at, (tx, version));
+                if change.is_add {
+                    cell.value = cell.value.wrapping_add(change.value);
+                } else {
+                    cell.value = change.value;
+                    cell.put = cell.version;
+                    cell.readers.clear();
                 }
             }
         }
-        s.log.push(Entry { letter: if is_committed { b'c' } else { b'n' }, tx, item: 0, value: 0 });
+        if node.is_committed {
+            for seen in &node.draft.reads {
+                let cell = &mut self.cells[seen.item as usize];
+                if self.site_of[seen.item as usize] as usize == site && seen.version >= cell.put {
+                    cell.readers.push((me, seen.version));
+                }
+            }
+        }
+        let letter = if node.is_committed { b'c' } else { b'n' };
+        log.push(Entry { letter, tx, item: NONE, value: 0 });
     }
 
-    fn close(&mut self) -> usize {
-        let before = self.before;
-        self.past.extend(self.order.iter().map(|n| before + 1 + n));
-        self.before = self.begun;
+    fn draft(&mut self, tx: u32) -> &mut Draft {
+        &mut self.nodes[(tx - self.before - 1) as usize].draft
+    }
+
+    fn end(&mut self, tx: u32) {
+        let mut draft = std::mem::take(self.draft(tx));
+        draft.reads.clear();
+        draft.changes.clear();
+        draft.sites = 0;
+        self.spare.push(draft);
+    }
+
+    fn install_all(&mut self, tx: u32) {
+        let mut left = self.draft(tx).sites;
+        while left != 0 {
+            self.install(tx, left.trailing_zeros() as usize);
+            left &= left - 1;
+        }
+        self.end(tx);
+    }
+
+    fn withdraw(&mut self, tx: u32) {
+        let mut left = self.draft(tx).sites;
+        while left != 0 {
+            self.sites[left.trailing_zeros() as usize].log.push(Entry { letter: b'a', tx, item: NONE, value: 0 });
+            left &= left - 1;
+        }
+        self.end(tx);
+        self.decisions.push(Decision::Withdraw(tx));
+    }
+
+    fn close(&mut self) -> u64 {
+        self.past.extend(self.order.iter().map(|n| self.before + 1 + n));
+        self.before += self.nodes.len() as u32;
+        self.nodes.clear();
         self.order.clear();
-        self.drafts.clear();
-        self.place.clear();
-        self.out_edges.clear();
-        self.labels.clear();
-        self.marks.clear();
+        self.edges.clear();
         self.mark = 0;
-        for site in &mut self.sites {
-            for cell in &mut site.cells {
-                // (older readers and writers lead nowhere any more; versions go on)
-                cell.readers.clear();
-            }
+        for cell in &mut self.cells {
+            cell.writers.clear();
+            cell.readers.clear();
+            cell.opened = cell.version;
+            cell.put = cell.version;
         }
-        self.past.len()
+        self.past.len() as u64
     }
 
-    fn bundle(&self, out: &mut String) {
-        let mut rank = vec![0u32; self.begun as usize + 1];
+    fn ranks(&self) -> Vec<u32> {
+        let mut ranks = vec![0; self.before as usize + self.nodes.len() + 1];
         for (n, tx) in self.past.iter().copied().chain(self.order.iter().map(|n| self.before + 1 + n)).enumerate() {
-            rank[tx as usize] = n as u32;
+            ranks[tx as usize] = n as u32;
         }
-        let second = self.sites.iter().any(|s| s.log.iter().any(|e| e.letter == b'd' || e.letter == b'q'));
-        writeln!(out, "sgt {}", if second { 2 } else { 1 }).unwrap();
-        out.push_str("{\"decisions\":[");
-        for (n, d) in self.decisions.iter().enumerate() {
-            if n > 0 {
-                out.push(',');
+        ranks
+    }
+
+    fn name(&self, item: u32) -> &Name {
+        let site = &self.sites[self.site_of[item as usize] as usize];
+        &site.names[(item - site.base) as usize]
+    }
+
+    fn decision(&self, decision: &Decision, ranks: &[u32], out: &mut Text) {
+        match decision {
+            Decision::Commit(tx) => {
+                out.put(b"{\"commit\":");
+                out.number(*tx as u64);
+                out.put(b",\"rank\":");
+                out.number(ranks[*tx as usize] as u64);
+                out.byte(b'}');
             }
-            match d {
-                Decision::Commit(tx) => write!(out, "{{\"commit\":{tx},\"rank\":{}}}", rank[*tx as usize]).unwrap(),
-                Decision::Withdraw(tx) => write!(out, "{{\"withdraw\":{tx}}}").unwrap(),
-                Decision::Refuse(tx, walk) => {
-                    write!(out, "{{\"refuse\":{tx},\"walk\":[").unwrap();
-                    for (k, e) in walk.iter().enumerate() {
-                        let comma = if k > 0 { "," } else { "" };
-                        let name = &self.sites[e.site as usize].names[e.item as usize];
-                        write!(out, "{comma}{{\"item\":\"{name}\",\"kind\":\"{}\",\"site\":{},\"to\":{}}}", e.kind, e.site, e.to).unwrap();
-                    }
-                    out.push_str("]}");
+            Decision::Withdraw(tx) => {
+                out.put(b"{\"withdraw\":");
+                out.number(*tx as u64);
+                out.byte(b'}');
+            }
+            Decision::Refuse(tx, walk) => {
+                out.put(b"{\"refuse\":");
+                out.number(*tx as u64);
+                out.put(b",\"walk\":[");
+                for (n, &(kind, item, to)) in walk.iter().enumerate() {
+                    out.put(if n > 0 { b",{\"item\":\"" } else { b"{\"item\":\"" });
+                    let name = self.name(item);
+                    out.put(&name.bytes[..name.len as usize]);
+                    out.put(b"\",\"kind\":\"");
+                    out.put(KINDS[kind as usize]);
+                    out.put(b"\",\"site\":");
+                    out.number(self.site_of[item as usize] as u64);
+                    out.put(b",\"to\":");
+                    out.number(to as u64);
+                    out.byte(b'}');
                 }
+                out.put(b"]}");
             }
-        }
-        writeln!(out, "],\"sites\":{}}}", self.sites.len()).unwrap();
-        for (k, s) in self.sites.iter().enumerate() {
-            writeln!(out, "site {k}").unwrap();
-            for (x, v) in s.names.iter().zip(&s.first) {
-                writeln!(out, "item {x}={v}").unwrap();
-            }
-            for e in &s.log {
-                match e.letter {
-                    b'c' | b'n' | b'a' => writeln!(out, "{}{}", e.letter as char, e.tx).unwrap(),
-                    letter => writeln!(out, "{}{}[{}]={}", letter as char, e.tx, s.names[e.item as usize], e.value).unwrap(),
-                }
-            }
-            for (x, c) in s.names.iter().zip(&s.cells) {
-                writeln!(out, "final {x}={}", c.value).unwrap();
-            }
-            out.push_str("end\n");
         }
     }
+
+    fn valued(&self, word: &[u8], site: &Site, values: impl Iterator<Item = u64>, out: &mut Text) {
+        for (name, value) in site.names.iter().zip(values) {
+            out.put(word);
+            out.put(&name.bytes[..name.len as usize]);
+            out.byte(b'=');
+            out.number(value);
+            out.byte(b'\n');
+        }
+    }
+
+    fn section(&self, number: usize, out: &mut Text) {
+        let site = &self.sites[number];
+        out.put(b"site ");
+        out.number(number as u64);
+        out.byte(b'\n');
+        self.valued(b"item ", site, site.first.iter().copied(), out);
+        for e in &site.log {
+            out.byte(e.letter);
+            out.number(e.tx as u64);
+            if e.item != NONE {
+                let name = &site.names[(e.item - site.base) as usize];
+                out.byte(b'[');
+                // all sixteen bytes at once, and those that are none are cut off again
+                let end = out.bytes.len() + name.len as usize;
+                out.put(&name.bytes);
+                out.bytes.truncate(end);
+                out.put(b"]=");
+                out.number(e.value);
+            }
+            out.byte(b'\n');
+            if out.bytes.len() > 1 << 18 {
+                out.flush();
+            }
+        }
+        let base = site.base as usize;
+        self.valued(b"final ", site, self.cells[base..base + site.names.len()].iter().map(|c| c.value), out);
+        out.put(b"end\n");
+    }
+
+    fn bundle(&self, out: &mut Text) {
+        let ranks = self.ranks();
+        let is_second = self.sites.iter().any(|s| s.log.iter().any(|e| e.letter == b'd' || e.letter == b'q'));
+        out.put(if is_second { b"sgt 2\n" } else { b"sgt 1\n" });
+        out.put(b"{\"decisions\":[");
+        for (n, decision) in self.decisions.iter().enumerate() {
+            if n > 0 {
+                out.byte(b',');
+            }
+            self.decision(decision, &ranks, out);
+        }
+        out.put(b"],\"sites\":");
+        out.number(self.sites.len() as u64);
+        out.put(b"}\n");
+        for n in 0..self.sites.len() {
+            self.section(n, out);
+        }
+    }
+
+    /// The site and the item of `SITE.NAME]` from there on; the place is then behind the bracket.
+    fn item(&self, line: &[u8], at: &mut usize) -> (usize, u32) {
+        let site = number(line, at) as usize;
+        *at += 1;
+        let rest = &line[*at..];
+        let (key, len) = match rest.first_chunk::<16>() {
+            Some(bytes) => {
+                let all = u128::from_le_bytes(*bytes);
+                let len = closing(all);
+                (if len < 16 { all & ((1 << (len * 8)) - 1) } else { all }, len)
+            }
+            None => {
+                let len = rest.iter().position(|b| *b == b']').unwrap();
+                (Name::new(&rest[..len]).key(), len)
+            }
+        };
+        *at += len + 1;
+        (site, self.sites[site].find(key))
+    }
+}
+
+/// How many of sixteen bytes stand in front of the first `]`.
+fn closing(bytes: u128) -> usize {
+    let ones = u128::MAX / 255;
+    let same = bytes ^ (ones * b']' as u128);
+    let found = same.wrapping_sub(ones) & !same & (ones << 7);
+    found.trailing_zeros() as usize / 8
 }
 
 fn number(bytes: &[u8], at: &mut usize) -> u64 {
     let mut n = 0;
-    while *at < bytes.len() && bytes[*at].is_ascii_digit() {
-        n = n * 10 + (bytes[*at] - b'0') as u64;
+    while let Some(digit) = bytes.get(*at).map(|b| b.wrapping_sub(b'0')).filter(|d| *d < 10) {
+        n = n * 10 + digit as u64;
         *at += 1;
     }
     n
 }
 
+fn event(core: &mut Core, input: &[u8], start: usize, out: &mut Text) -> usize {
+    let mut at = start + 1;
+    match input[start] {
+        letter @ (b'r' | b'w' | b'd') => {
+            let tx = number(input, &mut at) as u32;
+            at += 1;
+            let (site, item) = core.item(input, &mut at);
+            if letter == b'r' {
+                out.put(&input[start..at]);
+                out.byte(b'=');
+                out.number(core.read(tx, site, item));
+                out.byte(b'\n');
+            } else {
+                at += 1;
+                let value = number(input, &mut at);
+                core.change(tx, site, Change { item, is_add: letter == b'd', value });
+                out.put(&input[start..at + 1]);
+            }
+        }
+        b'b' => {
+            out.byte(b'b');
+            out.number(core.begin() as u64);
+            out.byte(b'\n');
+        }
+        letter @ (b'c' | b'v') => {
+            let tx = number(input, &mut at) as u32;
+            sorted(core.draft(tx));
+            let answer: &[u8] = if core.decide(tx) { b" yes\n" } else { b" no\n" };
+            if letter == b'c' {
+                core.install_all(tx);
+            }
+            out.put(&input[start..at]);
+            out.put(answer);
+        }
+        b'i' => {
+            let tx = number(input, &mut at) as u32;
+            at += 1;
+            let site = number(input, &mut at) as usize;
+            core.install(tx, site);
+            out.put(&input[start..at + 1]);
+        }
+        b'a' => {
+            let tx = number(input, &mut at) as u32;
+            core.withdraw(tx);
+            out.put(&input[start..at + 1]);
+        }
+        b'z' => {
+            out.put(b"z ");
+            out.number(core.close());
+            out.byte(b'\n');
+        }
+        _ => panic!("no event at byte {start}"),
+    }
+    at + 1
+}
+
+/// Changes by rising item: a block's order.
+fn sorted(draft: &mut Draft) {
+    if draft.changes.len() > 1 {
+        draft.changes.sort_unstable_by_key(|c| c.item);
+    }
+}
+
 fn main() {
     let mut input = Vec::new();
     std::io::stdin().read_to_end(&mut input).unwrap();
-    let mut core = Core {
-        sites: Vec::new(),
-        drafts: Vec::new(),
-        before: 0,
-        begun: 0,
-        past: Vec::new(),
-        order: Vec::new(),
-        place: Vec::new(),
-        out_edges: Vec::new(),
-        labels: Vec::new(),
-        decisions: Vec::new(),
-        committed: HashMap::new(),
-        marks: Vec::new(),
-        mark: 0,
-    };
-    let mut out = String::new();
-    for line in input.split(|b| *b == b'\n') {
-        if line.is_empty() {
-            continue;
-        }
-        if line.starts_with(b"site ") {
-            let text = std::str::from_utf8(line).unwrap();
-            let mut site = Site { names: Vec::new(), places: HashMap::new(), first: Vec::new(), cells: Vec::new(), log: Vec::new() };
-            for word in text.split(' ').skip(2) {
-                let (name, value) = word.split_once('=').unwrap();
-                let value = value.parse().unwrap();
-                site.places.insert(name.as_bytes().to_vec(), site.names.len() as u16);
-                site.names.push(name.to_string());
-                site.first.push(value);
-                site.cells.push(Cell { value, ..Cell::default() });
-            }
-            core.sites.push(site);
-            continue;
-        }
-        let mut at = 1;
-        let tx = number(line, &mut at) as u32;
-        match line[0] {
-            b'b' => {
-                let tx = core.begin();
-                writeln!(out, "b{tx}").unwrap();
-            }
-            b'z' => {
-                let ranks = core.close();
-                writeln!(out, "z {ranks}").unwrap();
-            }
-            b'r' | b'w' | b'd' => {
-                at += 1;
-                let site = number(line, &mut at) as u8;
-                at += 1;
-                let end = at + line[at..].iter().position(|b| *b == b']').unwrap();
-                let item = core.sites[site as usize].places[&line[at..end]];
-                let text = std::str::from_utf8(line).unwrap();
-                if line[0] == b'r' {
-                    let v = core.read(tx, site, item);
-                    writeln!(out, "{text}={v}").unwrap();
-                } else {
-                    at = end + 2;
-                    let value = number(line, &mut at);
-                    core.change(tx, site, item, if line[0] == b'w' { Kind::Put } else { Kind::Add }, value);
-                    writeln!(out, "{text}").unwrap();
-                }
-            }
-            b'c' | b'v' => {
-                let yes = core.decide(tx);
-                writeln!(out, "{}{tx} {}", line[0] as char, if yes { "yes" } else { "no" }).unwrap();
-                if line[0] == b'c' {
-                    for site in core.drafts[core.index(tx)].as_ref().unwrap().touched() {
-                        core.install(tx, site, yes);
-                    }
-                    let n = core.index(tx);
-                    core.drafts[n] = None;
-                } else {
-                    core.committed.insert(tx, yes);
-                }
-            }
-            b'i' => {
-                at += 1;
-                let site = number(line, &mut at) as u8;
-                let yes = core.committed[&tx];
-                core.install(tx, site, yes);
-                writeln!(out, "i{tx}@{site}").unwrap();
-            }
-            b'a' => {
-                for site in core.drafts[core.index(tx)].as_ref().unwrap().touched() {
-                    core.sites[site as usize].log.push(Entry { letter: b'a', tx, item: 0, value: 0 });
-                }
-                let n = core.index(tx);
-                core.drafts[n] = None;
-                core.decisions.push(Decision::Withdraw(tx));
-                writeln!(out, "a{tx}").unwrap();
-            }
-            _ => panic!("not a line: {}", String::from_utf8_lossy(line)),
-        }
-        if out.len() > 1 << 16 {
-            std::io::stdout().write_all(out.as_bytes()).unwrap();
-            out.clear();
+    let mut core = Core::default();
+    let mut at = 0;
+    while input[at..].starts_with(b"site ") {
+        let end = at + input[at..].iter().position(|b| *b == b'\n').unwrap();
+        let site = Site::new(&input[at..end], core.cells.len() as u32, &mut core.cells);
+        core.site_of.resize(core.cells.len(), core.sites.len() as u8);
+        core.sites.push(site);
+        at = end + 1;
+    }
+    let mut out = Text { bytes: Vec::with_capacity(1 << 19) };
+    while at < input.len() {
+        at = event(&mut core, &input, at, &mut out);
+        if out.bytes.len() > 1 << 18 {
+            out.flush();
         }
     }
-    out.push_str("---\n");
+    out.put(b"---\n");
     core.bundle(&mut out);
-    std::io::stdout().write_all(out.as_bytes()).unwrap();
+    out.flush();
 }
