@@ -5,7 +5,7 @@ use Rattle.std.proofs.lemmas.List.{take_rest}
 use Rattle.sgt_serial.specs.private.Operations.{owner, is_by}
 use Rattle.sgt_serial.specs.declared.operations.SiteEntry.{SiteEntry}
 use Rattle.sgt_serial.proofs.Sorting.{of_number-between}
-use Rattle.sgt_serial.proofs.operations.Operations.of.Goals as goal
+use Rattle.sgt_serial.proofs.sorted.Sorted.of.Goals as goal
 
 -- where the entries below a number end
 abbrev Splits : List SiteEntry → ℕ → ℕ → Type 0
