@@ -51,19 +51,19 @@ flushed a b held wrote = (held, wrote, refl)
 -- bytes that are held back behind the others
 pub held-on : (a b : Option (List ℕ)) (held bytes left more : List ℕ) → PassesOn a b held bytes left → PassesOn a b held (bytes ++ more) (left ++ more)
 held-on a b held bytes left more passed = (
-      passed.0,
-      passed.1,
-      sym (append_assoc held bytes more) ∙ ap (λ xs. xs ++ more) passed.2 ∙ append_assoc passed.0 left more,
-    )
+  passed.0,
+  passed.1,
+  sym (append_assoc held bytes more) ∙ ap (λ xs. xs ++ more) passed.2 ∙ append_assoc passed.0 left more,
+)
 
 pub joined : (a b c : Option (List ℕ)) (held first mid second left : List ℕ) → PassesOn a b held first mid → PassesOn b c mid second left
     → PassesOn a c held (first ++ second) left
 joined a b c held first mid second left one two = (
-      one.0 ++ two.0,
-      appends_on a b c one.0 two.0 one.1 two.1,
-      sym (append_assoc held first second) ∙ ap (λ xs. xs ++ second) one.2 ∙ append_assoc one.0 mid second ∙ ap (λ xs. one.0 ++ xs) two.2
+  one.0 ++ two.0,
+  appends_on a b c one.0 two.0 one.1 two.1,
+  sym (append_assoc held first second) ∙ ap (λ xs. xs ++ second) one.2 ∙ append_assoc one.0 mid second ∙ ap (λ xs. one.0 ++ xs) two.2
       ∙ sym (append_assoc one.0 two.0 left),
-    )
+)
 
 -- the writer fails behind bytes that were passed on
 pub broken : (a b c : Option (List ℕ)) (held first mid second more whole : List ℕ) → PassesOn a b held first mid → WritesFront b c (mid ++ second)
@@ -73,3 +73,27 @@ broken a b c held first mid second more whole one fails split =
     sym (append_assoc one.0 mid second) ∙ ap (λ xs. xs ++ second) (sym one.2) ∙ append_assoc held first second in
     let all : (held ++ (first ++ second)) ++ more ≡ held ++ whole = append_assoc held (first ++ second) more ∙ ap (λ xs. held ++ xs) (sym split) in
     subst (WritesFront a c) all (front-more a c (held ++ (first ++ second)) more (subst (WritesFront a c) e (front-behind a b c one.0 (mid ++ second) one.1 fails)))
+
+-- the writer fails at the first bytes
+pub broken-first : (a c : Option (List ℕ)) (held first more whole : List ℕ) → WritesFront a c (held ++ first) → whole ≡ first ++ more → WritesFront a c (held ++ whole)
+broken-first a c held first more whole fails split =
+    subst (WritesFront a c) (append_assoc held first more ∙ ap (λ xs. held ++ xs) (sym split)) (front-more a c (held ++ first) more fails)
+
+-- bytes that are those of a list's elements, one after another
+module _ {A : Type 0} (text : List A → List ℕ) (none : text [] ≡ []) (append : (xs ys : List A) → text (xs ++ ys) ≡ text xs ++ text ys) where
+  pub begins : (a : Option (List ℕ)) (held : List ℕ) → PassesOn a a held (text []) held
+  begins a held = subst (λ bytes. PassesOn a a held bytes held) (sym none) (nothing a held)
+
+  -- one more
+  pub goes-on : (a b c : Option (List ℕ)) (held mid left : List ℕ) (xs next : List A) (x : A) → next ≡ xs ++ x ∷ [] → PassesOn a b held (text xs) mid
+      → PassesOn b c mid (text (x ∷ [])) left → PassesOn a c held (text next) left
+  goes-on a b c held mid left xs next x e one two =
+      subst (λ bytes. PassesOn a c held bytes left) (sym (ap text e ∙ append xs (x ∷ []))) (joined a b c held (text xs) mid (text (x ∷ [])) left one two)
+
+  -- the writer fails at one
+  pub breaks-off : (a b c : Option (List ℕ)) (held mid : List ℕ) (xs next rest all : List A) (x : A) → next ≡ xs ++ x ∷ [] → all ≡ next ++ rest
+      → PassesOn a b held (text xs) mid → WritesFront b c (mid ++ text (x ∷ [])) → WritesFront a c (held ++ text all)
+  breaks-off a b c held mid xs next rest all x e whole one fails =
+      let split : text all ≡ (text xs ++ text (x ∷ [])) ++ text rest =
+      ap text whole ∙ append next rest ∙ ap (λ bytes. bytes ++ text rest) (ap text e ∙ append xs (x ∷ [])) in
+      broken a b c held (text xs) mid (text (x ∷ [])) (text rest) (text all) one fails split
