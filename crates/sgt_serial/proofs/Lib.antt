@@ -1,3 +1,4 @@
+mod Answering
 mod Bundles
 mod ByRank
 mod Changes

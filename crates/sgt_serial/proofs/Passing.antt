@@ -1,6 +1,8 @@
 -- Bytes that are passed on to a writer.
-use Rattle.std.proofs.Common.{◌≡◌, ℕ, suc, ◌+◌, ◌<◌, List, [], ◌∷◌, ◌++◌, length, take, Option, Some, None, refl, sym, ap, ◌∙◌, subst, arith, append_assoc, append-nil, length-append}
-use Rattle.std.proofs.lemmas.List.{take-append-le}
+use Rattle.std.proofs.Common.{◌≡◌, ℕ, suc, ◌+◌, ◌<◌, List, [], ◌∷◌, ◌++◌, length, take, drop, Option, Some, None, refl, sym, ap, ◌∙◌, subst, arith, append_assoc, append-nil, length-append}
+use Rattle.std.proofs.lemmas.List.{take-append-le, take-append-drop}
+use Rattle.std.specs.Prelude.{slice_get}
+use Rattle.sgt_names.proofs.Lists.{take_next}
 use Rattle.std.specs.Io.KnownBytes.{Appends}
 use Rattle.sgt_names.specs.Device.{AppendsOrForgets, WritesFront}
 use Rattle.sgt_names.proofs.Devices.{appends_on}
@@ -97,3 +99,15 @@ module _ {A : Type 0} (text : List A → List ℕ) (none : text [] ≡ []) (appe
       let split : text all ≡ (text xs ++ text (x ∷ [])) ++ text rest =
       ap text whole ∙ append next rest ∙ ap (λ bytes. bytes ++ text rest) (ap text e ∙ append xs (x ∷ [])) in
       broken a b c held (text xs) mid (text (x ∷ [])) (text rest) (text all) one fails split
+
+-- a loop over a list
+module _ {A : Type 0} (text : List A → List ℕ) (none : text [] ≡ []) (append : (xs ys : List A) → text (xs ++ ys) ≡ text xs ++ text ys) (xs : List A) (i : ℕ) (x : A)
+    (at : slice_get xs i ≡ Some x) where
+  pub loop-goes-on : (a b c : Option (List ℕ)) (held mid left : List ℕ) → PassesOn a b held (text (take i xs)) mid → PassesOn b c mid (text (x ∷ [])) left
+      → PassesOn a c held (text (take (i + 1) xs)) left
+  loop-goes-on a b c held mid left one two = goes-on text none append a b c held mid left (take i xs) (take (i + 1) xs) x (take_next xs i x at) one two
+
+  pub loop-breaks-off : (a b c : Option (List ℕ)) (held mid : List ℕ) → PassesOn a b held (text (take i xs)) mid → WritesFront b c (mid ++ text (x ∷ []))
+      → WritesFront a c (held ++ text xs)
+  loop-breaks-off a b c held mid one fails =
+      breaks-off text none append a b c held mid (take i xs) (take (i + 1) xs) (drop (i + 1) xs) xs x (take_next xs i x at) (sym (take-append-drop (i + 1) xs)) one fails

@@ -1,6 +1,8 @@
 //! The serial run of all that a reader gives.
 
-ghost use Rattle.std.specs.Prelude.{◌≡◌, ◌≢◌, ◌-◌, ◌<◌, ◌≤◌, ℕ, List, Option, Err, length, OnErr, IfOk, IfSome, IsErrOf};
+ghost use Rattle.std.specs.Prelude.{◌≡◌, ◌≢◌, ◌-◌, ◌<◌, ◌≤◌, ℕ, List, Option, Err, length, OnOk, OnErr, IfOk, IfSome, IsErrOf};
+ghost use Rattle.std.specs.Io.KnownBytes.{Appends};
+ghost use Rattle.sgt_names.specs.Device.{WritesFront};
 ghost use Rattle.sgt_notation.specs.Lines.{ReadFaultIsDue};
 ghost use Rattle.sgt_audit.specs.Faults.{ReadsNoFurther};
 ghost use Rattle.sgt_audit.specs.Verdict.{IsAudited, HandsOutValid, text_of};
@@ -8,7 +10,6 @@ ghost use Rattle.sgt_audit.specs.declared.verdict.Verdict.TheVariants as verdict
 ghost use Rattle.sgt_serial.specs.Answer.{WroteAnswer, WroteAnswerFront};
 ghost use Rattle.sgt_serial.specs.Report.{report_of};
 ghost use Rattle.sgt_serial.specs.Text.{report_text};
-ghost use Rattle.sgt_serial.specs.private.Written.{Answers, FailsWith};
 
 use crate::written::Plan;
 use sgt_audit::{Audited, Fault, Verdict, audit_bundle};
@@ -23,9 +24,12 @@ fn write_fault<W: Sink>(
     line: u64,
     fault: Fault,
 ) -> Result<(), EngineFail>
-    ensures went { Answers result (W.holds writer.old) (W.holds writer.new) (text_of (verdict.No line fault)) }
+    ensures ok { OnOk result (Appends (W.holds writer.old) (W.holds writer.new) (text_of (verdict.No line fault))) }
+    ensures front { IsErrOf result EngineFail.WriteFault → WritesFront (W.holds writer.old) (W.holds writer.new) (text_of (verdict.No line fault)) }
     ensures untouched { IsErrOf result EngineFail.Memory → writer.new ≡ writer.old }
-    ensures fails { FailsWith result (W.failures writer.old) (W.failures writer.new) }
+    ensures unread { result ≢ Err EngineFail.ReadFault }
+    ensures fault { IsErrOf result EngineFail.WriteFault → W.failures writer.old < W.failures writer.new }
+    ensures quiet { result ≢ Err EngineFail.WriteFault → W.failures writer.new ≡ W.failures writer.old }
 {
     let verdict = Verdict::No { line, fault }.to_line(alloc)?;
     match write_all(writer, verdict.as_bytes()) {
@@ -36,9 +40,12 @@ fn write_fault<W: Sink>(
 
 /// Writes the run of the bundle.
 fn write_serial<W: Sink>(alloc: Global, writer: &mut W, bundle: &Bundle) -> Result<(), EngineFail>
-    ensures went { Answers result (W.holds writer.old) (W.holds writer.new) (report_text (report_of bundle.now)) }
+    ensures ok { OnOk result (Appends (W.holds writer.old) (W.holds writer.new) (report_text (report_of bundle.now))) }
+    ensures front { IsErrOf result EngineFail.WriteFault → WritesFront (W.holds writer.old) (W.holds writer.new) (report_text (report_of bundle.now)) }
     ensures untouched { IsErrOf result EngineFail.Memory → writer.new ≡ writer.old }
-    ensures fails { FailsWith result (W.failures writer.old) (W.failures writer.new) }
+    ensures unread { result ≢ Err EngineFail.ReadFault }
+    ensures fault { IsErrOf result EngineFail.WriteFault → W.failures writer.old < W.failures writer.new }
+    ensures quiet { result ≢ Err EngineFail.WriteFault → W.failures writer.new ≡ W.failures writer.old }
 {
     let plan = Plan::new(alloc, bundle)?;
     match plan.write(writer, bundle) {
@@ -59,7 +66,9 @@ fn write_answer<W: Sink>(
     ensures front { (told : Option (List ℕ)) → IfSome told (λ bytes. IsAudited bytes audited)
         → OnErr result (WroteAnswerFront told (W.holds writer.old) (W.holds writer.new)) }
     ensures untouched { IsErrOf result EngineFail.Memory → writer.new ≡ writer.old }
-    ensures fails { FailsWith result (W.failures writer.old) (W.failures writer.new) }
+    ensures unread { result ≢ Err EngineFail.ReadFault }
+    ensures fault { IsErrOf result EngineFail.WriteFault → W.failures writer.old < W.failures writer.new }
+    ensures quiet { result ≢ Err EngineFail.WriteFault → W.failures writer.new ≡ W.failures writer.old }
 {
     match audited {
         Audited::Valid(bundle) => {

@@ -1,10 +1,7 @@
 -- A text that is on its way to a writer.
-use Rattle.std.specs.Prelude.{◌≡◌, ℕ, ◌≤◌, ◌<◌, List, [], ◌∷◌, ◌++◌, map, codes, vec_capacity, Option, Result, Ok, Err}
+use Rattle.std.specs.Prelude.{◌≡◌, ℕ, ◌≤◌, List, [], ◌∷◌, ◌++◌, map, codes, vec_capacity, Option}
 use Rattle.std.specs.List.{filter_map}
 use Rattle.std.specs.Io.KnownBytes.{Appends}
-use Rattle.sgt_names.specs.Device.{AppendsOrForgets, WritesFront}
-use Rattle.sgt_names.specs.declared.outcome.EngineFail.{EngineFail}
-use Rattle.sgt_names.specs.declared.outcome.EngineFail.TheVariants.{Memory, ReadFault, WriteFault}
 use Rattle.sgt_cert.specs.Parts.{Parts}
 use Rattle.sgt_cert.specs.Certificate.{by_rank}
 use Rattle.sgt_serial.specs.declared.report.SiteChange.{SiteChange}
@@ -45,17 +42,3 @@ pub record IsPlanOf (b : Parts) (room : ℕ) (p : Plan) : Type 0 where
   pub finals : p.finals.items ≡ finals_of b.sites
   pub empty : p.out.items ≡ []
   pub room : room ≤ vec_capacity p.out
-
--- a text was written; or, with WriteFault, a front of it; or, with Memory, nothing
-abbrev pub Answers : {A : Type 0} → Result A EngineFail → (old new : Option (List ℕ)) → (text : List ℕ) → Type 0
-Answers (Ok a) old new text = Appends old new text
-Answers (Err Memory) old new text = AppendsOrForgets old new []
-Answers (Err ReadFault) old new text = ⊥
-Answers (Err WriteFault) old new text = WritesFront old new text
-
--- with WriteFault the writer has failed, and else it has not
-abbrev pub FailsWith : {A : Type 0} → Result A EngineFail → (old new : ℕ) → Type 0
-FailsWith (Ok a) old new = new ≡ old
-FailsWith (Err Memory) old new = new ≡ old
-FailsWith (Err ReadFault) old new = ⊥
-FailsWith (Err WriteFault) old new = old < new
