@@ -1,8 +1,6 @@
 -- Bytes that are passed on to a writer.
-use Rattle.std.proofs.Common.{◌≡◌, ℕ, suc, ◌+◌, ◌<◌, List, [], ◌∷◌, ◌++◌, length, take, drop, Option, Some, None, refl, sym, ap, ◌∙◌, subst, arith, append_assoc, append-nil, length-append}
-use Rattle.std.proofs.lemmas.List.{take-append-le, take-append-drop}
-use Rattle.std.specs.Prelude.{slice_get}
-use Rattle.sgt_names.proofs.Lists.{take_next}
+use Rattle.std.proofs.Common.{◌≡◌, ℕ, suc, ◌+◌, ◌<◌, List, [], ◌∷◌, ◌++◌, length, take, Option, Some, None, refl, sym, ap, ◌∙◌, subst, arith, append_assoc, append-nil, length-append}
+use Rattle.std.proofs.lemmas.List.{take-append-le}
 use Rattle.std.specs.Io.KnownBytes.{Appends}
 use Rattle.sgt_names.specs.Device.{AppendsOrForgets, WritesFront}
 use Rattle.sgt_names.proofs.Devices.{appends_on}
@@ -81,33 +79,37 @@ pub broken-first : (a c : Option (List ℕ)) (held first more whole : List ℕ) 
 broken-first a c held first more whole fails split =
     subst (WritesFront a c) (append_assoc held first more ∙ ap (λ xs. held ++ xs) (sym split)) (front-more a c (held ++ first) more fails)
 
--- bytes that are those of a list's elements, one after another
-module _ {A : Type 0} (text : List A → List ℕ) (none : text [] ≡ []) (append : (xs ys : List A) → text (xs ++ ys) ≡ text xs ++ text ys) where
-  pub begins : (a : Option (List ℕ)) (held : List ℕ) → PassesOn a a held (text []) held
-  begins a held = subst (λ bytes. PassesOn a a held bytes held) (sym none) (nothing a held)
+-- of a whole text all was passed on but the rest
+abbrev pub IsPassed : (a b : Option (List ℕ)) → (held left rest whole : List ℕ) → Type 0
+IsPassed a b held left rest whole = (bytes : List ℕ) × PassesOn a b held bytes left × (bytes ++ rest ≡ whole)
 
-  -- one more
-  pub goes-on : (a b c : Option (List ℕ)) (held mid left : List ℕ) (xs next : List A) (x : A) → next ≡ xs ++ x ∷ [] → PassesOn a b held (text xs) mid
-      → PassesOn b c mid (text (x ∷ [])) left → PassesOn a c held (text next) left
-  goes-on a b c held mid left xs next x e one two =
-      subst (λ bytes. PassesOn a c held bytes left) (sym (ap text e ∙ append xs (x ∷ []))) (joined a b c held (text xs) mid (text (x ∷ [])) left one two)
+pub passes-none : (a : Option (List ℕ)) (held rest whole : List ℕ) → rest ≡ whole → IsPassed a a held held rest whole
+passes-none a held rest whole e = ([], nothing a held, e)
 
-  -- the writer fails at one
-  pub breaks-off : (a b c : Option (List ℕ)) (held mid : List ℕ) (xs next rest all : List A) (x : A) → next ≡ xs ++ x ∷ [] → all ≡ next ++ rest
-      → PassesOn a b held (text xs) mid → WritesFront b c (mid ++ text (x ∷ [])) → WritesFront a c (held ++ text all)
-  breaks-off a b c held mid xs next rest all x e whole one fails =
-      let split : text all ≡ (text xs ++ text (x ∷ [])) ++ text rest =
-      ap text whole ∙ append next rest ∙ ap (λ bytes. bytes ++ text rest) (ap text e ∙ append xs (x ∷ [])) in
-      broken a b c held (text xs) mid (text (x ∷ [])) (text rest) (text all) one fails split
+pub passes-more : (a b c : Option (List ℕ)) (held mid left piece rest more whole : List ℕ) → rest ≡ piece ++ more → IsPassed a b held mid rest whole
+    → PassesOn b c mid piece left → IsPassed a c held left more whole
+passes-more a b c held mid left piece rest more whole e one two = (
+  one.0 ++ piece,
+  joined a b c held one.0 mid piece left one.1 two,
+  append_assoc one.0 piece more ∙ ap (λ xs. one.0 ++ xs) (sym e) ∙ one.2,
+)
 
--- a loop over a list
-module _ {A : Type 0} (text : List A → List ℕ) (none : text [] ≡ []) (append : (xs ys : List A) → text (xs ++ ys) ≡ text xs ++ text ys) (xs : List A) (i : ℕ) (x : A)
-    (at : slice_get xs i ≡ Some x) where
-  pub loop-goes-on : (a b c : Option (List ℕ)) (held mid left : List ℕ) → PassesOn a b held (text (take i xs)) mid → PassesOn b c mid (text (x ∷ [])) left
-      → PassesOn a c held (text (take (i + 1) xs)) left
-  loop-goes-on a b c held mid left one two = goes-on text none append a b c held mid left (take i xs) (take (i + 1) xs) x (take_next xs i x at) one two
+pub passes-all : (a b : Option (List ℕ)) (held left rest whole : List ℕ) → rest ≡ [] → IsPassed a b held left rest whole → PassesOn a b held whole left
+passes-all a b held left rest whole e one =
+    subst (λ bytes. PassesOn a b held bytes left) (sym (append-nil one.0) ∙ ap (λ xs. one.0 ++ xs) (sym e) ∙ one.2) one.1
 
-  pub loop-breaks-off : (a b c : Option (List ℕ)) (held mid : List ℕ) → PassesOn a b held (text (take i xs)) mid → WritesFront b c (mid ++ text (x ∷ []))
-      → WritesFront a c (held ++ text xs)
-  loop-breaks-off a b c held mid one fails =
-      breaks-off text none append a b c held mid (take i xs) (take (i + 1) xs) (drop (i + 1) xs) xs x (take_next xs i x at) (sym (take-append-drop (i + 1) xs)) one fails
+-- the writer fails
+pub passes-front : (a b c : Option (List ℕ)) (held mid piece rest more whole : List ℕ) → rest ≡ piece ++ more → IsPassed a b held mid rest whole
+    → WritesFront b c (mid ++ piece) → WritesFront a c (held ++ whole)
+passes-front a b c held mid piece rest more whole e one fails =
+    broken a b c held one.0 mid piece more whole one.1 fails (sym one.2 ∙ ap (λ xs. one.0 ++ xs) e ∙ sym (append_assoc one.0 piece more))
+
+-- all is written in the end
+pub written-all : (a c d : Option (List ℕ)) (held bytes mid whole : List ℕ) → held ≡ [] → bytes ≡ whole → PassesOn a c held bytes mid → Appends c d mid → Appends a d whole
+written-all a c d held bytes mid whole none e one wrote =
+    subst (Appends a d) (sym one.2 ∙ ap (λ xs. xs ++ bytes) none ∙ e) (appends_on a c d one.0 mid one.1 wrote)
+
+-- or a front of it
+pub written-front : (a c d : Option (List ℕ)) (held bytes mid whole : List ℕ) → held ≡ [] → bytes ≡ whole → PassesOn a c held bytes mid → WritesFront c d mid → WritesFront a d whole
+written-front a c d held bytes mid whole none e one fails =
+    subst (WritesFront a d) (sym one.2 ∙ ap (λ xs. xs ++ bytes) none ∙ e) (front-behind a c d one.0 mid one.1 fails)

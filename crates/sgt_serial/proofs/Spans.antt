@@ -3,7 +3,6 @@ use Rattle.std.proofs.Common.{◌≡◌, ℕ, ◌+◌, ◌-◌, ◌<◌, ◌≤�
 use Rattle.std.specs.Prelude.{slice_get}
 use Rattle.std.specs.List.{filter, filter_map}
 use Rattle.std.proofs.lemmas.List.Elements.{filter_map-append}
-use Rattle.sgt_names.specs.Device.{WritesFront}
 use Rattle.sgt_names.specs.declared.entry.Entry.{Entry}
 use Rattle.sgt_notation.specs.Spelling.{text_of_lines}
 use Rattle.sgt_cert.specs.declared.bundle.SiteLog.{SiteLog}
@@ -13,10 +12,8 @@ use Rattle.sgt_serial.specs.declared.operations.Operations.TheVariants.{Grouped,
 use Rattle.sgt_serial.specs.Report.{picked_of}
 use Rattle.sgt_serial.specs.private.Grouped.{entries_in}
 use Rattle.sgt_serial.specs.private.Operations.{all_entries, is_by}
-use Rattle.sgt_serial.specs.private.Written.{PassesOn}
 use Rattle.sgt_serial.proofs.Grouping.{of_all}
 use Rattle.sgt_serial.proofs.Lines.{picked_text, picked-append}
-use Rattle.sgt_serial.proofs.Passing.{begins, goes-on, breaks-off}
 use Rattle.sgt_serial.proofs.Windows.{window-split}
 
 split-in : (logs : List SiteLog) (o : Operations) (from mid to : ℕ) → from ≤ mid → mid ≤ to
@@ -29,36 +26,30 @@ pub none-in : (logs : List SiteLog) (o : Operations) (from : ℕ) → entries_in
 none-in logs (Grouped g) from = let e : from - from ≡ 0 = omega arith in rw e refl
 none-in logs (Sorted s) from = let e : from - from ≡ 0 = omega arith in rw e refl
 
-module _ {B : Type 0} (line : B → List ℕ) (pick : ℕ → Entry → Option B) (logs : List SiteLog) (o : Operations) (from : ℕ) where
+-- the next entry, and all behind it
+pub next-in : (logs : List SiteLog) (o : Operations) (place to : ℕ) (e : SiteEntry) → place < to → entries_in logs o place (place + 1) ≡ entries_in logs o place place ++ e ∷ []
+    → entries_in logs o place to ≡ e ∷ entries_in logs o (place + 1) to
+next-in logs o place to e within next =
+    let low : place ≤ place + 1 = omega arith in
+    let high : place + 1 ≤ to = omega (arith, within) in
+    split-in logs o place (place + 1) to low high ∙ ap (λ es. es ++ entries_in logs o (place + 1) to) (next ∙ ap (λ es. es ++ e ∷ []) (none-in logs o place))
+
+module _ {B : Type 0} (line : B → List ℕ) (pick : ℕ → Entry → Option B) (logs : List SiteLog) (o : Operations) where
   abbrev pub by : SiteEntry → Option B
   by e = pick e.site e.entry
 
-  -- the text of the entries up to a place
-  abbrev pub text_to : ℕ → List ℕ
-  text_to place = picked_text line by (entries_in logs o from place)
+  -- the text of the entries from one place up to another
+  abbrev pub text_in : (from to : ℕ) → List ℕ
+  text_in from to = picked_text line by (entries_in logs o from to)
 
-  pub text-begins : (a : Option (List ℕ)) (held : List ℕ) → PassesOn a a held (text_to from) held
-  text-begins a held =
-      subst (λ es. PassesOn a a held (picked_text line by es) held) (sym (none-in logs o from)) (begins (picked_text line by) refl (picked-append line by) a held)
+  pub text-next : (place to : ℕ) (e : SiteEntry) → place < to → entries_in logs o place (place + 1) ≡ entries_in logs o place place ++ e ∷ []
+      → text_in place to ≡ picked_text line by (e ∷ []) ++ text_in (place + 1) to
+  text-next place to e within next =
+      ap (picked_text line by) (next-in logs o place to e within next) ∙ picked-append line by (e ∷ []) (entries_in logs o (place + 1) to)
 
-  module _ (place : ℕ) (e : SiteEntry) (next : entries_in logs o from (place + 1) ≡ entries_in logs o from place ++ e ∷ []) where
-    pub text-goes-on : (a b c : Option (List ℕ)) (held mid left : List ℕ) → PassesOn a b held (text_to place) mid
-        → PassesOn b c mid (picked_text line by (e ∷ [])) left → PassesOn a c held (text_to (place + 1)) left
-    text-goes-on a b c held mid left one two =
-        goes-on (picked_text line by) refl (picked-append line by) a b c held mid left (entries_in logs o from place) (entries_in logs o from (place + 1)) e next one two
+  pub text-none : (place to : ℕ) → place ≡ to → text_in place to ≡ []
+  text-none place to end = ap (λ n. text_in n to) end ∙ ap (picked_text line by) (none-in logs o to)
 
-    -- where these are all entries of the transaction
-    module _ (tx to : ℕ) (within : place < to) (le : from ≤ place) (own : entries_in logs o from to ≡ filter (is_by tx) (all_entries logs)) where
-      pub text-breaks-off : (a b c : Option (List ℕ)) (held mid : List ℕ) → PassesOn a b held (text_to place) mid
-          → WritesFront b c (mid ++ picked_text line by (e ∷ [])) → WritesFront a c (held ++ text_of_lines (map line (picked_of pick logs tx)))
-      text-breaks-off a b c held mid one fails =
-          let low : from ≤ place + 1 = omega (arith, le) in
-          let high : place + 1 ≤ to = omega (arith, within) in
-          subst (λ ys. WritesFront a c (held ++ text_of_lines (map line ys))) (ap (filter_map by) own ∙ of_all pick tx logs)
-          (breaks-off (picked_text line by) refl (picked-append line by) a b c held mid (entries_in logs o from place) (entries_in logs o from (place + 1))
-          (entries_in logs o (place + 1) to) (entries_in logs o from to) e next (split-in logs o from (place + 1) to low high) one fails)
-
-  pub text-ends : (tx to place : ℕ) → place ≡ to → entries_in logs o from to ≡ filter (is_by tx) (all_entries logs) → (a b : Option (List ℕ)) (held left : List ℕ)
-      → PassesOn a b held (text_to place) left → PassesOn a b held (text_of_lines (map line (picked_of pick logs tx))) left
-  text-ends tx to place end own a b held left passed =
-      subst (λ ys. PassesOn a b held (text_of_lines (map line ys)) left) (ap (λ n. filter_map by (entries_in logs o from n)) end ∙ ap (filter_map by) own ∙ of_all pick tx logs) passed
+  -- where these are all entries of the transaction
+  pub text-all : (tx from to : ℕ) → entries_in logs o from to ≡ filter (is_by tx) (all_entries logs) → text_in from to ≡ text_of_lines (map line (picked_of pick logs tx))
+  text-all tx from to own = ap (λ ys. text_of_lines (map line ys)) (ap (filter_map by) own ∙ of_all pick tx logs)

@@ -203,7 +203,8 @@ fn write_run<W: Sink>(
 {
     write_head(writer, out, tx)?;
     write_reads(writer, out, logs, operations, tx)?;
-    write_changes(writer, out, logs, operations, tx)
+    write_changes(writer, out, logs, operations, tx)?;
+    Ok(())
 }
 
 /// Writes the lines of these transactions, one after another.
@@ -277,14 +278,10 @@ impl Plan {
             finals,
             mut out,
         } = self;
-        write_runs(
-            writer,
-            &mut out,
-            bundle.sites(),
-            &operations,
-            order.as_slice(),
-        )?;
+        let sites = bundle.sites();
+        write_runs(writer, &mut out, sites, &operations, order.as_slice())?;
         write_finals(writer, &mut out, finals.as_slice())?;
-        write_all(writer, out.as_slice())
+        write_all(writer, out.as_slice())?;
+        Ok(())
     }
 }

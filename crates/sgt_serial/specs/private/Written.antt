@@ -36,9 +36,9 @@ abbrev pub PassesOn : (old new : Option (List ℕ)) → (held bytes left : List 
 PassesOn old new held bytes left = (front : List ℕ) × Appends old new front × (held ++ bytes ≡ front ++ left)
 
 -- all that the writing of the bundle's run needs
-pub record IsPlanOf (b : Parts) (room : ℕ) (p : Plan) : Type 0 where
+pub record IsPlanOf (b : Parts) (most : ℕ) (p : Plan) : Type 0 where
   pub order : p.order.items ≡ by_rank b.certificate.decisions
   pub operations : AreOperationsOf b.sites p.operations
   pub finals : p.finals.items ≡ finals_of b.sites
   pub empty : p.out.items ≡ []
-  pub room : room ≤ vec_capacity p.out
+  pub room : most ≤ vec_capacity p.out

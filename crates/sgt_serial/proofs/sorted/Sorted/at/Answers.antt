@@ -1,0 +1,4 @@
+use Rattle.sgt_serial.proofs.sorted.Sorted.at.Goals as goal
+
+pub returns : goal.returns
+returns c = ?
