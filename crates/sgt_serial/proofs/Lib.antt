@@ -15,4 +15,5 @@ mod Places
 mod Running
 mod Sorting
 mod Spans
+mod Whole
 mod Windows

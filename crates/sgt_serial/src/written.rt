@@ -256,11 +256,15 @@ impl Plan {
         ensures { IfOk result (IsPlanOf bundle.now 65600) }
     {
         let sites = bundle.sites();
+        let order = serial_order(alloc, bundle.certificate().decisions.as_slice())?;
+        let operations = Operations::new(alloc, sites)?;
+        let finals = finals(alloc, sites)?;
+        let out = Vec::with_capacity(alloc, BLOCK + ROOM)?;
         Ok(Plan {
-            order: serial_order(alloc, bundle.certificate().decisions.as_slice())?,
-            operations: Operations::new(alloc, sites)?,
-            finals: finals(alloc, sites)?,
-            out: Vec::with_capacity(alloc, BLOCK + ROOM)?,
+            order,
+            operations,
+            finals,
+            out,
         })
     }
 
