@@ -1,6 +1,7 @@
 -- Bytes that are passed on to a writer.
-use Rattle.std.proofs.Common.{◌≡◌, ℕ, suc, ◌+◌, ◌<◌, List, [], ◌∷◌, ◌++◌, length, take, Option, Some, None, refl, sym, ap, ◌∙◌, subst, arith, append_assoc, append-nil, length-append}
+use Rattle.std.proofs.Common.{◌≡◌, ℕ, suc, ◌+◌, ◌<◌, List, [], ◌∷◌, ◌++◌, length, take, Option, Some, None, Result, Ok, Err, refl, sym, ap, ◌∙◌, subst, arith, append_assoc, append-nil, length-append}
 use Rattle.std.proofs.lemmas.List.{take-append-le}
+use Rattle.std.specs.Prelude.{OnErr}
 use Rattle.std.specs.Io.KnownBytes.{Appends}
 use Rattle.sgt_names.specs.Device.{AppendsOrForgets, WritesFront}
 use Rattle.sgt_names.proofs.Devices.{appends_on}
@@ -113,3 +114,8 @@ written-all a c d held bytes mid whole none e one wrote =
 pub written-front : (a c d : Option (List ℕ)) (held bytes mid whole : List ℕ) → held ≡ [] → bytes ≡ whole → PassesOn a c held bytes mid → WritesFront c d mid → WritesFront a d whole
 written-front a c d held bytes mid whole none e one fails =
     subst (WritesFront a d) (sym one.2 ∙ ap (λ xs. xs ++ bytes) none ∙ e) (front-behind a c d one.0 mid one.1 fails)
+
+-- whatever the failure is
+pub on-err : {A E P : Type 0} (r : Result A E) → P → OnErr r P
+on-err (Ok a) p = tt
+on-err (Err e) p = p

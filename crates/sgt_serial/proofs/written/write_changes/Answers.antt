@@ -4,7 +4,7 @@ use Rattle.sgt_notation.specs.Spelling.{text_of_lines}
 use Rattle.sgt_serial.specs.Report.{picked_of, write_at}
 use Rattle.sgt_serial.specs.Text.{change_line}
 use Rattle.sgt_serial.proofs.Lines.{picked_text}
-use Rattle.sgt_serial.proofs.Passing.{passes-none, passes-more, passes-all, passes-front}
+use Rattle.sgt_serial.proofs.Passing.{on-err, passes-none, passes-more, passes-all, passes-front}
 use Rattle.sgt_serial.proofs.Spans.{by, text_in, text-next, text-none, text-all}
 use Rattle.sgt_serial.proofs.written.write_changes.Goals as goal
 
@@ -39,7 +39,7 @@ loop-place-preserved g c =
       passed = passes-more (holds c.args.writer.now) (holds c.loop-place.writer) (holds c.write_change.new.writer) c.args.out.now.items c.loop-place.out.items c.write_change.new.out.items
           (picked_text line (by line write_at logs o) (own ∷ [])) (text_in line write_at logs o place to) (text_in line write_at logs o (place + 1) to)
           (text_of_lines (map line (picked_of write_at logs c.args.tx))) (text-next line write_at logs o place to own within (c.at-own.ensures place start)) so_far.passed call.ok;
-      capacity = omega (arith, so_far.capacity, c.write_change.ensures.capacity);
+      capacity = omega (arith, so_far.capacity, call.capacity);
       quiet = call.fails ∙ so_far.quiet;
     }
 
@@ -54,10 +54,11 @@ returns-in_err-write_change-clause-err g c =
     let own = c.at-own.result in
     let within : place < to = omega arith in
     let start : place ≤ place = omega arith in
-    passes-front (holds c.args.writer.now) (holds c.loop-place.writer) (holds c.write_change.new.writer) c.args.out.now.items c.loop-place.out.items
+    on-err c.from_residual.result
+    (passes-front (holds c.args.writer.now) (holds c.loop-place.writer) (holds c.write_change.new.writer) c.args.out.now.items c.loop-place.out.items
     (picked_text line (by line write_at logs o) (own ∷ [])) (text_in line write_at logs o place to) (text_in line write_at logs o (place + 1) to)
     (text_of_lines (map line (picked_of write_at logs c.args.tx))) (text-next line write_at logs o place to own within (c.at-own.ensures place start)) c.loop-place.invariant.passed
-    c.in_err-write_change.ensures.err
+    c.in_err-write_change.ensures.err)
 
 pub returns-clause-ok : goal.returns-clause-ok
 returns-clause-ok g c =

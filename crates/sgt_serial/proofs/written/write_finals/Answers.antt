@@ -6,7 +6,7 @@ use Rattle.sgt_notation.specs.Spelling.{text_of_lines}
 use Rattle.sgt_serial.specs.Text.{final_line}
 use Rattle.sgt_serial.specs.private.Written.{with_lf}
 use Rattle.sgt_serial.proofs.Lines.{text-append}
-use Rattle.sgt_serial.proofs.Passing.{passes-none, passes-more, passes-all, passes-front}
+use Rattle.sgt_serial.proofs.Passing.{on-err, passes-none, passes-more, passes-all, passes-front}
 use Rattle.sgt_serial.proofs.written.write_finals.Goals as goal
 
 pub loop-value-init : goal.loop-value-init
@@ -30,7 +30,7 @@ loop-value-preserved g c =
     record {
       passed = passes-more (holds c.args.writer.now) (holds c.loop-value.writer) (holds c.write_final.new.writer) c.args.out.now.items c.loop-value.out.items c.write_final.new.out.items
           (with_lf (final_line x)) (text_of_lines (map final_line (drop i xs))) (text_of_lines (map final_line (drop (i + 1) xs))) (text_of_lines (map final_line xs)) (ap (λ ys. text_of_lines (map final_line ys)) (drop_next xs i x at)) so_far.passed call.ok;
-      capacity = omega (arith, so_far.capacity, c.write_final.ensures.capacity);
+      capacity = omega (arith, so_far.capacity, call.capacity);
       quiet = call.fails ∙ so_far.quiet;
     }
 
@@ -41,8 +41,9 @@ returns-in_err-write_final-clause-err g c =
     let i = c.loop-value.value-index in
     let x = c.value-item.result in
     let at = element_at xs i x (omega arith) c.value-item.is in
-    passes-front (holds c.args.writer.now) (holds c.loop-value.writer) (holds c.write_final.new.writer) c.args.out.now.items c.loop-value.out.items
-    (with_lf (final_line x)) (text_of_lines (map final_line (drop i xs))) (text_of_lines (map final_line (drop (i + 1) xs))) (text_of_lines (map final_line xs)) (ap (λ ys. text_of_lines (map final_line ys)) (drop_next xs i x at)) c.loop-value.invariant.passed c.in_err-write_final.ensures.err
+    on-err c.from_residual.result
+    (passes-front (holds c.args.writer.now) (holds c.loop-value.writer) (holds c.write_final.new.writer) c.args.out.now.items c.loop-value.out.items
+    (with_lf (final_line x)) (text_of_lines (map final_line (drop i xs))) (text_of_lines (map final_line (drop (i + 1) xs))) (text_of_lines (map final_line xs)) (ap (λ ys. text_of_lines (map final_line ys)) (drop_next xs i x at)) c.loop-value.invariant.passed c.in_err-write_final.ensures.err)
 
 pub returns-clause-ok : goal.returns-clause-ok
 returns-clause-ok g c =

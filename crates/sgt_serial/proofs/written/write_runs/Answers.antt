@@ -8,7 +8,7 @@ use Rattle.sgt_serial.specs.Report.{run_of}
 use Rattle.sgt_serial.specs.Text.{run_lines}
 use Rattle.sgt_serial.specs.private.Written.{with_lf}
 use Rattle.sgt_serial.proofs.Lines.{text-append}
-use Rattle.sgt_serial.proofs.Passing.{passes-none, passes-more, passes-all, passes-front}
+use Rattle.sgt_serial.proofs.Passing.{on-err, passes-none, passes-more, passes-all, passes-front}
 use Rattle.sgt_serial.proofs.written.write_runs.Goals as goal
 
 pub loop-tx-init : goal.loop-tx-init
@@ -34,7 +34,7 @@ loop-tx-preserved g c =
     record {
       passed = passes-more (holds c.args.writer.now) (holds c.loop-tx.writer) (holds c.write_run.new.writer) c.args.out.now.items c.loop-tx.out.items c.write_run.new.out.items
           (text_of_lines (run_lines (run_of logs x))) (text_of_lines (flat_map run_lines (map (run_of logs) (drop i xs)))) (text_of_lines (flat_map run_lines (map (run_of logs) (drop (i + 1) xs)))) (text_of_lines (flat_map run_lines (map (run_of logs) xs))) (ap (λ ys. text_of_lines (flat_map run_lines (map (run_of logs) ys))) (drop_next xs i x at) ∙ text-append (run_lines (run_of logs x)) (flat_map run_lines (map (run_of logs) (drop (i + 1) xs)))) so_far.passed call.ok;
-      capacity = omega (arith, so_far.capacity, c.write_run.ensures.capacity);
+      capacity = omega (arith, so_far.capacity, call.capacity);
       quiet = call.fails ∙ so_far.quiet;
     }
 
@@ -46,8 +46,9 @@ returns-in_err-write_run-clause-err g c =
     let i = c.loop-tx.tx-index in
     let x = c.tx-item.result in
     let at = element_at xs i x (omega arith) c.tx-item.is in
-    passes-front (holds c.args.writer.now) (holds c.loop-tx.writer) (holds c.write_run.new.writer) c.args.out.now.items c.loop-tx.out.items
-    (text_of_lines (run_lines (run_of logs x))) (text_of_lines (flat_map run_lines (map (run_of logs) (drop i xs)))) (text_of_lines (flat_map run_lines (map (run_of logs) (drop (i + 1) xs)))) (text_of_lines (flat_map run_lines (map (run_of logs) xs))) (ap (λ ys. text_of_lines (flat_map run_lines (map (run_of logs) ys))) (drop_next xs i x at) ∙ text-append (run_lines (run_of logs x)) (flat_map run_lines (map (run_of logs) (drop (i + 1) xs)))) c.loop-tx.invariant.passed c.in_err-write_run.ensures.err
+    on-err c.from_residual.result
+    (passes-front (holds c.args.writer.now) (holds c.loop-tx.writer) (holds c.write_run.new.writer) c.args.out.now.items c.loop-tx.out.items
+    (text_of_lines (run_lines (run_of logs x))) (text_of_lines (flat_map run_lines (map (run_of logs) (drop i xs)))) (text_of_lines (flat_map run_lines (map (run_of logs) (drop (i + 1) xs)))) (text_of_lines (flat_map run_lines (map (run_of logs) xs))) (ap (λ ys. text_of_lines (flat_map run_lines (map (run_of logs) ys))) (drop_next xs i x at) ∙ text-append (run_lines (run_of logs x)) (flat_map run_lines (map (run_of logs) (drop (i + 1) xs)))) c.loop-tx.invariant.passed c.in_err-write_run.ensures.err)
 
 pub returns-clause-ok : goal.returns-clause-ok
 returns-clause-ok g c =

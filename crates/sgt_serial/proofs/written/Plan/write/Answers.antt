@@ -5,7 +5,7 @@ use Rattle.sgt_cert.specs.declared.bundle.SiteLog.{SiteLog}
 use Rattle.sgt_serial.specs.Report.{report_of}
 use Rattle.sgt_serial.specs.Text.{report_text}
 use Rattle.sgt_serial.specs.private.Grouped.{AreOperationsOf}
-use Rattle.sgt_serial.proofs.Passing.{broken, broken-first, joined, written-all, written-front}
+use Rattle.sgt_serial.proofs.Passing.{on-err, broken, broken-first, joined, written-all, written-front}
 use Rattle.sgt_serial.proofs.Whole.{text_of_runs, text_of_finals, whole-text}
 use Rattle.sgt_serial.proofs.written.Plan.write.Goals as goal
 
@@ -22,9 +22,10 @@ returns-in_err-write_runs-clause-err g c =
     let finals = c.args.self.finals.items in
     let held = c.args.self.out.items in
     let whole = whole-text b logs order finals c.sites-sites.ensures.logs (c.as_slice.ensures.value ∙ c.requires.order) c.requires.finals in
-    subst (λ (h : List ℕ). WritesFront (holds c.args.writer.now) (holds c.write_runs.new.writer) (h ++ report_text (report_of b))) c.requires.empty
+    on-err c.from_residual.result
+    (subst (λ (h : List ℕ). WritesFront (holds c.args.writer.now) (holds c.write_runs.new.writer) (h ++ report_text (report_of b))) c.requires.empty
     (broken-first (holds c.args.writer.now) (holds c.write_runs.new.writer) held (text_of_runs logs order) (text_of_finals finals) (report_text (report_of b))
-    c.in_err-write_runs.ensures.err (sym whole))
+    c.in_err-write_runs.ensures.err (sym whole)))
 
 pub returns-in_err-write_finals-clause-err : goal.returns-in_err-write_finals-clause-err
 returns-in_err-write_finals-clause-err g c =
@@ -35,9 +36,10 @@ returns-in_err-write_finals-clause-err g c =
     let finals = c.as_slice-2.result.now in
     let held = c.args.self.out.items in
     let whole = whole-text b logs order finals c.sites-sites.ensures.logs (c.as_slice.ensures.value ∙ c.requires.order) (c.as_slice-2.ensures.value ∙ c.requires.finals) in
-    subst (λ (h : List ℕ). WritesFront (holds c.args.writer.now) (holds c.write_finals.new.writer) (h ++ report_text (report_of b))) c.requires.empty
+    on-err c.from_residual-in_err-write_finals.result
+    (subst (λ (h : List ℕ). WritesFront (holds c.args.writer.now) (holds c.write_finals.new.writer) (h ++ report_text (report_of b))) c.requires.empty
     (broken (holds c.args.writer.now) (holds c.write_runs.new.writer) (holds c.write_finals.new.writer) held (text_of_runs logs order) c.write_runs.new.out.items
-    (text_of_finals finals) [] (report_text (report_of b)) c.in_ok-write_runs.ensures.ok c.in_err-write_finals.ensures.err (sym whole ∙ sym (append-nil (text_of_runs logs order ++ text_of_finals finals))))
+    (text_of_finals finals) [] (report_text (report_of b)) c.in_ok-write_runs.ensures.ok c.in_err-write_finals.ensures.err (sym whole ∙ sym (append-nil (text_of_runs logs order ++ text_of_finals finals)))))
 
 pub returns-in_err-write_all-clause-err : goal.returns-in_err-write_all-clause-err
 returns-in_err-write_all-clause-err g c =
@@ -48,11 +50,12 @@ returns-in_err-write_all-clause-err g c =
     let finals = c.as_slice-2.result.now in
     let held = c.args.self.out.items in
     let whole = whole-text b logs order finals c.sites-sites.ensures.logs (c.as_slice.ensures.value ∙ c.requires.order) (c.as_slice-2.ensures.value ∙ c.requires.finals) in
-    written-front (holds c.args.writer.now) (holds c.write_finals.new.writer) (holds c.write_all.new.writer) held (text_of_runs logs order ++ text_of_finals finals) c.write_finals.new.out.items
+    on-err c.from_residual-in_err-write_all.result
+    (written-front (holds c.args.writer.now) (holds c.write_finals.new.writer) (holds c.write_all.new.writer) held (text_of_runs logs order ++ text_of_finals finals) c.write_finals.new.out.items
     (report_text (report_of b)) c.requires.empty whole
     (joined (holds c.args.writer.now) (holds c.write_runs.new.writer) (holds c.write_finals.new.writer) held (text_of_runs logs order) c.write_runs.new.out.items
     (text_of_finals finals) c.write_finals.new.out.items c.in_ok-write_runs.ensures.ok c.in_ok-write_finals.ensures.ok)
-    (subst (λ (bytes : List ℕ). WritesFront (holds c.write_finals.new.writer) (holds c.write_all.new.writer) bytes) c.as_slice-3.ensures.value c.in_err-write_all.ensures.err)
+    (subst (λ (bytes : List ℕ). WritesFront (holds c.write_finals.new.writer) (holds c.write_all.new.writer) bytes) c.as_slice-3.ensures.value c.in_err-write_all.ensures.err))
 
 pub returns-clause-ok : goal.returns-clause-ok
 returns-clause-ok g c =
