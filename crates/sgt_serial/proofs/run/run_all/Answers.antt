@@ -8,6 +8,9 @@ use Rattle.sgt_serial.specs.private.Values.{store_of}
 use Rattle.sgt_serial.proofs.Running.{same-fail, turn-differs, turn-as_logged, turn-after, turn-runs}
 use Rattle.sgt_serial.proofs.run.run_all.Goals as goal
 
+pub run-requires : goal.run-requires
+run-requires c = c.in_ok-operations.ensures
+
 pub returns-in_err-run_one-clause-differs : goal.returns-in_err-run_one-clause-differs
 returns-in_err-run_one-clause-differs c tx s x e =
     let sites = c.args.sites.now in
