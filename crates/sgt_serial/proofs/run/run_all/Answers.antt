@@ -9,7 +9,7 @@ use Rattle.sgt_serial.proofs.Running.{same-fail, turn-differs, turn-as_logged, t
 use Rattle.sgt_serial.proofs.run.run_all.Goals as goal
 
 pub run-requires : goal.run-requires
-run-requires c = c.in_ok-operations.ensures
+run-requires c = c.loop-tx.invariant.operations
 
 pub returns-in_err-run_one-clause-differs : goal.returns-in_err-run_one-clause-differs
 returns-in_err-run_one-clause-differs c tx s x e =
@@ -46,6 +46,7 @@ loop-tx-preserved c =
     let own : run ≡ run_of sites t = c.in_ok-run.ensures in
     let ran = c.in_ok-run_one.ensures in
     record {
+      operations = so_far.operations;
       runs = c.in_ok-push.ensures.items ∙ turn-runs sites order i t at first now run so_far.as_logged so_far.after own c.loop-tx.runs.items so_far.runs;
       as_logged = turn-as_logged sites order i t at first now run so_far.as_logged so_far.after own ran.reads ran.writes;
       after = λ s x. turn-after sites order i t at first now run so_far.as_logged so_far.after own (store_of c.run_one.new.store) s x (ran.after s x);

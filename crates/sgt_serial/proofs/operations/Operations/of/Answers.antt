@@ -4,7 +4,9 @@ use Rattle.sgt_serial.proofs.Spans.{none-in, next-in}
 use Rattle.sgt_serial.proofs.operations.Operations.of.Goals as goal
 
 pub loop-place-init : goal.loop-place-init
-loop-place-init c = c.span-span.ensures.entries c.args.logs.now c.requires
+loop-place-init c =
+    ap (λ es. es ++ entries_in c.args.logs.now c.args.self.now c.span-span.result.from c.span-span.result.to) c.new-own.ensures.items
+    ∙ c.span-span.ensures.entries c.args.logs.now c.requires
 
 pub loop-place-preserved : goal.loop-place-preserved
 loop-place-preserved c =
