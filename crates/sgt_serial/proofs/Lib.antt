@@ -1,6 +1,8 @@
+mod Answering
 mod Bundles
 mod ByRank
 mod Changes
+mod Counting
 mod Differences
 mod Either
 mod Examples
@@ -8,5 +10,10 @@ mod Grouping
 mod Items
 mod Lines
 mod Logged
+mod Passing
+mod Places
 mod Running
 mod Sorting
+mod Spans
+mod Whole
+mod Windows

@@ -1,4 +1,7 @@
 -- Words of private clauses.
+pub mod Grouped
+pub mod Groups
 pub mod Operations
 pub mod Order
 pub mod Values
+pub mod Written

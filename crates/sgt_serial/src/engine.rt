@@ -1,40 +1,83 @@
 //! The serial run of all that a reader gives.
 
-ghost use Rattle.std.specs.Prelude.{◌≡◌, ◌≢◌, ◌-◌, ◌<◌, ◌≤◌, ℕ, List, Option, Err, length, OnErr, IfOk, IfSome, IsErrOf};
+ghost use Rattle.std.specs.Prelude.{◌≡◌, ◌≢◌, ◌-◌, ◌<◌, ◌≤◌, ℕ, List, Option, Err, length, OnOk, OnErr, IfOk, IfSome, IsErrOf};
+ghost use Rattle.std.specs.Io.KnownBytes.{Appends};
+ghost use Rattle.sgt_names.specs.Device.{WritesFront};
 ghost use Rattle.sgt_notation.specs.Lines.{ReadFaultIsDue};
 ghost use Rattle.sgt_audit.specs.Faults.{ReadsNoFurther};
-ghost use Rattle.sgt_audit.specs.Verdict.{IsAudited, HandsOutValid};
-ghost use Rattle.sgt_serial.specs.Answer.{IsAnswer, WroteAnswer, WroteAnswerFront};
+ghost use Rattle.sgt_audit.specs.Verdict.{IsAudited, HandsOutValid, text_of};
+ghost use Rattle.sgt_audit.specs.declared.verdict.Verdict.TheVariants as verdict;
+ghost use Rattle.sgt_serial.specs.Answer.{WroteAnswer, WroteAnswerFront};
+ghost use Rattle.sgt_serial.specs.Report.{report_of};
+ghost use Rattle.sgt_serial.specs.Text.{report_text};
 
-use crate::written::run_text;
-use sgt_audit::{Audited, Verdict, audit_bundle};
+use crate::written::Plan;
+use sgt_audit::{Audited, Fault, Verdict, audit_bundle};
+use sgt_cert::Bundle;
 use sgt_names::{EngineFail, Outcome, Sink, Source, write_all};
-use std::alloc::{AllocError, Global};
+use std::alloc::Global;
 
-/// An outcome, and what is to be written.
-#[derive(Drop)]
-struct Answer {
-    outcome: Outcome,
-    text: Vec<u8>,
+/// Writes the line of the first fault.
+fn write_fault<W: Sink>(
+    alloc: Global,
+    writer: &mut W,
+    line: u64,
+    fault: Fault,
+) -> Result<(), EngineFail>
+    ensures ok { OnOk result (Appends (W.holds writer.old) (W.holds writer.new) (text_of (verdict.No line fault))) }
+    ensures front { IsErrOf result EngineFail.WriteFault → WritesFront (W.holds writer.old) (W.holds writer.new) (text_of (verdict.No line fault)) }
+    ensures untouched { IsErrOf result EngineFail.Memory → writer.new ≡ writer.old }
+    ensures unread { result ≢ Err EngineFail.ReadFault }
+    ensures fault { IsErrOf result EngineFail.WriteFault → W.failures writer.old < W.failures writer.new }
+    ensures quiet { result ≢ Err EngineFail.WriteFault → W.failures writer.new ≡ W.failures writer.old }
+{
+    let verdict = Verdict::No { line, fault }.to_line(alloc)?;
+    match write_all(writer, verdict.as_bytes()) {
+        Ok(()) => Ok(()),
+        Err(_) => Err(EngineFail::WriteFault),
+    }
 }
 
-/// The answer to what was audited.
-fn answer_to(alloc: Global, audited: Audited) -> Result<Answer, AllocError>
+/// Writes the run of the bundle.
+fn write_serial<W: Sink>(alloc: Global, writer: &mut W, bundle: &Bundle) -> Result<(), EngineFail>
+    ensures ok { OnOk result (Appends (W.holds writer.old) (W.holds writer.new) (report_text (report_of bundle.now))) }
+    ensures front { IsErrOf result EngineFail.WriteFault → WritesFront (W.holds writer.old) (W.holds writer.new) (report_text (report_of bundle.now)) }
+    ensures untouched { IsErrOf result EngineFail.Memory → writer.new ≡ writer.old }
+    ensures unread { result ≢ Err EngineFail.ReadFault }
+    ensures fault { IsErrOf result EngineFail.WriteFault → W.failures writer.old < W.failures writer.new }
+    ensures quiet { result ≢ Err EngineFail.WriteFault → W.failures writer.new ≡ W.failures writer.old }
+{
+    let plan = Plan::new(alloc, bundle)?;
+    match plan.write(writer, bundle) {
+        Ok(()) => Ok(()),
+        Err(_) => Err(EngineFail::WriteFault),
+    }
+}
+
+/// Writes the answer to what was audited.
+fn write_answer<W: Sink>(
+    alloc: Global,
+    writer: &mut W,
+    audited: Audited,
+) -> Result<Outcome, EngineFail>
     requires { HandsOutValid audited }
-    ensures { IfOk result (λ answer. (told : Option (List ℕ)) → IfSome told (λ bytes. IsAudited bytes audited)
-        → IsAnswer told answer.outcome answer.text.items) }
+    ensures answer { (told : Option (List ℕ)) → IfSome told (λ bytes. IsAudited bytes audited)
+        → IfOk result (λ outcome. WroteAnswer told outcome (W.holds writer.old) (W.holds writer.new)) }
+    ensures front { (told : Option (List ℕ)) → IfSome told (λ bytes. IsAudited bytes audited)
+        → OnErr result (WroteAnswerFront told (W.holds writer.old) (W.holds writer.new)) }
+    ensures untouched { IsErrOf result EngineFail.Memory → writer.new ≡ writer.old }
+    ensures unread { result ≢ Err EngineFail.ReadFault }
+    ensures fault { IsErrOf result EngineFail.WriteFault → W.failures writer.old < W.failures writer.new }
+    ensures quiet { result ≢ Err EngineFail.WriteFault → W.failures writer.new ≡ W.failures writer.old }
 {
     match audited {
-        Audited::Valid(bundle) => Ok(Answer {
-            outcome: Outcome::Yes,
-            text: run_text(alloc, &bundle)?,
-        }),
+        Audited::Valid(bundle) => {
+            write_serial(alloc, writer, &bundle)?;
+            Ok(Outcome::Yes)
+        }
         Audited::No { line, fault } => {
-            let verdict = Verdict::No { line, fault }.to_line(alloc)?;
-            Ok(Answer {
-                outcome: Outcome::No,
-                text: Vec::from_slice(alloc, verdict.as_bytes())?,
-            })
+            write_fault(alloc, writer, line, fault)?;
+            Ok(Outcome::No)
         }
     }
 }
@@ -66,9 +109,5 @@ pub fn serial<R: Source, W: Sink>(
     ensures quiet_writer { result ≢ Err EngineFail.WriteFault → W.failures writer.new ≡ W.failures writer.old }
 {
     let audited = audit_bundle(alloc, reader)?;
-    let answer = answer_to(alloc, audited)?;
-    match write_all(writer, answer.text.as_slice()) {
-        Ok(()) => Ok(answer.outcome),
-        Err(_) => Err(EngineFail::WriteFault),
-    }
+    write_answer(alloc, writer, audited)
 }

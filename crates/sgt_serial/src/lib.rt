@@ -2,12 +2,17 @@
 #![tactic(auto)]
 
 mod engine;
+mod entries;
 mod finals;
+mod grouped;
+mod groups;
 mod laws;
+mod line;
 mod operations;
 mod order;
 mod report;
 mod run;
+mod sorted;
 mod store;
 mod text;
 mod written;

@@ -53,7 +53,7 @@ fn run_all(
     let operations = Operations::new(alloc, sites)?;
     let mut runs = Vec::new(alloc);
     for tx in order {
-        let run = operations.run(alloc, *tx)?;
+        let run = operations.run(alloc, sites, *tx)?;
         run_one(store, &run)?;
         runs.push(run)?;
     }

@@ -1,30 +1,291 @@
-//! The text of a bundle's serial run, without its report.
+//! The text of a bundle's serial run, written a block at a time.
 
-ghost use Rattle.std.specs.Prelude.{◌≡◌, IfOk};
-ghost use Rattle.sgt_serial.specs.Report.{report_of};
-ghost use Rattle.sgt_serial.specs.Text.{report_text};
+ghost use Rattle.std.specs.Prelude.{◌≤◌, ◌+◌, ◌++◌, [], map, codes, decimal, vec_len, vec_capacity, OnOk, OnErr, IfOk};
+ghost use Rattle.std.specs.List.{flat_map};
+ghost use Rattle.std.specs.Io.KnownBytes.{Appends};
+ghost use Rattle.sgt_names.specs.Device.{CountsFailures, WritesFront};
+ghost use Rattle.sgt_notation.specs.Spelling.{text_of_lines};
+ghost use Rattle.sgt_serial.specs.Report.{reads_of, writes_of, run_of, report_of};
+ghost use Rattle.sgt_serial.specs.Text.{operation_line, change_line, run_lines, final_line, report_text};
+ghost use Rattle.sgt_serial.specs.private.Grouped.{AreOperationsOf};
+ghost use Rattle.sgt_serial.specs.private.Written.{IsPlanOf, PassesOn, with_lf, text_of_read, text_of_change};
 
+use crate::entries::{SiteEntry, read_of, write_of};
 use crate::finals::finals;
+use crate::line::ROOM;
 use crate::operations::Operations;
 use crate::order::serial_order;
-use crate::text::{push_finals, push_run};
-use sgt_cert::Bundle;
+use crate::report::SiteValue;
+use crate::text::{push_change, push_final, push_head, push_read};
+use sgt_cert::{Bundle, SiteLog};
+use sgt_names::{Failed, Sink, Tx, write_all};
 use std::alloc::{AllocError, Global};
 
-/// The text of the report of the bundle's serial run, one transaction at a time. Nothing is compared: whether the run agrees with
-/// the record is not asked.
-pub fn run_text(alloc: Global, bundle: &Bundle) -> Result<Vec<u8>, AllocError>
-    ensures { IfOk result (λ text. text.items ≡ report_text (report_of bundle.now)) }
+/// How many bytes are written at a time, and up to a line more.
+const BLOCK: usize = 65_536;
+
+/// All that the writing of a run needs, so that nothing is allocated once it begins.
+#[derive(Drop)]
+pub struct Plan {
+    order: Vec<Tx>,
+    operations: Operations,
+    finals: Vec<SiteValue>,
+    /// Room for a block and a line.
+    out: Vec<u8>,
+}
+
+/// Makes room for a line: writes what is held back, once it is a block.
+#[inline(always)]
+fn make_room<W: Sink>(writer: &mut W, out: &mut Vec<u8>) -> Result<(), Failed>
+    requires { 65600 ≤ vec_capacity out.old }
+    ensures ok { OnOk result (PassesOn (W.holds writer.old) (W.holds writer.new) out.old.items [] out.new.items) }
+    ensures err { OnErr result (WritesFront (W.holds writer.old) (W.holds writer.new) out.old.items) }
+    ensures room { OnOk result (vec_len out.new + 64 ≤ vec_capacity out.new) }
+    ensures capacity { vec_capacity out.old ≤ vec_capacity out.new }
+    ensures fails { CountsFailures result (W.failures writer.old) (W.failures writer.new) }
 {
-    let sites = bundle.sites();
-    let order = serial_order(alloc, bundle.certificate().decisions.as_slice())?;
-    let operations = Operations::new(alloc, sites)?;
-    let mut out = Vec::new(alloc);
-    for tx in order.as_slice() {
-        let run = operations.run(alloc, *tx)?;
-        push_run(&mut out, &run)?;
+    if out.len() < BLOCK {
+        return Ok(());
     }
-    let finals = finals(alloc, sites)?;
-    push_finals(&mut out, finals.as_slice())?;
-    Ok(out)
+    write_all(writer, out.as_slice())?;
+    out.clear();
+    Ok(())
+}
+
+/// Writes the line of an entry, if it is a read.
+#[inline(always)]
+fn write_read<W: Sink>(
+    writer: &mut W,
+    out: &mut Vec<u8>,
+    tx: Tx,
+    own: &SiteEntry,
+) -> Result<(), Failed>
+    requires { 65600 ≤ vec_capacity out.old }
+    ensures ok { OnOk result (PassesOn (W.holds writer.old) (W.holds writer.new) out.old.items
+        (text_of_read tx own.now) out.new.items) }
+    ensures err { OnErr result (WritesFront (W.holds writer.old) (W.holds writer.new)
+        (out.old.items ++ text_of_read tx own.now)) }
+    ensures capacity { vec_capacity out.old ≤ vec_capacity out.new }
+    ensures fails { CountsFailures result (W.failures writer.old) (W.failures writer.new) }
+{
+    match read_of(own) {
+        Some(read) => {
+            make_room(writer, out)?;
+            push_read(out, tx, &read).unwrap();
+            Ok(())
+        }
+        None => Ok(()),
+    }
+}
+
+/// Writes the line of an entry, if it is a write or an increment.
+#[inline(always)]
+fn write_change<W: Sink>(
+    writer: &mut W,
+    out: &mut Vec<u8>,
+    tx: Tx,
+    own: &SiteEntry,
+) -> Result<(), Failed>
+    requires { 65600 ≤ vec_capacity out.old }
+    ensures ok { OnOk result (PassesOn (W.holds writer.old) (W.holds writer.new) out.old.items
+        (text_of_change tx own.now) out.new.items) }
+    ensures err { OnErr result (WritesFront (W.holds writer.old) (W.holds writer.new)
+        (out.old.items ++ text_of_change tx own.now)) }
+    ensures capacity { vec_capacity out.old ≤ vec_capacity out.new }
+    ensures fails { CountsFailures result (W.failures writer.old) (W.failures writer.new) }
+{
+    match write_of(own) {
+        Some(write) => {
+            make_room(writer, out)?;
+            push_change(out, tx, &write).unwrap();
+            Ok(())
+        }
+        None => Ok(()),
+    }
+}
+
+/// Writes the line of the transaction's number.
+fn write_head<W: Sink>(writer: &mut W, out: &mut Vec<u8>, tx: Tx) -> Result<(), Failed>
+    requires { 65600 ≤ vec_capacity out.old }
+    ensures ok { OnOk result (PassesOn (W.holds writer.old) (W.holds writer.new) out.old.items
+        (with_lf (codes "t" ++ decimal tx)) out.new.items) }
+    ensures err { OnErr result (WritesFront (W.holds writer.old) (W.holds writer.new)
+        (out.old.items ++ with_lf (codes "t" ++ decimal tx))) }
+    ensures capacity { vec_capacity out.old ≤ vec_capacity out.new }
+    ensures fails { CountsFailures result (W.failures writer.old) (W.failures writer.new) }
+{
+    make_room(writer, out)?;
+    push_head(out, tx).unwrap();
+    Ok(())
+}
+
+/// Writes the line of a final value.
+fn write_final<W: Sink>(writer: &mut W, out: &mut Vec<u8>, value: &SiteValue) -> Result<(), Failed>
+    requires { 65600 ≤ vec_capacity out.old }
+    ensures ok { OnOk result (PassesOn (W.holds writer.old) (W.holds writer.new) out.old.items
+        (with_lf (final_line value.now)) out.new.items) }
+    ensures err { OnErr result (WritesFront (W.holds writer.old) (W.holds writer.new)
+        (out.old.items ++ with_lf (final_line value.now))) }
+    ensures capacity { vec_capacity out.old ≤ vec_capacity out.new }
+    ensures fails { CountsFailures result (W.failures writer.old) (W.failures writer.new) }
+{
+    make_room(writer, out)?;
+    push_final(out, value).unwrap();
+    Ok(())
+}
+
+/// Writes the lines of the transaction's reads.
+fn write_reads<W: Sink>(
+    writer: &mut W,
+    out: &mut Vec<u8>,
+    logs: &[SiteLog],
+    operations: &Operations,
+    tx: Tx,
+) -> Result<(), Failed>
+    requires room { 65600 ≤ vec_capacity out.old }
+    requires of { AreOperationsOf logs.now operations.now }
+    ensures ok { OnOk result (PassesOn (W.holds writer.old) (W.holds writer.new) out.old.items
+        (text_of_lines (map (operation_line (codes "r") tx) (reads_of logs.now tx))) out.new.items) }
+    ensures err { OnErr result (WritesFront (W.holds writer.old) (W.holds writer.new)
+        (out.old.items ++ text_of_lines (map (operation_line (codes "r") tx) (reads_of logs.now tx)))) }
+    ensures capacity { vec_capacity out.old ≤ vec_capacity out.new }
+    ensures fails { CountsFailures result (W.failures writer.old) (W.failures writer.new) }
+{
+    let span = operations.span(tx);
+    for place in span.from..span.to {
+        let own = operations.at(logs, place);
+        write_read(writer, out, tx, &own)?;
+    }
+    Ok(())
+}
+
+/// Writes the lines of the transaction's writes and increments.
+fn write_changes<W: Sink>(
+    writer: &mut W,
+    out: &mut Vec<u8>,
+    logs: &[SiteLog],
+    operations: &Operations,
+    tx: Tx,
+) -> Result<(), Failed>
+    requires room { 65600 ≤ vec_capacity out.old }
+    requires of { AreOperationsOf logs.now operations.now }
+    ensures ok { OnOk result (PassesOn (W.holds writer.old) (W.holds writer.new) out.old.items
+        (text_of_lines (map (change_line tx) (writes_of logs.now tx))) out.new.items) }
+    ensures err { OnErr result (WritesFront (W.holds writer.old) (W.holds writer.new)
+        (out.old.items ++ text_of_lines (map (change_line tx) (writes_of logs.now tx)))) }
+    ensures capacity { vec_capacity out.old ≤ vec_capacity out.new }
+    ensures fails { CountsFailures result (W.failures writer.old) (W.failures writer.new) }
+{
+    let span = operations.span(tx);
+    for place in span.from..span.to {
+        let own = operations.at(logs, place);
+        write_change(writer, out, tx, &own)?;
+    }
+    Ok(())
+}
+
+/// Writes the lines of the transaction.
+fn write_run<W: Sink>(
+    writer: &mut W,
+    out: &mut Vec<u8>,
+    logs: &[SiteLog],
+    operations: &Operations,
+    tx: Tx,
+) -> Result<(), Failed>
+    requires room { 65600 ≤ vec_capacity out.old }
+    requires of { AreOperationsOf logs.now operations.now }
+    ensures ok { OnOk result (PassesOn (W.holds writer.old) (W.holds writer.new) out.old.items
+        (text_of_lines (run_lines (run_of logs.now tx))) out.new.items) }
+    ensures err { OnErr result (WritesFront (W.holds writer.old) (W.holds writer.new)
+        (out.old.items ++ text_of_lines (run_lines (run_of logs.now tx)))) }
+    ensures capacity { vec_capacity out.old ≤ vec_capacity out.new }
+    ensures fails { CountsFailures result (W.failures writer.old) (W.failures writer.new) }
+{
+    write_head(writer, out, tx)?;
+    write_reads(writer, out, logs, operations, tx)?;
+    write_changes(writer, out, logs, operations, tx)?;
+    Ok(())
+}
+
+/// Writes the lines of these transactions, one after another.
+fn write_runs<W: Sink>(
+    writer: &mut W,
+    out: &mut Vec<u8>,
+    logs: &[SiteLog],
+    operations: &Operations,
+    order: &[Tx],
+) -> Result<(), Failed>
+    requires room { 65600 ≤ vec_capacity out.old }
+    requires of { AreOperationsOf logs.now operations.now }
+    ensures ok { OnOk result (PassesOn (W.holds writer.old) (W.holds writer.new) out.old.items
+        (text_of_lines (flat_map run_lines (map (run_of logs.now) order.now))) out.new.items) }
+    ensures err { OnErr result (WritesFront (W.holds writer.old) (W.holds writer.new)
+        (out.old.items ++ text_of_lines (flat_map run_lines (map (run_of logs.now) order.now)))) }
+    ensures capacity { vec_capacity out.old ≤ vec_capacity out.new }
+    ensures fails { CountsFailures result (W.failures writer.old) (W.failures writer.new) }
+{
+    for tx in order {
+        write_run(writer, out, logs, operations, *tx)?;
+    }
+    Ok(())
+}
+
+/// Writes the lines of the final values.
+fn write_finals<W: Sink>(
+    writer: &mut W,
+    out: &mut Vec<u8>,
+    finals: &[SiteValue],
+) -> Result<(), Failed>
+    requires { 65600 ≤ vec_capacity out.old }
+    ensures ok { OnOk result (PassesOn (W.holds writer.old) (W.holds writer.new) out.old.items
+        (text_of_lines (map final_line finals.now)) out.new.items) }
+    ensures err { OnErr result (WritesFront (W.holds writer.old) (W.holds writer.new)
+        (out.old.items ++ text_of_lines (map final_line finals.now))) }
+    ensures capacity { vec_capacity out.old ≤ vec_capacity out.new }
+    ensures fails { CountsFailures result (W.failures writer.old) (W.failures writer.new) }
+{
+    for value in finals {
+        write_final(writer, out, value)?;
+    }
+    Ok(())
+}
+
+impl Plan {
+    /// That of the bundle's run.
+    pub fn new(alloc: Global, bundle: &Bundle) -> Result<Plan, AllocError>
+        ensures { IfOk result (IsPlanOf bundle.now 65600) }
+    {
+        let sites = bundle.sites();
+        let order = serial_order(alloc, bundle.certificate().decisions.as_slice())?;
+        let operations = Operations::new(alloc, sites)?;
+        let finals = finals(alloc, sites)?;
+        let out = Vec::with_capacity(alloc, BLOCK + ROOM)?;
+        Ok(Plan {
+            order,
+            operations,
+            finals,
+            out,
+        })
+    }
+
+    /// Writes the text of the report of the bundle's serial run. Nothing is compared: whether the run agrees with the record is not
+    /// asked.
+    pub fn write<W: Sink>(self, writer: &mut W, bundle: &Bundle) -> Result<(), Failed>
+        requires { IsPlanOf bundle.now 65600 self }
+        ensures ok { OnOk result (Appends (W.holds writer.old) (W.holds writer.new) (report_text (report_of bundle.now))) }
+        ensures err { OnErr result (WritesFront (W.holds writer.old) (W.holds writer.new) (report_text (report_of bundle.now))) }
+        ensures fails { CountsFailures result (W.failures writer.old) (W.failures writer.new) }
+    {
+        let Plan {
+            order,
+            operations,
+            finals,
+            mut out,
+        } = self;
+        let sites = bundle.sites();
+        write_runs(writer, &mut out, sites, &operations, order.as_slice())?;
+        write_finals(writer, &mut out, finals.as_slice())?;
+        write_all(writer, out.as_slice())?;
+        Ok(())
+    }
 }

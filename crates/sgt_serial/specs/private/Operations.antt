@@ -5,7 +5,7 @@ use Rattle.sgt_names.specs.Entry.{tx_of}
 use Rattle.sgt_names.specs.declared.entry.Entry.{Entry}
 use Rattle.sgt_cert.specs.Serial.{entries_of}
 use Rattle.sgt_cert.specs.declared.bundle.SiteLog.{SiteLog}
-use Rattle.sgt_serial.specs.declared.operations.SiteEntry.{SiteEntry}
+use Rattle.sgt_serial.specs.declared.entries.SiteEntry.{SiteEntry}
 use Rattle.sgt_serial.specs.declared.report.SerialTx.{SerialTx}
 use Rattle.sgt_serial.specs.Report.{by_site, read_at, write_at}
 
@@ -15,6 +15,10 @@ entry_at s e = record { site = s; entry = e }
 -- by site, then in log order
 abbrev pub all_entries : List SiteLog → List SiteEntry
 all_entries sites = by_site (λ s. map (entry_at s) (entries_of sites s)) sites
+
+-- the site of the entry
+abbrev pub site_of : SiteEntry → ℕ
+site_of e = e.site
 
 -- the transaction whose entry it is
 abbrev pub owner : SiteEntry → ℕ

@@ -8,6 +8,9 @@ use Rattle.sgt_serial.specs.private.Values.{store_of}
 use Rattle.sgt_serial.proofs.Running.{same-fail, turn-differs, turn-as_logged, turn-after, turn-runs}
 use Rattle.sgt_serial.proofs.run.run_all.Goals as goal
 
+pub run-requires : goal.run-requires
+run-requires c = c.loop-tx.invariant.operations
+
 pub returns-in_err-run_one-clause-differs : goal.returns-in_err-run_one-clause-differs
 returns-in_err-run_one-clause-differs c tx s x e =
     let sites = c.args.sites.now in
@@ -16,7 +19,7 @@ returns-in_err-run_one-clause-differs c tx s x e =
     let t = c.tx-item.result in
     let so_far = c.loop-tx.invariant in
     let at = element_at order i t (omega arith) c.tx-item.is in
-    let own : c.in_ok-run.run' ≡ run_of sites t = c.in_ok-run.ensures ∙ c.in_ok-operations.ensures t in
+    let own : c.in_ok-run.run' ≡ run_of sites t = c.in_ok-run.ensures in
     let passed = err_from_is_err_and c.from_residual-in_err-run_one.result c.from_residual-in_err-run_one.ensures.1 in
     let here = c.in_err-run_one.ensures.differs tx s x (same-fail c.in_err-run_one.field-0.0 (Differs tx s x) (ap Err (sym passed.2) ∙ sym passed.1 ∙ e)) in (
       t,
@@ -40,9 +43,10 @@ loop-tx-preserved c =
     let run = c.in_ok-run.run' in
     let so_far = c.loop-tx.invariant in
     let at = element_at order i t (omega arith) c.tx-item.is in
-    let own : run ≡ run_of sites t = c.in_ok-run.ensures ∙ c.in_ok-operations.ensures t in
+    let own : run ≡ run_of sites t = c.in_ok-run.ensures in
     let ran = c.in_ok-run_one.ensures in
     record {
+      operations = so_far.operations;
       runs = c.in_ok-push.ensures.items ∙ turn-runs sites order i t at first now run so_far.as_logged so_far.after own c.loop-tx.runs.items so_far.runs;
       as_logged = turn-as_logged sites order i t at first now run so_far.as_logged so_far.after own ran.reads ran.writes;
       after = λ s x. turn-after sites order i t at first now run so_far.as_logged so_far.after own (store_of c.run_one.new.store) s x (ran.after s x);

@@ -6,5 +6,5 @@ use Rattle.sgt_serial.proofs.text.push_reads.Goals as goal
 pub loop-read-preserved : goal.loop-read-preserved
 loop-read-preserved c =
     writes-line (operation_line (codes "r") c.args.tx) c.args.reads.now c.loop-read.read-index c.read-item.result (omega arith) c.read-item.is
-    c.args.out.now.items c.loop-read.out.items c.push_operation.new.out.items c.extend_from_slice.new.self.items
-    c.loop-read.invariant c.in_ok-push_operation.ensures c.in_ok-extend_from_slice.ensures.items
+    c.args.out.now.items c.loop-read.out.items c.push_read.new.out.items
+    c.loop-read.invariant c.in_ok-push_read.ensures.ok

@@ -1,24 +1,32 @@
-use Rattle.std.proofs.Common.{◌≡◌, ◌+◌, true, false, nat_lt, take, drop, List, ℕ, ap, ◌∙◌, subst}
-use Rattle.std.specs.List.{filter}
-use Rattle.std.specs.List.Sorted.{IsPartitionPoint}
-use Rattle.std.proofs.lemmas.List.{take_rest}
-use Rattle.sgt_serial.specs.private.Operations.{owner, is_by}
-use Rattle.sgt_serial.specs.declared.operations.SiteEntry.{SiteEntry}
-use Rattle.sgt_serial.proofs.Sorting.{of_number-between}
+use Rattle.std.proofs.Common.{◌≡◌, ◌≤◌, ◌<◌, ◌+◌, ◌++◌, ◌∙◌, [], ◌∷◌, ap, sym, arith, append_assoc, append-nil}
+use Rattle.sgt_serial.specs.private.Grouped.{entries_in}
+use Rattle.sgt_serial.proofs.Spans.{none-in, next-in}
 use Rattle.sgt_serial.proofs.operations.Operations.of.Goals as goal
 
--- where the entries below a number end
-abbrev Splits : List SiteEntry → ℕ → ℕ → Type 0
-Splits ys t i = IsPartitionPoint (λ e. nat_lt (owner e) t ≡ true) (λ e. nat_lt (owner e) t ≡ false) ys i
+pub loop-place-init : goal.loop-place-init
+loop-place-init c =
+    ap (λ es. es ++ entries_in c.args.logs.now c.args.self.now c.span-span.result.from c.span-span.result.to) c.new-own.ensures.items
+    ∙ c.span-span.ensures.entries c.args.logs.now c.requires
+
+pub loop-place-preserved : goal.loop-place-preserved
+loop-place-preserved c =
+    let logs = c.args.logs.now in
+    let o = c.args.self.now in
+    let place = c.loop-place.place in
+    let to = c.span-span.result.to in
+    let own = c.loop-place.own.items in
+    let e = c.at.result in
+    let within : place < to = omega arith in
+    let start : place ≤ place = omega arith in
+    ap (λ es. es ++ entries_in logs o (place + 1) to) c.in_ok-push.ensures.items ∙ append_assoc own (e ∷ []) (entries_in logs o (place + 1) to)
+    ∙ ap (λ es. own ++ es) (sym (next-in logs o place to e within (c.at.ensures place start))) ∙ c.loop-place.invariant
 
 pub returns : goal.returns
 returns c =
-    let tx = c.args.tx in
-    let ys = c.as_slice-entries.result.now in
-    let from = c.count_below.result in
-    let to = c.count_below-2.result in
-    let number : c.from-number.result ≡ tx = c.from-number.ensures ∙ c.number.ensures.is in
-    let later = take_rest ys from in
-    let low = subst (λ t. Splits ys t from) number c.count_below.ensures.point in
-    let high = subst (λ t. Splits (drop from ys) (t + 1) to) number (subst (λ (zs : List SiteEntry). Splits zs (c.from-number.result + 1) to) later c.count_below-2.ensures.point) in
-    ap (take to) later ∙ of_number-between owner ys tx from to low high ∙ ap (filter (is_by tx)) (c.as_slice-entries.ensures.value ∙ c.self.view_is)
+    let logs = c.args.logs.now in
+    let o = c.args.self.now in
+    let place = c.loop-place.place in
+    let to = c.span-span.result.to in
+    let own = c.loop-place.own.items in
+    let end : place ≡ to = omega arith in
+    sym (append-nil own) ∙ ap (λ es. own ++ es) (sym (ap (λ n. entries_in logs o n to) end ∙ none-in logs o to)) ∙ c.loop-place.invariant

@@ -1,8 +1,8 @@
 use Rattle.std.proofs.Common.{rules, nat_lt}
 use Rattle.std.proofs.lemmas.List.Sorted.{IsPartitionPoint-from_clause, IsPartitionedBy-ltb}
-use Rattle.sgt_serial.specs.declared.operations.SiteEntry.{SiteEntry}
+use Rattle.sgt_serial.specs.declared.entries.SiteEntry.{SiteEntry}
 use Rattle.sgt_serial.specs.private.Operations.{owner}
-use Rattle.sgt_serial.proofs.operations.count_below.Goals as goal
+use Rattle.sgt_serial.proofs.sorted.count_below.Goals as goal
 
 pub returns-clause-point : goal.returns-clause-point
 returns-clause-point c =

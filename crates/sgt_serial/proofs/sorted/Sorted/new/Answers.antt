@@ -9,9 +9,9 @@ use Rattle.sgt_names.proofs.Lists.{element_at}
 use Rattle.sgt_cert.specs.Serial.{entries_of}
 use Rattle.sgt_cert.proofs.Headline.{entries_at}
 use Rattle.sgt_serial.specs.private.Operations.{entry_at, owner, is_by}
-use Rattle.sgt_serial.proofs.Grouping.{site_more, run_in-all}
+use Rattle.sgt_serial.proofs.Grouping.{site_more}
 use Rattle.sgt_serial.proofs.Sorting.{stable-of_number}
-use Rattle.sgt_serial.proofs.operations.Operations.new.Goals as goal
+use Rattle.sgt_serial.proofs.sorted.Sorted.new.Goals as goal
 
 pub loop-number-preserved : goal.loop-number-preserved
 loop-number-preserved c =
@@ -33,6 +33,5 @@ returns c tx =
     let sites = c.args.sites.now in
     let all : c.loop-number.number ≡ length sites = omega arith in
     let stable = c.sort_by_key.ensures.stable owner (always_returns_same _ _ _ (λ a r g called. (search rules, search rules))) in
-    run_in-all sites c.sort_by_key.new.self.items tx
-    (stable-of_number owner c.loop-number.entries.items c.sort_by_key.new.self.items stable (entry_at 0 (Commit tx))
-    ∙ ap (filter (is_by tx)) (c.loop-number.invariant ∙ ap (λ n. flat_map (λ s. map (entry_at s) (entries_of sites s)) (range_with_len 0 n)) all))
+    stable-of_number owner c.loop-number.entries.items c.sort_by_key.new.self.items stable (entry_at 0 (Commit tx))
+    ∙ ap (filter (is_by tx)) (c.loop-number.invariant ∙ ap (λ n. flat_map (λ s. map (entry_at s) (entries_of sites s)) (range_with_len 0 n)) all)
