@@ -7,6 +7,8 @@ mod judging;
 mod noes;
 mod reading;
 mod rules;
+mod shown;
+mod steps;
 mod topics;
 mod yeses;
 

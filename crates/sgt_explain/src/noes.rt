@@ -1,42 +1,18 @@
 //! What a no means.
 
+use crate::shown::{certificate_of, final_shown, logged_at, ranks_shown, read_shown};
+use crate::steps::step_shown;
 use sgt_audit::Fault;
-use sgt_cert::{CertFault, Certificate, from_line};
+use sgt_cert::Certificate;
 use sgt_explain_decisions::{
-    Placed, placed_in, push_certificate, push_decided_twice, push_decision_order, push_end,
-    push_not_ended, push_rank_order, push_ranks, push_walk_shape, push_walk_step, sought_in,
+    placed_in, push_certificate, push_decided_twice, push_decision_order, push_end, push_not_ended,
+    push_rank_order, push_ranks, push_walk_shape, push_walk_step,
 };
 use sgt_explain_lines::{
-    Logged, Section, after_line, line_at, push_block, push_final, push_format, push_item,
-    push_notation, push_read, push_section, push_trailing, push_truncated, push_twice,
-    section_before,
+    Section, after_line, line_at, push_block, push_final, push_format, push_item, push_notation,
+    push_read, push_section, push_trailing, push_truncated, push_twice, section_before,
 };
-use sgt_notation::{SectionLine, read_section};
 use std::alloc::{AllocError, Global};
-
-/// The certificate of line 2, if it is one. Err: memory ran out.
-pub fn certificate_of(alloc: Global, bytes: &[u8]) -> Result<Option<Certificate>, AllocError> {
-    match from_line(alloc, line_at(bytes, 2).unwrap_or(b"")) {
-        Ok(certificate) => Ok(Some(certificate)),
-        Err(CertFault::Memory) => Err(AllocError),
-        Err(_) => Ok(None),
-    }
-}
-
-/// The lines before the line of this number.
-pub fn lines_before(bytes: &[u8], number: u64) -> &[u8] {
-    let rest = after_line(bytes, number.saturating_sub(1));
-    let length = bytes.len().saturating_sub(rest.len());
-    bytes.get(..length).unwrap_or(bytes)
-}
-
-/// The entry of a line, if it is one.
-fn logged_at(bytes: &[u8], line: u64) -> Option<Logged> {
-    match read_section(line_at(bytes, line)?) {
-        Ok(SectionLine::Logged(entry)) => Some(Logged { line, entry }),
-        _ => None,
-    }
-}
 
 /// Of a line that the lines before it in its section show to be wrong.
 fn push_by_section(
@@ -50,47 +26,60 @@ fn push_by_section(
         Fault::Section => push_section(out, bytes, line, section),
         Fault::Truncated => push_truncated(out, bytes, line, section),
         Fault::Block => push_block(out, section, line, line_at(bytes, line).unwrap_or(b"")),
-        Fault::Final => match read_section(line_at(bytes, line).unwrap_or(b"")) {
-            Ok(SectionLine::Final(holding)) => push_final(out, section, &holding),
-            _ => Ok(()),
+        Fault::Item => match logged_at(bytes, line) {
+            Some(logged) => push_item(out, section, &logged),
+            None => Ok(()),
         },
         _ => match logged_at(bytes, line) {
-            Some(logged) => push_by_item(out, fault, section, &logged),
+            Some(logged) => push_twice(out, section, &logged),
             None => Ok(()),
         },
     }
 }
 
-/// Of an entry that the entries before it on its item show to be wrong.
-fn push_by_item(
+/// Of a line that gives an item another value than the item has there.
+fn push_by_value(
+    alloc: Global,
     out: &mut String,
+    bytes: &[u8],
+    line: u64,
     fault: Fault,
-    section: &Section,
-    logged: &Logged,
 ) -> Result<(), AllocError> {
-    match fault {
-        Fault::Item => push_item(out, section, logged),
-        Fault::Twice => push_twice(out, section, logged),
-        Fault::ReadValue => push_read(out, section, logged),
-        _ => Ok(()),
+    if fault == Fault::ReadValue {
+        return match read_shown(alloc, bytes, line)? {
+            Some((tx, shown)) => push_read(out, tx, &shown),
+            None => Ok(()),
+        };
+    }
+    match final_shown(alloc, bytes, line)? {
+        Some(shown) => push_final(out, &shown),
+        None => Ok(()),
     }
 }
 
-/// Of an entry that the decisions show to be wrong.
-fn push_by_decisions(
+/// Of an entry that stands against the ranks.
+fn push_by_ranks(
+    alloc: Global,
     out: &mut String,
-    certificate: &Certificate,
-    placed: &[Placed],
-    section: &Section,
-    found: (Fault, Logged),
+    bytes: &[u8],
+    line: u64,
 ) -> Result<(), AllocError> {
-    let (fault, logged) = found;
-    let decisions = certificate.decisions();
-    match fault {
-        Fault::RankOrder => push_rank_order(out, decisions, placed, section, &logged),
-        Fault::End => push_end(out, decisions, placed, section, &logged),
-        Fault::DecisionOrder => push_decision_order(out, placed, section, &logged),
-        _ => Ok(()),
+    match &ranks_shown(alloc, bytes, line)? {
+        Some(shown) => push_rank_order(out, shown),
+        None => Ok(()),
+    }
+}
+
+/// Of a step that is no conflict of the logs.
+fn push_by_step(
+    alloc: Global,
+    out: &mut String,
+    bytes: &[u8],
+    line: u64,
+) -> Result<(), AllocError> {
+    match &step_shown(alloc, bytes, line)? {
+        Some(unmet) => push_walk_step(out, unmet),
+        None => Ok(()),
     }
 }
 
@@ -103,19 +92,18 @@ fn push_by_certificate(
     certificate: &Certificate,
 ) -> Result<(), AllocError> {
     let (line, fault) = first;
+    let decisions = certificate.decisions();
     let section = section_before(alloc, bytes, line)?;
-    let placed = placed_in(alloc, certificate.decisions())?;
-    if let Some(logged) = logged_at(bytes, line) {
-        let found = (fault, logged);
-        return push_by_decisions(out, certificate, placed.as_slice(), &section, found);
+    let placed = placed_in(alloc, decisions)?;
+    match (fault, logged_at(bytes, line)) {
+        (Fault::End, Some(logged)) => {
+            push_end(out, decisions, placed.as_slice(), &section, &logged)
+        }
+        (Fault::DecisionOrder, Some(logged)) => {
+            push_decision_order(out, placed.as_slice(), &section, &logged)
+        }
+        _ => push_not_ended(alloc, out, decisions, placed.as_slice(), &section),
     }
-    push_not_ended(
-        alloc,
-        out,
-        certificate.decisions(),
-        placed.as_slice(),
-        &section,
-    )
 }
 
 /// Of a certificate that is wrong by itself, and of its walks.
@@ -131,10 +119,6 @@ fn push_of_certificate(
         Fault::Ranks => push_ranks(alloc, out, decisions),
         Fault::DecidedTwice => push_decided_twice(alloc, out, decisions),
         Fault::WalkShape => push_walk_shape(alloc, out, decisions),
-        Fault::WalkStep => {
-            let sought = sought_in(alloc, decisions, lines_before(bytes, first.0))?;
-            push_walk_step(out, decisions, sought.as_slice())
-        }
         _ => push_by_certificate(alloc, out, bytes, first, certificate),
     }
 }
@@ -152,14 +136,13 @@ pub fn push_no(
         Fault::Notation => push_notation(out, bytes, line),
         Fault::Trailing => push_trailing(out, bytes, line),
         Fault::Certificate => push_certificate(alloc, out, line_at(bytes, 2).unwrap_or(b"")),
-        Fault::Section | Fault::Truncated | Fault::Block | Fault::Final => {
+        Fault::Section | Fault::Truncated | Fault::Block | Fault::Item | Fault::Twice => {
             let section = section_before(alloc, bytes, line)?;
             push_by_section(out, bytes, line, fault, &section)
         }
-        Fault::Item | Fault::Twice | Fault::ReadValue => {
-            let section = section_before(alloc, bytes, line)?;
-            push_by_section(out, bytes, line, fault, &section)
-        }
+        Fault::ReadValue | Fault::Final => push_by_value(alloc, out, bytes, line, fault),
+        Fault::RankOrder => push_by_ranks(alloc, out, bytes, line),
+        Fault::WalkStep => push_by_step(alloc, out, bytes, line),
         _ => {
             let Some(certificate) = certificate_of(alloc, bytes)? else {
                 return Ok(());

@@ -7,6 +7,22 @@ use sgt_names::{Kind, Tx};
 use std::alloc::AllocError;
 use std::fmt::Write;
 
+/// A step of the walk of a refused transaction that is no conflict of the logs: the number of the decision, the place of the step
+/// from 0 and the count of steps, the transaction that it starts from; of the entries of its two transactions those that there are;
+/// and the conflict of another kind that the log has there.
+#[derive(Clone, Copy)]
+pub struct Unmet {
+    pub tx: Tx,
+    pub number: usize,
+    pub place: usize,
+    pub count: usize,
+    pub from: Tx,
+    pub step: Step,
+    pub first: Option<Logged>,
+    pub second: Option<Logged>,
+    pub other: Option<(Kind, Logged, Logged)>,
+}
+
 /// The two entries, where the first stands before the second and they are in conflict.
 fn in_order(first: Option<Logged>, second: Option<Logged>) -> Option<(Logged, Logged)> {
     let one = first?;
@@ -76,14 +92,26 @@ pub fn push_cycles(
     Ok(())
 }
 
-/// The first step of the walk that is no conflict of the logs: its place from 0, and the transaction that it starts from.
-fn unmet(sought: &[Sought], tx: Tx, walk: &[Step]) -> Option<(usize, Tx)> {
+/// The place, from 0, of the first step of the walk that is no conflict of the logs.
+fn first_unmet(sought: &[Sought], tx: Tx, walk: &[Step]) -> Option<usize> {
     let mut from = tx;
     for (place, step) in walk.iter().enumerate() {
         if shown_by(sought, from, step).is_none() {
-            return Some((place, from));
+            return Some(place);
         }
         from = step.to;
+    }
+    None
+}
+
+/// The first step of all walks that is no conflict of the logs: the number of the decision, and the place of the step from 0.
+pub fn unmet_in(decisions: &[Decision], sought: &[Sought]) -> Option<(usize, usize)> {
+    for (number, decision) in decisions.iter().enumerate() {
+        if let Some(walk) = decision.walk() {
+            if let Some(place) = first_unmet(sought, decision.tx(), walk) {
+                return Some((number, place));
+            }
+        }
     }
     None
 }
@@ -122,74 +150,61 @@ fn push_misfit(out: &mut String, one: &Logged, other: &Logged) -> Result<(), All
 }
 
 /// Why a step is no conflict of the logs.
-fn push_reason(
-    out: &mut String,
-    sought: &[Sought],
-    from: Tx,
-    step: &Step,
-) -> Result<(), AllocError> {
+fn push_reason(out: &mut String, unmet: &Unmet) -> Result<(), AllocError> {
+    let step = &unmet.step;
     let kind = step.label.kind;
-    let first = first_of(&found_of(sought, step, from), kind);
-    let second = second_of(&found_of(sought, step, step.to), kind);
-    match (first, second) {
+    match (unmet.first, unmet.second) {
         (Some(one), Some(other)) => return push_misfit(out, &one, &other),
-        (None, _) => push_absent(out, from, step, kind == Kind::Rw)?,
+        (None, _) => push_absent(out, unmet.from, step, kind == Kind::Rw)?,
         (_, None) => {}
     }
-    if second.is_none() {
+    if unmet.second.is_none() {
         push_absent(out, step.to, step, kind == Kind::Wr)?;
     }
     Ok(())
 }
 
 /// The conflict that the log has there from the one transaction to the other, where it has one of another kind.
-fn push_other_kind(
-    out: &mut String,
-    sought: &[Sought],
-    from: Tx,
-    step: &Step,
-) -> Result<(), AllocError> {
+pub fn other_kind(sought: &[Sought], from: Tx, step: &Step) -> Option<(Kind, Logged, Logged)> {
     let first = found_of(sought, step, from);
     let second = found_of(sought, step, step.to);
     for kind in [Kind::Wr, Kind::Rw, Kind::Ww] {
         if let Some((one, other)) = in_order(first_of(&first, kind), second_of(&second, kind)) {
-            let name = kind_name(kind);
-            writeln!(out, "the log has {name} there:")?;
-            push_logged(out, &one)?;
-            out.push_str("\n")?;
-            push_logged(out, &other)?;
-            return out.push_str("\n");
+            return Some((kind, one, other));
         }
     }
-    Ok(())
+    None
 }
 
-/// F17: the first step of a walk that is no conflict of the logs.
-pub fn push_walk_step(
+/// That there is a conflict of this kind.
+fn push_other_kind(
     out: &mut String,
-    decisions: &[Decision],
-    sought: &[Sought],
+    kind: Kind,
+    one: &Logged,
+    other: &Logged,
 ) -> Result<(), AllocError> {
-    for (number, decision) in decisions.iter().enumerate() {
-        let Some(walk) = decision.walk() else {
-            continue;
-        };
-        let tx = decision.tx();
-        let Some((place, from)) = unmet(sought, tx, walk) else {
-            continue;
-        };
-        let Some(step) = walk.get(place) else {
-            continue;
-        };
-        let count = walk.len();
-        let counted = place.saturating_add(1);
-        writeln!(
-            out,
-            "WalkStep: step {counted} of {count} in the walk of refused transaction {tx} (decision {number})"
-        )?;
-        push_wish(out, from, step)?;
-        push_reason(out, sought, from, step)?;
-        return push_other_kind(out, sought, from, step);
+    let name = kind_name(kind);
+    writeln!(out, "the log has {name} there:")?;
+    push_logged(out, one)?;
+    out.push_str("\n")?;
+    push_logged(out, other)?;
+    out.push_str("\n")
+}
+
+/// F17: a step of a walk that is no conflict of the logs.
+pub fn push_walk_step(out: &mut String, unmet: &Unmet) -> Result<(), AllocError> {
+    let tx = unmet.tx;
+    let number = unmet.number;
+    let count = unmet.count;
+    let counted = unmet.place.saturating_add(1);
+    writeln!(
+        out,
+        "WalkStep: step {counted} of {count} in the walk of refused transaction {tx} (decision {number})"
+    )?;
+    push_wish(out, unmet.from, &unmet.step)?;
+    push_reason(out, unmet)?;
+    match &unmet.other {
+        Some((kind, one, other)) => push_other_kind(out, *kind, one, other),
+        None => Ok(()),
     }
-    Ok(())
 }

@@ -1,104 +1,113 @@
 //! What is said of entries that stand against the ranks or the decisions.
 
-ghost use Rattle.std.specs.Prelude.{IfSome, IsTrue};
-ghost use Rattle.sgt_explain_decisions.specs.Against.{StandsAgainst};
+ghost use Rattle.std.specs.Prelude.{◌≡◌, IfSome, IsTrue, Contains};
+ghost use Rattle.sgt_names.specs.Entry.{tx_of};
+ghost use Rattle.sgt_cert.specs.Certificate.{IsCommitted};
+ghost use Rattle.sgt_explain_decisions.specs.Against.{StandAgainst};
 
 use crate::placed::{Placed, number_on, rank_on};
 use sgt_cert::Decision;
 use sgt_explain_lines::{Logged, Section, clash, kind_name, push_aside, verb};
-use sgt_names::{Entry, Tx};
+use sgt_names::Tx;
 use std::alloc::AllocError;
 use std::fmt::Write;
 
-/// Whether the first of two entries stands against the second: they are in conflict, and its transaction has no smaller rank.
-fn stands_against(decisions: &[Decision], placed: &[Placed], first: &Entry, second: &Entry) -> bool
-    ensures { IsTrue result → StandsAgainst decisions.now first.now second.now }
-{
-    let Some(_) = clash(first, second) else {
-        return false;
-    };
-    let Some((earlier, _)) = rank_on(decisions, placed, first.tx()) else {
-        return false;
-    };
-    let Some((later, _)) = rank_on(decisions, placed, second.tx()) else {
-        return false;
-    };
-    if later > earlier {
-        return false;
-    }
-    true
+/// An entry of a committed transaction, with the rank of that and the number of its decision.
+#[derive(Clone, Copy)]
+pub struct Ranked {
+    pub logged: Logged,
+    pub rank: u32,
+    pub number: usize,
 }
 
-/// The first of these entries that this one stands against.
-fn against(
+/// Two entries of a site, of which the first stands against the second.
+#[derive(Clone, Copy)]
+pub struct RanksShown {
+    pub site: u8,
+    pub first: Ranked,
+    pub second: Ranked,
+}
+
+/// The entry with the rank of its transaction, if that is committed.
+fn with_rank(decisions: &[Decision], placed: &[Placed], logged: &Logged) -> Option<Ranked>
+    ensures same { IfSome result (λ r. r.logged ≡ logged.now) }
+    ensures rank { IfSome result (λ r. IsCommitted decisions.now r.number (tx_of r.logged.entry) r.rank) }
+{
+    match rank_on(decisions, placed, logged.entry.tx()) {
+        Some((rank, number)) => Some(Ranked {
+            logged: *logged,
+            rank,
+            number,
+        }),
+        None => None,
+    }
+}
+
+/// Whether the first of two entries stands against the second: they are in conflict, and its transaction has no smaller rank.
+fn stand_against(first: &Ranked, second: &Ranked) -> bool
+    ensures { IsTrue result → StandAgainst first.now second.now }
+{
+    match clash(&first.logged.entry, &second.logged.entry) {
+        Some(_) => second.rank <= first.rank,
+        None => false,
+    }
+}
+
+/// The first of these entries that stands against this one, with the ranks of both.
+pub fn against_ranks(
     decisions: &[Decision],
     placed: &[Placed],
     entries: &[Logged],
-    entry: &Entry,
-) -> Option<Logged>
-    ensures { IfSome result (λ f. StandsAgainst decisions.now f.entry entry.now) }
+    logged: &Logged,
+) -> Option<(Ranked, Ranked)>
+    ensures among { IfSome result (λ r. Contains entries.now r.0.logged) }
+    ensures same { IfSome result (λ r. r.1.logged ≡ logged.now) }
+    ensures first { IfSome result (λ r. IsCommitted decisions.now r.0.number (tx_of r.0.logged.entry) r.0.rank) }
+    ensures second { IfSome result (λ r. IsCommitted decisions.now r.1.number (tx_of r.1.logged.entry) r.1.rank) }
+    ensures stand { IfSome result (λ r. StandAgainst r.0 r.1) }
 {
+    let Some(second) = with_rank(decisions, placed, logged) else {
+        return None;
+    };
     for other in entries {
-        if stands_against(decisions, placed, &other.entry, entry) {
-            return Some(*other);
+        if let Some(first) = with_rank(decisions, placed, other) {
+            if stand_against(&first, &second) {
+                return Some((first, second));
+            }
         }
     }
     None
 }
 
 /// An entry with the rank of its transaction.
-fn push_ranked(
-    out: &mut String,
-    decisions: &[Decision],
-    placed: &[Placed],
-    logged: &Logged,
-) -> Result<(), AllocError> {
-    let tx = logged.entry.tx();
-    push_aside(out, logged)?;
-    match rank_on(decisions, placed, tx) {
-        Some((rank, number)) => {
-            writeln!(out, "transaction {tx} has rank {rank} (decision {number})")
-        }
-        None => out.push_str("\n"),
-    }
+fn push_ranked(out: &mut String, ranked: &Ranked) -> Result<(), AllocError> {
+    let tx = ranked.logged.entry.tx();
+    let rank = ranked.rank;
+    let number = ranked.number;
+    push_aside(out, &ranked.logged)?;
+    writeln!(out, "transaction {tx} has rank {rank} (decision {number})")
 }
 
-/// Which conflict two entries are in, and what it asks of the ranks.
-fn push_wanted_ranks(
-    out: &mut String,
-    site: u8,
-    first: &Logged,
-    second: &Logged,
-) -> Result<(), AllocError> {
-    let (Some(item), Some(kind)) = (first.entry.item(), clash(&first.entry, &second.entry)) else {
+/// F11: two entries of a site that stand against the ranks.
+pub fn push_rank_order(out: &mut String, shown: &RanksShown) -> Result<(), AllocError> {
+    out.push_str("RankOrder: two operations in conflict stand against the ranks\n")?;
+    push_ranked(out, &shown.first)?;
+    push_ranked(out, &shown.second)?;
+    let site = shown.site;
+    let one = &shown.first.logged.entry;
+    let other = &shown.second.logged.entry;
+    let (Some(item), Some(kind)) = (one.item(), clash(one, other)) else {
         return Ok(());
     };
-    let one = first.entry.tx();
-    let other = second.entry.tx();
-    let before = verb(&first.entry);
-    let after = verb(&second.entry);
+    let from = one.tx();
+    let to = other.tx();
+    let before = verb(one);
+    let after = verb(other);
     let name = kind_name(kind);
     writeln!(
         out,
-        "{one} {before} {item} of site {site} before {other} {after} it ({name}): {one} has to have the smaller rank"
+        "{from} {before} {item} of site {site} before {to} {after} it ({name}): {from} has to have the smaller rank"
     )
-}
-
-/// F11: an entry in conflict with an earlier one of greater rank.
-pub fn push_rank_order(
-    out: &mut String,
-    decisions: &[Decision],
-    placed: &[Placed],
-    section: &Section,
-    logged: &Logged,
-) -> Result<(), AllocError> {
-    out.push_str("RankOrder: two operations in conflict stand against the ranks\n")?;
-    let Some(first) = against(decisions, placed, section.entries.as_slice(), &logged.entry) else {
-        return Ok(());
-    };
-    push_ranked(out, decisions, placed, &first)?;
-    push_ranked(out, decisions, placed, logged)?;
-    push_wanted_ranks(out, section.site_number(), &first, logged)
 }
 
 /// The first end before this one that was decided later.

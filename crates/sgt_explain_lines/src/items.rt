@@ -3,8 +3,8 @@
 use crate::entries::verb;
 use crate::section::{Logged, Section, Stated};
 use crate::shown::{push_aside, push_logged, push_numbered};
-use crate::values::{Made, last_had, value_of};
-use sgt_names::{Entry, Holding, Item, Value};
+use crate::values::{Made, Misvalued};
+use sgt_names::{Entry, Item, Tx};
 use std::alloc::AllocError;
 use std::fmt::Write;
 
@@ -103,60 +103,45 @@ fn push_made(out: &mut String, item: &Item, made: &Made) -> Result<(), AllocErro
     }
 }
 
-/// Until when the item had the value.
-fn push_until(
-    out: &mut String,
-    section: &Section,
-    item: &Item,
-    value: Value,
-) -> Result<(), AllocError> {
-    match last_had(section, item, value) {
+/// Until when the item had the value that is given.
+fn push_until(out: &mut String, shown: &Misvalued) -> Result<(), AllocError> {
+    let value = shown.given;
+    match shown.until {
         Some(line) => write!(out, "{value} was its value up to line {line}"),
         None => write!(out, "{value} was never its value before"),
     }
 }
 
 /// F10: a read of another value than the item has.
-pub fn push_read(out: &mut String, section: &Section, logged: &Logged) -> Result<(), AllocError> {
-    let Entry::Read { tx, item, value } = logged.entry else {
-        return Ok(());
-    };
-    let Some(made) = value_of(section, &item) else {
-        return Ok(());
-    };
-    let site = section.site_number();
-    let found = made.value;
+pub fn push_read(out: &mut String, tx: Tx, shown: &Misvalued) -> Result<(), AllocError> {
+    let item = shown.item;
+    let value = shown.given;
+    let site = shown.site;
+    let found = shown.made.value;
     writeln!(
         out,
         "ReadValue: r{tx}[{item}]={value}, but {item} at site {site} is {found} here"
     )?;
-    push_made(out, &item, &made)?;
-    push_until(out, section, &item, value)?;
-    match last_had(section, &item, value) {
+    push_made(out, &item, &shown.made)?;
+    push_until(out, shown)?;
+    match shown.until {
         Some(_) => out.push_str(": a read of an old version, or the log is wrong\n"),
         None => out.push_str(": a read of something else, or the log is wrong\n"),
     }
 }
 
 /// F16: a final of another value than the item has.
-pub fn push_final(
-    out: &mut String,
-    section: &Section,
-    holding: &Holding,
-) -> Result<(), AllocError> {
-    let item = holding.item;
-    let value = holding.value;
-    let Some(made) = value_of(section, &item) else {
-        return Ok(());
-    };
-    let site = section.site_number();
-    let found = made.value;
+pub fn push_final(out: &mut String, shown: &Misvalued) -> Result<(), AllocError> {
+    let item = shown.item;
+    let value = shown.given;
+    let site = shown.site;
+    let found = shown.made.value;
     writeln!(
         out,
         "Final: final {item}={value}, but {item} at site {site} is {found} at the end"
     )?;
-    push_made(out, &item, &made)?;
-    push_until(out, section, &item, value)?;
+    push_made(out, &item, &shown.made)?;
+    push_until(out, shown)?;
     out.push_str("\n")
 }
 
