@@ -179,7 +179,7 @@ module _ (bytes : List ℕ) (n : ℕ) (first : FirstFault bytes n fault.RankOrde
       → ((before : List SectionLine) (l : SectionLine) → HasLine bytes n before l → Some logged ≡ logged_in (n, l))
       → shown.site ≡ unwrap_or section.site 0 → Contains section.entries.items shown.first.logged → shown.second.logged ≡ logged
       → IsCommitted d.decisions shown.first.number (tx_of shown.first.logged.entry) shown.first.rank
-      → IsCommitted d.decisions shown.second.number (tx_of shown.second.logged.entry) shown.second.rank → StandAgainst shown.first shown.second
+      → IsCommitted d.decisions shown.second.number (tx_of shown.second.logged.entry) shown.second.rank → StandAgainst shown.first shown.second shown.kind shown.item
       → ShowsRanks (decisions_before first.stage) (lines_before first.stage) (bytes_of first.next) n shown
   shows-ranks section d logged shown are one at site among same one-rank other-rank stand =
       let is = are found_ranks.before found_ranks.line found_ranks.has in
@@ -196,3 +196,16 @@ module _ (bytes : List ℕ) (n : ℕ) (first : FirstFault bytes n fault.RankOrde
         second = subst (λ ds. IsCommitted ds shown.second.number (tx_of shown.second.logged.entry) shown.second.rank) decisions other-rank;
         stand = stand;
       })
+
+  pub shows-ranks-found : (section : Section) (d : Certificate) (logged : LoggedEntry) (found : Option RanksShown)
+      → ((before : List SectionLine) (l : SectionLine) → HasLine bytes n before l → IsSectionOf before section)
+      → ((front : List ℕ) (c : Certificate) (rest : List ℕ) → HasNoLf front → IsCertificate c → bytes ≡ front ++ 10 ∷ (certificate_text c ++ 10 ∷ rest) → Some d ≡ Some c)
+      → ((before : List SectionLine) (l : SectionLine) → HasLine bytes n before l → Some logged ≡ logged_in (n, l))
+      → IfSome found (λ s. s.site ≡ unwrap_or section.site 0) → IfSome found (λ s. Contains section.entries.items s.first.logged) → IfSome found (λ s. s.second.logged ≡ logged)
+      → IfSome found (λ s. IsCommitted d.decisions s.first.number (tx_of s.first.logged.entry) s.first.rank)
+      → IfSome found (λ s. IsCommitted d.decisions s.second.number (tx_of s.second.logged.entry) s.second.rank)
+      → IfSome found (λ s. StandAgainst s.first s.second s.kind s.item)
+      → IfSome found (ShowsRanks (decisions_before first.stage) (lines_before first.stage) (bytes_of first.next) n)
+  shows-ranks-found section d logged None are one at site among same one-rank other-rank stand = tt
+  shows-ranks-found section d logged (Some shown) are one at site among same one-rank other-rank stand =
+      shows-ranks section d logged shown are one at site among same one-rank other-rank stand

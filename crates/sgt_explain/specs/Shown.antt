@@ -56,7 +56,7 @@ pub record ShowsRanks (decisions : List Decision) (before : List SectionLine) (l
   pub among : Contains (numbered_entries before) shown.first.logged
   pub first : IsCommitted decisions shown.first.number (tx_of shown.first.logged.entry) shown.first.rank
   pub second : IsCommitted decisions shown.second.number (tx_of shown.second.logged.entry) shown.second.rank
-  pub stand : StandAgainst shown.first shown.second
+  pub stand : StandAgainst shown.first shown.second shown.kind shown.item
 
 -- ---- the parts of a line, for private clauses
 

@@ -1,10 +1,8 @@
 -- What is shown of a step of a walk that is no conflict of the logs.
-use Rattle.std.specs.Prelude.{◌≡◌, ℕ, ◌<◌, Bool, true, false, List, [], ◌∷◌, ◌++◌, All, Contains, Option, Some, IfSome, IfNone, slice_get}
+use Rattle.std.specs.Prelude.{◌≡◌, ◌⊎◌, ℕ, ◌<◌, Bool, true, false, List, [], ◌∷◌, ◌++◌, length, All, Contains, Option, Some, IfSome, IfNone, slice_get}
 use Rattle.sgt_names.specs.Name.{Name}
-use Rattle.sgt_names.specs.Entry.{tx_of, Reads, Writes}
+use Rattle.sgt_names.specs.Entry.{tx_of, Reads, Writes, IsIncrement, Clash}
 use Rattle.sgt_names.specs.declared.entry.Entry.{Entry}
-use Rattle.sgt_names.specs.declared.entry.Kind.{Kind}
-use Rattle.sgt_names.specs.declared.entry.Kind.TheVariants.{Wr, Rw, Ww}
 use Rattle.sgt_notation.specs.Spelling.{line_text}
 use Rattle.sgt_notation.specs.declared.SectionLine.{SectionLine}
 use Rattle.sgt_notation.specs.declared.SectionLine.TheVariants.{End}
@@ -18,16 +16,9 @@ use Rattle.sgt_cert.specs.declared.bundle.SiteLog.{SiteLog}
 use Rattle.sgt_explain_lines.specs.Numbered.{IsSectionOf, open_site, numbered_entries}
 use Rattle.sgt_explain_lines.specs.declared.section.Logged.{Logged}
 use Rattle.sgt_explain_lines.specs.declared.section.Section.{Section}
-use Rattle.sgt_explain_decisions.specs.declared.cycles.Unmet.{Unmet}
-
--- whether a step of the kind begins, and ends, with a read
-abbrev pub begins_with_read : Kind → Bool
-begins_with_read Rw = true
-begins_with_read _ = false
-
-abbrev pub ends_with_read : Kind → Bool
-ends_with_read Wr = true
-ends_with_read _ = false
+use Rattle.sgt_explain_decisions.specs.Told.{begins_with_read, ends_with_read}
+use Rattle.sgt_explain_decisions.specs.declared.unmet.Met.{Met}
+use Rattle.sgt_explain_decisions.specs.declared.unmet.Unmet.{Unmet}
 
 -- the entry reads the item; else it changes it or asks to
 abbrev pub Does : Bool → Name → Entry → Type 0
@@ -39,6 +30,25 @@ pub record ShowsOwn (entries : List Logged) (tx : ℕ) (reads : Bool) (x : Name)
   pub there : IfSome shown (λ l. Contains entries l × (tx_of l.entry ≡ tx) × Does reads x l.entry)
   pub none : IfNone shown (All (λ l. tx_of l.entry ≡ tx → Does reads x l.entry → ⊥) entries)
 
+-- two entries that a step is about, the first its own and the second that of the transaction that it leads to, are no conflict of its
+-- kind: both are increments, or they stand in the other order
+pub record StandsBefore (entries : List Logged) (one other : Logged) : Type 0 where
+  pub p : ℕ
+  pub q : ℕ
+  pub first : slice_get entries p ≡ Some one
+  pub second : slice_get entries q ≡ Some other
+  pub before : p < q
+
+abbrev pub AreMisfit : List Logged → Logged → Logged → Type 0
+AreMisfit entries one other = (IsIncrement one.entry × IsIncrement other.entry) ⊎ StandsBefore entries other one
+
+-- the conflict of the one transaction with the other that is there
+pub record MeetsThere (entries : List Logged) (from : ℕ) (step : Step) (met : Met) : Type 0 where
+  pub clash : Clash met.kind step.label.item met.first.entry met.second.entry
+  pub from : tx_of met.first.entry ≡ from
+  pub to : tx_of met.second.entry ≡ step.to
+  pub order : StandsBefore entries met.first met.second
+
 -- the lines before the end of this site's section
 pub record EndsSite (lines : List SectionLine) (site : ℕ) (upto : List SectionLine) : Type 0 where
   pub later : List SectionLine
@@ -49,11 +59,12 @@ pub record EndsSite (lines : List SectionLine) (site : ℕ) (upto : List Section
 pub record IsStepAt (decisions : List Decision) (shown : Unmet) : Type 0 where
   pub walk : List Step
   pub refused : slice_get decisions shown.number ≡ Some (Refuse shown.tx walk)
+  pub count : shown.count ≡ length walk
   pub step : slice_get walk shown.place ≡ Some shown.step
   pub from : slice_get (shown.tx ∷ stops walk) shown.place ≡ Some shown.from
 
 -- of the end of the last section: a step of a refusal's walk that is no conflict of the logs, and of the entries of its site the two that
--- the step is about, as far as they are there
+-- the step is about, as far as they are there, and a conflict of another kind of the same transactions on the item
 pub record ShowsStep (decisions : List Decision) (before : List SectionLine) (line : List ℕ) (shown : Unmet) : Type 0 where
   pub last : line ≡ line_text End
   pub at : IsStepAt decisions shown
@@ -62,6 +73,8 @@ pub record ShowsStep (decisions : List Decision) (before : List SectionLine) (li
   pub section : EndsSite (before ++ End ∷ []) shown.step.label.site upto
   pub first : ShowsOwn (numbered_entries upto) shown.from (begins_with_read shown.step.label.kind) shown.step.label.item shown.first
   pub second : ShowsOwn (numbered_entries upto) shown.step.to (ends_with_read shown.step.label.kind) shown.step.label.item shown.second
+  pub misfit : (one other : Logged) → shown.first ≡ Some one → shown.second ≡ Some other → AreMisfit (numbered_entries upto) one other
+  pub other : IfSome shown.other (MeetsThere (numbered_entries upto) shown.from shown.step)
 
 -- ---- for private clauses
 
@@ -70,3 +83,12 @@ pub record IsWhole (lines : List SectionLine) (site : ℕ) (section : Section) :
   pub upto : List SectionLine
   pub ends : EndsSite lines site upto
   pub is : IsSectionOf upto section
+
+-- the step is the same, of the same refusal
+pub record SameStep (found shown : Unmet) : Type 0 where
+  pub tx : shown.tx ≡ found.tx
+  pub number : shown.number ≡ found.number
+  pub place : shown.place ≡ found.place
+  pub count : shown.count ≡ found.count
+  pub from : shown.from ≡ found.from
+  pub step : shown.step ≡ found.step

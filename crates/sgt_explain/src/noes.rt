@@ -1,16 +1,16 @@
 //! What a no means.
 
-use crate::shown::{certificate_of, final_shown, logged_at, ranks_shown, read_shown};
-use crate::steps::step_shown;
+use crate::shown::{certificate_of, logged_at, push_final_value, push_rank_order_of, push_read_value};
+use crate::steps::push_unmet_step;
 use sgt_audit::Fault;
 use sgt_cert::Certificate;
 use sgt_explain_decisions::{
     placed_in, push_certificate, push_decided_twice, push_decision_order, push_end, push_not_ended,
-    push_rank_order, push_ranks, push_walk_shape, push_walk_step,
+    push_ranks, push_walk_shape,
 };
 use sgt_explain_lines::{
-    Section, after_line, line_at, push_block, push_final, push_format, push_item, push_notation,
-    push_read, push_section, push_trailing, push_truncated, push_twice, section_before,
+    Section, line_at, push_block, push_format, push_item, push_notation, push_section,
+    push_trailing, push_truncated, push_twice, section_before,
 };
 use std::alloc::{AllocError, Global};
 
@@ -34,52 +34,6 @@ fn push_by_section(
             Some(logged) => push_twice(out, section, &logged),
             None => Ok(()),
         },
-    }
-}
-
-/// Of a line that gives an item another value than the item has there.
-fn push_by_value(
-    alloc: Global,
-    out: &mut String,
-    bytes: &[u8],
-    line: u64,
-    fault: Fault,
-) -> Result<(), AllocError> {
-    if fault == Fault::ReadValue {
-        return match read_shown(alloc, bytes, line)? {
-            Some((tx, shown)) => push_read(out, tx, &shown),
-            None => Ok(()),
-        };
-    }
-    match final_shown(alloc, bytes, line)? {
-        Some(shown) => push_final(out, &shown),
-        None => Ok(()),
-    }
-}
-
-/// Of an entry that stands against the ranks.
-fn push_by_ranks(
-    alloc: Global,
-    out: &mut String,
-    bytes: &[u8],
-    line: u64,
-) -> Result<(), AllocError> {
-    match &ranks_shown(alloc, bytes, line)? {
-        Some(shown) => push_rank_order(out, shown),
-        None => Ok(()),
-    }
-}
-
-/// Of a step that is no conflict of the logs.
-fn push_by_step(
-    alloc: Global,
-    out: &mut String,
-    bytes: &[u8],
-    line: u64,
-) -> Result<(), AllocError> {
-    match &step_shown(alloc, bytes, line)? {
-        Some(unmet) => push_walk_step(out, unmet),
-        None => Ok(()),
     }
 }
 
@@ -140,9 +94,10 @@ pub fn push_no(
             let section = section_before(alloc, bytes, line)?;
             push_by_section(out, bytes, line, fault, &section)
         }
-        Fault::ReadValue | Fault::Final => push_by_value(alloc, out, bytes, line, fault),
-        Fault::RankOrder => push_by_ranks(alloc, out, bytes, line),
-        Fault::WalkStep => push_by_step(alloc, out, bytes, line),
+        Fault::ReadValue => push_read_value(alloc, out, bytes, line),
+        Fault::Final => push_final_value(alloc, out, bytes, line),
+        Fault::RankOrder => push_rank_order_of(alloc, out, bytes, line),
+        Fault::WalkStep => push_unmet_step(alloc, out, bytes, line),
         _ => {
             let Some(certificate) = certificate_of(alloc, bytes)? else {
                 return Ok(());

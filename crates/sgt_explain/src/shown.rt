@@ -11,9 +11,10 @@ ghost use Rattle.sgt_explain_lines.specs.Numbered.{HasLine, logged_in};
 ghost use Rattle.sgt_explain.specs.Shown.{lines_before, decisions_before, ShowsRead, ShowsFinal, ShowsRanks, read_in, final_in};
 
 use sgt_cert::{CertFault, Certificate, from_line};
-use sgt_explain_decisions::{RanksShown, against_ranks, placed_in};
+use sgt_explain_decisions::{RanksShown, against_ranks, placed_in, push_rank_order};
 use sgt_explain_lines::{
-    Logged, Misvalued, after_line, cut_line, section_before, section_line_at, value_against,
+    Logged, Misvalued, after_line, cut_line, push_final, push_read, section_before,
+    section_line_at, value_against,
 };
 use sgt_names::{Entry, Item, Tx, Value};
 use sgt_notation::SectionLine;
@@ -148,13 +149,44 @@ pub fn ranks_shown(
     };
     let decisions = certificate.decisions();
     let placed = placed_in(alloc, decisions)?;
-    let entries = section.entries.as_slice();
-    match against_ranks(decisions, placed.as_slice(), entries, &logged) {
-        Some((first, second)) => Ok(Some(RanksShown {
-            site: section.site_number(),
-            first,
-            second,
-        })),
-        None => Ok(None),
+    Ok(against_ranks(decisions, placed.as_slice(), &section, &logged))
+}
+
+/// F10, in words.
+pub fn push_read_value(
+    alloc: Global,
+    out: &mut String,
+    bytes: &[u8],
+    number: u64,
+) -> Result<(), AllocError> {
+    match &read_shown(alloc, bytes, number)? {
+        Some((tx, shown)) => push_read(out, *tx, shown),
+        None => Ok(()),
+    }
+}
+
+/// F16, in words.
+pub fn push_final_value(
+    alloc: Global,
+    out: &mut String,
+    bytes: &[u8],
+    number: u64,
+) -> Result<(), AllocError> {
+    match &final_shown(alloc, bytes, number)? {
+        Some(shown) => push_final(out, shown),
+        None => Ok(()),
+    }
+}
+
+/// F11, in words.
+pub fn push_rank_order_of(
+    alloc: Global,
+    out: &mut String,
+    bytes: &[u8],
+    number: u64,
+) -> Result<(), AllocError> {
+    match &ranks_shown(alloc, bytes, number)? {
+        Some(shown) => push_rank_order(out, shown),
+        None => Ok(()),
     }
 }

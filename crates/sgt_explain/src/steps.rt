@@ -10,29 +10,20 @@ ghost use Rattle.sgt_audit.specs.declared.faults.Fault.TheVariants.{WalkStep};
 ghost use Rattle.sgt_explain_lines.specs.Numbered.{HasLine};
 ghost use Rattle.sgt_explain_lines.specs.Values.{entries_of};
 ghost use Rattle.sgt_explain.specs.Shown.{lines_before, decisions_before};
-ghost use Rattle.sgt_explain.specs.Steps.{begins_with_read, ends_with_read, Does, ShowsOwn, IsStepAt, IsWhole, ShowsStep};
+ghost use Rattle.sgt_explain_decisions.specs.Told.{begins_with_read, ends_with_read};
+ghost use Rattle.sgt_explain.specs.Steps.{Does, ShowsOwn, IsStepAt, IsWhole, SameStep, MeetsThere, ShowsStep};
 
 use crate::shown::{certificate_of, text_before};
 use sgt_cert::{Decision, Step};
-use sgt_explain_decisions::{Sought, Unmet, other_kind, sought_in, unmet_in};
-use sgt_explain_lines::{Logged, Section, after_line, cut_line, section_before, section_line_at};
+use sgt_explain_decisions::{
+    Met, Unmet, begins_with_read, ends_with_read, push_walk_step, sought_in, unmet_in,
+};
+use sgt_explain_lines::{
+    Logged, Section, after_line, clash_on, cut_line, section_before, section_line_at,
+};
 use sgt_names::{Entry, Item, Kind, SiteNo, Tx};
 use sgt_notation::{SectionLine, read_section};
 use std::alloc::{AllocError, Global};
-
-/// Whether a step of the kind begins with a read.
-fn begins_with_read(kind: Kind) -> bool
-    ensures { result ≡ begins_with_read kind }
-{
-    matches!(kind, Kind::Rw)
-}
-
-/// Whether a step of the kind ends with a read.
-fn ends_with_read(kind: Kind) -> bool
-    ensures { result ≡ ends_with_read kind }
-{
-    matches!(kind, Kind::Wr)
-}
 
 /// Whether the entry reads the item, or else changes it or asks to.
 fn does(reads: bool, item: &Item, entry: &Entry) -> bool
@@ -88,7 +79,8 @@ fn clashes_with(entries: &[Logged], from: Tx, step: &Step, second: &Entry) -> bo
     ensures { IsFalse result → tx_of second.now ≡ step.now.to → All (λ l. tx_of l.entry ≡ from
         → Clash step.now.label.kind step.now.label.item l.entry second.now → ⊥) entries.now }
 {
-    if second.tx() != step.to {
+    let item = &step.label.item;
+    if !is_own(second, step.to, item, ends_with_read(step.label.kind)) {
         return false;
     }
     for first in entries {
@@ -111,6 +103,58 @@ fn is_met(entries: &[Logged], from: Tx, step: &Step) -> bool
         }
     }
     false
+}
+
+/// The conflict that the second entry is in with the first, of the transactions of the step and on its item.
+fn met_by(from: Tx, step: &Step, first: &Logged, second: &Logged) -> Option<Met>
+    ensures { IfSome result (λ m. (m.first ≡ first.now) × (m.second ≡ second.now) × (tx_of m.first.entry ≡ from)
+        × Clash m.kind step.now.label.item m.first.entry m.second.entry) }
+{
+    if first.entry.tx() != from {
+        return None;
+    }
+    match clash_on(&step.label.item, &first.entry, &second.entry) {
+        Some(kind) => Some(Met {
+            kind,
+            first: *first,
+            second: *second,
+        }),
+        None => None,
+    }
+}
+
+/// The first conflict of one of these entries with the second entry, of the transactions of the step and on its item.
+fn met_with(entries: &[Logged], from: Tx, step: &Step, second: &Logged) -> Option<Met>
+    ensures second { IfSome result (λ m. m.second ≡ second.now) }
+    ensures among { IfSome result (λ m. Contains entries.now m.first) }
+    ensures from { IfSome result (λ m. tx_of m.first.entry ≡ from) }
+    ensures to { IfSome result (λ m. tx_of m.second.entry ≡ step.now.to) }
+    ensures clash { IfSome result (λ m. Clash m.kind step.now.label.item m.first.entry m.second.entry) }
+{
+    let item = &step.label.item;
+    let is_on_it = second.entry.reads(item) || second.entry.writes(item);
+    if second.entry.tx() != step.to || !is_on_it {
+        return None;
+    }
+    for first in entries {
+        if let Some(met) = met_by(from, step, first, second) {
+            return Some(met);
+        }
+    }
+    None
+}
+
+/// The first conflict of these entries of the transactions of the step and on its item, of whatever kind.
+fn met_in(entries: &[Logged], from: Tx, step: &Step) -> Option<Met>
+    ensures { IfSome result (MeetsThere entries.now from step.now) }
+{
+    for place in 0..entries.len() {
+        let second = entries[place];
+        if let Some(met) = met_with(&entries[..place], from, step, &second) {
+            return Some(met);
+        }
+    }
+    None
 }
 
 /// The transaction that the step at this place starts from.
@@ -196,15 +240,15 @@ fn whole_section(
 }
 
 /// The step with its entries of these, where they have no conflict of the step.
-fn with_entries(unmet: &Unmet, entries: &[Logged], sought: &[Sought]) -> Option<Unmet>
-    ensures step { IfSome result (λ u. (u.tx ≡ unmet.now.tx) × (u.number ≡ unmet.now.number) × (u.place ≡ unmet.now.place)
-        × (u.from ≡ unmet.now.from) × (u.step ≡ unmet.now.step)) }
+fn with_entries(unmet: &Unmet, entries: &[Logged]) -> Option<Unmet>
+    ensures step { IfSome result (SameStep unmet.now) }
     ensures broken { IfSome result (λ u.
         Conflicts (entries_of entries.now) u.step.label.kind u.step.label.item u.from u.step.to → ⊥) }
     ensures first { IfSome result (λ u.
         ShowsOwn entries.now u.from (begins_with_read u.step.label.kind) u.step.label.item u.first) }
     ensures second { IfSome result (λ u.
         ShowsOwn entries.now u.step.to (ends_with_read u.step.label.kind) u.step.label.item u.second) }
+    ensures other { IfSome result (λ u. IfSome u.other (MeetsThere entries.now u.from u.step)) }
 {
     let from = unmet.from;
     let step = &unmet.step;
@@ -222,12 +266,12 @@ fn with_entries(unmet: &Unmet, entries: &[Logged], sought: &[Sought]) -> Option<
         step: *step,
         first: own_in(entries, from, item, begins_with_read(kind)),
         second: own_in(entries, step.to, item, ends_with_read(kind)),
-        other: other_kind(sought, from, step),
+        other: met_in(entries, from, step),
     })
 }
 
 /// F17: the first step of a walk that is no conflict of the logs.
-pub fn step_shown(alloc: Global, bytes: &[u8], number: u64) -> Result<Option<Unmet>, AllocError>
+fn step_shown(alloc: Global, bytes: &[u8], number: u64) -> Result<Option<Unmet>, AllocError>
     ensures { (first : FirstFault bytes.now number WalkStep) → IfOk result (λ found.
         IfSome found (ShowsStep (decisions_before first.stage) (lines_before first.stage) (bytes_of first.next))) }
 {
@@ -245,5 +289,18 @@ pub fn step_shown(alloc: Global, bytes: &[u8], number: u64) -> Result<Option<Unm
     let Some(section) = whole_section(alloc, bytes, number, &unmet.step)? else {
         return Ok(None);
     };
-    Ok(with_entries(&unmet, section.entries.as_slice(), sought.as_slice()))
+    Ok(with_entries(&unmet, section.entries.as_slice()))
+}
+
+/// F17, in words.
+pub fn push_unmet_step(
+    alloc: Global,
+    out: &mut String,
+    bytes: &[u8],
+    number: u64,
+) -> Result<(), AllocError> {
+    match &step_shown(alloc, bytes, number)? {
+        Some(unmet) => push_walk_step(out, unmet),
+        None => Ok(()),
+    }
 }

@@ -1,14 +1,15 @@
 //! What is said of entries that stand against the ranks or the decisions.
 
-ghost use Rattle.std.specs.Prelude.{◌≡◌, IfSome, IsTrue, Contains};
+ghost use Rattle.std.specs.Prelude.{◌≡◌, ◌++◌, IfSome, OnOk, Contains, string_bytes, unwrap_or};
 ghost use Rattle.sgt_names.specs.Entry.{tx_of};
 ghost use Rattle.sgt_cert.specs.Certificate.{IsCommitted};
 ghost use Rattle.sgt_explain_decisions.specs.Against.{StandAgainst};
+ghost use Rattle.sgt_explain_decisions.specs.Told.{ranked_text, ranks_wanted, rank_order_text};
 
 use crate::placed::{Placed, number_on, rank_on};
 use sgt_cert::Decision;
 use sgt_explain_lines::{Logged, Section, clash, kind_name, push_aside, verb};
-use sgt_names::Tx;
+use sgt_names::{Item, Kind, Tx};
 use std::alloc::AllocError;
 use std::fmt::Write;
 
@@ -20,10 +21,12 @@ pub struct Ranked {
     pub number: usize,
 }
 
-/// Two entries of a site, of which the first stands against the second.
+/// Two entries of a site in conflict on an item, of which the first stands against the second.
 #[derive(Clone, Copy)]
 pub struct RanksShown {
     pub site: u8,
+    pub item: Item,
+    pub kind: Kind,
     pub first: Ranked,
     pub second: Ranked,
 }
@@ -43,36 +46,44 @@ fn with_rank(decisions: &[Decision], placed: &[Placed], logged: &Logged) -> Opti
     }
 }
 
-/// Whether the first of two entries stands against the second: they are in conflict, and its transaction has no smaller rank.
-fn stand_against(first: &Ranked, second: &Ranked) -> bool
-    ensures { IsTrue result → StandAgainst first.now second.now }
+/// The item and the kind of the conflict of two entries of which the first stands against the second: its transaction has no
+/// smaller rank.
+fn stand_against(first: &Ranked, second: &Ranked) -> Option<(Item, Kind)>
+    ensures { IfSome result (λ c. StandAgainst first.now second.now c.1 c.0) }
 {
     match clash(&first.logged.entry, &second.logged.entry) {
-        Some(_) => second.rank <= first.rank,
-        None => false,
+        Some((item, kind)) if second.rank <= first.rank => Some((item, kind)),
+        _ => None,
     }
 }
 
-/// The first of these entries that stands against this one, with the ranks of both.
+/// The first of these entries, of the site, that stands against this one, with the ranks of both.
 pub fn against_ranks(
     decisions: &[Decision],
     placed: &[Placed],
-    entries: &[Logged],
+    section: &Section,
     logged: &Logged,
-) -> Option<(Ranked, Ranked)>
-    ensures among { IfSome result (λ r. Contains entries.now r.0.logged) }
-    ensures same { IfSome result (λ r. r.1.logged ≡ logged.now) }
-    ensures first { IfSome result (λ r. IsCommitted decisions.now r.0.number (tx_of r.0.logged.entry) r.0.rank) }
-    ensures second { IfSome result (λ r. IsCommitted decisions.now r.1.number (tx_of r.1.logged.entry) r.1.rank) }
-    ensures stand { IfSome result (λ r. StandAgainst r.0 r.1) }
+) -> Option<RanksShown>
+    ensures site { IfSome result (λ s. s.site ≡ unwrap_or section.now.site 0) }
+    ensures among { IfSome result (λ s. Contains section.now.entries.items s.first.logged) }
+    ensures same { IfSome result (λ s. s.second.logged ≡ logged.now) }
+    ensures first { IfSome result (λ s. IsCommitted decisions.now s.first.number (tx_of s.first.logged.entry) s.first.rank) }
+    ensures second { IfSome result (λ s. IsCommitted decisions.now s.second.number (tx_of s.second.logged.entry) s.second.rank) }
+    ensures stand { IfSome result (λ s. StandAgainst s.first s.second s.kind s.item) }
 {
     let Some(second) = with_rank(decisions, placed, logged) else {
         return None;
     };
-    for other in entries {
+    for other in section.entries.as_slice() {
         if let Some(first) = with_rank(decisions, placed, other) {
-            if stand_against(&first, &second) {
-                return Some((first, second));
+            if let Some((item, kind)) = stand_against(&first, &second) {
+                return Some(RanksShown {
+                    site: section.site_number(),
+                    item,
+                    kind,
+                    first,
+                    second,
+                });
             }
         }
     }
@@ -80,34 +91,41 @@ pub fn against_ranks(
 }
 
 /// An entry with the rank of its transaction.
-fn push_ranked(out: &mut String, ranked: &Ranked) -> Result<(), AllocError> {
+fn push_ranked(out: &mut String, ranked: &Ranked) -> Result<(), AllocError>
+    ensures { OnOk result (string_bytes out.new ≡ string_bytes out.old ++ ranked_text ranked.now) }
+{
     let tx = ranked.logged.entry.tx();
     let rank = ranked.rank;
     let number = ranked.number;
     push_aside(out, &ranked.logged)?;
-    writeln!(out, "transaction {tx} has rank {rank} (decision {number})")
+    write!(out, "transaction {tx} has rank {rank} (decision {number})\n")
+}
+
+/// Which conflict two entries are in, and what it asks of the ranks.
+fn push_wanted_ranks(out: &mut String, shown: &RanksShown) -> Result<(), AllocError>
+    ensures { OnOk result (string_bytes out.new ≡ string_bytes out.old ++ ranks_wanted shown.now) }
+{
+    let site = shown.site;
+    let item = shown.item;
+    let from = shown.first.logged.entry.tx();
+    let to = shown.second.logged.entry.tx();
+    let before = verb(&shown.first.logged.entry);
+    let after = verb(&shown.second.logged.entry);
+    let name = kind_name(shown.kind);
+    write!(
+        out,
+        "{from} {before} {item} of site {site} before {to} {after} it ({name}): {from} has to have the smaller rank\n"
+    )
 }
 
 /// F11: two entries of a site that stand against the ranks.
-pub fn push_rank_order(out: &mut String, shown: &RanksShown) -> Result<(), AllocError> {
+pub fn push_rank_order(out: &mut String, shown: &RanksShown) -> Result<(), AllocError>
+    ensures { OnOk result (string_bytes out.new ≡ string_bytes out.old ++ rank_order_text shown.now) }
+{
     out.push_str("RankOrder: two operations in conflict stand against the ranks\n")?;
     push_ranked(out, &shown.first)?;
     push_ranked(out, &shown.second)?;
-    let site = shown.site;
-    let one = &shown.first.logged.entry;
-    let other = &shown.second.logged.entry;
-    let (Some(item), Some(kind)) = (one.item(), clash(one, other)) else {
-        return Ok(());
-    };
-    let from = one.tx();
-    let to = other.tx();
-    let before = verb(one);
-    let after = verb(other);
-    let name = kind_name(kind);
-    writeln!(
-        out,
-        "{from} {before} {item} of site {site} before {to} {after} it ({name}): {from} has to have the smaller rank"
-    )
+    push_wanted_ranks(out, shown)
 }
 
 /// The first end before this one that was decided later.

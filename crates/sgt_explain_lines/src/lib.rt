@@ -11,7 +11,7 @@ mod shown;
 mod slips;
 mod values;
 
-pub use entries::{clash, kind_name, push_conflict, verb};
+pub use entries::{clash, clash_on, kind_name, push_conflict, verb};
 pub use forms::{
     push_allowed, push_format, push_notation, push_section, push_trailing, push_truncated,
 };
