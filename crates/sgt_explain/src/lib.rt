@@ -6,6 +6,7 @@ mod engine;
 mod judging;
 mod noes;
 mod reading;
+mod replies;
 mod rules;
 mod shown;
 mod steps;
@@ -13,4 +14,4 @@ mod topics;
 mod yeses;
 
 pub use engine::{explain, explain_topic, explain_transaction};
-pub use topics::Topic;
+pub use topics::{Reply, Topic};

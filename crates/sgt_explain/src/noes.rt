@@ -1,5 +1,9 @@
 //! What a no means.
 
+ghost use Rattle.std.specs.Prelude.{OnOk, string_bytes};
+ghost use Rattle.sgt_audit.specs.declared.verdict.Verdict.TheVariants.{No};
+ghost use Rattle.sgt_explain.specs.Explained.{Tells};
+
 use crate::shown::{certificate_of, logged_at, push_final_value, push_rank_order_of, push_read_value};
 use crate::steps::push_unmet_step;
 use sgt_audit::Fault;
@@ -84,7 +88,9 @@ pub fn push_no(
     bytes: &[u8],
     line: u64,
     fault: Fault,
-) -> Result<(), AllocError> {
+) -> Result<(), AllocError>
+    ensures { OnOk result (Tells bytes.now (No line fault) (string_bytes out.old) (string_bytes out.new)) }
+{
     match fault {
         Fault::Format => push_format(out, bytes),
         Fault::Notation => push_notation(out, bytes, line),

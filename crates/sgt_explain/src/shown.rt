@@ -1,13 +1,15 @@
 //! What is shown of a line that gives an item another value than the item has there, and of one that stands against the ranks.
 
-ghost use Rattle.std.specs.Prelude.{◌≡◌, ℕ, List, ◌∷◌, ◌++◌, Some, IfOk, IfSome, IsSomeAnd};
+ghost use Rattle.std.specs.Prelude.{◌≡◌, ℕ, List, ◌∷◌, ◌++◌, Some, IfOk, OnOk, IfSome, IsSomeAnd, string_bytes};
 ghost use Rattle.sgt_notation.specs.Spelling.{HasNoLf};
 ghost use Rattle.sgt_notation.specs.declared.SectionLine.{SectionLine};
 ghost use Rattle.sgt_cert.specs.Text.{certificate_text, IsCertificate};
 ghost use Rattle.sgt_cert.specs.declared.certificate.Certificate.{Certificate};
 ghost use Rattle.sgt_audit.specs.Faults.{FirstFault, bytes_of};
 ghost use Rattle.sgt_audit.specs.declared.faults.Fault.TheVariants.{ReadValue, Final, RankOrder};
+ghost use Rattle.sgt_audit.specs.declared.verdict.Verdict.TheVariants.{No};
 ghost use Rattle.sgt_explain_lines.specs.Numbered.{HasLine, logged_in};
+ghost use Rattle.sgt_explain.specs.Explained.{Tells};
 ghost use Rattle.sgt_explain.specs.Shown.{lines_before, decisions_before, ShowsRead, ShowsFinal, ShowsRanks, read_in, final_in};
 
 use sgt_cert::{CertFault, Certificate, from_line};
@@ -88,7 +90,7 @@ fn final_in_line(line: &SectionLine) -> Option<(Item, Value)>
 }
 
 /// F10: the transaction that reads at this line, and the value that its item has there.
-pub fn read_shown(
+fn read_shown(
     alloc: Global,
     bytes: &[u8],
     number: u64,
@@ -110,7 +112,7 @@ pub fn read_shown(
 }
 
 /// F16: the value that the item of this final has at the end of its section.
-pub fn final_shown(
+fn final_shown(
     alloc: Global,
     bytes: &[u8],
     number: u64,
@@ -132,7 +134,7 @@ pub fn final_shown(
 }
 
 /// F11: this entry and one before it that stands against it.
-pub fn ranks_shown(
+fn ranks_shown(
     alloc: Global,
     bytes: &[u8],
     number: u64,
@@ -158,7 +160,9 @@ pub fn push_read_value(
     out: &mut String,
     bytes: &[u8],
     number: u64,
-) -> Result<(), AllocError> {
+) -> Result<(), AllocError>
+    ensures { OnOk result (Tells bytes.now (No number ReadValue) (string_bytes out.old) (string_bytes out.new)) }
+{
     match &read_shown(alloc, bytes, number)? {
         Some((tx, shown)) => push_read(out, *tx, shown),
         None => Ok(()),
@@ -171,7 +175,9 @@ pub fn push_final_value(
     out: &mut String,
     bytes: &[u8],
     number: u64,
-) -> Result<(), AllocError> {
+) -> Result<(), AllocError>
+    ensures { OnOk result (Tells bytes.now (No number Final) (string_bytes out.old) (string_bytes out.new)) }
+{
     match &final_shown(alloc, bytes, number)? {
         Some(shown) => push_final(out, shown),
         None => Ok(()),
@@ -184,7 +190,9 @@ pub fn push_rank_order_of(
     out: &mut String,
     bytes: &[u8],
     number: u64,
-) -> Result<(), AllocError> {
+) -> Result<(), AllocError>
+    ensures { OnOk result (Tells bytes.now (No number RankOrder) (string_bytes out.old) (string_bytes out.new)) }
+{
     match &ranks_shown(alloc, bytes, number)? {
         Some(shown) => push_rank_order(out, shown),
         None => Ok(()),

@@ -1,14 +1,16 @@
 //! What is shown of a step of a walk that is no conflict of the logs.
 
-ghost use Rattle.std.specs.Prelude.{◌≡◌, ◌↔◌, ◌≤◌, List, ◌∷◌, ◌++◌, [], All, Contains, Some, IfOk, IfSome, IfNone, IsTrue, IsFalse, slice_get};
+ghost use Rattle.std.specs.Prelude.{◌≡◌, ◌↔◌, ◌≤◌, List, ◌∷◌, ◌++◌, [], All, Contains, Some, IfOk, OnOk, IfSome, IsTrue, IsFalse, slice_get, string_bytes};
 ghost use Rattle.sgt_names.specs.Entry.{tx_of, Clash};
 ghost use Rattle.sgt_names.specs.Log.{Conflicts};
 ghost use Rattle.sgt_notation.specs.declared.SectionLine.{SectionLine};
 ghost use Rattle.sgt_cert.specs.Certificate.{stops};
 ghost use Rattle.sgt_audit.specs.Faults.{FirstFault, bytes_of};
 ghost use Rattle.sgt_audit.specs.declared.faults.Fault.TheVariants.{WalkStep};
+ghost use Rattle.sgt_audit.specs.declared.verdict.Verdict.TheVariants.{No};
 ghost use Rattle.sgt_explain_lines.specs.Numbered.{HasLine};
 ghost use Rattle.sgt_explain_lines.specs.Values.{entries_of};
+ghost use Rattle.sgt_explain.specs.Explained.{Tells};
 ghost use Rattle.sgt_explain.specs.Shown.{lines_before, decisions_before};
 ghost use Rattle.sgt_explain_decisions.specs.Told.{begins_with_read, ends_with_read};
 ghost use Rattle.sgt_explain.specs.Steps.{Does, ShowsOwn, IsStepAt, IsWhole, SameStep, MeetsThere, ShowsStep};
@@ -298,7 +300,9 @@ pub fn push_unmet_step(
     out: &mut String,
     bytes: &[u8],
     number: u64,
-) -> Result<(), AllocError> {
+) -> Result<(), AllocError>
+    ensures { OnOk result (Tells bytes.now (No number WalkStep) (string_bytes out.old) (string_bytes out.new)) }
+{
     match &step_shown(alloc, bytes, number)? {
         Some(unmet) => push_walk_step(out, unmet),
         None => Ok(()),

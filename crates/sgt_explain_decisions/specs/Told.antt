@@ -19,15 +19,29 @@ abbrev pub ranked_text : Ranked → List ℕ
 ranked_text r = noted_line r.logged ++ (codes "transaction " ++ (decimal (tx_of r.logged.entry) ++ (codes " has rank "
     ++ (decimal r.rank ++ (codes " (decision " ++ (decimal r.number ++ codes ")\n"))))))
 
+abbrev pub both_ranked : RanksShown → List ℕ
+both_ranked s = ranked_text s.first ++ ranked_text s.second
+
+-- which conflict they are in, and what it asks of the ranks
+abbrev pub first_deed : RanksShown → List ℕ
+first_deed s = decimal (tx_of s.first.logged.entry) ++ (codes " " ++ (verb_text s.first.logged.entry ++ (codes " " ++ (s.item
+    ++ (codes " of site " ++ (decimal s.site ++ codes " "))))))
+
+abbrev pub second_deed : RanksShown → List ℕ
+second_deed s = codes "before " ++ (decimal (tx_of s.second.logged.entry) ++ (codes " " ++ (verb_text s.second.logged.entry
+    ++ (codes " it (" ++ (kind_text s.kind ++ codes "): ")))))
+
+abbrev pub rank_wish : RanksShown → List ℕ
+rank_wish s = decimal (tx_of s.first.logged.entry) ++ codes " has to have the smaller rank\n"
+
 abbrev pub ranks_wanted : RanksShown → List ℕ
-ranks_wanted s = let from = tx_of s.first.logged.entry in
-    decimal from ++ (codes " " ++ (verb_text s.first.logged.entry ++ (codes " " ++ (s.item ++ (codes " of site " ++ (decimal s.site
-    ++ (codes " before " ++ (decimal (tx_of s.second.logged.entry) ++ (codes " " ++ (verb_text s.second.logged.entry
-    ++ (codes " it (" ++ (kind_text s.kind ++ (codes "): " ++ (decimal from ++ codes " has to have the smaller rank\n"))))))))))))))
+ranks_wanted s = first_deed s ++ (second_deed s ++ rank_wish s)
+
+abbrev pub rank_order_head : List ℕ
+rank_order_head = codes "RankOrder: two operations in conflict stand against the ranks\n"
 
 abbrev pub rank_order_text : RanksShown → List ℕ
-rank_order_text s = codes "RankOrder: two operations in conflict stand against the ranks\n"
-    ++ (ranked_text s.first ++ (ranked_text s.second ++ ranks_wanted s))
+rank_order_text s = rank_order_head ++ (both_ranked s ++ ranks_wanted s)
 
 -- ---- a step
 
@@ -58,10 +72,16 @@ abbrev pub absent_text : ℕ → Step → Bool → List ℕ
 absent_text tx s reads = codes "transaction " ++ (decimal tx ++ (codes " has no " ++ (deed_text reads ++ (codes " of " ++ (s.label.item
     ++ codes " there\n")))))
 
--- that the two entries are no conflict
+-- two entries, with a line break between them
+abbrev pub pair_text : Logged → Logged → List ℕ
+pair_text one other = shown_line one ++ (codes "\n" ++ shown_line other)
+
+-- why the two are no conflict
+abbrev pub misfit_reason : Bool → List ℕ
+misfit_reason adds = if adds then codes "\nboth are increments, which are in no conflict\n" else codes "\nthe two are there in the other order\n"
+
 abbrev pub misfit_text : Logged → Logged → List ℕ
-misfit_text one other = shown_line one ++ (codes "\n" ++ (shown_line other ++ (if is_increment one.entry && is_increment other.entry
-    then codes "\nboth are increments, which are in no conflict\n" else codes "\nthe two are there in the other order\n")))
+misfit_text one other = pair_text one other ++ misfit_reason (is_increment one.entry && is_increment other.entry)
 
 abbrev pub reason_text : Unmet → Option Logged → Option Logged → List ℕ
 reason_text u (Some one) (Some other) = misfit_text one other
@@ -71,9 +91,11 @@ reason_text u None None = absent_text u.from u.step (begins_with_read u.step.lab
     ++ absent_text u.step.to u.step (ends_with_read u.step.label.kind)
 
 -- the conflict that is there in its place
+abbrev pub met_head : Kind → List ℕ
+met_head kind = codes "the log has " ++ (kind_text kind ++ codes " there:\n")
+
 abbrev pub met_text : Met → List ℕ
-met_text m = codes "the log has " ++ (kind_text m.kind ++ (codes " there:\n"
-    ++ (shown_line m.first ++ (codes "\n" ++ (shown_line m.second ++ codes "\n")))))
+met_text m = met_head m.kind ++ (pair_text m.first m.second ++ codes "\n")
 
 abbrev pub other_text : Option Met → List ℕ
 other_text (Some m) = met_text m

@@ -1,7 +1,8 @@
 //! What is said of a step of a walk that is no conflict of the logs.
 
-ghost use Rattle.std.specs.Prelude.{◌≡◌, ◌++◌, OnOk, string_bytes};
-ghost use Rattle.sgt_explain_decisions.specs.Told.{begins_with_read, ends_with_read, deed_text, step_head, wish_text, absent_text, misfit_text, reason_text, met_text, other_text, walk_step_text};
+ghost use Rattle.std.specs.Prelude.{◌≡◌, ◌++◌, ◌&&◌, OnOk, string_bytes};
+ghost use Rattle.sgt_names.specs.Entry.{is_increment};
+ghost use Rattle.sgt_explain_decisions.specs.Told.{begins_with_read, ends_with_read, deed_text, step_head, wish_text, absent_text, pair_text, misfit_reason, misfit_text, reason_text, met_head, met_text, other_text, walk_step_text};
 
 use crate::unmet::{Met, Unmet};
 use sgt_cert::Step;
@@ -69,18 +70,38 @@ fn push_absent(out: &mut String, tx: Tx, step: &Step, reads: bool) -> Result<(),
     write!(out, "transaction {tx} has no {what} of {item} there\n")
 }
 
+/// Two entries, with a line break between them.
+fn push_pair(out: &mut String, one: &Logged, other: &Logged) -> Result<(), AllocError>
+    ensures { OnOk result (string_bytes out.new ≡ string_bytes out.old ++ pair_text one.now other.now) }
+{
+    push_logged(out, one)?;
+    out.push_str("\n")?;
+    push_logged(out, other)
+}
+
+fn are_increments(one: &Logged, other: &Logged) -> bool
+    ensures { result ≡ (is_increment one.now.entry && is_increment other.now.entry) }
+{
+    one.entry.is_increment() && other.entry.is_increment()
+}
+
+fn misfit_reason(adds: bool) -> &'static str
+    ensures { result.now ≡ misfit_reason adds }
+{
+    if adds {
+        "\nboth are increments, which are in no conflict\n"
+    } else {
+        "\nthe two are there in the other order\n"
+    }
+}
+
 /// Why two entries that are there are no such conflict.
 fn push_misfit(out: &mut String, one: &Logged, other: &Logged) -> Result<(), AllocError>
     ensures { OnOk result (string_bytes out.new ≡ string_bytes out.old ++ misfit_text one.now other.now) }
 {
-    push_logged(out, one)?;
-    out.push_str("\n")?;
-    push_logged(out, other)?;
-    if one.entry.is_increment() && other.entry.is_increment() {
-        out.push_str("\nboth are increments, which are in no conflict\n")
-    } else {
-        out.push_str("\nthe two are there in the other order\n")
-    }
+    let adds = are_increments(one, other);
+    push_pair(out, one, other)?;
+    out.push_str(misfit_reason(adds))
 }
 
 /// Why a step is no conflict of the logs.
@@ -100,15 +121,20 @@ fn push_reason(out: &mut String, unmet: &Unmet) -> Result<(), AllocError>
     }
 }
 
+/// That there is a conflict of this kind.
+fn push_met_head(out: &mut String, kind: Kind) -> Result<(), AllocError>
+    ensures { OnOk result (string_bytes out.new ≡ string_bytes out.old ++ met_head kind) }
+{
+    let name = kind_name(kind);
+    write!(out, "the log has {name} there:\n")
+}
+
 /// The conflict of another kind that is there.
 fn push_met(out: &mut String, met: &Met) -> Result<(), AllocError>
     ensures { OnOk result (string_bytes out.new ≡ string_bytes out.old ++ met_text met.now) }
 {
-    let name = kind_name(met.kind);
-    write!(out, "the log has {name} there:\n")?;
-    push_logged(out, &met.first)?;
-    out.push_str("\n")?;
-    push_logged(out, &met.second)?;
+    push_met_head(out, met.kind)?;
+    push_pair(out, &met.first, &met.second)?;
     out.push_str("\n")
 }
 

@@ -4,7 +4,7 @@ ghost use Rattle.std.specs.Prelude.{◌≡◌, ◌++◌, IfSome, OnOk, Contains,
 ghost use Rattle.sgt_names.specs.Entry.{tx_of};
 ghost use Rattle.sgt_cert.specs.Certificate.{IsCommitted};
 ghost use Rattle.sgt_explain_decisions.specs.Against.{StandAgainst};
-ghost use Rattle.sgt_explain_decisions.specs.Told.{ranked_text, ranks_wanted, rank_order_text};
+ghost use Rattle.sgt_explain_decisions.specs.Told.{ranked_text, both_ranked, first_deed, second_deed, rank_wish, ranks_wanted, rank_order_head, rank_order_text};
 
 use crate::placed::{Placed, number_on, rank_on};
 use sgt_cert::Decision;
@@ -101,30 +101,64 @@ fn push_ranked(out: &mut String, ranked: &Ranked) -> Result<(), AllocError>
     write!(out, "transaction {tx} has rank {rank} (decision {number})\n")
 }
 
-/// Which conflict two entries are in, and what it asks of the ranks.
-fn push_wanted_ranks(out: &mut String, shown: &RanksShown) -> Result<(), AllocError>
-    ensures { OnOk result (string_bytes out.new ≡ string_bytes out.old ++ ranks_wanted shown.now) }
+/// Both entries, each with the rank of its transaction.
+fn push_both_ranked(out: &mut String, shown: &RanksShown) -> Result<(), AllocError>
+    ensures { OnOk result (string_bytes out.new ≡ string_bytes out.old ++ both_ranked shown.now) }
+{
+    push_ranked(out, &shown.first)?;
+    push_ranked(out, &shown.second)
+}
+
+/// What the first of the entries did.
+fn push_first_deed(out: &mut String, shown: &RanksShown) -> Result<(), AllocError>
+    ensures { OnOk result (string_bytes out.new ≡ string_bytes out.old ++ first_deed shown.now) }
 {
     let site = shown.site;
     let item = shown.item;
     let from = shown.first.logged.entry.tx();
-    let to = shown.second.logged.entry.tx();
     let before = verb(&shown.first.logged.entry);
+    write!(out, "{from} {before} {item} of site {site} ")
+}
+
+/// What the second did.
+fn push_second_deed(out: &mut String, shown: &RanksShown) -> Result<(), AllocError>
+    ensures { OnOk result (string_bytes out.new ≡ string_bytes out.old ++ second_deed shown.now) }
+{
+    let to = shown.second.logged.entry.tx();
     let after = verb(&shown.second.logged.entry);
     let name = kind_name(shown.kind);
-    write!(
-        out,
-        "{from} {before} {item} of site {site} before {to} {after} it ({name}): {from} has to have the smaller rank\n"
-    )
+    write!(out, "before {to} {after} it ({name}): ")
+}
+
+/// What the conflict asks of the ranks.
+fn push_rank_wish(out: &mut String, shown: &RanksShown) -> Result<(), AllocError>
+    ensures { OnOk result (string_bytes out.new ≡ string_bytes out.old ++ rank_wish shown.now) }
+{
+    let from = shown.first.logged.entry.tx();
+    write!(out, "{from} has to have the smaller rank\n")
+}
+
+/// Which conflict two entries are in, and what it asks of the ranks.
+fn push_wanted_ranks(out: &mut String, shown: &RanksShown) -> Result<(), AllocError>
+    ensures { OnOk result (string_bytes out.new ≡ string_bytes out.old ++ ranks_wanted shown.now) }
+{
+    push_first_deed(out, shown)?;
+    push_second_deed(out, shown)?;
+    push_rank_wish(out, shown)
+}
+
+fn push_order_head(out: &mut String) -> Result<(), AllocError>
+    ensures { OnOk result (string_bytes out.new ≡ string_bytes out.old ++ rank_order_head) }
+{
+    out.push_str("RankOrder: two operations in conflict stand against the ranks\n")
 }
 
 /// F11: two entries of a site that stand against the ranks.
 pub fn push_rank_order(out: &mut String, shown: &RanksShown) -> Result<(), AllocError>
     ensures { OnOk result (string_bytes out.new ≡ string_bytes out.old ++ rank_order_text shown.now) }
 {
-    out.push_str("RankOrder: two operations in conflict stand against the ranks\n")?;
-    push_ranked(out, &shown.first)?;
-    push_ranked(out, &shown.second)?;
+    push_order_head(out)?;
+    push_both_ranked(out, shown)?;
     push_wanted_ranks(out, shown)
 }
 
