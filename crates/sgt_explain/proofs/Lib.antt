@@ -3,4 +3,5 @@ pub mod ListedItems
 pub mod ShownSteps
 pub mod ShownValues
 pub mod Taken
+pub mod Telling
 pub mod Writing

@@ -11,9 +11,10 @@ use Rattle.sgt_audit.specs.declared.faults.Fault.TheVariants as fault
 use Rattle.sgt_audit.specs.Faults.{FirstFault, bytes_of}
 use Rattle.sgt_explain_lines.specs.Told.{read_text, final_text}
 use Rattle.sgt_explain_lines.specs.declared.values.Misvalued.{Misvalued}
-use Rattle.sgt_explain_decisions.specs.Told.{rank_order_text, walk_step_text}
+use Rattle.sgt_explain_decisions.specs.Told.{rank_order_text}
+use Rattle.sgt_explain_steps.specs.Told.{walk_step_text}
 use Rattle.sgt_explain_decisions.specs.declared.order.RanksShown.{RanksShown}
-use Rattle.sgt_explain_decisions.specs.declared.unmet.Unmet.{Unmet}
+use Rattle.sgt_explain_steps.specs.declared.unmet.Unmet.{Unmet}
 use Rattle.sgt_explain.specs.Shown.{lines_before, decisions_before, ShowsRead, ShowsFinal, ShowsRanks}
 use Rattle.sgt_explain.specs.Steps.{ShowsStep}
 

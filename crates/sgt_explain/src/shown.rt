@@ -163,8 +163,8 @@ pub fn push_read_value(
 ) -> Result<(), AllocError>
     ensures { OnOk result (Tells bytes.now (No number ReadValue) (string_bytes out.old) (string_bytes out.new)) }
 {
-    match &read_shown(alloc, bytes, number)? {
-        Some((tx, shown)) => push_read(out, *tx, shown),
+    match read_shown(alloc, bytes, number)? {
+        Some((tx, shown)) => push_read(out, tx, &shown),
         None => Ok(()),
     }
 }
@@ -178,8 +178,8 @@ pub fn push_final_value(
 ) -> Result<(), AllocError>
     ensures { OnOk result (Tells bytes.now (No number Final) (string_bytes out.old) (string_bytes out.new)) }
 {
-    match &final_shown(alloc, bytes, number)? {
-        Some(shown) => push_final(out, shown),
+    match final_shown(alloc, bytes, number)? {
+        Some(shown) => push_final(out, &shown),
         None => Ok(()),
     }
 }
@@ -193,8 +193,8 @@ pub fn push_rank_order_of(
 ) -> Result<(), AllocError>
     ensures { OnOk result (Tells bytes.now (No number RankOrder) (string_bytes out.old) (string_bytes out.new)) }
 {
-    match &ranks_shown(alloc, bytes, number)? {
-        Some(shown) => push_rank_order(out, shown),
+    match ranks_shown(alloc, bytes, number)? {
+        Some(shown) => push_rank_order(out, &shown),
         None => Ok(()),
     }
 }

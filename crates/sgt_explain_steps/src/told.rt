@@ -2,7 +2,7 @@
 
 ghost use Rattle.std.specs.Prelude.{◌≡◌, ◌++◌, ◌&&◌, OnOk, string_bytes};
 ghost use Rattle.sgt_names.specs.Entry.{is_increment};
-ghost use Rattle.sgt_explain_decisions.specs.Told.{begins_with_read, ends_with_read, deed_text, step_head, wish_text, absent_text, pair_text, misfit_reason, misfit_text, reason_text, met_head, met_text, other_text, walk_step_text};
+ghost use Rattle.sgt_explain_steps.specs.Told.{begins_with_read, ends_with_read, deed_text, step_head, wish_text, absent_text, pair_text, misfit_reason, misfit_text, reason_text, met_head, met_text, other_text, walk_step_text};
 
 use crate::unmet::{Met, Unmet};
 use sgt_cert::Step;
@@ -125,8 +125,9 @@ fn push_reason(out: &mut String, unmet: &Unmet) -> Result<(), AllocError>
 fn push_met_head(out: &mut String, kind: Kind) -> Result<(), AllocError>
     ensures { OnOk result (string_bytes out.new ≡ string_bytes out.old ++ met_head kind) }
 {
-    let name = kind_name(kind);
-    write!(out, "the log has {name} there:\n")
+    out.push_str("the log has ")?;
+    out.push_str(kind_name(kind))?;
+    out.push_str(" there:\n")
 }
 
 /// The conflict of another kind that is there.
