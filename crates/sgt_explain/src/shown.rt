@@ -163,7 +163,8 @@ pub fn push_read_value(
 ) -> Result<(), AllocError>
     ensures { OnOk result (Tells bytes.now (No number ReadValue) (string_bytes out.old) (string_bytes out.new)) }
 {
-    match read_shown(alloc, bytes, number)? {
+    let found = read_shown(alloc, bytes, number)?;
+    match found {
         Some((tx, shown)) => push_read(out, tx, &shown),
         None => Ok(()),
     }
@@ -178,7 +179,8 @@ pub fn push_final_value(
 ) -> Result<(), AllocError>
     ensures { OnOk result (Tells bytes.now (No number Final) (string_bytes out.old) (string_bytes out.new)) }
 {
-    match final_shown(alloc, bytes, number)? {
+    let found = final_shown(alloc, bytes, number)?;
+    match found {
         Some(shown) => push_final(out, &shown),
         None => Ok(()),
     }
@@ -193,7 +195,8 @@ pub fn push_rank_order_of(
 ) -> Result<(), AllocError>
     ensures { OnOk result (Tells bytes.now (No number RankOrder) (string_bytes out.old) (string_bytes out.new)) }
 {
-    match ranks_shown(alloc, bytes, number)? {
+    let found = ranks_shown(alloc, bytes, number)?;
+    match found {
         Some(shown) => push_rank_order(out, &shown),
         None => Ok(()),
     }

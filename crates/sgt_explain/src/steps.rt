@@ -106,7 +106,8 @@ pub fn push_unmet_step(
 ) -> Result<(), AllocError>
     ensures { OnOk result (Tells bytes.now (No number WalkStep) (string_bytes out.old) (string_bytes out.new)) }
 {
-    match step_shown(alloc, bytes, number)? {
+    let found = step_shown(alloc, bytes, number)?;
+    match found {
         Some(shown) => push_walk_step(out, &shown),
         None => Ok(()),
     }

@@ -55,11 +55,11 @@ reason_text u None None = absent_text u.from u.step (begins_with_read u.step.lab
     ++ absent_text u.step.to u.step (ends_with_read u.step.label.kind)
 
 -- the conflict that is there in its place
-abbrev pub met_head : Kind → List ℕ
-met_head kind = codes "the log has " ++ (kind_text kind ++ codes " there:\n")
+abbrev pub met_head : List ℕ → List ℕ
+met_head name = codes "the log has " ++ (name ++ codes " there:\n")
 
 abbrev pub met_text : Met → List ℕ
-met_text m = met_head m.kind ++ (pair_text m.first m.second ++ codes "\n")
+met_text m = met_head (kind_text m.kind) ++ (pair_text m.first m.second ++ codes "\n")
 
 abbrev pub other_text : Option Met → List ℕ
 other_text (Some m) = met_text m

@@ -15,17 +15,18 @@ use sgt_explain_lines::Logged;
 use sgt_names::Tx;
 
 /// The transaction that the step at this place starts from.
-#[tactic(auto, using(crate::proofs::Meetings::start_later))]
 fn start_of(tx: Tx, walk: &[Step], place: usize) -> Option<Tx>
     ensures { IfSome result (λ from. slice_get (tx ∷ stops walk.now) place ≡ Some from) }
 {
     if place == 0 {
         return Some(tx);
     }
-    match walk.get(place - 1).copied() {
-        Some(step) => Some(step.to),
-        None => None,
+    let before = place - 1;
+    if before >= walk.len() {
+        return None;
     }
+    let step = walk[before];
+    Some(step.to)
 }
 
 /// The step at this place of the walk of this decision, with none of its entries yet.

@@ -121,20 +121,18 @@ fn push_reason(out: &mut String, unmet: &Unmet) -> Result<(), AllocError>
     }
 }
 
-/// That there is a conflict of this kind.
-fn push_met_head(out: &mut String, kind: Kind) -> Result<(), AllocError>
-    ensures { OnOk result (string_bytes out.new ≡ string_bytes out.old ++ met_head kind) }
+/// That there is a conflict of the kind with this name.
+fn push_met_head(out: &mut String, name: &str) -> Result<(), AllocError>
+    ensures { OnOk result (string_bytes out.new ≡ string_bytes out.old ++ met_head name.now) }
 {
-    out.push_str("the log has ")?;
-    out.push_str(kind_name(kind))?;
-    out.push_str(" there:\n")
+    write!(out, "the log has {name} there:\n")
 }
 
 /// The conflict of another kind that is there.
 fn push_met(out: &mut String, met: &Met) -> Result<(), AllocError>
     ensures { OnOk result (string_bytes out.new ≡ string_bytes out.old ++ met_text met.now) }
 {
-    push_met_head(out, met.kind)?;
+    push_met_head(out, kind_name(met.kind))?;
     push_pair(out, &met.first, &met.second)?;
     out.push_str("\n")
 }
