@@ -1,6 +1,6 @@
 -- What is shown of a value that a line gives its item, by the section before that line.
 use Rattle.std.proofs.Common.{◌≡◌, ◌≢◌, ℕ, suc, zero, List, [], ◌∷◌, ◌++◌, Option, Some, None, true, false, refl, sym, ap, ap₂, ◌∙◌, subst, ◌⊎◌, inl, inr, Contains}
-use Rattle.std.specs.Prelude.{cond, slice_get, unwrap_or}
+use Rattle.std.specs.Prelude.{cond, slice_get, unwrap_or, IfSome}
 use Rattle.std.specs.Str.{bytes_eq}
 use Rattle.std.proofs.lemmas.Bool.{cases_Bool}
 use Rattle.std.proofs.lemmas.Option.{same_Some, none-some}

@@ -18,6 +18,13 @@ use sgt_names::SiteNo;
 use sgt_notation::{SectionLine, read_section};
 use std::alloc::{AllocError, Global};
 
+fn is_open(open: Option<SiteNo>, site: SiteNo) -> bool {
+    match open {
+        Some(begun) => begun == site,
+        None => false,
+    }
+}
+
 /// The line before this one that ends the section of the site, else this one.
 fn end_of(bytes: &[u8], number: u64, site: SiteNo) -> u64
     ensures low { 3 ≤ number → 3 ≤ result }
@@ -29,7 +36,7 @@ fn end_of(bytes: &[u8], number: u64, site: SiteNo) -> u64
         let (text, behind) = cut_line(rest);
         match read_section(text) {
             Ok(SectionLine::Site(begun)) => open = Some(begun),
-            Ok(SectionLine::End) if open == Some(site) => return line,
+            Ok(SectionLine::End) if is_open(open, site) => return line,
             _ => {}
         }
         rest = behind;

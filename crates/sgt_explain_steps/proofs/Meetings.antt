@@ -127,7 +127,7 @@ module _ (decisions : List Decision) (number tx : ℕ) (walk : List Step) (cycle
   stop-at : (n : ℕ) (step : Step) → slice_get walk n ≡ Some step → slice_get (stops walk) n ≡ Some step.to
   stop-at n step at = slice_get-map (λ (s : Step). s.to) walk n ∙ ap (option_map (λ (s : Step). s.to)) at
 
-  leads-on : (n from : ℕ) (step : Step) → slice_get walk n ≡ Some step → slice_get (tx ∷ stops walk) n ≡ Some from → from ≢ step.to
+  pub leads-on : (n from : ℕ) (step : Step) → slice_get walk n ≡ Some step → slice_get (tx ∷ stops walk) n ≡ Some from → from ≢ step.to
   leads-on zero from step at start = λ same.
       first-apart cycle.between tx step.to cycle.long cycle.others (ap (λ (ss : List ℕ). slice_get ss 0) (sym cycle.closed) ∙ stop-at 0 step at)
       (sym same ∙ sym (same_Some tx from start))
