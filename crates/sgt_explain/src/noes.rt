@@ -4,7 +4,9 @@ ghost use Rattle.std.specs.Prelude.{OnOk, string_bytes};
 ghost use Rattle.sgt_audit.specs.declared.verdict.Verdict.TheVariants.{No};
 ghost use Rattle.sgt_explain.specs.Explained.{Tells};
 
-use crate::shown::{certificate_of, logged_at, push_final_value, push_rank_order_of, push_read_value};
+use crate::shown::{
+    certificate_of, logged_at, push_final_value, push_rank_order_of, push_read_value,
+};
 use crate::steps::push_unmet_step;
 use sgt_audit::Fault;
 use sgt_cert::Certificate;

@@ -112,11 +112,7 @@ fn read_shown(
 }
 
 /// F16: the value that the item of this final has at the end of its section.
-fn final_shown(
-    alloc: Global,
-    bytes: &[u8],
-    number: u64,
-) -> Result<Option<Misvalued>, AllocError>
+fn final_shown(alloc: Global, bytes: &[u8], number: u64) -> Result<Option<Misvalued>, AllocError>
     ensures { (first : FirstFault bytes.now number Final) → IfOk result (λ found.
         IsSomeAnd found (ShowsFinal (lines_before first.stage) (bytes_of first.next))) }
 {
@@ -134,11 +130,7 @@ fn final_shown(
 }
 
 /// F11: this entry and one before it that stands against it.
-fn ranks_shown(
-    alloc: Global,
-    bytes: &[u8],
-    number: u64,
-) -> Result<Option<RanksShown>, AllocError>
+fn ranks_shown(alloc: Global, bytes: &[u8], number: u64) -> Result<Option<RanksShown>, AllocError>
     ensures { (first : FirstFault bytes.now number RankOrder) → IfOk result (λ found.
         IfSome found (ShowsRanks (decisions_before first.stage) (lines_before first.stage) (bytes_of first.next) number)) }
 {

@@ -98,7 +98,10 @@ fn push_ranked(out: &mut String, ranked: &Ranked) -> Result<(), AllocError>
     let rank = ranked.rank;
     let number = ranked.number;
     push_aside(out, &ranked.logged)?;
-    write!(out, "transaction {tx} has rank {rank} (decision {number})\n")
+    write!(
+        out,
+        "transaction {tx} has rank {rank} (decision {number})\n"
+    )
 }
 
 /// Both entries, each with the rank of its transaction.

@@ -97,8 +97,8 @@ line-at bytes after text behind number k before line h is passes cuts =
     let counted = h.counted in
     let plain = All-append HasNoLf h.head (map line_text before) h.whole (lines-plain before h.spelled) in
     let whole : bytes ≡ text_of_lines lines ++ rest =
-        h.text ∙ sym (append_assoc (text_of_lines h.head) (text_of_lines (map line_text before)) rest)
-        ∙ ap (λ t. t ++ rest) (sym (flat_map-append (λ l. l ++ 10 ∷ []) h.head (map line_text before))) in
+    h.text ∙ sym (append_assoc (text_of_lines h.head) (text_of_lines (map line_text before)) rest)
+    ∙ ap (λ t. t ++ rest) (sym (flat_map-append (λ l. l ++ 10 ∷ []) h.head (map line_text before))) in
     let after-is = passes lines rest plain (omega (arith, is, long, same, two, counted)) whole in
     (cuts (line_text line) h.rest (line-plain line h.one) after-is).0
 

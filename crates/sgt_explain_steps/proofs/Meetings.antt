@@ -87,7 +87,7 @@ module _ (entries : List LoggedEntry) (from : ℕ) (step : Step) (apart : from �
 
   placed : Clash step.label.kind step.label.item one.entry other.entry → StandsBefore entries other one
   placed clash = elim (cases_order p q) [
-    inl same ↦ absurd (same-place same)
+    | inl same ↦ absurd (same-place same)
     | inr (inl before) ↦ absurd (in-order before clash)
     | inr (inr behind) ↦ record { p = q; q = p; first = at_other; second = at; before = behind }
   ]
@@ -103,7 +103,7 @@ are-misfit entries from step first second apart broken own its one other is is_o
     let at = Contains_at entries one mine.there.0 in
     let at_other = Contains_at entries other yours.there.0 in
     elim (clash-of step.label.kind step.label.item one.entry other.entry mine.there.2 yours.there.2) [
-      inl adds ↦ inl adds
+      | inl adds ↦ inl adds
       | inr clash ↦ inr (placed entries from step apart broken one other at.0 at_other.0 at.1 at_other.1 mine.there.1 yours.there.1 clash)
     ]
 
@@ -152,7 +152,7 @@ pub none-more : (entries : List LoggedEntry) (from : ℕ) (step : Step) (place :
     → (q : ℕ) (f : LoggedEntry) → q < place + 1 → slice_get entries q ≡ Some f → tx_of f.entry ≡ step.to → NoClash from step f.entry (take q entries)
 none-more entries from step place here there below last q f less at to =
     elim (cases_order q place) [
-      inl same ↦ let is : f ≡ here = same_Some f here (sym at ∙ ap (slice_get entries) same ∙ there) in
+      | inl same ↦ let is : f ≡ here = same_Some f here (sym at ∙ ap (slice_get entries) same ∙ there) in
           subst (λ n. NoClash from step f.entry (take n entries)) (sym same)
           (subst (λ (g : LoggedEntry). NoClash from step g.entry (take place entries)) (sym is) (last (ap (λ (g : LoggedEntry). tx_of g.entry) (sym is) ∙ to)))
       | inr (inl before) ↦ below q f before at to
