@@ -35,7 +35,7 @@ use Rattle.sgt_explain_steps.specs.Unmet.{ShowsOwn, AreMisfit, MeetsThere, IsSte
 use Rattle.sgt_explain_steps.specs.declared.unmet.Unmet.{Unmet}
 use Rattle.sgt_explain_steps.proofs.Meetings.{are-misfit, leads-on}
 use Rattle.sgt_explain.specs.Shown.{lines_before, decisions_before}
-use Rattle.sgt_explain.specs.Steps.{EndsSite, ShowsStep, IsWhole}
+use Rattle.sgt_explain.specs.Steps.{EndsSite, ShowsStep, IsWhole, IsStepThere}
 use Rattle.sgt_explain.proofs.FaultyLine.{FaultyLine, entries-same, step-line}
 
 -- ---- an earlier line of a text
@@ -154,26 +154,21 @@ module _ (bytes : List ℕ) (n : ℕ) (first : FirstFault bytes n fault.WalkStep
   faulty : FaultyLine bytes n fault.WalkStep first.stage first.next
   faulty = step-line bytes n first
 
-  pub shows-step : (d : Certificate) (at shown : Unmet) (section : Section)
-      → ((front : List ℕ) (c : Certificate) (rest : List ℕ) → HasNoLf front → IsCertificate c → bytes ≡ front ++ 10 ∷ (certificate_text c ++ 10 ∷ rest) → Some d ≡ Some c)
-      → IsStepAt d.decisions at
-      → ((before : List SectionLine) (line : SectionLine) → HasLine bytes n before line → IsWhole (before ++ line ∷ []) at.step.label.site section)
+  shows-step : (at shown : Unmet) (section : Section) → IsStepAt faulty.c.decisions at
+      → IsWhole (faulty.before ++ faulty.line ∷ []) at.step.label.site section
       → SameStep at shown
       → (Conflicts (entries_of section.entries.items) shown.step.label.kind shown.step.label.item shown.from shown.step.to → ⊥)
       → ShowsOwn section.entries.items shown.from (begins_with_read shown.step.label.kind) shown.step.label.item shown.first
       → ShowsOwn section.entries.items shown.step.to (ends_with_read shown.step.label.kind) shown.step.label.item shown.second
       → IfSome shown.other (MeetsThere section.entries.items shown.from shown.step)
       → ShowsStep (decisions_before first.stage) (lines_before first.stage) (bytes_of first.next) shown
-  shows-step d at shown section one is wholes same broken own its met =
-      let cert = faulty.certified in
-      let decisions : d.decisions ≡ faulty.c.decisions =
-      ap (λ (k : Certificate). k.decisions) (same_Some d faulty.c (one cert.0 faulty.c cert.1 cert.2 faulty.kept.spelled cert.3)) in
+  shows-step at shown section is whole same broken own its met =
       let end : faulty.line ≡ End = end-line faulty.c faulty.before faulty.line faulty.broken in
-      let w = subst (λ (l : SectionLine). IsWhole (faulty.before ++ l ∷ []) at.step.label.site section) end (wholes faulty.before faulty.line faulty.has) in
+      let w = subst (λ (l : SectionLine). IsWhole (faulty.before ++ l ∷ []) at.step.label.site section) end whole in
       let ends = subst (λ (s : Step). EndsSite (faulty.before ++ End ∷ []) s.label.site w.upto) (sym same.step) w.ends in
       let at_step : IsStepAt faulty.c.decisions shown = record {
         walk = is.walk;
-        refused = ap (slice_get faulty.c.decisions) same.number ∙ ap (λ ds. slice_get ds at.number) (sym decisions) ∙ is.refused ∙ ap (λ t. Some (Refuse t is.walk)) (sym same.tx);
+        refused = ap (slice_get faulty.c.decisions) same.number ∙ is.refused ∙ ap (λ t. Some (Refuse t is.walk)) (sym same.tx);
         count = same.count ∙ is.count;
         step = ap (slice_get is.walk) same.place ∙ is.step ∙ ap Some (sym same.step);
         from = ap₂ (λ t p. slice_get (t ∷ stops is.walk) p) same.tx same.place ∙ is.from ∙ ap Some (sym same.from);
@@ -197,15 +192,30 @@ module _ (bytes : List ℕ) (n : ℕ) (first : FirstFault bytes n fault.WalkStep
         other = subst (λ es. IfSome shown.other (MeetsThere es shown.from shown.step)) w.is.entries met;
       })
 
-  pub shows-step-found : (d : Certificate) (at : Unmet) (found : Option Unmet) (section : Section)
-      → ((front : List ℕ) (c : Certificate) (rest : List ℕ) → HasNoLf front → IsCertificate c → bytes ≡ front ++ 10 ∷ (certificate_text c ++ 10 ∷ rest) → Some d ≡ Some c)
-      → IsStepAt d.decisions at
-      → ((before : List SectionLine) (line : SectionLine) → HasLine bytes n before line → IsWhole (before ++ line ∷ []) at.step.label.site section)
-      → IfSome found (SameStep at)
-      → IfSome found (λ u. Conflicts (entries_of section.entries.items) u.step.label.kind u.step.label.item u.from u.step.to → ⊥)
-      → IfSome found (λ u. ShowsOwn section.entries.items u.from (begins_with_read u.step.label.kind) u.step.label.item u.first)
-      → IfSome found (λ u. ShowsOwn section.entries.items u.step.to (ends_with_read u.step.label.kind) u.step.label.item u.second)
-      → IfSome found (λ u. IfSome u.other (MeetsThere section.entries.items u.from u.step))
+  pub shows-step-found : (at : Unmet) (found : Option Unmet)
+      → ((front : List ℕ) (c : Certificate) (rest : List ℕ) → HasNoLf front → IsCertificate c → bytes ≡ front ++ 10 ∷ (certificate_text c ++ 10 ∷ rest) → IsStepAt c.decisions at)
+      → ((before : List SectionLine) (line : SectionLine) → HasLine bytes n before line → IfSome found (IsStepThere (before ++ line ∷ []) at))
       → IfSome found (ShowsStep (decisions_before first.stage) (lines_before first.stage) (bytes_of first.next))
-  shows-step-found d at None section one is wholes same broken own its met = tt
-  shows-step-found d at (Some shown) section one is wholes same broken own its met = shows-step d at shown section one is wholes same broken own its met
+  shows-step-found at None is there = tt
+  shows-step-found at (Some shown) is there =
+      let cert = faulty.certified in
+      let t = there faulty.before faulty.line faulty.has in
+      shows-step at shown t.section (is cert.0 faulty.c cert.1 cert.2 faulty.kept.spelled cert.3) t.whole t.same t.broken t.first t.second t.other
+
+pub step-there : (lines : List SectionLine) (at : Unmet) (section : Section) (found : Option Unmet) → IsWhole lines at.step.label.site section
+    → IfSome found (SameStep at)
+    → IfSome found (λ u. Conflicts (entries_of section.entries.items) u.step.label.kind u.step.label.item u.from u.step.to → ⊥)
+    → IfSome found (λ u. ShowsOwn section.entries.items u.from (begins_with_read u.step.label.kind) u.step.label.item u.first)
+    → IfSome found (λ u. ShowsOwn section.entries.items u.step.to (ends_with_read u.step.label.kind) u.step.label.item u.second)
+    → IfSome found (λ u. IfSome u.other (MeetsThere section.entries.items u.from u.step))
+    → IfSome found (IsStepThere lines at)
+step-there lines at section None whole same broken own its met = tt
+step-there lines at section (Some shown) whole same broken own its met = record {
+  section = section;
+  whole = whole;
+  same = same;
+  broken = broken;
+  first = own;
+  second = its;
+  other = met;
+}

@@ -7,11 +7,13 @@ use Rattle.sgt_cert.specs.Valid.{IsLogged}
 use Rattle.sgt_cert.specs.Text.{sections_from}
 use Rattle.sgt_cert.specs.declared.certificate.Decision.{Decision}
 use Rattle.sgt_cert.specs.declared.bundle.SiteLog.{SiteLog}
+use Rattle.sgt_names.specs.Log.{Conflicts}
+use Rattle.sgt_explain_lines.specs.Values.{entries_of}
 use Rattle.sgt_explain_lines.specs.Numbered.{IsSectionOf, open_site, numbered_entries}
 use Rattle.sgt_explain_lines.specs.declared.section.Logged.{Logged}
 use Rattle.sgt_explain_lines.specs.declared.section.Section.{Section}
 use Rattle.sgt_explain_steps.specs.Told.{begins_with_read, ends_with_read}
-use Rattle.sgt_explain_steps.specs.Unmet.{ShowsOwn, AreMisfit, MeetsThere, IsStepAt}
+use Rattle.sgt_explain_steps.specs.Unmet.{ShowsOwn, AreMisfit, MeetsThere, IsStepAt, SameStep}
 use Rattle.sgt_explain_steps.specs.declared.unmet.Unmet.{Unmet}
 
 -- the lines before the end of this site's section
@@ -40,3 +42,13 @@ pub record IsWhole (lines : List SectionLine) (site : ℕ) (section : Section) :
   pub upto : List SectionLine
   pub ends : EndsSite lines site upto
   pub is : IsSectionOf upto section
+
+-- a step with what the whole section of its site has of it
+pub record IsStepThere (lines : List SectionLine) (at shown : Unmet) : Type 0 where
+  pub section : Section
+  pub whole : IsWhole lines at.step.label.site section
+  pub same : SameStep at shown
+  pub broken : Conflicts (entries_of section.entries.items) shown.step.label.kind shown.step.label.item shown.from shown.step.to → ⊥
+  pub first : ShowsOwn section.entries.items shown.from (begins_with_read shown.step.label.kind) shown.step.label.item shown.first
+  pub second : ShowsOwn section.entries.items shown.step.to (ends_with_read shown.step.label.kind) shown.step.label.item shown.second
+  pub other : IfSome shown.other (MeetsThere section.entries.items shown.from shown.step)

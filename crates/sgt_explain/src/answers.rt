@@ -1,6 +1,6 @@
 //! What an input is explained by, before it is written.
 
-ghost use Rattle.std.specs.Prelude.{◌≡◌, IfOk, OnOk, string_bytes};
+ghost use Rattle.std.specs.Prelude.{◌≡◌, ◌++◌, [], IfOk, OnOk, string_bytes};
 ghost use Rattle.sgt_audit.specs.Verdict.{text_of};
 ghost use Rattle.sgt_explain.specs.Explained.{outcome_of, Tells, Means};
 
@@ -33,7 +33,7 @@ fn push_verdict(
     out: &mut String,
     bytes: &[u8],
     verdict: Verdict,
-    asked: Option<Tx>,
+    asked: &Option<Tx>,
 ) -> Result<(), AllocError>
     ensures { OnOk result (Tells bytes.now verdict (string_bytes out.old) (string_bytes out.new)) }
 {
@@ -46,7 +46,44 @@ fn push_verdict(
     }
 }
 
-/// The same, and what is said of the transaction, if one is asked for.
+/// What the verdict on the bytes means, as a text of its own.
+fn told_of(
+    alloc: Global,
+    bytes: &[u8],
+    verdict: Verdict,
+    asked: &Option<Tx>,
+) -> Result<String, AllocError>
+    ensures { IfOk result (λ told. Tells bytes.now verdict [] (string_bytes told)) }
+{
+    let mut told = String::new(alloc);
+    push_verdict(alloc, &mut told, bytes, verdict, asked)?;
+    Ok(told)
+}
+
+/// What is said of the transaction, if one is asked for.
+fn dealings_of(
+    alloc: Global,
+    bytes: &[u8],
+    verdict: Verdict,
+    asked: &Option<Tx>,
+) -> Result<String, AllocError> {
+    let mut dealings = String::new(alloc);
+    if let Some(tx) = asked {
+        push_transaction(alloc, &mut dealings, bytes, verdict, *tx)?;
+    }
+    Ok(dealings)
+}
+
+fn joined(alloc: Global, first: &str, second: &str) -> Result<String, AllocError>
+    ensures { IfOk result (λ both. string_bytes both ≡ first.now ++ second.now) }
+{
+    let mut both = String::new(alloc);
+    both.push_str(first)?;
+    both.push_str(second)?;
+    Ok(both)
+}
+
+/// What the verdict on the bytes means, and behind it what is said of the transaction, if one is asked for.
 fn meaning_of(
     alloc: Global,
     bytes: &[u8],
@@ -55,25 +92,9 @@ fn meaning_of(
 ) -> Result<String, AllocError>
     ensures { IfOk result (λ meaning. Means bytes.now verdict (string_bytes meaning)) }
 {
-    let mut meaning = String::new(alloc);
-    push_verdict(alloc, &mut meaning, bytes, verdict, asked)?;
-    let dealings = dealings_of(alloc, bytes, verdict, asked)?;
-    meaning.push_str(dealings.as_str())?;
-    Ok(meaning)
-}
-
-/// What is said of the transaction, if one is asked for.
-fn dealings_of(
-    alloc: Global,
-    bytes: &[u8],
-    verdict: Verdict,
-    asked: Option<Tx>,
-) -> Result<String, AllocError> {
-    let mut dealings = String::new(alloc);
-    if let Some(tx) = asked {
-        push_transaction(alloc, &mut dealings, bytes, verdict, tx)?;
-    }
-    Ok(dealings)
+    let told = told_of(alloc, bytes, verdict, &asked)?;
+    let dealings = dealings_of(alloc, bytes, verdict, &asked)?;
+    joined(alloc, told.as_str(), dealings.as_str())
 }
 
 /// The answer to bytes with this verdict.

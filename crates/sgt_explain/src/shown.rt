@@ -1,6 +1,6 @@
 //! What is shown of a line that gives an item another value than the item has there, and of one that stands against the ranks.
 
-ghost use Rattle.std.specs.Prelude.{◌≡◌, ℕ, List, ◌∷◌, ◌++◌, Some, IfOk, OnOk, IfSome, IsSomeAnd, string_bytes};
+ghost use Rattle.std.specs.Prelude.{◌≡◌, ℕ, List, ◌∷◌, ◌++◌, Some, IfOk, OnOk, IfSome, IfNone, IsSomeAnd, string_bytes};
 ghost use Rattle.sgt_notation.specs.Spelling.{HasNoLf};
 ghost use Rattle.sgt_notation.specs.declared.SectionLine.{SectionLine};
 ghost use Rattle.sgt_cert.specs.Text.{certificate_text, IsCertificate};
@@ -9,6 +9,8 @@ ghost use Rattle.sgt_audit.specs.Faults.{FirstFault, bytes_of};
 ghost use Rattle.sgt_audit.specs.declared.faults.Fault.TheVariants.{ReadValue, Final, RankOrder};
 ghost use Rattle.sgt_audit.specs.declared.verdict.Verdict.TheVariants.{No};
 ghost use Rattle.sgt_explain_lines.specs.Numbered.{HasLine, logged_in};
+ghost use Rattle.sgt_explain_lines.specs.Told.{read_text, final_text};
+ghost use Rattle.sgt_explain_decisions.specs.Told.{rank_order_text};
 ghost use Rattle.sgt_explain.specs.Explained.{Tells};
 ghost use Rattle.sgt_explain.specs.Shown.{lines_before, decisions_before, ShowsRead, ShowsFinal, ShowsRanks, read_in, final_in};
 
@@ -21,6 +23,19 @@ use sgt_explain_lines::{
 use sgt_names::{Entry, Item, Tx, Value};
 use sgt_notation::SectionLine;
 use std::alloc::{AllocError, Global};
+
+/// A transaction that reads, and the value that its item has there.
+#[derive(Clone, Copy)]
+struct Misread {
+    tx: Tx,
+    value: Misvalued,
+}
+
+/// A final, by the value that its item has there.
+#[derive(Clone, Copy)]
+struct Misstated {
+    value: Misvalued,
+}
 
 /// The lines before the line of this number.
 pub fn text_before(bytes: &[u8], number: u64) -> &[u8] {
@@ -90,13 +105,9 @@ fn final_in_line(line: &SectionLine) -> Option<(Item, Value)>
 }
 
 /// F10: the transaction that reads at this line, and the value that its item has there.
-fn read_shown(
-    alloc: Global,
-    bytes: &[u8],
-    number: u64,
-) -> Result<Option<(Tx, Misvalued)>, AllocError>
+fn read_shown(alloc: Global, bytes: &[u8], number: u64) -> Result<Option<Misread>, AllocError>
     ensures { (first : FirstFault bytes.now number ReadValue) → IfOk result (λ found.
-        IsSomeAnd found (λ s. ShowsRead (lines_before first.stage) (bytes_of first.next) s.0 s.1)) }
+        IsSomeAnd found (λ m. ShowsRead (lines_before first.stage) (bytes_of first.next) m.tx m.value)) }
 {
     let section = section_before(alloc, bytes, number)?;
     let Some(line) = section_line_at(bytes, number) else {
@@ -106,15 +117,15 @@ fn read_shown(
         return Ok(None);
     };
     match value_against(&section, &item, value) {
-        Some(shown) => Ok(Some((tx, shown))),
+        Some(shown) => Ok(Some(Misread { tx, value: shown })),
         None => Ok(None),
     }
 }
 
 /// F16: the value that the item of this final has at the end of its section.
-fn final_shown(alloc: Global, bytes: &[u8], number: u64) -> Result<Option<Misvalued>, AllocError>
+fn final_shown(alloc: Global, bytes: &[u8], number: u64) -> Result<Option<Misstated>, AllocError>
     ensures { (first : FirstFault bytes.now number Final) → IfOk result (λ found.
-        IsSomeAnd found (ShowsFinal (lines_before first.stage) (bytes_of first.next))) }
+        IsSomeAnd found (λ m. ShowsFinal (lines_before first.stage) (bytes_of first.next) m.value)) }
 {
     let section = section_before(alloc, bytes, number)?;
     let Some(line) = section_line_at(bytes, number) else {
@@ -124,7 +135,7 @@ fn final_shown(alloc: Global, bytes: &[u8], number: u64) -> Result<Option<Misval
         return Ok(None);
     };
     match value_against(&section, &item, value) {
-        Some(shown) => Ok(Some(shown)),
+        Some(shown) => Ok(Some(Misstated { value: shown })),
         None => Ok(None),
     }
 }
@@ -146,6 +157,15 @@ fn ranks_shown(alloc: Global, bytes: &[u8], number: u64) -> Result<Option<RanksS
     Ok(against_ranks(decisions, placed.as_slice(), &section, &logged))
 }
 
+fn push_misread(out: &mut String, found: &Option<Misread>) -> Result<(), AllocError>
+    ensures { OnOk result (IfSome found.now (λ m. string_bytes out.new ≡ string_bytes out.old ++ read_text m.tx m.value)) }
+{
+    match found {
+        Some(misread) => push_read(out, misread.tx, &misread.value),
+        None => Ok(()),
+    }
+}
+
 /// F10, in words.
 pub fn push_read_value(
     alloc: Global,
@@ -156,8 +176,14 @@ pub fn push_read_value(
     ensures { OnOk result (Tells bytes.now (No number ReadValue) (string_bytes out.old) (string_bytes out.new)) }
 {
     let found = read_shown(alloc, bytes, number)?;
+    push_misread(out, &found)
+}
+
+fn push_misstated(out: &mut String, found: &Option<Misstated>) -> Result<(), AllocError>
+    ensures { OnOk result (IfSome found.now (λ m. string_bytes out.new ≡ string_bytes out.old ++ final_text m.value)) }
+{
     match found {
-        Some((tx, shown)) => push_read(out, tx, &shown),
+        Some(misstated) => push_final(out, &misstated.value),
         None => Ok(()),
     }
 }
@@ -172,8 +198,15 @@ pub fn push_final_value(
     ensures { OnOk result (Tells bytes.now (No number Final) (string_bytes out.old) (string_bytes out.new)) }
 {
     let found = final_shown(alloc, bytes, number)?;
+    push_misstated(out, &found)
+}
+
+fn push_ranks_shown(out: &mut String, found: &Option<RanksShown>) -> Result<(), AllocError>
+    ensures { OnOk result (IfSome found.now (λ m. string_bytes out.new ≡ string_bytes out.old ++ rank_order_text m)
+        × IfNone found.now (string_bytes out.new ≡ string_bytes out.old)) }
+{
     match found {
-        Some(shown) => push_final(out, &shown),
+        Some(shown) => push_rank_order(out, shown),
         None => Ok(()),
     }
 }
@@ -188,8 +221,5 @@ pub fn push_rank_order_of(
     ensures { OnOk result (Tells bytes.now (No number RankOrder) (string_bytes out.old) (string_bytes out.new)) }
 {
     let found = ranks_shown(alloc, bytes, number)?;
-    match found {
-        Some(shown) => push_rank_order(out, &shown),
-        None => Ok(()),
-    }
+    push_ranks_shown(out, &found)
 }

@@ -1,14 +1,19 @@
 //! What is shown of a step of a walk that is no conflict of the logs.
 
-ghost use Rattle.std.specs.Prelude.{◌≡◌, ◌≤◌, ◌∷◌, ◌++◌, [], List, Some, IfOk, OnOk, IfSome, IsTrue, string_bytes};
+ghost use Rattle.std.specs.Prelude.{◌≡◌, ◌≤◌, ◌∷◌, ◌++◌, [], ℕ, List, Some, IfOk, OnOk, IfSome, IfNone, IsTrue, string_bytes};
+ghost use Rattle.sgt_notation.specs.Spelling.{HasNoLf};
 ghost use Rattle.sgt_notation.specs.declared.SectionLine.{SectionLine};
+ghost use Rattle.sgt_cert.specs.Text.{certificate_text, IsCertificate};
+ghost use Rattle.sgt_cert.specs.declared.certificate.Certificate.{Certificate};
 ghost use Rattle.sgt_audit.specs.Faults.{FirstFault, bytes_of};
 ghost use Rattle.sgt_audit.specs.declared.faults.Fault.TheVariants.{WalkStep};
 ghost use Rattle.sgt_audit.specs.declared.verdict.Verdict.TheVariants.{No};
 ghost use Rattle.sgt_explain_lines.specs.Numbered.{HasLine};
+ghost use Rattle.sgt_explain_steps.specs.Told.{walk_step_text};
+ghost use Rattle.sgt_explain_steps.specs.Unmet.{IsStepAt};
 ghost use Rattle.sgt_explain.specs.Explained.{Tells};
 ghost use Rattle.sgt_explain.specs.Shown.{lines_before, decisions_before};
-ghost use Rattle.sgt_explain.specs.Steps.{IsWhole, ShowsStep};
+ghost use Rattle.sgt_explain.specs.Steps.{IsWhole, IsStepThere, ShowsStep};
 
 use crate::shown::{certificate_of, text_before};
 use sgt_explain_decisions::{sought_in, unmet_in};
@@ -18,10 +23,17 @@ use sgt_names::SiteNo;
 use sgt_notation::{SectionLine, read_section};
 use std::alloc::{AllocError, Global};
 
-fn is_open(open: Option<SiteNo>, site: SiteNo) -> bool {
-    match open {
-        Some(begun) => begun == site,
-        None => false,
+fn is_end(line: &SectionLine) -> bool
+    ensures { IsTrue result → line.now ≡ SectionLine.End }
+{
+    matches!(line, SectionLine::End)
+}
+
+/// Whether the section of the site is open behind a line, where it was or was not before that.
+fn is_open_behind(line: &SectionLine, site: SiteNo, was_open: bool) -> bool {
+    match line {
+        SectionLine::Site(begun) => *begun == site,
+        _ => was_open,
     }
 }
 
@@ -31,23 +43,18 @@ fn end_of(bytes: &[u8], number: u64, site: SiteNo) -> u64
     ensures high { result ≤ number }
 {
     let mut rest = after_line(bytes, 2);
-    let mut open = None;
+    let mut is_open = false;
     for line in 3..number {
         let (text, behind) = cut_line(rest);
-        match read_section(text) {
-            Ok(SectionLine::Site(begun)) => open = Some(begun),
-            Ok(SectionLine::End) if is_open(open, site) => return line,
-            _ => {}
+        if let Ok(read) = read_section(text) {
+            if is_open && is_end(&read) {
+                return line;
+            }
+            is_open = is_open_behind(&read, site, is_open);
         }
         rest = behind;
     }
     number
-}
-
-fn is_end(line: &SectionLine) -> bool
-    ensures { IsTrue result → line.now ≡ SectionLine.End }
-{
-    matches!(line, SectionLine::End)
 }
 
 fn is_of(section: &Section, site: SiteNo) -> bool
@@ -82,10 +89,11 @@ fn whole_section(
     Ok(None)
 }
 
-/// F17: the first step of a walk that is no conflict of the logs.
-fn step_shown(alloc: Global, bytes: &[u8], number: u64) -> Result<Option<Unmet>, AllocError>
-    ensures { (first : FirstFault bytes.now number WalkStep) → IfOk result (λ found.
-        IfSome found (ShowsStep (decisions_before first.stage) (lines_before first.stage) (bytes_of first.next))) }
+/// The first step of a walk of the certificate that the lines before this one don't show.
+fn unmet_step(alloc: Global, bytes: &[u8], number: u64) -> Result<Option<Unmet>, AllocError>
+    ensures { (first : List ℕ) (c : Certificate) (rest : List ℕ) → HasNoLf first → IsCertificate c
+        → bytes.now ≡ first ++ 10 ∷ (certificate_text c ++ 10 ∷ rest)
+        → IfOk result (λ found. IfSome found (IsStepAt c.decisions)) }
 {
     let Some(certificate) = certificate_of(alloc, bytes)? else {
         return Ok(None);
@@ -95,13 +103,46 @@ fn step_shown(alloc: Global, bytes: &[u8], number: u64) -> Result<Option<Unmet>,
     let Some((decision, place)) = unmet_in(decisions, sought.as_slice()) else {
         return Ok(None);
     };
-    let Some(unmet) = step_at(decisions, decision, place) else {
-        return Ok(None);
-    };
-    let Some(section) = whole_section(alloc, bytes, number, unmet.step.label.site)? else {
-        return Ok(None);
-    };
-    Ok(with_entries(&unmet, section.entries.as_slice()))
+    Ok(step_at(decisions, decision, place))
+}
+
+/// The step with its entries in the section of its site, where they have no conflict of the step.
+fn step_there(
+    alloc: Global,
+    bytes: &[u8],
+    number: u64,
+    unmet: &Unmet,
+) -> Result<Option<Unmet>, AllocError>
+    ensures { IfOk result (λ found. (before : List SectionLine) (line : SectionLine) → HasLine bytes.now number before line
+        → IfSome found (IsStepThere (before ++ line ∷ []) unmet.now)) }
+{
+    let found = whole_section(alloc, bytes, number, unmet.step.label.site)?;
+    match found {
+        Some(section) => Ok(with_entries(unmet, section.entries.as_slice())),
+        None => Ok(None),
+    }
+}
+
+/// F17: the first step of a walk that is no conflict of the logs.
+fn step_shown(alloc: Global, bytes: &[u8], number: u64) -> Result<Option<Unmet>, AllocError>
+    ensures { (first : FirstFault bytes.now number WalkStep) → IfOk result (λ found.
+        IfSome found (ShowsStep (decisions_before first.stage) (lines_before first.stage) (bytes_of first.next))) }
+{
+    let found = unmet_step(alloc, bytes, number)?;
+    match found {
+        Some(unmet) => step_there(alloc, bytes, number, &unmet),
+        None => Ok(None),
+    }
+}
+
+fn push_step_shown(out: &mut String, found: &Option<Unmet>) -> Result<(), AllocError>
+    ensures { OnOk result (IfSome found.now (λ u. string_bytes out.new ≡ string_bytes out.old ++ walk_step_text u)
+        × IfNone found.now (string_bytes out.new ≡ string_bytes out.old)) }
+{
+    match found {
+        Some(shown) => push_walk_step(out, shown),
+        None => Ok(()),
+    }
 }
 
 /// F17, in words.
@@ -114,8 +155,5 @@ pub fn push_unmet_step(
     ensures { OnOk result (Tells bytes.now (No number WalkStep) (string_bytes out.old) (string_bytes out.new)) }
 {
     let found = step_shown(alloc, bytes, number)?;
-    match found {
-        Some(shown) => push_walk_step(out, &shown),
-        None => Ok(()),
-    }
+    push_step_shown(out, &found)
 }
