@@ -6,12 +6,11 @@ use Rattle.sgt_audit.specs.declared.verdict.Verdict.TheVariants.{No}
 use Rattle.sgt_audit.specs.declared.faults.Fault.TheVariants as fault
 use Rattle.sgt_audit.specs.Faults.{FirstFault, bytes_of}
 use Rattle.sgt_explain_lines.specs.Told.{read_text, final_text}
+use Rattle.sgt_explain_lines.specs.declared.values.Misvalued.{Misvalued}
 use Rattle.sgt_explain_decisions.specs.Told.{rank_order_text}
 use Rattle.sgt_explain_decisions.specs.declared.order.RanksShown.{RanksShown}
 use Rattle.sgt_explain_steps.specs.Told.{walk_step_text}
 use Rattle.sgt_explain_steps.specs.declared.unmet.Unmet.{Unmet}
-use Rattle.sgt_explain.specs.declared.shown.Misread.{Misread}
-use Rattle.sgt_explain.specs.declared.shown.Misstated.{Misstated}
 use Rattle.sgt_explain.specs.Explained.{Tells, Means}
 use Rattle.sgt_explain.specs.Shown.{lines_before, decisions_before, ShowsRead, ShowsFinal, ShowsRanks}
 use Rattle.sgt_explain.specs.Steps.{ShowsStep}
@@ -25,16 +24,16 @@ some-if P o a e h = subst (λ q. IfSome q P) e h
 
 -- ---- what is told of what was found
 
-pub tells-read : (bytes : List ℕ) (n : ℕ) (found : Option Misread) (old new : List ℕ)
-    → ((first : FirstFault bytes n fault.ReadValue) → IsSomeAnd found (λ m. ShowsRead (lines_before first.stage) (bytes_of first.next) m.tx m.value))
-    → IfSome found (λ m. new ≡ old ++ read_text m.tx m.value) → Tells bytes (No n fault.ReadValue) old new
-tells-read bytes n (Some m) old new shows text = λ first. (m.tx, m.value, shows first, text)
+pub tells-read : (bytes : List ℕ) (n : ℕ) (found : Option (ℕ × Misvalued)) (old new : List ℕ)
+    → ((first : FirstFault bytes n fault.ReadValue) → IsSomeAnd found (λ m. ShowsRead (lines_before first.stage) (bytes_of first.next) m.0 m.1))
+    → IfSome found (λ m. new ≡ old ++ read_text m.0 m.1) → Tells bytes (No n fault.ReadValue) old new
+tells-read bytes n (Some m) old new shows text = λ first. (m.0, m.1, shows first, text)
 tells-read bytes n None old new shows text = λ first. absurd (shows first)
 
-pub tells-final : (bytes : List ℕ) (n : ℕ) (found : Option Misstated) (old new : List ℕ)
-    → ((first : FirstFault bytes n fault.Final) → IsSomeAnd found (λ m. ShowsFinal (lines_before first.stage) (bytes_of first.next) m.value))
-    → IfSome found (λ m. new ≡ old ++ final_text m.value) → Tells bytes (No n fault.Final) old new
-tells-final bytes n (Some m) old new shows text = λ first. (m.value, shows first, text)
+pub tells-final : (bytes : List ℕ) (n : ℕ) (found : Option Misvalued) (old new : List ℕ)
+    → ((first : FirstFault bytes n fault.Final) → IsSomeAnd found (ShowsFinal (lines_before first.stage) (bytes_of first.next)))
+    → IfSome found (λ m. new ≡ old ++ final_text m) → Tells bytes (No n fault.Final) old new
+tells-final bytes n (Some m) old new shows text = λ first. (m, shows first, text)
 tells-final bytes n None old new shows text = λ first. absurd (shows first)
 
 pub tells-ranks : (bytes : List ℕ) (n : ℕ) (found : Option RanksShown) (old new : List ℕ)

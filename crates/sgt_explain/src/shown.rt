@@ -24,19 +24,6 @@ use sgt_names::{Entry, Item, Tx, Value};
 use sgt_notation::SectionLine;
 use std::alloc::{AllocError, Global};
 
-/// A transaction that reads, and the value that its item has there.
-#[derive(Clone, Copy)]
-struct Misread {
-    tx: Tx,
-    value: Misvalued,
-}
-
-/// A final, by the value that its item has there.
-#[derive(Clone, Copy)]
-struct Misstated {
-    value: Misvalued,
-}
-
 /// The lines before the line of this number.
 pub fn text_before(bytes: &[u8], number: u64) -> &[u8] {
     let rest = after_line(bytes, number.saturating_sub(1));
@@ -105,9 +92,13 @@ fn final_in_line(line: &SectionLine) -> Option<(Item, Value)>
 }
 
 /// F10: the transaction that reads at this line, and the value that its item has there.
-fn read_shown(alloc: Global, bytes: &[u8], number: u64) -> Result<Option<Misread>, AllocError>
+fn read_shown(
+    alloc: Global,
+    bytes: &[u8],
+    number: u64,
+) -> Result<Option<(Tx, Misvalued)>, AllocError>
     ensures { (first : FirstFault bytes.now number ReadValue) → IfOk result (λ found.
-        IsSomeAnd found (λ m. ShowsRead (lines_before first.stage) (bytes_of first.next) m.tx m.value)) }
+        IsSomeAnd found (λ s. ShowsRead (lines_before first.stage) (bytes_of first.next) s.0 s.1)) }
 {
     let section = section_before(alloc, bytes, number)?;
     let Some(line) = section_line_at(bytes, number) else {
@@ -117,15 +108,15 @@ fn read_shown(alloc: Global, bytes: &[u8], number: u64) -> Result<Option<Misread
         return Ok(None);
     };
     match value_against(&section, &item, value) {
-        Some(shown) => Ok(Some(Misread { tx, value: shown })),
+        Some(shown) => Ok(Some((tx, shown))),
         None => Ok(None),
     }
 }
 
 /// F16: the value that the item of this final has at the end of its section.
-fn final_shown(alloc: Global, bytes: &[u8], number: u64) -> Result<Option<Misstated>, AllocError>
+fn final_shown(alloc: Global, bytes: &[u8], number: u64) -> Result<Option<Misvalued>, AllocError>
     ensures { (first : FirstFault bytes.now number Final) → IfOk result (λ found.
-        IsSomeAnd found (λ m. ShowsFinal (lines_before first.stage) (bytes_of first.next) m.value)) }
+        IsSomeAnd found (ShowsFinal (lines_before first.stage) (bytes_of first.next))) }
 {
     let section = section_before(alloc, bytes, number)?;
     let Some(line) = section_line_at(bytes, number) else {
@@ -135,7 +126,7 @@ fn final_shown(alloc: Global, bytes: &[u8], number: u64) -> Result<Option<Missta
         return Ok(None);
     };
     match value_against(&section, &item, value) {
-        Some(shown) => Ok(Some(Misstated { value: shown })),
+        Some(shown) => Ok(Some(shown)),
         None => Ok(None),
     }
 }
@@ -157,11 +148,11 @@ fn ranks_shown(alloc: Global, bytes: &[u8], number: u64) -> Result<Option<RanksS
     Ok(against_ranks(decisions, placed.as_slice(), &section, &logged))
 }
 
-fn push_misread(out: &mut String, found: &Option<Misread>) -> Result<(), AllocError>
-    ensures { OnOk result (IfSome found.now (λ m. string_bytes out.new ≡ string_bytes out.old ++ read_text m.tx m.value)) }
+fn push_read_shown(out: &mut String, found: &Option<(Tx, Misvalued)>) -> Result<(), AllocError>
+    ensures { OnOk result (IfSome found.now (λ s. string_bytes out.new ≡ string_bytes out.old ++ read_text s.0 s.1)) }
 {
     match found {
-        Some(misread) => push_read(out, misread.tx, &misread.value),
+        Some(read) => push_read(out, read.0, &read.1),
         None => Ok(()),
     }
 }
@@ -175,15 +166,17 @@ pub fn push_read_value(
 ) -> Result<(), AllocError>
     ensures { OnOk result (Tells bytes.now (No number ReadValue) (string_bytes out.old) (string_bytes out.new)) }
 {
-    let found = read_shown(alloc, bytes, number)?;
-    push_misread(out, &found)
+    match read_shown(alloc, bytes, number) {
+        Ok(found) => push_read_shown(out, &found),
+        Err(fault) => Err(fault),
+    }
 }
 
-fn push_misstated(out: &mut String, found: &Option<Misstated>) -> Result<(), AllocError>
-    ensures { OnOk result (IfSome found.now (λ m. string_bytes out.new ≡ string_bytes out.old ++ final_text m.value)) }
+fn push_final_shown(out: &mut String, found: &Option<Misvalued>) -> Result<(), AllocError>
+    ensures { OnOk result (IfSome found.now (λ m. string_bytes out.new ≡ string_bytes out.old ++ final_text m)) }
 {
     match found {
-        Some(misstated) => push_final(out, &misstated.value),
+        Some(shown) => push_final(out, shown),
         None => Ok(()),
     }
 }
@@ -197,8 +190,10 @@ pub fn push_final_value(
 ) -> Result<(), AllocError>
     ensures { OnOk result (Tells bytes.now (No number Final) (string_bytes out.old) (string_bytes out.new)) }
 {
-    let found = final_shown(alloc, bytes, number)?;
-    push_misstated(out, &found)
+    match final_shown(alloc, bytes, number) {
+        Ok(found) => push_final_shown(out, &found),
+        Err(fault) => Err(fault),
+    }
 }
 
 fn push_ranks_shown(out: &mut String, found: &Option<RanksShown>) -> Result<(), AllocError>
@@ -220,6 +215,8 @@ pub fn push_rank_order_of(
 ) -> Result<(), AllocError>
     ensures { OnOk result (Tells bytes.now (No number RankOrder) (string_bytes out.old) (string_bytes out.new)) }
 {
-    let found = ranks_shown(alloc, bytes, number)?;
-    push_ranks_shown(out, &found)
+    match ranks_shown(alloc, bytes, number) {
+        Ok(found) => push_ranks_shown(out, &found),
+        Err(fault) => Err(fault),
+    }
 }

@@ -154,6 +154,8 @@ pub fn push_unmet_step(
 ) -> Result<(), AllocError>
     ensures { OnOk result (Tells bytes.now (No number WalkStep) (string_bytes out.old) (string_bytes out.new)) }
 {
-    let found = step_shown(alloc, bytes, number)?;
-    push_step_shown(out, &found)
+    match step_shown(alloc, bytes, number) {
+        Ok(found) => push_step_shown(out, &found),
+        Err(fault) => Err(fault),
+    }
 }
