@@ -64,11 +64,11 @@ fn tells_lines(command: Command) -> bool {
     matches!(command, Command::Audit | Command::Serial | Command::Replay)
 }
 
-// Whether this is the name of a rule, as `F10`.
+// Whether this is the name of a rule, as `F10`, or of a reply, as `E8`.
 fn is_rule(word: &str) -> bool {
     let bytes = word.as_bytes();
     match bytes {
-        [b'F' | b'K', digits @ ..] => {
+        [b'F' | b'K' | b'E' | b'L' | b'V' | b'P', digits @ ..] => {
             !digits.is_empty() && digits.iter().all(|b| b.is_ascii_digit())
         }
         _ => false,

@@ -7,15 +7,45 @@ use Rattle.sgt_names.specs.declared.outcome.Outcome.TheVariants as outcome
 use Rattle.sgt_audit.specs.Verdict.{IsVerdict, text_of}
 use Rattle.sgt_audit.specs.declared.verdict.Verdict.{Verdict}
 use Rattle.sgt_audit.specs.declared.verdict.Verdict.TheVariants.{Yes, No}
+use Rattle.sgt_audit.specs.declared.faults.Fault.TheVariants as fault
+use Rattle.sgt_audit.specs.Faults.{FirstFault, bytes_of}
+use Rattle.sgt_explain_lines.specs.Told.{read_text, final_text}
+use Rattle.sgt_explain_lines.specs.declared.values.Misvalued.{Misvalued}
+use Rattle.sgt_explain_decisions.specs.Told.{rank_order_text}
+use Rattle.sgt_explain_steps.specs.Told.{walk_step_text}
+use Rattle.sgt_explain_decisions.specs.declared.order.RanksShown.{RanksShown}
+use Rattle.sgt_explain_steps.specs.declared.unmet.Unmet.{Unmet}
+use Rattle.sgt_explain.specs.Shown.{lines_before, decisions_before, ShowsRead, ShowsFinal, ShowsRanks}
+use Rattle.sgt_explain.specs.Steps.{ShowsStep}
 
 -- a yes is told as Yes, a no as No
 abbrev pub outcome_of : Verdict → Outcome
 outcome_of (Yes committed refused withdrawn) = outcome.Yes
 outcome_of (No line f) = outcome.No
 
+-- what a first fault adds to a text: of a read and of a final what is shown of its value, in words; of ranks and of a step likewise, or
+-- nothing
+abbrev pub Tells : List ℕ → Verdict → (old new : List ℕ) → Type 0
+Tells bytes (No line fault.ReadValue) old new = (first : FirstFault bytes line fault.ReadValue) → (tx : ℕ) × (shown : Misvalued)
+    × ShowsRead (lines_before first.stage) (bytes_of first.next) tx shown × (new ≡ old ++ read_text tx shown)
+Tells bytes (No line fault.Final) old new = (first : FirstFault bytes line fault.Final) → (shown : Misvalued)
+    × ShowsFinal (lines_before first.stage) (bytes_of first.next) shown × (new ≡ old ++ final_text shown)
+Tells bytes (No line fault.RankOrder) old new = (first : FirstFault bytes line fault.RankOrder) → (new ≡ old) ⊎ ((shown : RanksShown)
+    × ShowsRanks (decisions_before first.stage) (lines_before first.stage) (bytes_of first.next) line shown × (new ≡ old ++ rank_order_text shown))
+Tells bytes (No line fault.WalkStep) old new = (first : FirstFault bytes line fault.WalkStep) → (new ≡ old) ⊎ ((shown : Unmet)
+    × ShowsStep (decisions_before first.stage) (lines_before first.stage) (bytes_of first.next) shown × (new ≡ old ++ walk_step_text shown))
+Tells _ _ _ _ = Unit {0}
+
+-- what a verdict on the bytes means begins with that
+pub record Means (bytes : List ℕ) (v : Verdict) (meaning : List ℕ) : Type 0 where
+  pub said : List ℕ
+  pub more : List ℕ
+  pub text : meaning ≡ said ++ more
+  pub told : Tells bytes v [] said
+
 -- the text that an input is explained by: the line of the verdict on its bytes, and what that means behind it
 abbrev pub IsExplained : Option (List ℕ) → Outcome → List ℕ → Type 0
-IsExplained told ended text = (v : Verdict) × (meaning : List ℕ) × IfSome told (λ bytes. IsVerdict bytes v)
+IsExplained told ended text = (v : Verdict) × (meaning : List ℕ) × IfSome told (λ bytes. IsVerdict bytes v × Means bytes v meaning)
     × (ended ≡ outcome_of v) × (text ≡ text_of v ++ meaning)
 
 -- that text was written

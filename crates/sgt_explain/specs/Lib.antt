@@ -1,2 +1,4 @@
 pub mod Explained
+pub mod Shown
+pub mod Steps
 pub mod Topics

@@ -5,7 +5,9 @@ use Rattle.sgt_cert.specs.declared.fault.CertFault.TheVariants as line
 use Rattle.sgt_audit.specs.declared.faults.Fault.{Fault}
 use Rattle.sgt_audit.specs.declared.faults.Fault.TheVariants as fault
 use Rattle.sgt_explain.specs.declared.topics.Topic.{Topic}
-use Rattle.sgt_explain.specs.declared.topics.Topic.TheVariants.{Bundle, Line}
+use Rattle.sgt_explain.specs.declared.topics.Reply.{Reply}
+use Rattle.sgt_explain.specs.declared.topics.Reply.TheVariants as reply
+use Rattle.sgt_explain.specs.declared.topics.Topic.TheVariants.{Bundle, Line, Told}
 
 abbrev pub fault_name : Fault → List ℕ
 fault_name fault.Format = codes "F1"
@@ -34,6 +36,32 @@ line_name line.Shape = codes "K2"
 line_name line.Range = codes "K3"
 line_name line.Memory = codes "K4"
 
+abbrev pub reply_name : Reply → List ℕ
+reply_name reply.Unknown = codes "E1"
+reply_name reply.Ended = codes "E2"
+reply_name reply.StepOpen = codes "E3"
+reply_name reply.UnknownItem = codes "E4"
+reply_name reply.NotDecided = codes "E5"
+reply_name reply.AlreadyDone = codes "E6"
+reply_name reply.WindowFull = codes "E7"
+reply_name reply.ActiveLeft = codes "E8"
+reply_name reply.Memory = codes "E9"
+reply_name reply.GenerationsSpent = codes "E10"
+reply_name reply.NumbersSpent = codes "E11"
+reply_name reply.NotTouched = codes "E12"
+reply_name reply.NotALine = codes "L1"
+reply_name reply.TooLong = codes "L2"
+reply_name reply.NoDecision = codes "V1"
+reply_name reply.DecidedTwice = codes "V2"
+reply_name reply.CallRefused = codes "V4"
+reply_name reply.NoTicket = codes "V6"
+reply_name reply.PledgeLost = codes "V7"
+reply_name reply.TicketsFall = codes "V8"
+reply_name reply.LogChanged = codes "V9"
+reply_name reply.VersionsChanged = codes "V10"
+reply_name reply.ScriptLeft = codes "P2"
+
 abbrev pub topic_name : Topic → List ℕ
 topic_name (Bundle f) = fault_name f
 topic_name (Line f) = line_name f
+topic_name (Told r) = reply_name r

@@ -1,8 +1,8 @@
 //! What an input is explained by, before it is written.
 
-ghost use Rattle.std.specs.Prelude.{◌≡◌, ◌++◌, ℕ, List, IfOk, string_bytes};
+ghost use Rattle.std.specs.Prelude.{◌≡◌, ◌++◌, [], IfOk, OnOk, string_bytes};
 ghost use Rattle.sgt_audit.specs.Verdict.{text_of};
-ghost use Rattle.sgt_explain.specs.Explained.{outcome_of};
+ghost use Rattle.sgt_explain.specs.Explained.{outcome_of, Tells, Means};
 
 use crate::noes::push_no;
 use crate::yeses::{push_transaction, push_yes};
@@ -27,24 +27,74 @@ fn outcome(verdict: Verdict) -> Outcome
     }
 }
 
-/// What the verdict on the bytes means, and what is said of the transaction, if one is asked for.
-fn push_meaning(
+/// What the verdict on the bytes means. Of a yes nothing, where one transaction is asked for.
+fn push_verdict(
     alloc: Global,
     out: &mut String,
     bytes: &[u8],
     verdict: Verdict,
-    asked: Option<Tx>,
-) -> Result<(), AllocError> {
-    if let Verdict::No { line, fault } = verdict {
-        push_no(alloc, out, bytes, line, fault)?;
-    }
-    match asked {
-        Some(tx) => push_transaction(alloc, out, bytes, verdict, tx),
-        None => match verdict {
-            Verdict::Yes { .. } => push_yes(alloc, out, bytes),
-            Verdict::No { .. } => Ok(()),
+    asked: &Option<Tx>,
+) -> Result<(), AllocError>
+    ensures { OnOk result (Tells bytes.now verdict (string_bytes out.old) (string_bytes out.new)) }
+{
+    match verdict {
+        Verdict::No { line, fault } => push_no(alloc, out, bytes, line, fault),
+        Verdict::Yes { .. } => match asked {
+            Some(_) => Ok(()),
+            None => push_yes(alloc, out, bytes),
         },
     }
+}
+
+/// What the verdict on the bytes means, as a text of its own.
+fn told_of(
+    alloc: Global,
+    bytes: &[u8],
+    verdict: Verdict,
+    asked: &Option<Tx>,
+) -> Result<String, AllocError>
+    ensures { IfOk result (λ told. Tells bytes.now verdict [] (string_bytes told)) }
+{
+    let mut told = String::new(alloc);
+    push_verdict(alloc, &mut told, bytes, verdict, asked)?;
+    Ok(told)
+}
+
+/// What is said of the transaction, if one is asked for.
+fn dealings_of(
+    alloc: Global,
+    bytes: &[u8],
+    verdict: Verdict,
+    asked: &Option<Tx>,
+) -> Result<String, AllocError> {
+    let mut dealings = String::new(alloc);
+    if let Some(tx) = asked {
+        push_transaction(alloc, &mut dealings, bytes, verdict, *tx)?;
+    }
+    Ok(dealings)
+}
+
+fn joined(alloc: Global, first: &str, second: &str) -> Result<String, AllocError>
+    ensures { IfOk result (λ both. string_bytes both ≡ first.now ++ second.now) }
+{
+    let mut both = String::new(alloc);
+    both.push_str(first)?;
+    both.push_str(second)?;
+    Ok(both)
+}
+
+/// What the verdict on the bytes means, and behind it what is said of the transaction, if one is asked for.
+fn meaning_of(
+    alloc: Global,
+    bytes: &[u8],
+    verdict: Verdict,
+    asked: Option<Tx>,
+) -> Result<String, AllocError>
+    ensures { IfOk result (λ meaning. Means bytes.now verdict (string_bytes meaning)) }
+{
+    let told = told_of(alloc, bytes, verdict, &asked)?;
+    let dealings = dealings_of(alloc, bytes, verdict, &asked)?;
+    joined(alloc, told.as_str(), dealings.as_str())
 }
 
 /// The answer to bytes with this verdict.
@@ -56,10 +106,10 @@ pub fn answer_to(
 ) -> Result<Answer, AllocError>
     ensures outcome { IfOk result (λ answer. answer.outcome ≡ outcome_of verdict) }
     ensures line { IfOk result (λ answer. string_bytes answer.line ≡ text_of verdict) }
+    ensures meaning { IfOk result (λ answer. Means bytes.now verdict (string_bytes answer.meaning)) }
 {
     let line = verdict.to_line(alloc)?;
-    let mut meaning = String::new(alloc);
-    push_meaning(alloc, &mut meaning, bytes, verdict, asked)?;
+    let meaning = meaning_of(alloc, bytes, verdict, asked)?;
     Ok(Answer {
         outcome: outcome(verdict),
         line,

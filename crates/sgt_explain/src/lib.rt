@@ -6,9 +6,12 @@ mod engine;
 mod judging;
 mod noes;
 mod reading;
+mod replies;
 mod rules;
+mod shown;
+mod steps;
 mod topics;
 mod yeses;
 
 pub use engine::{explain, explain_topic, explain_transaction};
-pub use topics::Topic;
+pub use topics::{Reply, Topic};

@@ -1,42 +1,24 @@
 //! What a no means.
 
+ghost use Rattle.std.specs.Prelude.{OnOk, string_bytes};
+ghost use Rattle.sgt_audit.specs.declared.verdict.Verdict.TheVariants.{No};
+ghost use Rattle.sgt_explain.specs.Explained.{Tells};
+
+use crate::shown::{
+    certificate_of, logged_at, push_final_value, push_rank_order_of, push_read_value,
+};
+use crate::steps::push_unmet_step;
 use sgt_audit::Fault;
-use sgt_cert::{CertFault, Certificate, from_line};
+use sgt_cert::Certificate;
 use sgt_explain_decisions::{
-    Placed, placed_in, push_certificate, push_decided_twice, push_decision_order, push_end,
-    push_not_ended, push_rank_order, push_ranks, push_walk_shape, push_walk_step, sought_in,
+    placed_in, push_certificate, push_decided_twice, push_decision_order, push_end, push_not_ended,
+    push_ranks, push_walk_shape,
 };
 use sgt_explain_lines::{
-    Logged, Section, after_line, line_at, push_block, push_final, push_format, push_item,
-    push_notation, push_read, push_section, push_trailing, push_truncated, push_twice,
-    section_before,
+    Section, line_at, push_block, push_format, push_item, push_notation, push_section,
+    push_trailing, push_truncated, push_twice, section_before,
 };
-use sgt_notation::{SectionLine, read_section};
 use std::alloc::{AllocError, Global};
-
-/// The certificate of line 2, if it is one. Err: memory ran out.
-pub fn certificate_of(alloc: Global, bytes: &[u8]) -> Result<Option<Certificate>, AllocError> {
-    match from_line(alloc, line_at(bytes, 2).unwrap_or(b"")) {
-        Ok(certificate) => Ok(Some(certificate)),
-        Err(CertFault::Memory) => Err(AllocError),
-        Err(_) => Ok(None),
-    }
-}
-
-/// The lines before the line of this number.
-pub fn lines_before(bytes: &[u8], number: u64) -> &[u8] {
-    let rest = after_line(bytes, number.saturating_sub(1));
-    let length = bytes.len().saturating_sub(rest.len());
-    bytes.get(..length).unwrap_or(bytes)
-}
-
-/// The entry of a line, if it is one.
-fn logged_at(bytes: &[u8], line: u64) -> Option<Logged> {
-    match read_section(line_at(bytes, line)?) {
-        Ok(SectionLine::Logged(entry)) => Some(Logged { line, entry }),
-        _ => None,
-    }
-}
 
 /// Of a line that the lines before it in its section show to be wrong.
 fn push_by_section(
@@ -50,47 +32,14 @@ fn push_by_section(
         Fault::Section => push_section(out, bytes, line, section),
         Fault::Truncated => push_truncated(out, bytes, line, section),
         Fault::Block => push_block(out, section, line, line_at(bytes, line).unwrap_or(b"")),
-        Fault::Final => match read_section(line_at(bytes, line).unwrap_or(b"")) {
-            Ok(SectionLine::Final(holding)) => push_final(out, section, &holding),
-            _ => Ok(()),
-        },
-        _ => match logged_at(bytes, line) {
-            Some(logged) => push_by_item(out, fault, section, &logged),
+        Fault::Item => match logged_at(bytes, line) {
+            Some(logged) => push_item(out, section, &logged),
             None => Ok(()),
         },
-    }
-}
-
-/// Of an entry that the entries before it on its item show to be wrong.
-fn push_by_item(
-    out: &mut String,
-    fault: Fault,
-    section: &Section,
-    logged: &Logged,
-) -> Result<(), AllocError> {
-    match fault {
-        Fault::Item => push_item(out, section, logged),
-        Fault::Twice => push_twice(out, section, logged),
-        Fault::ReadValue => push_read(out, section, logged),
-        _ => Ok(()),
-    }
-}
-
-/// Of an entry that the decisions show to be wrong.
-fn push_by_decisions(
-    out: &mut String,
-    certificate: &Certificate,
-    placed: &[Placed],
-    section: &Section,
-    found: (Fault, Logged),
-) -> Result<(), AllocError> {
-    let (fault, logged) = found;
-    let decisions = certificate.decisions();
-    match fault {
-        Fault::RankOrder => push_rank_order(out, decisions, placed, section, &logged),
-        Fault::End => push_end(out, decisions, placed, section, &logged),
-        Fault::DecisionOrder => push_decision_order(out, placed, section, &logged),
-        _ => Ok(()),
+        _ => match logged_at(bytes, line) {
+            Some(logged) => push_twice(out, section, &logged),
+            None => Ok(()),
+        },
     }
 }
 
@@ -103,19 +52,18 @@ fn push_by_certificate(
     certificate: &Certificate,
 ) -> Result<(), AllocError> {
     let (line, fault) = first;
+    let decisions = certificate.decisions();
     let section = section_before(alloc, bytes, line)?;
-    let placed = placed_in(alloc, certificate.decisions())?;
-    if let Some(logged) = logged_at(bytes, line) {
-        let found = (fault, logged);
-        return push_by_decisions(out, certificate, placed.as_slice(), &section, found);
+    let placed = placed_in(alloc, decisions)?;
+    match (fault, logged_at(bytes, line)) {
+        (Fault::End, Some(logged)) => {
+            push_end(out, decisions, placed.as_slice(), &section, &logged)
+        }
+        (Fault::DecisionOrder, Some(logged)) => {
+            push_decision_order(out, placed.as_slice(), &section, &logged)
+        }
+        _ => push_not_ended(alloc, out, decisions, placed.as_slice(), &section),
     }
-    push_not_ended(
-        alloc,
-        out,
-        certificate.decisions(),
-        placed.as_slice(),
-        &section,
-    )
 }
 
 /// Of a certificate that is wrong by itself, and of its walks.
@@ -131,10 +79,6 @@ fn push_of_certificate(
         Fault::Ranks => push_ranks(alloc, out, decisions),
         Fault::DecidedTwice => push_decided_twice(alloc, out, decisions),
         Fault::WalkShape => push_walk_shape(alloc, out, decisions),
-        Fault::WalkStep => {
-            let sought = sought_in(alloc, decisions, lines_before(bytes, first.0))?;
-            push_walk_step(out, decisions, sought.as_slice())
-        }
         _ => push_by_certificate(alloc, out, bytes, first, certificate),
     }
 }
@@ -146,20 +90,22 @@ pub fn push_no(
     bytes: &[u8],
     line: u64,
     fault: Fault,
-) -> Result<(), AllocError> {
+) -> Result<(), AllocError>
+    ensures { OnOk result (Tells bytes.now (No line fault) (string_bytes out.old) (string_bytes out.new)) }
+{
     match fault {
         Fault::Format => push_format(out, bytes),
         Fault::Notation => push_notation(out, bytes, line),
         Fault::Trailing => push_trailing(out, bytes, line),
         Fault::Certificate => push_certificate(alloc, out, line_at(bytes, 2).unwrap_or(b"")),
-        Fault::Section | Fault::Truncated | Fault::Block | Fault::Final => {
+        Fault::Section | Fault::Truncated | Fault::Block | Fault::Item | Fault::Twice => {
             let section = section_before(alloc, bytes, line)?;
             push_by_section(out, bytes, line, fault, &section)
         }
-        Fault::Item | Fault::Twice | Fault::ReadValue => {
-            let section = section_before(alloc, bytes, line)?;
-            push_by_section(out, bytes, line, fault, &section)
-        }
+        Fault::ReadValue => push_read_value(alloc, out, bytes, line),
+        Fault::Final => push_final_value(alloc, out, bytes, line),
+        Fault::RankOrder => push_rank_order_of(alloc, out, bytes, line),
+        Fault::WalkStep => push_unmet_step(alloc, out, bytes, line),
         _ => {
             let Some(certificate) = certificate_of(alloc, bytes)? else {
                 return Ok(());

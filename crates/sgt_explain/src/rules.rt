@@ -1,5 +1,6 @@
 //! The rules of a bundle, each with an example of a line that breaks it.
 
+use crate::replies::reply_rule;
 use crate::topics::Topic;
 use sgt_audit::Fault;
 use sgt_cert::CertFault;
@@ -211,5 +212,6 @@ pub fn rule_of(topic: Topic) -> &'static str {
     match topic {
         Topic::Bundle(fault) => early_rule(fault),
         Topic::Line(fault) => line_rule(fault),
+        Topic::Told(reply) => reply_rule(reply),
     }
 }

@@ -1,18 +1,52 @@
 //! What can be asked about by name.
 
 ghost use Rattle.std.specs.Prelude.{◌≡◌, IfSome};
-ghost use Rattle.sgt_explain.specs.Topics.{fault_name, line_name};
+ghost use Rattle.sgt_explain.specs.Topics.{fault_name, line_name, reply_name, topic_name};
 
 use sgt_audit::Fault;
 use sgt_cert::CertFault;
 
-/// A rule that can be asked about: of a fault of a bundle, F1 to F19, or of why a line is no certificate, K1 to K4.
+/// What a replay tells of an event, and a replay or a run of its input or of itself.
+#[derive(Clone, Copy, Debug, PartialEq, Eq)]
+pub enum Reply {
+    /// E1 to E12: why an event is refused.
+    Unknown,
+    Ended,
+    StepOpen,
+    UnknownItem,
+    NotDecided,
+    AlreadyDone,
+    WindowFull,
+    ActiveLeft,
+    Memory,
+    GenerationsSpent,
+    NumbersSpent,
+    NotTouched,
+    /// L1 and L2: why a line can't be read.
+    NotALine,
+    TooLong,
+    /// V1, V2, V4, V6 to V10 and P2: why a run isn't told.
+    NoDecision,
+    DecidedTwice,
+    CallRefused,
+    NoTicket,
+    PledgeLost,
+    TicketsFall,
+    LogChanged,
+    VersionsChanged,
+    ScriptLeft,
+}
+
+/// A rule that can be asked about: of a fault of a bundle, F1 to F19, or of why a line is no certificate, K1 to K4; or what a
+/// reply of a replay or a run says.
 #[derive(Clone, Copy, Debug, PartialEq, Eq)]
 pub enum Topic {
     /// The rule of a bundle that this fault breaks.
     Bundle(Fault),
     /// The rule of line 2 that is broken so.
     Line(CertFault),
+    /// What is told so.
+    Told(Reply),
 }
 
 /// The fault of a bundle with this name, from F1 to F10.
@@ -65,23 +99,81 @@ fn line_fault(word: &[u8]) -> Option<CertFault>
     }
 }
 
+/// The reason with this name for which an event is refused.
+fn refusal(word: &[u8]) -> Option<Reply>
+    ensures { IfSome result (λ r. word.now ≡ reply_name r) }
+{
+    match word {
+        b"E1" => Some(Reply::Unknown),
+        b"E2" => Some(Reply::Ended),
+        b"E3" => Some(Reply::StepOpen),
+        b"E4" => Some(Reply::UnknownItem),
+        b"E5" => Some(Reply::NotDecided),
+        b"E6" => Some(Reply::AlreadyDone),
+        b"E7" => Some(Reply::WindowFull),
+        b"E8" => Some(Reply::ActiveLeft),
+        b"E9" => Some(Reply::Memory),
+        b"E10" => Some(Reply::GenerationsSpent),
+        b"E11" => Some(Reply::NumbersSpent),
+        b"E12" => Some(Reply::NotTouched),
+        _ => None,
+    }
+}
+
+/// The reason with this name for which an input or a run isn't told.
+fn ending(word: &[u8]) -> Option<Reply>
+    ensures { IfSome result (λ r. word.now ≡ reply_name r) }
+{
+    match word {
+        b"L1" => Some(Reply::NotALine),
+        b"L2" => Some(Reply::TooLong),
+        b"V1" => Some(Reply::NoDecision),
+        b"V2" => Some(Reply::DecidedTwice),
+        b"V4" => Some(Reply::CallRefused),
+        b"V6" => Some(Reply::NoTicket),
+        b"V7" => Some(Reply::PledgeLost),
+        b"V8" => Some(Reply::TicketsFall),
+        b"V9" => Some(Reply::LogChanged),
+        b"V10" => Some(Reply::VersionsChanged),
+        b"P2" => Some(Reply::ScriptLeft),
+        _ => None,
+    }
+}
+
+/// The rule of a bundle or of its second line with this name.
+fn rule(word: &[u8]) -> Option<Topic>
+    ensures { IfSome result (λ topic. word.now ≡ topic_name topic) }
+{
+    if let Some(fault) = early_fault(word) {
+        return Some(Topic::Bundle(fault));
+    }
+    if let Some(fault) = late_fault(word) {
+        return Some(Topic::Bundle(fault));
+    }
+    match line_fault(word) {
+        Some(fault) => Some(Topic::Line(fault)),
+        None => None,
+    }
+}
+
 impl Topic {
     ghost use Rattle.std.specs.Prelude.{◌≡◌, IfSome};
     ghost use Rattle.sgt_explain.specs.Topics.{topic_name};
 
-    /// The topic of this name: `F1` to `F19`, `K1` to `K4`. Names are compared byte by byte.
+    /// The topic of this name: `F1` to `F19`, `K1` to `K4`; `E1` to `E12`, `L1`, `L2`, `V1`, `V2`, `V4`, `V6` to `V10`, `P2`. Names
+    /// are compared byte by byte.
     pub fn find(word: &str) -> Option<Topic>
         ensures { IfSome result (λ topic. word.now ≡ topic_name topic) }
     {
         let name = word.as_bytes();
-        if let Some(fault) = early_fault(name) {
-            return Some(Topic::Bundle(fault));
+        if let Some(topic) = rule(name) {
+            return Some(topic);
         }
-        if let Some(fault) = late_fault(name) {
-            return Some(Topic::Bundle(fault));
+        if let Some(reply) = refusal(name) {
+            return Some(Topic::Told(reply));
         }
-        match line_fault(name) {
-            Some(fault) => Some(Topic::Line(fault)),
+        match ending(name) {
+            Some(reply) => Some(Topic::Told(reply)),
             None => None,
         }
     }

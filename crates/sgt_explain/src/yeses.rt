@@ -1,6 +1,6 @@
 //! What is said of a yes, and of one transaction.
 
-use crate::noes::{certificate_of, lines_before};
+use crate::shown::{certificate_of, text_before};
 use sgt_audit::Verdict;
 use sgt_explain_decisions::{push_cycles, push_dealings, push_fate, sought_in};
 use sgt_names::Tx;
@@ -35,7 +35,7 @@ pub fn push_transaction(
     let end = end_of(verdict);
     match certificate_of(alloc, bytes)? {
         Some(certificate) => {
-            let seen = lines_before(bytes, end);
+            let seen = text_before(bytes, end);
             push_fate(alloc, out, certificate.decisions(), seen, tx)?;
         }
         None => out.push_str("line 2 is no certificate\n")?,

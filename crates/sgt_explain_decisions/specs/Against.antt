@@ -1,22 +1,12 @@
--- An entry that another stands against.
-use Rattle.std.specs.Prelude.{◌≢◌, ℕ, ◌≤◌, List}
+-- Entries that stand against the ranks of their transactions.
+use Rattle.std.specs.Prelude.{◌≢◌, ◌≤◌}
 use Rattle.sgt_names.specs.Name.{Name}
 use Rattle.sgt_names.specs.Entry.{Clash, tx_of}
-use Rattle.sgt_names.specs.declared.entry.Entry.{Entry}
 use Rattle.sgt_names.specs.declared.entry.Kind.{Kind}
-use Rattle.sgt_cert.specs.Certificate.{IsCommitted}
-use Rattle.sgt_cert.specs.declared.certificate.Decision.{Decision}
+use Rattle.sgt_explain_decisions.specs.declared.order.Ranked.{Ranked}
 
--- two entries of committed transactions in conflict, of which the first has no smaller rank
-pub record StandsAgainst (decisions : List Decision) (e f : Entry) : Type 0 where
-  pub kind : Kind
-  pub item : Name
-  pub m : ℕ
-  pub n : ℕ
-  pub r : ℕ
-  pub s : ℕ
-  pub clash : Clash kind item e f
-  pub apart : tx_of e ≢ tx_of f
-  pub first : IsCommitted decisions m (tx_of e) r
-  pub second : IsCommitted decisions n (tx_of f) s
-  pub falls : s ≤ r
+-- two entries in conflict of this kind on the item, of two transactions, of which the first has no smaller rank
+pub record StandAgainst (first second : Ranked) (kind : Kind) (item : Name) : Type 0 where
+  pub clash : Clash kind item first.logged.entry second.logged.entry
+  pub apart : tx_of first.logged.entry ≢ tx_of second.logged.entry
+  pub falls : second.rank ≤ first.rank

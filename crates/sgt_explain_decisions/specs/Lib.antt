@@ -1,1 +1,2 @@
 pub mod Against
+pub mod Told

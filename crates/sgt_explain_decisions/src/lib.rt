@@ -14,10 +14,10 @@ mod walks;
 mod words;
 
 pub use certificate::push_certificate;
-pub use cycles::{push_cycles, push_walk_step};
+pub use cycles::{push_cycles, unmet_in};
 pub use dealings::{push_dealings, push_fate};
 pub use ends::{push_end, push_not_ended};
-pub use order::{push_decision_order, push_rank_order};
+pub use order::{Ranked, RanksShown, against_ranks, push_decision_order, push_rank_order};
 pub use placed::{Placed, number_on, placed_in};
 pub use ranks::{push_decided_twice, push_ranks};
 pub use sought::{Sought, sought_in};

@@ -1,104 +1,168 @@
 //! What is said of entries that stand against the ranks or the decisions.
 
-ghost use Rattle.std.specs.Prelude.{IfSome, IsTrue};
-ghost use Rattle.sgt_explain_decisions.specs.Against.{StandsAgainst};
+ghost use Rattle.std.specs.Prelude.{◌≡◌, ◌++◌, IfSome, OnOk, Contains, string_bytes, unwrap_or};
+ghost use Rattle.sgt_names.specs.Entry.{tx_of};
+ghost use Rattle.sgt_cert.specs.Certificate.{IsCommitted};
+ghost use Rattle.sgt_explain_decisions.specs.Against.{StandAgainst};
+ghost use Rattle.sgt_explain_decisions.specs.Told.{ranked_text, both_ranked, first_deed, second_deed, rank_wish, ranks_wanted, rank_order_head, rank_order_text};
 
 use crate::placed::{Placed, number_on, rank_on};
 use sgt_cert::Decision;
 use sgt_explain_lines::{Logged, Section, clash, kind_name, push_aside, verb};
-use sgt_names::{Entry, Tx};
+use sgt_names::{Item, Kind, Tx};
 use std::alloc::AllocError;
 use std::fmt::Write;
 
-/// Whether the first of two entries stands against the second: they are in conflict, and its transaction has no smaller rank.
-fn stands_against(decisions: &[Decision], placed: &[Placed], first: &Entry, second: &Entry) -> bool
-    ensures { IsTrue result → StandsAgainst decisions.now first.now second.now }
-{
-    let Some(_) = clash(first, second) else {
-        return false;
-    };
-    let Some((earlier, _)) = rank_on(decisions, placed, first.tx()) else {
-        return false;
-    };
-    let Some((later, _)) = rank_on(decisions, placed, second.tx()) else {
-        return false;
-    };
-    if later > earlier {
-        return false;
-    }
-    true
+/// An entry of a committed transaction, with the rank of that and the number of its decision.
+#[derive(Clone, Copy)]
+pub struct Ranked {
+    pub logged: Logged,
+    pub rank: u32,
+    pub number: usize,
 }
 
-/// The first of these entries that this one stands against.
-fn against(
+/// Two entries of a site in conflict on an item, of which the first stands against the second.
+#[derive(Clone, Copy)]
+pub struct RanksShown {
+    pub site: u8,
+    pub item: Item,
+    pub kind: Kind,
+    pub first: Ranked,
+    pub second: Ranked,
+}
+
+/// The entry with the rank of its transaction, if that is committed.
+fn with_rank(decisions: &[Decision], placed: &[Placed], logged: &Logged) -> Option<Ranked>
+    ensures same { IfSome result (λ r. r.logged ≡ logged.now) }
+    ensures rank { IfSome result (λ r. IsCommitted decisions.now r.number (tx_of r.logged.entry) r.rank) }
+{
+    match rank_on(decisions, placed, logged.entry.tx()) {
+        Some((rank, number)) => Some(Ranked {
+            logged: *logged,
+            rank,
+            number,
+        }),
+        None => None,
+    }
+}
+
+/// The item and the kind of the conflict of two entries of which the first stands against the second: its transaction has no
+/// smaller rank.
+fn stand_against(first: &Ranked, second: &Ranked) -> Option<(Item, Kind)>
+    ensures { IfSome result (λ c. StandAgainst first.now second.now c.1 c.0) }
+{
+    match clash(&first.logged.entry, &second.logged.entry) {
+        Some((item, kind)) if second.rank <= first.rank => Some((item, kind)),
+        _ => None,
+    }
+}
+
+/// The first of these entries, of the site, that stands against this one, with the ranks of both.
+pub fn against_ranks(
     decisions: &[Decision],
     placed: &[Placed],
-    entries: &[Logged],
-    entry: &Entry,
-) -> Option<Logged>
-    ensures { IfSome result (λ f. StandsAgainst decisions.now f.entry entry.now) }
+    section: &Section,
+    logged: &Logged,
+) -> Option<RanksShown>
+    ensures site { IfSome result (λ s. s.site ≡ unwrap_or section.now.site 0) }
+    ensures among { IfSome result (λ s. Contains section.now.entries.items s.first.logged) }
+    ensures same { IfSome result (λ s. s.second.logged ≡ logged.now) }
+    ensures first { IfSome result (λ s. IsCommitted decisions.now s.first.number (tx_of s.first.logged.entry) s.first.rank) }
+    ensures second { IfSome result (λ s. IsCommitted decisions.now s.second.number (tx_of s.second.logged.entry) s.second.rank) }
+    ensures stand { IfSome result (λ s. StandAgainst s.first s.second s.kind s.item) }
 {
-    for other in entries {
-        if stands_against(decisions, placed, &other.entry, entry) {
-            return Some(*other);
+    let Some(second) = with_rank(decisions, placed, logged) else {
+        return None;
+    };
+    for other in section.entries.as_slice() {
+        if let Some(first) = with_rank(decisions, placed, other) {
+            if let Some((item, kind)) = stand_against(&first, &second) {
+                return Some(RanksShown {
+                    site: section.site_number(),
+                    item,
+                    kind,
+                    first,
+                    second,
+                });
+            }
         }
     }
     None
 }
 
 /// An entry with the rank of its transaction.
-fn push_ranked(
-    out: &mut String,
-    decisions: &[Decision],
-    placed: &[Placed],
-    logged: &Logged,
-) -> Result<(), AllocError> {
-    let tx = logged.entry.tx();
-    push_aside(out, logged)?;
-    match rank_on(decisions, placed, tx) {
-        Some((rank, number)) => {
-            writeln!(out, "transaction {tx} has rank {rank} (decision {number})")
-        }
-        None => out.push_str("\n"),
-    }
-}
-
-/// Which conflict two entries are in, and what it asks of the ranks.
-fn push_wanted_ranks(
-    out: &mut String,
-    site: u8,
-    first: &Logged,
-    second: &Logged,
-) -> Result<(), AllocError> {
-    let (Some(item), Some(kind)) = (first.entry.item(), clash(&first.entry, &second.entry)) else {
-        return Ok(());
-    };
-    let one = first.entry.tx();
-    let other = second.entry.tx();
-    let before = verb(&first.entry);
-    let after = verb(&second.entry);
-    let name = kind_name(kind);
-    writeln!(
+fn push_ranked(out: &mut String, ranked: &Ranked) -> Result<(), AllocError>
+    ensures { OnOk result (string_bytes out.new ≡ string_bytes out.old ++ ranked_text ranked.now) }
+{
+    let tx = ranked.logged.entry.tx();
+    let rank = ranked.rank;
+    let number = ranked.number;
+    push_aside(out, &ranked.logged)?;
+    write!(
         out,
-        "{one} {before} {item} of site {site} before {other} {after} it ({name}): {one} has to have the smaller rank"
+        "transaction {tx} has rank {rank} (decision {number})\n"
     )
 }
 
-/// F11: an entry in conflict with an earlier one of greater rank.
-pub fn push_rank_order(
-    out: &mut String,
-    decisions: &[Decision],
-    placed: &[Placed],
-    section: &Section,
-    logged: &Logged,
-) -> Result<(), AllocError> {
-    out.push_str("RankOrder: two operations in conflict stand against the ranks\n")?;
-    let Some(first) = against(decisions, placed, section.entries.as_slice(), &logged.entry) else {
-        return Ok(());
-    };
-    push_ranked(out, decisions, placed, &first)?;
-    push_ranked(out, decisions, placed, logged)?;
-    push_wanted_ranks(out, section.site_number(), &first, logged)
+/// Both entries, each with the rank of its transaction.
+fn push_both_ranked(out: &mut String, shown: &RanksShown) -> Result<(), AllocError>
+    ensures { OnOk result (string_bytes out.new ≡ string_bytes out.old ++ both_ranked shown.now) }
+{
+    push_ranked(out, &shown.first)?;
+    push_ranked(out, &shown.second)
+}
+
+/// What the first of the entries did.
+fn push_first_deed(out: &mut String, shown: &RanksShown) -> Result<(), AllocError>
+    ensures { OnOk result (string_bytes out.new ≡ string_bytes out.old ++ first_deed shown.now) }
+{
+    let site = shown.site;
+    let item = shown.item;
+    let from = shown.first.logged.entry.tx();
+    let before = verb(&shown.first.logged.entry);
+    write!(out, "{from} {before} {item} of site {site} ")
+}
+
+/// What the second did.
+fn push_second_deed(out: &mut String, shown: &RanksShown) -> Result<(), AllocError>
+    ensures { OnOk result (string_bytes out.new ≡ string_bytes out.old ++ second_deed shown.now) }
+{
+    let to = shown.second.logged.entry.tx();
+    let after = verb(&shown.second.logged.entry);
+    let name = kind_name(shown.kind);
+    write!(out, "before {to} {after} it ({name}): ")
+}
+
+/// What the conflict asks of the ranks.
+fn push_rank_wish(out: &mut String, shown: &RanksShown) -> Result<(), AllocError>
+    ensures { OnOk result (string_bytes out.new ≡ string_bytes out.old ++ rank_wish shown.now) }
+{
+    let from = shown.first.logged.entry.tx();
+    write!(out, "{from} has to have the smaller rank\n")
+}
+
+/// Which conflict two entries are in, and what it asks of the ranks.
+fn push_wanted_ranks(out: &mut String, shown: &RanksShown) -> Result<(), AllocError>
+    ensures { OnOk result (string_bytes out.new ≡ string_bytes out.old ++ ranks_wanted shown.now) }
+{
+    push_first_deed(out, shown)?;
+    push_second_deed(out, shown)?;
+    push_rank_wish(out, shown)
+}
+
+fn push_order_head(out: &mut String) -> Result<(), AllocError>
+    ensures { OnOk result (string_bytes out.new ≡ string_bytes out.old ++ rank_order_head) }
+{
+    out.push_str("RankOrder: two operations in conflict stand against the ranks\n")
+}
+
+/// F11: two entries of a site that stand against the ranks.
+pub fn push_rank_order(out: &mut String, shown: &RanksShown) -> Result<(), AllocError>
+    ensures { OnOk result (string_bytes out.new ≡ string_bytes out.old ++ rank_order_text shown.now) }
+{
+    push_order_head(out)?;
+    push_both_ranked(out, shown)?;
+    push_wanted_ranks(out, shown)
 }
 
 /// The first end before this one that was decided later.

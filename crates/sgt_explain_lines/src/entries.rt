@@ -1,8 +1,8 @@
 //! Two entries of a log in conflict, in words.
 
-ghost use Rattle.std.specs.Prelude.{◌≢◌, IfSome};
-ghost use Rattle.sgt_names.specs.Name.{Name};
+ghost use Rattle.std.specs.Prelude.{◌≡◌, ◌≢◌, IfSome};
 ghost use Rattle.sgt_names.specs.Entry.{Clash, tx_of};
+ghost use Rattle.sgt_explain_lines.specs.Told.{verb_text, kind_text};
 
 use crate::section::Logged;
 use sgt_names::{Entry, Item, Kind};
@@ -10,7 +10,7 @@ use std::alloc::AllocError;
 use std::fmt::Write;
 
 /// The kind of the conflict that the second entry is in with the first, on the item.
-fn clash_on(item: &Item, first: &Entry, second: &Entry) -> Option<Kind>
+pub fn clash_on(item: &Item, first: &Entry, second: &Entry) -> Option<Kind>
     ensures { IfSome result (λ kind. Clash kind item.now first.now second.now) }
 {
     if first.reads(item) && second.writes(item) {
@@ -29,9 +29,10 @@ fn clash_on(item: &Item, first: &Entry, second: &Entry) -> Option<Kind>
     }
 }
 
-/// The kind of the conflict that the second entry is in with the first, which stands before it and is another transaction's.
-pub fn clash(first: &Entry, second: &Entry) -> Option<Kind>
-    ensures clash { IfSome result (λ kind. (x : Name) × Clash kind x first.now second.now) }
+/// The item and the kind of the conflict that the second entry is in with the first, which stands before it and is another
+/// transaction's.
+pub fn clash(first: &Entry, second: &Entry) -> Option<(Item, Kind)>
+    ensures clash { IfSome result (λ c. Clash c.1 c.0 first.now second.now) }
     ensures apart { IfSome result (λ _. tx_of first.now ≢ tx_of second.now) }
 {
     let Some(item) = first.item() else {
@@ -40,11 +41,16 @@ pub fn clash(first: &Entry, second: &Entry) -> Option<Kind>
     if first.tx() == second.tx() {
         return None;
     }
-    clash_on(&item, first, second)
+    match clash_on(&item, first, second) {
+        Some(kind) => Some((item, kind)),
+        None => None,
+    }
 }
 
 /// What the entry does to its item, in words.
-pub fn verb(entry: &Entry) -> &'static str {
+pub fn verb(entry: &Entry) -> &'static str
+    ensures { result.now ≡ verb_text entry.now }
+{
     match entry {
         Entry::Read { .. } => "read",
         Entry::Write { .. } => "wrote",
@@ -58,7 +64,9 @@ pub fn verb(entry: &Entry) -> &'static str {
 }
 
 /// The name of a kind of conflict.
-pub fn kind_name(kind: Kind) -> &'static str {
+pub fn kind_name(kind: Kind) -> &'static str
+    ensures { result.now ≡ kind_text kind }
+{
     match kind {
         Kind::Wr => "wr",
         Kind::Rw => "rw",

@@ -1,9 +1,14 @@
 //! The lines of a text, by number.
 
+ghost use Rattle.std.specs.Prelude.{◌≡◌, ℕ, List, ◌∷◌, ◌++◌, length, All};
+ghost use Rattle.sgt_notation.specs.Spelling.{text_of_lines, HasNoLf};
+
 use sgt_notation::find_lf;
 
 /// The first line without its LF, and what stands behind it. Where there is no LF, all bytes are the line.
-pub fn cut_line(bytes: &[u8]) -> (&[u8], &[u8]) {
+pub fn cut_line(bytes: &[u8]) -> (&[u8], &[u8])
+    ensures { (line rest : List ℕ) → HasNoLf line → bytes.now ≡ line ++ 10 ∷ rest → (result.0.now ≡ line) × (result.1.now ≡ rest) }
+{
     match find_lf(bytes) {
         Some(n) => (&bytes[..n], &bytes[n + 1..]),
         None => (bytes, &bytes[..0]),
@@ -11,7 +16,10 @@ pub fn cut_line(bytes: &[u8]) -> (&[u8], &[u8]) {
 }
 
 /// What stands behind so many lines. Nothing where there are fewer.
-pub fn after_line(bytes: &[u8], number: u64) -> &[u8] {
+pub fn after_line(bytes: &[u8], number: u64) -> &[u8]
+    ensures { (lines : List (List ℕ)) (rest : List ℕ) → All HasNoLf lines → number ≡ length lines
+        → bytes.now ≡ text_of_lines lines ++ rest → result.now ≡ rest }
+{
     let mut rest = bytes;
     for _ in 0..number {
         rest = cut_line(rest).1;

@@ -1,10 +1,14 @@
 //! What is said of an entry by the entries before it on its item.
 
+ghost use Rattle.std.specs.Prelude.{◌≡◌, ◌++◌, OnOk, string_bytes};
+ghost use Rattle.sgt_names.specs.Entry.{tx_of, is_increment};
+ghost use Rattle.sgt_explain_lines.specs.Told.{maker_text, listed_text, made_text, until_text, reason_text, history_text, found_text, read_front, read_head, read_text, final_front, final_text};
+
 use crate::entries::verb;
 use crate::section::{Logged, Section, Stated};
-use crate::shown::{push_aside, push_logged, push_numbered};
-use crate::values::{Made, last_had, value_of};
-use sgt_names::{Entry, Holding, Item, Value};
+use crate::shown::{push_aside, push_bar, push_logged, push_numbered};
+use crate::values::{Made, Misvalued};
+use sgt_names::{Entry, Item, Tx, Value};
 use std::alloc::AllocError;
 use std::fmt::Write;
 
@@ -79,84 +83,125 @@ pub fn push_twice(out: &mut String, section: &Section, logged: &Logged) -> Resul
 }
 
 /// Who made a value: what is said of its line.
-fn push_maker(out: &mut String, made: &Made, entry: &Entry) -> Result<(), AllocError> {
+fn push_maker(out: &mut String, made: &Made, entry: &Entry) -> Result<(), AllocError>
+    ensures { OnOk result (string_bytes out.new
+        ≡ string_bytes out.old ++ maker_text (tx_of entry.now) made.now.value (is_increment entry.now)) }
+{
     let tx = entry.tx();
     let value = made.value;
-    match entry {
-        Entry::Add { .. } => writeln!(out, "transaction {tx} added to it, which gave {value}"),
-        _ => writeln!(out, "transaction {tx} wrote it"),
+    if entry.is_increment() {
+        write!(out, "transaction {tx} added to it, which gave {value}\n")
+    } else {
+        write!(out, "transaction {tx} wrote it\n")
     }
 }
 
+/// The line that lists the item, without its number.
+fn push_listed(out: &mut String, item: Item, value: Value) -> Result<(), AllocError>
+    ensures { OnOk result (string_bytes out.new ≡ string_bytes out.old ++ listed_text item value) }
+{
+    write!(out, "item {item}={value}     its initial value\n")
+}
+
 /// The line that made the value of an item.
-fn push_made(out: &mut String, item: &Item, made: &Made) -> Result<(), AllocError> {
+fn push_made(out: &mut String, item: &Item, made: &Made) -> Result<(), AllocError>
+    ensures { OnOk result (string_bytes out.new ≡ string_bytes out.old ++ made_text item.now made.now) }
+{
     match &made.by {
         Some(logged) => {
             push_aside(out, logged)?;
             push_maker(out, made, &logged.entry)
         }
         None => {
-            let line = made.listed;
-            let value = made.value;
-            writeln!(out, "{line:>4} | item {item}={value}     its initial value")
+            push_bar(out, made.listed)?;
+            push_listed(out, *item, made.value)
         }
     }
 }
 
-/// Until when the item had the value.
-fn push_until(
-    out: &mut String,
-    section: &Section,
-    item: &Item,
-    value: Value,
-) -> Result<(), AllocError> {
-    match last_had(section, item, value) {
+/// Until when the item had the value that is given.
+fn push_until(out: &mut String, shown: &Misvalued) -> Result<(), AllocError>
+    ensures { OnOk result (string_bytes out.new ≡ string_bytes out.old ++ until_text shown.now.given shown.now.until) }
+{
+    let value = shown.given;
+    match shown.until {
         Some(line) => write!(out, "{value} was its value up to line {line}"),
         None => write!(out, "{value} was never its value before"),
     }
 }
 
-/// F10: a read of another value than the item has.
-pub fn push_read(out: &mut String, section: &Section, logged: &Logged) -> Result<(), AllocError> {
-    let Entry::Read { tx, item, value } = logged.entry else {
-        return Ok(());
-    };
-    let Some(made) = value_of(section, &item) else {
-        return Ok(());
-    };
-    let site = section.site_number();
-    let found = made.value;
-    writeln!(
-        out,
-        "ReadValue: r{tx}[{item}]={value}, but {item} at site {site} is {found} here"
-    )?;
-    push_made(out, &item, &made)?;
-    push_until(out, section, &item, value)?;
-    match last_had(section, &item, value) {
+/// What follows of that for a read.
+fn push_reason(out: &mut String, shown: &Misvalued) -> Result<(), AllocError>
+    ensures { OnOk result (string_bytes out.new ≡ string_bytes out.old ++ reason_text shown.now.until) }
+{
+    match shown.until {
         Some(_) => out.push_str(": a read of an old version, or the log is wrong\n"),
         None => out.push_str(": a read of something else, or the log is wrong\n"),
     }
 }
 
+/// What made the value that the item has, and until when it had the one that is given.
+fn push_history(out: &mut String, shown: &Misvalued) -> Result<(), AllocError>
+    ensures { OnOk result (string_bytes out.new ≡ string_bytes out.old ++ history_text shown.now) }
+{
+    push_made(out, &shown.item, &shown.made)?;
+    push_until(out, shown)
+}
+
+/// What the item has there.
+fn push_found(out: &mut String, shown: &Misvalued) -> Result<(), AllocError>
+    ensures { OnOk result (string_bytes out.new ≡ string_bytes out.old ++ found_text shown.now) }
+{
+    let item = shown.item;
+    let site = shown.site;
+    let found = shown.made.value;
+    write!(out, "{item} at site {site} is {found}")
+}
+
+/// What the read says.
+fn push_read_front(out: &mut String, tx: Tx, shown: &Misvalued) -> Result<(), AllocError>
+    ensures { OnOk result (string_bytes out.new ≡ string_bytes out.old ++ read_front tx shown.now) }
+{
+    let item = shown.item;
+    let value = shown.given;
+    write!(out, "ReadValue: r{tx}[{item}]={value}, but ")
+}
+
+/// The same, and what is there.
+fn push_read_head(out: &mut String, tx: Tx, shown: &Misvalued) -> Result<(), AllocError>
+    ensures { OnOk result (string_bytes out.new ≡ string_bytes out.old ++ read_head tx shown.now) }
+{
+    push_read_front(out, tx, shown)?;
+    push_found(out, shown)?;
+    out.push_str(" here\n")
+}
+
+/// F10: a read of another value than the item has.
+pub fn push_read(out: &mut String, tx: Tx, shown: &Misvalued) -> Result<(), AllocError>
+    ensures { OnOk result (string_bytes out.new ≡ string_bytes out.old ++ read_text tx shown.now) }
+{
+    push_read_head(out, tx, shown)?;
+    push_history(out, shown)?;
+    push_reason(out, shown)
+}
+
+/// What the final says.
+fn push_final_front(out: &mut String, shown: &Misvalued) -> Result<(), AllocError>
+    ensures { OnOk result (string_bytes out.new ≡ string_bytes out.old ++ final_front shown.now) }
+{
+    let item = shown.item;
+    let value = shown.given;
+    write!(out, "Final: final {item}={value}, but ")
+}
+
 /// F16: a final of another value than the item has.
-pub fn push_final(
-    out: &mut String,
-    section: &Section,
-    holding: &Holding,
-) -> Result<(), AllocError> {
-    let item = holding.item;
-    let value = holding.value;
-    let Some(made) = value_of(section, &item) else {
-        return Ok(());
-    };
-    let site = section.site_number();
-    let found = made.value;
-    writeln!(
-        out,
-        "Final: final {item}={value}, but {item} at site {site} is {found} at the end"
-    )?;
-    push_made(out, &item, &made)?;
-    push_until(out, section, &item, value)?;
+pub fn push_final(out: &mut String, shown: &Misvalued) -> Result<(), AllocError>
+    ensures { OnOk result (string_bytes out.new ≡ string_bytes out.old ++ final_text shown.now) }
+{
+    push_final_front(out, shown)?;
+    push_found(out, shown)?;
+    out.push_str(" at the end\n")?;
+    push_history(out, shown)?;
     out.push_str("\n")
 }
 

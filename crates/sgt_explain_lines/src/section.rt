@@ -1,6 +1,11 @@
 //! What the lines of a section say, up to a line of it.
 
-use crate::input::cut_line;
+ghost use Rattle.std.specs.Prelude.{◌≡◌, ℕ, List, ◌∷◌, [], Some, IfOk, OnOk, unwrap_or};
+ghost use Rattle.sgt_notation.specs.Spelling.{line_text, IsLine};
+ghost use Rattle.sgt_notation.specs.declared.SectionLine.{SectionLine};
+ghost use Rattle.sgt_explain_lines.specs.Numbered.{HasLine, IsSectionOf, HasOneMore};
+
+use crate::input::{after_line, cut_line};
 use sgt_names::{Entry, Holding, SiteNo};
 use sgt_notation::{SectionLine, read_section};
 use std::alloc::{AllocError, Global};
@@ -31,7 +36,9 @@ pub struct Section {
 
 impl Section {
     /// Before the first section.
-    fn new(alloc: Global) -> Section {
+    fn new(alloc: Global) -> Section
+        ensures { IsSectionOf [] result }
+    {
         Section {
             site: None,
             items: Vec::new(alloc),
@@ -42,7 +49,11 @@ impl Section {
     }
 
     /// A section begins.
-    fn begin(&mut self, site: SiteNo) {
+    fn begin(&mut self, site: SiteNo)
+        ensures site { self.new.site ≡ Some site }
+        ensures items { self.new.items.items ≡ [] }
+        ensures entries { self.new.entries.items ≡ [] }
+    {
         self.site = Some(site);
         self.items.clear();
         self.entries.clear();
@@ -50,7 +61,9 @@ impl Section {
     }
 
     /// One more line.
-    fn add(&mut self, line: u64, read: SectionLine) -> Result<(), AllocError> {
+    fn add(&mut self, line: u64, read: SectionLine) -> Result<(), AllocError>
+        ensures { OnOk result (HasOneMore self.old self.new line read) }
+    {
         match &read {
             SectionLine::Site(site) => self.begin(*site),
             SectionLine::Initial(holding) => self.items.push(Stated {
@@ -71,8 +84,20 @@ impl Section {
         Ok(())
     }
 
+    /// What one more line says. A line that spells nothing is left out.
+    fn add_text(&mut self, line: u64, text: &[u8]) -> Result<(), AllocError>
+        ensures { OnOk result ((read : SectionLine) → IsLine read → text.now ≡ line_text read → HasOneMore self.old self.new line read) }
+    {
+        match read_section(text) {
+            Ok(read) => self.add(line, read),
+            Err(_) => Ok(()),
+        }
+    }
+
     /// The number of the site, 0 where none was begun.
-    pub fn site_number(&self) -> u8 {
+    pub fn site_number(&self) -> u8
+        ensures { result ≡ unwrap_or self.now.site 0 }
+    {
         match self.site {
             Some(site) => site.number(),
             None => 0,
@@ -82,22 +107,29 @@ impl Section {
 
 /// The section that is open before the line of this number: what its lines say, from line 3 on. Lines that spell nothing are
 /// left out.
-pub fn section_before(alloc: Global, bytes: &[u8], number: u64) -> Result<Section, AllocError> {
+pub fn section_before(alloc: Global, bytes: &[u8], number: u64) -> Result<Section, AllocError>
+    ensures { IfOk result (λ s. (before : List SectionLine) (line : SectionLine) → HasLine bytes.now number before line
+        → IsSectionOf before s) }
+{
     let mut section = Section::new(alloc);
-    let mut rest = bytes;
-    for line in 1..number {
+    let mut rest = after_line(bytes, 2);
+    for line in 3..number {
         let (text, behind) = cut_line(rest);
-        if line > 2 {
-            if let Ok(read) = read_section(text) {
-                section.add(line, read)?;
-            }
-        }
+        section.add_text(line, text)?;
         rest = behind;
-        if rest.is_empty() {
-            break;
-        }
     }
     Ok(section)
+}
+
+/// What the line of this number spells as a line of a section.
+pub fn section_line_at(bytes: &[u8], number: u64) -> Option<SectionLine>
+    ensures { (before : List SectionLine) (line : SectionLine) → HasLine bytes.now number before line → result ≡ Some line }
+{
+    let (text, _) = cut_line(after_line(bytes, number.saturating_sub(1)));
+    match read_section(text) {
+        Ok(read) => Some(read),
+        Err(_) => None,
+    }
 }
 
 /// The entry that the line spells, if it is an entry's. Where it begins a section, the site becomes that of the section.

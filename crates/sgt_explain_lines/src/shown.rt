@@ -1,5 +1,9 @@
 //! Lines as they are shown: cut, escaped, with their numbers.
 
+ghost use Rattle.std.specs.Prelude.{◌≡◌, ◌++◌, OnOk, string_bytes};
+ghost use Rattle.sgt_notation.specs.Spelling.{entry_text};
+ghost use Rattle.sgt_explain_lines.specs.Told.{margin, bar, shown_line, gap, noted_line};
+
 use crate::section::Logged;
 use sgt_names::Entry;
 use std::alloc::AllocError;
@@ -43,9 +47,27 @@ pub fn push_shown(out: &mut String, text: &[u8]) -> Result<(), AllocError> {
     Ok(())
 }
 
+/// The spaces before the number of a line.
+fn push_margin(out: &mut String, number: u64) -> Result<(), AllocError>
+    ensures { OnOk result (string_bytes out.new ≡ string_bytes out.old ++ margin number) }
+{
+    if number < 10 {
+        out.push_str("   ")
+    } else if number < 100 {
+        out.push_str("  ")
+    } else if number < 1000 {
+        out.push_str(" ")
+    } else {
+        out.push_str("")
+    }
+}
+
 /// The number of a line, and the bar behind it.
-fn push_bar(out: &mut String, number: u64) -> Result<(), AllocError> {
-    write!(out, "{number:>4} | ")
+pub fn push_bar(out: &mut String, number: u64) -> Result<(), AllocError>
+    ensures { OnOk result (string_bytes out.new ≡ string_bytes out.old ++ bar number) }
+{
+    push_margin(out, number)?;
+    write!(out, "{number} | ")
 }
 
 /// Shows a line with its number.
@@ -55,37 +77,27 @@ pub fn push_numbered(out: &mut String, number: u64, text: &[u8]) -> Result<(), A
     out.push_str("\n")
 }
 
-/// The line of an entry with this letter, without an LF.
-fn push_entry(out: &mut String, letter: char, entry: &Entry) -> Result<(), AllocError> {
-    let tx = entry.tx();
+/// The line of an entry, without an LF.
+fn push_entry(out: &mut String, entry: &Entry) -> Result<(), AllocError>
+    ensures { OnOk result (string_bytes out.new ≡ string_bytes out.old ++ entry_text entry.now) }
+{
     match *entry {
-        Entry::Read { item, value, .. } | Entry::Write { item, value, .. } => {
-            write!(out, "{letter}{tx}[{item}]={value}")
-        }
-        Entry::Add { item, value, .. } | Entry::Want { item, value, .. } => {
-            write!(out, "{letter}{tx}[{item}]={value}")
-        }
-        Entry::WantAdd { item, value, .. } => write!(out, "{letter}{tx}[{item}]={value}"),
-        _ => write!(out, "{letter}{tx}"),
-    }
-}
-
-fn letter_of(entry: &Entry) -> char {
-    match entry {
-        Entry::Read { .. } => 'r',
-        Entry::Write { .. } => 'w',
-        Entry::Add { .. } => 'd',
-        Entry::Want { .. } => 'p',
-        Entry::WantAdd { .. } => 'q',
-        Entry::Commit { .. } => 'c',
-        Entry::Refuse { .. } => 'n',
-        Entry::Withdraw { .. } => 'a',
+        Entry::Read { tx, item, value } => write!(out, "r{tx}[{item}]={value}"),
+        Entry::Write { tx, item, value } => write!(out, "w{tx}[{item}]={value}"),
+        Entry::Add { tx, item, value } => write!(out, "d{tx}[{item}]={value}"),
+        Entry::Want { tx, item, value } => write!(out, "p{tx}[{item}]={value}"),
+        Entry::WantAdd { tx, item, value } => write!(out, "q{tx}[{item}]={value}"),
+        Entry::Commit { tx } => write!(out, "c{tx}"),
+        Entry::Refuse { tx } => write!(out, "n{tx}"),
+        Entry::Withdraw { tx } => write!(out, "a{tx}"),
     }
 }
 
 /// The spaces behind a text of so many columns: five, and as many more as bring the next column to one behind a multiple of
 /// four.
-fn push_gap(out: &mut String, width: usize) -> Result<(), AllocError> {
+fn push_gap(out: &mut String, width: usize) -> Result<(), AllocError>
+    ensures { OnOk result (string_bytes out.new ≡ string_bytes out.old ++ gap width) }
+{
     match width % 4 {
         0 => out.push_str("     "),
         1 => out.push_str("        "),
@@ -95,15 +107,19 @@ fn push_gap(out: &mut String, width: usize) -> Result<(), AllocError> {
 }
 
 /// Shows the line of an entry with its number, and no LF.
-pub fn push_logged(out: &mut String, logged: &Logged) -> Result<(), AllocError> {
+pub fn push_logged(out: &mut String, logged: &Logged) -> Result<(), AllocError>
+    ensures { OnOk result (string_bytes out.new ≡ string_bytes out.old ++ shown_line logged.now) }
+{
     push_bar(out, logged.line)?;
-    push_entry(out, letter_of(&logged.entry), &logged.entry)
+    push_entry(out, &logged.entry)
 }
 
 /// The same, and the spaces before a note.
-pub fn push_aside(out: &mut String, logged: &Logged) -> Result<(), AllocError> {
+pub fn push_aside(out: &mut String, logged: &Logged) -> Result<(), AllocError>
+    ensures { OnOk result (string_bytes out.new ≡ string_bytes out.old ++ noted_line logged.now) }
+{
     push_bar(out, logged.line)?;
     let before = out.len();
-    push_entry(out, letter_of(&logged.entry), &logged.entry)?;
+    push_entry(out, &logged.entry)?;
     push_gap(out, out.len().saturating_sub(before))
 }

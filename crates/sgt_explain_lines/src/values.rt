@@ -1,6 +1,6 @@
 //! The value of an item, and the line that made it.
 
-ghost use Rattle.std.specs.Prelude.{◌≡◌, Some, None, IfSome, IfNone, option_map, fold};
+ghost use Rattle.std.specs.Prelude.{◌≡◌, Some, None, IfSome, IfNone, option_map, unwrap_or, fold};
 ghost use Rattle.sgt_names.specs.Entry.{change_of};
 ghost use Rattle.sgt_names.specs.Log.{value_in, value_with_any, value_after, value_at};
 ghost use Rattle.sgt_explain_lines.specs.Values.{holdings_of, entries_of, latest, last_change};
@@ -14,6 +14,17 @@ pub struct Made {
     pub value: Value,
     pub listed: u64,
     pub by: Option<Logged>,
+}
+
+/// A value that a line gives an item of its section, and what the item has before that line: its value there and the entry that
+/// made it, and the last line up to which it had the value given, where there is one.
+#[derive(Clone, Copy)]
+pub struct Misvalued {
+    pub site: u8,
+    pub item: Item,
+    pub given: Value,
+    pub made: Made,
+    pub until: Option<u64>,
 }
 
 /// The value that the item is listed with.
@@ -75,7 +86,7 @@ pub fn value_of(section: &Section, item: &Item) -> Option<Made>
 }
 
 /// The last line up to which the item had this value, where it has another one behind the entries of the section.
-pub fn last_had(section: &Section, item: &Item, value: Value) -> Option<u64> {
+fn last_had(section: &Section, item: &Item, value: Value) -> Option<u64> {
     let mut made = initial_of(section.items.as_slice(), item)?;
     let mut last = None;
     for logged in section.entries.as_slice() {
@@ -88,4 +99,25 @@ pub fn last_had(section: &Section, item: &Item, value: Value) -> Option<u64> {
         made = next;
     }
     last
+}
+
+/// What is shown of this value of the item, given behind the entries of the section. `None` where the section lists no such item.
+pub fn value_against(section: &Section, item: &Item, given: Value) -> Option<Misvalued>
+    ensures given { IfSome result (λ m. (m.item ≡ item.now) × (m.given ≡ given)) }
+    ensures site { IfSome result (λ m. m.site ≡ unwrap_or section.now.site 0) }
+    ensures value { IfSome result (λ m.
+        value_at (holdings_of section.now.items.items) (entries_of section.now.entries.items) m.item ≡ Some m.made.value) }
+    ensures by { IfSome result (λ m. m.made.by ≡ last_change m.item section.now.entries.items) }
+    ensures none { IfNone result (value_in (holdings_of section.now.items.items) item.now ≡ None) }
+{
+    match value_of(section, item) {
+        Some(made) => Some(Misvalued {
+            site: section.site_number(),
+            item: *item,
+            given,
+            made,
+            until: last_had(section, item, given),
+        }),
+        None => None,
+    }
 }

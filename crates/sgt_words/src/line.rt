@@ -74,7 +74,9 @@ fn add<'a>(
 }
 
 fn explain_line<'a>(alloc: Global) -> Result<Command<'a>, AllocError> {
-    let rule = Arg::new(alloc, "RULE").help("Says what this rule is, from F1 to F19 or K1 to K4");
+    let rule = Arg::new(alloc, "RULE").help(
+        "Says what F1 to F19 or K1 to K4 is, or a reply's E8, L1 or V9",
+    );
     let tx = Arg::new(alloc, "tx")
         .long("tx")
         .value_name("N")

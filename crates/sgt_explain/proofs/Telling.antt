@@ -1,0 +1,63 @@
+-- What holds of a call that went well, and of what it found.
+use Rattle.std.proofs.Common.{◌≡◌, ℕ, List, [], ◌++◌, inl, inr, subst}
+use Rattle.std.specs.Prelude.{Result, Ok, Err, OnOk, Option, Some, None, IfOk, IfSome, IfNone, IsSomeAnd}
+use Rattle.sgt_audit.specs.declared.verdict.Verdict.{Verdict}
+use Rattle.sgt_audit.specs.declared.verdict.Verdict.TheVariants.{No}
+use Rattle.sgt_audit.specs.declared.faults.Fault.TheVariants as fault
+use Rattle.sgt_audit.specs.Faults.{FirstFault, bytes_of}
+use Rattle.sgt_explain_lines.specs.Told.{read_text, final_text}
+use Rattle.sgt_explain_lines.specs.declared.values.Misvalued.{Misvalued}
+use Rattle.sgt_explain_decisions.specs.Told.{rank_order_text}
+use Rattle.sgt_explain_decisions.specs.declared.order.RanksShown.{RanksShown}
+use Rattle.sgt_explain_steps.specs.Told.{walk_step_text}
+use Rattle.sgt_explain_steps.specs.declared.unmet.Unmet.{Unmet}
+use Rattle.sgt_explain.specs.Explained.{Tells, Means}
+use Rattle.sgt_explain.specs.Shown.{lines_before, decisions_before, ShowsRead, ShowsFinal, ShowsRanks}
+use Rattle.sgt_explain.specs.Steps.{ShowsStep}
+
+pub on-ok : {T E P Q : Type 0} (r : Result T E) → (P → Q) → OnOk r P → OnOk r Q
+on-ok (Ok t) f p = f p
+on-ok (Err e) f p = tt
+
+pub some-if : {A : Type 0} (P : A → Type 0) (o : Option A) (a : A) → o ≡ Some a → IfSome o P → P a
+some-if P o a e h = subst (λ q. IfSome q P) e h
+
+-- ---- what is told of what was found
+
+pub tells-read : (bytes : List ℕ) (n : ℕ) (found : Option (ℕ × Misvalued)) (old new : List ℕ)
+    → ((first : FirstFault bytes n fault.ReadValue) → IsSomeAnd found (λ m. ShowsRead (lines_before first.stage) (bytes_of first.next) m.0 m.1))
+    → IfSome found (λ m. new ≡ old ++ read_text m.0 m.1) → Tells bytes (No n fault.ReadValue) old new
+tells-read bytes n (Some m) old new shows text = λ first. (m.0, m.1, shows first, text)
+tells-read bytes n None old new shows text = λ first. absurd (shows first)
+
+pub tells-final : (bytes : List ℕ) (n : ℕ) (found : Option Misvalued) (old new : List ℕ)
+    → ((first : FirstFault bytes n fault.Final) → IsSomeAnd found (ShowsFinal (lines_before first.stage) (bytes_of first.next)))
+    → IfSome found (λ m. new ≡ old ++ final_text m) → Tells bytes (No n fault.Final) old new
+tells-final bytes n (Some m) old new shows text = λ first. (m, shows first, text)
+tells-final bytes n None old new shows text = λ first. absurd (shows first)
+
+pub tells-ranks : (bytes : List ℕ) (n : ℕ) (found : Option RanksShown) (old new : List ℕ)
+    → ((first : FirstFault bytes n fault.RankOrder) → IfSome found (ShowsRanks (decisions_before first.stage) (lines_before first.stage) (bytes_of first.next) n))
+    → IfSome found (λ m. new ≡ old ++ rank_order_text m) × IfNone found (new ≡ old) → Tells bytes (No n fault.RankOrder) old new
+tells-ranks bytes n (Some m) old new shows text = λ first. inr (m, shows first, text.0)
+tells-ranks bytes n None old new shows text = λ first. inl text.1
+
+pub tells-step : (bytes : List ℕ) (n : ℕ) (found : Option Unmet) (old new : List ℕ)
+    → ((first : FirstFault bytes n fault.WalkStep) → IfSome found (ShowsStep (decisions_before first.stage) (lines_before first.stage) (bytes_of first.next)))
+    → IfSome found (λ u. new ≡ old ++ walk_step_text u) × IfNone found (new ≡ old) → Tells bytes (No n fault.WalkStep) old new
+tells-step bytes n (Some u) old new shows text = λ first. inr (u, shows first, text.0)
+tells-step bytes n None old new shows text = λ first. inl text.1
+
+-- ---- a text that was told, and more behind it
+
+pub if-ok : {T E : Type 0} {P Q : T → Type 0} (r : Result T E) → ((t : T) → P t → Q t) → IfOk r P → IfOk r Q
+if-ok (Ok t) f p = f t p
+if-ok (Err e) f p = tt
+
+pub means-both : (bytes : List ℕ) (v : Verdict) (told more meaning : List ℕ) → Tells bytes v [] told → meaning ≡ told ++ more → Means bytes v meaning
+means-both bytes v told more meaning tells text = record {
+  said = told;
+  more = more;
+  text = text;
+  told = tells;
+}

@@ -1,0 +1,12 @@
+use Rattle.std.proofs.Common.{◌≡◌, ℕ, List, ◌∷◌, ◌++◌, ◌-◌, take, drop, map}
+use Rattle.sgt_notation.specs.Spelling.{line_text, text_of_lines}
+use Rattle.sgt_notation.specs.declared.SectionLine.{SectionLine}
+use Rattle.sgt_explain_lines.specs.Numbered.{HasLine, IsSectionOf}
+use Rattle.sgt_explain_lines.proofs.section.section_before.Given as goal
+
+abbrev pub invariant-loop-line : goal.invariant-loop-line
+invariant-loop-line l = record {
+  left : (before : List SectionLine) (line : SectionLine) (h : HasLine l.bytes l.number before line)
+      → l.rest ≡ text_of_lines (drop (l.line - 3) (map line_text before)) ++ (line_text line ++ 10 ∷ h.rest);
+  kept : (before : List SectionLine) (line : SectionLine) → HasLine l.bytes l.number before line → IsSectionOf (take (l.line - 3) before) l.section;
+}
