@@ -1,11 +1,12 @@
 -- What validity asks of logs without speaking of the certificate.
-use Rattle.std.specs.Prelude.{◌≡◌, List, All}
+use Rattle.std.specs.Prelude.{◌≡◌, ℕ, List, All}
 use Rattle.sgt_names.specs.Entry.{tx_of}
 use Rattle.sgt_names.specs.Log.{IsFormed, ReadsAreLegal, FinalsAreLegal}
 use Rattle.sgt_names.specs.declared.entry.Entry.{Entry}
 use Rattle.sgt_cert.specs.Certificate.{Suits}
 use Rattle.sgt_cert.specs.declared.certificate.Decision.{Decision}
 use Rattle.sgt_cert.specs.declared.bundle.SiteLog.{SiteLog}
+use Rattle.sgt_certify_logs.specs.Certifiable.{SpellsLogs}
 use Rattle.sgt_certify_logs.specs.Witness.{IsIn}
 
 -- some decision suits both entries: they ask for one kind of end
@@ -22,3 +23,7 @@ pub record IsSoundLog (log : SiteLog) : Type 0 where
 pub record AreSound (sites : List SiteLog) : Type 0 where
   pub logs : All IsSoundLog sites
   pub alike : (e f : Entry) → IsIn sites e → IsIn sites f → tx_of e ≡ tx_of f → EndAlike e f
+
+-- the bytes spell logs that are sound
+abbrev pub SpellsSoundLogs : List ℕ → Type 0
+SpellsSoundLogs bytes = (sites : List SiteLog) × SpellsLogs bytes sites × AreSound sites
