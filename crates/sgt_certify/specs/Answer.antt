@@ -10,7 +10,7 @@ use Rattle.sgt_cert.specs.Valid.{IsValid}
 use Rattle.sgt_cert.specs.declared.bundle.SiteLog.{SiteLog}
 use Rattle.sgt_audit.specs.declared.faults.Fault.{Fault}
 use Rattle.sgt_audit.specs.Faults.{fault_number}
-use Rattle.sgt_certify_faults.specs.Faults.{GoesOn, HasFault}
+use Rattle.sgt_certify_faults.specs.Faults.{GoesOn, IsFaultless, IsFirstFault}
 use Rattle.sgt_certify_logs.specs.Certifiable.{HasNoCertificate, IsWithLine, SpellsLogs}
 use Rattle.sgt_certify_logs.specs.Witness.{HaveConflictsInACycle, HaveEndsInACycle, IsStuck}
 use Rattle.sgt_certify.specs.declared.refuting.Refusal.{Refusal}
@@ -40,13 +40,15 @@ Excludes Order sites = HaveEndsInACycle sites
 Excludes Ranks sites = HaveConflictsInACycle sites
 Excludes Walk sites = (decided : List ℕ) × IsStuck sites decided
 
--- the text begins with the line of a refusal, the logs that the bytes spell have what that line says, and so no certificate
+-- the text begins with the line of a refusal, the bytes have no fault, the logs that they spell have what that line says, and so
+-- no certificate
 pub record IsRefused (bytes text : List ℕ) : Type 0 where
   pub refusal : Refusal
   pub lines : List ℕ
   pub told : text ≡ refusal_text refusal ++ lines
   pub sites : List SiteLog
   pub logs : SpellsLogs bytes sites
+  pub faultless : IsFaultless bytes
   pub shown : Excludes refusal sites
   pub none : HasNoCertificate bytes
 
@@ -54,19 +56,19 @@ pub record IsRefused (bytes text : List ℕ) : Type 0 where
 abbrev pub fault_text : (line number : ℕ) → List ℕ
 fault_text line number = codes "no line " ++ (decimal line ++ (codes " F" ++ (decimal number ++ codes "\n")))
 
--- the text is the line of a fault, the bytes have it at that line whatever certificate is put in, and so none makes their logs valid
+-- the text is the line of the first fault that the bytes have whatever certificate is put in, and so none makes their logs valid
 pub record IsFaulty (bytes text : List ℕ) : Type 0 where
   pub line : ℕ
   pub fault : Fault
   pub told : text ≡ fault_text line (fault_number fault)
-  pub shown : HasFault bytes line fault
+  pub shown : IsFirstFault bytes line fault
   pub none : HasNoCertificate bytes
 
--- the text that the bytes are answered by: with a yes the bundle, with a no a refusal, a fault, or that what was found didn't pass its
--- check, which claims nothing
+-- the text that the bytes are answered by: with a yes the bundle, with a no the first fault, or where there is none a refusal, or that
+-- what was found didn't pass its check, which claims nothing else
 abbrev pub IsAnswer : List ℕ → Outcome → List ℕ → Type 0
 IsAnswer bytes Yes text = IsCertified bytes text
-IsAnswer bytes No text = IsRefused bytes text ⊎ (IsFaulty bytes text ⊎ (text ≡ codes "! certify\n"))
+IsAnswer bytes No text = IsRefused bytes text ⊎ (IsFaulty bytes text ⊎ (IsFaultless bytes × (text ≡ codes "! certify\n")))
 IsAnswer bytes Unreadable text = ⊥
 
 -- the text is all that was told, or all that stands in front of a line that is too long

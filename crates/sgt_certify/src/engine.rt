@@ -1,17 +1,17 @@
 //! The certificate of all that a reader gives.
 
-ghost use Rattle.std.specs.Prelude.{◌≡◌, ◌≢◌, ◌<◌, ◌++◌, ℕ, List, Option, Err, IfErr, IfOk, IfSome, IsErrOf, OnErr};
+ghost use Rattle.std.specs.Prelude.{◌≡◌, ◌≢◌, ◌<◌, ◌++◌, ℕ, true, List, Option, Err, IfErr, IfOk, IfSome, IsErrOf, OnErr};
 ghost use Rattle.sgt_notation.specs.Lines.{ReadFaultIsDue};
 ghost use Rattle.sgt_audit.specs.Faults.{fault_number};
 ghost use Rattle.sgt_certify.specs.Answer.{IsAnswer, IsTaken, fault_text, WroteAnswer, WroteAnswerFront};
-ghost use Rattle.sgt_certify_faults.specs.Faults.{GoesOn};
+ghost use Rattle.sgt_certify_faults.specs.Faults.{GoesOn, IsFaultless, IsFirstFault};
 
 use crate::making::certified;
 use crate::refuting::refused;
 use crate::taking::{Taken, take_text};
 use sgt_audit::Fault;
-use sgt_certify_faults::has_fault;
-use sgt_certify_search::{Found, LineFault, find, long_line};
+use sgt_certify_faults::{FirstFault, first_fault};
+use sgt_certify_search::{Found, Reason, find};
 use sgt_names::{EngineFail, Outcome, Sink, Source, write_all};
 use sgt_notation::push_number;
 use std::alloc::{AllocError, Global};
@@ -35,27 +35,9 @@ fn fault_line(alloc: Global, line: usize, fault: Fault) -> Result<Vec<u8>, Alloc
     Ok(text)
 }
 
-/// The auditor's name of a fault.
-fn fault_of(fault: LineFault) -> Fault {
-    match fault {
-        LineFault::Format => Fault::Format,
-        LineFault::Notation => Fault::Notation,
-        LineFault::Section => Fault::Section,
-        LineFault::Item => Fault::Item,
-        LineFault::Twice => Fault::Twice,
-        LineFault::ReadValue => Fault::ReadValue,
-        LineFault::Block => Fault::Block,
-        LineFault::End => Fault::End,
-        LineFault::NotEnded => Fault::NotEnded,
-        LineFault::Final => Fault::Final,
-        LineFault::Truncated => Fault::Truncated,
-        LineFault::Behind => Fault::Trailing,
-    }
-}
-
 /// A no, where what was found didn't pass its check.
 fn unchecked_answer(alloc: Global) -> Result<Answer, AllocError>
-    ensures { IfOk result (λ a. (bytes : List ℕ) → IsAnswer bytes a.outcome a.text.items) }
+    ensures { IfOk result (λ a. (bytes : List ℕ) → IsFaultless bytes → IsAnswer bytes a.outcome a.text.items) }
 {
     Ok(Answer {
         outcome: Outcome::No,
@@ -63,54 +45,70 @@ fn unchecked_answer(alloc: Global) -> Result<Answer, AllocError>
     })
 }
 
-/// A no for a line with a fault, where it passes its check. Behind the text comes nothing more, where that is all, else a line that is
-/// too long.
-fn fault_answer(
-    alloc: Global,
-    text: &[u8],
-    all: bool,
-    line: usize,
-    found: LineFault,
-) -> Result<Answer, AllocError>
-    ensures { IfOk result (λ a. (more : List ℕ) → GoesOn all more → IsAnswer (text.now ++ more) a.outcome a.text.items) }
+/// A no for the first fault of a text.
+fn fault_answer(alloc: Global, first: FirstFault) -> Result<Answer, AllocError>
+    ensures { IfOk result (λ a. (bytes : List ℕ) → IsFirstFault bytes first.line first.fault → IsAnswer bytes a.outcome a.text.items) }
 {
-    let fault = fault_of(found);
-    if !has_fault(alloc, text, all, line, fault)? {
-        return unchecked_answer(alloc);
-    }
     Ok(Answer {
         outcome: Outcome::No,
-        text: fault_line(alloc, line, fault)?,
+        text: fault_line(alloc, first.line, first.fault)?,
     })
+}
+
+/// A no for this reason, if one was found, where it passes its check against the logs of a text that has no fault.
+fn refusal_answer(
+    alloc: Global,
+    text: Vec<u8>,
+    reason: Option<Reason>,
+) -> Result<Answer, EngineFail>
+    requires { IsFaultless text.items }
+    ensures answer { IfOk result (λ a. IsAnswer text.items a.outcome a.text.items) }
+    ensures err { IfErr result (λ e. e ≡ EngineFail.Memory) }
+{
+    let Some(reason) = reason else {
+        return Ok(unchecked_answer(alloc)?);
+    };
+    match refused(alloc, text, &reason)? {
+        Some(text) => Ok(Answer {
+            outcome: Outcome::No,
+            text,
+        }),
+        None => Ok(unchecked_answer(alloc)?),
+    }
+}
+
+/// A no to a text, for its first fault, or else for this reason, if one was found. Behind the text comes nothing more, where that
+/// is all, else a line that is too long.
+fn no_answer(
+    alloc: Global,
+    text: Vec<u8>,
+    all: bool,
+    reason: Option<Reason>,
+) -> Result<Answer, EngineFail>
+    ensures answer { IfOk result (λ a. (more : List ℕ) → GoesOn all more → IsAnswer (text.items ++ more) a.outcome a.text.items) }
+    ensures err { IfErr result (λ e. e ≡ EngineFail.Memory) }
+{
+    match first_fault(alloc, text.as_slice(), all)? {
+        Some(first) => Ok(fault_answer(alloc, first)?),
+        None => refusal_answer(alloc, text, reason),
+    }
 }
 
 /// The answer to a text, by what was found of it.
 fn found_answer(alloc: Global, text: Vec<u8>, found: Found) -> Result<Answer, EngineFail>
-    ensures answer { IfOk result (λ a. IsAnswer text.items a.outcome a.text.items) }
+    ensures answer { IfOk result (λ a. (more : List ℕ) → GoesOn true more → IsAnswer (text.items ++ more) a.outcome a.text.items) }
     ensures err { IfErr result (λ e. e ≡ EngineFail.Memory) }
 {
     match found {
         Found::Certificate(certificate) => match certified(alloc, text, certificate)? {
-            Some(text) => Ok(Answer {
+            Ok(text) => Ok(Answer {
                 outcome: Outcome::Yes,
                 text,
             }),
-            None => Ok(unchecked_answer(alloc)?),
+            Err(text) => no_answer(alloc, text, true, None),
         },
-        Found::Refused(reason) => match refused(alloc, text, &reason)? {
-            Some(text) => Ok(Answer {
-                outcome: Outcome::No,
-                text,
-            }),
-            None => Ok(unchecked_answer(alloc)?),
-        },
-        Found::Fault { line, fault } => Ok(fault_answer(
-            alloc,
-            text.as_slice(),
-            true,
-            line,
-            fault,
-        )?),
+        Found::Refused(reason) => no_answer(alloc, text, true, Some(reason)),
+        Found::Fault => no_answer(alloc, text, true, None),
     }
 }
 
@@ -122,8 +120,7 @@ fn answer_to(alloc: Global, taken: Taken) -> Result<Answer, EngineFail>
 {
     let Taken { text, all } = taken;
     if !all {
-        let (line, fault) = long_line(alloc, text.as_slice())?;
-        return Ok(fault_answer(alloc, text.as_slice(), false, line, fault)?);
+        return no_answer(alloc, text, false, None);
     }
     let found = find(alloc, text.as_slice())?;
     found_answer(alloc, text, found)

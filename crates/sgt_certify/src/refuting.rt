@@ -2,6 +2,7 @@
 
 ghost use Rattle.std.specs.Prelude.{◌≡◌, ◌++◌, IfOk, IfErr, IfSome};
 ghost use Rattle.sgt_certify.specs.Answer.{Excludes, IsRefused, refusal_text};
+ghost use Rattle.sgt_certify_faults.specs.Faults.{IsFaultless};
 ghost use Rattle.sgt_certify_logs.specs.Certifiable.{SpellsLogs};
 
 use crate::making::with_certificate;
@@ -68,8 +69,8 @@ fn logs_of(alloc: Global, text: Vec<u8>, sites: u8) -> Result<Option<Bundle>, En
         decisions: Listed::new(Vec::new(alloc)),
     };
     match with_certificate(alloc, text, empty)? {
-        Some(made) => read_bundle(alloc, made.as_slice()),
-        None => Ok(None),
+        Ok(made) => read_bundle(alloc, made.as_slice()),
+        Err(_) => Ok(None),
     }
 }
 
@@ -82,8 +83,9 @@ fn joined(alloc: Global, head: &[u8], rest: &[u8]) -> Result<Vec<u8>, AllocError
     Ok(text)
 }
 
-/// The text of the reason, where it passes its check against the logs.
+/// The text of the reason, where it passes its check against the logs of a text that has no fault.
 pub fn refused(alloc: Global, text: Vec<u8>, reason: &Reason) -> Result<Option<Vec<u8>>, EngineFail>
+    requires { IsFaultless text.items }
     ensures told { IfOk result (λ told. IfSome told (λ t. IsRefused text.items t.items)) }
     ensures err { IfErr result (λ e. e ≡ EngineFail.Memory) }
 {

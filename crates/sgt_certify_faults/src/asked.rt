@@ -102,7 +102,8 @@ impl Askings {
         self.list.push(Asking {
             tx,
             end: asked_by(entry),
-        })
+        })?;
+        Ok(())
     }
 
     /// A decision on each transaction.
