@@ -1,6 +1,6 @@
 -- What a line keeps whatever the certificate, by what the auditor asks under a certificate of all sites that decides nothing.
-use Rattle.std.proofs.Common.{◌≡◌, ◌≢◌, ℕ, ◌+◌, ◌<◌, List, [], ◌∷◌, ◌++◌, Option, Some, None, refl, sym, ap, ◌∙◌, subst, arith, inl, inr, All, Contains}
-use Rattle.std.specs.Prelude.{◌↔◌}
+use Rattle.std.proofs.Common.{◌≡◌, ◌≢◌, ℕ, ◌+◌, ◌-◌, ◌<◌, List, [], ◌∷◌, ◌++◌, length, Option, Some, None, refl, sym, ap, ◌∙◌, subst, arith, inl, inr, All, Contains}
+use Rattle.std.specs.Prelude.{slice_get}
 use Rattle.std.specs.List.{filter_map}
 use Rattle.std.specs.Option.{ForSome}
 use Rattle.std.specs.List.{last_or}
@@ -25,6 +25,7 @@ use Rattle.sgt_cert.specs.declared.bundle.SiteLog.{SiteLog}
 use Rattle.sgt_audit.specs.declared.faults.Fault.{Fault}
 use Rattle.sgt_audit.specs.declared.faults.Fault.TheVariants as fault
 use Rattle.sgt_audit.specs.Faults.{Breaks, Keeps, entries_in, fault_number, items_in, logged_in}
+use Rattle.sgt_audit.specs.private.Following.{Fits}
 use Rattle.sgt_audit.specs.private.Judging.{ContinuesLog, HasOpen, IsLegalRead, JudgedLine, KeptBelow}
 use Rattle.sgt_audit.proofs.Least.{block-broken, end-broken, item-broken, least-at, twice-broken, value-broken}
 use Rattle.sgt_certify_logs.specs.Sound.{EndAlike}
@@ -226,3 +227,10 @@ module _ (before : List SectionLine) (e : Entry) (log : SiteLog) (o : HasOpen be
               above fault.End lt = (tells.0 active.0, subst (All (λ f. IsEnd f → tx_of f ≢ tx_of e)) (sym o.entries) active.1)
               above fault.DecisionOrder lt = nothing-in_order (entries_in before) e
               above _ lt = tt
+
+-- an item that may stand next in an open log
+pub initial-fits : (before : List SectionLine) (h : Holding) (log : SiteLog) → HasOpen before log → Begins max_sites (before ++ Initial h ∷ []) → Fits log (Initial h) → (f : Fault) → KeepsAlone before (Initial h) f
+initial-fits before h log o begins fits =
+    initial-judged before h begins (λ f last.
+    let at = subst (λ (es : List Entry). slice_get es (length es - 1) ≡ Some f) fits.0 (o.last f last).1 in
+    absurd (omega (arith, slice_get_within [] 0 f at)))

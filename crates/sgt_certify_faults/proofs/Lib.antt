@@ -1,7 +1,9 @@
 pub mod Alone
 pub mod Broken
 pub mod FirstFaults
+pub mod Following
 pub mod KeptAlone
+pub mod Kinds
 pub mod NoCertificate
 pub mod Odds
 pub mod ReadLines

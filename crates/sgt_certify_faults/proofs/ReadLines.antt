@@ -239,3 +239,6 @@ long-first (last l) long short = absurd (omega (arith, short, long))
 
 pub first-long : (text more : List ℕ) → HasNoLf text → (next : Piece) → ComesNext (text ++ more) next → max_line < length (bytes_of next) → IsFirstFault (text ++ more) 1 fault.Format
 first-long text more one next comes long = at-first (text ++ more) next fault.Format comes (record { broken = long-first next long; least = first-kept next })
+
+pub nothing-decided_yet : (ds : List Decision) → All (λ e. (number : ℕ) × IsDecided ds e number) (filter_map logged_in (lines_read (record { sites = max_sites; whole = []; current = None })))
+nothing-decided_yet ds = All-nil (λ e. (number : ℕ) × IsDecided ds e number)

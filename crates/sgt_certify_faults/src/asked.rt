@@ -1,7 +1,8 @@
 //! The kinds of end that the transactions of a text of logs ask for.
 
-ghost use Rattle.std.specs.Prelude.{◌≡◌, ◌∷◌, ◌++◌, [], List, IfOk, OnOk, map};
+ghost use Rattle.std.specs.Prelude.{◌≡◌, ◌∷◌, ◌++◌, [], List, IfOk, OnOk, Some, map, slice_get, slice_set};
 ghost use Rattle.sgt_names.specs.declared.entry.Entry.{Entry};
+ghost use Rattle.sgt_certify_faults.specs.declared.asked.Asking.{Asking};
 ghost use Rattle.sgt_certify_faults.specs.private.Asked.{asked_end, asking_with, AreAskings, IsAskedIn, AreDecidedAsAsked, decision_of};
 
 use crate::lines::split_read;
@@ -76,6 +77,15 @@ impl Asking {
     }
 }
 
+/// One more entry of the transaction that stands at this place.
+fn note_again(list: &mut [Asking], number: usize, entry: &Entry)
+    ensures { (k : Asking) → slice_get list.old number ≡ Some k → list.new ≡ slice_set list.old number (asking_with k entry.now) }
+{
+    if number < list.len() {
+        list[number] = list[number].with(entry);
+    }
+}
+
 impl Askings {
     /// Those of no entry.
     fn new(alloc: Global) -> Askings
@@ -93,9 +103,7 @@ impl Askings {
     {
         let tx = entry.tx();
         if let Some(number) = self.numbers.get(&tx) {
-            if let Some(asking) = self.list.get_mut(*number) {
-                *asking = asking.with(entry);
-            }
+            note_again(self.list.as_mut_slice(), *number, entry);
             return Ok(());
         }
         self.numbers.insert(tx, self.list.len())?;

@@ -9,7 +9,7 @@ ghost use Rattle.sgt_audit.specs.Faults.{Breaks, IsLineIn, Piece, last, bytes_of
 ghost use Rattle.sgt_audit.specs.Kept.{IsPlace, Tracks};
 ghost use Rattle.sgt_audit.specs.Reading.{Begun, IsBegun, lines_read};
 ghost use Rattle.sgt_audit.specs.private.Known.{IsKnownLine};
-ghost use Rattle.sgt_certify_faults.specs.Faults.{KeepsAlone, RuleAlone, behind};
+ghost use Rattle.sgt_certify_faults.specs.Faults.{AreAll, KeepsAlone, RuleAlone, behind};
 ghost use Rattle.sgt_certify_faults.specs.private.Asked.{AreDecidedAsAsked};
 ghost use Rattle.sgt_certify_faults.specs.private.Judging.{IsJudged, TellsLineOdds};
 ghost use Rattle.sgt_certify_faults.specs.private.Reading.{Follows, HasRead};
@@ -59,7 +59,8 @@ impl Reading {
     /// The next line, which is one of the format.
     fn follow(&mut self, decided: &Decided, line: &SectionLine) -> Result<Option<Fault>, AllocError>
         ensures { IfOk result (λ fault. (second : Bool) (bytes rest more : List ℕ) (count : ℕ)
-            → AreDecidedAsAsked second bytes decided.now.decisions → HasRead second decided.now.decisions bytes count self.old rest
+            → AreDecidedAsAsked second bytes decided.now.decisions
+            → (read : HasRead second decided.now.decisions bytes count self.old rest) → (AreAll (lines_read read.sections) → ⊥)
             → IsLineIn second line.now → rest ≡ line_text line.now ++ 10 ∷ more
             → Follows second decided.now.decisions bytes count self.old self.new rest (line_text line.now) more fault) }
     {
@@ -79,9 +80,9 @@ impl Reading {
         second: bool,
         line: &[u8],
     ) -> Result<Option<Fault>, AllocError>
-        ensures { IfOk result (λ fault. (bytes rest more : List ℕ) (count : ℕ)
-            → AreDecidedAsAsked second bytes decided.now.decisions → HasRead second decided.now.decisions bytes count self.old rest
-            → rest ≡ line.now ++ 10 ∷ more → Follows second decided.now.decisions bytes count self.old self.new rest line.now more fault) }
+        ensures { IfOk result (λ fault. (bytes rest more : List ℕ) (count : ℕ) → AreDecidedAsAsked second bytes decided.now.decisions
+            → HasRead second decided.now.decisions bytes count self.old rest → rest ≡ line.now ++ 10 ∷ more
+            → Follows second decided.now.decisions bytes count self.old self.new rest line.now more fault) }
     {
         if self.place.is_complete() {
             return Ok(Some(Fault::Trailing));
