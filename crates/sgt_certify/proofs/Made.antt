@@ -1,8 +1,11 @@
 -- What a text with a line put in shows of the bytes without it.
-use Rattle.std.proofs.Common.{◌≡◌, ℕ, Bool, true, List, [], ◌∷◌, ◌++◌, Option, Some, None, IfSome, refl, sym, ap, ◌∙◌, subst, inl, inr, append_assoc}
+use Rattle.std.proofs.Common.{◌≡◌, ℕ, Bool, true, List, [], ◌∷◌, ◌++◌, Option, Some, None, IfSome, refl, sym, ap, ap₂, ◌∙◌, subst, inl, inr, append_assoc}
 use Rattle.std.proofs.lemmas.List.{append-nil}
 use Rattle.sgt_names.specs.declared.outcome.Outcome.{Outcome}
 use Rattle.sgt_names.specs.declared.outcome.Outcome.TheVariants.{No}
+use Rattle.sgt_notation.specs.Spelling.{HasNoLf}
+use Rattle.sgt_notation.proofs.OneSpelling.{cut_at_byte}
+use Rattle.sgt_audit.proofs.OneFault.{has_lf, no_lf}
 use Rattle.sgt_cert.specs.Parts.{Parts}
 use Rattle.sgt_cert.specs.Text.{Spells}
 use Rattle.sgt_cert.specs.Valid.{IsValid}
@@ -14,7 +17,7 @@ use Rattle.sgt_certify_logs.proofs.Inserted.{logs-one, with-logs}
 use Rattle.sgt_certify_logs.proofs.Stuck.{stuck-none}
 use Rattle.sgt_audit.specs.declared.faults.Fault.{Fault}
 use Rattle.sgt_audit.specs.Faults.{fault_number}
-use Rattle.sgt_certify_faults.specs.Faults.{GoesOn, HasFault}
+use Rattle.sgt_certify_faults.specs.Faults.{GoesOn, IsFirstFault}
 use Rattle.sgt_certify_faults.proofs.NoCertificate.{fault-none}
 use Rattle.sgt_certify.specs.Answer.{Excludes, IsAnswer, IsCertified, IsTaken, fault_text}
 use Rattle.sgt_certify.specs.declared.refuting.Refusal.{Refusal}
@@ -58,11 +61,25 @@ pub whole-answer : (text written : List ℕ) (outcome : Outcome) → IsAnswer te
 whole-answer text written outcome answer more none =
     subst (λ t. IsAnswer t outcome written) (sym (ap (λ (t : List ℕ). text ++ t) none ∙ append-nil text)) answer
 
-pub alone-answer : (text written : List ℕ) (outcome : Outcome) → ((more : List ℕ) → GoesOn true more → IsAnswer (text ++ more) outcome written) → IsAnswer text outcome written
-alone-answer text written outcome answer = subst (λ t. IsAnswer t outcome written) (append-nil text) (answer [] refl)
+-- the first fault that the bytes have
+pub faulty-answer : (bytes written : List ℕ) (line : ℕ) (fault : Fault) → IsFirstFault bytes line fault → written ≡ fault_text line (fault_number fault) → IsAnswer bytes No written
+faulty-answer bytes written line fault shown told =
+    inr (inl (record { line = line; fault = fault; told = told; shown = shown; none = fault-none bytes line fault shown.has }))
 
--- a fault that the bytes have at the line told
-pub faulty-answer : (text more written : List ℕ) (line : ℕ) (fault : Fault) → HasFault (text ++ more) line fault → written ≡ fault_text line (fault_number fault)
-    → IsAnswer (text ++ more) No written
-faulty-answer text more written line fault shown told =
-    inr (inl (record { line = line; fault = fault; told = told; shown = shown; none = fault-none (text ++ more) line fault shown }))
+-- ---- the text again
+
+-- a text with a line put in is that text, where its second line is taken out
+pub without-line : (bytes line made first behind second rest : List ℕ) → IsWithLine bytes line made → HasNoLf first → made ≡ first ++ 10 ∷ behind → HasNoLf second → behind ≡ second ++ 10 ∷ rest
+    → first ++ 10 ∷ rest ≡ bytes
+without-line bytes line made first behind second rest w one cut two cut_behind =
+    let outer = cut_at_byte 10 first w.front behind (line ++ 10 ∷ w.rest) (no_lf first one) (no_lf w.front w.first) (sym cut ∙ w.made) in
+    let inner = cut_at_byte 10 second line rest w.rest (no_lf second two) (no_lf line w.one) (sym cut_behind ∙ outer.1) in
+    ap₂ (λ (f r : List ℕ). f ++ 10 ∷ r) outer.0 inner.1 ∙ sym w.given
+
+pub no-first : (bytes line made : List ℕ) → IsWithLine bytes line made → HasNoLf made → ⊥
+no-first bytes line made w none = has_lf w.front (line ++ 10 ∷ w.rest) (subst HasNoLf w.made none)
+
+pub no-second : (bytes line made first behind : List ℕ) → IsWithLine bytes line made → HasNoLf first → made ≡ first ++ 10 ∷ behind → HasNoLf behind → ⊥
+no-second bytes line made first behind w one cut none =
+    let outer = cut_at_byte 10 first w.front behind (line ++ 10 ∷ w.rest) (no_lf first one) (no_lf w.front w.first) (sym cut ∙ w.made) in
+    has_lf line w.rest (subst HasNoLf outer.1 none)

@@ -3,7 +3,7 @@ pub mod Broken
 pub mod FirstFaults
 pub mod Following
 pub mod KeptAlone
-pub mod Kinds
+pub mod Noted
 pub mod NoCertificate
 pub mod Odds
 pub mod ReadLines

@@ -1,5 +1,5 @@
 use Rattle.std.proofs.Common.{length}
-use Rattle.sgt_certify_faults.proofs.Kinds.{IsAskedTo}
+use Rattle.sgt_certify_faults.proofs.Noted.{IsAskedTo}
 use Rattle.sgt_certify_faults.proofs.asked.askings_of.Given as goal
 
 abbrev pub invariant-lines : goal.invariant-lines
