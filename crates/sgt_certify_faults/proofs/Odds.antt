@@ -28,7 +28,7 @@ use Rattle.sgt_certify_faults.specs.declared.asked.Asked.{Asked}
 use Rattle.sgt_certify_faults.specs.declared.asked.Asked.TheVariants as asked
 use Rattle.sgt_certify_faults.specs.declared.asked.Asking.{Asking}
 use Rattle.sgt_certify_faults.specs.declared.asked.Askings.{Askings}
-use Rattle.sgt_certify_faults.specs.private.Asked.{AreAskings, AreDecidedAsAsked, AreInFront, AsksAsDecided, asked_end, asking_with, decision_of, decision_with, end_by, first_end, first_of}
+use Rattle.sgt_certify_faults.specs.private.Asked.{AreAskings, AreDecidedAsAsked, AsksAsDecided, IsAskedIn, asked_end, asking_with, decision_of, decision_with, end_by, first_end, first_of}
 use Rattle.sgt_certify_faults.specs.private.Judging.{TellsOdds}
 use Rattle.sgt_certify_faults.proofs.FirstFaults.{Beyond, compare, spelled-lines}
 
@@ -255,3 +255,12 @@ module _ (second : Bool) (bytes : List ℕ) (ds : List Decision) (are : AreDecid
           | inr odds ↦ absurd (odds (subst (All (λ f. tx_of f ≡ tx_of e → EndAlike f e)) (sym earlier) all))
         ],
       )
+
+-- the decisions of the transactions that were asked
+pub decided-as_asked : (second : Bool) (bytes : List ℕ) (a : Askings) → IsAskedIn second bytes a → AreDecidedAsAsked second bytes (map decision_of a.list.items)
+decided-as_asked second bytes a (lines, front, are) = record {
+  once = decided-once (filter_map logged_in lines) a are;
+  lines = lines;
+  front = front;
+  asks = asks-decided (filter_map logged_in lines) a are;
+}

@@ -1,7 +1,9 @@
 //! The kinds of end that the transactions of a text of logs ask for.
 
 ghost use Rattle.std.specs.Prelude.{◌≡◌, ◌∷◌, ◌++◌, [], List, IfOk, OnOk, Some, map, slice_get, slice_set};
+ghost use Rattle.std.specs.List.{filter_map};
 ghost use Rattle.sgt_names.specs.declared.entry.Entry.{Entry};
+ghost use Rattle.sgt_audit.specs.Faults.{logged_in};
 ghost use Rattle.sgt_certify_faults.specs.declared.asked.Asking.{Asking};
 ghost use Rattle.sgt_certify_faults.specs.private.Asked.{asked_end, asking_with, AreAskings, IsAskedIn, AreDecidedAsAsked, decision_of};
 
@@ -114,6 +116,17 @@ impl Askings {
         Ok(())
     }
 
+    /// One more line.
+    fn add_line(&mut self, line: &SectionLine) -> Result<(), AllocError>
+        ensures { OnOk result ((entries : List Entry) → AreAskings entries self.old
+            → AreAskings (entries ++ filter_map logged_in (line.now ∷ [])) self.new) }
+    {
+        match line {
+            SectionLine::Logged(entry) => self.add(entry),
+            _ => Ok(()),
+        }
+    }
+
     /// A decision on each transaction.
     fn decisions(&self, alloc: Global) -> Result<Vec<Decision>, AllocError>
         ensures { IfOk result (λ decisions. decisions.items ≡ map decision_of self.now.list.items) }
@@ -133,9 +146,7 @@ fn askings_of(alloc: Global, second: bool, bytes: &[u8]) -> Result<Askings, Allo
     let mut askings = Askings::new(alloc);
     let mut rest = bytes;
     'lines: while let Some((line, behind)) = split_read(second, rest) {
-        if let SectionLine::Logged(entry) = &line {
-            askings.add(entry)?;
-        }
+        askings.add_line(&line)?;
         rest = behind;
     }
     Ok(askings)

@@ -1,9 +1,10 @@
 //! The lines of a text of logs, one by one.
 
-ghost use Rattle.std.specs.Prelude.{◌≡◌, ◌<◌, ◌∷◌, ◌++◌, ℕ, List, Bool, IfOk, length};
+ghost use Rattle.std.specs.Prelude.{◌≡◌, ◌<◌, ◌∷◌, ◌++◌, [], ℕ, List, Bool, IfOk, IfSome, IfNone, length};
 ghost use Rattle.sgt_names.specs.Limits.{max_sites};
 ghost use Rattle.sgt_notation.specs.Limits.{max_line};
 ghost use Rattle.sgt_notation.specs.Spelling.{line_text};
+ghost use Rattle.sgt_cert.specs.Text.{AreSections};
 ghost use Rattle.sgt_cert.specs.declared.certificate.Decision.{Decision};
 ghost use Rattle.sgt_audit.specs.Faults.{Breaks, IsLineIn, Piece, last, bytes_of};
 ghost use Rattle.sgt_audit.specs.Kept.{IsPlace, Tracks};
@@ -95,8 +96,10 @@ impl Reading {
 
     /// The least fault of the end of the input, with these bytes behind the last LF, if it has one.
     pub fn end(&self, rest: &[u8]) -> Option<Fault>
-        ensures { (b : Begun) (second : Bool) → b.sites ≡ max_sites → IsBegun b → IsPlace b self.now.place
-            → IsJudged (RuleAlone (behind second (lines_read b)) (last rest.now)) result }
+        ensures some { IfSome result (λ fault. (b : Begun) (second : Bool) → b.sites ≡ max_sites → IsBegun b → IsPlace b self.now.place
+            → Breaks (RuleAlone (behind second (lines_read b)) (last rest.now)) fault) }
+        ensures none { IfNone result ((b : Begun) → b.sites ≡ max_sites → IsBegun b → IsPlace b self.now.place
+            → (rest.now ≡ []) × ((count : ℕ) × AreSections count (lines_read b))) }
     {
         if self.place.is_complete() {
             return if rest.is_empty() {
