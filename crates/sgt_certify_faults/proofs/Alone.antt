@@ -169,7 +169,7 @@ nothing-in_order : (entries : List Entry) (e : Entry) → All (λ f. EndInOrder 
 nothing-in_order entries e = All-from_at (λ f. EndInOrder [] f e) entries (λ n f at first second i j by other. absurd (omega (arith, slice_get_within [] i by.0 by.1)))
 
 nothing-decided : (e : Entry) → (number : ℕ) × IsDecided [] e number → ⊥
-nothing-decided e (n, d, at, is, suits) = absurd (omega (arith, slice_get_within [] n d at))
+nothing-decided e by = absurd (omega (arith, slice_get_within [] by.0 by.1.0 by.1.1))
 
 module _ (before : List SectionLine) (e : Entry) (log : SiteLog) (o : HasOpen before log) (begins : Begins max_sites (before ++ Logged e ∷ [])) where
   abbrev rule : Fault → Type 0

@@ -133,7 +133,7 @@ first-cons [] ys = refl
 first-cons (x ∷ xs) ys = refl
 
 first-append : (tx : ℕ) (xs ys : List Entry) → first_end tx (xs ++ ys) ≡ first_of (first_end tx xs) (first_end tx ys)
-first-append tx xs ys = ap (λ (as : List Asked). slice_get as 0) (filter_map-append (end_by tx) xs ys) ∙ first-cons (filter_map (end_by tx) xs) (filter_map (end_by tx) ys)
+first-append tx xs ys = ap (λ (kinds : List Asked). slice_get kinds 0) (filter_map-append (end_by tx) xs ys) ∙ first-cons (filter_map (end_by tx) xs) (filter_map (end_by tx) ys)
 
 first-single : (o : Option Asked) → slice_get (cons_option o []) 0 ≡ o
 first-single None = refl
@@ -154,7 +154,7 @@ pub first-others : (tx : ℕ) (es : List Entry) (e : Entry) → tx_of e ≢ tx �
 first-others tx es e other = first-append tx es (e ∷ []) ∙ ap (first_of (first_end tx es)) (first-one tx e ∙ end-other tx e other) ∙ first_of-none (first_end tx es)
 
 pub first-none : (tx : ℕ) (es : List Entry) → ((n : ℕ) (e : Entry) → slice_get es n ≡ Some e → tx_of e ≢ tx) → first_end tx es ≡ None
-first-none tx es never = ap (λ (as : List Asked). slice_get as 0) (filter_map-none (end_by tx) es (λ n e at. end-other tx e (never n e at)))
+first-none tx es never = ap (λ (kinds : List Asked). slice_get kinds 0) (filter_map-none (end_by tx) es (λ n e at. end-other tx e (never n e at)))
 
 -- a decision of the kind that is asked for first suits each entry, or an earlier one asks for another kind
 first-decides : (es : List Entry) (n : ℕ) (e : Entry) → slice_get es n ≡ Some e
@@ -235,11 +235,12 @@ module _ (second : Bool) (bytes : List ℕ) (ds : List Decision) (are : AreDecid
 
   alike-decided : (earlier : List Entry) (e : Entry) → All (λ f. (number : ℕ) × IsDecided ds f number) earlier → (number : ℕ) × IsDecided ds e number
       → All (λ f. tx_of f ≡ tx_of e → EndAlike f e) earlier
-  alike-decided earlier e all (n, d, at, is, suits) = All-weaken (λ f. (number : ℕ) × IsDecided ds f number) (λ f. tx_of f ≡ tx_of e → EndAlike f e) earlier (λ f by same.
-      let m = by in
-      let one = one-number ds (tx_of e) m.0 n are.once (m.1.0, m.1.1, m.1.2 ∙ same) (d, at, is) in
-      let same_d = same_Some m.1.0 d (sym m.1.1 ∙ ap (slice_get ds) one ∙ at) in
-      (d, subst (Suits f) same_d m.1.3, suits)) all
+  alike-decided earlier e all by =
+      let d = by.1.0 in
+      All-weaken (λ f. (number : ℕ) × IsDecided ds f number) (λ f. tx_of f ≡ tx_of e → EndAlike f e) earlier (λ f m same.
+      let one = one-number ds (tx_of e) m.0 by.0 are.once (m.1.0, m.1.1, m.1.2 ∙ same) (d, by.1.1, by.1.2) in
+      let same_d = same_Some m.1.0 d (sym m.1.1 ∙ ap (slice_get ds) one ∙ by.1.1) in
+      (d, subst (Suits f) same_d m.1.3, by.1.3)) all
 
   pub tells-odds : (before : List SectionLine) (e : Entry) (rest : List ℕ) → All (IsLineIn second) (before ++ Logged e ∷ []) → bytes ≡ text_of_lines (map line_text (before ++ Logged e ∷ [])) ++ rest
       → All (λ f. (number : ℕ) × IsDecided ds f number) (filter_map logged_in before) → TellsOdds ds before e

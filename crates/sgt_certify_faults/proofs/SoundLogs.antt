@@ -1,5 +1,5 @@
 -- Sections whose lines keep every rule are those of sound logs.
-use Rattle.std.proofs.Common.{◌≡◌, ◌≢◌, ℕ, suc, ◌+◌, ◌<◌, Bool, List, [], ◌∷◌, ◌++◌, map, take, length, Option, Some, None, refl, sym, ap, ap₂, ◌∙◌, subst, arith, inl, inr, IsTrue, All, AllPairs, Contains}
+use Rattle.std.proofs.Common.{◌≡◌, ◌≢◌, ℕ, zero, suc, ◌+◌, ◌<◌, Bool, List, [], ◌∷◌, ◌++◌, map, take, length, Option, Some, None, refl, sym, ap, ap₂, ◌∙◌, subst, arith, inl, inr, IsTrue, All, AllPairs, Contains}
 use Rattle.std.specs.Prelude.{slice_get}
 use Rattle.std.specs.Option.{ForSome}
 use Rattle.std.specs.List.{last_or, filter_map, cons_option}
@@ -72,7 +72,7 @@ cut-more h x xs n y None is more at =
     let c = more n at in
     record { x = c.x; earlier = x ∷ c.earlier; later = c.later; cut = ap (λ ys. x ∷ ys) c.cut; made = c.made;
       front = ap (λ o. cons_option o (filter_map h c.earlier)) is ∙ c.front ∙ ap (λ o. take n (cons_option o (filter_map h xs))) (sym is) }
-cut-more h x xs 0 y (Some z) is more at =
+cut-more h x xs zero y (Some z) is more at =
     record { x = x; earlier = []; later = xs; cut = refl; made = is ∙ at; front = refl }
 cut-more h x xs (suc n) y (Some z) is more at =
     let c = more n at in
@@ -92,7 +92,7 @@ logged-line _ e same = absurd (none-some e same)
 among : (k : ℕ) (logs : List SiteLog) (s : ℕ) (log : SiteLog) (n : ℕ) (e : Entry) → slice_get logs s ≡ Some log → slice_get log.entries n ≡ Some e
     → (m : ℕ) × (slice_get (filter_map logged_in (sections_from k logs)) m ≡ Some e)
 among k [] s log n e at here = absurd (none-some log at)
-among k (l ∷ logs) 0 log n e at here =
+among k (l ∷ logs) zero log n e at here =
     let same = same_Some l log at in
     let own = subst (λ (g : SiteLog). slice_get g.entries n ≡ Some e) (sym same) here in
     (n, ap (λ es. slice_get es n) (section-logged k l (sections_from (suc k) logs)) ∙ front_at l.entries (filter_map logged_in (sections_from (suc k) logs)) n e own)

@@ -4,12 +4,14 @@ ghost use Rattle.std.specs.Prelude.{◌≡◌, ◌∷◌, ◌++◌, ℕ, List, I
 ghost use Rattle.sgt_notation.specs.Spelling.{HasNoLf};
 ghost use Rattle.sgt_cert.specs.Text.{format_line};
 ghost use Rattle.sgt_certify_faults.specs.Faults.{GoesOn, IsFaultless, IsFirstFault};
+ghost use Rattle.sgt_certify_faults.specs.private.Asked.{AreDecidedAsAsked};
 ghost use Rattle.sgt_certify_logs.specs.Sound.{SpellsSoundLogs};
 
 use crate::asked::decided_as_asked;
 use crate::lines::{read_format, split_line};
 use crate::reading::Reading;
 use sgt_audit::Fault;
+use sgt_decided::Decided;
 use sgt_notation::MAX_LINE;
 use std::alloc::{AllocError, Global};
 
@@ -31,24 +33,25 @@ fn fault_of_end(text: &[u8], all: bool) -> Fault
     }
 }
 
-/// The first fault behind the first line.
+/// The first fault behind the first line, by a decision on each transaction.
 fn fault_behind(
     alloc: Global,
+    decided: &Decided,
     second: bool,
     bytes: &[u8],
     all: bool,
 ) -> Result<Option<FirstFault>, AllocError>
+    requires { AreDecidedAsAsked second bytes.now decided.now.decisions }
     ensures found { IfOk result (λ found. IfSome found (λ first. (more : List ℕ) → GoesOn all more
         → IsFirstFault (format_line second ++ 10 ∷ (bytes.now ++ more)) first.line first.fault)) }
     ensures none { IfOk result (λ found. IfNone found (IsTrue all × IsFaultless (format_line second ++ 10 ∷ bytes.now)
         × SpellsSoundLogs (format_line second ++ 10 ∷ bytes.now))) }
 {
-    let decided = decided_as_asked(alloc, second, bytes)?;
-    let mut reading = Reading::new(alloc, &decided)?;
+    let mut reading = Reading::new(alloc, decided)?;
     let mut rest = bytes;
     let mut line: usize = 2;
     'lines: while let Some((next, more)) = split_line(rest) {
-        if let Some(fault) = reading.next(&decided, second, next)? {
+        if let Some(fault) = reading.next(decided, second, next)? {
             return Ok(Some(FirstFault { line, fault }));
         }
         rest = more;
@@ -80,11 +83,12 @@ pub fn first_fault(
         let fault = fault_of_end(text, all);
         return Ok(Some(FirstFault { line: 1, fault }));
     };
-    match read_format(first) {
-        Some(second) => fault_behind(alloc, second, behind, all),
-        None => Ok(Some(FirstFault {
+    let Some(second) = read_format(first) else {
+        return Ok(Some(FirstFault {
             line: 1,
             fault: Fault::Format,
-        })),
-    }
+        }));
+    };
+    let decided = decided_as_asked(alloc, second, behind)?;
+    fault_behind(alloc, &decided, second, behind, all)
 }

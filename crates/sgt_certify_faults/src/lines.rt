@@ -60,7 +60,11 @@ pub fn split_read(second: bool, bytes: &[u8]) -> Option<(SectionLine, &[u8])>
     ensures none { IfNone result ((line : SectionLine) (more : List ℕ) → IsLineIn second line
         → bytes.now ≡ line_text line ++ 10 ∷ more → ⊥) }
 {
-    let (line, behind) = split_line(bytes)?;
-    let read = read_line(second, line)?;
-    Some((read, behind))
+    let Some((line, behind)) = split_line(bytes) else {
+        return None;
+    };
+    match read_line(second, line) {
+        Some(read) => Some((read, behind)),
+        None => None,
+    }
 }
