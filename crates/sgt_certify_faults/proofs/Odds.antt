@@ -119,14 +119,17 @@ end-of tx e a by =
     ]
 
 -- who asks for it
-first-asker : (tx : ℕ) (es : List Entry) (a : Asked) → first_end tx es ≡ Some a → (n : ℕ) × (f : Entry) × (slice_get es n ≡ Some f) × (tx_of f ≡ tx) × (asked_end f ≡ Some a)
+abbrev Asker : ℕ → List Entry → Asked → Type 0
+Asker tx es a = (n : ℕ) × ((f : Entry) × (slice_get es n ≡ Some f) × (tx_of f ≡ tx) × (asked_end f ≡ Some a))
+
+later-asker : (tx : ℕ) (e : Entry) (es : List Entry) (a : Asked) → (first_end tx es ≡ Some a → Asker tx es a) → (o : Option Asked) → end_by tx e ≡ o
+    → slice_get (cons_option o (filter_map (end_by tx) es)) 0 ≡ Some a → Asker tx (e ∷ es) a
+later-asker tx e es a later None by at = let more = later at in (suc more.0, more.1)
+later-asker tx e es a later (Some b) by at = let own = end-of tx e a (by ∙ at) in (0, (e, refl, own.0, own.1))
+
+first-asker : (tx : ℕ) (es : List Entry) (a : Asked) → first_end tx es ≡ Some a → Asker tx es a
 first-asker tx [] a first = absurd (none-some a first)
-first-asker tx (e ∷ es) a first = from (end_by tx e) refl first
-  where
-    from : (o : Option Asked) → end_by tx e ≡ o → slice_get (cons_option o (filter_map (end_by tx) es)) 0 ≡ Some a
-        → (n : ℕ) × (f : Entry) × (slice_get (e ∷ es) n ≡ Some f) × (tx_of f ≡ tx) × (asked_end f ≡ Some a)
-    from None by at = let more = first-asker tx es a at in (suc more.0, more.1, more.2, more.3, more.4)
-    from (Some b) by at = let own = end-of tx e a (by ∙ at) in (0, e, refl, own.0, own.1)
+first-asker tx (e ∷ es) a first = later-asker tx e es a (λ at. first-asker tx es a at) (end_by tx e) refl first
 
 first-cons : (xs ys : List Asked) → slice_get (xs ++ ys) 0 ≡ first_of (slice_get xs 0) (slice_get ys 0)
 first-cons [] ys = refl
@@ -184,7 +187,7 @@ first-decides es n e at = from (asked_end e) refl
               | inl same ↦ inl (subst (λ o. Suits e (decision_with tx o)) (asks ∙ ap Some (sym same) ∙ sym whole) (asked-suits e tx))
               | inr apart ↦ inr (λ all.
                   let f = first-asker tx (take n es) a before in
-                  apart (alike-asked f.1 e a b f.4 asks (All_at (λ f. tx_of f ≡ tx → EndAlike f e) (take n es) f.0 f.1 all f.2 f.3)))
+                  apart (alike-asked f.1.0 e a b f.1.3 asks (All_at (λ f. tx_of f ≡ tx → EndAlike f e) (take n es) f.0 f.1.0 all f.1.1 f.1.2)))
             ]
 
 -- ---- what is kept of the transactions
@@ -214,7 +217,7 @@ module _ (es : List Entry) (a : Askings) (are : AreAskings es a) where
       let there : slice_get ds number.0 ≡ Some (decision_of k.0) = slice_get-map decision_of a.list.items number.0 ∙ ap (option_map decision_of) k.1 in
       let ends = are.ends number.0 k.0 k.1 ∙ ap (λ t. first_end t es) k.2 in
       elim (first-decides es n e at) [
-        | inl suits ↦ inl (number.0, decision_of k.0, there, decided-with k.0.tx k.0.end ∙ k.2, subst (Suits e) (ap₂ decision_with (sym k.2) (sym ends)) suits)
+        | inl suits ↦ inl (number.0, (decision_of k.0, there, decided-with k.0.tx k.0.end ∙ k.2, subst (Suits e) (ap₂ decision_with (sym k.2) (sym ends)) suits))
         | inr odds ↦ inr odds
       ]
 

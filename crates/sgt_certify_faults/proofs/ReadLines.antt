@@ -1,6 +1,6 @@
 -- Lines of logs that were read, and what follows them.
 use Rattle.std.proofs.Common.{◌≡◌, ◌≢◌, ℕ, suc, ◌+◌, ◌<◌, ◌≤◌, Bool, true, false, List, [], ◌∷◌, ◌++◌, length, map, Option, Some, None, refl, sym, ap, ◌∙◌, subst, arith, append_assoc, inl, inr, take, drop, ◌-◌, All, Contains}
-use Rattle.std.specs.Prelude.{slice_get}
+use Rattle.std.specs.Prelude.{slice_get, IfNone}
 use Rattle.std.specs.List.{filter_map}
 use Rattle.std.specs.Option.{ForSome}
 use Rattle.std.proofs.lemmas.Bool.{cases_order}
@@ -247,3 +247,7 @@ nothing-decided_yet ds = All-nil (λ e. (number : ℕ) × IsDecided ds e number)
 pub format-text : (second : Bool) (text line after more : List ℕ) → text ≡ line ++ 10 ∷ after → line ≡ format_line second → text ++ more ≡ format_line second ++ 10 ∷ (after ++ more)
 format-text second text line after more cut says =
     ap (λ (t : List ℕ). t ++ more) (cut ∙ ap (λ (l : List ℕ). l ++ 10 ∷ after) says) ∙ append_assoc (format_line second) (10 ∷ after) more
+
+pub none-weaker : {A : Type 0} (o : Option A) (P Q : Type 0) → (P → Q) → IfNone o P → IfNone o Q
+none-weaker None P Q f h = f h
+none-weaker (Some x) P Q f h = tt

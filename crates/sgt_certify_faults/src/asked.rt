@@ -108,7 +108,8 @@ impl Askings {
             note_again(self.list.as_mut_slice(), *number, entry);
             return Ok(());
         }
-        self.numbers.insert(tx, self.list.len())?;
+        let number = self.list.as_slice().len();
+        self.numbers.insert(tx, number)?;
         self.list.push(Asking {
             tx,
             end: asked_by(entry),
