@@ -15,7 +15,7 @@ pub lines-preserved : goal.lines-preserved
 lines-preserved c =
     let inv = c.lines.invariant in
     let split = c.in-Some.ensures.some in
-    let next = rw c.in_default.is at (c.in_ok-fault.ensures _ _ _ _ c.requires inv.2 split.1) in (
+    let next = rw c.in_default-2.is at (c.in_ok-fault.ensures _ _ _ _ c.requires inv.2 split.1) in (
       omega (arith, inv.0),
       omega (arith, inv.1, ap length split.1, length-append c.in-Some.next.now (10 ∷ c.in-Some.more.now)),
       subst (λ n. HasRead c.args.second c.args.decided.now.decisions c.args.bytes.now n c.next.new.self c.in-Some.more.now) (omega (arith, inv.0)) next,
@@ -35,7 +35,7 @@ returns-then-not-all-clause-found c more goes =
     let h = inv.2 in
     let next = long-next _ more c.in_default.ensures.none (subst (λ a. GoesOn a more) c.if-not-all.true goes) in
     behind-first c.args.second c.args.bytes.now more _ h.sections _ h.read next.0 _ next.1
-    (c.too_long.ensures h.sections c.args.second next.0 h.read.sites h.read.begun h.place next.2) c.lines.line (omega (arith, inv.0))
+    (c.too_long-fault.ensures h.sections c.args.second next.0 h.read.sites h.read.begun h.place next.2) c.lines.line (omega (arith, inv.0))
 
 pub returns-in-Some-end-clause-found : goal.returns-in-Some-end-clause-found
 returns-in-Some-end-clause-found c more goes =
