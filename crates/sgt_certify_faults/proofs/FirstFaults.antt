@@ -114,8 +114,10 @@ module _ (second : Bool) (xs : List SectionLine) (r : List ℕ) (p : Piece) (kep
       elim (compare xs ys r s (kept-lines second xs kept) (spelled-lines second ys each) e) [
         | inl both ↦
             let next = one_piece s q p goes (subst (λ t. ComesNext t p) both.1 comes) in
-            inl (number ∙ ap (λ zs. length (lines_of (behind second zs)) + 1) (sym both.0),
-              λ rule. broken (subst (λ zs. RuleAlone (behind second zs) q g) both.0 (subst (λ n. RuleAlone (behind second xs) n g) (sym next) rule)))
+            inl (
+              number ∙ ap (λ zs. length (lines_of (behind second zs)) + 1) (sym both.0),
+              λ rule. broken (subst (λ zs. RuleAlone (behind second zs) q g) both.0 (subst (λ n. RuleAlone (behind second xs) n g) (sym next) rule)),
+            )
         | inr (inl b) ↦
             inr (omega (arith, number, length-map xs line_text, length-map ys line_text, ap length b.cut, length-append xs (b.line ∷ b.more)), (line_text b.line, b.after, b.next))
         | inr (inr b) ↦

@@ -51,7 +51,6 @@ text-more (y ∷ ys) x rest =
     line_front (line_text y) (map line_text (ys ++ x ∷ [])) rest ∙ ap (λ (t : List ℕ). line_text y ++ 10 ∷ t) (text-more ys x rest)
     ∙ sym (line_front (line_text y) (map line_text ys) (line_text x ++ 10 ∷ rest))
 
-
 pub kept-push : (second : Bool) (xs : List SectionLine) (line : SectionLine) → AreKept second xs → IsLineIn second line → ((f : Fault) → KeepsAlone xs line f) → AreKept second (xs ++ line ∷ [])
 kept-push second xs line kept is keeps earlier later l cut =
     elim (cut_append xs (line ∷ []) earlier later l cut) [

@@ -70,14 +70,26 @@ cut-more : {A B : Type 0} (h : A → Option B) (x : A) (xs : List A) (n : ℕ) (
     → ((n : ℕ) → slice_get (filter_map h xs) n ≡ Some y → Cut h xs n y) → slice_get (cons_option o (filter_map h xs)) n ≡ Some y → Cut h (x ∷ xs) n y
 cut-more h x xs n y None is more at =
     let c = more n at in
-    record { x = c.x; earlier = x ∷ c.earlier; later = c.later; cut = ap (λ ys. x ∷ ys) c.cut; made = c.made;
-      front = ap (λ o. cons_option o (filter_map h c.earlier)) is ∙ c.front ∙ ap (λ o. take n (cons_option o (filter_map h xs))) (sym is) }
+    record {
+      x = c.x;
+      earlier = x ∷ c.earlier;
+      later = c.later;
+      cut = ap (λ ys. x ∷ ys) c.cut;
+      made = c.made;
+      front = ap (λ o. cons_option o (filter_map h c.earlier)) is ∙ c.front ∙ ap (λ o. take n (cons_option o (filter_map h xs))) (sym is);
+    }
 cut-more h x xs zero y (Some z) is more at =
     record { x = x; earlier = []; later = xs; cut = refl; made = is ∙ at; front = refl }
 cut-more h x xs (suc n) y (Some z) is more at =
     let c = more n at in
-    record { x = c.x; earlier = x ∷ c.earlier; later = c.later; cut = ap (λ ys. x ∷ ys) c.cut; made = c.made;
-      front = ap (λ o. cons_option o (filter_map h c.earlier)) is ∙ ap (λ ys. z ∷ ys) c.front ∙ ap (λ o. take (suc n) (cons_option o (filter_map h xs))) (sym is) }
+    record {
+      x = c.x;
+      earlier = x ∷ c.earlier;
+      later = c.later;
+      cut = ap (λ ys. x ∷ ys) c.cut;
+      made = c.made;
+      front = ap (λ o. cons_option o (filter_map h c.earlier)) is ∙ ap (λ ys. z ∷ ys) c.front ∙ ap (λ o. take (suc n) (cons_option o (filter_map h xs))) (sym is);
+    }
 
 cut_at : {A B : Type 0} (h : A → Option B) (xs : List A) (n : ℕ) (y : B) → slice_get (filter_map h xs) n ≡ Some y → Cut h xs n y
 cut_at h [] n y at = absurd (none-some y at)
@@ -97,9 +109,10 @@ among k (l ∷ logs) zero log n e at here =
     let own = subst (λ (g : SiteLog). slice_get g.entries n ≡ Some e) (sym same) here in
     (n, ap (λ es. slice_get es n) (section-logged k l (sections_from (suc k) logs)) ∙ front_at l.entries (filter_map logged_in (sections_from (suc k) logs)) n e own)
 among k (l ∷ logs) (suc s) log n e at here =
-    let more = among (suc k) logs s log n e at here in
-    (length l.entries + more.0,
-     ap (λ es. slice_get es (length l.entries + more.0)) (section-logged k l (sections_from (suc k) logs)) ∙ back_at l.entries (filter_map logged_in (sections_from (suc k) logs)) more.0 ∙ more.1)
+    let more = among (suc k) logs s log n e at here in (
+      length l.entries + more.0,
+      ap (λ es. slice_get es (length l.entries + more.0)) (section-logged k l (sections_from (suc k) logs)) ∙ back_at l.entries (filter_map logged_in (sections_from (suc k) logs)) more.0 ∙ more.1,
+    )
 
 module _ (second : Bool) (before : List SectionLine) (kept : AreKept second before) where
   -- each line of a log keeps the rules

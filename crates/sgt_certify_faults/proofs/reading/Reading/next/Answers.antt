@@ -27,7 +27,10 @@ returns-in-Some c =
 
 pub returns-in-None : goal.returns-in-None
 returns-in-None c bytes rest more count are h cut =
-    let b = h.sections in
-    (b, h.read, unread-broken c.args.second (lines_read b) c.args.line.now
-    (λ all. refuted c.is_complete.result (c.is_complete.ensures b h.read.begun h.place) c.if-is_complete.false (subst (λ n. AreSections n (lines_read b)) (sym h.read.sites) all))
-    c.in-None.ensures)
+    let b = h.sections in (
+      b,
+      h.read,
+      unread-broken c.args.second (lines_read b) c.args.line.now
+          (λ all. refuted c.is_complete.result (c.is_complete.ensures b h.read.begun h.place) c.if-is_complete.false (subst (λ n. AreSections n (lines_read b)) (sym h.read.sites) all))
+          c.in-None.ensures,
+    )
