@@ -1,3 +1,10 @@
 pub mod Elements
-pub mod Rings
+pub mod Pairing
 pub mod Placing
+pub mod Rings
+pub mod Deciding
+pub mod Distinct
+pub mod Fitting
+pub mod Validity
+pub mod Walking
+pub mod Answered

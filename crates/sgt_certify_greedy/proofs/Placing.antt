@@ -8,6 +8,7 @@ use Rattle.std.proofs.lemmas.List.Elements.{Contains-append_left, Contains-push,
 use Rattle.sgt_names.proofs.Places.{AllPairs_at, AllPairs-from_at, Contains-from_at, slice_get-take_at}
 use Rattle.sgt_names.proofs.Lists.{middle_at, front_at}
 use Rattle.sgt_certify_greedy.specs.Sorted.{IsOrdered, without}
+use Rattle.sgt_certify_greedy.specs.Decided.{OnFronts}
 use Rattle.sgt_certify_greedy.proofs.Elements.{contains-none, without-has, without-only}
 
 -- a place in a list with one more: it is in the list, or it is the last
@@ -21,10 +22,6 @@ pushed_at (z ∷ xs) x (suc n) y at =
       | inl in_front ↦ inl (omega (arith, in_front.0), in_front.1)
       | inr last ↦ inr (ap suc last.0, last.1)
     ]
-
--- what holds of each element and those in front of it
-abbrev pub OnFronts : {A : Type 0} → (List A → A → Type 0) → List A → Type 0
-OnFronts {A} P xs = (n : ℕ) (x : A) → slice_get xs n ≡ Some x → P (take n xs) x
 
 pub fronts-none : {A : Type 0} (P : List A → A → Type 0) → OnFronts P []
 fronts-none P n x at = absurd cc

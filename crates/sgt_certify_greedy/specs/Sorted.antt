@@ -1,6 +1,6 @@
--- Transactions in an order in which arrows lead onward, or a cycle of arrows.
+-- Transactions in an order in which a relation leads onward, or a cycle of it.
 use Rattle.std.specs.Prelude.{◌≡◌, ◌≢◌, ℕ, List, [], ◌∷◌, ◌++◌, Some, take, slice_get, AllPairs, Contains, filter, not, ◌==◌}
-use Rattle.sgt_certify_greedy.specs.declared.sorting.Arrow.{Arrow}
+use Rattle.sgt_certify_logs.specs.Witness.{IsChain}
 use Rattle.sgt_certify_greedy.specs.declared.sorting.Sorting.{Sorting}
 use Rattle.sgt_certify_greedy.specs.declared.sorting.Sorting.TheVariants.{Order, Cycle}
 
@@ -8,14 +8,9 @@ use Rattle.sgt_certify_greedy.specs.declared.sorting.Sorting.TheVariants.{Order,
 abbrev pub without : ℕ → List ℕ → List ℕ
 without tx txs = filter (λ t. not (t == tx)) txs
 
--- an arrow leads from a to b
-abbrev pub Leads : List Arrow → ℕ → ℕ → Type 0
-Leads arrows a b = Contains arrows (record { from = a; to = b })
-
--- each number stands in the relation to the next one, from a on
-abbrev pub IsChain : (ℕ → ℕ → Type 0) → ℕ → List ℕ → Type 0
-IsChain R a [] = Unit {0}
-IsChain R a (b ∷ bs) = R a b × IsChain R b bs
+-- the relation between two of these
+abbrev pub Among : List ℕ → (ℕ → ℕ → Type 0) → ℕ → ℕ → Type 0
+Among txs R a b = Contains txs a × Contains txs b × R a b
 
 -- these stand in a cycle of the relation
 abbrev pub IsRing : (ℕ → ℕ → Type 0) → List ℕ → Type 0
@@ -32,4 +27,4 @@ pub record IsOrdered (R : ℕ → ℕ → Type 0) (txs order : List ℕ) : Type 
 -- these in their order, or a cycle among them
 abbrev pub IsSorting : List ℕ → (ℕ → ℕ → Type 0) → Sorting → Type 0
 IsSorting txs R (Order order) = IsOrdered R txs order.items
-IsSorting txs R (Cycle cycle) = IsRing R cycle.items
+IsSorting txs R (Cycle cycle) = IsRing (Among txs R) cycle.items

@@ -1,7 +1,8 @@
 use Rattle.std.proofs.Common.{◌≡◌, ◌<◌, ◌⊎◌, ℕ, List, [], ◌∷◌, length, take, sym, refl, ap, ◌∙◌, subst, arith, inl, inr, Contains}
 use Rattle.std.specs.Prelude.{slice_get}
 use Rattle.std.proofs.lemmas.Bool.{cases_eq}
-use Rattle.sgt_certify_greedy.specs.Sorted.{Leads, without}
+use Rattle.sgt_certify_greedy.specs.Pairs.{Leads}
+use Rattle.sgt_certify_greedy.specs.Sorted.{Among}
 use Rattle.sgt_certify_greedy.proofs.Elements.{contains-tail, without-fewer, without-has}
 use Rattle.sgt_certify_greedy.proofs.Rings.{chain-more, ring-closed}
 use Rattle.sgt_certify_greedy.proofs.sorting.cycle_in.Goals as goal
@@ -27,7 +28,7 @@ unreachable-requires c =
 
 pub returns-in-Some-place : goal.returns-in-Some-place
 returns-in-Some-place c =
-    ring-closed (Leads c.args.arrows.now) c.back.here c.in-Some.before c.in-Some-place.n c.back.walk.items c.insert.new.self.items c.back.invariant.walk c.in-Some.ensures.some.1
+    ring-closed (Among c.args.left.now (Leads c.args.pairs.now)) c.back.here c.in-Some.before c.in-Some-place.n c.back.walk.items c.insert.new.self.items c.back.invariant.walk (c.in-Some.ensures.some.0, c.back.invariant.here, c.in-Some.ensures.some.1)
     (ap (λ (w : List ℕ). slice_get w c.in-Some-place.n) (sym c.as_slice.ensures.value) ∙ c.in-Some-place.ensures.some)
     (c.in_ok-insert.ensures.items ∙ ap (λ (w : List ℕ). c.in-Some.before ∷ w) c.truncate.ensures.items)
 
@@ -46,7 +47,7 @@ back-preserved c =
     let items = c.in_ok-insert-2.ensures.items in
     record {
       here = c.in-Some.ensures.some.0;
-      walk = chain-more (Leads c.args.arrows.now) c.back.here before c.back.walk.items c.insert-in-back.new.self.items c.back.invariant.walk c.in-Some.ensures.some.1 items;
+      walk = chain-more (Among c.args.left.now (Leads c.args.pairs.now)) c.back.here before c.back.walk.items c.insert-in-back.new.self.items c.back.invariant.walk (c.in-Some.ensures.some.0, c.back.invariant.here, c.in-Some.ensures.some.1) items;
       met = λ t has.
           elim (cases_eq t before) [
             | inl same ↦ inl (subst (λ (w : List ℕ). Contains w t) (sym items) (0, omega arith, sym same))

@@ -1,0 +1,87 @@
+//! The certificate of sound logs, or what shows that they have none.
+
+ghost use Rattle.std.specs.Prelude.{◌≡◌, ◌≤◌, ◌^◌, ◌<◌, ◌↔◌, ℕ, List, length, All, AllPairs, Contains, IfOk};
+ghost use Rattle.sgt_names.specs.Limits.{max_sites};
+ghost use Rattle.sgt_certify_logs.specs.Sound.{AreSound};
+ghost use Rattle.sgt_certify_logs.specs.Witness.{HasEnd};
+ghost use Rattle.sgt_certify_greedy.specs.Answer.{IsAnswerTo};
+ghost use Rattle.sgt_certify_greedy.specs.Decided.{AreKnown};
+
+use crate::greedy::{Known, decided_by, settled};
+use crate::pairs::{Rule, pairs_of};
+use crate::sets::{committed, ended};
+use crate::sorting::{Sorting, sorted};
+use sgt_cert::{Certificate, SiteLog};
+use sgt_names::{Listed, Tx};
+use std::alloc::{AllocError, Global};
+
+/// What is answered to logs.
+#[derive(Drop)]
+pub enum Answer {
+    /// This certificate makes them valid.
+    Certificate(Certificate),
+    /// Each of these transactions ends before the next one, and the last before the first.
+    Order(Vec<Tx>),
+    /// An entry of each of these committed transactions stands before one of the next in conflict with it, and so one of the last before
+    /// one of the first.
+    Ranks(Vec<Tx>),
+    /// These are decided; whoever can be decided next is refused, and no walk leads back to it.
+    Stuck(Vec<Tx>),
+}
+
+/// The numbers of transactions are below 2^32.
+fn are_small(txs: &[Tx])
+    ensures { All (λ t. t < 2 ^ 32) txs.now }
+{}
+
+/// The answer by what is known of the logs.
+fn answer_by(
+    alloc: Global,
+    sites: &[SiteLog],
+    known: &Known,
+    ended: &[Tx],
+) -> Result<Answer, AllocError>
+    requires sound { AreSound sites.now }
+    requires known { AreKnown sites.now known.now }
+    requires ends { All (HasEnd sites.now) ended.now }
+    requires all { (t : ℕ) → HasEnd sites.now t → Contains ended.now t }
+    ensures { IfOk result (IsAnswerTo sites.now) }
+{
+    let settled = settled(alloc, sites, known, ended)?;
+    if settled.left.as_slice().is_empty() {
+        return Ok(Answer::Certificate(Certificate {
+            sites: sites.len() as u8,
+            decisions: Listed::new(settled.decisions),
+        }));
+    }
+    Ok(Answer::Stuck(decided_by(alloc, settled.decisions.as_slice())?))
+}
+
+/// A certificate that makes the sound logs valid, or what shows that there is none: a cycle of their ends, a cycle of their committed
+/// conflicts, or a set that is stuck in them. Err: memory ran out.
+pub fn decide(alloc: Global, sites: &[SiteLog]) -> Result<Answer, AllocError>
+    requires sound { AreSound sites.now }
+    requires few { length sites.now ≤ max_sites }
+    ensures { IfOk result (IsAnswerTo sites.now) }
+{
+    let ends = pairs_of(alloc, sites, Rule::Ends)?;
+    let all = ended(alloc, sites)?;
+    match sorted(alloc, all.as_slice(), ends.as_slice())? {
+        Sorting::Cycle(cycle) => return Ok(Answer::Order(cycle)),
+        Sorting::Order(_order) => {}
+    }
+    let conflicts = pairs_of(alloc, sites, Rule::Conflicts)?;
+    let commits = committed(alloc, sites, all.as_slice())?;
+    match sorted(alloc, commits.as_slice(), conflicts.as_slice())? {
+        Sorting::Cycle(cycle) => Ok(Answer::Ranks(cycle)),
+        Sorting::Order(order) => {
+            are_small(order.as_slice());
+            let known = Known {
+                ends,
+                conflicts,
+                order,
+            };
+            answer_by(alloc, sites, &known, all.as_slice())
+        }
+    }
+}
