@@ -2,7 +2,7 @@ pub mod Elements
 pub mod Pairing
 pub mod Placing
 pub mod Rings
-pub mod Deciding
+pub mod Decisions
 pub mod Distinct
 pub mod Fitting
 pub mod Validity

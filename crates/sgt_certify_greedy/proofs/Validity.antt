@@ -26,7 +26,7 @@ use Rattle.sgt_certify_greedy.specs.Pairs.{IsFollowed}
 use Rattle.sgt_certify_greedy.specs.declared.pairs.Rule.TheVariants as rule
 use Rattle.sgt_certify_greedy.specs.Sorted.{IsOrdered}
 use Rattle.sgt_certify_greedy.specs.Decided.{HasCommit, IsDue, IsFitting, OnFronts, txs_of}
-use Rattle.sgt_certify_greedy.proofs.Deciding.{txs-at}
+use Rattle.sgt_certify_greedy.proofs.Decisions.{txs-at}
 use Rattle.sgt_certify_greedy.proofs.Distinct.{distinct-within, one-place}
 use Rattle.sgt_certify_greedy.proofs.Fitting.{fitting-commit, fitting-suits}
 

@@ -7,7 +7,7 @@ ghost use Rattle.sgt_certify_logs.specs.Witness.{HasEnd};
 ghost use Rattle.sgt_certify_greedy.specs.Answer.{IsAnswerTo};
 ghost use Rattle.sgt_certify_greedy.specs.Decided.{AreKnown};
 
-use crate::greedy::{Known, decided_by, settled};
+use crate::greedy::{Known, decide_each, decided_by};
 use crate::pairs::{Rule, pairs_of};
 use crate::sets::{committed, ended};
 use crate::sorting::{Sorting, sorted};
@@ -47,7 +47,7 @@ fn answer_by(
     requires all { (t : ℕ) → HasEnd sites.now t → Contains ended.now t }
     ensures { IfOk result (IsAnswerTo sites.now) }
 {
-    let settled = settled(alloc, sites, known, ended)?;
+    let settled = decide_each(alloc, sites, known, ended)?;
     if settled.left.as_slice().is_empty() {
         return Ok(Answer::Certificate(Certificate {
             sites: sites.len() as u8,

@@ -104,7 +104,7 @@ pub struct Settled {
 }
 
 /// Decides those that end, as long as one can be decided. Err: memory ran out.
-pub fn settled(
+pub fn decide_each(
     alloc: Global,
     sites: &[SiteLog],
     known: &Known,

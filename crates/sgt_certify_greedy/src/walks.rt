@@ -123,13 +123,11 @@ fn reach_all(
     })?;
     let mut unreached = Vec::from_slice(alloc, through)?;
     'reaching: while let Some(onward) = next_pair(pairs, reached.as_slice(), unreached.as_slice()) {
-        let step = step_of(sites, &onward.pair);
-        let walk = extended(alloc, reached[onward.place].walk.as_slice(), step)?;
-        take_out(&mut unreached, onward.pair.to);
-        reached.push(Reached {
-            tx: onward.pair.to,
-            walk,
-        })?;
+        let Onward { place, pair } = onward;
+        let step = step_of(sites, &pair);
+        let walk = extended(alloc, reached[place].walk.as_slice(), step)?;
+        take_out(&mut unreached, pair.to);
+        reached.push(Reached { tx: pair.to, walk })?;
     }
     Ok(reached)
 }
@@ -151,8 +149,9 @@ pub fn walk_back(
     let reached = reach_all(alloc, sites, pairs, through, tx)?;
     match next_pair(pairs, reached.as_slice(), &[tx]) {
         Some(onward) => {
-            let step = step_of(sites, &onward.pair);
-            let walk = extended(alloc, reached[onward.place].walk.as_slice(), step)?;
+            let Onward { place, pair } = onward;
+            let step = step_of(sites, &pair);
+            let walk = extended(alloc, reached[place].walk.as_slice(), step)?;
             Ok(Some(walk))
         }
         None => Ok(None),
