@@ -53,8 +53,8 @@ none-decided sites order left commits ended ds same no_commits none has only =
       all = λ t end. inl (subst (λ xs. Contains xs t) (sym same) (has t end));
       left_only = λ t in_left. only t (subst (λ xs. Contains xs t) same in_left);
       apart = λ t _ in_txs. out t in_txs;
-      commits = λ t in_commits. absurd (contains-none t (subst (λ xs. Contains xs t) no_commits in_commits));
-      commits_all = λ t (number, rank, at). absurd (out t (Contains-from_at (txs_of ds) number t (txs-at ds number (Commit t rank) at)));
+      kept = λ t in_commits. absurd (contains-none t (subst (λ xs. Contains xs t) no_commits in_commits));
+      kept_all = λ t (number, rank, at). absurd (out t (Contains-from_at (txs_of ds) number t (txs-at ds number (Commit t rank) at)));
       each = subst (OnFronts (IsDue sites order)) (sym none) (fronts-none (IsDue sites order));
     }
 
@@ -93,14 +93,14 @@ next-decided sites order left commits next ds d had here free fits with_d =
             | inl front ↦ had.apart u by.0 front
             | inr last ↦ by.1 (sym last)
           ];
-      commits = λ u in_next.
+      kept = λ u in_next.
           elim (with_d.only u in_next) [
-            | inl old ↦ commit-kept ds d u (had.commits u old)
+            | inl old ↦ commit-kept ds d u (had.kept u old)
             | inr new ↦ (length ds, new.0, middle_at ds d [] ∙ ap Some new.1)
           ];
-      commits_all = λ u by.
+      kept_all = λ u by.
           elim (commit-cases ds d u by) [
-            | inl old ↦ with_d.kept u (had.commits_all u old)
+            | inl old ↦ with_d.kept u (had.kept_all u old)
             | inr new ↦ with_d.added u new.0 new.1
           ];
       each = fronts-push (IsDue sites order) ds d had.each (record {
@@ -110,7 +110,7 @@ next-decided sites order left commits next ds d had here free fits with_d =
               | inl rest ↦ absurd (free u rest ends)
               | inr decided ↦ decided
             ];
-        fits = fitting-as sites order (Contains commits) (HasCommit ds) had.commits d fits;
+        fits = fitting-as sites order (Contains commits) (HasCommit ds) had.kept d fits;
       });
     }
 
@@ -129,7 +129,7 @@ left-stuck sites order left commits ds had some hopeless committed = record {
               by.0,
               λ (cycle : LiesOnCycle sites (txs_of ds) t). by.1 cycle.walk cycle.between cycle.logged cycle.closed
                   (All-weaken (λ a. Contains (txs_of ds) a × IsIn sites (entry.Commit a)) (Contains commits) cycle.between
-                  (λ a both. had.commits_all a (committed a both.0 both.1)) cycle.through),
+                  (λ a both. had.kept_all a (committed a both.0 both.1)) cycle.through),
             )
       ];
 }

@@ -1,5 +1,5 @@
 -- Decisions that were each due make sound logs valid, once all that end are decided.
-use Rattle.std.proofs.Common.{◌≡◌, ◌≢◌, ℕ, zero, suc, ◌<◌, ◌≤◌, List, [], ◌∷◌, ◌++◌, Some, None, map, take, length, refl, sym, ap, ◌∙◌, subst, arith, inl, inr, All, AllPairs, Contains}
+use Rattle.std.proofs.Common.{◌≡◌, ◌≢◌, ℕ, zero, suc, ◌<◌, ◌≤◌, List, [], ◌∷◌, ◌++◌, Some, None, map, take, length, refl, sym, ap, ◌∙◌, subst, arith, inl, inr, All, Any, AllPairs, Contains}
 use Rattle.std.specs.Prelude.{slice_get}
 use Rattle.std.specs.List.{AllByRecursion, filter_map}
 use Rattle.std.proofs.lemmas.Option.{same_Some, slice_get_within}
@@ -19,7 +19,7 @@ use Rattle.sgt_cert.specs.declared.certificate.Certificate.{Certificate}
 use Rattle.sgt_cert.specs.declared.certificate.Decision.{Decision}
 use Rattle.sgt_cert.specs.declared.certificate.Decision.TheVariants.{Commit, Refuse, Withdraw}
 use Rattle.sgt_cert.specs.declared.certificate.Step.{Step}
-use Rattle.sgt_certify_logs.specs.Sound.{AreSound}
+use Rattle.sgt_certify_logs.specs.Sound.{AreSound, IsSoundLog}
 use Rattle.sgt_certify_logs.specs.Witness.{EndsBefore, HasEnd, IsIn}
 use Rattle.sgt_certify_logs.proofs.Decisions.{Decides, one-number}
 use Rattle.sgt_certify_greedy.specs.Pairs.{IsFollowed}
@@ -149,7 +149,7 @@ module _ (sites : List SiteLog) (sound : AreSound sites) (committed order : List
 
       decided : (p : ℕ) (e : Entry) → slice_get log.entries p ≡ Some e → (number : ℕ) × IsDecided ds e number
       decided p e at =
-          let ended = All_at _ log.entries p e (All_in _ sites log sound.logs here).formed.1 at in
+          let ended = All_at (λ e. Any (λ f. IsEnd f × (tx_of f ≡ tx_of e)) log.entries) log.entries p e (All_in IsSoundLog sites log sound.logs here).formed.1 at in
           let end = Any_at (λ f. IsEnd f × (tx_of f ≡ tx_of e)) log.entries ended in
           let by = decision-of (tx_of e) (all (tx_of e) (end.1, entry-in end.0 end.1 end.2, end.3.0, end.3.1)) in
           let suits = fitting-suits sites sound order (HasCommit (take by.0 ds)) e by.1.0 (entry-in p e at) (sym by.1.2) (each by.0 by.1.0 by.1.1).fits in
@@ -208,7 +208,7 @@ module _ (sites : List SiteLog) (sound : AreSound sites) (committed order : List
 
       valid-log : IsValidLog ds log
       valid-log =
-          let log_sound = All_in _ sites log sound.logs here in
+          let log_sound = All_in IsSoundLog sites log sound.logs here in
           record {
             formed = log_sound.formed;
             reads = log_sound.reads;

@@ -73,8 +73,8 @@ pub record IsDeciding (sites : List SiteLog) (order left commits : List ℕ) (ds
   pub all : (t : ℕ) → HasEnd sites t → Contains left t ⊎ Contains (txs_of ds) t
   pub left_only : (t : ℕ) → Contains left t → HasEnd sites t
   pub apart : (t : ℕ) → Contains left t → Contains (txs_of ds) t → ⊥
-  pub commits : (t : ℕ) → Contains commits t → HasCommit ds t
-  pub commits_all : (t : ℕ) → HasCommit ds t → Contains commits t
+  pub kept : (t : ℕ) → Contains commits t → HasCommit ds t
+  pub kept_all : (t : ℕ) → HasCommit ds t → Contains commits t
   pub each : OnFronts (IsDue sites order) ds
 
 -- none of those left can be decided

@@ -32,7 +32,11 @@ pub enum Answer {
 /// The numbers of transactions are below 2^32.
 fn are_small(txs: &[Tx])
     ensures { All (λ t. t < 2 ^ 32) txs.now }
-{}
+{
+    for tx in txs {
+        let _number = tx.number();
+    }
+}
 
 /// The answer by what is known of the logs.
 fn answer_by(

@@ -1,8 +1,9 @@
 //! Decisions that are taken one by one.
 
-ghost use Rattle.std.specs.Prelude.{◌≡◌, ◌≤◌, ◌^◌, ℕ, length, map, All, Contains, IfOk, OnOk, IfSome, IfNone, Some, slice_get};
+ghost use Rattle.std.specs.Prelude.{◌≡◌, ◌↔◌, ◌≤◌, ◌^◌, IsTrue, ℕ, length, map, All, Contains, IfOk, OnOk, IfSome, IfNone, Some, slice_get};
 ghost use Rattle.sgt_cert.specs.Certificate.{decided_tx};
 ghost use Rattle.sgt_certify_logs.specs.Witness.{HasEnd};
+ghost use Rattle.sgt_certify_greedy.specs.Pairs.{Leads};
 ghost use Rattle.sgt_certify_greedy.specs.Decided.{AreCommitsWith, AreKnown, IsFitting, IsHopeless, IsSettled, IsUnpreceded};
 
 use crate::pairs::Pair;
@@ -62,6 +63,16 @@ fn decision_on(
     Ok(Some(Decision::Withdraw { tx }))
 }
 
+/// Whether no pair leads to the transaction from one of these.
+fn is_unpreceded(left: &[Tx], pairs: &[Pair], tx: Tx) -> bool
+    ensures { IsTrue result ↔ ((a : ℕ) → Contains left.now a → Leads pairs.now a tx → ⊥) }
+{
+    match predecessor(left, pairs, tx) {
+        Some(_before) => false,
+        None => true,
+    }
+}
+
 /// A decision on one of these that can be decided next, if there is one.
 fn next_decision(
     alloc: Global,
@@ -79,7 +90,7 @@ fn next_decision(
         → IsHopeless sites.now commits.now t)) }
 {
     for tx in left {
-        if predecessor(left, known.ends.as_slice(), *tx).is_none() {
+        if is_unpreceded(left, known.ends.as_slice(), *tx) {
             if let Some(decision) = decision_on(alloc, sites, known, commits, *tx)? {
                 return Ok(Some(decision));
             }

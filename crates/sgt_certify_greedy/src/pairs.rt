@@ -126,9 +126,11 @@ fn add_pairs_to(
     let last = entries[second];
     for first in 0..second {
         let before = entries[first];
+        let from = before.tx();
+        let to = last.tx();
         let pair = Pair {
-            from: before.tx(),
-            to: last.tx(),
+            from,
+            to,
             site,
             first,
             second,

@@ -116,11 +116,10 @@ fn reach_all(
     ensures closed { IfOk result (λ reached. (a b : ℕ) → IsReached reached.items a → Leads pairs.now a b → Contains through.now b
         → IsReached reached.items b) }
 {
+    let none = Vec::new(alloc);
+    let walk = Listed::new(none);
     let mut reached = Vec::new(alloc);
-    reached.push(Reached {
-        tx,
-        walk: Listed::new(Vec::new(alloc)),
-    })?;
+    reached.push(Reached { tx, walk })?;
     let mut unreached = Vec::from_slice(alloc, through)?;
     'reaching: while let Some(onward) = next_pair(pairs, reached.as_slice(), unreached.as_slice()) {
         let Onward { place, pair } = onward;
