@@ -1,7 +1,7 @@
 -- Decisions are taken one by one, until none can be taken.
-use Rattle.std.proofs.Common.{◌≡◌, true, ℕ, zero, suc, List, [], ◌∷◌, ◌++◌, Some, None, map, take, length, refl, sym, ap, ◌∙◌, subst, arith, inl, inr, ◌⊎◌, All, AllPairs, Contains}
+use Rattle.std.proofs.Common.{◌≡◌, true, false, eqb, ℕ, zero, suc, List, [], ◌∷◌, ◌++◌, Some, None, map, take, length, refl, sym, ap, ◌∙◌, subst, arith, inl, inr, ◌⊎◌, All, AllPairs, Contains}
 use Rattle.std.specs.Prelude.{slice_get}
-use Rattle.std.proofs.lemmas.Bool.{cases_eq, false≢true}
+use Rattle.std.proofs.lemmas.Bool.{cases_eq, false≢true, true≢false}
 use Rattle.std.proofs.lemmas.Option.{same_Some, slice_get_within, slice_get-map}
 use Rattle.std.proofs.lemmas.List.Elements.{Contains-append_left, Contains-push, Contains-push_cases}
 use Rattle.sgt_names.proofs.Places.{All_at, All-from_at, AllPairs-from_at, Contains_at, Contains-from_at, slice_get-take, slice_get-take_at}
@@ -142,3 +142,10 @@ commit-is (Withdraw t) is = absurd (false≢true is)
 
 pub is-commit : (d : Decision) (t rank : ℕ) → d ≡ Commit t rank → (is_commit d ≡ true) × (decided_tx d ≡ t)
 is-commit d t rank is = (ap is_commit is, ap decided_tx is)
+
+pub commit-decided : (ds : List Decision) (t : ℕ) → HasCommit ds t → Contains (txs_of ds) t
+commit-decided ds t (number, rank, at) = Contains-from_at (txs_of ds) number t (txs-at ds number (Commit t rank) at)
+
+pub some-first : (xs : List ℕ) → eqb (length xs) 0 ≡ false → (t : ℕ) × Contains xs t
+some-first [] none = absurd (true≢false none)
+some-first (x ∷ xs) none = (x, (0, omega arith, refl))

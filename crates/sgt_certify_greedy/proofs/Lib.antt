@@ -8,3 +8,4 @@ pub mod Fitting
 pub mod Validity
 pub mod Walking
 pub mod Answered
+pub mod Knowing

@@ -1,14 +1,16 @@
 //! The certificate of sound logs, or what shows that they have none.
 
-ghost use Rattle.std.specs.Prelude.{◌≡◌, ◌≤◌, ◌^◌, ◌<◌, ◌↔◌, ℕ, List, length, All, AllPairs, Contains, IfOk};
+ghost use Rattle.std.specs.Prelude.{◌≤◌, ◌^◌, ◌<◌, ℕ, length, All, Contains, IfOk};
 ghost use Rattle.sgt_names.specs.Limits.{max_sites};
 ghost use Rattle.sgt_certify_logs.specs.Sound.{AreSound};
 ghost use Rattle.sgt_certify_logs.specs.Witness.{HasEnd};
 ghost use Rattle.sgt_certify_greedy.specs.Answer.{IsAnswerTo};
 ghost use Rattle.sgt_certify_greedy.specs.Decided.{AreKnown};
+ghost use Rattle.sgt_certify_greedy.specs.Pairs.{ArePairsOf};
+ghost use Rattle.sgt_certify_greedy.specs.declared.pairs.Rule.TheVariants.{Ends};
 
-use crate::greedy::{Known, decide_each, decided_by};
-use crate::pairs::{Rule, pairs_of};
+use crate::greedy::{Known, Settled, decide_each, decided_by};
+use crate::pairs::{Pair, Rule, pairs_of};
 use crate::sets::{committed, ended};
 use crate::sorting::{Sorting, sorted};
 use sgt_cert::{Certificate, SiteLog};
@@ -51,14 +53,52 @@ fn answer_by(
     requires all { (t : ℕ) → HasEnd sites.now t → Contains ended.now t }
     ensures { IfOk result (IsAnswerTo sites.now) }
 {
-    let settled = decide_each(alloc, sites, known, ended)?;
-    if settled.left.as_slice().is_empty() {
+    let Settled { decisions, left } = decide_each(alloc, sites, known, ended)?;
+    let rest = left.as_slice();
+    if rest.is_empty() {
+        let count = sites.len();
+        let decisions = Listed::new(decisions);
         return Ok(Answer::Certificate(Certificate {
-            sites: sites.len() as u8,
-            decisions: Listed::new(settled.decisions),
+            sites: count as u8,
+            decisions,
         }));
     }
-    Ok(Answer::Stuck(decided_by(alloc, settled.decisions.as_slice())?))
+    let txs = decided_by(alloc, decisions.as_slice())?;
+    Ok(Answer::Stuck(txs))
+}
+
+/// The answer where the ends stand in an order.
+fn answer_after(
+    alloc: Global,
+    sites: &[SiteLog],
+    ends: Vec<Pair>,
+    ended: &[Tx],
+) -> Result<Answer, AllocError>
+    requires sound { AreSound sites.now }
+    requires few { length sites.now ≤ max_sites }
+    requires pairs { ArePairsOf Ends sites.now ends.items }
+    requires ends { All (HasEnd sites.now) ended.now }
+    requires all { (t : ℕ) → HasEnd sites.now t → Contains ended.now t }
+    ensures { IfOk result (IsAnswerTo sites.now) }
+{
+    let conflicts = pairs_of(alloc, sites, Rule::Conflicts)?;
+    let commits = committed(alloc, sites, ended)?;
+    let txs = commits.as_slice();
+    let found = conflicts.as_slice();
+    let sorting = sorted(alloc, txs, found)?;
+    match sorting {
+        Sorting::Cycle(cycle) => Ok(Answer::Ranks(cycle)),
+        Sorting::Order(order) => {
+            let places = order.as_slice();
+            are_small(places);
+            let known = Known {
+                ends,
+                conflicts,
+                order,
+            };
+            answer_by(alloc, sites, &known, ended)
+        }
+    }
 }
 
 /// A certificate that makes the sound logs valid, or what shows that there is none: a cycle of their ends, a cycle of their committed
@@ -70,22 +110,11 @@ pub fn decide(alloc: Global, sites: &[SiteLog]) -> Result<Answer, AllocError>
 {
     let ends = pairs_of(alloc, sites, Rule::Ends)?;
     let all = ended(alloc, sites)?;
-    match sorted(alloc, all.as_slice(), ends.as_slice())? {
-        Sorting::Cycle(cycle) => return Ok(Answer::Order(cycle)),
-        Sorting::Order(_order) => {}
-    }
-    let conflicts = pairs_of(alloc, sites, Rule::Conflicts)?;
-    let commits = committed(alloc, sites, all.as_slice())?;
-    match sorted(alloc, commits.as_slice(), conflicts.as_slice())? {
-        Sorting::Cycle(cycle) => Ok(Answer::Ranks(cycle)),
-        Sorting::Order(order) => {
-            are_small(order.as_slice());
-            let known = Known {
-                ends,
-                conflicts,
-                order,
-            };
-            answer_by(alloc, sites, &known, all.as_slice())
-        }
+    let txs = all.as_slice();
+    let found = ends.as_slice();
+    let sorting = sorted(alloc, txs, found)?;
+    match sorting {
+        Sorting::Cycle(cycle) => Ok(Answer::Order(cycle)),
+        Sorting::Order(_order) => answer_after(alloc, sites, ends, txs),
     }
 }

@@ -130,7 +130,9 @@ pub fn decide_each(
     let mut commits = Vec::new(alloc);
     let mut decisions = Vec::new(alloc);
     'deciding: loop {
-        let next = next_decision(alloc, sites, known, left.as_slice(), commits.as_slice())?;
+        let rest = left.as_slice();
+        let done = commits.as_slice();
+        let next = next_decision(alloc, sites, known, rest, done)?;
         let Some(decision) = next else {
             return Ok(Settled { decisions, left });
         };

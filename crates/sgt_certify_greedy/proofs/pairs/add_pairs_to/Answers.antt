@@ -22,9 +22,10 @@ loop-first-preserved c =
     let e = c.index-entries-first.result in
     let f = c.index-entries-second.result in
     let entries = c.as_slice-entries.result.now in
-    let at_p = read-at sites c.args.site log c.index-sites-site.result entries c.requires.1 c.index-sites-site.is c.as_slice-entries.ensures c.loop-first.first e
+    let its = c.as_slice-entries.ensures ∙ ap (λ (l : SiteLog). l.entries) (sym c.index-sites-site.is) in
+    let at_p = read-at sites c.args.site log c.index-sites-site.result entries c.requires.1 c.index-sites-site.is its c.loop-first.first e
     (omega (arith, c.requires.2, c.loop-first-test.true)) c.index-entries-first.is in
-    let at_q = read-at sites c.args.site log c.index-sites-site.result entries c.requires.1 c.index-sites-site.is c.as_slice-entries.ensures c.args.second f
+    let at_q = read-at sites c.args.site log c.index-sites-site.result entries c.requires.1 c.index-sites-site.is its c.args.second f
     c.requires.2 c.index-entries-second.is in
     let pair : Pair = record { from = c.tx-from.result; to = c.tx-to.result; site = c.args.site; first = c.loop-first.first; second = c.args.second } in
     record {

@@ -5,6 +5,7 @@ use Rattle.sgt_names.proofs.Places.{All-from_at, Contains-from_at}
 use Rattle.sgt_names.proofs.Lists.{All_in, element_at}
 use Rattle.sgt_names.specs.Entry.{tx_of, IsEnd}
 use Rattle.sgt_names.specs.declared.entry.Entry.{Entry}
+use Rattle.sgt_cert.specs.declared.bundle.SiteLog.{SiteLog}
 use Rattle.sgt_certify_logs.specs.Witness.{HasEnd}
 use Rattle.sgt_certify_greedy.proofs.Pairing.{got-entries, one-more}
 use Rattle.sgt_certify_greedy.proofs.sets.add_ended.Goals as goal
@@ -14,13 +15,14 @@ loop-entry-preserved c =
     let sites = c.args.sites.now in
     let log = c.index-sites-site.result in
     let entries = c.as_slice-entries.result.now in
+    let got : entries ≡ c.index-sites-site.result.entries = c.as_slice-entries.ensures ∙ ap (λ (l : SiteLog). l.entries) (sym c.index-sites-site.is) in
     let old = c.loop-entry.txs.items in
     let new = c.note_if.new.txs.items in
     let noted = c.in_ok-note_if.ensures in
     let e = c.entry-item.result in
     let at = element_at entries c.loop-entry.entry-index e c.loop-entry-test.true c.entry-item.is in
     let here = Contains-from_at sites c.args.site log (element_at sites c.args.site log c.requires c.index-sites-site.is) in
-    let there = subst (λ (es : List Entry). Contains es e) c.as_slice-entries.ensures (Contains-from_at entries c.loop-entry.entry-index e at) in
+    let there = subst (λ (es : List Entry). Contains es e) got (Contains-from_at entries c.loop-entry.entry-index e at) in
     record {
       kept = λ t has. noted.kept t (c.loop-entry.invariant.kept t has);
       only = λ all. All-from_at (HasEnd sites) new (λ n t at_t.
@@ -38,7 +40,8 @@ loop-entry-preserved c =
 pub returns-clause-has : goal.returns-clause-has
 returns-clause-has c n log e here at end =
     let entries = c.as_slice-entries.result.now in
-    let its = got-entries c.args.sites.now c.args.site log c.index-sites-site.result entries here c.index-sites-site.is c.as_slice-entries.ensures in
+    let got : entries ≡ c.index-sites-site.result.entries = c.as_slice-entries.ensures ∙ ap (λ (l : SiteLog). l.entries) (sym c.index-sites-site.is) in
+    let its = got-entries c.args.sites.now c.args.site log c.index-sites-site.result entries here c.index-sites-site.is got in
     let at_n = subst (λ (es : List Entry). slice_get es n ≡ Some e) (sym its) at in
     let within = slice_get_within entries n e at_n in
     c.loop-entry.invariant.has n (omega (arith, within, c.loop-entry-test.false)) e at_n end

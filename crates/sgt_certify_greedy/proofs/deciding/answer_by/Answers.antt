@@ -1,0 +1,32 @@
+use Rattle.std.proofs.Common.{◌≡◌, ℕ, List, [], sym, ap, ◌∙◌, subst, inl, inr, map, Contains}
+use Rattle.std.proofs.lemmas.Bool.{eqb-true}
+use Rattle.sgt_cert.specs.Certificate.{decided_tx}
+use Rattle.sgt_cert.specs.Valid.{IsValid}
+use Rattle.sgt_cert.specs.declared.certificate.Decision.{Decision}
+use Rattle.sgt_certify_logs.specs.Witness.{IsStuck}
+use Rattle.sgt_certify_greedy.proofs.Elements.{contains-none, none-long}
+use Rattle.sgt_certify_greedy.proofs.Decisions.{left-stuck, some-first}
+use Rattle.sgt_certify_greedy.proofs.Validity.{committed-decided, valid-from}
+use Rattle.sgt_certify_greedy.proofs.deciding.answer_by.Goals as goal
+
+pub returns-then-is_empty : goal.returns-then-is_empty
+returns-then-is_empty c =
+    let sites = c.args.sites.now in
+    let known = c.requires.known in
+    let order = c.args.known.now.order.items in
+    let ds = c.in_ok-decide_each.decisions.items in
+    let settled = c.in_ok-decide_each.ensures in
+    let none : c.in_ok-decide_each.left.items ≡ [] =
+    sym c.as_slice-rest.ensures.value ∙ none-long c.as_slice-rest.result.now (eqb-true _ 0 (sym c.is_empty.ensures ∙ c.if-is_empty.true)) in
+    let valid = valid-from sites c.requires.sound order order ds known.committed known.only known.ordered settled.1.each
+    (λ t end.
+    elim (settled.1.all t end) [
+      | inl rest ↦ absurd (contains-none t (subst (λ (w : List ℕ). Contains w t) none rest))
+      | inr done ↦ done
+    ]) c.len-count.result in (
+      subst (λ (es : List Decision). IsValid (record { certificate = record { sites = c.len-count.result; decisions = es }; sites = sites })) (sym c.new-decisions.ensures) valid,
+      c.len-count.ensures,
+    )
+
+pub returns : goal.returns
+returns c = ?
