@@ -1,6 +1,6 @@
 //! The certificate of sound logs, or what shows that they have none.
 
-ghost use Rattle.std.specs.Prelude.{◌≤◌, ◌^◌, ◌<◌, ℕ, length, All, Contains, IfOk};
+ghost use Rattle.std.specs.Prelude.{◌≡◌, ◌≤◌, ◌^◌, ◌<◌, ℕ, length, All, Contains, IfOk};
 ghost use Rattle.sgt_names.specs.Limits.{max_sites};
 ghost use Rattle.sgt_certify_logs.specs.Sound.{AreSound};
 ghost use Rattle.sgt_certify_logs.specs.Witness.{HasEnd};
@@ -40,6 +40,19 @@ fn are_small(txs: &[Tx])
     }
 }
 
+/// The certificate of these decisions, of so many sites.
+fn certificate_of(count: usize, settled: Settled) -> Certificate
+    requires { count ≤ max_sites }
+    ensures sites { result.sites ≡ count }
+    ensures decisions { result.decisions ≡ settled.decisions.items }
+{
+    let Settled { decisions, left: _ } = settled;
+    Certificate {
+        sites: count as u8,
+        decisions: Listed::new(decisions),
+    }
+}
+
 /// The answer by what is known of the logs.
 fn answer_by(
     alloc: Global,
@@ -53,17 +66,15 @@ fn answer_by(
     requires all { (t : ℕ) → HasEnd sites.now t → Contains ended.now t }
     ensures { IfOk result (IsAnswerTo sites.now) }
 {
-    let Settled { decisions, left } = decide_each(alloc, sites, known, ended)?;
-    let rest = left.as_slice();
+    let settled = decide_each(alloc, sites, known, ended)?;
+    let rest = settled.left.as_slice();
     if rest.is_empty() {
         let count = sites.len();
-        let decisions = Listed::new(decisions);
-        return Ok(Answer::Certificate(Certificate {
-            sites: count as u8,
-            decisions,
-        }));
+        let made = certificate_of(count, settled);
+        return Ok(Answer::Certificate(made));
     }
-    let txs = decided_by(alloc, decisions.as_slice())?;
+    let done = settled.decisions.as_slice();
+    let txs = decided_by(alloc, done)?;
     Ok(Answer::Stuck(txs))
 }
 

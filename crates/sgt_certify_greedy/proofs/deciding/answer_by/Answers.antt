@@ -14,19 +14,31 @@ returns-then-is_empty c =
     let sites = c.args.sites.now in
     let known = c.requires.known in
     let order = c.args.known.now.order.items in
-    let ds = c.in_ok-decide_each.decisions.items in
-    let settled = c.in_ok-decide_each.ensures in
-    let none : c.in_ok-decide_each.left.items ≡ [] =
+    let settled = c.in_ok-settled.ensures in
+    let made = c.certificate_of-made.result in
+    let none : c.in_ok-settled.settled.left.items ≡ [] =
     sym c.as_slice-rest.ensures.value ∙ none-long c.as_slice-rest.result.now (eqb-true _ 0 (sym c.is_empty.ensures ∙ c.if-is_empty.true)) in
-    let valid = valid-from sites c.requires.sound order order ds known.committed known.only known.ordered settled.1.each
+    let valid = valid-from sites c.requires.sound order order c.in_ok-settled.settled.decisions.items known.committed known.only known.ordered settled.1.each
     (λ t end.
     elim (settled.1.all t end) [
       | inl rest ↦ absurd (contains-none t (subst (λ (w : List ℕ). Contains w t) none rest))
       | inr done ↦ done
-    ]) c.len-count.result in (
-      subst (λ (es : List Decision). IsValid (record { certificate = record { sites = c.len-count.result; decisions = es }; sites = sites })) (sym c.new-decisions.ensures) valid,
-      c.len-count.ensures,
+    ]) made.sites in (
+      subst (λ (es : List Decision). IsValid (record { certificate = record { sites = made.sites; decisions = es }; sites = sites }))
+          (sym c.certificate_of-made.ensures.decisions) valid,
+      c.certificate_of-made.ensures.sites ∙ c.len-count.ensures,
     )
 
 pub returns : goal.returns
-returns c = ?
+returns c =
+    let sites = c.args.sites.now in
+    let known = c.requires.known in
+    let order = c.args.known.now.order.items in
+    let left = c.in_ok-settled.settled.left.items in
+    let ds = c.in_ok-settled.settled.decisions.items in
+    let settled = c.in_ok-settled.ensures in
+    let first = some-first c.as_slice-rest.result.now (sym c.is_empty.ensures ∙ c.if-is_empty.false) in
+    let some = subst (λ (w : List ℕ). (t : ℕ) × Contains w t) c.as_slice-rest.ensures.value first in
+    subst (IsStuck sites) (sym (c.in_ok-txs.ensures ∙ ap (λ (es : List Decision). map decided_tx es) c.as_slice-done.ensures.value))
+    (left-stuck sites order left settled.0 ds settled.1 some settled.2
+    (committed-decided sites c.requires.sound order order ds known.committed known.only known.ordered settled.1.each))
