@@ -46,7 +46,10 @@ fn certificate_of(count: usize, settled: Settled) -> Certificate
     ensures sites { result.sites ≡ count }
     ensures decisions { result.decisions ≡ settled.decisions.items }
 {
-    let Settled { decisions, left: _ } = settled;
+    let Settled {
+        decisions,
+        left: _left,
+    } = settled;
     Certificate {
         sites: count as u8,
         decisions: Listed::new(decisions),
