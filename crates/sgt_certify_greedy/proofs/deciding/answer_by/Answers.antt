@@ -26,7 +26,7 @@ returns-then-is_empty c =
     ]) made.sites in (
       subst (λ (es : List Decision). IsValid (record { certificate = record { sites = made.sites; decisions = es }; sites = sites }))
           (sym c.certificate_of-made.ensures.decisions) valid,
-      c.certificate_of-made.ensures.sites ∙ c.len-count.ensures,
+      c.certificate_of-made.ensures.sites,
     )
 
 pub returns : goal.returns
