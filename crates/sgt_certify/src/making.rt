@@ -38,9 +38,22 @@ fn assembled(alloc: Global, first: &[u8], second: &[u8], rest: &[u8]) -> Result<
     Ok(text)
 }
 
+/// The text with this line put in behind its first one, if it has one.
+pub fn with_line(alloc: Global, text: &[u8], line: &[u8]) -> Result<Option<Vec<u8>>, AllocError>
+    requires { HasNoLf line.now }
+    ensures made { IfOk result (λ found. IfSome found (λ made. IsWithLine text.now line.now made.items)) }
+    ensures none { IfOk result (λ found. IfNone found (HasNoLf text.now)) }
+{
+    let Some((first, rest)) = split_line(text) else {
+        return Ok(None);
+    };
+    let made = assembled(alloc, first, line, rest)?;
+    Ok(Some(made))
+}
+
 /// The text with the certificate's line put in behind its first one, or the text again, if it has no line. What it is made of is
 /// given back.
-pub fn with_certificate(
+fn with_certificate(
     alloc: Global,
     text: Vec<u8>,
     certificate: Certificate,
@@ -50,11 +63,10 @@ pub fn with_certificate(
 {
     let line = to_line(alloc, &certificate)?;
     drop(certificate);
-    let Some((first, rest)) = split_line(text.as_slice()) else {
-        return Ok(Err(text));
-    };
-    let made = assembled(alloc, first, line.as_slice(), rest)?;
-    Ok(Ok(made))
+    match with_line(alloc, text.as_slice(), line.as_slice())? {
+        Some(made) => Ok(Ok(made)),
+        None => Ok(Err(text)),
+    }
 }
 
 /// Room for the line of a verdict.
@@ -106,7 +118,8 @@ pub fn certified(
         Ok(made) => made,
         Err(text) => return Ok(Err(text)),
     };
-    if is_valid(alloc, made.as_slice())? {
+    let yes = is_valid(alloc, made.as_slice())?;
+    if yes {
         return Ok(Ok(made));
     }
     match without_line(alloc, made.as_slice())? {

@@ -1,18 +1,24 @@
-use Rattle.std.proofs.Common.{ℕ, List, ◌++◌, sym, subst}
+use Rattle.std.proofs.Common.{ℕ, List, ◌++◌, subst}
 use Rattle.std.proofs.lemmas.Result.{IfOk-weaker}
 use Rattle.sgt_certify_faults.specs.Faults.{GoesOn, IsFaultless, IsFirstFault}
+use Rattle.sgt_certify_logs.specs.Sound.{SpellsSoundLogs}
+use Rattle.sgt_certify.specs.Answer.{IsAnswer}
 use Rattle.sgt_certify.proofs.Made.{whole-answer}
 use Rattle.sgt_certify.proofs.engine.no_answer.Goals as goal
 
 pub returns-in-Some-clause-answer : goal.returns-in-Some-clause-answer
 returns-in-Some-clause-answer c more goes =
     c.in_ok-fault_answer.ensures (c.args.text.items ++ more)
-    (subst (λ (t : List ℕ). IsFirstFault (t ++ more) c.in-Some.first.line c.in-Some.first.fault) c.as_slice.ensures.value (c.in-Some.ensures.found more goes))
+    (subst (λ (t : List ℕ). IsFirstFault (t ++ more) c.in-Some.first.line c.in-Some.first.fault) c.as_slice-bytes.ensures.value (c.in-Some.ensures.found more goes))
 
-pub refusal_answer-requires : goal.refusal_answer-requires
-refusal_answer-requires c = subst IsFaultless c.as_slice.ensures.value c.in-None.ensures.none.1
+pub faultless_answer-requires-clause-faultless : goal.faultless_answer-requires-clause-faultless
+faultless_answer-requires-clause-faultless c = c.in-None.ensures.none.1
+
+pub faultless_answer-requires-clause-sound : goal.faultless_answer-requires-clause-sound
+faultless_answer-requires-clause-sound c = c.in-None.ensures.none.2
 
 pub returns-in-None-clause-answer : goal.returns-in-None-clause-answer
 returns-in-None-clause-answer c =
-    IfOk-weaker c.refusal_answer.result _ _ (λ a answer more goes.
-    whole-answer c.args.text.items a.text.items a.outcome answer more (subst (λ all. GoesOn all more) c.in-None.ensures.none.0 goes)) c.refusal_answer.ensures.answer
+    IfOk-weaker c.faultless_answer.result _ _ (λ a answer more goes.
+    whole-answer c.args.text.items a.text.items a.outcome (subst (λ (t : List ℕ). IsAnswer t a.outcome a.text.items) c.as_slice-bytes.ensures.value answer) more
+    (subst (λ all. GoesOn all more) c.in-None.ensures.none.0 goes)) c.faultless_answer.ensures.answer

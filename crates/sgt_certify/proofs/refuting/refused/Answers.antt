@@ -17,5 +17,5 @@ returns-clause-told c =
       logs = logs;
       faultless = c.requires;
       shown = shown;
-      none = none-shown c.in-Some-2.refusal c.args.text.items c.in-Some.bundle.sites logs shown;
+      none = none-shown c.in-Some-2.refusal c.args.text.now c.in-Some.bundle.sites logs shown;
     }
