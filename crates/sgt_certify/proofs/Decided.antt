@@ -1,8 +1,10 @@
 -- What is decided of sound logs answers the bytes that spell them.
-use Rattle.std.proofs.Common.{◌≡◌, ℕ, ◌<◌, ◌≤◌, List, [], ◌∷◌, ◌++◌, length, All, Some, slice_get, refl, sym, subst, inl, inr, arith}
+use Rattle.std.proofs.Common.{◌≡◌, ℕ, ◌<◌, ◌≤◌, List, [], ◌∷◌, ◌++◌, length, All, Option, Some, None, IfSome, slice_get, refl, sym, subst, inl, inr, arith}
 use Rattle.std.specs.Prelude.{◌↔◌}
 use Rattle.std.proofs.lemmas.Option.{slice_get_within}
-use Rattle.std.proofs.lemmas.List.Elements.{All-from_at, All_at, All-from_recursion, recursion_from_All}
+use Rattle.std.specs.List.{AllByRecursion}
+use Rattle.std.proofs.lemmas.List.Elements.{All-from_recursion, recursion_from_All}
+use Rattle.sgt_names.proofs.Places.{All_at, All-from_at}
 use Rattle.sgt_names.specs.Limits.{max_sites}
 use Rattle.sgt_names.specs.declared.outcome.Outcome.{Outcome}
 use Rattle.sgt_names.specs.declared.outcome.Outcome.TheVariants.{Yes, No, Unreadable}
@@ -81,3 +83,8 @@ yes-exact bytes text Yes answer = (λ _. (answer.bundle.sites, answer.logs, (ans
 yes-exact bytes text No (inl refused) = (λ no. absurd cc, λ has. absurd (refused.none has.0 has.1 has.2))
 yes-exact bytes text No (inr faulty) = (λ no. absurd cc, λ has. absurd (faulty.none has.0 has.1 has.2))
 yes-exact bytes text Unreadable answer = absurd answer
+
+pub told-exact : (told : Option (List ℕ)) (text : List ℕ) (outcome : Outcome) → IfSome told (λ bytes. IsAnswer bytes outcome text)
+    → IfSome told (λ bytes. outcome ≡ Yes ↔ HasCertificate bytes)
+told-exact None text outcome answer = tt
+told-exact (Some bytes) text outcome answer = yes-exact bytes text outcome answer

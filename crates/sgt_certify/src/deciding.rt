@@ -91,11 +91,10 @@ pub fn sound_answer(alloc: Global, text: &[u8]) -> Result<Answer, EngineFail>
     let bundle = all_logs(alloc, text)?;
     let logs = bundle.sites();
     let found = decide(alloc, logs)?;
-    let answer = match found {
-        Decided::Certificate(certificate) => certificate_answer(alloc, text, &certificate)?,
-        Decided::Order(cycle) => reason_answer(alloc, Refusal::Order, cycle.as_slice())?,
-        Decided::Ranks(cycle) => reason_answer(alloc, Refusal::Ranks, cycle.as_slice())?,
-        Decided::Stuck(set) => reason_answer(alloc, Refusal::Walk, set.as_slice())?,
-    };
-    Ok(answer)
+    match found {
+        Decided::Certificate(certificate) => Ok(certificate_answer(alloc, text, &certificate)?),
+        Decided::Order(cycle) => Ok(reason_answer(alloc, Refusal::Order, cycle.as_slice())?),
+        Decided::Ranks(cycle) => Ok(reason_answer(alloc, Refusal::Ranks, cycle.as_slice())?),
+        Decided::Stuck(set) => Ok(reason_answer(alloc, Refusal::Walk, set.as_slice())?),
+    }
 }

@@ -2,5 +2,5 @@ use Rattle.std.proofs.Common.{subst}
 use Rattle.sgt_certify.proofs.Decided.{certified-by}
 use Rattle.sgt_certify.proofs.deciding.certificate_answer.Goals as goal
 
-pub returns-in-Some : goal.returns-in-Some
-returns-in-Some c = certified-by _ _ _ _ c.requires c.in_ok-line.ensures.in_range c.in_ok-line.ensures.text c.in-Some.ensures.made
+pub returns : goal.returns
+returns c = certified-by _ _ _ _ c.requires c.in_ok-line.ensures.in_range c.in_ok-line.ensures.text c.in-Some.ensures.made

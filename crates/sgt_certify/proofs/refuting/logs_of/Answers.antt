@@ -9,7 +9,7 @@ pub returns-in-Some-clause-logs : goal.returns-in-Some-clause-logs
 returns-in-Some-clause-logs c =
     let made = rw c.in-Some.is at c.in_ok-found.ensures.made in
     IfOk-weaker c.read_bundle.result _ _
-    (λ found answers. answers-logs c.args.text.now _ _ found made (subst (λ (t : List ℕ). AnswersBundle t found) c.as_slice-2.ensures.value answers))
+    (λ found answers. answers-logs c.args.text.now _ _ found made (subst (λ (t : List ℕ). AnswersBundle t found) c.as_slice-in-Some.ensures.value answers))
     c.read_bundle.ensures.bundle
 
 pub returns-in-Some-clause-none : goal.returns-in-Some-clause-none
@@ -17,7 +17,7 @@ returns-in-Some-clause-none c =
     let text : List ℕ = c.args.text.now in
     let made = subst (λ (l : List ℕ). IsWithLine text l c.in-Some.made.items) (c.as_slice.ensures.value ∙ c.in_ok-line.ensures.text) (rw c.in-Some.is at c.in_ok-found.ensures.made) in
     IfOk-weaker c.read_bundle.result _ _
-    (λ found answers. answers-none text _ c.args.sites found made (subst (λ (t : List ℕ). AnswersBundle t found) c.as_slice-2.ensures.value answers))
+    (λ found answers. answers-none text _ c.args.sites found made (subst (λ (t : List ℕ). AnswersBundle t found) c.as_slice-in-Some.ensures.value answers))
     c.read_bundle.ensures.bundle
 
 pub returns-in-None-clause-none : goal.returns-in-None-clause-none
