@@ -106,7 +106,8 @@ pub fn certified(
         Ok(made) => made,
         Err(text) => return Ok(Err(text)),
     };
-    if is_valid(alloc, made.as_slice())? {
+    let yes = is_valid(alloc, made.as_slice())?;
+    if yes {
         return Ok(Ok(made));
     }
     match without_line(alloc, made.as_slice())? {

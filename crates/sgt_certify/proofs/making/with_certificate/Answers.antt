@@ -2,8 +2,8 @@ use Rattle.std.proofs.Common.{ℕ, List, ◌∷◌, ◌++◌, sym, ap, ◌∙◌
 use Rattle.sgt_notation.specs.Spelling.{HasNoLf}
 use Rattle.sgt_certify.proofs.making.with_certificate.Goals as goal
 
-pub returns : goal.returns
-returns c =
+pub returns-clause-made : goal.returns-clause-made
+returns-clause-made c =
     let split = c.in-Some.ensures in
     record {
       front = c.in-Some.first.now;
