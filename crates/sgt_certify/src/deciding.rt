@@ -49,7 +49,8 @@ fn certificate_answer(
     ensures { IfOk result (λ a. IsAnswer text.now a.outcome a.text.items) }
 {
     let line = to_line(alloc, certificate)?;
-    match with_line(alloc, text, line.as_slice())? {
+    let found = with_line(alloc, text, line.as_slice())?;
+    match found {
         Some(text) => Ok(Answer {
             outcome: Outcome::Yes,
             text,

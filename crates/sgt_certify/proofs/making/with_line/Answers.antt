@@ -3,7 +3,7 @@ use Rattle.sgt_certify.proofs.making.with_line.Goals as goal
 
 pub returns-clause-made : goal.returns-clause-made
 returns-clause-made c =
-    let split = c.in-Some.ensures in
+    let split = c.in-Some.ensures.some in
     record {
       front = c.in-Some.first.now;
       rest = c.in-Some.rest.now;
