@@ -17,8 +17,7 @@ fn answered(alloc: Global, text: &[u8]) -> Result<Option<Answer>, EngineFail> {
 #[test]
 fn logs_and_their_answers(rt: HostRuntime) -> Result<(), Fail> {
     let alloc = rt.alloc();
-    let two_commits: &[u8] =
-        b"sgt 1\nsite 0\nitem x=0\nr1[x]=0\nc1\nw2[x]=2\nc2\nfinal x=2\nend\n";
+    let two_commits: &[u8] = b"sgt 1\nsite 0\nitem x=0\nr1[x]=0\nc1\nw2[x]=2\nc2\nfinal x=2\nend\n";
     let certified: &[u8] =
         b"sgt 1\n{\"decisions\":[{\"commit\":1,\"rank\":0},{\"commit\":2,\"rank\":1}],\"sites\":1}\nsite 0\nitem x=0\nr1[x]=0\nc1\nw2[x]=2\nc2\nfinal x=2\nend\n";
     let lost_update: &[u8] =
