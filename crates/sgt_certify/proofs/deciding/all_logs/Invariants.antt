@@ -1,4 +1,4 @@
-use Rattle.std.proofs.Common.{◌≤◌, ◌-◌, ℕ, List, length}
+use Rattle.std.proofs.Common.{◌≤◌, ◌-◌, List, length}
 use Rattle.sgt_cert.specs.declared.bundle.SiteLog.{SiteLog}
 use Rattle.sgt_certify_logs.specs.Certifiable.{SpellsLogs}
 use Rattle.sgt_certify.proofs.deciding.all_logs.Given as goal

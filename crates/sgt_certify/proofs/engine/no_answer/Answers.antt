@@ -1,7 +1,6 @@
 use Rattle.std.proofs.Common.{ℕ, List, ◌++◌, subst}
 use Rattle.std.proofs.lemmas.Result.{IfOk-weaker}
-use Rattle.sgt_certify_faults.specs.Faults.{GoesOn, IsFaultless, IsFirstFault}
-use Rattle.sgt_certify_logs.specs.Sound.{SpellsSoundLogs}
+use Rattle.sgt_certify_faults.specs.Faults.{GoesOn, IsFirstFault}
 use Rattle.sgt_certify.specs.Answer.{IsAnswer}
 use Rattle.sgt_certify.proofs.Made.{whole-answer}
 use Rattle.sgt_certify.proofs.engine.no_answer.Goals as goal

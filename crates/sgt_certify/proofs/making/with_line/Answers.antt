@@ -1,4 +1,3 @@
-use Rattle.std.proofs.Common.{ℕ, List, ◌∷◌, ◌++◌, ap, ◌∙◌}
 use Rattle.sgt_certify.proofs.making.with_line.Goals as goal
 
 pub returns-clause-made : goal.returns-clause-made
