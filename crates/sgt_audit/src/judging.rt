@@ -33,7 +33,7 @@ use std::alloc::{AllocError, Global};
 
 /// Whether the line goes on with the block that is open at the end of the log, if one is.
 #[inline(always)]
-fn continues_log(place: &OpenPlace, line: &SectionLine) -> bool
+pub fn continues_log(place: &OpenPlace, line: &SectionLine) -> bool
     ensures { (log : SiteLog) → IsOpenPlace log place.now → (IsTrue result ↔ ContinuesLog log line.now) }
 {
     let Some(last) = place.last_entry() else {
@@ -86,7 +86,7 @@ fn judge_entry(
 }
 
 /// The least fault of a final value.
-fn judge_final(state: &SiteState, place: &OpenPlace, holding: &Holding) -> Option<Fault>
+pub fn judge_final(state: &SiteState, place: &OpenPlace, holding: &Holding) -> Option<Fault>
     ensures { (ds : List Decision) (c : Certificate) (before : List SectionLine) (log : SiteLog) → IsOpenPlace log place.now
         → TracksOpen ds log.items log.entries state.now → Contains (names log.items) holding.now.item → HasOpen before log
         → Begins c.sites (before ++ Final holding.now ∷ []) → JudgedLine (Keeps c before (Final holding.now)) result }
@@ -104,7 +104,7 @@ fn judge_final(state: &SiteState, place: &OpenPlace, holding: &Holding) -> Optio
 }
 
 /// The least fault of a section's end, but for the walks.
-fn judge_end(state: &SiteState, place: &OpenPlace) -> Option<Fault>
+pub fn judge_end(state: &SiteState, place: &OpenPlace) -> Option<Fault>
     ensures { (ds : List Decision) (c : Certificate) (before : List SectionLine) (log : SiteLog) → IsOpenPlace log place.now
         → TracksOpen ds log.items log.entries state.now → HasOpen before log
         → Begins c.sites (before ++ End ∷ []) → JudgedLine (Keeps c before End) result }

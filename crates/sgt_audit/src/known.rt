@@ -17,7 +17,7 @@ pub struct Known {
 
 /// What is known of the line, if it is an entry.
 #[inline(always)]
-pub(crate) fn look_up(certificate: &Decided, state: &SiteState, line: &SectionLine) -> Option<Known>
+pub fn look_up(certificate: &Decided, state: &SiteState, line: &SectionLine) -> Option<Known>
     ensures { IsKnownLine certificate.now.decisions state.now line.now result }
 {
     match line {

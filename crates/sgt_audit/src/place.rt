@@ -106,7 +106,7 @@ pub struct Place {
 
 impl Place {
     /// Before the first section, of so many sites.
-    pub(crate) fn new(alloc: Global, sites: u8) -> Place
+    pub fn new(alloc: Global, sites: u8) -> Place
         ensures { (b : Begun) → b ≡ record { sites = sites; whole = []; current = None } → IsPlace b result }
     {
         Place {
@@ -119,7 +119,7 @@ impl Place {
 
     /// Whether all sections were read, and none is open.
     #[inline(always)]
-    pub(crate) fn is_complete(&self) -> bool
+    pub fn is_complete(&self) -> bool
         ensures { (b : Begun) → IsBegun b → IsPlace b self.now → (IsTrue result ↔ AreSections b.sites (lines_read b)) }
     {
         match &self.current {
@@ -130,7 +130,7 @@ impl Place {
 
     /// Whether some sections begin with the lines that were read and this one.
     #[inline(always)]
-    pub(crate) fn may_go_on(&self, line: &SectionLine) -> bool
+    pub fn may_go_on(&self, line: &SectionLine) -> bool
         ensures { (b : Begun) → IsBegun b → IsPlace b self.now → (IsTrue result ↔ Begins b.sites (lines_read b ++ line.now ∷ [])) }
     {
         match &self.current {
@@ -146,7 +146,7 @@ impl Place {
 
     /// One more line.
     #[inline(always)]
-    pub(crate) fn enter(&mut self, line: &SectionLine) -> Result<(), AllocError>
+    pub fn enter(&mut self, line: &SectionLine) -> Result<(), AllocError>
         ensures { OnOk result ((b : Begun) → IsBegun b → MayFollow b b.current line.now
             → IsPlace b self.old → IsPlace (with_next b b.current line.now) self.new) }
     {

@@ -39,7 +39,7 @@ pub struct Tracked {
 
 /// Whether the entry's item is listed. An end has none.
 #[inline(always)]
-pub(crate) fn is_listed(known: &Known, entry: &Entry) -> bool
+pub fn is_listed(known: &Known, entry: &Entry) -> bool
     ensures { (ds : List Decision) (state : SiteState) (items : List Holding) (entries : List Entry)
         → IsKnownOf ds state entry.now known.now → TracksOpen ds items entries state
         → (IsTrue result ↔ ForSome (item_of entry.now) (Contains (names items))) }
@@ -52,7 +52,7 @@ pub(crate) fn is_listed(known: &Known, entry: &Entry) -> bool
 
 /// Whether the entry is not the second read of its item by its transaction, nor its second change, made or asked for.
 #[inline(always)]
-pub(crate) fn is_first(state: &SiteState, known: &Known, entry: &Entry) -> bool
+pub fn is_first(state: &SiteState, known: &Known, entry: &Entry) -> bool
     ensures { (ds : List Decision) (items : List Holding) (entries : List Entry) → IsKnownOf ds state.now entry.now known.now
         → TracksOpen ds items entries state.now → ForSome (item_of entry.now) (Contains (names items))
         → (IsTrue result ↔ All (λ f. (x : Name) → Repeats x f entry.now → ⊥) entries) }
@@ -76,7 +76,7 @@ pub(crate) fn holds_value(state: &SiteState, holding: &Holding) -> bool
 
 /// Whether the entry, on a listed item if it is a read, has the value of its item then.
 #[inline(always)]
-pub(crate) fn is_legal(state: &SiteState, known: &Known, entry: &Entry) -> bool
+pub fn is_legal(state: &SiteState, known: &Known, entry: &Entry) -> bool
     ensures { (ds : List Decision) (items : List Holding) (entries : List Entry) → IsKnownOf ds state.now entry.now known.now
         → TracksOpen ds items entries state.now → ForSome (item_of entry.now) (Contains (names items))
         → (IsTrue result ↔ IsLegalRead items entries entry.now) }
@@ -106,7 +106,7 @@ pub(crate) fn is_in_rank(state: &SiteState, known: &Known, entry: &Entry) -> boo
 
 /// Whether the entry of which this is known has its transaction decided as it says, with no end before it.
 #[inline(always)]
-pub(crate) fn is_active(state: &SiteState, known: &Known) -> bool
+pub fn is_active(state: &SiteState, known: &Known) -> bool
     ensures { (ds : List Decision) (e : Entry) (items : List Holding) (entries : List Entry) → IsKnownOf ds state.now e known.now
         → TracksOpen ds items entries state.now → (IsTrue result ↔ (((number : ℕ) × IsDecided ds e number)
         × All (λ f. IsEnd f → tx_of f ≢ tx_of e) entries)) }
@@ -147,7 +147,7 @@ fn enter(state: &mut SiteState, known: &Known, entry: &Entry) -> Result<(), Allo
 
 /// One more line, which has no fault but perhaps one of a walk.
 #[inline(always)]
-fn enter_line(
+pub fn enter_line(
     state: &mut SiteState,
     line: &SectionLine,
     known: &Option<Known>,

@@ -1,20 +1,27 @@
 -- What a text with a line put in shows of the bytes without it.
-use Rattle.std.proofs.Common.{◌≡◌, ℕ, Bool, true, List, [], ◌∷◌, ◌++◌, Option, Some, None, IfSome, refl, sym, ap, ◌∙◌, subst, inl, inr, append_assoc}
+use Rattle.std.proofs.Common.{◌≡◌, ℕ, ◌≤◌, Bool, true, List, [], ◌∷◌, ◌++◌, length, map, Option, Some, None, IfSome, IfNone, sym, ap, ap₂, ◌∙◌, subst, inr, append_assoc}
 use Rattle.std.proofs.lemmas.List.{append-nil}
+use Rattle.std.proofs.lemmas.List.Elements.{All-nil}
 use Rattle.sgt_names.specs.declared.outcome.Outcome.{Outcome}
 use Rattle.sgt_names.specs.declared.outcome.Outcome.TheVariants.{No}
+use Rattle.sgt_notation.specs.Spelling.{HasNoLf, line_text, text_of_lines}
+use Rattle.sgt_names.specs.Limits.{max_sites}
+use Rattle.sgt_notation.proofs.OneSpelling.{cut_at_byte}
+use Rattle.sgt_audit.proofs.OneFault.{has_lf, no_lf}
 use Rattle.sgt_cert.specs.Parts.{Parts}
-use Rattle.sgt_cert.specs.Text.{Spells}
+use Rattle.sgt_cert.specs.Text.{IsDecision, Spells, certificate_text, format_line, sections_from}
+use Rattle.sgt_cert.proofs.OneText.{first_line}
+use Rattle.sgt_cert.specs.declared.certificate.Certificate.{Certificate}
 use Rattle.sgt_cert.specs.Valid.{IsValid}
 use Rattle.sgt_cert.specs.declared.bundle.SiteLog.{SiteLog}
 use Rattle.sgt_audit.specs.Spelled.{AnswersBundle}
 use Rattle.sgt_certify_logs.specs.Certifiable.{AreCertifiable, HasNoCertificate, IsWithLine, SpellsLogs}
 use Rattle.sgt_certify_logs.proofs.Cycles.{conflicts-no_cycle, ends-no_cycle}
-use Rattle.sgt_certify_logs.proofs.Inserted.{logs-one, with-logs}
+use Rattle.sgt_certify_logs.proofs.Inserted.{logs-one, with-bundle, with-logs}
 use Rattle.sgt_certify_logs.proofs.Stuck.{stuck-none}
 use Rattle.sgt_audit.specs.declared.faults.Fault.{Fault}
 use Rattle.sgt_audit.specs.Faults.{fault_number}
-use Rattle.sgt_certify_faults.specs.Faults.{GoesOn, HasFault}
+use Rattle.sgt_certify_faults.specs.Faults.{GoesOn, IsFirstFault}
 use Rattle.sgt_certify_faults.proofs.NoCertificate.{fault-none}
 use Rattle.sgt_certify.specs.Answer.{Excludes, IsAnswer, IsCertified, IsTaken, fault_text}
 use Rattle.sgt_certify.specs.declared.refuting.Refusal.{Refusal}
@@ -38,6 +45,22 @@ pub answers-logs : (bytes line text : List ℕ) (found : Option Parts) → IsWit
 answers-logs bytes line text None made answers = tt
 answers-logs bytes line text (Some b) made answers = (with-logs bytes line text b made answers).0
 
+-- where no bundle was read, the bytes spell no logs of so many sites
+pub answers-none : (bytes text : List ℕ) (count : ℕ) (found : Option Parts) → IsWithLine bytes (certificate_text (record { decisions = []; sites = count })) text
+    → AnswersBundle text found → IfNone found ((logs : List SiteLog) → SpellsLogs bytes logs → length logs ≡ count → ⊥)
+answers-none bytes text count (Some b) made answers = tt
+answers-none bytes text count None made answers =
+    λ logs spelled many.
+    let empty : Certificate = record { decisions = []; sites = count } in
+    answers (record { certificate = empty; sites = logs }) (with-bundle bytes text empty logs made
+    (subst (λ n. 1 ≤ n) many spelled.shape.some, subst (λ n. n ≤ max_sites) many spelled.shape.few, All-nil (IsDecision count)) (sym many) spelled)
+
+-- logs have a line
+pub no-logs : (bytes : List ℕ) → HasNoLf bytes → (logs : List SiteLog) → SpellsLogs bytes logs → ⊥
+no-logs bytes none logs spelled =
+    let body : List (List ℕ) = map line_text (sections_from 0 logs) in
+    has_lf (format_line spelled.second) (text_of_lines body) (subst HasNoLf (spelled.text ∙ first_line (format_line spelled.second) body) none)
+
 -- what excludes a certificate of the logs excludes one of the bytes
 none-from : (bytes : List ℕ) (sites : List SiteLog) → SpellsLogs bytes sites → (AreCertifiable sites → ⊥) → HasNoCertificate bytes
 none-from bytes sites spelled none other h can = none (subst AreCertifiable (logs-one bytes other sites h spelled) can)
@@ -58,11 +81,25 @@ pub whole-answer : (text written : List ℕ) (outcome : Outcome) → IsAnswer te
 whole-answer text written outcome answer more none =
     subst (λ t. IsAnswer t outcome written) (sym (ap (λ (t : List ℕ). text ++ t) none ∙ append-nil text)) answer
 
-pub alone-answer : (text written : List ℕ) (outcome : Outcome) → ((more : List ℕ) → GoesOn true more → IsAnswer (text ++ more) outcome written) → IsAnswer text outcome written
-alone-answer text written outcome answer = subst (λ t. IsAnswer t outcome written) (append-nil text) (answer [] refl)
+-- the first fault that the bytes have
+pub faulty-answer : (bytes written : List ℕ) (line : ℕ) (fault : Fault) → IsFirstFault bytes line fault → written ≡ fault_text line (fault_number fault) → IsAnswer bytes No written
+faulty-answer bytes written line fault shown told =
+    inr (record { line = line; fault = fault; told = told; shown = shown; none = fault-none bytes line fault shown.has })
 
--- a fault that the bytes have at the line told
-pub faulty-answer : (text more written : List ℕ) (line : ℕ) (fault : Fault) → HasFault (text ++ more) line fault → written ≡ fault_text line (fault_number fault)
-    → IsAnswer (text ++ more) No written
-faulty-answer text more written line fault shown told =
-    inr (inl (record { line = line; fault = fault; told = told; shown = shown; none = fault-none (text ++ more) line fault shown }))
+-- ---- the text again
+
+-- a text with a line put in is that text, where its second line is taken out
+pub without-line : (bytes line made first behind second rest : List ℕ) → IsWithLine bytes line made → HasNoLf first → made ≡ first ++ 10 ∷ behind → HasNoLf second → behind ≡ second ++ 10 ∷ rest
+    → first ++ 10 ∷ rest ≡ bytes
+without-line bytes line made first behind second rest w one cut two cut_behind =
+    let outer = cut_at_byte 10 first w.front behind (line ++ 10 ∷ w.rest) (no_lf first one) (no_lf w.front w.first) (sym cut ∙ w.made) in
+    let inner = cut_at_byte 10 second line rest w.rest (no_lf second two) (no_lf line w.one) (sym cut_behind ∙ outer.1) in
+    ap₂ (λ (f r : List ℕ). f ++ 10 ∷ r) outer.0 inner.1 ∙ sym w.given
+
+pub no-first : (bytes line made : List ℕ) → IsWithLine bytes line made → HasNoLf made → ⊥
+no-first bytes line made w none = has_lf w.front (line ++ 10 ∷ w.rest) (subst HasNoLf w.made none)
+
+pub no-second : (bytes line made first behind : List ℕ) → IsWithLine bytes line made → HasNoLf first → made ≡ first ++ 10 ∷ behind → HasNoLf behind → ⊥
+no-second bytes line made first behind w one cut none =
+    let outer = cut_at_byte 10 first w.front behind (line ++ 10 ∷ w.rest) (no_lf first one) (no_lf w.front w.first) (sym cut ∙ w.made) in
+    has_lf line w.rest (subst HasNoLf outer.1 none)

@@ -1,5 +1,5 @@
 -- What logs without a certificate are answered by.
-use Rattle.std.specs.Prelude.{◌≡◌, ◌⊎◌, ℕ, Bool, List, [], ◌++◌, codes, decimal, Option, IfSome}
+use Rattle.std.specs.Prelude.{◌≡◌, ◌⊎◌, ℕ, Bool, List, [], ◌++◌, codes, decimal, length, Option, IfSome}
 use Rattle.std.specs.Io.KnownBytes.{Appends}
 use Rattle.sgt_names.specs.Device.{AppendsOrForgets, WritesFront}
 use Rattle.sgt_names.specs.declared.outcome.Outcome.{Outcome}
@@ -7,11 +7,12 @@ use Rattle.sgt_names.specs.declared.outcome.Outcome.TheVariants.{Yes, No, Unread
 use Rattle.sgt_cert.specs.Parts.{Parts}
 use Rattle.sgt_cert.specs.Text.{Spells, certificate_text}
 use Rattle.sgt_cert.specs.Valid.{IsValid}
+use Rattle.sgt_cert.specs.declared.certificate.Certificate.{Certificate}
 use Rattle.sgt_cert.specs.declared.bundle.SiteLog.{SiteLog}
 use Rattle.sgt_audit.specs.declared.faults.Fault.{Fault}
 use Rattle.sgt_audit.specs.Faults.{fault_number}
-use Rattle.sgt_certify_faults.specs.Faults.{GoesOn, HasFault}
-use Rattle.sgt_certify_logs.specs.Certifiable.{HasNoCertificate, IsWithLine, SpellsLogs}
+use Rattle.sgt_certify_faults.specs.Faults.{GoesOn, IsFaultless, IsFirstFault}
+use Rattle.sgt_certify_logs.specs.Certifiable.{AreCertifiable, HasNoCertificate, IsWithLine, SpellsLogs}
 use Rattle.sgt_certify_logs.specs.Witness.{HaveConflictsInACycle, HaveEndsInACycle, IsStuck}
 use Rattle.sgt_certify.specs.declared.refuting.Refusal.{Refusal}
 use Rattle.sgt_certify.specs.declared.refuting.Refusal.TheVariants.{Order, Ranks, Walk}
@@ -28,6 +29,14 @@ pub record IsCertified (bytes text : List ℕ) : Type 0 where
   pub spelled : Spells text bundle
   pub valid : IsValid bundle
 
+-- the bytes spell logs that this certificate, of as many sites, makes valid
+abbrev pub IsCertifiedBy : List ℕ → Certificate → Type 0
+IsCertifiedBy bytes c = (sites : List SiteLog) × SpellsLogs bytes sites × IsValid (record { certificate = c; sites = sites }) × (c.sites ≡ length sites)
+
+-- the bytes spell logs that some certificate makes valid
+abbrev pub HasCertificate : List ℕ → Type 0
+HasCertificate bytes = (sites : List SiteLog) × SpellsLogs bytes sites × AreCertifiable sites
+
 -- the first line of a refusal
 abbrev pub refusal_text : Refusal → List ℕ
 refusal_text Order = codes "no order\n"
@@ -40,13 +49,15 @@ Excludes Order sites = HaveEndsInACycle sites
 Excludes Ranks sites = HaveConflictsInACycle sites
 Excludes Walk sites = (decided : List ℕ) × IsStuck sites decided
 
--- the text begins with the line of a refusal, the logs that the bytes spell have what that line says, and so no certificate
+-- the text begins with the line of a refusal, the bytes have no fault, the logs that they spell have what that line says, and so
+-- no certificate
 pub record IsRefused (bytes text : List ℕ) : Type 0 where
   pub refusal : Refusal
   pub lines : List ℕ
   pub told : text ≡ refusal_text refusal ++ lines
   pub sites : List SiteLog
   pub logs : SpellsLogs bytes sites
+  pub faultless : IsFaultless bytes
   pub shown : Excludes refusal sites
   pub none : HasNoCertificate bytes
 
@@ -54,19 +65,18 @@ pub record IsRefused (bytes text : List ℕ) : Type 0 where
 abbrev pub fault_text : (line number : ℕ) → List ℕ
 fault_text line number = codes "no line " ++ (decimal line ++ (codes " F" ++ (decimal number ++ codes "\n")))
 
--- the text is the line of a fault, the bytes have it at that line whatever certificate is put in, and so none makes their logs valid
+-- the text is the line of the first fault that the bytes have whatever certificate is put in, and so none makes their logs valid
 pub record IsFaulty (bytes text : List ℕ) : Type 0 where
   pub line : ℕ
   pub fault : Fault
   pub told : text ≡ fault_text line (fault_number fault)
-  pub shown : HasFault bytes line fault
+  pub shown : IsFirstFault bytes line fault
   pub none : HasNoCertificate bytes
 
--- the text that the bytes are answered by: with a yes the bundle, with a no a refusal, a fault, or that what was found didn't pass its
--- check, which claims nothing
+-- the text that the bytes are answered by: with a yes the bundle, with a no the first fault, or where there is none a refusal
 abbrev pub IsAnswer : List ℕ → Outcome → List ℕ → Type 0
 IsAnswer bytes Yes text = IsCertified bytes text
-IsAnswer bytes No text = IsRefused bytes text ⊎ (IsFaulty bytes text ⊎ (text ≡ codes "! certify\n"))
+IsAnswer bytes No text = IsRefused bytes text ⊎ IsFaulty bytes text
 IsAnswer bytes Unreadable text = ⊥
 
 -- the text is all that was told, or all that stands in front of a line that is too long

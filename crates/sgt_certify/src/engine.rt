@@ -1,27 +1,22 @@
 //! The certificate of all that a reader gives.
 
-ghost use Rattle.std.specs.Prelude.{◌≡◌, ◌≢◌, ◌<◌, ◌++◌, ℕ, List, Option, Err, IfErr, IfOk, IfSome, IsErrOf, OnErr};
+ghost use Rattle.std.specs.Prelude.{◌≡◌, ◌≢◌, ◌<◌, ◌++◌, ◌↔◌, ℕ, true, List, Option, Err, IfErr, IfOk, IfSome, IsErrOf, OnErr};
 ghost use Rattle.sgt_notation.specs.Lines.{ReadFaultIsDue};
 ghost use Rattle.sgt_audit.specs.Faults.{fault_number};
-ghost use Rattle.sgt_certify.specs.Answer.{IsAnswer, IsTaken, fault_text, WroteAnswer, WroteAnswerFront};
-ghost use Rattle.sgt_certify_faults.specs.Faults.{GoesOn};
+ghost use Rattle.sgt_certify.specs.Answer.{HasCertificate, IsAnswer, IsTaken, fault_text, WroteAnswer, WroteAnswerFront};
+ghost use Rattle.sgt_certify_faults.specs.Faults.{GoesOn, IsFaultless, IsFirstFault};
+ghost use Rattle.sgt_certify_logs.specs.Sound.{SpellsSoundLogs};
 
+use crate::deciding::{Answer, sound_answer};
 use crate::making::certified;
 use crate::refuting::refused;
 use crate::taking::{Taken, take_text};
 use sgt_audit::Fault;
-use sgt_certify_faults::has_fault;
-use sgt_certify_search::{Found, LineFault, find, long_line};
+use sgt_certify_faults::{FirstFault, first_fault};
+use sgt_certify_search::{Found, Reason, find};
 use sgt_names::{EngineFail, Outcome, Sink, Source, write_all};
 use sgt_notation::push_number;
 use std::alloc::{AllocError, Global};
-
-/// An outcome, and what is to be written.
-#[derive(Drop)]
-struct Answer {
-    outcome: Outcome,
-    text: Vec<u8>,
-}
 
 /// The line of a fault.
 fn fault_line(alloc: Global, line: usize, fault: Fault) -> Result<Vec<u8>, AllocError>
@@ -35,82 +30,73 @@ fn fault_line(alloc: Global, line: usize, fault: Fault) -> Result<Vec<u8>, Alloc
     Ok(text)
 }
 
-/// The auditor's name of a fault.
-fn fault_of(fault: LineFault) -> Fault {
-    match fault {
-        LineFault::Format => Fault::Format,
-        LineFault::Notation => Fault::Notation,
-        LineFault::Section => Fault::Section,
-        LineFault::Item => Fault::Item,
-        LineFault::Twice => Fault::Twice,
-        LineFault::ReadValue => Fault::ReadValue,
-        LineFault::Block => Fault::Block,
-        LineFault::End => Fault::End,
-        LineFault::NotEnded => Fault::NotEnded,
-        LineFault::Final => Fault::Final,
-        LineFault::Truncated => Fault::Truncated,
-        LineFault::Behind => Fault::Trailing,
-    }
-}
-
-/// A no, where what was found didn't pass its check.
-fn unchecked_answer(alloc: Global) -> Result<Answer, AllocError>
-    ensures { IfOk result (λ a. (bytes : List ℕ) → IsAnswer bytes a.outcome a.text.items) }
+/// A no for the first fault of a text.
+fn fault_answer(alloc: Global, first: FirstFault) -> Result<Answer, AllocError>
+    ensures { IfOk result (λ a. (bytes : List ℕ) → IsFirstFault bytes first.line first.fault → IsAnswer bytes a.outcome a.text.items) }
 {
     Ok(Answer {
         outcome: Outcome::No,
-        text: Vec::from_slice(alloc, b"! certify\n")?,
+        text: fault_line(alloc, first.line, first.fault)?,
     })
 }
 
-/// A no for a line with a fault, where it passes its check. Behind the text comes nothing more, where that is all, else a line that is
-/// too long.
-fn fault_answer(
+/// The answer to a text without a fault, and so of sound logs: a no for this reason, if one was found that passes its check against
+/// the logs, else what is decided of them.
+fn faultless_answer(
     alloc: Global,
     text: &[u8],
-    all: bool,
-    line: usize,
-    found: LineFault,
-) -> Result<Answer, AllocError>
-    ensures { IfOk result (λ a. (more : List ℕ) → GoesOn all more → IsAnswer (text.now ++ more) a.outcome a.text.items) }
+    reason: Option<Reason>,
+) -> Result<Answer, EngineFail>
+    requires faultless { IsFaultless text.now }
+    requires sound { SpellsSoundLogs text.now }
+    ensures answer { IfOk result (λ a. IsAnswer text.now a.outcome a.text.items) }
+    ensures err { IfErr result (λ e. e ≡ EngineFail.Memory) }
 {
-    let fault = fault_of(found);
-    if !has_fault(alloc, text, all, line, fault)? {
-        return unchecked_answer(alloc);
+    let Some(reason) = reason else {
+        return sound_answer(alloc, text);
+    };
+    match refused(alloc, text, &reason)? {
+        Some(text) => Ok(Answer {
+            outcome: Outcome::No,
+            text,
+        }),
+        None => sound_answer(alloc, text),
     }
-    Ok(Answer {
-        outcome: Outcome::No,
-        text: fault_line(alloc, line, fault)?,
-    })
+}
+
+/// The answer to a text in which no certificate was found: its first fault, or else the answer to sound logs, by this reason, if one
+/// was found. Behind the text comes nothing more, where that is all, else a line that is too long.
+fn no_answer(
+    alloc: Global,
+    text: Vec<u8>,
+    all: bool,
+    reason: Option<Reason>,
+) -> Result<Answer, EngineFail>
+    ensures answer { IfOk result (λ a. (more : List ℕ) → GoesOn all more → IsAnswer (text.items ++ more) a.outcome a.text.items) }
+    ensures err { IfErr result (λ e. e ≡ EngineFail.Memory) }
+{
+    let bytes = text.as_slice();
+    match first_fault(alloc, bytes, all)? {
+        Some(first) => Ok(fault_answer(alloc, first)?),
+        None => faultless_answer(alloc, bytes, reason),
+    }
 }
 
 /// The answer to a text, by what was found of it.
 fn found_answer(alloc: Global, text: Vec<u8>, found: Found) -> Result<Answer, EngineFail>
-    ensures answer { IfOk result (λ a. IsAnswer text.items a.outcome a.text.items) }
+    ensures answer { IfOk result (λ a. (more : List ℕ) → GoesOn true more → IsAnswer (text.items ++ more) a.outcome a.text.items) }
     ensures err { IfErr result (λ e. e ≡ EngineFail.Memory) }
 {
     match found {
         Found::Certificate(certificate) => match certified(alloc, text, certificate)? {
-            Some(text) => Ok(Answer {
+            Ok(text) => Ok(Answer {
                 outcome: Outcome::Yes,
                 text,
             }),
-            None => Ok(unchecked_answer(alloc)?),
+            Err(text) => no_answer(alloc, text, true, None),
         },
-        Found::Refused(reason) => match refused(alloc, text, &reason)? {
-            Some(text) => Ok(Answer {
-                outcome: Outcome::No,
-                text,
-            }),
-            None => Ok(unchecked_answer(alloc)?),
-        },
-        Found::Fault { line, fault } => Ok(fault_answer(
-            alloc,
-            text.as_slice(),
-            true,
-            line,
-            fault,
-        )?),
+        Found::Refused(reason) => no_answer(alloc, text, true, Some(reason)),
+        Found::Fault => no_answer(alloc, text, true, None),
     }
 }
 
@@ -122,17 +108,16 @@ fn answer_to(alloc: Global, taken: Taken) -> Result<Answer, EngineFail>
 {
     let Taken { text, all } = taken;
     if !all {
-        let (line, fault) = long_line(alloc, text.as_slice())?;
-        return Ok(fault_answer(alloc, text.as_slice(), false, line, fault)?);
+        return no_answer(alloc, text, false, None);
     }
     let found = find(alloc, text.as_slice())?;
     found_answer(alloc, text, found)
 }
 
 /// Reads the text of a bundle without its second line, and writes it with the line of a certificate that makes its logs valid; or
-/// the reason why there is none: `no line L FN`, `no order`, `no ranks` or `no walk` and the lines that show it. Where what was
-/// found doesn't pass its check, the answer is `! certify`; no input is known for which it is. All but a line that is too long and
-/// what follows it is read before anything is written.
+/// the reason why there is none: `no line L FN`, `no order`, `no ranks` or `no walk` and the lines that show it. Where what the search
+/// found doesn't pass its check, the answer is decided anew, by a search that is proved and slow; no input is known for which it is.
+/// All but a line that is too long and what follows it is read before anything is written.
 ///
 /// ReadFault where the reader failed, or no read is left, and Memory where a growth was refused: nothing was written.
 /// WriteFault where the writer failed: a front of the answer may have been written.
@@ -142,6 +127,7 @@ pub fn certify<R: Source, W: Sink>(
     writer: &mut W,
 ) -> Result<Outcome, EngineFail>
     ensures answer { IfOk result (λ outcome. WroteAnswer (R.tells reader.old) outcome (W.holds writer.old) (W.holds writer.new)) }
+    ensures exact { IfOk result (λ outcome. IfSome (R.tells reader.old) (λ bytes. outcome ≡ Outcome.Yes ↔ HasCertificate bytes)) }
     ensures front { OnErr result (WroteAnswerFront (R.tells reader.old) (W.holds writer.old) (W.holds writer.new)) }
     ensures unwritten { IsErrOf result EngineFail.ReadFault → writer.new ≡ writer.old }
     ensures untouched { IsErrOf result EngineFail.Memory → writer.new ≡ writer.old }

@@ -1,10 +1,14 @@
 //! `certify`: the certificate of logs that have none, or the reason why there is none.
 #![tactic(auto)]
 
+mod deciding;
 mod engine;
+mod laws;
 mod making;
 mod refuting;
 mod taking;
 
+pub use deciding::{Answer, sound_answer};
 pub use engine::certify;
+pub use laws::a_yes_is_told_exactly_where_there_is_a_certificate;
 pub use refuting::Refusal;

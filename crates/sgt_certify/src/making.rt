@@ -1,6 +1,6 @@
 //! A text with a certificate put in.
 
-ghost use Rattle.std.specs.Prelude.{◌≡◌, ◌∷◌, ◌++◌, IfOk, IfErr, IfSome, IsTrue};
+ghost use Rattle.std.specs.Prelude.{◌≡◌, ◌∷◌, ◌++◌, ℕ, List, IfOk, IfErr, IfSome, IfNone, IsTrue};
 ghost use Rattle.sgt_notation.specs.Spelling.{HasNoLf};
 ghost use Rattle.sgt_cert.specs.Text.{certificate_text};
 ghost use Rattle.sgt_certify.specs.Answer.{IsCertified, SpellsValid};
@@ -14,7 +14,8 @@ use std::alloc::{AllocError, Global};
 
 /// The first line, without its LF, and what stands behind it.
 fn split_line(bytes: &[u8]) -> Option<(&[u8], &[u8])>
-    ensures { IfSome result (λ r. HasNoLf r.0.now × (bytes.now ≡ r.0.now ++ 10 ∷ r.1.now)) }
+    ensures some { IfSome result (λ r. HasNoLf r.0.now × (bytes.now ≡ r.0.now ++ 10 ∷ r.1.now)) }
+    ensures none { IfNone result (HasNoLf bytes.now) }
 {
     match find_lf(bytes) {
         Some(n) => Some((&bytes[..n], &bytes[n + 1..])),
@@ -37,21 +38,35 @@ fn assembled(alloc: Global, first: &[u8], second: &[u8], rest: &[u8]) -> Result<
     Ok(text)
 }
 
-/// The text with the certificate's line put in behind its first one, if it has one. What it is made of is given back.
-pub fn with_certificate(
+/// The text with this line put in behind its first one, if it has one.
+pub fn with_line(alloc: Global, text: &[u8], line: &[u8]) -> Result<Option<Vec<u8>>, AllocError>
+    requires { HasNoLf line.now }
+    ensures made { IfOk result (λ found. IfSome found (λ made. IsWithLine text.now line.now made.items)) }
+    ensures none { IfOk result (λ found. IfNone found (HasNoLf text.now)) }
+{
+    let Some((first, rest)) = split_line(text) else {
+        return Ok(None);
+    };
+    let made = assembled(alloc, first, line, rest)?;
+    Ok(Some(made))
+}
+
+/// The text with the certificate's line put in behind its first one, or the text again, if it has no line. What it is made of is
+/// given back.
+fn with_certificate(
     alloc: Global,
     text: Vec<u8>,
     certificate: Certificate,
-) -> Result<Option<Vec<u8>>, AllocError>
-    ensures { IfOk result (λ made. IfSome made (λ m. IsWithLine text.items (certificate_text certificate) m.items)) }
+) -> Result<Result<Vec<u8>, Vec<u8>>, AllocError>
+    ensures made { IfOk result (λ made. IfOk made (λ m. IsWithLine text.items (certificate_text certificate) m.items)) }
+    ensures again { IfOk result (λ made. IfErr made (λ t. t.items ≡ text.items)) }
 {
     let line = to_line(alloc, &certificate)?;
     drop(certificate);
-    let Some((first, rest)) = split_line(text.as_slice()) else {
-        return Ok(None);
-    };
-    let made = assembled(alloc, first, line.as_slice(), rest)?;
-    Ok(Some(made))
+    match with_line(alloc, text.as_slice(), line.as_slice())? {
+        Some(made) => Ok(Ok(made)),
+        None => Ok(Err(text)),
+    }
 }
 
 /// Room for the line of a verdict.
@@ -71,18 +86,44 @@ fn is_valid(alloc: Global, text: &[u8]) -> Result<bool, EngineFail>
     }
 }
 
-/// The text with the certificate put in, where that spells a valid bundle.
+/// The bytes without their second line, if they have two.
+fn without_line(alloc: Global, made: &[u8]) -> Result<Option<Vec<u8>>, AllocError>
+    ensures some { IfOk result (λ found. IfSome found (λ t. (bytes line : List ℕ) → IsWithLine bytes line made.now → t.items ≡ bytes)) }
+    ensures none { IfOk result (λ found. IfNone found ((bytes line : List ℕ) → IsWithLine bytes line made.now → ⊥)) }
+{
+    let Some((first, behind)) = split_line(made) else {
+        return Ok(None);
+    };
+    let Some((_, rest)) = split_line(behind) else {
+        return Ok(None);
+    };
+    let mut text = Vec::with_capacity(alloc, made.len())?;
+    text.extend_from_slice(first)?;
+    text.extend_from_slice(b"\n")?;
+    text.extend_from_slice(rest)?;
+    Ok(Some(text))
+}
+
+/// The text with the certificate put in, where that spells a valid bundle; else the text again.
 pub fn certified(
     alloc: Global,
     text: Vec<u8>,
     certificate: Certificate,
-) -> Result<Option<Vec<u8>>, EngineFail>
-    ensures made { IfOk result (λ made. IfSome made (λ m. IsCertified text.items m.items)) }
+) -> Result<Result<Vec<u8>, Vec<u8>>, EngineFail>
+    ensures made { IfOk result (λ made. IfOk made (λ m. IsCertified text.items m.items)) }
+    ensures again { IfOk result (λ made. IfErr made (λ t. t.items ≡ text.items)) }
     ensures err { IfErr result (λ e. e ≡ EngineFail.Memory) }
 {
-    let Some(made) = with_certificate(alloc, text, certificate)? else {
-        return Ok(None);
+    let made = match with_certificate(alloc, text, certificate)? {
+        Ok(made) => made,
+        Err(text) => return Ok(Err(text)),
     };
     let yes = is_valid(alloc, made.as_slice())?;
-    if yes { Ok(Some(made)) } else { Ok(None) }
+    if yes {
+        return Ok(Ok(made));
+    }
+    match without_line(alloc, made.as_slice())? {
+        Some(text) => Ok(Err(text)),
+        None => unreachable!(),
+    }
 }

@@ -1,12 +1,16 @@
 //! Why a text of logs has no certificate, checked against the logs.
 
-ghost use Rattle.std.specs.Prelude.{◌≡◌, ◌++◌, IfOk, IfErr, IfSome};
+ghost use Rattle.std.specs.Prelude.{◌≡◌, ◌++◌, List, [], length, IfOk, IfErr, IfSome, IfNone};
+ghost use Rattle.sgt_cert.specs.declared.bundle.SiteLog.{SiteLog};
 ghost use Rattle.sgt_certify.specs.Answer.{Excludes, IsRefused, refusal_text};
+ghost use Rattle.sgt_certify_faults.specs.Faults.{IsFaultless};
 ghost use Rattle.sgt_certify_logs.specs.Certifiable.{SpellsLogs};
+ghost use Rattle.sgt_cert.specs.Text.{certificate_text};
+ghost use Rattle.sgt_notation.specs.Spelling.{HasNoLf};
 
-use crate::making::with_certificate;
+use crate::making::with_line;
 use sgt_audit::read_bundle;
-use sgt_cert::{Bundle, Certificate, SiteLog};
+use sgt_cert::{Bundle, Certificate, SiteLog, to_line};
 use sgt_certify_logs::{is_conflict_cycle, is_end_cycle};
 use sgt_certify_search::{Proof, Reason};
 use sgt_certify_stuck::is_stuck;
@@ -25,7 +29,7 @@ pub enum Refusal {
 }
 
 /// The first line of a refusal.
-fn line_of(refusal: Refusal) -> &'static [u8]
+pub fn line_of(refusal: Refusal) -> &'static [u8]
     ensures { result.now ≡ refusal_text refusal }
 {
     match refusal {
@@ -58,23 +62,35 @@ fn shown(alloc: Global, sites: &[SiteLog], proof: &Proof) -> Result<Option<Refus
     }
 }
 
-/// The logs that the text spells, if they are of so many sites.
-fn logs_of(alloc: Global, text: Vec<u8>, sites: u8) -> Result<Option<Bundle>, EngineFail>
-    ensures logs { IfOk result (λ found. IfSome found (λ b. SpellsLogs text.items b.sites)) }
-    ensures err { IfErr result (λ e. e ≡ EngineFail.Memory) }
+/// The line of a certificate that decides nothing, of so many sites.
+fn empty_line(alloc: Global, sites: u8) -> Result<Vec<u8>, AllocError>
+    ensures text { IfOk result (λ line. line.items ≡ certificate_text (record { decisions = []; sites = sites })) }
+    ensures one_line { IfOk result (λ line. HasNoLf line.items) }
 {
     let empty = Certificate {
         sites,
         decisions: Listed::new(Vec::new(alloc)),
     };
-    match with_certificate(alloc, text, empty)? {
+    to_line(alloc, &empty)
+}
+
+/// The logs that the text spells, if they are of so many sites.
+pub fn logs_of(alloc: Global, text: &[u8], sites: u8) -> Result<Option<Bundle>, EngineFail>
+    ensures logs { IfOk result (λ found. IfSome found (λ b. SpellsLogs text.now b.sites)) }
+    ensures none { IfOk result (λ found. IfNone found ((logs : List SiteLog) → SpellsLogs text.now logs → length logs ≡ sites → ⊥)) }
+    ensures err { IfErr result (λ e. e ≡ EngineFail.Memory) }
+{
+    let line = empty_line(alloc, sites)?;
+    let found = with_line(alloc, text, line.as_slice())?;
+    drop(line);
+    match found {
         Some(made) => read_bundle(alloc, made.as_slice()),
         None => Ok(None),
     }
 }
 
 /// One text, and then another.
-fn joined(alloc: Global, head: &[u8], rest: &[u8]) -> Result<Vec<u8>, AllocError>
+pub fn joined(alloc: Global, head: &[u8], rest: &[u8]) -> Result<Vec<u8>, AllocError>
     ensures { IfOk result (λ text. text.items ≡ head.now ++ rest.now) }
 {
     let mut text = Vec::from_slice(alloc, head)?;
@@ -82,9 +98,10 @@ fn joined(alloc: Global, head: &[u8], rest: &[u8]) -> Result<Vec<u8>, AllocError
     Ok(text)
 }
 
-/// The text of the reason, where it passes its check against the logs.
-pub fn refused(alloc: Global, text: Vec<u8>, reason: &Reason) -> Result<Option<Vec<u8>>, EngineFail>
-    ensures told { IfOk result (λ told. IfSome told (λ t. IsRefused text.items t.items)) }
+/// The text of the reason, where it passes its check against the logs of a text that has no fault.
+pub fn refused(alloc: Global, text: &[u8], reason: &Reason) -> Result<Option<Vec<u8>>, EngineFail>
+    requires { IsFaultless text.now }
+    ensures told { IfOk result (λ told. IfSome told (λ t. IsRefused text.now t.items)) }
     ensures err { IfErr result (λ e. e ≡ EngineFail.Memory) }
 {
     let Some(bundle) = logs_of(alloc, text, reason.sites)? else {

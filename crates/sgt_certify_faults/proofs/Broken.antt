@@ -1,34 +1,26 @@
--- What is broken behind lines that were read.
-use Rattle.std.proofs.Common.{◌≡◌, ◌≢◌, ℕ, ◌≤◌, ◌-◌, Bool, List, [], ◌∷◌, ◌++◌, length, map, Option, Some, None, refl, sym, ap, ap₂, ◌∙◌, subst, arith, append_assoc, suc, ◌+◌, All, Contains}
-use Rattle.std.specs.Prelude.{slice_get}
-use Rattle.std.specs.List.{filter_map}
-use Rattle.std.proofs.lemmas.List.Elements.{All-cons, All-nil}
-use Rattle.std.proofs.lemmas.List.{append-nil}
+-- What is broken behind lines that were read, and what is kept.
+use Rattle.std.proofs.Common.{◌≡◌, ◌≢◌, ℕ, ◌+◌, ◌<◌, ◌≤◌, Bool, true, List, [], ◌∷◌, ◌++◌, length, map, Option, Some, None, refl, sym, ap, ◌∙◌, subst, arith}
 use Rattle.sgt_names.specs.Limits.{max_sites}
-use Rattle.sgt_names.specs.Name.{Name}
-use Rattle.sgt_names.specs.Entry.{tx_of, item_of, IsEnd, IsOpen, Continues, Repeats}
-use Rattle.sgt_names.specs.Log.{names, value_at, AllEnded}
-use Rattle.sgt_names.specs.declared.entry.Entry.TheVariants as entry
-use Rattle.sgt_names.specs.declared.entry.Holding.{Holding}
-use Rattle.std.specs.Option.{ForSome}
 use Rattle.sgt_names.specs.declared.entry.Entry.{Entry}
-use Rattle.sgt_names.proofs.Lists.{front_at, back_at}
-use Rattle.sgt_names.proofs.Places.{All_at, All-from_at}
+use Rattle.sgt_names.specs.declared.entry.Holding.{Holding}
+use Rattle.sgt_notation.specs.Limits.{max_line}
 use Rattle.sgt_notation.specs.Spelling.{line_text}
+use Rattle.sgt_notation.proofs.OneSpelling.{line-one}
+use Rattle.sgt_notation.proofs.Short.{line-short}
 use Rattle.sgt_notation.specs.declared.SectionLine.{SectionLine}
 use Rattle.sgt_notation.specs.declared.SectionLine.TheVariants.{Site, Initial, Logged, Final, End}
-use Rattle.sgt_cert.specs.Text.{sections_from, section_lines, AreSections}
+use Rattle.sgt_cert.specs.Text.{AreSections, Begins}
 use Rattle.sgt_cert.specs.declared.bundle.SiteLog.{SiteLog}
 use Rattle.sgt_audit.specs.declared.faults.Fault.{Fault}
 use Rattle.sgt_audit.specs.declared.faults.Fault.TheVariants as fault
-use Rattle.sgt_audit.specs.Faults.{entries_in, items_in, logged_in, IsLineIn, whole}
-use Rattle.sgt_audit.specs.Reading.{Begun, IsBegun, lines_read, open_lines}
-use Rattle.sgt_audit.specs.private.Judging.{HasOpen}
+use Rattle.sgt_audit.specs.Faults.{Breaks, IsLineIn, Piece, bytes_of, fault_number, whole, last}
+use Rattle.sgt_audit.specs.Reading.{Begun, HasRoomFor, IsBegun, lines_read}
 use Rattle.sgt_audit.specs.private.Following.{MayFollow}
-use Rattle.sgt_audit.proofs.MayFollow.{are-sections, begins-follow, sections-whole, whole-sections}
-use Rattle.sgt_audit.proofs.OpenLogs.{has_open}
-use Rattle.sgt_certify_faults.specs.Faults.{AreAll, EndAlike, KeepsAlone, RuleAlone, behind}
-use Rattle.sgt_certify_faults.proofs.KeptAlone.{open-logged, section-logged}
+use Rattle.sgt_audit.proofs.MayFollow.{are-sections, begins-follow, follow-decides, sections-whole, whole-sections}
+use Rattle.sgt_audit.proofs.OpenLogs.{kept-between}
+use Rattle.sgt_certify_faults.specs.Faults.{AreAll, KeepsAlone, RuleAlone, RuleWithin, behind}
+use Rattle.sgt_certify_faults.specs.private.Judging.{IsJudged}
+use Rattle.sgt_certify_faults.proofs.Alone.{open_to_all, site-judged}
 
 -- ---- which sections may begin so
 
@@ -79,74 +71,137 @@ rule-read second before line fault.Trailing is open_yet rule = no-trailing befor
 rule-read second before line fault.Notation is open_yet rule = no-notation before line
 rule-read second before line f is open_yet rule = rule open_yet line is refl
 
--- ---- the entries so far
+-- ---- the least fault of a line
 
-front-all : {A : Type 0} (P : A → Type 0) (xs ys : List A) → All P (xs ++ ys) → All P xs
-front-all P xs ys all = All-from_at P xs (λ n x at. All_at P (xs ++ ys) n x all (front_at xs ys n x at))
+below-section : (before : List SectionLine) (line : SectionLine) (f : Fault) → fault_number f < 7 → KeepsAlone before line f
+below-section before (Site k) fault.Section lt = absurd (omega arith)
+below-section before (Site k) fault.Block lt = absurd (omega arith)
+below-section before (Site k) _ lt = tt
+below-section before (Initial h) fault.Section lt = absurd (omega arith)
+below-section before (Initial h) fault.Block lt = absurd (omega arith)
+below-section before (Initial h) _ lt = tt
+below-section before (Logged e) fault.Section lt = absurd (omega arith)
+below-section before (Logged e) fault.Item lt = absurd (omega arith)
+below-section before (Logged e) fault.Twice lt = absurd (omega arith)
+below-section before (Logged e) fault.ReadValue lt = absurd (omega arith)
+below-section before (Logged e) fault.RankOrder lt = absurd (omega arith)
+below-section before (Logged e) fault.Block lt = absurd (omega arith)
+below-section before (Logged e) fault.End lt = absurd (omega arith)
+below-section before (Logged e) fault.DecisionOrder lt = absurd (omega arith)
+below-section before (Logged e) _ lt = tt
+below-section before (Final h) fault.Section lt = absurd (omega arith)
+below-section before (Final h) fault.Block lt = absurd (omega arith)
+below-section before (Final h) fault.NotEnded lt = absurd (omega arith)
+below-section before (Final h) fault.Final lt = absurd (omega arith)
+below-section before (Final h) _ lt = tt
+below-section before End fault.Section lt = absurd (omega arith)
+below-section before End fault.Block lt = absurd (omega arith)
+below-section before End fault.NotEnded lt = absurd (omega arith)
+below-section before End fault.WalkStep lt = absurd (omega arith)
+below-section before End _ lt = tt
 
-back-all : {A : Type 0} (P : A → Type 0) (xs ys : List A) → All P (xs ++ ys) → All P ys
-back-all P xs ys all = All-from_at P ys (λ n y at. All_at P (xs ++ ys) (length xs + n) y all (back_at xs ys n ∙ at))
+-- what goes on with some sections goes on with all that there can be
+pub begins-all : (b : Begun) (line : SectionLine) → IsBegun b → b.sites ≡ max_sites → KeepsAlone (lines_read b) line fault.Section → Begins b.sites (lines_read b ++ line ∷ [])
+begins-all b line begun sites keeps = (follow-decides b begun line true (λ _. follows-some b line sites keeps, λ _. refl)).0 refl
 
-open-lines : (k : ℕ) (log : SiteLog) → filter_map logged_in (open_lines k (Some log)) ≡ log.entries ++ []
-open-lines k log = ap (filter_map logged_in) (ap (λ (ls : List SectionLine). Site k ∷ ls) spread) ∙ open-logged log []
+-- a line that may not come next
+pub section-broken : (b : Begun) (line : SectionLine) → IsBegun b → b.sites ≡ max_sites → (Begins b.sites (lines_read b ++ line ∷ []) → ⊥) → Breaks (KeepsAlone (lines_read b) line) fault.Section
+section-broken b line begun sites miss = record { broken = λ keeps. miss (begins-all b line begun sites keeps); least = λ g lt. below-section (lines_read b) line g lt }
+
+-- a line between sections
+pub between-judged : (b : Begun) (line : SectionLine) → b.sites ≡ max_sites → b.current ≡ None → Begins b.sites (lines_read b ++ line ∷ []) → (f : Fault) → KeepsAlone (lines_read b) line f
+between-judged b (Site k) sites none begins = site-judged (lines_read b) k (kept-between open_to_all b (Site k) (sym sites) none begins)
+between-judged b (Initial h) sites none begins = absurd (subst (λ o. MayFollow b o (Initial h)) none (begins-follow b (Initial h) begins))
+between-judged b (Logged e) sites none begins = absurd (subst (λ o. MayFollow b o (Logged e)) none (begins-follow b (Logged e) begins))
+between-judged b (Final h) sites none begins = absurd (subst (λ o. MayFollow b o (Final h)) none (begins-follow b (Final h) begins))
+between-judged b End sites none begins = absurd (subst (λ o. MayFollow b o End) none (begins-follow b End begins))
+
+-- ---- what comes next
+
+-- the least fault of a line of the format is that of what comes next
+pub line-broken : (second : Bool) (before : List SectionLine) (line : SectionLine) (f : Fault) → IsLineIn second line → (AreAll before → ⊥) → Breaks (KeepsAlone before line) f → Breaks (RuleAlone (behind second before) (whole (line_text line))) f
+line-broken second before line f is open_yet breaks = record {
+  broken = λ rule. breaks.broken (rule-read second before line f is open_yet rule);
+  least = λ g lt. rule-of g (breaks.least g lt);
+}
   where
-    spread : map Initial log.items ++ map Logged log.entries ++ map Final log.finals ≡ map Initial log.items ++ (map Logged log.entries ++ (map Final log.finals ++ []))
-    spread = simp (append_assoc, append-nil)
+    rule-of : (g : Fault) → KeepsAlone before line g → RuleAlone (behind second before) (whole (line_text line)) g
+    rule-of fault.Trailing keeps = λ all. absurd (open_yet all)
+    rule-of fault.Notation keeps = λ open_one. (line, is, refl)
+    rule-of g keeps = λ open_one m m-is e. subst (λ k. KeepsAlone before k g) (line-one line m is.0 m-is.0 e) keeps
 
-each-whole : (P : Entry → Type 0) (k : ℕ) (logs : List SiteLog) (rest : List SectionLine) → All P (filter_map logged_in (sections_from k logs ++ rest)) → All (λ (log : SiteLog). All P log.entries) logs × All P (filter_map logged_in rest)
-each-whole P k [] rest all = (All-nil (λ (log : SiteLog). All P log.entries), all)
-each-whole P k (log ∷ logs) rest all =
-    let these = subst (All P) (ap (filter_map logged_in) (append_assoc (section_lines k log) (sections_from (suc k) logs) rest) ∙ section-logged k log (sections_from (suc k) logs ++ rest)) all in
-    let more = each-whole P (suc k) logs rest (back-all P log.entries (filter_map logged_in (sections_from (suc k) logs ++ rest)) these) in (
-      All-cons (λ (log : SiteLog). All P log.entries) log logs (front-all P log.entries (filter_map logged_in (sections_from (suc k) logs ++ rest)) these) more.0,
-      more.1,
-    )
+-- behind all sections nothing is asked but that nothing comes
+trailing-least : (second : Bool) (before : List SectionLine) (next : Piece) → AreAll before → (g : Fault) → fault_number g < 19 → RuleAlone (behind second before) next g
+trailing-least second before next all fault.Trailing lt = absurd (omega arith)
+trailing-least second before next all g lt = λ open_yet. absurd (open_yet all)
 
-pub open-entries : (P : Entry → Type 0) (b : Begun) (log : SiteLog) → b.current ≡ Some log → All P (filter_map logged_in (lines_read b)) → All P log.entries
-open-entries P b log here all =
-    let open_ones = (each-whole P 0 b.whole (open_lines (length b.whole) b.current) all).1 in
-    front-all P log.entries [] (subst (All P) (ap (λ o. filter_map logged_in (open_lines (length b.whole) o)) here ∙ open-lines (length b.whole) log) open_ones)
+pub trailing-broken : (second : Bool) (before : List SectionLine) (next : Piece) → AreAll before → (next ≡ last [] → ⊥) → Breaks (RuleAlone (behind second before) next) fault.Trailing
+trailing-broken second before next all more = record { broken = λ rule. more (rule all); least = trailing-least second before next all }
 
-pub whole-entries : (P : Entry → Type 0) (b : Begun) → All P (filter_map logged_in (lines_read b)) → All (λ (log : SiteLog). All P log.entries) b.whole
-whole-entries P b all = (each-whole P 0 b.whole (open_lines (length b.whole) b.current) all).0
+pub line-last : (l : List ℕ) → whole l ≡ last [] → ⊥
+line-last l e = cc
 
--- ---- what the rules ask, in terms of the open log
+pub last-empty : (l : List ℕ) → last l ≡ last [] → l ≡ []
+last-empty l e = ap bytes_of e
 
-module _ (b : Begun) (log : SiteLog) (here : b.current ≡ Some log) where
-  is-open : HasOpen (lines_read b) log
-  is-open = has_open b log here
+pub long-last : (next : Piece) → max_line < length (bytes_of next) → next ≡ last [] → ⊥
+long-last next long e = absurd (omega (arith, long, ap (λ p. length (bytes_of p)) e))
 
-  same-values : (x : Name) → value_at (items_in (lines_read b)) (entries_in (lines_read b)) x ≡ value_at log.items log.entries x
-  same-values x = ap₂ (λ is es. value_at is es x) is-open.items is-open.entries
+-- what is no line of the format
+format-least : (second : Bool) (before : List SectionLine) (next : Piece) → (g : Fault) → fault_number g < 2 → RuleAlone (behind second before) next g
+format-least second before (whole l) fault.Format lt = λ open_yet line is e. below-section before line fault.Format (omega arith)
+format-least second before (last l) fault.Format lt = λ open_yet. tt
+format-least second before next fault.Notation lt = absurd (omega arith)
+format-least second before next fault.Certificate lt = absurd (omega arith)
+format-least second before next fault.Ranks lt = absurd (omega arith)
+format-least second before next fault.DecidedTwice lt = absurd (omega arith)
+format-least second before next fault.WalkShape lt = absurd (omega arith)
+format-least second before next fault.Section lt = absurd (omega arith)
+format-least second before next fault.Item lt = absurd (omega arith)
+format-least second before next fault.Twice lt = absurd (omega arith)
+format-least second before next fault.ReadValue lt = absurd (omega arith)
+format-least second before next fault.RankOrder lt = absurd (omega arith)
+format-least second before next fault.Block lt = absurd (omega arith)
+format-least second before next fault.End lt = absurd (omega arith)
+format-least second before next fault.DecisionOrder lt = absurd (omega arith)
+format-least second before next fault.NotEnded lt = absurd (omega arith)
+format-least second before next fault.Final lt = absurd (omega arith)
+format-least second before next fault.WalkStep lt = absurd (omega arith)
+format-least second before next fault.Truncated lt = absurd (omega arith)
+format-least second before next fault.Trailing lt = absurd (omega arith)
 
-  pub read-value : (e : Entry) (tx : ℕ) (x : Name) (v : ℕ) → e ≡ entry.Read tx x v → KeepsAlone (lines_read b) (Logged e) fault.ReadValue → value_at log.items log.entries x ≡ Some v
-  read-value e tx x v is keeps = sym (same-values x) ∙ subst (λ (e : Entry). KeepsAlone (lines_read b) (Logged e) fault.ReadValue) is keeps
+notation-broken : (second : Bool) (before : List SectionLine) (next : Piece) → (AreAll before → ⊥) → (RuleWithin second before next fault.Notation → ⊥) → Breaks (RuleAlone (behind second before) next) fault.Notation
+notation-broken second before next open_yet miss = record { broken = λ rule. miss (rule open_yet); least = format-least second before next }
 
-  pub final-value : (line : SectionLine) (h : Holding) → line ≡ Final h → KeepsAlone (lines_read b) line fault.Final → value_at log.items log.entries h.item ≡ Some h.value
-  final-value line h is keeps = sym (same-values h.item) ∙ subst (λ (l : SectionLine). KeepsAlone (lines_read b) l fault.Final) is keeps
+pub unread-broken : (second : Bool) (before : List SectionLine) (l : List ℕ) → (AreAll before → ⊥) → ((line : SectionLine) → IsLineIn second line → l ≡ line_text line → ⊥) → Breaks (RuleAlone (behind second before) (whole l)) fault.Notation
+unread-broken second before l open_yet none = notation-broken second before (whole l) open_yet (λ spelled. none spelled.0 spelled.1 spelled.2)
 
-  pub item-listed : (e : Entry) → KeepsAlone (lines_read b) (Logged e) fault.Item → ForSome (item_of e) (Contains (names log.items))
-  item-listed e keeps = subst (λ items. ForSome (item_of e) (Contains (names items))) is-open.items keeps
+too-long : (second : Bool) (before : List SectionLine) (next : Piece) → RuleWithin second before next fault.Notation → max_line < length (bytes_of next) → ⊥
+too-long second before (whole l) (line, is, same) long = absurd (omega (arith, ap length same, line-short line is.0, long))
+too-long second before (last l) short long = absurd (omega (arith, short, long))
 
-  pub never-twice : (e : Entry) → KeepsAlone (lines_read b) (Logged e) fault.Twice → All (λ f. (x : Name) → Repeats x f e → ⊥) log.entries
-  never-twice e keeps = subst (All (λ f. (x : Name) → Repeats x f e → ⊥)) is-open.entries keeps
+pub long-broken : (second : Bool) (before : List SectionLine) (next : Piece) → (AreAll before → ⊥) → max_line < length (bytes_of next) → Breaks (RuleAlone (behind second before) next) fault.Notation
+long-broken second before next open_yet long = notation-broken second before next open_yet (λ rule. too-long second before next rule long)
 
-  pub not-ended : (e : Entry) → KeepsAlone (lines_read b) (Logged e) fault.End → All (λ f. IsEnd f → tx_of f ≢ tx_of e) log.entries
-  not-ended e keeps = subst (All (λ f. IsEnd f → tx_of f ≢ tx_of e)) is-open.entries keeps.1
+-- an end that isn't behind a whole section, or with bytes behind it
+pub end-broken : (second : Bool) (before : List SectionLine) (l : List ℕ) → (AreAll before → ⊥) → length l ≤ max_line → (l ≡ [] → (count : ℕ) → AreSections count before → ⊥) → Breaks (RuleAlone (behind second before) (last l)) fault.Truncated
+end-broken second before l open_yet short miss = record { broken = λ rule. let ends = rule open_yet in miss ends.0 ends.1.0 ends.1.1; least = below }
+  where
+    below : (g : Fault) → fault_number g < 18 → RuleAlone (behind second before) (last l) g
+    below fault.Trailing lt = absurd (omega arith)
+    below fault.Notation lt = λ open_one. short
+    below fault.Truncated lt = absurd (omega arith)
+    below _ lt = λ open_one. tt
 
-  pub final-ended : (line : SectionLine) (h : Holding) → line ≡ Final h → KeepsAlone (lines_read b) line fault.NotEnded → AllEnded log.entries
-  final-ended line h is keeps = subst AllEnded is-open.entries (subst (λ (l : SectionLine). KeepsAlone (lines_read b) l fault.NotEnded) is keeps)
+-- an end behind a whole section, or behind all
+pub end-judged : (second : Bool) (before : List SectionLine) (count : ℕ) → AreSections count before → (f : Fault) → RuleAlone (behind second before) (last []) f
+end-judged second before count whole_lines fault.Trailing = λ all. refl
+end-judged second before count whole_lines fault.Notation = λ open_yet. omega arith
+end-judged second before count whole_lines fault.Truncated = λ open_yet. (refl, (count, whole_lines))
+end-judged second before count whole_lines _ = λ open_yet. tt
 
-  pub end-ended : (line : SectionLine) → line ≡ End → KeepsAlone (lines_read b) line fault.NotEnded → AllEnded log.entries
-  end-ended line is keeps = subst AllEnded is-open.entries (subst (λ (l : SectionLine). KeepsAlone (lines_read b) l fault.NotEnded) is keeps)
-
-  pub block-goes_on : (line : SectionLine) (f : Entry) → log.finals ≡ [] → slice_get log.entries (length log.entries - 1) ≡ Some f → IsOpen f → KeepsAlone (lines_read b) line fault.Block
-      → (e : Entry) × (line ≡ Logged e) × Continues f e
-  block-goes_on line f none at is keeps = keeps f (is-open.entry_last f none at) is
-
--- an entry's transaction is to end in one way in all logs
-pub one-end : (b : Begun) (e : Entry) → KeepsAlone (lines_read b) (Logged e) fault.End → All (λ (log : SiteLog). All (λ f. tx_of f ≡ tx_of e → EndAlike f e) log.entries) b.whole
-one-end b e keeps = whole-entries (λ f. tx_of f ≡ tx_of e → EndAlike f e) b keeps.0
-
-pub one-end-here : (b : Begun) (log : SiteLog) (e : Entry) → b.current ≡ Some log → KeepsAlone (lines_read b) (Logged e) fault.End → All (λ f. tx_of f ≡ tx_of e → EndAlike f e) log.entries
-one-end-here b log e here keeps = open-entries (λ f. tx_of f ≡ tx_of e → EndAlike f e) b log here keeps.0
+-- whole sections are those of as many sites
+pub own-sections : (b : Begun) → IsBegun b → b.current ≡ None → 1 ≤ length b.whole → AreSections (length b.whole) (lines_read b)
+own-sections b begun none some =
+    let room = subst (HasRoomFor b) none begun.room in
+    whole-sections (record b { sites = length b.whole }) (record { some = some; few = omega (arith, room, begun.few); logs = begun.logs; room = subst (HasRoomFor (record b { sites = length b.whole })) (sym none) (omega arith) }) none refl

@@ -30,7 +30,8 @@ use Rattle.sgt_audit.proofs.SectionLines.{up_to, items_in-is, entries_in-is}
 use Rattle.sgt_audit.proofs.LinePlaces.{EachPlace, IsClosed, in_sections, last-logged}
 use Rattle.sgt_certify_logs.specs.Witness.{IsIn}
 use Rattle.sgt_certify_logs.proofs.Decisions.{ds, log_of, decided_in, one-number}
-use Rattle.sgt_certify_faults.specs.Faults.{EndAlike, KeepsAlone}
+use Rattle.sgt_certify_logs.specs.Sound.{EndAlike}
+use Rattle.sgt_certify_faults.specs.Faults.{KeepsAlone}
 
 -- ---- the entries of sections
 

@@ -1,6 +1,10 @@
-pub mod Asked
+pub mod Alone
 pub mod Broken
+pub mod FirstFaults
+pub mod Following
 pub mod KeptAlone
+pub mod Noted
 pub mod NoCertificate
+pub mod Odds
 pub mod ReadLines
-pub mod Valued
+pub mod SoundLogs

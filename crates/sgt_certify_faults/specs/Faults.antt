@@ -9,23 +9,18 @@ use Rattle.sgt_notation.specs.Lines.{IsLongerThan}
 use Rattle.sgt_notation.specs.Spelling.{line_text, text_of_lines}
 use Rattle.sgt_notation.specs.declared.SectionLine.{SectionLine}
 use Rattle.sgt_notation.specs.declared.SectionLine.TheVariants as Line
-use Rattle.sgt_cert.specs.Certificate.{Suits}
 use Rattle.sgt_cert.specs.Text.{format_line, Begins, AreSections}
 use Rattle.sgt_cert.specs.declared.certificate.Certificate.{Certificate}
-use Rattle.sgt_cert.specs.declared.certificate.Decision.{Decision}
+use Rattle.sgt_certify_logs.specs.Sound.{EndAlike}
 use Rattle.sgt_audit.specs.declared.faults.Fault.{Fault}
 use Rattle.sgt_audit.specs.declared.faults.Fault.TheVariants as fault
-use Rattle.sgt_audit.specs.Faults.{entries_in, logged_in, IsLineIn, Keeps, Piece, whole, last, ComesNext, Rule, start}
+use Rattle.sgt_audit.specs.Faults.{entries_in, fault_number, logged_in, IsLineIn, Keeps, Piece, whole, last, ComesNext, Rule, start}
 
 -- ---- what a line keeps, whatever the certificate
 
 -- a certificate that decides nothing
 abbrev pub undecided : Certificate
 undecided = record { decisions = []; sites = 0 }
-
--- some decision suits both entries: they ask for one kind of end
-abbrev pub EndAlike : Entry → Entry → Type 0
-EndAlike e f = (d : Decision) × Suits e d × Suits f d
 
 -- a line of a section, after the lines before it: it goes on with sections, of whatever number of sites; no earlier entry of its
 -- transaction asks for another kind of end, and none at its site is its end; and what the auditor asks where nothing is decided
@@ -80,6 +75,23 @@ pub record HasFault (bytes : List ℕ) (n : ℕ) (f : Fault) : Type 0 where
   pub number : n ≡ length (lines_of front) + 1
   pub comes : ComesNext rest next
   pub broken : RuleAlone front next f → ⊥
+
+-- ---- the first fault
+
+-- each line is one of its format, and keeps every rule behind the lines before it
+abbrev pub AreKept : Bool → List SectionLine → Type 0
+AreKept second lines = (earlier later : List SectionLine) (l : SectionLine) → lines ≡ earlier ++ l ∷ later
+    → IsLineIn second l × ((f : Fault) → KeepsAlone earlier l f)
+
+-- line n has the fault, no line before it has one, and of its own this is the least
+pub record IsFirstFault (bytes : List ℕ) (n : ℕ) (f : Fault) : Type 0 where
+  pub has : HasFault bytes n f
+  pub first : (m : ℕ) (g : Fault) → HasFault bytes m g → n ≤ m
+  pub least : (g : Fault) → HasFault bytes n g → fault_number f ≤ fault_number g
+
+-- no line has a fault
+abbrev pub IsFaultless : List ℕ → Type 0
+IsFaultless bytes = (n : ℕ) (f : Fault) → HasFault bytes n f → ⊥
 
 -- what follows a text: nothing, where that is all, else a line that is too long
 abbrev pub GoesOn : Bool → List ℕ → Type 0

@@ -1,13 +1,12 @@
-//! Faults of logs that no certificate mends: a check of a line that is said to have one.
+//! Faults of logs that no certificate mends: the first line that has one, and the least of its faults.
 #![tactic(auto)]
 
-mod breaking;
-mod entries;
-mod faults;
+mod asked;
+mod first;
+mod judging;
 mod laws;
 mod lines;
-mod sections;
-mod values;
+mod reading;
 
-pub use faults::has_fault;
+pub use first::{FirstFault, first_fault};
 pub use laws::faults_exclude_certificates;

@@ -1,16 +1,13 @@
 //! The lines of a text of logs.
 
-ghost use Rattle.std.specs.Prelude.{◌≡◌, ◌≤◌, ◌↔◌, ◌∷◌, ◌++◌, [], Bool, IsTrue, IfOk, IfSome, IfNone, None};
-ghost use Rattle.sgt_names.specs.Limits.{max_sites};
+ghost use Rattle.std.specs.Prelude.{◌≡◌, ◌↔◌, ◌<◌, ◌∷◌, ◌++◌, ℕ, List, Bool, IsTrue, IfSome, IfNone, length};
 ghost use Rattle.sgt_notation.specs.Reading.{Finds};
 ghost use Rattle.sgt_notation.specs.Spelling.{HasNoLf, line_text};
+ghost use Rattle.sgt_notation.specs.declared.SectionLine.{SectionLine};
 ghost use Rattle.sgt_cert.specs.Text.{format_line};
 ghost use Rattle.sgt_audit.specs.Faults.{Allows, IsLineIn};
-ghost use Rattle.sgt_certify_faults.specs.private.Reading.{IsReadTo};
 
-use crate::sections::Sections;
 use sgt_notation::{SectionLine, find_lf, read_section};
-use std::alloc::{AllocError, Global};
 
 /// The first line, without its LF, and what stands behind it.
 pub fn split_line(bytes: &[u8]) -> Option<(&[u8], &[u8])>
@@ -57,29 +54,17 @@ pub fn read_line(second: bool, line: &[u8]) -> Option<SectionLine>
     }
 }
 
-/// Adds so many lines at the front of the bytes: what stands behind them, where each goes on with the sections before it.
-pub fn add_lines<'a>(
-    sections: &mut Sections,
-    second: bool,
-    bytes: &'a [u8],
-    count: usize,
-) -> Result<Option<&'a [u8]>, AllocError>
-    requires { sections.old ≡ record { sites = max_sites; whole = []; current = None } }
-    ensures { IfOk result (λ found. IfSome found (λ rest. IsReadTo second bytes.now count sections.new rest.now)) }
+/// The line of a section in this format that stands at the front, and what stands behind it.
+pub fn split_read(second: bool, bytes: &[u8]) -> Option<(SectionLine, &[u8])>
+    ensures some { IfSome result (λ r. IsLineIn second r.0 × (bytes.now ≡ line_text r.0 ++ 10 ∷ r.1.now)) }
+    ensures none { IfNone result ((line : SectionLine) (more : List ℕ) → IsLineIn second line
+        → bytes.now ≡ line_text line ++ 10 ∷ more → ⊥) }
 {
-    let mut rest = bytes;
-    'lines: for _added in 0..count {
-        let Some((line, more)) = split_line(rest) else {
-            return Ok(None);
-        };
-        let Some(read) = read_line(second, line) else {
-            return Ok(None);
-        };
-        if !sections.may_take(&read) {
-            return Ok(None);
-        }
-        sections.add(read)?;
-        rest = more;
+    let Some((line, behind)) = split_line(bytes) else {
+        return None;
+    };
+    match read_line(second, line) {
+        Some(read) => Some((read, behind)),
+        None => None,
     }
-    Ok(Some(rest))
 }

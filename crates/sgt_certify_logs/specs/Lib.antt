@@ -1,2 +1,3 @@
 pub mod Certifiable
 pub mod Witness
+pub mod Sound

@@ -2,4 +2,6 @@
 #![tactic(auto)]
 
 #[cfg(test)]
+mod sound;
+#[cfg(test)]
 mod tests;

@@ -1,6 +1,6 @@
 //! Faults of a line that no certificate mends.
 
-/// The least fault of a line, with the number that the auditor gives it.
+/// The least fault of a line.
 #[derive(Clone, Copy, Debug, PartialEq, Eq)]
 pub enum LineFault {
     /// The first line is neither `sgt 1` nor `sgt 2`.
@@ -27,24 +27,4 @@ pub enum LineFault {
     Truncated,
     /// There is more behind the last section that there can be.
     Behind,
-}
-
-impl LineFault {
-    /// Its number.
-    pub fn number(self) -> u8 {
-        match self {
-            LineFault::Format => 1,
-            LineFault::Notation => 2,
-            LineFault::Section => 7,
-            LineFault::Item => 8,
-            LineFault::Twice => 9,
-            LineFault::ReadValue => 10,
-            LineFault::Block => 12,
-            LineFault::End => 13,
-            LineFault::NotEnded => 15,
-            LineFault::Final => 16,
-            LineFault::Truncated => 18,
-            LineFault::Behind => 19,
-        }
-    }
 }

@@ -41,8 +41,8 @@ pub enum Found {
     Certificate(Certificate),
     /// There is none, for this reason.
     Refused(Reason),
-    /// There is none: this line has a fault that no certificate mends.
-    Fault { line: usize, fault: LineFault },
+    /// There is none: a line has a fault that no certificate mends.
+    Fault,
 }
 
 /// The first line, without its LF, and what stands behind it.
@@ -162,24 +162,10 @@ pub fn find(alloc: Global, text: &[u8]) -> Result<Found, AllocError> {
         None => reader.end(rest),
     };
     match fault {
-        Some(fault) => Ok(Found::Fault {
-            line: reader.number(),
-            fault,
-        }),
+        Some(_) => Ok(Found::Fault),
         None => {
             let history = reader.finish()?;
             found_in(alloc, &history)
         }
     }
-}
-
-/// The first line with a fault of a text with a line behind it that is too long, and its fault. Err: memory ran out.
-pub fn long_line(alloc: Global, text: &[u8]) -> Result<(usize, LineFault), AllocError> {
-    let mut reader = Reader::new(alloc, text.len());
-    let mut rest = 0;
-    let fault = match feed(&mut reader, text, &mut rest)? {
-        Some(fault) => fault,
-        None => reader.too_long(),
-    };
-    Ok((reader.number(), fault))
 }

@@ -8,5 +8,4 @@ mod report;
 mod search;
 mod steps;
 
-pub use faults::LineFault;
-pub use finding::{Found, Proof, Reason, find, long_line};
+pub use finding::{Found, Proof, Reason, find};

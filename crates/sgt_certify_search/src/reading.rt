@@ -115,25 +115,9 @@ impl Reader {
         }
     }
 
-    /// The number of the next line.
-    pub fn number(&self) -> usize {
-        self.line
-    }
-
     /// Whether the greatest number of sections is whole.
     fn is_full(&self) -> bool {
         self.open.is_none() && self.logs.sections() >= MAX_SITES as usize
-    }
-
-    /// The fault of a line that is too long.
-    pub fn too_long(&self) -> LineFault {
-        if self.format.is_none() {
-            LineFault::Format
-        } else if self.is_full() {
-            LineFault::Behind
-        } else {
-            LineFault::Notation
-        }
     }
 
     /// The fault of the input's end, with so many bytes behind the last LF, if it has one.

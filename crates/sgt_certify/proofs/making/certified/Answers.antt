@@ -6,4 +6,4 @@ use Rattle.sgt_certify.proofs.making.certified.Goals as goal
 pub returns-then-yes-clause-made : goal.returns-then-yes-clause-made
 returns-then-yes-clause-made c =
     let valid = subst SpellsValid c.as_slice.ensures.value (c.in_ok-yes.ensures.yes c.if-yes.true) in
-    certified-from _ _ _ valid.0 (rw c.in-Some.is at c.in_ok-made.ensures) valid.1 valid.2
+    certified-from _ _ _ valid.0 (rw c.in-Ok.is at c.in_ok-made.ensures.made) valid.1 valid.2

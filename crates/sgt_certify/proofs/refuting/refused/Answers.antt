@@ -15,6 +15,7 @@ returns-clause-told c =
       told = c.in_ok-joined.ensures ∙ ap₂ (λ (h r : List ℕ). h ++ r) c.line_of.ensures c.as_slice.ensures.value;
       sites = c.in-Some.bundle.sites;
       logs = logs;
+      faultless = c.requires;
       shown = shown;
-      none = none-shown c.in-Some-2.refusal c.args.text.items c.in-Some.bundle.sites logs shown;
+      none = none-shown c.in-Some-2.refusal c.args.text.now c.in-Some.bundle.sites logs shown;
     }

@@ -1,0 +1,47 @@
+use Rattle.std.proofs.Common.{◌≤◌, List, length, sym, subst}
+use Rattle.sgt_names.specs.Limits.{max_sites}
+use Rattle.sgt_cert.specs.declared.bundle.SiteLog.{SiteLog}
+use Rattle.sgt_certify_logs.specs.Sound.{AreSound}
+use Rattle.sgt_certify_logs.specs.Witness.{EndsBefore, PrecedesCommitted}
+use Rattle.sgt_certify_greedy.specs.Answer.{IsAnswerTo}
+use Rattle.sgt_certify_greedy.specs.declared.deciding.Answer.{Answer}
+use Rattle.sgt_certify_greedy.specs.declared.deciding.Answer.TheVariants.{Certificate, Order, Ranks, Stuck}
+use Rattle.sgt_certify_greedy.proofs.Rings.{ring-cycle}
+use Rattle.sgt_certify.proofs.Decided.{logs-sound}
+use Rattle.sgt_certify.proofs.deciding.sound_answer.Goals as goal
+
+pub decide-requires-clause-sound : goal.decide-requires-clause-sound
+decide-requires-clause-sound c =
+    subst AreSound (sym c.sites-logs.ensures.logs) (logs-sound c.args.text.now _ c.in_ok-bundle.ensures.logs c.requires.sound)
+
+pub decide-requires-clause-few : goal.decide-requires-clause-few
+decide-requires-clause-few c =
+    subst (λ (logs : List SiteLog). length logs ≤ max_sites) (sym c.sites-logs.ensures.logs) c.in_ok-bundle.ensures.logs.shape.few
+
+pub certificate_answer-requires : goal.certificate_answer-requires
+certificate_answer-requires c =
+    let logs = c.in_ok-bundle.bundle.sites in
+    let is = subst (λ (sites : List SiteLog). IsAnswerTo sites c.in_ok-found.found) c.sites-logs.ensures.logs c.in_ok-found.ensures in
+    let valid : IsAnswerTo logs (Certificate c.in-Certificate.certificate) = subst (λ (a : Answer). IsAnswerTo logs a) c.in-Certificate.is is in
+    (logs, c.in_ok-bundle.ensures.logs, valid.0, valid.1)
+
+pub returns-in-Order-clause-answer : goal.returns-in-Order-clause-answer
+returns-in-Order-clause-answer c =
+    let logs = c.in_ok-bundle.bundle.sites in
+    let is = subst (λ (sites : List SiteLog). IsAnswerTo sites c.in_ok-found.found) c.sites-logs.ensures.logs c.in_ok-found.ensures in
+    let ring : IsAnswerTo logs (Order c.in-Order.cycle) = subst (λ (a : Answer). IsAnswerTo logs a) c.in-Order.is is in
+    c.in_ok-reason_answer-in-Order.ensures c.args.text.now logs c.requires.faultless c.in_ok-bundle.ensures.logs (ring-cycle (EndsBefore logs) c.in-Order.cycle.items ring)
+
+pub returns-in-Ranks-clause-answer : goal.returns-in-Ranks-clause-answer
+returns-in-Ranks-clause-answer c =
+    let logs = c.in_ok-bundle.bundle.sites in
+    let is = subst (λ (sites : List SiteLog). IsAnswerTo sites c.in_ok-found.found) c.sites-logs.ensures.logs c.in_ok-found.ensures in
+    let ring : IsAnswerTo logs (Ranks c.in-Ranks.cycle) = subst (λ (a : Answer). IsAnswerTo logs a) c.in-Ranks.is is in
+    c.in_ok-reason_answer-in-Ranks.ensures c.args.text.now logs c.requires.faultless c.in_ok-bundle.ensures.logs (ring-cycle (PrecedesCommitted logs) c.in-Ranks.cycle.items ring)
+
+pub returns-clause-answer : goal.returns-clause-answer
+returns-clause-answer c =
+    let logs = c.in_ok-bundle.bundle.sites in
+    let is = subst (λ (sites : List SiteLog). IsAnswerTo sites c.in_ok-found.found) c.sites-logs.ensures.logs c.in_ok-found.ensures in
+    let stuck : IsAnswerTo logs (Stuck c.in-Stuck.set) = subst (λ (a : Answer). IsAnswerTo logs a) c.in-Stuck.is is in
+    c.in_ok-reason_answer-in-Stuck.ensures c.args.text.now logs c.requires.faultless c.in_ok-bundle.ensures.logs (c.in-Stuck.set.items, stuck)

@@ -1,0 +1,193 @@
+-- The first fault of a text, where the lines before it have none.
+use Rattle.std.proofs.Common.{◌≡◌, ◌≢◌, ℕ, ◌+◌, ◌<◌, ◌≤◌, Bool, true, List, [], ◌∷◌, ◌++◌, length, map, Option, Some, None, refl, sym, ap, ap₂, ◌∙◌, subst, arith, inl, inr, ◌⊎◌, append_assoc, All}
+use Rattle.std.specs.List.{AllByRecursion}
+use Rattle.std.proofs.lemmas.Bool.{cases_order}
+use Rattle.std.proofs.lemmas.List.{append-nil, length-append, length-map}
+use Rattle.std.proofs.lemmas.List.Elements.{recursion_from_All, All-nil}
+use Rattle.sgt_names.specs.Limits.{max_sites}
+use Rattle.sgt_notation.specs.Spelling.{line_text, text_of_lines, HasNoLf, IsLine}
+use Rattle.sgt_notation.proofs.OneSpelling.{cut_at_byte, line-one, line-one_line}
+use Rattle.sgt_notation.specs.declared.SectionLine.{SectionLine}
+use Rattle.sgt_notation.specs.declared.SectionLine.TheVariants.{Site, Initial, Logged, Final, End}
+use Rattle.sgt_cert.specs.Parts.{IsShaped}
+use Rattle.sgt_cert.specs.Text.{format_line, sections_from, AreSections, Begins}
+use Rattle.sgt_cert.specs.declared.bundle.SiteLog.{SiteLog}
+use Rattle.sgt_cert.proofs.OneText.{format-one_line, first_line, line_front, no_line}
+use Rattle.sgt_audit.specs.declared.faults.Fault.{Fault}
+use Rattle.sgt_audit.specs.declared.faults.Fault.TheVariants as fault
+use Rattle.sgt_audit.specs.Faults.{fault_number, IsLineIn, Piece, whole, last, ComesNext, Rule, start, Breaks}
+use Rattle.sgt_audit.specs.Reading.{Begun}
+use Rattle.sgt_audit.specs.private.Following.{FitsBetween}
+use Rattle.sgt_audit.proofs.Formats.{format-one}
+use Rattle.sgt_audit.proofs.MayFollow.{begins-follow}
+use Rattle.sgt_audit.proofs.OneFault.{comes_line, one_piece}
+use Rattle.sgt_certify_logs.specs.Sound.{SpellsSoundLogs}
+use Rattle.sgt_certify_faults.specs.Faults.{AreAll, AreKept, AreSpelled, Front, none, behind, HasFault, IsFaultless, IsFirstFault, KeepsAlone, lines_of, RuleAlone}
+use Rattle.sgt_certify_faults.proofs.SoundLogs.{logs-allowed, logs-sound, logs-spelled}
+
+-- ---- lines of one text
+
+-- the second list of lines has one more behind the first, which comes next there
+pub record Beyond (xs ys : List SectionLine) (rest : List ℕ) : Type 0 where
+  pub line : SectionLine
+  pub more : List SectionLine
+  pub after : List ℕ
+  pub cut : ys ≡ xs ++ line ∷ more
+  pub next : rest ≡ line_text line ++ 10 ∷ after
+
+abbrev pub Compared : List SectionLine → List SectionLine → List ℕ → List ℕ → Type 0
+Compared xs ys r s = ((xs ≡ ys) × (r ≡ s)) ⊎ (Beyond xs ys r ⊎ Beyond ys xs s)
+
+beyond-more : (x y : SectionLine) (xs ys : List SectionLine) (r : List ℕ) → x ≡ y → Beyond xs ys r → Beyond (x ∷ xs) (y ∷ ys) r
+beyond-more x y xs ys r same b = record { line = b.line; more = b.more; after = b.after; cut = ap₂ (λ z zs. z ∷ zs) (sym same) b.cut; next = b.next }
+
+pub compare : (xs ys : List SectionLine) (r s : List ℕ) → AllByRecursion IsLine xs → AllByRecursion IsLine ys → text_of_lines (map line_text xs) ++ r ≡ text_of_lines (map line_text ys) ++ s → Compared xs ys r s
+compare [] [] r s h g e = inl (refl, e)
+compare [] (y ∷ ys) r s h g e = inr (inl (record { line = y; more = ys; after = text_of_lines (map line_text ys) ++ s; cut = refl; next = e ∙ line_front (line_text y) (map line_text ys) s }))
+compare (x ∷ xs) [] r s h g e = inr (inr (record { line = x; more = xs; after = text_of_lines (map line_text xs) ++ r; cut = refl; next = sym e ∙ line_front (line_text x) (map line_text xs) r }))
+compare (x ∷ xs) (y ∷ ys) r s h g e =
+    let e1 = sym (line_front (line_text x) (map line_text xs) r) ∙ e ∙ line_front (line_text y) (map line_text ys) s in
+    let cut = cut_at_byte 10 (line_text x) (line_text y) (text_of_lines (map line_text xs) ++ r) (text_of_lines (map line_text ys) ++ s) (line-one_line x h.0) (line-one_line y g.0) e1 in
+    let same = line-one x y h.0 g.0 cut.0 in
+    elim (compare xs ys r s h.1 g.1 cut.1) [
+      | inl both ↦ inl (ap₂ (λ z zs. z ∷ zs) same both.0, both.1)
+      | inr (inl b) ↦ inr (inl (beyond-more x y xs ys r same b))
+      | inr (inr b) ↦ inr (inr (beyond-more y x ys xs s (sym same) b))
+    ]
+
+each_line : (P : SectionLine → Type 0) (xs : List SectionLine) → ((earlier later : List SectionLine) (l : SectionLine) → xs ≡ earlier ++ l ∷ later → P l) → AllByRecursion P xs
+each_line P [] h = tt
+each_line P (x ∷ xs) h = (h [] xs x refl, each_line P xs (λ earlier later l e. h (x ∷ earlier) later l (ap (λ ys. x ∷ ys) e)))
+
+pub kept-lines : (second : Bool) (before : List SectionLine) → AreKept second before → AllByRecursion IsLine before
+kept-lines second before kept = each_line IsLine before (λ earlier later l e. (kept earlier later l e).0.0)
+
+pub spelled-lines : (second : Bool) (before : List SectionLine) → All (IsLineIn second) before → AllByRecursion IsLine before
+spelled-lines second before each = go before (recursion_from_All (IsLineIn second) before each)
+  where
+    go : (xs : List SectionLine) → AllByRecursion (IsLineIn second) xs → AllByRecursion IsLine xs
+    go [] h = tt
+    go (x ∷ xs) h = (h.0.0, go xs h.1)
+
+-- ---- a line that keeps every rule
+
+-- no site follows all that there can be
+no-more : (b : Begun) (line : SectionLine) → FitsBetween b line → length b.whole ≡ max_sites → b.sites ≤ max_sites → ⊥
+no-more b (Site k) f all few = absurd (omega (arith, f.0, f.1, all, few))
+no-more b (Initial h) f all few = f
+no-more b (Logged e) f all few = f
+no-more b (Final h) f all few = f
+no-more b End f all few = f
+
+not-all : (before : List SectionLine) (line : SectionLine) → KeepsAlone before line fault.Section → AreAll before → ⊥
+not-all before line (count, (logs, more, shape, cut)) (ls, shaped, all) =
+    let b : Begun = record { sites = count; whole = ls; current = None } in
+    let begins : Begins count ((sections_from 0 ls ++ []) ++ line ∷ []) =
+    (logs, more, shape, cut ∙ ap (λ (xs : List SectionLine). (xs ++ line ∷ []) ++ more) (sym all ∙ sym (append-nil (sections_from 0 ls)))) in
+    no-more b line (begins-follow b line begins) shaped.each shape.few
+
+pub good-line : (second : Bool) (before : List SectionLine) (line : SectionLine) → IsLineIn second line → ((f : Fault) → KeepsAlone before line f) → (f : Fault) → RuleAlone (behind second before) (whole (line_text line)) f
+good-line second before line is keeps fault.Trailing = λ all. absurd (not-all before line (keeps fault.Section) all)
+good-line second before line is keeps fault.Notation = λ open_yet. (line, is, refl)
+good-line second before line is keeps f = λ open_yet m m-is e. subst (λ k. KeepsAlone before k f) (line-one line m is.0 m-is.0 e) (keeps f)
+
+good-first : (second : Bool) (f : Fault) → RuleAlone none (whole (format_line second)) f
+good-first second fault.Format = (second, refl)
+good-first second _ = tt
+
+-- ---- the first fault
+
+-- the lines so far keep every rule
+abbrev pub IsKept : Front → Type 0
+IsKept none = Unit {0}
+IsKept (behind second before) = AreKept second before
+
+-- a fault is one of what comes next, or of a later line, which begins behind a line that comes next
+abbrev pub IsNextOrLater : Front → List ℕ → Piece → ℕ → Fault → Type 0
+IsNextOrLater front rest next m g = ((m ≡ length (lines_of front) + 1) × (RuleAlone front next g → ⊥))
+    ⊎ ((length (lines_of front) + 1 < m) × ((l after : List ℕ) × (rest ≡ l ++ 10 ∷ after)))
+
+module _ (second : Bool) (xs : List SectionLine) (r : List ℕ) (p : Piece) (kept : AreKept second xs) (comes : ComesNext r p) where
+  beside : (ys : List SectionLine) (s : List ℕ) (q : Piece) (m : ℕ) (g : Fault) → All (IsLineIn second) ys → ComesNext s q → m ≡ length (lines_of (behind second ys)) + 1
+      → (RuleAlone (behind second ys) q g → ⊥) → text_of_lines (map line_text xs) ++ r ≡ text_of_lines (map line_text ys) ++ s → IsNextOrLater (behind second xs) r p m g
+  beside ys s q m g each goes number broken e =
+      elim (compare xs ys r s (kept-lines second xs kept) (spelled-lines second ys each) e) [
+        | inl both ↦
+            let next = one_piece s q p goes (subst (λ t. ComesNext t p) both.1 comes) in
+            inl (
+              number ∙ ap (λ zs. length (lines_of (behind second zs)) + 1) (sym both.0),
+              λ rule. broken (subst (λ zs. RuleAlone (behind second zs) q g) both.0 (subst (λ n. RuleAlone (behind second xs) n g) (sym next) rule)),
+            )
+        | inr (inl b) ↦
+            inr (omega (arith, number, length-map xs line_text, length-map ys line_text, ap length b.cut, length-append xs (b.line ∷ b.more)), (line_text b.line, b.after, b.next))
+        | inr (inr b) ↦
+            let good = kept ys b.more b.line b.cut in
+            let next = comes_line (line_text b.line) b.after s q (line-one_line b.line good.0.0) b.next goes in
+            absurd (broken (subst (λ n. RuleAlone (behind second ys) n g) (sym next) (good-line second ys b.line good.0 good.1 g)))
+      ]
+
+first-behind : (f g : Bool) (xs ys : List ℕ) → format_line f ++ 10 ∷ xs ≡ format_line g ++ 10 ∷ ys → (f ≡ g) × (xs ≡ ys)
+first-behind f g xs ys e =
+    let cut = cut_at_byte 10 (format_line f) (format_line g) xs ys (format-one_line f) (format-one_line g) e in
+    (format-one f g cut.0, cut.1)
+
+behind-text : (second : Bool) (xs : List SectionLine) (r : List ℕ) → text_of_lines (lines_of (behind second xs)) ++ r ≡ format_line second ++ 10 ∷ (text_of_lines (map line_text xs) ++ r)
+behind-text second xs r = line_front (format_line second) (map line_text xs) r
+
+next-or-later : (front other : Front) (rest left : List ℕ) (next piece : Piece) (m : ℕ) (g : Fault) → IsKept front → ComesNext rest next → AreSpelled other → ComesNext left piece
+    → m ≡ length (lines_of other) + 1 → (RuleAlone other piece g → ⊥) → text_of_lines (lines_of front) ++ rest ≡ text_of_lines (lines_of other) ++ left → IsNextOrLater front rest next m g
+next-or-later none none rest left next piece m g kept comes spelled goes number broken e =
+    let same = one_piece left piece next goes (subst (λ t. ComesNext t next) e comes) in
+    inl (number, λ rule. broken (subst (λ n. RuleAlone none n g) (sym same) rule))
+next-or-later none (behind second ys) rest left next piece m g kept comes spelled goes number broken e =
+    inr (omega (arith, number), (format_line second, text_of_lines (map line_text ys) ++ left, e ∙ behind-text second ys left))
+next-or-later (behind second xs) none rest left next piece m g kept comes spelled goes number broken e =
+    let same = comes_line (format_line second) (text_of_lines (map line_text xs) ++ rest) left piece (format-one_line second) (sym e ∙ behind-text second xs rest) goes in
+    absurd (broken (subst (λ n. RuleAlone none n g) (sym same) (good-first second g)))
+next-or-later (behind second xs) (behind other ys) rest left next piece m g kept comes spelled goes number broken e =
+    let both = first-behind second other (text_of_lines (map line_text xs) ++ rest) (text_of_lines (map line_text ys) ++ left) (sym (behind-text second xs rest) ∙ e ∙ behind-text other ys left) in
+    beside second xs rest next kept comes ys left piece m g (subst (λ t. All (IsLineIn t) ys) (sym both.0) spelled) goes
+    (number ∙ ap (λ t. length (lines_of (behind t ys)) + 1) (sym both.0)) (subst (λ t. RuleAlone (behind t ys) piece g → ⊥) (sym both.0) broken) both.1
+
+module _ (bytes : List ℕ) (front : Front) (rest : List ℕ) (next : Piece) (kept : IsKept front) (spelled : AreSpelled front) (comes : ComesNext rest next)
+    (text : bytes ≡ text_of_lines (lines_of front) ++ rest) where
+  at-fault : (m : ℕ) (g : Fault) → HasFault bytes m g → IsNextOrLater front rest next m g
+  at-fault m g h = next-or-later front h.front rest h.rest next h.next m g kept comes h.spelled h.comes h.number h.broken (sym text ∙ h.text)
+
+  -- the least fault of what comes next is the first one
+  pub first-fault : (n : ℕ) (f : Fault) → n ≡ length (lines_of front) + 1 → Breaks (RuleAlone front next) f → IsFirstFault bytes n f
+  first-fault n f number breaks = record {
+    has = record { front = front; rest = rest; next = next; text = text; spelled = spelled; number = number; comes = comes; broken = breaks.broken };
+    first = λ m g h. elim (at-fault m g h) [ inl same ↦ omega (arith, number, same.0) | inr later ↦ omega (arith, number, later.0) ];
+    least = λ g h. elim (at-fault n g h) [
+      | inl same ↦ elim (cases_order (fault_number f) (fault_number g)) [
+        | inl one ↦ omega (arith, one)
+        | inr (inl less) ↦ omega (arith, less)
+        | inr (inr more) ↦ absurd (same.1 (breaks.least g more))
+      ]
+      | inr later ↦ absurd (omega (arith, number, later.0))
+    ];
+  }
+
+  -- no fault, where the text ends there
+  pub no-fault : rest ≡ [] → ((f : Fault) → RuleAlone front next f) → IsFaultless bytes
+  no-fault empty keeps m g h =
+      elim (at-fault m g h) [
+        | inl same ↦ same.1 (keeps g)
+        | inr later ↦ no_line later.1.0 later.1.1 (sym later.1.2 ∙ empty)
+      ]
+
+-- ---- a whole text without a fault
+
+pub sound-text : (second : Bool) (before : List SectionLine) (count : ℕ) → AreKept second before → AreSections count before → SpellsSoundLogs (format_line second ++ 10 ∷ text_of_lines (map line_text before))
+sound-text second before count kept (logs, shape, all) = (
+  logs,
+  record {
+    shape = subst (λ n. IsShaped n logs) (sym shape.each) shape;
+    logs = logs-spelled second before kept logs all;
+    second = second;
+    allowed = logs-allowed second before kept logs all;
+    text = sym (first_line (format_line second) (map line_text before)) ∙ ap (λ (ls : List SectionLine). text_of_lines (format_line second ∷ map line_text ls)) (sym all);
+  },
+  logs-sound second before kept logs all,
+)

@@ -1,0 +1,90 @@
+//! The first fault of a text of logs that no certificate mends.
+
+ghost use Rattle.std.specs.Prelude.{◌≡◌, ◌∷◌, ◌++◌, ℕ, List, IsTrue, IfOk, IfSome, IfNone};
+ghost use Rattle.sgt_notation.specs.Spelling.{HasNoLf};
+ghost use Rattle.sgt_cert.specs.Text.{format_line};
+ghost use Rattle.sgt_certify_faults.specs.Faults.{GoesOn, IsFaultless, IsFirstFault};
+ghost use Rattle.sgt_certify_faults.specs.private.Asked.{AreDecidedAsAsked};
+ghost use Rattle.sgt_certify_logs.specs.Sound.{SpellsSoundLogs};
+
+use crate::asked::decided_as_asked;
+use crate::lines::{read_format, split_line};
+use crate::reading::Reading;
+use sgt_audit::Fault;
+use sgt_decided::Decided;
+use sgt_notation::MAX_LINE;
+use std::alloc::{AllocError, Global};
+
+/// The first line of a text with a fault that no certificate mends, and the least of its faults.
+#[derive(Clone, Copy, Debug, PartialEq, Eq)]
+pub struct FirstFault {
+    pub line: usize,
+    pub fault: Fault,
+}
+
+/// The fault of a text without an LF.
+fn fault_of_end(text: &[u8], all: bool) -> Fault
+    ensures { HasNoLf text.now → (more : List ℕ) → GoesOn all more → IsFirstFault (text.now ++ more) 1 result }
+{
+    if all && text.len() <= MAX_LINE {
+        Fault::Truncated
+    } else {
+        Fault::Format
+    }
+}
+
+/// The first fault behind the first line, by a decision on each transaction.
+fn fault_behind(
+    alloc: Global,
+    decided: &Decided,
+    second: bool,
+    bytes: &[u8],
+    all: bool,
+) -> Result<Option<FirstFault>, AllocError>
+    requires { AreDecidedAsAsked second bytes.now decided.now.decisions }
+    ensures found { IfOk result (λ found. IfSome found (λ first. (more : List ℕ) → GoesOn all more
+        → IsFirstFault (format_line second ++ 10 ∷ (bytes.now ++ more)) first.line first.fault)) }
+    ensures none { IfOk result (λ found. IfNone found (IsTrue all × IsFaultless (format_line second ++ 10 ∷ bytes.now)
+        × SpellsSoundLogs (format_line second ++ 10 ∷ bytes.now))) }
+{
+    let mut reading = Reading::new(alloc, decided)?;
+    let mut rest = bytes;
+    let mut line: usize = 2;
+    'lines: while let Some((next, more)) = split_line(rest) {
+        if let Some(fault) = reading.next(decided, second, next)? {
+            return Ok(Some(FirstFault { line, fault }));
+        }
+        rest = more;
+        line += 1;
+    }
+    if !all {
+        let fault = reading.too_long();
+        return Ok(Some(FirstFault { line, fault }));
+    }
+    match reading.end(rest) {
+        Some(fault) => Ok(Some(FirstFault { line, fault })),
+        None => Ok(None),
+    }
+}
+
+/// The first line of a text of logs with a fault that no certificate mends, and the least of its faults; None where no line has one,
+/// and so the text spells sound logs. Behind the text comes nothing more, where that is all, else a line that is too long.
+/// Err: memory ran out.
+pub fn first_fault(alloc: Global, text: &[u8], all: bool) -> Result<Option<FirstFault>, AllocError>
+    ensures found { IfOk result (λ found. IfSome found (λ first. (more : List ℕ) → GoesOn all more
+        → IsFirstFault (text.now ++ more) first.line first.fault)) }
+    ensures none { IfOk result (λ found. IfNone found (IsTrue all × IsFaultless text.now × SpellsSoundLogs text.now)) }
+{
+    let Some((first, behind)) = split_line(text) else {
+        let fault = fault_of_end(text, all);
+        return Ok(Some(FirstFault { line: 1, fault }));
+    };
+    let Some(second) = read_format(first) else {
+        return Ok(Some(FirstFault {
+            line: 1,
+            fault: Fault::Format,
+        }));
+    };
+    let decided = decided_as_asked(alloc, second, behind)?;
+    fault_behind(alloc, &decided, second, behind, all)
+}

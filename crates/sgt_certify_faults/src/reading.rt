@@ -1,0 +1,131 @@
+//! The lines of a text of logs, one by one.
+
+ghost use Rattle.std.specs.Prelude.{◌≡◌, ◌<◌, ◌∷◌, ◌++◌, [], ℕ, List, Bool, IfOk, IfSome, IfNone, length};
+ghost use Rattle.sgt_names.specs.Limits.{max_sites};
+ghost use Rattle.sgt_notation.specs.Limits.{max_line};
+ghost use Rattle.sgt_notation.specs.Spelling.{line_text};
+ghost use Rattle.sgt_cert.specs.Text.{AreSections};
+ghost use Rattle.sgt_cert.specs.declared.certificate.Decision.{Decision};
+ghost use Rattle.sgt_audit.specs.Faults.{Breaks, IsLineIn, Piece, last, bytes_of};
+ghost use Rattle.sgt_audit.specs.Kept.{IsPlace, Tracks};
+ghost use Rattle.sgt_audit.specs.Reading.{Begun, IsBegun, lines_read};
+ghost use Rattle.sgt_audit.specs.private.Known.{IsKnownLine};
+ghost use Rattle.sgt_certify_faults.specs.Faults.{AreAll, KeepsAlone, RuleAlone, behind};
+ghost use Rattle.sgt_certify_faults.specs.private.Asked.{AreDecidedAsAsked};
+ghost use Rattle.sgt_certify_faults.specs.private.Judging.{IsJudged, TellsLineOdds};
+ghost use Rattle.sgt_certify_faults.specs.private.Reading.{Follows, HasRead};
+
+use crate::judging::judge_inside;
+use crate::lines::read_line;
+use sgt_audit::{Fault, Known, Place, enter_line, look_up};
+use sgt_cells::SiteState;
+use sgt_decided::Decided;
+use sgt_names::MAX_SITES;
+use sgt_notation::{MAX_LINE, SectionLine};
+use std::alloc::{AllocError, Global};
+
+/// What is kept of the lines that were read, none of which has a fault.
+#[derive(Drop)]
+pub struct Reading {
+    place: Place,
+    state: SiteState,
+}
+
+impl Reading {
+    /// Before the first line of a section.
+    pub fn new(alloc: Global, decided: &Decided) -> Result<Reading, AllocError>
+        ensures { IfOk result (λ r. (second : Bool) (bytes : List ℕ) → HasRead second decided.now.decisions bytes 0 r bytes) }
+    {
+        Ok(Reading {
+            place: Place::new(alloc, MAX_SITES),
+            state: SiteState::new(alloc, decided.decisions().len())?,
+        })
+    }
+
+    /// The least fault of a line of a section, of which this is known.
+    fn judge(&self, line: &SectionLine, known: &Option<Known>) -> Option<Fault>
+        ensures { (ds : List Decision) (b : Begun) → b.sites ≡ max_sites → IsBegun b → IsPlace b self.now.place → Tracks ds b self.now.state
+            → IsKnownLine ds self.now.state line.now known.now → TellsLineOdds ds (lines_read b) line.now
+            → IsJudged (KeepsAlone (lines_read b) line.now) result }
+    {
+        if !self.place.may_go_on(line) {
+            return Some(Fault::Section);
+        }
+        match &self.place.current {
+            Some(place) => judge_inside(&self.state, place, line, known),
+            None => None,
+        }
+    }
+
+    /// The next line, which is one of the format.
+    fn follow(&mut self, decided: &Decided, line: &SectionLine) -> Result<Option<Fault>, AllocError>
+        ensures { IfOk result (λ fault. (second : Bool) (bytes rest more : List ℕ) (count : ℕ)
+            → AreDecidedAsAsked second bytes decided.now.decisions
+            → (read : HasRead second decided.now.decisions bytes count self.old rest) → (AreAll (lines_read read.sections) → ⊥)
+            → IsLineIn second line.now → rest ≡ line_text line.now ++ 10 ∷ more
+            → Follows second decided.now.decisions bytes count self.old self.new rest (line_text line.now) more fault) }
+    {
+        let known = look_up(decided, &self.state, line);
+        if let Some(fault) = self.judge(line, &known) {
+            return Ok(Some(fault));
+        }
+        enter_line(&mut self.state, line, &known)?;
+        self.place.enter(line)?;
+        Ok(None)
+    }
+
+    /// The next line, without its LF, in the second format or the first: its least fault, if it has one.
+    pub fn next(
+        &mut self,
+        decided: &Decided,
+        second: bool,
+        line: &[u8],
+    ) -> Result<Option<Fault>, AllocError>
+        ensures { IfOk result (λ fault. (bytes rest more : List ℕ) (count : ℕ) → AreDecidedAsAsked second bytes decided.now.decisions
+            → HasRead second decided.now.decisions bytes count self.old rest → rest ≡ line.now ++ 10 ∷ more
+            → Follows second decided.now.decisions bytes count self.old self.new rest line.now more fault) }
+    {
+        if self.place.is_complete() {
+            return Ok(Some(Fault::Trailing));
+        }
+        match read_line(second, line) {
+            Some(read) => self.follow(decided, &read),
+            None => Ok(Some(Fault::Notation)),
+        }
+    }
+
+    /// The least fault of the end of the input, with these bytes behind the last LF, if it has one.
+    pub fn end(&self, rest: &[u8]) -> Option<Fault>
+        ensures some { IfSome result (λ fault. (b : Begun) (second : Bool) → b.sites ≡ max_sites → IsBegun b → IsPlace b self.now.place
+            → Breaks (RuleAlone (behind second (lines_read b)) (last rest.now)) fault) }
+        ensures none { IfNone result ((b : Begun) → b.sites ≡ max_sites → IsBegun b → IsPlace b self.now.place
+            → (rest.now ≡ []) × ((count : ℕ) × AreSections count (lines_read b))) }
+    {
+        if self.place.is_complete() {
+            return if rest.is_empty() {
+                None
+            } else {
+                Some(Fault::Trailing)
+            };
+        }
+        if rest.len() > MAX_LINE {
+            return Some(Fault::Notation);
+        }
+        if rest.is_empty() && self.place.current.is_none() && self.place.whole > 0 {
+            return None;
+        }
+        Some(Fault::Truncated)
+    }
+
+    /// The least fault of a line that is too long.
+    pub fn too_long(&self) -> Fault
+        ensures { (b : Begun) (second : Bool) (next : Piece) → b.sites ≡ max_sites → IsBegun b → IsPlace b self.now.place
+            → max_line < length (bytes_of next) → Breaks (RuleAlone (behind second (lines_read b)) next) result }
+    {
+        if self.place.is_complete() {
+            Fault::Trailing
+        } else {
+            Fault::Notation
+        }
+    }
+}

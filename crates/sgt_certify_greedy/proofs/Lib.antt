@@ -1,0 +1,11 @@
+pub mod Elements
+pub mod Pairing
+pub mod Placing
+pub mod Rings
+pub mod Decisions
+pub mod Distinct
+pub mod Fitting
+pub mod Validity
+pub mod Walking
+pub mod Answered
+pub mod Knowing

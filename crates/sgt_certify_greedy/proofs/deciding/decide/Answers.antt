@@ -1,0 +1,15 @@
+use Rattle.std.proofs.Common.{List, sym, subst}
+use Rattle.sgt_certify_greedy.specs.declared.pairs.Pair.{Pair}
+use Rattle.sgt_certify_greedy.specs.declared.pairs.Rule.TheVariants.{Ends}
+use Rattle.sgt_certify_greedy.specs.declared.sorting.Sorting.{Sorting}
+use Rattle.sgt_certify_greedy.specs.Pairs.{ArePairsOf, Leads}
+use Rattle.sgt_certify_greedy.specs.Sorted.{IsSorting}
+use Rattle.sgt_certify_greedy.proofs.Knowing.{ring-ends}
+use Rattle.sgt_certify_greedy.proofs.deciding.decide.Goals as goal
+
+pub returns-in-Cycle : goal.returns-in-Cycle
+returns-in-Cycle c =
+    let txs = c.as_slice-txs.result.now in
+    let found = c.as_slice-found.result.now in
+    let exact = subst (λ (ps : List Pair). ArePairsOf Ends c.args.sites.now ps) (sym c.as_slice-found.ensures.value) c.in_ok-ends.ensures in
+    ring-ends c.args.sites.now found txs c.in-Cycle.cycle.items exact (subst (λ (s : Sorting). IsSorting txs (Leads found) s) c.in-Cycle.is c.in_ok-sorting.ensures)

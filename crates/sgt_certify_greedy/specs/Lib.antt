@@ -1,0 +1,5 @@
+pub mod Pairs
+pub mod Sorted
+pub mod Walks
+pub mod Decided
+pub mod Answer
