@@ -1,7 +1,7 @@
 use Rattle.std.proofs.Common.{◌∙◌, subst}
 use Rattle.sgt_core.specs.Machine.{RefusesSites}
 use Rattle.sgt_replay.proofs.Running.{only-memory}
-use Rattle.sgt_replay.proofs.engine.core_of.Goals as goal
+use Rattle.sgt_replay.proofs.playing.core_of.Goals as goal
 
 pub unreachable-requires : goal.unreachable-requires
 unreachable-requires c =

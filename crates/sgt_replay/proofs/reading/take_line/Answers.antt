@@ -1,7 +1,8 @@
 use Rattle.std.proofs.Common.{◌∙◌, Bool, refl, subst, sym}
-use Rattle.sgt_replay.specs.private.Taking.{TakesSite}
-use Rattle.sgt_replay.proofs.OneInput.{after-event, empty_when, filled_when, took-none, took-site}
-use Rattle.sgt_replay.proofs.taking.take_line.Goals as goal
+use Rattle.sgt_input.specs.Sites.{TakesSite}
+use Rattle.sgt_input.proofs.SiteLines.{empty_when, filled_when}
+use Rattle.sgt_replay.proofs.OneInput.{after-event, took-none, took-site}
+use Rattle.sgt_replay.proofs.reading.take_line.Goals as goal
 
 pub returns-then-not-is_empty : goal.returns-then-not-is_empty
 returns-then-not-is_empty c =
