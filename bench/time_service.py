@@ -4,7 +4,7 @@
 usage: time_service.py SERVICE [RUNS]
 
 SERVICE is a built bench/baseline/service.rs; RUNS is 20 where nothing is said. The inputs are those of time_run.py. The program
-below is built in a scratch workspace, over copies of the crates with what their checks kept. It times `run` of sgt_run from the
+below is built in a scratch workspace, over copies of the crates with what their checks kept. It times `run` of sgt_service from the
 start of its threads until they are joined, and then `settle`; the plain service times its threads alike. Printed are scripts a
 second by the least time of the runs, and the time of settling that run.
 """
@@ -19,8 +19,8 @@ import time_run
 
 TOP = os.path.join(os.path.dirname(os.path.abspath(__file__)), "..")
 CRATES = [
-    "sgt_names", "sgt_notation", "sgt_arena", "sgt_site", "sgt_edges", "sgt_order", "sgt_cert", "sgt_decided", "sgt_cells",
-    "sgt_audit", "sgt_certifier", "sgt_agreed", "sgt_workers", "sgt_service", "sgt_settle", "sgt_run",
+    "sgt_names", "sgt_notation", "sgt_arena", "sgt_site", "sgt_edges", "sgt_order", "sgt_cert", "sgt_audit_decisions", "sgt_audit_cells",
+    "sgt_audit", "sgt_certifier", "sgt_service_agreement", "sgt_workers", "sgt_service_locks", "sgt_service_settle", "sgt_service",
 ]
 
 PROGRAM = r"""//! Runs the scripts of standard input on a service, and says how long they took and how long it took to settle them.
@@ -31,8 +31,8 @@ ghost use Rattle.std.specs.Prelude.{◌≡◌, ◌≤◌};
 use anyhow::Error;
 use sgt_names::{FromRead, Holding, Listed};
 use sgt_notation::Script;
-use sgt_run::{Input, Reading, read_input, run, settle};
-use sgt_service::Service;
+use sgt_service::{Input, Reading, read_input, run, settle};
+use sgt_service_locks::Service;
 use sgt_workers::NoGate;
 use std::alloc::{AllocError, Global};
 use std::env;
@@ -138,7 +138,7 @@ def built(scratch):
         lines = [it for it in file if it.split(":")[0].split(" ")[0] in CRATES]
     with open(f"{scratch}/crates.txt", "w", encoding="utf-8") as file:
         file.writelines(lines)
-        file.write("run_load: sgt_names sgt_notation sgt_workers sgt_service sgt_run anyhow\n")
+        file.write("run_load: sgt_names sgt_notation sgt_workers sgt_service_locks sgt_service anyhow\n")
     ran = subprocess.run(["rt", "run", "run_load"], cwd=home, stdin=subprocess.DEVNULL, stdout=subprocess.PIPE,
                          stderr=subprocess.STDOUT, text=True)
     if ran.returncode:

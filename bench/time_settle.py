@@ -17,20 +17,20 @@ import tempfile
 
 TOP = os.path.join(os.path.dirname(os.path.abspath(__file__)), "..")
 CRATES = [
-    "sgt_names", "sgt_notation", "sgt_arena", "sgt_site", "sgt_edges", "sgt_order", "sgt_cert", "sgt_certifier", "sgt_agreed",
-    "sgt_workers", "sgt_settle",
+    "sgt_names", "sgt_notation", "sgt_arena", "sgt_site", "sgt_edges", "sgt_order", "sgt_cert", "sgt_certifier", "sgt_service_agreement",
+    "sgt_workers", "sgt_service_settle",
 ]
 
 PROGRAM = r"""//! Runs scripts that read an item and write to it, four at a time, and checks whether the run is settled.
 #![tactic(auto)]
 
 use anyhow::Error;
-use sgt_agreed::EntryCounts;
+use sgt_service_agreement::EntryCounts;
 use sgt_arena::Handle;
 use sgt_certifier::{Certifier, Decided};
 use sgt_edges::gather;
 use sgt_names::{Draft, Entry, Holding, Item, SiteNo, Tx};
-use sgt_settle::check_settled;
+use sgt_service_settle::check_settled;
 use sgt_site::Site;
 use sgt_workers::{Done, Ending, Ticket};
 use std::alloc::Global;
@@ -209,7 +209,7 @@ def built(scratch, unproved):
         lines = [it for it in file if it.split(":")[0].split(" ")[0] in CRATES]
     with open(f"{scratch}/crates.txt", "w", encoding="utf-8") as file:
         file.writelines(lines)
-        file.write("settle_load: sgt_names sgt_arena sgt_site sgt_edges sgt_cert sgt_certifier sgt_agreed sgt_workers sgt_settle anyhow\n")
+        file.write("settle_load: sgt_names sgt_arena sgt_site sgt_edges sgt_cert sgt_certifier sgt_service_agreement sgt_workers sgt_service_settle anyhow\n")
     subprocess.run(["rt", "fmt"], cwd=home, check=True)
     if unproved:
         return ["rt", "try", "settle_load", "--seconds", "600", "--"], home

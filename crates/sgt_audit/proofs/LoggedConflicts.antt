@@ -14,12 +14,12 @@ use Rattle.sgt_cert.specs.declared.certificate.Certificate.{Certificate}
 use Rattle.sgt_cert.specs.declared.certificate.Decision.{Decision}
 use Rattle.sgt_cert.specs.declared.certificate.Decision.TheVariants.{Refuse}
 use Rattle.sgt_cert.specs.declared.certificate.Step.{Step}
-use Rattle.sgt_decided.specs.Steps.{AreStepsAt, AreStepsOf, edges_from, edges_in}
-use Rattle.sgt_decided.specs.declared.steps.Edge.{Edge}
-use Rattle.sgt_decided.proofs.Grouping.{cons-cases, cons-first, cons-rest, edge-found, edge-there, certificate-within}
-use Rattle.sgt_cells.proofs.Doing.{get_cases}
-use Rattle.sgt_cells.specs.Tracks.{TracksOpen}
-use Rattle.sgt_cells.specs.declared.state.SiteState.{SiteState}
+use Rattle.sgt_audit_decisions.specs.Steps.{AreStepsAt, AreStepsOf, edges_from, edges_in}
+use Rattle.sgt_audit_decisions.specs.declared.steps.Edge.{Edge}
+use Rattle.sgt_audit_decisions.proofs.Grouping.{cons-cases, cons-first, cons-rest, edge-found, edge-there, certificate-within}
+use Rattle.sgt_audit_cells.proofs.Doing.{get_cases}
+use Rattle.sgt_audit_cells.specs.Tracks.{TracksOpen}
+use Rattle.sgt_audit_cells.specs.declared.state.SiteState.{SiteState}
 use Rattle.sgt_audit.specs.declared.walks.Walks.{Walks}
 use Rattle.sgt_audit.specs.Kept.{IsMet, AreMet, MeansMet, TracksCurrent}
 use Rattle.sgt_audit.specs.Reading.{Begun}

@@ -18,7 +18,7 @@ use Rattle.sgt_audit.specs.private.Judging.{KeptBelow}
 use Rattle.sgt_audit.specs.Reading.{Begun, lines_read, IsBegun}
 use Rattle.sgt_audit.specs.Kept.{Means, IsStageOf}
 use Rattle.sgt_audit.proofs.LinePlaces.{cut_append, last_cut}
-use Rattle.sgt_decided.proofs.Walks.{push-one}
+use Rattle.sgt_audit_decisions.proofs.Walks.{push-one}
 use Rattle.sgt_audit.proofs.SectionLines.{last_end}
 use Rattle.sgt_audit.proofs.MayFollow.{sections-whole, whole-sections}
 use Rattle.sgt_audit.proofs.Least.{least-at}

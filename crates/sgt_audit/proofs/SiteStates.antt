@@ -25,10 +25,10 @@ use Rattle.sgt_cert.specs.Parts.{ComesBefore}
 use Rattle.sgt_cert.specs.Valid.{IsDecided, RiseInRank, EndInOrder}
 use Rattle.sgt_cert.specs.declared.bundle.SiteLog.{SiteLog}
 use Rattle.sgt_cert.specs.declared.certificate.Decision.{Decision}
-use Rattle.sgt_decided.specs.Decided.{Decides, IsFound}
-use Rattle.sgt_cells.specs.Tracks.{TracksOpen, IsReadyFor, IsPlaceAmong, IsNumberOf}
-use Rattle.sgt_cells.specs.declared.state.SiteState.{SiteState}
-use Rattle.sgt_cells.proofs.Tracking.{ready-next}
+use Rattle.sgt_audit_decisions.specs.Decided.{Decides, IsFound}
+use Rattle.sgt_audit_cells.specs.Tracks.{TracksOpen, IsReadyFor, IsPlaceAmong, IsNumberOf}
+use Rattle.sgt_audit_cells.specs.declared.state.SiteState.{SiteState}
+use Rattle.sgt_audit_cells.proofs.Tracking.{ready-next}
 use Rattle.sgt_cert.specs.Certificate.{IsDecidedOnce}
 use Rattle.sgt_cert.specs.Text.{Begins}
 use Rattle.sgt_cert.specs.declared.certificate.Certificate.{Certificate}

@@ -8,10 +8,10 @@ use Rattle.sgt_cert.specs.Text.{AreSections}
 use Rattle.sgt_cert.specs.declared.certificate.Certificate.{Certificate}
 use Rattle.sgt_cert.specs.declared.bundle.SiteLog.{SiteLog}
 use Rattle.sgt_cert.specs.declared.certificate.Decision.{Decision}
-use Rattle.sgt_decided.specs.Steps.{AreStepsOf, edges_in}
-use Rattle.sgt_decided.specs.declared.steps.Edge.{Edge}
-use Rattle.sgt_cells.specs.Tracks.{TracksOpen, IsReadyFor}
-use Rattle.sgt_cells.specs.declared.state.SiteState.{SiteState}
+use Rattle.sgt_audit_decisions.specs.Steps.{AreStepsOf, edges_in}
+use Rattle.sgt_audit_decisions.specs.declared.steps.Edge.{Edge}
+use Rattle.sgt_audit_cells.specs.Tracks.{TracksOpen, IsReadyFor}
+use Rattle.sgt_audit_cells.specs.declared.state.SiteState.{SiteState}
 use Rattle.sgt_audit.specs.declared.kept.Kept.{Kept}
 use Rattle.sgt_audit.specs.declared.place.OpenPlace.{OpenPlace}
 use Rattle.sgt_audit.specs.declared.place.Place.{Place}

@@ -6,7 +6,7 @@ ghost use Rattle.sgt_notation.specs.declared.SectionLine.TheVariants.{Logged, Fi
 ghost use Rattle.sgt_names.specs.Log.{names};
 ghost use Rattle.sgt_cert.specs.Certificate.{IsDecidedOnce, AreRanks, ranks};
 ghost use Rattle.sgt_cert.specs.declared.certificate.Decision.{Decision};
-ghost use Rattle.sgt_cells.specs.Tracks.{TracksOpen};
+ghost use Rattle.sgt_audit_cells.specs.Tracks.{TracksOpen};
 ghost use Rattle.sgt_audit.specs.Kept.{IsOpenPlace, IsPlace, IsTracked};
 ghost use Rattle.sgt_cert.specs.Text.{Begins};
 ghost use Rattle.sgt_cert.specs.declared.bundle.SiteLog.{SiteLog};
@@ -24,9 +24,9 @@ use crate::place::OpenPlace;
 use crate::tracked::{
     Tracked, holds_value, is_active, is_first, is_in_order, is_in_rank, is_legal, is_listed,
 };
-use sgt_cells::SiteState;
+use sgt_audit_cells::SiteState;
+use sgt_audit_decisions::{Decided, are_cycles, are_ranks};
 use sgt_cert::Certificate;
-use sgt_decided::{Decided, are_cycles, are_ranks};
 use sgt_names::{Entry, Holding};
 use sgt_notation::SectionLine;
 use std::alloc::{AllocError, Global};

@@ -10,7 +10,7 @@ use crate::judging::judge_line;
 use crate::known::look_up;
 use crate::sections::{Sections, add_to};
 use crate::tracked::Tracked;
-use sgt_decided::Decided;
+use sgt_audit_decisions::Decided;
 use sgt_names::Entry;
 use sgt_notation::SectionLine;
 use std::alloc::AllocError;

@@ -2,8 +2,8 @@
 
 ghost use Rattle.sgt_audit.specs.private.Known.{IsKnownLine};
 
-use sgt_cells::SiteState;
-use sgt_decided::{Decided, Ruling};
+use sgt_audit_cells::SiteState;
+use sgt_audit_decisions::{Decided, Ruling};
 use sgt_notation::SectionLine;
 
 /// What is known of an entry.

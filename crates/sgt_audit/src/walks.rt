@@ -10,14 +10,14 @@ ghost use Rattle.sgt_cert.specs.declared.certificate.Certificate.{Certificate};
 ghost use Rattle.sgt_cert.specs.declared.certificate.Decision.{Decision};
 ghost use Rattle.sgt_cert.specs.declared.certificate.Decision.TheVariants.{Refuse};
 ghost use Rattle.sgt_cert.specs.declared.certificate.Step.{Step};
-ghost use Rattle.sgt_decided.specs.Steps.{AreStepsOf};
-ghost use Rattle.sgt_cells.specs.Tracks.{TracksOpen};
+ghost use Rattle.sgt_audit_decisions.specs.Steps.{AreStepsOf};
+ghost use Rattle.sgt_audit_cells.specs.Tracks.{TracksOpen};
 ghost use Rattle.sgt_audit.specs.Kept.{IsMet, MeansMet, Tracks};
 ghost use Rattle.sgt_audit.specs.Reading.{Begun};
 ghost use Rattle.sgt_audit.specs.private.Following.{MayFollow, with_next};
 
-use sgt_cells::SiteState;
-use sgt_decided::{Decided, Edge, Steps};
+use sgt_audit_cells::SiteState;
+use sgt_audit_decisions::{Decided, Edge, Steps};
 use sgt_notation::SectionLine;
 
 /// The steps of all walks, and whether each at a site whose log is whole is a conflict there.

@@ -1,6 +1,6 @@
 //! Sections worked out by hand. Transactions 1 to 3 are decided by the numbers 0 to 2, and committed with the ranks 2, 0 and 1.
 
-use sgt_cells::SiteState;
+use sgt_audit_cells::SiteState;
 use sgt_names::{Entry, Holding, Item, Kind, Tx};
 use std::alloc::AllocError;
 use std::test::Fail;

@@ -15,8 +15,8 @@ use Rattle.sgt_notation.specs.Spelling.{line_text, text_of_lines}
 use Rattle.sgt_notation.specs.declared.SectionLine.{SectionLine}
 use Rattle.sgt_notation.specs.declared.SectionLine.TheVariants.{Site, Initial, Logged, Final, End}
 use Rattle.sgt_audit.specs.Faults.{IsLineIn, logged_in}
-use Rattle.sgt_cells.proofs.Lists.{set-at, set-other}
-use Rattle.sgt_decided.proofs.Tables.{map-here, map-others}
+use Rattle.sgt_audit_cells.proofs.Lists.{set-at, set-other}
+use Rattle.sgt_audit_decisions.proofs.Tables.{map-here, map-others}
 use Rattle.sgt_certify_faults.specs.declared.asked.Asking.{Asking}
 use Rattle.sgt_certify_faults.specs.declared.asked.Askings.{Askings}
 use Rattle.sgt_certify_faults.specs.private.Asked.{AreAskings, AreInFront, IsAskedIn, asked_end, asking_with, first_end, first_of}

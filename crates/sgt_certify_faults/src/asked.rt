@@ -8,8 +8,8 @@ ghost use Rattle.sgt_certify_faults.specs.declared.asked.Asking.{Asking};
 ghost use Rattle.sgt_certify_faults.specs.private.Asked.{asked_end, asking_with, AreAskings, IsAskedIn, AreDecidedAsAsked, decision_of};
 
 use crate::lines::split_read;
+use sgt_audit_decisions::Decided;
 use sgt_cert::{Certificate, Decision};
-use sgt_decided::Decided;
 use sgt_names::{Entry, Listed, Tx};
 use sgt_notation::SectionLine;
 use std::alloc::{AllocError, Global};

@@ -11,7 +11,7 @@ use crate::asked::decided_as_asked;
 use crate::lines::{read_format, split_line};
 use crate::reading::Reading;
 use sgt_audit::Fault;
-use sgt_decided::Decided;
+use sgt_audit_decisions::Decided;
 use sgt_notation::MAX_LINE;
 use std::alloc::{AllocError, Global};
 

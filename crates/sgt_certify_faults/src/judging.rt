@@ -7,7 +7,7 @@ ghost use Rattle.sgt_notation.specs.declared.SectionLine.TheVariants.{Logged};
 ghost use Rattle.sgt_cert.specs.Text.{Begins};
 ghost use Rattle.sgt_cert.specs.declared.certificate.Decision.{Decision};
 ghost use Rattle.sgt_cert.specs.declared.bundle.SiteLog.{SiteLog};
-ghost use Rattle.sgt_cells.specs.Tracks.{TracksOpen};
+ghost use Rattle.sgt_audit_cells.specs.Tracks.{TracksOpen};
 ghost use Rattle.sgt_audit.specs.Kept.{IsOpenPlace};
 ghost use Rattle.sgt_audit.specs.private.Following.{Fits};
 ghost use Rattle.sgt_audit.specs.private.Judging.{HasOpen};
@@ -19,7 +19,7 @@ use sgt_audit::{
     Fault, Known, OpenPlace, continues_log, is_active, is_first, is_legal, is_listed, judge_end,
     judge_final,
 };
-use sgt_cells::SiteState;
+use sgt_audit_cells::SiteState;
 use sgt_names::Entry;
 use sgt_notation::SectionLine;
 

@@ -15,6 +15,7 @@ use crate::reading_sites::first_word;
 use crate::script::{Op, Script};
 use sgt_names::{Item, Listed, SiteNo, Value};
 use std::alloc::Global;
+use std::collections::BTreeMap;
 
 /// What stands behind the place of an operation and its bracket.
 #[derive(Clone, Copy)]
@@ -143,8 +144,56 @@ fn is_naming(op: &Op, site: SiteNo, item: Item) -> bool
     }
 }
 
+/// Where an operation stands that names the item of the site. Nothing need be known of the places.
+#[derive(Drop)]
+struct Naming {
+    places: BTreeMap<(SiteNo, Item), usize>,
+}
+
+impl Naming {
+    fn new(alloc: Global) -> Naming {
+        Naming {
+            places: BTreeMap::new(alloc),
+        }
+    }
+
+    /// Notes the operation at the place. Where memory is refused it isn't noted.
+    fn note(&mut self, op: &Op, place: usize) {
+        match op {
+            Op::Read { site, item } | Op::Put { site, item, .. } | Op::Sum { site, item, .. } => {
+                let _ = self.places.insert((*site, *item), place);
+            }
+            Op::Add { .. } => {}
+        }
+    }
+
+    fn place(&self, site: SiteNo, item: Item) -> usize {
+        match self.places.get(&(site, item)) {
+            Some(place) => *place,
+            None => 0,
+        }
+    }
+}
+
+fn is_named_at(earlier: &[Op], place: usize, site: SiteNo, item: Item) -> bool
+    ensures { IsTrue result → Any (Names site item) earlier.now }
+{
+    match earlier.get(place) {
+        Some(op) => is_naming(op, site, item),
+        None => false,
+    }
+}
+
+/// Whether one of the earlier operations names the item. The noted place is tried first.
+fn is_named(earlier: &[Op], naming: &Naming, site: SiteNo, item: Item) -> bool
+    ensures { IsTrue result ↔ Any (Names site item) earlier.now }
+{
+    is_named_at(earlier, naming.place(site, item), site, item)
+        || earlier.iter().any(|e| is_naming(e, site, item))
+}
+
 /// Whether one of the earlier operations names the source, if this is a sum.
-fn has_source(earlier: &[Op], op: &Op) -> bool
+fn has_source(earlier: &[Op], naming: &Naming, op: &Op) -> bool
     ensures { IsTrue result ↔ HasSource earlier.now op.now }
 {
     match op {
@@ -152,25 +201,28 @@ fn has_source(earlier: &[Op], op: &Op) -> bool
             from_site,
             from_item,
             ..
-        } => earlier.iter().any(|e| is_naming(e, *from_site, *from_item)),
+        } => is_named(earlier, naming, *from_site, *from_item),
         _ => true,
     }
 }
 
-/// Whether the source of each sum is named before it.
-fn are_sources_named(ops: &[Op]) -> bool
+/// Whether the source of each sum is named before it. A search of the items that are named for each, and of the operations where
+/// that finds none.
+fn are_sources_named(alloc: Global, ops: &[Op]) -> bool
     ensures { IsTrue result ↔ AreSourcesNamed ops.now }
 {
+    let mut naming = Naming::new(alloc);
     for n in 0..ops.len() {
-        if !has_source(&ops[..n], &ops[n]) {
+        if !has_source(&ops[..n], &naming, &ops[n]) {
             return false;
         }
+        naming.note(&ops[n], n);
     }
     true
 }
 
 /// Keeps the operations of the line, if it spells a script.
-fn keep_script(ops: &mut Vec<Op>, line: &[u8]) -> Result<(), NotationFault>
+fn keep_script(alloc: Global, ops: &mut Vec<Op>, line: &[u8]) -> Result<(), NotationFault>
     requires { ops.old.items ≡ [] }
     ensures { KeepsScript line.now ops.new.items result }
 {
@@ -183,7 +235,7 @@ fn keep_script(ops: &mut Vec<Op>, line: &[u8]) -> Result<(), NotationFault>
     if !kept {
         return Err(NotationFault::Memory);
     }
-    if !are_sources_named(ops.as_slice()) {
+    if !are_sources_named(alloc, ops.as_slice()) {
         return Err(NotationFault::NotALine);
     }
     Ok(())
@@ -192,12 +244,12 @@ fn keep_script(ops: &mut Vec<Op>, line: &[u8]) -> Result<(), NotationFault>
 /// The script that this line, without its LF, spells: one or more operations with single spaces between, each `r[SITE.NAME]`,
 /// `w[SITE.NAME]=NUM`, `d[SITE.NAME]=NUM` or `w[SITE.NAME]=SITE.NAME+NUM`. The source of a sum stands in an earlier `r` or `w` of
 /// the line. L2 for a line that is too long, and L1 for any other line. L3 where a growth was refused: only of a line
-/// that spells operations. Each source is looked for among the operations before it.
+/// that spells operations. Each source is looked for by the item, in the logarithm of those that are named.
 pub fn read_script(alloc: Global, line: &[u8]) -> Result<Script, NotationFault>
     ensures { ReadsScript line.now result }
 {
     let mut ops = Vec::new(alloc);
-    keep_script(&mut ops, line)?;
+    keep_script(alloc, &mut ops, line)?;
     Ok(Script {
         operations: Listed::new(ops),
     })

@@ -1,20 +1,23 @@
-//! A service of one certifier and its sites for many threads: the certifier under one lock, each site under its own, and a
-//! ledger that ties the history's decisions to what the threads were told.
+//! Scripts run by the threads of a service.
 #![tactic(auto)]
 
-mod active;
-mod ending;
-mod guarded;
-mod opened;
-mod pledges;
-mod pledging;
-mod read;
-mod seat;
-mod service;
+mod audited;
+mod begun;
+mod engine;
+mod input;
+mod laws;
+mod reading;
+mod report;
+mod runner;
+mod running;
+mod settled;
+mod taking;
 
-pub use active::{Active, Back};
-pub use guarded::Guarded;
-pub use opened::Opened;
-pub use seat::Seat;
-pub use service::Service;
-pub use sgt_agreed::EntryCounts;
+pub use engine::run_scripts;
+pub use input::{Input, MAX_SCRIPTS, Reading};
+pub use laws::{inputs_have_one_reading, unreadable_lines_are_determined};
+pub use reading::read_input;
+pub use running::run;
+pub use settled::{Settled, bundle, settle};
+pub use sgt_service_agreement::{EntryCounts, ServiceFault, agrees, gather_agreed};
+pub use sgt_service_locks::{Active, Back, Guarded, Opened, Seat, Service};

@@ -10,7 +10,7 @@ use Rattle.sgt_cert.specs.declared.certificate.Step.{Step}
 use Rattle.sgt_cert.specs.declared.certificate.Decision.{Decision}
 use Rattle.sgt_cert.specs.declared.certificate.Decision.TheVariants.{Commit, Refuse, Withdraw}
 use Rattle.sgt_cert.proofs.Answered.{read_or_refused, not_refused}
-use Rattle.sgt_decided.proofs.Walks.{push-one}
+use Rattle.sgt_audit_decisions.proofs.Walks.{push-one}
 use Rattle.sgt_audit.specs.declared.faults.Fault.{Fault}
 use Rattle.sgt_audit.specs.declared.faults.Fault.TheVariants as fault
 use Rattle.sgt_audit.specs.Faults.{KeepsItself}

@@ -6,9 +6,9 @@ use Rattle.sgt_names.specs.declared.entry.Holding.{Holding}
 use Rattle.sgt_notation.specs.declared.SectionLine.{SectionLine}
 use Rattle.sgt_notation.specs.declared.SectionLine.TheVariants.{Logged}
 use Rattle.sgt_cert.specs.declared.certificate.Decision.{Decision}
-use Rattle.sgt_decided.specs.Decided.{IsRulingOn}
-use Rattle.sgt_cells.specs.Tracks.{TracksOpen, IsPlaceAmong}
-use Rattle.sgt_cells.specs.declared.state.SiteState.{SiteState}
+use Rattle.sgt_audit_decisions.specs.Decided.{IsRulingOn}
+use Rattle.sgt_audit_cells.specs.Tracks.{TracksOpen, IsPlaceAmong}
+use Rattle.sgt_audit_cells.specs.declared.state.SiteState.{SiteState}
 use Rattle.sgt_audit.specs.declared.known.Known.{Known}
 
 -- of an entry: the place of its item in the open section, and what is decided on its transaction

@@ -5,7 +5,7 @@ use Rattle.sgt_audit.proofs.MayFollow.{added-begun, added-lines, begins-follow}
 use Rattle.sgt_audit.proofs.Places.{next-sites}
 use Rattle.sgt_audit.proofs.SpelledLines.{all-spelled, cut-none, next-line, next-begins, ahead-none, ahead-next}
 use Rattle.sgt_audit.proofs.NextStage.{empty-nil}
-use Rattle.sgt_decided.proofs.Loops.{refuted, not-empty, empty}
+use Rattle.sgt_audit_decisions.proofs.Loops.{refuted, not-empty, empty}
 use Rattle.sgt_audit.proofs.bundles.add_lines.Goals as goal
 
 pub returns-in_default-read_line-clause-all : goal.returns-in_default-read_line-clause-all

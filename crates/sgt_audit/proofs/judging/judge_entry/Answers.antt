@@ -1,7 +1,7 @@
 use Rattle.std.proofs.Common.{refl, sym, subst}
 use Rattle.sgt_audit.specs.private.Judging.{ContinuesLog}
 use Rattle.sgt_audit.proofs.Least.{item-broken, twice-broken, value-broken, rank-broken, block-broken, end-broken, order-broken, entry-kept}
-use Rattle.sgt_decided.proofs.Loops.{refuted}
+use Rattle.sgt_audit_decisions.proofs.Loops.{refuted}
 use Rattle.sgt_audit.proofs.judging.judge_entry.Goals as goal
 
 pub returns-then-not-is_listed : goal.returns-then-not-is_listed

@@ -1,6 +1,6 @@
 use Rattle.std.proofs.Common.{refl}
 use Rattle.sgt_audit.proofs.Least.{final-ended, final-value, final-kept}
-use Rattle.sgt_decided.proofs.Loops.{refuted}
+use Rattle.sgt_audit_decisions.proofs.Loops.{refuted}
 use Rattle.sgt_audit.proofs.judging.judge_final.Goals as goal
 
 pub returns-then-not-have_all_ended : goal.returns-then-not-have_all_ended

@@ -1,6 +1,6 @@
 use Rattle.std.proofs.Common.{◌+◌, refl, sym, ap, ◌∙◌, subst}
 use Rattle.std.proofs.lemmas.Result.{on_ok_weaker}
-use Rattle.sgt_cells.specs.Tracks.{IsReadyFor}
+use Rattle.sgt_audit_cells.specs.Tracks.{IsReadyFor}
 use Rattle.sgt_audit.proofs.SiteStates.{Enters, site-entered, item-entered, entry-entered, final-entered, end-entered, known-entry, known-missing}
 use Rattle.sgt_audit.proofs.tracked.enter_line.Goals as goal
 

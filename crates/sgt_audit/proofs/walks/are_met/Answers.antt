@@ -1,5 +1,5 @@
 use Rattle.sgt_names.proofs.Lists.{All-next, element_at}
-use Rattle.sgt_decided.proofs.Loops.{all-through}
+use Rattle.sgt_audit_decisions.proofs.Loops.{all-through}
 use Rattle.sgt_audit.specs.Kept.{IsMet}
 use Rattle.sgt_audit.proofs.walks.are_met.Goals as goal
 

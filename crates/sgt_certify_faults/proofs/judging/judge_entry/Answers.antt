@@ -1,6 +1,6 @@
 use Rattle.std.proofs.Common.{sym, subst}
 use Rattle.sgt_audit.specs.private.Judging.{ContinuesLog}
-use Rattle.sgt_decided.proofs.Loops.{refuted}
+use Rattle.sgt_audit_decisions.proofs.Loops.{refuted}
 use Rattle.sgt_certify_faults.proofs.Alone.{block-judged, end-judged_entry, entry-judged, item-judged, twice-judged, value-judged}
 use Rattle.sgt_certify_faults.proofs.judging.judge_entry.Goals as goal
 

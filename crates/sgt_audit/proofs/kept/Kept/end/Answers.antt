@@ -1,6 +1,6 @@
 use Rattle.std.proofs.Common.{ap, length, arith, refl}
 use Rattle.sgt_audit.proofs.NextStage.{ends-within, ends-behind, empty-nil}
-use Rattle.sgt_decided.proofs.Loops.{refuted, not-empty, empty}
+use Rattle.sgt_audit_decisions.proofs.Loops.{refuted, not-empty, empty}
 use Rattle.sgt_audit.proofs.kept.Kept.end.Goals as goal
 
 pub returns-then-not-is_complete-clause-ends : goal.returns-then-not-is_complete-clause-ends

@@ -9,7 +9,7 @@ use Rattle.sgt_audit.proofs.NextStage.{complete-all, line-follows, line-trails}
 use Rattle.sgt_audit.proofs.MayFollow.{added-begun, added-lines, are-sections}
 use Rattle.sgt_audit.proofs.Places.{next-sites}
 use Rattle.sgt_audit.proofs.SiteStates.{line-tracked}
-use Rattle.sgt_decided.proofs.Loops.{refuted}
+use Rattle.sgt_audit_decisions.proofs.Loops.{refuted}
 use Rattle.sgt_audit.proofs.kept.Kept.follow_line.Goals as goal
 use Rattle.sgt_audit.proofs.kept.Kept.follow_line.Goals.{else-is_complete-2-via-then-is_complete-2+else-not-self, else-is_complete-2-via-else-is_complete-2}
 

@@ -2,7 +2,7 @@ use Rattle.std.proofs.Common.{sym, subst}
 use Rattle.sgt_notation.specs.Spelling.{line_text}
 use Rattle.sgt_notation.proofs.OneSpelling.{line-one}
 use Rattle.sgt_audit.specs.Faults.{Allows}
-use Rattle.sgt_decided.proofs.Loops.{refuted}
+use Rattle.sgt_audit_decisions.proofs.Loops.{refuted}
 use Rattle.sgt_audit.proofs.kept.Kept.next_read.Goals as goal
 
 pub returns-then-is_allowed-clause-follows : goal.returns-then-is_allowed-clause-follows

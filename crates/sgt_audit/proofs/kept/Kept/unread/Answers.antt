@@ -1,5 +1,5 @@
 use Rattle.sgt_audit.proofs.NextStage.{line-trails, line-unread}
-use Rattle.sgt_decided.proofs.Loops.{refuted}
+use Rattle.sgt_audit_decisions.proofs.Loops.{refuted}
 use Rattle.sgt_audit.proofs.kept.Kept.unread.Goals as goal
 
 pub returns-then-is_complete : goal.returns-then-is_complete

@@ -1,7 +1,7 @@
 use Rattle.std.proofs.Common.{subst}
 use Rattle.sgt_audit.specs.Progress.{Stands}
 use Rattle.sgt_audit.proofs.NextStage.{long-breaks, long-trails}
-use Rattle.sgt_decided.proofs.Loops.{refuted}
+use Rattle.sgt_audit_decisions.proofs.Loops.{refuted}
 use Rattle.sgt_audit.proofs.machine.Machine.too_long.Goals as goal
 
 pub returns-then-is_complete : goal.returns-then-is_complete

@@ -1,8 +1,8 @@
 use Rattle.std.proofs.Common.{◌≡◌, Some, IsTrue, false, rules, sym, ap, ◌∙◌, subst}
 use Rattle.std.specs.Prelude.{◌↔◌}
 use Rattle.std.proofs.lemmas.Option.{same_Some}
-use Rattle.sgt_cells.proofs.Tracking.{got, missed}
-use Rattle.sgt_decided.proofs.Loops.{answered-no}
+use Rattle.sgt_audit_cells.proofs.Tracking.{got, missed}
+use Rattle.sgt_audit_decisions.proofs.Loops.{answered-no}
 use Rattle.sgt_audit.specs.private.Following.{FitsAt}
 use Rattle.sgt_audit.proofs.place.OpenPlace.has_room_for.Goals as goal
 

@@ -5,7 +5,7 @@ use Rattle.std.proofs.lemmas.Option.{none-some}
 use Rattle.sgt_cert.specs.Text.{AreSections}
 use Rattle.sgt_audit.specs.Reading.{lines_read}
 use Rattle.sgt_audit.proofs.Places.{no-open, open-log}
-use Rattle.sgt_decided.proofs.Loops.{empty, is_some-none, is_some-value, not-empty, refuted}
+use Rattle.sgt_audit_decisions.proofs.Loops.{empty, is_some-none, is_some-value, not-empty, refuted}
 use Rattle.sgt_certify_faults.proofs.Broken.{end-broken, own-sections, some-sections}
 use Rattle.sgt_certify_faults.proofs.reading.Reading.end.Goals as goal
 use Rattle.sgt_certify_faults.proofs.reading.Reading.end.Goals.{else-is_empty-2-via-then-is_empty-2+then-is_none+else-self-gt0, else-is_empty-2-via-then-is_empty-2+else-is_none, else-is_empty-2-via-else-is_empty-2}

@@ -4,7 +4,7 @@ use Rattle.sgt_audit.specs.Reading.{lines_read}
 use Rattle.sgt_audit.proofs.OpenLogs.{has_open, fits-open}
 use Rattle.sgt_audit.proofs.Places.{no-open, open-log}
 use Rattle.sgt_audit.proofs.SiteStates.{open-tracked}
-use Rattle.sgt_decided.proofs.Loops.{refuted}
+use Rattle.sgt_audit_decisions.proofs.Loops.{refuted}
 use Rattle.sgt_certify_faults.proofs.Broken.{between-judged, section-broken}
 use Rattle.sgt_certify_faults.proofs.reading.Reading.judge.Goals as goal
 

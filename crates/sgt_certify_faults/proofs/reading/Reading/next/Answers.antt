@@ -3,7 +3,7 @@ use Rattle.std.proofs.lemmas.Result.{IfOk-weaker}
 use Rattle.sgt_cert.specs.Text.{AreSections}
 use Rattle.sgt_audit.specs.Faults.{whole}
 use Rattle.sgt_audit.specs.Reading.{lines_read}
-use Rattle.sgt_decided.proofs.Loops.{refuted}
+use Rattle.sgt_audit_decisions.proofs.Loops.{refuted}
 use Rattle.sgt_certify_faults.specs.private.Reading.{Follows}
 use Rattle.sgt_certify_faults.proofs.Broken.{line-last, trailing-broken, unread-broken}
 use Rattle.sgt_certify_faults.proofs.reading.Reading.next.Goals as goal

@@ -1,7 +1,7 @@
 use Rattle.std.proofs.Common.{sym, subst}
 use Rattle.sgt_cert.specs.Text.{AreSections}
 use Rattle.sgt_audit.specs.Reading.{lines_read}
-use Rattle.sgt_decided.proofs.Loops.{refuted}
+use Rattle.sgt_audit_decisions.proofs.Loops.{refuted}
 use Rattle.sgt_certify_faults.proofs.Broken.{long-broken, long-last, trailing-broken}
 use Rattle.sgt_certify_faults.proofs.reading.Reading.too_long.Goals as goal
 

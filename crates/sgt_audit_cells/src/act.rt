@@ -1,0 +1,129 @@
+//! One operation at the site whose section is open.
+
+ghost use Rattle.std.specs.Prelude.{◌≡◌, ◌↔◌, ◌<◌, List, IsTrue, Any};
+ghost use Rattle.sgt_names.specs.declared.entry.Entry.{Entry};
+ghost use Rattle.sgt_names.specs.Entry.{item_of};
+ghost use Rattle.sgt_audit_cells.specs.Records.{deed_of};
+ghost use Rattle.sgt_audit_cells.specs.private.Deeds.{act, changes, adds, deeds_clash, IsOf, ClashesWith};
+
+use sgt_names::{Entry, Item, Kind};
+
+/// What an operation does to its item, or asks for: it reads it, puts a value into it, or adds to it.
+#[derive(Clone, Copy, Debug, Default, PartialEq, Eq)]
+pub enum Deed {
+    #[default]
+    Read,
+    Put,
+    Add,
+}
+
+/// An operation: the place of its item among the items, what it does to it, and its own place among the entries.
+#[derive(Clone, Copy, Debug, Default, PartialEq, Eq)]
+pub struct Act {
+    pub place: u32,
+    pub deed: Deed,
+    pub at: usize,
+}
+
+/// The item of an operation. An end has none. It is compiled where it is used, so that no copy of the item is made there.
+#[inline(always)]
+pub fn item_in(entry: &Entry) -> Option<Item>
+    ensures { result ≡ item_of entry.now }
+{
+    match *entry {
+        Entry::Read { item, .. } | Entry::Write { item, .. } | Entry::Add { item, .. } => {
+            Some(item)
+        }
+        Entry::Want { item, .. } | Entry::WantAdd { item, .. } => Some(item),
+        Entry::Commit { .. } | Entry::Refuse { .. } | Entry::Withdraw { .. } => None,
+    }
+}
+
+/// What the entry does to its item, if it has one.
+#[inline(always)]
+pub(crate) fn deed_of(entry: &Entry) -> Deed
+    ensures { result ≡ deed_of entry.now }
+{
+    match entry {
+        Entry::Read { .. } => Deed::Read,
+        Entry::Add { .. } | Entry::WantAdd { .. } => Deed::Add,
+        _ => Deed::Put,
+    }
+}
+
+/// The entry at this place, on the item at that place.
+#[inline(always)]
+pub(crate) fn act_of(at: usize, place: u32, entry: &Entry) -> Act
+    ensures { result ≡ act at place entry.now }
+{
+    Act {
+        place,
+        deed: deed_of(entry),
+        at,
+    }
+}
+
+impl Deed {
+    /// Whether it changes the item.
+    #[inline(always)]
+    fn changes(self) -> bool
+        ensures { result ≡ changes self }
+    {
+        match self {
+            Deed::Read => false,
+            Deed::Put | Deed::Add => true,
+        }
+    }
+
+    /// Whether it adds to the item.
+    fn adds(self) -> bool
+        ensures { result ≡ adds self }
+    {
+        match self {
+            Deed::Add => true,
+            Deed::Read | Deed::Put => false,
+        }
+    }
+}
+
+/// Whether the one and then the other, on one item, are a conflict of this kind.
+fn deeds_clash(kind: Kind, first: Deed, second: Deed) -> bool
+    ensures { result ≡ deeds_clash kind first second }
+{
+    match kind {
+        Kind::Wr => first.changes() && !second.changes(),
+        Kind::Rw => !first.changes() && second.changes(),
+        Kind::Ww => first.changes() && second.changes() && !(first.adds() && second.adds()),
+    }
+}
+
+impl Act {
+    /// Whether it is on the item at this place and reads it, as the deed does, or changes it, as the deed does.
+    #[inline(always)]
+    pub(crate) fn is_of(&self, place: usize, deed: Deed) -> bool
+        ensures { IsTrue result ↔ IsOf place (changes deed) self.now }
+    {
+        self.place as usize == place && self.deed.changes() == deed.changes()
+    }
+
+    /// Whether the other comes later, on the same item, and they are a conflict of this kind.
+    fn clashes_with(&self, kind: Kind, other: &Act) -> bool
+        ensures { IsTrue result ↔ ClashesWith kind self.now other.now }
+    {
+        other.place == self.place && self.at < other.at && deeds_clash(kind, self.deed, other.deed)
+    }
+
+    /// Whether it is on the item at this place, and one of the others comes later and is a conflict of this kind with it.
+    fn clashes_at(&self, kind: Kind, place: usize, others: &[Act]) -> bool
+        ensures { IsTrue result ↔ ((self.now.place ≡ place) × Any (ClashesWith kind self.now) others.now) }
+    {
+        self.place as usize == place && others.iter().any(|other| self.clashes_with(kind, other))
+    }
+}
+
+/// Whether one of the acts, on the item at this place, precedes one of the others and conflicts with it.
+pub(crate) fn have_clash(acts: &[Act], others: &[Act], kind: Kind, place: usize) -> bool
+    ensures { IsTrue result ↔ Any (λ a. (a.place ≡ place) × Any (ClashesWith kind a) others.now) acts.now }
+{
+    acts.iter().any(|act| act.clashes_at(kind, place, others))
+}

@@ -1,7 +1,0 @@
-use Rattle.std.proofs.Common.{[], take}
-use Rattle.sgt_decided.specs.Steps.{edges_in}
-use Rattle.sgt_decided.specs.private.Grouped.{AreGrouped}
-use Rattle.sgt_decided.proofs.steps.add_decisions.Given as goal
-
-abbrev pub invariant-loop-decision : goal.invariant-loop-decision
-invariant-loop-decision l = AreGrouped [] l.initial.groups → AreGrouped (edges_in (take l.decision-index l.decisions)) l.groups

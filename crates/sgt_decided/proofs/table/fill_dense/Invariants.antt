@@ -1,9 +1,0 @@
-use Rattle.std.proofs.Common.{◌≡◌, None, get_or, length}
-use Rattle.sgt_decided.proofs.Tables.{HasFirst}
-use Rattle.sgt_decided.proofs.table.fill_dense.Given as goal
-
-abbrev pub invariant-loop-number : goal.invariant-loop-number
-invariant-loop-number l = record {
-  room : length l.places.items ≡ length l.initial.places.items;
-  first : HasFirst l.decisions l.number (λ tx. get_or l.places.items tx None);
-}

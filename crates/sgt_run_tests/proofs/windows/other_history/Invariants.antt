@@ -1,4 +1,0 @@
-use Rattle.sgt_run_tests.proofs.windows.other_history.Given as goal
-
-abbrev pub ghosts-stepped : goal.ghosts-stepped
-ghosts-stepped g a = record { name = a.blank.name; parts = a.blank.parts }

@@ -1,0 +1,16 @@
+use Rattle.std.proofs.Common.{◌≡◌, All, None, vec_len}
+use Rattle.std.specs.Prelude.{IfSome}
+use Rattle.std.specs.List.{last_or}
+use Rattle.sgt_service.specs.Operations.{Tries}
+use Rattle.sgt_service.specs.Tries.{AreTried, IsRefused, IsTryOf}
+use Rattle.sgt_service.proofs.runner.Runner.try_all.Given as goal
+
+abbrev pub invariant-loop : goal.invariant-loop
+invariant-loop g l = record {
+  parts : l.worker.seat.share.parts ≡ l.fn.worker.seat.share.parts;
+  tried : AreTried l.script.operations l.tickets.items l.fn.worker.seat l.worker.seat;
+  refused : All IsRefused l.tickets.items;
+  each : All (IsTryOf l.script.operations) l.tickets.items;
+  last : IfSome (last_or None l.tickets.items) (λ t. Tries l.script.operations t l.reads.items);
+  len : vec_len l.tickets ≡ l.counter;
+}

@@ -1,0 +1,306 @@
+//! One worker's part of a run: a script, tried so often.
+
+ghost use Rattle.std.specs.Prelude.{◌≡◌, ◌≤◌};
+
+use sgt_names::{Item, SiteNo, Value};
+use sgt_notation::{Op, Script};
+use sgt_service_agreement::ServiceFault;
+use sgt_service_locks::{Active, Seat, Service};
+use sgt_site::SiteFault;
+use sgt_workers::{Done, Ending, Gate, Job, Place, Ticket, Work};
+use std::alloc::Global;
+use std::sync::Wait;
+use std::sync::ledger::Ledger;
+
+/// A worker: its number, from 0, and its seat.
+#[derive(Drop)]
+pub struct Worker<L: Ledger> {
+    pub number: usize,
+    pub seat: Seat<L>,
+}
+
+/// What the workers of a run share.
+#[derive(Drop)]
+pub struct Runner<'a, L: Ledger, G: Gate> {
+    pub alloc: Global,
+    pub service: &'a Service<L>,
+    /// How often a script is tried at most.
+    pub tries: u64,
+    pub gate: &'a G,
+    pub ghost some: { 1 ≤ tries },
+}
+
+impl<'a, L: Ledger, G: Gate> Runner<'a, L, G> {
+    ghost use Rattle.std.specs.Prelude.{◌≡◌, ◌≢◌, ◌↔◌, [], true, false, All, Ok, IfOk, IfErr, OnOk, OnErr, vec_len};
+    ghost use Rattle.sgt_service_locks.specs.Guarded.{IsTicketOf};
+    ghost use Rattle.sgt_service_locks.specs.Reads.{look_in, IsOfActive};
+    ghost use Rattle.sgt_service_locks.specs.Refused.{IsOfCall, IsOfChange, IsOfCommit, IsOfWithdraw};
+    ghost use Rattle.sgt_service_locks.specs.Seats.{CountsEnd};
+    ghost use Rattle.sgt_workers.specs.declared.ticket.Ending.TheVariants.{Withdrawn};
+    ghost use Rattle.sgt_service.specs.Tries.{AreStopped, AreTried, AreTriesOf, CountsOp, CountsReads, IsHalt, IsRefused, IsStopped, IsTryOf, TriesAt};
+    ghost use Rattle.sgt_service.specs.Operations.{op_fits, sum_fits, Does, DoesAll, IsOfOperation, PutsSum};
+
+    #[tactic(auto, using(crate::proofs::Faults::item_of_change))]
+    // Keeps the sum of this value and of what the transaction sees at the source, as a private write. False where it is too
+    // large.
+    fn put_sum(
+        &self,
+        active: &mut Active,
+        site: SiteNo,
+        item: Item,
+        seen: Option<Value>,
+        value: Value,
+    ) -> Result<bool, ServiceFault>
+        ensures fits { IfOk result (λ fits. fits ≡ sum_fits seen value) }
+        ensures sum { result ≡ Ok true → PutsSum site item seen value active.old.draft.touched active.new.draft.touched }
+        ensures same { result ≡ Ok false → active.new.draft.touched ≡ active.old.draft.touched }
+        ensures named { IsOfActive active.old active.new }
+        ensures err { OnErr result (active.new.draft.touched ≡ active.old.draft.touched) }
+        ensures fault { IfErr result IsOfChange }
+    {
+        let Some(seen) = seen else {
+            return Err(ServiceFault::Site(SiteFault::UnknownItem));
+        };
+        let Some(sum) = seen.checked_add(value) else {
+            return Ok(false);
+        };
+        self.service.put(active, site, item, sum)?;
+        Ok(true)
+    }
+
+    #[tactic(auto, using(crate::proofs::Faults::item_of_operation, crate::proofs::Faults::change_of_operation, crate::proofs::Faults::read_of_operation))]
+    // Does what one operation says. False where its sum is too large.
+    fn apply<R: Wait>(
+        &self,
+        rt: &R,
+        worker: &mut Worker<L>,
+        active: &mut Active,
+        op: &Op,
+        reads: &mut Vec<Value>,
+    ) -> Result<bool, ServiceFault>
+        ensures fits { IfOk result (λ fits. fits ≡ op_fits active.old.draft.touched op.now) }
+        ensures does { result ≡ Ok true
+            → Does op.now active.old.draft.touched active.new.draft.touched reads.old.items reads.new.items }
+        ensures same { result ≡ Ok false
+            → (active.new.draft.touched ≡ active.old.draft.touched) × (reads.new.items ≡ reads.old.items) }
+        ensures named { IsOfActive active.old active.new }
+        ensures share { (worker.new.seat.share ≡ worker.old.seat.share) × (worker.new.seat.begun ≡ worker.old.seat.begun) }
+        ensures counts { OnOk result (CountsOp op.now active.old.draft.touched worker.old.seat.counts.items worker.new.seat.counts.items) }
+        ensures err { OnErr result ((active.new.draft.touched ≡ active.old.draft.touched)
+            × (worker.new.seat.counts.items ≡ worker.old.seat.counts.items)) }
+        ensures fault { IfErr result IsOfOperation }
+    {
+        match *op {
+            Op::Read { site, item } => {
+                reads.reserve(1)?;
+                let Worker { number, seat } = worker;
+                let value = self
+                    .service
+                    .read_at(rt, seat, active, site, item, *number, self.gate)?;
+                reads.push_reserved(value);
+                Ok(true)
+            }
+            Op::Put { site, item, value } => {
+                self.service.put(active, site, item, value)?;
+                Ok(true)
+            }
+            Op::Add { site, item, value } => {
+                self.service.add(active, site, item, value)?;
+                Ok(true)
+            }
+            Op::Sum {
+                site,
+                item,
+                from_site,
+                from_item,
+                value,
+            } => {
+                let seen = active.draft().look(from_site, from_item);
+                self.put_sum(active, site, item, seen, value)
+            }
+        }
+    }
+
+    // Does what the script says. False where a sum is too large: what stands behind it isn't done.
+    fn apply_all<R: Wait>(
+        &self,
+        rt: &R,
+        worker: &mut Worker<L>,
+        active: &mut Active,
+        script: &Script,
+        reads: &mut Vec<Value>,
+    ) -> Result<bool, ServiceFault>
+        ensures does { IfOk result (λ all. DoesAll script.now.operations all
+            active.old.draft.touched active.new.draft.touched reads.old.items reads.new.items) }
+        ensures named { IsOfActive active.old active.new }
+        ensures share { (worker.new.seat.share ≡ worker.old.seat.share) × (worker.new.seat.begun ≡ worker.old.seat.begun) }
+        ensures counts { CountsReads active.old.draft.touched active.new.draft.touched
+            worker.old.seat.counts.items worker.new.seat.counts.items }
+        ensures fault { IfErr result IsOfOperation }
+    {
+        let operations = script.operations.as_slice();
+        for op in operations {
+            if !self.apply(rt, worker, active, op, reads)? {
+                return Ok(false);
+            }
+            // That its items rise shows that a read is counted exactly where one more is kept.
+            let _touched = active.draft().touched();
+        }
+        Ok(true)
+    }
+
+    #[tactic(auto, using(crate::proofs::Faults::back_halt, crate::proofs::Faults::back_parts))]
+    // Asks for the commit.
+    fn commit<R: Wait>(
+        &self,
+        rt: &R,
+        worker: &mut Worker<L>,
+        active: Active,
+    ) -> Result<Ticket, ServiceFault>
+        ensures decided { IfOk result (λ t. t.verdict ≢ Withdrawn) }
+        ensures told { IfOk result (IsTicketOf (vec_len self.now.service.now.sites) active) }
+        ensures parts { worker.new.seat.share.parts ≡ worker.old.seat.share.parts }
+        ensures ends { IfOk result (λ t. CountsEnd t.verdict active worker.old.seat worker.new.seat) }
+        ensures halt { IfErr result (IsHalt (λ verdict. verdict ≢ Withdrawn) active worker.old.seat worker.new.seat) }
+        ensures fault { IfErr result IsOfCommit }
+    {
+        let Worker { number, seat } = worker;
+        match self
+            .service
+            .commit_at(rt, self.alloc, seat, active, *number, self.gate)
+        {
+            Ok(ticket) => Ok(ticket),
+            Err(back) => Err(back.fault),
+        }
+    }
+
+    #[tactic(auto, using(crate::proofs::Faults::back_halt, crate::proofs::Faults::back_parts))]
+    // Withdraws the transaction.
+    fn withdraw<R: Wait>(
+        &self,
+        rt: &R,
+        worker: &mut Worker<L>,
+        active: Active,
+    ) -> Result<Ticket, ServiceFault>
+        ensures decided { IfOk result (λ t. t.verdict ≡ Withdrawn) }
+        ensures told { IfOk result (IsTicketOf (vec_len self.now.service.now.sites) active) }
+        ensures parts { worker.new.seat.share.parts ≡ worker.old.seat.share.parts }
+        ensures ends { IfOk result (λ t. CountsEnd t.verdict active worker.old.seat worker.new.seat) }
+        ensures halt { IfErr result (IsHalt (λ verdict. verdict ≡ Withdrawn) active worker.old.seat worker.new.seat) }
+        ensures fault { IfErr result IsOfWithdraw }
+    {
+        let Worker { number: _, seat } = worker;
+        match self.service.withdraw(rt, seat, active) {
+            Ok(ticket) => Ok(ticket),
+            Err(back) => Err(back.fault),
+        }
+    }
+
+    #[tactic(auto, using(crate::proofs::Faults::withdraw_of_commit))]
+    // Asks for the commit of a transaction whose sums fit, and withdraws another.
+    fn end<R: Wait>(
+        &self,
+        rt: &R,
+        worker: &mut Worker<L>,
+        active: Active,
+        fits: bool,
+    ) -> Result<Ticket, ServiceFault>
+        ensures withdrawn { IfOk result (λ t. (t.verdict ≡ Withdrawn) ↔ (fits ≡ false)) }
+        ensures told { IfOk result (IsTicketOf (vec_len self.now.service.now.sites) active) }
+        ensures parts { worker.new.seat.share.parts ≡ worker.old.seat.share.parts }
+        ensures ends { IfOk result (λ t. CountsEnd t.verdict active worker.old.seat worker.new.seat) }
+        ensures halt { IfErr result (IsHalt (λ verdict. (verdict ≡ Withdrawn) ↔ (fits ≡ false)) active worker.old.seat worker.new.seat) }
+        ensures fault { IfErr result IsOfCommit }
+        ensures unfit { fits ≡ false → IfErr result IsOfWithdraw }
+    {
+        if !fits {
+            return self.withdraw(rt, worker, active);
+        }
+        self.commit(rt, worker, active)
+    }
+
+    #[tactic(auto, using(crate::proofs::Faults::begin_of_call, crate::proofs::Faults::operation_of_call, crate::proofs::Faults::commit_of_call))]
+    // One try: a transaction of its own, whose reads' values it leaves in `reads`.
+    fn try_once<R: Wait>(
+        &self,
+        rt: &R,
+        worker: &mut Worker<L>,
+        script: &Script,
+        reads: &mut Vec<Value>,
+    ) -> Result<Ticket, ServiceFault>
+        ensures tries { IfOk result (λ t. TriesAt script.now.operations t reads.new.items worker.old.seat worker.new.seat) }
+        ensures parts { worker.new.seat.share.parts ≡ worker.old.seat.share.parts }
+        ensures halt { IfErr result (IsStopped worker.old.seat worker.new.seat) }
+        ensures fault { IfErr result IsOfCall }
+    {
+        reads.clear();
+        let mut active = self.service.begin(rt, self.alloc, &mut worker.seat)?;
+        let fits = self.apply_all(rt, worker, &mut active, script, reads)?;
+        let ticket = self.end(rt, worker, active, fits)?;
+        Ok(ticket)
+    }
+
+    #[tactic(auto, using(crate::proofs::Tries::tries_end, crate::proofs::Tries::tries_spent, crate::proofs::Tries::tries_more, crate::proofs::Tries::last_more))]
+    // Tries a script until it isn't refused, or until no try is left.
+    fn try_all<R: Wait>(
+        &self,
+        rt: &R,
+        worker: &mut Worker<L>,
+        script: &Script,
+        tickets: &mut Vec<Ticket>,
+        reads: &mut Vec<Value>,
+    ) -> Result<(), ServiceFault>
+        requires { tickets.old.items ≡ [] }
+        ensures tries { OnOk result (AreTriesOf self.now.tries script.now.operations tickets.new.items reads.new.items) }
+        ensures parts { worker.new.seat.share.parts ≡ worker.old.seat.share.parts }
+        ensures tried { OnOk result (AreTried script.now.operations tickets.new.items worker.old.seat worker.new.seat) }
+        ensures halt { IfErr result (AreStopped script.now.operations tickets.new.items worker.old.seat worker.new.seat) }
+        ensures fault { IfErr result IsOfCall }
+    {
+        for _ in 0..self.tries {
+            tickets.reserve(1)?;
+            let ticket = self.try_once(rt, worker, script, reads)?;
+            tickets.push_reserved(ticket);
+            if ticket.verdict != Ending::Refused {
+                return Ok(());
+            }
+        }
+        Ok(())
+    }
+}
+
+impl<'a, L: Ledger, G: Gate> Work<Worker<L>, Script, ServiceFault> for Runner<'a, L, G> {
+    ghost use Rattle.std.specs.Prelude.{◌≡◌, refl};
+    ghost use Rattle.std.proofs.Common.{◌∙◌};
+    ghost use Rattle.sgt_service_locks.specs.Refused.{IsOfCall};
+    ghost use Rattle.sgt_service.specs.Tries.{IsDoneOf, TriesJob};
+
+    ghost answers = { λ w number script done. IsDoneOf w.tries script done };
+
+    ghost faults = { λ w fault. IsOfCall fault };
+
+    ghost keeps = { λ s t. t.seat.share.parts ≡ s.seat.share.parts };
+
+    ghost does = { λ w s number script done t. TriesJob s.seat number script done t.seat };
+
+    fn work<R: Wait>(
+        &self,
+        rt: &R,
+        worker: &mut Worker<L>,
+        job: Job<&Script>,
+    ) -> Result<Done, ServiceFault> {
+        self.gate.arrive(worker.number, Place::Taken);
+        let mut tickets = Vec::new(self.alloc);
+        let mut reads = Vec::new(self.alloc);
+        self.try_all(rt, worker, job.script, &mut tickets, &mut reads)?;
+        Ok(Done {
+            job: job.number,
+            tickets,
+            reads,
+        })
+    }
+
+    ghost keeps_same = { λ s. refl };
+
+    ghost keeps_on = { λ r s t a b. b ∙ a };
+}

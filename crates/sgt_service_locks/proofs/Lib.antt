@@ -1,0 +1,10 @@
+pub mod Adding
+pub mod Counting
+pub mod Decisions
+pub mod Faults
+pub mod Gathering
+pub mod Items
+pub mod Losing
+pub mod Noting
+pub mod Reading
+pub mod Stopping

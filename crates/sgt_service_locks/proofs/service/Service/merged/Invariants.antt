@@ -1,0 +1,9 @@
+use Rattle.std.proofs.Common.{◌≡◌, ◌+◌}
+use Rattle.sgt_service_locks.specs.Together.{parts_of, amount_of}
+use Rattle.sgt_service_locks.proofs.service.Service.merged.Given as goal
+
+abbrev pub invariant-loop-seat : goal.invariant-loop-seat
+invariant-loop-seat g l = record {
+  parts : l.all.parts ≡ l.fn.all.parts + parts_of l.yielded;
+  amount : l.all.amount ≡ l.fn.all.amount + amount_of l.yielded;
+}

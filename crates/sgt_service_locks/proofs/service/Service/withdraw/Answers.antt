@@ -1,0 +1,18 @@
+use Rattle.std.proofs.Common.{◌≡◌}
+use Rattle.std.specs.Prelude.{vec_len}
+use Rattle.sgt_workers.specs.declared.ticket.Ending.{Ending}
+use Rattle.sgt_workers.specs.declared.ticket.Ending.TheVariants.{Withdrawn}
+use Rattle.sgt_service_locks.specs.Undecided.{IsToldOfWithdraw}
+use Rattle.sgt_service_locks.proofs.Stopping.{stop_back, stop_told, withdraw_call, withdraw_fault}
+use Rattle.sgt_service_locks.proofs.service.Service.withdraw.Goals as goal
+
+pub returns-in-Err-clause-back : goal.returns-in-Err-clause-back
+returns-in-Err-clause-back g c =
+    rw c.back_of.ensures (stop_back (λ (v : Ending). v ≡ Withdrawn) c.args.active c.args.seat.now c.take_back.new.seat c.in-Err.stop c.in-Err.ensures.stop (withdraw_call (vec_len c.args.self.now.sites) c.args.active c.in-Err.stop c.in-Err.ensures.why))
+
+pub returns-in-Err-clause-fault : goal.returns-in-Err-clause-fault
+returns-in-Err-clause-fault g c = rw c.back_of.ensures (withdraw_fault (vec_len c.args.self.now.sites) c.args.active c.in-Err.stop c.in-Err.ensures.why)
+
+pub returns-in-Err-clause-refused : goal.returns-in-Err-clause-refused
+returns-in-Err-clause-refused g c =
+    rw c.back_of.ensures (stop_told (IsToldOfWithdraw (vec_len c.args.self.now.sites) c.args.active) c.args.active c.in-Err.stop c.in-Err.ensures.why)

@@ -1,0 +1,10 @@
+pub mod Counts
+pub mod Guarded
+pub mod Opened
+pub mod Pledges
+pub mod Reads
+pub mod Refused
+pub mod Seats
+pub mod Stops
+pub mod Together
+pub mod Undecided

@@ -1,0 +1,20 @@
+//! A service of one certifier and its sites for many threads: the certifier under one lock, each site under its own, and a
+//! ledger that ties the history's decisions to what the threads were told.
+#![tactic(auto)]
+
+mod active;
+mod ending;
+mod guarded;
+mod opened;
+mod pledges;
+mod pledging;
+mod read;
+mod seat;
+mod service;
+
+pub use active::{Active, Back};
+pub use guarded::Guarded;
+pub use opened::Opened;
+pub use seat::Seat;
+pub use service::Service;
+pub use sgt_service_agreement::EntryCounts;

@@ -1,0 +1,122 @@
+//! A service taken apart, once all its callers are done.
+
+ghost use Rattle.std.specs.Prelude.{◌≡◌, IfOk, vec_len};
+ghost use Rattle.sgt_service_locks.specs.Together.{added, both};
+
+use crate::seat::Seat;
+use crate::service::Service;
+use sgt_certifier::Certifier;
+use sgt_service_agreement::EntryCounts;
+use sgt_site::Site;
+use std::alloc::{AllocError, Global};
+use std::sync::Mutex;
+use std::sync::ledger::{Ledger, Share};
+
+/// What lay behind the locks of a service, with what its seats counted together at each site.
+#[derive(Drop)]
+pub struct Opened {
+    pub certifier: Certifier,
+    pub sites: Vec<Site>,
+    pub counts: Vec<EntryCounts>,
+}
+
+impl<L: Ledger> Service<L> {
+    ghost use Rattle.std.specs.Prelude.{◌≡◌, ◌+◌, IfOk, IfErr, vec_len};
+    ghost use Rattle.sgt_service_locks.specs.Guarded.{decision_count};
+    ghost use Rattle.sgt_service_locks.specs.Together.{parts_of, amount_of, counts_of};
+
+    /// Takes the locks apart, and puts together what the seats counted. Where the seats are all that there are, the history has as
+    /// many decisions as their shares together. It waits for nobody. Where there was no memory, the certifier alone is handed out.
+    pub fn open(self, alloc: Global, seats: Vec<Seat<L>>) -> Result<Opened, Certifier>
+        ensures decisions { IfOk result (λ o. parts_of seats.items ≡ L.parts
+            → decision_count o.certifier ≡ amount_of seats.items) }
+        ensures sites { IfOk result (λ o. vec_len o.sites ≡ vec_len self.names) }
+        ensures counts { IfOk result (λ o. o.counts.items ≡ counts_of (vec_len self.names) seats.items) }
+        ensures unopened { IfErr result (λ certifier. parts_of seats.items ≡ L.parts
+            → decision_count certifier ≡ amount_of seats.items) }
+    {
+        let Service {
+            certifier,
+            sites,
+            names: _,
+        } = self;
+        let (certifier, mut book, none) = certifier.into_inner().into_parts();
+        let counts = Service::counted(alloc, seats.as_slice(), sites.len());
+        let mut all = Service::merged(none, seats);
+        book.audit(&mut all);
+        let Ok(sites) = unlocked(alloc, sites) else {
+            return Err(certifier);
+        };
+        let Ok(counts) = counts else {
+            return Err(certifier);
+        };
+        Ok(Opened {
+            certifier,
+            sites,
+            counts,
+        })
+    }
+
+    // All shares as one.
+    fn merged(mut all: Share<L>, seats: Vec<Seat<L>>) -> Share<L>
+        ensures parts { result.parts ≡ all.parts + parts_of seats.items }
+        ensures amount { result.amount ≡ all.amount + amount_of seats.items }
+    {
+        for seat in seats {
+            let Seat { share, .. } = seat;
+            all.merge(share);
+        }
+        all
+    }
+
+    // What the seats counted together at each site.
+    fn counted(
+        alloc: Global,
+        seats: &[Seat<L>],
+        sites: usize,
+    ) -> Result<Vec<EntryCounts>, AllocError>
+        ensures { IfOk result (λ counts. counts.items ≡ counts_of sites seats.now) }
+    {
+        let nothing = EntryCounts {
+            reads: 0,
+            others: 0,
+        };
+        let mut counts = Vec::from_elem(alloc, nothing, sites)?;
+        for seat in seats {
+            add_counts(&mut counts, seat.counts());
+        }
+        Ok(counts)
+    }
+}
+
+// The sites, without their locks.
+fn unlocked(alloc: Global, sites: Vec<Mutex<Site>>) -> Result<Vec<Site>, AllocError>
+    ensures { IfOk result (λ all. vec_len all ≡ vec_len sites) }
+{
+    let mut all = Vec::new(alloc);
+    for site in sites {
+        all.push(site.into_inner())?;
+    }
+    Ok(all)
+}
+
+// Adds what one seat counted at each site.
+fn add_counts(counts: &mut Vec<EntryCounts>, theirs: &[EntryCounts])
+    ensures { counts.new.items ≡ added counts.old.items theirs.now }
+{
+    for site in 0..counts.len() {
+        if site >= theirs.len() {
+            return;
+        }
+        counts[site] = both(counts[site], theirs[site]);
+    }
+}
+
+fn both(mine: EntryCounts, theirs: EntryCounts) -> EntryCounts
+    ensures { result ≡ both mine theirs }
+{
+    EntryCounts {
+        reads: mine.reads.saturating_add(theirs.reads),
+        others: mine.others.saturating_add(theirs.others),
+    }
+}

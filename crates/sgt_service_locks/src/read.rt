@@ -1,0 +1,167 @@
+//! Reads at a site, under its lock.
+
+ghost use Rattle.std.specs.Prelude.{◌≡◌, None, Some, IsTrue, IfOk, IfErr, OnOk, OnErr};
+ghost use Rattle.sgt_names.specs.Draft.{change_at, ChangesOnly};
+ghost use Rattle.sgt_service_locks.specs.Reads.{look_in, ReadsAt, SameActive};
+ghost use Rattle.sgt_service_locks.specs.Refused.{IsToldOfRead};
+
+use crate::active::Active;
+use crate::guarded::is_numbered;
+use crate::seat::Seat;
+use crate::service::Service;
+use sgt_names::{Draft, Item, Seen, SiteNo, Value, changes_show_at_their_place};
+use sgt_service_agreement::ServiceFault;
+use sgt_site::{Site, SiteFault};
+use sgt_workers::{Gate, NoGate, Place};
+use std::sync::Wait;
+use std::sync::ledger::Ledger;
+
+impl<L: Ledger> Service<L> {
+    ghost use Rattle.sgt_service_agreement.specs.declared.fault.ServiceFault.TheVariants.{Site as AtSite};
+    ghost use Rattle.sgt_site.specs.declared.fault.SiteFault.TheVariants.{UnknownItem};
+    ghost use Rattle.std.specs.Prelude.{◌≡◌, None, Some, Err, IsTrue, IsSome, IsOk, IfOk, IfErr, OnOk, OnErr, vec_len};
+    ghost use Rattle.sgt_service_locks.specs.Counts.{AreCounted, only_at, with_read};
+    ghost use Rattle.sgt_service_locks.specs.Reads.{look_in, GainsRead, IsOfActive, SameActive};
+    ghost use Rattle.sgt_service_locks.specs.Refused.{HasItem, IsOfRead};
+    ghost use Rattle.sgt_service_locks.specs.Seats.{SameSeat};
+
+    /// `read_at`, with a gate that holds nobody.
+    pub fn read<R: Wait>(
+        &self,
+        rt: &R,
+        seat: &mut Seat<L>,
+        active: &mut Active,
+        site: SiteNo,
+        item: Item,
+    ) -> Result<Value, ServiceFault>
+        ensures value { IfOk result (λ v. look_in active.new.draft.touched site item ≡ Some v) }
+        ensures kept { IsSome (look_in active.old.draft.touched site item)
+            → IsOk result × SameActive active.old active.new × SameSeat seat.old seat.new }
+        ensures gained { OnOk result (look_in active.old.draft.touched site item ≡ None
+            → GainsRead site item active.old.draft.touched active.new.draft.touched
+            × AreCounted (only_at site with_read) seat.old.counts.items seat.new.counts.items) }
+        ensures named { IsOfActive active.old active.new × (seat.new.share ≡ seat.old.share) × (seat.new.begun ≡ seat.old.begun) }
+        ensures err { OnErr result (SameActive active.old active.new × SameSeat seat.old seat.new) }
+        ensures allowed { OnOk result (look_in active.old.draft.touched site item ≡ None → HasItem self.now.names.items site item) }
+        ensures unknown { (HasItem self.now.names.items site item → ⊥) → look_in active.old.draft.touched site item ≡ None
+            → result ≡ Err (AtSite UnknownItem) }
+        ensures fault { IfErr result IsOfRead }
+    {
+        self.read_at(rt, seat, active, site, item, 0, &NoGate)
+    }
+
+    /// Reads an item. What the transaction wrote or read before is answered from its draft. Else the item is read and logged at
+    /// its site, under the site's lock, and kept in the draft, for which there is room before the lock is taken.
+    ///
+    /// - V4 with S1: the site or the item isn't there, or another site stands in its place.
+    /// - V3: there was no memory.
+    /// - V4 with S2, S3 or S7, as the site refuses.
+    ///
+    /// The gate is told of `InRead` and `AfterRead`, of a read at the site alone.
+    pub fn read_at<R: Wait, G: Gate>(
+        &self,
+        rt: &R,
+        seat: &mut Seat<L>,
+        active: &mut Active,
+        site: SiteNo,
+        item: Item,
+        worker: usize,
+        gate: &G,
+    ) -> Result<Value, ServiceFault>
+        ensures value { IfOk result (λ v. look_in active.new.draft.touched site item ≡ Some v) }
+        ensures kept { IsSome (look_in active.old.draft.touched site item)
+            → IsOk result × SameActive active.old active.new × SameSeat seat.old seat.new }
+        ensures gained { OnOk result (look_in active.old.draft.touched site item ≡ None
+            → GainsRead site item active.old.draft.touched active.new.draft.touched
+            × AreCounted (only_at site with_read) seat.old.counts.items seat.new.counts.items) }
+        ensures named { IsOfActive active.old active.new × (seat.new.share ≡ seat.old.share) × (seat.new.begun ≡ seat.old.begun) }
+        ensures err { OnErr result (SameActive active.old active.new × SameSeat seat.old seat.new) }
+        ensures allowed { OnOk result (look_in active.old.draft.touched site item ≡ None → HasItem self.now.names.items site item) }
+        ensures unknown { (HasItem self.now.names.items site item → ⊥) → look_in active.old.draft.touched site item ≡ None
+            → result ≡ Err (AtSite UnknownItem) }
+        ensures fault { IfErr result IsOfRead }
+    {
+        if let Some(value) = active.draft.look(site, item) {
+            return Ok(value);
+        }
+        if !self.has_item(site, item) {
+            return Err(ServiceFault::Site(SiteFault::UnknownItem));
+        }
+        active.draft.room()?;
+        let value = self.read_site(rt, active, site, item, worker, gate)?;
+        gate.arrive(worker, Place::AfterRead(site));
+        seat.count_read(site);
+        Ok(value)
+    }
+
+    // Reads at the site, under its lock, for a draft that has room for what is read, and keeps it there.
+    #[tactic(auto, using(crate::proofs::Faults::read_of))]
+    fn read_site<R: Wait, G: Gate>(
+        &self,
+        rt: &R,
+        active: &mut Active,
+        site: SiteNo,
+        item: Item,
+        worker: usize,
+        gate: &G,
+    ) -> Result<Value, ServiceFault>
+        requires item { HasItem self.now.names.items site item }
+        requires room { IsTrue active.old.draft.has_room }
+        requires unread { look_in active.old.draft.touched site item ≡ None }
+        ensures value { IfOk result (λ v. look_in active.new.draft.touched site item ≡ Some v) }
+        ensures gained { OnOk result (GainsRead site item active.old.draft.touched active.new.draft.touched) }
+        ensures named { IsOfActive active.old active.new }
+        ensures err { OnErr result (SameActive active.old active.new) }
+        ensures fault { IfErr result IsOfRead }
+    {
+        let mut guard = self.lock_site(rt, site);
+        let held = &mut *guard;
+        gate.arrive(worker, Place::InRead(site));
+        read_held(held, active, site, item)
+    }
+}
+
+// Reads at the site that is lent, if it is the one of this number, for the transaction, and keeps what was read in its draft, which has room for it.
+fn read_held(
+    held: &mut Site,
+    active: &mut Active,
+    site: SiteNo,
+    item: Item,
+) -> Result<Value, ServiceFault>
+    requires room { IsTrue active.old.draft.has_room }
+    requires unread { look_in active.old.draft.touched site item ≡ None }
+    ensures read { OnOk result (ReadsAt site item active.old active.new held.old held.new) }
+    ensures value { IfOk result (λ v. look_in active.new.draft.touched site item ≡ Some v) }
+    ensures err { OnErr result ((held.new ≡ held.old) × SameActive active.old active.new) }
+    ensures refused { IfErr result (IsToldOfRead site held.old active.old.tx item) }
+{
+    if !is_numbered(held, site) {
+        return Err(ServiceFault::Site(SiteFault::UnknownItem));
+    }
+    let seen = held.read(active.tx, item)?;
+    Ok(keep(&mut active.draft, site, item, seen))
+}
+
+#[tactic(auto, using(crate::proofs::Reading::seen_shows))]
+// Keeps what was read, and answers what the transaction sees of it now.
+fn keep(draft: &mut Draft, site: SiteNo, item: Item, seen: Seen) -> Value
+    requires room { IsTrue draft.old.has_room }
+    requires unread { look_in draft.old.touched site item ≡ None }
+    ensures kept { ChangesOnly draft.old.touched draft.new.touched (record {
+      site = site;
+      item = item;
+      seen = Some seen;
+      change = change_at draft.old.touched (site, item);
+    }) }
+    ensures value { look_in draft.new.touched site item ≡ Some result }
+{
+    let Ok(()) = draft.seen(site, item, seen.value, seen.version) else {
+        unreachable!()
+    };
+    let _touched = draft.touched();
+    changes_show_at_their_place();
+    match draft.look(site, item) {
+        Some(value) => value,
+        None => unreachable!(),
+    }
+}

@@ -1,0 +1,86 @@
+//! Seats: what each worker has of the ledger of decisions, and what it counted at each site.
+
+ghost use Rattle.std.specs.Prelude.{◌≡◌, ◌<◌};
+ghost use Rattle.sgt_service_locks.specs.Counts.{with_read, with_others};
+
+use sgt_names::SiteNo;
+use sgt_service_agreement::EntryCounts;
+use std::sync::ledger::{Ledger, Share};
+
+/// One worker's part of the ledger of decisions, with its counts at each site and of the transactions that it began.
+#[derive(Drop)]
+pub struct Seat<L: Ledger> {
+    pub(crate) share: Share<L>,
+    pub(crate) counts: Vec<EntryCounts>,
+    pub(crate) begun: u64,
+    pub ghost some_part: { 0 < share.parts },
+}
+
+impl<L: Ledger> Seat<L> {
+    ghost use Rattle.std.specs.Prelude.{◌≡◌};
+    ghost use Rattle.sgt_service_locks.specs.Counts.{AreCounted, only_at, with_read, with_others};
+    ghost use Rattle.sgt_service_locks.specs.Seats.{CountsBegin};
+
+    /// The counts, by the sites' numbers.
+    pub fn counts(&self) -> &[EntryCounts]
+        ensures { result.now ≡ self.now.counts.items }
+    {
+        self.counts.as_slice()
+    }
+
+    /// How many transactions it began, up to the greatest number.
+    pub fn begun(&self) -> u64
+        ensures { result ≡ self.now.begun }
+    {
+        self.begun
+    }
+
+    // Counts a transaction that it began.
+    pub(crate) fn count_begin(&mut self)
+        ensures { CountsBegin self.old self.new }
+    {
+        self.begun = self.begun.saturating_add(1);
+    }
+
+    // Counts a logged read.
+    #[tactic(auto, using(crate::proofs::Counting::counted_set, crate::proofs::Counting::counted_past))]
+    pub(crate) fn count_read(&mut self, site: SiteNo)
+        ensures share { (self.new.share ≡ self.old.share) × (self.new.begun ≡ self.old.begun) }
+        ensures counts { AreCounted (only_at site with_read) self.old.counts.items self.new.counts.items }
+    {
+        let place = site.number() as usize;
+        if place < self.counts.len() {
+            self.counts[place] = with_read(self.counts[place]);
+        }
+    }
+
+    // Counts so many other entries.
+    #[tactic(auto, using(crate::proofs::Counting::counted_set, crate::proofs::Counting::counted_past))]
+    pub(crate) fn count_others(&mut self, site: SiteNo, more: u64)
+        ensures share { (self.new.share ≡ self.old.share) × (self.new.begun ≡ self.old.begun) }
+        ensures counts { AreCounted (only_at site (with_others more)) self.old.counts.items self.new.counts.items }
+    {
+        let place = site.number() as usize;
+        if place < self.counts.len() {
+            self.counts[place] = with_others(self.counts[place], more);
+        }
+    }
+}
+
+fn with_read(counts: EntryCounts) -> EntryCounts
+    ensures { result ≡ with_read counts }
+{
+    EntryCounts {
+        reads: counts.reads.saturating_add(1),
+        others: counts.others,
+    }
+}
+
+fn with_others(counts: EntryCounts, more: u64) -> EntryCounts
+    ensures { result ≡ with_others more counts }
+{
+    EntryCounts {
+        reads: counts.reads,
+        others: counts.others.saturating_add(more),
+    }
+}

@@ -1,0 +1,6 @@
+use Rattle.std.proofs.Common.{ℕ, ◌<◌, ◌≤◌}
+use Rattle.sgt_service_settle.specs.Settled.{count_of, tickets_of}
+use Rattle.sgt_service_settle.proofs.tickets.first_missing.Given as goal
+
+abbrev pub invariant-loop-number : goal.invariant-loop-number
+invariant-loop-number l = (j : ℕ) → j < l.number → 1 ≤ count_of j (tickets_of l.dones)

@@ -1,0 +1,28 @@
+-- The logs of the sites against an index of the history.
+use Rattle.std.specs.Prelude.{◌≡◌, ℕ, List, Contains, Some, Vec, slice_get}
+use Rattle.std.specs.declared.alloc.Global.{Global}
+use Rattle.sgt_names.specs.declared.entry.Entry.{Entry}
+use Rattle.sgt_site.specs.State.{SiteState}
+use Rattle.sgt_service_settle.specs.Settled.{AreEntriesCounted}
+use Rattle.sgt_service_agreement.specs.declared.counts.EntryCounts.{EntryCounts}
+use Rattle.sgt_service_settle.specs.declared.handed.Handed.{Handed}
+use Rattle.sgt_service_settle.specs.declared.index.Index.{Index}
+use Rattle.sgt_service_settle.specs.private.Index.{IsLoggedBy, AreCarried}
+
+-- each edge on the site is a conflict of its log
+abbrev pub AreLogged : List (Vec ℕ Global) → List Handed → ℕ → List Entry → Type 0
+AreLogged windows handed site log = (h : Handed) → Contains handed h → h.edge.label.site ≡ site → IsLoggedBy windows log h.edge
+
+-- the log of the site has the counted entries, and its conflicts are those that the decisions were handed
+pub record IsLogFit (index : Index) (site : ℕ) (counts : EntryCounts) (log : List Entry) : Type 0 where
+  pub counted : AreEntriesCounted counts log
+  pub edges : AreLogged index.windows.items index.handed.items site log
+  pub conflicts : AreCarried index site log
+
+-- it is the site of this number, with such a log
+abbrev pub IsSiteFit : Index → ℕ → EntryCounts → SiteState → Type 0
+IsSiteFit index site counts s = (s.number ≡ site) × IsLogFit index site counts s.entries
+
+abbrev pub IsFitAt : Index → List SiteState → List EntryCounts → ℕ → Type 0
+IsFitAt index sites counts k =
+    (s : SiteState) (c : EntryCounts) → slice_get sites k ≡ Some s → slice_get counts k ≡ Some c → IsSiteFit index k c s

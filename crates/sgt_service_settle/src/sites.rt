@@ -1,0 +1,151 @@
+//! Whether the logs of the sites agree with the history.
+
+ghost use Rattle.std.specs.Prelude.{◌≡◌, ◌↔◌, ◌≤◌, ◌<◌, ◌++◌, ℕ, List, IsTrue, Contains, IfOk, OnErr, MatchOption, length, slice_get, Some};
+ghost use Rattle.std.specs.Ordering.{nat_cmp};
+ghost use Rattle.std.specs.Cmp.Lexicographic.{slice_cmp};
+ghost use Rattle.sgt_names.specs.Limits.{max_sites};
+ghost use Rattle.sgt_names.specs.Ordered.{IsRisingBy};
+ghost use Rattle.sgt_names.specs.declared.entry.Entry.{Entry as AnEntry};
+ghost use Rattle.sgt_service_settle.specs.Settled.{AreEntriesCounted, AreCountedAt, IsCounted};
+ghost use Rattle.sgt_service_settle.specs.declared.handed.Handed.{Handed as AHanded};
+ghost use Rattle.sgt_service_settle.specs.private.Words.{IsLeastOf, lesser};
+ghost use Rattle.sgt_service_settle.specs.private.Index.{IsPaired};
+ghost use Rattle.sgt_service_settle.specs.private.Acts.{AreKnown, AreActs, AreByActor};
+ghost use Rattle.sgt_service_settle.specs.private.Sites.{AreLogged, IsLogFit, IsSiteFit, IsFitAt};
+
+use crate::acts::{Act, acts_of};
+use crate::carried::are_carried;
+use crate::counts::has_counts;
+use crate::handed::Handed;
+use crate::index::Index;
+use crate::joined::are_joined;
+use crate::logged::is_logged;
+use sgt_names::{Entry, Holding, SiteNo, Tx};
+use sgt_service_agreement::EntryCounts;
+use sgt_site::Site;
+use std::alloc::{AllocError, Global};
+
+// Whether each edge on the site is a conflict of its log.
+fn are_logged(
+    windows: &[Vec<Tx>],
+    items: &[Holding],
+    acts: &[Vec<Act>],
+    handed: &[Handed],
+    site: SiteNo,
+) -> bool
+    requires rising { IsRisingBy (λ h. h.item) (slice_cmp nat_cmp) items.now }
+    requires long { length acts.now ≡ length items.now }
+    requires sorted { AreByActor acts.now }
+    ensures { (log : List AnEntry) → AreKnown items.now log → AreActs items.now log acts.now
+        → IsTrue result ↔ AreLogged windows.now handed.now site log }
+{
+    for one in handed {
+        if one.edge.label.site == site && !is_logged(windows, items, acts, &one.edge) {
+            return false;
+        }
+    }
+    true
+}
+
+// Whether the log of the site has the counted entries, and its conflicts are those that the decisions were handed.
+fn is_log_fit(
+    alloc: Global,
+    index: &Index,
+    site: SiteNo,
+    counts: EntryCounts,
+    items: &[Holding],
+    log: &[Entry],
+) -> Result<bool, AllocError>
+    requires paired { IsPaired index.now }
+    requires rising { IsRisingBy (λ h. h.item) (slice_cmp nat_cmp) items.now }
+    requires known { AreKnown items.now log.now }
+    ensures ok { IfOk result (λ yes. IsTrue yes ↔ IsLogFit index.now site counts log.now) }
+    ensures err { OnErr result (AreEntriesCounted counts log.now) }
+{
+    if !has_counts(log, counts) {
+        return Ok(false);
+    }
+    let acts = acts_of(alloc, items, log)?;
+    let windows = index.windows.as_slice();
+    let handed = index.handed.as_slice();
+    if !are_logged(windows, items, acts.as_slice(), handed, site) {
+        return Ok(false);
+    }
+    let joined = are_joined(alloc, index, site, items, log)?;
+    if joined {
+        return Ok(true);
+    }
+    let carried = are_carried(alloc, index, site, log)?;
+    Ok(carried)
+}
+
+// Whether it is the site of this number, and its log is fit.
+fn is_site_fit(
+    alloc: Global,
+    index: &Index,
+    site: SiteNo,
+    counts: EntryCounts,
+    held: &Site,
+) -> Result<bool, AllocError>
+    requires { IsPaired index.now }
+    ensures ok { IfOk result (λ yes. IsTrue yes ↔ IsSiteFit index.now site counts held.now) }
+    ensures err { OnErr result (IsCounted site counts held.now) }
+{
+    if held.number() != site {
+        return Ok(false);
+    }
+    is_log_fit(alloc, index, site, counts, held.items(), held.log())
+}
+
+/// The least of the places that there are at which isn't the site of that number, or whose log isn't fit.
+pub(crate) fn first_unfit(
+    alloc: Global,
+    index: &Index,
+    sites: &[Site],
+    counts: &[EntryCounts],
+) -> Result<Option<SiteNo>, AllocError>
+    requires paired { IsPaired index.now }
+    requires few { length sites.now ≤ max_sites }
+    requires counts { length counts.now ≡ length sites.now }
+    ensures ok { IfOk result (λ found. MatchOption found
+        ((k : ℕ) → k < length sites.now → IsFitAt index.now sites.now counts.now k)
+        (λ site. (site < length sites.now) × (IsFitAt index.now sites.now counts.now site → ⊥)
+        × ((k : ℕ) → k < site → IsFitAt index.now sites.now counts.now k))) }
+    ensures err { OnErr result ((site : ℕ) × (site < length sites.now) × AreCountedAt sites.now counts.now site
+        × ((k : ℕ) → k < site → IsFitAt index.now sites.now counts.now k)) }
+{
+    for k in 0..sites.len() {
+        let Ok(site) = SiteNo::new(k as u64) else {
+            unreachable!();
+        };
+        let fit = is_site_fit(alloc, index, site, counts[k], &sites[k])?;
+        if !fit {
+            return Ok(Some(site));
+        }
+    }
+    Ok(None)
+}
+
+// The lesser, where there is a first.
+fn lesser(least: Option<SiteNo>, site: SiteNo) -> SiteNo
+    ensures { result ≡ lesser least site }
+{
+    match least {
+        Some(least) if least.number() < site.number() => least,
+        _ => site,
+    }
+}
+
+/// The least site of an edge that is beyond those that there are.
+pub(crate) fn first_beyond(handed: &[Handed], sites: usize) -> Option<SiteNo>
+    ensures { IsLeastOf (λ (h : AHanded). h.edge.label.site) (λ (h : AHanded). sites ≤ h.edge.label.site) handed.now result }
+{
+    let mut least = None;
+    for one in handed {
+        let site = one.edge.label.site;
+        if sites <= site.number() as usize {
+            least = Some(lesser(least, site));
+        }
+    }
+    least
+}

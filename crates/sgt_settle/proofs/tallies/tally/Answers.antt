@@ -1,8 +1,0 @@
-use Rattle.sgt_settle.proofs.Lists.{read}
-use Rattle.sgt_settle.proofs.tallies.tally.Goals as goal
-
-pub returns-in-Some : goal.returns-in-Some
-returns-in-Some c =
-    let h = c.in-Some.ensures.lookup in
-    let here = read c.args.tallies.now c.args.number c.in-Some.tally.now h.3.0 h.1 in
-    c.requires c.args.number c.in-Some.tally.now here
