@@ -1,9 +1,9 @@
 -- Bits of words, and the rows that cover a graph's edges.
-use Rattle.std.proofs.Common.{◌≡◌, ◌⊎◌, ℕ, ◌+◌, ◌*◌, ◌/◌, ◌%◌, ◌^◌, ◌<◌, ◌≤◌, max, List, [], ◌∷◌, ◌++◌, length, get_or, take, Option, Some, None, refl, sym, ap, ◌∙◌, subst, arith, inl, inr, w64}
+use Rattle.std.proofs.Common.{◌≡◌, ◌⊎◌, ℕ, ◌+◌, ◌*◌, ◌/◌, ◌%◌, ◌^◌, ◌<◌, ◌≤◌, max, List, [], ◌∷◌, ◌++◌, length, get_or, take, replicate, Option, Some, None, refl, sym, ap, ◌∙◌, subst, arith, inl, inr, w64}
 use Rattle.std.specs.Prelude.{slice_get, slice_set, bit_or}
 use Rattle.std.specs.Int.{bit_at}
 use Rattle.std.proofs.lemmas.Bool.{cases_eq, cases_lt}
-use Rattle.std.proofs.lemmas.List.{get_or_past, get_or-set_same, get_or-set_other}
+use Rattle.std.proofs.lemmas.List.{get_or_past, get_or-replicate, length-replicate, get_or-set_same, get_or-set_other}
 use Rattle.std.proofs.lemmas.Nat.Bits.{bit_at_or, bit_at-zero, bit_at_set_same, bit_at_set_other}
 use Rattle.std.proofs.lemmas.Option.{same_Some, none-some, slice_get_within}
 use Rattle.sgt_arena.specs.declared.handle.Handle.{Handle}
@@ -21,9 +21,6 @@ use Rattle.sgt_order.proofs.Numbers.{AreNumbers, are_numbers}
 
 -- the words after a bit of one of them was set
 module _ (words : List ℕ) (at : ℕ) where
-  changed : List ℕ
-  changed = slice_set words (at / 64) (bit_or (get_or words (at / 64) 0) (1 * 2 ^ (at % 64) % 2 ^ 64))
-
   -- the word of the bit is the changed one
   pub word_changed : (i : ℕ) → at / 64 < length words → i / 64 ≡ at / 64 → get_or (slice_set words (at / 64) (bit_or (get_or words (at / 64) 0) (1 * 2 ^ (at % 64) % 2 ^ 64))) (i / 64) 0 ≡ bit_or (get_or words (i / 64) 0) (1 * 2 ^ (at % 64) % 2 ^ 64)
   word_changed i within same = rw same (get_or-set_same words (at / 64) (bit_or (get_or words (at / 64) 0) (1 * 2 ^ (at % 64) % 2 ^ 64)) 0 within)
@@ -66,6 +63,21 @@ module _ (words : List ℕ) (at : ℕ) where
 pub no_bit : (i : ℕ) → HasBit [] i → ⊥
 unfolding HasBit
 no_bit i has = absurd (let none = bit_at-zero (i % 64) in omega (arith, has, none))
+
+pub zero_bits : (n i : ℕ) → HasBit (replicate n 0) i → ⊥
+unfolding HasBit
+zero_bits n i has =
+    let none = bit_at-zero (i % 64) in
+    elim (cases_lt (i / 64) n) [
+      | inl within ↦ absurd (let word = ap (λ w. bit_at w (i % 64)) (get_or-replicate n (i / 64) 0 0 within) in omega (arith, has, none, word))
+      | inr past ↦ absurd (let word = ap (λ w. bit_at w (i % 64)) (get_or_past (replicate n 0) (i / 64) 0 (omega (arith, past, length-replicate {A = ℕ} n 0))) in omega (arith, has, none, word))
+    ]
+
+pub bare_words : (words : List ℕ) → words ≡ [] → (i : ℕ) → HasBit words i → ⊥
+bare_words words bare i has = no_bit i (subst (λ ws. HasBit ws i) bare has)
+
+pub zero_words : (words : List ℕ) (n : ℕ) → words ≡ replicate n 0 → (i : ℕ) → HasBit words i → ⊥
+zero_words words n zeros i has = zero_bits n i (subst (λ ws. HasBit ws i) zeros has)
 
 -- words that add nothing to others have no bit that those lack
 pub bits_among : (words others : List ℕ) → ((j : ℕ) → j < length words → bit_or (get_or words j 0) (get_or others j 0) ≡ get_or others j 0) → (i : ℕ) → HasBit words i → HasBit others i
@@ -129,14 +141,6 @@ rows_put rows k new over within covered covers j row got wide n f is leads =
       | inr other ↦ covers j row (sym (get_set_other rows k j new other) ∙ got) wide n f is leads
     ]
 
--- the targets of a node's edges have marks already
-pub all_met : (rows : List Row) (edges : List Edge) (h : Handle) (met : List ℕ) (marks : List (Option Edge)) → RowsCover rows edges → AreMet met marks → IsAmong rows h.index met → Marked (IsFrom h edges) marks marks
-all_met rows edges h met marks covers were among = record {
-  kept = λ k e had. had;
-  fresh = λ k e had. inl had;
-  done = λ e from. were e.to.index (among.3 e.to.index (covers h.index among.0 among.1 among.2 from.0 e from.1 (ap (λ x. x.index) from.2)));
-}
-
 -- the edges with these numbers are those from the node
 pub from_listed : (edges : List Edge) (h : Handle) (listed : List ℕ) (a b : List (Option Edge)) → AreNumbers edges h listed → Marked (IsListed edges listed) a b → Marked (IsFrom h edges) a b
 from_listed edges h listed a b lists then = record {
@@ -153,14 +157,6 @@ from_listed edges h listed a b lists then = record {
       let number = lists.complete from.0 e from.1 from.2 in
       then.done e (number.0, from.0, number.1, from.1);
 }
-
--- one more number
-pub noted_next : (edges : List Edge) (listed met old new : List ℕ) (n m : ℕ) (e : Edge) → slice_get listed n ≡ Some m → slice_get edges m ≡ Some e → ((i : ℕ) → HasBit old i → HasBit met i ⊎ ((x : Edge) × IsListed edges listed x × (x.to.index ≡ i))) → ((i : ℕ) → HasBit new i → HasBit old i ⊎ (i ≡ e.to.index)) → (i : ℕ) → HasBit new i → HasBit met i ⊎ ((x : Edge) × IsListed edges listed x × (x.to.index ≡ i))
-noted_next edges listed met old new n m e at is before then i has =
-    elim (then i has) [
-      | inl had ↦ before i had
-      | inr same ↦ inr (e, (n, m, at, is), sym same)
-    ]
 
 -- one more number, whose edge's bit was set
 pub listed_set : (edges : List Edge) (listed : List ℕ) (n m : ℕ) (x : Edge) (old new : Row) → slice_get listed n ≡ Some m → slice_get edges m ≡ Some x → (IsOpenRow new → IsOpenRow old × ((i : ℕ) → HasBit old.words.items i → HasBit new.words.items i)) → (IsOpenRow new → HasBit new.words.items x.to.index) → (IsOpenRow old → (e : Edge) → IsListed edges (take n listed) e → HasBit old.words.items e.to.index) → IsOpenRow new → (e : Edge) → IsListed edges (take (n + 1) listed) e → HasBit new.words.items e.to.index

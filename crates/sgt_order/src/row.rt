@@ -19,6 +19,7 @@ pub struct Row {
 
 /// Words for the bits of all nodes, none of which is set. There are none where few members are to be gone over, or memory is
 /// refused.
+#[tactic(auto, using(crate::proofs::Covering::bare_words, crate::proofs::Covering::zero_words))]
 pub(crate) fn no_bits(alloc: Global, members: usize) -> Vec<u64>
     ensures { (i : ℕ) → HasBit result.items i → ⊥ }
 {
