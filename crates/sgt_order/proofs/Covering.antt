@@ -1,19 +1,19 @@
 -- Bits of words, and the rows that cover a graph's edges.
-use Rattle.std.proofs.Common.{◌≡◌, ◌⊎◌, ℕ, ◌+◌, ◌*◌, ◌/◌, ◌%◌, ◌^◌, ◌<◌, ◌≤◌, max, List, [], ◌∷◌, ◌++◌, length, get_or, take, replicate, Option, Some, None, refl, sym, ap, ◌∙◌, subst, arith, inl, inr, w64}
+use Rattle.std.proofs.Common.{◌≡◌, ◌⊎◌, ℕ, ◌+◌, ◌*◌, ◌/◌, ◌%◌, ◌^◌, ◌<◌, ◌≤◌, List, [], ◌∷◌, ◌++◌, length, get_or, take, replicate, Option, Some, refl, sym, ap, ◌∙◌, subst, arith, inl, inr, w64}
 use Rattle.std.specs.Prelude.{slice_get, slice_set, bit_or}
 use Rattle.std.specs.Int.{bit_at}
 use Rattle.std.proofs.lemmas.Bool.{cases_eq, cases_lt}
 use Rattle.std.proofs.lemmas.List.{get_or_past, get_or-replicate, length-replicate, get_or-set_same, get_or-set_other}
 use Rattle.std.proofs.lemmas.Nat.Bits.{bit_at_or, bit_at-zero, bit_at_set_same, bit_at_set_other}
-use Rattle.std.proofs.lemmas.Option.{same_Some, none-some, slice_get_within}
+use Rattle.std.proofs.lemmas.Option.{same_Some, slice_get_within}
 use Rattle.sgt_arena.specs.declared.handle.Handle.{Handle}
 use Rattle.sgt_edges.specs.declared.edge.Edge.{Edge}
 use Rattle.sgt_arena.specs.Arena.{Arena, get}
 use Rattle.sgt_order.specs.declared.node.Node.{Node}
 use Rattle.sgt_order.specs.declared.row.Row.{Row}
 use Rattle.sgt_order.specs.private.Parts.{Lists}
-use Rattle.sgt_order.specs.private.Rows.{HasBit, IsOpenRow, Covers, RowsCover, IsAmong}
-use Rattle.sgt_order.specs.private.Search.{IsMarked, AreMet, Marked, IsFrom, IsListed}
+use Rattle.sgt_order.specs.private.Rows.{HasBit, IsOpenRow, Covers, RowsCover}
+use Rattle.sgt_order.specs.private.Search.{Marked, IsFrom, IsListed}
 use Rattle.sgt_order.proofs.Lists.{get_set_same, get_set_other, get_push_cases, get_take_next}
 use Rattle.sgt_order.proofs.Handles.{same_handle}
 use Rattle.sgt_order.proofs.Nodes.{got_window}

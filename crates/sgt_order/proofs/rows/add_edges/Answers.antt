@@ -1,4 +1,4 @@
-use Rattle.std.proofs.Common.{sym, arith, ◌∙◌, ◌++◌, ◌∷◌, [], ap, subst, take, append_assoc}
+use Rattle.std.proofs.Common.{sym, ◌∙◌, ◌++◌, ◌∷◌, [], ap, subst, take, append_assoc}
 use Rattle.std.specs.Prelude.{filter}
 use Rattle.sgt_names.proofs.Lists.{element_at}
 use Rattle.sgt_order.specs.SerializationGraph.{is_present}

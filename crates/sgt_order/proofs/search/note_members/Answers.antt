@@ -1,4 +1,4 @@
-use Rattle.std.proofs.Common.{sym, arith, ◌∙◌, ap, Some, get_or, inl, inr, subst}
+use Rattle.std.proofs.Common.{sym, ◌∙◌, ap, Some, get_or, inl, inr, subst}
 use Rattle.std.proofs.lemmas.Option.{slice_get-get_or}
 use Rattle.sgt_names.proofs.Lists.{element_at}
 use Rattle.sgt_arena.specs.declared.handle.Handle.{Handle}

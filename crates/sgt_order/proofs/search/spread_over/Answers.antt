@@ -1,5 +1,5 @@
 use Rattle.std.proofs.Common.{refl, sym, arith, ◌∙◌, ap, Some, get_or, length, take, drop, ◌+◌, ◌-◌, ◌<◌, subst, ◌≡◌}
-use Rattle.std.specs.Prelude.{is_some, slice_get}
+use Rattle.std.specs.Prelude.{is_some}
 use Rattle.std.proofs.lemmas.Option.{slice_get-get_or}
 use Rattle.sgt_names.proofs.Lists.{element_at}
 use Rattle.sgt_arena.specs.declared.handle.Handle.{Handle}
