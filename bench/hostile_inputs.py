@@ -136,10 +136,10 @@ def falling_ends(n):
 
 
 def against(n):
-    """As many edges as a thousand adders and readers have, and then transactions that are placed in front of all of them."""
+    """As many edges as k adders and readers have, and then k transactions that are placed in front of all of them."""
     text, first = ["site 0 x=0 y=0\n"], 1
     while n > 0:
-        k = min(1000, n)
+        k = min(1365, n)
         old, writer = range(first, first + k), first + k
         adders, readers = range(writer + 1, writer + 1 + k), range(writer + 1 + k, writer + 1 + 2 * k)
         text.append("b\n" * (3 * k + 1) + "".join("r%d[0.y]\n" % i for i in old))

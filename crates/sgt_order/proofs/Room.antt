@@ -10,6 +10,7 @@ use Rattle.sgt_order.specs.declared.fault.Admit.TheVariants.{Cycle, Memory, Stal
 use Rattle.sgt_order.specs.Graph.{IsAcyclic}
 use Rattle.sgt_order.specs.SerializationGraph.{SerializationGraph, HasRoomFor, AdmitRefuses, IsCycleThrough, Joins, LeadsBack, present, is_present, leaves}
 use Rattle.sgt_order.specs.private.Parts.{FitTogether, Lists, transactions_of, rooms_of}
+use Rattle.sgt_order.specs.private.Rows.{RowsCover}
 use Rattle.sgt_order.specs.private.Search.{IsAtRest, no_marks}
 use Rattle.sgt_order.specs.private.Growth.{KeepsRoom, HaveRoom, HaveSpace}
 use Rattle.sgt_order.specs.private.Admission.{HasAllRoom, LeadsToOlder, RefusesAdmission, edges_with}
@@ -63,12 +64,13 @@ room_there dag next offered lists room = (
 )
 
 -- at rest as before
-pub rest_kept : (old new : Dag) (next next' : Vec Handle Global) (marks ms : List (Option Edge)) → IsAtRest old marks → KeepsRoom old new next next' → Lists new.nodes new.edges.items → ms ≡ marks → IsAtRest new ms
-rest_kept old new next next' marks ms rest keeps lists same =
+pub rest_kept : (old new : Dag) (next next' : Vec Handle Global) (marks ms : List (Option Edge)) → IsAtRest old marks → KeepsRoom old new next next' → new.rows ≡ old.rows → Lists new.nodes new.edges.items → ms ≡ marks → IsAtRest new ms
+rest_kept old new next next' marks ms rest keeps rows lists same =
     let listed = subst (Lists new.nodes) keeps.edges lists in
     let sound = sound_widened old.nodes new.nodes old.order.items old.edges.items rest.sound keeps.nodes listed in
     record {
       sound = subst (λ o. FitTogether new.nodes o new.edges.items) (sym keeps.order) (subst (λ es. FitTogether new.nodes old.order.items es) (sym keeps.edges) sound);
+      rows = subst (λ rs. RowsCover rs new.edges.items) (ap (λ v. v.items) (sym rows)) (subst (RowsCover old.rows.items) (sym keeps.edges) rest.rows);
       bare = same ∙ (rest.bare ∙ ap no_marks (sym (same_long old.nodes new.nodes keeps.nodes.same)));
     }
 

@@ -5,6 +5,7 @@ ghost use Rattle.sgt_arena.specs.Arena.{get};
 ghost use Rattle.sgt_order.specs.Graph.{IsAcyclic, IsPlaced};
 ghost use Rattle.sgt_order.specs.SerializationGraph.{Joins};
 ghost use Rattle.sgt_order.specs.private.Parts.{IsSound};
+ghost use Rattle.sgt_order.specs.private.Rows.{RowsCover};
 ghost use Rattle.sgt_order.specs.private.Search.{AreAmong, IsAdmissible, IsAtRest, in_window};
 ghost use Rattle.sgt_order.specs.private.Growth.{KeepsRoom, SameNodes};
 ghost use Rattle.sgt_order.specs.private.Admission.{LeadsToOlder, RefusesAdmission, edges_with};
@@ -14,6 +15,7 @@ use crate::fault::Admit;
 use crate::growth::extend;
 use crate::offer::leads_to_older;
 use crate::region::Region;
+use crate::rows::{add_edges, open_rows};
 use crate::search::{closing, search, walk_back};
 use sgt_arena::Handle;
 use sgt_edges::Edge;
@@ -32,6 +34,7 @@ pub(crate) fn admit_in(
     requires admissible { IsAdmissible dag.old.nodes.generation dag.old.order.items new (in_window new offered.now) }
     requires members { vec_len dag.old.order + 1 < 2 ^ 64 }
     ensures sound { IsSound dag.new }
+    ensures rows { RowsCover dag.new.rows.items dag.new.edges.items }
     ensures same { SameNodes dag.old.nodes dag.new.nodes }
     ensures first { region.new.first ≤ vec_len dag.new.order }
     ensures among { AreAmong (drop region.new.first dag.new.order.items) region.new.marks.items }
@@ -59,5 +62,7 @@ pub(crate) fn admit_in(
         return Err(Admit::Stale);
     }
     extend(dag, region, new, offered)?;
+    add_edges(dag.rows.as_mut_slice(), new.generation, offered);
+    open_rows(&mut dag.rows, &dag.nodes, dag.edges.as_slice(), offered);
     Ok(())
 }

@@ -4,6 +4,7 @@ ghost use Rattle.std.specs.Prelude.{◌≡◌, ◌↔◌, ℕ, Some, slice_get};
 ghost use Rattle.sgt_order.specs.private.Parts.{IsSound};
 
 use crate::node::Node;
+use crate::row::Row;
 use sgt_arena::{Arena, Handle};
 use sgt_edges::Edge;
 
@@ -13,6 +14,8 @@ pub struct Dag {
     pub nodes: Arena<Node>,
     pub edges: Vec<Edge>,
     pub order: Vec<Handle>,
+    /// Which nodes the edges of a node lead to, by its index. A node with few edges may have no row, or an empty one.
+    pub rows: Vec<Row>,
 }
 
 impl Dag {

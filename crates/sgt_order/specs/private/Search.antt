@@ -5,6 +5,7 @@ use Rattle.sgt_edges.specs.declared.edge.Edge.{Edge}
 use Rattle.sgt_order.specs.SerializationGraph.{IsOffered, Links, StandsBefore, is_present}
 use Rattle.sgt_order.specs.declared.dag.Dag.{Dag}
 use Rattle.sgt_order.specs.private.Parts.{IsForward, IsSound}
+use Rattle.sgt_order.specs.private.Rows.{HasBit, RowsCover}
 
 -- the edges with both ends in the window of h
 abbrev pub in_window : Handle → List Edge → List Edge
@@ -23,6 +24,10 @@ Has marks k e = slice_get marks k ≡ Some (Some e)
 -- the node with this index has a mark
 abbrev pub IsMarked : List (Option Edge) → ℕ → Type 0
 IsMarked marks k = (e : Edge) × Has marks k e
+
+-- each node whose bit is set has a mark
+abbrev pub AreMet : List ℕ → List (Option Edge) → Type 0
+AreMet met marks = (i : ℕ) → HasBit met i → IsMarked marks i
 
 -- whether the node with this handle has a mark
 abbrev pub is_marked : List (Option Edge) → Handle → Bool
@@ -111,7 +116,8 @@ pub record Circles (order : List Handle) (h : Handle) (walk : List Edge) : Type 
 abbrev pub AreMarks : List (Option Edge) → Edge → List Edge → Type 0
 AreMarks marks last walk = (n : ℕ) (e : Edge) → slice_get walk n ≡ Some e → (e ≡ last) ⊎ ((k : ℕ) × Has marks k e)
 
--- what is always true of a graph between two admissions: its parts fit together, and no node has a mark
+-- what is always true of a graph between two admissions: its parts fit together, its rows cover its edges, and no node has a mark
 pub record IsAtRest (dag : Dag) (marks : List (Option Edge)) : Type 0 where
   pub sound : IsSound dag
+  pub rows : RowsCover dag.rows.items dag.edges.items
   pub bare : marks ≡ no_marks (length dag.nodes.items)

@@ -2,6 +2,7 @@ use Rattle.std.proofs.Common.{sym, ap, ◌∙◌, ◌++◌, subst, arith, length
 use Rattle.std.proofs.lemmas.Result.{err_from_is_err_and}
 use Rattle.sgt_order.specs.Graph.{IsAcyclic, IsPlaced}
 use Rattle.sgt_order.specs.SerializationGraph.{Joins}
+use Rattle.sgt_order.specs.private.Parts.{Lists}
 use Rattle.sgt_order.specs.private.Search.{AreAmong, AreMarks, Circles, IsMarked, IsOpen, IsTraced, in_window, is_marked}
 use Rattle.sgt_order.proofs.Forward.{forward_acyclic, placed_forward, is_placed}
 use Rattle.sgt_order.proofs.Moving.{among_moved, length-placed}
@@ -74,3 +75,6 @@ returns-clause-order c =
     let free = subst (IsOpen (in_window c.args.new c.args.offered.now) c.args.new) c.as_slice.ensures.value c.in_default.ensures.none in
     let placing = is_placed dag.nodes.generation dag.order.items dag.edges.items (in_window c.args.new c.args.offered.now) c.args.new c.search.new.region.marks.items c.search.ensures.searched free in
     subst (IsPlaced (Joins (dag.edges.items ++ in_window c.args.new c.args.offered.now)) dag.order.items c.args.new) (sym c.in_ok-extend.ensures.order) placing
+
+pub open_rows-requires-clause-lists : goal.open_rows-requires-clause-lists
+open_rows-requires-clause-lists c = subst (λ es. Lists c.extend.new.dag.nodes es) (sym c.as_slice-2.ensures.value) c.extend.ensures.sound.holds.lists
