@@ -1,6 +1,5 @@
 -- One more line of an input.
-use Rattle.std.specs.Prelude.{◌≡◌, ◌≢◌, ◌≤◌, ◌⊎◌, ℕ, Bool, true, false, List, [], ◌∷◌, ◌++◌, length}
-use Rattle.sgt_notation.specs.Events.{IsSiteLine, site_text}
+use Rattle.std.specs.Prelude.{◌≡◌, ◌≤◌, ◌⊎◌, ℕ, Bool, true, false, List, [], ◌∷◌, ◌++◌, length}
 use Rattle.sgt_notation.specs.Reading.{SpellsNone}
 use Rattle.sgt_notation.specs.Scripts.{script_text}
 use Rattle.sgt_notation.specs.declared.event.SiteLine.{SiteLine}
@@ -8,11 +7,9 @@ use Rattle.sgt_notation.specs.declared.script.Script.{Script}
 use Rattle.sgt_service.specs.declared.input.Input.{Input}
 use Rattle.sgt_service.specs.Input.{Begins, IsBegun, IsScriptOver, input_lines, max_scripts}
 
--- the line spells the next site, which is kept, or none
-abbrev pub TakesSite : List SiteLine → List ℕ → List SiteLine → Bool → Type 0
-TakesSite old line new true = (l : SiteLine) × IsSiteLine l × (l.site ≡ length old) × (line ≡ site_text l) × (new ≡ old ++ l ∷ [])
-TakesSite old line new false =
-    ((l : SiteLine) → IsSiteLine l → l.site ≡ length old → line ≢ site_text l) × (new ≡ old)
+-- an input that begins so has these lines
+abbrev pub HaveLines : Input → List (List ℕ) → Type 0
+HaveLines input lines = IsBegun input × (lines ≡ input_lines input)
 
 -- the line spells a script over the sites, which is kept, or none; or there are as many as there may be
 abbrev pub TakesScript : List SiteLine → List Script → List ℕ → List Script → Bool → Type 0

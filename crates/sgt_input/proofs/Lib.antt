@@ -1,0 +1,4 @@
+pub mod Lines
+pub mod Reader
+pub mod SiteLines
+pub mod Unreadable
