@@ -1,3 +1,4 @@
+pub mod Keeping
 pub mod Lines
 pub mod Reader
 pub mod SiteLines

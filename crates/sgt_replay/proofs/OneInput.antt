@@ -17,9 +17,8 @@ use Rattle.sgt_notation.proofs.OneSpelling.{apart}
 use Rattle.sgt_replay.specs.declared.input.Input.{Input}
 use Rattle.sgt_replay.specs.Input.{Begins, IsBegun, input_lines}
 use Rattle.sgt_input.specs.Sites.{TakesSite}
-use Rattle.sgt_input.specs.Taking.{TakesLine}
 use Rattle.sgt_input.proofs.SiteLines.{last-number, map-push, more-numbers, not-nil}
-use Rattle.sgt_replay.specs.private.Taking.{HaveLines, Takes, TakesEvent}
+use Rattle.sgt_replay.specs.private.Taking.{Takes, TakesEvent}
 
 -- no event is spelled like a site
 pub event-no_site : (l : SiteLine) (e : EventLine) → IsEventLine e → site_text l ≡ event_text e → ⊥
@@ -130,14 +129,3 @@ pub after-event : {E : Type 0} (r : Result Bool E) (old new : Input) (line : Lis
 after-event (Err e) old new line kept some none takes = tt
 after-event (Ok true) old new line kept some none takes = λ begun. took-event old new line (some begun) kept takes begun
 after-event (Ok false) old new line kept some none takes = took-none old line none (λ _. takes.0)
-
--- the lines of what is kept
-pub took-line : {E : Type 0} (r : Result Bool E) (old new : Input) (lines : List (List ℕ)) (line : List ℕ) → HaveLines old lines → IfOk r (Takes old line new)
-    → IfOk r (TakesLine Begins (HaveLines new) lines line)
-took-line (Err e) old new lines line have takes = tt
-took-line (Ok true) old new lines line have takes =
-    let on = takes have.0 in
-    let same = ap (λ ls. ls ++ line ∷ []) have.1 ∙ sym on.1 in
-    ((new, on.0, same), (on.0, same))
-took-line (Ok false) old new lines line have takes =
-    λ begins. takes have.0 (subst (λ ls. Begins (ls ++ line ∷ [])) have.1 begins)

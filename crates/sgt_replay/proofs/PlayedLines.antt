@@ -7,27 +7,35 @@ use Rattle.sgt_names.specs.declared.outcome.Outcome.{Outcome}
 use Rattle.sgt_names.specs.declared.outcome.Outcome.TheVariants as outcome
 use Rattle.sgt_notation.specs.Events.{IsEventLine, IsSiteLine, event_text, site_text}
 use Rattle.sgt_notation.specs.Reading.{SpellsNone}
-use Rattle.sgt_notation.specs.Spelling.{text_of_lines}
 use Rattle.sgt_notation.specs.declared.event.EventLine.{EventLine}
 use Rattle.sgt_notation.specs.declared.event.SiteLine.{SiteLine}
 use Rattle.sgt_core.specs.Core.{CoreState, fresh}
 use Rattle.sgt_core.specs.Machine.{Parts, StandsFor}
 use Rattle.sgt_input.specs.Stopping.{IsTaken}
 use Rattle.sgt_input.specs.Taking.{TakesLine}
+use Rattle.sgt_input.proofs.Keeping.{took-line}
 use Rattle.sgt_replay.specs.declared.input.Input.{Input}
 use Rattle.sgt_replay.specs.Input.{Begins, IsBegun, IsInput, Spells, input_lines}
 use Rattle.sgt_replay.specs.Replay.{IsAnswer, IsRunText}
 use Rattle.sgt_replay.specs.private.Playing.{AnswersEvent, HasPlayed, IsCoreAtEnd, IsOpening, IsPlayed, PlaysOn}
 use Rattle.sgt_replay.specs.private.Running.{WritesReplies}
 use Rattle.sgt_replay.specs.private.Taking.{HaveLines, Takes}
-use Rattle.sgt_replay.proofs.OneInput.{took-event, took-line, took-none}
+use Rattle.sgt_replay.proofs.OneInput.{took-event, took-none}
 use Rattle.sgt_replay.proofs.Running.{replies-none, replies-then}
-use Rattle.sgt_replay.proofs.Unreadable.{has_site, none-begins}
+use Rattle.sgt_replay.proofs.Unreadable.{none-begins, whole-input}
 
 -- nothing was played yet
 pub none-played : (sites : List SiteLine) (core : Option Parts) (text : List ℕ) → sites ≡ [] → core ≡ None → text ≡ [] → HasPlayed sites core text []
 none-played sites None text none idle empty = (none-begins.0, (none-begins.1, none-begins.2), (sym none, refl, empty))
 none-played sites (Some core) text none idle empty = absurd cc
+
+-- where there was no event the sites are kept, and nothing is written
+pub idle-lines : (sites : List SiteLine) (core : Option Parts) (text : List ℕ) (lines : List (List ℕ)) → core ≡ None → HasPlayed sites core text lines
+    → HaveLines (record { sites = sites; events = [] }) lines × (text ≡ [])
+idle-lines sites None text lines idle (input, have, played) =
+    let same : input ≡ record { sites = sites; events = [] } = λ t. record { sites = played.0 t; events = played.1 t } in
+    (subst (λ (i : Input). HaveLines i lines) same have, played.2)
+idle-lines sites (Some core) text lines idle p = absurd cc
 
 pushed-some : (es : List EventLine) (e : EventLine) → es ++ e ∷ [] ≡ [] → ⊥
 pushed-some [] e same = absurd cc
@@ -66,9 +74,9 @@ pub line-played : {E : Type 0} (r : Result Bool E) (old : Input) (sites : List S
     → HaveLines old lines → IfOk r (PlaysOn old line sites core written) → IfOk r (TakesLine Begins (HasPlayed sites core written) lines line)
 line-played (Err e) old sites core written line lines have plays = tt
 line-played (Ok true) old sites core written line lines have (new, takes, played) =
-    let on = took-line (Ok true) old new lines line have takes in
+    let on = took-line IsBegun input_lines (Ok true) old new lines line have takes in
     (on.0, (new, on.1, played))
-line-played (Ok false) old sites core written line lines have takes = took-line (Ok false) old old lines line have takes
+line-played (Ok false) old sites core written line lines have takes = took-line IsBegun input_lines (Ok false) old old lines line have takes
 
 -- ---- the end
 
@@ -101,16 +109,9 @@ played-run input sites (Some old) last text (some, filled, m, stands, writes) sa
 pub taken-input : (sites : List SiteLine) (core : Option Parts) (text : List ℕ) (told : Option (List ℕ)) → IsTaken Begins (HasPlayed sites core text) told
     → (input : Input) × IsInput input × IsPlayed input sites core text × IfSome told (λ bytes. Spells bytes input)
 taken-input sites core text told taken =
-    let input = taken.taken.0 in
-    let have = taken.taken.1 in
-    let is : IsInput input = (have.0, has_site input have.0 (λ none. taken.some (have.1 ∙ none))) in
-    (input, is, taken.taken.2, spells told taken.text)
-  where
-    spells : (told : Option (List ℕ)) → IfSome told (λ bytes. bytes ≡ text_of_lines taken.lines) → IfSome told (λ bytes. Spells bytes taken.taken.0)
-    spells None text = tt
-    spells (Some bytes) text =
-        let have = taken.taken.1 in
-        ((have.0, has_site taken.taken.0 have.0 (λ none. taken.some (have.1 ∙ none))), text ∙ ap text_of_lines have.1)
+    let (input, have, played) = taken.taken in
+    let whole = whole-input input taken.lines told have.0 have.1 taken.some taken.text in
+    (input, whole.0, played, whole.1)
 
 pub run-answers : (told : Option (List ℕ)) (o : Outcome) (text : List ℕ) (input : Input) → IfSome told (λ bytes. Spells bytes input) → IsRunText input o text
     → IsAnswer told o text

@@ -12,11 +12,12 @@ use Rattle.sgt_notation.specs.declared.event.EventLine.{EventLine}
 use Rattle.sgt_notation.specs.declared.event.SiteLine.{SiteLine}
 use Rattle.sgt_notation.specs.declared.fault.NotationFault.{NotationFault}
 use Rattle.sgt_notation.proofs.OneEvent.{event-no_lf, event-short}
+use Rattle.sgt_input.proofs.Keeping.{spelled}
 use Rattle.sgt_input.proofs.SiteLines.{site-plain}
 use Rattle.sgt_input.proofs.Unreadable as any
 use Rattle.sgt_input.proofs.Unreadable.{AreInputs, IsPlain}
 use Rattle.sgt_replay.specs.declared.input.Input.{Input}
-use Rattle.sgt_replay.specs.Input.{Begins, FirstUnreadable, IsBegun, Spells, input_lines}
+use Rattle.sgt_replay.specs.Input.{Begins, FirstUnreadable, IsBegun, IsInput, Spells, input_lines}
 use Rattle.sgt_replay.specs.Replay.{IsAnswer, TellsUnreadable}
 
 nonempty : {A : Type 0} (x : A) (xs : List A) → x ∷ xs ≡ [] → ⊥
@@ -135,6 +136,13 @@ input-no_fault bytes i n f spells =
 -- lines that an input may begin with, of which there are some, are those of an input
 pub has_site : (i : Input) → IsBegun i → input_lines i ≢ [] → i.sites ≢ []
 has_site i is some empty = some (ap₂ (λ ss es. map site_text ss ++ map event_text es) empty (is.first empty))
+
+-- what was taken of an input, of which there is some, is the whole of it
+pub whole-input : (input : Input) (lines : List (List ℕ)) (told : Option (List ℕ)) → IsBegun input → lines ≡ input_lines input → lines ≢ []
+    → IfSome told (λ bytes. bytes ≡ text_of_lines lines) → IsInput input × IfSome told (λ bytes. Spells bytes input)
+whole-input input lines told is same some text =
+    let whole : IsInput input = (is, has_site input is (λ none. some (same ∙ none))) in
+    (whole, spelled IsBegun input_lines (IsInput input) told lines input whole same text)
 
 pub input-or_fault : (bytes : List ℕ) → ((i : Input) → Spells bytes i → ⊥) → ((n : ℕ) (f : NotationFault) → FirstUnreadable bytes n f → ⊥) → ⊥
 input-or_fault bytes no_input no_fault =

@@ -19,9 +19,8 @@ use Rattle.sgt_notation.proofs.OneSpelling.{apart}
 use Rattle.sgt_service.specs.declared.input.Input.{Input}
 use Rattle.sgt_service.specs.Input.{Begins, IsBegun, IsPlaced, IsScriptOver, input_lines, max_scripts}
 use Rattle.sgt_input.specs.Sites.{TakesSite}
-use Rattle.sgt_input.specs.Taking.{TakesLine}
 use Rattle.sgt_input.proofs.SiteLines.{last-number, map-push, more-numbers, not-nil}
-use Rattle.sgt_service.specs.private.Taking.{HaveLines, Takes, TakesScript}
+use Rattle.sgt_service.specs.private.Taking.{Takes, TakesScript}
 
 -- no script is spelled like a site
 op-no_site : (l : SiteLine) (op : Op) (rest : List ℕ) → site_text l ≡ op_text op ++ rest → ⊥
@@ -161,14 +160,3 @@ pub after-script : {E : Type 0} (r : Result Bool E) (old new : Input) (line : Li
 after-script (Err e) old new line kept none takes = tt
 after-script (Ok true) old new line kept none takes = λ begun. took-script old new line kept takes begun
 after-script (Ok false) old new line kept none takes = took-none old line none takes.0
-
--- the lines of what is kept
-pub took-line : {E : Type 0} (r : Result Bool E) (old new : Input) (lines : List (List ℕ)) (line : List ℕ) → HaveLines old lines → IfOk r (Takes old line new)
-    → IfOk r (TakesLine Begins (HaveLines new) lines line)
-took-line (Err e) old new lines line have takes = tt
-took-line (Ok true) old new lines line have takes =
-    let on = takes have.0 in
-    let same = ap (λ ls. ls ++ line ∷ []) have.1 ∙ sym on.1 in
-    ((new, on.0, same), (on.0, same))
-took-line (Ok false) old new lines line have takes =
-    λ begins. takes have.0 (subst (λ ls. Begins (ls ++ line ∷ [])) have.1 begins)

@@ -13,11 +13,12 @@ use Rattle.sgt_notation.specs.declared.event.SiteLine.{SiteLine}
 use Rattle.sgt_notation.specs.declared.script.Script.{Script}
 use Rattle.sgt_notation.specs.declared.fault.NotationFault.{NotationFault}
 use Rattle.sgt_notation.proofs.OneScript.{script-no_lf}
+use Rattle.sgt_input.proofs.Keeping.{spelled}
 use Rattle.sgt_input.proofs.SiteLines.{site-plain}
 use Rattle.sgt_input.proofs.Unreadable as any
 use Rattle.sgt_input.proofs.Unreadable.{AreInputs, IsPlain}
 use Rattle.sgt_service.specs.declared.input.Input.{Input}
-use Rattle.sgt_service.specs.Input.{Begins, FirstUnreadable, IsBegun, IsScriptOver, Spells, input_lines}
+use Rattle.sgt_service.specs.Input.{Begins, FirstUnreadable, IsBegun, IsInput, IsScriptOver, Spells, input_lines}
 use Rattle.sgt_service.specs.Report.{IsAnswer, TellsUnreadable}
 use Rattle.sgt_service.proofs.OneInput.{scripts-plain, scripts-somewhere}
 
@@ -137,6 +138,13 @@ input-no_fault bytes i n f spells =
 -- lines that an input may begin with, of which there are some, are those of an input
 pub has_site : (i : Input) → IsBegun i → input_lines i ≢ [] → i.sites ≢ []
 has_site i is some empty = some (ap₂ (λ ss es. map site_text ss ++ map script_text es) empty (scripts-somewhere i.sites i.scripts empty is.scripts))
+
+-- what was taken of an input, of which there is some, is the whole of it
+pub whole-input : (input : Input) (lines : List (List ℕ)) (told : Option (List ℕ)) → IsBegun input → lines ≡ input_lines input → lines ≢ []
+    → IfSome told (λ bytes. bytes ≡ text_of_lines lines) → IsInput input × IfSome told (λ bytes. Spells bytes input)
+whole-input input lines told is same some text =
+    let whole : IsInput input = (is, has_site input is (λ none. some (same ∙ none))) in
+    (whole, spelled IsBegun input_lines (IsInput input) told lines input whole same text)
 
 pub input-or_fault : (bytes : List ℕ) → ((i : Input) → Spells bytes i → ⊥) → ((n : ℕ) (f : NotationFault) → FirstUnreadable bytes n f → ⊥) → ⊥
 input-or_fault bytes no_input no_fault =

@@ -6,12 +6,12 @@ use Rattle.sgt_replay.proofs.reading.take_line.Goals as goal
 
 pub returns-then-not-is_empty : goal.returns-then-not-is_empty
 returns-then-not-is_empty c =
-    let some = c.if-not-is_empty.ensures.filled refl in
+    let some = filled_when _ _ (sym c.args.events.now.ok.0) c.if-not-is_empty.ensures in
     after-event _ _ _ _ refl (λ begun none. some (begun.first none)) (λ none. absurd (some none)) c.take_event.ensures
 
 pub returns-then-branch : goal.returns-then-branch
 returns-then-branch c =
-    took-site _ _ _ (c.if-not-is_empty.ensures.empty refl) refl
+    took-site _ _ _ (empty_when _ _ (sym c.args.events.now.ok.0) c.if-not-is_empty.ensures) refl
     (subst (λ (b : Bool). TakesSite c.args.sites.now.items c.args.line.now c.take_site.new.sites.items b) c.if-branch.true (c.in_ok-take_site.ensures))
 
 pub returns-then-is_empty : goal.returns-then-is_empty
