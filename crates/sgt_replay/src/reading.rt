@@ -38,7 +38,7 @@ fn take_event(events: &mut Vec<EventLine>, line: &[u8]) -> Result<bool, AllocErr
 {
     match read_event(line) {
         Ok(event) => {
-            events.push(event)?;
+            events.extend_from_slice(&[event])?;
             Ok(true)
         }
         Err(_) => Ok(false),
