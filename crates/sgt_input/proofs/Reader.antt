@@ -1,5 +1,5 @@
 -- How far an input was read, against all that its reader told.
-use Rattle.std.proofs.Common.{◌≡◌, ◌≢◌, ℕ, ◌+◌, ◌<◌, ◌≤◌, List, [], ◌∷◌, ◌++◌, length, Option, Some, None, IfSome, refl, sym, ap, ap₂, ◌∙◌, subst, arith, inl, inr, append_assoc}
+use Rattle.std.proofs.Common.{◌≡◌, ℕ, ◌+◌, ◌<◌, ◌≤◌, List, [], ◌∷◌, ◌++◌, length, Option, Some, None, IfSome, refl, sym, ap, ◌∙◌, subst, arith, inl, inr}
 use Rattle.std.specs.Prelude.{⊤}
 use Rattle.std.proofs.lemmas.List.{append-nil, length-append}
 use Rattle.sgt_notation.specs.Limits.{max_line, most_reads}
@@ -10,7 +10,6 @@ use Rattle.sgt_notation.specs.declared.fault.NotationFault.TheVariants.{NotALine
 use Rattle.sgt_notation.specs.declared.lines.Next.TheVariants.{Line, Cut, TooLong, End}
 use Rattle.sgt_input.specs.declared.reading.Stop.TheVariants as stop
 use Rattle.sgt_input.specs.Stopping.{IsStop}
-use Rattle.sgt_input.specs.Taking.{TakesLine}
 use Rattle.sgt_input.specs.Unreadable.{Blocks, IsFirstUnreadable}
 use Rattle.sgt_input.proofs.Lines.{one-line}
 

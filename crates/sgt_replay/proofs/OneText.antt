@@ -5,7 +5,6 @@ use Rattle.std.specs.List.{AllByRecursion}
 use Rattle.std.proofs.lemmas.List.Elements.{All-head, All-tail, recursion_from_All}
 use Rattle.sgt_names.proofs.Lists.{heads, tails}
 use Rattle.sgt_notation.specs.Events.{IsEventLine, IsSiteLine, event_text, site_text}
-use Rattle.sgt_notation.specs.Spelling.{text_of_lines}
 use Rattle.sgt_notation.specs.declared.event.EventLine.{EventLine}
 use Rattle.sgt_notation.specs.declared.event.SiteLine.{SiteLine}
 use Rattle.sgt_notation.proofs.OneEvent.{event-no_lf, event-one}

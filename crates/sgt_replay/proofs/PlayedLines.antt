@@ -1,15 +1,12 @@
 -- The run of an input, line by line.
-use Rattle.std.proofs.Common.{◌≡◌, ◌≢◌, ℕ, ◌+◌, ◌≤◌, true, false, List, [], ◌∷◌, ◌++◌, length, Option, Some, None, IfSome, refl, sym, ap, ◌∙◌, subst, arith}
-use Rattle.std.specs.Prelude.{All, Bool, Result, Ok, Err, IfOk, map}
-use Rattle.std.specs.List.{range_with_len}
-use Rattle.std.proofs.lemmas.List.Elements.{All-nil}
+use Rattle.std.proofs.Common.{◌≡◌, ◌≢◌, ℕ, ◌+◌, ◌≤◌, true, false, List, [], ◌∷◌, ◌++◌, length, Option, Some, None, IfSome, refl, sym, subst, arith}
+use Rattle.std.specs.Prelude.{Bool, Result, Ok, Err, IfOk, map}
 use Rattle.sgt_names.specs.declared.outcome.Outcome.{Outcome}
 use Rattle.sgt_names.specs.declared.outcome.Outcome.TheVariants as outcome
-use Rattle.sgt_notation.specs.Events.{IsEventLine, IsSiteLine, event_text, site_text}
-use Rattle.sgt_notation.specs.Reading.{SpellsNone}
+use Rattle.sgt_notation.specs.Events.{IsSiteLine, site_text}
 use Rattle.sgt_notation.specs.declared.event.EventLine.{EventLine}
 use Rattle.sgt_notation.specs.declared.event.SiteLine.{SiteLine}
-use Rattle.sgt_core.specs.Core.{CoreState, fresh}
+use Rattle.sgt_core.specs.Core.{fresh}
 use Rattle.sgt_core.specs.Machine.{Parts, StandsFor}
 use Rattle.sgt_input.specs.Stopping.{IsTaken}
 use Rattle.sgt_input.specs.Taking.{TakesLine}
@@ -19,7 +16,7 @@ use Rattle.sgt_replay.specs.Input.{Begins, IsBegun, IsInput, Spells, input_lines
 use Rattle.sgt_replay.specs.Replay.{IsAnswer, IsRunText}
 use Rattle.sgt_replay.specs.private.Playing.{AnswersEvent, HasPlayed, IsCoreAtEnd, IsOpening, IsPlayed, PlaysOn}
 use Rattle.sgt_replay.specs.private.Running.{WritesReplies}
-use Rattle.sgt_replay.specs.private.Taking.{HaveLines, Takes}
+use Rattle.sgt_replay.specs.private.Taking.{HaveLines}
 use Rattle.sgt_replay.proofs.OneInput.{took-event, took-none}
 use Rattle.sgt_replay.proofs.Running.{replies-none, replies-then}
 use Rattle.sgt_replay.proofs.Unreadable.{none-begins, whole-input}

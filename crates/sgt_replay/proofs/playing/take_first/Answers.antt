@@ -1,4 +1,4 @@
-use Rattle.std.proofs.Common.{◌∙◌, ◌≡◌, ◌≢◌, ℕ, Bool, List, Ok, Option, [], refl, subst, sym}
+use Rattle.std.proofs.Common.{◌∙◌, ◌≢◌, ℕ, Bool, List, Ok, Option, [], refl, subst, sym}
 use Rattle.sgt_notation.specs.declared.event.SiteLine.{SiteLine}
 use Rattle.sgt_core.specs.Machine.{Parts}
 use Rattle.sgt_input.specs.Sites.{TakesSite}

@@ -1,4 +1,4 @@
-use Rattle.std.proofs.Common.{List, Option, Some, ℕ, subst}
+use Rattle.std.proofs.Common.{Option, Some, subst}
 use Rattle.sgt_core.specs.Machine.{Parts}
 use Rattle.sgt_replay.specs.private.Playing.{HasPlayed}
 use Rattle.sgt_replay.proofs.PlayedLines.{event-played, idle-lines, line-played}
