@@ -13,7 +13,7 @@ fn shown(alloc: Global, reading: &Reading) -> Result<String, AllocError> {
     match reading {
         Reading::Readable(input) => {
             let sites = input.sites.as_slice().len();
-            let events = input.events.to_vec(alloc)?.len();
+            let events = input.events.as_slice().len();
             format!(in alloc; "{sites} sites {events} events")
         }
         Reading::Unreadable { line, fault } => {
@@ -81,7 +81,7 @@ fn repeated(alloc: Global, line: &[u8], count: usize, end: &[u8]) -> Result<Vec<
     Ok(text)
 }
 
-// Lines about the greatest length, and events that fill a block and more.
+// Lines about the greatest length, and many events.
 #[test]
 fn long_inputs(rt: HostRuntime) -> Result<(), Fail> {
     let cases: [(&[u8], usize, &[u8], &str); 5] = [

@@ -5,8 +5,8 @@ ghost use Rattle.sgt_names.specs.Limits.{max_sites};
 
 use sgt_core::Core;
 use sgt_names::{Holding, Listed, MemSource};
-use sgt_notation::SiteLine;
-use sgt_replay::{EventTexts, Reading, read_input};
+use sgt_notation::{EventLine, SiteLine};
+use sgt_replay::{Reading, read_input};
 use std::alloc::{AllocError, Global};
 
 /// A worked row: sites and events, and what is written of them.
@@ -181,7 +181,7 @@ end
 ];
 
 /// A core over the sites of an input, and the events that it is asked. None: the input can't be read, or memory ran out.
-pub fn opened(alloc: Global, input: &str) -> Option<(Core, EventTexts)> {
+pub fn opened(alloc: Global, input: &str) -> Option<(Core, Listed<EventLine>)> {
     let mut source = MemSource::new(input.as_bytes(), 65_536, None);
     match read_input(alloc, &mut source) {
         Ok(Reading::Readable(input)) => {

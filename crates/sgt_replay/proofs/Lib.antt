@@ -1,8 +1,6 @@
 pub mod OneInput
-pub mod Reader
-pub mod Running
-pub mod Served
-pub mod Writing
 pub mod OneText
+pub mod PlayedLines
+pub mod Running
 pub mod Unreadable
-pub mod KeptLines
+pub mod Writing

@@ -5,25 +5,15 @@ use Rattle.std.specs.List.{AllByRecursion}
 use Rattle.std.proofs.lemmas.List.Elements.{All-head, All-tail, recursion_from_All}
 use Rattle.sgt_names.proofs.Lists.{heads, tails}
 use Rattle.sgt_notation.specs.Events.{IsEventLine, IsSiteLine, event_text, site_text}
-use Rattle.sgt_notation.specs.Spelling.{text_of_lines}
 use Rattle.sgt_notation.specs.declared.event.EventLine.{EventLine}
 use Rattle.sgt_notation.specs.declared.event.SiteLine.{SiteLine}
 use Rattle.sgt_notation.proofs.OneEvent.{event-no_lf, event-one}
 use Rattle.sgt_notation.proofs.OneSite.{site-no_lf, site-one}
-use Rattle.sgt_notation.proofs.OneSpelling.{HasNot, cut_at_byte}
+use Rattle.sgt_notation.proofs.OneSpelling.{HasNot}
 use Rattle.sgt_replay.specs.declared.input.Input.{Input}
 use Rattle.sgt_replay.specs.Input.{Spells, input_lines}
-use Rattle.sgt_replay.specs.private.OneEvents.{first_line, no_line}
+use Rattle.sgt_input.proofs.Lines.{texts-one}
 use Rattle.sgt_replay.proofs.OneInput.{event-no_site}
-
--- lines without an LF are cut in one way
-texts-one : (xs ys : List (List ℕ)) → AllByRecursion (HasNot 10) xs → AllByRecursion (HasNot 10) ys → text_of_lines xs ≡ text_of_lines ys → xs ≡ ys
-texts-one [] [] h g e = refl
-texts-one [] (y ∷ ys) h g e = absurd (no_line y (text_of_lines ys) (sym (first_line y ys) ∙ sym e))
-texts-one (x ∷ xs) [] h g e = absurd (no_line x (text_of_lines xs) (sym (first_line x xs) ∙ e))
-texts-one (x ∷ xs) (y ∷ ys) h g e =
-    let cut = cut_at_byte 10 x y (text_of_lines xs) (text_of_lines ys) h.0 g.0 (sym (first_line x xs) ∙ e ∙ first_line y ys) in
-    ap₂ (λ z zs. z ∷ zs) cut.0 (texts-one xs ys h.1 g.1 cut.1)
 
 lines-no_lf : (ss : List SiteLine) (es : List EventLine) → All IsSiteLine ss → All IsEventLine es → AllByRecursion (HasNot 10) (map site_text ss ++ map event_text es)
 lines-no_lf [] [] a b = tt

@@ -23,7 +23,7 @@ use Rattle.sgt_replay.specs.declared.input.Input.{Input}
 use Rattle.sgt_replay.specs.Replay.{EndsWith, IsRunText, Replies}
 use Rattle.sgt_replay.specs.Reply.{reply_lines, reply_text}
 use Rattle.sgt_replay.specs.private.Running.{AnswersLine, WritesReplies}
-use Rattle.sgt_replay.proofs.Reader.{text-append}
+use Rattle.sgt_input.proofs.Lines.{text-append}
 
 -- lines are answered, and then more
 replies-append : (c d e : CoreState) (xs ys : List EventLine) (rs ss : List Reply) → Replies c xs rs d → Replies d ys ss e

@@ -1,5 +1,4 @@
 pub mod Input
 pub mod Replay
 pub mod Reply
-pub mod Texts
 pub mod private

@@ -1,4 +1,4 @@
-pub mod OneEvents
+pub mod Playing
 pub mod Running
-pub mod Taking
 pub mod Stopping
+pub mod Taking

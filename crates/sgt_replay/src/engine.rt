@@ -1,78 +1,23 @@
 //! The replay of all that a reader gives.
 
-ghost use Rattle.std.specs.Prelude.{◌≡◌, ◌≢◌, ◌⊎◌, ◌<◌, ◌≤◌, ◌++◌, ℕ, List, Option, Err, All, length, map, OnOk, OnErr, IfOk, IfSome, IsErrOf};
+ghost use Rattle.std.specs.Prelude.{◌≡◌, ◌≢◌, ◌<◌, ◌++◌, ℕ, List, Option, None, Err, OnOk, OnErr, IfOk, IfSome, IsErrOf};
 ghost use Rattle.std.specs.Io.KnownBytes.{Appends};
 ghost use Rattle.sgt_names.specs.Device.{CountsFailures, WritesFront};
-ghost use Rattle.sgt_names.specs.Limits.{max_sites};
-ghost use Rattle.sgt_notation.specs.Events.{IsSiteLine};
-ghost use Rattle.sgt_notation.specs.declared.event.EventLine.{EventLine};
 ghost use Rattle.sgt_notation.specs.Lines.{ReadFaultIsDue};
-ghost use Rattle.sgt_core.specs.Core.{CoreState, fresh};
+ghost use Rattle.sgt_core.specs.Core.{CoreState};
 ghost use Rattle.sgt_core.specs.Machine.{StandsFor};
-ghost use Rattle.sgt_replay.specs.Input.{IsInput, IsRead, IsUsable};
+ghost use Rattle.sgt_replay.specs.declared.input.Input.{Input};
+ghost use Rattle.sgt_replay.specs.Input.{IsInput};
 ghost use Rattle.sgt_replay.specs.Replay.{EndsWith, IsAnswer, IsRunText, TellsUnreadable, WroteAnswer, WroteAnswerFront, unreadable_text};
-ghost use Rattle.sgt_replay.specs.Texts.{AreLines};
-ghost use Rattle.sgt_replay.specs.private.Running.{AnswersLine, WritesReplies, events_of};
+ghost use Rattle.sgt_replay.specs.private.Playing.{IsCoreAtEnd, IsOpening, IsPlayed};
+ghost use Rattle.sgt_replay.specs.private.Stopping.{StopsPlayer};
 
-use crate::input::{Input, Reading};
-use crate::reading::read_input;
-use crate::reply::write_reply;
-use crate::texts::{Block, EventTexts, behind_lf, front_event};
-use sgt_core::{Core, CoreFault, Reply};
-use sgt_names::{EngineFail, Failed, Holding, Listed, Outcome, Sink, Source, write_all};
-use sgt_notation::{EventLine, NotationFault, SiteLine, push_number};
-use sgt_site::SiteFault;
+use crate::playing::{Player, core_of};
+use sgt_core::{Core, CoreFault};
+use sgt_input::{Stop, read_lines};
+use sgt_names::{EngineFail, Failed, Outcome, Sink, Source, write_all};
+use sgt_notation::{NotationFault, SiteLine, push_number};
 use std::alloc::{AllocError, Global};
-
-/// What the core replies to a line. Err: memory ran out.
-fn answer_line(core: &mut Core, line: &EventLine) -> Result<Reply, AllocError>
-    ensures { IfOk result (λ reply. AnswersLine core.old line.now reply core.new) }
-{
-    let reply = match line {
-        EventLine::One(event) => core.step(*event),
-        EventLine::ToDecide(tx) => core.to_decide(*tx),
-    };
-    match reply {
-        Reply::Fault {
-            fault: CoreFault::Memory,
-        } => Err(AllocError),
-        _ => Ok(reply),
-    }
-}
-
-/// Writes the core's replies to the events whose lines these are. Err: memory ran out.
-fn write_lines(core: &mut Core, lines: &[u8], out: &mut Vec<u8>) -> Result<(), AllocError>
-    ensures { (events : List EventLine) → AreLines events lines.now
-        → OnOk result (WritesReplies core.old events core.new out.old.items out.new.items) }
-{
-    let mut rest = lines;
-    while let Some((line, n)) = front_event(rest) {
-        let reply = answer_line(core, &line)?;
-        write_reply(out, &rest[..n], &reply)?;
-        out.extend_from_slice(b"\n")?;
-        rest = behind_lf(rest, n);
-    }
-    Ok(())
-}
-
-/// The same of blocks, each of which is given up once it is answered.
-fn write_blocks(core: &mut Core, blocks: Vec<Block>, out: &mut Vec<u8>) -> Result<(), AllocError>
-    ensures { OnOk result (WritesReplies core.old (events_of blocks.items) core.new out.old.items out.new.items) }
-{
-    for block in blocks {
-        write_lines(core, block.lines(), out)?;
-    }
-    Ok(())
-}
-
-/// Writes the core's replies to these events. Err: memory ran out.
-fn write_replies(core: &mut Core, events: EventTexts, out: &mut Vec<u8>) -> Result<(), AllocError>
-    ensures { OnOk result (WritesReplies core.old events core.new out.old.items out.new.items) }
-{
-    let (full, last) = events.into_blocks();
-    write_blocks(core, full, out)?;
-    write_lines(core, last.lines(), out)
-}
 
 /// How a run ended, and the text of its bundle: none where there is none.
 #[derive(Drop)]
@@ -107,17 +52,6 @@ fn write_ending(alloc: Global, core: Core, out: &mut Vec<u8>) -> Result<Ending, 
     }
 }
 
-/// The items of the sites.
-fn items_of(alloc: Global, sites: Vec<SiteLine>) -> Result<Vec<Listed<Holding>>, AllocError>
-    ensures { IfOk result (λ items. items.items ≡ map (λ l. l.items) sites.items) }
-{
-    let mut items = Vec::new(alloc);
-    for site in sites {
-        items.push(site.items)?;
-    }
-    Ok(items)
-}
-
 /// An outcome, and what is to be written: some text, and the bundle behind it.
 #[derive(Drop)]
 struct Answer {
@@ -126,32 +60,30 @@ struct Answer {
     bundle: Vec<u8>,
 }
 
-/// A core over these sites. Err: memory ran out.
-fn core_of(alloc: Global, sites: Vec<SiteLine>) -> Result<Core, AllocError>
-    requires some { 1 ≤ length sites.items }
-    requires few { length sites.items ≤ max_sites }
-    requires each { All IsSiteLine sites.items }
-    ensures { IfOk result (λ core. StandsFor core (fresh (map (λ l. l.items) sites.items))) }
+/// The core of a run, which is opened where there was no event. Err: memory ran out.
+fn core_at_end(alloc: Global, core: Option<Core>, sites: Vec<SiteLine>) -> Result<Core, AllocError>
+    requires { core ≡ None → IsOpening sites.items }
+    ensures { IfOk result (IsCoreAtEnd core sites.items) }
 {
-    let items = items_of(alloc, sites)?;
-    match Core::new(alloc, items.as_slice()) {
-        Ok(core) => Ok(core),
-        Err(fault) => match fault {
-            SiteFault::Memory => Err(AllocError),
-            _ => unreachable!(),
-        },
+    match core {
+        Some(core) => Ok(core),
+        None => core_of(alloc, sites),
     }
 }
 
-/// The text of a run over the input. The events are given up once they are answered.
-fn run_text(alloc: Global, input: Input) -> Result<Answer, AllocError>
-    requires { IsInput input }
-    ensures { IfOk result (λ answer. IsRunText input answer.outcome (answer.text.items ++ answer.bundle.items)) }
+/// The text of the run of a whole input.
+fn run_text(alloc: Global, player: Player) -> Result<Answer, AllocError>
+    requires { (input : Input) × IsInput input × IsPlayed input player.sites.items player.core player.text.items }
+    ensures { IfOk result (λ answer. (input : Input) → IsPlayed input player.sites.items player.core player.text.items
+        → IsRunText input answer.outcome (answer.text.items ++ answer.bundle.items)) }
 {
-    let Input { sites, events } = input;
-    let mut core = core_of(alloc, sites.into_vec())?;
-    let mut text = Vec::new(alloc);
-    write_replies(&mut core, events, &mut text)?;
+    let Player {
+        sites,
+        core,
+        mut text,
+        ..
+    } = player;
+    let core = core_at_end(alloc, core, sites)?;
     let Ending { outcome, bundle } = write_ending(alloc, core, &mut text)?;
     Ok(Answer {
         outcome,
@@ -176,15 +108,16 @@ fn unreadable_line(alloc: Global, line: u64, fault: NotationFault) -> Result<Vec
     Ok(text)
 }
 
-/// The answer to what was read.
-fn answer_to(alloc: Global, reading: Reading) -> Result<Answer, AllocError>
-    requires { IsUsable reading }
-    ensures { IfOk result (λ answer. (told : Option (List ℕ)) → IfSome told (λ bytes. IsRead bytes reading)
+/// The answer to an input that was read up to there.
+fn answer_to(alloc: Global, player: Player, stop: Stop) -> Result<Answer, AllocError>
+    requires { (told : Option (List ℕ)) × StopsPlayer told player.sites.items player.core player.text.items stop }
+    ensures { IfOk result (λ answer. (told : Option (List ℕ))
+        → StopsPlayer told player.sites.items player.core player.text.items stop
         → IsAnswer told answer.outcome (answer.text.items ++ answer.bundle.items)) }
 {
-    match reading {
-        Reading::Readable(input) => run_text(alloc, input),
-        Reading::Unreadable { line, fault } => Ok(Answer {
+    match stop {
+        Stop::Ended => run_text(alloc, player),
+        Stop::Unreadable { line, fault } => Ok(Answer {
             outcome: Outcome::Unreadable,
             text: unreadable_line(alloc, line, fault)?,
             bundle: Vec::new(alloc),
@@ -207,7 +140,7 @@ fn write_both<W: Sink>(writer: &mut W, first: &[u8], second: &[u8]) -> Result<()
 /// Runs the events that the reader gives through a new core with the sites that it gives before them, and writes a line for
 /// each reply. Then, where no transaction is active, the line `---` and the bundle are written, and else the line `! E8`: the
 /// outcomes are Yes and No. Where a line can't be read, `! L1 line N` or `! L2 line N` of the first such line is all that is
-/// written, and the outcome is Unreadable. The whole input is read and checked before the first event is served.
+/// written, and the outcome is Unreadable. Nothing is written before the whole input was read.
 ///
 /// ReadFault where the reader failed, or no read is left, and Memory where a growth was refused (no reply `! E9` is ever
 /// written): nothing was written. WriteFault where the writer failed: a front of the answer may have been written.
@@ -229,8 +162,9 @@ pub fn replay<R: Source, W: Sink>(
     ensures quiet_reader { result ≢ Err EngineFail.ReadFault → R.failures reader.new ≡ R.failures reader.old }
     ensures quiet_writer { result ≢ Err EngineFail.WriteFault → W.failures writer.new ≡ W.failures writer.old }
 {
-    let reading = read_input(alloc, reader)?;
-    let answer = answer_to(alloc, reading)?;
+    let mut player = Player::new(alloc);
+    let stop = read_lines(alloc, reader, &mut player)?;
+    let answer = answer_to(alloc, player, stop)?;
     match write_both(writer, answer.text.as_slice(), answer.bundle.as_slice()) {
         Ok(()) => Ok(answer.outcome),
         Err(_) => Err(EngineFail::WriteFault),

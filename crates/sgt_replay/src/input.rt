@@ -1,8 +1,7 @@
 //! What the input of a replay says.
 
-use crate::texts::EventTexts;
 use sgt_names::Listed;
-use sgt_notation::{NotationFault, SiteLine};
+use sgt_notation::{EventLine, NotationFault, SiteLine};
 
 /// What an input says.
 #[derive(Drop)]
@@ -10,7 +9,7 @@ pub struct Input {
     /// The sites that the replay starts from, numbered from 0.
     pub sites: Listed<SiteLine>,
     /// What is asked, in order.
-    pub events: EventTexts,
+    pub events: Listed<EventLine>,
 }
 
 /// What an input was read as.

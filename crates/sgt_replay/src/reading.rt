@@ -1,80 +1,71 @@
 //! The input of a replay, read from a reader.
 
 ghost use Rattle.std.specs.Prelude.{◌≡◌, ◌≢◌, [], Err, IfOk, IfSome, IsErrOf};
-ghost use Rattle.sgt_notation.specs.Limits.{most_reads};
 ghost use Rattle.sgt_notation.specs.Lines.{ReadFaultIsDue};
 ghost use Rattle.sgt_replay.specs.Input.{IsRead, IsUsable};
-ghost use Rattle.sgt_replay.specs.private.Stopping.{IsStop};
+ghost use Rattle.sgt_replay.specs.private.Taking.{Takes, TakesEvent};
 
 use crate::input::{Input, Reading};
-use crate::taking::take_line;
-use crate::texts::EventTexts;
+use sgt_input::{Stop, Taker, read_lines, take_site};
 use sgt_names::{EngineFail, Listed, Source};
-use sgt_notation::{Lines, LinesFault, MAX_LINE, Next, NotationFault, SiteLine};
-use std::alloc::Global;
+use sgt_notation::{EventLine, SiteLine, read_event};
+use std::alloc::{AllocError, Global};
 
-/// Where the reading of an input stopped.
-#[derive(Clone, Copy)]
-pub enum Stop {
-    /// At its end, behind an LF. Some line was read.
-    Ended,
-    /// At its first line that can't be read.
-    Unreadable { line: u64, fault: NotationFault },
-}
-
-fn not_a_line(line: u64) -> Stop
-    ensures { result ≡ Stop.Unreadable line NotationFault.NotALine }
-{
-    Stop::Unreadable {
-        line,
-        fault: NotationFault::NotALine,
-    }
-}
-
-/// Keeps line after line, up to the first that can't be read or to the end of the input.
-fn take_lines<R: Source>(
+/// What the lines of an input say, kept.
+#[derive(Drop)]
+struct Keeper {
     alloc: Global,
-    reader: &mut R,
-    lines: &mut Lines,
-    sites: &mut Vec<SiteLine>,
-    events: &mut EventTexts,
-) -> Result<Stop, EngineFail>
-    requires fresh { lines.old ≡ record { held = []; reads = most_reads } }
-    requires no_sites { sites.old.items ≡ [] }
-    requires no_events { events.old ≡ [] }
-    ensures stops { IfOk result (IsStop (R.tells reader.old) (record { sites = sites.new.items; events = events.new })) }
-    ensures quiet { result ≢ Err EngineFail.ReadFault → R.failures reader.new ≡ R.failures reader.old }
-    ensures read_fault { IsErrOf result EngineFail.ReadFault → ReadFaultIsDue (R.tells reader.old)
-        (R.failures reader.old) (R.failures reader.new) (R.asked reader.old) (R.asked reader.new) }
-    ensures write_fault { result ≢ Err EngineFail.WriteFault }
-{
-    let mut line = Vec::new(alloc);
-    let mut number = 1u64;
-    'lines: loop {
-        match lines.next(reader, &mut line, MAX_LINE) {
-            Ok(Next::Line) => {
-                if !take_line(alloc, sites, events, line.as_slice())? {
-                    return Ok(not_a_line(number));
-                }
-                number += 1;
-            }
-            Ok(Next::Cut) => return Ok(not_a_line(number)),
-            Ok(Next::End) => {
-                if number > 1 {
-                    return Ok(Stop::Ended);
-                }
-                return Ok(not_a_line(number));
-            }
-            Ok(Next::TooLong) => {
-                return Ok(Stop::Unreadable {
-                    line: number,
-                    fault: NotationFault::TooLong,
-                });
-            }
-            Err(LinesFault::Memory) => return Err(EngineFail::Memory),
-            Err(LinesFault::ReadFault) => return Err(EngineFail::ReadFault),
-        }
+    sites: Vec<SiteLine>,
+    events: Vec<EventLine>,
+}
+
+impl Taker for Keeper {
+    ghost use Rattle.sgt_replay.specs.Input.{Begins};
+    ghost use Rattle.sgt_replay.specs.private.Taking.{HaveLines};
+
+    ghost begins = { Begins };
+
+    ghost took = { λ k lines. HaveLines (record { sites = k.sites.items; events = k.events.items }) lines };
+
+    fn take(&mut self, line: &[u8]) -> Result<bool, AllocError> {
+        take_line(self.alloc, &mut self.sites, &mut self.events, line)
     }
+}
+
+/// Keeps the event, if the line spells one.
+fn take_event(events: &mut Vec<EventLine>, line: &[u8]) -> Result<bool, AllocError>
+    ensures { IfOk result (TakesEvent events.old.items line.now events.new.items) }
+{
+    match read_event(line) {
+        Ok(event) => {
+            events.extend_from_slice(&[event])?;
+            Ok(true)
+        }
+        Err(_) => Ok(false),
+    }
+}
+
+/// Keeps what the line says, if it may stand behind those that were read: a site before the first event, or behind the first
+/// site an event.
+fn take_line(
+    alloc: Global,
+    sites: &mut Vec<SiteLine>,
+    events: &mut Vec<EventLine>,
+    line: &[u8],
+) -> Result<bool, AllocError>
+    ensures { IfOk result (Takes (record { sites = sites.old.items; events = events.old.items }) line.now
+        (record { sites = sites.new.items; events = events.new.items })) }
+{
+    if !events.is_empty() {
+        return take_event(events, line);
+    }
+    if take_site(alloc, sites, line)? {
+        return Ok(true);
+    }
+    if sites.is_empty() {
+        return Ok(false);
+    }
+    take_event(events, line)
 }
 
 /// Reads the whole input of a replay: a line for each site that it starts from, numbered from 0, and then a line for each
@@ -93,13 +84,15 @@ pub fn read_input<R: Source>(alloc: Global, reader: &mut R) -> Result<Reading, E
         (R.failures reader.old) (R.failures reader.new) (R.asked reader.old) (R.asked reader.new) }
     ensures write_fault { result ≢ Err EngineFail.WriteFault }
 {
-    let mut lines = Lines::new(alloc)?;
-    let mut sites = Vec::new(alloc);
-    let mut events = EventTexts::new(alloc)?;
-    match take_lines(alloc, reader, &mut lines, &mut sites, &mut events)? {
+    let mut keeper = Keeper {
+        alloc,
+        sites: Vec::new(alloc),
+        events: Vec::new(alloc),
+    };
+    match read_lines(alloc, reader, &mut keeper)? {
         Stop::Ended => Ok(Reading::Readable(Input {
-            sites: Listed::new(sites),
-            events,
+            sites: Listed::new(keeper.sites),
+            events: Listed::new(keeper.events),
         })),
         Stop::Unreadable { line, fault } => Ok(Reading::Unreadable { line, fault }),
     }

@@ -1,6 +1,5 @@
 -- The replies of a core that stands for states of the model.
 use Rattle.std.specs.Prelude.{◌≡◌, ℕ, List, ◌++◌}
-use Rattle.std.specs.List.{flat_map}
 use Rattle.sgt_notation.specs.Spelling.{text_of_lines}
 use Rattle.sgt_notation.specs.declared.event.EventLine.{EventLine}
 use Rattle.sgt_core.specs.Core.{CoreState}
@@ -23,7 +22,3 @@ pub record RepliesSo (c : CoreState) (lines : List EventLine) (d : CoreState) (t
 -- the core answers the lines, and its replies are written
 abbrev pub WritesReplies : Parts → List EventLine → Parts → (text written : List ℕ) → Type 0
 WritesReplies old lines new text written = GoesOn (λ c d. RepliesSo c lines d text written) old new
-
--- the events of blocks, those of one block behind those of another
-abbrev pub events_of : List (List EventLine) → List EventLine
-events_of blocks = flat_map (λ (es : List EventLine). es) blocks

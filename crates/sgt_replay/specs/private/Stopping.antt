@@ -1,12 +1,11 @@
--- Where the reading of an input stops.
-use Rattle.std.specs.Prelude.{◌≢◌, ℕ, List, Option, IfSome}
-use Rattle.sgt_notation.specs.declared.fault.NotationFault.TheVariants.{Memory}
-use Rattle.sgt_replay.specs.declared.input.Input.{Input}
-use Rattle.sgt_replay.specs.declared.reading.Stop.{Stop}
-use Rattle.sgt_replay.specs.declared.reading.Stop.TheVariants.{Ended, Unreadable}
-use Rattle.sgt_replay.specs.Input.{FirstUnreadable, IsInput, Spells}
+-- Where the reading of an input stops that is played.
+use Rattle.std.specs.Prelude.{ℕ, List, Option}
+use Rattle.sgt_notation.specs.declared.event.SiteLine.{SiteLine}
+use Rattle.sgt_core.specs.Machine.{Parts}
+use Rattle.sgt_input.specs.Stopping.{IsStop}
+use Rattle.sgt_input.specs.declared.reading.Stop.{Stop}
+use Rattle.sgt_replay.specs.Input.{Begins}
+use Rattle.sgt_replay.specs.private.Playing.{HasPlayed}
 
--- at the end of what the bytes told spell, or at their first line that can't be read
-abbrev pub IsStop : Option (List ℕ) → Input → Stop → Type 0
-IsStop told input Ended = IsInput input × IfSome told (λ bytes. Spells bytes input)
-IsStop told input (Unreadable line fault) = (fault ≢ Memory) × IfSome told (λ bytes. FirstUnreadable bytes line fault)
+abbrev pub StopsPlayer : Option (List ℕ) → List SiteLine → Option Parts → List ℕ → Stop → Type 0
+StopsPlayer told sites core text stop = IsStop Begins (HasPlayed sites core text) told stop

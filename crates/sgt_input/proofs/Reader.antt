@@ -1,0 +1,174 @@
+-- How far an input was read, against all that its reader told.
+use Rattle.std.proofs.Common.{◌≡◌, ℕ, ◌+◌, ◌<◌, ◌≤◌, List, [], ◌∷◌, ◌++◌, length, Option, Some, None, IfSome, refl, sym, ap, ◌∙◌, subst, arith, inl, inr}
+use Rattle.std.specs.Prelude.{⊤}
+use Rattle.std.proofs.lemmas.List.{append-nil, length-append}
+use Rattle.sgt_notation.specs.Limits.{max_line, most_reads}
+use Rattle.sgt_notation.specs.Spelling.{text_of_lines}
+use Rattle.sgt_notation.specs.Lines.{Ahead, Gives, MetReadFault, ReadFaultIsDue, Spends, Stream, coming}
+use Rattle.sgt_notation.specs.declared.fault.NotationFault.{NotationFault}
+use Rattle.sgt_notation.specs.declared.fault.NotationFault.TheVariants.{NotALine, TooLong as Long}
+use Rattle.sgt_notation.specs.declared.lines.Next.TheVariants.{Line, Cut, TooLong, End}
+use Rattle.sgt_input.specs.declared.reading.Stop.TheVariants as stop
+use Rattle.sgt_input.specs.Stopping.{IsStop}
+use Rattle.sgt_input.specs.Unreadable.{Blocks, IsFirstUnreadable}
+use Rattle.sgt_input.proofs.Lines.{one-line}
+
+-- the bytes are these lines and then what comes
+abbrev pub IsRest : List (List ℕ) → Option (List ℕ) → Option (List ℕ) → Type 0
+IsRest lines None coming = ⊤
+IsRest lines (Some bytes) None = ⊥
+IsRest lines (Some bytes) (Some rest) = bytes ≡ text_of_lines lines ++ rest
+
+-- so much was taken, and this is the number of the next line
+pub record Goes (begins took : List (List ℕ) → Type 0) (told coming : Option (List ℕ)) (n : ℕ) : Type 0 where
+  pub lines : List (List ℕ)
+  pub begun : begins lines
+  pub taken : took lines
+  pub rest : IsRest lines told coming
+  pub number : n ≡ length lines + 1
+
+-- nothing was taken yet
+rest-empty : (told : Option (List ℕ)) (ahead : Ahead) → ahead.held ≡ [] → IsRest [] told (coming ahead told)
+rest-empty None ahead fresh = tt
+rest-empty (Some bytes) ahead fresh = ap (λ (held : List ℕ). held ++ bytes) (sym fresh)
+
+pub nothing-taken : (begins took : List (List ℕ) → Type 0) (told : Option (List ℕ)) (ahead : Ahead) → begins [] → took [] → ahead.held ≡ []
+    → Goes begins took told (coming ahead told) 1
+nothing-taken begins took told ahead begun taken fresh =
+    record { lines = []; begun = begun; taken = taken; rest = rest-empty told ahead fresh; number = refl }
+
+-- ---- after a line
+
+rest-line : (xs : List (List ℕ)) (limit : ℕ) (told old new : Option (List ℕ)) (l : List ℕ) → IsRest xs told old → Gives limit old Line l new
+    → IsRest (xs ++ l ∷ []) told new
+rest-line xs limit None old new l rest gives = tt
+rest-line xs limit (Some bytes) None new l rest gives = absurd rest
+rest-line xs limit (Some bytes) (Some os) None l rest gives = absurd gives
+rest-line xs limit (Some bytes) (Some os) (Some ns) l rest gives =
+    rest ∙ ap (λ (t : List ℕ). text_of_lines xs ++ t) gives.2 ∙ sym (one-line xs l ns)
+
+pub after-line : (begins took took' : List (List ℕ) → Type 0) (told : Option (List ℕ)) (limit n : ℕ) (old new : Option (List ℕ)) (l : List ℕ)
+    (goes : Goes begins took told old n) → Gives limit old Line l new → begins (goes.lines ++ l ∷ []) × took' (goes.lines ++ l ∷ [])
+    → Goes begins took' told new (n + 1)
+after-line begins took took' told limit n old new l goes gives takes =
+    record {
+      lines = goes.lines ++ l ∷ [];
+      begun = takes.0;
+      taken = takes.1;
+      rest = rest-line goes.lines limit told old new l goes.rest gives;
+      number = omega (arith, goes.number, length-append goes.lines (l ∷ []));
+    }
+
+-- ---- a line that can't be read
+
+module _ (begins took : List (List ℕ) → Type 0) where
+  stops-at : (told coming : Option (List ℕ)) (n : ℕ) (f : NotationFault) (goes : Goes begins took told coming n)
+      → IfSome coming (λ rest. Blocks begins goes.lines rest f) → IfSome told (λ bytes. IsFirstUnreadable begins bytes n f)
+  stops-at None coming n f goes blocks = tt
+  stops-at (Some bytes) None n f goes blocks = absurd goes.rest
+  stops-at (Some bytes) (Some rest) n f goes blocks =
+      record { before = goes.lines; rest = rest; text = goes.rest; begun = goes.begun; number = goes.number; blocks = blocks }
+
+  line-blocks : (old new : Option (List ℕ)) (lines : List (List ℕ)) (l : List ℕ) → Gives max_line old Line l new → (begins (lines ++ l ∷ []) → ⊥)
+      → IfSome old (λ rest. Blocks begins lines rest NotALine)
+  line-blocks None new lines l gives not = tt
+  line-blocks (Some xs) None lines l gives not = absurd gives
+  line-blocks (Some xs) (Some ys) lines l gives not =
+      inl (record { line = l; more = ys; text = gives.2; none = gives.0; short = gives.1; not = not })
+
+  pub stops-line : (took' : List (List ℕ) → Type 0) (told : Option (List ℕ)) (n : ℕ) (old new : Option (List ℕ)) (l : List ℕ)
+      (goes : Goes begins took told old n) → Gives max_line old Line l new → (begins (goes.lines ++ l ∷ []) → ⊥)
+      → IsStop begins took' told (stop.Unreadable n NotALine)
+  stops-line took' told n old new l goes gives not =
+      (λ same. absurd cc, stops-at told old n NotALine goes (line-blocks old new goes.lines l gives not))
+
+  cut-blocks : (old new : Option (List ℕ)) (lines : List (List ℕ)) (l : List ℕ) → Gives max_line old Cut l new
+      → IfSome old (λ rest. Blocks begins lines rest NotALine)
+  cut-blocks None new lines l gives = tt
+  cut-blocks (Some xs) None lines l gives = absurd gives
+  cut-blocks (Some xs) (Some ys) lines l gives =
+      let P : List ℕ → Type 0 = λ t. Blocks begins lines t NotALine in
+      subst P (sym gives.3) (inr (record { none = gives.0; short = gives.2; empty = λ e. absurd (omega (arith, gives.1, ap length e)) }))
+
+  pub stops-cut : (told : Option (List ℕ)) (n : ℕ) (old new : Option (List ℕ)) (l : List ℕ) → Goes begins took told old n
+      → Gives max_line old Cut l new → IsStop begins took told (stop.Unreadable n NotALine)
+  stops-cut told n old new l goes gives =
+      (λ same. absurd cc, stops-at told old n NotALine goes (cut-blocks old new goes.lines l gives))
+
+  long-blocks : (old new : Option (List ℕ)) (lines : List (List ℕ)) (l : List ℕ) → Gives max_line old TooLong l new
+      → IfSome old (λ rest. Blocks begins lines rest Long)
+  long-blocks None new lines l gives = tt
+  long-blocks (Some xs) None lines l gives = absurd gives
+  long-blocks (Some xs) (Some ys) lines l gives = gives.0
+
+  pub stops-long : (told : Option (List ℕ)) (n : ℕ) (old new : Option (List ℕ)) (l : List ℕ) → Goes begins took told old n
+      → Gives max_line old TooLong l new → IsStop begins took told (stop.Unreadable n Long)
+  stops-long told n old new l goes gives =
+      (λ same. absurd cc, stops-at told old n Long goes (long-blocks old new goes.lines l gives))
+
+  -- ---- the end
+
+  no-lines : {A : Type 0} (xs : List A) → length xs ≡ 0 → xs ≡ []
+  no-lines [] e = refl
+  no-lines (x ∷ xs) e = absurd (omega arith)
+
+  end-blocks : (old new : Option (List ℕ)) (lines : List (List ℕ)) (l : List ℕ) → length lines ≡ 0 → Gives max_line old End l new
+      → IfSome old (λ rest. Blocks begins lines rest NotALine)
+  end-blocks None new lines l none gives = tt
+  end-blocks (Some xs) None lines l none gives = absurd gives
+  end-blocks (Some xs) (Some ys) lines l none gives =
+      let P : List ℕ → Type 0 = λ t. Blocks begins lines t NotALine in
+      subst P (sym gives.0) (inr (record { none = λ k d less. absurd (omega arith); short = omega arith; empty = λ e. no-lines lines none }))
+
+  pub stops-empty : (told : Option (List ℕ)) (n : ℕ) (old new : Option (List ℕ)) (l : List ℕ) → Goes begins took told old n → n ≤ 1
+      → Gives max_line old End l new → IsStop begins took told (stop.Unreadable n NotALine)
+  stops-empty told n old new l goes first gives =
+      let number = goes.number in
+      (λ same. absurd cc, stops-at told old n NotALine goes (end-blocks old new goes.lines l (omega arith) gives))
+
+  end-text : (told old new : Option (List ℕ)) (lines : List (List ℕ)) (l : List ℕ) → IsRest lines told old → Gives max_line old End l new
+      → IfSome told (λ bytes. bytes ≡ text_of_lines lines)
+  end-text None old new lines l rest gives = tt
+  end-text (Some bytes) None new lines l rest gives = absurd rest
+  end-text (Some bytes) (Some xs) None lines l rest gives = absurd gives
+  end-text (Some bytes) (Some xs) (Some ys) lines l rest gives =
+      rest ∙ ap (λ (t : List ℕ). text_of_lines lines ++ t) gives.0 ∙ append-nil (text_of_lines lines)
+
+  pub stops-end : (told : Option (List ℕ)) (n : ℕ) (old new : Option (List ℕ)) (l : List ℕ) → Goes begins took told old n → 1 < n
+      → Gives max_line old End l new → IsStop begins took told stop.Ended
+  stops-end told n old new l goes more gives =
+      let number = goes.number in
+      record {
+        lines = goes.lines;
+        some = λ none. omega (arith, number, more, ap length none);
+        begun = goes.begun;
+        taken = goes.taken;
+        text = end-text told old new goes.lines l goes.rest gives;
+      }
+
+-- ---- the reads
+
+pub spends_on : (told mid new : Option (List ℕ)) (a b c : ℕ) → Spends a told b mid → Spends b mid c new → Spends a told c new
+spends_on None mid new a b c first later = tt
+spends_on (Some xs) None new a b c first later = absurd first
+spends_on (Some xs) (Some ys) None a b c first later = absurd later
+spends_on (Some xs) (Some ys) (Some zs) a b c first later = omega arith
+
+pub spends-none : (told : Option (List ℕ)) (a b : ℕ) → b ≡ a → Spends a told b told
+spends-none None a b same = tt
+spends-none (Some xs) a b same = omega arith
+
+-- no read was left, so each of them took a byte
+all-spent : (told new : Option (List ℕ)) → Spends 4294967295 told 0 new → IfSome told (λ bytes. most_reads ≤ length bytes)
+all-spent None new spends = tt
+all-spent (Some xs) None spends = absurd spends
+all-spent (Some xs) (Some ys) spends = let all : 4294967295 ≤ length xs = omega arith in all
+
+-- a read fault is one of the source, or all reads were made
+pub fault-met : (told : Option (List ℕ)) (failures asked asked' reads : ℕ) (old new : Stream) (line : List ℕ) → old.failures ≡ failures → Spends 4294967295 told reads old.told → old.ahead.reads ≡ reads
+    → asked' + new.ahead.reads ≡ asked + 4294967295 → MetReadFault old line new → ReadFaultIsDue told failures new.failures asked asked'
+fault-met told failures asked asked' reads old new line quiet spends same counts met =
+    elim met.cause [
+      | inl failed ↦ inl (omega (arith, failed.0, quiet))
+      | inr spent ↦ inr (omega (arith, spent.0, counts), all-spent told new.told (spends_on told old.told new.told 4294967295 reads 0 spends (subst (λ (n : ℕ). Spends n old.told 0 new.told) same spent.2)))
+    ]

@@ -1,0 +1,4 @@
+pub mod Sites
+pub mod Stopping
+pub mod Taking
+pub mod Unreadable
