@@ -84,12 +84,12 @@ pub struct Ending {
 pub struct Life {
     pub tx: Tx,
     pub fate: Option<Fate>,
-    /// How many operations it has, and the place of the first among the places by transaction.
+    /// Where the places of its operations stand, and how many there are.
+    pub first_place: u32,
     pub operations: u32,
-    pub first_operation: u32,
     /// The same of its ends.
-    pub ends: u8,
     pub first_ending: u32,
+    pub ends: u8,
 }
 
 /// What the logs say.
@@ -117,6 +117,18 @@ pub struct History {
 fn span(first: u32, many: u32) -> Range<usize> {
     let start = first as usize;
     start..start.saturating_add(many as usize)
+}
+
+impl Life {
+    /// Where the places of its operations stand.
+    pub fn places(&self) -> Range<usize> {
+        span(self.first_place, self.operations)
+    }
+
+    /// Where its ends stand by transaction.
+    pub fn endings(&self) -> Range<usize> {
+        span(self.first_ending, u32::from(self.ends))
+    }
 }
 
 impl History {
@@ -154,20 +166,12 @@ impl History {
         }
     }
 
-    /// The operations on the item.
-    pub fn operations(&self, item: usize) -> &[Operation] {
-        match self.operations.get(self.by_item.span(item)) {
-            Some(operations) => operations,
-            None => &[],
-        }
-    }
-
     /// Where the transaction's operations stand.
     pub fn places(&self, tx: u32) -> &[Place] {
         let Some(life) = self.life(tx) else {
             return &[];
         };
-        match self.places.get(span(life.first_operation, life.operations)) {
+        match self.places.get(life.places()) {
             Some(places) => places,
             None => &[],
         }
@@ -189,10 +193,7 @@ impl History {
         let Some(life) = self.life(tx) else {
             return &[];
         };
-        match self
-            .endings
-            .get(span(life.first_ending, u32::from(life.ends)))
-        {
+        match self.endings.get(life.endings()) {
             Some(endings) => endings,
             None => &[],
         }

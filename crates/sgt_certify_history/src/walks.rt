@@ -70,7 +70,8 @@ impl Marks {
             tx as usize,
             parent.saturating_add(1),
         );
-        self.met.push(tx)
+        self.met.push(tx)?;
+        Ok(())
     }
 
     /// From whom the transaction was met first.
@@ -117,6 +118,7 @@ impl Marks {
 }
 
 /// A search from one transaction, layer by layer, within these bounds.
+#[derive(Clone, Copy)]
 pub struct Spread<'a> {
     pub history: &'a History,
     pub bounds: Bounds<'a>,
@@ -161,7 +163,7 @@ impl<'a> Spread<'a> {
         for place in self.history.places(parent) {
             self.list(marks, parent, place)?;
         }
-        if let Some(children) = marks.met.get_mut(start..) {
+        if let Some(children) = marks.met.as_mut_slice().get_mut(start..) {
             children.sort_unstable();
         }
         Ok(())
