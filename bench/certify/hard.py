@@ -21,7 +21,8 @@ def again(n):
     out = ["sgt 1\n"]
     for site in range(63):
         late = site + 4
-        out.append(section(site, ["u", "y"], ["r%d[y]=0\nw1[y]=1\nc1\nw2[u]=1\nc2\nr%d[u]=1\nn%d\n" % (late, late, late)], {"u": 1, "y": 1}))
+        entries = ["r%d[y]=0\nw1[y]=1\nc1\nw2[u]=1\nc2\nr%d[u]=1\nn%d\n" % (late, late, late)]
+        out.append(section(site, ["u", "y"], entries, {"u": 1, "y": 1}))
     entries = ["w1[q]=1\nc1\nr3[q]=1\nr3[x]=0\nw2[x]=1\nc2\n"]
     for k in range(n):
         refused, commit = 67 + 2 * k, 68 + 2 * k
