@@ -2,13 +2,12 @@
 
 use sgt_cert::{Decision, Step};
 use sgt_certify_history::{
-    Asked, Before, Bounds, End, Fate, Front, History, Link, Marks, Spread, Waiting, ask, is_marked,
-    met_from, number_at, rank_order, set_mark, set_number, short, walk_of,
+    Before, Bounds, End, Fate, Front, History, Link, is_marked, met_from, number_at, rank_order,
+    set_mark, set_number, short, walk_of,
 };
 use sgt_certify_stuck::{Circle, StuckSet};
 use sgt_names::{Listed, Tx};
 use std::alloc::{AllocError, Global};
-use std::collections::BTreeMap;
 
 /// What the search found.
 #[derive(Drop)]
@@ -44,11 +43,9 @@ struct Greedy {
     ranks: Vec<u32>,
     /// Who is committed by a decision.
     committed: Vec<bool>,
-    /// The same, in the order of the decisions.
-    commits: Vec<u32>,
-    /// Who was asked for a walk and had none.
-    waiting: BTreeMap<u32, Waiting>,
-    marks: Marks,
+    commits: u32,
+    /// Of each transaction one more than how many were committed when it had no walk.
+    asked: Vec<u32>,
     decisions: Vec<Decision>,
 }
 
@@ -97,15 +94,9 @@ fn rank_cycle(alloc: Global, history: &History, order: &[u32]) -> Result<Vec<Lin
         allowed: allowed.as_slice(),
         ends: &[],
     };
-    let mut marks = Marks::new(alloc, history)?;
     for tx in 0..short(history.count()) {
         if is_marked(bounds.allowed, tx as usize) {
-            let spread = Spread {
-                history,
-                bounds,
-                start: tx,
-            };
-            let walk = walk_of(alloc, &spread, &mut marks)?;
+            let walk = walk_of(alloc, history, bounds, tx)?;
             if !walk.is_empty() {
                 return Ok(walk);
             }
@@ -125,9 +116,8 @@ impl Greedy {
             front: Front::new(alloc, history)?,
             ranks,
             committed: vec![in alloc; false; many]?,
-            commits: Vec::new(alloc),
-            waiting: BTreeMap::new(alloc),
-            marks: Marks::new(alloc, history)?,
+            commits: 0,
+            asked: vec![in alloc; 0u32; many]?,
             decisions: Vec::with_capacity(alloc, many)?,
         })
     }
@@ -146,35 +136,6 @@ impl Greedy {
         least
     }
 
-    /// The walk of the free refused transaction; empty where it has none so far.
-    fn walk_now(
-        &mut self,
-        alloc: Global,
-        history: &History,
-        ends: &[u32],
-        tx: u32,
-    ) -> Result<Vec<Link>, AllocError> {
-        let allowed = self.committed.as_slice();
-        let commits = self.commits.as_slice();
-        if let Some(waiting) = self.waiting.get_mut(&tx) {
-            if !waiting.may_return(alloc, history, allowed, commits)? {
-                return Ok(Vec::new(alloc));
-            }
-        }
-        let spread = Spread {
-            history,
-            bounds: Bounds { allowed, ends },
-            start: tx,
-        };
-        match ask(alloc, &spread, &mut self.marks, commits.len())? {
-            Asked::Walk(walk) => Ok(walk),
-            Asked::Waits(waiting) => {
-                self.waiting.insert(tx, waiting)?;
-                Ok(Vec::new(alloc))
-            }
-        }
-    }
-
     /// The least of the free refused ones that has a walk.
     fn refused_choice(
         &mut self,
@@ -184,12 +145,20 @@ impl Greedy {
         let mut free = Vec::from_slice(alloc, self.front.free.as_slice())?;
         free.sort()?;
         let ends = self.front.end_lines(alloc, history)?;
+        let now = self.commits.saturating_add(1);
         for tx in free.as_slice() {
-            let walk = self.walk_now(alloc, history, ends.as_slice(), *tx)?;
+            if number_at(self.asked.as_slice(), *tx as usize) == now {
+                continue;
+            }
+            let bounds = Bounds {
+                allowed: self.committed.as_slice(),
+                ends: ends.as_slice(),
+            };
+            let walk = walk_of(alloc, history, bounds, *tx)?;
             if !walk.is_empty() {
-                self.waiting.remove(tx);
                 return Ok(Some(Choice { tx: *tx, walk }));
             }
+            set_number(self.asked.as_mut_slice(), *tx as usize, now);
         }
         Ok(None)
     }
@@ -216,7 +185,7 @@ impl Greedy {
             let decision = match life.fate {
                 Some(Fate::Commit) => {
                     set_mark(self.committed.as_mut_slice(), tx as usize);
-                    self.commits.push(tx)?;
+                    self.commits = self.commits.saturating_add(1);
                     Decision::Commit {
                         tx: life.tx,
                         rank: number_at(self.ranks.as_slice(), tx as usize),
@@ -275,7 +244,7 @@ fn numbers_of(alloc: Global, history: &History, places: &[u32]) -> Result<Vec<Tx
 
 impl Greedy {
     /// All that conflicts lead to from each free one on, through those that are committed.
-    fn circles(&mut self, alloc: Global, history: &History) -> Result<Vec<Circle>, AllocError> {
+    fn circles(&self, alloc: Global, history: &History) -> Result<Vec<Circle>, AllocError> {
         let ends = self.front.end_lines(alloc, history)?;
         let bounds = Bounds {
             allowed: self.committed.as_slice(),
@@ -284,12 +253,7 @@ impl Greedy {
         let mut circles = Vec::new(alloc);
         for place in self.front.free.as_slice() {
             if let Some(life) = history.life(*place) {
-                let spread = Spread {
-                    history,
-                    bounds,
-                    start: *place,
-                };
-                let met = met_from(alloc, &spread, &mut self.marks)?;
+                let met = met_from(alloc, history, bounds, *place)?;
                 circles.push(Circle {
                     tx: life.tx,
                     met: numbers_of(alloc, history, met.as_slice())?,
@@ -300,7 +264,7 @@ impl Greedy {
     }
 
     /// What was decided, where only refused ones without a walk are free.
-    fn stuck_set(&mut self, alloc: Global, history: &History) -> Result<StuckSet, AllocError> {
+    fn stuck_set(&self, alloc: Global, history: &History) -> Result<StuckSet, AllocError> {
         let mut committed = Vec::new(alloc);
         let mut others = Vec::new(alloc);
         for decision in self.decisions.as_slice() {
@@ -339,7 +303,7 @@ pub fn search(alloc: Global, history: &History) -> Result<Finding, AllocError> {
             None => Ok(Finding::Ranks(rank_cycle(alloc, history, order.as_slice())?)),
         };
     }
-    let mut greedy = decide_all(alloc, history, order.as_slice())?;
+    let greedy = decide_all(alloc, history, order.as_slice())?;
     if greedy.front.decided >= history.count() {
         return Ok(Finding::Decided(greedy.decisions));
     }
