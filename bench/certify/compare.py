@@ -1,5 +1,5 @@
 #!/usr/bin/env python3
-"""Compares what `sgt certify` writes with slow.py, on random logs.
+"""Compares what `sgt certify` writes with slow.py, on random logs, and audits each bundle that it makes.
 
     compare.py PROGRAM SEED COUNT       PROGRAM is the path of sgt
 """
@@ -11,16 +11,22 @@ import random_logs
 import slow
 
 
+def run(program, word, text):
+    return subprocess.run([program, word], input=text, capture_output=True)
+
+
 def main(program, seed, count):
     rng = random.Random(int(seed))
-    differ = 0
+    differ = made = 0
     for _ in range(int(count)):
         text = random_logs.case(rng).encode()
-        run = subprocess.run([program, "certify"], input=text, capture_output=True)
-        if (run.returncode, run.stdout) != slow.certify(text):
+        found = run(program, "certify", text)
+        is_made = found.returncode == 0
+        made += is_made
+        if (found.returncode, found.stdout) != slow.certify(text) or (is_made and run(program, "audit", found.stdout).returncode != 0):
             differ += 1
-            sys.stdout.write(text.decode() + "--- %d\n" % run.returncode + run.stdout.decode())
-    print("%s compared, %d differ" % (count, differ))
+            sys.stdout.write(text.decode() + "--- %d\n" % found.returncode + found.stdout.decode())
+    print("%s compared, %d made, %d differ" % (count, made, differ))
     return differ != 0
 
 
