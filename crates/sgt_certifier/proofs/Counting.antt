@@ -1,18 +1,16 @@
 -- The table of counts: what a change of it does to each count.
-use Rattle.std.proofs.Common.{◌≡◌, ◌≢◌, ℕ, suc, true, false, List, [], ◌∷◌, ◌++◌, Option, Some, None, IsSome, Result, Ok, Err, OnErr, refl, sym, ◌∙◌, ap, subst, arith, cond, inl, inr, ◌⊎◌, All, AllPairs, take, Contains, OnOk, IfErr, is_err, ap₂}
-use Rattle.std.specs.Prelude.{is_some, slice_get, map, ◌==◌, ◌≤◌, length}
+use Rattle.std.proofs.Common.{◌≡◌, ◌≢◌, ℕ, suc, true, false, List, [], ◌∷◌, ◌++◌, Option, Some, None, IsSome, Result, Ok, Err, OnErr, refl, sym, ◌∙◌, ap, subst, arith, cond, inl, inr, ◌⊎◌, All, AllPairs, take, Contains, OnOk, IfErr, is_err, ap₂, set, zero}
+use Rattle.std.specs.Prelude.{is_some, slice_get, map, ◌==◌, ◌≤◌, ◌<◌, length}
+use Rattle.std.proofs.lemmas.Option.{slice_get_within}
 use Rattle.std.specs.List.{list_any, AllByRecursion}
 use Rattle.std.specs.Str.{bytes_eq}
 use Rattle.std.proofs.lemmas.Slice.Eq.{bytes_eq-Decides}
-use Rattle.std.specs.BTreeMap.{Updates}
-use Rattle.std.specs.Ordering.{nat_cmp, is_eq, ordering_reverse, ordering_then}
+use Rattle.std.specs.Ordering.{nat_cmp, ordering_reverse}
 use Rattle.std.specs.Cmp.Lexicographic.{slice_cmp, nat_list_cmp_total}
 use Rattle.std.specs.declared.cmp.Ordering.{Ordering}
 use Rattle.std.specs.declared.cmp.Ordering.TheVariants.{Less, Equal, Greater}
-use Rattle.std.proofs.lemmas.Cmp.{nat_cmp_total}
 use Rattle.std.proofs.lemmas.Bool.{cases_Bool, eqb-true, eqb-false, true≢false}
 use Rattle.std.proofs.lemmas.List.Elements.{Contains-append_cases, Contains-append_left, Contains-append_right}
-use Rattle.std.proofs.lemmas.Map.Lookups.{CmpEqualImpliesEq, exact_bytes, exact_pairs, exact_unsigned}
 use Rattle.sgt_names.proofs.Lists.{All-weaken, option_cases}
 use Rattle.sgt_names.proofs.Places.{All_at, All-from_at, AllPairs_at, AllPairs-from_recursion, PairsByRecursion, recursion_from_AllPairs, Contains_at, Contains-from_at, slice_get-take}
 use Rattle.sgt_names.proofs.Rising.{writing-by_item}
@@ -32,77 +30,99 @@ use Rattle.sgt_names.specs.declared.entry.Change.{Change}
 use Rattle.sgt_names.specs.Draft.{AreRising, at_site, writing_in}
 use Rattle.sgt_certifier.specs.declared.install.Prepared.{Prepared}
 use Rattle.sgt_names.specs.Name.{Name}
-use Rattle.sgt_names.specs.Draft.{Place, place_cmp}
-use Rattle.sgt_certifier.specs.Counted.{AreCounted, CountsEach, HasPlace, HavePlaces, Widens, count_at, or_zero, stands_at}
+use Rattle.sgt_certifier.specs.Row.{count_in, found_in, or_zero}
+use Rattle.sgt_certifier.specs.Counted.{AreCounted, CountsEach, HasPlace, HavePlaces, Widens, count_at, or_nothing, row_at, stands_at}
 use Rattle.sgt_certifier.specs.declared.counts.Counts.{Counts}
-
-exact : CmpEqualImpliesEq place_cmp
-exact = exact_pairs nat_cmp (slice_cmp nat_cmp) exact_unsigned exact_bytes
-
-ties : (o : Ordering) → is_eq o ≡ true → o ≡ Equal
-ties Less e = absurd cc
-ties Equal e = refl
-ties Greater e = absurd cc
+use Rattle.sgt_certifier.specs.declared.row.ItemCount.{ItemCount}
+use Rattle.sgt_certifier.proofs.CountRows.{get_set_elsewhere, get_set_here}
 
 even : (o : Ordering) → o ≡ ordering_reverse o → o ≡ Equal
 even Less e = absurd cc
 even Equal e = refl
 even Greater e = absurd cc
 
-tied : (p : Place) → is_eq (place_cmp p p) ≡ true
-tied p =
-    let a : nat_cmp p.0 p.0 ≡ Equal = even (nat_cmp p.0 p.0) (nat_cmp_total.antisymm p.0 p.0) in
-    let b : slice_cmp nat_cmp p.1 p.1 ≡ Equal = even (slice_cmp nat_cmp p.1 p.1) (nat_list_cmp_total.antisymm p.1 p.1) in
-    ap₂ (λ u v. is_eq (ordering_then u v)) a b
+-- ---- the rows of the sites
 
--- another place doesn't tie
-apart : (p q : Place) → (p ≡ q → ⊥) → is_eq (place_cmp p q) ≡ false
-apart p q other = elim (cases_Bool (is_eq (place_cmp p q))) [
-  | inl tie ↦ absurd (other (exact p q (ties (place_cmp p q) tie)))
-  | inr none ↦ none
+-- the counts of a site, after those of one were changed
+module _ (old new : Counts) (s : ℕ) (row : List ItemCount) (is : new.rows.items ≡ set old.rows.items s row) where
+  pub row-here : s < length old.rows.items → row_at new s ≡ row
+  row-here lt = ap or_nothing (ap (λ rows. slice_get rows s) is ∙ get_set_here old.rows.items s row lt)
+
+  pub row-other : (t : ℕ) → t ≢ s → row_at new t ≡ row_at old t
+  row-other t apart = ap or_nothing (ap (λ rows. slice_get rows t) is ∙ get_set_elsewhere old.rows.items s t row apart)
+
+-- a row with nothing in it is as none
+pub row-pushed : (rows : List (List ItemCount)) (s : ℕ) → or_nothing (slice_get (rows ++ [] ∷ []) s) ≡ or_nothing (slice_get rows s)
+row-pushed [] zero = refl
+row-pushed [] (suc s) = refl
+row-pushed (r ∷ rows) zero = refl
+row-pushed (r ∷ rows) (suc s) = row-pushed rows s
+
+-- an item that has its place is in a row
+pub has-row : (counts : Counts) (s : ℕ) (x : Name) → HasPlace counts s x → s < length counts.rows.items
+has-row counts s x has = elim (option_cases (slice_get counts.rows.items s)) [
+  | inl none ↦ let gone : IsSome {A = ℕ} None = subst (λ (o : Option (List ItemCount)). IsSome (found_in (or_nothing o) x)) none has in absurd cc
+  | inr some ↦ slice_get_within counts.rows.items s some.0 some.1
 ]
 
-module _ (old new : Counts) (s : ℕ) (x : Name) (v : ℕ) (updates : Updates place_cmp old.table new.table (s, x) (Some v)) where
-  pub put-here : stands_at new s x ≡ Some v
-  put-here = updates.1
+module _ (old new : Counts) (s : ℕ) (x : Name) (row made : List ItemCount) (at : slice_get old.rows.items s ≡ Some row)
+    (is : new.rows.items ≡ set old.rows.items s made) where
+  was : row_at old s ≡ row
+  was = ap or_nothing at
 
-  pub put-other : (t : ℕ) (y : Name) → ((t ≡ s) × (y ≡ x) → ⊥) → stands_at new t y ≡ stands_at old t y
-  put-other t y other =
-      updates.2 (t, y) (apart (s, x) (t, y) (λ e. other (sym (ap (λ (p : Place). p.0) e), sym (ap (λ (p : Place). p.1) e))))
+  now : row_at new s ≡ made
+  now = row-here old new s made is (slice_get_within old.rows.items s row at)
+
+  -- a place is made
+  pub placed-widens : ((y : Name) → count_in made y ≡ count_in row y) → ((y : Name) → IsSome (found_in row y) → IsSome (found_in made y))
+      → Widens old new
+  placed-widens same kept = record {
+    same = λ t y. elim (cases_Bool (t == s)) [
+      | inl here ↦
+          let e : t ≡ s = eqb-true t s here in
+          ap (λ u. count_at new u y) e ∙ ap (λ r. count_in r y) now ∙ same y ∙ sym (ap (λ r. count_in r y) was) ∙ sym (ap (λ u. count_at old u y) e)
+      | inr other ↦ ap (λ r. count_in r y) (row-other old new s made is t (eqb-false t s other))
+    ];
+    kept = λ t y has. elim (cases_Bool (t == s)) [
+      | inl here ↦
+          let e : t ≡ s = eqb-true t s here in
+          let has_row : IsSome (found_in row y) =
+          subst (λ r. IsSome (found_in r y)) was (subst (λ u. HasPlace old u y) e has) in
+          subst (λ u. HasPlace new u y) (sym e) (subst (λ r. IsSome (found_in r y)) (sym now) (kept y has_row))
+      | inr other ↦ subst (λ r. IsSome (found_in r y)) (sym (row-other old new s made is t (eqb-false t s other))) has
+    ];
+  }
+
+  -- an install is added
+  pub added-here : found_in made x ≡ Some (suc (count_in row x)) → stands_at new s x ≡ Some (suc (count_at old s x))
+  added-here more = ap (λ r. found_in r x) now ∙ more ∙ ap (λ r. Some (suc (count_in r x))) (sym was)
+
+  pub added-others : ((y : Name) → y ≢ x → found_in made y ≡ found_in row y) → (t : ℕ) (y : Name) → ((t ≡ s) × (y ≡ x) → ⊥)
+      → stands_at new t y ≡ stands_at old t y
+  added-others others t y apart = elim (cases_Bool (t == s)) [
+    | inl here ↦
+        let e : t ≡ s = eqb-true t s here in
+        ap (λ u. stands_at new u y) e ∙ ap (λ r. found_in r y) now ∙ others y (λ same. apart (e, same))
+        ∙ sym (ap (λ r. found_in r y) was) ∙ sym (ap (λ u. stands_at old u y) e)
+    | inr other ↦ ap (λ r. found_in r y) (row-other old new s made is t (eqb-false t s other))
+  ]
+
+-- the counts are the same
+pub same-widens : (old new : Counts) → ((s : ℕ) → row_at new s ≡ row_at old s) → Widens old new
+same-widens old new same = record {
+  same = λ s y. ap (λ r. count_in r y) (same s);
+  kept = λ s y has. subst (λ r. IsSome (found_in r y)) (sym (same s)) has;
+}
 
 -- two places are the same or not
 same_place : (s t : ℕ) (x y : Name) → ((s ≡ t) × (x ≡ y)) ⊎ ((s ≡ t) × (x ≡ y) → ⊥)
-same_place s t x y = elim (cases_Bool (is_eq (place_cmp (s, x) (t, y)))) [
-  | inl tie ↦
-      let at : (s, x) ≡ (t, y) = exact (s, x) (t, y) (ties (place_cmp (s, x) (t, y)) tie) in
-      inl (ap (λ (p : Place). p.0) at, ap (λ (p : Place). p.1) at)
-  | inr none ↦ inr (λ e. true≢false (sym (tied (s, x)) ∙ ap₂ (λ a b. is_eq (place_cmp (s, x) (a, b))) e.0 e.1 ∙ none))
+same_place s t x y = elim (cases_Bool (s == t)) [
+  | inl site ↦ elim (cases_Bool (bytes_eq x y)) [
+    | inl item ↦ inl (eqb-true s t site, (bytes_eq-Decides x y).0 item)
+    | inr item ↦ inr (λ e. true≢false (sym ((bytes_eq-Decides x y).1 e.1) ∙ item))
+  ]
+  | inr site ↦ inr (λ e. eqb-false s t site e.0)
 ]
-
--- a place is added where nothing stands
-pub placed-widens : (old new : Counts) (s : ℕ) (x : Name) → stands_at old s x ≡ None
-    → Updates place_cmp old.table new.table (s, x) (Some 0) → Widens old new
-placed-widens old new s x none updates = record {
-  same = λ t y. elim (cases_Bool (is_eq (place_cmp (s, x) (t, y)))) [
-    | inl tie ↦
-        let at : (s, x) ≡ (t, y) = exact (s, x) (t, y) (ties (place_cmp (s, x) (t, y)) tie) in
-        let now : stands_at new t y ≡ Some 0 = subst (λ (p : Place). stands_at new p.0 p.1 ≡ Some 0) at updates.1 in
-        let was : stands_at old t y ≡ None = subst (λ (p : Place). stands_at old p.0 p.1 ≡ None) at none in
-        ap or_zero now ∙ sym (ap or_zero was)
-    | inr other ↦ ap or_zero (updates.2 (t, y) other)
-  ];
-  kept = λ t y has. elim (cases_Bool (is_eq (place_cmp (s, x) (t, y)))) [
-    | inl tie ↦
-        let at : (s, x) ≡ (t, y) = exact (s, x) (t, y) (ties (place_cmp (s, x) (t, y)) tie) in
-        let now : stands_at new t y ≡ Some 0 = subst (λ (p : Place). stands_at new p.0 p.1 ≡ Some 0) at updates.1 in
-        subst IsSome (sym now) refl
-    | inr other ↦ subst IsSome (sym (updates.2 (t, y) other)) has
-  ];
-}
-
-pub none-stands : (o : Option ℕ) → is_some o ≡ false → o ≡ None
-none-stands None e = refl
-none-stands (Some n) e = absurd cc
 
 pub ok-holds : {A E : Type 0} (r : Result A E) (X : Type 0) → is_err r ≡ false → OnOk r X → X
 ok-holds (Ok a) X e x = x

@@ -1,0 +1,9 @@
+use Rattle.std.proofs.Common.{◌≡◌, ◌≤◌, ℕ, length}
+use Rattle.sgt_certifier.specs.Counted.{row_at}
+use Rattle.sgt_certifier.proofs.counts.Counts.open.Given as goal
+
+abbrev pub invariant-loop-row : goal.invariant-loop-_row
+invariant-loop-row l = record {
+  same : (s : ℕ) → row_at l.self s ≡ row_at l.initial.self s;
+  long : l._row ≤ length l.self.rows.items;
+}
