@@ -1,5 +1,5 @@
 -- The counts of one site: what is found in them, and what a change of them leaves.
-use Rattle.std.proofs.Common.{◌≡◌, ◌≢◌, ℕ, zero, suc, ◌<◌, ◌+◌, true, false, List, [], ◌∷◌, set, length, Option, Some, None, IsSome, Result, Ok, Err, OnOk, OnErr, refl, sym, ◌∙◌, ap, subst, arith, inl, inr, AllPairs}
+use Rattle.std.proofs.Common.{◌≡◌, ◌≢◌, ℕ, zero, suc, ◌<◌, ◌+◌, ◌++◌, true, false, List, [], ◌∷◌, set, length, Option, Some, None, IsSome, Result, Ok, Err, OnOk, OnErr, refl, sym, ◌∙◌, ap, subst, arith, inl, inr, AllPairs}
 use Rattle.std.specs.Prelude.{slice_get}
 use Rattle.std.specs.List.{insert}
 use Rattle.std.specs.Str.{bytes_eq}
@@ -81,7 +81,7 @@ insert-other (d ∷ cs) (suc n) c x apart = elim (cases_Bool (bytes_eq d.item x)
 ]
 
 module _ (cs : List ItemCount) (n : ℕ) (x : Name) (none : found_in cs x ≡ None) where
-  put : List ItemCount
+  abbrev pub put : List ItemCount
   put = insert cs n (record { item = x; count = 0 })
 
   pub put-found : found_in put x ≡ Some 0
@@ -120,27 +120,27 @@ set-other (d ∷ cs) (suc n) c x at apart =
 
 -- a place was put into the gap, or nothing was
 module _ {U E : Type 0} (old new : List ItemCount) (x : Name) (n : ℕ) (gap : IsGapFor (λ c. c.item) (slice_cmp nat_cmp) old x n) where
-  tried-rises : (r : Result U E) → OnOk r (new ≡ insert old n (record { item = x; count = 0 })) → OnErr r (new ≡ old) → AreRising old
+  pub tried-rises : (r : Result U E) → OnOk r (new ≡ insert old n (record { item = x; count = 0 })) → OnErr r (new ≡ old) → AreRising old
       → AreRising new
   tried-rises (Ok u) ok err rising =
       subst AreRising (sym ok) (rising-insert (λ c. c.item) (slice_cmp nat_cmp) nat_list_cmp_total old n (record { item = x; count = 0 }) gap rising)
   tried-rises (Err e) ok err rising = subst AreRising (sym err) rising
 
-  tried-same : (r : Result U E) → OnOk r (new ≡ insert old n (record { item = x; count = 0 })) → OnErr r (new ≡ old) → (y : Name)
+  pub tried-same : (r : Result U E) → OnOk r (new ≡ insert old n (record { item = x; count = 0 })) → OnErr r (new ≡ old) → (y : Name)
       → count_in new y ≡ count_in old y
   tried-same (Ok u) ok err y = ap (λ cs. count_in cs y) ok ∙ put-same old n x (found_gap old x n gap) y
   tried-same (Err e) ok err y = ap (λ cs. count_in cs y) err
 
-  tried-kept : (r : Result U E) → OnOk r (new ≡ insert old n (record { item = x; count = 0 })) → OnErr r (new ≡ old) → (y : Name)
+  pub tried-kept : (r : Result U E) → OnOk r (new ≡ insert old n (record { item = x; count = 0 })) → OnErr r (new ≡ old) → (y : Name)
       → IsSome (found_in old y) → IsSome (found_in new y)
   tried-kept (Ok u) ok err y has = subst (λ cs. IsSome (found_in cs y)) (sym ok) (put-kept old n x (found_gap old x n gap) y has)
   tried-kept (Err e) ok err y has = subst (λ cs. IsSome (found_in cs y)) (sym err) has
 
-  tried-ok : (r : Result U E) → OnOk r (new ≡ insert old n (record { item = x; count = 0 })) → OnOk r (IsSome (found_in new x))
+  pub tried-ok : (r : Result U E) → OnOk r (new ≡ insert old n (record { item = x; count = 0 })) → OnOk r (IsSome (found_in new x))
   tried-ok (Ok u) ok = subst IsSome (sym (ap (λ cs. found_in cs x) ok ∙ put-found old n x (found_gap old x n gap))) refl
   tried-ok (Err e) ok = tt
 
-  tried-err : (r : Result U E) → OnErr r (IsSome (found_in old x) → ⊥)
+  pub tried-err : (r : Result U E) → OnErr r (IsSome (found_in old x) → ⊥)
   tried-err (Ok u) = tt
   tried-err (Err e) = λ has. let none : IsSome None = subst IsSome (found_gap old x n gap) has in absurd cc
 
@@ -165,7 +165,7 @@ get_set_elsewhere (x ∷ xs) (suc n) (suc k) y apart = get_set_elsewhere xs n k 
 -- one more install of the item that stands at a place
 module _ (cs : List ItemCount) (x : Name) (n : ℕ) (c : ItemCount) (rising : AreRising cs) (at : IsAt (λ c. c.item) cs x n)
     (here : slice_get cs n ≡ Some c) where
-  more : ItemCount
+  abbrev pub more : ItemCount
   more = record { item = c.item; count = c.count + 1 }
 
   own : IsAt (λ c. c.item) cs more.item n
@@ -190,3 +190,18 @@ module _ (cs : List ItemCount) (x : Name) (n : ℕ) (c : ItemCount) (rising : Ar
 -- no count is below all
 pub none-rises : AreRising []
 none-rises i j d lt within = absurd (omega arith)
+
+-- one more count stands behind the others
+pub found-own : (cs : List ItemCount) (c : ItemCount) → found_in cs c.item ≡ None → found_in (cs ++ c ∷ []) c.item ≡ Some c.count
+found-own [] c none = rw (is_itself c.item) refl
+found-own (d ∷ cs) c none = elim (cases_Bool (bytes_eq d.item c.item)) [
+  | inl hit ↦ let e : Some d.count ≡ None = rw hit at none in absurd cc
+  | inr miss ↦ rw miss (found-own cs c (rw miss at none))
+]
+
+pub found-other : (cs : List ItemCount) (c : ItemCount) (x : Name) → c.item ≢ x → found_in (cs ++ c ∷ []) x ≡ found_in cs x
+found-other [] c x apart = rw (is_other c.item x apart) refl
+found-other (d ∷ cs) c x apart = elim (cases_Bool (bytes_eq d.item x)) [
+  | inl hit ↦ rw hit refl
+  | inr miss ↦ rw miss (found-other cs c x apart)
+]

@@ -65,6 +65,17 @@ has-row counts s x has = elim (option_cases (slice_get counts.rows.items s)) [
   | inr some ↦ slice_get_within counts.rows.items s some.0 some.1
 ]
 
+-- the row that stands at a site
+pub row-is : (counts : Counts) (s : ℕ) (row : List ItemCount) → slice_get counts.rows.items s ≡ Some row → row_at counts s ≡ row
+row-is counts s row at = ap or_nothing at
+
+-- where no place could be made, there was none
+pub placed-err : {U E : Type 0} (r : Result U E) (before old : Counts) (s : ℕ) (x : Name) (row : List ItemCount)
+    → slice_get old.rows.items s ≡ Some row → Widens before old → OnErr r (IsSome (found_in row x) → ⊥) → OnErr r (HasPlace before s x → ⊥)
+placed-err (Ok u) before old s x row at w none = tt
+placed-err (Err e) before old s x row at w none =
+    λ has. none (subst (λ r. IsSome (found_in r x)) (row-is old s row at) (w.kept s x has))
+
 module _ (old new : Counts) (s : ℕ) (x : Name) (row made : List ItemCount) (at : slice_get old.rows.items s ≡ Some row)
     (is : new.rows.items ≡ set old.rows.items s made) where
   was : row_at old s ≡ row
@@ -92,6 +103,10 @@ module _ (old new : Counts) (s : ℕ) (x : Name) (row made : List ItemCount) (at
       | inr other ↦ subst (λ r. IsSome (found_in r y)) (sym (row-other old new s made is t (eqb-false t s other))) has
     ];
   }
+
+  pub placed-ok : {U E : Type 0} (r : Result U E) → OnOk r (IsSome (found_in made x)) → OnOk r (HasPlace new s x)
+  placed-ok (Ok u) has = subst (λ r. IsSome (found_in r x)) (sym now) has
+  placed-ok (Err e) has = tt
 
   -- an install is added
   pub added-here : found_in made x ≡ Some (suc (count_in row x)) → stands_at new s x ≡ Some (suc (count_at old s x))

@@ -13,7 +13,7 @@ pub struct Counts {
 }
 
 impl Counts {
-    ghost use Rattle.std.specs.Prelude.{◌≡◌, ◌≢◌, ◌+◌, ◌<◌, ◌^◌, ℕ, suc, length, None, Some, All, AllPairs, OnOk, OnErr};
+    ghost use Rattle.std.specs.Prelude.{◌≡◌, ◌≢◌, ◌+◌, ◌<◌, ◌≤◌, ◌^◌, ℕ, suc, length, None, Some, All, AllPairs, OnOk, OnErr};
     ghost use Rattle.sgt_names.specs.Name.{Name};
     ghost use Rattle.sgt_certifier.specs.Row.{AreRising};
     ghost use Rattle.sgt_certifier.specs.Counted.{CountsEach, HasPlace, HavePlaces, Widens, count_at, row_at, stands_at};
@@ -52,6 +52,7 @@ impl Counts {
     fn open(&mut self, site: SiteNo) -> Result<(), AllocError>
         ensures same { (s : ℕ) → row_at self.new s ≡ row_at self.old s }
         ensures ok { OnOk result (site < length self.new.rows.items) }
+        ensures err { OnErr result (length self.old.rows.items ≤ site) }
     {
         let alloc = *self.rows.allocator();
         for _row in self.rows.len()..site.number() as usize + 1 {

@@ -1,18 +1,16 @@
 //! The versions of a site against the certifier's history, and the gathering of edges that asks for them.
 
-ghost use Rattle.std.specs.Prelude.{◌≡◌, ◌↔◌, ◌≤◌, ℕ, Some, All, IsTrue, IfOk, IfErr, OnOk, OnErr, length, slice_get};
+ghost use Rattle.std.specs.Prelude.{◌≡◌, ◌↔◌, Some, All, IsTrue, IfOk, IfErr, IfSome, OnOk, OnErr, length, slice_get};
 ghost use Rattle.std.specs.Ordering.{nat_cmp};
-ghost use Rattle.std.specs.declared.cmp.Ordering.TheVariants.{Less};
 ghost use Rattle.std.specs.Cmp.Lexicographic.{slice_cmp};
 ghost use Rattle.sgt_names.specs.Draft.{at_site};
 ghost use Rattle.sgt_names.specs.Ordered.{IsRisingBy};
-ghost use Rattle.sgt_names.specs.declared.entry.Holding.{Holding as Held};
-ghost use Rattle.sgt_certifier.specs.Row.{AreRising, count_in};
-ghost use Rattle.sgt_certifier.specs.declared.row.ItemCount.{ItemCount as Counted};
+ghost use Rattle.sgt_site.specs.State.{version_at};
 ghost use Rattle.sgt_site.specs.Refused.{MayPledge};
 ghost use Rattle.sgt_edges.specs.Edges.{IsGiven, StandsForAll};
-ghost use Rattle.sgt_service_agreement.specs.Agreed.{VersionsAgree, RefusesAgreed};
-ghost use Rattle.sgt_service_agreement.specs.private.Counting.{AreBefore};
+ghost use Rattle.sgt_certifier.specs.Row.{AreRising};
+ghost use Rattle.sgt_service_agreement.specs.Agreed.{AgreesOn, VersionsAgree, RefusesAgreed};
+ghost use Rattle.sgt_service_agreement.specs.private.Counting.{AreCountedTo, Meets};
 
 use crate::fault::ServiceFault;
 use sgt_arena::Handle;
@@ -21,91 +19,89 @@ use sgt_edges::{EdgeFault, EdgeList, gather};
 use sgt_names::{Draft, Holding, Item, Tx};
 use sgt_site::Site;
 use std::alloc::Global;
-use std::cmp::Ordering;
 
 /// Whether the version of each item of the site is the number of its installs there that the certifier's history counts. It takes
 /// no memory and waits for nobody.
 ///
-/// It goes once over the items of the site and over the items that were installed there, side by side; it looks up no name, and goes
-/// over neither log nor history.
+/// It goes once over the items of the site and those that were installed there, side by side, and orders no names. Only where a
+/// version differs, or an item is counted that isn't at the site, it searches the items and the counts for each item of the site.
+/// It goes over neither log nor history.
 pub fn agrees(certifier: &Certifier, site: &Site) -> bool
     ensures { IsTrue result ↔ VersionsAgree certifier.now.history site.now }
 {
     let counts = certifier.counts_at(site.number());
-    are_counted(counts, site.items(), site.versions())
+    if are_counted(counts, site.items(), site.versions()) {
+        return true;
+    }
+    all_agree(certifier, site, site.items())
 }
 
-// Whether each of the versions is the count of the item at its place.
+// Whether each of these versions is the count of the item at its place, and all items that are counted were met there.
 fn are_counted(counts: &[ItemCount], items: &[Holding], versions: &[u64]) -> bool
     requires counts { AreRising counts.now }
     requires items { IsRisingBy (λ h. h.item) (slice_cmp nat_cmp) items.now }
     requires as_many { length versions.now ≡ length items.now }
-    ensures { IsTrue result ↔ ((k : ℕ) (h : Held) → slice_get items.now k ≡ Some h
-        → slice_get versions.now k ≡ Some (count_in counts.now h.item)) }
+    ensures { IsTrue result → AreCountedTo counts.now items.now versions.now (length items.now) }
 {
     let mut met = 0;
     for place in 0..items.len() {
-        let item = &items[place].item;
-        met = behind(counts, met, item);
-        if !has_count(counts, met, item, versions[place]) {
+        let Some(next) = met_with(counts, met, items[place].item, versions[place]) else {
+            return false;
+        };
+        met = next;
+    }
+    met == counts.len()
+}
+
+// How many of the counted items are met with this one, where those before it met so many. Its version is the next count, if it is
+// the next item, or else 0.
+fn met_with(counts: &[ItemCount], met: usize, item: Item, version: u64) -> Option<usize>
+    ensures { IfSome result (Meets counts.now met item version) }
+{
+    if is_next(counts, met, item, version) {
+        return Some(met + 1);
+    }
+    if version == 0 {
+        return Some(met);
+    }
+    None
+}
+
+// Whether the item is the next one, with this count.
+fn is_next(counts: &[ItemCount], met: usize, item: Item, count: u64) -> bool
+    ensures { IsTrue result → slice_get counts.now met ≡ Some (record { item = item; count = count }) }
+{
+    match counts.get(met) {
+        Some(counted) => counted.item == item && counted.count == count,
+        None => false,
+    }
+}
+
+// Whether the version of each of these items is the number of its installs.
+fn all_agree(certifier: &Certifier, site: &Site, items: &[Holding]) -> bool
+    ensures { IsTrue result ↔ All (λ h. AgreesOn certifier.now.history site.now h.item) items.now }
+{
+    for holding in items {
+        if !agrees_on(certifier, site, holding.item) {
             return false;
         }
     }
     true
 }
 
-// Where the item stands among those that are counted, or where it would go. It is looked for from this place on.
-fn behind(counts: &[ItemCount], from: usize, item: &Item) -> usize
-    requires within { from ≤ length counts.now }
-    requires before { AreBefore counts.now item.now from }
-    ensures within { result ≤ length counts.now }
-    ensures before { AreBefore counts.now item.now result }
-    ensures next { (c : Counted) → slice_get counts.now result ≡ Some c → (slice_cmp nat_cmp c.item item.now ≡ Less → ⊥) }
+fn agrees_on(certifier: &Certifier, site: &Site, item: Item) -> bool
+    ensures { IsTrue result ↔ AgreesOn certifier.now.history site.now item }
 {
-    let mut place = from;
-    while place < counts.len() && comes_before(&counts[place].item, item) {
-        place += 1;
-    }
-    place
+    version_of(site, item) == certifier.counted(site.number(), item)
 }
 
-// Most are the same, and that is the quicker test.
-fn comes_before(first: &Item, second: &Item) -> bool
-    ensures { IsTrue result ↔ (slice_cmp nat_cmp first.now second.now ≡ Less) }
+// The version of the item. One that isn't at the site has none.
+fn version_of(site: &Site, item: Item) -> u64
+    ensures { result ≡ version_at site.now.entries item }
 {
-    if first == second {
-        return false;
-    }
-    match first.cmp(second) {
-        Ordering::Less => true,
-        _ => false,
-    }
-}
-
-// Whether this is the count of the item, which would stand at this place.
-fn has_count(counts: &[ItemCount], place: usize, item: &Item, count: u64) -> bool
-    requires rising { AreRising counts.now }
-    requires before { AreBefore counts.now item.now place }
-    requires next { (c : Counted) → slice_get counts.now place ≡ Some c → (slice_cmp nat_cmp c.item item.now ≡ Less → ⊥) }
-    ensures { IsTrue result ↔ (count ≡ count_in counts.now item.now) }
-{
-    count_from(counts, place, item) == count
-}
-
-// The count of the item, which would stand at this place.
-fn count_from(counts: &[ItemCount], place: usize, item: &Item) -> u64
-    requires rising { AreRising counts.now }
-    requires before { AreBefore counts.now item.now place }
-    requires next { (c : Counted) → slice_get counts.now place ≡ Some c → (slice_cmp nat_cmp c.item item.now ≡ Less → ⊥) }
-    ensures { result ≡ count_in counts.now item.now }
-{
-    let Some(counted) = counts.get(place) else {
-        return 0;
-    };
-    if counted.item == *item {
-        counted.count
-    } else {
-        0
+    match site.writers(item) {
+        Ok(writers) => writers.len() as u64,
+        Err(_) => 0,
     }
 }
 

@@ -1,8 +1,11 @@
 -- The versions of the cells, side by side.
-use Rattle.std.proofs.Common.{◌≡◌, ℕ, zero, suc, List, [], ◌∷◌, length, map, set, get_or, replicate, Some, refl, sym, ap, ap₂, ◌∙◌, arith, Result, Ok, Err, OnOk, OnErr, All}
+use Rattle.std.proofs.Common.{◌≡◌, ℕ, suc, List, [], ◌∷◌, length, map, set, get_or, Some, refl, sym, ap, ap₂, ◌∙◌, arith, Result, Ok, Err, OnOk, OnErr, All}
 use Rattle.std.specs.Prelude.{slice_get}
 use Rattle.std.proofs.lemmas.List.{map-set}
-use Rattle.std.proofs.lemmas.Option.{get_or_from_slice_get}
+use Rattle.std.specs.Ordering.{nat_cmp}
+use Rattle.std.specs.Cmp.Lexicographic.{slice_cmp}
+use Rattle.std.proofs.lemmas.Option.{get_or_from_slice_get, same_Some, slice_get_within}
+use Rattle.sgt_names.proofs.Ranged.{rising-set}
 use Rattle.std.proofs.Math.Seq.{map-set_same}
 use Rattle.sgt_names.specs.Log.{names}
 use Rattle.sgt_names.specs.declared.draft.Seen.{Seen}
@@ -10,21 +13,12 @@ use Rattle.sgt_names.specs.declared.entry.Entry.{Entry}
 use Rattle.sgt_names.specs.declared.entry.Holding.{Holding}
 use Rattle.sgt_names.proofs.Places.{All_at, All-from_at}
 use Rattle.sgt_site.specs.State.{SiteState, IsSite, version_at}
-use Rattle.sgt_site.specs.private.Cells.{Contents, items_of, versions_of, IsFresh, IsAnswered, AreChanged}
+use Rattle.sgt_site.specs.private.Cells.{Contents, items_of, versions_of, CellsRise, IsAnswered, AreChanged}
 use Rattle.sgt_site.specs.private.Kept.{IsCell}
 use Rattle.sgt_site.proofs.Keeps.{found_version}
 
 rest : {A : Type 0} (P : A → Type 0) (x : A) (xs : List A) → All P (x ∷ xs) → All P xs
 rest P x xs all = All-from_at P xs (λ n a at. All_at P (x ∷ xs) (suc n) a all at)
-
--- cells that nobody has written have version 0
-pub versions-fresh : (cells : List Contents) (n : ℕ) → All IsFresh cells → length cells ≡ n → replicate n 0 ≡ versions_of cells
-versions-fresh [] zero fresh long = refl
-versions-fresh [] (suc n) fresh long = absurd cc
-versions-fresh (c ∷ cells) zero fresh long = absurd cc
-versions-fresh (c ∷ cells) (suc n) fresh long =
-    ap₂ (λ (v : ℕ) (vs : List ℕ). v ∷ vs) (sym (ap length (All_at IsFresh (c ∷ cells) 0 c fresh refl).writers))
-    (versions-fresh cells n (rest IsFresh c cells fresh) (omega (arith, long)))
 
 -- a change that leaves the number of writers leaves the versions
 pub versions-changed : (R : Contents → Contents → Type 0) → ((c d : Contents) → R c d → length d.writers ≡ length c.writers)
@@ -54,6 +48,20 @@ pub versions-noted : (cells : List Contents) (versions : List ℕ) (n : ℕ) (ne
     → set versions n (length new.writers) ≡ versions_of (set cells n new)
 versions-noted cells versions n new are =
     ap (λ vs. set vs n (length new.writers)) are ∙ sym (map-set (λ (c : Contents). length c.writers) cells n new)
+
+-- nor does it change the item
+pub answer-item : {E : Type 0} (r : Result Seen E) (old new : Contents) (tx : ℕ) → OnOk r (IsAnswered old new tx) → OnErr r (new ≡ old)
+    → new.item ≡ old.item
+answer-item (Ok seen) old new tx ok err = ap (λ (c : Contents). c.item) ok.same
+answer-item (Err e) old new tx ok err = ap (λ (c : Contents). c.item) err
+
+pub answered-rises : (cells : List Contents) (n : ℕ) (old new : Contents) → slice_get cells n ≡ Some old → new.item ≡ old.item → CellsRise cells
+    → CellsRise (set cells n new)
+answered-rises cells n old new at same rising = rising-set (λ (c : Contents). c.item) (slice_cmp nat_cmp) cells n new
+    (record {
+      within = slice_get_within cells n old at;
+      is = λ c here. ap (λ (d : Contents). d.item) (same_Some c old (sym here ∙ at)) ∙ sym same;
+    }) rising
 
 -- the versions are those of the log, by items
 by_item : (s : SiteState) → IsSite s → (cells : List Contents) → All (IsCell s.items s.installed s.entries) cells

@@ -54,7 +54,7 @@ impl Cells {
         cells.reserve(items.len())?;
         add_cells(alloc, &mut cells, items);
         let hints = hints_of(alloc, items)?;
-        let versions = vec![in alloc; 0u64; items.len()]?;
+        let versions = versions_in(alloc, cells.as_slice())?;
         Ok(Cells {
             cells,
             hints,
@@ -138,6 +138,12 @@ fn add_cells(alloc: Global, cells: &mut Vec<Cell>, items: &[Holding])
     for holding in items {
         cells.push_reserved(Cell::new(alloc, *holding));
     }
+}
+
+fn versions_in(alloc: Global, cells: &[Cell]) -> Result<Vec<u64>, AllocError>
+    ensures { IfOk result (λ versions. versions.items ≡ versions_of cells.now) }
+{
+    cells.iter().map(Cell::version).collect(alloc)
 }
 
 // A number made of the bytes of a name.

@@ -52,7 +52,7 @@ CellsRise cells = IsRisingBy (λ c. c.item) (slice_cmp nat_cmp) cells
 -- they do, and these are their versions
 pub record AreCells (cells : List Contents) (versions : List ℕ) : Type 0 where
   pub rising : CellsRise cells
-  pub versions : versions ≡ versions_of cells
+  pub counted : versions ≡ versions_of cells
 
 -- reads by rising transaction
 abbrev pub AreReadings : List Reading → Type 0
