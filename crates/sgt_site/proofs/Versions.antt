@@ -1,12 +1,12 @@
 -- The versions of the cells, side by side.
-use Rattle.std.proofs.Common.{◌≡◌, ℕ, suc, List, [], ◌∷◌, length, map, set, get_or, Some, refl, sym, ap, ap₂, ◌∙◌, arith, Result, Ok, Err, OnOk, OnErr, All}
+use Rattle.std.proofs.Common.{◌≡◌, ℕ, suc, List, [], ◌∷◌, ◌++◌, length, map, take, drop, set, get_or, Some, refl, sym, ap, ap₂, ◌∙◌, arith, Result, Ok, Err, OnOk, OnErr, All}
 use Rattle.std.specs.Prelude.{slice_get}
 use Rattle.std.proofs.lemmas.List.{map-set}
 use Rattle.std.specs.Ordering.{nat_cmp}
 use Rattle.std.specs.Cmp.Lexicographic.{slice_cmp}
 use Rattle.std.proofs.lemmas.Option.{get_or_from_slice_get, same_Some, slice_get_within}
 use Rattle.sgt_names.proofs.Ranged.{rising-set}
-use Rattle.std.proofs.Math.Seq.{map-set_same}
+use Rattle.std.proofs.Math.Seq.{map-set_same, take-append_seam}
 use Rattle.sgt_names.specs.Log.{names}
 use Rattle.sgt_names.specs.declared.draft.Seen.{Seen}
 use Rattle.sgt_names.specs.declared.entry.Entry.{Entry}
@@ -19,6 +19,10 @@ use Rattle.sgt_site.proofs.Keeps.{found_version}
 
 rest : {A : Type 0} (P : A → Type 0) (x : A) (xs : List A) → All P (x ∷ xs) → All P xs
 rest P x xs all = All-from_at P xs (λ n a at. All_at P (x ∷ xs) (suc n) a all at)
+
+-- a slice that was lent, back in its list
+pub written-back : (items new : List ℕ) (n : ℕ) → n ≡ length new → take n (new ++ drop (length new) items) ≡ new
+written-back items new n long = ap (λ m. take m (new ++ drop (length new) items)) long ∙ take-append_seam new (drop (length new) items)
 
 -- a change that leaves the number of writers leaves the versions
 pub versions-changed : (R : Contents → Contents → Type 0) → ((c d : Contents) → R c d → length d.writers ≡ length c.writers)

@@ -298,13 +298,7 @@ fn note_all(
 }
 
 // Notes a commit that touches an item in the item's cell, if there is one.
-fn note_in(
-    cells: &mut Vec<Cell>,
-    versions: &mut [u64],
-    hints: &[u16],
-    by: &Install,
-    touch: &Touch,
-)
+fn note_in(cells: &mut Vec<Cell>, versions: &mut [u64], hints: &[u16], by: &Install, touch: &Touch)
     requires rising { CellsRise cells.old.items }
     requires room { All (λ c. c.item ≡ touch.now.item → 0 < c.has_room) cells.old.items }
     requires versions { versions.old ≡ versions_of cells.old.items }
