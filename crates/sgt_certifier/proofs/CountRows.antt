@@ -123,7 +123,7 @@ module _ {U E : Type 0} (old new : List ItemCount) (x : Name) (n : ℕ) (gap : I
   pub tried-rises : (r : Result U E) → OnOk r (new ≡ insert old n (record { item = x; count = 0 })) → OnErr r (new ≡ old) → AreRising old
       → AreRising new
   tried-rises (Ok u) ok err rising =
-      subst AreRising (sym ok) (rising-insert (λ c. c.item) (slice_cmp nat_cmp) nat_list_cmp_total old n (record { item = x; count = 0 }) gap rising)
+      subst AreRising (sym ok) (rising-insert (λ (c : ItemCount). c.item) (slice_cmp nat_cmp) nat_list_cmp_total old n (record { item = x; count = 0 }) gap rising)
   tried-rises (Err e) ok err rising = subst AreRising (sym err) rising
 
   pub tried-same : (r : Result U E) → OnOk r (new ≡ insert old n (record { item = x; count = 0 })) → OnErr r (new ≡ old) → (y : Name)
@@ -142,7 +142,7 @@ module _ {U E : Type 0} (old new : List ItemCount) (x : Name) (n : ℕ) (gap : I
 
   pub tried-err : (r : Result U E) → OnErr r (IsSome (found_in old x) → ⊥)
   tried-err (Ok u) = tt
-  tried-err (Err e) = λ has. let none : IsSome None = subst IsSome (found_gap old x n gap) has in absurd cc
+  tried-err (Err e) = λ has. true≢false (sym (subst IsSome (found_gap old x n gap) has))
 
 -- an item that was found has a place
 pub found_some : (cs : List ItemCount) (x : Name) (n : ℕ) → AreRising cs → IsAt (λ c. c.item) cs x n → IsSome (found_in cs x)
@@ -172,7 +172,7 @@ module _ (cs : List ItemCount) (x : Name) (n : ℕ) (c : ItemCount) (rising : Ar
   own = record { within = at.within; is = λ d there. ap (λ (e : ItemCount). e.item) (same_Some d c (sym there ∙ here)) }
 
   pub more-rises : AreRising (set cs n more)
-  more-rises = rising-set (λ c. c.item) (slice_cmp nat_cmp) cs n more own rising
+  more-rises = rising-set (λ (c : ItemCount). c.item) (slice_cmp nat_cmp) cs n more own rising
 
   pub count-here : count_in cs x ≡ c.count
   count-here = ap or_zero (found_here cs x n c rising at here)

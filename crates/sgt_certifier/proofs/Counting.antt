@@ -61,7 +61,7 @@ row-pushed (r ∷ rows) (suc s) = row-pushed rows s
 -- an item that has its place is in a row
 pub has-row : (counts : Counts) (s : ℕ) (x : Name) → HasPlace counts s x → s < length counts.rows.items
 has-row counts s x has = elim (option_cases (slice_get counts.rows.items s)) [
-  | inl none ↦ let gone : IsSome {A = ℕ} None = subst (λ (o : Option (List ItemCount)). IsSome (found_in (or_nothing o) x)) none has in absurd cc
+  | inl none ↦ absurd (true≢false (sym (subst (λ (o : Option (List ItemCount)). IsSome (found_in (or_nothing o) x)) none has)))
   | inr some ↦ slice_get_within counts.rows.items s some.0 some.1
 ]
 
