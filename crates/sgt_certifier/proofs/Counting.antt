@@ -1,8 +1,8 @@
 -- The table of counts: what a change of it does to each count.
 use Rattle.std.proofs.Common.{◌≡◌, ◌≢◌, ℕ, suc, true, false, List, [], ◌∷◌, ◌++◌, Option, Some, None, IsSome, Result, Ok, Err, OnErr, refl, sym, ◌∙◌, ap, subst, arith, cond, inl, inr, ◌⊎◌, All, AllPairs, take, Contains, OnOk, IfErr, is_err, ap₂, set, zero}
 use Rattle.std.specs.Prelude.{is_some, slice_get, map, ◌==◌, ◌≤◌, ◌<◌, length}
-use Rattle.std.proofs.lemmas.Option.{slice_get_within}
-use Rattle.std.specs.List.{list_any, AllByRecursion}
+use Rattle.std.proofs.lemmas.Option.{same_Some, slice_get_within}
+use Rattle.std.specs.List.{list_any, remove, AllByRecursion}
 use Rattle.std.specs.Str.{bytes_eq}
 use Rattle.std.proofs.lemmas.Slice.Eq.{bytes_eq-Decides}
 use Rattle.std.specs.Ordering.{nat_cmp, ordering_reverse}
@@ -65,24 +65,27 @@ has-row counts s x has = elim (option_cases (slice_get counts.rows.items s)) [
   | inr some ↦ slice_get_within counts.rows.items s some.0 some.1
 ]
 
--- the row that stands at a site
-pub row-is : (counts : Counts) (s : ℕ) (row : List ItemCount) → slice_get counts.rows.items s ≡ Some row → row_at counts s ≡ row
-row-is counts s row at = ap or_nothing at
+-- the row that stands at the place of a site
+pub row-is : (counts : Counts) (s n : ℕ) (row : List ItemCount) → n ≡ s → slice_get counts.rows.items n ≡ Some row → row_at counts s ≡ row
+row-is counts s n row place at = ap (row_at counts) (sym place) ∙ ap or_nothing at
 
 -- where no place could be made, there was none
-pub placed-err : {U E : Type 0} (r : Result U E) (before old : Counts) (s : ℕ) (x : Name) (row : List ItemCount)
-    → slice_get old.rows.items s ≡ Some row → Widens before old → OnErr r (IsSome (found_in row x) → ⊥) → OnErr r (HasPlace before s x → ⊥)
-placed-err (Ok u) before old s x row at w none = tt
-placed-err (Err e) before old s x row at w none =
-    λ has. none (subst (λ r. IsSome (found_in r x)) (row-is old s row at) (w.kept s x has))
+pub placed-err : {U E : Type 0} (r : Result U E) (before old : Counts) (s n : ℕ) (x : Name) (row : List ItemCount) → n ≡ s
+    → slice_get old.rows.items n ≡ Some row → Widens before old → OnErr r (IsSome (found_in row x) → ⊥) → OnErr r (HasPlace before s x → ⊥)
+placed-err (Ok u) before old s n x row place at w none = tt
+placed-err (Err e) before old s n x row place at w none =
+    λ has. none (subst (λ r. IsSome (found_in r x)) (row-is old s n row place at) (w.kept s x has))
 
-module _ (old new : Counts) (s : ℕ) (x : Name) (row made : List ItemCount) (at : slice_get old.rows.items s ≡ Some row)
-    (is : new.rows.items ≡ set old.rows.items s made) where
+module _ (old new : Counts) (s n : ℕ) (x : Name) (row made : List ItemCount) (place : n ≡ s)
+    (at : slice_get old.rows.items n ≡ Some row) (is : new.rows.items ≡ set old.rows.items n made) where
   was : row_at old s ≡ row
-  was = ap or_nothing at
+  was = row-is old s n row place at
+
+  made_there : new.rows.items ≡ set old.rows.items s made
+  made_there = is ∙ ap (λ k. set old.rows.items k made) place
 
   now : row_at new s ≡ made
-  now = row-here old new s made is (slice_get_within old.rows.items s row at)
+  now = row-here old new s made made_there (let lt = slice_get_within old.rows.items n row at in omega (arith, lt, place))
 
   -- a place is made
   pub placed-widens : ((y : Name) → count_in made y ≡ count_in row y) → ((y : Name) → IsSome (found_in row y) → IsSome (found_in made y))
@@ -92,7 +95,7 @@ module _ (old new : Counts) (s : ℕ) (x : Name) (row made : List ItemCount) (at
       | inl here ↦
           let e : t ≡ s = eqb-true t s here in
           ap (λ u. count_at new u y) e ∙ ap (λ r. count_in r y) now ∙ same y ∙ sym (ap (λ r. count_in r y) was) ∙ sym (ap (λ u. count_at old u y) e)
-      | inr other ↦ ap (λ r. count_in r y) (row-other old new s made is t (eqb-false t s other))
+      | inr other ↦ ap (λ r. count_in r y) (row-other old new s made made_there t (eqb-false t s other))
     ];
     kept = λ t y has. elim (cases_Bool (t == s)) [
       | inl here ↦
@@ -100,26 +103,38 @@ module _ (old new : Counts) (s : ℕ) (x : Name) (row made : List ItemCount) (at
           let has_row : IsSome (found_in row y) =
           subst (λ r. IsSome (found_in r y)) was (subst (λ u. HasPlace old u y) e has) in
           subst (λ u. HasPlace new u y) (sym e) (subst (λ r. IsSome (found_in r y)) (sym now) (kept y has_row))
-      | inr other ↦ subst (λ r. IsSome (found_in r y)) (sym (row-other old new s made is t (eqb-false t s other))) has
+      | inr other ↦ subst (λ r. IsSome (found_in r y)) (sym (row-other old new s made made_there t (eqb-false t s other))) has
     ];
   }
 
-  pub placed-ok : {U E : Type 0} (r : Result U E) → OnOk r (IsSome (found_in made x)) → OnOk r (HasPlace new s x)
-  placed-ok (Ok u) has = subst (λ r. IsSome (found_in r x)) (sym now) has
+-- what stands in the rows, after that at the place of a site was changed
+module _ (rows : List (List ItemCount)) (s n : ℕ) (x : Name) (row made : List ItemCount) (place : n ≡ s)
+    (at : slice_get rows n ≡ Some row) where
+  was_in : or_nothing (slice_get rows s) ≡ row
+  was_in = ap or_nothing (ap (slice_get rows) (sym place) ∙ at)
+
+  now_in : or_nothing (slice_get (set rows n made) s) ≡ made
+  now_in = ap or_nothing (ap (slice_get (set rows n made)) (sym place) ∙ get_set_here rows n made (slice_get_within rows n row at))
+
+  pub placed-ok : {U E : Type 0} (r : Result U E) → OnOk r (IsSome (found_in made x))
+      → OnOk r (IsSome (found_in (or_nothing (slice_get (set rows n made) s)) x))
+  placed-ok (Ok u) has = subst (λ cs. IsSome (found_in cs x)) (sym now_in) has
   placed-ok (Err e) has = tt
 
-  -- an install is added
-  pub added-here : found_in made x ≡ Some (suc (count_in row x)) → stands_at new s x ≡ Some (suc (count_at old s x))
-  added-here more = ap (λ r. found_in r x) now ∙ more ∙ ap (λ r. Some (suc (count_in r x))) (sym was)
+  pub added-here : found_in made x ≡ Some (suc (count_in row x))
+      → found_in (or_nothing (slice_get (set rows n made) s)) x ≡ Some (suc (count_in (or_nothing (slice_get rows s)) x))
+  added-here more = ap (λ cs. found_in cs x) now_in ∙ more ∙ ap (λ cs. Some (suc (count_in cs x))) (sym was_in)
 
   pub added-others : ((y : Name) → y ≢ x → found_in made y ≡ found_in row y) → (t : ℕ) (y : Name) → ((t ≡ s) × (y ≡ x) → ⊥)
-      → stands_at new t y ≡ stands_at old t y
+      → found_in (or_nothing (slice_get (set rows n made) t)) y ≡ found_in (or_nothing (slice_get rows t)) y
   added-others others t y apart = elim (cases_Bool (t == s)) [
     | inl here ↦
         let e : t ≡ s = eqb-true t s here in
-        ap (λ u. stands_at new u y) e ∙ ap (λ r. found_in r y) now ∙ others y (λ same. apart (e, same))
-        ∙ sym (ap (λ r. found_in r y) was) ∙ sym (ap (λ u. stands_at old u y) e)
-    | inr other ↦ ap (λ r. found_in r y) (row-other old new s made is t (eqb-false t s other))
+        ap (λ u. found_in (or_nothing (slice_get (set rows n made) u)) y) e ∙ ap (λ cs. found_in cs y) now_in
+        ∙ others y (λ same. apart (e, same)) ∙ sym (ap (λ cs. found_in cs y) was_in)
+        ∙ sym (ap (λ u. found_in (or_nothing (slice_get rows u)) y) e)
+    | inr other ↦ ap (λ o. found_in (or_nothing o) y)
+        (get_set_elsewhere rows n t made (λ e. eqb-false t s other (e ∙ place)))
   ]
 
 -- the counts are the same
@@ -281,6 +296,34 @@ counted-installed old new history longer expected tx site items is each h = reco
 pub expected-placed : (counts : Counts) (history : List Call) (expected : List Prepared) (p : Prepared) → AreCounted counts history expected
     → Contains expected p → All (HasPlace counts p.site) p.items
 expected-placed counts history expected p h c = let at = Contains_at expected p c in All_at (HavePlaces counts) expected at.0 p h.placed at.1
+
+-- no list was made for items of which one has no place
+pub not-placed : (counts : Counts) (expected : List Prepared) (touched : List Touch) (site : ℕ) → All (HavePlaces counts) expected
+    → (All (HasPlace counts site) (changed_at touched site) → ⊥) → IsExpected expected touched site → ⊥
+not-placed counts expected touched site placed none (inl empty) =
+    none (subst (All (HasPlace counts site)) (sym empty) (λ k d within. absurd (omega (arith, within))))
+not-placed counts expected touched site placed none (inr c) =
+    let at = Contains_at expected (record { site = site; items = changed_at touched site }) c in
+    none (All_at (HavePlaces counts) expected at.0 (record { site = site; items = changed_at touched site }) placed at.1)
+
+-- what is taken away at a place leaves the others
+left-at : {A : Type 0} (xs : List A) (n k : ℕ) (p q : A) → slice_get xs n ≡ Some p → (q ≡ p → ⊥) → slice_get xs k ≡ Some q
+    → (j : ℕ) × (slice_get (remove xs n) j ≡ Some q)
+left-at [] n k p q at apart at_q = absurd cc
+left-at (x ∷ xs) zero zero p q at apart at_q = absurd (apart (same_Some q p (sym at_q ∙ at)))
+left-at (x ∷ xs) zero (suc k) p q at apart at_q = (k, at_q)
+left-at (x ∷ xs) (suc n) zero p q at apart at_q = (0, at_q)
+left-at (x ∷ xs) (suc n) (suc k) p q at apart at_q = let r = left-at xs n k p q at apart at_q in (suc r.0, r.1)
+
+pub expected-left : (expected new : List Prepared) (n site : ℕ) (items : List Name) (touched : List Touch) (s : ℕ)
+    → slice_get expected n ≡ Some (record { site = site; items = items }) → new ≡ remove expected n → s ≢ site
+    → IsExpected expected touched s → IsExpected new touched s
+expected-left expected new n site items touched s at is apart (inl empty) = inl empty
+expected-left expected new n site items touched s at is apart (inr c) =
+    let q : Prepared = record { site = s; items = changed_at touched s } in
+    let was_at = Contains_at expected q c in
+    let j = left-at expected n was_at.0 (record { site = site; items = items }) q at (λ e. apart (ap (λ (p : Prepared). p.site) e)) was_at.1 in
+    inr (subst (λ ps. Contains ps q) (sym is) (Contains-from_at (remove expected n) j.0 q j.1))
 
 -- ---- the items of a draft
 

@@ -90,11 +90,13 @@ impl Row {
         ensures here { found_in self.new item ≡ Some (suc (count_in self.old item)) }
         ensures others { (x : Name) → x ≢ item → found_in self.new x ≡ found_in self.old x }
     {
-        let Ok(at) = search(self.counts.as_slice(), item) else {
-            unreachable!();
-        };
-        let counted = &mut self.counts[at];
-        counted.count += 1;
+        match search(self.counts.as_slice(), item) {
+            Ok(at) => {
+                let counted = &mut self.counts[at];
+                counted.count += 1;
+            }
+            Err(_) => unreachable!(),
+        }
     }
 }
 
