@@ -72,9 +72,15 @@ fn is_next(counts: &[ItemCount], met: usize, item: Item, count: u64) -> bool
     ensures { IsTrue result → slice_get counts.now met ≡ Some (record { item = item; count = count }) }
 {
     match counts.get(met) {
-        Some(counted) => counted.item == item && counted.count == count,
+        Some(counted) => is_count(counted, item, count),
         None => false,
     }
+}
+
+fn is_count(counted: &ItemCount, item: Item, count: u64) -> bool
+    ensures { IsTrue result ↔ (counted.now ≡ record { item = item; count = count }) }
+{
+    counted.item == item && counted.count == count
 }
 
 // Whether the version of each of these items is the number of its installs.

@@ -1,5 +1,5 @@
-use Rattle.std.proofs.Common.{arith, eqb-true, sym, ◌∙◌}
-use Rattle.sgt_names.proofs.Lists.{element_at}
+use Rattle.std.proofs.Common.{arith, eqb-true}
+use Rattle.std.proofs.lemmas.Option.{slice_get-get_or}
 use Rattle.sgt_service_agreement.proofs.Counted.{met-all, met-next, met-none}
 use Rattle.sgt_service_agreement.proofs.agreed.are_counted.Goals as goal
 
@@ -8,8 +8,8 @@ loop-place-init c = met-none c.args.counts.now c.args.items.now c.args.versions.
 
 pub loop-place-preserved : goal.loop-place-preserved
 loop-place-preserved c =
-    let at = element_at _ _ _ c.loop-place-test.true c.index-items-place.is in
-    let is = element_at _ _ _ (omega (arith, c.loop-place-test.true, c.requires.as_many)) c.index-versions-place.is in
+    let at = slice_get-get_or c.args.items.now c.loop-place.place c.index-items-place.result c.loop-place-test.true in
+    let is = slice_get-get_or c.args.versions.now c.loop-place.place 0 (omega (arith, c.loop-place-test.true, c.requires.as_many)) in
     met-next c.args.counts.now c.args.items.now c.args.versions.now c.requires.counts c.requires.items _ _ _ _ at is c.loop-place.invariant _
     c.in-Some.ensures
 
