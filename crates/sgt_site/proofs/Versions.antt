@@ -1,5 +1,5 @@
 -- The versions of the cells, side by side.
-use Rattle.std.proofs.Common.{◌≡◌, ℕ, suc, List, [], ◌∷◌, ◌++◌, length, map, take, drop, set, get_or, Some, refl, sym, ap, ap₂, ◌∙◌, arith, Result, Ok, Err, OnOk, OnErr, All}
+use Rattle.std.proofs.Common.{◌≡◌, ℕ, suc, List, [], ◌∷◌, ◌++◌, length, map, take, drop, set, Some, refl, sym, ap, ap₂, ◌∙◌, arith, Result, Ok, Err, OnOk, OnErr, All}
 use Rattle.std.specs.Prelude.{slice_get}
 use Rattle.std.proofs.lemmas.List.{map-set}
 use Rattle.std.specs.Ordering.{nat_cmp}

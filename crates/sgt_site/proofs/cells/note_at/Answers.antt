@@ -1,4 +1,4 @@
-use Rattle.std.proofs.Common.{◌≡◌, ◌<◌, ◌∙◌, refl, sym, ap, arith, length, set, length-set}
+use Rattle.std.proofs.Common.{◌<◌, ◌∙◌, refl, sym, ap, arith, length, set, length-set}
 use Rattle.std.proofs.lemmas.Option.{same_Some, slice_get_read}
 use Rattle.sgt_site.specs.private.Cells.{Contents}
 use Rattle.sgt_site.proofs.Inserts.{get_set_same}
