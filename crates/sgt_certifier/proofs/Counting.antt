@@ -1,18 +1,16 @@
 -- The table of counts: what a change of it does to each count.
-use Rattle.std.proofs.Common.{◌≡◌, ◌≢◌, ℕ, suc, true, false, List, [], ◌∷◌, ◌++◌, Option, Some, None, IsSome, Result, Ok, Err, OnErr, refl, sym, ◌∙◌, ap, subst, arith, cond, inl, inr, ◌⊎◌, All, AllPairs, take, Contains, OnOk, IfErr, is_err, ap₂}
-use Rattle.std.specs.Prelude.{is_some, slice_get, map, ◌==◌, ◌≤◌, length}
-use Rattle.std.specs.List.{list_any, AllByRecursion}
+use Rattle.std.proofs.Common.{◌≡◌, ◌≢◌, ℕ, suc, true, false, List, [], ◌∷◌, ◌++◌, Option, Some, None, IsSome, Result, Ok, Err, OnErr, refl, sym, ◌∙◌, ap, subst, arith, cond, inl, inr, ◌⊎◌, All, AllPairs, take, Contains, OnOk, IfErr, is_err, ap₂, set, zero}
+use Rattle.std.specs.Prelude.{is_some, slice_get, map, ◌==◌, ◌≤◌, ◌<◌, length}
+use Rattle.std.proofs.lemmas.Option.{same_Some, slice_get_within}
+use Rattle.std.specs.List.{list_any, remove, AllByRecursion}
 use Rattle.std.specs.Str.{bytes_eq}
 use Rattle.std.proofs.lemmas.Slice.Eq.{bytes_eq-Decides}
-use Rattle.std.specs.BTreeMap.{Updates}
-use Rattle.std.specs.Ordering.{nat_cmp, is_eq, ordering_reverse, ordering_then}
+use Rattle.std.specs.Ordering.{nat_cmp, ordering_reverse}
 use Rattle.std.specs.Cmp.Lexicographic.{slice_cmp, nat_list_cmp_total}
 use Rattle.std.specs.declared.cmp.Ordering.{Ordering}
 use Rattle.std.specs.declared.cmp.Ordering.TheVariants.{Less, Equal, Greater}
-use Rattle.std.proofs.lemmas.Cmp.{nat_cmp_total}
 use Rattle.std.proofs.lemmas.Bool.{cases_Bool, eqb-true, eqb-false, true≢false}
 use Rattle.std.proofs.lemmas.List.Elements.{Contains-append_cases, Contains-append_left, Contains-append_right}
-use Rattle.std.proofs.lemmas.Map.Lookups.{CmpEqualImpliesEq, exact_bytes, exact_pairs, exact_unsigned}
 use Rattle.sgt_names.proofs.Lists.{All-weaken, option_cases}
 use Rattle.sgt_names.proofs.Places.{All_at, All-from_at, AllPairs_at, AllPairs-from_recursion, PairsByRecursion, recursion_from_AllPairs, Contains_at, Contains-from_at, slice_get-take}
 use Rattle.sgt_names.proofs.Rising.{writing-by_item}
@@ -32,77 +30,129 @@ use Rattle.sgt_names.specs.declared.entry.Change.{Change}
 use Rattle.sgt_names.specs.Draft.{AreRising, at_site, writing_in}
 use Rattle.sgt_certifier.specs.declared.install.Prepared.{Prepared}
 use Rattle.sgt_names.specs.Name.{Name}
-use Rattle.sgt_names.specs.Draft.{Place, place_cmp}
-use Rattle.sgt_certifier.specs.Counted.{AreCounted, CountsEach, HasPlace, HavePlaces, Widens, count_at, or_zero, stands_at}
+use Rattle.sgt_certifier.specs.Row.{count_in, found_in, or_zero}
+use Rattle.sgt_certifier.specs.Counted.{AreCounted, CountsEach, HasPlace, HavePlaces, Widens, count_at, or_nothing, row_at, stands_at}
 use Rattle.sgt_certifier.specs.declared.counts.Counts.{Counts}
-
-exact : CmpEqualImpliesEq place_cmp
-exact = exact_pairs nat_cmp (slice_cmp nat_cmp) exact_unsigned exact_bytes
-
-ties : (o : Ordering) → is_eq o ≡ true → o ≡ Equal
-ties Less e = absurd cc
-ties Equal e = refl
-ties Greater e = absurd cc
+use Rattle.sgt_certifier.specs.declared.row.ItemCount.{ItemCount}
+use Rattle.sgt_certifier.proofs.CountRows.{get_set_elsewhere, get_set_here}
 
 even : (o : Ordering) → o ≡ ordering_reverse o → o ≡ Equal
 even Less e = absurd cc
 even Equal e = refl
 even Greater e = absurd cc
 
-tied : (p : Place) → is_eq (place_cmp p p) ≡ true
-tied p =
-    let a : nat_cmp p.0 p.0 ≡ Equal = even (nat_cmp p.0 p.0) (nat_cmp_total.antisymm p.0 p.0) in
-    let b : slice_cmp nat_cmp p.1 p.1 ≡ Equal = even (slice_cmp nat_cmp p.1 p.1) (nat_list_cmp_total.antisymm p.1 p.1) in
-    ap₂ (λ u v. is_eq (ordering_then u v)) a b
+-- ---- the rows of the sites
 
--- another place doesn't tie
-apart : (p q : Place) → (p ≡ q → ⊥) → is_eq (place_cmp p q) ≡ false
-apart p q other = elim (cases_Bool (is_eq (place_cmp p q))) [
-  | inl tie ↦ absurd (other (exact p q (ties (place_cmp p q) tie)))
-  | inr none ↦ none
+-- the counts of a site, after those of one were changed
+module _ (old new : Counts) (s : ℕ) (row : List ItemCount) (is : new.rows.items ≡ set old.rows.items s row) where
+  pub row-here : s < length old.rows.items → row_at new s ≡ row
+  row-here lt = ap or_nothing (ap (λ rows. slice_get rows s) is ∙ get_set_here old.rows.items s row lt)
+
+  pub row-other : (t : ℕ) → t ≢ s → row_at new t ≡ row_at old t
+  row-other t apart = ap or_nothing (ap (λ rows. slice_get rows t) is ∙ get_set_elsewhere old.rows.items s t row apart)
+
+-- a row with nothing in it is as none
+pub row-pushed : (rows : List (List ItemCount)) (s : ℕ) → or_nothing (slice_get (rows ++ [] ∷ []) s) ≡ or_nothing (slice_get rows s)
+row-pushed [] zero = refl
+row-pushed [] (suc s) = refl
+row-pushed (r ∷ rows) zero = refl
+row-pushed (r ∷ rows) (suc s) = row-pushed rows s
+
+-- an item that has its place is in a row
+pub has-row : (counts : Counts) (s : ℕ) (x : Name) → HasPlace counts s x → s < length counts.rows.items
+has-row counts s x has = elim (option_cases (slice_get counts.rows.items s)) [
+  | inl none ↦ absurd (true≢false (sym (subst (λ (o : Option (List ItemCount)). IsSome (found_in (or_nothing o) x)) none has)))
+  | inr some ↦ slice_get_within counts.rows.items s some.0 some.1
 ]
 
-module _ (old new : Counts) (s : ℕ) (x : Name) (v : ℕ) (updates : Updates place_cmp old.table new.table (s, x) (Some v)) where
-  pub put-here : stands_at new s x ≡ Some v
-  put-here = updates.1
+-- the row that stands at the place of a site
+pub row-is : (counts : Counts) (s n : ℕ) (row : List ItemCount) → n ≡ s → slice_get counts.rows.items n ≡ Some row → row_at counts s ≡ row
+row-is counts s n row place at = ap (row_at counts) (sym place) ∙ ap or_nothing at
 
-  pub put-other : (t : ℕ) (y : Name) → ((t ≡ s) × (y ≡ x) → ⊥) → stands_at new t y ≡ stands_at old t y
-  put-other t y other =
-      updates.2 (t, y) (apart (s, x) (t, y) (λ e. other (sym (ap (λ (p : Place). p.0) e), sym (ap (λ (p : Place). p.1) e))))
+-- where no place could be made, there was none
+pub placed-err : {U E : Type 0} (r : Result U E) (before old : Counts) (s n : ℕ) (x : Name) (row : List ItemCount) → n ≡ s
+    → slice_get old.rows.items n ≡ Some row → Widens before old → OnErr r (IsSome (found_in row x) → ⊥) → OnErr r (HasPlace before s x → ⊥)
+placed-err (Ok u) before old s n x row place at w none = tt
+placed-err (Err e) before old s n x row place at w none =
+    λ has. none (subst (λ r. IsSome (found_in r x)) (row-is old s n row place at) (w.kept s x has))
+
+module _ (old new : Counts) (s n : ℕ) (x : Name) (row made : List ItemCount) (place : n ≡ s)
+    (at : slice_get old.rows.items n ≡ Some row) (is : new.rows.items ≡ set old.rows.items n made) where
+  was : row_at old s ≡ row
+  was = row-is old s n row place at
+
+  made_there : new.rows.items ≡ set old.rows.items s made
+  made_there = is ∙ ap (λ k. set old.rows.items k made) place
+
+  now : row_at new s ≡ made
+  now = row-here old new s made made_there (let lt = slice_get_within old.rows.items n row at in omega (arith, lt, place))
+
+  -- a place is made
+  pub placed-widens : ((y : Name) → count_in made y ≡ count_in row y) → ((y : Name) → IsSome (found_in row y) → IsSome (found_in made y))
+      → Widens old new
+  placed-widens same kept = record {
+    same = λ t y. elim (cases_Bool (t == s)) [
+      | inl here ↦
+          let e : t ≡ s = eqb-true t s here in
+          ap (λ u. count_at new u y) e ∙ ap (λ r. count_in r y) now ∙ same y ∙ sym (ap (λ r. count_in r y) was) ∙ sym (ap (λ u. count_at old u y) e)
+      | inr other ↦ ap (λ r. count_in r y) (row-other old new s made made_there t (eqb-false t s other))
+    ];
+    kept = λ t y has. elim (cases_Bool (t == s)) [
+      | inl here ↦
+          let e : t ≡ s = eqb-true t s here in
+          let has_row : IsSome (found_in row y) =
+          subst (λ r. IsSome (found_in r y)) was (subst (λ u. HasPlace old u y) e has) in
+          subst (λ u. HasPlace new u y) (sym e) (subst (λ r. IsSome (found_in r y)) (sym now) (kept y has_row))
+      | inr other ↦ subst (λ r. IsSome (found_in r y)) (sym (row-other old new s made made_there t (eqb-false t s other))) has
+    ];
+  }
+
+-- what stands in the rows, after that at the place of a site was changed
+module _ (rows : List (List ItemCount)) (s n : ℕ) (x : Name) (row made : List ItemCount) (place : n ≡ s)
+    (at : slice_get rows n ≡ Some row) where
+  was_in : or_nothing (slice_get rows s) ≡ row
+  was_in = ap or_nothing (ap (slice_get rows) (sym place) ∙ at)
+
+  now_in : or_nothing (slice_get (set rows n made) s) ≡ made
+  now_in = ap or_nothing (ap (slice_get (set rows n made)) (sym place) ∙ get_set_here rows n made (slice_get_within rows n row at))
+
+  pub placed-ok : {U E : Type 0} (r : Result U E) → OnOk r (IsSome (found_in made x))
+      → OnOk r (IsSome (found_in (or_nothing (slice_get (set rows n made) s)) x))
+  placed-ok (Ok u) has = subst (λ cs. IsSome (found_in cs x)) (sym now_in) has
+  placed-ok (Err e) has = tt
+
+  pub added-here : found_in made x ≡ Some (suc (count_in row x))
+      → found_in (or_nothing (slice_get (set rows n made) s)) x ≡ Some (suc (count_in (or_nothing (slice_get rows s)) x))
+  added-here more = ap (λ cs. found_in cs x) now_in ∙ more ∙ ap (λ cs. Some (suc (count_in cs x))) (sym was_in)
+
+  pub added-others : ((y : Name) → y ≢ x → found_in made y ≡ found_in row y) → (t : ℕ) (y : Name) → ((t ≡ s) × (y ≡ x) → ⊥)
+      → found_in (or_nothing (slice_get (set rows n made) t)) y ≡ found_in (or_nothing (slice_get rows t)) y
+  added-others others t y apart = elim (cases_Bool (t == s)) [
+    | inl here ↦
+        let e : t ≡ s = eqb-true t s here in
+        ap (λ u. found_in (or_nothing (slice_get (set rows n made) u)) y) e ∙ ap (λ cs. found_in cs y) now_in
+        ∙ others y (λ same. apart (e, same)) ∙ sym (ap (λ cs. found_in cs y) was_in)
+        ∙ sym (ap (λ u. found_in (or_nothing (slice_get rows u)) y) e)
+    | inr other ↦ ap (λ o. found_in (or_nothing o) y)
+        (get_set_elsewhere rows n t made (λ e. eqb-false t s other (e ∙ place)))
+  ]
+
+-- the counts are the same
+pub same-widens : (old new : Counts) → ((s : ℕ) → row_at new s ≡ row_at old s) → Widens old new
+same-widens old new same = record {
+  same = λ s y. ap (λ r. count_in r y) (same s);
+  kept = λ s y has. subst (λ r. IsSome (found_in r y)) (sym (same s)) has;
+}
 
 -- two places are the same or not
 same_place : (s t : ℕ) (x y : Name) → ((s ≡ t) × (x ≡ y)) ⊎ ((s ≡ t) × (x ≡ y) → ⊥)
-same_place s t x y = elim (cases_Bool (is_eq (place_cmp (s, x) (t, y)))) [
-  | inl tie ↦
-      let at : (s, x) ≡ (t, y) = exact (s, x) (t, y) (ties (place_cmp (s, x) (t, y)) tie) in
-      inl (ap (λ (p : Place). p.0) at, ap (λ (p : Place). p.1) at)
-  | inr none ↦ inr (λ e. true≢false (sym (tied (s, x)) ∙ ap₂ (λ a b. is_eq (place_cmp (s, x) (a, b))) e.0 e.1 ∙ none))
+same_place s t x y = elim (cases_Bool (s == t)) [
+  | inl site ↦ elim (cases_Bool (bytes_eq x y)) [
+    | inl item ↦ inl (eqb-true s t site, (bytes_eq-Decides x y).0 item)
+    | inr item ↦ inr (λ e. true≢false (sym ((bytes_eq-Decides x y).1 e.1) ∙ item))
+  ]
+  | inr site ↦ inr (λ e. eqb-false s t site e.0)
 ]
-
--- a place is added where nothing stands
-pub placed-widens : (old new : Counts) (s : ℕ) (x : Name) → stands_at old s x ≡ None
-    → Updates place_cmp old.table new.table (s, x) (Some 0) → Widens old new
-placed-widens old new s x none updates = record {
-  same = λ t y. elim (cases_Bool (is_eq (place_cmp (s, x) (t, y)))) [
-    | inl tie ↦
-        let at : (s, x) ≡ (t, y) = exact (s, x) (t, y) (ties (place_cmp (s, x) (t, y)) tie) in
-        let now : stands_at new t y ≡ Some 0 = subst (λ (p : Place). stands_at new p.0 p.1 ≡ Some 0) at updates.1 in
-        let was : stands_at old t y ≡ None = subst (λ (p : Place). stands_at old p.0 p.1 ≡ None) at none in
-        ap or_zero now ∙ sym (ap or_zero was)
-    | inr other ↦ ap or_zero (updates.2 (t, y) other)
-  ];
-  kept = λ t y has. elim (cases_Bool (is_eq (place_cmp (s, x) (t, y)))) [
-    | inl tie ↦
-        let at : (s, x) ≡ (t, y) = exact (s, x) (t, y) (ties (place_cmp (s, x) (t, y)) tie) in
-        let now : stands_at new t y ≡ Some 0 = subst (λ (p : Place). stands_at new p.0 p.1 ≡ Some 0) at updates.1 in
-        subst IsSome (sym now) refl
-    | inr other ↦ subst IsSome (sym (updates.2 (t, y) other)) has
-  ];
-}
-
-pub none-stands : (o : Option ℕ) → is_some o ≡ false → o ≡ None
-none-stands None e = refl
-none-stands (Some n) e = absurd cc
 
 pub ok-holds : {A E : Type 0} (r : Result A E) (X : Type 0) → is_err r ≡ false → OnOk r X → X
 ok-holds (Ok a) X e x = x
@@ -246,6 +296,34 @@ counted-installed old new history longer expected tx site items is each h = reco
 pub expected-placed : (counts : Counts) (history : List Call) (expected : List Prepared) (p : Prepared) → AreCounted counts history expected
     → Contains expected p → All (HasPlace counts p.site) p.items
 expected-placed counts history expected p h c = let at = Contains_at expected p c in All_at (HavePlaces counts) expected at.0 p h.placed at.1
+
+-- no list was made for items of which one has no place
+pub not-placed : (counts : Counts) (expected : List Prepared) (touched : List Touch) (site : ℕ) → All (HavePlaces counts) expected
+    → (All (HasPlace counts site) (changed_at touched site) → ⊥) → IsExpected expected touched site → ⊥
+not-placed counts expected touched site placed none (inl empty) =
+    none (subst (All (HasPlace counts site)) (sym empty) (λ k d within. absurd (omega (arith, within))))
+not-placed counts expected touched site placed none (inr c) =
+    let at = Contains_at expected (record { site = site; items = changed_at touched site }) c in
+    none (All_at (HavePlaces counts) expected at.0 (record { site = site; items = changed_at touched site }) placed at.1)
+
+-- what is taken away at a place leaves the others
+left-at : {A : Type 0} (xs : List A) (n k : ℕ) (p q : A) → slice_get xs n ≡ Some p → (q ≡ p → ⊥) → slice_get xs k ≡ Some q
+    → (j : ℕ) × (slice_get (remove xs n) j ≡ Some q)
+left-at [] n k p q at apart at_q = absurd cc
+left-at (x ∷ xs) zero zero p q at apart at_q = absurd (apart (same_Some q p (sym at_q ∙ at)))
+left-at (x ∷ xs) zero (suc k) p q at apart at_q = (k, at_q)
+left-at (x ∷ xs) (suc n) zero p q at apart at_q = (0, at_q)
+left-at (x ∷ xs) (suc n) (suc k) p q at apart at_q = let r = left-at xs n k p q at apart at_q in (suc r.0, r.1)
+
+pub expected-left : (expected new : List Prepared) (n site : ℕ) (items : List Name) (touched : List Touch) (s : ℕ)
+    → slice_get expected n ≡ Some (record { site = site; items = items }) → new ≡ remove expected n → s ≢ site
+    → IsExpected expected touched s → IsExpected new touched s
+expected-left expected new n site items touched s at is apart (inl empty) = inl empty
+expected-left expected new n site items touched s at is apart (inr c) =
+    let q : Prepared = record { site = s; items = changed_at touched s } in
+    let was_at = Contains_at expected q c in
+    let j = left-at expected n was_at.0 (record { site = site; items = items }) q at (λ e. apart (ap (λ (p : Prepared). p.site) e)) was_at.1 in
+    inr (subst (λ ps. Contains ps q) (sym is) (Contains-from_at (remove expected n) j.0 q j.1))
 
 -- ---- the items of a draft
 

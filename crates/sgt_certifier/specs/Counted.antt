@@ -1,21 +1,24 @@
 -- The table of counts: how often each item of a site was installed. Words of private clauses alone.
-use Rattle.std.specs.Prelude.{◌≡◌, ◌≢◌, ℕ, suc, List, Option, Some, None, IsSome, All, Contains}
-use Rattle.std.specs.BTreeMap.{get}
+use Rattle.std.specs.Prelude.{◌≡◌, ◌≢◌, ℕ, suc, List, [], Option, Some, None, IsSome, All, Contains, slice_get}
 use Rattle.sgt_names.specs.Name.{Name}
-use Rattle.sgt_names.specs.Draft.{place_cmp}
+use Rattle.sgt_certifier.specs.Row.{found_in, or_zero}
 use Rattle.sgt_certifier.specs.declared.call.Call.{Call}
 use Rattle.sgt_certifier.specs.declared.counts.Counts.{Counts}
+use Rattle.sgt_certifier.specs.declared.row.ItemCount.{ItemCount}
 use Rattle.sgt_certifier.specs.declared.install.Prepared.{Prepared}
 use Rattle.sgt_certifier.specs.History.{counted}
 
+-- the counts of a site: none where it has no row
+abbrev pub or_nothing : Option (List ItemCount) → List ItemCount
+or_nothing None = []
+or_nothing (Some row) = row
+
+abbrev pub row_at : Counts → ℕ → List ItemCount
+row_at counts site = or_nothing (slice_get counts.rows.items site)
+
 -- what stands in the table for an item of a site
 abbrev pub stands_at : Counts → ℕ → Name → Option ℕ
-stands_at counts site item = get place_cmp counts.table (site, item)
-
--- 0 where nothing does
-abbrev pub or_zero : Option ℕ → ℕ
-or_zero None = 0
-or_zero (Some n) = n
+stands_at counts site item = found_in (row_at counts site) item
 
 abbrev pub count_at : Counts → ℕ → Name → ℕ
 count_at counts site item = or_zero (stands_at counts site item)

@@ -1,27 +1,40 @@
 //! How often each item of a site was installed.
 
 use crate::install::Prepared;
+use crate::row::{ItemCount, Row};
 use sgt_names::{Item, SiteNo};
 use std::alloc::{AllocError, Global};
-use std::collections::BTreeMap;
 
 /// The counts by site and item. One that has no place counts 0.
 #[derive(Drop)]
 pub struct Counts {
-    table: BTreeMap<(SiteNo, Item), u64>,
+    // at the number of each site
+    rows: Vec<Row>,
 }
 
 impl Counts {
-    ghost use Rattle.std.specs.Prelude.{◌≡◌, ◌≢◌, ◌+◌, ◌<◌, ◌^◌, ℕ, suc, None, Some, All, AllPairs, OnOk, OnErr};
+    ghost use Rattle.std.specs.Prelude.{◌≡◌, ◌≢◌, ◌+◌, ◌<◌, ◌≤◌, ◌^◌, ℕ, suc, length, None, Some, All, AllPairs, OnOk, OnErr};
     ghost use Rattle.sgt_names.specs.Name.{Name};
-    ghost use Rattle.sgt_certifier.specs.Counted.{CountsEach, HasPlace, HavePlaces, Widens, count_at, stands_at};
+    ghost use Rattle.sgt_certifier.specs.Row.{AreRising};
+    ghost use Rattle.sgt_certifier.specs.Counted.{CountsEach, HasPlace, HavePlaces, Widens, count_at, row_at, stands_at};
 
     /// No item was installed.
     pub fn new(alloc: Global) -> Counts
         ensures { (s : ℕ) (x : Name) → stands_at result s x ≡ None }
     {
         Counts {
-            table: BTreeMap::new(alloc),
+            rows: Vec::new(alloc),
+        }
+    }
+
+    /// The items of the site that have places, by rising name.
+    pub fn at(&self, site: SiteNo) -> &[ItemCount]
+        ensures counts { result.now ≡ row_at self.now site }
+        ensures rising { AreRising result.now }
+    {
+        match self.rows.get(site.number() as usize) {
+            Some(row) => row.as_slice(),
+            None => &[],
         }
     }
 
@@ -29,10 +42,23 @@ impl Counts {
     pub fn get(&self, site: SiteNo, item: Item) -> u64
         ensures { result ≡ count_at self.now site item }
     {
-        match self.table.get(&(site, item)) {
-            Some(count) => *count,
+        match self.rows.get(site.number() as usize) {
+            Some(row) => row.get(item),
             None => 0,
         }
+    }
+
+    // Makes a row for the site, if it has none.
+    fn open(&mut self, site: SiteNo) -> Result<(), AllocError>
+        ensures same { (s : ℕ) → row_at self.new s ≡ row_at self.old s }
+        ensures ok { OnOk result (site < length self.new.rows.items) }
+        ensures err { OnErr result (length self.old.rows.items ≤ site) }
+    {
+        let alloc = *self.rows.allocator();
+        for _row in self.rows.len()..site.number() as usize + 1 {
+            self.rows.push(Row::new(alloc))?;
+        }
+        Ok(())
     }
 
     /// Makes a place for the item of the site, if it has none.
@@ -41,11 +67,8 @@ impl Counts {
         ensures ok { OnOk result (HasPlace self.new site item) }
         ensures err { OnErr result (HasPlace self.old site item → ⊥) }
     {
-        if self.table.contains_key(&(site, item)) {
-            return Ok(());
-        }
-        self.table.insert((site, item), 0)?;
-        Ok(())
+        self.open(site)?;
+        self.rows[site.number() as usize].place(item)
     }
 
     /// Counts an install of the item, which has a place.
@@ -55,10 +78,7 @@ impl Counts {
         ensures here { stands_at self.new site item ≡ Some (suc (count_at self.old site item)) }
         ensures others { (s : ℕ) (x : Name) → ((s ≡ site) × (x ≡ item) → ⊥) → stands_at self.new s x ≡ stands_at self.old s x }
     {
-        match self.table.get_mut(&(site, item)) {
-            Some(count) => *count += 1,
-            None => unreachable!(),
-        }
+        self.rows[site.number() as usize].add(item);
     }
 
     /// Makes a place for each of these items of the site. Where memory is refused not all of them had one.

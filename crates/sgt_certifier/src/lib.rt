@@ -8,6 +8,7 @@ mod handed;
 mod install;
 mod laws;
 mod ranking;
+mod row;
 
 pub use call::{Call, CertifierFault, Decided, Walk};
 pub use certifier::Certifier;
@@ -16,3 +17,4 @@ pub use laws::{
     histories_are_sound, installs_are_counted, installs_are_noted_once,
     serial_orders_are_topological,
 };
+pub use row::ItemCount;

@@ -16,6 +16,7 @@ pub mod Pledges
 pub mod Refusals
 pub mod Installs
 pub mod Fresh
+pub mod Versions
 pub mod Inserts
 pub mod Examples
 mod Reasons

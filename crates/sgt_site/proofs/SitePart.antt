@@ -1,19 +1,16 @@
 -- What a draft touches at one site.
-use Rattle.std.proofs.Common.{◌≡◌, ℕ, zero, suc, ◌+◌, ◌-◌, ◌<◌, ◌≤◌, Bool, true, false, leb, nat_lt, List, [], ◌∷◌, length, take, drop, refl, sym, ap, ◌∙◌, subst, arith, inl, inr, All, AllPairs, Some}
-use Rattle.std.specs.Prelude.{slice_get, slice_range, filter, IsSome, ◌==◌, ◌↔◌}
-use Rattle.std.specs.List.Sorted.{IsPartitionPoint}
-use Rattle.std.specs.Ordering.{nat_cmp}
+use Rattle.std.proofs.Common.{◌≡◌, ℕ, Bool, List, [], ◌∷◌, refl, sym, ap, ◌∙◌, subst, arith, inl, inr, All, Some}
+use Rattle.std.specs.Prelude.{slice_get, filter, IsSome, ◌==◌, ◌↔◌}
 use Rattle.std.specs.declared.cmp.Ordering.TheVariants.{Less, Greater}
 use Rattle.std.proofs.lemmas.Cmp.{tied_itself}
-use Rattle.std.proofs.lemmas.Bool.{cases_Bool, cases_lt, ltb-true, ltb-false, leb-true, leb-false}
-use Rattle.std.proofs.lemmas.Bool.Decides.{nat_tests}
-use Rattle.std.proofs.lemmas.Option.{slice_get_within, get_or_from_slice_get, same_Some}
+use Rattle.std.proofs.lemmas.Bool.{cases_Bool, cases_lt}
+use Rattle.std.proofs.lemmas.Option.{same_Some}
 use Rattle.sgt_names.specs.Name.{Name}
 use Rattle.sgt_names.specs.Ordered.{IsAt, IsGapFor}
 use Rattle.sgt_names.specs.Draft.{Place, AreRising, at_site, kept_in, writing_in, place_of, place_cmp}
 use Rattle.sgt_names.specs.declared.draft.Touch.{Touch}
-use Rattle.sgt_names.proofs.Lists.{Any_at, Any-from_at, within_at}
-use Rattle.sgt_names.proofs.Places.{AllPairs_at, AllPairs-from_at}
+use Rattle.sgt_names.proofs.Lists.{Any_at, Any-from_at}
+use Rattle.sgt_names.proofs.Places.{AllPairs_at}
 use Rattle.sgt_names.proofs.Touched.{place_total}
 use Rattle.sgt_site.specs.State.{SiteState, KeepsReads}
 use Rattle.sgt_site.specs.Refused.{IsHere, MayPledge, RefusesPledge}

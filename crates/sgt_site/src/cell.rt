@@ -108,8 +108,8 @@ impl Cell {
         }
     }
 
-    // How often the item was written or added to.
-    fn version(&self) -> u64
+    /// How often the item was written or added to.
+    pub(crate) fn version(&self) -> u64
         ensures { result ≡ length self.now.writers }
     {
         self.writers.len() as u64

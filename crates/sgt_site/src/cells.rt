@@ -4,7 +4,7 @@ ghost use Rattle.std.specs.Prelude.{◌≡◌, ◌↔◌, ◌+◌, ◌<◌, ◌�
 ghost use Rattle.std.specs.Ordering.{nat_cmp};
 ghost use Rattle.std.specs.Cmp.Lexicographic.{slice_cmp};
 ghost use Rattle.sgt_names.specs.Ordered.{IsAt};
-ghost use Rattle.sgt_site.specs.private.Cells.{Contents, CellsRise, HasItem, values_of, IsFresh, ItemsRise, IsTouched, touch_in, AreChanged, ChangesAt, SameButRoom, HasPlace, IsNoted, NotesItem};
+ghost use Rattle.sgt_site.specs.private.Cells.{Contents, CellsRise, HasItem, values_of, versions_of, IsFresh, ItemsRise, IsTouched, touch_in, AreChanged, ChangesAt, SameButRoom, HasPlace, IsNoted, NotesItem};
 
 use crate::cell::{Cell, Install};
 use sgt_names::{Holding, Item, Seen, Touch, Tx};
@@ -18,6 +18,8 @@ pub(crate) struct Cells {
     cells: Vec<Cell>,
     // where the cell of an item may be, by a hash of its name
     hints: Vec<u16>,
+    // the version of each item, side by side
+    versions: Vec<u64>,
 }
 
 // How many hints there are for each item.
@@ -25,13 +27,13 @@ const HINTS_EACH: usize = 8;
 
 impl Model for Cells {
     ghost use Rattle.std.specs.Prelude.{List};
-    ghost use Rattle.sgt_site.specs.private.Cells.{Contents, CellsRise};
+    ghost use Rattle.sgt_site.specs.private.Cells.{Contents, AreCells};
 
     ghost Value = { List Contents };
 
     ghost view = { λ c. c.cells.items };
 
-    ghost invariant = { λ c. CellsRise c.cells.items };
+    ghost invariant = { λ c. AreCells c.cells.items c.versions.items };
 }
 
 impl Cells {
@@ -40,7 +42,7 @@ impl Cells {
     ghost use Rattle.std.specs.Cmp.Lexicographic.{slice_cmp};
     ghost use Rattle.sgt_names.specs.Ordered.{IsRisingBy, IsAt};
     ghost use Rattle.sgt_names.specs.declared.draft.Seen.{Seen as Answer};
-    ghost use Rattle.sgt_site.specs.private.Cells.{Contents, CellsRise, HasItem, InCells, values_of, IsFresh, IsAnswering, AnswersAt, ItemsRise, IsTouched, touch_in, AreChanged, SameButRoom, IsNoted};
+    ghost use Rattle.sgt_site.specs.private.Cells.{Contents, CellsRise, HasItem, InCells, values_of, versions_of, IsFresh, IsAnswering, AnswersAt, ItemsRise, IsTouched, touch_in, AreChanged, SameButRoom, IsNoted};
 
     /// Cells of these items, which nobody has written or read.
     pub(crate) fn new(alloc: Global, items: &[Holding]) -> Result<Cells, AllocError>
@@ -52,7 +54,12 @@ impl Cells {
         cells.reserve(items.len())?;
         add_cells(alloc, &mut cells, items);
         let hints = hints_of(alloc, items)?;
-        Ok(Cells { cells, hints })
+        let versions = versions_in(alloc, cells.as_slice())?;
+        Ok(Cells {
+            cells,
+            hints,
+            versions,
+        })
     }
 
     pub(crate) fn as_slice(&self) -> &[Cell]
@@ -60,6 +67,13 @@ impl Cells {
         ensures rising { CellsRise self.now }
     {
         self.cells.as_slice()
+    }
+
+    /// The version of each item.
+    pub(crate) fn versions(&self) -> &[u64]
+        ensures { result.now ≡ versions_of self.now }
+    {
+        self.versions.as_slice()
     }
 
     /// Where the item is.
@@ -110,7 +124,8 @@ impl Cells {
         requires room { All (λ c. IsTouched part.now c.item → 0 < c.has_room) self.old }
         ensures { AreChanged (λ c d. IsNoted by.now (touch_in part.now c.item) c d) self.old self.new }
     {
-        note_all(&mut self.cells, self.hints.as_slice(), by, part)
+        let versions = self.versions.as_mut_slice();
+        note_all(&mut self.cells, versions, self.hints.as_slice(), by, part)
     }
 }
 
@@ -123,6 +138,12 @@ fn add_cells(alloc: Global, cells: &mut Vec<Cell>, items: &[Holding])
     for holding in items {
         cells.push_reserved(Cell::new(alloc, *holding));
     }
+}
+
+fn versions_in(alloc: Global, cells: &[Cell]) -> Result<Vec<u64>, AllocError>
+    ensures { IfOk result (λ versions. versions.items ≡ versions_of cells.now) }
+{
+    cells.iter().map(Cell::version).collect(alloc)
 }
 
 // A number made of the bytes of a name.
@@ -257,33 +278,46 @@ fn reserve(cell: &mut Cell) -> bool
 }
 
 // Notes a commit in the cells of the items that it touches, one after another.
-fn note_all(cells: &mut Vec<Cell>, hints: &[u16], by: &Install, part: &[Touch])
+fn note_all(
+    cells: &mut Vec<Cell>,
+    versions: &mut [u64],
+    hints: &[u16],
+    by: &Install,
+    part: &[Touch],
+)
     requires rising { CellsRise cells.old.items }
     requires once { ItemsRise part.now }
     requires room { All (λ c. IsTouched part.now c.item → 0 < c.has_room) cells.old.items }
-    ensures { AreChanged (λ c d. IsNoted by.now (touch_in part.now c.item) c d) cells.old.items cells.new.items }
+    requires versions { versions.old ≡ versions_of cells.old.items }
+    ensures noted { AreChanged (λ c d. IsNoted by.now (touch_in part.now c.item) c d) cells.old.items cells.new.items }
+    ensures versions { versions.new ≡ versions_of cells.new.items }
 {
     for t in part {
-        note_in(cells, hints, by, t);
+        note_in(cells, versions, hints, by, t);
     }
 }
 
 // Notes a commit that touches an item in the item's cell, if there is one.
-fn note_in(cells: &mut Vec<Cell>, hints: &[u16], by: &Install, touch: &Touch)
+fn note_in(cells: &mut Vec<Cell>, versions: &mut [u64], hints: &[u16], by: &Install, touch: &Touch)
     requires rising { CellsRise cells.old.items }
     requires room { All (λ c. c.item ≡ touch.now.item → 0 < c.has_room) cells.old.items }
-    ensures { AreChanged (NotesItem by.now touch.now) cells.old.items cells.new.items }
+    requires versions { versions.old ≡ versions_of cells.old.items }
+    ensures noted { AreChanged (NotesItem by.now touch.now) cells.old.items cells.new.items }
+    ensures versions { versions.new ≡ versions_of cells.new.items }
 {
     match search(cells.as_slice(), hints, touch.item) {
-        Some(at) => note_at(cells, at, by, touch),
+        Some(at) => note_at(cells, versions, at, by, touch),
         None => {}
     }
 }
 
-fn note_at(cells: &mut Vec<Cell>, at: usize, by: &Install, touch: &Touch)
+fn note_at(cells: &mut Vec<Cell>, versions: &mut [u64], at: usize, by: &Install, touch: &Touch)
     requires within { at < length cells.old.items }
     requires room { (c : Contents) → slice_get cells.old.items at ≡ Some c → 0 < c.has_room }
-    ensures { ChangesAt (IsNoted by.now (Some touch.now)) at cells.old.items cells.new.items }
+    requires versions { versions.old ≡ versions_of cells.old.items }
+    ensures noted { ChangesAt (IsNoted by.now (Some touch.now)) at cells.old.items cells.new.items }
+    ensures versions { versions.new ≡ versions_of cells.new.items }
 {
     cells[at].note(by, touch);
+    versions[at] = cells[at].version();
 }

@@ -73,7 +73,7 @@ impl Model for Site {
 }
 
 impl Site {
-    ghost use Rattle.std.specs.Prelude.{◌≡◌, ◌≢◌, ◌↔◌, ◌≤◌, [], ◌∷◌, ◌++◌, length, AllPairs, Contains, slice_get, IsOk, OnOk, OnErr, IfOk, IfErr, IfSome, IfNone};
+    ghost use Rattle.std.specs.Prelude.{◌≡◌, ◌≢◌, ◌↔◌, ◌≤◌, [], ◌∷◌, ◌++◌, length, map, AllPairs, Contains, slice_get, IsOk, OnOk, OnErr, IfOk, IfErr, IfSome, IfNone};
     ghost use Rattle.sgt_site.specs.declared.fault.SiteFault.{SiteFault};
     ghost use Rattle.sgt_site.specs.declared.cell.Reader.{Reader};
     ghost use Rattle.sgt_names.specs.Log.{names, value_at, FinalsAreLegal, IsOrderly, ReadsAreLegal};
@@ -127,6 +127,14 @@ impl Site {
         ensures site { IsSite self.now }
     {
         self.items.as_slice()
+    }
+
+    /// The version of each item, in the order of the items: how often the log writes it or adds to it. Copies nothing.
+    pub fn versions(&self) -> &[u64]
+        ensures versions { result.now ≡ map (λ h. version_at self.now.entries h.item) self.now.items }
+        ensures site { IsSite self.now }
+    {
+        self.cells.versions()
     }
 
     /// The entries of the log, the oldest first.

@@ -41,9 +41,18 @@ items_of cells = map (λ c. c.item) cells
 abbrev pub values_of : List Contents → List Holding
 values_of cells = map (λ c. record { item = c.item; value = c.value }) cells
 
+-- how often each item was written or added to
+abbrev pub versions_of : List Contents → List ℕ
+versions_of cells = map (λ c. length c.writers) cells
+
 -- the cells rise by the names of their items
 abbrev pub CellsRise : List Contents → Type 0
 CellsRise cells = IsRisingBy (λ c. c.item) (slice_cmp nat_cmp) cells
+
+-- they do, and these are their versions
+pub record AreCells (cells : List Contents) (versions : List ℕ) : Type 0 where
+  pub rising : CellsRise cells
+  pub counted : versions ≡ versions_of cells
 
 -- reads by rising transaction
 abbrev pub AreReadings : List Reading → Type 0

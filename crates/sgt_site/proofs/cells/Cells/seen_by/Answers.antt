@@ -7,7 +7,7 @@ pub returns-in-Some : goal.returns-in-Some
 returns-in-Some c =
     let at = rw (← c.self.view_is) at c.in-Some.ensures.found in
     let here = slice_get_read _ (length c.self.inside.cells.items) _ _ refl at.within c.index.ensures in
-    rw (← c.self.view_is) (cell-seen _ _ _ _ _ c.seen_by.result c.self.invariant at here c.seen_by.ensures)
+    rw (← c.self.view_is) (cell-seen _ _ _ _ _ c.seen_by.result c.self.invariant.rising at here c.seen_by.ensures)
 
 pub returns-in-None : goal.returns-in-None
 returns-in-None c = cell-nowhere _ _ _ c.in-None.ensures.absent

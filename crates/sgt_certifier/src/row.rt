@@ -1,0 +1,127 @@
+//! How often each item of one site was installed.
+
+ghost use Rattle.std.specs.Prelude.{◌≡◌, ◌≤◌, vec_len, OnOk, OnErr, IfOk, IfErr};
+ghost use Rattle.std.specs.List.{insert};
+ghost use Rattle.std.specs.Ordering.{nat_cmp};
+ghost use Rattle.std.specs.Cmp.Lexicographic.{slice_cmp};
+ghost use Rattle.sgt_names.specs.Ordered.{IsAt, IsGapFor};
+ghost use Rattle.sgt_certifier.specs.Row.{AreRising};
+
+use sgt_names::Item;
+use std::alloc::{AllocError, Global};
+use std::cmp::Ordering;
+use std::marker::Model;
+
+/// An item of a site, and how often it was installed there.
+#[derive(Clone, Copy)]
+pub struct ItemCount {
+    pub item: Item,
+    pub count: u64,
+}
+
+/// The counts of a site. An item that has no place counts 0.
+#[derive(Drop)]
+pub struct Row {
+    // by rising name
+    counts: Vec<ItemCount>,
+}
+
+impl Model for Row {
+    ghost use Rattle.std.specs.Prelude.{List};
+    ghost use Rattle.sgt_certifier.specs.declared.row.ItemCount.{ItemCount as Member};
+    ghost use Rattle.sgt_certifier.specs.Row.{AreRising};
+
+    ghost Value = { List Member };
+
+    ghost view = { λ r. r.counts.items };
+
+    ghost invariant = { λ r. AreRising r.counts.items };
+}
+
+impl Row {
+    ghost use Rattle.std.specs.Prelude.{◌≡◌, ◌≢◌, ◌+◌, ◌<◌, ◌^◌, suc, [], Some, IsSome, OnOk, OnErr};
+    ghost use Rattle.sgt_names.specs.Name.{Name};
+    ghost use Rattle.sgt_certifier.specs.Row.{AreRising, found_in, count_in};
+
+    /// No item has a place.
+    pub fn new(alloc: Global) -> Row
+        ensures { result ≡ [] }
+    {
+        Row {
+            counts: Vec::new(alloc),
+        }
+    }
+
+    /// The items that have places, by rising name.
+    pub fn as_slice(&self) -> &[ItemCount]
+        ensures counts { result.now ≡ self.now }
+        ensures rising { AreRising self.now }
+    {
+        self.counts.as_slice()
+    }
+
+    /// How often the item was installed.
+    pub fn get(&self, item: Item) -> u64
+        ensures { result ≡ count_in self.now item }
+    {
+        match search(self.counts.as_slice(), item) {
+            Ok(at) => self.counts[at].count,
+            Err(_) => 0,
+        }
+    }
+
+    /// Makes a place for the item, if it has none.
+    pub fn place(&mut self, item: Item) -> Result<(), AllocError>
+        ensures same { (x : Name) → count_in self.new x ≡ count_in self.old x }
+        ensures kept { (x : Name) → IsSome (found_in self.old x) → IsSome (found_in self.new x) }
+        ensures ok { OnOk result (IsSome (found_in self.new item)) }
+        ensures err { OnErr result (IsSome (found_in self.old item) → ⊥) }
+    {
+        match search(self.counts.as_slice(), item) {
+            Ok(_) => Ok(()),
+            Err(at) => place_at(&mut self.counts, at, item),
+        }
+    }
+
+    /// Counts an install of the item, which has a place.
+    pub fn add(&mut self, item: Item)
+        requires place { IsSome (found_in self.old item) }
+        requires small { count_in self.old item + 1 < 2 ^ 64 }
+        ensures here { found_in self.new item ≡ Some (suc (count_in self.old item)) }
+        ensures others { (x : Name) → x ≢ item → found_in self.new x ≡ found_in self.old x }
+    {
+        match search(self.counts.as_slice(), item) {
+            Ok(at) => {
+                let counted = &mut self.counts[at];
+                counted.count += 1;
+            }
+            Err(_) => unreachable!(),
+        }
+    }
+}
+
+// Puts a place for the item there.
+fn place_at(counts: &mut Vec<ItemCount>, at: usize, item: Item) -> Result<(), AllocError>
+    requires { at ≤ vec_len counts.old }
+    ensures ok { OnOk result (counts.new.items ≡ insert counts.old.items at (record { item = item; count = 0 })) }
+    ensures err { OnErr result (counts.new.items ≡ counts.old.items) }
+{
+    counts.reserve(1)?;
+    let _ = counts.insert(at, ItemCount { item, count: 0 });
+    Ok(())
+}
+
+// Where the item stands, or where it would go.
+fn search(counts: &[ItemCount], item: Item) -> Result<usize, usize>
+    requires { AreRising counts.now }
+    ensures found { IfOk result (IsAt (λ c. c.item) counts.now item) }
+    ensures absent { IfErr result (IsGapFor (λ c. c.item) (slice_cmp nat_cmp) counts.now item) }
+{
+    counts.binary_search_by(|c| order(c, &item))
+}
+
+fn order(counted: &ItemCount, item: &Item) -> Ordering
+    ensures { result ≡ slice_cmp nat_cmp counted.now.item item.now }
+{
+    counted.item.cmp(item)
+}
