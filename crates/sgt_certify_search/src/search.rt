@@ -81,6 +81,21 @@ fn order_cycle(alloc: Global, history: &History) -> Result<Option<Vec<Before>>, 
     Ok(Some(front.cycle(alloc, history)?))
 }
 
+/// A search from the transaction through the allowed ones, as far as the ends.
+fn spread_from<'a>(
+    history: &'a History,
+    allowed: &'a [bool],
+    ends: &'a [u32],
+    start: u32,
+) -> Spread<'a> {
+    let bounds = Bounds { allowed, ends };
+    Spread {
+        history,
+        bounds,
+        start,
+    }
+}
+
 /// The cycle of the least transaction that lies on one, of those that have no rank.
 fn rank_cycle(alloc: Global, history: &History, order: &[u32]) -> Result<Vec<Link>, AllocError> {
     let mut ranked = vec![in alloc; false; history.count()]?;
@@ -93,18 +108,10 @@ fn rank_cycle(alloc: Global, history: &History, order: &[u32]) -> Result<Vec<Lin
             set_mark(allowed.as_mut_slice(), tx as usize);
         }
     }
-    let bounds = Bounds {
-        allowed: allowed.as_slice(),
-        ends: &[],
-    };
     let mut marks = Marks::new(alloc, history)?;
     for tx in 0..short(history.count()) {
-        if is_marked(bounds.allowed, tx as usize) {
-            let spread = Spread {
-                history,
-                bounds,
-                start: tx,
-            };
+        if is_marked(allowed.as_slice(), tx as usize) {
+            let spread = spread_from(history, allowed.as_slice(), &[], tx);
             let walk = walk_of(alloc, &spread, &mut marks)?;
             if !walk.is_empty() {
                 return Ok(walk);
@@ -161,11 +168,7 @@ impl Greedy {
                 return Ok(Vec::new(alloc));
             }
         }
-        let spread = Spread {
-            history,
-            bounds: Bounds { allowed, ends },
-            start: tx,
-        };
+        let spread = spread_from(history, allowed, ends, tx);
         match ask(alloc, &spread, &mut self.marks, commits.len())? {
             Asked::Walk(walk) => Ok(walk),
             Asked::Waits(waiting) => {
@@ -277,18 +280,11 @@ impl Greedy {
     /// All that conflicts lead to from each free one on, through those that are committed.
     fn circles(&mut self, alloc: Global, history: &History) -> Result<Vec<Circle>, AllocError> {
         let ends = self.front.end_lines(alloc, history)?;
-        let bounds = Bounds {
-            allowed: self.committed.as_slice(),
-            ends: ends.as_slice(),
-        };
         let mut circles = Vec::new(alloc);
         for place in self.front.free.as_slice() {
             if let Some(life) = history.life(*place) {
-                let spread = Spread {
-                    history,
-                    bounds,
-                    start: *place,
-                };
+                let allowed = self.committed.as_slice();
+                let spread = spread_from(history, allowed, ends.as_slice(), *place);
                 let met = met_from(alloc, &spread, &mut self.marks)?;
                 circles.push(Circle {
                     tx: life.tx,
