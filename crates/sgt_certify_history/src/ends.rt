@@ -30,9 +30,9 @@ pub struct Before {
 impl Front {
     /// Nothing is decided.
     pub fn new(alloc: Global, history: &History) -> Result<Front, AllocError> {
-        let mut waits = vec![in alloc; 0u32; history.count()]?;
-        for end in history.ends.as_slice() {
-            count_up(waits.as_mut_slice(), end.tx as usize);
+        let mut waits = Vec::with_capacity(alloc, history.count())?;
+        for life in history.lives.as_slice() {
+            waits.push(u32::from(life.ends))?;
         }
         let mut front = Front {
             next: Vec::from_slice(alloc, history.sites.as_slice())?,

@@ -3,6 +3,7 @@
 
 use crate::groups::Groups;
 use sgt_names::{Entry, Item, SiteNo, Tx};
+use std::ops::Range;
 
 /// How a transaction ends.
 #[derive(Clone, Copy, Debug, PartialEq, Eq)]
@@ -40,12 +41,13 @@ pub fn fate_of(entry: &Entry) -> Option<Fate> {
     }
 }
 
-/// An operation on an item.
+/// An operation on an item, and whether its transaction is committed.
 #[derive(Clone, Copy, Debug)]
 pub struct Operation {
     pub tx: u32,
     pub line: u32,
     pub act: Act,
+    pub is_committed: bool,
 }
 
 /// An item of a site.
@@ -82,6 +84,12 @@ pub struct Ending {
 pub struct Life {
     pub tx: Tx,
     pub fate: Option<Fate>,
+    /// Where the places of its operations stand, and how many there are.
+    pub first_place: u32,
+    pub operations: u32,
+    /// The same of its ends.
+    pub first_ending: u32,
+    pub ends: u8,
 }
 
 /// What the logs say.
@@ -92,19 +100,35 @@ pub struct History {
     /// The operations by item, those on an item in the order of its log.
     pub operations: Vec<Operation>,
     pub by_item: Groups,
-    /// Where they stand by transaction, those of one by item and in the order of the log.
+    /// Where they stand by transaction, in the order in which these were met, those of one as they stand among all.
     pub places: Vec<Place>,
-    pub by_transaction: Groups,
     /// The ends in the order of the logs.
     pub ends: Vec<End>,
     /// Of each site the place of its first end.
     pub sites: Vec<u32>,
-    /// Where they stand by transaction, those of one by site.
+    /// Where they stand by transaction, in the order in which these were met, those of one by site.
     pub endings: Vec<Ending>,
-    pub ended_by: Groups,
     /// Of each site the line of its first entry, if it has one.
     pub bases: Vec<usize>,
     pub lives: Vec<Life>,
+}
+
+/// So many places from the first one on.
+fn span(first: u32, many: u32) -> Range<usize> {
+    let start = first as usize;
+    start..start.saturating_add(many as usize)
+}
+
+impl Life {
+    /// Where the places of its operations stand.
+    pub fn places(&self) -> Range<usize> {
+        span(self.first_place, self.operations)
+    }
+
+    /// Where its ends stand by transaction.
+    pub fn endings(&self) -> Range<usize> {
+        span(self.first_ending, u32::from(self.ends))
+    }
 }
 
 impl History {
@@ -142,25 +166,34 @@ impl History {
         }
     }
 
-    /// The operations on the item.
-    pub fn operations(&self, item: usize) -> &[Operation] {
-        match self.operations.get(self.by_item.span(item)) {
-            Some(operations) => operations,
+    /// Where the transaction's operations stand.
+    pub fn places(&self, tx: u32) -> &[Place] {
+        let Some(life) = self.life(tx) else {
+            return &[];
+        };
+        match self.places.get(life.places()) {
+            Some(places) => places,
             None => &[],
         }
     }
 
-    /// Where the transaction's operations stand.
-    pub fn places(&self, tx: u32) -> &[Place] {
-        match self.places.get(self.by_transaction.span(tx as usize)) {
-            Some(places) => places,
+    /// The operations on the place's item behind it, as far as behind the place `low`.
+    pub fn ahead(&self, place: &Place, low: u32) -> &[Operation] {
+        let end = self.by_item.span(usize::from(place.item)).end;
+        let from = (place.at as usize).saturating_add(1);
+        let to = end.min((low as usize).saturating_add(1));
+        match self.operations.get(from..to) {
+            Some(operations) => operations,
             None => &[],
         }
     }
 
     /// Where the transaction ends.
     pub fn endings(&self, tx: u32) -> &[Ending] {
-        match self.endings.get(self.ended_by.span(tx as usize)) {
+        let Some(life) = self.life(tx) else {
+            return &[];
+        };
+        match self.endings.get(life.endings()) {
             Some(endings) => endings,
             None => &[],
         }

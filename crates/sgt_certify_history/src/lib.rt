@@ -10,6 +10,8 @@ mod lists;
 mod logs;
 mod numbers;
 mod ranks;
+mod sorting;
+mod waiting;
 mod walks;
 
 pub use conflicts::{Conflict, kind_of, least_conflict};
@@ -21,4 +23,5 @@ pub use history::{
 pub use lists::{is_marked, number_at, set_mark, set_number, short};
 pub use logs::Logs;
 pub use ranks::rank_order;
-pub use walks::{Bounds, Link, met_from, walk_of};
+pub use waiting::Waiting;
+pub use walks::{Asked, Bounds, Link, Marks, Spread, ask, met_from, walk_of};

@@ -2,12 +2,13 @@
 
 use sgt_cert::{Decision, Step};
 use sgt_certify_history::{
-    Before, Bounds, End, Fate, Front, History, Link, is_marked, met_from, number_at, rank_order,
-    set_mark, set_number, short, walk_of,
+    Asked, Before, Bounds, End, Fate, Front, History, Link, Marks, Spread, Waiting, ask, is_marked,
+    met_from, number_at, rank_order, set_mark, set_number, short, walk_of,
 };
 use sgt_certify_stuck::{Circle, StuckSet};
 use sgt_names::{Listed, Tx};
 use std::alloc::{AllocError, Global};
+use std::collections::BTreeMap;
 
 /// What the search found.
 #[derive(Drop)]
@@ -43,9 +44,11 @@ struct Greedy {
     ranks: Vec<u32>,
     /// Who is committed by a decision.
     committed: Vec<bool>,
-    commits: u32,
-    /// Of each transaction one more than how many were committed when it had no walk.
-    asked: Vec<u32>,
+    /// The same, in the order of the decisions.
+    commits: Vec<u32>,
+    /// Who was asked for a walk and had none.
+    waiting: BTreeMap<u32, Waiting>,
+    marks: Marks,
     decisions: Vec<Decision>,
 }
 
@@ -78,6 +81,21 @@ fn order_cycle(alloc: Global, history: &History) -> Result<Option<Vec<Before>>, 
     Ok(Some(front.cycle(alloc, history)?))
 }
 
+/// A search from the transaction through the allowed ones, as far as the ends.
+fn spread_from<'a>(
+    history: &'a History,
+    allowed: &'a [bool],
+    ends: &'a [u32],
+    start: u32,
+) -> Spread<'a> {
+    let bounds = Bounds { allowed, ends };
+    Spread {
+        history,
+        bounds,
+        start,
+    }
+}
+
 /// The cycle of the least transaction that lies on one, of those that have no rank.
 fn rank_cycle(alloc: Global, history: &History, order: &[u32]) -> Result<Vec<Link>, AllocError> {
     let mut ranked = vec![in alloc; false; history.count()]?;
@@ -90,13 +108,11 @@ fn rank_cycle(alloc: Global, history: &History, order: &[u32]) -> Result<Vec<Lin
             set_mark(allowed.as_mut_slice(), tx as usize);
         }
     }
-    let bounds = Bounds {
-        allowed: allowed.as_slice(),
-        ends: &[],
-    };
+    let mut marks = Marks::new(alloc, history)?;
     for tx in 0..short(history.count()) {
-        if is_marked(bounds.allowed, tx as usize) {
-            let walk = walk_of(alloc, history, bounds, tx)?;
+        if is_marked(allowed.as_slice(), tx as usize) {
+            let spread = spread_from(history, allowed.as_slice(), &[], tx);
+            let walk = walk_of(alloc, &spread, &mut marks)?;
             if !walk.is_empty() {
                 return Ok(walk);
             }
@@ -116,8 +132,9 @@ impl Greedy {
             front: Front::new(alloc, history)?,
             ranks,
             committed: vec![in alloc; false; many]?,
-            commits: 0,
-            asked: vec![in alloc; 0u32; many]?,
+            commits: Vec::new(alloc),
+            waiting: BTreeMap::new(alloc),
+            marks: Marks::new(alloc, history)?,
             decisions: Vec::with_capacity(alloc, many)?,
         })
     }
@@ -136,6 +153,31 @@ impl Greedy {
         least
     }
 
+    /// The walk of the free refused transaction; empty where it has none so far.
+    fn walk_now(
+        &mut self,
+        alloc: Global,
+        history: &History,
+        ends: &[u32],
+        tx: u32,
+    ) -> Result<Vec<Link>, AllocError> {
+        let allowed = self.committed.as_slice();
+        let commits = self.commits.as_slice();
+        if let Some(waiting) = self.waiting.get_mut(&tx) {
+            if !waiting.may_return(alloc, history, allowed, commits)? {
+                return Ok(Vec::new(alloc));
+            }
+        }
+        let spread = spread_from(history, allowed, ends, tx);
+        match ask(alloc, &spread, &mut self.marks, commits.len())? {
+            Asked::Walk(walk) => Ok(walk),
+            Asked::Waits(waiting) => {
+                self.waiting.insert(tx, waiting)?;
+                Ok(Vec::new(alloc))
+            }
+        }
+    }
+
     /// The least of the free refused ones that has a walk.
     fn refused_choice(
         &mut self,
@@ -145,20 +187,12 @@ impl Greedy {
         let mut free = Vec::from_slice(alloc, self.front.free.as_slice())?;
         free.sort()?;
         let ends = self.front.end_lines(alloc, history)?;
-        let now = self.commits.saturating_add(1);
         for tx in free.as_slice() {
-            if number_at(self.asked.as_slice(), *tx as usize) == now {
-                continue;
-            }
-            let bounds = Bounds {
-                allowed: self.committed.as_slice(),
-                ends: ends.as_slice(),
-            };
-            let walk = walk_of(alloc, history, bounds, *tx)?;
+            let walk = self.walk_now(alloc, history, ends.as_slice(), *tx)?;
             if !walk.is_empty() {
+                self.waiting.remove(tx);
                 return Ok(Some(Choice { tx: *tx, walk }));
             }
-            set_number(self.asked.as_mut_slice(), *tx as usize, now);
         }
         Ok(None)
     }
@@ -185,7 +219,7 @@ impl Greedy {
             let decision = match life.fate {
                 Some(Fate::Commit) => {
                     set_mark(self.committed.as_mut_slice(), tx as usize);
-                    self.commits = self.commits.saturating_add(1);
+                    self.commits.push(tx)?;
                     Decision::Commit {
                         tx: life.tx,
                         rank: number_at(self.ranks.as_slice(), tx as usize),
@@ -244,16 +278,14 @@ fn numbers_of(alloc: Global, history: &History, places: &[u32]) -> Result<Vec<Tx
 
 impl Greedy {
     /// All that conflicts lead to from each free one on, through those that are committed.
-    fn circles(&self, alloc: Global, history: &History) -> Result<Vec<Circle>, AllocError> {
+    fn circles(&mut self, alloc: Global, history: &History) -> Result<Vec<Circle>, AllocError> {
         let ends = self.front.end_lines(alloc, history)?;
-        let bounds = Bounds {
-            allowed: self.committed.as_slice(),
-            ends: ends.as_slice(),
-        };
         let mut circles = Vec::new(alloc);
         for place in self.front.free.as_slice() {
             if let Some(life) = history.life(*place) {
-                let met = met_from(alloc, history, bounds, *place)?;
+                let allowed = self.committed.as_slice();
+                let spread = spread_from(history, allowed, ends.as_slice(), *place);
+                let met = met_from(alloc, &spread, &mut self.marks)?;
                 circles.push(Circle {
                     tx: life.tx,
                     met: numbers_of(alloc, history, met.as_slice())?,
@@ -264,7 +296,7 @@ impl Greedy {
     }
 
     /// What was decided, where only refused ones without a walk are free.
-    fn stuck_set(&self, alloc: Global, history: &History) -> Result<StuckSet, AllocError> {
+    fn stuck_set(&mut self, alloc: Global, history: &History) -> Result<StuckSet, AllocError> {
         let mut committed = Vec::new(alloc);
         let mut others = Vec::new(alloc);
         for decision in self.decisions.as_slice() {
@@ -303,7 +335,7 @@ pub fn search(alloc: Global, history: &History) -> Result<Finding, AllocError> {
             None => Ok(Finding::Ranks(rank_cycle(alloc, history, order.as_slice())?)),
         };
     }
-    let greedy = decide_all(alloc, history, order.as_slice())?;
+    let mut greedy = decide_all(alloc, history, order.as_slice())?;
     if greedy.front.decided >= history.count() {
         return Ok(Finding::Decided(greedy.decisions));
     }
