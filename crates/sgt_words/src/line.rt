@@ -50,7 +50,7 @@ const DRAW_USAGE: &str =
 
 /// What the help of each command ends with.
 pub const MORE: &str =
-    "Behind each command a FILE may stand; with none, or -, standard input is read. audit takes several files, and -q to answer by the status alone. replay and run take --bundle FILE, where the bundle goes then, and replay --strict. With --progress audit, serial and replay tell standard error of every million lines read.
+    "Behind each command a FILE may stand; with none, or -, standard input is read. audit takes several files, and -q to answer by the status alone. replay and run take --bundle FILE, where the bundle goes then, and replay --strict. With --progress, and where standard error is a terminal, audit, serial and replay tell it of every million lines read.
 
 L is the first line with a fault and FN the fault: docs/FORMAT.md has the faults and the formats of a bundle, a replay and scripts.
 
