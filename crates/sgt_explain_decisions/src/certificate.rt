@@ -58,20 +58,22 @@ fn json_break(alloc: Global, line: &[u8]) -> Result<Option<usize>, AllocError> {
 fn push_no_json(alloc: Global, out: &mut String, line: &[u8]) -> Result<(), AllocError> {
     out.push_str("Certificate: K1, line 2 is no JSON value\n")?;
     push_numbered(out, 2, line)?;
-    if line.starts_with(b"site ") {
-        return out.push_str(
-            "the certificate is missing: `sgt certify` makes one for a text such as this\n",
-        );
-    }
     match json_break(alloc, line)? {
         Some(column) => {
             push_found(out, line, column.saturating_sub(1))?;
-            out.push_str(", where the JSON breaks off\n")
+            out.push_str(", where the JSON breaks off\n")?;
         }
-        None => out.push_str(
-            "the line ends before its JSON does: the whole certificate is line 2\n",
-        ),
+        None => {
+            push_found(out, line, line.len())?;
+            out.push_str(", before its JSON does: line 2 has the whole certificate\n")?;
+        }
     }
+    if line.starts_with(b"site ") {
+        out.push_str(
+            "the certificate is missing: `sgt certify` makes one for a text such as this\n",
+        )?;
+    }
+    Ok(())
 }
 
 /// K2: a member is missing, unknown or of another type.
