@@ -212,6 +212,15 @@ fn behind_first(words: &[String]) -> &[String]
     }
 }
 
+// The line whose usage is shown for such words: of the command that they begin with, where that has words of its own.
+fn line_of<'a>(alloc: Global, words: &[String]) -> Result<Command<'a>, AllocError> {
+    match words {
+        [_, word, ..] if word.as_str() == "explain" => explain_line(alloc),
+        [_, word, ..] if word.as_str() == "draw" => draw_line(alloc),
+        _ => command(alloc),
+    }
+}
+
 /// The help or the usage text for words that are not plain. What clap would take for a command here, as `audit --`, is none.
 pub fn no_choice(alloc: Global, words: &[String]) -> Result<NoChoice, AllocError>
     ensures text { IfOk result HasText }
@@ -219,7 +228,7 @@ pub fn no_choice(alloc: Global, words: &[String]) -> Result<NoChoice, AllocError
 {
     let mut command = command(alloc)?;
     match command.try_get_matches_from_mut(words) {
-        Ok(_) => no_command(alloc, &mut command),
+        Ok(_) => no_command(alloc, &mut line_of(alloc, words)?),
         Err(error) => told_of(alloc, &mut command, behind_first(words), &error),
     }
 }
