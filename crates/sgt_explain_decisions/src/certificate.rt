@@ -65,7 +65,7 @@ fn push_no_json(alloc: Global, out: &mut String, line: &[u8]) -> Result<(), Allo
         }
         None => {
             push_found(out, line, line.len())?;
-            out.push_str(", before its JSON does: line 2 has the whole certificate\n")?;
+            out.push_str(", before its JSON does\nthe whole certificate stands in line 2\n")?;
         }
     }
     if line.starts_with(b"site ") {
