@@ -12,6 +12,7 @@ import sys
 PAGES = ["README.md", *sorted(glob.glob("docs/*.md")), *sorted(glob.glob("crates/*/README.md"))]
 WORDS = "crates/sgt_words/src"
 FILES = "crates/sgt/src/line.rt"
+TOPICS = "crates/sgt_explain/src/topics.rt"
 
 
 def text_of(path):
@@ -30,6 +31,18 @@ def options():
     named = re.findall(r'\.long\("(\w+)"\)', text_of(f"{WORDS}/line.rt"))
     named += re.findall(r'number_option\(\s*alloc,\s*"(\w+)"', text_of(f"{WORDS}/options.rt"))
     return sorted({*(f"--{name}" for name in named), *re.findall(r'"(--\w+)"', text_of(FILES)), "--help", "--version"})
+
+
+def topics():
+    """The rules and replies that can be asked about."""
+    return re.findall(r'b"([A-Z]\d+)" =>', text_of(TOPICS))
+
+
+def completed():
+    """The words that the completions for bash offer."""
+    text = text_of("docs/sgt.bash")
+    offers = re.findall(r"options='([^']*)'", text) + re.findall(r"-W '([^']*)'", text)
+    return {word for offer in offers for word in offer.split()}
 
 
 def statuses():
@@ -93,8 +106,11 @@ def more_words():
         yield f"docs/sgt.1: there is no command {word}"
     for word in sorted({f"-{word}" for word in re.findall(r"Fl (-\w+)", manual)} - set(options())):
         yield f"docs/sgt.1: there is no option {word}"
-    for word in sorted(set(re.findall(r"--\w+", text_of("docs/sgt.bash"))) - set(options())):
-        yield f"docs/sgt.bash: there is no option {word}"
+    known = {*options(), *commands(), *topics(), "-q"}
+    for word in sorted(completed() - known):
+        yield f"docs/sgt.bash: {word} is no word of a command line"
+    for word in sorted(known - completed()):
+        yield f"docs/sgt.bash: nothing of {word}"
 
 
 def main():

@@ -16,4 +16,4 @@ _sgt() {
     esac
     COMPREPLY=($(compgen -W "$options" -- "$word") $(compgen -f -- "$word"))
 }
-complete -F _sgt sgt
+complete -o filenames -F _sgt sgt

@@ -5,26 +5,57 @@ ghost use Rattle.std.specs.Prelude.{None};
 use crate::progress::Progress;
 use sgt_names::{Failed, Sink};
 use std::alloc::Global;
+use std::cell::Cell;
 use std::io;
 use std::io::{Read, Write};
 
 // How often a read or a write that a signal interrupts is begun: so often that it never gives up.
 const TRIES: u64 = u64::MAX;
 
+/// Whether the program's own words on how it ended would be one too many: the system has a reason why a read failed, which is told
+/// alone, or the reader of what is written went away, and nobody is told.
+#[derive(Drop)]
+pub struct Hush {
+    is_set: Cell<bool>,
+}
+
+impl Hush {
+    /// Words are wanted.
+    pub fn new() -> Hush {
+        Hush {
+            is_set: Cell::new(false),
+        }
+    }
+
+    /// Words are wanted again.
+    pub fn lift(&self) {
+        self.is_set.set(false);
+    }
+
+    /// The writer's reason is noted where it is that its reader went away.
+    pub fn note(&self, why: &io::Error) {
+        if why.kind() == io::ErrorKind::BrokenPipe {
+            self.is_set.set(true);
+        }
+    }
+}
+
 /// A reader that begins a read again where a signal interrupted it, keeps why a read failed, and tells of what was read.
 #[derive(Drop)]
 pub struct Steady<'a, R> {
     inner: R,
     progress: Option<Progress<'a>>,
+    hush: &'a Hush,
     pub why: Option<io::Error>,
 }
 
 impl<'a, R: Read> Steady<'a, R> {
     /// The reader, which has not failed.
-    pub fn new(inner: R, progress: Option<Progress<'a>>) -> Steady<'a, R> {
+    pub fn new(inner: R, progress: Option<Progress<'a>>, hush: &'a Hush) -> Steady<'a, R> {
         Steady {
             inner,
             progress,
+            hush,
             why: None,
         }
     }
@@ -44,6 +75,7 @@ impl<R: Read> Read for &mut Steady<'_, R> {
                 Err(e) => {
                     let kind = e.kind();
                     self.why = Some(e);
+                    self.hush.is_set.set(true);
                     return Err(io::Error::from(kind));
                 }
             }
@@ -52,28 +84,63 @@ impl<R: Read> Read for &mut Steady<'_, R> {
     }
 }
 
-/// A writer that begins a write again where a signal interrupted it.
+/// A writer that begins a write again where a signal interrupted it, and notes where its reader went away.
 #[derive(Drop)]
-pub struct Retrying<W> {
+pub struct Retrying<'a, W> {
     inner: W,
+    hush: &'a Hush,
 }
 
-impl<W: Write> Retrying<W> {
+impl<'a, W: Write> Retrying<'a, W> {
     /// The writer, which was given nothing.
-    pub fn new(inner: W) -> Retrying<W> {
-        Retrying { inner }
+    pub fn new(inner: W, hush: &'a Hush) -> Retrying<'a, W> {
+        Retrying { inner, hush }
     }
 }
 
-impl<W: Write> Write for Retrying<W> {
+impl<W: Write> Write for Retrying<'_, W> {
     fn write(&mut self, bytes: &[u8]) -> io::Result<usize> {
         for _ in 0..TRIES {
             match self.inner.write(bytes) {
                 Err(e) if e.kind() == io::ErrorKind::Interrupted => {}
+                Err(e) => {
+                    self.hush.note(&e);
+                    return Err(e);
+                }
                 written => return written,
             }
         }
         Err(io::Error::from(io::ErrorKind::Interrupted))
+    }
+
+    fn flush(&mut self) -> io::Result<()> {
+        self.inner.flush()
+    }
+}
+
+/// A writer of the program's own words on how it ended, which drops them where they aren't wanted.
+#[derive(Drop)]
+pub struct LastWords<'a, W> {
+    inner: Retrying<'a, W>,
+    hush: &'a Hush,
+}
+
+impl<'a, W: Write> LastWords<'a, W> {
+    /// The writer, which was given nothing.
+    pub fn new(inner: W, hush: &'a Hush) -> LastWords<'a, W> {
+        LastWords {
+            inner: Retrying::new(inner, hush),
+            hush,
+        }
+    }
+}
+
+impl<W: Write> Write for LastWords<'_, W> {
+    fn write(&mut self, bytes: &[u8]) -> io::Result<usize> {
+        if self.hush.is_set.get() {
+            return Ok(bytes.len());
+        }
+        self.inner.write(bytes)
     }
 
     fn flush(&mut self) -> io::Result<()> {

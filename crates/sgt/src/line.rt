@@ -17,6 +17,7 @@ pub struct Line {
     pub is_strict: bool,
     /// Whether standard error is told of each million lines that were read.
     pub tells_lines: bool,
+    command: Command,
 }
 
 // What a word is.
@@ -33,16 +34,19 @@ enum Kind {
     Progress,
 }
 
-// The command that a line begins with, as far as it says what the words behind it are.
+// The command that a line begins with.
 #[derive(Clone, Copy, PartialEq, Eq)]
 enum Command {
     Audit,
     Serial,
     Replay,
     Run,
+    Certify,
     Explain,
     Draw,
-    OneFile,
+    // A rule is explained, and nothing is read.
+    Topic,
+    // None, or none yet.
     Other,
 }
 
@@ -54,7 +58,7 @@ fn command_of(word: &str) -> Command {
         "run" => Command::Run,
         "explain" => Command::Explain,
         "draw" => Command::Draw,
-        "certify" => Command::OneFile,
+        "certify" => Command::Certify,
         _ => Command::Other,
     }
 }
@@ -76,7 +80,7 @@ fn is_rule(word: &str) -> bool {
 }
 
 fn kind_of(command: Command, word: &str) -> Kind {
-    if command == Command::Other {
+    if matches!(command, Command::Topic | Command::Other) {
         return Kind::Plain;
     }
     match word {
@@ -102,16 +106,33 @@ impl Line {
             is_quiet: false,
             is_strict: false,
             tells_lines: false,
+            command: Command::Other,
+        }
+    }
+
+    /// Whether lines are told also where nobody asks for it, on a terminal.
+    pub fn tells_terminal(&self) -> bool {
+        tells_lines(self.command) && !self.is_quiet
+    }
+
+    /// What is read, in the words of who has to type it.
+    pub fn awaits(&self) -> Option<&'static str> {
+        match self.command {
+            Command::Audit | Command::Serial | Command::Explain | Command::Draw => Some("a bundle"),
+            Command::Certify => Some("a bundle without its line 2"),
+            Command::Replay => Some("sites and events"),
+            Command::Run => Some("sites and scripts"),
+            Command::Topic | Command::Other => None,
         }
     }
 
     // A second file, or a second place for the bundle, is left for the program, which takes no such word.
-    fn add(&mut self, command: Command, kind: Kind, word: String) -> Result<(), AllocError> {
+    fn add(&mut self, kind: Kind, word: String) -> Result<(), AllocError> {
         match kind {
             Kind::Quiet => self.is_quiet = true,
             Kind::Strict => self.is_strict = true,
             Kind::Progress => self.tells_lines = true,
-            Kind::File if command == Command::Audit || self.files.is_empty() => {
+            Kind::File if self.command == Command::Audit || self.files.is_empty() => {
                 self.files.push(word)?;
             }
             _ => self.words.push(word)?,
@@ -122,32 +143,35 @@ impl Line {
     /// The line of these words, the program's name first.
     pub fn of(alloc: Global, given: Vec<String>) -> Result<Line, AllocError> {
         let mut line = Line::new(alloc);
-        let mut command = Command::Other;
         let mut before = Kind::Plain;
+        let is_bare = given.len() <= 1;
         for (place, word) in given.into_iter().enumerate() {
             let kind = match before {
                 Kind::WithNumber => Kind::Plain,
-                _ => kind_of(command, word.as_str()),
+                _ => kind_of(line.command, word.as_str()),
             };
             if place == 1 {
-                command = command_of(word.as_str());
+                line.command = command_of(word.as_str());
             }
             if before == Kind::Bundle && line.bundle.is_none() {
                 line.bundle = Some(word);
                 before = Kind::Plain;
                 continue;
             }
-            if command == Command::Explain && is_rule(word.as_str()) {
-                command = Command::Other;
+            if line.command == Command::Explain && is_rule(word.as_str()) {
+                line.command = Command::Topic;
             }
             before = kind;
             if kind == Kind::Bundle && line.bundle.is_none() {
                 continue;
             }
-            line.add(command, kind, word)?;
+            line.add(kind, word)?;
         }
         if before == Kind::Bundle {
             line.words.push(String::from_str(alloc, "--bundle")?)?;
+        }
+        if is_bare {
+            line.command = Command::Audit;
         }
         Ok(line)
     }

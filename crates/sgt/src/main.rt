@@ -7,7 +7,7 @@ mod line;
 mod progress;
 
 use crate::answers::{cut, has_refusal};
-use crate::devices::{Held, Retrying, Steady};
+use crate::devices::{Held, Hush, LastWords, Retrying, Steady};
 use crate::line::Line;
 use crate::progress::Progress;
 use sgt_names::{EngineFail, FromRead, MemSink, Sink, ToWrite, write_all};
@@ -23,17 +23,22 @@ use std::{env, io};
 // How much of a verdict's line is kept where it isn't written at once.
 const LINE: usize = 200;
 
-// The system: its files and streams, and its threads; and whether lines are told as they are read.
+// The system: its files and streams, and its threads; what is awaited from a terminal, whether lines are told as they are read,
+// and whether last words are wanted.
 #[derive(Drop)]
 struct Host<'a, H> {
     rt: &'a HostRuntime,
     threads: &'a H,
+    awaits: Option<&'static str>,
     tells_lines: bool,
+    hush: &'a Hush,
 }
 
-// Says why a file could not be read or written, and gives the status.
+// Says why a file could not be read or written, if it isn't that its reader went away, and gives the status.
 fn refuse_file(rt: &HostRuntime, name: &str, why: &io::Error) -> u8 {
-    let _ = eprintln!(rt; "sgt: {name}: {why}");
+    if why.kind() != io::ErrorKind::BrokenPipe {
+        let _ = eprintln!(rt; "sgt: {name}: {why}");
+    }
     4
 }
 
@@ -51,8 +56,9 @@ fn over<H: Threads + Wait + Sync, R: Read + Drop, W: Sink>(
     } else {
         None
     };
-    let mut steady = Steady::new(inner, progress);
-    let mut errors = ToWrite::new(Retrying::new(rt.stderr()));
+    host.hush.lift();
+    let mut steady = Steady::new(inner, progress, host.hush);
+    let mut errors = ToWrite::new(LastWords::new(rt.stderr(), host.hush));
     let status = {
         let mut reader = FromRead::new(&mut steady);
         program(
@@ -81,8 +87,12 @@ fn over_file<H: Threads + Wait + Sync, W: Sink>(
     let is_command = choose(rt.alloc(), words).is_ok();
     if name == "-" || !is_command {
         let input = rt.stdin();
-        if is_command && name == "-" && input.is_terminal() {
-            let _ = eprintln!(rt; "sgt: reading from the terminal; Ctrl-D ends the input");
+        if let Some(text) = host.awaits {
+            if is_command && input.is_terminal() {
+                let _ = eprintln!(rt;
+                    "sgt: waiting for {text} from the terminal, which Ctrl-D ends; sgt --help says more"
+                );
+            }
         }
         return over(host, words, "standard input", input, writer);
     }
@@ -96,7 +106,7 @@ fn over_file<H: Threads + Wait + Sync, W: Sink>(
 fn audit_each<H: Threads + Wait + Sync>(host: &Host<'_, H>, line: &Line) -> Result<u8, EngineFail> {
     let rt = host.rt;
     let mut status = 0;
-    let mut output = ToWrite::new(Retrying::new(rt.stdout()));
+    let mut output = ToWrite::new(Retrying::new(rt.stdout(), host.hush));
     for name in &line.files {
         let mut verdict = MemSink::new(rt.alloc(), LINE)?;
         let found = over_file(host, line.words.as_slice(), name.as_str(), &mut verdict);
@@ -114,8 +124,9 @@ fn audit_each<H: Threads + Wait + Sync>(host: &Host<'_, H>, line: &Line) -> Resu
 }
 
 // The bundle goes to its file, and what is in front of it to standard output.
-fn deliver(rt: &HostRuntime, line: &Line, text: &[u8]) -> Result<Option<u8>, EngineFail> {
-    let mut output = ToWrite::new(Retrying::new(rt.stdout()));
+fn deliver<H>(host: &Host<'_, H>, line: &Line, text: &[u8]) -> Result<Option<u8>, EngineFail> {
+    let rt = host.rt;
+    let mut output = ToWrite::new(Retrying::new(rt.stdout(), host.hush));
     let (front, bundle) = match &line.bundle {
         Some(_) => cut(text),
         None => (text, None),
@@ -147,7 +158,7 @@ fn run_held<H: Threads + Wait + Sync>(
     if held.refused > 0 {
         return Err(EngineFail::Memory);
     }
-    if let Some(failed) = deliver(rt, line, held.bytes())? {
+    if let Some(failed) = deliver(host, line, held.bytes())? {
         return Ok(failed);
     }
     if status == 0 && line.is_strict && has_refusal(cut(held.bytes()).0) {
@@ -172,35 +183,50 @@ fn run_line<H: Threads + Wait + Sync>(host: &Host<'_, H>, line: &Line) -> Result
         let mut verdict = MemSink::new(rt.alloc(), LINE)?;
         return Ok(over_file(host, line.words.as_slice(), name, &mut verdict));
     }
-    let mut output = ToWrite::new(Retrying::new(rt.stdout()));
+    let mut output = ToWrite::new(Retrying::new(rt.stdout(), host.hush));
     Ok(over_file(host, line.words.as_slice(), name, &mut output))
 }
 
-fn main(rt: HostRuntime) -> ExitCode {
-    let mut errors = ToWrite::new(Retrying::new(rt.stderr()));
-    let given: Vec<String> = match env::args(&rt) {
+// The words of the command line, or the status where they can't be had.
+fn words_of(rt: &HostRuntime, hush: &Hush) -> Result<Vec<String>, u8> {
+    let mut errors = ToWrite::new(LastWords::new(rt.stderr(), hush));
+    match env::args(rt) {
         Ok(words) => match words.collect(rt.alloc()) {
-            Ok(words) => words,
-            Err(_) => return ExitCode::from(give_up(&mut errors, EngineFail::Memory)),
+            Ok(words) => Ok(words),
+            Err(_) => Err(give_up(&mut errors, EngineFail::Memory)),
         },
         Err(e) if e.kind() == io::ErrorKind::OutOfMemory => {
-            return ExitCode::from(give_up(&mut errors, EngineFail::Memory));
+            Err(give_up(&mut errors, EngineFail::Memory))
         }
-        Err(_) => return ExitCode::from(refuse_words(&mut errors)),
+        Err(_) => Err(refuse_words(&mut errors)),
+    }
+}
+
+fn main(rt: HostRuntime) -> ExitCode {
+    let hush = Hush::new();
+    let given = match words_of(&rt, &hush) {
+        Ok(given) => given,
+        Err(status) => return ExitCode::from(status),
     };
-    let status = match Line::of(rt.alloc(), given) {
+    let ran = match Line::of(rt.alloc(), given) {
         Ok(line) => {
             let host = Host {
                 rt: &rt,
                 threads: &rt,
-                tells_lines: line.tells_lines,
+                awaits: line.awaits(),
+                tells_lines: line.tells_lines
+                    || (line.tells_terminal() && rt.stderr().is_terminal()),
+                hush: &hush,
             };
-            match run_line(&host, &line) {
-                Ok(status) => status,
-                Err(fail) => give_up(&mut errors, fail),
-            }
+            run_line(&host, &line)
         }
-        Err(_) => give_up(&mut errors, EngineFail::Memory),
+        Err(_) => Err(EngineFail::Memory),
     };
-    ExitCode::from(status)
+    match ran {
+        Ok(status) => ExitCode::from(status),
+        Err(fail) => {
+            let mut errors = ToWrite::new(LastWords::new(rt.stderr(), &hush));
+            ExitCode::from(give_up(&mut errors, fail))
+        }
+    }
 }

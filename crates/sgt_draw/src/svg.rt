@@ -253,7 +253,7 @@ impl Picture<'_> {
         let to = self.x_of(u64::from(laid.edge.to));
         canvas.put(&[
             Part::Markup(
-                "<text text-anchor=\"middle\" stroke=\"#ffffff\" stroke-width=\"6\" stroke-linejoin=\"round\" paint-order=\"stroke\" x=\"",
+                "<text text-anchor=\"middle\" stroke=\"#ffffff\" stroke-width=\"9\" stroke-linejoin=\"round\" paint-order=\"stroke\" x=\"",
             ),
             Part::Number(from.saturating_add(to) / 2),
             Part::Markup("\" y=\""),

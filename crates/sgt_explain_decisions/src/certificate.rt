@@ -38,16 +38,18 @@ fn push_turn(out: &mut String, line: &[u8], turn: Option<Turn>) -> Result<(), Al
     writeln!(out, "\nthe compact text has there: {wanted}")
 }
 
-/// Where the JSON in the line breaks off. 0 where it doesn't.
-fn json_column(alloc: Global, line: &[u8]) -> Result<usize, AllocError> {
+/// Where the JSON in the line breaks off: the column, or nothing where the line ends first.
+fn json_break(alloc: Global, line: &[u8]) -> Result<Option<usize>, AllocError> {
     match Value::from_slice(alloc, line) {
-        Ok(_) => Ok(0),
+        Ok(_) => Ok(None),
         Err(e) => {
             if e.is_memory() {
-                Err(AllocError)
-            } else {
-                Ok(e.column())
+                return Err(AllocError);
             }
+            if e.is_eof() {
+                return Ok(None);
+            }
+            Ok(Some(e.column()))
         }
     }
 }
@@ -56,9 +58,22 @@ fn json_column(alloc: Global, line: &[u8]) -> Result<usize, AllocError> {
 fn push_no_json(alloc: Global, out: &mut String, line: &[u8]) -> Result<(), AllocError> {
     out.push_str("Certificate: K1, line 2 is no JSON value\n")?;
     push_numbered(out, 2, line)?;
-    let column = json_column(alloc, line)?;
-    push_found(out, line, column.saturating_sub(1))?;
-    out.push_str(", where the JSON breaks off\n")
+    match json_break(alloc, line)? {
+        Some(column) => {
+            push_found(out, line, column.saturating_sub(1))?;
+            out.push_str(", where the JSON breaks off\n")?;
+        }
+        None => {
+            push_found(out, line, line.len())?;
+            out.push_str(", before its JSON does\nthe whole certificate stands in line 2\n")?;
+        }
+    }
+    if line.starts_with(b"site ") {
+        out.push_str(
+            "the certificate is missing: `sgt certify` makes one for a text such as this\n",
+        )?;
+    }
+    Ok(())
 }
 
 /// K2: a member is missing, unknown or of another type.
@@ -72,10 +87,25 @@ fn push_shape(out: &mut String, line: &[u8]) -> Result<(), AllocError> {
     push_turn(out, line, turn_in(line, false))
 }
 
+/// Whether the JSON value in the line says a certificate, in whatever order of keys and with whatever spaces.
+fn says_certificate(alloc: Global, line: &[u8]) -> Result<bool, AllocError> {
+    let value = match Value::from_slice(alloc, line) {
+        Ok(value) => value,
+        Err(e) if e.is_memory() => return Err(AllocError),
+        Err(_) => return Ok(false),
+    };
+    let text = value.to_string(alloc)?;
+    match from_line(alloc, text.as_bytes()) {
+        Ok(_) => Ok(true),
+        Err(CertFault::Memory) => Err(AllocError),
+        Err(_) => Ok(false),
+    }
+}
+
 /// K3: out of range, or not the compact text.
-fn push_range(out: &mut String, line: &[u8]) -> Result<(), AllocError> {
+fn push_range(alloc: Global, out: &mut String, line: &[u8]) -> Result<(), AllocError> {
     let turn = turn_in(line, true);
-    if turn.is_some() {
+    if turn.is_some() && !says_certificate(alloc, line)? {
         out.push_str("Certificate: K3, it isn't the text of a certificate\n")?;
         push_numbered(out, 2, line)?;
         return push_turn(out, line, turn);
@@ -96,7 +126,7 @@ pub fn push_certificate(alloc: Global, out: &mut String, line: &[u8]) -> Result<
         Ok(_) => Ok(()),
         Err(CertFault::NotJson) => push_no_json(alloc, out, line),
         Err(CertFault::Shape) => push_shape(out, line),
-        Err(CertFault::Range) => push_range(out, line),
+        Err(CertFault::Range) => push_range(alloc, out, line),
         Err(CertFault::Memory) => Err(AllocError),
     }
 }

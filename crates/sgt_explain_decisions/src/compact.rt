@@ -80,6 +80,10 @@ impl Followed<'_> {
     ) -> Result<(u64, usize), Turn> {
         let at = self.behind_spaces(from);
         let (number, to) = self.digits(at);
+        if to > at && matches!(self.byte(to), Some(b'.' | b'e' | b'E')) {
+            let wanted = "a whole number, with no fraction and no exponent";
+            return Err(Turn { at: to, wanted });
+        }
         let length = to.saturating_sub(at);
         let is_plain = length == 1 || (length > 1 && self.byte(at) != Some(b'0'));
         if is_plain && number >= least && number <= most {
@@ -188,24 +192,29 @@ impl Followed<'_> {
         self.word(at, "}")
     }
 
+    /// Whether this name stands here.
+    fn has(self, at: usize, name: &[u8]) -> bool {
+        self.line.get(at..).unwrap_or(b"").starts_with(name)
+    }
+
     /// A decision.
     fn decision(self, from: usize, far: Farthest) -> Result<(Farthest, usize), Turn> {
         let at = self.word(from, "{\"")?;
-        match self.byte(at) {
-            Some(b'c') => {
-                let to = self.commit(at)?;
-                Ok((far, to))
-            }
-            Some(b'w') => {
-                let to = self.withdrawal(at)?;
-                Ok((far, to))
-            }
-            Some(b'r') => self.refusal(at, far),
-            _ => Err(Turn {
-                at,
-                wanted: "commit, refuse or withdraw",
-            }),
+        if self.has(at, b"commit") {
+            let to = self.commit(at)?;
+            return Ok((far, to));
         }
+        if self.has(at, b"withdraw") {
+            let to = self.withdrawal(at)?;
+            return Ok((far, to));
+        }
+        if self.has(at, b"refuse") {
+            return self.refusal(at, far);
+        }
+        Err(Turn {
+            at,
+            wanted: "commit, refuse or withdraw",
+        })
     }
 
     /// Decisions with commas between, up to the bracket behind them.

@@ -4,7 +4,7 @@ use crate::placed::{Placed, number_on};
 use crate::words::push_decision;
 use sgt_cert::Decision;
 use sgt_explain_lines::{Logged, Section, push_logged};
-use sgt_names::{Entry, Tx};
+use sgt_names::Tx;
 use std::alloc::{AllocError, Global};
 use std::fmt::Write;
 
@@ -18,17 +18,12 @@ fn end_of(entries: &[Logged], tx: Tx) -> Option<Logged> {
     None
 }
 
-/// What only such an entry may say.
-fn needs(entry: &Entry) -> &'static str {
-    match entry {
-        Entry::Write { .. } | Entry::Add { .. } | Entry::Commit { .. } => {
-            "w, d and c are of committed transactions alone"
-        }
-        Entry::Want { .. } | Entry::WantAdd { .. } | Entry::Refuse { .. } => {
-            "p, q and n are of refused transactions alone"
-        }
-        Entry::Withdraw { .. } => "a is of withdrawn transactions alone",
-        Entry::Read { .. } => "each transaction of a log is decided",
+/// The entries that a transaction has that is decided so.
+fn entries_of(decision: &Decision) -> &'static str {
+    match decision {
+        Decision::Commit { .. } => "r, w, d and c",
+        Decision::Refuse { .. } => "r, p, q and n",
+        Decision::Withdraw { .. } => "r and a",
     }
 }
 
@@ -58,11 +53,12 @@ pub fn push_end(
             "transaction {tx} has ended at this site: nothing of it may follow"
         );
     }
-    if let Some(decision) = decisions.get(number) {
-        push_decision(out, number, decision)?;
-    }
-    let rule = needs(&logged.entry);
-    writeln!(out, ": {rule}")
+    let Some(decision) = decisions.get(number) else {
+        return Ok(());
+    };
+    push_decision(out, number, decision)?;
+    let letters = entries_of(decision);
+    writeln!(out, ": of {tx} may stand {letters} alone")
 }
 
 /// The numbers of the transactions that end among these entries, sorted.

@@ -17,6 +17,9 @@ pub fn push_format(out: &mut String, bytes: &[u8]) -> Result<(), AllocError> {
     match line.last() {
         _ if line.len() > MAX_LINE => out.push_str("it is longer than 1048576 bytes\n"),
         None => out.push_str("it is empty\n"),
+        _ if line.starts_with(b"\xef\xbb\xbf") => {
+            out.push_str("a byte order mark stands before it: the text begins without one\n")
+        }
         Some(b'\r') => out.push_str("a CR stands at its end: a line ends with LF alone\n"),
         Some(b'}') => out.push_str("the certificate is line 2: the line before it was left out\n"),
         Some(_) => Ok(()),
@@ -54,7 +57,7 @@ pub fn push_allowed(out: &mut String, section: &Section) -> Result<(), AllocErro
             let next = site.saturating_add(1);
             writeln!(
                 out,
-                "the section of site {site} is over: the next begins with `site {next}`"
+                "the section of site {site} is over, and line 2 says more sites: next is `site {next}`"
             )
         }
         Some(SectionLine::Site(_) | SectionLine::Initial(_)) => {
@@ -104,7 +107,7 @@ pub fn push_trailing(out: &mut String, bytes: &[u8], number: u64) -> Result<(), 
     let last = number.saturating_sub(1);
     writeln!(
         out,
-        "line {last} is the `end` of the last site: nothing may stand behind it"
+        "line {last} ends the last site that line 2 says: nothing may stand behind it"
     )
 }
 

@@ -213,12 +213,12 @@ fn push_block_rule(out: &mut String, open: &Logged) -> Result<(), AllocError> {
         Entry::Want { .. } | Entry::WantAdd { .. } => {
             writeln!(
                 out,
-                "directly behind line {line} may stand p, q or n of {tx} alone"
+                "directly behind line {line} may stand p, q or n of {tx} alone: they stand together"
             )
         }
         _ => writeln!(
             out,
-            "directly behind line {line} may stand w, d or c of {tx} alone"
+            "directly behind line {line} may stand w, d or c of {tx} alone: they stand together"
         ),
     }
 }

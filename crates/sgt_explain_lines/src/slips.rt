@@ -24,6 +24,8 @@ enum Slip {
     LongName(usize),
     /// Bytes that are no name.
     BadName,
+    /// A space in a name.
+    InnerSpace,
     /// No digits where a number is wanted.
     NoNumber,
     /// A number that begins with a zero.
@@ -106,7 +108,9 @@ fn slip_of_name(text: &[u8]) -> Option<Slip> {
     if Item::new(text).is_ok() {
         return None;
     }
-    if text.len() > 16 {
+    if text.contains(&b' ') {
+        Some(Slip::InnerSpace)
+    } else if text.len() > 16 {
         Some(Slip::LongName(text.len()))
     } else {
         Some(Slip::BadName)
@@ -186,6 +190,7 @@ fn advice_on(slip: Slip) -> &'static str {
         Slip::EndsWithSpace => "a space stands at its end",
         Slip::Increment => "increments are read under `sgt 2` alone, and line 1 is `sgt 1`",
         Slip::BadName => "a name is a letter a to z, then up to 15 of a to z, 0 to 9 and _",
+        Slip::InnerSpace => "a space stands in its name, or before or behind it",
         Slip::NoNumber => "a number is missing",
         Slip::LeadingZero => "a number has no leading zero",
         Slip::TooGreat => "a number is at most 18446744073709551615",

@@ -50,7 +50,7 @@ const DRAW_USAGE: &str =
 
 /// What the help of each command ends with.
 pub const MORE: &str =
-    "Behind each command a FILE may stand; with none, or -, standard input is read. audit takes several files, and -q to answer by the status alone. replay and run take --bundle FILE, where the bundle goes then, and replay --strict. With --progress audit, serial and replay tell standard error of every million lines read.
+    "Behind each command a FILE may stand; with none, or -, standard input is read. audit takes several files, and -q to answer by the status alone. replay and run take --bundle FILE, where the bundle goes then, and replay --strict. With --progress, and where standard error is a terminal, audit, serial and replay tell it of every million lines read.
 
 L is the first line with a fault and FN the fault: docs/FORMAT.md has the faults and the formats of a bundle, a replay and scripts.
 
@@ -212,6 +212,15 @@ fn behind_first(words: &[String]) -> &[String]
     }
 }
 
+// The line whose usage is shown for such words: of the command that they begin with, where that has words of its own.
+fn line_of<'a>(alloc: Global, words: &[String]) -> Result<Command<'a>, AllocError> {
+    match words {
+        [_, word, ..] if word.as_str() == "explain" => explain_line(alloc),
+        [_, word, ..] if word.as_str() == "draw" => draw_line(alloc),
+        _ => command(alloc),
+    }
+}
+
 /// The help or the usage text for words that are not plain. What clap would take for a command here, as `audit --`, is none.
 pub fn no_choice(alloc: Global, words: &[String]) -> Result<NoChoice, AllocError>
     ensures text { IfOk result HasText }
@@ -219,7 +228,7 @@ pub fn no_choice(alloc: Global, words: &[String]) -> Result<NoChoice, AllocError
 {
     let mut command = command(alloc)?;
     match command.try_get_matches_from_mut(words) {
-        Ok(_) => no_command(alloc, &mut command),
+        Ok(_) => no_command(alloc, &mut line_of(alloc, words)?),
         Err(error) => told_of(alloc, &mut command, behind_first(words), &error),
     }
 }
