@@ -1,0 +1,12 @@
+//! The audit of a bundle, section by section, on several processors.
+#![tactic(auto)]
+
+mod cutting;
+mod engine;
+mod judging;
+mod laws;
+mod tally;
+
+pub use cutting::read_section;
+pub use engine::audit_with;
+pub use judging::{Judged, judge_section};
