@@ -28,7 +28,8 @@ use Rattle.sgt_audit.specs.declared.faults.Fault.{Fault}
 use Rattle.sgt_audit.specs.declared.faults.Fault.TheVariants as fault
 use Rattle.sgt_audit.specs.Faults.{fault_number, section_with, open_section, initial_in, logged_in, items_in, entries_in, IsLineIn, Keeps, Piece, whole, last, Rule, Breaks, within}
 use Rattle.sgt_audit.proofs.FaultNumbers.{number-one}
-use Rattle.sgt_audit.proofs.Least.{IsClosed, logged-7, final-7, end-7, site-7}
+use Rattle.sgt_audit.proofs.Alone.{kept-7}
+use Rattle.sgt_audit.proofs.Least.{IsClosed}
 use Rattle.sgt_audit.proofs.LinePlaces.{no_cons}
 use Rattle.sgt_audit.proofs.MayFollow.{split-whole, sections-append, regroup}
 use Rattle.sgt_audit.proofs.OpenLogs.{whole-closed}
@@ -48,30 +49,6 @@ starts k (t ∷ tail) [] more l e = sym (heads (Site k) l _ more e)
 starts k (t ∷ tail) (x ∷ own) more l e = sym (heads (Site k) x _ (own ++ l ∷ more) e)
 
 -- ---- lines that have the same section open
-
-no-walk-7 : (c : Certificate) (before : List SectionLine) (h : Holding) (f : Fault) → fault_number f < 7 → Keeps c before (Initial h) f
-no-walk-7 c before h fault.Section lt = absurd (omega arith)
-no-walk-7 c before h fault.Item lt = absurd (omega arith)
-no-walk-7 c before h fault.Twice lt = absurd (omega arith)
-no-walk-7 c before h fault.ReadValue lt = absurd (omega arith)
-no-walk-7 c before h fault.RankOrder lt = absurd (omega arith)
-no-walk-7 c before h fault.Block lt = absurd (omega arith)
-no-walk-7 c before h fault.End lt = absurd (omega arith)
-no-walk-7 c before h fault.DecisionOrder lt = absurd (omega arith)
-no-walk-7 c before h fault.NotEnded lt = absurd (omega arith)
-no-walk-7 c before h fault.Final lt = absurd (omega arith)
-no-walk-7 c before h fault.WalkStep lt = absurd (omega arith)
-no-walk-7 c before h fault.Truncated lt = absurd (omega arith)
-no-walk-7 c before h fault.Trailing lt = absurd (omega arith)
-no-walk-7 c before h _ lt = tt
-
--- no line breaks a rule of smaller number than F7
-low : (c : Certificate) (before : List SectionLine) (line : SectionLine) (f : Fault) → fault_number f < 7 → Keeps c before line f
-low c before (Site k) f lt = site-7 c before k f lt
-low c before (Initial h) f lt = no-walk-7 c before h f lt
-low c before (Logged e) f lt = logged-7 c before e f lt
-low c before (Final h) f lt = final-7 c before h f lt
-low c before End f lt = end-7 c before f lt
 
 module _ (c : Certificate) (a b : List SectionLine) (opened : open_section a ≡ open_section b) (ends : last_or None a ≡ last_or None b) where
   items-same : items_in a ≡ items_in b
@@ -193,7 +170,7 @@ module _ (ws vs : List SiteLog) (len : length ws ≡ length vs) (shaped : All Is
         | inl same ↦
             let seven = number-one f fault.Section same in
             subst (λ g. Keeps c (front ++ own) l g → Keeps c (other ++ own) l g) (sym seven) (begins-moved c.sites own l) h
-        | inr (inl less) ↦ low c (other ++ own) l f less
+        | inr (inl less) ↦ kept-7 c (other ++ own) l f less
         | inr (inr more) ↦ open-moved c (length ws) own l f (begins-starts c.sites own l (begins more)) not (λ e. absurd (omega arith)) h
       ]
 

@@ -29,14 +29,12 @@ struct Done {
 
 fn run(certificate: &Decided, steps: &Steps, job: Job) -> Done {
     let mut job = job;
-    let edges = steps.at(job.site);
     let judged = judge_section(
         &mut job.alone,
         certificate,
-        edges,
+        steps.at(job.site),
         job.site,
         job.section.as_slice(),
-        job.is_last,
     );
     Done { job, judged }
 }
@@ -142,7 +140,7 @@ fn judge_sections<H: Threads + Sync, R: Source>(
         let done = thread::map_vec(rt, jobs, &|job| run(certificate, steps, job))?;
         waiting = left;
         for Done { job, judged } in done {
-            if let Some(verdict) = tally.add(judged?)? {
+            if let Some(verdict) = tally.add(judged?, job.is_last)? {
                 return Ok(verdict);
             }
             waiting.push(job)?;

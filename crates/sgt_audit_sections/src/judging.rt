@@ -1,8 +1,16 @@
 //! A section judged by itself.
 
+ghost use Rattle.std.specs.Prelude.{◌≡◌, ◌<◌, ◌+◌, IfOk, IfSome, IfNone};
+ghost use Rattle.sgt_notation.specs.Spelling.{HasNoLf};
+ghost use Rattle.sgt_audit_decisions.specs.Steps.{AreStepsAt};
+ghost use Rattle.sgt_audit.specs.Alone.{IsReadyAlone};
+ghost use Rattle.sgt_audit_sections.specs.Sections.{IsFaultlessCertificate};
+ghost use Rattle.sgt_audit_sections.specs.Judged.{IsJudgedSection, IsWhole};
+ghost use Rattle.sgt_audit_sections.specs.private.Feeding.{FedAlone};
+
 use sgt_audit::{Alone, Fault};
 use sgt_audit_decisions::{Decided, Edge};
-use sgt_notation::{MAX_LINE, SectionLine, find_lf, front_line};
+use sgt_notation::{MAX_LINE, find_lf, front_line};
 use std::alloc::AllocError;
 
 /// What the bytes of a section were found to be.
@@ -12,30 +20,37 @@ pub enum Judged {
     Whole { lines: u64, met: bool },
     /// The section has this fault, at this line first. Lines are counted from 1.
     Faulty { line: u64, fault: Fault },
-    /// It stands neither alone nor last.
+    /// The same, where the text ends behind these bytes.
+    Open { line: u64, fault: Fault },
+    /// More than one section.
     Unfit,
 }
 
-/// One more line at the front of the bytes: how many bytes it has with its LF, whether it is an end, and its fault.
+/// Feeds the line at the front of the bytes, if a whole one stands there: how many bytes it has with its LF, and its fault.
 #[inline(always)]
 fn feed_front(
     alone: &mut Alone,
     certificate: &Decided,
+    edges: &[Edge],
     bytes: &[u8],
-) -> Result<Option<(usize, Option<Fault>)>, AllocError> {
-    if let Some((line, n)) = front_line(bytes) {
-        return Ok(Some((n, alone.next_read(certificate, &line)?)));
+) -> Result<Option<(usize, Option<Fault>)>, AllocError>
+    ensures fed { IfOk result (λ found. IfSome found (λ r. FedAlone certificate.now edges.now alone.old alone.new bytes.now r.0 r.1)) }
+    ensures none { IfOk result (λ found. IfNone found (HasNoLf bytes.now)) }
+    ensures same { IfOk result (λ found. IfNone found (alone.new ≡ alone.old)) }
+    ensures second { alone.new.second ≡ alone.old.second }
+{
+    let found = front_line(bytes);
+    if let Some((line, n)) = &found {
+        let fault = alone.next_read(certificate, edges, line)?;
+        return Ok(Some((*n, fault)));
     }
     match find_lf(bytes) {
-        Some(n) => Ok(Some((n + 1, alone.next(certificate, &bytes[..n])?))),
+        Some(n) => {
+            let fault = alone.next(certificate, edges, &bytes[..n])?;
+            Ok(Some((n + 1, fault)))
+        }
         None => Ok(None),
     }
-}
-
-/// Whether the bytes begin with a line `end`.
-#[inline(always)]
-fn is_end(bytes: &[u8]) -> bool {
-    matches!(bytes, [b'e', ..])
 }
 
 /// The fault at the end of the text, with these bytes behind the last LF.
@@ -47,43 +62,46 @@ fn fault_at_end(rest: &[u8]) -> Fault {
     }
 }
 
-/// Judges the bytes as the section of this site. They are the last ones of the text, or end with a line `end`.
+/// What the bytes behind a section's last line make of it.
+fn whole_if(is_all: bool, lines: u64, met: bool) -> Judged {
+    if is_all {
+        Judged::Whole { lines, met }
+    } else {
+        Judged::Unfit
+    }
+}
+
+/// Judges the bytes as the section of this site, with the certificate and the steps at the site lent.
 pub fn judge_section(
     alone: &mut Alone,
     certificate: &Decided,
     edges: &[Edge],
     site: usize,
     bytes: &[u8],
-    is_last: bool,
-) -> Result<Judged, AllocError> {
+) -> Result<Judged, AllocError>
+    requires ready { IsReadyAlone certificate.now site alone.old }
+    requires good { IsFaultlessCertificate certificate.now }
+    requires site { site < certificate.now.sites }
+    requires steps { AreStepsAt certificate.now.decisions site edges.now }
+    ensures judged { IfOk result (IsJudgedSection alone.old.second certificate.now site bytes.now) }
+    ensures ready { IfOk result (λ j. IsWhole j → IsReadyAlone certificate.now (site + 1) alone.new) }
+    ensures second { alone.new.second ≡ alone.old.second }
+{
     alone.begin(site);
     let mut rest = bytes;
     let mut line = 1u64;
-    let mut met = true;
-    'lines: loop {
-        if is_end(rest) {
-            met = alone.has_steps(certificate, edges);
+    'lines: while let Some((n, fault)) = feed_front(alone, certificate, edges, rest)? {
+        if let Some(fault) = fault {
+            return Ok(Judged::Faulty { line, fault });
         }
-        match feed_front(alone, certificate, rest)? {
-            Some((_, Some(fault))) => return Ok(Judged::Faulty { line, fault }),
-            Some((n, None)) => rest = &rest[n..],
-            None => break 'lines,
-        }
+        rest = &rest[n..];
         if alone.is_behind(site) {
-            return Ok(if rest.is_empty() {
-                Judged::Whole { lines: line, met }
-            } else {
-                Judged::Unfit
-            });
+            return Ok(whole_if(rest.is_empty(), line, alone.met));
         }
         line += 1;
     }
-    Ok(if is_last {
-        Judged::Faulty {
-            line,
-            fault: fault_at_end(rest),
-        }
-    } else {
-        Judged::Unfit
+    Ok(Judged::Open {
+        line,
+        fault: fault_at_end(rest),
     })
 }

@@ -26,7 +26,7 @@ impl Tally {
     }
 
     /// One more section: the first fault of the text, if it has one.
-    pub fn add(&mut self, judged: Judged) -> Result<Option<Verdict>, EngineFail> {
+    pub fn add(&mut self, judged: Judged, is_last: bool) -> Result<Option<Verdict>, EngineFail> {
         match judged {
             Judged::Whole { lines, met } => {
                 self.whole += 1;
@@ -38,7 +38,11 @@ impl Tally {
                 line: self.lines + line,
                 fault,
             })),
-            Judged::Unfit => Err(EngineFail::Memory),
+            Judged::Open { line, fault } if is_last => Ok(Some(Verdict::No {
+                line: self.lines + line,
+                fault,
+            })),
+            Judged::Open { .. } | Judged::Unfit => Err(EngineFail::Memory),
         }
     }
 

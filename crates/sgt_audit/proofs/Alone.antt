@@ -1,0 +1,81 @@
+-- One section judged by itself.
+use Rattle.std.proofs.Common.{◌≡◌, ◌≢◌, ℕ, ◌<◌, Bool, List, [], ◌∷◌, ◌++◌, Option, Some, None, IsTrue, refl, sym, ap, ◌∙◌, arith, All}
+use Rattle.std.specs.Prelude.{◌↔◌}
+use Rattle.sgt_names.specs.declared.entry.Holding.{Holding}
+use Rattle.sgt_notation.specs.Spelling.{line_text}
+use Rattle.sgt_notation.specs.declared.SectionLine.{SectionLine}
+use Rattle.sgt_notation.specs.declared.SectionLine.TheVariants.{Site, Initial, Logged, Final, End}
+use Rattle.sgt_cert.specs.Certificate.{IsDecidedOnce}
+use Rattle.sgt_cert.specs.Text.{Begins}
+use Rattle.sgt_cert.specs.declared.bundle.SiteLog.{SiteLog}
+use Rattle.sgt_cert.specs.declared.certificate.Certificate.{Certificate}
+use Rattle.sgt_audit_decisions.specs.declared.steps.Edge.{Edge}
+use Rattle.sgt_audit.specs.declared.alone.Alone.{Alone}
+use Rattle.sgt_audit.specs.declared.faults.Fault.{Fault}
+use Rattle.sgt_audit.specs.declared.faults.Fault.TheVariants as fault
+use Rattle.sgt_audit.specs.Alone.{MeetsSteps, StandsAlone}
+use Rattle.sgt_audit.specs.Faults.{fault_number, IsLineIn, Keeps, Rule, Breaks, within, whole}
+use Rattle.sgt_audit.specs.Kept.{IsMet, IsPlace, Tracks}
+use Rattle.sgt_audit.specs.Reading.{Begun, IsBegun, lines_read}
+use Rattle.sgt_audit.specs.private.Following.{MayFollow, with_next}
+use Rattle.sgt_audit.specs.private.Judging.{AdmitsLine, KeptBelow}
+use Rattle.sgt_audit.proofs.Least.{logged-7, final-7, end-7, site-7}
+use Rattle.sgt_audit.proofs.MayFollow.{added-begun, begins-follow}
+use Rattle.sgt_audit.proofs.NextLine.{within-breaks}
+use Rattle.sgt_audit.proofs.Places.{next-sites}
+use Rattle.sgt_audit.proofs.SiteStates.{admits}
+
+initial-7 : (c : Certificate) (before : List SectionLine) (h : Holding) → KeptBelow (Keeps c before (Initial h)) 7
+initial-7 c before h fault.Section lt = absurd (omega arith)
+initial-7 c before h fault.Item lt = absurd (omega arith)
+initial-7 c before h fault.Twice lt = absurd (omega arith)
+initial-7 c before h fault.ReadValue lt = absurd (omega arith)
+initial-7 c before h fault.RankOrder lt = absurd (omega arith)
+initial-7 c before h fault.Block lt = absurd (omega arith)
+initial-7 c before h fault.End lt = absurd (omega arith)
+initial-7 c before h fault.DecisionOrder lt = absurd (omega arith)
+initial-7 c before h fault.NotEnded lt = absurd (omega arith)
+initial-7 c before h fault.Final lt = absurd (omega arith)
+initial-7 c before h fault.WalkStep lt = absurd (omega arith)
+initial-7 c before h fault.Truncated lt = absurd (omega arith)
+initial-7 c before h fault.Trailing lt = absurd (omega arith)
+initial-7 c before h _ lt = tt
+
+-- no line breaks a rule of smaller number than F7
+pub kept-7 : (c : Certificate) (before : List SectionLine) (line : SectionLine) → KeptBelow (Keeps c before line) 7
+kept-7 c before (Site k) = site-7 c before k
+kept-7 c before (Initial h) = initial-7 c before h
+kept-7 c before (Logged e) = logged-7 c before e
+kept-7 c before (Final h) = final-7 c before h
+kept-7 c before End = end-7 c before
+
+pub not-section : (second : Bool) (c : Certificate) (before : List SectionLine) (line : SectionLine) → IsLineIn second line → (Begins c.sites (before ++ line ∷ []) → ⊥)
+    → Breaks (Rule (within second c before) (whole (line_text line))) fault.Section
+not-section second c before line is miss = within-breaks second c before line is fault.Section (record { broken = miss; least = kept-7 c before line })
+
+-- what is kept stands behind one more line
+pub next-stands : (c : Certificate) (b : Begun) (line : SectionLine) (old new : Alone) → StandsAlone c b old → Begins b.sites (lines_read b ++ line ∷ []) → KeptBelow (Keeps c (lines_read b) line) 17
+    → ((a : Begun) → IsBegun a → MayFollow a a.current line → IsPlace a old.place → IsPlace (with_next a a.current line) new.place)
+    → ((a : Begun) → IsDecidedOnce c.decisions → IsBegun a → MayFollow a a.current line → AdmitsLine c.decisions a.current line → Tracks c.decisions a old.state → Tracks c.decisions (with_next a a.current line) new.state)
+    → StandsAlone c (with_next b b.current line) new
+next-stands c b line old new s begins kept place state = record {
+  once = s.once;
+  ranked = s.ranked;
+  sites = next-sites b b.current line ∙ s.sites;
+  begun = added-begun b s.begun line begins b.current refl;
+  place = place b s.begun (begins-follow b line begins) s.place;
+  open_site = state b s.once s.begun (begins-follow b line begins) (admits c b b.current line refl kept) s.open_site;
+}
+
+-- whether the steps are conflicts, with the last line
+pub last-meets : (edges : List Edge) (o : Option SiteLog) (met : Bool) → ((log : SiteLog) → o ≡ Some log → IsTrue met ↔ All (IsMet log.entries) edges) → MeetsSteps edges o End met
+last-meets edges (Some log) met h = h log refl
+last-meets edges None met h = tt
+
+pub other-meets : (edges : List Edge) (o : Option SiteLog) (line : SectionLine) (met : Bool) → (line ≡ End → ⊥) → MeetsSteps edges o line met
+other-meets edges None line met not = tt
+other-meets edges (Some log) (Site k) met not = tt
+other-meets edges (Some log) (Initial h) met not = tt
+other-meets edges (Some log) (Logged e) met not = tt
+other-meets edges (Some log) (Final h) met not = tt
+other-meets edges (Some log) End met not = absurd (not refl)
