@@ -152,9 +152,10 @@ impl Alone {
     /// The least fault of a line that may stand next, but for the walks.
     #[inline(always)]
     fn judge(&self, line: &SectionLine, known: &Option<Known>) -> Option<Fault>
-        ensures { (c : Certificate) (b : Begun) → StandsAlone c b self.now → IsKnownLine c.decisions self.now.state line.now known.now
+        ensures judged { (c : Certificate) (b : Begun) → StandsAlone c b self.now → IsKnownLine c.decisions self.now.state line.now known.now
             → Begins b.sites (lines_read b ++ line.now ∷ []) → JudgedLine (Keeps c (lines_read b) line.now) result }
-        ensures not_walks { result ≢ Some Fault.WalkStep }
+        ensures not_walks { (c : Certificate) (b : Begun) → StandsAlone c b self.now → IsKnownLine c.decisions self.now.state line.now known.now
+            → Begins b.sites (lines_read b ++ line.now ∷ []) → result ≢ Some Fault.WalkStep }
     {
         match &self.place.current {
             Some(here) => judge_inside(&self.state, here, line, known),

@@ -1,6 +1,6 @@
 //! The least fault of a line, after lines with no fault.
 
-ghost use Rattle.std.specs.Prelude.{◌≡◌, ◌≢◌, ◌↔◌, ◌∷◌, ◌++◌, [], List, IsTrue, IfNone, IfOk, Contains, Some};
+ghost use Rattle.std.specs.Prelude.{◌≡◌, ◌↔◌, ◌∷◌, ◌++◌, [], List, IsTrue, IfNone, IfOk, Contains};
 ghost use Rattle.sgt_notation.specs.declared.SectionLine.{SectionLine};
 ghost use Rattle.sgt_notation.specs.declared.SectionLine.TheVariants.{Logged, Final, End};
 ghost use Rattle.sgt_names.specs.Log.{names};
@@ -60,7 +60,6 @@ fn judge_entry(
         → TracksOpen c.decisions log.items log.entries state.now
         → HasOpen before log → Begins c.sites (before ++ Logged entry.now ∷ [])
         → JudgedLine (Keeps c before (Logged entry.now)) result }
-    ensures not_walks { result ≢ Some Fault.WalkStep }
 {
     if !is_listed(known, entry) {
         return Some(Fault::Item);
@@ -91,7 +90,6 @@ pub fn judge_final(state: &SiteState, place: &OpenPlace, holding: &Holding) -> O
     ensures { (ds : List Decision) (c : Certificate) (before : List SectionLine) (log : SiteLog) → IsOpenPlace log place.now
         → TracksOpen ds log.items log.entries state.now → Contains (names log.items) holding.now.item → HasOpen before log
         → Begins c.sites (before ++ Final holding.now ∷ []) → JudgedLine (Keeps c before (Final holding.now)) result }
-    ensures not_walks { result ≢ Some Fault.WalkStep }
 {
     if !continues_log(place, &SectionLine::Final(*holding)) {
         return Some(Fault::Block);
@@ -110,7 +108,6 @@ pub fn judge_end(state: &SiteState, place: &OpenPlace) -> Option<Fault>
     ensures { (ds : List Decision) (c : Certificate) (before : List SectionLine) (log : SiteLog) → IsOpenPlace log place.now
         → TracksOpen ds log.items log.entries state.now → HasOpen before log
         → Begins c.sites (before ++ End ∷ []) → JudgedLine (Keeps c before End) result }
-    ensures not_walks { result ≢ Some Fault.WalkStep }
 {
     if !continues_log(place, &SectionLine::End) {
         return Some(Fault::Block);
@@ -134,7 +131,6 @@ pub(crate) fn judge_inside(
         → TracksOpen c.decisions log.items log.entries state.now
         → HasOpen before log → Fits log line.now → Begins c.sites (before ++ line.now ∷ [])
         → JudgedLine (Keeps c before line.now) result }
-    ensures not_walks { result ≢ Some Fault.WalkStep }
 {
     match line {
         SectionLine::Logged(entry) => match known {

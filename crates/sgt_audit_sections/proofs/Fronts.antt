@@ -28,7 +28,7 @@ use Rattle.sgt_audit.specs.declared.faults.Fault.{Fault}
 use Rattle.sgt_audit.specs.declared.faults.Fault.TheVariants as fault
 use Rattle.sgt_audit.specs.Faults.{fault_number, section_with, open_section, initial_in, logged_in, items_in, entries_in, IsLineIn, Keeps, Piece, whole, last, Rule, Breaks, within}
 use Rattle.sgt_audit.proofs.FaultNumbers.{number-one}
-use Rattle.sgt_audit.proofs.Alone.{kept-7}
+use Rattle.sgt_audit.proofs.Lone.{kept-7}
 use Rattle.sgt_audit.proofs.Least.{IsClosed}
 use Rattle.sgt_audit.proofs.LinePlaces.{no_cons}
 use Rattle.sgt_audit.proofs.MayFollow.{split-whole, sections-append, regroup}

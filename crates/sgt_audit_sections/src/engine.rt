@@ -11,43 +11,45 @@ use std::alloc::{AllocError, Global};
 use std::thread;
 use std::thread::Threads;
 
-/// A worker with the section that it judges.
+/// A worker, with the section that it is to judge, or has judged.
 #[derive(Drop)]
 struct Job {
     alone: Alone,
-    section: Vec<u8>,
     site: usize,
+    section: Vec<u8>,
+    /// Whether there is a section.
+    is_given: bool,
+    /// Whether the text ends behind it.
     is_last: bool,
-}
-
-/// The same, judged.
-#[derive(Drop)]
-struct Done {
-    job: Job,
     judged: Result<Judged, AllocError>,
 }
 
-fn run(certificate: &Decided, steps: &Steps, job: Job) -> Done {
+/// Judges the section, if there is one.
+fn run(certificate: &Decided, steps: &Steps, job: Job) -> Job {
     let mut job = job;
-    let judged = judge_section(
-        &mut job.alone,
-        certificate,
-        steps.at(job.site),
-        job.site,
-        job.section.as_slice(),
-    );
-    Done { job, judged }
+    if job.is_given {
+        job.judged = judge_section(
+            &mut job.alone,
+            certificate,
+            steps.at(job.site),
+            job.site,
+            job.section.as_slice(),
+        );
+    }
+    job
 }
 
-/// So many workers with nothing to do.
-fn idle(alloc: Global, workers: usize, head: &Head) -> Result<Vec<Job>, AllocError> {
+/// So many workers with no section.
+fn workers(alloc: Global, count: usize, head: &Head) -> Result<Vec<Job>, AllocError> {
     let mut jobs = Vec::new(alloc);
-    for _ in 0..workers {
+    for _ in 0..count {
         jobs.push(Job {
             alone: Alone::new(alloc, head.second, head.sites, &head.certificate)?,
-            section: Vec::new(alloc),
             site: 0,
+            section: Vec::new(alloc),
+            is_given: false,
             is_last: false,
+            judged: Ok(Judged::Unfit),
         })?;
     }
     Ok(jobs)
@@ -58,34 +60,60 @@ fn idle(alloc: Global, workers: usize, head: &Head) -> Result<Vec<Job>, AllocErr
 struct Text {
     lines: Lines,
     line: Vec<u8>,
+    /// Whether it ends here.
+    is_ended: bool,
+}
+
+/// Gives the worker the section of this site, if there is one.
+fn give<R: Source>(
+    reader: &mut R,
+    text: &mut Text,
+    job: &mut Job,
+    site: usize,
+    sites: usize,
+) -> Result<(), EngineFail> {
+    job.is_given = !text.is_ended && site < sites;
+    if !job.is_given {
+        return Ok(());
+    }
+    let ends = read_section(reader, &mut text.lines, &mut text.line, &mut job.section)?;
+    text.is_ended = !ends;
+    job.site = site;
+    job.is_last = !ends;
+    Ok(())
 }
 
 /// Gives each worker a section, from this site on, as far as there are some.
-fn hand_out<R: Source>(
+fn give_all<R: Source>(
     reader: &mut R,
     text: &mut Text,
-    idle: Vec<Job>,
-    alloc: Global,
-    sites: (usize, usize),
-) -> Result<(Vec<Job>, Vec<Job>), EngineFail> {
-    let mut jobs = Vec::new(alloc);
-    let mut left = Vec::new(alloc);
-    let mut site = sites.0;
-    let mut ended = false;
-    for job in idle {
-        let mut job = job;
-        if ended || site >= sites.1 {
-            left.push(job)?;
+    jobs: &mut [Job],
+    first: usize,
+    sites: usize,
+) -> Result<(), EngineFail> {
+    let mut site = first;
+    for job in jobs {
+        give(reader, text, job, site, sites)?;
+        site = site.saturating_add(1);
+    }
+    Ok(())
+}
+
+/// Adds what the workers found, in the order of the sites: the first fault of the text, if one was found.
+fn take_all(tally: &mut Tally, jobs: &[Job]) -> Result<Option<Verdict>, EngineFail> {
+    for job in jobs {
+        if !job.is_given {
             continue;
         }
-        let ends = read_section(reader, &mut text.lines, &mut text.line, &mut job.section)?;
-        job.site = site;
-        job.is_last = !ends;
-        ended = !ends;
-        site += 1;
-        jobs.push(job)?;
+        let judged = match &job.judged {
+            Ok(judged) => *judged,
+            Err(_) => return Err(EngineFail::Memory),
+        };
+        if let Some(verdict) = tally.add(judged, job.is_last)? {
+            return Ok(Some(verdict));
+        }
     }
-    Ok((jobs, left))
+    Ok(None)
 }
 
 /// The verdict, once all sections have no fault but perhaps one of a walk.
@@ -110,12 +138,13 @@ fn at_end<R: Source>(
 fn judge_sections<H: Threads + Sync, R: Source>(
     rt: &H,
     alloc: Global,
-    workers: usize,
+    count: usize,
     reader: &mut R,
 ) -> Result<Verdict, EngineFail> {
     let mut text = Text {
         lines: Lines::new(alloc)?,
         line: Vec::new(alloc),
+        is_ended: false,
     };
     let head = match read_head(alloc, reader, &mut text.lines, &mut text.line)? {
         Ok(head) => head,
@@ -127,25 +156,22 @@ fn judge_sections<H: Threads + Sync, R: Source>(
         }
     };
     let sites = head.sites as usize;
-    let mut waiting = idle(alloc, workers, &head)?;
+    let mut jobs = workers(alloc, count, &head)?;
     let mut tally = Tally::new();
-    'batches: loop {
+    for _ in 0..sites {
         if tally.whole >= sites {
-            return at_end(reader, &mut text, &head, &tally);
+            break;
         }
-        let (jobs, left) = hand_out(reader, &mut text, waiting, alloc, (tally.whole, sites))?;
+        give_all(reader, &mut text, jobs.as_mut_slice(), tally.whole, sites)?;
         let Head {
             certificate, steps, ..
         } = &head;
-        let done = thread::map_vec(rt, jobs, &|job| run(certificate, steps, job))?;
-        waiting = left;
-        for Done { job, judged } in done {
-            if let Some(verdict) = tally.add(judged?, job.is_last)? {
-                return Ok(verdict);
-            }
-            waiting.push(job)?;
+        jobs = thread::map_vec(rt, jobs, &|job| run(certificate, steps, job))?;
+        if let Some(verdict) = take_all(&mut tally, jobs.as_slice())? {
+            return Ok(verdict);
         }
     }
+    at_end(reader, &mut text, &head, &tally)
 }
 
 /// Audits all that the reader gives, with so many sections judged at once, and writes the line of the verdict and nothing else.

@@ -1,14 +1,15 @@
 -- One section judged by itself.
-use Rattle.std.proofs.Common.{◌≡◌, ◌≢◌, ℕ, ◌<◌, Bool, List, [], ◌∷◌, ◌++◌, Option, Some, None, IsTrue, refl, sym, ap, ◌∙◌, arith, All}
+use Rattle.std.proofs.Common.{◌≡◌, ◌≢◌, ℕ, ◌<◌, Bool, true, List, [], ◌∷◌, ◌++◌, length, Option, Some, None, IsTrue, refl, sym, ap, ◌∙◌, subst, arith, All}
 use Rattle.std.specs.Prelude.{◌↔◌}
 use Rattle.sgt_names.specs.declared.entry.Holding.{Holding}
 use Rattle.sgt_notation.specs.Spelling.{line_text}
 use Rattle.sgt_notation.specs.declared.SectionLine.{SectionLine}
 use Rattle.sgt_notation.specs.declared.SectionLine.TheVariants.{Site, Initial, Logged, Final, End}
 use Rattle.sgt_cert.specs.Certificate.{IsDecidedOnce}
-use Rattle.sgt_cert.specs.Text.{Begins}
+use Rattle.sgt_cert.specs.Text.{Begins, sections_from}
 use Rattle.sgt_cert.specs.declared.bundle.SiteLog.{SiteLog}
 use Rattle.sgt_cert.specs.declared.certificate.Certificate.{Certificate}
+use Rattle.sgt_cert.specs.declared.certificate.Decision.{Decision}
 use Rattle.sgt_audit_decisions.specs.declared.steps.Edge.{Edge}
 use Rattle.sgt_audit.specs.declared.alone.Alone.{Alone}
 use Rattle.sgt_audit.specs.declared.faults.Fault.{Fault}
@@ -16,12 +17,13 @@ use Rattle.sgt_audit.specs.declared.faults.Fault.TheVariants as fault
 use Rattle.sgt_audit.specs.Alone.{MeetsSteps, StandsAlone}
 use Rattle.sgt_audit.specs.Faults.{fault_number, IsLineIn, Keeps, Rule, Breaks, within, whole}
 use Rattle.sgt_audit.specs.Kept.{IsMet, IsPlace, Tracks}
-use Rattle.sgt_audit.specs.Reading.{Begun, IsBegun, lines_read}
-use Rattle.sgt_audit.specs.private.Following.{MayFollow, with_next}
-use Rattle.sgt_audit.specs.private.Judging.{AdmitsLine, KeptBelow}
+use Rattle.sgt_audit.specs.Reading.{Begun, IsBegun, IsOpenLog, HasRoomFor, lines_read}
+use Rattle.sgt_audit.specs.private.Following.{Fits, MayFollow, with_next}
+use Rattle.sgt_audit.specs.private.Judging.{AdmitsLine, HasOpen, JudgedLine, KeptBelow}
 use Rattle.sgt_audit.proofs.Least.{logged-7, final-7, end-7, site-7}
-use Rattle.sgt_audit.proofs.MayFollow.{added-begun, begins-follow}
+use Rattle.sgt_audit.proofs.MayFollow.{added-begun, begins-follow, follow-decides, next-lines, sections-whole}
 use Rattle.sgt_audit.proofs.NextLine.{within-breaks}
+use Rattle.sgt_audit.proofs.OpenLogs.{has_open}
 use Rattle.sgt_audit.proofs.Places.{next-sites}
 use Rattle.sgt_audit.proofs.SiteStates.{admits}
 
@@ -79,3 +81,37 @@ other-meets edges (Some log) (Initial h) met not = tt
 other-meets edges (Some log) (Logged e) met not = tt
 other-meets edges (Some log) (Final h) met not = tt
 other-meets edges (Some log) End met not = absurd (not refl)
+
+-- ---- a line is not judged by the walks: its section might be the first of two
+
+module _ (ds : List Decision) (log : SiteLog) (is : IsOpenLog log) where
+  abbrev pub two : Certificate
+  two = record { sites = 2; decisions = ds }
+
+  abbrev pub first : Begun
+  first = record { sites = 2; whole = []; current = Some log }
+
+  first-begun : IsBegun first
+  first-begun = record { some = omega arith; few = omega arith; logs = λ n d within. absurd (omega arith); room = (omega arith, is) }
+
+  pub first-begins : (line : SectionLine) → Fits log line → Begins 2 (lines_read first ++ line ∷ [])
+  first-begins line fits = (follow-decides first first-begun line true (λ h. fits, λ h. refl)).0 refl
+
+  pub first-open : HasOpen (lines_read first) log
+  first-open = has_open first log refl
+
+  walks-hold : (line : SectionLine) → Fits log line → Keeps two (lines_read first) line fault.WalkStep
+  walks-hold (Site k) fits = tt
+  walks-hold (Initial x) fits = tt
+  walks-hold (Logged e) fits = tt
+  walks-hold (Final x) fits = tt
+  walks-hold End fits logs len same =
+      let new : Begun = with_next first (Some log) End in
+      let whole = sections-whole new logs (same ∙ sym (next-lines first (Some log) End refl fits)) in
+      let one : length (log ∷ []) ≡ length logs = ap length whole.1 in
+      absurd (omega (arith, one, len))
+
+  pub not-walk : (line : SectionLine) (found : Option Fault) → Fits log line → JudgedLine (Keeps two (lines_read first) line) found → found ≢ Some fault.WalkStep
+  not-walk line found fits judged same =
+      let breaks = subst (JudgedLine (Keeps two (lines_read first) line)) same judged in
+      breaks.broken (walks-hold line fits)
