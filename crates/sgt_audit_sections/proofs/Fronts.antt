@@ -34,7 +34,7 @@ use Rattle.sgt_audit.proofs.LinePlaces.{no_cons}
 use Rattle.sgt_audit.proofs.MayFollow.{split-whole, sections-append, regroup}
 use Rattle.sgt_audit.proofs.OpenLogs.{whole-closed}
 
-all-tail : {A : Type 0} (P : A → Type 0) (xs ys : List A) → All P (xs ++ ys) → All P ys
+pub all-tail : {A : Type 0} (P : A → Type 0) (xs ys : List A) → All P (xs ++ ys) → All P ys
 all-tail P xs ys all = All-from_at P ys (λ n y at. All_at P (xs ++ ys) (length xs + n) y all (back_at xs ys n ∙ at))
 
 -- ---- the first line of a section
@@ -174,7 +174,7 @@ module _ (ws vs : List SiteLog) (len : length ws ≡ length vs) (shaped : All Is
         | inr (inr more) ↦ open-moved c (length ws) own l f (begins-starts c.sites own l (begins more)) not (λ e. absurd (omega arith)) h
       ]
 
-  rule-last : (second : Bool) (c : Certificate) (own : List SectionLine) (l : List ℕ) (f : Fault) → Rule (within second c (front ++ own)) (last l) f → Rule (within second c (other ++ own)) (last l) f
+  pub rule-last : (second : Bool) (c : Certificate) (own : List SectionLine) (l : List ℕ) (f : Fault) → Rule (within second c (front ++ own)) (last l) f → Rule (within second c (other ++ own)) (last l) f
   rule-last second c own l fault.Notation h = h
   rule-last second c own l fault.Truncated h = h
   rule-last second c own l _ h = tt
@@ -182,7 +182,7 @@ module _ (ws vs : List SiteLog) (len : length ws ≡ length vs) (shaped : All Is
   abbrev pub Kept7 : Bool → Certificate → List SectionLine → List ℕ → Type 0
   Kept7 second c own l = (line : SectionLine) → IsLineIn second line → l ≡ line_text line → Begins c.sites ((front ++ own) ++ line ∷ [])
 
-  rule-whole : (second : Bool) (c : Certificate) (own : List SectionLine) (l : List ℕ) (f : Fault) → f ≢ fault.WalkStep → (7 < fault_number f → Kept7 second c own l)
+  pub rule-whole : (second : Bool) (c : Certificate) (own : List SectionLine) (l : List ℕ) (f : Fault) → f ≢ fault.WalkStep → (7 < fault_number f → Kept7 second c own l)
       → Rule (within second c (front ++ own)) (whole l) f → Rule (within second c (other ++ own)) (whole l) f
   rule-whole second c own l fault.Notation not begins h = h
   rule-whole second c own l f not begins h = λ line is same. line-moved c own line f not (λ more. begins more line is same) (h line is same)

@@ -1,3 +1,3 @@
 pub mod Fronts
-pub mod Laws
+pub mod SectionFaults
 pub mod OneSection

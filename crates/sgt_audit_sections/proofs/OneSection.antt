@@ -30,7 +30,7 @@ use Rattle.sgt_audit.proofs.ReaderAtStage.{one-line}
 use Rattle.sgt_audit_sections.specs.Sections.{empty_log, alone, KeepsAlone, AreKeptAlone, OwnFault, IsFaultlessCertificate, IsFaultlessSection, StepsAreFound}
 use Rattle.sgt_audit_sections.specs.Judged.{IsWholeSection}
 use Rattle.sgt_audit_sections.specs.private.Feeding.{FedAlone}
-use Rattle.sgt_audit_sections.proofs.Laws.{empties}
+use Rattle.sgt_audit_sections.proofs.SectionFaults.{empties}
 
 abbrev pub empty : ℕ → List SiteLog
 empty k = replicate k empty_log

@@ -1,7 +1,7 @@
 //! A probe: audits standard input with as many workers as the first word says.
 #![tactic(auto)]
 
-use sgt_audit_sections::audit_with;
+use sgt_audit_workers::audit_with;
 use sgt_names::{FromRead, ToWrite};
 use std::env;
 use std::io;

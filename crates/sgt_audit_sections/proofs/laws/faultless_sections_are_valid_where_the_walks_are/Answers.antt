@@ -1,4 +1,4 @@
-use Rattle.sgt_audit_sections.proofs.Laws.{found-no_fault, no_fault-found, missed-first, trailing-first}
+use Rattle.sgt_audit_sections.proofs.SectionFaults.{found-no_fault, no_fault-found, missed-first, trailing-first}
 use Rattle.sgt_audit_sections.proofs.laws.faultless_sections_are_valid_where_the_walks_are.Goals as goal
 
 pub returns-clause-valid : goal.returns-clause-valid

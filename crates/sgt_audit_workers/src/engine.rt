@@ -1,7 +1,7 @@
 //! The audit of all that a reader gives, with several sections judged at once.
 
 use crate::cutting::read_section;
-use crate::judging::{Judged, judge_section};
+use sgt_audit_sections::{Judged, judge_section};
 use crate::tally::Tally;
 use sgt_audit::{Alone, Head, Verdict, audit, read_head, yes_to};
 use sgt_audit_decisions::{Decided, Steps};

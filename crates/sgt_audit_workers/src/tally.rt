@@ -1,6 +1,6 @@
 //! The sections judged so far, in their order.
 
-use crate::judging::Judged;
+use sgt_audit_sections::Judged;
 use sgt_audit::{Fault, Verdict};
 use sgt_names::EngineFail;
 
