@@ -105,7 +105,7 @@ module _ (ds : List Decision) (log : SiteLog) (is : IsOpenLog log) where
   walks-hold (Initial x) fits = tt
   walks-hold (Logged e) fits = tt
   walks-hold (Final x) fits = tt
-  walks-hold End fits logs len same =
+  walks-hold End fits = λ logs len same.
       let new : Begun = with_next first (Some log) End in
       let whole = sections-whole new logs (same ∙ sym (next-lines first (Some log) End refl fits)) in
       let one : length (log ∷ []) ≡ length logs = ap length whole.1 in
