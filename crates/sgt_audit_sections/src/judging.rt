@@ -1,9 +1,12 @@
 //! A section judged by itself.
 
-ghost use Rattle.std.specs.Prelude.{◌≡◌, ◌<◌, ◌+◌, IfOk, IfSome, IfNone};
+ghost use Rattle.std.specs.Prelude.{◌≡◌, ◌≢◌, ◌<◌, ◌+◌, Bool, List, IfOk, IfSome, IfNone};
 ghost use Rattle.sgt_notation.specs.Spelling.{HasNoLf};
 ghost use Rattle.sgt_audit_decisions.specs.Steps.{AreStepsAt};
+ghost use Rattle.sgt_notation.specs.declared.SectionLine.{SectionLine};
+ghost use Rattle.sgt_cert.specs.declared.certificate.Certificate.{Certificate};
 ghost use Rattle.sgt_audit.specs.Alone.{IsReadyAlone};
+ghost use Rattle.sgt_audit.specs.Faults.{Breaks, Rule, within, last};
 ghost use Rattle.sgt_audit_sections.specs.Sections.{IsFaultlessCertificate};
 ghost use Rattle.sgt_audit_sections.specs.Judged.{IsJudgedSection, IsWhole};
 ghost use Rattle.sgt_audit_sections.specs.private.Feeding.{FedAlone};
@@ -54,20 +57,14 @@ fn feed_front(
 }
 
 /// The fault at the end of the text, with these bytes behind the last LF.
-fn fault_at_end(rest: &[u8]) -> Fault {
+fn fault_at_end(rest: &[u8]) -> Fault
+    ensures breaks { (second : Bool) (c : Certificate) (before : List SectionLine) → Breaks (Rule (within second c before) (last rest.now)) result }
+    ensures others { result ≢ Fault.WalkStep }
+{
     if rest.len() > MAX_LINE {
         Fault::Notation
     } else {
         Fault::Truncated
-    }
-}
-
-/// What the bytes behind a section's last line make of it.
-fn whole_if(is_all: bool, lines: u64, met: bool) -> Judged {
-    if is_all {
-        Judged::Whole { lines, met }
-    } else {
-        Judged::Unfit
     }
 }
 
@@ -96,7 +93,13 @@ pub fn judge_section(
         }
         rest = &rest[n..];
         if alone.is_behind(site) {
-            return Ok(whole_if(rest.is_empty(), line, alone.met));
+            if !rest.is_empty() {
+                return Ok(Judged::Unfit);
+            }
+            return Ok(Judged::Whole {
+                lines: line,
+                met: alone.met,
+            });
         }
         line += 1;
     }

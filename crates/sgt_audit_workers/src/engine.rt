@@ -128,7 +128,7 @@ fn at_end<R: Source>(
     }
     match text.lines.next(reader, &mut text.line, MAX_LINE) {
         Ok(Next::End) => Ok(yes_to(head.certificate.decisions())),
-        Ok(Next::Line) | Ok(Next::Cut) | Ok(Next::TooLong) => Ok(tally.trailing()),
+        Ok(Next::Line) | Ok(Next::Cut) | Ok(Next::TooLong) => tally.trailing(),
         Err(LinesFault::Memory) => Err(EngineFail::Memory),
         Err(LinesFault::ReadFault) => Err(EngineFail::ReadFault),
     }
