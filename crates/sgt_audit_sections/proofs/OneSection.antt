@@ -48,7 +48,7 @@ pub record Goes (second : Bool) (c : Certificate) (k : ℕ) (bytes rest : List �
   pub format : a.second ≡ second
 
 -- before the first line
-pub at_site : Certificate → ℕ → Begun
+abbrev pub at_site : Certificate → ℕ → Begun
 at_site c k = record { sites = c.sites; whole = empty k; current = None }
 
 pub fresh : (c : Certificate) (k : ℕ) → IsFaultlessCertificate c → k < c.sites → IsBegun (at_site c k)
@@ -130,16 +130,16 @@ module _ (second : Bool) (c : Certificate) (k : ℕ) (few : k < c.sites) (bytes 
           kept = g.kept;
           open_yet = open-yet;
           number = g.number;
-          comes = (drop n rest ++ more, ap (λ (t : List ℕ). t ++ more) (cut-rest rest fed.line n fed.front) ∙ append_assoc fed.line (10 ∷ drop n rest) more, fed.one);
+          comes = (drop n rest ++ more, ap (λ (t : List ℕ). t ++ more) (fed.cut) ∙ append_assoc fed.line (10 ∷ drop n rest) more, fed.one);
           breaks = subst (λ ls. Breaks (Rule (within second c ls) (whole fed.line)) f) g.lines (subst (λ s. Breaks (Rule (within s c (lines_read g.b)) (whole fed.line)) f) (same ∙ g.format) follows.0);
           others = follows.1;
         }
 
     module _ (fed : FedAlone c edges a new rest n None) where
-      abbrev read : SectionLine
+      abbrev pub read : SectionLine
       read = (fed.follows g.b g.stands).0
 
-      abbrev next : Begun
+      abbrev pub next : Begun
       next = with_next g.b g.b.current read
 
       abbrev more_own : List SectionLine
@@ -154,7 +154,7 @@ module _ (second : Bool) (c : Certificate) (k : ℕ) (few : k < c.sites) (bytes 
       keeps : (f : Fault) → fault_number f < 17 → Keeps c (lines_read g.b) read f
       keeps = (fed.follows g.b g.stands).3
 
-      stands : StandsAlone c next new
+      pub stands : StandsAlone c next new
       stands = (fed.follows g.b g.stands).4
 
       meets : MeetsSteps edges g.b.current read new.met
@@ -181,7 +181,7 @@ module _ (second : Bool) (c : Certificate) (k : ℕ) (few : k < c.sites) (bytes 
 
       own-text : bytes ≡ text_of_lines (map line_text more_own) ++ drop n rest
       own-text =
-          g.text ∙ ap (λ (t : List ℕ). text_of_lines (map line_text g.own) ++ t) (cut-rest rest fed.line n fed.front ∙ ap (λ (t : List ℕ). t ++ 10 ∷ drop n rest) is-text)
+          g.text ∙ ap (λ (t : List ℕ). text_of_lines (map line_text g.own) ++ t) (fed.cut ∙ ap (λ (t : List ℕ). t ++ 10 ∷ drop n rest) is-text)
           ∙ sym (one-line (map line_text g.own) (line_text read) (drop n rest)) ∙ ap (λ ls. text_of_lines ls ++ drop n rest) (sym (map-append line_text g.own (read ∷ [])))
 
       own-number : line ≡ length more_own
@@ -236,11 +236,11 @@ module _ (second : Bool) (c : Certificate) (k : ℕ) (few : k < c.sites) (bytes 
             (sym next-read ∙ read-whole next (empty k ++ log ∷ []) (ended behind).3 closed ∙ sections-append 0 (empty k) (log ∷ [])
             ∙ ap (λ (ls : List SectionLine). sections_from 0 (empty k) ++ ls) (append-nil (section_lines (0 + length (empty k)) log) ∙ ap (λ j. section_lines j log) (zero-add (length (empty k)) ∙ at)))
           where
-            read-whole : (b : Begun) (ws : List SiteLog) → b.whole ≡ ws → b.current ≡ None → lines_read b ≡ sections_from 0 ws
-            read-whole b ws e none = append-end b none ∙ ap (sections_from 0) e
-
             append-end : (b : Begun) → b.current ≡ None → lines_read b ≡ sections_from 0 b.whole
             append-end b none = ap (λ o. lines_read (record b { current = o })) none ∙ append-nil (sections_from 0 b.whole)
+
+            read-whole : (b : Begun) (ws : List SiteLog) → b.whole ≡ ws → b.current ≡ None → lines_read b ≡ sections_from 0 ws
+            read-whole b ws e none = append-end b none ∙ ap (sections_from 0) e
 
         shaped : IsShapedLog log
         shaped =

@@ -47,7 +47,7 @@ Below c before line = (f : Fault) → fault_number f < 17 → Keeps c before lin
 empty-shaped : IsShapedLog empty_log
 empty-shaped = record { room = omega arith; rising = λ i j d lt within. absurd (omega arith); finals = refl }
 
-empties : (k : ℕ) → All IsShapedLog (replicate k empty_log)
+pub empties : (k : ℕ) → All IsShapedLog (replicate k empty_log)
 empties k = All-replicate IsShapedLog k empty_log empty-shaped
 
 -- ---- the rules above

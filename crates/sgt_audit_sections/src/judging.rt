@@ -1,6 +1,6 @@
 //! A section judged by itself.
 
-ghost use Rattle.std.specs.Prelude.{◌≡◌, ◌≢◌, ◌<◌, ◌+◌, Bool, List, IfOk, IfSome, IfNone};
+ghost use Rattle.std.specs.Prelude.{◌≡◌, ◌≢◌, ◌<◌, ◌≤◌, ◌+◌, Bool, List, length, take, drop, IfOk, IfSome, IfNone};
 ghost use Rattle.sgt_notation.specs.Spelling.{HasNoLf};
 ghost use Rattle.sgt_audit_decisions.specs.Steps.{AreStepsAt};
 ghost use Rattle.sgt_notation.specs.declared.SectionLine.{SectionLine};
@@ -29,6 +29,26 @@ pub enum Judged {
     Unfit,
 }
 
+/// The first n bytes.
+#[inline(always)]
+fn front(bytes: &[u8], n: usize) -> &[u8]
+    requires { n ≤ length bytes.now }
+    ensures { result.now ≡ take n bytes.now }
+{
+    let (first, _) = bytes.split_at(n);
+    first
+}
+
+/// The bytes behind the first n.
+#[inline(always)]
+fn behind(bytes: &[u8], n: usize) -> &[u8]
+    requires { n ≤ length bytes.now }
+    ensures { result.now ≡ drop n bytes.now }
+{
+    let (_, rest) = bytes.split_at(n);
+    rest
+}
+
 /// Feeds the line at the front of the bytes, if a whole one stands there: how many bytes it has with its LF, and its fault.
 #[inline(always)]
 fn feed_front(
@@ -49,7 +69,7 @@ fn feed_front(
     }
     match find_lf(bytes) {
         Some(n) => {
-            let fault = alone.next(certificate, edges, &bytes[..n])?;
+            let fault = alone.next(certificate, edges, front(bytes, n))?;
             Ok(Some((n + 1, fault)))
         }
         None => Ok(None),
@@ -91,7 +111,7 @@ pub fn judge_section(
         if let Some(fault) = fault {
             return Ok(Judged::Faulty { line, fault });
         }
-        rest = &rest[n..];
+        rest = behind(rest, n);
         if alone.is_behind(site) {
             if !rest.is_empty() {
                 return Ok(Judged::Unfit);

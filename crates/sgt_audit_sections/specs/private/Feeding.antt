@@ -1,5 +1,5 @@
 -- A line at the front of some bytes, fed.
-use Rattle.std.specs.Prelude.{◌≡◌, ◌≤◌, ℕ, List, [], ◌∷◌, ◌++◌, length, take, Option}
+use Rattle.std.specs.Prelude.{◌≡◌, ◌≤◌, ℕ, List, ◌∷◌, ◌++◌, length, drop, Option}
 use Rattle.sgt_notation.specs.Spelling.{HasNoLf}
 use Rattle.sgt_cert.specs.declared.certificate.Certificate.{Certificate}
 use Rattle.sgt_audit_decisions.specs.declared.steps.Edge.{Edge}
@@ -13,5 +13,5 @@ pub record FedAlone (c : Certificate) (edges : List Edge) (old new : Alone) (byt
   pub line : List ℕ
   pub one : HasNoLf line
   pub within : n ≤ length bytes
-  pub front : take n bytes ≡ line ++ 10 ∷ []
+  pub cut : bytes ≡ line ++ 10 ∷ drop n bytes
   pub follows : (b : Begun) → StandsAlone c b old → FollowsAlone c edges b line new fault

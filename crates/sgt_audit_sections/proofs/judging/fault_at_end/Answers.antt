@@ -3,8 +3,8 @@ use Rattle.sgt_audit.specs.Faults.{last}
 use Rattle.sgt_audit.proofs.NextStage.{notation-breaks, truncated}
 use Rattle.sgt_audit_sections.proofs.judging.fault_at_end.Goals as goal
 
-pub returns-then-clause-breaks : goal.returns-then-clause-breaks
-returns-then-clause-breaks k second c before = notation-breaks second c before (last k.args.rest.now) (omega (arith, k.if.true))
+pub returns-then-rest-gt-MAX_LINE-clause-breaks : goal.returns-then-rest-gt-MAX_LINE-clause-breaks
+returns-then-rest-gt-MAX_LINE-clause-breaks k second c before = notation-breaks second c before (last k.args.rest.now) (omega (arith, k.if-rest-gt-MAX_LINE.true))
 
-pub returns-else-clause-breaks : goal.returns-else-clause-breaks
-returns-else-clause-breaks k second c before = truncated second c before k.args.rest.now (omega (arith, k.if.false))
+pub returns-else-rest-gt-MAX_LINE-clause-breaks : goal.returns-else-rest-gt-MAX_LINE-clause-breaks
+returns-else-rest-gt-MAX_LINE-clause-breaks k second c before = truncated second c before k.args.rest.now (omega (arith, k.if-rest-gt-MAX_LINE.false))
