@@ -44,7 +44,7 @@ returns-then-is_behind-clause-judged c =
     let same = c.in_ok-n.ensures.second in
     let fed = subst (FedAlone cert edges a new rest n) c.in_default-fault.is (rw c.in-Some.is at c.in_ok-n.ensures.fed) in
     let behind = (c.is_behind.ensures cert (next s cert k few bytes rest line a g edges new n same fed) (stands s cert k few bytes rest line a g edges new n same fed)).0 c.if-is_behind.true in
-    let none = sym c.behind.ensures ∙ empty-nil c.behind.result.now (empty _ _ c.is_empty.ensures c.if-not-is_empty.false) in
+    let none = sym c.behind-rest.ensures ∙ empty-nil c.behind-rest.result.now (empty _ _ c.is_empty.ensures c.if-not-is_empty.false) in
     subst (λ t. IsWholeSection t cert k bytes line new.met) c.begin.ensures.second (is-whole s cert k few bytes rest line a g edges new n same fed behind c.requires.steps none)
 
 pub returns-then-is_behind-clause-ready : goal.returns-then-is_behind-clause-ready
@@ -85,8 +85,8 @@ lines-preserved c =
     let decides = c.is_behind.ensures cert (next s cert k few bytes rest line a g edges new n same fed) (stands s cert k few bytes rest line a g edges new n same fed) in
     let before = refuted c.is_behind.result decides c.if-is_behind.false in
     let size = ap length fed.cut ∙ length-append fed.line (10 ∷ drop n rest) in (
-      subst (λ (r : List ℕ). Goes s cert k bytes r (line + 1) new) (sym c.behind.ensures) (goes-on s cert k few bytes rest line a g edges new n same fed before),
-      omega (arith, c.lines.invariant.1, size, ap length c.behind.ensures),
+      subst (λ (r : List ℕ). Goes s cert k bytes r (line + 1) new) (sym c.behind-rest.ensures) (goes-on s cert k few bytes rest line a g edges new n same fed before),
+      omega (arith, c.lines.invariant.1, size, ap length c.behind-rest.ensures),
     )
 
 pub returns-clause-judged : goal.returns-clause-judged
