@@ -32,12 +32,7 @@ pub struct Alone {
 
 /// With the section's last line, whether each of the steps is a conflict in its log.
 #[inline(always)]
-fn meets_steps(
-    certificate: &Decided,
-    state: &SiteState,
-    edges: &[Edge],
-    line: &SectionLine,
-) -> bool
+fn meets_steps(certificate: &Decided, state: &SiteState, edges: &[Edge], line: &SectionLine) -> bool
     ensures { (b : Begun) → Tracks certificate.now.decisions b state.now → MeetsSteps edges.now b.current line.now result }
 {
     match line {
@@ -78,8 +73,9 @@ impl Alone {
 
     /// Before the section of this site, which is none before those that were judged.
     pub fn begin(&mut self, site: usize)
-        ensures stands { (c : Certificate) (b : Begun) → IsReadyAlone c site self.old → IsDecidedOnce c.decisions → AreRanks (ranks c.decisions)
-            → IsBegun b → b.sites ≡ c.sites → length b.whole ≡ site → b.current ≡ None → StandsAlone c b self.new }
+        ensures stands { (c : Certificate) (b : Begun) → IsReadyAlone c site self.old → IsDecidedOnce c.decisions
+            → AreRanks (ranks c.decisions) → IsBegun b
+            → b.sites ≡ c.sites → length b.whole ≡ site → b.current ≡ None → StandsAlone c b self.new }
         ensures second { self.new.second ≡ self.old.second }
     {
         self.place.whole = site;
@@ -152,9 +148,11 @@ impl Alone {
     /// The least fault of a line that may stand next, but for the walks.
     #[inline(always)]
     fn judge(&self, line: &SectionLine, known: &Option<Known>) -> Option<Fault>
-        ensures judged { (c : Certificate) (b : Begun) → StandsAlone c b self.now → IsKnownLine c.decisions self.now.state line.now known.now
+        ensures judged { (c : Certificate) (b : Begun) → StandsAlone c b self.now
+            → IsKnownLine c.decisions self.now.state line.now known.now
             → Begins b.sites (lines_read b ++ line.now ∷ []) → JudgedLine (Keeps c (lines_read b) line.now) result }
-        ensures not_walks { (c : Certificate) (b : Begun) → StandsAlone c b self.now → IsKnownLine c.decisions self.now.state line.now known.now
+        ensures not_walks { (c : Certificate) (b : Begun) → StandsAlone c b self.now
+            → IsKnownLine c.decisions self.now.state line.now known.now
             → Begins b.sites (lines_read b ++ line.now ∷ []) → result ≢ Some Fault.WalkStep }
     {
         match &self.place.current {

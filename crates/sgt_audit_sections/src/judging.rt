@@ -78,7 +78,8 @@ fn feed_front(
 
 /// The fault at the end of the text, with these bytes behind the last LF.
 fn fault_at_end(rest: &[u8]) -> Fault
-    ensures breaks { (second : Bool) (c : Certificate) (before : List SectionLine) → Breaks (Rule (within second c before) (last rest.now)) result }
+    ensures breaks { (second : Bool) (c : Certificate) (before : List SectionLine)
+        → Breaks (Rule (within second c before) (last rest.now)) result }
     ensures others { result ≢ Fault.WalkStep }
 {
     if rest.len() > MAX_LINE {

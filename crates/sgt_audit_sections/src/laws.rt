@@ -6,7 +6,8 @@ ghost use Rattle.sgt_cert.specs.declared.certificate.Certificate.{Certificate};
 ghost use Rattle.sgt_audit.specs.Faults.{FirstFault, HasNoFault};
 ghost use Rattle.sgt_audit.specs.declared.faults.Fault.{Fault};
 ghost use Rattle.sgt_audit.specs.declared.faults.Fault.TheVariants as fault;
-ghost use Rattle.sgt_audit_sections.specs.Sections.{AllStepsAreFound, AreFaultlessSections, IsFaultlessCertificate, OwnFault, front_text, lines_in_front};
+ghost use Rattle.sgt_audit_sections.specs.Sections.{AllStepsAreFound, AreFaultlessSections, IsFaultlessCertificate, OwnFault};
+ghost use Rattle.sgt_audit_sections.specs.Sections.{front_text, lines_in_front};
 
 /// Behind a certificate and sections that have no fault of their own, a text's first fault is the own fault of the next section, its
 /// lines counted on from those before, whatever the walks are.
