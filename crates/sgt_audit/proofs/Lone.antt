@@ -1,12 +1,12 @@
 -- One section judged by itself.
-use Rattle.std.proofs.Common.{◌≡◌, ◌≢◌, ℕ, ◌<◌, Bool, true, List, [], ◌∷◌, ◌++◌, length, Option, Some, None, IsTrue, refl, sym, ap, ◌∙◌, subst, arith, All}
+use Rattle.std.proofs.Common.{◌≡◌, ◌≢◌, Bool, true, List, [], ◌∷◌, ◌++◌, length, Option, Some, None, IsTrue, refl, sym, ap, ◌∙◌, subst, arith, All}
 use Rattle.std.specs.Prelude.{◌↔◌}
 use Rattle.sgt_names.specs.declared.entry.Holding.{Holding}
 use Rattle.sgt_notation.specs.Spelling.{line_text}
 use Rattle.sgt_notation.specs.declared.SectionLine.{SectionLine}
 use Rattle.sgt_notation.specs.declared.SectionLine.TheVariants.{Site, Initial, Logged, Final, End}
 use Rattle.sgt_cert.specs.Certificate.{IsDecidedOnce}
-use Rattle.sgt_cert.specs.Text.{Begins, sections_from}
+use Rattle.sgt_cert.specs.Text.{Begins}
 use Rattle.sgt_cert.specs.declared.bundle.SiteLog.{SiteLog}
 use Rattle.sgt_cert.specs.declared.certificate.Certificate.{Certificate}
 use Rattle.sgt_cert.specs.declared.certificate.Decision.{Decision}
@@ -15,9 +15,9 @@ use Rattle.sgt_audit.specs.declared.alone.Alone.{Alone}
 use Rattle.sgt_audit.specs.declared.faults.Fault.{Fault}
 use Rattle.sgt_audit.specs.declared.faults.Fault.TheVariants as fault
 use Rattle.sgt_audit.specs.Alone.{MeetsSteps, StandsAlone}
-use Rattle.sgt_audit.specs.Faults.{fault_number, IsLineIn, Keeps, Rule, Breaks, within, whole}
+use Rattle.sgt_audit.specs.Faults.{IsLineIn, Keeps, Rule, Breaks, within, whole}
 use Rattle.sgt_audit.specs.Kept.{IsMet, IsPlace, Tracks}
-use Rattle.sgt_audit.specs.Reading.{Begun, IsBegun, IsOpenLog, HasRoomFor, lines_read}
+use Rattle.sgt_audit.specs.Reading.{Begun, IsBegun, IsOpenLog, lines_read}
 use Rattle.sgt_audit.specs.private.Following.{Fits, MayFollow, with_next}
 use Rattle.sgt_audit.specs.private.Judging.{AdmitsLine, HasOpen, JudgedLine, KeptBelow}
 use Rattle.sgt_audit.proofs.Least.{logged-7, final-7, end-7, site-7}

@@ -1,6 +1,6 @@
 -- What a line keeps behind whole sections it keeps behind any others of as many sites, but for the walks.
-use Rattle.std.proofs.Common.{◌≡◌, ◌≢◌, ℕ, suc, ◌+◌, ◌<◌, Bool, List, [], ◌∷◌, ◌++◌, length, Some, None, refl, sym, ap, ap₂, ◌∙◌, subst, arith, inl, inr, zero-add, All, Contains}
-use Rattle.std.specs.Prelude.{fold, slice_get}
+use Rattle.std.proofs.Common.{◌≡◌, ◌≢◌, ℕ, ◌+◌, ◌<◌, Bool, List, [], ◌∷◌, ◌++◌, length, Some, None, refl, sym, ap, ap₂, ◌∙◌, subst, arith, inl, inr, zero-add, All, Contains}
+use Rattle.std.specs.Prelude.{fold}
 use Rattle.std.specs.List.{filter_map, last_or}
 use Rattle.std.specs.Option.{ForSome}
 use Rattle.std.proofs.lemmas.Bool.{cases_order}
@@ -26,7 +26,7 @@ use Rattle.sgt_cert.specs.declared.bundle.SiteLog.{SiteLog}
 use Rattle.sgt_cert.specs.declared.certificate.Certificate.{Certificate}
 use Rattle.sgt_audit.specs.declared.faults.Fault.{Fault}
 use Rattle.sgt_audit.specs.declared.faults.Fault.TheVariants as fault
-use Rattle.sgt_audit.specs.Faults.{fault_number, section_with, open_section, initial_in, logged_in, items_in, entries_in, IsLineIn, Keeps, Piece, whole, last, Rule, Breaks, within}
+use Rattle.sgt_audit.specs.Faults.{fault_number, section_with, open_section, initial_in, logged_in, items_in, entries_in, IsLineIn, Keeps, whole, last, Rule, within}
 use Rattle.sgt_audit.proofs.FaultNumbers.{number-one}
 use Rattle.sgt_audit.proofs.Lone.{kept-7}
 use Rattle.sgt_audit.proofs.Least.{IsClosed}

@@ -1,10 +1,9 @@
 -- A section judged line by line, behind empty sections of the sites before it.
-use Rattle.std.proofs.Common.{◌≡◌, ◌≢◌, ℕ, ◌+◌, ◌<◌, ◌≤◌, Bool, IsTrue, List, [], ◌∷◌, ◌++◌, length, map, take, drop, replicate, Option, Some, None, refl, sym, ap, ◌∙◌, subst, arith, lit<, inl, inr, ◌⊎◌, append_assoc, zero-add, All, Contains}
+use Rattle.std.proofs.Common.{◌≡◌, ◌≢◌, ℕ, ◌+◌, ◌<◌, Bool, IsTrue, List, [], ◌∷◌, ◌++◌, length, map, take, drop, replicate, Option, Some, None, refl, sym, ap, ◌∙◌, subst, arith, lit<, inl, inr, ◌⊎◌, append_assoc, zero-add, All}
 use Rattle.std.specs.Prelude.{◌↔◌, slice_get}
 use Rattle.std.proofs.lemmas.List.{append-nil, append_cancel_left, length-append, length-replicate, map-append, take-append-drop}
-use Rattle.sgt_names.proofs.Places.{All_at, All-from_at, Contains_at, Contains-from_at}
+use Rattle.sgt_names.proofs.Places.{All_at, All-from_at, Contains-from_at}
 use Rattle.sgt_names.proofs.Lists.{All_in, middle_at}
-use Rattle.sgt_notation.specs.Limits.{max_line}
 use Rattle.sgt_notation.specs.Spelling.{line_text, text_of_lines, HasNoLf}
 use Rattle.sgt_notation.specs.declared.SectionLine.{SectionLine}
 use Rattle.sgt_notation.specs.declared.SectionLine.TheVariants.{Site, Initial, Logged, Final, End}
@@ -19,15 +18,15 @@ use Rattle.sgt_audit_cells.specs.Tracks.{IsReadyFor}
 use Rattle.sgt_audit.specs.declared.alone.Alone.{Alone}
 use Rattle.sgt_audit.specs.declared.faults.Fault.{Fault}
 use Rattle.sgt_audit.specs.declared.faults.Fault.TheVariants as fault
-use Rattle.sgt_audit.specs.Alone.{FollowsAlone, IsReadyAlone, MeetsSteps, StandsAlone}
-use Rattle.sgt_audit.specs.Faults.{fault_number, IsLineIn, Keeps, Piece, whole, last, Rule, Breaks, within}
+use Rattle.sgt_audit.specs.Alone.{IsReadyAlone, MeetsSteps, StandsAlone}
+use Rattle.sgt_audit.specs.Faults.{fault_number, IsLineIn, Keeps, whole, last, Rule, Breaks, within}
 use Rattle.sgt_audit.specs.Kept.{IsMet, TracksCurrent}
 use Rattle.sgt_audit.specs.Reading.{Begun, IsBegun, lines_read}
 use Rattle.sgt_audit.specs.private.Following.{MayFollow, with_next}
 use Rattle.sgt_audit.proofs.LinePlaces.{cut_append, last_cut, no_cons}
 use Rattle.sgt_audit.proofs.MayFollow.{added-lines, are-sections, begins-follow, sections-append}
 use Rattle.sgt_audit.proofs.ReaderAtStage.{one-line}
-use Rattle.sgt_audit_sections.specs.Sections.{empty_log, alone, KeepsAlone, AreKeptAlone, OwnFault, IsFaultlessCertificate, IsFaultlessSection, StepsAreFound}
+use Rattle.sgt_audit_sections.specs.Sections.{empty_log, alone, KeepsAlone, AreKeptAlone, OwnFault, IsFaultlessCertificate, StepsAreFound}
 use Rattle.sgt_audit_sections.specs.Judged.{IsWholeSection}
 use Rattle.sgt_audit_sections.specs.private.Feeding.{FedAlone}
 use Rattle.sgt_audit_sections.proofs.SectionFaults.{empties}

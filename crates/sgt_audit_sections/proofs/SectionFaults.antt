@@ -1,6 +1,6 @@
 -- Sections with no fault of their own, and the first fault of the text that they stand in.
-use Rattle.std.proofs.Common.{◌≡◌, ◌≢◌, ℕ, zero, suc, ◌+◌, ◌<◌, Bool, List, [], ◌∷◌, ◌++◌, length, map, take, replicate, Some, None, refl, sym, ap, ap₂, ◌∙◌, subst, arith, lit<, inl, inr, ◌⊎◌, append_assoc, add-zero, All, Contains}
-use Rattle.std.specs.Prelude.{◌↔◌, slice_get}
+use Rattle.std.proofs.Common.{◌≡◌, ◌≢◌, ℕ, suc, ◌+◌, ◌<◌, Bool, List, [], ◌∷◌, ◌++◌, length, map, take, replicate, Some, refl, sym, ap, ◌∙◌, subst, arith, lit<, inl, inr, append_assoc, add-zero, All, Contains}
+use Rattle.std.specs.Prelude.{slice_get}
 use Rattle.std.proofs.lemmas.Bool.{cases_order}
 use Rattle.std.proofs.lemmas.List.{append-nil, length-append, length-map, length-take, length-replicate, map-append}
 use Rattle.std.proofs.lemmas.List.Elements.{All-append, All-replicate}
@@ -16,7 +16,6 @@ use Rattle.sgt_cert.specs.Valid.{AreLogged}
 use Rattle.sgt_cert.specs.Text.{certificate_text, format_line, section_lines, sections_from, Begins, AreSections}
 use Rattle.sgt_cert.specs.declared.bundle.SiteLog.{SiteLog}
 use Rattle.sgt_cert.specs.declared.certificate.Certificate.{Certificate}
-use Rattle.sgt_cert.specs.declared.certificate.Decision.{Decision}
 use Rattle.sgt_cert.specs.declared.certificate.Decision.TheVariants.{Refuse}
 use Rattle.sgt_cert.specs.declared.certificate.Step.{Step}
 use Rattle.sgt_cert.proofs.OneText.{sections-one}
@@ -24,10 +23,10 @@ use Rattle.sgt_audit_decisions.specs.Steps.{edges_in}
 use Rattle.sgt_audit_decisions.specs.declared.steps.Edge.{Edge}
 use Rattle.sgt_audit.specs.declared.faults.Fault.{Fault}
 use Rattle.sgt_audit.specs.declared.faults.Fault.TheVariants as fault
-use Rattle.sgt_audit.specs.Faults.{fault_number, AllKept, IsLineIn, Keeps, Piece, whole, last, ComesNext, Rule, Breaks, Stage, within, complete, lines_so_far, IsFaultless, FirstFault, HasNoFault}
-use Rattle.sgt_audit.specs.Kept.{IsMet, AreMet}
+use Rattle.sgt_audit.specs.Faults.{fault_number, AllKept, IsLineIn, Keeps, Piece, whole, last, ComesNext, Rule, Breaks, within, complete, lines_so_far, IsFaultless, FirstFault, HasNoFault}
+use Rattle.sgt_audit.specs.Kept.{IsMet}
 use Rattle.sgt_audit.proofs.FaultNumbers.{number-one}
-use Rattle.sgt_audit.proofs.LinePlaces.{cut_append, last_cut, no_cons}
+use Rattle.sgt_audit.proofs.LinePlaces.{cut_append, no_cons}
 use Rattle.sgt_audit.proofs.LoggedConflicts.{met-walks, walks-met}
 use Rattle.sgt_audit.proofs.MayFollow.{split-whole, sections-append}
 use Rattle.sgt_audit.proofs.OneFault.{first_fault-excluded}
@@ -35,7 +34,7 @@ use Rattle.sgt_audit.proofs.decidable.Entries.{decidable-walks}
 use Rattle.sgt_audit.proofs.NextStage.{line-trails, ends-behind}
 use Rattle.sgt_audit.proofs.ReaderAtStage.{text-append, one-line, piece}
 use Rattle.sgt_audit.proofs.SectionLines.{last_end}
-use Rattle.sgt_audit_sections.specs.Sections.{empty_log, alone, KeepsAlone, AreKeptAlone, OwnFault, IsFaultlessSection, AreFaultlessSections, StepsAreFound, AllStepsAreFound, IsFaultlessCertificate, front_lines, front_text, lines_in_front}
+use Rattle.sgt_audit_sections.specs.Sections.{empty_log, alone, AreKeptAlone, OwnFault, AreFaultlessSections, AllStepsAreFound, IsFaultlessCertificate, front_lines, front_text, lines_in_front}
 use Rattle.sgt_audit_sections.proofs.Fronts.{all-tail, begins-moved, line-moved, rule-last, rule-whole}
 
 -- every rule below that of the walks

@@ -1,6 +1,6 @@
 -- One more section behind those that were judged.
-use Rattle.std.proofs.Common.{◌≡◌, ◌≢◌, ℕ, ◌+◌, ◌<◌, Bool, true, false, IsTrue, List, [], ◌∷◌, ◌++◌, length, map, Some, None, refl, sym, ap, ◌∙◌, subst, arith, inl, inr, zero-add, All}
-use Rattle.std.specs.Prelude.{◌↔◌, ◌&&◌, slice_get}
+use Rattle.std.proofs.Common.{◌≡◌, ◌≢◌, ℕ, ◌+◌, ◌<◌, Bool, true, false, IsTrue, List, [], ◌∷◌, ◌++◌, length, map, Option, Some, None, refl, sym, ap, ◌∙◌, subst, arith, inl, inr, zero-add, All}
+use Rattle.std.specs.Prelude.{◌↔◌, ◌&&◌, IfOk, Result, Ok, Err, slice_get}
 use Rattle.std.proofs.lemmas.Bool.{false≢true}
 use Rattle.std.proofs.lemmas.List.{append-nil, length-append}
 use Rattle.std.proofs.lemmas.Option.{none-some}
@@ -13,6 +13,7 @@ use Rattle.sgt_cert.specs.declared.certificate.Certificate.{Certificate}
 use Rattle.sgt_audit_cells.proofs.Doing.{get_cases}
 use Rattle.sgt_audit.specs.declared.faults.Fault.{Fault}
 use Rattle.sgt_audit.specs.declared.faults.Fault.TheVariants as fault
+use Rattle.sgt_audit.specs.declared.verdict.Verdict.{Verdict}
 use Rattle.sgt_audit.specs.Faults.{FirstFault}
 use Rattle.sgt_audit.proofs.MayFollow.{sections-append}
 use Rattle.sgt_audit_sections.specs.Sections.{AllStepsAreFound, AreFaultlessSections, IsFaultlessCertificate, IsFaultlessSection, OwnFault, StepsAreFound, front_text, lines_in_front}
@@ -89,3 +90,8 @@ module _ (second : Bool) (c : Certificate) (logs : List SiteLog) (t : Tally) (is
 
   pub trails : AllStepsAreFound c.decisions logs → more ≢ [] → FirstFault (front_text second c logs ++ more) (t.lines + 1) fault.Trailing
   trails found some = subst (λ n. FirstFault (front_text second c logs ++ more) (n + 1) fault.Trailing) (sym is.lines) (trailing-first second c logs is.certificate is.faultless each more found some)
+
+-- what an Ok is answered with
+pub ok-adds : {E : Type 0} (r : Result (Option Verdict) E) (v : Verdict) (P : Option Verdict → Type 0) → IfOk r (λ found. found ≡ Some v) → P (Some v) → IfOk r P
+ok-adds (Ok found) v P same p = subst P (sym same) p
+ok-adds (Err e) v P same p = tt

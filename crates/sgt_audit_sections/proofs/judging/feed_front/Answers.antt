@@ -1,7 +1,7 @@
-use Rattle.std.proofs.Common.{List, ℕ, sym, subst, arith, take}
+use Rattle.std.proofs.Common.{List, ℕ, subst, arith, take}
 use Rattle.sgt_notation.proofs.Short.{line-no_lf}
 use Rattle.sgt_notation.specs.Spelling.{line_text}
-use Rattle.sgt_audit.specs.Alone.{FollowsAlone, StandsAlone}
+use Rattle.sgt_audit.specs.Alone.{FollowsAlone}
 use Rattle.sgt_audit_sections.proofs.OneSection.{cut-rest}
 use Rattle.sgt_audit_sections.proofs.judging.feed_front.Goals as goal
 

@@ -1,12 +1,12 @@
-use Rattle.std.proofs.Common.{◌≡◌, ◌+◌, ◌≤◌, ◌∙◌, ◌++◌, ◌∷◌, ℕ, List, [], None, Some, refl, sym, ap, subst, arith, length, drop}
-use Rattle.std.proofs.lemmas.List.{length-append, length-drop, length-replicate}
+use Rattle.std.proofs.Common.{◌+◌, ◌∙◌, ◌++◌, ◌∷◌, ℕ, List, refl, sym, ap, subst, arith, length, drop}
+use Rattle.std.proofs.lemmas.List.{length-append, length-replicate}
 use Rattle.sgt_audit_decisions.proofs.Loops.{empty, refuted}
 use Rattle.sgt_audit.proofs.NextStage.{empty-nil}
 use Rattle.sgt_audit.specs.declared.faults.Fault.TheVariants as fault
 use Rattle.sgt_audit_sections.specs.Sections.{alone, empty_log, OwnFault}
 use Rattle.sgt_audit_sections.specs.Judged.{IsWholeSection}
 use Rattle.sgt_audit_sections.specs.private.Feeding.{FedAlone}
-use Rattle.sgt_audit_sections.proofs.OneSection.{Goes, at_site, begins, ends, ended, faulty, fresh, goes-on, is-whole, next, ready, stands}
+use Rattle.sgt_audit_sections.proofs.OneSection.{Goes, at_site, begins, ends, faulty, fresh, goes-on, is-whole, next, ready, stands}
 use Rattle.sgt_audit_sections.proofs.judging.judge_section.Goals as goal
 
 pub lines-init : goal.lines-init

@@ -1,4 +1,4 @@
-use Rattle.std.proofs.Common.{◌++◌, ◌∷◌, [], Some, sym, subst}
+use Rattle.std.proofs.Common.{◌++◌, ◌∷◌, [], sym, subst}
 use Rattle.sgt_cert.specs.Text.{Begins}
 use Rattle.sgt_audit.specs.Reading.{HasRoomFor, lines_read}
 use Rattle.sgt_audit.proofs.Lone.{two, first, first-begins, first-open, not-walk}
