@@ -3,9 +3,8 @@
 
 use sgt_audit_workers::audit_with;
 use sgt_names::{FromRead, ToWrite};
-use std::env;
-use std::io;
 use std::process::ExitCode;
+use std::{env, io};
 
 fn workers_of(words: &[String]) -> usize {
     match words.get(1) {
@@ -28,7 +27,13 @@ fn main(rt: HostRuntime) -> ExitCode {
     };
     let mut reader = FromRead::new(rt.stdin());
     let mut writer = ToWrite::new(rt.stdout());
-    match audit_with(&rt, alloc, workers_of(words.as_slice()), &mut reader, &mut writer) {
+    match audit_with(
+        &rt,
+        alloc,
+        workers_of(words.as_slice()),
+        &mut reader,
+        &mut writer,
+    ) {
         Ok(_) => ExitCode::from(0),
         Err(_) => ExitCode::from(4),
     }

@@ -4,8 +4,7 @@ ghost use Rattle.std.specs.Prelude.{◌≡◌, ◌≢◌, ◌≤◌, ◌+◌, �
 ghost use Rattle.sgt_notation.specs.Lines.{coming};
 ghost use Rattle.sgt_audit_workers.specs.Cut.{FailsDuly, IsCut, SpendsCut, Takes};
 
-use memchr::memmem;
-use memchr::memrchr;
+use memchr::{memmem, memrchr};
 use sgt_names::{EngineFail, Source};
 use sgt_notation::{Lines, LinesFault, Next};
 
@@ -46,6 +45,7 @@ fn append(section: &mut Vec<u8>, bytes: &[u8]) -> Result<(), EngineFail>
 fn move_held(lines: &mut Lines, section: &mut Vec<u8>, n: usize) -> Result<(), EngineFail>
     requires { n ≤ length lines.old.held }
     ensures takes { OnOk result (Takes lines.old lines.new section.old.items section.new.items) }
+    ensures reads { lines.new.reads ≡ lines.old.reads }
     ensures err { IfErr result (λ e. e ≡ EngineFail.Memory) }
 {
     let (first, _) = lines.held().split_at(n);
@@ -57,6 +57,7 @@ fn move_held(lines: &mut Lines, section: &mut Vec<u8>, n: usize) -> Result<(), E
 /// Moves the held lines up to the first line `end` behind the section, or all of them that are whole. Whether there is one.
 fn take_held(lines: &mut Lines, section: &mut Vec<u8>) -> Result<bool, EngineFail>
     ensures takes { IfOk result (λ _. Takes lines.old lines.new section.old.items section.new.items) }
+    ensures reads { lines.new.reads ≡ lines.old.reads }
     ensures err { IfErr result (λ e. e ≡ EngineFail.Memory) }
 {
     if let Some(n) = behind_end(lines.held()) {
@@ -95,7 +96,7 @@ pub fn read_section<R: Source>(
     ensures write_fault { result ≢ Err EngineFail.WriteFault }
 {
     section.clear();
-    'blocks: loop {
+    'pieces: loop {
         if take_held(lines, section)? {
             return Ok(true);
         }

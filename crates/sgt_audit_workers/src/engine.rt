@@ -1,10 +1,10 @@
 //! The audit of all that a reader gives, with several sections judged at once.
 
 use crate::cutting::read_section;
-use sgt_audit_sections::{Judged, judge_section};
 use crate::tally::Tally;
 use sgt_audit::{Alone, Head, Verdict, audit, read_head, yes_to};
 use sgt_audit_decisions::{Decided, Steps};
+use sgt_audit_sections::{Judged, judge_section};
 use sgt_names::{EngineFail, Sink, Source, write_all};
 use sgt_notation::{Lines, LinesFault, MAX_LINE, Next};
 use std::alloc::{AllocError, Global};
@@ -164,7 +164,9 @@ fn judge_sections<H: Threads + Sync, R: Source>(
         }
         give_all(reader, &mut text, jobs.as_mut_slice(), tally.whole, sites)?;
         let Head {
-            certificate, steps, ..
+            certificate,
+            steps,
+            ..
         } = &head;
         jobs = thread::map_vec(rt, jobs, &|job| run(certificate, steps, job))?;
         if let Some(verdict) = take_all(&mut tally, jobs.as_slice())? {
