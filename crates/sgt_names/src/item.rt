@@ -81,6 +81,25 @@ impl Item {
         })
     }
 
+    /// How many of the bytes may stand in a name, up to the first that may not.
+    #[inline(always)]
+    pub fn run_len(bytes: &[u8; 16]) -> usize
+        ensures { result ≡ prefix_len is_name_byte bytes.now }
+    {
+        name_bytes_len(bytes)
+    }
+
+    /// A number made of the bytes, by which items can be told apart at first: two names may have one.
+    #[inline(always)]
+    pub fn key(&self) -> u64 {
+        match (self.bytes.first_chunk::<8>(), self.bytes.last_chunk::<8>()) {
+            (Some(front), Some(back)) => {
+                u64::from_le_bytes(*front) ^ u64::from_le_bytes(*back).rotate_left(29)
+            }
+            _ => 0,
+        }
+    }
+
     /// The bytes of the name.
     #[inline(always)]
     pub fn as_bytes(&self) -> &[u8]

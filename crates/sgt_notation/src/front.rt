@@ -12,7 +12,6 @@ use crate::reading::behind;
 use crate::reading_events::Place;
 use core::dec2flt::read_digits;
 use sgt_names::{Entry, Holding, Item, SiteNo, Tx, Value};
-use std::simd::prelude::*;
 
 /// The place behind this byte.
 #[inline(always)]
@@ -103,14 +102,11 @@ fn site_at(bytes: &[u8], from: usize) -> Option<(SiteNo, usize)>
     Some((site, to))
 }
 
-/// How many bytes of the first sixteen stand before the first such byte. Nothing rests on it: it is only tried.
+/// How many bytes a name at the front may have, before this byte. Nothing rests on it: it is only tried.
 #[inline(always)]
 fn guess_end(bytes: &[u8], byte: u8) -> usize {
     match bytes.first_chunk::<16>() {
-        Some(chunk) => {
-            let same = u8x16::from_array(*chunk).simd_eq(u8x16::splat(byte));
-            same.to_bitmask().trailing_zeros() as usize
-        }
+        Some(chunk) => Item::run_len(chunk),
         None => bytes.iter().position(|other| *other == byte).unwrap_or(0),
     }
 }
