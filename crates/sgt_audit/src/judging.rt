@@ -17,10 +17,9 @@ ghost use Rattle.sgt_audit.specs.private.Known.{IsKnownOf, IsKnownLine};
 ghost use Rattle.sgt_audit.specs.Reading.{Begun, IsBegun, lines_read};
 ghost use Rattle.sgt_audit.specs.private.Following.{Fits};
 
-use crate::entries::{continues, is_open};
 use crate::faults::Fault;
 use crate::known::Known;
-use crate::place::OpenPlace;
+use crate::place::{Last, OpenPlace};
 use crate::tracked::{
     Tracked, holds_value, is_active, is_first, is_in_order, is_in_rank, is_legal, is_listed,
 };
@@ -36,12 +35,22 @@ use std::alloc::{AllocError, Global};
 pub fn continues_log(place: &OpenPlace, line: &SectionLine) -> bool
     ensures { (log : SiteLog) → IsOpenPlace log place.now → (IsTrue result ↔ ContinuesLog log line.now) }
 {
-    let Some(last) = place.last_entry() else {
+    if place.finals != 0 {
         return true;
-    };
-    match line {
-        SectionLine::Logged(entry) => !is_open(last) || continues(last, entry),
-        _ => !is_open(last),
+    }
+    match place.last {
+        Last::None => true,
+        Last::Shut => true,
+        Last::Puts(tx) => match line {
+            SectionLine::Logged(Entry::Write { tx: next, .. } | Entry::Add { tx: next, .. }) => tx == *next,
+            SectionLine::Logged(Entry::Commit { tx: next }) => tx == *next,
+            _ => false,
+        },
+        Last::Wants(tx) => match line {
+            SectionLine::Logged(Entry::Want { tx: next, .. } | Entry::WantAdd { tx: next, .. }) => tx == *next,
+            SectionLine::Logged(Entry::Refuse { tx: next }) => tx == *next,
+            _ => false,
+        },
     }
 }
 

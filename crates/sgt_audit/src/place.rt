@@ -9,15 +9,33 @@ ghost use Rattle.sgt_audit.specs.Kept.{IsOpenPlace, IsPlace};
 ghost use Rattle.sgt_audit.specs.Reading.{Begun, IsBegun, IsOpenLog, lines_read};
 ghost use Rattle.sgt_audit.specs.private.Following.{Fits, FitsAt, MayFollow, with_line, with_next};
 
-use sgt_names::{Entry, Item, MAX_ITEMS};
+use sgt_names::{Entry, Item, MAX_ITEMS, Tx};
 use sgt_notation::SectionLine;
 use std::alloc::{AllocError, Global};
+
+/// What the last entry asks of the next line.
+#[derive(Clone, Copy)]
+pub enum Last {
+    None,
+    Shut,
+    Puts(Tx),
+    Wants(Tx),
+}
+
+#[inline(always)]
+pub fn last_of(entry: &Entry) -> Last {
+    match *entry {
+        Entry::Write { tx, .. } | Entry::Add { tx, .. } => Last::Puts(tx),
+        Entry::Want { tx, .. } | Entry::WantAdd { tx, .. } => Last::Wants(tx),
+        _ => Last::Shut,
+    }
+}
 
 /// What is kept of the lines of the open section: its items, the entry that was read last, and how many finals there are.
 #[derive(Drop)]
 pub struct OpenPlace {
     pub items: Vec<Item>,
-    pub last: Option<Entry>,
+    pub last: Last,
     pub finals: usize,
 }
 
@@ -32,22 +50,6 @@ fn come_before(items: &[Item], item: &Item) -> bool
 }
 
 impl OpenPlace {
-    /// The entry that was read last, if no final stands behind it.
-    #[inline(always)]
-    pub(crate) fn last_entry(&self) -> Option<&Entry>
-        ensures some { (log : SiteLog) → IsOpenPlace log self.now
-            → IfSome result (λ e. (log.finals ≡ []) × (slice_get log.entries (length log.entries - 1) ≡ Some e.now)) }
-        ensures none { (log : SiteLog) → IsOpenPlace log self.now → IfNone result (log.finals ≡ [] → log.entries ≡ []) }
-    {
-        if self.finals != 0 {
-            return None;
-        }
-        match &self.last {
-            Some(last) => Some(last),
-            None => None,
-        }
-    }
-
     /// Whether the line may stand next.
     #[inline(always)]
     fn has_room_for(&self, line: &SectionLine) -> bool
@@ -56,7 +58,7 @@ impl OpenPlace {
         match line {
             SectionLine::Site(_) => false,
             SectionLine::Initial(holding) => {
-                self.last.is_none()
+                matches!(self.last, Last::None)
                     && self.finals == 0
                     && self.items.len() < MAX_ITEMS
                     && come_before(self.items.as_slice(), &holding.item)
@@ -82,7 +84,7 @@ impl OpenPlace {
                 Ok(())
             }
             SectionLine::Logged(entry) => {
-                self.last = Some(*entry);
+                self.last = last_of(entry);
                 Ok(())
             }
             SectionLine::Final(_) => {
@@ -154,7 +156,7 @@ impl Place {
             None => {
                 self.current = Some(OpenPlace {
                     items: Vec::new(self.alloc),
-                    last: None,
+                    last: Last::None,
                     finals: 0,
                 });
                 Ok(())

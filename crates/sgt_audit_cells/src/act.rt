@@ -66,7 +66,7 @@ pub(crate) fn act_of(at: usize, place: u32, entry: &Entry) -> Act
 impl Deed {
     /// Whether it changes the item.
     #[inline(always)]
-    fn changes(self) -> bool
+    pub(crate) fn changes(self) -> bool
         ensures { result ≡ changes self }
     {
         match self {
@@ -87,7 +87,7 @@ impl Deed {
 }
 
 /// Whether the one and then the other, on one item, are a conflict of this kind.
-fn deeds_clash(kind: Kind, first: Deed, second: Deed) -> bool
+pub(crate) fn deeds_clash(kind: Kind, first: Deed, second: Deed) -> bool
     ensures { result ≡ deeds_clash kind first second }
 {
     match kind {

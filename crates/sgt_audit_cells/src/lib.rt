@@ -4,7 +4,6 @@
 mod act;
 mod cell;
 mod record;
-mod record_table;
 mod state;
 
 pub use act::item_in;

@@ -17,10 +17,9 @@ ghost use Rattle.sgt_audit_cells.specs.private.Deeds.{act};
 ghost use Rattle.sgt_audit_decisions.specs.Decided.{Decides};
 ghost use Rattle.sgt_audit_cells.specs.Tracks.{TracksOpen, IsReadyFor, IsNumberOf, IsPlaceAmong};
 
-use crate::act::{self, Act};
+use crate::act;
 use crate::cell::{self, Cell};
-use crate::record::live_after;
-use crate::record_table::RecordTable;
+use crate::record::{Node, Record, has_done, have_clash};
 use sgt_names::{Entry, Holding, Item, Kind, Value};
 use std::alloc::{AllocError, Global};
 
@@ -36,9 +35,8 @@ pub struct SiteState {
     pub cells: Vec<Cell>,
     /// Where the cell of an item may be, by a hash of its name.
     pub hints: Vec<u16>,
-    pub records: RecordTable,
-    /// How many entries there are.
-    pub count: usize,
+    pub records: Vec<Record>,
+    pub nodes: Vec<Node>,
     pub live: usize,
     pub last_end: Option<usize>,
 }
@@ -57,7 +55,7 @@ fn key_of(name: &[u8]) -> u64 {
 /// Where the hint for an item is.
 #[inline(always)]
 fn slot_of(item: &Item) -> usize {
-    let spread = key_of(item.as_bytes()).wrapping_mul(0x9e37_79b9_7f4a_7c15);
+    let spread = item.key().wrapping_mul(0x9e37_79b9_7f4a_7c15);
     (spread >> 52) as usize % HINTS
 }
 
@@ -89,31 +87,6 @@ fn fresh_cell(holding: &Holding) -> Cell
         reader: None,
         writer: None,
         adder: None,
-    }
-}
-
-/// The entry at this place, on the item at that place, if it has one.
-#[inline(always)]
-fn act_at(at: usize, place: Option<usize>, entry: &Entry) -> Result<Option<Act>, AllocError>
-    ensures { IfOk result (λ found. found ≡ option_map (λ i. act at i entry.now) place) }
-{
-    match place {
-        Some(place) => match u32::try_from(place) {
-            Ok(short) => Ok(Some(act::act_of(at, short, entry))),
-            Err(_) => Err(AllocError),
-        },
-        None => Ok(None),
-    }
-}
-
-/// One more, if there is a number for it.
-#[inline(always)]
-fn one_more(count: usize) -> Result<usize, AllocError>
-    ensures { IfOk result (λ next. next ≡ count + 1) }
-{
-    match count.checked_add(1) {
-        Some(next) => Ok(next),
-        None => Err(AllocError),
     }
 }
 
@@ -166,8 +139,8 @@ impl SiteState {
             section: 0,
             cells: Vec::new(alloc),
             hints: vec![in alloc; 0u16; HINTS]?,
-            records: RecordTable::new(alloc, count)?,
-            count: 0,
+            records: vec![in alloc; Record::new(); count]?,
+            nodes: Vec::new(alloc),
             live: 0,
             last_end: None,
         })
@@ -180,8 +153,7 @@ impl SiteState {
     {
         self.section = section;
         self.cells.clear();
-        self.records.clear();
-        self.count = 0;
+        self.nodes.clear();
         self.live = 0;
         self.last_end = None;
     }
@@ -245,7 +217,7 @@ impl SiteState {
             return true;
         };
         match self.records.get(number) {
-            Some(record) => record.is_first(self.section, place, entry),
+            Some(record) => record.section != self.section as u32 || !has_done(self.nodes.as_slice(), record.last, place as u16, act::deed_of(entry)),
             None => false,
         }
     }
@@ -271,7 +243,7 @@ impl SiteState {
             → Decides ds number tx → (IsTrue result ↔ All (λ f. IsEnd f → tx_of f ≢ tx) entries) }
     {
         match self.records.get(number) {
-            Some(record) => !record.has_ended(self.section),
+            Some(record) => !record.has_ended(self.section as u32),
             None => false,
         }
     }
@@ -286,20 +258,6 @@ impl SiteState {
         !entry.is_end() || is_up_to(self.last_end, number)
     }
 
-    /// What the transaction did that is decided by this number, if it is.
-    fn acts_of(&self, number: Option<usize>) -> &[Act]
-        ensures { (ds : List Decision) (items : List Holding) (entries : List Entry) (tx : ℕ) → TracksOpen ds items entries self.now
-            → IsNumberOf ds tx number → AreActs (names items) entries tx result.now }
-    {
-        let Some(number) = number else {
-            return &[];
-        };
-        match self.records.get(number) {
-            Some(record) => record.acts_in(self.section),
-            None => &[],
-        }
-    }
-
     /// Whether an entry of one transaction precedes and conflicts with one of another, as operations of this kind on the item.
     /// The two are decided by these numbers, if they are.
     pub fn have_conflict(
@@ -312,11 +270,16 @@ impl SiteState {
         ensures { (ds : List Decision) (items : List Holding) (entries : List Entry) (a b : ℕ) → TracksOpen ds items entries self.now
             → IsNumberOf ds a from → IsNumberOf ds b to → a ≢ b → (IsTrue result ↔ Conflicts entries kind item.now a b) }
     {
-        let acts = self.acts_of(from);
-        let others = self.acts_of(to);
-        match self.place_of(item) {
-            Some(place) => act::have_clash(acts, others, kind, place),
-            None => false,
+        let (Some(from), Some(to)) = (from, to) else {
+            return false;
+        };
+        match (self.records.get(from), self.records.get(to), self.place_of(item)) {
+            (Some(first), Some(second), Some(place)) => {
+                first.section == self.section as u32
+                    && second.section == self.section as u32
+                    && have_clash(self.nodes.as_slice(), first.last, second.last, kind, place as u16)
+            }
+            _ => false,
         }
     }
 
@@ -344,15 +307,48 @@ impl SiteState {
             → IsPlaceAmong (names items) entry.now place → IsDecided ds entry.now number → IsRankOf ds (tx_of entry.now) rank
             → TracksOpen ds items entries self.old → TracksOpen ds items (entries ++ entry.now ∷ []) self.new) }
     {
-        let next = one_more(self.count)?;
-        let act = act_at(self.count, place, entry)?;
-        let turn = self
-            .records
-            .enter(number, self.section, act, entry.is_end())?;
-        self.live = live_after(self.live, self.records.len(), turn.was_live, turn.is_live);
-        enter_cell(self.cells.as_mut_slice(), place, entry, rank);
-        self.last_end = later_end(self.last_end, entry, number);
-        self.count = next;
+        let section = self.section as u32;
+        let at = self.nodes.len() as u32 + 1;
+        let record = &mut self.records[number];
+        if record.section != section {
+            *record = Record {
+                section,
+                last: 0,
+                ended: false,
+            };
+            self.live += 1;
+        }
+        if entry.is_end() {
+            record.ended = true;
+            self.live -= 1;
+            self.last_end = later_end(self.last_end, entry, number);
+        }
+        if let Some(place) = place {
+            let node = Node {
+                before: record.last,
+                place: place as u16,
+                deed: act::deed_of(entry),
+            };
+            record.last = at;
+            add_node(&mut self.nodes, node)?;
+            enter_cell(self.cells.as_mut_slice(), Some(place), entry, rank);
+        }
         Ok(())
     }
+}
+
+#[inline(always)]
+fn add_node(nodes: &mut Vec<Node>, node: Node) -> Result<(), AllocError> {
+    if nodes.len() < nodes.capacity() {
+        nodes.push_reserved(node);
+        Ok(())
+    } else {
+        grow(nodes, node)
+    }
+}
+
+#[inline(never)]
+fn grow(nodes: &mut Vec<Node>, node: Node) -> Result<(), AllocError> {
+    nodes.push(node)?;
+    Ok(())
 }

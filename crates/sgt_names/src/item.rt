@@ -81,6 +81,28 @@ impl Item {
         })
     }
 
+    /// The longest name at the front, and how many bytes it has.
+    #[inline(always)]
+    pub fn leading(bytes: &[u8; 16]) -> Option<(Item, usize)> {
+        let len = leading_len(bytes);
+        if len == 0 {
+            return None;
+        }
+        Some((
+            Item {
+                bytes: kept_to(bytes, len),
+            },
+            len,
+        ))
+    }
+
+    /// A number made of the bytes.
+    #[inline(always)]
+    pub fn key(&self) -> u64 {
+        let (low, high) = halves(&self.bytes);
+        low ^ high.rotate_left(29)
+    }
+
     /// The bytes of the name.
     #[inline(always)]
     pub fn as_bytes(&self) -> &[u8]
@@ -202,6 +224,25 @@ fn name_bytes_len(bytes: &[u8; 16]) -> usize
     let is_no_letter = lanes.simd_lt(u8x16::splat(b'a')) | lanes.simd_gt(u8x16::splat(b'z'));
     let is_no_digit = lanes.simd_lt(u8x16::splat(b'0')) | lanes.simd_gt(u8x16::splat(b'9'));
     let stops = is_no_letter & is_no_digit & lanes.simd_ne(u8x16::splat(b'_'));
+    first_set(stops.to_bitmask())
+}
+
+#[inline(always)]
+fn halves(bytes: &[u8; 16]) -> (u64, u64) {
+    match (bytes.first_chunk::<8>(), bytes.last_chunk::<8>()) {
+        (Some(low), Some(high)) => (u64::from_le_bytes(*low), u64::from_le_bytes(*high)),
+        _ => (0, 0),
+    }
+}
+
+#[inline(always)]
+fn leading_len(bytes: &[u8; 16]) -> usize {
+    let lanes = u8x16::from_array(*bytes);
+    let is_no_letter = lanes.simd_lt(u8x16::splat(b'a')) | lanes.simd_gt(u8x16::splat(b'z'));
+    let is_no_digit = lanes.simd_lt(u8x16::splat(b'0')) | lanes.simd_gt(u8x16::splat(b'9'));
+    let places = u8x16::from_array([0, 1, 2, 3, 4, 5, 6, 7, 8, 9, 10, 11, 12, 13, 14, 15]);
+    let is_first = places.simd_eq(u8x16::splat(0));
+    let stops = is_no_letter & ((is_no_digit & lanes.simd_ne(u8x16::splat(b'_'))) | is_first);
     first_set(stops.to_bitmask())
 }
 

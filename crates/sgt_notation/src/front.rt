@@ -67,6 +67,43 @@ fn long_value(bytes: &[u8], n: usize) -> Option<(Value, usize)>
 fn front_value(bytes: &[u8]) -> Option<(Value, usize)>
     ensures { IfSome result (λ r. IsValue r.0 × Spans bytes.now 0 (decimal r.0) r.1) }
 {
+    if let Some(chunk) = bytes.first_chunk::<8>() {
+        let word = u64::from_le_bytes(*chunk);
+        let (n, value) = up_to_eight(word);
+        if n < 8 {
+            if n == 0 || (n > 1 && word % 256 == 48) {
+                return None;
+            }
+            return Some((value, n));
+        }
+    }
+    other_value(bytes)
+}
+
+#[inline(always)]
+fn up_to_eight(word: u64) -> (usize, u64) {
+    let lanes = word ^ 0x3030_3030_3030_3030;
+    let others = ((lanes & 0x7f7f_7f7f_7f7f_7f7f).wrapping_add(0x7676_7676_7676_7676) | word) & 0x8080_8080_8080_8080;
+    if others == 0 {
+        return (8, 0);
+    }
+    let count = others.trailing_zeros() / 8;
+    (count as usize, value_of_eight(lanes << (56 - 8 * count) << 8))
+}
+
+#[inline(always)]
+fn value_of_eight(word: u64) -> u64 {
+    let pairs = word.wrapping_mul(10).wrapping_add(word >> 8);
+    let first = (pairs & 0x0000_00ff_0000_00ff).wrapping_mul(100 + (1_000_000 << 32));
+    let second = ((pairs >> 16) & 0x0000_00ff_0000_00ff).wrapping_mul(1 + (10_000 << 32));
+    first.wrapping_add(second) >> 32
+}
+
+/// The same, however long the number is.
+#[inline(never)]
+fn other_value(bytes: &[u8]) -> Option<(Value, usize)>
+    ensures { IfSome result (λ r. IsValue r.0 × Spans bytes.now 0 (decimal r.0) r.1) }
+{
     let (n, value) = read_digits(bytes, 0, 0);
     if n == 0 || n > 19 || (n > 1 && bytes[0] == b'0') {
         return long_value(bytes, n);
@@ -126,15 +163,26 @@ fn front_name(bytes: &[u8], n: usize) -> Option<Item>
     }
 }
 
+#[inline(never)]
+fn short_name(rest: &[u8], from: usize, end: u8) -> Option<(Item, usize)> {
+    let n = guess_end(rest, end);
+    let item = front_name(rest, n)?;
+    Some((item, from + n))
+}
+
 /// A name, and the place behind it, where the name ends before this byte.
 #[inline(always)]
 fn name_at(bytes: &[u8], from: usize, end: u8) -> Option<(Item, usize)>
     ensures { IfSome result (λ r. IsName r.0 × Spans bytes.now from r.0 r.1) }
 {
     let rest = from_place(bytes, from)?;
-    let n = guess_end(rest, end);
-    let item = front_name(rest, n)?;
-    Some((item, from + n))
+    match rest.first_chunk::<16>() {
+        Some(chunk) => {
+            let (item, n) = Item::leading(chunk)?;
+            Some((item, from + n))
+        }
+        None => short_name(rest, from, end),
+    }
 }
 
 /// `NAME=NUM`, and the place behind it.
