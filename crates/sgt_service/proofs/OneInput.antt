@@ -19,7 +19,7 @@ use Rattle.sgt_notation.proofs.OneSpelling.{apart}
 use Rattle.sgt_service.specs.declared.input.Input.{Input}
 use Rattle.sgt_service.specs.Input.{Begins, IsBegun, IsPlaced, IsScriptOver, input_lines, max_scripts}
 use Rattle.sgt_input.specs.Sites.{TakesSite}
-use Rattle.sgt_input.proofs.SiteLines.{last-number, map-push, more-numbers, not-nil}
+use Rattle.sgt_input.proofs.SiteLines.{last-number, map-push, more-numbers}
 use Rattle.sgt_service.specs.private.Taking.{Takes, TakesScript}
 
 -- no script is spelled like a site

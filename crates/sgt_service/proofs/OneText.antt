@@ -6,7 +6,6 @@ use Rattle.std.proofs.lemmas.List.Elements.{All-head, All-tail, recursion_from_A
 use Rattle.sgt_names.proofs.Lists.{heads, tails}
 use Rattle.sgt_notation.specs.Events.{IsSiteLine, site_text}
 use Rattle.sgt_notation.specs.Scripts.{IsScript, script_text}
-use Rattle.sgt_notation.specs.Spelling.{text_of_lines}
 use Rattle.sgt_notation.specs.declared.script.Script.{Script}
 use Rattle.sgt_notation.specs.declared.event.SiteLine.{SiteLine}
 use Rattle.sgt_notation.proofs.OneScript.{script-no_lf, script-one}
