@@ -19,11 +19,11 @@ use Rattle.sgt_replay.specs.private.Running.{WritesReplies}
 use Rattle.sgt_replay.specs.private.Taking.{HaveLines}
 use Rattle.sgt_replay.proofs.OneInput.{took-event, took-none}
 use Rattle.sgt_replay.proofs.Running.{replies-none, replies-then}
-use Rattle.sgt_replay.proofs.Unreadable.{none-begins, whole-input}
+use Rattle.sgt_replay.proofs.Unreadable.{nothing-kept, whole-input}
 
 -- nothing was played yet
 pub none-played : (sites : List SiteLine) (core : Option Parts) (text : List ℕ) → sites ≡ [] → core ≡ None → text ≡ [] → HasPlayed sites core text []
-none-played sites None text none idle empty = (none-begins.0, (none-begins.1, none-begins.2), (sym none, refl, empty))
+none-played sites None text none idle empty = (record { sites = sites; events = [] }, nothing-kept sites [] none refl, (refl, refl, empty))
 none-played sites (Some core) text none idle empty = absurd cc
 
 -- where there was no event the sites are kept, and nothing is written
@@ -71,9 +71,9 @@ pub line-played : {E : Type 0} (r : Result Bool E) (old : Input) (sites : List S
     → HaveLines old lines → IfOk r (PlaysOn old line sites core written) → IfOk r (TakesLine Begins (HasPlayed sites core written) lines line)
 line-played (Err e) old sites core written line lines have plays = tt
 line-played (Ok true) old sites core written line lines have (new, takes, played) =
-    let on = took-line IsBegun input_lines (Ok true) old new lines line have takes in
+    let on = took-line IsBegun input_lines {E = ℕ} (Ok true) old new lines line have takes in
     (on.0, (new, on.1, played))
-line-played (Ok false) old sites core written line lines have takes = took-line IsBegun input_lines (Ok false) old old lines line have takes
+line-played (Ok false) old sites core written line lines have takes = took-line IsBegun input_lines {E = ℕ} (Ok false) old old lines line have takes
 
 -- ---- the end
 

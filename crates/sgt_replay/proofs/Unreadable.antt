@@ -12,6 +12,7 @@ use Rattle.sgt_notation.specs.declared.event.EventLine.{EventLine}
 use Rattle.sgt_notation.specs.declared.event.SiteLine.{SiteLine}
 use Rattle.sgt_notation.specs.declared.fault.NotationFault.{NotationFault}
 use Rattle.sgt_notation.proofs.OneEvent.{event-no_lf, event-short}
+use Rattle.sgt_input.specs.Stopping.{IsTaken}
 use Rattle.sgt_input.proofs.Keeping.{spelled}
 use Rattle.sgt_input.proofs.SiteLines.{site-plain}
 use Rattle.sgt_input.proofs.Unreadable as any
@@ -19,6 +20,7 @@ use Rattle.sgt_input.proofs.Unreadable.{AreInputs, IsPlain}
 use Rattle.sgt_replay.specs.declared.input.Input.{Input}
 use Rattle.sgt_replay.specs.Input.{Begins, FirstUnreadable, IsBegun, IsInput, Spells, input_lines}
 use Rattle.sgt_replay.specs.Replay.{IsAnswer, TellsUnreadable}
+use Rattle.sgt_replay.specs.private.Taking.{HaveLines}
 
 nonempty : {A : Type 0} (x : A) (xs : List A) → x ∷ xs ≡ [] → ⊥
 nonempty x xs e = absurd cc
@@ -117,6 +119,16 @@ none-begins = (
   refl,
 )
 
+-- nor does it have any line where nothing is kept
+pub nothing-kept : (ss : List SiteLine) (es : List EventLine) → ss ≡ [] → es ≡ [] → HaveLines (record { sites = ss; events = es }) []
+unfolding none-begins
+nothing-kept ss es none empty =
+    let sites = sym none in
+    let events = sym empty in
+    let nothing : Input = record { sites = []; events = [] } in
+    let same : nothing ≡ record { sites = ss; events = es } = λ t. record { sites = sites t; events = events t } in
+    subst (λ (i : Input). HaveLines i []) same (none-begins.1, none-begins.2)
+
 are-inputs : AreInputs Begins
 are-inputs = record { none = none-begins; front = begins-front; plain = begins-plain }
 
@@ -143,6 +155,18 @@ pub whole-input : (input : Input) (lines : List (List ℕ)) (told : Option (List
 whole-input input lines told is same some text =
     let whole : IsInput input = (is, has_site input is (λ none. some (same ∙ none))) in
     (whole, spelled IsBegun input_lines (IsInput input) told lines input whole same text)
+
+-- and so is what was kept, as it is handed out
+pub kept-input : (sites ss : List SiteLine) (events es : List EventLine) (told : Option (List ℕ)) → ss ≡ sites → es ≡ events
+    → IsTaken Begins (HaveLines (record { sites = sites; events = events })) told
+    → IsInput (record { sites = ss; events = es }) × IfSome told (λ bytes. Spells bytes (record { sites = ss; events = es }))
+kept-input sites ss events es told same equal taken =
+    let kept : Input = record { sites = sites; events = events } in
+    let there = sym same in
+    let also = sym equal in
+    let input : kept ≡ record { sites = ss; events = es } = λ t. record { sites = there t; events = also t } in
+    subst (λ (i : Input). IsInput i × IfSome told (λ bytes. Spells bytes i)) input
+    (whole-input kept taken.lines told taken.taken.0 taken.taken.1 taken.some taken.text)
 
 pub input-or_fault : (bytes : List ℕ) → ((i : Input) → Spells bytes i → ⊥) → ((n : ℕ) (f : NotationFault) → FirstUnreadable bytes n f → ⊥) → ⊥
 input-or_fault bytes no_input no_fault =

@@ -21,11 +21,11 @@ returns-in-Ok-clause-unreadable g c =
     let told = g.R.Source.tells c.args.reader.now in
     answer-unreadable told answer.outcome (answer.text.items ++ answer.bundle.items) (c.in_ok-answer.ensures told c.in_ok-stop.ensures.stops)
 
-pub read_lines-stop-requires-clause-begins : goal.read_lines-stop-requires-clause-begins
-read_lines-stop-requires-clause-begins g c = none-begins
+pub read_lines-requires-clause-begins : goal.read_lines-requires-clause-begins
+read_lines-requires-clause-begins g c = none-begins
 
-pub read_lines-stop-requires-clause-fresh : goal.read_lines-stop-requires-clause-fresh
-read_lines-stop-requires-clause-fresh g c = none-played _ _ _ c.new-player.ensures.sites c.new-player.ensures.core c.new-player.ensures.text
+pub read_lines-requires-clause-fresh : goal.read_lines-requires-clause-fresh
+read_lines-requires-clause-fresh g c = none-played _ _ _ c.new-player.ensures.sites c.new-player.ensures.core c.new-player.ensures.text
 
-pub answer_to-answer-requires : goal.answer_to-answer-requires
-answer_to-answer-requires g c = (g.R.Source.tells c.args.reader.now, c.in_ok-stop.ensures.stops)
+pub answer_to-requires : goal.answer_to-requires
+answer_to-requires g c = (g.R.Source.tells c.args.reader.now, c.in_ok-stop.ensures.stops)

@@ -3,8 +3,8 @@ use Rattle.sgt_replay.proofs.PlayedLines.{none-opening, played-run}
 use Rattle.sgt_replay.proofs.Running.{run-of}
 use Rattle.sgt_replay.proofs.engine.run_text.Goals as goal
 
-pub core_at_end-core-requires : goal.core_at_end-core-requires
-core_at_end-core-requires c none = none-opening c.requires.0 _ _ _ c.requires.1 c.requires.2 none
+pub core_at_end-requires : goal.core_at_end-requires
+core_at_end-requires c none = none-opening c.requires.0 _ _ _ c.requires.1 c.requires.2 none
 
 pub write_ending-requires : goal.write_ending-requires
 write_ending-requires c =

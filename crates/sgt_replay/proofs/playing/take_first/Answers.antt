@@ -1,10 +1,11 @@
-use Rattle.std.proofs.Common.{◌∙◌, ◌≢◌, ℕ, Bool, List, Ok, Option, [], refl, subst, sym}
+use Rattle.std.proofs.Common.{◌∙◌, ◌≢◌, ℕ, Bool, List, Ok, Option, [], ap, map, refl, subst, sym}
 use Rattle.sgt_notation.specs.declared.event.SiteLine.{SiteLine}
-use Rattle.sgt_core.specs.Machine.{Parts}
+use Rattle.sgt_core.specs.Core.{fresh}
+use Rattle.sgt_core.specs.Machine.{Parts, StandsFor}
 use Rattle.sgt_input.specs.Sites.{TakesSite}
 use Rattle.sgt_input.proofs.SiteLines.{empty_when, filled_when}
 use Rattle.sgt_replay.specs.declared.input.Input.{Input}
-use Rattle.sgt_replay.specs.private.Playing.{IsOpening, IsPlayed}
+use Rattle.sgt_replay.specs.private.Playing.{AnswersEvent, IsOpening, IsPlayed}
 use Rattle.sgt_replay.proofs.OneInput.{took-none, took-site}
 use Rattle.sgt_replay.proofs.PlayedLines.{begun-opening, first-played}
 use Rattle.sgt_replay.proofs.playing.take_first.Goals as goal
@@ -25,15 +26,19 @@ returns-then-is_empty c =
     let site = subst (λ (b : Bool). TakesSite c.args.sites.now.items c.args.line.now c.take_site.new.sites.items b) c.if-branch.false c.in_ok-take_site.ensures in
     took-none old c.args.line.now (λ _. site.0) (λ some. absurd (some (sym site.1 ∙ empty_when _ _ (sym c.take_site.new.sites.ok.0) c.if-is_empty.ensures)))
 
-pub core_of-opened-requires : goal.core_of-opened-requires
-core_of-opened-requires c =
+pub core_of-requires : goal.core_of-requires
+core_of-requires c =
     let old : Input = record { sites = c.args.sites.now.items; events = [] } in
     let site = subst (λ (b : Bool). TakesSite c.args.sites.now.items c.args.line.now c.take_site.new.sites.items b) c.if-branch.false c.in_ok-take_site.ensures in
     let some : c.args.sites.now.items ≢ [] = λ none. filled_when _ _ (sym c.take_site.new.sites.ok.0) c.if-is_empty.ensures (site.1 ∙ none) in
-    subst (λ (ss : List SiteLine). IsOpening ss) (sym site.1) (begun-opening old c.requires.begun some)
+    let same = ap (λ v. v.items) c.replace.ensures.value ∙ site.1 in
+    subst (λ (ss : List SiteLine). IsOpening ss) (sym same) (begun-opening old c.requires.begun some)
 
 pub returns : goal.returns
 returns c =
     let site = subst (λ (b : Bool). TakesSite c.args.sites.now.items c.args.line.now c.take_site.new.sites.items b) c.if-branch.false c.in_ok-take_site.ensures in
     let some : c.args.sites.now.items ≢ [] = λ none. filled_when _ _ (sym c.take_site.new.sites.ok.0) c.if-is_empty.ensures (site.1 ∙ none) in
-    first-played {ℕ} (Ok c.in_ok-answered.answered) c.args.sites.now.items _ _ _ c.args.line.now _ some site.0 c.in_ok-opened.ensures c.in_ok-answered.ensures
+    let same = ap (λ v. v.items) c.replace.ensures.value ∙ site.1 in
+    let stands = subst (λ (ss : List SiteLine). StandsFor c.in_ok-opened.opened (fresh (map (λ l. l.items) ss))) same c.in_ok-opened.ensures in
+    let answers = subst (λ (t : List ℕ). AnswersEvent c.in_ok-opened.opened c.args.line.now c.answer_event.new.core t c.answer_event.new.text.items c.in_ok-answered.answered) c.requires.empty c.in_ok-answered.ensures in
+    first-played {E = ℕ} (Ok c.in_ok-answered.answered) c.args.sites.now.items [] _ _ c.args.line.now _ some site.0 stands answers
