@@ -13,6 +13,7 @@ use Rattle.sgt_notation.specs.declared.event.SiteLine.{SiteLine}
 use Rattle.sgt_notation.specs.declared.script.Script.{Script}
 use Rattle.sgt_notation.specs.declared.fault.NotationFault.{NotationFault}
 use Rattle.sgt_notation.proofs.OneScript.{script-no_lf}
+use Rattle.sgt_input.specs.Stopping.{IsTaken}
 use Rattle.sgt_input.proofs.Keeping.{spelled}
 use Rattle.sgt_input.proofs.SiteLines.{site-plain}
 use Rattle.sgt_input.proofs.Unreadable as any
@@ -20,6 +21,7 @@ use Rattle.sgt_input.proofs.Unreadable.{AreInputs, IsPlain}
 use Rattle.sgt_service.specs.declared.input.Input.{Input}
 use Rattle.sgt_service.specs.Input.{Begins, FirstUnreadable, IsBegun, IsInput, IsScriptOver, Spells, input_lines}
 use Rattle.sgt_service.specs.Report.{IsAnswer, TellsUnreadable}
+use Rattle.sgt_service.specs.private.Taking.{HaveLines}
 use Rattle.sgt_service.proofs.OneInput.{scripts-plain, scripts-somewhere}
 
 nonempty : {A : Type 0} (x : A) (xs : List A) → x ∷ xs ≡ [] → ⊥
@@ -119,6 +121,16 @@ none-begins = (
   refl,
 )
 
+-- nor does it have any line where nothing is kept
+pub nothing-kept : (ss : List SiteLine) (es : List Script) → ss ≡ [] → es ≡ [] → HaveLines (record { sites = ss; scripts = es }) []
+unfolding none-begins
+nothing-kept ss es none empty =
+    let sites = sym none in
+    let scripts = sym empty in
+    let nothing : Input = record { sites = []; scripts = [] } in
+    let same : nothing ≡ record { sites = ss; scripts = es } = λ t. record { sites = sites t; scripts = scripts t } in
+    subst (λ (i : Input). HaveLines i []) same (none-begins.1, none-begins.2)
+
 are-inputs : AreInputs Begins
 are-inputs = record { none = none-begins; front = begins-front; plain = begins-plain }
 
@@ -145,6 +157,18 @@ pub whole-input : (input : Input) (lines : List (List ℕ)) (told : Option (List
 whole-input input lines told is same some text =
     let whole : IsInput input = (is, has_site input is (λ none. some (same ∙ none))) in
     (whole, spelled IsBegun input_lines (IsInput input) told lines input whole same text)
+
+-- and so is what was kept, as it is handed out
+pub kept-input : (sites ss : List SiteLine) (scripts es : List Script) (told : Option (List ℕ)) → ss ≡ sites → es ≡ scripts
+    → IsTaken Begins (HaveLines (record { sites = sites; scripts = scripts })) told
+    → IsInput (record { sites = ss; scripts = es }) × IfSome told (λ bytes. Spells bytes (record { sites = ss; scripts = es }))
+kept-input sites ss scripts es told same equal taken =
+    let kept : Input = record { sites = sites; scripts = scripts } in
+    let there = sym same in
+    let also = sym equal in
+    let input : kept ≡ record { sites = ss; scripts = es } = λ t. record { sites = there t; scripts = also t } in
+    subst (λ (i : Input). IsInput i × IfSome told (λ bytes. Spells bytes i)) input
+    (whole-input kept taken.lines told taken.taken.0 taken.taken.1 taken.some taken.text)
 
 pub input-or_fault : (bytes : List ℕ) → ((i : Input) → Spells bytes i → ⊥) → ((n : ℕ) (f : NotationFault) → FirstUnreadable bytes n f → ⊥) → ⊥
 input-or_fault bytes no_input no_fault =
