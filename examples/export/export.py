@@ -14,6 +14,8 @@ NAME = re.compile(r"[a-z][a-z0-9_]{0,15}")
 MOST_ITEMS = 1024
 MOST_SITES = 64
 LETTERS = {"commit": "c", "refuse": "n", "abort": "a"}
+ACTS = ("read", "write", "add", "end")
+KEYS = {"site", "items", "final", "tx", "value", "at", *ACTS}
 
 
 class Bad(Exception):
@@ -54,6 +56,11 @@ class Log:
         self.asked = {}  # transaction: {item: (letter, value)}
         self.changes = {}  # item: how often it was changed
         self.ended, self.live = set(), set()
+
+    def start(self, item, value):
+        if item in self.initial:
+            raise Bad("a value of %s at the start, behind another one or behind the item's first use" % item)
+        self.meet(item, value)
 
     def meet(self, item, value):
         if item not in self.initial:
@@ -109,7 +116,21 @@ class Log:
         elif event.get("end") in LETTERS:
             self.end(tx, LETTERS[event["end"]])
         else:
-            raise Bad("an event with a transaction and neither read, write, add nor end (commit, abort, refuse)")
+            raise Bad("an end that is none of commit, abort and refuse")
+
+
+def checked(event):
+    """The event of one line: an object of known keys that says one thing."""
+    if not isinstance(event, dict):
+        raise Bad("no JSON object")
+    for key in sorted(set(event) - KEYS):
+        raise Bad("a key that no event has: %s" % key)
+    acts = [act for act in ACTS if act in event]
+    if len(acts) != ("tx" in event):
+        raise Bad("a transaction's event has tx and one of read, write, add and end, and no other has any of these")
+    if not acts and "items" not in event and "final" not in event:
+        raise Bad("an event with neither tx, items nor final")
+    return event
 
 
 def logs_of(events, codes):
@@ -122,7 +143,7 @@ def logs_of(events, codes):
         try:
             log = logs.setdefault(event["site"], Log())
             for item, value in event.get("items", {}).items():
-                log.meet(item, codes.number(value))
+                log.start(item, codes.number(value))
             for item, value in event.get("final", {}).items():
                 log.final[item] = codes.number(value)
             if "tx" in event:
@@ -132,6 +153,8 @@ def logs_of(events, codes):
         except Bad as why:
             raise Bad("event %d: %s" % (number, why))
     for site, log in logs.items():
+        for item in sorted(set(log.final) - set(log.initial)):
+            raise Bad("a value at the end of %s at site %s, which nothing else names" % (item, site))
         for tx in sorted(log.live - log.ended):
             raise Bad("transaction %s has no end at site %s" % ([t for t, n in numbers.items() if n == tx][0], site))
     return logs, numbers
@@ -179,8 +202,8 @@ def main(path, names_path=None):
         for number, line in enumerate(source, 1):
             try:
                 if line.strip():
-                    events.append(json.loads(line))
-            except ValueError as why:
+                    events.append(checked(json.loads(line)))
+            except (Bad, ValueError) as why:
                 raise Bad("line %d: %s" % (number, why))
     codes = Codes(events)
     logs, numbers = logs_of(events, codes)

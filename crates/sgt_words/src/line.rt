@@ -10,7 +10,7 @@ use clap::error::ErrorKind;
 use clap::{Arg, ArgAction, Command, Error};
 use std::alloc::{AllocError, Global};
 
-const VERSION: &str = "0.4.0 (bundles: sgt 1, sgt 2)";
+const VERSION: &str = "0.5.0 (bundles: sgt 1, sgt 2)";
 
 const ABOUT: &str =
     "Audits the logs of certified runs, explains and draws them, makes the certificate of logs that have none, replays runs from events, and runs scripts.";
