@@ -13,6 +13,7 @@ ghost use Rattle.sgt_order.specs.private.Admission.{LeadsToOlder, RefusesAdmissi
 use crate::dag::Dag;
 use crate::fault::Admit;
 use crate::growth::extend;
+use crate::hints::note_edges;
 use crate::offer::leads_to_older;
 use crate::region::Region;
 use crate::rows::{add_edges, open_rows};
@@ -61,8 +62,10 @@ pub(crate) fn admit_in(
     if leads_to_older(new, offered) {
         return Err(Admit::Stale);
     }
+    let first = dag.edges.len();
     extend(dag, region, new, offered)?;
     add_edges(dag.rows.as_mut_slice(), new.generation, offered);
     open_rows(&mut dag.rows, &dag.nodes, dag.edges.as_slice(), offered);
+    note_edges(&mut dag.hints, &dag.nodes, dag.edges.as_slice(), first);
     Ok(())
 }
