@@ -22,6 +22,15 @@ use sgt_arena::Handle;
 use sgt_edges::Edge;
 use std::alloc::Global;
 
+// Where the region begins, or the order's end where no node has a row, so that none has many edges.
+fn hinted_from(dag: &Dag, region: &Region) -> usize {
+    if dag.rows.is_empty() {
+        dag.order.len()
+    } else {
+        region.first
+    }
+}
+
 /// Admits the node with the edges of the window, or says why not. The marks of its search stay.
 pub(crate) fn admit_in(
     alloc: Global,
@@ -62,10 +71,16 @@ pub(crate) fn admit_in(
     if leads_to_older(new, offered) {
         return Err(Admit::Stale);
     }
-    let first = dag.edges.len();
     extend(dag, region, new, offered)?;
     add_edges(dag.rows.as_mut_slice(), new.generation, offered);
     open_rows(&mut dag.rows, &dag.nodes, dag.edges.as_slice(), offered);
-    note_edges(&mut dag.hints, &dag.nodes, dag.edges.as_slice(), first);
+    let first = hinted_from(dag, region);
+    note_edges(
+        &mut dag.hints,
+        &dag.nodes,
+        dag.edges.as_slice(),
+        dag.order.as_slice(),
+        first,
+    );
     Ok(())
 }

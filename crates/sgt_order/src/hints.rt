@@ -1,7 +1,5 @@
 //! Which edge leads from one node to another, of nodes with many edges. What it says is checked where it is used.
 
-ghost use Rattle.std.specs.Prelude.{◌<◌, length};
-
 use crate::node::Node;
 use sgt_arena::{Arena, Handle};
 use sgt_edges::Edge;
@@ -18,6 +16,8 @@ const BLOCK: usize = 64;
 #[derive(Drop)]
 pub struct Hints {
     pub blocks: Vec<Vec<u32>>,
+    /// How many of the node's edges were noted.
+    pub noted: usize,
 }
 
 /// The number of an edge that leads from a node to the one with this bit of this word, as far as it is known.
@@ -27,14 +27,14 @@ pub(crate) fn hint(hints: &[Hints], from: Handle, word: usize, bit: usize) -> Op
 }
 
 // Notes the number of an edge to the node with this index.
-fn note(hints: &mut Hints, to: usize, number: usize) -> Result<(), AllocError> {
-    let alloc = *hints.blocks.allocator();
-    for _empty in hints.blocks.len()..to / BLOCK + 1 {
-        hints.blocks.reserve(1)?;
-        hints.blocks.push_reserved(Vec::new(alloc));
+fn note(blocks: &mut Vec<Vec<u32>>, to: usize, number: usize) -> Result<(), AllocError> {
+    let alloc = *blocks.allocator();
+    for _empty in blocks.len()..to / BLOCK + 1 {
+        blocks.reserve(1)?;
+        blocks.push_reserved(Vec::new(alloc));
     }
-    if to / BLOCK < hints.blocks.len() {
-        let block = &mut hints.blocks[to / BLOCK];
+    if to / BLOCK < blocks.len() {
+        let block = &mut blocks[to / BLOCK];
         if block.is_empty() {
             *block = vec![in alloc; 0; BLOCK]?;
         }
@@ -45,13 +45,14 @@ fn note(hints: &mut Hints, to: usize, number: usize) -> Result<(), AllocError> {
     Ok(())
 }
 
-// Notes the edges with these numbers.
-fn note_all(hints: &mut Hints, listed: &[usize], edges: &[Edge]) -> Result<(), AllocError> {
-    for number in listed {
-        if let Some(edge) = edges.get(*number) {
-            note(hints, edge.to.index as usize, *number)?;
+// Notes those edges with these numbers that weren't noted.
+fn note_rest(hints: &mut Hints, listed: &[usize], edges: &[Edge]) -> Result<(), AllocError> {
+    for at in hints.noted..listed.len() {
+        if let Some(edge) = edges.get(listed[at]) {
+            note(&mut hints.blocks, edge.to.index as usize, listed[at])?;
         }
     }
+    hints.noted = listed.len();
     Ok(())
 }
 
@@ -62,48 +63,42 @@ fn open(hints: &mut Vec<Hints>, at: u32) -> Result<(), AllocError> {
         hints.reserve(1)?;
         hints.push_reserved(Hints {
             blocks: Vec::new(alloc),
+            noted: 0,
         });
     }
     Ok(())
 }
 
-// Notes an edge, if the node that it comes from has many; the first time all that come from there.
-fn note_edge(
+// Notes the edges from a node that weren't noted, if it has many.
+fn note_from(
     hints: &mut Vec<Hints>,
-    nodes: &Arena<Node>,
+    from: Handle,
+    listed: &[usize],
     edges: &[Edge],
-    number: usize,
-) -> Result<(), AllocError>
-    requires { number < length edges.now }
-{
-    let edge = &edges[number];
-    let at = edge.from.index as usize;
-    if at < hints.len() && !hints[at].blocks.is_empty() {
-        return note(&mut hints[at], edge.to.index as usize, number);
-    }
-    let Some(node) = nodes.get(edge.from) else {
-        return Ok(());
-    };
-    if node.out.len() < MANY {
+) -> Result<(), AllocError> {
+    if listed.len() < MANY {
         return Ok(());
     }
-    open(hints, edge.from.index)?;
-    match hints.get_mut(at) {
-        Some(hints) => note_all(hints, node.out.as_slice(), edges),
+    open(hints, from.index)?;
+    match hints.get_mut(from.index as usize) {
+        Some(hints) => note_rest(hints, listed, edges),
         None => Ok(()),
     }
 }
 
-/// Notes the edges from this number on. Where memory is refused some are left out.
+/// Notes the edges from the members from this place on, if they have many. Where memory is refused some are left out.
 pub(crate) fn note_edges(
     hints: &mut Vec<Hints>,
     nodes: &Arena<Node>,
     edges: &[Edge],
+    order: &[Handle],
     first: usize,
 ) {
-    for number in first..edges.len() {
-        if note_edge(hints, nodes, edges, number).is_err() {
-            return;
+    for place in first..order.len() {
+        if let Some(node) = nodes.get(order[place]) {
+            if note_from(hints, order[place], node.out.as_slice(), edges).is_err() {
+                return;
+            }
         }
     }
 }
