@@ -58,6 +58,14 @@ pub(crate) fn admit_in(
     ensures fault { IfErr result (RefusesAdmission dag.old region.old.next new offered.now) }
 {
     search(dag, region, new, offered);
+    let first = hinted_from(dag, region);
+    note_edges(
+        &mut dag.hints,
+        &dag.nodes,
+        dag.edges.as_slice(),
+        dag.order.as_slice(),
+        first,
+    );
     if let Some(last) = closing(new, offered, region.marks.as_slice()) {
         let walk = walk_back(
             alloc,
@@ -74,13 +82,5 @@ pub(crate) fn admit_in(
     extend(dag, region, new, offered)?;
     add_edges(dag.rows.as_mut_slice(), new.generation, offered);
     open_rows(&mut dag.rows, &dag.nodes, dag.edges.as_slice(), offered);
-    let first = hinted_from(dag, region);
-    note_edges(
-        &mut dag.hints,
-        &dag.nodes,
-        dag.edges.as_slice(),
-        dag.order.as_slice(),
-        first,
-    );
     Ok(())
 }

@@ -26,6 +26,14 @@ pub(crate) fn hint(hints: &[Hints], from: Handle, word: usize, bit: usize) -> Op
     Some(*block.get(bit)? as usize)
 }
 
+/// How many of a node's edges were noted.
+pub(crate) fn noted(hints: &[Hints], from: Handle) -> usize {
+    match hints.get(from.index as usize) {
+        Some(hints) => hints.noted,
+        None => 0,
+    }
+}
+
 // Notes the number of an edge to the node with this index.
 fn note(blocks: &mut Vec<Vec<u32>>, to: usize, number: usize) -> Result<(), AllocError> {
     let alloc = *blocks.allocator();

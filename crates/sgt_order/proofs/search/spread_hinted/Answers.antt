@@ -17,3 +17,6 @@ loop-word-preserved c =
       })
       | else-word-met w ↦ rw (w.marks-is, w.met-is) c.loop-word.invariant
     ]
+
+pub returns-clause-marked : goal.returns-clause-marked
+returns-clause-marked c = some_on _ _ _ _ c.loop-word.invariant.marked c.mark_unnoted.ensures.marked
