@@ -20,7 +20,7 @@ import hostile_inputs as inputs
 
 MOST_TIME, MOST_SIZE, LEAST_TIME, MOST_OF_MEGABYTE, MOST_OF_WINDOW = 3.0, 16_000_000, 0.2, 1.0, 1.5
 
-BOUNDED = ("sums_and_reads", "reads_and_sums", "against")
+BOUNDED = ("sums_and_reads", "reads_and_sums", "against", "alone")
 
 KINDS = {
     "add_and_read": (["replay"], inputs.add_and_read),
@@ -36,6 +36,7 @@ KINDS = {
     "reads_and_sums": (["replay"], inputs.reads_and_sums),
     "every_version": (["replay"], inputs.every_version),
     "against": (["replay"], inputs.against),
+    "alone": (["replay"], inputs.alone),
     "long_walks": (["replay"], inputs.long_walks),
     "full_window": (["replay"], inputs.full_window),
     "unknown_items": (["replay"], inputs.unknown_items),

@@ -150,6 +150,19 @@ def against(n):
     return "".join(text)
 
 
+def alone(n):
+    """A chain of k adders, k readers of their sum, and k that are placed in front: each adder alone leads to the next one."""
+    text, first = ["site 0 x=0 y=0 z=0\n"], 1
+    while n > 0:
+        k = min((WINDOW + 95) // 3, n)
+        adders, readers, late = range(first, first + k), range(first + k, first + 2 * k), range(first + 2 * k, first + 3 * k)
+        text.append("b\n" * (3 * k) + "".join("r%d[0.y]\n" % i for i in late) + "w%d[0.y]=1\n" % first)
+        text.append("".join("w%d[0.z]=1\nd%d[0.x]=1\nc%d\n" % (i, i, i) for i in adders))
+        text.append("".join("r%d[0.x]\nc%d\n" % (i, i) for i in readers) + "".join("c%d\n" % i for i in late) + "z\n")
+        first, n = first + 3 * k, n - k
+    return "".join(text)
+
+
 def long_walks(n):
     """Chains of a thousand, and a thousand transactions that are refused, each with the whole chain as its walk."""
     text, first = [sites(2048)], 1

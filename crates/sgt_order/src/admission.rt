@@ -13,6 +13,7 @@ ghost use Rattle.sgt_order.specs.private.Admission.{LeadsToOlder, RefusesAdmissi
 use crate::dag::Dag;
 use crate::fault::Admit;
 use crate::growth::extend;
+use crate::hints::note_edges;
 use crate::offer::leads_to_older;
 use crate::region::Region;
 use crate::rows::{add_edges, open_rows};
@@ -20,6 +21,15 @@ use crate::search::{closing, search, walk_back};
 use sgt_arena::Handle;
 use sgt_edges::Edge;
 use std::alloc::Global;
+
+// Where the region begins, or the order's end where no node has a row, so that none has many edges.
+fn hinted_from(dag: &Dag, region: &Region) -> usize {
+    if dag.rows.is_empty() {
+        dag.order.len()
+    } else {
+        region.first
+    }
+}
 
 /// Admits the node with the edges of the window, or says why not. The marks of its search stay.
 pub(crate) fn admit_in(
@@ -48,6 +58,14 @@ pub(crate) fn admit_in(
     ensures fault { IfErr result (RefusesAdmission dag.old region.old.next new offered.now) }
 {
     search(dag, region, new, offered);
+    let first = hinted_from(dag, region);
+    note_edges(
+        &mut dag.hints,
+        &dag.nodes,
+        dag.edges.as_slice(),
+        dag.order.as_slice(),
+        first,
+    );
     if let Some(last) = closing(new, offered, region.marks.as_slice()) {
         let walk = walk_back(
             alloc,

@@ -3,6 +3,7 @@
 ghost use Rattle.std.specs.Prelude.{◌≡◌, ◌↔◌, ℕ, Some, slice_get};
 ghost use Rattle.sgt_order.specs.private.Parts.{IsSound};
 
+use crate::hints::Hints;
 use crate::node::Node;
 use crate::row::Row;
 use sgt_arena::{Arena, Handle};
@@ -16,6 +17,8 @@ pub struct Dag {
     pub order: Vec<Handle>,
     /// Which nodes the edges of a node lead to, by its index. A node with few edges may have no row, or an empty one.
     pub rows: Vec<Row>,
+    /// Where the edges of a node stand, by its index. A node with few edges may have none.
+    pub hints: Vec<Hints>,
 }
 
 impl Dag {

@@ -128,3 +128,11 @@ pub(crate) fn is_met(rows: &[Row], from: Handle, met: &[u64]) -> bool
         None => false,
     }
 }
+
+/// The bits of this word of the node's row that aren't set here. A node without a row has none.
+pub(crate) fn unmet(rows: &[Row], from: Handle, word: usize, met: &[u64]) -> u64 {
+    match rows.get(from.index as usize) {
+        Some(row) if word < row.words.len() && word < met.len() => row.words[word] & !met[word],
+        _ => 0,
+    }
+}

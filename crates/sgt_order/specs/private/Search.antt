@@ -43,6 +43,11 @@ pub record Marked (P : Edge → Type 0) (old new : List (Option Edge)) : Type 0 
   pub fresh : (k : ℕ) (e : Edge) → Has new k e → Has old k e ⊎ (P e × (e.to.index ≡ k))
   pub done : (e : Edge) → P e → IsMarked new e.to.index
 
+-- some targets of the edges that P holds of were marked, where they were not, and nothing else
+pub record MarkedSome (P : Edge → Type 0) (old new : List (Option Edge)) : Type 0 where
+  pub kept : (k : ℕ) (e : Edge) → Has old k e → Has new k e
+  pub fresh : (k : ℕ) (e : Edge) → Has new k e → Has old k e ⊎ (P e × (e.to.index ≡ k))
+
 -- the edge is one of these, from there
 abbrev pub IsFrom : Handle → List Edge → Edge → Type 0
 IsFrom from edges e = (n : ℕ) × (slice_get edges n ≡ Some e) × (e.from ≡ from)

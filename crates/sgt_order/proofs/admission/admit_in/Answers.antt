@@ -24,7 +24,7 @@ pub returns-in_err-walk-clause-fault : goal.returns-in_err-walk-clause-fault
 returns-in_err-walk-clause-fault c =
     let told = err_from_is_err_and c.from_residual.result c.from_residual.ensures.1 in
     let found = c.in-Some.ensures.some in
-    let marked = subst (λ ms. IsMarked ms c.in-Some.last.from.index) c.as_slice.ensures.value found.3 in
+    let marked = subst (λ ms. IsMarked ms c.in-Some.last.from.index) c.as_slice-3.ensures.value found.3 in
     let cycle = closes_cycle _ _ _ _ _ _ c.search.ensures.searched found.0 c.in-Some.last found.1 found.2 marked in
     rw told.1 (rw told.2 (λ acyclic. absurd (acyclic c.args.new cycle)))
 
@@ -43,7 +43,7 @@ returns-then-leads_to_older-clause-among c k e has = marks_among _ _ _ _ _ _ c.s
 
 pub returns-then-leads_to_older-clause-fault : goal.returns-then-leads_to_older-clause-fault
 returns-then-leads_to_older-clause-fault c =
-    let free = subst (IsOpen (in_window c.args.new c.args.offered.now) c.args.new) c.as_slice.ensures.value c.in_default.ensures.none in
+    let free = subst (IsOpen (in_window c.args.new c.args.offered.now) c.args.new) c.as_slice-3.ensures.value c.in_default.ensures.none in
     (c.leads_to_older.ensures.0 c.if-leads_to_older.true, forward_acyclic _ _ _ (placed_forward _ _ _ _ _ _ c.search.ensures.searched free))
 
 pub returns-in_err-extend-clause-among : goal.returns-in_err-extend-clause-among
@@ -72,9 +72,9 @@ returns-clause-acyclic c = subst (λ es. IsAcyclic (Joins es)) c.in_ok-extend.en
 pub returns-clause-order : goal.returns-clause-order
 returns-clause-order c =
     let dag = c.args.dag.now in
-    let free = subst (IsOpen (in_window c.args.new c.args.offered.now) c.args.new) c.as_slice.ensures.value c.in_default.ensures.none in
+    let free = subst (IsOpen (in_window c.args.new c.args.offered.now) c.args.new) c.as_slice-3.ensures.value c.in_default.ensures.none in
     let placing = is_placed dag.nodes.generation dag.order.items dag.edges.items (in_window c.args.new c.args.offered.now) c.args.new c.search.new.region.marks.items c.search.ensures.searched free in
     subst (IsPlaced (Joins (dag.edges.items ++ in_window c.args.new c.args.offered.now)) dag.order.items c.args.new) (sym c.in_ok-extend.ensures.order) placing
 
 pub open_rows-requires-clause-lists : goal.open_rows-requires-clause-lists
-open_rows-requires-clause-lists c = subst (λ es. Lists c.extend.new.dag.nodes es) (sym c.as_slice-2.ensures.value) c.extend.ensures.sound.holds.lists
+open_rows-requires-clause-lists c = subst (λ es. Lists c.extend.new.dag.nodes es) (sym c.as_slice-4.ensures.value) c.extend.ensures.sound.holds.lists

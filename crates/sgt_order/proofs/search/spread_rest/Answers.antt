@@ -4,7 +4,7 @@ use Rattle.sgt_order.specs.private.Search.{AreTargets, IsListed, IsMarked, Marke
 use Rattle.sgt_order.proofs.Covering.{from_listed, numbers_within}
 use Rattle.sgt_order.proofs.Nodes.{targets_in}
 use Rattle.sgt_order.proofs.Numbers.{are_numbers}
-use Rattle.sgt_order.proofs.search.spread_from.Goals as goal
+use Rattle.sgt_order.proofs.search.spread_rest.Goals as goal
 
 pub mark_listed-requires : goal.mark_listed-requires
 mark_listed-requires c =
