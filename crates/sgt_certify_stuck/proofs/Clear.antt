@@ -42,25 +42,44 @@ does-item class.Read x e h = reads-item x e h
 does-item class.Change x e h = writes-item x e h
 does-item class.Put x e h = writes-item x e h.0
 
+-- one of the first n entries is of a source and does this to the item
+abbrev pub IsSeen : List Entry → ℕ → BTreeSet ℕ → Class → Name → Type 0
+IsSeen entries n sources first x = (p : ℕ) × (e : Entry) × (p < n) × (slice_get entries p ≡ Some e) × HasTx sources (tx_of e) × Does first x e
+
 -- what was seen of the first n entries
 pub record HasSeen (entries : List Entry) (n : ℕ) (sources barred : BTreeSet ℕ) (first second : Class) (seen : BTreeSet (List ℕ)) : Type 0 where
   pub kept : (p : ℕ) (e : Entry) (x : Name) → p < n → slice_get entries p ≡ Some e → HasTx sources (tx_of e) → Does first x e → HasItem seen x
   pub clear : (p q : ℕ) (e f : Entry) (x : Name) → p < q → q < n → slice_get entries p ≡ Some e → slice_get entries q ≡ Some f
       → HasTx sources (tx_of e) → HasTx barred (tx_of f) → Does first x e → Does second x f → ⊥
+  pub only : (x : Name) → HasItem seen x → IsSeen entries n sources first x
 
-pub none-seen : (entries : List Entry) (sources barred : BTreeSet ℕ) (first second : Class) (seen : BTreeSet (List ℕ)) → HasSeen entries 0 sources barred first second seen
-none-seen entries sources barred first second seen = record {
+pub none-seen : (entries : List Entry) (sources barred : BTreeSet ℕ) (first second : Class) (seen : BTreeSet (List ℕ))
+    → ((x : Name) → HasItem seen x → ⊥) → HasSeen entries 0 sources barred first second seen
+none-seen entries sources barred first second seen none = record {
   kept = λ p e x lt. absurd (omega arith);
   clear = λ p q e f x lt within. absurd (omega arith);
+  only = λ x has. absurd (none x has);
 }
+
+seen-later : (entries : List Entry) (n : ℕ) (sources : BTreeSet ℕ) (first : Class) (x : Name) → IsSeen entries n sources first x
+    → IsSeen entries (n + 1) sources first x
+seen-later entries n sources first x (p, e, lt, at, source, does) = (p, e, omega (arith, lt), at, source, does)
+
+-- where a barred entry meets what was seen, the log isn't clear
+pub not-clear : (entries : List Entry) (n : ℕ) (sources barred : BTreeSet ℕ) (first second : Class) (x : Name) (f : Entry)
+    → IsSeen entries n sources first x → slice_get entries n ≡ Some f → HasTx barred (tx_of f) → Does second x f
+    → IsClear entries sources barred first second → ⊥
+not-clear entries n sources barred first second x f (p, e, lt, at, source, does) here bars then clear =
+    clear p n e f x lt at here source bars does then
 
 pub seen-next : (entries : List Entry) (n : ℕ) (sources barred : BTreeSet ℕ) (first second : Class) (seen next : BTreeSet (List ℕ)) (e : Entry)
     → HasSeen entries n sources barred first second seen → slice_get entries n ≡ Some e
     → ((x : Name) → HasItem seen x → HasTx barred (tx_of e) → Does second x e → ⊥)
     → ((x : Name) → HasItem seen x → HasItem next x)
     → ((x : Name) → HasTx sources (tx_of e) → Does first x e → HasItem next x)
+    → ((x : Name) → HasItem next x → HasItem seen x ⊎ (HasTx sources (tx_of e) × Does first x e))
     → HasSeen entries (n + 1) sources barred first second next
-seen-next entries n sources barred first second seen next e had at misses kept added = record {
+seen-next entries n sources barred first second seen next e had at misses kept added only = record {
   kept = λ p f x lt at_p source does.
       elim (cases_eq p n) [
         | inl last ↦
@@ -75,6 +94,11 @@ seen-next entries n sources barred first second seen next e had at misses kept a
             misses x (had.kept p f x (omega arith) at_p source does) (subst (λ (h : Entry). HasTx barred (tx_of h)) one bars)
             (subst (λ (h : Entry). Does second x h) one then)
         | inr before ↦ had.clear p q f g x lt (omega arith) at_p at_q source bars does then
+      ];
+  only = λ x has.
+      elim (only x has) [
+        | inl before ↦ seen-later entries n sources first x (had.only x before)
+        | inr now ↦ (n, e, omega arith, at, now.0, now.1)
       ];
 }
 

@@ -3,8 +3,12 @@ use Rattle.std.proofs.Common.{◌≡◌, ◌≢◌, inl, inr, ◌⊎◌, ℕ, �
 use Rattle.std.specs.Prelude.{slice_get}
 use Rattle.std.specs.Ordering.{nat_cmp, is_eq}
 use Rattle.std.specs.Cmp.{nat_cmp_is}
+use Rattle.std.specs.Cmp.Lexicographic.{slice_cmp}
+use Rattle.std.specs.Str.{bytes_eq}
 use Rattle.std.specs.declared.cmp.Ordering.TheVariants.{Less, Greater}
 use Rattle.std.proofs.lemmas.Bool.{cases_eq, cases_order}
+use Rattle.std.proofs.lemmas.Map.Text.{is_eq-slice_cmp}
+use Rattle.std.proofs.lemmas.Slice.Eq.{bytes_eq-Decides}
 use Rattle.std.proofs.lemmas.Option.{same_Some, slice_get_within}
 use Rattle.sgt_names.proofs.Places.{Contains_at}
 
@@ -40,3 +44,11 @@ other-key k q apart =
 pub cond-true : (b c : Bool) → c ≡ true → cond b true c ≡ true
 cond-true true c h = refl
 cond-true false c h = h
+
+-- two names are the same, or their order tells them apart
+pub same-or-other : (xs ys : List ℕ) → (xs ≡ ys) ⊎ (is_eq (slice_cmp nat_cmp xs ys) ≡ false)
+same-or-other xs ys =
+    elim (bool_cases (bytes_eq xs ys)) [
+      | inl same ↦ inl ((bytes_eq-Decides xs ys).0 same)
+      | inr other ↦ inr (is_eq-slice_cmp xs ys ∙ other)
+    ]

@@ -1,6 +1,6 @@
 //! Conflicts that lead from some transactions to some others, looked for in one pass over a log.
 
-ghost use Rattle.std.specs.Prelude.{◌≡◌, IsTrue, IfOk, OnOk, Contains, Some};
+ghost use Rattle.std.specs.Prelude.{◌≡◌, ◌↔◌, ◌⊎◌, IsTrue, IfOk, IfSome, OnOk, Contains, Some};
 ghost use Rattle.sgt_names.specs.Name.{Name};
 ghost use Rattle.sgt_names.specs.Entry.{tx_of};
 ghost use Rattle.sgt_cert.specs.declared.bundle.SiteLog.{SiteLog as Log};
@@ -22,7 +22,7 @@ pub enum Class {
 }
 
 fn does(class: Class, entry: &Entry, item: &Item) -> bool
-    ensures { Does class item.now entry.now → IsTrue result }
+    ensures { IsTrue result ↔ Does class item.now entry.now }
 {
     match class {
         Class::Read => entry.reads(item),
@@ -33,7 +33,8 @@ fn does(class: Class, entry: &Entry, item: &Item) -> bool
 
 /// The item to which the entry does this, if it does it.
 fn item_by(class: Class, entry: &Entry) -> Option<Item>
-    ensures { (x : Name) → Does class x entry.now → result ≡ Some x }
+    ensures only { IfSome result (λ x. Does class x entry.now) }
+    ensures all { (x : Name) → Does class x entry.now → result ≡ Some x }
 {
     match entry.item() {
         Some(item) if does(class, entry, &item) => Some(item),
@@ -43,7 +44,8 @@ fn item_by(class: Class, entry: &Entry) -> Option<Item>
 
 /// Whether the entry is of a barred transaction and does this to an item that was seen.
 fn meets(seen: &BTreeSet<Item>, barred: &BTreeSet<Tx>, class: Class, entry: &Entry) -> bool
-    ensures { (x : Name) → HasItem seen.now x → HasTx barred.now (tx_of entry.now) → Does class x entry.now → IsTrue result }
+    ensures only { IsTrue result → (x : Name) × HasItem seen.now x × HasTx barred.now (tx_of entry.now) × Does class x entry.now }
+    ensures all { (x : Name) → HasItem seen.now x → HasTx barred.now (tx_of entry.now) → Does class x entry.now → IsTrue result }
 {
     if !barred.contains(&entry.tx()) {
         return false;
@@ -63,6 +65,8 @@ fn note(
 ) -> Result<(), AllocError>
     ensures kept { OnOk result ((x : Name) → HasItem seen.old x → HasItem seen.new x) }
     ensures added { OnOk result ((x : Name) → HasTx sources.now (tx_of entry.now) → Does class x entry.now → HasItem seen.new x) }
+    ensures only { OnOk result ((x : Name) → HasItem seen.new x
+        → HasItem seen.old x ⊎ (HasTx sources.now (tx_of entry.now) × Does class x entry.now)) }
 {
     if sources.contains(&entry.tx()) {
         if let Some(item) = item_by(class, entry) {
@@ -87,7 +91,7 @@ fn is_clear(
     barred: &BTreeSet<Tx>,
     pair: Pair,
 ) -> Result<bool, AllocError>
-    ensures { IfOk result (λ clear. IsTrue clear → IsClear entries.now sources.now barred.now pair.first pair.second) }
+    ensures { IfOk result (λ clear. IsTrue clear ↔ IsClear entries.now sources.now barred.now pair.first pair.second) }
 {
     let mut seen = BTreeSet::new(alloc);
     for entry in entries {

@@ -1,6 +1,6 @@
 //! Whether a set of transactions is stuck.
 
-ghost use Rattle.std.specs.Prelude.{ℕ, ◌++◌, Contains, IsTrue, IfOk};
+ghost use Rattle.std.specs.Prelude.{◌≡◌, ℕ, ◌++◌, Contains, IsTrue, IfOk, IfSome};
 ghost use Rattle.sgt_certify_logs.specs.Witness.{IsStuck};
 ghost use Rattle.sgt_certify_stuck.specs.Apart.{HasNoWalk, HasTx};
 ghost use Rattle.sgt_certify_stuck.specs.private.Ends.{AreShown, IsLogShown, IsShown};
@@ -53,7 +53,9 @@ fn has_no_walk(
 }
 
 /// The circle of the transaction, if there is one.
-fn circle_of(circles: &[Circle], tx: Tx) -> Option<&Circle> {
+fn circle_of(circles: &[Circle], tx: Tx) -> Option<&Circle>
+    ensures { IfSome result (λ circle. circle.now.tx ≡ tx) }
+{
     for circle in circles {
         if circle.tx == tx {
             return Some(circle);

@@ -6,7 +6,7 @@ pub returns : goal.returns
 returns c =
     IfOk-weaker c.is_clear-4.result _ _
     (λ clear h yes. apart-from c.args.entries.now c.args.sources.now c.args.barred.now
-    (c.in_ok-free_of_reads.ensures c.if-not-free_of_reads.false)
-    (c.in_ok-free_of_changes.ensures c.if-not-free_of_changes.false)
-    (c.in_ok-free_of_puts.ensures c.if-not-free_of_puts.false) (h yes))
+    (c.in_ok-free_of_reads.ensures.0 c.if-not-free_of_reads.false)
+    (c.in_ok-free_of_changes.ensures.0 c.if-not-free_of_changes.false)
+    (c.in_ok-free_of_puts.ensures.0 c.if-not-free_of_puts.false) (h.0 yes))
     c.is_clear-4.ensures
