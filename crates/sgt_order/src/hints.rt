@@ -11,6 +11,9 @@ const MANY: usize = 32;
 /// How many numbers a block has.
 const BLOCK: usize = 64;
 
+// Stands where no number does.
+const UNKNOWN: u32 = u32::MAX;
+
 /// The numbers of a node's edges by the index of the node that they lead to, in blocks. A block without numbers is of nodes
 /// that none leads to.
 #[derive(Drop)]
@@ -34,7 +37,7 @@ pub(crate) fn noted(hints: &[Hints], from: Handle) -> usize {
     }
 }
 
-// Notes the number of an edge to the node with this index.
+// Notes the number of an edge to the node with this index, if none stands there.
 fn note(blocks: &mut Vec<Vec<u32>>, to: usize, number: usize) -> Result<(), AllocError> {
     let alloc = *blocks.allocator();
     for _empty in blocks.len()..to / BLOCK + 1 {
@@ -44,10 +47,10 @@ fn note(blocks: &mut Vec<Vec<u32>>, to: usize, number: usize) -> Result<(), Allo
     if to / BLOCK < blocks.len() {
         let block = &mut blocks[to / BLOCK];
         if block.is_empty() {
-            *block = vec![in alloc; 0; BLOCK]?;
+            *block = vec![in alloc; UNKNOWN; BLOCK]?;
         }
-        if to % BLOCK < block.len() {
-            block[to % BLOCK] = u32::try_from(number).unwrap_or(0);
+        if to % BLOCK < block.len() && block[to % BLOCK] == UNKNOWN {
+            block[to % BLOCK] = u32::try_from(number).unwrap_or(UNKNOWN);
         }
     }
     Ok(())
