@@ -7,7 +7,6 @@ pub mod OneInput
 pub mod OneText
 pub mod Ordering
 pub mod Placing
-pub mod Reader
 pub mod Reporting
 pub mod Sums
 pub mod Tries

@@ -1,8 +1,7 @@
 -- The lines of an input are those of one list of sites and one list of events: what one more line can be.
-use Rattle.std.proofs.Common.{◌≡◌, ◌≢◌, ◌==◌, ℕ, true, false, ◌+◌, ◌≤◌, List, [], ◌∷◌, ◌++◌, length, map, refl, sym, ap, ap₂, ◌∙◌, subst, arith, inl, inr, ◌⊎◌, append_assoc}
+use Rattle.std.proofs.Common.{◌≡◌, ◌≢◌, ℕ, true, false, ◌+◌, ◌≤◌, List, [], ◌∷◌, ◌++◌, length, map, refl, sym, ap, ap₂, ◌∙◌, subst, arith, inl, inr, ◌⊎◌, append_assoc}
 use Rattle.std.specs.Prelude.{All, Bool, Result, Ok, Err, IfOk}
 use Rattle.std.specs.List.{join_with_byte, range_with_len}
-use Rattle.std.proofs.lemmas.Bool.{eqb-false, eqb-true}
 use Rattle.std.proofs.lemmas.List.{append-nil, length-append}
 use Rattle.std.proofs.lemmas.List.Elements.{All-head, All-tail, All-push, All-nil}
 use Rattle.std.proofs.lemmas.Option.{slice_get_within}
@@ -19,7 +18,9 @@ use Rattle.sgt_notation.proofs.OneSite.{site-one}
 use Rattle.sgt_notation.proofs.OneSpelling.{apart}
 use Rattle.sgt_service.specs.declared.input.Input.{Input}
 use Rattle.sgt_service.specs.Input.{Begins, IsBegun, IsPlaced, IsScriptOver, input_lines, max_scripts}
-use Rattle.sgt_service.specs.private.Taking.{Takes, TakesScript, TakesSite}
+use Rattle.sgt_input.specs.Sites.{TakesSite}
+use Rattle.sgt_input.proofs.SiteLines.{last-number, map-push, more-numbers}
+use Rattle.sgt_service.specs.private.Taking.{Takes, TakesScript}
 
 -- no script is spelled like a site
 op-no_site : (l : SiteLine) (op : Op) (rest : List ℕ) → site_text l ≡ op_text op ++ rest → ⊥
@@ -93,26 +94,7 @@ module _ (over : List SiteLine) where
       longer head (inl n) = inl (n.0, n.1, n.2, ap₂ (λ y ys. y ∷ ys) (sym head) n.3, n.4)
       longer head (inr n) = inr (n.0, n.1, n.2, ap₂ (λ y ys. y ∷ ys) (sym head) n.3, n.4)
 
--- ---- the numbers of the sites
-
-last-number : (n : ℕ) (ss : List SiteLine) (l : SiteLine) → map (λ k. k.site) (ss ++ l ∷ []) ≡ range_with_len n (length (ss ++ l ∷ [])) → l.site ≡ n + length ss
-last-number n [] l e = let first : l.site ≡ n = heads _ _ _ _ e in omega arith
-last-number n (s ∷ ss) l e = let rest : l.site ≡ n + 1 + length ss = last-number (n + 1) ss l (tails _ _ _ _ e) in omega arith
-
-more-numbers : (n : ℕ) (ss : List SiteLine) (l : SiteLine) → map (λ k. k.site) ss ≡ range_with_len n (length ss) → l.site ≡ n + length ss
-    → map (λ k. k.site) (ss ++ l ∷ []) ≡ range_with_len n (length (ss ++ l ∷ []))
-more-numbers n [] l e is = let number : l.site ≡ n = omega arith in ap (λ k. k ∷ []) number
-more-numbers n (s ∷ ss) l e is = ap₂ (λ k ks. k ∷ ks) (heads _ _ _ _ e) (more-numbers (n + 1) ss l (tails _ _ _ _ e) (omega arith))
-
 -- ---- the lines
-
-map-push : {A B : Type 0} (f : A → B) (xs : List A) (x : A) → map f (xs ++ x ∷ []) ≡ map f xs ++ f x ∷ []
-map-push f [] x = refl
-map-push f (y ∷ xs) x = ap (λ ys. f y ∷ ys) (map-push f xs x)
-
-not-nil : {A : Type 0} (xs : List A) (x : A) → xs ++ x ∷ [] ≡ [] → ⊥
-not-nil [] x e = absurd cc
-not-nil (y ∷ xs) x e = absurd cc
 
 -- a site is kept
 pub took-site : (old new : Input) (line : List ℕ) → old.scripts ≡ [] → new.scripts ≡ old.scripts → TakesSite old.sites line new.sites true → Takes old line new true
@@ -178,20 +160,3 @@ pub after-script : {E : Type 0} (r : Result Bool E) (old new : Input) (line : Li
 after-script (Err e) old new line kept none takes = tt
 after-script (Ok true) old new line kept none takes = λ begun. took-script old new line kept takes begun
 after-script (Ok false) old new line kept none takes = took-none old line none takes.0
-
--- ---- emptiness, as a test tells it
-
-no-length : {A : Type 0} (xs : List A) → length xs ≡ 0 → xs ≡ []
-no-length [] e = refl
-no-length (x ∷ xs) e = absurd (omega arith)
-
-pub empty_when : {A : Type 0} (xs : List A) (n : ℕ) → length xs ≡ n → true ≡ (n == 0) → xs ≡ []
-empty_when xs n size e = no-length xs (size ∙ eqb-true n 0 (sym e))
-
-pub filled_when : {A : Type 0} (xs : List A) (n : ℕ) → length xs ≡ n → false ≡ (n == 0) → xs ≢ []
-filled_when xs n size e none = eqb-false n 0 (sym e) (sym size ∙ ap length none)
-
--- a site of another number
-pub other-site : (l : SiteLine) (line : List ℕ) (n : ℕ) → IsSiteLine l → line ≡ site_text l → l.site ≢ n
-    → (m : SiteLine) → IsSiteLine m → m.site ≡ n → line ≢ site_text m
-other-site l line n is text differs m also number same = differs (ap (λ k. k.site) (site-one l m is also (sym text ∙ same)) ∙ number)

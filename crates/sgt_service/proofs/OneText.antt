@@ -1,36 +1,20 @@
 -- No two inputs have one text.
-use Rattle.std.proofs.Common.{◌≡◌, ◌≢◌, ℕ, List, [], ◌∷◌, ◌++◌, append_assoc, refl, sym, ap₂, ◌∙◌}
+use Rattle.std.proofs.Common.{◌≡◌, ◌≢◌, ℕ, List, [], ◌∷◌, ◌++◌, refl, sym, ap₂, ◌∙◌}
 use Rattle.std.specs.Prelude.{All, map}
 use Rattle.std.specs.List.{AllByRecursion}
 use Rattle.std.proofs.lemmas.List.Elements.{All-head, All-tail, recursion_from_All}
 use Rattle.sgt_names.proofs.Lists.{heads, tails}
 use Rattle.sgt_notation.specs.Events.{IsSiteLine, site_text}
 use Rattle.sgt_notation.specs.Scripts.{IsScript, script_text}
-use Rattle.sgt_notation.specs.Spelling.{text_of_lines}
 use Rattle.sgt_notation.specs.declared.script.Script.{Script}
 use Rattle.sgt_notation.specs.declared.event.SiteLine.{SiteLine}
 use Rattle.sgt_notation.proofs.OneScript.{script-no_lf, script-one}
 use Rattle.sgt_notation.proofs.OneSite.{site-no_lf, site-one}
-use Rattle.sgt_notation.proofs.OneSpelling.{HasNot, cut_at_byte}
+use Rattle.sgt_notation.proofs.OneSpelling.{HasNot}
 use Rattle.sgt_service.specs.declared.input.Input.{Input}
 use Rattle.sgt_service.specs.Input.{Spells, input_lines}
+use Rattle.sgt_input.proofs.Lines.{texts-one}
 use Rattle.sgt_service.proofs.OneInput.{script-no_site, scripts-plain}
-
-pub no_line : (l more : List ℕ) → l ++ 10 ∷ more ≡ [] → ⊥
-no_line [] more e = cc
-no_line (x ∷ l) more e = cc
-
-pub first_line : (l : List ℕ) (ls : List (List ℕ)) → text_of_lines (l ∷ ls) ≡ l ++ 10 ∷ text_of_lines ls
-first_line l ls = append_assoc l (10 ∷ []) (text_of_lines ls)
-
--- lines without an LF are cut in one way
-texts-one : (xs ys : List (List ℕ)) → AllByRecursion (HasNot 10) xs → AllByRecursion (HasNot 10) ys → text_of_lines xs ≡ text_of_lines ys → xs ≡ ys
-texts-one [] [] h g e = refl
-texts-one [] (y ∷ ys) h g e = absurd (no_line y (text_of_lines ys) (sym (first_line y ys) ∙ sym e))
-texts-one (x ∷ xs) [] h g e = absurd (no_line x (text_of_lines xs) (sym (first_line x xs) ∙ e))
-texts-one (x ∷ xs) (y ∷ ys) h g e =
-    let cut = cut_at_byte 10 x y (text_of_lines xs) (text_of_lines ys) h.0 g.0 (sym (first_line x xs) ∙ e ∙ first_line y ys) in
-    ap₂ (λ z zs. z ∷ zs) cut.0 (texts-one xs ys h.1 g.1 cut.1)
 
 lines-no_lf : (ss : List SiteLine) (es : List Script) → All IsSiteLine ss → All IsScript es → AllByRecursion (HasNot 10) (map site_text ss ++ map script_text es)
 lines-no_lf [] [] a b = tt

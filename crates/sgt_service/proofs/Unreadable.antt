@@ -1,36 +1,28 @@
 -- Bytes spell an input or have a first line that can't be read, not both, and one such line.
-use Rattle.std.proofs.Common.{◌≡◌, ◌≢◌, ◌==◌, ℕ, zero, suc, true, false, ◌+◌, ◌*◌, ◌<◌, ◌≤◌, List, [], ◌∷◌, ◌++◌, length, map, take, refl, sym, ap, ap₂, ◌∙◌, subst, arith, lit<, lit≤, inl, inr, ◌⊎◌, append_assoc, Option, Some, None, IfSome}
-use Rattle.std.specs.Prelude.{All, Bool, codes, decimal}
-use Rattle.std.specs.List.{AllByRecursion, join_with_byte, range_with_len}
-use Rattle.std.proofs.lemmas.Bool.{eqb-false, eqb-true}
-use Rattle.std.proofs.lemmas.Fmt.{length-decimal-le}
-use Rattle.std.proofs.lemmas.List.{append-nil, length-append, length-map}
-use Rattle.std.proofs.lemmas.List.Elements.{All-cons, All-from_recursion, All-head, All-nil, All-tail, recursion_from_All}
-use Rattle.sgt_names.specs.declared.entry.Holding.{Holding}
+use Rattle.std.proofs.Common.{◌≡◌, ◌≢◌, ℕ, ◌+◌, ◌≤◌, List, [], ◌∷◌, ◌++◌, length, map, refl, sym, ap, ap₂, ◌∙◌, subst, arith, inl, inr, ◌⊎◌, Option, Some, None, IfSome}
+use Rattle.std.specs.Prelude.{All}
+use Rattle.std.specs.List.{AllByRecursion, range_with_len}
+use Rattle.std.proofs.lemmas.List.Elements.{All-cons, All-head, All-nil, All-tail, recursion_from_All}
 use Rattle.sgt_names.specs.declared.outcome.Outcome.{Outcome}
 use Rattle.sgt_names.specs.declared.outcome.Outcome.TheVariants as outcome
-use Rattle.sgt_names.proofs.Lists.{heads, list_cases, tails}
+use Rattle.sgt_names.proofs.Lists.{heads, tails}
 use Rattle.sgt_notation.specs.Events.{IsSiteLine, site_text}
-use Rattle.sgt_notation.specs.Limits.{max_line}
 use Rattle.sgt_notation.specs.Scripts.{IsScript, script_text}
-use Rattle.sgt_notation.specs.Lines.{IsLongerThan}
-use Rattle.sgt_notation.specs.Spelling.{HasNoLf, IsHolding, assignment, text_of_lines}
+use Rattle.sgt_notation.specs.Spelling.{text_of_lines}
 use Rattle.sgt_notation.specs.declared.event.SiteLine.{SiteLine}
 use Rattle.sgt_notation.specs.declared.script.Script.{Script}
 use Rattle.sgt_notation.specs.declared.fault.NotationFault.{NotationFault}
-use Rattle.sgt_notation.specs.declared.fault.NotationFault.TheVariants.{NotALine, TooLong, Memory}
-use Rattle.sgt_notation.specs.declared.lines.Next.TheVariants as next
-use Rattle.sgt_notation.proofs.OneNext.{next-one}
 use Rattle.sgt_notation.proofs.OneScript.{script-no_lf}
-use Rattle.sgt_notation.proofs.OneSite.{site-no_lf}
-use Rattle.sgt_notation.proofs.OneSpelling.{HasNot, cut_at_byte}
-use Rattle.sgt_notation.proofs.Short.{name-short, value-short}
-use Rattle.sgt_notation.proofs.Unspelled.{never}
+use Rattle.sgt_input.specs.Stopping.{IsTaken}
+use Rattle.sgt_input.proofs.Keeping.{spelled}
+use Rattle.sgt_input.proofs.SiteLines.{site-plain}
+use Rattle.sgt_input.proofs.Unreadable as any
+use Rattle.sgt_input.proofs.Unreadable.{AreInputs, IsPlain}
 use Rattle.sgt_service.specs.declared.input.Input.{Input}
-use Rattle.sgt_service.specs.Input.{Begins, Blocks, FirstUnreadable, IsBegun, IsScriptOver, Spells, input_lines}
+use Rattle.sgt_service.specs.Input.{Begins, FirstUnreadable, IsBegun, IsInput, IsScriptOver, Spells, input_lines}
 use Rattle.sgt_service.specs.Report.{IsAnswer, TellsUnreadable}
+use Rattle.sgt_service.specs.private.Taking.{HaveLines}
 use Rattle.sgt_service.proofs.OneInput.{scripts-plain, scripts-somewhere}
-use Rattle.sgt_service.proofs.OneText.{first_line, no_line}
 
 nonempty : {A : Type 0} (x : A) (xs : List A) → x ∷ xs ≡ [] → ⊥
 nonempty x xs e = absurd cc
@@ -103,31 +95,6 @@ begins-front xs zs (i, is, e) =
 
 -- ---- each of them is short, and has no LF
 
-abbrev IsPlain : List ℕ → Type 0
-IsPlain line = HasNot 10 line × (length line ≤ max_line)
-
-join-short : (w : List ℕ) (ws : List (List ℕ)) → length w ≤ 38 → AllByRecursion (λ v. length v ≤ 38) ws → length (join_with_byte 32 (w ∷ ws)) ≤ 38 + 39 * length ws
-join-short w [] h all = omega (arith, h)
-join-short w (v ∷ ws) h all =
-    let size = length-append w (32 ∷ join_with_byte 32 (v ∷ ws)) in
-    omega (arith, size, h, join-short v ws all.0 all.1)
-
-assignment-short : (h : Holding) → IsHolding h → length (assignment h.item h.value) ≤ 38
-assignment-short h is = simp length-append (omega (arith, name-short h.item is.0, value-short h.value is.1))
-
-items-short : (hs : List Holding) → AllByRecursion IsHolding hs → AllByRecursion (λ v. length v ≤ 38) (map (λ h. assignment h.item h.value) hs)
-items-short [] all = tt
-items-short (h ∷ hs) all = (assignment-short h all.0, items-short hs all.1)
-
-site-short : (l : SiteLine) → IsSiteLine l → length (site_text l) ≤ max_line
-site-short l is =
-    let items = map (λ h. assignment h.item h.value) l.items in
-    let site = is.site in
-    let number : length (decimal l.site) ≤ 2 = length-decimal-le 2 l.site (lit< tt) (omega (arith, site)) (omega (arith, site)) in
-    let whole = join-short (codes "site") (decimal l.site ∷ items) (lit≤ tt) (omega (arith, number), items-short l.items (recursion_from_All IsHolding l.items is.each)) in
-    let count : length items ≡ length l.items = length-map l.items (λ h. assignment h.item h.value) in
-    omega (arith, whole, count, is.room)
-
 lines-plain : (ss : List SiteLine) (es : List Script) → All IsSiteLine ss → All IsScript es → AllByRecursion IsPlain (map site_text ss ++ map script_text es)
 lines-plain [] [] a b = tt
 lines-plain [] (e ∷ es) a b =
@@ -135,217 +102,10 @@ lines-plain [] (e ∷ es) a b =
     ((recursion_from_All (λ c. c ≢ 10) (script_text e) (script-no_lf e is), is.room), lines-plain [] es a (All-tail IsScript e es b))
 lines-plain (s ∷ ss) es a b =
     let is = All-head IsSiteLine s ss a in
-    ((recursion_from_All (λ c. c ≢ 10) (site_text s) (site-no_lf s is), site-short s is), lines-plain ss es (All-tail IsSiteLine s ss a) b)
+    (site-plain s is, lines-plain ss es (All-tail IsSiteLine s ss a) b)
 
 begins-plain : (xs : List (List ℕ)) → Begins xs → AllByRecursion IsPlain xs
 begins-plain xs (i, is, e) = subst (AllByRecursion IsPlain) (sym e) (lines-plain i.sites i.scripts is.each (scripts-plain i.sites i.scripts is.scripts))
-
-plain-last : (xs : List (List ℕ)) (z : List ℕ) → AllByRecursion IsPlain (xs ++ z ∷ []) → IsPlain z
-plain-last [] z all = all.0
-plain-last (x ∷ xs) z all = plain-last xs z all.1
-
-plain-no_lf : (xs : List (List ℕ)) → AllByRecursion IsPlain xs → AllByRecursion (HasNot 10) xs
-plain-no_lf [] all = tt
-plain-no_lf (x ∷ xs) all = (all.0.0, plain-no_lf xs all.1)
-
--- ---- what blocks an input
-
-no_lf : (xs : List ℕ) → HasNot 10 xs → HasNoLf xs
-no_lf xs h = All-from_recursion (λ b. b ≢ 10) xs h
-
-line-not_long : next.Line ≡ next.TooLong → ⊥
-line-not_long e = absurd cc
-
--- an input that goes on with a line isn't blocked there
-goes-on : (before : List (List ℕ)) (z more : List ℕ) (f : NotationFault) → Begins (before ++ z ∷ []) → IsPlain z → Blocks before (z ++ 10 ∷ more) f → ⊥
-goes-on before z more NotALine begins plain (inl m) =
-    let same = cut_at_byte 10 m.line z m.more more (recursion_from_All (λ b. b ≢ 10) m.line m.none) plain.0 (sym m.text) in
-    m.not (subst (λ (t : List ℕ). Begins (before ++ t ∷ [])) (sym same.0) begins)
-goes-on before z more NotALine begins plain (inr k) = never 10 (z ++ 10 ∷ more) z more k.none refl
-goes-on before z more TooLong begins plain long =
-    let same = next-one max_line (z ++ 10 ∷ more) next.Line next.TooLong z [] more (z ++ 10 ∷ more) (no_lf z plain.0, plain.1, refl) (long, refl) in
-    line-not_long same.0
-goes-on before z more Memory begins plain blocks = blocks
-
--- nor where no byte comes, behind some line
-at-end : (before : List (List ℕ)) (rest : List ℕ) (f : NotationFault) → rest ≡ [] → before ≢ [] → Blocks before rest f → ⊥
-at-end before rest NotALine none some (inl m) = no_line m.line m.more (sym m.text ∙ none)
-at-end before rest NotALine none some (inr k) = some (k.empty none)
-at-end before rest TooLong none some long = absurd (omega (arith, long.0, ap length none))
-at-end before rest Memory none some blocks = blocks
-
--- what isn't a line isn't too long
-not-long : (before : List (List ℕ)) (rest : List ℕ) → Blocks before rest NotALine → IsLongerThan max_line rest → ⊥
-not-long before rest (inl m) long =
-    let same = next-one max_line rest next.Line next.TooLong m.line [] m.more rest (m.none, m.short, m.text) (long, refl) in
-    line-not_long same.0
-not-long before rest (inr k) long = absurd (omega (arith, k.short, long.0))
-
--- one fault blocks
-one-fault : (xs ys : List (List ℕ)) (rest : List ℕ) (f g : NotationFault) → Blocks xs rest f → Blocks ys rest g → f ≡ g
-one-fault xs ys rest NotALine NotALine a b = refl
-one-fault xs ys rest TooLong TooLong a b = refl
-one-fault xs ys rest NotALine TooLong a b = absurd (not-long xs rest a b)
-one-fault xs ys rest TooLong NotALine a b = absurd (not-long ys rest b a)
-one-fault xs ys rest Memory g a b = absurd a
-one-fault xs ys rest f Memory a b = absurd b
-
-line-front : (l : List ℕ) (ls : List (List ℕ)) (r : List ℕ) → text_of_lines (l ∷ ls) ++ r ≡ l ++ 10 ∷ (text_of_lines ls ++ r)
-line-front l ls r = ap (λ (t : List ℕ). t ++ r) (first_line l ls) ∙ append_assoc l (10 ∷ text_of_lines ls) r
-
-not-further : (before : List (List ℕ)) (z : List ℕ) (zs : List (List ℕ)) (s : List ℕ) (f : NotationFault)
-    → Begins (before ++ z ∷ zs) → Blocks before (text_of_lines (z ∷ zs) ++ s) f → ⊥
-not-further before z zs s f begins blocks =
-    let next = begins-front (before ++ z ∷ []) zs (subst Begins (sym (append_assoc before (z ∷ []) zs)) begins) in
-    goes-on before z (text_of_lines zs ++ s) f next (plain-last before z (begins-plain (before ++ z ∷ []) next))
-    (subst (λ (t : List ℕ). Blocks before t f) (line-front z zs s) blocks)
-
--- ---- two ways through the same bytes
-
--- the lines of the one go on from those of the other
-abbrev IsBehind : (xs ys : List (List ℕ)) (r s : List ℕ) → Type 0
-IsBehind xs ys r s = (zs : List (List ℕ)) × (ys ≡ xs ++ zs) × (r ≡ text_of_lines zs ++ s)
-
-two-ways : (xs ys : List (List ℕ)) (r s : List ℕ) → AllByRecursion (HasNot 10) xs → AllByRecursion (HasNot 10) ys → text_of_lines xs ++ r ≡ text_of_lines ys ++ s
-    → IsBehind xs ys r s ⊎ IsBehind ys xs s r
-two-ways [] ys r s h g e = inl (ys, refl, e)
-two-ways (x ∷ xs) [] r s h g e = inr (x ∷ xs, refl, sym e)
-two-ways (x ∷ xs) (y ∷ ys) r s h g e =
-    let cut = cut_at_byte 10 x y (text_of_lines xs ++ r) (text_of_lines ys ++ s) h.0 g.0 (sym (line-front x xs r) ∙ e ∙ line-front y ys s) in
-    longer cut.0 (two-ways xs ys r s h.1 g.1 cut.1)
-  where
-    longer : x ≡ y → IsBehind xs ys r s ⊎ IsBehind ys xs s r → IsBehind (x ∷ xs) (y ∷ ys) r s ⊎ IsBehind (y ∷ ys) (x ∷ xs) s r
-    longer same (inl b) = inl (b.0, ap₂ (λ l ls. l ∷ ls) (sym same) b.1, b.2)
-    longer same (inr b) = inr (b.0, ap₂ (λ l ls. l ∷ ls) same b.1, b.2)
-
--- what blocks behind the one blocks at the same place behind the other, or not at all
-same-place : (xs ys : List (List ℕ)) (r s : List ℕ) (f : NotationFault) → Begins ys → Blocks xs r f → IsBehind xs ys r s → (ys ≡ xs) × (r ≡ s)
-same-place xs ys r s f begins blocks ([], more, text) = (more ∙ append-nil xs, text)
-same-place xs ys r s f begins blocks (z ∷ zs, more, text) =
-    absurd (not-further xs z zs s f (subst Begins more begins) (subst (λ (t : List ℕ). Blocks xs t f) text blocks))
-
-begins-no_lf : (xs : List (List ℕ)) → Begins xs → AllByRecursion (HasNot 10) xs
-begins-no_lf xs begins = plain-no_lf xs (begins-plain xs begins)
-
-pub lines-one_fault : (bytes : List ℕ) (n m : ℕ) (f g : NotationFault) → FirstUnreadable bytes n f → FirstUnreadable bytes m g → (n ≡ m) × (f ≡ g)
-lines-one_fault bytes n m f g u v = by (two-ways u.before v.before u.rest v.rest (begins-no_lf u.before u.begins) (begins-no_lf v.before v.begins) (sym u.text ∙ v.text))
-  where
-    same : v.before ≡ u.before → u.rest ≡ v.rest → (n ≡ m) × (f ≡ g)
-    same lines rest =
-        let number : n ≡ m = omega (arith, u.number, v.number, ap length lines) in
-        (number, one-fault u.before v.before u.rest f g u.blocks (subst (λ (t : List ℕ). Blocks v.before t g) (sym rest) v.blocks))
-
-    by : IsBehind u.before v.before u.rest v.rest ⊎ IsBehind v.before u.before v.rest u.rest → (n ≡ m) × (f ≡ g)
-    by (inl b) = let p = same-place u.before v.before u.rest v.rest f v.begins u.blocks b in same p.0 p.1
-    by (inr b) = let p = same-place v.before u.before v.rest u.rest g u.begins v.blocks b in same (sym p.0) (sym p.1)
-
--- a text that is over goes on with nothing
-nothing-behind : (xs ys : List (List ℕ)) (r : List ℕ) → IsBehind xs ys [] r → (ys ≡ xs) × (r ≡ [])
-nothing-behind xs ys r ([], more, text) = (more ∙ append-nil xs, sym text)
-nothing-behind xs ys r (z ∷ zs, more, text) = absurd (no_line z (text_of_lines zs ++ r) (sym (text ∙ line-front z zs r)))
-
-has_line : (i : Input) → i.sites ≢ [] → input_lines i ≢ []
-has_line i some none = by i.sites some none
-  where
-    by : (ss : List SiteLine) → ss ≢ [] → map site_text ss ++ map script_text i.scripts ≡ [] → ⊥
-    by [] some none = some refl
-    by (s ∷ ss) some none = nonempty _ _ none
-
-pub input-no_fault : (bytes : List ℕ) (i : Input) (n : ℕ) (f : NotationFault) → Spells bytes i → FirstUnreadable bytes n f → ⊥
-input-no_fault bytes i n f spells u =
-    by (two-ways u.before (input_lines i) u.rest [] (begins-no_lf u.before u.begins) (begins-no_lf (input_lines i) begins)
-    (sym u.text ∙ spells.1 ∙ sym (append-nil (text_of_lines (input_lines i)))))
-  where
-    begins : Begins (input_lines i)
-    begins = (i, spells.0.0, refl)
-
-    ends : input_lines i ≡ u.before → u.rest ≡ [] → ⊥
-    ends lines none = at-end u.before u.rest f none (λ empty. has_line i spells.0.1 (lines ∙ empty)) u.blocks
-
-    by : IsBehind u.before (input_lines i) u.rest [] ⊎ IsBehind (input_lines i) u.before [] u.rest → ⊥
-    by (inl b) = let p = same-place u.before (input_lines i) u.rest [] f begins u.blocks b in ends p.0 p.1
-    by (inr b) = let p = nothing-behind (input_lines i) u.before u.rest b in ends (sym p.0) p.1
-
--- ---- one of the two there is
-
--- the line that comes
-record HasLine (limit : ℕ) (bytes : List ℕ) : Type 0 where
-  line : List ℕ
-  more : List ℕ
-  none : HasNot 10 line
-  short : length line ≤ limit
-  text : bytes ≡ line ++ 10 ∷ more
-
--- what comes of bytes: they are over with no LF, or a line, or they are longer than the limit
-abbrev Comes : ℕ → List ℕ → Type 0
-Comes limit bytes = (HasNot 10 bytes × (length bytes ≤ limit)) ⊎ (HasLine limit bytes ⊎ ((limit < length bytes) × HasNot 10 (take (suc limit) bytes)))
-
-comes : (limit : ℕ) (bytes : List ℕ) → Comes limit bytes
-comes limit [] = inl (tt, omega arith)
-comes zero (b ∷ bs) = by (b == 10) refl
-  where
-    by : (t : Bool) → (b == 10) ≡ t → Comes zero (b ∷ bs)
-    by true is = inr (inl (record { line = []; more = bs; none = tt; short = omega arith; text = ap (λ c. c ∷ bs) (eqb-true b 10 is) }))
-    by false is = inr (inr (omega arith, (eqb-false b 10 is, tt)))
-comes (suc k) (b ∷ bs) = by (b == 10) refl (comes k bs)
-  where
-    by : (t : Bool) → (b == 10) ≡ t → Comes k bs → Comes (suc k) (b ∷ bs)
-    by true is rest = inr (inl (record { line = []; more = bs; none = tt; short = omega arith; text = ap (λ c. c ∷ bs) (eqb-true b 10 is) }))
-    by false is (inl h) = inl ((eqb-false b 10 is, h.0), omega (arith, h.1))
-    by false is (inr (inl l)) = inr (inl (record { line = b ∷ l.line; more = l.more; none = (eqb-false b 10 is, l.none); short = omega (arith, l.short); text = ap (λ cs. b ∷ cs) l.text }))
-    by false is (inr (inr h)) = inr (inr (omega (arith, h.0), (eqb-false b 10 is, h.1)))
-
-one-line : (xs : List (List ℕ)) (l rest : List ℕ) → text_of_lines (xs ++ l ∷ []) ++ rest ≡ text_of_lines xs ++ (l ++ 10 ∷ rest)
-one-line [] l rest = line-front l [] rest
-one-line (x ∷ xs) l rest = line-front x (xs ++ l ∷ []) rest ∙ ap (λ (t : List ℕ). x ++ 10 ∷ t) (one-line xs l rest) ∙ sym (line-front x xs (l ++ 10 ∷ rest))
-
--- an input whose text is over is spelled, if it has a line
-spelled : (bytes rest : List ℕ) (i : Input) → IsBegun i → input_lines i ≢ [] → bytes ≡ text_of_lines (input_lines i) ++ rest → rest ≡ [] → Spells bytes i
-spelled bytes rest i is some text none = (
-  (is, λ (empty : i.sites ≡ []). some (ap₂ (λ ss es. map site_text ss ++ map script_text es) empty (scripts-somewhere i.sites i.scripts empty is.scripts))),
-  text ∙ ap (λ (t : List ℕ). text_of_lines (input_lines i) ++ t) none ∙ append-nil (text_of_lines (input_lines i)),
-)
-
--- no bytes have neither
-abbrev Neither : List ℕ → Type 0
-Neither bytes = ((i : Input) → Spells bytes i → ⊥) × ((n : ℕ) (f : NotationFault) → FirstUnreadable bytes n f → ⊥)
-
-told : (bytes rest : List ℕ) (before : List (List ℕ)) (f : NotationFault) → bytes ≡ text_of_lines before ++ rest → Begins before → Neither bytes → Blocks before rest f → ⊥
-told bytes rest before f text begins neither blocks =
-    neither.1 (length before + 1) f (record { before = before; rest = rest; text = text; begins = begins; number = refl; blocks = blocks })
-
-over : (bytes rest : List ℕ) (before : List (List ℕ)) → bytes ≡ text_of_lines before ++ rest → Begins before → Neither bytes
-    → (before ≡ []) ⊎ ((x : List ℕ) × (xs : List (List ℕ)) × (before ≡ x ∷ xs)) → HasNot 10 rest → length rest ≤ max_line → ⊥
-over bytes rest before text begins neither (inl none) h short =
-    told bytes rest before NotALine text begins neither (inr (record { none = no_lf rest h; short = short; empty = λ e. none }))
-over bytes rest before text begins neither (inr (x, xs, same)) h short =
-    told bytes rest before NotALine text begins neither (inr (record { none = no_lf rest h; short = short; empty = λ e. absurd (ends e) }))
-  where
-    ends : rest ≡ [] → ⊥
-    ends e = neither.0 begins.0 (spelled bytes rest begins.0 begins.1 (λ none. nonempty x xs (sym same ∙ begins.2 ∙ none))
-        (text ∙ ap (λ ls. text_of_lines ls ++ rest) begins.2) e)
-
-shorter : (limit k : ℕ) (rest : List ℕ) (l : HasLine limit rest) → length rest ≤ suc k → length l.more ≤ k
-shorter limit k rest l size = omega (arith, size, ap length l.text, length-append l.line (10 ∷ l.more))
-
-pub input-or_fault : (k : ℕ) (bytes rest : List ℕ) (before : List (List ℕ)) → length rest ≤ k → bytes ≡ text_of_lines before ++ rest → Begins before → Neither bytes → ⊥
-input-or_fault zero bytes rest before size text begins neither = by (comes max_line rest)
-  where
-    by : Comes max_line rest → ⊥
-    by (inl h) = over bytes rest before text begins neither (list_cases before) h.0 h.1
-    by (inr (inl l)) = absurd (omega (arith, size, ap length l.text, length-append l.line (10 ∷ l.more)))
-    by (inr (inr h)) = told bytes rest before TooLong text begins neither (h.0, no_lf (take (max_line + 1) rest) h.1)
-input-or_fault (suc k) bytes rest before size text begins neither =
-    by (comes max_line rest) (λ (l : HasLine max_line rest) (goes : Begins (before ++ l.line ∷ [])).
-    input-or_fault k bytes l.more (before ++ l.line ∷ []) (shorter max_line k rest l size)
-    (text ∙ ap (λ (t : List ℕ). text_of_lines before ++ t) l.text ∙ sym (one-line before l.line l.more)) goes neither)
-  where
-    by : Comes max_line rest → ((l : HasLine max_line rest) → Begins (before ++ l.line ∷ []) → ⊥) → ⊥
-    by (inl h) then = over bytes rest before text begins neither (list_cases before) h.0 h.1
-    by (inr (inl l)) then =
-        told bytes rest before NotALine text begins neither
-        (inl (record { line = l.line; more = l.more; text = l.text; none = no_lf l.line l.none; short = l.short; not = then l }))
-    by (inr (inr h)) then = told bytes rest before TooLong text begins neither (h.0, no_lf (take (max_line + 1) rest) h.1)
 
 -- no line at all is the begin of an input
 pub none-begins : Begins []
@@ -360,6 +120,63 @@ none-begins = (
   },
   refl,
 )
+
+-- nor does it have any line where nothing is kept
+pub nothing-kept : (ss : List SiteLine) (es : List Script) → ss ≡ [] → es ≡ [] → HaveLines (record { sites = ss; scripts = es }) []
+unfolding none-begins
+nothing-kept ss es none empty =
+    let sites = sym none in
+    let scripts = sym empty in
+    let nothing : Input = record { sites = []; scripts = [] } in
+    let same : nothing ≡ record { sites = ss; scripts = es } = λ t. record { sites = sites t; scripts = scripts t } in
+    subst (λ (i : Input). HaveLines i []) same (none-begins.1, none-begins.2)
+
+are-inputs : AreInputs Begins
+are-inputs = record { none = none-begins; front = begins-front; plain = begins-plain }
+
+-- ---- what bytes are read as
+
+pub lines-one_fault : (bytes : List ℕ) (n m : ℕ) (f g : NotationFault) → FirstUnreadable bytes n f → FirstUnreadable bytes m g → (n ≡ m) × (f ≡ g)
+lines-one_fault = any.lines-one_fault Begins are-inputs
+
+has_line : (ss : List SiteLine) (es : List Script) → ss ≢ [] → map site_text ss ++ map script_text es ≢ []
+has_line [] es some none = some refl
+has_line (s ∷ ss) es some none = nonempty _ _ none
+
+pub input-no_fault : (bytes : List ℕ) (i : Input) (n : ℕ) (f : NotationFault) → Spells bytes i → FirstUnreadable bytes n f → ⊥
+input-no_fault bytes i n f spells =
+    any.input-no_fault Begins are-inputs bytes (input_lines i) n f (i, spells.0.0, refl) (has_line i.sites i.scripts spells.0.1) spells.1
+
+-- lines that an input may begin with, of which there are some, are those of an input
+pub has_site : (i : Input) → IsBegun i → input_lines i ≢ [] → i.sites ≢ []
+has_site i is some empty = some (ap₂ (λ ss es. map site_text ss ++ map script_text es) empty (scripts-somewhere i.sites i.scripts empty is.scripts))
+
+-- what was taken of an input, of which there is some, is the whole of it
+pub whole-input : (input : Input) (lines : List (List ℕ)) (told : Option (List ℕ)) → IsBegun input → lines ≡ input_lines input → lines ≢ []
+    → IfSome told (λ bytes. bytes ≡ text_of_lines lines) → IsInput input × IfSome told (λ bytes. Spells bytes input)
+whole-input input lines told is same some text =
+    let whole : IsInput input = (is, has_site input is (λ none. some (same ∙ none))) in
+    (whole, spelled IsBegun input_lines (IsInput input) told lines input whole same text)
+
+-- and so is what was kept, as it is handed out
+pub kept-input : (sites ss : List SiteLine) (scripts es : List Script) (told : Option (List ℕ)) → ss ≡ sites → es ≡ scripts
+    → IsTaken Begins (HaveLines (record { sites = sites; scripts = scripts })) told
+    → IsInput (record { sites = ss; scripts = es }) × IfSome told (λ bytes. Spells bytes (record { sites = ss; scripts = es }))
+kept-input sites ss scripts es told same equal taken =
+    let kept : Input = record { sites = sites; scripts = scripts } in
+    let there = sym same in
+    let also = sym equal in
+    let input : kept ≡ record { sites = ss; scripts = es } = λ t. record { sites = there t; scripts = also t } in
+    subst (λ (i : Input). IsInput i × IfSome told (λ bytes. Spells bytes i)) input
+    (whole-input kept taken.lines told taken.taken.0 taken.taken.1 taken.some taken.text)
+
+pub input-or_fault : (bytes : List ℕ) → ((i : Input) → Spells bytes i → ⊥) → ((n : ℕ) (f : NotationFault) → FirstUnreadable bytes n f → ⊥) → ⊥
+input-or_fault bytes no_input no_fault =
+    any.input-or_fault Begins are-inputs (length bytes) bytes bytes [] (omega arith) refl none-begins (
+      (λ lines begun some text. no_input begun.0
+          ((begun.1, has_site begun.0 begun.1 (λ none. some (begun.2 ∙ none))), text ∙ ap text_of_lines begun.2)),
+      no_fault,
+    )
 
 -- an answer calls the bytes unreadable, or there is an input that they spell
 pub answer-unreadable : (tries : ℕ) (told : Option (List ℕ)) (o : Outcome) (text : List ℕ) → IsAnswer tries told o text → IfSome told (λ bytes. TellsUnreadable bytes o)

@@ -1,19 +1,18 @@
 -- What the bytes of a run's input spell: the sites that it starts from, and then its scripts; or else the first line that can't be read.
-use Rattle.std.specs.Prelude.{◌≡◌, ◌≢◌, ◌≤◌, ◌⊎◌, ℕ, ◌+◌, List, [], ◌∷◌, ◌++◌, length, map, All, Any, Some, slice_get}
+use Rattle.std.specs.Prelude.{◌≡◌, ◌≢◌, ◌≤◌, ℕ, List, [], ◌++◌, length, map, All, Any, Some, slice_get}
 use Rattle.std.specs.List.{range_with_len}
 use Rattle.sgt_names.specs.Name.{Name}
 use Rattle.sgt_names.specs.Limits.{max_sites}
 use Rattle.sgt_notation.specs.Events.{IsSiteLine, site_text}
 use Rattle.sgt_notation.specs.Scripts.{IsScript, script_text}
-use Rattle.sgt_notation.specs.Limits.{max_line}
-use Rattle.sgt_notation.specs.Lines.{IsLongerThan}
-use Rattle.sgt_notation.specs.Spelling.{HasNoLf, text_of_lines}
+use Rattle.sgt_notation.specs.Spelling.{text_of_lines}
 use Rattle.sgt_notation.specs.declared.event.SiteLine.{SiteLine}
 use Rattle.sgt_notation.specs.declared.script.Op.{Op}
 use Rattle.sgt_notation.specs.declared.script.Op.TheVariants.{Read, Put, Add, Sum}
 use Rattle.sgt_notation.specs.declared.script.Script.{Script}
 use Rattle.sgt_notation.specs.declared.fault.NotationFault.{NotationFault}
-use Rattle.sgt_notation.specs.declared.fault.NotationFault.TheVariants.{NotALine, TooLong, Memory}
+use Rattle.sgt_notation.specs.declared.fault.NotationFault.TheVariants.{Memory}
+use Rattle.sgt_input.specs.Unreadable.{IsFirstUnreadable}
 use Rattle.sgt_service.specs.declared.input.Input.{Input}
 use Rattle.sgt_service.specs.declared.input.Reading.{Reading}
 use Rattle.sgt_service.specs.declared.input.Reading.TheVariants.{Readable, Unreadable}
@@ -63,35 +62,9 @@ Spells bytes input = IsInput input × (bytes ≡ text_of_lines (input_lines inpu
 abbrev pub Begins : List (List ℕ) → Type 0
 Begins lines = (input : Input) × IsBegun input × (lines ≡ input_lines input)
 
--- the next line has its LF, and may not stand behind these
-pub record IsMisplaced (before : List (List ℕ)) (rest : List ℕ) : Type 0 where
-  pub line : List ℕ
-  pub more : List ℕ
-  pub text : rest ≡ line ++ 10 ∷ more
-  pub none : HasNoLf line
-  pub short : length line ≤ max_line
-  pub not : Begins (before ++ line ∷ []) → ⊥
-
--- the input ends behind these lines without an LF, or with no line at all
-pub record IsCutOff (before : List (List ℕ)) (rest : List ℕ) : Type 0 where
-  pub none : HasNoLf rest
-  pub short : length rest ≤ max_line
-  pub empty : rest ≡ [] → before ≡ []
-
--- why the line that comes behind these can't be read. (Of the faults of lines want of memory is none.)
-abbrev pub Blocks : List (List ℕ) → List ℕ → NotationFault → Type 0
-Blocks before rest NotALine = IsMisplaced before rest ⊎ IsCutOff before rest
-Blocks before rest TooLong = IsLongerThan max_line rest
-Blocks before rest Memory = ⊥
-
 -- the first line that can't be read has this number, from 1, and this fault
-pub record FirstUnreadable (bytes : List ℕ) (n : ℕ) (fault : NotationFault) : Type 0 where
-  pub before : List (List ℕ)
-  pub rest : List ℕ
-  pub text : bytes ≡ text_of_lines before ++ rest
-  pub begins : Begins before
-  pub number : n ≡ length before + 1
-  pub blocks : Blocks before rest fault
+abbrev pub FirstUnreadable : List ℕ → ℕ → NotationFault → Type 0
+FirstUnreadable bytes n fault = IsFirstUnreadable Begins bytes n fault
 
 -- ---- a reading
 

@@ -1,3 +1,2 @@
 -- Words of private clauses.
 pub mod Taking
-pub mod Stopping

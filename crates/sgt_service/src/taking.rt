@@ -2,29 +2,14 @@
 
 ghost use Rattle.std.specs.Prelude.{◌≡◌, ◌↔◌, Any, All, IsTrue, IfOk};
 ghost use Rattle.sgt_service.specs.Input.{HasPlace, IsPlaced};
-ghost use Rattle.sgt_service.specs.private.Taking.{Takes, TakesScript, TakesSite};
+ghost use Rattle.sgt_service.specs.private.Taking.{Takes, TakesScript};
 
 use crate::input::MAX_SCRIPTS;
+use sgt_input::take_site;
 use sgt_names::{Holding, Item, SiteNo};
-use sgt_notation::{NotationFault, Op, Script, SiteLine, read_script, read_site};
+use sgt_notation::{NotationFault, Op, Script, SiteLine, read_script};
 use std::alloc::{AllocError, Global};
 use std::cmp::Ordering;
-
-/// Keeps the site, if the line spells the next one.
-fn take_site(alloc: Global, sites: &mut Vec<SiteLine>, line: &[u8]) -> Result<bool, AllocError>
-    ensures { IfOk result (TakesSite sites.old.items line.now sites.new.items) }
-{
-    let site = match read_site(alloc, line) {
-        Ok(site) => site,
-        Err(NotationFault::Memory) => return Err(AllocError),
-        Err(NotationFault::NotALine | NotationFault::TooLong) => return Ok(false),
-    };
-    if usize::from(site.site.number()) != sites.len() {
-        return Ok(false);
-    }
-    sites.push(site)?;
-    Ok(true)
-}
 
 fn is_named(held: &Holding, item: Item) -> bool
     ensures { IsTrue result ↔ (held.now.item ≡ item) }

@@ -1,18 +1,16 @@
 -- One more line of an input.
-use Rattle.std.specs.Prelude.{◌≡◌, ◌≢◌, ◌≤◌, ◌⊎◌, ℕ, Bool, true, false, List, [], ◌∷◌, ◌++◌, length}
-use Rattle.sgt_notation.specs.Events.{IsSiteLine, site_text}
+use Rattle.std.specs.Prelude.{◌≡◌, ◌≤◌, ◌⊎◌, ℕ, Bool, true, false, List, [], ◌∷◌, ◌++◌, length}
 use Rattle.sgt_notation.specs.Reading.{SpellsNone}
 use Rattle.sgt_notation.specs.Scripts.{script_text}
 use Rattle.sgt_notation.specs.declared.event.SiteLine.{SiteLine}
 use Rattle.sgt_notation.specs.declared.script.Script.{Script}
+use Rattle.sgt_input.specs.Taking.{Continues, HasLines}
 use Rattle.sgt_service.specs.declared.input.Input.{Input}
-use Rattle.sgt_service.specs.Input.{Begins, IsBegun, IsScriptOver, input_lines, max_scripts}
+use Rattle.sgt_service.specs.Input.{IsBegun, IsScriptOver, input_lines, max_scripts}
 
--- the line spells the next site, which is kept, or none
-abbrev pub TakesSite : List SiteLine → List ℕ → List SiteLine → Bool → Type 0
-TakesSite old line new true = (l : SiteLine) × IsSiteLine l × (l.site ≡ length old) × (line ≡ site_text l) × (new ≡ old ++ l ∷ [])
-TakesSite old line new false =
-    ((l : SiteLine) → IsSiteLine l → l.site ≡ length old → line ≢ site_text l) × (new ≡ old)
+-- an input that begins so has these lines
+abbrev pub HaveLines : Input → List (List ℕ) → Type 0
+HaveLines input lines = HasLines IsBegun input_lines input lines
 
 -- the line spells a script over the sites, which is kept, or none; or there are as many as there may be
 abbrev pub TakesScript : List SiteLine → List Script → List ℕ → List Script → Bool → Type 0
@@ -22,5 +20,4 @@ TakesScript sites old line new false = (SpellsNone (IsScriptOver sites) script_t
 
 -- the line goes on with the input, or may not stand there
 abbrev pub Takes : Input → List ℕ → Input → Bool → Type 0
-Takes old line new true = IsBegun old → IsBegun new × (input_lines new ≡ input_lines old ++ line ∷ [])
-Takes old line new false = IsBegun old → Begins (input_lines old ++ line ∷ []) → ⊥
+Takes old line new goes = Continues IsBegun input_lines old line new goes

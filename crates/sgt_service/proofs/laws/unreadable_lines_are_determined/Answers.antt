@@ -1,5 +1,4 @@
-use Rattle.std.proofs.Common.{[], length, refl, arith}
-use Rattle.sgt_service.proofs.Unreadable.{input-no_fault, input-or_fault, lines-one_fault, none-begins}
+use Rattle.sgt_service.proofs.Unreadable.{input-no_fault, input-or_fault, lines-one_fault}
 use Rattle.sgt_service.proofs.laws.unreadable_lines_are_determined.Goals as goal
 
 pub returns-clause-apart : goal.returns-clause-apart
@@ -9,4 +8,4 @@ pub returns-clause-one : goal.returns-clause-one
 returns-clause-one c = lines-one_fault
 
 pub returns-clause-some : goal.returns-clause-some
-returns-clause-some c bytes no_input no_fault = input-or_fault (length bytes) bytes bytes [] (omega arith) refl none-begins (no_input, no_fault)
+returns-clause-some c = input-or_fault

@@ -1,7 +1,9 @@
 use Rattle.std.proofs.Common.{◌∙◌, Bool, List, IfOk, refl, subst, sym}
 use Rattle.sgt_notation.specs.declared.event.SiteLine.{SiteLine}
-use Rattle.sgt_service.specs.private.Taking.{TakesScript, TakesSite}
-use Rattle.sgt_service.proofs.OneInput.{after-script, empty_when, filled_when, took-site}
+use Rattle.sgt_input.specs.Sites.{TakesSite}
+use Rattle.sgt_input.proofs.SiteLines.{empty_when, filled_when}
+use Rattle.sgt_service.specs.private.Taking.{TakesScript}
+use Rattle.sgt_service.proofs.OneInput.{after-script, took-site}
 use Rattle.sgt_service.proofs.taking.take_line.Goals as goal
 
 pub returns-then-not-is_empty : goal.returns-then-not-is_empty
