@@ -1,5 +1,5 @@
 #!/usr/bin/env python3
-"""Times of the serialization graph: windows of 4,096 nodes, each admitted with 0, 1 or 8 edges to or from the nodes before it.
+"""Times of the serialization graph: windows of 4,096 nodes, each admitted with 0, 1 or 8 edges to or from the nodes before it, and a shape that costs much.
 
 usage: order.py [REPOSITORY [WINDOWS]]        (this repository and 1000 windows where nothing is said)
 
@@ -7,7 +7,8 @@ usage: order.py [REPOSITORY [WINDOWS]]        (this repository and 1000 windows 
 repository's crates up to sgt_order, with the checks that they keep in out/, and a thin program over them. It builds the program
 and runs it for each case, three times; a line says the least processor time of an admission, and the most memory that a run had.
 Along: the edges lead from the 1 or 8 nodes before to the new one, which is placed last. Against: they lead from the new one to
-those, so that it is placed before all that stand behind them. Added: nodes are added and none is admitted.
+those, so that it is placed before all that stand behind them. Added: nodes are added and none is admitted. Alone: a third of the
+nodes are a chain, each of which leads to all of the second third and alone to its next one; the last third lead to the chain's first.
 """
 import os
 import shutil
@@ -17,7 +18,7 @@ import tempfile
 import time
 
 STANDS_ON = "sgt_names sgt_arena sgt_edges sgt_order"
-CASES = [("added", 0), ("along", 0), ("along", 1), ("along", 8), ("against", 1), ("against", 8)]
+CASES = [("added", 0), ("along", 0), ("along", 1), ("along", 8), ("against", 1), ("against", 8), ("alone", 1365)]
 NODES = 4096
 PROGRAM = """\
 //! Admits windows of 4,096 nodes, each with edges to or from the last nodes before it.
@@ -65,6 +66,39 @@ fn window(alloc: Global, graph: &mut Graph, label: &Label, count: usize, way: &s
     Some(all)
 }
 
+// A node of a new transaction, with edges between it and the last few of these; whether it was admitted.
+fn admitted(alloc: Global, graph: &mut Graph, label: &Label, nodes: &[Handle], count: usize, against: bool) -> Option<(Handle, bool)> {
+    let node = graph.node(Tx::new(1).ok()?).ok()?;
+    let offered = edges(alloc, label, node, nodes, count, against).ok()?;
+    Some((node, graph.may_admit(node, &offered) && graph.admit(node, &offered).is_ok()))
+}
+
+// A window of a chain, of as many nodes that each of the chain leads to, and of as many that lead to the chain's first; whether
+// each was admitted.
+fn chained(alloc: Global, graph: &mut Graph, label: &Label, count: usize) -> Option<bool> {
+    let mut chain = Vec::new(alloc);
+    let mut first = Vec::new(alloc);
+    let mut all = true;
+    for _member in 0..count {
+        let (node, done) = admitted(alloc, graph, label, chain.as_slice(), 1, false)?;
+        if first.is_empty() {
+            first.push(node).ok()?;
+        }
+        chain.push(node).ok()?;
+        all = all && done;
+    }
+    for _sink in 0..count {
+        let (_, done) = admitted(alloc, graph, label, chain.as_slice(), count, false)?;
+        all = all && done;
+    }
+    for _late in 0..count {
+        let (_, done) = admitted(alloc, graph, label, first.as_slice(), 1, true)?;
+        all = all && done;
+    }
+    graph.close().ok()?;
+    Some(all)
+}
+
 // So many windows; whether all went well.
 fn windows(alloc: Global, words: &[String]) -> Option<bool> {
     let way = words.get(1)?.as_str();
@@ -74,7 +108,12 @@ fn windows(alloc: Global, words: &[String]) -> Option<bool> {
     let mut graph = Graph::new(alloc);
     let mut all = true;
     for _time in 0..times {
-        all = all && window(alloc, &mut graph, &label, count, way)?;
+        let done = if way == "alone" {
+            chained(alloc, &mut graph, &label, count)?
+        } else {
+            window(alloc, &mut graph, &label, count, way)?
+        };
+        all = all && done;
     }
     Some(all)
 }
@@ -151,7 +190,7 @@ def main():
 def measure(program, windows):
     """A line for each case."""
     for way, count in CASES:
-        times = windows if way != "against" else max(1, windows // 50)
+        times = {"against": max(1, windows // 50), "alone": 1}.get(way, windows)
         words = [way, str(count), str(times)]
         each = min(seconds(program, words) for _ in range(3)) / (times * NODES)
         print(f"{way:8} {count} edges: {each * 1e6:8.3f} us a node, {kilobytes(program, words)} kB", flush=True)
