@@ -38,7 +38,7 @@ class No(NamedTuple):
 
 
 class TooLong(ValueError):
-    """The bytes are too many: 4294967295 or more."""
+    """The bytes are too many for the library: `SGT_LONG` of sgt.h."""
 
 
 class RawVerdict(ctypes.Structure):
@@ -58,17 +58,17 @@ def load(path=None):
     beside = os.path.join(os.path.dirname(os.path.abspath(__file__)), "../out/libsgt.so")
     path = path or os.environ.get("SGT_LIB") or beside
     library = ctypes.CDLL(os.path.join(path, "libsgt.so") if os.path.isdir(path) else path)
+    library.sgt_version.argtypes, library.sgt_version.restype = [], ctypes.c_uint32
+    if library.sgt_version() != VERSION:
+        raise ImportError(f"libsgt.so is of version {library.sgt_version()}, and not {VERSION}")
     length = ctypes.POINTER(ctypes.c_size_t)
     for name, types in [
-        ("sgt_version", []),
         ("sgt_audit", [ctypes.c_char_p, ctypes.c_size_t, ctypes.POINTER(RawVerdict)]),
         *[(f"sgt_{word}_len", [ctypes.c_char_p, ctypes.c_size_t, length]) for word in TEXTS],
         *[(f"sgt_{word}", [ctypes.c_char_p, ctypes.c_size_t, ctypes.c_char_p, ctypes.c_size_t, length]) for word in TEXTS],
     ]:
         call = getattr(library, name)
         call.argtypes, call.restype = types, ctypes.c_uint32
-    if library.sgt_version() != VERSION:
-        raise ImportError(f"libsgt.so is of version {library.sgt_version()}, and not {VERSION}")
     return library
 
 
