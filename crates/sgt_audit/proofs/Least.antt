@@ -37,7 +37,7 @@ least-at rule n f is kept broken = record { broken = broken; least = λ g lt. ke
 
 -- ---- what no line of its kind can break
 
-logged-7 : (c : Certificate) (before : List SectionLine) (e : Entry) → KeptBelow (Keeps c before (Logged e)) 7
+pub logged-7 : (c : Certificate) (before : List SectionLine) (e : Entry) → KeptBelow (Keeps c before (Logged e)) 7
 logged-7 c before e fault.Section lt = absurd (omega arith)
 logged-7 c before e fault.Item lt = absurd (omega arith)
 logged-7 c before e fault.Twice lt = absurd (omega arith)
@@ -53,7 +53,7 @@ logged-7 c before e fault.Truncated lt = absurd (omega arith)
 logged-7 c before e fault.Trailing lt = absurd (omega arith)
 logged-7 c before e _ lt = tt
 
-final-7 : (c : Certificate) (before : List SectionLine) (h : Holding) → KeptBelow (Keeps c before (Final h)) 7
+pub final-7 : (c : Certificate) (before : List SectionLine) (h : Holding) → KeptBelow (Keeps c before (Final h)) 7
 final-7 c before h fault.Section lt = absurd (omega arith)
 final-7 c before h fault.Item lt = absurd (omega arith)
 final-7 c before h fault.Twice lt = absurd (omega arith)
@@ -69,7 +69,7 @@ final-7 c before h fault.Truncated lt = absurd (omega arith)
 final-7 c before h fault.Trailing lt = absurd (omega arith)
 final-7 c before h _ lt = tt
 
-end-7 : (c : Certificate) (before : List SectionLine) → KeptBelow (Keeps c before End) 7
+pub end-7 : (c : Certificate) (before : List SectionLine) → KeptBelow (Keeps c before End) 7
 end-7 c before fault.Section lt = absurd (omega arith)
 end-7 c before fault.Item lt = absurd (omega arith)
 end-7 c before fault.Twice lt = absurd (omega arith)
@@ -85,7 +85,7 @@ end-7 c before fault.Truncated lt = absurd (omega arith)
 end-7 c before fault.Trailing lt = absurd (omega arith)
 end-7 c before _ lt = tt
 
-site-7 : (c : Certificate) (before : List SectionLine) (k : ℕ) → KeptBelow (Keeps c before (Site k)) 7
+pub site-7 : (c : Certificate) (before : List SectionLine) (k : ℕ) → KeptBelow (Keeps c before (Site k)) 7
 site-7 c before k fault.Section lt = absurd (omega arith)
 site-7 c before k fault.Item lt = absurd (omega arith)
 site-7 c before k fault.Twice lt = absurd (omega arith)

@@ -123,3 +123,19 @@ walks-decide c logs w spelled each is = (
       let there = logged-there logs by.0 by.1 (walks by.0 by.1 by.2) e by.3 in
       subst (λ (l : SiteLog). IsMet l.entries e) (same_Some there.0 log (sym there.1 ∙ found)) there.2)),
 )
+
+-- ---- the steps of all walks, without what is kept of them
+
+pub met-walks : (c : Certificate) (logs : List SiteLog) → IsCertificate c → length logs ≡ c.sites → AreMet (edges_in c.decisions) logs
+    → (tx : ℕ) (walk : List Step) → Contains c.decisions (Refuse tx walk) → AreLogged logs tx walk
+met-walks c logs spelled each met tx walk here = walk-logged logs tx walk (λ e has.
+    let there = edge-there c.decisions tx walk e here has in
+    let within = All_in (λ (f : Edge). f.step.label.site < c.sites) (edges_in c.decisions) e (certificate-within c spelled) there in
+    let log = within_at logs e.step.label.site (omega arith) in
+    (log.0, log.1, All_in (λ (f : Edge). (l : SiteLog) → slice_get logs f.step.label.site ≡ Some l → IsMet l.entries f) (edges_in c.decisions) e met there log.0 log.1))
+
+pub walks-met : (c : Certificate) (logs : List SiteLog) → ((tx : ℕ) (walk : List Step) → Contains c.decisions (Refuse tx walk) → AreLogged logs tx walk) → AreMet (edges_in c.decisions) logs
+walks-met c logs walks = All-from_at (λ (f : Edge). (l : SiteLog) → slice_get logs f.step.label.site ≡ Some l → IsMet l.entries f) (edges_in c.decisions) (λ n e at log found.
+    let by = edge-found c.decisions e (Contains-from_at (edges_in c.decisions) n e at) in
+    let there = logged-there logs by.0 by.1 (walks by.0 by.1 by.2) e by.3 in
+    subst (λ (l : SiteLog). IsMet l.entries e) (same_Some there.0 log (sym there.1 ∙ found)) there.2)

@@ -22,7 +22,7 @@ use Rattle.sgt_audit.proofs.LinePlaces.{no_cons}
 
 -- ---- whole logs in front
 
-split-whole : (k : ℕ) (ws logs : List SiteLog) (rest : List SectionLine) → sections_from k logs ≡ sections_from k ws ++ rest → (more : List SiteLog) × (logs ≡ ws ++ more) × (sections_from (k + length ws) more ≡ rest)
+pub split-whole : (k : ℕ) (ws logs : List SiteLog) (rest : List SectionLine) → sections_from k logs ≡ sections_from k ws ++ rest → (more : List SiteLog) × (logs ≡ ws ++ more) × (sections_from (k + length ws) more ≡ rest)
 split-whole k [] logs rest e = (logs, refl, ap (λ j. sections_from j logs) (add-zero k) ∙ e)
 split-whole k (w ∷ ws) [] rest e = absurd cc
 split-whole k (w ∷ ws) (l ∷ ls) rest e =
@@ -31,7 +31,7 @@ split-whole k (w ∷ ws) (l ∷ ls) rest e =
     let place : k + suc (length ws) ≡ suc k + length ws = omega arith in
     (later.0, ap₂ (λ z zs. z ∷ zs) one.0 later.1, ap (λ j. sections_from j later.0) place ∙ later.2)
 
-sections-append : (k : ℕ) (ws more : List SiteLog) → sections_from k (ws ++ more) ≡ sections_from k ws ++ sections_from (k + length ws) more
+pub sections-append : (k : ℕ) (ws more : List SiteLog) → sections_from k (ws ++ more) ≡ sections_from k ws ++ sections_from (k + length ws) more
 sections-append k [] more = ap (λ j. sections_from j more) (sym (add-zero k))
 sections-append k (w ∷ ws) more =
     let place : suc k + length ws ≡ k + suc (length ws) = omega arith in
@@ -277,7 +277,7 @@ module _ (l : SiteLog) (log : SiteLog) (rest more : List SectionLine) (shaped : 
 
 -- ---- what may follow all that was read
 
-regroup : (front opened more : List SectionLine) (line : SectionLine) → ((front ++ opened) ++ line ∷ []) ++ more ≡ front ++ (opened ++ line ∷ more)
+pub regroup : (front opened more : List SectionLine) (line : SectionLine) → ((front ++ opened) ++ line ∷ []) ++ more ≡ front ++ (opened ++ line ∷ more)
 regroup front opened more line = simp append_assoc
 
 spread : (k : ℕ) (log : SiteLog) (behind : List SectionLine) → open_lines k (Some log) ++ behind ≡ Site k ∷ (map Initial log.items ++ (map Logged log.entries ++ (map Final log.finals ++ behind)))

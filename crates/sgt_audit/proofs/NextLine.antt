@@ -56,7 +56,7 @@ module _ (second : Bool) (c : Certificate) (before : List SectionLine) (line : S
   within-kept fault.Notation k = (line, is, refl)
   within-kept g k = λ m is_m same. subst (λ l. Keeps c before l g) (line-one line m is.0 is_m.0 same) k
 
-  within-breaks : Breaks (Rule (within second c before) (whole (line_text line))) f
+  pub within-breaks : Breaks (Rule (within second c before) (whole (line_text line))) f
   within-breaks = record { broken = within-broken f breaks.broken; least = λ g lt. within-kept g (breaks.least g lt) }
 
 -- what was read is not all, so the stage is within

@@ -147,7 +147,7 @@ module _ (second : Bool) (c : Certificate) (before : List SectionLine) where
   below-notation p fault.Truncated lt = absurd (omega arith)
   below-notation p fault.Trailing lt = absurd (omega arith)
 
-  notation-breaks : (p : Piece) → max_line < length (bytes_of p) → Breaks (Rule (within second c before) p) fault.Notation
+  pub notation-breaks : (p : Piece) → max_line < length (bytes_of p) → Breaks (Rule (within second c before) p) fault.Notation
   notation-breaks p long = record { broken = long-within p long; least = below-notation p }
 
   trailing-broken : (p : Piece) → max_line < length (bytes_of p) → Rule (complete second c before) p fault.Trailing → ⊥
@@ -230,7 +230,7 @@ module _ (second : Bool) (c : Certificate) (before : List SectionLine) (l : List
   below-truncated le fault.Trailing lt = absurd (omega arith)
   below-truncated le _ lt = tt
 
-  truncated : length l ≤ max_line → Breaks (Rule (within second c before) (last l)) fault.Truncated
+  pub truncated : length l ≤ max_line → Breaks (Rule (within second c before) (last l)) fault.Truncated
   truncated le = record { broken = λ h. h; least = below-truncated le }
 
 pub ends-within : (k : Kept) (s : Stage) (l : List ℕ) → IsAt k s → (IsComplete s → ⊥) → length l ≤ limit_of s → Breaks (Rule s (last l)) fault.Truncated

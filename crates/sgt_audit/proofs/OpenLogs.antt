@@ -42,7 +42,7 @@ has_open b log here =
     })
 
 -- no entry is open between sections
-whole-closed : (k : ℕ) (front : List SectionLine) (logs : List SiteLog) → IsClosed front → IsClosed (front ++ sections_from k logs)
+pub whole-closed : (k : ℕ) (front : List SectionLine) (logs : List SiteLog) → IsClosed front → IsClosed (front ++ sections_from k logs)
 whole-closed k front [] closed = subst IsClosed (sym (append-nil front)) closed
 whole-closed k front (l ∷ logs) closed = subst IsClosed (append_assoc front (section_lines k l) (sections_from (suc k) logs)) (whole-closed (suc k) (front ++ section_lines k l) logs (section-closed front k l))
 

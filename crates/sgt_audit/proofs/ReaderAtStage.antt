@@ -36,7 +36,7 @@ faultless at.Start s stands = subst IsFaultless (sym stands) tt
 faultless (at.Headed second) s stands = subst IsFaultless (sym stands) tt
 faultless (at.Reading k) s (b, before, holds, stage) = stage-faultless k b before s holds.means stage
 
-text-append : (xs ys : List (List ℕ)) → text_of_lines (xs ++ ys) ≡ text_of_lines xs ++ text_of_lines ys
+pub text-append : (xs ys : List (List ℕ)) → text_of_lines (xs ++ ys) ≡ text_of_lines xs ++ text_of_lines ys
 text-append [] ys = refl
 text-append (x ∷ xs) ys = ap (λ (t : List ℕ). (x ++ 10 ∷ []) ++ t) (text-append xs ys) ∙ sym (append_assoc (x ++ 10 ∷ []) (text_of_lines xs) (text_of_lines ys))
 

@@ -191,7 +191,7 @@ module _ (ds : List Decision) (b : Begun) (old new : SiteState) where
 
 -- ---- the next line of a text
 
-admits : (c : Certificate) (b : Begun) (o : Option SiteLog) (line : SectionLine) → b.current ≡ o → KeptBelow (Keeps c (lines_read b) line) 17 → AdmitsLine c.decisions o line
+pub admits : (c : Certificate) (b : Begun) (o : Option SiteLog) (line : SectionLine) → b.current ≡ o → KeptBelow (Keeps c (lines_read b) line) 17 → AdmitsLine c.decisions o line
 admits c b (Some log) (Logged e) here kept =
     (subst (λ items. ForSome (item_of e) (Contains (names items))) (has_open b log here).items (kept fault.Item (omega arith)), (kept fault.End (omega arith)).0)
 admits c b (Some log) (Site k) here kept = tt

@@ -120,7 +120,7 @@ pub fn judge_end(state: &SiteState, place: &OpenPlace) -> Option<Fault>
 
 /// The least fault of a line in the open section, of which this is known, but for the walks.
 #[inline(always)]
-fn judge_inside(
+pub(crate) fn judge_inside(
     state: &SiteState,
     place: &OpenPlace,
     line: &SectionLine,

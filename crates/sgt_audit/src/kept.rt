@@ -11,7 +11,7 @@ use crate::known::look_up;
 use crate::sections::{Sections, add_to};
 use crate::tracked::Tracked;
 use sgt_audit_decisions::Decided;
-use sgt_names::Entry;
+use sgt_names::{Entry, Item, Tx, Value};
 use sgt_notation::SectionLine;
 use std::alloc::AllocError;
 
@@ -33,6 +33,8 @@ impl Kept {
     ghost use Rattle.sgt_audit.specs.private.NextLine.{Follows};
     ghost use Rattle.sgt_audit.specs.private.Ending.{EndsWith, IsComplete, limit_of};
     ghost use Rattle.sgt_audit.specs.declared.machine.Progress.TheVariants.{Reading};
+    ghost use Rattle.sgt_names.specs.declared.entry.Entry.TheVariants.{Read, Write, Commit};
+    ghost use Rattle.sgt_notation.specs.declared.SectionLine.TheVariants.{Logged};
 
     /// Whether all sections were read.
     pub(crate) fn is_complete(&self) -> bool
@@ -53,29 +55,78 @@ impl Kept {
         }
     }
 
-    /// The next line, which is one of the format. The kinds of entry that are most frequent go ways of their own, on which the kind
-    /// is known and not asked for again.
-    fn follow(&mut self, line: &SectionLine) -> Result<Option<Fault>, AllocError>
+    /// The next line, which is one of the format.
+    #[inline(always)]
+    fn follow(&mut self, line: SectionLine) -> Result<Option<Fault>, AllocError>
         ensures sections { is_some self.new.sections ≡ is_some self.old.sections }
-        ensures follows { IsLineIn self.old.second line.now → (s : Stage) → IsAt self.old s
-            → IfOk result (Follows s (line_text line.now) (Reading self.new)) }
+        ensures follows { IsLineIn self.old.second line → (s : Stage) → IsAt self.old s
+            → IfOk result (Follows s (line_text line) (Reading self.new)) }
     {
-        match line {
-            SectionLine::Logged(Entry::Read { .. }) => self.follow_line(line),
-            SectionLine::Logged(Entry::Write { .. }) => self.follow_line(line),
-            SectionLine::Logged(Entry::Commit { .. }) => self.follow_line(line),
+        match &line {
+            SectionLine::Logged(entry) => self.follow_entry(entry),
             _ => self.follow_other(line),
         }
     }
 
+    /// The next line, which is this entry. The kinds that are most frequent go ways of their own, on which the kind is known and not
+    /// asked for again.
+    #[inline(always)]
+    fn follow_entry(&mut self, entry: &Entry) -> Result<Option<Fault>, AllocError>
+        ensures sections { is_some self.new.sections ≡ is_some self.old.sections }
+        ensures follows { let line = Logged entry.now in IsLineIn self.old.second line → (s : Stage) → IsAt self.old s
+            → IfOk result (Follows s (line_text line) (Reading self.new)) }
+    {
+        match *entry {
+            Entry::Read { tx, item, value } => self.follow_read(tx, item, value),
+            Entry::Write { tx, item, value } => self.follow_write(tx, item, value),
+            Entry::Commit { tx } => self.follow_commit(tx),
+            _ => self.follow_other(SectionLine::Logged(*entry)),
+        }
+    }
+
+    /// A read.
+    #[inline(never)]
+    fn follow_read(&mut self, tx: Tx, item: Item, value: Value) -> Result<Option<Fault>, AllocError>
+        ensures sections { is_some self.new.sections ≡ is_some self.old.sections }
+        ensures follows { let line = Logged (Read tx item value) in IsLineIn self.old.second line → (s : Stage) → IsAt self.old s
+            → IfOk result (Follows s (line_text line) (Reading self.new)) }
+    {
+        self.follow_line(&SectionLine::Logged(Entry::Read { tx, item, value }))
+    }
+
+    /// A write.
+    #[inline(never)]
+    fn follow_write(
+        &mut self,
+        tx: Tx,
+        item: Item,
+        value: Value,
+    ) -> Result<Option<Fault>, AllocError>
+        ensures sections { is_some self.new.sections ≡ is_some self.old.sections }
+        ensures follows { let line = Logged (Write tx item value) in IsLineIn self.old.second line → (s : Stage) → IsAt self.old s
+            → IfOk result (Follows s (line_text line) (Reading self.new)) }
+    {
+        self.follow_line(&SectionLine::Logged(Entry::Write { tx, item, value }))
+    }
+
+    /// A commit.
+    #[inline(never)]
+    fn follow_commit(&mut self, tx: Tx) -> Result<Option<Fault>, AllocError>
+        ensures sections { is_some self.new.sections ≡ is_some self.old.sections }
+        ensures follows { let line = Logged (Commit tx) in IsLineIn self.old.second line → (s : Stage) → IsAt self.old s
+            → IfOk result (Follows s (line_text line) (Reading self.new)) }
+    {
+        self.follow_line(&SectionLine::Logged(Entry::Commit { tx }))
+    }
+
     /// The next line, of a kind that is less frequent.
     #[inline(never)]
-    fn follow_other(&mut self, line: &SectionLine) -> Result<Option<Fault>, AllocError>
+    fn follow_other(&mut self, line: SectionLine) -> Result<Option<Fault>, AllocError>
         ensures sections { is_some self.new.sections ≡ is_some self.old.sections }
-        ensures follows { IsLineIn self.old.second line.now → (s : Stage) → IsAt self.old s
-            → IfOk result (Follows s (line_text line.now) (Reading self.new)) }
+        ensures follows { IsLineIn self.old.second line → (s : Stage) → IsAt self.old s
+            → IfOk result (Follows s (line_text line) (Reading self.new)) }
     {
-        self.follow_line(line)
+        self.follow_line(&line)
     }
 
     /// The next line, of whatever kind.
@@ -106,18 +157,19 @@ impl Kept {
         ensures follows { (s : Stage) → IsAt self.old s → IfOk result (Follows s line.now (Reading self.new)) }
     {
         match read_line(self.second, line) {
-            Some(read) => self.follow(&read),
+            Some(read) => self.follow(read),
             None => Ok(Some(self.unread())),
         }
     }
 
     /// The next line, which was read already.
-    pub(crate) fn next_read(&mut self, line: &SectionLine) -> Result<Option<Fault>, AllocError>
+    #[inline(always)]
+    pub(crate) fn next_read(&mut self, line: SectionLine) -> Result<Option<Fault>, AllocError>
         ensures sections { is_some self.new.sections ≡ is_some self.old.sections }
-        ensures follows { IsLine line.now → (s : Stage) → IsAt self.old s
-            → IfOk result (Follows s (line_text line.now) (Reading self.new)) }
+        ensures follows { IsLine line → (s : Stage) → IsAt self.old s
+            → IfOk result (Follows s (line_text line) (Reading self.new)) }
     {
-        if is_allowed(self.second, line) {
+        if is_allowed(self.second, &line) {
             self.follow(line)
         } else {
             Ok(Some(self.unread()))

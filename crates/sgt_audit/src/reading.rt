@@ -23,11 +23,10 @@ fn feed_front(kept: &mut Kept, held: &[u8]) -> Result<Option<(usize, Option<Faul
     ensures none { IfOk result (λ found. IfNone found (kept.new ≡ kept.old)) }
     ensures sections { is_some kept.new.sections ≡ is_some kept.old.sections }
 {
-    let found = front_line(held);
-    match &found {
+    match front_line(held) {
         Some((line, n)) => {
             let fault = kept.next_read(line)?;
-            Ok(Some((*n, fault)))
+            Ok(Some((n, fault)))
         }
         None => Ok(None),
     }

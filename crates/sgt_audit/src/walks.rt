@@ -44,7 +44,7 @@ fn is_met(certificate: &Decided, state: &SiteState, edge: &Edge) -> bool
 }
 
 /// Whether each of the steps is a conflict in the open log.
-fn are_met(certificate: &Decided, state: &SiteState, edges: &[Edge]) -> bool
+pub(crate) fn are_met(certificate: &Decided, state: &SiteState, edges: &[Edge]) -> bool
     ensures { (items : List Holding) (entries : List Entry) → TracksOpen certificate.now.decisions items entries state.now
         → (IsTrue result ↔ All (IsMet entries) edges.now) }
 {

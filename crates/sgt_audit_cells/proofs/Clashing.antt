@@ -1,11 +1,11 @@
 -- A conflict of two transactions, by what they did.
-use Rattle.std.proofs.Common.{◌≡◌, ◌≢◌, ℕ, List, [], Some, None, Bool, true, false, IsTrue, refl, sym, ap, ap₂, ◌∙◌, arith, Any, Contains}
+use Rattle.std.proofs.Common.{◌≡◌, ◌≢◌, ℕ, List, Some, None, Bool, true, false, IsTrue, refl, sym, ap, ap₂, ◌∙◌, Any, Contains}
 use Rattle.std.specs.Prelude.{◌↔◌, slice_get, not, ◌&&◌}
 use Rattle.std.proofs.lemmas.Bool.{false≢true}
 use Rattle.sgt_names.proofs.Places.{Contains_at, Contains-from_at}
 use Rattle.sgt_names.proofs.Lists.{Any_at, Any-from_at}
 use Rattle.sgt_names.specs.Name.{Name}
-use Rattle.sgt_names.specs.Entry.{item_of, Reads, Writes, Clash}
+use Rattle.sgt_names.specs.Entry.{tx_of, item_of, Reads, Writes, Clash}
 use Rattle.sgt_names.specs.Log.{names, Conflicts}
 use Rattle.sgt_names.specs.declared.entry.Entry.{Entry}
 use Rattle.sgt_names.specs.declared.entry.Holding.{Holding}
@@ -100,8 +100,12 @@ module _ (ds : List Decision) (items : List Holding) (entries : List Entry) (s :
   pub conflict-listed : (kind : Kind) (x : Name) (a b : ℕ) → Conflicts entries kind x a b → Contains (names items) x
   conflict-listed kind x a b c = t.listed c.e (Contains-from_at entries c.p c.e c.first) x (clash-items kind x c.e c.f c.clash).0
 
-  pub undecided-acts : (tx : ℕ) → IsNumberOf ds tx None → AreActs (names items) entries tx []
-  undecided-acts tx none a = (
-    λ has. absurd (omega (arith, has.1)),
-    λ w. let by = t.decided w.entry (Contains-from_at entries a.at w.entry w.here) in absurd (none by.0 (by.1.0, by.1.1, by.1.2 ∙ w.of)),
-  )
+  -- and is in no conflict
+  undecided-entry : (tx p : ℕ) (e : Entry) → IsNumberOf ds tx None → slice_get entries p ≡ Some e → tx_of e ≡ tx → ⊥
+  undecided-entry tx p e none at of = let by = t.decided e (Contains-from_at entries p e at) in none by.0 (by.1.0, by.1.1, by.1.2 ∙ of)
+
+  pub undecided-first : (kind : Kind) (x : Name) (a b : ℕ) → IsNumberOf ds a None → Conflicts entries kind x a b → ⊥
+  undecided-first kind x a b none k = undecided-entry a k.p k.e none k.first k.from
+
+  pub undecided-second : (kind : Kind) (x : Name) (a b : ℕ) → IsNumberOf ds b None → Conflicts entries kind x a b → ⊥
+  undecided-second kind x a b none k = undecided-entry b k.q k.f none k.second k.to

@@ -13,11 +13,10 @@ use Rattle.sgt_names.specs.Entry.{tx_of, item_of, is_increment, IsEnd, Reads, Wr
 use Rattle.sgt_names.specs.declared.entry.Entry.{Entry}
 use Rattle.sgt_names.specs.declared.entry.Entry.TheVariants.{Read, Write, Add, Want, WantAdd, Commit, Refuse, Withdraw}
 use Rattle.sgt_audit_cells.specs.private.Noted.{IsPlaceOf}
-use Rattle.sgt_audit_cells.specs.Records.{Did, IsAct, AreActs, IsRecord, deed_of, acts_in, has_ended_in}
+use Rattle.sgt_audit_cells.specs.Records.{Record, Did, IsAct, AreActs, IsRecord, deed_of, acts_in, has_ended_in}
 use Rattle.sgt_audit_cells.specs.private.Deeds.{IsTouched, IsOf, act, changes, adds}
 use Rattle.sgt_audit_cells.specs.declared.act.Act.{Act}
 use Rattle.sgt_audit_cells.specs.declared.act.Deed.{Deed}
-use Rattle.sgt_audit_cells.specs.declared.record.Record.{Record}
 
 -- ---- the rule
 
@@ -213,8 +212,8 @@ module _ (ns : List Name) (entries : List Entry) (tx : ℕ) (e : Entry) where
 
 -- ---- a record
 
-pub acts_in-same : (section : ℕ) (r : Record) → r.section ≡ section → acts_in section r ≡ r.acts.items
-acts_in-same section r same = ap (λ b. cond b r.acts.items []) (eq-eqb r.section section same)
+pub acts_in-same : (section : ℕ) (r : Record) → r.section ≡ section → acts_in section r ≡ r.acts
+acts_in-same section r same = ap (λ b. cond b r.acts []) (eq-eqb r.section section same)
 
 pub ended_in-same : (section : ℕ) (r : Record) → r.section ≡ section → has_ended_in section r ≡ r.ended
 ended_in-same section r same = ap (λ b. b && r.ended) (eq-eqb r.section section same)
@@ -246,7 +245,7 @@ pub record-none : (section : ℕ) (ns : List Name) (tx : ℕ) (r : Record) → (
 record-none section ns tx r apart = record {
   touched = (λ same. absurd (apart same), λ d. absurd (no-entry d.0 d.1));
   ended = (λ h. absurd (false≢true (sym (ap (λ b. b && r.ended) (ne_eqb r.section section apart)) ∙ h)), λ d. absurd (no-entry d.0 d.1));
-  acts = subst (AreActs ns [] tx) (sym (ap (λ b. cond b r.acts.items []) (ne_eqb r.section section apart))) (λ a. (λ h. absurd (no-act a h), λ w. absurd (none-some w.entry w.here)));
+  acts = subst (AreActs ns [] tx) (sym (ap (λ b. cond b r.acts []) (ne_eqb r.section section apart))) (λ a. (λ h. absurd (no-act a h), λ w. absurd (none-some w.entry w.here)));
 }
   where
     no-act : (a : Act) → Contains [] a → ⊥

@@ -7,4 +7,4 @@ pub mod Entering
 pub mod Listing
 pub mod Clashing
 pub mod Lists
-pub mod Meeting
+pub mod Linked

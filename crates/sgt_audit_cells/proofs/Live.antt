@@ -2,8 +2,7 @@
 use Rattle.std.proofs.Common.{◌≡◌, ℕ, zero, suc, ◌+◌, ◌-◌, ◌<◌, ◌≤◌, Bool, true, false, cond, List, [], ◌∷◌, length, set, Some, refl, sym, ap, ◌∙◌, arith}
 use Rattle.std.specs.Prelude.{slice_get}
 use Rattle.std.proofs.lemmas.Option.{same_Some, none-some}
-use Rattle.sgt_audit_cells.specs.Records.{is_live_in, live_among}
-use Rattle.sgt_audit_cells.specs.declared.record.Record.{Record}
+use Rattle.sgt_audit_cells.specs.Records.{Record, is_live_in, live_among}
 
 abbrev pub one_if : Bool → ℕ
 one_if b = cond b 1 0

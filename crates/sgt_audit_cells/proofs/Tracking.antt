@@ -18,12 +18,11 @@ use Rattle.sgt_cert.specs.Valid.{IsDecided, EndInOrder}
 use Rattle.sgt_cert.specs.declared.certificate.Decision.{Decision}
 use Rattle.sgt_audit_cells.specs.Cells.{IsGreatest, AreCells, IsCell}
 use Rattle.sgt_audit_cells.specs.private.Noted.{IsPlaceOf, IsUpTo, raised}
-use Rattle.sgt_audit_cells.specs.Records.{Did, IsRecord, has_ended_in, is_live_in, live_among}
+use Rattle.sgt_audit_cells.specs.Records.{Record, Did, IsRecord, has_ended_in, is_live_in, live_among}
 use Rattle.sgt_audit_cells.specs.private.Deeds.{IsTouched, act}
 use Rattle.sgt_audit_decisions.specs.Decided.{Decides}
 use Rattle.sgt_audit_cells.specs.Tracks.{IsNumberOf, EndsBy, TracksOpen, IsReadyFor}
 use Rattle.sgt_audit_cells.specs.declared.cell.Cell.{Cell}
-use Rattle.sgt_audit_cells.specs.declared.record.Record.{Record}
 use Rattle.sgt_audit_cells.specs.declared.state.SiteState.{SiteState}
 use Rattle.sgt_audit_cells.proofs.Ranked.{IsOnly, up_to-all, greatest-left, greatest-raised}
 use Rattle.sgt_audit_cells.proofs.Doing.{Apart, all-new, record-left, record-entered, record-none}
@@ -260,7 +259,7 @@ module _ (ds : List Decision) (items : List Holding) (entries : List Entry) (old
 
 -- ---- a section begins
 
-pub begun : (ds : List Decision) (section : ℕ) (old new : SiteState) → IsReadyFor ds section old → new.section ≡ section → length new.records ≡ length old.records → All (λ r. r.section < 1) new.records → new.cells.items ≡ [] → new.count ≡ 0 → new.live ≡ 0 → new.last_end ≡ None → TracksOpen ds [] [] new
+pub begun : (ds : List Decision) (section : ℕ) (old new : SiteState) → IsReadyFor ds section old → new.section ≡ section → length new.records ≡ length old.records → All (λ r. r.section < section) new.records → new.cells.items ≡ [] → new.count ≡ 0 → new.live ≡ 0 → new.last_end ≡ None → TracksOpen ds [] [] new
 begun ds section old new ready same long fresh cells count live order = record {
   cells = record {
     names = ap (map (λ (c : Cell). c.name)) cells;
@@ -277,12 +276,7 @@ begun ds section old new ready same long fresh cells count live order = record {
 }
   where
     before : (k : ℕ) (r : Record) → slice_get new.records k ≡ Some r → r.section < section
-    before k r at =
-        let within = slice_get_within new.records k r at in
-        let was = some-at old.records k (omega (arith, within, long)) in
-        let past = All_at (λ r. r.section < section) old.records k was.0 ready.stamps was.1 in
-        let now = All_at (λ r. r.section < 1) new.records k r fresh at in
-        omega (arith, past, now)
+    before k r at = All_at (λ r. r.section < section) new.records k r fresh at
 
     earlier : (k : ℕ) (r : Record) → slice_get new.records k ≡ Some r → r.section ≡ new.section → ⊥
     earlier k r at eq = let lt = before k r at in absurd (omega (arith, lt, eq, same))

@@ -7,7 +7,12 @@ use Rattle.sgt_names.specs.declared.entry.Entry.TheVariants.{Read, Add, WantAdd}
 use Rattle.sgt_audit_cells.specs.declared.act.Act.{Act}
 use Rattle.sgt_audit_cells.specs.declared.act.Deed.{Deed}
 use Rattle.sgt_audit_cells.specs.declared.act.Deed.TheVariants as deed
-use Rattle.sgt_audit_cells.specs.declared.record.Record.{Record}
+
+-- what a transaction did in the section in which it came last, by its number; and whether it ended there
+pub record Record : Type 0 where
+  pub section : ℕ
+  pub ended : Bool
+  pub acts : List Act
 
 -- the transaction has an entry that does it
 abbrev pub Did : List Entry → ℕ → (Entry → Type 0) → Type 0
@@ -40,7 +45,7 @@ AreActs ns entries tx acts = (a : Act) → Contains acts a ↔ IsAct ns entries 
 
 -- what a record says of a section: nothing, if it was last touched in another
 abbrev pub acts_in : ℕ → Record → List Act
-acts_in section r = if r.section == section then r.acts.items else []
+acts_in section r = if r.section == section then r.acts else []
 
 abbrev pub has_ended_in : ℕ → Record → Bool
 has_ended_in section r = (r.section == section) && r.ended

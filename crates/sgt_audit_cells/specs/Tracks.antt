@@ -11,8 +11,7 @@ use Rattle.sgt_cert.specs.Valid.{IsDecided}
 use Rattle.sgt_cert.specs.declared.certificate.Decision.{Decision}
 use Rattle.sgt_audit_decisions.specs.Decided.{Decides, IsFound}
 use Rattle.sgt_audit_cells.specs.Cells.{IsGreatest, AreCells}
-use Rattle.sgt_audit_cells.specs.Records.{IsRecord, live_among}
-use Rattle.sgt_audit_cells.specs.declared.record.Record.{Record}
+use Rattle.sgt_audit_cells.specs.Records.{Record, IsRecord, live_among}
 use Rattle.sgt_audit_cells.specs.declared.state.SiteState.{SiteState}
 
 -- the number of a decision on the transaction, if there is one

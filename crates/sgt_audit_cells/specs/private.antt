@@ -1,4 +1,4 @@
 -- Words that private clauses alone use.
 pub mod Noted
 pub mod Deeds
-pub mod Met
+pub mod Linked

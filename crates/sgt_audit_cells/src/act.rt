@@ -1,6 +1,6 @@
 //! One operation at the site whose section is open.
 
-ghost use Rattle.std.specs.Prelude.{◌≡◌, ◌↔◌, ◌<◌, List, IsTrue, Any};
+ghost use Rattle.std.specs.Prelude.{◌≡◌, ◌↔◌, ◌<◌, List, IsTrue};
 ghost use Rattle.sgt_names.specs.declared.entry.Entry.{Entry};
 ghost use Rattle.sgt_names.specs.Entry.{item_of};
 ghost use Rattle.sgt_audit_cells.specs.Records.{deed_of};
@@ -107,23 +107,9 @@ impl Act {
     }
 
     /// Whether the other comes later, on the same item, and they are a conflict of this kind.
-    fn clashes_with(&self, kind: Kind, other: &Act) -> bool
+    pub(crate) fn clashes_with(&self, kind: Kind, other: &Act) -> bool
         ensures { IsTrue result ↔ ClashesWith kind self.now other.now }
     {
         other.place == self.place && self.at < other.at && deeds_clash(kind, self.deed, other.deed)
     }
-
-    /// Whether it is on the item at this place, and one of the others comes later and is a conflict of this kind with it.
-    fn clashes_at(&self, kind: Kind, place: usize, others: &[Act]) -> bool
-        ensures { IsTrue result ↔ ((self.now.place ≡ place) × Any (ClashesWith kind self.now) others.now) }
-    {
-        self.place as usize == place && others.iter().any(|other| self.clashes_with(kind, other))
-    }
-}
-
-/// Whether one of the acts, on the item at this place, precedes one of the others and conflicts with it.
-pub(crate) fn have_clash(acts: &[Act], others: &[Act], kind: Kind, place: usize) -> bool
-    ensures { IsTrue result ↔ Any (λ a. (a.place ≡ place) × Any (ClashesWith kind a) others.now) acts.now }
-{
-    acts.iter().any(|act| act.clashes_at(kind, place, others))
 }

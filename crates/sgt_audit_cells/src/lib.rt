@@ -3,6 +3,7 @@
 
 mod act;
 mod cell;
+mod chain;
 mod record;
 mod record_table;
 mod state;

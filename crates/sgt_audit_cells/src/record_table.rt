@@ -1,74 +1,49 @@
-//! The records of the transactions of decisions. Those alone take room that came in the open section.
+//! The records of the transactions of decisions: what each did in the open section.
 
-ghost use Rattle.std.specs.Prelude.{◌≡◌, ◌<◌, ◌≤◌, [], ℕ, length, IfOk, IfSome, IfNone, Some, All, slice_get, slice_set};
+ghost use Rattle.std.specs.Prelude.{false, ◌≡◌, ◌<◌, ◌↔◌, ℕ, length, IsTrue, IfOk, Some, All, Any, List, slice_get, slice_set};
 ghost use Rattle.std.specs.Option.{option_to_list};
-ghost use Rattle.sgt_audit_cells.specs.Records.{is_live_in};
-ghost use Rattle.sgt_audit_cells.specs.private.Deeds.{IsTouched};
-ghost use Rattle.sgt_audit_cells.specs.private.Met.{AreBelow};
-ghost use Rattle.sgt_audit_cells.specs.declared.record.Record.{Record};
-ghost use Rattle.sgt_audit_cells.specs.declared.record_table.Met.{Met};
+ghost use Rattle.sgt_names.specs.Name.{Name};
+ghost use Rattle.sgt_names.specs.Entry.{tx_of, item_of, Repeats};
+ghost use Rattle.sgt_names.specs.declared.entry.Entry.{Entry};
+ghost use Rattle.sgt_audit_cells.specs.Records.{Record, AreActs, acts_in, has_ended_in, is_live_in};
+ghost use Rattle.sgt_audit_cells.specs.private.Deeds.{IsTouched, ClashesWith};
 
-use crate::act::Act;
-use crate::record::{Record, Turn};
+use crate::act::{Act, deed_of};
+use crate::chain::{has_done, have_clash, link};
+use crate::record::{Node, Slot, Turn};
+use sgt_names::{Entry, Kind};
 use std::alloc::{AllocError, Global};
 use std::marker::Model;
 
-/// The record of a transaction, with the number of its decision.
-#[derive(Drop)]
-pub struct Met {
-    pub number: usize,
-    pub kept: Record,
-}
-
-/// A record for each decision's transaction, which contracts see as their list: one that was not met is fresh.
+/// A record for each decision's transaction, which contracts see as their list.
 #[derive(Drop)]
 pub struct RecordTable {
-    alloc: Global,
-    /// For each decision where the record of its transaction is among those that were met, if it is there.
-    places: Vec<usize>,
-    met: Vec<Met>,
-    /// Above the number of each that was met.
-    bound: usize,
-    fresh: Record,
+    slots: Vec<Slot>,
+    /// What was done in the open section.
+    nodes: Vec<Node>,
+    /// How many nodes the sections before had.
+    base: usize,
 }
 
 impl Model for RecordTable {
-    ghost use Rattle.std.specs.Prelude.{List};
-    ghost use Rattle.sgt_audit_cells.specs.declared.record.Record.{Record};
-    ghost use Rattle.sgt_audit_cells.specs.private.Met.{records_from, IsFresh, AreBelow};
+    ghost use Rattle.std.specs.Prelude.{List, length, ◌+◌, ◌<◌, ◌^◌};
+    ghost use Rattle.sgt_audit_cells.specs.Records.{Record};
+    ghost use Rattle.sgt_audit_cells.specs.private.Linked.{AreLinked, AreWithin, records_of};
 
     ghost Value = { List Record };
 
-    ghost view = { λ t. records_from t.fresh 0 t.places.items t.met.items };
+    ghost view = { λ t. records_of t.base t.nodes.items t.slots.items };
 
-    ghost invariant = { λ t. IsFresh t.fresh × AreBelow t.bound t.met.items };
+    ghost invariant = { λ t. AreLinked t.nodes.items × AreWithin t.base (length t.nodes.items) t.slots.items
+        × (t.base + length t.nodes.items < 2 ^ 64) };
 }
 
-/// The place of the record of the transaction of this number, if it was met. A number from the bound on was not: its place is
-/// not looked at.
-#[inline(always)]
-fn find(places: &[usize], met: &[Met], bound: usize, number: usize) -> Option<usize>
-    requires { AreBelow bound met.now }
-    ensures within { IfSome result (λ i. i < length met.now) }
-    ensures some { IfSome result (λ i. (m : Met) × (slice_get places.now number ≡ Some i) × (slice_get met.now i ≡ Some m)
-        × (m.number ≡ number)) }
-    ensures none { IfNone result ((i : ℕ) (m : Met) → slice_get places.now number ≡ Some i → slice_get met.now i ≡ Some m
-        → m.number ≡ number → ⊥) }
+/// Of so many transactions, that no section has met.
+fn fresh_slots(alloc: Global, count: usize) -> Result<Vec<Slot>, AllocError>
+    ensures len { IfOk result (λ slots. length slots.items ≡ count) }
+    ensures fresh { IfOk result (λ slots. All (λ s. s ≡ record { section = 0; last = 0; ended = false }) slots.items) }
 {
-    if number >= bound {
-        return None;
-    }
-    match places.get(number) {
-        Some(place) => match met.get(*place) {
-            Some(found) => if found.number == number {
-                Some(*place)
-            } else {
-                None
-            },
-            None => None,
-        },
-        None => None,
-    }
+    vec![in alloc; Slot::fresh(); count]
 }
 
 impl RecordTable {
@@ -76,23 +51,21 @@ impl RecordTable {
     pub(crate) fn new(alloc: Global, count: usize) -> Result<RecordTable, AllocError>
         ensures { IfOk result (λ t. (length t ≡ count) × All (λ r. r.section < 1) t) }
     {
-        let places = vec![in alloc; 0usize; count]?;
+        let slots = fresh_slots(alloc, count)?;
         Ok(RecordTable {
-            alloc,
-            places,
-            met: Vec::new(alloc),
-            bound: 0,
-            fresh: Record::new(alloc),
+            slots,
+            nodes: Vec::new(alloc),
+            base: 0,
         })
     }
 
-    /// As if no section had met them.
+    /// What was done is forgotten.
     pub(crate) fn clear(&mut self)
         ensures length { length self.new ≡ length self.old }
-        ensures fresh { All (λ r. r.section < 1) self.new }
+        ensures stamps { (bound : ℕ) → All (λ r. r.section < bound) self.old → All (λ r. r.section < bound) self.new }
     {
-        self.met.clear();
-        self.bound = 0;
+        self.base = self.base.saturating_add(self.nodes.len());
+        self.nodes.clear();
     }
 
     /// How many there are.
@@ -100,28 +73,66 @@ impl RecordTable {
     pub(crate) fn len(&self) -> usize
         ensures { result ≡ length self.now }
     {
-        self.places.len()
+        self.slots.len()
     }
 
-    /// The record of the transaction of this number.
+    /// Whether the entry, on the item at this place, is not the second read of the item by the transaction of this number, nor its
+    /// second change, made or asked for.
     #[inline(always)]
-    pub(crate) fn get(&self, number: usize) -> Option<&Record>
-        ensures some { IfSome result (λ r. slice_get self.now number ≡ Some r.now) }
-        ensures none { IfNone result (length self.now ≤ number) }
+    pub(crate) fn is_first(
+        &self,
+        number: usize,
+        section: usize,
+        place: usize,
+        entry: &Entry,
+    ) -> bool
+        ensures { (r : Record) (ns : List Name) (entries : List Entry) (x : Name) → slice_get self.now number ≡ Some r
+            → slice_get ns place ≡ Some x → item_of entry.now ≡ Some x → AreActs ns entries (tx_of entry.now) (acts_in section r)
+            → (IsTrue result ↔ All (λ f. (y : Name) → Repeats y f entry.now → ⊥) entries) }
     {
-        match find(
-            self.places.as_slice(),
-            self.met.as_slice(),
-            self.bound,
-            number,
-        ) {
-            Some(place) => Some(&self.met[place].kept),
-            None => if number < self.places.len() {
-                Some(&self.fresh)
-            } else {
-                None
-            },
+        let Some(slot) = self.slots.get(number) else {
+            return false;
+        };
+        let last = slot.last_in(section).saturating_sub(self.base);
+        !has_done(self.nodes.as_slice(), last, place, deed_of(entry))
+    }
+
+    /// Whether the transaction of this number ended in the section.
+    #[inline(always)]
+    pub(crate) fn has_ended(&self, number: usize, section: usize) -> bool
+        ensures { (r : Record) → slice_get self.now number ≡ Some r → result ≡ has_ended_in section r }
+    {
+        match self.slots.get(number) {
+            Some(slot) => slot.has_ended(section),
+            None => true,
         }
+    }
+
+    /// Whether one of what the first of the two did, on the item at this place, precedes one of what the second did and conflicts
+    /// with it.
+    pub(crate) fn have_clash(
+        &self,
+        section: usize,
+        numbers: (usize, usize),
+        kind: Kind,
+        place: usize,
+    ) -> bool
+        ensures { (q r : Record) → slice_get self.now numbers.0 ≡ Some q → slice_get self.now numbers.1 ≡ Some r
+            → (IsTrue result ↔ Any (λ a. (a.place ≡ place) × Any (ClashesWith kind a) (acts_in section r)) (acts_in section q)) }
+    {
+        let Some(first) = self.slots.get(numbers.0) else {
+            return false;
+        };
+        let Some(second) = self.slots.get(numbers.1) else {
+            return false;
+        };
+        have_clash(
+            self.nodes.as_slice(),
+            first.last_in(section).saturating_sub(self.base),
+            second.last_in(section).saturating_sub(self.base),
+            kind,
+            place,
+        )
     }
 
     /// One more entry of the transaction of this number, and whether it was live before and is with it.
@@ -137,25 +148,23 @@ impl RecordTable {
             → (s : Record) × (self.new ≡ slice_set self.old number s) × IsTouched section (option_to_list act) ends r s
             × (turn.was_live ≡ is_live_in section r) × (turn.is_live ≡ is_live_in section s)) }
     {
-        if number >= self.places.len() {
+        if number >= self.slots.len() {
             return Ok(Turn {
                 was_live: false,
                 is_live: false,
             });
         }
-        if let Some(place) = find(
-            self.places.as_slice(),
-            self.met.as_slice(),
-            self.bound,
-            number,
-        ) {
-            return self.met[place].kept.touch(section, act, ends);
-        }
-        let mut kept = Record::new(self.alloc);
-        let turn = kept.touch(section, act, ends)?;
-        self.places[number] = self.met.len();
-        self.met.push(Met { number, kept })?;
-        self.bound = self.bound.max(number + 1);
-        Ok(turn)
+        let slot = self.slots[number];
+        let last = link(&mut self.nodes, self.base, slot.last_in(section), act)?;
+        let next = Slot {
+            section,
+            last,
+            ended: slot.has_ended_after(section, ends),
+        };
+        self.slots[number] = next;
+        Ok(Turn {
+            was_live: slot.is_live(section),
+            is_live: next.is_live(section),
+        })
     }
 }

@@ -244,10 +244,7 @@ impl SiteState {
         let Some(number) = number else {
             return true;
         };
-        match self.records.get(number) {
-            Some(record) => record.is_first(self.section, place, entry),
-            None => false,
-        }
+        self.records.is_first(number, self.section, place, entry)
     }
 
     /// Whether the entry, on the item at this place, conflicts with no entry before it of a committed transaction of greater
@@ -270,10 +267,7 @@ impl SiteState {
         ensures { (ds : List Decision) (items : List Holding) (entries : List Entry) (tx : ℕ) → TracksOpen ds items entries self.now
             → Decides ds number tx → (IsTrue result ↔ All (λ f. IsEnd f → tx_of f ≢ tx) entries) }
     {
-        match self.records.get(number) {
-            Some(record) => !record.has_ended(self.section),
-            None => false,
-        }
+        !self.records.has_ended(number, self.section)
     }
 
     /// Whether no end before the entry, if it is one, was decided later. The entry is decided by this number.
@@ -284,20 +278,6 @@ impl SiteState {
             → (IsTrue result ↔ All (λ f. EndInOrder ds f entry.now) entries) }
     {
         !entry.is_end() || is_up_to(self.last_end, number)
-    }
-
-    /// What the transaction did that is decided by this number, if it is.
-    fn acts_of(&self, number: Option<usize>) -> &[Act]
-        ensures { (ds : List Decision) (items : List Holding) (entries : List Entry) (tx : ℕ) → TracksOpen ds items entries self.now
-            → IsNumberOf ds tx number → AreActs (names items) entries tx result.now }
-    {
-        let Some(number) = number else {
-            return &[];
-        };
-        match self.records.get(number) {
-            Some(record) => record.acts_in(self.section),
-            None => &[],
-        }
     }
 
     /// Whether an entry of one transaction precedes and conflicts with one of another, as operations of this kind on the item.
@@ -312,10 +292,16 @@ impl SiteState {
         ensures { (ds : List Decision) (items : List Holding) (entries : List Entry) (a b : ℕ) → TracksOpen ds items entries self.now
             → IsNumberOf ds a from → IsNumberOf ds b to → a ≢ b → (IsTrue result ↔ Conflicts entries kind item.now a b) }
     {
-        let acts = self.acts_of(from);
-        let others = self.acts_of(to);
+        let Some(first) = from else {
+            return false;
+        };
+        let Some(second) = to else {
+            return false;
+        };
         match self.place_of(item) {
-            Some(place) => act::have_clash(acts, others, kind, place),
+            Some(place) => self
+                .records
+                .have_clash(self.section, (first, second), kind, place),
             None => false,
         }
     }

@@ -3,11 +3,10 @@ use Rattle.std.specs.Prelude.{◌≡◌, ◌&&◌, ◌||◌, ◌++◌, ◌<◌, 
 use Rattle.sgt_names.specs.declared.entry.Entry.{Entry}
 use Rattle.sgt_names.specs.declared.entry.Kind.{Kind}
 use Rattle.sgt_names.specs.declared.entry.Kind.TheVariants.{Wr, Rw, Ww}
-use Rattle.sgt_audit_cells.specs.Records.{deed_of, acts_in, has_ended_in}
+use Rattle.sgt_audit_cells.specs.Records.{Record, deed_of, acts_in, has_ended_in}
 use Rattle.sgt_audit_cells.specs.declared.act.Act.{Act}
 use Rattle.sgt_audit_cells.specs.declared.act.Deed.{Deed}
 use Rattle.sgt_audit_cells.specs.declared.act.Deed.TheVariants as deed
-use Rattle.sgt_audit_cells.specs.declared.record.Record.{Record}
 
 -- the entry at this place, on the item at that place
 abbrev pub act : (at place : ℕ) → Entry → Act
@@ -41,4 +40,4 @@ ClashesWith kind a b = (b.place ≡ a.place) × (a.at < b.at) × IsTrue (deeds_c
 pub record IsTouched (section : ℕ) (acts : List Act) (ends : Bool) (old new : Record) : Type 0 where
   pub stamp : new.section ≡ section
   pub end : new.ended ≡ (has_ended_in section old || ends)
-  pub did : new.acts.items ≡ acts_in section old ++ acts
+  pub did : new.acts ≡ acts_in section old ++ acts

@@ -10,5 +10,5 @@ returns-then-is_allowed-clause-follows c is s here = c.follow.ensures.follows (i
 
 pub returns-else-is_allowed-clause-follows : goal.returns-else-is_allowed-clause-follows
 returns-else-is_allowed-clause-follows c is s here =
-    c.unread.ensures (line_text c.args.line.now) s
-    (λ l is_l same. refuted c.is_allowed.result c.is_allowed.ensures c.if-is_allowed.false (subst (Allows c.args.self.now.second) (sym (line-one c.args.line.now l is is_l.0 same)) is_l.1)) here
+    c.unread.ensures (line_text c.args.line) s
+    (λ l is_l same. refuted c.is_allowed.result c.is_allowed.ensures c.if-is_allowed.false (subst (Allows c.args.self.now.second) (sym (line-one c.args.line l is is_l.0 same)) is_l.1)) here

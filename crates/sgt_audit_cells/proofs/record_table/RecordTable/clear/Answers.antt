@@ -1,16 +1,28 @@
-use Rattle.std.proofs.Common.{List, length, All, ◌<◌, sym, ◌∙◌, subst, ap}
-use Rattle.sgt_audit_cells.specs.declared.record.Record.{Record}
-use Rattle.sgt_audit_cells.specs.declared.record_table.Met.{Met}
-use Rattle.sgt_audit_cells.specs.private.Met.{records_from}
-use Rattle.sgt_audit_cells.proofs.Meeting.{length-from, all-fresh}
+use Rattle.std.proofs.Common.{length, All, ◌<◌, sym, ◌∙◌, subst, ap, arith}
+use Rattle.std.specs.Prelude.{slice_get}
+use Rattle.std.proofs.lemmas.Option.{none-some}
+use Rattle.std.proofs.lemmas.List.{length-map}
+use Rattle.sgt_names.proofs.Lists.{All-map, All-from_map}
+use Rattle.sgt_audit_cells.specs.Records.{Record}
+use Rattle.sgt_audit_cells.specs.private.Linked.{record_of}
 use Rattle.sgt_audit_cells.proofs.record_table.RecordTable.clear.Goals as goal
 
 pub returns-clause-length : goal.returns-clause-length
 returns-clause-length c =
     let t = c.self.inside in
-    length-from t.fresh 0 t.places.items c.clear.new.self.items ∙ sym (length-from t.fresh 0 t.places.items t.met.items) ∙ ap length c.self.view_is
+    length-map t.slots.items _ ∙ sym (length-map t.slots.items (record_of t.base t.nodes.items)) ∙ ap length c.self.view_is
 
-pub returns-clause-fresh : goal.returns-clause-fresh
-returns-clause-fresh c =
+pub returns-clause-stamps : goal.returns-clause-stamps
+returns-clause-stamps c bound all =
     let t = c.self.inside in
-    subst (λ (ms : List Met). All (λ (r : Record). r.section < 1) (records_from t.fresh 0 t.places.items ms)) (sym c.clear.ensures.items) (all-fresh t.fresh c.self.invariant.0.section t.places.items)
+    All-from_map (λ (r : Record). r.section < bound) _ t.slots.items
+    (All-map (λ (r : Record). r.section < bound) (record_of t.base t.nodes.items) t.slots.items (subst (All (λ (r : Record). r.section < bound)) (sym c.self.view_is) all))
+
+pub invariant_of-self : goal.invariant_of-self
+invariant_of-self c =
+    let t = c.self.inside in
+    let none = c.clear.ensures.items in (
+      λ i n at. absurd (none-some n (ap (λ ns. slice_get ns i) (sym none) ∙ at)),
+      λ k d lt. let le = c.self.invariant.1 k d lt in let total = c.self.invariant.2 in omega (arith, le, total, c.saturating_add-self-inside.ensures, c.len.ensures, t.nodes.ok.0),
+      (let zero_long = ap length none in let total = c.self.invariant.2 in omega (arith, zero_long, total, c.saturating_add-self-inside.ensures, c.len.ensures, t.nodes.ok.0)),
+    )

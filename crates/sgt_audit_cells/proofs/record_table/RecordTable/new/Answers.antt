@@ -1,14 +1,13 @@
-use Rattle.std.proofs.Common.{List, All, ◌<◌, sym, ◌∙◌, subst}
-use Rattle.sgt_audit_cells.specs.declared.record.Record.{Record}
-use Rattle.sgt_audit_cells.specs.declared.record_table.Met.{Met}
-use Rattle.sgt_audit_cells.specs.private.Met.{records_from}
-use Rattle.sgt_audit_cells.proofs.Meeting.{length-from, all-fresh}
+use Rattle.std.proofs.Common.{◌<◌, ◌∙◌, ap, arith}
+use Rattle.std.proofs.lemmas.List.{length-map}
+use Rattle.sgt_names.proofs.Lists.{All-from_map}
+use Rattle.sgt_audit_cells.specs.Records.{Record}
+use Rattle.sgt_audit_cells.specs.declared.record.Slot.{Slot}
 use Rattle.sgt_audit_cells.proofs.record_table.RecordTable.new.Goals as goal
 
 pub returns : goal.returns
 returns c =
-    let fresh = c.new-2.result in
-    let places = c.in_ok-places.places.items in (
-      length-from fresh 0 places c.new.result.items ∙ sym c.in_ok-places.places.ok.0 ∙ c.in_ok-places.ensures.len,
-      subst (λ (ms : List Met). All (λ (r : Record). r.section < 1) (records_from fresh 0 places ms)) (sym c.new.ensures.items) (all-fresh fresh c.new-2.ensures.section places),
+    let slots = c.in_ok-slots.slots.items in (
+      length-map slots _ ∙ c.in_ok-slots.ensures.len,
+      All-from_map (λ (r : Record). r.section < 1) _ slots (λ k d lt. let none = ap (λ (s : Slot). s.section) (c.in_ok-slots.ensures.fresh k d lt) in omega (arith, none)),
     )

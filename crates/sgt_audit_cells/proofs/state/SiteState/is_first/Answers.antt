@@ -1,7 +1,7 @@
 use Rattle.std.proofs.Common.{refl, subst}
 use Rattle.sgt_names.specs.Entry.{tx_of}
 use Rattle.sgt_audit_cells.specs.Tracks.{IsNumberOf}
-use Rattle.sgt_audit_cells.proofs.Tracking.{not-past, record-is, record-of, undecided-new}
+use Rattle.sgt_audit_cells.proofs.Tracking.{record-of, undecided-new}
 use Rattle.sgt_audit_cells.proofs.Entering.{not-some}
 use Rattle.sgt_audit_cells.proofs.state.SiteState.is_first.Goals as goal
 
@@ -10,15 +10,8 @@ returns-in_default c ds items entries x t at on number =
     let none = subst (IsNumberOf ds (tx_of c.args.entry.now)) (not-some c.args.number c.in_default.not-Some) number in
     (λ h. undecided-new ds items entries c.args.self.now t c.args.entry.now none, λ all. refl)
 
-pub returns-in-Some-get : goal.returns-in-Some-get
-returns-in-Some-get c ds items entries x t at on number =
-    let by = subst (IsNumberOf ds (tx_of c.args.entry.now)) c.in-Some.is number in
-    let there = c.in-Some-get.ensures.some in
-    let is = record-is ds items entries c.args.self.now t c.in-Some.number (tx_of c.args.entry.now) c.in-Some-get.record.now by there in
-    c.is_first.ensures _ entries x at on is.acts
-
-pub returns-in-None : goal.returns-in-None
-returns-in-None c ds items entries x t at on number =
+pub returns : goal.returns
+returns c ds items entries x t at on number =
     let by = subst (IsNumberOf ds (tx_of c.args.entry.now)) c.in-Some.is number in
     let there = record-of ds items entries c.args.self.now t c.in-Some.number (tx_of c.args.entry.now) by in
-    absurd (not-past _ _ there.0 c.in-None.ensures.none there.1)
+    c.is_first.ensures there.0 _ entries x there.1 at on there.2.acts

@@ -1,0 +1,117 @@
+-- One section judged by itself.
+use Rattle.std.proofs.Common.{◌≡◌, ◌≢◌, Bool, true, List, [], ◌∷◌, ◌++◌, length, Option, Some, None, IsTrue, refl, sym, ap, ◌∙◌, subst, arith, All}
+use Rattle.std.specs.Prelude.{◌↔◌}
+use Rattle.sgt_names.specs.declared.entry.Holding.{Holding}
+use Rattle.sgt_notation.specs.Spelling.{line_text}
+use Rattle.sgt_notation.specs.declared.SectionLine.{SectionLine}
+use Rattle.sgt_notation.specs.declared.SectionLine.TheVariants.{Site, Initial, Logged, Final, End}
+use Rattle.sgt_cert.specs.Certificate.{IsDecidedOnce}
+use Rattle.sgt_cert.specs.Text.{Begins}
+use Rattle.sgt_cert.specs.declared.bundle.SiteLog.{SiteLog}
+use Rattle.sgt_cert.specs.declared.certificate.Certificate.{Certificate}
+use Rattle.sgt_cert.specs.declared.certificate.Decision.{Decision}
+use Rattle.sgt_audit_decisions.specs.declared.steps.Edge.{Edge}
+use Rattle.sgt_audit.specs.declared.alone.Alone.{Alone}
+use Rattle.sgt_audit.specs.declared.faults.Fault.{Fault}
+use Rattle.sgt_audit.specs.declared.faults.Fault.TheVariants as fault
+use Rattle.sgt_audit.specs.Alone.{MeetsSteps, StandsAlone}
+use Rattle.sgt_audit.specs.Faults.{IsLineIn, Keeps, Rule, Breaks, within, whole}
+use Rattle.sgt_audit.specs.Kept.{IsMet, IsPlace, Tracks}
+use Rattle.sgt_audit.specs.Reading.{Begun, IsBegun, IsOpenLog, lines_read}
+use Rattle.sgt_audit.specs.private.Following.{Fits, MayFollow, with_next}
+use Rattle.sgt_audit.specs.private.Judging.{AdmitsLine, HasOpen, JudgedLine, KeptBelow}
+use Rattle.sgt_audit.proofs.Least.{logged-7, final-7, end-7, site-7}
+use Rattle.sgt_audit.proofs.MayFollow.{added-begun, begins-follow, follow-decides, next-lines, sections-whole}
+use Rattle.sgt_audit.proofs.NextLine.{within-breaks}
+use Rattle.sgt_audit.proofs.OpenLogs.{has_open}
+use Rattle.sgt_audit.proofs.Places.{next-sites}
+use Rattle.sgt_audit.proofs.SiteStates.{admits}
+
+initial-7 : (c : Certificate) (before : List SectionLine) (h : Holding) → KeptBelow (Keeps c before (Initial h)) 7
+initial-7 c before h fault.Section lt = absurd (omega arith)
+initial-7 c before h fault.Item lt = absurd (omega arith)
+initial-7 c before h fault.Twice lt = absurd (omega arith)
+initial-7 c before h fault.ReadValue lt = absurd (omega arith)
+initial-7 c before h fault.RankOrder lt = absurd (omega arith)
+initial-7 c before h fault.Block lt = absurd (omega arith)
+initial-7 c before h fault.End lt = absurd (omega arith)
+initial-7 c before h fault.DecisionOrder lt = absurd (omega arith)
+initial-7 c before h fault.NotEnded lt = absurd (omega arith)
+initial-7 c before h fault.Final lt = absurd (omega arith)
+initial-7 c before h fault.WalkStep lt = absurd (omega arith)
+initial-7 c before h fault.Truncated lt = absurd (omega arith)
+initial-7 c before h fault.Trailing lt = absurd (omega arith)
+initial-7 c before h _ lt = tt
+
+-- no line breaks a rule of smaller number than F7
+pub kept-7 : (c : Certificate) (before : List SectionLine) (line : SectionLine) → KeptBelow (Keeps c before line) 7
+kept-7 c before (Site k) = site-7 c before k
+kept-7 c before (Initial h) = initial-7 c before h
+kept-7 c before (Logged e) = logged-7 c before e
+kept-7 c before (Final h) = final-7 c before h
+kept-7 c before End = end-7 c before
+
+pub not-section : (second : Bool) (c : Certificate) (before : List SectionLine) (line : SectionLine) → IsLineIn second line → (Begins c.sites (before ++ line ∷ []) → ⊥)
+    → Breaks (Rule (within second c before) (whole (line_text line))) fault.Section
+not-section second c before line is miss = within-breaks second c before line is fault.Section (record { broken = miss; least = kept-7 c before line })
+
+-- what is kept stands behind one more line
+pub next-stands : (c : Certificate) (b : Begun) (line : SectionLine) (old new : Alone) → StandsAlone c b old → Begins b.sites (lines_read b ++ line ∷ []) → KeptBelow (Keeps c (lines_read b) line) 17
+    → ((a : Begun) → IsBegun a → MayFollow a a.current line → IsPlace a old.place → IsPlace (with_next a a.current line) new.place)
+    → ((a : Begun) → IsDecidedOnce c.decisions → IsBegun a → MayFollow a a.current line → AdmitsLine c.decisions a.current line → Tracks c.decisions a old.state → Tracks c.decisions (with_next a a.current line) new.state)
+    → StandsAlone c (with_next b b.current line) new
+next-stands c b line old new s begins kept place state = record {
+  once = s.once;
+  ranked = s.ranked;
+  sites = next-sites b b.current line ∙ s.sites;
+  begun = added-begun b s.begun line begins b.current refl;
+  place = place b s.begun (begins-follow b line begins) s.place;
+  open_site = state b s.once s.begun (begins-follow b line begins) (admits c b b.current line refl kept) s.open_site;
+}
+
+-- whether the steps are conflicts, with the last line
+pub last-meets : (edges : List Edge) (o : Option SiteLog) (met : Bool) → ((log : SiteLog) → o ≡ Some log → IsTrue met ↔ All (IsMet log.entries) edges) → MeetsSteps edges o End met
+last-meets edges (Some log) met h = h log refl
+last-meets edges None met h = tt
+
+pub other-meets : (edges : List Edge) (o : Option SiteLog) (line : SectionLine) (met : Bool) → (line ≡ End → ⊥) → MeetsSteps edges o line met
+other-meets edges None line met not = tt
+other-meets edges (Some log) (Site k) met not = tt
+other-meets edges (Some log) (Initial h) met not = tt
+other-meets edges (Some log) (Logged e) met not = tt
+other-meets edges (Some log) (Final h) met not = tt
+other-meets edges (Some log) End met not = absurd (not refl)
+
+-- ---- a line is not judged by the walks: its section might be the first of two
+
+module _ (ds : List Decision) (log : SiteLog) (is : IsOpenLog log) where
+  abbrev pub two : Certificate
+  two = record { sites = 2; decisions = ds }
+
+  abbrev pub first : Begun
+  first = record { sites = 2; whole = []; current = Some log }
+
+  first-begun : IsBegun first
+  first-begun = record { some = omega arith; few = omega arith; logs = λ n d within. absurd (omega arith); room = (omega arith, is) }
+
+  pub first-begins : (line : SectionLine) → Fits log line → Begins 2 (lines_read first ++ line ∷ [])
+  first-begins line fits = (follow-decides first first-begun line true (λ h. fits, λ h. refl)).0 refl
+
+  pub first-open : HasOpen (lines_read first) log
+  first-open = has_open first log refl
+
+  walks-hold : (line : SectionLine) → Fits log line → Keeps two (lines_read first) line fault.WalkStep
+  walks-hold (Site k) fits = tt
+  walks-hold (Initial x) fits = tt
+  walks-hold (Logged e) fits = tt
+  walks-hold (Final x) fits = tt
+  walks-hold End fits = λ logs len same.
+      let new : Begun = with_next first (Some log) End in
+      let whole = sections-whole new logs (same ∙ sym (next-lines first (Some log) End refl fits)) in
+      let one : length (log ∷ []) ≡ length logs = ap length whole.1 in
+      absurd (omega (arith, one, len))
+
+  pub not-walk : (line : SectionLine) (found : Option Fault) → Fits log line → JudgedLine (Keeps two (lines_read first) line) found → found ≢ Some fault.WalkStep
+  not-walk line found fits judged same =
+      let breaks = subst (JudgedLine (Keeps two (lines_read first) line)) same judged in
+      breaks.broken (walks-hold line fits)

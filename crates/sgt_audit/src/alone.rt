@@ -1,0 +1,188 @@
+//! One section judged by itself, whatever the sections before it are: the decisions are lent, and nothing of another section is kept.
+
+ghost use Rattle.std.specs.Prelude.{◌≡◌, ℕ, List, length, IfOk};
+ghost use Rattle.sgt_notation.specs.Spelling.{IsLine, line_text};
+ghost use Rattle.sgt_audit.specs.Alone.{FollowsAlone, IsReadyAlone, MeetsSteps, StandsAlone};
+ghost use Rattle.sgt_audit.specs.Kept.{Tracks};
+ghost use Rattle.sgt_audit.specs.Reading.{Begun};
+
+use crate::faults::Fault;
+use crate::format::{is_allowed, read_line};
+use crate::judging::judge_inside;
+use crate::known::{Known, look_up};
+use crate::place::Place;
+use crate::tracked::enter_line;
+use crate::walks::are_met;
+use sgt_audit_cells::SiteState;
+use sgt_audit_decisions::{Decided, Edge};
+use sgt_names::Entry;
+use sgt_notation::SectionLine;
+use std::alloc::{AllocError, Global};
+
+/// What is kept of the lines of one section, by which the next one is judged.
+#[derive(Drop)]
+pub struct Alone {
+    /// Whether the format is the second.
+    pub second: bool,
+    pub place: Place,
+    pub state: SiteState,
+    /// Whether each step of a walk at its site is a conflict in its log, once that is whole.
+    pub met: bool,
+}
+
+/// With the section's last line, whether each of the steps is a conflict in its log.
+#[inline(always)]
+fn meets_steps(certificate: &Decided, state: &SiteState, edges: &[Edge], line: &SectionLine) -> bool
+    ensures { (b : Begun) → Tracks certificate.now.decisions b state.now → MeetsSteps edges.now b.current line.now result }
+{
+    match line {
+        SectionLine::End => are_met(certificate, state, edges),
+        _ => true,
+    }
+}
+
+impl Alone {
+    ghost use Rattle.std.specs.Prelude.{None, IsTrue, ◌↔◌, ◌<◌};
+    ghost use Rattle.sgt_cert.specs.Certificate.{IsDecidedOnce, AreRanks, ranks};
+    ghost use Rattle.sgt_cert.specs.declared.bundle.SiteLog.{SiteLog};
+    ghost use Rattle.sgt_cert.specs.declared.certificate.Certificate.{Certificate};
+    ghost use Rattle.std.specs.Prelude.{[], ◌∷◌, ◌++◌, ◌≢◌, Some};
+    ghost use Rattle.sgt_cert.specs.Text.{Begins};
+    ghost use Rattle.sgt_audit.specs.Faults.{IsLineIn, Keeps};
+    ghost use Rattle.sgt_audit.specs.Reading.{IsBegun, lines_read};
+    ghost use Rattle.sgt_audit.specs.private.Judging.{JudgedLine};
+    ghost use Rattle.sgt_audit.specs.private.Known.{IsKnownLine};
+
+    /// Before the section of the first of so many sites.
+    pub fn new(
+        alloc: Global,
+        second: bool,
+        sites: u8,
+        certificate: &Decided,
+    ) -> Result<Alone, AllocError>
+        ensures ready { sites ≡ certificate.now.sites → IfOk result (IsReadyAlone certificate.now 0) }
+        ensures second { IfOk result (λ a. a.second ≡ second) }
+    {
+        Ok(Alone {
+            second,
+            place: Place::new(alloc, sites),
+            state: SiteState::new(alloc, certificate.decisions().len())?,
+            met: true,
+        })
+    }
+
+    /// Before the section of this site, which is none before those that were judged.
+    pub fn begin(&mut self, site: usize)
+        ensures stands { (c : Certificate) (b : Begun) → IsReadyAlone c site self.old → IsDecidedOnce c.decisions
+            → AreRanks (ranks c.decisions) → IsBegun b
+            → b.sites ≡ c.sites → length b.whole ≡ site → b.current ≡ None → StandsAlone c b self.new }
+        ensures second { self.new.second ≡ self.old.second }
+    {
+        self.place.whole = site;
+        self.place.current = None;
+    }
+
+    /// Whether the section of this site was read whole.
+    #[inline(always)]
+    pub fn is_behind(&self, site: usize) -> bool
+        ensures { (c : Certificate) (b : Begun) → StandsAlone c b self.now → (IsTrue result ↔ (site < length b.whole)) }
+    {
+        self.place.whole > site
+    }
+
+    /// The next line, which was read already: its least fault, but for the walks. The steps are those at this site.
+    #[inline(always)]
+    pub fn next_read(
+        &mut self,
+        certificate: &Decided,
+        edges: &[Edge],
+        line: &SectionLine,
+    ) -> Result<Option<Fault>, AllocError>
+        ensures follows { IsLine line.now → (b : Begun) → StandsAlone certificate.now b self.old
+            → IfOk result (FollowsAlone certificate.now edges.now b (line_text line.now) self.new) }
+        ensures second { self.new.second ≡ self.old.second }
+    {
+        if !is_allowed(self.second, line) {
+            return Ok(Some(Fault::Notation));
+        }
+        match line {
+            SectionLine::Logged(Entry::Read { .. }) => self.follow(certificate, edges, line),
+            SectionLine::Logged(Entry::Write { .. }) => self.follow(certificate, edges, line),
+            SectionLine::Logged(Entry::Commit { .. }) => self.follow(certificate, edges, line),
+            _ => self.follow_other(certificate, edges, line),
+        }
+    }
+
+    /// The next line, without its LF: its least fault, but for the walks. The steps are those at this site.
+    pub fn next(
+        &mut self,
+        certificate: &Decided,
+        edges: &[Edge],
+        line: &[u8],
+    ) -> Result<Option<Fault>, AllocError>
+        ensures follows { (b : Begun) → StandsAlone certificate.now b self.old
+            → IfOk result (FollowsAlone certificate.now edges.now b line.now self.new) }
+        ensures second { self.new.second ≡ self.old.second }
+    {
+        match read_line(self.second, line) {
+            Some(read) => self.follow_other(certificate, edges, &read),
+            None => Ok(Some(Fault::Notation)),
+        }
+    }
+
+    /// The next line, of a kind that is less frequent.
+    #[inline(never)]
+    fn follow_other(
+        &mut self,
+        certificate: &Decided,
+        edges: &[Edge],
+        line: &SectionLine,
+    ) -> Result<Option<Fault>, AllocError>
+        ensures follows { IsLineIn self.old.second line.now → (b : Begun) → StandsAlone certificate.now b self.old
+            → IfOk result (FollowsAlone certificate.now edges.now b (line_text line.now) self.new) }
+        ensures second { self.new.second ≡ self.old.second }
+    {
+        self.follow(certificate, edges, line)
+    }
+
+    /// The least fault of a line that may stand next, but for the walks.
+    #[inline(always)]
+    fn judge(&self, line: &SectionLine, known: &Option<Known>) -> Option<Fault>
+        ensures judged { (c : Certificate) (b : Begun) → StandsAlone c b self.now
+            → IsKnownLine c.decisions self.now.state line.now known.now
+            → Begins b.sites (lines_read b ++ line.now ∷ []) → JudgedLine (Keeps c (lines_read b) line.now) result }
+        ensures not_walks { (c : Certificate) (b : Begun) → StandsAlone c b self.now
+            → IsKnownLine c.decisions self.now.state line.now known.now
+            → Begins b.sites (lines_read b ++ line.now ∷ []) → result ≢ Some Fault.WalkStep }
+    {
+        match &self.place.current {
+            Some(here) => judge_inside(&self.state, here, line, known),
+            None => None,
+        }
+    }
+
+    /// The next line, which is one of the format.
+    #[inline(always)]
+    fn follow(
+        &mut self,
+        certificate: &Decided,
+        edges: &[Edge],
+        line: &SectionLine,
+    ) -> Result<Option<Fault>, AllocError>
+        ensures follows { IsLineIn self.old.second line.now → (b : Begun) → StandsAlone certificate.now b self.old
+            → IfOk result (FollowsAlone certificate.now edges.now b (line_text line.now) self.new) }
+        ensures second { self.new.second ≡ self.old.second }
+    {
+        if !self.place.may_go_on(line) {
+            return Ok(Some(Fault::Section));
+        }
+        let known = look_up(certificate, &self.state, line);
+        if let Some(fault) = self.judge(line, &known) {
+            return Ok(Some(fault));
+        }
+        self.met = meets_steps(certificate, &self.state, edges, line);
+        self.place.enter(line)?;
+        enter_line(&mut self.state, line, &known)?;
+        Ok(None)
+    }
+}

@@ -1,0 +1,158 @@
+//! What a transaction did, each linked to the one before it.
+
+ghost use Rattle.std.specs.Prelude.{◌≡◌, ◌<◌, ◌≤◌, ◌-◌, ◌+◌, ◌^◌, ◌∷◌, ◌++◌, ◌↔◌, [], ℕ, length, IsTrue, IfOk, OnOk, OnErr, Any, Some};
+ghost use Rattle.std.specs.Option.{option_to_list};
+ghost use Rattle.sgt_audit_cells.specs.private.Deeds.{IsOf, ClashesWith, changes};
+ghost use Rattle.sgt_audit_cells.specs.private.Linked.{AreLinked, chain};
+
+use crate::act::{Act, Deed};
+use crate::record::Node;
+use sgt_names::Kind;
+use std::alloc::AllocError;
+
+/// Whether such a thing was done to the item at this place, at the node counted so or at one that is linked in front of it.
+#[inline(always)]
+pub(crate) fn has_done(nodes: &[Node], last: usize, place: usize, deed: Deed) -> bool
+    requires linked { AreLinked nodes.now }
+    requires within { last ≤ length nodes.now }
+    ensures { IsTrue result ↔ Any (IsOf place (changes deed)) (chain nodes.now last) }
+{
+    let mut at = last;
+    'nodes: while at > 0 {
+        match nodes.get(at - 1) {
+            Some(node) => {
+                if node.act.is_of(place, deed) {
+                    return true;
+                }
+                at = node.before;
+            }
+            None => return false,
+        }
+    }
+    false
+}
+
+/// Whether one of these comes later than the act and is a conflict of this kind with it.
+fn clashes(nodes: &[Node], last: usize, kind: Kind, act: &Act) -> bool
+    requires linked { AreLinked nodes.now }
+    requires within { last ≤ length nodes.now }
+    ensures { IsTrue result ↔ Any (ClashesWith kind act.now) (chain nodes.now last) }
+{
+    let mut at = last;
+    'nodes: while at > 0 {
+        match nodes.get(at - 1) {
+            Some(node) => {
+                if act.clashes_with(kind, &node.act) {
+                    return true;
+                }
+                at = node.before;
+            }
+            None => return false,
+        }
+    }
+    false
+}
+
+/// Whether the act is on the item at this place, and one of these comes later and is a conflict of this kind with it.
+fn clashes_at(nodes: &[Node], last: usize, kind: Kind, place: usize, act: &Act) -> bool
+    requires linked { AreLinked nodes.now }
+    requires within { last ≤ length nodes.now }
+    ensures { IsTrue result ↔ ((act.now.place ≡ place) × Any (ClashesWith kind act.now) (chain nodes.now last)) }
+{
+    act.place as usize == place && clashes(nodes, last, kind, act)
+}
+
+/// Whether one of the first, on the item at this place, precedes one of the second and conflicts with it.
+pub(crate) fn have_clash(
+    nodes: &[Node],
+    first: usize,
+    second: usize,
+    kind: Kind,
+    place: usize,
+) -> bool
+    requires linked { AreLinked nodes.now }
+    requires first { first ≤ length nodes.now }
+    requires second { second ≤ length nodes.now }
+    ensures { IsTrue result ↔ Any (λ a. (a.place ≡ place) × Any (ClashesWith kind a) (chain nodes.now second)) (chain nodes.now first) }
+{
+    let mut at = first;
+    'nodes: while at > 0 {
+        match nodes.get(at - 1) {
+            Some(node) => {
+                if clashes_at(nodes, second, kind, place, &node.act) {
+                    return true;
+                }
+                at = node.before;
+            }
+            None => return false,
+        }
+    }
+    false
+}
+
+/// Adds the node at the end. It is compiled where it is used, but for the growth.
+#[inline(always)]
+fn add(nodes: &mut Vec<Node>, node: Node) -> Result<(), AllocError>
+    ensures ok { OnOk result (nodes.new.items ≡ nodes.old.items ++ node ∷ []) }
+    ensures err { OnErr result (nodes.new.items ≡ nodes.old.items) }
+{
+    if nodes.len() < nodes.capacity() {
+        nodes.push_reserved(node);
+        return Ok(());
+    }
+    grow(nodes, node)
+}
+
+#[inline(never)]
+fn grow(nodes: &mut Vec<Node>, node: Node) -> Result<(), AllocError>
+    ensures ok { OnOk result (nodes.new.items ≡ nodes.old.items ++ node ∷ []) }
+    ensures err { OnErr result (nodes.new.items ≡ nodes.old.items) }
+{
+    nodes.push(node)?;
+    Ok(())
+}
+
+/// Where a node behind so many in the section stands, counted from 1 over all sections, of which those before have so many.
+#[inline(always)]
+fn next_place(base: usize, len: usize) -> Result<usize, AllocError>
+    ensures { IfOk result (λ place. (place ≡ base + len + 1) × (place < 2 ^ 64)) }
+{
+    match base.checked_add(len) {
+        Some(behind) => match behind.checked_add(1) {
+            Some(place) => Ok(place),
+            None => Err(AllocError),
+        },
+        None => Err(AllocError),
+    }
+}
+
+/// Links one more act, if there is one, behind what stands at this place, counted over all sections; and where it stands then.
+#[inline(always)]
+pub(crate) fn link(
+    nodes: &mut Vec<Node>,
+    base: usize,
+    last: usize,
+    act: Option<Act>,
+) -> Result<usize, AllocError>
+    requires linked { AreLinked nodes.old.items }
+    requires within { last - base ≤ length nodes.old.items }
+    ensures linked { AreLinked nodes.new.items }
+    ensures long { length nodes.old.items ≤ length nodes.new.items }
+    ensures fits { base + length nodes.old.items < 2 ^ 64 → base + length nodes.new.items < 2 ^ 64 }
+    ensures others { (k : ℕ) → k ≤ length nodes.old.items → chain nodes.new.items k ≡ chain nodes.old.items k }
+    ensures place { IfOk result (λ next. (next - base ≤ length nodes.new.items)
+        × (chain nodes.new.items (next - base) ≡ chain nodes.old.items (last - base) ++ option_to_list act)) }
+{
+    let Some(act) = act else {
+        return Ok(last);
+    };
+    let place = next_place(base, nodes.len())?;
+    add(
+        nodes,
+        Node {
+            act,
+            before: last.saturating_sub(base),
+        },
+    )?;
+    Ok(place)
+}
