@@ -21,7 +21,7 @@ use Rattle.sgt_cert.specs.declared.certificate.Certificate.{Certificate}
 use Rattle.sgt_audit.specs.declared.faults.Fault.TheVariants as fault
 use Rattle.sgt_audit.specs.Faults.{items_in, entries_in, Keeps, Stage, Piece, whole, within, bytes_of, FirstFault}
 use Rattle.sgt_explain_lines.specs.Numbered.{HasLine, IsSectionOf, open_site, logged_in, numbered_items, numbered_entries}
-use Rattle.sgt_explain_lines.specs.Values.{holdings_of, entries_of, last_change}
+use Rattle.sgt_explain_lines.specs.Values.{holdings_of, entries_of, last_change, stated_as, HadUntil}
 use Rattle.sgt_explain_lines.specs.declared.section.Logged.{Logged as LoggedEntry}
 use Rattle.sgt_explain_lines.specs.declared.section.Section.{Section}
 use Rattle.sgt_explain_lines.specs.declared.values.Misvalued.{Misvalued}
@@ -68,16 +68,22 @@ no-final c before l e = tt
 
 shows-value : (before : List SectionLine) (section : Section) (m : Misvalued) → IsSectionOf before section → m.site ≡ unwrap_or section.site 0
     → value_at (holdings_of section.items.items) (entries_of section.entries.items) m.item ≡ Some m.made.value → m.made.by ≡ last_change m.item section.entries.items
+    → (m.made.by ≡ None → Contains section.items.items (stated_as m.made.listed m.item m.made.value))
+    → (m.made.value ≢ m.given → HadUntil (value_in (holdings_of section.items.items) m.item) section.entries.items m.item m.given m.until)
     → (value_at (items_in before) (entries_in before) m.item ≡ Some m.given → ⊥) → ShowsValue before m
-shows-value before section m is site value by broken =
+shows-value before section m is site value by listed until broken =
     let items : holdings_of section.items.items ≡ items_in before = ap holdings_of is.items ∙ items-same before in
     let entries : entries_of section.entries.items ≡ entries_in before = ap entries_of is.entries ∙ entries-same before in
     let there : value_at (items_in before) (entries_in before) m.item ≡ Some m.made.value = ap₂ (λ hs es. value_at hs es m.item) (sym items) (sym entries) ∙ value in
+    let other : m.made.value ≢ m.given = λ e. broken (there ∙ ap Some e) in
     record {
       site = site ∙ ap (λ o. unwrap_or o 0) is.site;
       value = there;
-      other = λ e. broken (there ∙ ap Some e);
+      other = other;
       by = by ∙ ap (last_change m.item) is.entries;
+      listed = λ none. subst (λ ls. Contains ls (stated_as m.made.listed m.item m.made.value)) is.items (listed none);
+      until = subst (λ hs. HadUntil (value_in hs m.item) (numbered_entries before) m.item m.given m.until) items
+          (subst (λ ls. HadUntil (value_in (holdings_of section.items.items) m.item) ls m.item m.given m.until) is.entries (until other));
     }
 
 -- ---- F10
@@ -110,13 +116,15 @@ module _ (bytes : List ℕ) (n : ℕ) (first : FirstFault bytes n fault.ReadValu
 
       pub shows-read : (m : Misvalued) → (m.item ≡ x) × (m.given ≡ v) → m.site ≡ unwrap_or section.site 0
           → value_at (holdings_of section.items.items) (entries_of section.entries.items) m.item ≡ Some m.made.value → m.made.by ≡ last_change m.item section.entries.items
+          → (m.made.by ≡ None → Contains section.items.items (stated_as m.made.listed m.item m.made.value))
+          → (m.made.value ≢ m.given → HadUntil (value_in (holdings_of section.items.items) m.item) section.entries.items m.item m.given m.until)
           → ShowsRead (lines_before first.stage) (bytes_of first.next) tx m
-      shows-read m same site value by =
+      shows-read m same site value by listed until =
           let is : found.line ≡ Logged (Read tx m.item m.given) = line-is ∙ ap₂ (λ y w. Logged (Read tx y w)) (sym same.0) (sym same.1) in
           let broken = subst (λ l. Keeps found.c found.before l fault.ReadValue → ⊥) is found.broken in
           subst (λ s. ShowsRead (lines_before s) (bytes_of first.next) tx m) (sym found.at) (record {
             read = ap bytes_of found.comes ∙ ap line_text is;
-            there = shows-value found.before section m section-is site value by broken;
+            there = shows-value found.before section m section-is site value by listed until broken;
           })
 
 -- ---- F16
@@ -151,14 +159,16 @@ module _ (bytes : List ℕ) (n : ℕ) (first : FirstFault bytes n fault.Final) w
 
       pub shows-final : (m : Misvalued) → (m.item ≡ x) × (m.given ≡ v) → m.site ≡ unwrap_or section.site 0
           → value_at (holdings_of section.items.items) (entries_of section.entries.items) m.item ≡ Some m.made.value → m.made.by ≡ last_change m.item section.entries.items
+          → (m.made.by ≡ None → Contains section.items.items (stated_as m.made.listed m.item m.made.value))
+          → (m.made.value ≢ m.given → HadUntil (value_in (holdings_of section.items.items) m.item) section.entries.items m.item m.given m.until)
           → ShowsFinal (lines_before first.stage) (bytes_of first.next) m
-      shows-final m same site value by =
+      shows-final m same site value by listed until =
           let is : found_final.line ≡ Final (record { item = m.item; value = m.given }) =
           final-is ∙ ap₂ (λ y w. Final (record { item = y; value = w })) (sym same.0) (sym same.1) in
           let broken = subst (λ l. Keeps found_final.c found_final.before l fault.Final → ⊥) is found_final.broken in
           subst (λ s. ShowsFinal (lines_before s) (bytes_of first.next) m) (sym found_final.at) (record {
             final = ap bytes_of found_final.comes ∙ ap line_text is;
-            there = shows-value found_final.before section m final_section-is site value by broken;
+            there = shows-value found_final.before section m final_section-is site value by listed until broken;
           })
 
 -- ---- F11

@@ -1,7 +1,7 @@
 -- What is shown of a line that gives an item another value than the item has there, and of one that stands against the ranks.
 use Rattle.std.specs.Prelude.{◌≡◌, ◌≢◌, ℕ, List, [], Option, Some, None, unwrap_or, Contains}
 use Rattle.sgt_names.specs.Entry.{tx_of}
-use Rattle.sgt_names.specs.Log.{value_at}
+use Rattle.sgt_names.specs.Log.{value_in, value_at}
 use Rattle.sgt_names.specs.declared.entry.Entry.TheVariants.{Read}
 use Rattle.sgt_notation.specs.Spelling.{line_text}
 use Rattle.sgt_notation.specs.declared.SectionLine.{SectionLine}
@@ -9,8 +9,8 @@ use Rattle.sgt_notation.specs.declared.SectionLine.TheVariants.{Logged, Final}
 use Rattle.sgt_cert.specs.Certificate.{IsCommitted}
 use Rattle.sgt_cert.specs.declared.certificate.Decision.{Decision}
 use Rattle.sgt_audit.specs.Faults.{Stage, start, headed, within, complete, items_in, entries_in}
-use Rattle.sgt_explain_lines.specs.Numbered.{open_site, numbered_entries}
-use Rattle.sgt_explain_lines.specs.Values.{last_change}
+use Rattle.sgt_explain_lines.specs.Numbered.{open_site, numbered_items, numbered_entries}
+use Rattle.sgt_explain_lines.specs.Values.{last_change, stated_as, HadUntil}
 use Rattle.sgt_explain_lines.specs.declared.values.Misvalued.{Misvalued}
 use Rattle.sgt_explain_decisions.specs.Against.{StandAgainst}
 use Rattle.sgt_explain_decisions.specs.declared.order.RanksShown.{RanksShown}
@@ -30,12 +30,15 @@ decisions_before (within second c before) = c.decisions
 decisions_before (complete second c before) = c.decisions
 
 -- behind these lines the item has the value shown, and not the one that the line gives it; the entry shown, with its line, is the last
--- that changes the item, and none is where its value is the initial one
+-- that changes the item, and none is where its value is the initial one, which then the line shown says; and the line shown up to which
+-- the item had the value given is the last such, and none is shown where it never had it
 pub record ShowsValue (before : List SectionLine) (shown : Misvalued) : Type 0 where
   pub site : shown.site ≡ unwrap_or (open_site before) 0
   pub value : value_at (items_in before) (entries_in before) shown.item ≡ Some shown.made.value
   pub other : shown.made.value ≢ shown.given
   pub by : shown.made.by ≡ last_change shown.item (numbered_entries before)
+  pub listed : shown.made.by ≡ None → Contains (numbered_items before) (stated_as shown.made.listed shown.item shown.made.value)
+  pub until : HadUntil (value_in (items_in before) shown.item) (numbered_entries before) shown.item shown.given shown.until
 
 -- of a line that reads the value given
 pub record ShowsRead (before : List SectionLine) (line : List ℕ) (tx : ℕ) (shown : Misvalued) : Type 0 where

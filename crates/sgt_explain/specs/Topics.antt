@@ -1,5 +1,5 @@
 -- The names of topics.
-use Rattle.std.specs.Prelude.{ℕ, List, codes}
+use Rattle.std.specs.Prelude.{◌≡◌, ℕ, ◌+◌, List, ◌++◌, length, take, codes}
 use Rattle.sgt_cert.specs.declared.fault.CertFault.{CertFault}
 use Rattle.sgt_cert.specs.declared.fault.CertFault.TheVariants as line
 use Rattle.sgt_audit.specs.declared.faults.Fault.{Fault}
@@ -53,15 +53,23 @@ reply_name reply.NotALine = codes "L1"
 reply_name reply.TooLong = codes "L2"
 reply_name reply.NoDecision = codes "V1"
 reply_name reply.DecidedTwice = codes "V2"
+reply_name reply.RunMemory = codes "V3"
 reply_name reply.CallRefused = codes "V4"
+reply_name reply.SumTooLarge = codes "V5"
 reply_name reply.NoTicket = codes "V6"
 reply_name reply.PledgeLost = codes "V7"
 reply_name reply.TicketsFall = codes "V8"
 reply_name reply.LogChanged = codes "V9"
 reply_name reply.VersionsChanged = codes "V10"
+reply_name reply.PoolMemory = codes "P1"
 reply_name reply.ScriptLeft = codes "P2"
+reply_name reply.ScriptRepeated = codes "P3"
 
 abbrev pub topic_name : Topic → List ℕ
 topic_name (Bundle f) = fault_name f
 topic_name (Line f) = line_name f
 topic_name (Told r) = reply_name r
+
+-- the text is the rule of this name: it begins with the name and a space
+abbrev pub IsRuleOf : List ℕ → List ℕ → Type 0
+IsRuleOf name text = take (length name + 1) text ≡ name ++ codes " "

@@ -5,6 +5,7 @@ ghost use Rattle.std.specs.Io.KnownBytes.{Appends};
 ghost use Rattle.sgt_names.specs.Device.{CountsFailures, WritesFront};
 ghost use Rattle.sgt_notation.specs.Limits.{most_reads};
 ghost use Rattle.sgt_explain.specs.Explained.{IsExplained, WroteExplained, WroteExplainedFront};
+ghost use Rattle.sgt_explain.specs.Topics.{topic_name, IsRuleOf};
 
 use crate::answers::{Answer, answer_to};
 use crate::judging::verdict_on;
@@ -123,6 +124,8 @@ pub fn explain_transaction<R: Source, W: Sink>(
 pub fn explain_topic<W: Sink>(topic: Topic, writer: &mut W) -> Result<Outcome, EngineFail>
     ensures ok { IfOk result (λ outcome. outcome ≡ Outcome.Yes) }
     ensures text { OnOk result ((text : List ℕ) × Appends (W.holds writer.old) (W.holds writer.new) text) }
+    ensures rule { OnOk result ((text : List ℕ) × IsRuleOf (topic_name topic) text
+        × Appends (W.holds writer.old) (W.holds writer.new) text) }
     ensures front { OnErr result ((text : List ℕ) × WritesFront (W.holds writer.old) (W.holds writer.new) text) }
     ensures only { OnErr result (result ≡ Err EngineFail.WriteFault) }
     ensures write_fault { OnErr result (W.failures writer.old < W.failures writer.new) }

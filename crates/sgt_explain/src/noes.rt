@@ -15,8 +15,8 @@ use sgt_explain_decisions::{
     push_ranks, push_walk_shape,
 };
 use sgt_explain_lines::{
-    Section, line_at, push_block, push_format, push_item, push_notation, push_section,
-    push_trailing, push_truncated, push_twice, section_before,
+    Section, push_block, push_format, push_item, push_notation, push_section, push_trailing,
+    push_truncated, push_twice, section_before, text_at,
 };
 use std::alloc::{AllocError, Global};
 
@@ -31,7 +31,7 @@ fn push_by_section(
     match fault {
         Fault::Section => push_section(out, bytes, line, section),
         Fault::Truncated => push_truncated(out, bytes, line, section),
-        Fault::Block => push_block(out, section, line, line_at(bytes, line).unwrap_or(b"")),
+        Fault::Block => push_block(out, section, line, text_at(bytes, line)),
         Fault::Item => match logged_at(bytes, line) {
             Some(logged) => push_item(out, section, &logged),
             None => Ok(()),
@@ -97,7 +97,7 @@ pub fn push_no(
         Fault::Format => push_format(out, bytes),
         Fault::Notation => push_notation(out, bytes, line),
         Fault::Trailing => push_trailing(out, bytes, line),
-        Fault::Certificate => push_certificate(alloc, out, line_at(bytes, 2).unwrap_or(b"")),
+        Fault::Certificate => push_certificate(alloc, out, text_at(bytes, 2)),
         Fault::Section | Fault::Truncated | Fault::Block | Fault::Item | Fault::Twice => {
             let section = section_before(alloc, bytes, line)?;
             push_by_section(out, bytes, line, fault, &section)

@@ -25,7 +25,7 @@ use sgt_notation::SectionLine;
 use std::alloc::{AllocError, Global};
 
 /// The lines before the line of this number.
-pub fn text_before(bytes: &[u8], number: u64) -> &[u8] {
+pub(crate) fn text_before(bytes: &[u8], number: u64) -> &[u8] {
     let rest = after_line(bytes, number.saturating_sub(1));
     let length = bytes.len().saturating_sub(rest.len());
     bytes.get(..length).unwrap_or(bytes)

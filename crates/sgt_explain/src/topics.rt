@@ -1,6 +1,9 @@
 //! What can be asked about by name.
 
-ghost use Rattle.std.specs.Prelude.{◌≡◌, IfSome};
+ghost use Rattle.std.specs.Prelude.{◌≡◌, ◌≢◌, IfSome, IfNone};
+ghost use Rattle.sgt_audit.specs.declared.faults.Fault.{Fault};
+ghost use Rattle.sgt_cert.specs.declared.fault.CertFault.{CertFault};
+ghost use Rattle.sgt_explain.specs.declared.topics.Reply.{Reply};
 ghost use Rattle.sgt_explain.specs.Topics.{fault_name, line_name, reply_name, topic_name};
 
 use sgt_audit::Fault;
@@ -25,16 +28,20 @@ pub enum Reply {
     /// L1 and L2: why a line can't be read.
     NotALine,
     TooLong,
-    /// V1, V2, V4, V6 to V10 and P2: why a run isn't told.
+    /// V1 to V10 and P1 to P3: why a run isn't told. V3, V5, P1 and P3 are never written.
     NoDecision,
     DecidedTwice,
+    RunMemory,
     CallRefused,
+    SumTooLarge,
     NoTicket,
     PledgeLost,
     TicketsFall,
     LogChanged,
     VersionsChanged,
+    PoolMemory,
     ScriptLeft,
+    ScriptRepeated,
 }
 
 /// A rule that can be asked about: of a fault of a bundle, F1 to F19, or of why a line is no certificate, K1 to K4; or what a
@@ -49,9 +56,10 @@ pub enum Topic {
     Told(Reply),
 }
 
-/// The fault of a bundle with this name, from F1 to F10.
-fn early_fault(word: &[u8]) -> Option<Fault>
-    ensures { IfSome result (λ f. word.now ≡ fault_name f) }
+/// The fault of a bundle with this name.
+fn fault_of(word: &[u8]) -> Option<Fault>
+    ensures some { IfSome result (λ f. word.now ≡ fault_name f) }
+    ensures none { IfNone result ((f : Fault) → word.now ≢ fault_name f) }
 {
     match word {
         b"F1" => Some(Fault::Format),
@@ -64,15 +72,6 @@ fn early_fault(word: &[u8]) -> Option<Fault>
         b"F8" => Some(Fault::Item),
         b"F9" => Some(Fault::Twice),
         b"F10" => Some(Fault::ReadValue),
-        _ => None,
-    }
-}
-
-/// The fault of a bundle with this name, from F11 to F19.
-fn late_fault(word: &[u8]) -> Option<Fault>
-    ensures { IfSome result (λ f. word.now ≡ fault_name f) }
-{
-    match word {
         b"F11" => Some(Fault::RankOrder),
         b"F12" => Some(Fault::Block),
         b"F13" => Some(Fault::End),
@@ -87,8 +86,9 @@ fn late_fault(word: &[u8]) -> Option<Fault>
 }
 
 /// The fault of line 2 with this name.
-fn line_fault(word: &[u8]) -> Option<CertFault>
-    ensures { IfSome result (λ f. word.now ≡ line_name f) }
+fn line_fault_of(word: &[u8]) -> Option<CertFault>
+    ensures some { IfSome result (λ f. word.now ≡ line_name f) }
+    ensures none { IfNone result ((f : CertFault) → word.now ≢ line_name f) }
 {
     match word {
         b"K1" => Some(CertFault::NotJson),
@@ -99,9 +99,10 @@ fn line_fault(word: &[u8]) -> Option<CertFault>
     }
 }
 
-/// The reason with this name for which an event is refused.
-fn refusal(word: &[u8]) -> Option<Reply>
-    ensures { IfSome result (λ r. word.now ≡ reply_name r) }
+/// The reply of a replay or of a run with this name.
+fn reply_of(word: &[u8]) -> Option<Reply>
+    ensures some { IfSome result (λ r. word.now ≡ reply_name r) }
+    ensures none { IfNone result ((r : Reply) → word.now ≢ reply_name r) }
 {
     match word {
         b"E1" => Some(Reply::Unknown),
@@ -116,63 +117,55 @@ fn refusal(word: &[u8]) -> Option<Reply>
         b"E10" => Some(Reply::GenerationsSpent),
         b"E11" => Some(Reply::NumbersSpent),
         b"E12" => Some(Reply::NotTouched),
-        _ => None,
-    }
-}
-
-/// The reason with this name for which an input or a run isn't told.
-fn ending(word: &[u8]) -> Option<Reply>
-    ensures { IfSome result (λ r. word.now ≡ reply_name r) }
-{
-    match word {
         b"L1" => Some(Reply::NotALine),
         b"L2" => Some(Reply::TooLong),
         b"V1" => Some(Reply::NoDecision),
         b"V2" => Some(Reply::DecidedTwice),
+        b"V3" => Some(Reply::RunMemory),
         b"V4" => Some(Reply::CallRefused),
+        b"V5" => Some(Reply::SumTooLarge),
         b"V6" => Some(Reply::NoTicket),
         b"V7" => Some(Reply::PledgeLost),
         b"V8" => Some(Reply::TicketsFall),
         b"V9" => Some(Reply::LogChanged),
         b"V10" => Some(Reply::VersionsChanged),
+        b"P1" => Some(Reply::PoolMemory),
         b"P2" => Some(Reply::ScriptLeft),
+        b"P3" => Some(Reply::ScriptRepeated),
         _ => None,
     }
 }
 
 /// The rule of a bundle or of its second line with this name.
 fn rule(word: &[u8]) -> Option<Topic>
-    ensures { IfSome result (λ topic. word.now ≡ topic_name topic) }
+    ensures some { IfSome result (λ topic. word.now ≡ topic_name topic) }
+    ensures none { IfNone result (((f : Fault) → word.now ≢ fault_name f) × ((f : CertFault) → word.now ≢ line_name f)) }
 {
-    if let Some(fault) = early_fault(word) {
+    if let Some(fault) = fault_of(word) {
         return Some(Topic::Bundle(fault));
     }
-    if let Some(fault) = late_fault(word) {
-        return Some(Topic::Bundle(fault));
-    }
-    match line_fault(word) {
+    match line_fault_of(word) {
         Some(fault) => Some(Topic::Line(fault)),
         None => None,
     }
 }
 
 impl Topic {
-    ghost use Rattle.std.specs.Prelude.{◌≡◌, IfSome};
+    ghost use Rattle.std.specs.Prelude.{◌≡◌, ◌≢◌, IfSome, IfNone};
+    ghost use Rattle.sgt_explain.specs.declared.topics.Topic.{Topic as Named};
     ghost use Rattle.sgt_explain.specs.Topics.{topic_name};
 
-    /// The topic of this name: `F1` to `F19`, `K1` to `K4`; `E1` to `E12`, `L1`, `L2`, `V1`, `V2`, `V4`, `V6` to `V10`, `P2`. Names
-    /// are compared byte by byte.
+    /// The topic of this name: `F1` to `F19`, `K1` to `K4`; `E1` to `E12`, `L1`, `L2`, `V1` to `V10`, `P1` to `P3`. Names are
+    /// compared byte by byte. None where no topic has the name.
     pub fn find(word: &str) -> Option<Topic>
-        ensures { IfSome result (λ topic. word.now ≡ topic_name topic) }
+        ensures some { IfSome result (λ topic. word.now ≡ topic_name topic) }
+        ensures none { IfNone result ((topic : Named) → word.now ≢ topic_name topic) }
     {
         let name = word.as_bytes();
         if let Some(topic) = rule(name) {
             return Some(topic);
         }
-        if let Some(reply) = refusal(name) {
-            return Some(Topic::Told(reply));
-        }
-        match ending(name) {
+        match reply_of(name) {
             Some(reply) => Some(Topic::Told(reply)),
             None => None,
         }

@@ -7,7 +7,7 @@ use sgt_names::Tx;
 use std::alloc::{AllocError, Global};
 
 /// Each refused transaction of a valid bundle with its cycle.
-pub fn push_yes(alloc: Global, out: &mut String, bytes: &[u8]) -> Result<(), AllocError> {
+pub(crate) fn push_yes(alloc: Global, out: &mut String, bytes: &[u8]) -> Result<(), AllocError> {
     let Some(certificate) = certificate_of(alloc, bytes)? else {
         return Ok(());
     };
@@ -25,7 +25,7 @@ fn end_of(verdict: Verdict) -> u64 {
 }
 
 /// What is said of one transaction.
-pub fn push_transaction(
+pub(crate) fn push_transaction(
     alloc: Global,
     out: &mut String,
     bytes: &[u8],

@@ -1,2 +1,3 @@
 pub mod Against
+pub mod Placed
 pub mod Told

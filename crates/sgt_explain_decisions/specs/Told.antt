@@ -1,9 +1,17 @@
--- How two entries that stand against the ranks are told.
+-- How decisions are told, and two entries that stand against the ranks.
 use Rattle.std.specs.Prelude.{List, ◌++◌, ℕ, codes, decimal}
 use Rattle.sgt_names.specs.Entry.{tx_of}
+use Rattle.sgt_cert.specs.declared.certificate.Decision.{Decision}
+use Rattle.sgt_cert.specs.declared.certificate.Decision.TheVariants.{Commit, Refuse, Withdraw}
 use Rattle.sgt_explain_lines.specs.Told.{noted_line, verb_text, kind_text}
 use Rattle.sgt_explain_decisions.specs.declared.order.Ranked.{Ranked}
 use Rattle.sgt_explain_decisions.specs.declared.order.RanksShown.{RanksShown}
+
+-- what a decision does
+abbrev pub decision_text : ℕ → Decision → List ℕ
+decision_text n (Commit tx rank) = codes "decision " ++ (decimal n ++ (codes " commits " ++ (decimal tx ++ (codes " with rank " ++ decimal rank))))
+decision_text n (Refuse tx walk) = codes "decision " ++ (decimal n ++ (codes " refuses " ++ decimal tx))
+decision_text n (Withdraw tx) = codes "decision " ++ (decimal n ++ (codes " withdraws " ++ decimal tx))
 
 abbrev pub ranked_text : Ranked → List ℕ
 ranked_text r = noted_line r.logged ++ (codes "transaction " ++ (decimal (tx_of r.logged.entry) ++ (codes " has rank "

@@ -262,7 +262,7 @@ impl Followed<'_> {
 
 /// The first place where the line leaves the compact text of a certificate. Where spaces are passed over, those between the
 /// words of the text don't count.
-pub fn turn_in(line: &[u8], skips: bool) -> Option<Turn> {
+pub(crate) fn turn_in(line: &[u8], skips: bool) -> Option<Turn> {
     match (Followed { line, skips }).certificate() {
         Ok(_) => None,
         Err(turn) => Some(turn),

@@ -1,5 +1,9 @@
 //! The cycles of refused transactions, in words; and which step is no conflict of the logs.
 
+ghost use Rattle.std.specs.Prelude.{◌<◌, IfSome, OnOk, length, string_bytes};
+ghost use Rattle.sgt_explain_lines.specs.Told.{Adds};
+ghost use Rattle.sgt_explain_decisions.specs.Placed.{IsPlace};
+
 use crate::sought::{Sought, first_of, found_of, second_of};
 use sgt_cert::{Decision, Step};
 use sgt_explain_lines::{Logged, push_conflict};
@@ -43,7 +47,7 @@ fn push_step(out: &mut String, sought: &[Sought], from: Tx, step: &Step) -> Resu
 }
 
 /// A cycle in words: the step of each line, from the refused transaction back to it.
-pub fn push_cycle(
+pub(crate) fn push_cycle(
     out: &mut String,
     sought: &[Sought],
     tx: Tx,
@@ -77,7 +81,9 @@ pub fn push_cycles(
 }
 
 /// The place, from 0, of the first step of the walk that is no conflict of the logs.
-fn first_unmet(sought: &[Sought], tx: Tx, walk: &[Step]) -> Option<usize> {
+fn first_unmet(sought: &[Sought], tx: Tx, walk: &[Step]) -> Option<usize>
+    ensures { IfSome result (λ place. place < length walk.now) }
+{
     let mut from = tx;
     for (place, step) in walk.iter().enumerate() {
         if shown_by(sought, from, step).is_none() {
@@ -89,7 +95,9 @@ fn first_unmet(sought: &[Sought], tx: Tx, walk: &[Step]) -> Option<usize> {
 }
 
 /// The first step of all walks that is no conflict of the logs: the number of the decision, and the place of the step from 0.
-pub fn unmet_in(decisions: &[Decision], sought: &[Sought]) -> Option<(usize, usize)> {
+pub fn unmet_in(decisions: &[Decision], sought: &[Sought]) -> Option<(usize, usize)>
+    ensures { IfSome result (λ at. IsPlace decisions.now at.0 at.1) }
+{
     for (number, decision) in decisions.iter().enumerate() {
         if let Some(walk) = decision.walk() {
             if let Some(place) = first_unmet(sought, decision.tx(), walk) {

@@ -1,8 +1,9 @@
 //! Which decision is on a transaction.
 
-ghost use Rattle.std.specs.Prelude.{◌≡◌, IfSome};
+ghost use Rattle.std.specs.Prelude.{◌≡◌, IfOk, IfSome, Contains, IsPermutation};
 ghost use Rattle.sgt_cert.specs.Certificate.{IsCommitted};
 ghost use Rattle.sgt_cert.specs.declared.certificate.Decision.TheVariants.{Commit};
+ghost use Rattle.sgt_explain_decisions.specs.Placed.{all_placed};
 
 use sgt_cert::Decision;
 use sgt_names::Tx;
@@ -16,7 +17,9 @@ pub struct Placed {
 }
 
 /// The decisions by their transactions; those of one transaction by their numbers.
-pub fn placed_in(alloc: Global, decisions: &[Decision]) -> Result<Vec<Placed>, AllocError> {
+pub fn placed_in(alloc: Global, decisions: &[Decision]) -> Result<Vec<Placed>, AllocError>
+    ensures { IfOk result (λ placed. IsPermutation (all_placed decisions.now) placed.items) }
+{
     let mut placed = Vec::new(alloc);
     for (number, decision) in decisions.iter().enumerate() {
         placed.push(Placed {
@@ -29,7 +32,9 @@ pub fn placed_in(alloc: Global, decisions: &[Decision]) -> Result<Vec<Placed>, A
 }
 
 /// The number of the first decision on the transaction, where these are sorted by transaction. A binary search.
-pub fn number_on(placed: &[Placed], tx: Tx) -> Option<usize> {
+pub fn number_on(placed: &[Placed], tx: Tx) -> Option<usize>
+    ensures { IfSome result (λ n. Contains placed.now (record { tx = tx; number = n })) }
+{
     let at = placed.partition_point(|one| one.tx.number() < tx.number());
     match placed.get(at) {
         Some(found) if found.tx == tx => Some(found.number),

@@ -109,7 +109,7 @@ pub fn sought_in(
 }
 
 /// What was found of the transaction on the item of a step.
-pub fn found_of(sought: &[Sought], step: &Step, tx: Tx) -> Sought {
+pub(crate) fn found_of(sought: &[Sought], step: &Step, tx: Tx) -> Sought {
     let key = unfound(step.label.site.number(), step.label.item, tx);
     let at = sought.partition_point(|one| order(one, &key) == Ordering::Less);
     match sought.get(at) {
@@ -119,7 +119,7 @@ pub fn found_of(sought: &[Sought], step: &Step, tx: Tx) -> Sought {
 }
 
 /// The entry of the transaction that a step of this kind begins with.
-pub fn first_of(found: &Sought, kind: Kind) -> Option<Logged> {
+pub(crate) fn first_of(found: &Sought, kind: Kind) -> Option<Logged> {
     match kind {
         Kind::Rw => found.read,
         Kind::Wr | Kind::Ww => found.change,
@@ -127,7 +127,7 @@ pub fn first_of(found: &Sought, kind: Kind) -> Option<Logged> {
 }
 
 /// The entry of the transaction that a step of this kind ends with.
-pub fn second_of(found: &Sought, kind: Kind) -> Option<Logged> {
+pub(crate) fn second_of(found: &Sought, kind: Kind) -> Option<Logged> {
     match kind {
         Kind::Wr => found.read,
         Kind::Rw | Kind::Ww => found.change,

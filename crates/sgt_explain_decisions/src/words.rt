@@ -1,15 +1,16 @@
 //! A decision in words.
 
+ghost use Rattle.std.specs.Prelude.{◌≡◌, ◌++◌, OnOk, string_bytes};
+ghost use Rattle.sgt_explain_decisions.specs.Told.{decision_text};
+
 use sgt_cert::Decision;
 use std::alloc::AllocError;
 use std::fmt::Write;
 
 /// What the decision of this number does: `decision 1 refuses 2`.
-pub fn push_decision(
-    out: &mut String,
-    number: usize,
-    decision: &Decision,
-) -> Result<(), AllocError> {
+pub fn push_decision(out: &mut String, number: usize, decision: &Decision) -> Result<(), AllocError>
+    ensures { OnOk result (string_bytes out.new ≡ string_bytes out.old ++ decision_text number decision.now) }
+{
     let tx = decision.tx();
     match decision {
         Decision::Commit { rank, .. } => {

@@ -1,2 +1,4 @@
+pub mod Adding
 pub mod Making
 pub mod Numbering
+pub mod Showing

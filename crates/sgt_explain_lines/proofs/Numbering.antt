@@ -1,5 +1,5 @@
 -- Lines cut off a text, and the section that is open behind one more of them.
-use Rattle.std.proofs.Common.{◌≡◌, ◌≢◌, ℕ, suc, zero, ◌+◌, List, [], ◌∷◌, ◌++◌, length, map, drop, Option, Some, None, refl, sym, ap, ap₂, ◌∙◌, ◌-◌, ◌<◌, ◌≤◌, arith, append_assoc, length-append, All}
+use Rattle.std.proofs.Common.{◌≡◌, ◌≢◌, ℕ, suc, zero, ◌+◌, List, [], ◌∷◌, ◌++◌, length, map, drop, Option, Some, None, inl, inr, refl, sym, subst, ap, ap₂, ◌∙◌, ◌-◌, ◌<◌, ◌≤◌, arith, append_assoc, length-append, All}
 use Rattle.std.specs.Prelude.{fold, Result, Ok, Err, OnOk, slice_get}
 use Rattle.std.specs.List.{filter_map, cons_option, enumerate_from, AllByRecursion}
 use Rattle.std.proofs.lemmas.Grind.{flat_map-append}
@@ -15,7 +15,7 @@ use Rattle.sgt_notation.specs.declared.SectionLine.{SectionLine}
 use Rattle.sgt_notation.specs.declared.SectionLine.TheVariants.{Site, Initial, Logged, Final, End}
 use Rattle.sgt_notation.proofs.OneSpelling.{HasNot, cut_at_byte, line-one, line-one_line}
 use Rattle.sgt_explain_lines.specs.declared.section.Section.{Section}
-use Rattle.sgt_explain_lines.specs.Numbered.{HasLine, with_line, open_lines, with_site, open_site, stated_in, logged_in, numbered_items, numbered_entries, items_with, entries_with, IsSectionOf, HasOneMore}
+use Rattle.sgt_explain_lines.specs.Numbered.{IsLineAt, HasLine, with_line, open_lines, with_site, open_site, stated_in, logged_in, numbered_items, numbered_entries, items_with, entries_with, IsSectionOf, HasOneMore}
 
 -- ---- texts
 
@@ -101,6 +101,25 @@ line-at bytes after text behind number k before line h is passes cuts =
     ∙ ap (λ t. t ++ rest) (sym (flat_map-append (λ l. l ++ 10 ∷ []) h.head (map line_text before))) in
     let after-is = passes lines rest plain (omega (arith, is, long, same, two, counted)) whole in
     (cuts (line_text line) h.rest (line-plain line h.one) after-is).0
+
+-- a line by its number, also the last one without LF
+pub there-line : (bytes after text behind line : List ℕ) (number k : ℕ) → IsLineAt bytes number line → k ≡ number - 1
+    → ((lines : List (List ℕ)) (rest : List ℕ) → All HasNoLf lines → k ≡ length lines → bytes ≡ text_of_lines lines ++ rest → after ≡ rest)
+    → ((l more : List ℕ) → HasNoLf l → after ≡ l ++ 10 ∷ more → (text ≡ l) × (behind ≡ more))
+    → (HasNoLf after → (text ≡ after) × (behind ≡ [])) → (after ≢ []) × (text ≡ line)
+there-line bytes after text behind line number k h is passes cuts last =
+    let counted = h.counted in
+    let long : k ≡ length h.before = omega (arith, is, counted) in
+    elim h.text [
+      | inl e ↦ (let at = passes h.before (line ++ 10 ∷ h.rest) h.whole long e in
+          ((λ none. no-lf line h.rest (sym at ∙ none)), (cuts line h.rest h.one at).0))
+      | inr e ↦ (let at = passes h.before line h.whole long e.0 in
+          ((λ none. e.1 (sym at ∙ none)), (last (subst HasNoLf (sym at) h.one)).0 ∙ at))
+    ]
+  where
+    no-lf : (l more : List ℕ) → l ++ 10 ∷ more ≡ [] → ⊥
+    no-lf [] more e = cc
+    no-lf (x ∷ l) more e = cc
 
 -- what holds by a read line holds by the line that is spelled
 pub on-ok : {T E : Type 0} (r : Result T E) (P Q : Type 0) → (P → Q) → OnOk r P → OnOk r Q

@@ -1,6 +1,7 @@
 -- The lines of a text by their numbers, and the section that is open before one of them.
-use Rattle.std.specs.Prelude.{◌≡◌, ℕ, ◌+◌, List, [], ◌∷◌, ◌++◌, length, map, fold, All, Option, Some, None}
+use Rattle.std.specs.Prelude.{◌≡◌, ◌≢◌, ◌⊎◌, ℕ, ◌+◌, List, [], ◌∷◌, ◌++◌, length, map, fold, All, Option, Some, None}
 use Rattle.std.specs.List.{filter_map, enumerate_from}
+use Rattle.sgt_names.specs.declared.entry.Entry.{Entry}
 use Rattle.sgt_names.specs.declared.entry.Holding.{Holding}
 use Rattle.sgt_notation.specs.Spelling.{line_text, text_of_lines, HasNoLf, IsLine}
 use Rattle.sgt_notation.specs.declared.SectionLine.{SectionLine}
@@ -8,6 +9,15 @@ use Rattle.sgt_notation.specs.declared.SectionLine.TheVariants as Line
 use Rattle.sgt_explain_lines.specs.declared.section.Logged.{Logged}
 use Rattle.sgt_explain_lines.specs.declared.section.Stated.{Stated}
 use Rattle.sgt_explain_lines.specs.declared.section.Section.{Section}
+
+-- the text has this line, of this number; the last line may have no LF
+pub record IsLineAt (bytes : List ℕ) (number : ℕ) (line : List ℕ) : Type 0 where
+  pub before : List (List ℕ)
+  pub rest : List ℕ
+  pub whole : All HasNoLf before
+  pub one : HasNoLf line
+  pub text : (bytes ≡ text_of_lines before ++ (line ++ 10 ∷ rest)) ⊎ ((bytes ≡ text_of_lines before ++ line) × (line ≢ []))
+  pub counted : number ≡ length before + 1
 
 -- the text has, behind two lines and these lines of sections, this one, which is the line of this number
 pub record HasLine (bytes : List ℕ) (number : ℕ) (before : List SectionLine) (line : SectionLine) : Type 0 where
@@ -51,6 +61,15 @@ numbered_items before = filter_map stated_in (open_lines before)
 
 abbrev pub numbered_entries : List SectionLine → List Logged
 numbered_entries before = filter_map logged_in (open_lines before)
+
+-- the entry that a line has, and the site that is open behind it
+abbrev pub entry_in : SectionLine → Option Entry
+entry_in (Line.Logged e) = Some e
+entry_in _ = None
+
+abbrev pub site_behind : ℕ → SectionLine → ℕ
+site_behind site (Line.Site k) = k
+site_behind site _ = site
 
 -- what is kept of the section that is open behind these lines is right
 pub record IsSectionOf (before : List SectionLine) (section : Section) : Type 0 where

@@ -1,5 +1,6 @@
 -- How entries and values are written where they are shown.
-use Rattle.std.specs.Prelude.{ℕ, ◌%◌, Bool, List, [], ◌∷◌, ◌++◌, length, codes, decimal, Option, Some, None, if◌then◌else◌, nat_lt, ◌==◌}
+use Rattle.std.specs.Prelude.{◌≡◌, ℕ, ◌/◌, ◌%◌, ◌<◌, ◌≤◌, Bool, false, ◌&&◌, List, [], ◌∷◌, ◌++◌, length, take, codes, decimal, flat_map, Option, Some, None, if◌then◌else◌, nat_lt, ◌==◌}
+use Rattle.std.specs.Fmt.{digit_glyph}
 use Rattle.sgt_names.specs.Name.{Name}
 use Rattle.sgt_names.specs.Entry.{tx_of, is_increment}
 use Rattle.sgt_names.specs.declared.entry.Entry.{Entry}
@@ -17,6 +18,33 @@ margin n = if nat_lt n 10 then codes "   " else (if nat_lt n 100 then codes "  "
 
 abbrev pub bar : ℕ → List ℕ
 bar n = margin n ++ (decimal n ++ codes " | ")
+
+-- a byte by its hexadecimal digits
+abbrev pub hex_text : ℕ → List ℕ
+hex_text b = codes "\\x" ++ (digit_glyph false (b / 16) ∷ digit_glyph false (b % 16) ∷ [])
+
+-- a byte where bytes are shown: as it is where it can be printed, else as an escape
+abbrev pub shown_byte : ℕ → List ℕ
+shown_byte b =
+    if b == 9 then codes "\\t"
+    else if b == 13 then codes "\\r"
+    else if b == 10 then codes "\\n"
+    else if b == 92 then codes "\\\\"
+    else if nat_lt 31 b && nat_lt b 127 then b ∷ []
+    else hex_text b
+
+abbrev pub shown_bytes : List ℕ → List ℕ
+shown_bytes text = flat_map shown_byte text
+
+-- a text as it is shown: whole where it takes at most 71 columns, else a front of it that does, and two dots
+pub record IsShown (text shown : List ℕ) : Type 0 where
+  pub whole : length (shown_bytes text) ≤ 71 → shown ≡ shown_bytes text
+  pub cut : 71 < length (shown_bytes text)
+      → (n : ℕ) × (length (shown_bytes (take n text)) ≤ 71) × (shown ≡ shown_bytes (take n text) ++ codes "..")
+
+-- a text was shown behind the old one, as a line with its number
+abbrev pub ShowsNumbered : ℕ → List ℕ → (old new : List ℕ) → Type 0
+ShowsNumbered n text old new = (shown : List ℕ) × IsShown text shown × (new ≡ old ++ (bar n ++ (shown ++ codes "\n")))
 
 -- the line of an entry with its number, and with the spaces before a note, which bring its column to one behind a multiple of four
 abbrev pub shown_line : Logged → List ℕ
@@ -43,6 +71,15 @@ abbrev pub kind_text : Kind → List ℕ
 kind_text Wr = codes "wr"
 kind_text Rw = codes "rw"
 kind_text Ww = codes "ww"
+
+-- two entries in conflict on an item of a site, with their lines
+abbrev pub order_text : Name → Entry → Entry → List ℕ
+order_text x one other = decimal (tx_of one) ++ (codes " " ++ (verb_text one ++ (codes " " ++ (x ++ (codes " before "
+    ++ (decimal (tx_of other) ++ (codes " " ++ (verb_text other ++ codes " it"))))))))
+
+abbrev pub conflict_text : ℕ → Name → Logged → Logged → List ℕ
+conflict_text k x one other = order_text x one.entry other.entry ++ (codes ": site " ++ (decimal k ++ (codes ", lines "
+    ++ (decimal one.line ++ (codes " and " ++ decimal other.line)))))
 
 -- ---- a value that an item has where a line gives it another
 
@@ -93,3 +130,26 @@ final_front s = codes "Final: final " ++ (s.item ++ (codes "=" ++ (decimal s.giv
 
 abbrev pub final_text : Misvalued → List ℕ
 final_text s = final_front s ++ (found_text s ++ (codes " at the end\n" ++ (history_text s ++ codes "\n")))
+
+-- ---- what is said of other faults
+
+-- something was written behind the old text
+abbrev pub Adds : (old new : List ℕ) → Type 0
+Adds old new = (more : List ℕ) × (new ≡ old ++ more)
+
+-- behind the old text stands one that begins with these words, and among what follows is the line with its number
+pub record ShowsLine (words : List ℕ) (number : ℕ) (line old new : List ℕ) : Type 0 where
+  pub upto : List ℕ
+  pub until : List ℕ
+  pub begins : Adds (old ++ words) upto
+  pub there : ShowsNumbered number line upto until
+  pub goes_on : Adds until new
+
+-- the same of the line of an entry
+pub record ShowsEntry (words : List ℕ) (logged : Logged) (old new : List ℕ) : Type 0 where
+  pub upto : List ℕ
+  pub begins : Adds (old ++ words) upto
+  pub goes_on : Adds (upto ++ shown_line logged) new
+
+abbrev pub item_words : Name → ℕ → List ℕ
+item_words x site = codes "Item: site " ++ (decimal site ++ (codes " has no item " ++ (x ++ codes "\n")))

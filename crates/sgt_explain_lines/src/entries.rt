@@ -1,8 +1,8 @@
 //! Two entries of a log in conflict, in words.
 
-ghost use Rattle.std.specs.Prelude.{◌≡◌, ◌≢◌, IfSome};
+ghost use Rattle.std.specs.Prelude.{◌≡◌, ◌≢◌, ◌++◌, IfSome, OnOk, string_bytes};
 ghost use Rattle.sgt_names.specs.Entry.{Clash, tx_of};
-ghost use Rattle.sgt_explain_lines.specs.Told.{verb_text, kind_text};
+ghost use Rattle.sgt_explain_lines.specs.Told.{verb_text, kind_text, order_text, conflict_text};
 
 use crate::section::Logged;
 use sgt_names::{Entry, Item, Kind};
@@ -80,7 +80,9 @@ fn push_order(
     item: &Item,
     first: &Entry,
     second: &Entry,
-) -> Result<(), AllocError> {
+) -> Result<(), AllocError>
+    ensures { OnOk result (string_bytes out.new ≡ string_bytes out.old ++ order_text item.now first.now second.now) }
+{
     let from = first.tx();
     let to = second.tx();
     let before = verb(first);
@@ -95,7 +97,9 @@ pub fn push_conflict(
     item: &Item,
     first: &Logged,
     second: &Logged,
-) -> Result<(), AllocError> {
+) -> Result<(), AllocError>
+    ensures { OnOk result (string_bytes out.new ≡ string_bytes out.old ++ conflict_text site item.now first.now second.now) }
+{
     push_order(out, item, &first.entry, &second.entry)?;
     let one = first.line;
     let other = second.line;

@@ -1,6 +1,10 @@
 //! What is said of a line by itself, or by its place: of line 1, of a line that spells nothing, of the end of the input.
 
-use crate::input::line_at;
+ghost use Rattle.std.specs.Prelude.{ℕ, List, ◌++◌, OnOk, codes, string_bytes};
+ghost use Rattle.sgt_explain_lines.specs.Numbered.{IsLineAt};
+ghost use Rattle.sgt_explain_lines.specs.Told.{Adds, ShowsLine};
+
+use crate::input::{line_at, text_at};
 use crate::section::Section;
 use crate::shown::push_numbered;
 use crate::slips::push_slip;
@@ -9,11 +13,18 @@ use sgt_notation::{MAX_LINE, SectionLine, read_section};
 use std::alloc::AllocError;
 use std::fmt::Write;
 
-/// F1: line 1 is no format.
-pub fn push_format(out: &mut String, bytes: &[u8]) -> Result<(), AllocError> {
-    out.push_str("Format: line 1 has to be `sgt 1`, or `sgt 2` where there are increments\n")?;
-    let line = line_at(bytes, 1).unwrap_or(b"");
-    push_numbered(out, 1, line)?;
+/// The name of a fault, and what it says.
+fn push_words(out: &mut String, name: &str, words: &str) -> Result<(), AllocError>
+    ensures { OnOk result (Adds (string_bytes out.old ++ name.now) (string_bytes out.new)) }
+{
+    out.push_str(name)?;
+    out.push_str(words)
+}
+
+/// Why the line is no format, where that can be said.
+fn push_format_slip(out: &mut String, line: &[u8]) -> Result<(), AllocError>
+    ensures { OnOk result (Adds (string_bytes out.old) (string_bytes out.new)) }
+{
     match line.last() {
         _ if line.len() > MAX_LINE => out.push_str("it is longer than 1048576 bytes\n"),
         None => out.push_str("it is empty\n"),
@@ -22,14 +33,32 @@ pub fn push_format(out: &mut String, bytes: &[u8]) -> Result<(), AllocError> {
         }
         Some(b'\r') => out.push_str("a CR stands at its end: a line ends with LF alone\n"),
         Some(b'}') => out.push_str("the certificate is line 2: the line before it was left out\n"),
-        Some(_) => Ok(()),
+        Some(_) => out.push_str(""),
     }
 }
 
+/// F1: line 1 is no format.
+pub fn push_format(out: &mut String, bytes: &[u8]) -> Result<(), AllocError>
+    ensures { (line : List ℕ) → IsLineAt bytes.now 1 line
+        → OnOk result (ShowsLine (codes "Format: ") 1 line (string_bytes out.old) (string_bytes out.new)) }
+{
+    push_words(
+        out,
+        "Format: ",
+        "line 1 has to be `sgt 1`, or `sgt 2` where there are increments\n",
+    )?;
+    let line = text_at(bytes, 1);
+    push_numbered(out, 1, line)?;
+    push_format_slip(out, line)
+}
+
 /// F2: a line spells nothing.
-pub fn push_notation(out: &mut String, bytes: &[u8], number: u64) -> Result<(), AllocError> {
-    out.push_str("Notation: this line is none that a section has\n")?;
-    let line = line_at(bytes, number).unwrap_or(b"");
+pub fn push_notation(out: &mut String, bytes: &[u8], number: u64) -> Result<(), AllocError>
+    ensures { (line : List ℕ) → IsLineAt bytes.now number line
+        → OnOk result (ShowsLine (codes "Notation: ") number line (string_bytes out.old) (string_bytes out.new)) }
+{
+    push_words(out, "Notation: ", "this line is none that a section has\n")?;
+    let line = text_at(bytes, number);
     push_numbered(out, number, line)?;
     push_slip(out, line)
 }
@@ -41,7 +70,9 @@ fn next_final(section: &Section) -> Option<Item> {
 }
 
 /// The next line behind the entries.
-fn push_next_final(out: &mut String, section: &Section) -> Result<(), AllocError> {
+fn push_next_final(out: &mut String, section: &Section) -> Result<(), AllocError>
+    ensures { OnOk result (Adds (string_bytes out.old) (string_bytes out.new)) }
+{
     match next_final(section) {
         Some(item) => write!(out, "`final {item}=..`"),
         None => out.push_str("`end`"),
@@ -49,7 +80,9 @@ fn push_next_final(out: &mut String, section: &Section) -> Result<(), AllocError
 }
 
 /// What may follow the lines of the section, as a line.
-pub fn push_allowed(out: &mut String, section: &Section) -> Result<(), AllocError> {
+fn push_allowed(out: &mut String, section: &Section) -> Result<(), AllocError>
+    ensures { OnOk result (Adds (string_bytes out.old) (string_bytes out.new)) }
+{
     let site = section.site_number();
     match section.last {
         None => out.push_str("the first section begins with `site 0`\n"),
@@ -100,10 +133,10 @@ pub fn push_truncated(
     }
 }
 
-/// F19: more follows the last section.
-pub fn push_trailing(out: &mut String, bytes: &[u8], number: u64) -> Result<(), AllocError> {
-    out.push_str("Trailing: the bundle is over, and more bytes follow\n")?;
-    push_numbered(out, number, line_at(bytes, number).unwrap_or(b""))?;
+/// Which line ends the bundle that this line follows.
+fn push_trailing_rule(out: &mut String, number: u64) -> Result<(), AllocError>
+    ensures { OnOk result (Adds (string_bytes out.old) (string_bytes out.new)) }
+{
     let last = number.saturating_sub(1);
     writeln!(
         out,
@@ -111,8 +144,24 @@ pub fn push_trailing(out: &mut String, bytes: &[u8], number: u64) -> Result<(), 
     )
 }
 
+/// F19: more follows the last section.
+pub fn push_trailing(out: &mut String, bytes: &[u8], number: u64) -> Result<(), AllocError>
+    ensures { (line : List ℕ) → IsLineAt bytes.now number line
+        → OnOk result (ShowsLine (codes "Trailing: ") number line (string_bytes out.old) (string_bytes out.new)) }
+{
+    push_words(
+        out,
+        "Trailing: ",
+        "the bundle is over, and more bytes follow\n",
+    )?;
+    push_numbered(out, number, text_at(bytes, number))?;
+    push_trailing_rule(out, number)
+}
+
 /// Why an item's line isn't allowed where an item may stand.
-fn push_item_rule(out: &mut String, section: &Section, item: &Item) -> Result<(), AllocError> {
+fn push_item_rule(out: &mut String, section: &Section, item: &Item) -> Result<(), AllocError>
+    ensures { OnOk result (Adds (string_bytes out.old) (string_bytes out.new)) }
+{
     if section.items.len() >= MAX_ITEMS {
         return out.push_str("a site has at most 1024 items\n");
     }
@@ -138,9 +187,9 @@ pub fn push_section(
     out.push_str("Section: the section doesn't allow this line here\n")?;
     let before = number.saturating_sub(1);
     if before > 2 {
-        push_numbered(out, before, line_at(bytes, before).unwrap_or(b""))?;
+        push_numbered(out, before, text_at(bytes, before))?;
     }
-    let line = line_at(bytes, number).unwrap_or(b"");
+    let line = text_at(bytes, number);
     push_numbered(out, number, line)?;
     if let Ok(SectionLine::Initial(holding)) = read_section(line) {
         push_item_rule(out, section, &holding.item)?;

@@ -1,13 +1,16 @@
 //! The lines of a text, by number.
 
-ghost use Rattle.std.specs.Prelude.{◌≡◌, ℕ, List, ◌∷◌, ◌++◌, length, All};
+ghost use Rattle.std.specs.Prelude.{◌≡◌, ℕ, List, [], ◌∷◌, ◌++◌, length, All, IsSomeAnd};
 ghost use Rattle.sgt_notation.specs.Spelling.{text_of_lines, HasNoLf};
+ghost use Rattle.sgt_explain_lines.specs.Numbered.{IsLineAt};
 
 use sgt_notation::find_lf;
 
 /// The first line without its LF, and what stands behind it. Where there is no LF, all bytes are the line.
 pub fn cut_line(bytes: &[u8]) -> (&[u8], &[u8])
-    ensures { (line rest : List ℕ) → HasNoLf line → bytes.now ≡ line ++ 10 ∷ rest → (result.0.now ≡ line) × (result.1.now ≡ rest) }
+    ensures cut { (line rest : List ℕ) → HasNoLf line → bytes.now ≡ line ++ 10 ∷ rest
+        → (result.0.now ≡ line) × (result.1.now ≡ rest) }
+    ensures last { HasNoLf bytes.now → (result.0.now ≡ bytes.now) × (result.1.now ≡ []) }
 {
     match find_lf(bytes) {
         Some(n) => (&bytes[..n], &bytes[n + 1..]),
@@ -31,7 +34,9 @@ pub fn after_line(bytes: &[u8], number: u64) -> &[u8]
 }
 
 /// The line of this number, counted from 1, without its LF. `None` where the text ends before it.
-pub fn line_at(bytes: &[u8], number: u64) -> Option<&[u8]> {
+pub fn line_at(bytes: &[u8], number: u64) -> Option<&[u8]>
+    ensures { (line : List ℕ) → IsLineAt bytes.now number line → IsSomeAnd result (λ l. l.now ≡ line) }
+{
     let rest = after_line(bytes, number.saturating_sub(1));
     if rest.is_empty() {
         None
@@ -40,7 +45,12 @@ pub fn line_at(bytes: &[u8], number: u64) -> Option<&[u8]> {
     }
 }
 
-/// Whether the line of this number has its LF.
-pub fn is_whole(bytes: &[u8], number: u64) -> bool {
-    find_lf(after_line(bytes, number.saturating_sub(1))).is_some()
+/// The same, and nothing where the text ends before it.
+pub fn text_at(bytes: &[u8], number: u64) -> &[u8]
+    ensures { (line : List ℕ) → IsLineAt bytes.now number line → result.now ≡ line }
+{
+    match line_at(bytes, number) {
+        Some(line) => line,
+        None => &bytes[..0],
+    }
 }

@@ -1,8 +1,9 @@
 //! What is said of an entry by the entries before it on its item.
 
-ghost use Rattle.std.specs.Prelude.{◌≡◌, ◌++◌, OnOk, string_bytes};
-ghost use Rattle.sgt_names.specs.Entry.{tx_of, is_increment};
-ghost use Rattle.sgt_explain_lines.specs.Told.{maker_text, listed_text, made_text, until_text, reason_text, history_text, found_text, read_front, read_head, read_text, final_front, final_text};
+ghost use Rattle.std.specs.Prelude.{◌≡◌, ◌<◌, ◌++◌, Some, OnOk, codes, length, string_bytes, unwrap_or};
+ghost use Rattle.sgt_names.specs.Name.{Name};
+ghost use Rattle.sgt_names.specs.Entry.{tx_of, item_of, is_increment};
+ghost use Rattle.sgt_explain_lines.specs.Told.{Adds, ShowsLine, ShowsEntry, item_words, maker_text, listed_text, made_text, until_text, reason_text, history_text, found_text, read_front, read_head, read_text, final_front, final_text};
 
 use crate::entries::verb;
 use crate::section::{Logged, Section, Stated};
@@ -206,7 +207,9 @@ pub fn push_final(out: &mut String, shown: &Misvalued) -> Result<(), AllocError>
 }
 
 /// The lines that may follow an entry of an open block.
-fn push_block_rule(out: &mut String, open: &Logged) -> Result<(), AllocError> {
+fn push_block_rule(out: &mut String, open: &Logged) -> Result<(), AllocError>
+    ensures { OnOk result (Adds (string_bytes out.old) (string_bytes out.new)) }
+{
     let line = open.line;
     let tx = open.entry.tx();
     match open.entry {

@@ -1,9 +1,10 @@
 //! What the lines of a section say, up to a line of it.
 
-ghost use Rattle.std.specs.Prelude.{◌≡◌, ℕ, List, ◌∷◌, [], Some, IfOk, OnOk, unwrap_or};
+ghost use Rattle.std.specs.Prelude.{◌≡◌, ℕ, List, ◌∷◌, [], Some, None, IfOk, OnOk, unwrap_or};
 ghost use Rattle.sgt_notation.specs.Spelling.{line_text, IsLine};
+ghost use Rattle.sgt_notation.specs.Reading.{SpellsNone};
 ghost use Rattle.sgt_notation.specs.declared.SectionLine.{SectionLine};
-ghost use Rattle.sgt_explain_lines.specs.Numbered.{HasLine, IsSectionOf, HasOneMore};
+ghost use Rattle.sgt_explain_lines.specs.Numbered.{HasLine, IsSectionOf, HasOneMore, entry_in, site_behind};
 
 use crate::input::{after_line, cut_line};
 use sgt_names::{Entry, Holding, SiteNo};
@@ -133,7 +134,11 @@ pub fn section_line_at(bytes: &[u8], number: u64) -> Option<SectionLine>
 }
 
 /// The entry that the line spells, if it is an entry's. Where it begins a section, the site becomes that of the section.
-pub fn entry_of(site: &mut u8, text: &[u8]) -> Option<Entry> {
+pub fn entry_of(site: &mut u8, text: &[u8]) -> Option<Entry>
+    ensures spelled { (read : SectionLine) → IsLine read → text.now ≡ line_text read
+        → (result ≡ entry_in read) × (site.new ≡ site_behind site.old read) }
+    ensures none { SpellsNone IsLine line_text text.now → (result ≡ None) × (site.new ≡ site.old) }
+{
     let Ok(read) = read_section(text) else {
         return None;
     };

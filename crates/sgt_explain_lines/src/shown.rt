@@ -1,8 +1,8 @@
 //! Lines as they are shown: cut, escaped, with their numbers.
 
-ghost use Rattle.std.specs.Prelude.{◌≡◌, ◌++◌, OnOk, string_bytes};
+ghost use Rattle.std.specs.Prelude.{◌≡◌, ℕ, List, ◌++◌, OnOk, codes, length, string_bytes};
 ghost use Rattle.sgt_notation.specs.Spelling.{entry_text};
-ghost use Rattle.sgt_explain_lines.specs.Told.{margin, bar, shown_line, gap, noted_line};
+ghost use Rattle.sgt_explain_lines.specs.Told.{margin, bar, hex_text, shown_byte, IsShown, ShowsNumbered, shown_line, gap, noted_line};
 
 use crate::section::Logged;
 use sgt_names::Entry;
@@ -13,7 +13,9 @@ use std::fmt::Write;
 const COLUMNS: usize = 71;
 
 /// The columns that a byte takes.
-fn width_of(byte: u8) -> usize {
+fn width_of(byte: u8) -> usize
+    ensures { result ≡ length (shown_byte byte) }
+{
     match byte {
         b'\t' | b'\r' | b'\n' | b'\\' => 2,
         b' '..=b'~' => 1,
@@ -21,26 +23,45 @@ fn width_of(byte: u8) -> usize {
     }
 }
 
+/// Shows a byte by two hexadecimal digits.
+#[tactic(auto, using(crate::proofs::Showing::hex_two))]
+fn push_hex(out: &mut String, byte: u8) -> Result<(), AllocError>
+    ensures { OnOk result (string_bytes out.new ≡ string_bytes out.old ++ hex_text byte) }
+{
+    write!(out, "\\x{byte:02x}")
+}
+
 /// Shows a byte: as it is where it can be printed, else as an escape.
-fn push_byte(out: &mut String, byte: u8) -> Result<(), AllocError> {
+fn push_byte(out: &mut String, byte: u8) -> Result<(), AllocError>
+    ensures { OnOk result (string_bytes out.new ≡ string_bytes out.old ++ shown_byte byte) }
+{
     match byte {
         b'\t' => out.push_str("\\t"),
         b'\r' => out.push_str("\\r"),
         b'\n' => out.push_str("\\n"),
         b'\\' => out.push_str("\\\\"),
         b' '..=b'~' => out.push(char::from(byte)),
-        _ => write!(out, "\\x{byte:02x}"),
+        _ => push_hex(out, byte),
     }
+}
+
+fn push_dots(out: &mut String) -> Result<(), AllocError>
+    ensures { OnOk result (string_bytes out.new ≡ string_bytes out.old ++ codes "..") }
+{
+    out.push_str("..")
 }
 
 /// Shows these bytes in at most 73 columns: control characters, backslashes and bytes that are no ASCII as escapes, and two
 /// dots where more follow.
-pub fn push_shown(out: &mut String, text: &[u8]) -> Result<(), AllocError> {
+pub fn push_shown(out: &mut String, text: &[u8]) -> Result<(), AllocError>
+    ensures { OnOk result ((shown : List ℕ) × IsShown text.now shown
+        × (string_bytes out.new ≡ string_bytes out.old ++ shown)) }
+{
     let mut width = 0usize;
     for byte in text {
         width = width.saturating_add(width_of(*byte));
         if width > COLUMNS {
-            return out.push_str("..");
+            return push_dots(out);
         }
         push_byte(out, *byte)?;
     }
@@ -71,7 +92,9 @@ pub fn push_bar(out: &mut String, number: u64) -> Result<(), AllocError>
 }
 
 /// Shows a line with its number.
-pub fn push_numbered(out: &mut String, number: u64, text: &[u8]) -> Result<(), AllocError> {
+pub fn push_numbered(out: &mut String, number: u64, text: &[u8]) -> Result<(), AllocError>
+    ensures { OnOk result (ShowsNumbered number text.now (string_bytes out.old) (string_bytes out.new)) }
+{
     push_bar(out, number)?;
     push_shown(out, text)?;
     out.push_str("\n")

@@ -1,5 +1,8 @@
 //! Why a line spells nothing.
 
+ghost use Rattle.std.specs.Prelude.{OnOk, string_bytes};
+ghost use Rattle.sgt_explain_lines.specs.Told.{Adds};
+
 use sgt_names::Item;
 use sgt_notation::MAX_LINE;
 use std::alloc::AllocError;
@@ -204,7 +207,9 @@ fn advice_on(slip: Slip) -> &'static str {
 }
 
 /// Why a line, which is not one of the format, spells nothing: a line or two.
-pub fn push_slip(out: &mut String, line: &[u8]) -> Result<(), AllocError> {
+pub fn push_slip(out: &mut String, line: &[u8]) -> Result<(), AllocError>
+    ensures { OnOk result (Adds (string_bytes out.old) (string_bytes out.new)) }
+{
     match slip_of(line) {
         Slip::LongName(length) => {
             writeln!(out, "its name has {length} bytes: a name has at most 16")

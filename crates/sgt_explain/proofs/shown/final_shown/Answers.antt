@@ -11,7 +11,7 @@ pub returns-in-Some-value_against : goal.returns-in-Some-value_against
 returns-in-Some-value_against c = λ first.
     let shown = c.in-Some-value_against.ensures in
     shows-final c.args.bytes.now c.args.number first c.in-Some.line c.in-Some.ensures c.in_ok-section.section c.in_ok-section.ensures _ _
-    c.in-Some-final_in_line.ensures c.in-Some-value_against.shown shown.given shown.site shown.value shown.by
+    c.in-Some-final_in_line.ensures c.in-Some-value_against.shown shown.given shown.site shown.value shown.by shown.listed shown.until
 
 pub returns : goal.returns
 returns c = λ first.

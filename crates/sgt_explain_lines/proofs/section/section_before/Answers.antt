@@ -14,7 +14,7 @@ loop-line-preserved c =
     let next : c.loop-line.line + 1 - 3 ≡ n + 1 = omega (arith, low) in
     let step = λ (before : List SectionLine) (line : SectionLine) (h : HasLine c.args.bytes.now c.args.number before line).
     section-step before (line_text line ++ 10 ∷ h.rest) c.loop-line.rest.now c.cut_line.result.0.now c.cut_line.result.1.now n h.spelled
-    (let counted = h.counted in omega (arith, low, counted, c.loop-line-test.true)) (c.loop-line.invariant.left before line h) c.cut_line.ensures in
+    (let counted = h.counted in omega (arith, low, counted, c.loop-line-test.true)) (c.loop-line.invariant.left before line h) c.cut_line.ensures.cut in
     record {
       left = λ before line h. (step before line h).left ∙ ap (λ k. text_of_lines (drop k (map line_text before)) ++ (line_text line ++ 10 ∷ h.rest)) (sym next);
       kept = λ before line h.

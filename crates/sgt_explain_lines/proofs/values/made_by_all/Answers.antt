@@ -12,7 +12,7 @@ loop-logged-preserved c =
     let i = c.loop-logged.logged-index in
     let entries = c.args.entries.now in
     let x = c.args.item.now in
-    let first = c.args.first in
+    let first = c.args.first.now in
     let so_far = c.loop-logged.invariant in
     let next = sym (take_next entries i l (element_at entries i l (omega arith) c.logged-item.is)) in
     record {
@@ -20,4 +20,6 @@ loop-logged-preserved c =
           ∙ ap (λ ls. value_after (Some first.value) (entries_of ls) x) next;
       by = by-next x first.by (take i entries) l c.loop-logged.made.by c.made_by-made.result.by so_far.by c.made_by-made.ensures.by
           ∙ ap (λ ls. fold (latest x) first.by ls) next;
+      kept = λ none. (c.made_by-made.ensures.kept none).1 ∙ so_far.kept (c.made_by-made.ensures.kept none).0;
+      listed = c.made_by-made.ensures.listed ∙ so_far.listed;
     }

@@ -1,0 +1,8 @@
+use Rattle.sgt_explain_lines.proofs.Adding.{shows-line}
+use Rattle.sgt_explain_lines.proofs.Numbering.{on-ok}
+use Rattle.sgt_explain_lines.proofs.forms.push_notation.Goals as goal
+
+pub returns : goal.returns
+returns c = λ line h.
+    on-ok c.push_slip.result _ _ (λ more. shows-line _ _ line c.text_at-line.result.now _ _ _ _ c.in_ok-push_words.ensures
+    (c.text_at-line.ensures line h) c.in_ok-push_numbered.ensures more) c.push_slip.ensures
