@@ -2,9 +2,11 @@
 
 ghost use Rattle.std.specs.Prelude.{◌≡◌, ◌++◌, ◌∷◌, [], IfNone, IfSome, OnOk};
 ghost use Rattle.sgt_draw.specs.Escaped.{IsClean, escaped, written_byte};
+ghost use Rattle.sgt_draw.specs.Parts.{part_text, parts_text};
 
 use sgt_notation::push_number;
 use std::alloc::{AllocError, Global};
+use std::marker::Model;
 
 /// A piece of a picture's text.
 #[derive(Clone, Copy)]
@@ -68,16 +70,28 @@ pub struct Canvas {
     text: Vec<u8>,
 }
 
+impl Model for Canvas {
+    ghost use Rattle.std.specs.Prelude.{List, ℕ};
+
+    ghost Value = { List ℕ };
+
+    ghost view = { λ s. s.text.items };
+}
+
 impl Canvas {
     /// Nothing yet.
-    pub fn new(alloc: Global) -> Canvas {
+    pub fn new(alloc: Global) -> Canvas
+        ensures { result ≡ [] }
+    {
         Canvas {
             alloc,
             text: Vec::new(alloc),
         }
     }
 
-    fn put_one(&mut self, part: &Part) -> Result<(), AllocError> {
+    fn put_one(&mut self, part: &Part) -> Result<(), AllocError>
+        ensures { OnOk result (self.new ≡ self.old ++ part_text part.now) }
+    {
         match *part {
             Part::Markup(text) => self.text.extend_from_slice(text.as_bytes()),
             Part::Name(name) => push_escaped(&mut self.text, name),
@@ -89,8 +103,10 @@ impl Canvas {
         }
     }
 
-    /// Writes these parts.
-    pub fn put(&mut self, parts: &[Part]) -> Result<(), AllocError> {
+    /// Writes these parts: markup as it is, names and numbers escaped.
+    pub fn put(&mut self, parts: &[Part]) -> Result<(), AllocError>
+        ensures { OnOk result (self.new ≡ self.old ++ parts_text parts.now) }
+    {
         for part in parts {
             self.put_one(part)?;
         }
@@ -98,7 +114,9 @@ impl Canvas {
     }
 
     /// The text.
-    pub fn into_text(self) -> Vec<u8> {
+    pub fn into_text(self) -> Vec<u8>
+        ensures { result.items ≡ self }
+    {
         self.text
     }
 }

@@ -44,7 +44,7 @@ impl Cycle<'_> {
     }
 
     /// How wide it is, with the room on both sides.
-    pub fn width(&self) -> u64 {
+    pub(crate) fn width(&self) -> u64 {
         let count = self.walk.len() as u64;
         self.x_of(count.saturating_sub(1))
             .saturating_add(self.left())
@@ -163,7 +163,7 @@ impl Cycle<'_> {
     }
 
     /// Draws the cycle below this height.
-    pub fn put(&self, canvas: &mut Canvas, top: u64) -> Result<(), AllocError> {
+    pub(crate) fn put(&self, canvas: &mut Canvas, top: u64) -> Result<(), AllocError> {
         let y = top.saturating_add(if self.is_named { 46 } else { 12 });
         let mut at = Point { x: self.left(), y };
         if self.is_named {

@@ -96,7 +96,7 @@ fn put_head(canvas: &mut Canvas) -> Result<(), AllocError> {
 }
 
 /// All that is drawn.
-pub fn put_graph(
+pub(crate) fn put_graph(
     canvas: &mut Canvas,
     scene: &Scene,
     decisions: &[Decision],
@@ -130,7 +130,11 @@ pub fn put_graph(
 }
 
 /// The cycle of one refused transaction alone. Nothing but the transaction where it was not refused.
-pub fn put_alone(canvas: &mut Canvas, decisions: &[Decision], tx: Tx) -> Result<(), AllocError> {
+pub(crate) fn put_alone(
+    canvas: &mut Canvas,
+    decisions: &[Decision],
+    tx: Tx,
+) -> Result<(), AllocError> {
     put_head(canvas)?;
     put_node(canvas, tx, ";\n")?;
     for decision in decisions {

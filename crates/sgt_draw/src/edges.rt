@@ -160,7 +160,11 @@ impl Table {
 }
 
 /// The conflicts between neighbours among the committed transactions that are drawn, by their places and kinds.
-pub fn edges_in(alloc: Global, scene: &Scene, sites: &[SiteLog]) -> Result<Vec<Edge>, AllocError> {
+pub(crate) fn edges_in(
+    alloc: Global,
+    scene: &Scene,
+    sites: &[SiteLog],
+) -> Result<Vec<Edge>, AllocError> {
     let mut table = Table::new(alloc, scene.committed.len().min(1_000) as u32)?;
     let mut site = 0u64;
     for log in sites {

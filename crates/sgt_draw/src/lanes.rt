@@ -43,7 +43,7 @@ fn take_lane(lanes: &mut Vec<u64>, gaps: u64) -> Result<u64, AllocError> {
 }
 
 /// The edges with their heights, short ones below long ones. Where they get no labels, an edge is as high as it is long.
-pub fn laid_in(
+pub(crate) fn laid_in(
     alloc: Global,
     edges: &mut Vec<Edge>,
     is_named: bool,

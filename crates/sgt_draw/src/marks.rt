@@ -1,11 +1,14 @@
 //! What transactions and kinds of conflicts look like.
 
+ghost use Rattle.std.specs.Prelude.{◌≡◌, ◌++◌, OnOk};
+ghost use Rattle.sgt_draw.specs.Parts.{kind_text, label_text};
+
 use crate::canvas::{Canvas, Part};
 use sgt_names::{Item, Kind, Tx};
 use std::alloc::AllocError;
 
 /// The markup of a colour and of dashes.
-pub fn stroke_of(kind: Kind) -> &'static str {
+pub(crate) fn stroke_of(kind: Kind) -> &'static str {
     match kind {
         Kind::Wr => " fill=\"none\" stroke=\"#0072b2\"",
         Kind::Rw => " fill=\"none\" stroke=\"#d55e00\" stroke-dasharray=\"8 4\"",
@@ -14,7 +17,9 @@ pub fn stroke_of(kind: Kind) -> &'static str {
 }
 
 /// The name of a kind of conflict.
-pub fn kind_name(kind: Kind) -> &'static str {
+pub fn kind_name(kind: Kind) -> &'static str
+    ensures { result.now ≡ kind_text kind }
+{
     match kind {
         Kind::Wr => "wr",
         Kind::Rw => "rw",
@@ -23,12 +28,9 @@ pub fn kind_name(kind: Kind) -> &'static str {
 }
 
 /// A conflict as it is named: `rw 0.x`.
-pub fn put_label(
-    canvas: &mut Canvas,
-    kind: Kind,
-    site: u64,
-    item: &Item,
-) -> Result<(), AllocError> {
+pub fn put_label(canvas: &mut Canvas, kind: Kind, site: u64, item: &Item) -> Result<(), AllocError>
+    ensures { OnOk result (canvas.new ≡ canvas.old ++ label_text kind site item.now) }
+{
     canvas.put(&[
         Part::Markup(kind_name(kind)),
         Part::Markup(" "),
@@ -70,7 +72,7 @@ pub struct Point {
 }
 
 /// Text whose middle is at this point.
-pub fn put_text(canvas: &mut Canvas, at: Point, parts: &[Part]) -> Result<(), AllocError> {
+pub(crate) fn put_text(canvas: &mut Canvas, at: Point, parts: &[Part]) -> Result<(), AllocError> {
     canvas.put(&[
         Part::Markup("<text x=\""),
         Part::Number(at.x),
@@ -83,7 +85,7 @@ pub fn put_text(canvas: &mut Canvas, at: Point, parts: &[Part]) -> Result<(), Al
 }
 
 /// Text that begins at this point.
-pub fn put_left(canvas: &mut Canvas, at: Point, parts: &[Part]) -> Result<(), AllocError> {
+pub(crate) fn put_left(canvas: &mut Canvas, at: Point, parts: &[Part]) -> Result<(), AllocError> {
     canvas.put(&[
         Part::Markup("<text x=\""),
         Part::Number(at.x),
@@ -96,7 +98,7 @@ pub fn put_left(canvas: &mut Canvas, at: Point, parts: &[Part]) -> Result<(), Al
 }
 
 /// A transaction as a box with its number, or as a dot.
-pub fn put_node(
+pub(crate) fn put_node(
     canvas: &mut Canvas,
     at: Point,
     tx: Tx,

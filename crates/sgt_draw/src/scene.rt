@@ -78,7 +78,7 @@ impl Scene {
     }
 
     /// What is drawn of these decisions.
-    pub fn of(alloc: Global, decisions: &[Decision]) -> Result<Scene, AllocError> {
+    pub(crate) fn of(alloc: Global, decisions: &[Decision]) -> Result<Scene, AllocError> {
         let mut scene = Scene::new(alloc);
         let mut number = 0u32;
         for decision in decisions {
@@ -99,7 +99,7 @@ impl Scene {
     }
 
     /// The place of a committed transaction in the row, if it is drawn. A binary search.
-    pub fn place_of(&self, tx: Tx) -> Option<u32> {
+    pub(crate) fn place_of(&self, tx: Tx) -> Option<u32> {
         let places = self.places.as_slice();
         let at = places.partition_point(|one| one.tx.number() < tx.number());
         match places.get(at) {
@@ -109,7 +109,7 @@ impl Scene {
     }
 
     /// Whether all transactions are few enough for names and labels beside them: forty.
-    pub fn is_small(&self) -> bool {
+    pub(crate) fn is_small(&self) -> bool {
         let counts = self.counts;
         let all = counts
             .committed
@@ -119,7 +119,7 @@ impl Scene {
     }
 
     /// Whether some transactions are not drawn.
-    pub fn leaves_out(&self) -> bool {
+    pub(crate) fn leaves_out(&self) -> bool {
         let counts = self.counts;
         counts.committed > MOST_DRAWN
             || counts.refused > MOST_DRAWN

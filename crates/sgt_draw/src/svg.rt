@@ -25,7 +25,7 @@ pub struct Picture<'a> {
 }
 
 /// The head of the text: its size, and the tip of an arrow.
-pub fn put_head(canvas: &mut Canvas, width: u64, height: u64) -> Result<(), AllocError> {
+pub(crate) fn put_head(canvas: &mut Canvas, width: u64, height: u64) -> Result<(), AllocError> {
     canvas.put(&[
         Part::Markup("<svg xmlns=\"http://www.w3.org/2000/svg\" width=\""),
         Part::Number(width),
@@ -47,7 +47,7 @@ pub fn put_head(canvas: &mut Canvas, width: u64, height: u64) -> Result<(), Allo
 }
 
 /// The foot of the text.
-pub fn put_foot(canvas: &mut Canvas) -> Result<(), AllocError> {
+pub(crate) fn put_foot(canvas: &mut Canvas) -> Result<(), AllocError> {
     canvas.put(&[Part::Markup("</svg>\n")])
 }
 
@@ -73,7 +73,7 @@ fn put_sample(
 }
 
 /// What the kinds look like.
-pub fn put_legend(canvas: &mut Canvas) -> Result<(), AllocError> {
+pub(crate) fn put_legend(canvas: &mut Canvas) -> Result<(), AllocError> {
     put_sample(canvas, 20, Kind::Wr, "wr: write, read")?;
     put_sample(canvas, 190, Kind::Rw, "rw: read, write")?;
     put_sample(canvas, 360, Kind::Ww, "ww: write, write")?;
@@ -329,7 +329,7 @@ impl Picture<'_> {
     }
 
     /// Draws all.
-    pub fn put(&self, canvas: &mut Canvas) -> Result<(), AllocError> {
+    pub(crate) fn put(&self, canvas: &mut Canvas) -> Result<(), AllocError> {
         let row = self.row();
         put_head(canvas, self.width(), self.height())?;
         self.put_headline(canvas)?;
@@ -356,7 +356,11 @@ fn put_pair(canvas: &mut Canvas, scene: &Scene, from: u32, to: u32) -> Result<()
 }
 
 /// The cycle of one refused transaction alone, each step with its label; of another transaction a line that it has none.
-pub fn put_alone(canvas: &mut Canvas, decisions: &[Decision], tx: Tx) -> Result<(), AllocError> {
+pub(crate) fn put_alone(
+    canvas: &mut Canvas,
+    decisions: &[Decision],
+    tx: Tx,
+) -> Result<(), AllocError> {
     for decision in decisions {
         if let Some(walk) = decision.walk() {
             if decision.tx() == tx {

@@ -12,6 +12,10 @@ const CYCLE: &str =
 const GRAPH: &str =
     "digraph sgt {\n  rankdir=LR;\n  node [shape=box];\n  1;\n  2 [style=filled, fillcolor=\"#ffd9d0\", color=\"#a00000\"];\n  2 -> 1 [label=\"rw 0.y\", color=\"#d55e00\", style=dashed, penwidth=3];\n  1 -> 2 [label=\"rw 0.x\", color=\"#d55e00\", style=dashed, penwidth=3];\n}\n";
 
+// Three committed transactions, of which the first and the last by rank are in conflict, and a withdrawn one.
+const THREE: &str =
+    "sgt 1\n{\"decisions\":[{\"commit\":7,\"rank\":0},{\"commit\":4,\"rank\":1},{\"withdraw\":5},{\"commit\":9,\"rank\":2}],\"sites\":1}\nsite 0\nitem x=1\nitem y=2\nw7[x]=3\nc7\nr4[y]=2\nc4\na5\nw9[x]=4\nc9\nfinal x=4\nfinal y=2\nend\n";
+
 // What is drawn of the text.
 fn drawn(alloc: Global, wanted: Wanted, text: &str) -> Result<(Outcome, String), Fail> {
     let mut input = MemSource::new(text.as_bytes(), 65_536, None);
@@ -47,5 +51,26 @@ fn a_cycle(rt: HostRuntime) -> Result<(), Fail> {
     let broken = CYCLE.replace(alloc, "r2[y]=2", "r2[y]=3")?;
     let (outcome, text) = drawn(alloc, alone, broken.as_str())?;
     assert!(rt; outcome == Outcome::No && text.as_str() == "no line 7 F10\n");
+    Ok(())
+}
+
+#[test]
+fn an_arc(rt: HostRuntime) -> Result<(), Fail> {
+    let all = Wanted {
+        tx: None,
+        is_dot: false,
+    };
+    let (outcome, text) = drawn(rt.alloc(), all, THREE)?;
+    assert!(rt; outcome == Outcome::Yes && !text.contains("to 4: ") && !text.contains("4 to "));
+    for words in [
+        "3 committed, by rank; 0 refused; 1 withdrawn<",
+        "<path stroke-width=\"1.5\" d=\"M110 118A104 26 0 0 1 318 118\"",
+        "<title>7 to 9: ww 0.x</title>",
+        "<text x=\"318\" y=\"156\" text-anchor=\"middle\">rank 2</text>",
+        "<title>transaction 9, committed</title>",
+        "<title>transaction 5, withdrawn</title>",
+    ] {
+        assert!(rt; text.contains(words), "{words}");
+    }
     Ok(())
 }
