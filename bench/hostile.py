@@ -9,7 +9,8 @@ least) grew by more than 2.3, or where the last run took over 1 s a MB. The stat
 
 A window of w transactions may have w²/4 edges of one item, where increments stand on one side and reads on the other. So the
 kinds of BOUNDED are held against the windows that they fill, and not against their size: such a kind is named where the last
-doubling grew by more than 2.3, or where a window took over 1.5 s.
+doubling grew by more than 2.3, or where a window took over 1.5 s. So is `long_walks`, whose answer has a walk of a thousand steps
+for each of a thousand refusals. The kinds of TOLD grow as docs/BENCH.md says, with the reason: they are shown, and not counted.
 """
 import resource
 import subprocess
@@ -20,7 +21,8 @@ import hostile_inputs as inputs
 
 MOST_TIME, MOST_SIZE, LEAST_TIME, MOST_OF_MEGABYTE, MOST_OF_WINDOW = 3.0, 16_000_000, 0.2, 1.0, 1.5
 
-BOUNDED = ("sums_and_reads", "reads_and_sums", "against", "alone")
+BOUNDED = ("sums_and_reads", "reads_and_sums", "against", "alone", "long_walks")
+TOLD = ("certify_hub",)
 
 KINDS = {
     "add_and_read": (["replay"], inputs.add_and_read),
@@ -104,9 +106,10 @@ def search(program, name):
     windows = texts[-1].count("z\n") if name in BOUNDED else 0
     dear = last > windows * MOST_OF_WINDOW if windows else last / size * 1e6 > MOST_OF_MEGABYTE
     found = grew > 2.3 or (last >= LEAST_TIME and dear)
+    said = "  FOUND" if found and name not in TOLD else "  as told" if found else ""
     told = ", %.2f s a window" % (last / windows) if windows else ""
-    print("%-20s %-8s %8.2f MB %7.2f s, grew by %.1f%s%s" % (name, words[0], size / 1e6, last, grew, told, "  FOUND" if found else ""), flush=True)
-    return found
+    print("%-20s %-8s %8.2f MB %7.2f s, grew by %.1f%s%s" % (name, words[0], size / 1e6, last, grew, told, said), flush=True)
+    return found and name not in TOLD
 
 
 def main():
