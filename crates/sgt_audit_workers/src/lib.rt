@@ -1,0 +1,8 @@
+//! The audit of a bundle with several sections judged at once.
+#![tactic(auto)]
+
+mod cutting;
+mod engine;
+mod tally;
+
+pub use engine::audit_with;
