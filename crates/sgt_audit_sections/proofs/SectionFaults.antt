@@ -324,7 +324,7 @@ module _ (second : Bool) (c : Certificate) (logs : List SiteLog) (good : IsFault
       let one = sections-one 0 logs ms [] [] (each ∙ sym len) (append-nil lines ∙ cut ∙ sym same ∙ sym (append-nil (sections_from 0 ms))) in
       subst (λ ls. AreLogged ls tx walk) one.0 (walks tx walk in_it)
 
-  faultless-all : Found → IsFaultless (complete second c lines)
+  pub faultless-all : Found → IsFaultless (complete second c lines)
   faultless-all found = (all-kept second c good lines (sections-below second c logs kept) (walks-keep (found-walks found)), all-of)
 
   pub found-no_fault : Found → HasNoFault (front_text second c logs)

@@ -1,2 +1,4 @@
 pub mod OneMore
 pub mod Reading
+pub mod Given
+pub mod Taken

@@ -1,6 +1,7 @@
 //! The audit of a bundle with several sections judged at once.
 #![tactic(auto)]
 
+mod batches;
 mod cutting;
 mod engine;
 mod tally;

@@ -4,7 +4,7 @@ ghost use Rattle.std.specs.Prelude.{◌≡◌, ◌≢◌, ◌<◌, ◌↔◌, �
 ghost use Rattle.sgt_cert.specs.declared.bundle.SiteLog.{SiteLog};
 ghost use Rattle.sgt_cert.specs.declared.certificate.Certificate.{Certificate};
 ghost use Rattle.sgt_audit.specs.Verdict.{IsVerdict};
-ghost use Rattle.sgt_audit_sections.specs.Judged.{IsJudgedSection};
+ghost use Rattle.sgt_audit_sections.specs.Judged.{IsJudgedSection, IsWhole};
 ghost use Rattle.sgt_audit_sections.specs.Sections.{IsFaultlessCertificate, front_text, AllStepsAreFound};
 ghost use Rattle.sgt_audit_workers.specs.Tallies.{Adds, IsTally};
 
@@ -60,6 +60,7 @@ impl Tally {
         ensures adds { (second : Bool) (c : Certificate) (logs : List SiteLog) (bytes more : List ℕ) → IsTally second c logs self.old
             → length logs < c.sites → IsJudgedSection second c (length logs) bytes judged → (IsTrue is_last → more ≡ [])
             → IfOk result (Adds second c logs bytes more self.new) }
+        ensures whole { IfOk result (λ found. IfNone found (IsWhole judged)) }
         ensures err { IfErr result (λ e. e ≡ EngineFail.Memory) }
     {
         match judged {
