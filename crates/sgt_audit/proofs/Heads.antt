@@ -1,6 +1,6 @@
 -- The first two lines of a text.
 use Rattle.std.proofs.Common.{◌≡◌, ℕ, ◌+◌, ◌<◌, ◌≤◌, Bool, List, [], ◌∷◌, ◌++◌, length, map, Option, Some, None, IfSome, refl, sym, ap, ◌∙◌, subst, arith, inl, inr}
-use Rattle.std.specs.Prelude.{Err}
+use Rattle.std.specs.Prelude.{Err, Ok}
 use Rattle.std.specs.Io.KnownBytes.{Consumes}
 use Rattle.sgt_notation.specs.Limits.{max_line, most_reads}
 use Rattle.sgt_notation.specs.Lines.{Ahead, Spends, coming}
@@ -71,11 +71,11 @@ head-kept k h s (b, before, holds, stage) two second certificate sites steps =
     let now = at-two k b before s stage two in
     let kept = subst (AllKept k.second k.certificate) now.0 holds.means.kept in (
       record {
-        kept = subst (λ a. AllKept a h.certificate []) (sym second) (subst (λ c. AllKept k.second c []) (sym certificate) kept);
-        sites = sites ∙ holds.tracks.place.sites ∙ holds.means.sites ∙ ap (λ c. c.sites) (sym certificate);
+        kept = subst (λ (a : Bool). AllKept a h.certificate []) (sym second) (subst (λ (c : Certificate). AllKept k.second c []) (sym certificate) kept);
+        sites = sites ∙ holds.tracks.place.sites ∙ holds.means.sites ∙ ap (λ (c : Certificate). c.sites) (sym certificate);
         steps = subst (λ t. AreStepsOf h.certificate.decisions t) (sym steps) (subst (λ (c : Certificate). AreStepsOf c.decisions k.tracked.walks.steps) (sym certificate) holds.tracks.walks.steps);
       },
-      now.1 ∙ ap (λ a. lines_so_far (within a k.certificate [])) (sym second) ∙ ap (λ c. lines_so_far (within h.second c [])) (sym certificate),
+      now.1 ∙ ap (λ (a : Bool). lines_so_far (within a k.certificate [])) (sym second) ∙ ap (λ (c : Certificate). lines_so_far (within h.second c [])) (sym certificate),
     )
 
 head-rest : (s : Stage) (told coming : Option (List ℕ)) (h : Head) → lines_so_far s ≡ lines_so_far (within h.second h.certificate []) → IsRest s told coming → Consumes told coming (head_text h.second h.certificate)
@@ -87,7 +87,7 @@ head-rest s (Some bytes) (Some more) h same rest = rest ∙ ap (λ ls. text_of_l
 
 -- before the first line
 pub begins : (p : Progress) (ahead : Ahead) (told : Option (List ℕ)) → Stands p start → ahead ≡ record { held = []; reads = most_reads } → Goes told p (coming ahead told) 1 0
-begins p ahead told stands fresh = subst (λ (a : Ahead). Goes told p (coming a told) 1 0) (sym fresh) (start, stands, all told, refl, omega arith)
+begins p ahead told stands fresh = subst (λ (a : Ahead). Goes told p (coming a told) 1 0) (sym fresh) (start, stands, all told, omega arith, omega arith)
   where
     all : (told : Option (List ℕ)) → IsRest start told (coming (record { held = []; reads = most_reads }) told)
     all None = tt

@@ -45,9 +45,10 @@ pub fn workers(alloc: Global, count: usize, head: &Head) -> Result<Vec<Job>, All
     ensures idle { IfOk result (λ jobs. All (IsIdle head.now 0) jobs.items) }
 {
     let mut jobs = Vec::new(alloc);
-    'workers: while jobs.len() < count {
+    'made: while jobs.len() < count {
+        let alone = Alone::new(alloc, head.second, head.sites, &head.certificate)?;
         jobs.push(Job {
-            alone: Alone::new(alloc, head.second, head.sites, &head.certificate)?,
+            alone,
             site: 0,
             section: Vec::new(alloc),
             is_last: false,

@@ -1,6 +1,6 @@
 //! The audit of all that a reader gives, with several sections judged at once.
 
-ghost use Rattle.std.specs.Prelude.{◌≡◌, ◌≢◌, ◌+◌, ◌<◌, ℕ, false, List, Option, Err, IfOk, IfSome, OnErr, IsErrOf};
+ghost use Rattle.std.specs.Prelude.{◌≡◌, ◌≢◌, ◌<◌, ℕ, false, List, Option, Err, IfOk, IfSome, OnErr, IsErrOf};
 ghost use Rattle.std.specs.Io.KnownBytes.{Appends, Consumes};
 ghost use Rattle.sgt_notation.specs.Lines.{ReadFaultIsDue, coming};
 ghost use Rattle.sgt_audit.specs.Head.{IsHead, head_text};

@@ -12,6 +12,9 @@ returns-in-Ok-None-clause-fed g c told goes =
     after-line told _ _ _ _ _ _ _ 0 0 goes (omega arith) gave.gives
     (λ s stands. subst (λ (l : List ℕ). Follows s l c.line.new.self.progress None) c.as_slice.ensures.value (rw c.in-Ok-None.field-0-is at (c.in-Ok-None.ensures.follows s stands)))
 
+pub returns-in-Ok-None-clause-spends : goal.returns-in-Ok-None-clause-spends
+returns-in-Ok-None-clause-spends g c = (rw c.in-Ok-Line.field-0-is at c.in-Ok-Line.ensures.ok).spends
+
 pub returns-in-Ok-Some-clause-fed : goal.returns-in-Ok-Some-clause-fed
 returns-in-Ok-Some-clause-fed g c told goes =
     let gave = rw c.in-Ok-Line.field-0-is at c.in-Ok-Line.ensures.ok in

@@ -13,14 +13,14 @@ pub returns-then-text-clause-verdict : goal.returns-then-text-clause-verdict
 returns-then-text-clause-verdict g c told behind tallied =
     let h = c.args.head.now in
     let found = rw c.in_default.is at (c.walk_fault.ensures.none h.second h.certificate tallied.logs tallied.tally) in
-    subst (λ v. IfSome told (λ bytes. IsVerdict bytes v)) (sym (c.yes_to.ensures ∙ ap yes_of c.decisions.ensures)) (yes-at-end h told _ c.args.tally.now tallied c.requires found (behind.ended c.if-text.true))
+    subst (λ v. IfSome told (λ bytes. IsVerdict bytes v)) (sym (c.yes_to.ensures ∙ ap yes_of c.decisions.ensures.same)) (yes-at-end h told _ c.args.tally.now tallied c.requires found (behind.ended c.if-text.true))
 
 pub returns-in-Ok-End-clause-verdict : goal.returns-in-Ok-End-clause-verdict
 returns-in-Ok-End-clause-verdict g c told behind tallied =
     let h = c.args.head.now in
     let gave = rw c.in-Ok-End.field-0-is at c.in-Ok-End.ensures.ok in
     let found = rw c.in_default.is at (c.walk_fault.ensures.none h.second h.certificate tallied.logs tallied.tally) in
-    subst (λ v. IfSome told (λ bytes. IsVerdict bytes v)) (sym (c.yes_to-in-Ok-End.ensures ∙ ap yes_of c.decisions-in-Ok-End.ensures)) (yes-at-end h told _ c.args.tally.now tallied c.requires found (end-comes _ told _ _ _ gave.gives))
+    subst (λ v. IfSome told (λ bytes. IsVerdict bytes v)) (sym (c.yes_to-in-Ok-End.ensures ∙ ap yes_of c.decisions-in-Ok-End.ensures.same)) (yes-at-end h told _ c.args.tally.now tallied c.requires found (end-comes _ told _ _ _ gave.gives))
 
 pub returns-in-Ok-Line-clause-verdict : goal.returns-in-Ok-Line-clause-verdict
 returns-in-Ok-Line-clause-verdict g c told behind tallied =
