@@ -72,10 +72,11 @@ fn judge_behind<H: Threads + Sync, R: Source>(
     'batches: while tally.whole < sites {
         let end = sites.min(tally.whole.saturating_add(jobs.len()));
         let given = give_all(reader, text, jobs, tally.whole, end)?;
-        jobs = run_all(rt, head, given)?;
-        if let Some(verdict) = take_all(&mut tally, head, jobs.as_slice())? {
+        let done = run_all(rt, head, given)?;
+        if let Some(verdict) = take_all(&mut tally, head, done.as_slice())? {
             return Ok(verdict);
         }
+        jobs = done;
     }
     at_end(reader, text, head, &tally)
 }
