@@ -6,6 +6,8 @@ use Rattle.std.specs.Io.KnownBytes.{Consumes, IsAtEnd}
 use Rattle.std.proofs.lemmas.List.Elements.{All-nil, All-cons, All-head, All-tail, All-weaker}
 use Rattle.sgt_notation.specs.Lines.{ReadFaultIsDue, coming}
 use Rattle.sgt_audit_cells.specs.Records.{Record}
+use Rattle.sgt_audit.specs.Alone.{IsReadyAlone}
+use Rattle.sgt_audit.specs.declared.alone.Alone.{Alone}
 use Rattle.sgt_audit.specs.declared.head.Head.{Head}
 use Rattle.sgt_audit_workers.specs.declared.batches.Job.{Job}
 use Rattle.sgt_audit_workers.specs.declared.batches.Text.{Text}
@@ -59,6 +61,10 @@ pub sites-below : (told old new : Option (List ℕ)) (k n : ℕ) (jobs : List Jo
 sites-below told old new k n [] given few = All-nil (λ (job : Job). job.site < n)
 sites-below told old new k n (job ∷ jobs) given few =
     All-cons (λ (job : Job). job.site < n) job jobs (omega (arith, given.1.site, few)) (sites-below told given.0 new (k + 1) n jobs given.2 (omega (arith, few)))
+
+-- the same worker, with something else to judge
+pub idle-same : (h : Head) (k : ℕ) (old new : Job) → new.alone ≡ old.alone → IsIdle h k old → IsIdle h k new
+idle-same h k old new same idle = subst (λ (a : Alone). IsReadyAlone h.certificate k a × (a.second ≡ h.second)) (sym same) idle
 
 -- who may judge the section of a site may judge those behind it
 pub idle-later : (h : Head) (k n : ℕ) (job : Job) → k ≤ n → IsIdle h k job → IsIdle h n job

@@ -35,3 +35,17 @@ returns-in-Reading-clause-spends g c =
     let told = g.R.Source.tells c.args.reader.now in
     let first = spends_on _ _ _ _ _ _ _ (spends-none most_reads told) (ap (λ (a : Ahead). a.reads) c.requires.fresh) (rw c.in_default.is at c.in_ok-of_format.ensures.spends) in
     spends_on _ _ _ _ _ _ _ first refl (rw c.in_default-2.is at c.in_ok-of_certificate.ensures.spends)
+
+pub unreachable-requires : goal.unreachable-requires
+unreachable-requires g c =
+    let told = g.R.Source.tells c.args.reader.now in
+    let first = rw c.in_default.is at (c.in_ok-of_format.ensures.fed told (begins c.new-machine.result.progress c.args.lines.now told c.new-machine.ensures.stands c.requires.fresh)) in
+    let both = rw c.in_default-2.is at (c.in_ok-of_certificate.ensures.fed told first) in
+    not-start told _ _ c.in-Start.is both
+
+pub unreachable-requires-in-Headed : goal.unreachable-requires-in-Headed
+unreachable-requires-in-Headed g c =
+    let told = g.R.Source.tells c.args.reader.now in
+    let first = rw c.in_default.is at (c.in_ok-of_format.ensures.fed told (begins c.new-machine.result.progress c.args.lines.now told c.new-machine.ensures.stands c.requires.fresh)) in
+    let both = rw c.in_default-2.is at (c.in_ok-of_certificate.ensures.fed told first) in
+    not-headed told _ _ _ c.in-Headed.is both
