@@ -1,6 +1,6 @@
 #!/usr/bin/env python3
-"""Looks over the pages: links and anchors that lead nowhere, pages that are too long, and commands,
-options and statuses that a page lacks of the code's, or has beyond them.
+"""Looks over the pages: links, anchors, paths and names of definitions that lead nowhere, pages that are too long, and
+commands, options and statuses that a page lacks of the code's, or has beyond them.
 
 usage: check_pages.py        (at the top of a checkout; the status is 1 if anything was found)
 """
@@ -13,6 +13,7 @@ PAGES = ["README.md", *sorted(glob.glob("docs/*.md")), *sorted(glob.glob("crates
 WORDS = "crates/sgt_words/src"
 FILES = "crates/sgt/src/line.rt"
 TOPICS = "crates/sgt_explain/src/topics.rt"
+WORDS_AT_MOST = {"README.md": 1100, "docs/BENCH.md": 1500, "docs/GATE.md": 750}
 
 
 def text_of(path):
@@ -67,14 +68,47 @@ def dead_links():
                 yield f"{page}: {link} has no such heading"
 
 
+def rules():
+    """Of each row of ARCHITECTURE.md's rules: a file that it names, and a definition in it, or None for the file alone."""
+    part = text_of("docs/ARCHITECTURE.md").split("## Where each rule lives")[1].split("\n## ")[0]
+    for row in re.findall(r"^\| .* \|$", part, flags=re.M):
+        cells = row.strip("|").split("|")
+        for cell in cells[2:]:
+            crate, path = cells[1].strip(" `"), None
+            for found in re.finditer(r"(sgt_\w+)(?=[: ])|`((?:specs|src|proofs)/[^`]*)`|\(([^)]*)\)", cell):
+                crate = found[1] or crate
+                if found[2]:
+                    path = f"crates/{crate}/{found[2]}"
+                    yield path, None
+                for name in re.findall(r"`(\w+)`", found[3] or "") if path else ():
+                    yield path, name
+
+
+def dead_paths():
+    for path, name in rules():
+        if not os.path.exists(path):
+            yield f"docs/ARCHITECTURE.md: there is no {path}"
+        elif name and not re.search(rf"\b{name}\b", text_of(path)):
+            yield f"docs/ARCHITECTURE.md: {path} has no {name}"
+    for page in PAGES:
+        text, home = text_of(page), os.path.dirname(page)
+        named = {f"crates/{path}" for path in re.findall(r"\b(sgt\w*/(?:src|specs|proofs)/[\w/-]+\.\w+)", text)}
+        named |= set(re.findall(r"\b((?:bench|examples|docs)/[\w/-]+\.\w+)", text))
+        if page.startswith("crates/"):
+            named |= {f"{home}/{path}" for path in re.findall(r"`((?:src|specs|proofs)/[\w/-]+\.\w+)`", text)}
+        for path in sorted(named):
+            if not os.path.exists(path) and not path.startswith("examples/out/"):
+                yield f"{page}: there is no {path}"
+
+
 def long_pages():
     lines = len(text_of("README.md").splitlines())
     if lines > 120:
         yield f"README.md: {lines} lines, 120 wanted"
     for page in PAGES:
-        words = len(text_of(page).split())
-        if page.startswith("crates/") and words > 700:
-            yield f"{page}: {words} words, 700 wanted"
+        words, most = len(text_of(page).split()), WORDS_AT_MOST.get(page, 700)
+        if (page.startswith("crates/") or page in WORDS_AT_MOST) and words > most:
+            yield f"{page}: {words} words, {most} wanted"
 
 
 def missing_words():
@@ -114,7 +148,7 @@ def more_words():
 
 
 def main():
-    found = [*dead_links(), *long_pages(), *missing_words(), *more_words()]
+    found = [*dead_links(), *dead_paths(), *long_pages(), *missing_words(), *more_words()]
     print("\n".join([*found, f"{len(PAGES)} pages, {len(found)} found"]))
     sys.exit(bool(found))
 
