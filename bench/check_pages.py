@@ -1,13 +1,16 @@
 #!/usr/bin/env python3
 """Looks over the pages: links, anchors, paths and names of definitions that lead nowhere, pages that are too long, and
-commands, options and statuses that a page lacks of the code's, or has beyond them.
+commands, options and statuses that a page lacks of the code's, or has beyond them. With a built program it runs each
+command that stands behind a `$ ` in a block, and compares what it prints with what stands below it.
 
-usage: check_pages.py        (at the top of a checkout; the status is 1 if anything was found)
+usage: check_pages.py [PROGRAM]        (at the top of a checkout; the status is 1 if anything was found)
 """
 import glob
 import os
 import re
+import subprocess
 import sys
+import tempfile
 
 PAGES = ["README.md", *sorted(glob.glob("docs/*.md")), *sorted(glob.glob("crates/*/README.md"))]
 WORDS = "crates/sgt_words/src"
@@ -147,8 +150,40 @@ def more_words():
         yield f"docs/sgt.bash: nothing of {word}"
 
 
+def shown_commands():
+    """Of each block with commands: its page, and each command with what is shown below it."""
+    for page in PAGES:
+        for block in re.findall(r"^```\w*\n(.*?)^```$", text_of(page), flags=re.M | re.S):
+            parts = re.split(r"^\$ (.*)\n", block, flags=re.M)
+            if len(parts) > 1 and not parts[0]:
+                yield page, list(zip(parts[1::2], parts[2::2]))
+
+
+def other_outputs(program):
+    """Commands that print something else than their page shows. Each page's run in one folder; `examples/run.sh`, which builds, isn't."""
+    path = os.pathsep.join([os.path.dirname(os.path.abspath(program)), os.environ["PATH"]])
+    top, folders, count = os.getcwd(), {}, 0
+    with tempfile.TemporaryDirectory() as folder:
+        for page, commands_shown in shown_commands():
+            home = folders.setdefault(page, os.path.join(folder, str(len(folders))))
+            os.makedirs(home, exist_ok=True)
+            for name in ("bench", "crates", "docs", "examples"):
+                if not os.path.exists(os.path.join(home, name)):
+                    os.symlink(os.path.join(top, name), os.path.join(home, name))
+            for command, shown in commands_shown:
+                if command == "examples/run.sh":
+                    continue
+                ran = subprocess.run(command, shell=True, cwd=home, env={**os.environ, "PATH": path}, capture_output=True, check=False)
+                count += 1
+                if ran.stdout.decode() != shown or ran.stderr:
+                    yield f"{page}: {command}: {ran.stdout.decode()}{ran.stderr.decode()}"
+    print(f"{count} commands were run")
+
+
 def main():
-    found = [*dead_links(), *dead_paths(), *long_pages(), *missing_words(), *more_words()]
+    if len(sys.argv) > 2:
+        sys.exit(__doc__)
+    found = [*dead_links(), *dead_paths(), *long_pages(), *missing_words(), *more_words(), *(other_outputs(sys.argv[1]) if len(sys.argv) > 1 else ())]
     print("\n".join([*found, f"{len(PAGES)} pages, {len(found)} found"]))
     sys.exit(bool(found))
 
