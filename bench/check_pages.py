@@ -1,18 +1,22 @@
 #!/usr/bin/env python3
-"""Looks over the pages: links and anchors that lead nowhere, pages that are too long, and commands,
-options and statuses that a page lacks of the code's, or has beyond them.
+"""Looks over the pages: links, anchors, paths and names of definitions that lead nowhere, pages that are too long, and
+commands, options and statuses that a page lacks of the code's, or has beyond them. With a built program it runs each
+command that stands behind a `$ ` in a block, and compares what it prints with what stands below it.
 
-usage: check_pages.py        (at the top of a checkout; the status is 1 if anything was found)
+usage: check_pages.py [PROGRAM]        (at the top of a checkout; the status is 1 if anything was found)
 """
 import glob
 import os
 import re
+import subprocess
 import sys
+import tempfile
 
 PAGES = ["README.md", *sorted(glob.glob("docs/*.md")), *sorted(glob.glob("crates/*/README.md"))]
 WORDS = "crates/sgt_words/src"
 FILES = "crates/sgt/src/line.rt"
 TOPICS = "crates/sgt_explain/src/topics.rt"
+WORDS_AT_MOST = {"README.md": 1100, "docs/BENCH.md": 1500, "docs/GATE.md": 750}
 
 
 def text_of(path):
@@ -67,14 +71,47 @@ def dead_links():
                 yield f"{page}: {link} has no such heading"
 
 
+def rules():
+    """Of each row of ARCHITECTURE.md's rules: a file that it names, and a definition in it, or None for the file alone."""
+    part = text_of("docs/ARCHITECTURE.md").split("## Where each rule lives")[1].split("\n## ")[0]
+    for row in re.findall(r"^\| .* \|$", part, flags=re.M):
+        cells = row.strip("|").split("|")
+        for cell in cells[2:]:
+            crate, path = cells[1].strip(" `"), None
+            for found in re.finditer(r"(sgt_\w+)(?=[: ])|`((?:specs|src|proofs)/[^`]*)`|\(([^)]*)\)", cell):
+                crate = found[1] or crate
+                if found[2]:
+                    path = f"crates/{crate}/{found[2]}"
+                    yield path, None
+                for name in re.findall(r"`(\w+)`", found[3] or "") if path else ():
+                    yield path, name
+
+
+def dead_paths():
+    for path, name in rules():
+        if not os.path.exists(path):
+            yield f"docs/ARCHITECTURE.md: there is no {path}"
+        elif name and not re.search(rf"\b{name}\b", text_of(path)):
+            yield f"docs/ARCHITECTURE.md: {path} has no {name}"
+    for page in PAGES:
+        text, home = text_of(page), os.path.dirname(page)
+        named = {f"crates/{path}" for path in re.findall(r"\b(sgt\w*/(?:src|specs|proofs)/[\w/-]+\.\w+)", text)}
+        named |= set(re.findall(r"\b((?:bench|examples|docs)/[\w/-]+\.\w+)", text))
+        if page.startswith("crates/"):
+            named |= {f"{home}/{path}" for path in re.findall(r"`((?:src|specs|proofs)/[\w/-]+\.\w+)`", text)}
+        for path in sorted(named):
+            if not os.path.exists(path) and not path.startswith("examples/out/"):
+                yield f"{page}: there is no {path}"
+
+
 def long_pages():
     lines = len(text_of("README.md").splitlines())
     if lines > 120:
         yield f"README.md: {lines} lines, 120 wanted"
     for page in PAGES:
-        words = len(text_of(page).split())
-        if page.startswith("crates/") and words > 700:
-            yield f"{page}: {words} words, 700 wanted"
+        words, most = len(text_of(page).split()), WORDS_AT_MOST.get(page, 700)
+        if (page.startswith("crates/") or page in WORDS_AT_MOST) and words > most:
+            yield f"{page}: {words} words, {most} wanted"
 
 
 def missing_words():
@@ -113,8 +150,40 @@ def more_words():
         yield f"docs/sgt.bash: nothing of {word}"
 
 
+def shown_commands():
+    """Of each block with commands: its page, and each command with what is shown below it."""
+    for page in PAGES:
+        for block in re.findall(r"^```\w*\n(.*?)^```$", text_of(page), flags=re.M | re.S):
+            parts = re.split(r"^\$ (.*)\n", block, flags=re.M)
+            if len(parts) > 1 and not parts[0]:
+                yield page, list(zip(parts[1::2], parts[2::2]))
+
+
+def other_outputs(program):
+    """Commands that print something else than their page shows. Each page's run in one folder; `examples/run.sh`, which builds, isn't."""
+    path = os.pathsep.join([os.path.dirname(os.path.abspath(program)), os.environ["PATH"]])
+    top, folders, count = os.getcwd(), {}, 0
+    with tempfile.TemporaryDirectory() as folder:
+        for page, commands_shown in shown_commands():
+            home = folders.setdefault(page, os.path.join(folder, str(len(folders))))
+            os.makedirs(home, exist_ok=True)
+            for name in ("bench", "crates", "docs", "examples"):
+                if not os.path.exists(os.path.join(home, name)):
+                    os.symlink(os.path.join(top, name), os.path.join(home, name))
+            for command, shown in commands_shown:
+                if command == "examples/run.sh":
+                    continue
+                ran = subprocess.run(command, shell=True, cwd=home, env={**os.environ, "PATH": path}, capture_output=True, check=False)
+                count += 1
+                if ran.stdout.decode() != shown or ran.stderr:
+                    yield f"{page}: {command}: {ran.stdout.decode()}{ran.stderr.decode()}"
+    print(f"{count} commands were run")
+
+
 def main():
-    found = [*dead_links(), *long_pages(), *missing_words(), *more_words()]
+    if len(sys.argv) > 2:
+        sys.exit(__doc__)
+    found = [*dead_links(), *dead_paths(), *long_pages(), *missing_words(), *more_words(), *(other_outputs(sys.argv[1]) if len(sys.argv) > 1 else ())]
     print("\n".join([*found, f"{len(PAGES)} pages, {len(found)} found"]))
     sys.exit(bool(found))
 
