@@ -11,6 +11,7 @@ ghost use Rattle.sgt_audit_cells.specs.private.Deeds.{IsTouched, ClashesWith};
 use crate::act::{Act, deed_of};
 use crate::chain::{has_done, have_clash, link};
 use crate::record::{Node, Slot, Turn};
+use crate::row::{Row, keep, shown};
 use sgt_names::{Entry, Kind};
 use std::alloc::{AllocError, Global};
 use std::marker::Model;
@@ -21,6 +22,8 @@ pub struct RecordTable {
     slots: Vec<Slot>,
     /// What was done in the open section.
     nodes: Vec<Node>,
+    /// What transactions with many operations did there, by bits.
+    rows: Vec<Row>,
     /// How many nodes the sections before had.
     base: usize,
 }
@@ -29,19 +32,20 @@ impl Model for RecordTable {
     ghost use Rattle.std.specs.Prelude.{List, length, ◌+◌, ◌<◌, ◌^◌};
     ghost use Rattle.sgt_audit_cells.specs.Records.{Record};
     ghost use Rattle.sgt_audit_cells.specs.private.Linked.{AreLinked, AreWithin, records_of};
+    ghost use Rattle.sgt_audit_cells.specs.private.Rows.{AreRows};
 
     ghost Value = { List Record };
 
     ghost view = { λ t. records_of t.base t.nodes.items t.slots.items };
 
     ghost invariant = { λ t. AreLinked t.nodes.items × AreWithin t.base (length t.nodes.items) t.slots.items
-        × (t.base + length t.nodes.items < 2 ^ 64) };
+        × (t.base + length t.nodes.items < 2 ^ 64) × AreRows t.nodes.items t.rows.items };
 }
 
 /// Of so many transactions, that no section has met.
 fn fresh_slots(alloc: Global, count: usize) -> Result<Vec<Slot>, AllocError>
     ensures len { IfOk result (λ slots. length slots.items ≡ count) }
-    ensures fresh { IfOk result (λ slots. All (λ s. s ≡ record { section = 0; last = 0; ended = false }) slots.items) }
+    ensures fresh { IfOk result (λ slots. All (λ s. s ≡ record { section = 0; last = 0; ended = false; count = 0; row = 0 }) slots.items) }
 {
     vec![in alloc; Slot::fresh(); count]
 }
@@ -55,6 +59,7 @@ impl RecordTable {
         Ok(RecordTable {
             slots,
             nodes: Vec::new(alloc),
+            rows: Vec::new(alloc),
             base: 0,
         })
     }
@@ -66,6 +71,7 @@ impl RecordTable {
     {
         self.base = self.base.saturating_add(self.nodes.len());
         self.nodes.clear();
+        self.rows.clear();
     }
 
     /// How many there are.
@@ -94,7 +100,13 @@ impl RecordTable {
             return false;
         };
         let last = slot.last_in(section).saturating_sub(self.base);
-        !has_done(self.nodes.as_slice(), last, place, deed_of(entry))
+        let deed = deed_of(entry);
+        if slot.is_long(section) {
+            if let Some(done) = shown(self.rows.as_slice(), slot.row, last, place, deed) {
+                return !done;
+            }
+        }
+        !has_done(self.nodes.as_slice(), last, place, deed)
     }
 
     /// Whether the transaction of this number ended in the section.
@@ -156,10 +168,14 @@ impl RecordTable {
         }
         let slot = self.slots[number];
         let last = link(&mut self.nodes, self.base, slot.last_in(section), act)?;
+        let node = last.saturating_sub(self.base);
+        let row = keep(&mut self.rows, self.nodes.as_slice(), &slot, section, node)?;
         let next = Slot {
             section,
             last,
             ended: slot.has_ended_after(section, ends),
+            count: slot.count_after(section),
+            row,
         };
         self.slots[number] = next;
         Ok(Turn {
