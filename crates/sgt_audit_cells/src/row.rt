@@ -187,6 +187,17 @@ fn follow(rows: &mut [Row], number: usize, nodes: &[Node], last: usize) -> bool
     false
 }
 
+/// The same, in their list.
+fn catch_up(rows: &mut Vec<Row>, number: u32, nodes: &[Node], last: usize) -> bool
+    requires linked { AreLinked nodes.now }
+    requires within { last ≤ length nodes.now }
+    requires some { 0 < last }
+    requires rows { AreRows nodes.now rows.old.items }
+    ensures { AreRows nodes.now rows.new.items }
+{
+    follow(rows.as_mut_slice(), number as usize, nodes, last)
+}
+
 /// Brings the row of this number up to this node, or makes one for it; and the number of the row.
 #[inline(never)]
 fn extend(rows: &mut Vec<Row>, nodes: &[Node], number: u32, last: usize) -> Result<u32, AllocError>
@@ -198,7 +209,7 @@ fn extend(rows: &mut Vec<Row>, nodes: &[Node], number: u32, last: usize) -> Resu
     if last == 0 {
         return Ok(number);
     }
-    if follow(rows.as_mut_slice(), number as usize, nodes, last) {
+    if catch_up(rows, number, nodes, last) {
         return Ok(number);
     }
     let found = row_of(*rows.allocator(), nodes, last)?;

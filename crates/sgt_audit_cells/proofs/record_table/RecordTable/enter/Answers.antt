@@ -27,7 +27,7 @@ keep-requires-clause-linked c = subst AreLinked (sym c.as_slice.ensures.value) c
 pub keep-requires-clause-within : goal.keep-requires-clause-within
 keep-requires-clause-within c =
     let long = ap length c.as_slice.ensures.value in
-    omega (arith, long, c.saturating_sub.ensures, c.in_ok-last.ensures.place.0)
+    omega (arith, long, c.saturating_sub-node.ensures, c.in_ok-last.ensures.place.0)
 
 pub keep-requires-clause-rows : goal.keep-requires-clause-rows
 keep-requires-clause-rows c =

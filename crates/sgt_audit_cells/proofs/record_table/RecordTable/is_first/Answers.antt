@@ -22,8 +22,8 @@ returns c r ns entries x there at on is =
     let at_s = got _ _ _ _ c.deref.ensures.value c.in-Some.ensures.lookup.0 c.in-Some.ensures.lookup.1 in
     let r_is = record-is t.base t.nodes.items t.slots.items c.args.self.now c.self.view_is c.args.number s r at_s there in
     let last = c.saturating_sub-last.ensures ∙ ap (λ n. n - t.base) c.last_in.ensures in
-    let same = ap (λ ns. chain ns c.saturating_sub-last.result) c.as_slice.ensures.value ∙ acts-are c.args.section t.base t.nodes.items s r c.saturating_sub-last.result r_is last in
-    let did = subst (λ d. IsTrue c.has_done.result ↔ Any (IsOf c.args.place (changes d)) (chain c.as_slice.result.now c.saturating_sub-last.result)) c.deed_of-deed.ensures c.has_done.ensures in
+    let same = ap (λ ns. chain ns c.saturating_sub-last.result) c.as_slice-2.ensures.value ∙ acts-are c.args.section t.base t.nodes.items s r c.saturating_sub-last.result r_is last in
+    let did = subst (λ d. IsTrue c.has_done.result ↔ Any (IsOf c.args.place (changes d)) (chain c.as_slice-2.result.now c.saturating_sub-last.result)) c.deed_of-deed.ensures c.has_done.ensures in
     not-decides c.has_done.result (Any (IsOf c.args.place (changes (deed_of e))) acts) (All (λ (f : Entry). (y : Name) → Repeats y f e → ⊥) entries)
     (subst (λ (acts : List Act). IsTrue c.has_done.result ↔ Any (IsOf c.args.place (changes (deed_of e))) acts) same did) (first-decides ns entries acts c.args.place x at e on is)
 
