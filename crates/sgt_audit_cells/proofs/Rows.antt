@@ -1,5 +1,5 @@
 -- Rows of bits, and what they show.
-use Rattle.std.proofs.Common.{◌≡◌, ◌⊎◌, ℕ, ◌+◌, ◌*◌, ◌/◌, ◌%◌, ◌^◌, ◌<◌, ◌≤◌, ◌-◌, suc, Bool, true, false, List, [], ◌∷◌, ◌++◌, length, get_or, replicate, Some, Any, refl, sym, ap, ◌∙◌, subst, arith, inl, inr, w64}
+use Rattle.std.proofs.Common.{◌≡◌, ◌⊎◌, ℕ, ◌*◌, ◌/◌, ◌%◌, ◌^◌, ◌<◌, ◌≤◌, ◌-◌, suc, Bool, true, false, List, [], ◌∷◌, ◌++◌, length, get_or, replicate, Some, Any, refl, sym, ap, ◌∙◌, subst, arith, inl, inr, w64}
 use Rattle.std.specs.Prelude.{◌↔◌, slice_get, slice_set, bit_or}
 use Rattle.std.specs.Int.{bit_at}
 use Rattle.std.proofs.lemmas.Bool.{cases_eq, cases_lt}
@@ -12,7 +12,7 @@ use Rattle.sgt_audit_cells.specs.declared.record.Node.{Node}
 use Rattle.sgt_audit_cells.specs.declared.row.Row.{Row}
 use Rattle.sgt_audit_cells.specs.private.Deeds.{IsOf}
 use Rattle.sgt_audit_cells.specs.private.Linked.{AreLinked, chain}
-use Rattle.sgt_audit_cells.specs.private.Rows.{HasBit, HasMark, Shows, IsRowOf, AreRows}
+use Rattle.sgt_audit_cells.specs.private.Rows.{HasBit, HasMark, IsRowOf, AreRows}
 use Rattle.sgt_audit_cells.proofs.Linked.{pushed-cases, any-pushed, any-last, chain-at}
 use Rattle.sgt_audit_cells.proofs.Lists.{set-at, set-other, some-at}
 
