@@ -1,5 +1,4 @@
-//! Tests of the auditor, of the serial run, of certificates for logs and of the crates that they stand on: what no proof reaches,
-//! and each public function on its happy path.
+//! Tests of the auditor, of the serial run, of certificates for logs and of pictures: what no proof reaches.
 #![tactic(auto)]
 
 #[cfg(test)]
@@ -7,14 +6,12 @@ mod bundles;
 #[cfg(test)]
 mod calls;
 #[cfg(test)]
-mod decisions;
-#[cfg(test)]
 mod devices;
 #[cfg(test)]
 mod faults;
 #[cfg(test)]
-mod runs;
+mod pictures;
 #[cfg(test)]
-mod sections;
+mod runs;
 #[cfg(test)]
 mod sound;

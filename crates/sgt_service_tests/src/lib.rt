@@ -14,10 +14,6 @@ mod pools;
 #[cfg(test)]
 mod runs;
 #[cfg(test)]
-mod schedules;
-#[cfg(test)]
-mod settling;
-#[cfg(test)]
 mod steps;
 #[cfg(test)]
 mod windows;
