@@ -1,4 +1,4 @@
-//! Tests of the auditor, of the serial run, of certificates for logs and of pictures: what no proof reaches.
+//! Tests of the auditor, of the serial run and of certificates for logs: what no proof reaches.
 #![tactic(auto)]
 
 #[cfg(test)]
@@ -9,8 +9,6 @@ mod calls;
 mod devices;
 #[cfg(test)]
 mod faults;
-#[cfg(test)]
-mod pictures;
 #[cfg(test)]
 mod runs;
 #[cfg(test)]

@@ -10,5 +10,7 @@ mod lanes;
 mod marks;
 mod scene;
 mod svg;
+#[cfg(test)]
+mod tests;
 
 pub use engine::{Wanted, draw};
