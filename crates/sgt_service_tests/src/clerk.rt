@@ -22,7 +22,7 @@ pub enum Errand {
 }
 
 /// How an errand fails.
-#[derive(Clone, Copy, PartialEq, Eq)]
+#[derive(Clone, Copy, Debug, PartialEq, Eq)]
 pub enum Mishap {
     Failed(u64),
     Memory,

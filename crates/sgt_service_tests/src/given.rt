@@ -1,9 +1,11 @@
-//! Sites and scripts from their lines, and what is put in the place of a certifier.
+//! Sites and scripts from their lines, and what is put in the place of a certifier or a site.
 
-use sgt_certifier::{Certifier, CertifierFault};
+use sgt_arena::Handle;
+use sgt_certifier::Certifier;
 use sgt_edges::EdgeList;
-use sgt_names::{Holding, Listed};
+use sgt_names::{Draft, Holding, Item, Listed, SiteNo, Tx};
 use sgt_notation::{Script, read_script, read_site};
+use sgt_site::Site;
 use std::alloc::Global;
 use std::test::Fail;
 
@@ -24,20 +26,33 @@ pub fn scripts_of(alloc: Global, lines: &[&str]) -> Result<Vec<Script>, Fail> {
     Ok(scripts)
 }
 
-/// Commits a transaction that installs nothing, and begins another.
-fn serve(certifier: &mut Certifier, edges: EdgeList) -> Result<(), CertifierFault> {
-    let (tx, handle) = certifier.begin()?;
-    certifier.decide(handle, edges)?;
-    certifier.finish_step(tx)?;
-    certifier.begin()?;
-    Ok(())
+// A draft that writes the item at site 0.
+fn write_of(alloc: Global, item: Item) -> Result<Draft, Fail> {
+    let mut draft = Draft::new(alloc);
+    draft.put(SiteNo::new(0)?, item, 6)?;
+    Ok(draft)
 }
 
-/// A certifier whose first transaction installed nothing, and whose second is active.
-pub fn other_certifier(alloc: Global) -> Option<Certifier> {
+/// A certifier whose first transaction installed the item at site 0, and whose second may be active.
+pub fn other_certifier(alloc: Global, item: Item, is_active: bool) -> Result<Certifier, Fail> {
     let mut certifier = Certifier::new(alloc);
-    if serve(&mut certifier, EdgeList::new(alloc)).is_err() {
-        return None;
+    let draft = write_of(alloc, item)?;
+    let (tx, handle) = certifier.begin()?;
+    certifier.expect(handle, &draft)?;
+    certifier.decide(handle, EdgeList::new(alloc))?;
+    certifier.installed(tx, SiteNo::new(0)?, &draft)?;
+    certifier.finish_step(tx)?;
+    if is_active {
+        certifier.begin()?;
     }
-    Some(certifier)
+    Ok(certifier)
+}
+
+/// Site 0 with these items, where transaction 1 wrote this one.
+pub fn other_site(alloc: Global, items: &[Holding], item: Item) -> Result<Site, Fail> {
+    let mut site = Site::new(alloc, SiteNo::new(0)?, items)?;
+    let draft = write_of(alloc, item)?;
+    site.pledge(Tx::new(1)?, &draft)?;
+    site.install(Tx::new(1)?, Handle::default(), &draft)?;
+    Ok(site)
 }

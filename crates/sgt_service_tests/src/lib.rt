@@ -14,6 +14,10 @@ mod pools;
 #[cfg(test)]
 mod runs;
 #[cfg(test)]
+mod schedules;
+#[cfg(test)]
+mod settling;
+#[cfg(test)]
 mod steps;
 #[cfg(test)]
 mod windows;

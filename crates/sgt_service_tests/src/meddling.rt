@@ -1,14 +1,16 @@
-//! Runs whose locks somebody takes behind the service's back.
+//! Runs whose locks somebody takes behind the service's back, and runs whose tickets are changed.
 
 ghost use Rattle.std.specs.Prelude.{◌≡◌};
 
-use crate::given::{scripts_of, sites_of};
+use crate::given::{other_certifier, other_site, scripts_of, sites_of};
+use sgt_certifier::Certifier;
 use sgt_names::{Holding, Item, Listed, SiteNo, Tx};
 use sgt_notation::Script;
 use sgt_service::{run, settle};
 use sgt_service_agreement::ServiceFault;
 use sgt_service_locks::{Seat, Service};
-use sgt_workers::{Gate, Place, PoolFail};
+use sgt_site::Site;
+use sgt_workers::{Done, Ending, Gate, Place, PoolFail, Ticket};
 use std::alloc::Global;
 use std::marker::Brand;
 use std::sync::Wait;
@@ -52,8 +54,16 @@ impl<'a, L: Ledger, R: Wait> Gate for Meddler<'a, L, R> {
     }
 }
 
+// What is put in its place once the run is over.
+#[derive(Drop)]
+enum Exchanged {
+    Nothing,
+    Certifier(Certifier),
+    Site(Site),
+}
+
 // How a run ends.
-#[derive(Clone, Copy, PartialEq, Eq)]
+#[derive(Clone, Copy, Debug, PartialEq, Eq)]
 enum End {
     // With this fault, and `begin` at another seat with that one.
     Stopped(ServiceFault, ServiceFault),
@@ -61,7 +71,27 @@ enum End {
     Settled,
 }
 
-// How a run with the first of two seats ends, settled with both. None: it came to no end.
+/// Puts another certifier with as many decisions behind the lock.
+pub fn replace<L: Ledger, R: Wait>(rt: &R, service: &Service<L>, other: Certifier) -> bool {
+    service.certifier.lock(rt).exchange_in_a_test(other)
+}
+
+fn exchange<L: Ledger, R: Wait>(rt: &R, service: &Service<L>, exchanged: Exchanged) -> bool {
+    match exchanged {
+        Exchanged::Nothing => true,
+        Exchanged::Certifier(other) => replace(rt, service, other),
+        Exchanged::Site(other) => match service.sites.first() {
+            Some(site) => {
+                *site.lock(rt) = other;
+                true
+            }
+            None => false,
+        },
+    }
+}
+
+// How a run with the first of two seats ends, settled with both; its callers were told what they were told, or this. None: it came to
+// no end.
 fn ended<L: Ledger + Send + Sync, R: Threads + Wait + Sync>(
     rt: &R,
     alloc: Global,
@@ -69,6 +99,8 @@ fn ended<L: Ledger + Send + Sync, R: Threads + Wait + Sync>(
     sites: &[Listed<Holding>],
     scripts: &[Script],
     does: Meddling,
+    exchanged: Exchanged,
+    told: Option<Vec<Done>>,
 ) -> Option<End>
     requires { (blank.name ≡ L.name) × (blank.parts ≡ L.parts) × (blank.parts ≡ 2) }
 {
@@ -87,10 +119,11 @@ fn ended<L: Ledger + Send + Sync, R: Threads + Wait + Sync>(
     };
     match run(rt, alloc, &service, seats, scripts, 1, &gate) {
         Ok((dones, mut seats)) => {
-            if seats.push(second).is_err() {
+            let is_exchanged = exchange(rt, &service, exchanged);
+            if seats.push(second).is_err() || !is_exchanged {
                 return None;
             }
-            match settle(alloc, service, dones, seats) {
+            match settle(alloc, service, told.unwrap_or(dones), seats) {
                 Ok(_) => Some(End::Settled),
                 Err(fault) => Some(End::Unsettled(fault)),
             }
@@ -119,6 +152,7 @@ fn changed<R: Threads + Wait + Sync>(
     rt: &R,
     alloc: Global,
     does: Meddling,
+    exchanged: Exchanged,
 ) -> Result<Option<End>, Fail> {
     let sites = sites_of(alloc, &["site 0 x=5 y=2"]).ok_or("no sites")?;
     let scripts = scripts_of(alloc, &["w[0.x]=7"])?;
@@ -129,13 +163,34 @@ fn changed<R: Threads + Wait + Sync>(
         sites.as_slice(),
         scripts.as_slice(),
         does,
+        exchanged,
+        None,
     ))
+}
+
+// The same with another site in its place, as many of whose installs are of y.
+fn exchanged_site<R: Threads + Wait + Sync>(rt: &R, alloc: Global) -> Result<Option<End>, Fail> {
+    let (x, y) = (Item::new(b"x")?, Item::new(b"y")?);
+    let items = [Holding { item: x, value: 5 }, Holding { item: y, value: 2 }];
+    let other = other_site(alloc, &items, y)?;
+    changed(rt, alloc, Meddling::Nothing, Exchanged::Site(other))
+}
+
+// And with another certifier.
+fn exchanged_certifier<R: Threads + Wait + Sync>(
+    rt: &R,
+    alloc: Global,
+) -> Result<Option<End>, Fail> {
+    let other = other_certifier(alloc, Item::new(b"y")?, false)?;
+    changed(rt, alloc, Meddling::Nothing, Exchanged::Certifier(other))
 }
 
 #[test]
 fn site_changed_under_the_lock(rt: HostRuntime) -> Result<(), Fail> {
+    let alloc = rt.alloc();
     let zero = SiteNo::new(0)?;
     let lost = ServiceFault::NotPledged(zero);
+    let differs = End::Unsettled(ServiceFault::VersionsDiffer(zero));
     let rows = [
         (Meddling::Nothing, End::Settled),
         (Meddling::Unpledge(Tx::new(1)?), End::Stopped(lost, lost)),
@@ -145,7 +200,114 @@ fn site_changed_under_the_lock(rt: HostRuntime) -> Result<(), Fail> {
         ),
     ];
     for (does, end) in rows {
-        assert!(rt; changed(&rt, rt.alloc(), does)? == Some(end));
+        assert_eq!(rt; changed(&rt, alloc, does, Exchanged::Nothing)?, Some(end));
+    }
+    // as many decisions and installs, but of another item
+    assert_eq!(rt; exchanged_certifier(&rt, alloc)?, Some(differs));
+    assert_eq!(rt; exchanged_site(&rt, alloc)?, Some(differs));
+    Ok(())
+}
+
+/// A ticket, by its number and transaction.
+#[derive(Clone, Copy)]
+pub struct Told {
+    pub number: u64,
+    pub tx: u64,
+    pub verdict: Ending,
+}
+
+/// The ticket of the commit of this number, which is of the transaction after it.
+pub fn commit_of(number: u64) -> Told {
+    Told {
+        number,
+        tx: number.saturating_add(1),
+        verdict: Ending::Committed,
+    }
+}
+
+fn done(alloc: Global, job: u64, told: &[Told]) -> Result<Done, Fail> {
+    let mut tickets = Vec::new(alloc);
+    for one in told {
+        tickets.push(Ticket {
+            number: one.number,
+            tx: Tx::new(one.tx)?,
+            verdict: one.verdict,
+        })?;
+    }
+    Ok(Done {
+        job,
+        tickets,
+        reads: Vec::new(alloc),
+    })
+}
+
+/// Two jobs that were told these tickets.
+pub fn dones(alloc: Global, first: &[Told], second: &[Told]) -> Result<Vec<Done>, Fail> {
+    let mut dones = Vec::new(alloc);
+    dones.push(done(alloc, 1, first)?)?;
+    dones.push(done(alloc, 2, second)?)?;
+    Ok(dones)
+}
+
+// How a run of a write that is read back ends, whose callers were told these tickets.
+fn told_otherwise<R: Threads + Wait + Sync>(
+    rt: &R,
+    alloc: Global,
+    first: &[Told],
+    second: &[Told],
+) -> Result<Option<End>, Fail> {
+    let told = dones(alloc, first, second)?;
+    let sites = sites_of(alloc, &["site 0 x=5 y=0"]).ok_or("no sites")?;
+    let scripts = scripts_of(alloc, &["w[0.x]=7", "r[0.x] w[0.y]=0.x+1"])?;
+    Ok(ended::<Brand, _>(
+        rt,
+        alloc,
+        Blank::new(2),
+        sites.as_slice(),
+        scripts.as_slice(),
+        Meddling::Nothing,
+        Exchanged::Nothing,
+        Some(told),
+    ))
+}
+
+#[test]
+fn foreign_tickets(rt: HostRuntime) -> Result<(), Fail> {
+    let alloc = rt.alloc();
+    let (first, second) = (commit_of(0), commit_of(1));
+    let refused = Told {
+        verdict: Ending::Refused,
+        ..second
+    };
+    let fifth = Told {
+        number: 5,
+        ..second
+    };
+    let stray = End::Unsettled(ServiceFault::StrayTicket(1));
+    let far = End::Unsettled(ServiceFault::StrayTicket(5));
+    let rows: [(&[Told], &[Told], End); 7] = [
+        (&[first], &[second], End::Settled),
+        (&[first], &[refused], stray),
+        (&[first], &[fifth], far),
+        (
+            &[commit_of(0), commit_of(0)],
+            &[second],
+            End::Unsettled(ServiceFault::TwoTickets(0)),
+        ),
+        (&[commit_of(0), commit_of(0)], &[fifth], far),
+        (
+            &[first],
+            &[],
+            End::Unsettled(ServiceFault::MissingTicket(1)),
+        ),
+        (
+            &[],
+            &[second, first],
+            End::Unsettled(ServiceFault::TicketOrder(2)),
+        ),
+    ];
+    for row in &rows {
+        assert_eq!(rt; told_otherwise(&rt, alloc, row.0, row.1)?, Some(row.2));
     }
     Ok(())
 }

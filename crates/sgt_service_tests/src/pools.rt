@@ -7,8 +7,7 @@ use sgt_names::SiteNo;
 use sgt_service_agreement::ServiceFault;
 use sgt_site::SiteFault;
 use sgt_workers::{Done, Place, PoolFail, PoolFault, pool};
-use std::alloc::{AllocError, Global};
-use std::fmt::Display;
+use std::alloc::Global;
 use std::sync::Wait;
 use std::test::Fail;
 use std::thread::Threads;
@@ -68,7 +67,8 @@ fn a_fault_with_the_others_joined(rt: HostRuntime) -> Result<(), Fail> {
         let clerk = Clerk::new(rt.alloc(), &gate);
         let errands = [Errand::Read(held, 0), errand];
         let ended = ended(&rt, rt.alloc(), &clerk, &errands, 2);
-        assert!(rt; ended == Some(Err(Some(mishap))) && clerk.calls() == (2, 2));
+        assert_eq!(rt; ended, Some(Err(Some(mishap))));
+        assert_eq!(rt; clerk.calls(), (2, 2));
         assert!(rt; !gate.failed());
     }
     Ok(())
@@ -85,47 +85,43 @@ fn each_job_is_run_once(rt: HostRuntime) -> Result<(), Fail> {
     for (jobs, workers) in [(0, 1), (0, 3), (2, 5), (1000, 16)] {
         let clerk = Clerk::new(rt.alloc(), &gate);
         let ended = ended(&rt, rt.alloc(), &clerk, &errands[..jobs], workers);
-        assert!(rt; ended == Some(Ok(jobs)) && clerk.calls() == (jobs as u64, jobs as u64));
+        assert_eq!(rt; ended, Some(Ok(jobs)));
+        assert_eq!(rt; clerk.calls(), (jobs as u64, jobs as u64));
     }
     Ok(())
 }
 
-fn starts(alloc: Global, fault: &impl Display, start: &str) -> Result<bool, AllocError> {
-    Ok(format!(in alloc; "{fault}")?.starts_with(start))
-}
-
-const POOLS: [(PoolFault, &str); 3] = [
-    (PoolFault::Memory, "P1: "),
-    (PoolFault::Unrun(7), "P2: job 7 "),
-    (PoolFault::Doubled(7), "P3: job 7 "),
-];
-
-const SERVICES: [(ServiceFault, &str); 8] = [
-    (ServiceFault::StrayTicket(5), "V1: "),
-    (ServiceFault::TwoTickets(5), "V2: "),
-    (ServiceFault::Memory, "V3: "),
-    (ServiceFault::Site(SiteFault::UnknownItem), "V4: S1: "),
-    (
-        ServiceFault::Certifier(CertifierFault::WindowFull),
-        "V4: C1: ",
-    ),
-    (ServiceFault::SumTooLarge, "V5: "),
-    (ServiceFault::MissingTicket(5), "V6: "),
-    (ServiceFault::TicketOrder(5), "V8: "),
-];
-
 #[test]
 fn faults_begin_with_their_names(rt: HostRuntime) -> Result<(), Fail> {
-    for (fault, start) in POOLS {
-        assert!(rt; starts(rt.alloc(), &fault, start)?, "{start}");
-    }
-    for (fault, start) in SERVICES {
-        assert!(rt; starts(rt.alloc(), &fault, start)?, "{start}");
+    let pools = [
+        (PoolFault::Memory, "P1: "),
+        (PoolFault::Unrun(7), "P2: job 7 "),
+        (PoolFault::Doubled(7), "P3: job 7 "),
+    ];
+    for (fault, start) in pools {
+        let text = format!(in rt.alloc(); "{fault}")?;
+        assert!(rt; text.as_str().starts_with(start), "{text}");
     }
     let site = SiteNo::new(3)?;
-    let lost = starts(rt.alloc(), &ServiceFault::NotPledged(site), "V7: site 3 ")?;
-    let log = starts(rt.alloc(), &ServiceFault::LogDiffers(site), "V9: ")?;
-    let versions = starts(rt.alloc(), &ServiceFault::VersionsDiffer(site), "V10: ")?;
-    assert!(rt; lost && log && versions);
+    let services = [
+        (ServiceFault::StrayTicket(5), "V1: "),
+        (ServiceFault::TwoTickets(5), "V2: "),
+        (ServiceFault::Memory, "V3: "),
+        (ServiceFault::Site(SiteFault::UnknownItem), "V4: S1: "),
+        (
+            ServiceFault::Certifier(CertifierFault::WindowFull),
+            "V4: C1: ",
+        ),
+        (ServiceFault::SumTooLarge, "V5: "),
+        (ServiceFault::MissingTicket(5), "V6: "),
+        (ServiceFault::NotPledged(site), "V7: site 3 "),
+        (ServiceFault::TicketOrder(5), "V8: "),
+        (ServiceFault::LogDiffers(site), "V9: "),
+        (ServiceFault::VersionsDiffer(site), "V10: "),
+    ];
+    for (fault, start) in services {
+        let text = format!(in rt.alloc(); "{fault}")?;
+        assert!(rt; text.as_str().starts_with(start), "{text}");
+    }
     Ok(())
 }

@@ -1,9 +1,9 @@
-//! Schedules that gates bring about. Runs of one worker, and devices that fail, stand in `sgt_rows`.
+//! Whole runs over memory, schedules that gates bring about, and devices that fail.
 
 use crate::gates::{HoldThree, HoldUntil, SixteenTake};
-use sgt_names::{BadNumber, MemSink, MemSource, Outcome, SiteNo};
-use sgt_service::run_scripts;
-use sgt_workers::Place;
+use sgt_names::{EngineFail, MemSink, MemSource, Outcome, SiteNo};
+use sgt_service::{Reading, read_input, run_scripts};
+use sgt_workers::{NoGate, Place};
 use std::alloc::Global;
 use std::sync::Wait;
 use std::test::Fail;
@@ -12,8 +12,122 @@ use std::thread::Threads;
 /// Room for what a run writes.
 const ROOM: usize = 8_192;
 
-// One reads between two blocks of the other's step: an item that is written, and one that isn't yet. It is refused; tried again, it reads
-// both as they were written. Which of the two begins first isn't fixed.
+// A write is read back.
+const INPUT: &str = "site 0 x=5 y=0\nw[0.x]=7\nr[0.x] w[0.y]=0.x+1\n";
+
+const OUTPUT: &str = "s1 committed 1 tries 1
+s2 committed 2 tries 1
+yes 2 committed 0 refused 0 withdrawn
+---
+sgt 1
+{\"decisions\":[{\"commit\":1,\"rank\":0},{\"commit\":2,\"rank\":1}],\"sites\":1}
+site 0
+item x=5
+item y=0
+w1[x]=7
+c1
+r2[x]=7
+w2[y]=8
+c2
+final x=7
+final y=8
+end
+";
+
+// A sum above the greatest value.
+const LARGE: &str = "site 0 x=18446744073709551615\nr[0.x] w[0.x]=0.x+1\n";
+
+const WITHDRAWN: &str = "s1 withdrawn 1 tries 1
+yes 0 committed 0 refused 1 withdrawn
+---
+sgt 1
+{\"decisions\":[{\"withdraw\":1}],\"sites\":1}
+site 0
+item x=18446744073709551615
+r1[x]=18446744073709551615
+a1
+final x=18446744073709551615
+end
+";
+
+// No script.
+const NONE: &str = "yes 0 committed 0 refused 0 withdrawn
+---
+sgt 1
+{\"decisions\":[],\"sites\":1}
+site 0
+item x=5
+final x=5
+end
+";
+
+const ROWS: [(&str, &str, Outcome); 6] = [
+    (INPUT, OUTPUT, Outcome::Yes),
+    (LARGE, WITHDRAWN, Outcome::No),
+    ("site 0 x=5\n", NONE, Outcome::Yes),
+    // an item that isn't there, a source that no earlier operation names, no line at all
+    (
+        "site 0 x=5\nw[0.x]=1\nr[0.q]\n",
+        "! L1 line 3\n",
+        Outcome::Unreadable,
+    ),
+    (
+        "site 0 x=5\nd[0.x]=1 w[0.x]=0.x+1\n",
+        "! L1 line 2\n",
+        Outcome::Unreadable,
+    ),
+    ("", "! L1 line 1\n", Outcome::Unreadable),
+];
+
+// How a run of one worker ends, of whose input one byte is read at a time.
+fn ended<R: Threads + Wait + Sync>(
+    rt: &R,
+    alloc: Global,
+    input: &str,
+    fail_at: Option<u64>,
+    writer: &mut MemSink,
+) -> Result<Outcome, EngineFail> {
+    let mut reader = MemSource::new(input.as_bytes(), 1, fail_at);
+    run_scripts(rt, alloc, &mut reader, writer, 1, 4, &NoGate)
+}
+
+#[test]
+fn rows_of_one_worker(rt: HostRuntime) -> Result<(), Fail> {
+    for (input, output, outcome) in ROWS {
+        let mut writer = MemSink::new(rt.alloc(), ROOM)?;
+        let ended = ended(&rt, rt.alloc(), input, None, &mut writer);
+        assert_eq!(rt; ended, Ok(outcome));
+        assert_eq!(rt; writer.bytes(), output.as_bytes());
+    }
+    let mut reader = MemSource::new(INPUT.as_bytes(), 7, None);
+    let reading = read_input(rt.alloc(), &mut reader)?;
+    assert!(rt; matches!(&reading, Reading::Readable(_)));
+    Ok(())
+}
+
+// Of a write that is read back. The last read, which would tell the end of the input, has the number of its bytes and one more.
+#[test]
+fn readers_that_fail(rt: HostRuntime) -> Result<(), Fail> {
+    for at in 1..=INPUT.len() as u64 + 1 {
+        let mut writer = MemSink::new(rt.alloc(), ROOM)?;
+        let ended = ended(&rt, rt.alloc(), INPUT, Some(at), &mut writer);
+        assert_eq!(rt; ended, Err(EngineFail::ReadFault), "at read {at}");
+        assert!(rt; writer.bytes().is_empty());
+    }
+    Ok(())
+}
+
+#[test]
+fn writers_that_fail(rt: HostRuntime) -> Result<(), Fail> {
+    for takes in 0..OUTPUT.len() {
+        let mut writer = MemSink::new(rt.alloc(), takes)?;
+        let ended = ended(&rt, rt.alloc(), INPUT, None, &mut writer);
+        assert_eq!(rt; ended, Err(EngineFail::WriteFault), "with room for {takes}");
+        assert_eq!(rt; writer.bytes(), &OUTPUT.as_bytes()[..takes]);
+    }
+    Ok(())
+}
+
 const BETWEEN: &str = "site 0 x=5
 site 1 u=0
 site 2 y=2
@@ -23,6 +137,7 @@ r[3.a] w[0.x]=6 w[1.u]=1 w[2.y]=3
 r[4.b] r[0.x] r[2.y]
 ";
 
+// Which of the two begins first isn't fixed.
 const REFUSED: [&str; 2] = [
     "s1 committed 1 tries 1
 s2 refused 2 tries 1
@@ -53,172 +168,37 @@ yes 2 committed 1 refused 0 withdrawn
 ",
 ];
 
-// One reads an item while the other, which is to write it, has its step open: it is decided later, and comes before.
-const IN_STEP: &str = "site 0 x=5
-site 1 y=2
-site 2 z=1
-r[2.z] w[0.x]=6
-r[1.y] r[0.x]
-";
-
-const BEFORE: [&str; 2] = [
-    "s1 committed 1 tries 1
-s2 committed 2 tries 1
-yes 2 committed 0 refused 0 withdrawn
----
-sgt 1
-{\"decisions\":[{\"commit\":1,\"rank\":1},{\"commit\":2,\"rank\":0}],\"sites\":3}
-",
-    "s1 committed 2 tries 1
-s2 committed 1 tries 1
-yes 2 committed 0 refused 0 withdrawn
----
-sgt 1
-{\"decisions\":[{\"commit\":2,\"rank\":1},{\"commit\":1,\"rank\":0}],\"sites\":3}
-",
-];
-
-// One reads at its site, where it is held under the site's lock until the other has read at another.
-const AT_ONCE: &str = "site 0 x=5
-site 1 y=2
-r[0.x]
-r[1.y]
-";
-
-const BOTH: [&str; 2] = [
-    "s1 committed 1 tries 1
-s2 committed 2 tries 1
-yes 2 committed 0 refused 0 withdrawn
-",
-    "s1 committed 2 tries 1
-s2 committed 1 tries 1
-yes 2 committed 0 refused 0 withdrawn
-",
-];
-
-/// A place at the site of this number.
-#[derive(Clone, Copy)]
-enum At {
-    InRead(u64),
-    AfterRead(u64),
-    InStep,
-    InInstall(u64),
-}
-
-/// A run of two workers.
-struct Schedule {
-    input: &'static str,
-    /// Who arrives at the first of two places is held there until somebody arrives at the second.
-    holds: [(At, At); 3],
-    tries: u64,
-    outcome: Outcome,
-    /// How what is written begins, where the first script's transaction is the first that begins, and where the second's is.
-    starts: [&'static str; 2],
-    /// Lines that stand in it then.
-    lines: [[&'static str; 2]; 2],
-}
-
-const HOLDS_BETWEEN: [(At, At); 3] = [
-    (At::AfterRead(3), At::AfterRead(4)),
-    (At::AfterRead(4), At::InInstall(1)),
-    (At::InInstall(1), At::AfterRead(2)),
-];
-
-const SCHEDULES: [Schedule; 4] = [
-    Schedule {
-        input: BETWEEN,
-        holds: HOLDS_BETWEEN,
-        tries: 1,
-        outcome: Outcome::No,
-        starts: REFUSED,
-        lines: [["r2[x]=6", "r2[y]=2"], ["r1[x]=6", "r1[y]=2"]],
-    },
-    Schedule {
-        input: BETWEEN,
-        holds: HOLDS_BETWEEN,
-        tries: 2,
-        outcome: Outcome::Yes,
-        starts: TRIED_AGAIN,
-        lines: [["r3[x]=6", "r3[y]=3"], ["r3[x]=6", "r3[y]=3"]],
-    },
-    Schedule {
-        input: IN_STEP,
-        holds: [
-            (At::AfterRead(2), At::AfterRead(1)),
-            (At::AfterRead(1), At::InStep),
-            (At::InStep, At::AfterRead(0)),
-        ],
-        tries: 1,
-        outcome: Outcome::Yes,
-        starts: BEFORE,
-        lines: [["r2[x]=5", "r2[y]=2"], ["r1[x]=5", "r1[y]=2"]],
-    },
-    Schedule {
-        input: AT_ONCE,
-        holds: [
-            (At::InRead(0), At::AfterRead(1)),
-            (At::AfterRead(1), At::AfterRead(1)),
-            (At::InStep, At::InStep),
-        ],
-        tries: 1,
-        outcome: Outcome::Yes,
-        starts: BOTH,
-        lines: [["r1[x]=5", "r2[y]=2"], ["r2[x]=5", "r1[y]=2"]],
-    },
-];
-
-fn place_of(at: At) -> Result<Place, BadNumber> {
-    Ok(match at {
-        At::InRead(site) => Place::InRead(SiteNo::new(site)?),
-        At::AfterRead(site) => Place::AfterRead(SiteNo::new(site)?),
-        At::InStep => Place::InStep,
-        At::InInstall(site) => Place::InInstall(SiteNo::new(site)?),
-    })
-}
-
-fn hold_of(hold: (At, At)) -> Result<HoldUntil, BadNumber> {
-    Ok(HoldUntil::new(place_of(hold.0)?, place_of(hold.1)?))
-}
-
-/// Whether this was written.
-fn is_told(written: &[u8], schedule: &Schedule) -> bool {
-    let Ok(text) = str::from_utf8(written) else {
-        return false;
-    };
-    let order = if text.starts_with(schedule.starts[0]) {
-        0
-    } else {
-        1
-    };
-    let [first, second] = schedule.lines[order];
-    text.starts_with(schedule.starts[order]) && text.contains(first) && text.contains(second)
-}
-
-/// Whether the run ends as told.
-fn ends<R: Threads + Wait + Sync>(
-    rt: &R,
-    alloc: Global,
-    schedule: &Schedule,
-    gate: &HoldThree,
-) -> bool {
-    let mut reader = MemSource::new(schedule.input.as_bytes(), 64, None);
-    let Ok(mut writer) = MemSink::new(alloc, ROOM) else {
-        return false;
-    };
-    let tries = schedule.tries;
-    match run_scripts(rt, alloc, &mut reader, &mut writer, 2, tries, gate) {
-        Ok(outcome) => outcome == schedule.outcome && is_told(writer.bytes(), schedule),
-        Err(_) => false,
-    }
-}
-
+// One reads between two blocks of the other's step: an item that is written, and one that isn't yet. It is refused; tried again, it reads
+// both as they were written.
 #[test]
-fn schedules(rt: HostRuntime) -> Result<(), Fail> {
-    for schedule in &SCHEDULES {
-        let [first, second, third] = schedule.holds;
-        let gate = HoldThree::new(hold_of(first)?, hold_of(second)?, hold_of(third)?);
-        let is_so = ends(&rt, rt.alloc(), schedule, &gate);
-        assert!(rt; is_so && !gate.failed(), "{}", schedule.input);
+fn read_between_blocks(rt: HostRuntime) -> Result<(), Fail> {
+    let (inner, last) = (SiteNo::new(1)?, SiteNo::new(2)?);
+    let (mine, other) = (SiteNo::new(3)?, SiteNo::new(4)?);
+    let again = (["r3[x]=6", "r3[x]=6"], ["r3[y]=3", "r3[y]=3"]);
+    let rows = [
+        (
+            1,
+            Outcome::No,
+            REFUSED,
+            (["r2[x]=6", "r1[x]=6"], ["r2[y]=2", "r1[y]=2"]),
+        ),
+        (2, Outcome::Yes, TRIED_AGAIN, again),
+    ];
+    for (tries, outcome, starts, reads) in rows {
+        let gate = HoldThree::new(
+            HoldUntil::new(Place::AfterRead(mine), Place::AfterRead(other)),
+            HoldUntil::new(Place::AfterRead(other), Place::InInstall(inner)),
+            HoldUntil::new(Place::InInstall(inner), Place::AfterRead(last)),
+        );
+        let mut reader = MemSource::new(BETWEEN.as_bytes(), 64, None);
+        let mut writer = MemSink::new(rt.alloc(), ROOM)?;
+        let ended = run_scripts(&rt, rt.alloc(), &mut reader, &mut writer, 2, tries, &gate);
+        assert!(rt; !gate.failed());
+        assert_eq!(rt; ended, Ok(outcome));
+        let written = str::from_utf8(writer.bytes())?;
+        let order = if written.starts_with(starts[0]) { 0 } else { 1 };
+        assert!(rt; written.starts_with(starts[order]));
+        assert!(rt; written.contains(reads.0[order]) && written.contains(reads.1[order]));
     }
     Ok(())
 }
@@ -234,7 +214,8 @@ fn sixteen_that_read(rt: HostRuntime) -> Result<(), Fail> {
     let mut reader = MemSource::new(input.as_bytes(), 64, None);
     let mut writer = MemSink::new(rt.alloc(), ROOM)?;
     let ended = run_scripts(&rt, rt.alloc(), &mut reader, &mut writer, 16, 1, &gate);
-    assert!(rt; !gate.failed() && ended == Ok(Outcome::Yes));
+    assert!(rt; !gate.failed());
+    assert_eq!(rt; ended, Ok(Outcome::Yes));
     let written = str::from_utf8(writer.bytes())?;
     assert!(rt; written.contains("yes 16 committed 0 refused 0 withdrawn\n"));
     Ok(())

@@ -2,233 +2,226 @@
 
 ghost use Rattle.std.specs.Prelude.{◌≡◌};
 
-use sgt_certifier::{Certifier, CertifierFault};
+use crate::meddling::replace;
+use sgt_certifier::Certifier;
 use sgt_names::{Holding, Item, Listed, SiteNo, Value};
 use sgt_service::{Settled, settle};
 use sgt_service_agreement::ServiceFault;
-use sgt_service_locks::{Active, Seat, Service};
+use sgt_service_locks::{Active, Back, Seat, Service};
 use sgt_workers::{Done, Ticket};
 use std::alloc::Global;
 use std::sync::Wait;
 use std::sync::ledger::{Blank, Ledger};
 
-/// A call. What is read and changed is x or y of site 0.
+/// A call. What is read and changed is at site 0.
 #[derive(Clone, Copy)]
 pub enum Step {
     Begin,
-    ReadX,
-    PutX(Value),
-    PutY(Value),
+    Read(Item),
+    Put(Item, Value),
+    Add(Item, Value),
     Commit,
+    Withdraw,
     Close,
 }
 
 /// What a call answers.
-#[derive(Clone, Copy, PartialEq, Eq)]
+#[derive(Clone, Copy, Debug, PartialEq, Eq)]
 pub enum Answer {
     /// The transaction's number, and the generation of its handle.
     Begun(u32, u32),
     Seen(Value),
     Kept,
-    /// The ticket's number, and its transaction's.
-    Ended(u64, u32),
+    Ended(Ticket),
     Closed(u64),
-    /// So many transactions are active.
-    ActiveLeft(u64),
-    /// V7, and whether it is a commit whose transaction came back.
-    Lost(bool),
-    Memory,
-    Other,
+    Refused(ServiceFault),
+    /// The same, of a commit or a withdrawal, whose transaction came back.
+    CameBack(ServiceFault),
+    NotBegun,
 }
 
-/// The transaction that is active, if one is, and the tickets so far.
-#[derive(Drop)]
-struct Standing {
-    active: Option<Active>,
-    tickets: Vec<Ticket>,
-}
-
-fn fault_of(fault: ServiceFault, came_back: bool) -> Answer {
-    match fault {
-        ServiceFault::Memory => Answer::Memory,
-        ServiceFault::NotPledged(_) => Answer::Lost(came_back),
-        ServiceFault::Certifier(CertifierFault::ActiveLeft(count)) => Answer::ActiveLeft(count),
-        _ => Answer::Other,
-    }
-}
-
-fn begin<L: Ledger, R: Wait>(
-    rt: &R,
-    service: &Service<L>,
-    seat: &mut Seat<L>,
-    standing: &mut Standing,
-) -> Answer {
-    let alloc = *standing.tickets.allocator();
-    match service.begin(rt, alloc, seat) {
-        Ok(begun) => {
-            let answer = Answer::Begun(begun.tx().number(), begun.handle().generation);
-            standing.active = Some(begun);
-            answer
-        }
-        Err(fault) => fault_of(fault, false),
-    }
-}
-
-fn commit<L: Ledger, R: Wait>(
-    rt: &R,
-    service: &Service<L>,
-    seat: &mut Seat<L>,
-    standing: &mut Standing,
-) -> Answer {
-    let alloc = *standing.tickets.allocator();
-    let Some(active) = standing.active.take() else {
-        return Answer::Other;
-    };
-    match service.commit(rt, alloc, seat, active) {
-        Ok(ticket) => {
-            let answer = Answer::Ended(ticket.number, ticket.tx.number());
-            match standing.tickets.push(ticket) {
-                Ok(()) => answer,
-                Err(_) => Answer::Other,
-            }
-        }
-        Err(back) => {
-            let came_back = back.active.is_some();
-            standing.active = back.active;
-            fault_of(back.fault, came_back)
-        }
-    }
-}
-
-// Reads the item, or puts a value to it.
+// Reads, or keeps a change.
 fn touch<L: Ledger, R: Wait>(
     rt: &R,
     service: &Service<L>,
     seat: &mut Seat<L>,
     active: &mut Active,
-    name: &[u8],
-    put: Option<Value>,
+    site: SiteNo,
+    step: &Step,
 ) -> Answer {
-    let (Ok(site), Ok(item)) = (SiteNo::new(0), Item::new(name)) else {
-        return Answer::Other;
+    let kept = match *step {
+        Step::Read(item) => {
+            return match service.read(rt, seat, active, site, item) {
+                Ok(value) => Answer::Seen(value),
+                Err(fault) => Answer::Refused(fault),
+            };
+        }
+        Step::Put(item, value) => service.put(active, site, item, value),
+        Step::Add(item, value) => service.add(active, site, item, value),
+        _ => return Answer::NotBegun,
     };
-    match put {
-        Some(value) => match service.put(active, site, item, value) {
-            Ok(()) => Answer::Kept,
-            Err(fault) => fault_of(fault, false),
-        },
-        None => match service.read(rt, seat, active, site, item) {
-            Ok(value) => Answer::Seen(value),
-            Err(fault) => fault_of(fault, false),
-        },
+    match kept {
+        Ok(()) => Answer::Kept,
+        Err(fault) => Answer::Refused(fault),
+    }
+}
+
+// Commits or withdraws, and answers what comes back.
+fn end<L: Ledger, R: Wait>(
+    rt: &R,
+    alloc: Global,
+    service: &Service<L>,
+    seat: &mut Seat<L>,
+    active: Active,
+    step: &Step,
+) -> (Answer, Option<Active>) {
+    let ended = match *step {
+        Step::Commit => service.commit(rt, alloc, seat, active),
+        _ => service.withdraw(rt, seat, active),
+    };
+    match ended {
+        Ok(ticket) => (Answer::Ended(ticket), None),
+        Err(Back { active, fault }) => {
+            if active.is_some() {
+                return (Answer::CameBack(fault), active);
+            }
+            (Answer::Refused(fault), None)
+        }
     }
 }
 
 // What a call answers.
 fn call<L: Ledger, R: Wait>(
     rt: &R,
+    alloc: Global,
     service: &Service<L>,
     seat: &mut Seat<L>,
-    standing: &mut Standing,
-    step: Step,
+    active: &mut Option<Active>,
+    site: SiteNo,
+    step: &Step,
 ) -> Answer {
-    let (name, put): (&[u8], Option<Value>) = match step {
-        Step::Begin => return begin(rt, service, seat, standing),
-        Step::Commit => return commit(rt, service, seat, standing),
-        Step::Close => {
-            return match service.close(rt) {
-                Ok(ranks) => Answer::Closed(ranks),
-                Err(fault) => fault_of(fault, false),
-            };
-        }
-        Step::ReadX => (b"x", None),
-        Step::PutX(value) => (b"x", Some(value)),
-        Step::PutY(value) => (b"y", Some(value)),
-    };
-    match &mut standing.active {
-        Some(active) => touch(rt, service, seat, active, name, put),
-        None => Answer::Other,
+    match *step {
+        Step::Begin => match service.begin(rt, alloc, seat) {
+            Ok(begun) => {
+                let answer = Answer::Begun(begun.tx().number(), begun.handle().generation);
+                *active = Some(begun);
+                answer
+            }
+            Err(fault) => Answer::Refused(fault),
+        },
+        Step::Close => match service.close(rt) {
+            Ok(ranks) => Answer::Closed(ranks),
+            Err(fault) => Answer::Refused(fault),
+        },
+        Step::Commit | Step::Withdraw => match active.take() {
+            Some(one) => {
+                let (answer, back) = end(rt, alloc, service, seat, one, step);
+                *active = back;
+                answer
+            }
+            None => Answer::NotBegun,
+        },
+        _ => match active {
+            Some(one) => touch(rt, service, seat, one, site, step),
+            None => Answer::NotBegun,
+        },
     }
 }
 
-// Whether each call answers so. One that had no memory is made again. There is room for the tickets.
-fn serve_all<L: Ledger, R: Wait>(
+// Whether this is want of memory, which changed nothing.
+fn is_want(answer: Answer) -> bool {
+    answer == Answer::Refused(ServiceFault::Memory)
+        || answer == Answer::CameBack(ServiceFault::Memory)
+}
+
+// The place of the first call that answers otherwise. One that had no memory is made again. There is room for the tickets.
+fn first_wrong<L: Ledger, R: Wait>(
     rt: &R,
+    alloc: Global,
     service: &Service<L>,
     seat: &mut Seat<L>,
-    standing: &mut Standing,
+    active: &mut Option<Active>,
+    site: SiteNo,
     steps: &[(Step, Answer)],
-) -> bool {
-    for (step, expected) in steps {
-        let mut found = call(rt, service, seat, standing, *step);
-        if found == Answer::Memory {
-            found = call(rt, service, seat, standing, *step);
+    tickets: &mut Vec<Ticket>,
+) -> Option<usize> {
+    for k in 0..steps.len() {
+        let (step, expected) = &steps[k];
+        let mut found = call(rt, alloc, service, seat, active, site, step);
+        if is_want(found) {
+            found = call(rt, alloc, service, seat, active, site, step);
         }
         if found != *expected {
-            return false;
+            return Some(k);
+        }
+        if let Answer::Ended(ticket) = found {
+            if tickets.push(ticket).is_err() {
+                return Some(k);
+            }
         }
     }
-    true
+    None
 }
 
-/// Calls, another certifier that is put in the place of the service's behind them, if there is one, and the calls behind that.
-#[derive(Drop)]
-pub struct Course<'a> {
-    pub steps: &'a [(Step, Answer)],
-    pub exchanged: Option<Certifier>,
-    pub others: &'a [(Step, Answer)],
-}
-
-// Whether the calls answer as the course tells.
-fn follow<L: Ledger, R: Wait>(
-    rt: &R,
-    service: &Service<L>,
-    seat: &mut Seat<L>,
-    standing: &mut Standing,
-    course: Course<'_>,
-) -> bool {
-    if !serve_all(rt, service, seat, standing, course.steps) {
-        return false;
-    }
-    if let Some(other) = course.exchanged {
-        if !service.certifier.lock(rt).exchange_in_a_test(other) {
-            return false;
-        }
-    }
-    serve_all(rt, service, seat, standing, course.others)
-}
-
-/// Whether the calls answer as the course tells, and how what is left is settled, whose one job was told all tickets. None: there was no
-/// memory before the first call.
+/// Which of the calls is the first that answers otherwise, and how what is left is settled, whose one job was told all tickets.
+/// Between the first calls and the others another certifier may be put in the place of the service's. None: there was no memory before
+/// the first call.
 pub fn stepped<L: Ledger, R: Wait>(
     rt: &R,
     alloc: Global,
     blank: Blank,
     sites: &[Listed<Holding>],
-    course: Course<'_>,
-) -> Option<(bool, Result<Settled, ServiceFault>)>
+    steps: &[(Step, Answer)],
+    exchanged: Option<Certifier>,
+    others: &[(Step, Answer)],
+) -> Option<(Option<usize>, Result<Settled, ServiceFault>)>
     requires { (blank.name ≡ L.name) × (blank.parts ≡ L.parts) × (blank.parts ≡ 1) }
 {
     if sites.is_empty() || sites.len() > 64 {
         return None;
     }
-    let mut standing = Standing {
-        active: None,
-        tickets: Vec::with_capacity(alloc, 8).ok()?,
-    };
+    let site = SiteNo::new(0).ok()?;
+    let mut tickets = Vec::with_capacity(alloc, 8).ok()?;
     let mut dones = Vec::with_capacity(alloc, 1).ok()?;
     let (service, mut seats) = Service::<L>::new(alloc, blank, sites, 1).ok()?;
-    let followed = match seats.as_mut_slice().first_mut() {
-        Some(seat) => follow(rt, &service, seat, &mut standing, course),
-        None => false,
-    };
+    let mut wrong = None;
+    if let Some(seat) = seats.as_mut_slice().first_mut() {
+        let mut active = None;
+        wrong = first_wrong(
+            rt,
+            alloc,
+            &service,
+            seat,
+            &mut active,
+            site,
+            steps,
+            &mut tickets,
+        );
+        if let Some(other) = exchanged {
+            if !replace(rt, &service, other) {
+                wrong = Some(steps.len());
+            }
+        }
+        if wrong.is_none() {
+            wrong = first_wrong(
+                rt,
+                alloc,
+                &service,
+                seat,
+                &mut active,
+                site,
+                others,
+                &mut tickets,
+            );
+        }
+    }
     let done = Done {
         job: 1,
-        tickets: standing.tickets,
+        tickets,
         reads: Vec::new(alloc),
     };
     if dones.push(done).is_err() {
         return None;
     }
-    Some((followed, settle(alloc, service, dones, seats)))
+    Some((wrong, settle(alloc, service, dones, seats)))
 }
