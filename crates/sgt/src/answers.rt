@@ -1,7 +1,7 @@
 //! What a replay or a run wrote, cut at its `---`.
 
 /// The lines in front of `---`, with their LFs, and the bundle behind it, if there is one.
-pub fn cut(text: &[u8]) -> (&[u8], Option<&[u8]>) {
+pub(crate) fn cut(text: &[u8]) -> (&[u8], Option<&[u8]>) {
     if text.starts_with(b"---\n") {
         return (&[], text.get(4..));
     }
@@ -15,7 +15,7 @@ pub fn cut(text: &[u8]) -> (&[u8], Option<&[u8]>) {
 }
 
 /// Whether one of the replies refuses its event.
-pub fn has_refusal(replies: &[u8]) -> bool {
+pub(crate) fn has_refusal(replies: &[u8]) -> bool {
     replies.starts_with(b"! E")
         || replies
             .windows(4)

@@ -21,19 +21,19 @@ pub struct Hush {
 
 impl Hush {
     /// Words are wanted.
-    pub fn new() -> Hush {
+    pub(crate) fn new() -> Hush {
         Hush {
             is_set: Cell::new(false),
         }
     }
 
     /// Words are wanted again.
-    pub fn lift(&self) {
+    pub(crate) fn lift(&self) {
         self.is_set.set(false);
     }
 
     /// The writer's reason is noted where it is that its reader went away.
-    pub fn note(&self, why: &io::Error) {
+    pub(crate) fn note(&self, why: &io::Error) {
         if why.kind() == io::ErrorKind::BrokenPipe {
             self.is_set.set(true);
         }
@@ -51,7 +51,7 @@ pub struct Steady<'a, R> {
 
 impl<'a, R: Read> Steady<'a, R> {
     /// The reader, which has not failed.
-    pub fn new(inner: R, progress: Option<Progress<'a>>, hush: &'a Hush) -> Steady<'a, R> {
+    pub(crate) fn new(inner: R, progress: Option<Progress<'a>>, hush: &'a Hush) -> Steady<'a, R> {
         Steady {
             inner,
             progress,
@@ -93,7 +93,7 @@ pub struct Retrying<'a, W> {
 
 impl<'a, W: Write> Retrying<'a, W> {
     /// The writer, which was given nothing.
-    pub fn new(inner: W, hush: &'a Hush) -> Retrying<'a, W> {
+    pub(crate) fn new(inner: W, hush: &'a Hush) -> Retrying<'a, W> {
         Retrying { inner, hush }
     }
 }
@@ -127,7 +127,7 @@ pub struct LastWords<'a, W> {
 
 impl<'a, W: Write> LastWords<'a, W> {
     /// The writer, which was given nothing.
-    pub fn new(inner: W, hush: &'a Hush) -> LastWords<'a, W> {
+    pub(crate) fn new(inner: W, hush: &'a Hush) -> LastWords<'a, W> {
         LastWords {
             inner: Retrying::new(inner, hush),
             hush,
@@ -158,7 +158,7 @@ pub struct Held {
 
 impl Held {
     /// Nothing yet.
-    pub fn new(alloc: Global) -> Held {
+    pub(crate) fn new(alloc: Global) -> Held {
         Held {
             bytes: Vec::new(alloc),
             refused: 0,
@@ -166,7 +166,7 @@ impl Held {
     }
 
     /// What was written.
-    pub fn bytes(&self) -> &[u8] {
+    pub(crate) fn bytes(&self) -> &[u8] {
         self.bytes.as_slice()
     }
 }

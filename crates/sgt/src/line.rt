@@ -111,12 +111,12 @@ impl Line {
     }
 
     /// Whether lines are told also where nobody asks for it, on a terminal.
-    pub fn tells_terminal(&self) -> bool {
+    pub(crate) fn tells_terminal(&self) -> bool {
         tells_lines(self.command) && !self.is_quiet
     }
 
     /// What is read, in the words of who has to type it.
-    pub fn awaits(&self) -> Option<&'static str> {
+    pub(crate) fn awaits(&self) -> Option<&'static str> {
         match self.command {
             Command::Audit | Command::Serial | Command::Explain | Command::Draw => Some("a bundle"),
             Command::Certify => Some("a bundle without its line 2"),
@@ -141,7 +141,7 @@ impl Line {
     }
 
     /// The line of these words, the program's name first.
-    pub fn of(alloc: Global, given: Vec<String>) -> Result<Line, AllocError> {
+    pub(crate) fn of(alloc: Global, given: Vec<String>) -> Result<Line, AllocError> {
         let mut line = Line::new(alloc);
         let mut before = Kind::Plain;
         let is_bare = given.len() <= 1;

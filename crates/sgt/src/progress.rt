@@ -46,7 +46,7 @@ pub struct Progress<'a> {
 
 impl<'a> Progress<'a> {
     /// Nothing was read.
-    pub fn new(rt: &'a HostRuntime) -> Progress<'a> {
+    pub(crate) fn new(rt: &'a HostRuntime) -> Progress<'a> {
         Progress {
             rt,
             lines: 0,
@@ -69,7 +69,7 @@ impl<'a> Progress<'a> {
     }
 
     /// These bytes were read.
-    pub fn pass(&mut self, bytes: &[u8]) {
+    pub(crate) fn pass(&mut self, bytes: &[u8]) {
         for byte in bytes {
             if *byte != b'\n' {
                 self.place = self.place.behind(*byte);

@@ -1,4 +1,5 @@
--- What is owned of a block of memory whose places hold values of the row R, and what a `&` to it lends.
+-- What is owned of a block of memory whose places hold values of the row R, and what a `&` to it
+-- lends.
 use Rattle.std.specs.Prelude.{ℕ, ◌+◌, ◌*◌, ◌^◌, List, [], ◌∷◌, length, Option, Some, None}
 use Rattle.std.specs.Mem.{type_size}
 use base.Fraction.{full_share}
@@ -11,7 +12,8 @@ use denote.Sharing.{nothing, said, beside}
 use denote.RawPtr.{Ptr, block_ptr, null_ptr}
 
 module _ (R : RattleType) where
-  -- the place that begins `o` bytes into the memory block `b`: its value, or room where nothing was written
+  -- the place that begins `o` bytes into the memory block `b`: its value, or room where nothing was
+  -- written
   abbrev pub slot_owned : ℕ → ℕ → Option R.Denot → Fml
   slot_owned b o (Some x) = part_at R full_share x b o
   slot_owned b o None = froom (raw (lone R.mir)) b o

@@ -108,7 +108,8 @@ impl<T> Arena<T> {
     pub fn reserve(&mut self, more: usize) -> Result<(), ArenaFault>
         ensures same { SameValues self.old self.new }
         ensures kept { self.old.room ≤ self.new.room }
-        ensures ok { OnOk result ((more ≤ self.new.room) × (length self.old.items + more ≤ max_places)) }
+        ensures ok { OnOk result
+            ((more ≤ self.new.room) × (length self.old.items + more ≤ max_places)) }
         ensures err { OnErr result (self.new ≡ self.old) }
         ensures fault { IfErr result (Lacks self.old more) }
     {
@@ -134,7 +135,8 @@ impl<T> Arena<T> {
     /// constant time but where it allocates a block.
     pub fn place(&mut self, value: T) -> Result<Handle, Refused<T>>
         ensures ok { OnOk result (self.new.items ≡ self.old.items ++ value ∷ []) }
-        ensures handle { IfOk result (λ h. (h.index ≡ length self.old.items) × (h.generation ≡ self.old.generation)) }
+        ensures handle { IfOk result
+            (λ h. (h.index ≡ length self.old.items) × (h.generation ≡ self.old.generation)) }
         ensures window { self.new.generation ≡ self.old.generation }
         ensures room { self.old.room ≤ self.new.room + 1 }
         ensures err { OnErr result (self.new ≡ self.old) }
@@ -197,7 +199,8 @@ impl<T> Arena<T> {
     pub fn close(&mut self) -> Result<(), ArenaFault>
     where
         T: Drop,
-        ensures ok { OnOk result ((self.new.items ≡ []) × (self.new.generation ≡ self.old.generation + 1)) }
+        ensures ok { OnOk result
+            ((self.new.items ≡ []) × (self.new.generation ≡ self.old.generation + 1)) }
         ensures room { OnOk result (self.new.room ≡ 0) }
         ensures last { IsErr result ↔ (self.old.generation ≡ last_generation) }
         ensures err { OnErr result (self.new ≡ self.old) }
@@ -220,7 +223,8 @@ ghost use Rattle.sgt_arena.specs.Places.{AllEmpty};
 // Allocates so many blocks, or none where memory is refused.
 fn add_blocks<T>(blocks: &mut Vec<Block<T>>, more: usize) -> bool
     requires { vec_len blocks.old + more ≤ vec_capacity blocks.old }
-    ensures { blocks.new.items ≡ (if result then blocks.old.items ++ replicate more [] else blocks.old.items) }
+    ensures { blocks.new.items
+        ≡ (if result then blocks.old.items ++ replicate more [] else blocks.old.items) }
 {
     if more == 0 {
         return true;

@@ -119,8 +119,10 @@ impl<T> Cells<T> {
 
     /// Writes a place that holds nothing.
     pub(crate) fn write(&mut self, base: Base<T>, index: usize, value: T)
-        requires { (base.ptr ≡ self.old.at) × (index < length self.old.slots) × (get_or self.old.slots index None ≡ None) }
-        ensures { (self.new.at ≡ self.old.at) × (self.new.slots ≡ slice_set self.old.slots index (Some value)) }
+        requires { (base.ptr ≡ self.old.at) × (index < length self.old.slots)
+            × (get_or self.old.slots index None ≡ None) }
+        ensures { (self.new.at ≡ self.old.at)
+            × (self.new.slots ≡ slice_set self.old.slots index (Some value)) }
     {
         unsafe { base.ptr.add(index).write(value) }
     }
@@ -147,7 +149,8 @@ impl<T> Cells<T> {
     where
         T: Drop,
         requires { (base.ptr ≡ self.old.at) × HoldsFirst self.old.slots count }
-        ensures { (self.new.at ≡ self.old.at) × (self.new.slots ≡ replicate count None ++ drop count self.old.slots) }
+        ensures { (self.new.at ≡ self.old.at)
+            × (self.new.slots ≡ replicate count None ++ drop count self.old.slots) }
     {
         let mut i = 0;
         while i < count {

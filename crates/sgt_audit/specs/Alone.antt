@@ -35,9 +35,12 @@ abbrev pub MeetsSteps : List Edge → Option SiteLog → SectionLine → Bool �
 MeetsSteps edges (Some log) End met = IsTrue met ↔ All (IsMet log.entries) edges
 MeetsSteps edges _ _ met = Unit {0}
 
--- after one more line: it is one of the format and keeps every rule but that of the walks, or this is the least fault of these
+-- after one more line: it is one of the format and keeps every rule but that of the walks, or this
+-- is the least fault of these
 abbrev pub FollowsAlone : Certificate → List Edge → Begun → List ℕ → Alone → Option Fault → Type 0
-FollowsAlone c edges b l new None = (line : SectionLine) × IsLineIn new.second line × (l ≡ line_text line)
+FollowsAlone c edges b l new None = (line : SectionLine) × IsLineIn new.second line
+    × (l ≡ line_text line)
     × ((f : Fault) → fault_number f < fault_number WalkStep → Keeps c (lines_read b) line f)
     × StandsAlone c (with_next b b.current line) new × MeetsSteps edges b.current line new.met
-FollowsAlone c edges b l new (Some f) = Breaks (Rule (within new.second c (lines_read b)) (whole l)) f × (f ≢ WalkStep)
+FollowsAlone c edges b l new (Some f) =
+    Breaks (Rule (within new.second c (lines_read b)) (whole l)) f × (f ≢ WalkStep)

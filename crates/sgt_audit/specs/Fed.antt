@@ -14,14 +14,18 @@ use Rattle.sgt_audit.specs.Progress.{Stands}
 abbrev pub IsNumbered : ℕ → ℕ → Type 0
 IsNumbered number m = m < 2 ^ 64 → number ≡ m
 
--- these lines have no fault and are what is kept, or their text has this first fault, whatever follows
+-- these lines have no fault and are what is kept, or their text has this first fault, whatever
+-- follows
 abbrev pub HasRead : Standing → List (List ℕ) → Type 0
-HasRead (Going machine line) lines = (s : Stage) × Stands machine.progress s × (lines_so_far s ≡ lines) × IsNumbered line (length lines + 1)
-HasRead (Found first) lines = (m : ℕ) × ((rest : List ℕ) → FirstFault (text_of_lines lines ++ rest) m first.fault)
+HasRead (Going machine line) lines = (s : Stage) × Stands machine.progress s
+    × (lines_so_far s ≡ lines) × IsNumbered line (length lines + 1)
+HasRead (Found first) lines = (m : ℕ)
+    × ((rest : List ℕ) → FirstFault (text_of_lines lines ++ rest) m first.fault)
     × (m ≤ length lines) × IsNumbered first.line m
 HasRead Spent lines = Unit {0}
 
--- the lines of a bundle in the first or the second format, with this certificate and then these lines
+-- the lines of a bundle in the first or the second format, with this certificate and then these
+-- lines
 abbrev pub bundle_lines : Bool → Certificate → List (List ℕ) → List (List ℕ)
 bundle_lines second c fed = format_line second ∷ certificate_text c ∷ fed
 

@@ -32,7 +32,8 @@ abbrev pub IsStageOf : Bool → Certificate → List SectionLine → Stage → T
 IsStageOf second c before s = ((s ≡ within second c before) × (AreSections c.sites before → ⊥))
     ⊎ ((s ≡ complete second c before) × AreSections c.sites before)
 
--- what is kept of the lines of an open section: the names of its items, its last entry, and how many finals it has
+-- what is kept of the lines of an open section: the names of its items, its last entry, and how
+-- many finals it has
 pub record IsOpenPlace (log : SiteLog) (p : OpenPlace) : Type 0 where
   pub items : p.items.items ≡ names log.items
   pub last : p.last ≡ slice_get log.entries (length log.entries - 1)
@@ -53,7 +54,8 @@ pub record IsPlace (b : Begun) (p : Place) : Type 0 where
 -- what is kept of the sites: nothing of a section that is still to come, or what the open log means
 abbrev pub TracksCurrent : List Decision → (whole : ℕ) → Option SiteLog → SiteState → Type 0
 TracksCurrent decisions whole None s = IsReadyFor decisions (whole + 1) s
-TracksCurrent decisions whole (Some log) s = (s.section ≡ whole + 1) × TracksOpen decisions log.items log.entries s
+TracksCurrent decisions whole (Some log) s = (s.section ≡ whole + 1)
+    × TracksOpen decisions log.items log.entries s
 
 abbrev pub Tracks : List Decision → Begun → SiteState → Type 0
 Tracks decisions b s = TracksCurrent decisions (length b.whole) b.current s
@@ -64,20 +66,24 @@ IsMet entries e = Conflicts entries e.step.label.kind e.step.label.item e.from e
 
 -- each step at a site whose log is whole is a conflict there
 abbrev pub AreMet : List Edge → List SiteLog → Type 0
-AreMet edges whole = All (λ e. (log : SiteLog) → slice_get whole e.step.label.site ≡ Some log → IsMet log.entries e) edges
+AreMet edges whole =
+    All (λ e. (log : SiteLog) → slice_get whole e.step.label.site ≡ Some log
+    → IsMet log.entries e) edges
 
 -- what is kept of the walks, where these logs are whole
 pub record MeansMet (decisions : List Decision) (whole : List SiteLog) (w : Walks) : Type 0 where
   pub steps : AreStepsOf decisions w.steps
   pub met : IsTrue w.met ↔ AreMet (edges_in decisions) whole
 
--- what is kept of the sections: the place behind them, and what is kept of the sites and of the walks
+-- what is kept of the sections: the place behind them, and what is kept of the sites and of the
+-- walks
 pub record IsTracked (decisions : List Decision) (b : Begun) (t : Tracked) : Type 0 where
   pub place : IsPlace b t.place
   pub open_site : Tracks decisions b t.state
   pub walks : MeansMet decisions b.whole t.walks
 
--- all that is kept is what these lines say, none of which has a fault; and these sections, where they are kept too
+-- all that is kept is what these lines say, none of which has a fault; and these sections, where
+-- they are kept too
 pub record Holds (k : Kept) (b : Begun) (before : List SectionLine) : Type 0 where
   pub means : Means k.second k.certificate b before
   pub tracks : IsTracked k.certificate.decisions b k.tracked
@@ -85,4 +91,5 @@ pub record Holds (k : Kept) (b : Begun) (before : List SectionLine) : Type 0 whe
 
 -- what is kept means this stage of a text
 abbrev pub IsAt : Kept → Stage → Type 0
-IsAt k s = (b : Begun) × (before : List SectionLine) × Holds k b before × IsStageOf k.second k.certificate before s
+IsAt k s = (b : Begun) × (before : List SectionLine) × Holds k b before
+    × IsStageOf k.second k.certificate before s

@@ -18,7 +18,8 @@ pub record Begun : Type 0 where
 -- the lines of an open section
 abbrev pub open_lines : ℕ → Option SiteLog → List SectionLine
 open_lines k None = []
-open_lines k (Some log) = Site k ∷ map Initial log.items ++ map Logged log.entries ++ map Final log.finals
+open_lines k (Some log) =
+    Site k ∷ map Initial log.items ++ map Logged log.entries ++ map Final log.finals
 
 -- all lines that were read
 abbrev pub lines_read : Begun → List SectionLine

@@ -17,7 +17,8 @@ use Rattle.sgt_audit.specs.Faults.{fault_number, FirstFault}
 abbrev pub yes_of : List Decision → Verdict
 yes_of ds = Yes (count_by is_commit ds) (count_by is_refusal ds) (count_by is_withdrawal ds)
 
--- the verdict on a text: yes where it spells a valid bundle, with the counts of its decisions, else its first fault
+-- the verdict on a text: yes where it spells a valid bundle, with the counts of its decisions, else
+-- its first fault
 abbrev pub IsVerdict : List ℕ → Verdict → Type 0
 IsVerdict bytes (Yes committed refused withdrawn) = (b : Parts) × Spells bytes b × IsValid b
     × (Yes committed refused withdrawn ≡ yes_of b.certificate.decisions)
@@ -30,7 +31,8 @@ text_of (Yes committed refused withdrawn) =
     ++ (decimal refused ++ (codes " refused " ++ (decimal withdrawn ++ codes " withdrawn\n")))))
 text_of (No line f) = codes "no line " ++ (decimal line ++ (codes " F" ++ (decimal (fault_number f) ++ codes "\n")))
 
--- nothing was written, or a front of the line of the verdict on the bytes told, and less than the whole line
+-- nothing was written, or a front of the line of the verdict on the bytes told, and less than the
+-- whole line
 abbrev pub WroteFront : (told old new : Option (List ℕ)) → Type 0
 WroteFront told old new = AppendsOrForgets old new []
     ⊎ ((v : Verdict) × (n : ℕ) × (n < length (text_of v))
@@ -46,14 +48,17 @@ abbrev pub HandsOutValid : Audited → Type 0
 HandsOutValid (audited.Valid b) = IsValid b
 HandsOutValid (audited.No line f) = Unit {0}
 
--- the stream spells site logs and a certificate such that running the committed transactions alone, one after another by rank,
--- gives every read value and final value recorded for them, conflicting operations stand in rank order at every site, and each
+-- the stream spells site logs and a certificate such that running the committed transactions alone,
+-- one after another by rank,
+-- gives every read value and final value recorded for them, conflicting operations stand in rank
+-- order at every site, and each
 -- refused transaction lies on a cycle of logged conflicts with transactions certified before it
 pub record HoldsHeadline (bytes : List ℕ) : Type 0 where
   pub bundle : Parts
   pub spelled : Spells bytes bundle
   pub serial : SerialAgrees bundle
-  -- by rank: each transaction is decided once, and the ranks of the n committed ones are 0 to n - 1, each once
+  -- by rank: each transaction is decided once, and the ranks of the n committed ones are 0 to n -
+  -- 1, each once
   pub once : IsDecidedOnce bundle.certificate.decisions
   pub ranks : AreRanks (ranks bundle.certificate.decisions)
   pub ranked : All (λ log. IsRanked bundle.certificate.decisions log.entries) bundle.sites

@@ -33,7 +33,8 @@ pub struct Alone {
 /// With the section's last line, whether each of the steps is a conflict in its log.
 #[inline(always)]
 fn meets_steps(certificate: &Decided, state: &SiteState, edges: &[Edge], line: &SectionLine) -> bool
-    ensures { (b : Begun) → Tracks certificate.now.decisions b state.now → MeetsSteps edges.now b.current line.now result }
+    ensures { (b : Begun) → Tracks certificate.now.decisions b state.now
+        → MeetsSteps edges.now b.current line.now result }
 {
     match line {
         SectionLine::End => are_met(certificate, state, edges),
@@ -60,7 +61,8 @@ impl Alone {
         sites: u8,
         certificate: &Decided,
     ) -> Result<Alone, AllocError>
-        ensures ready { sites ≡ certificate.now.sites → IfOk result (IsReadyAlone certificate.now 0) }
+        ensures ready { sites ≡ certificate.now.sites
+            → IfOk result (IsReadyAlone certificate.now 0) }
         ensures second { IfOk result (λ a. a.second ≡ second) }
     {
         Ok(Alone {
@@ -73,9 +75,11 @@ impl Alone {
 
     /// Before the section of this site, which is none before those that were judged.
     pub fn begin(&mut self, site: usize)
-        ensures stands { (c : Certificate) (b : Begun) → IsReadyAlone c site self.old → IsDecidedOnce c.decisions
+        ensures stands { (c : Certificate) (b : Begun) → IsReadyAlone c site self.old
+            → IsDecidedOnce c.decisions
             → AreRanks (ranks c.decisions) → IsBegun b
-            → b.sites ≡ c.sites → length b.whole ≡ site → b.current ≡ None → StandsAlone c b self.new }
+            → b.sites ≡ c.sites → length b.whole ≡ site → b.current ≡ None
+            → StandsAlone c b self.new }
         ensures second { self.new.second ≡ self.old.second }
     {
         self.place.whole = site;
@@ -85,7 +89,8 @@ impl Alone {
     /// Whether the section of this site was read whole.
     #[inline(always)]
     pub fn is_behind(&self, site: usize) -> bool
-        ensures { (c : Certificate) (b : Begun) → StandsAlone c b self.now → (IsTrue result ↔ (site < length b.whole)) }
+        ensures { (c : Certificate) (b : Begun) → StandsAlone c b self.now
+            → (IsTrue result ↔ (site < length b.whole)) }
     {
         self.place.whole > site
     }
@@ -138,7 +143,8 @@ impl Alone {
         edges: &[Edge],
         line: &SectionLine,
     ) -> Result<Option<Fault>, AllocError>
-        ensures follows { IsLineIn self.old.second line.now → (b : Begun) → StandsAlone certificate.now b self.old
+        ensures follows { IsLineIn self.old.second line.now → (b : Begun)
+            → StandsAlone certificate.now b self.old
             → IfOk result (FollowsAlone certificate.now edges.now b (line_text line.now) self.new) }
         ensures second { self.new.second ≡ self.old.second }
     {
@@ -150,7 +156,8 @@ impl Alone {
     fn judge(&self, line: &SectionLine, known: &Option<Known>) -> Option<Fault>
         ensures judged { (c : Certificate) (b : Begun) → StandsAlone c b self.now
             → IsKnownLine c.decisions self.now.state line.now known.now
-            → Begins b.sites (lines_read b ++ line.now ∷ []) → JudgedLine (Keeps c (lines_read b) line.now) result }
+            → Begins b.sites (lines_read b ++ line.now ∷ [])
+            → JudgedLine (Keeps c (lines_read b) line.now) result }
         ensures not_walks { (c : Certificate) (b : Begun) → StandsAlone c b self.now
             → IsKnownLine c.decisions self.now.state line.now known.now
             → Begins b.sites (lines_read b ++ line.now ∷ []) → result ≢ Some Fault.WalkStep }
@@ -169,7 +176,8 @@ impl Alone {
         edges: &[Edge],
         line: &SectionLine,
     ) -> Result<Option<Fault>, AllocError>
-        ensures follows { IsLineIn self.old.second line.now → (b : Begun) → StandsAlone certificate.now b self.old
+        ensures follows { IsLineIn self.old.second line.now → (b : Begun)
+            → StandsAlone certificate.now b self.old
             → IfOk result (FollowsAlone certificate.now edges.now b (line_text line.now) self.new) }
         ensures second { self.new.second ≡ self.old.second }
     {

@@ -85,12 +85,14 @@ impl Auditor {
     /// Err: `end` answers it. An Err is Memory, and every later call answers Memory then.
     pub fn feed(&mut self, line: &[u8]) -> Result<(), EngineFail>
         requires { HasNoLf line.now }
-        ensures read { (second : Bool) (c : Certificate) (fed : List (List ℕ)) → HasFed self.old second c fed
+        ensures read { (second : Bool) (c : Certificate) (fed : List (List ℕ))
+            → HasFed self.old second c fed
             → HasFed self.new second c (fed ++ line.now ∷ []) }
         ensures going { OnOk result (HasFailed self.new → ⊥) }
         ensures err { IfErr result (λ e. (e ≡ EngineFail.Memory) × HasFailed self.new) }
         ensures spent { HasFailed self.old → result ≡ Err EngineFail.Memory }
-        ensures stays { (found : ℕ × Fault) → known_fault self.old ≡ Some found → known_fault self.new ≡ Some found }
+        ensures stays { (found : ℕ × Fault) → known_fault self.old ≡ Some found
+            → known_fault self.new ≡ Some found }
         ensures same { OnErr result (known_fault self.new ≡ known_fault self.old) }
     {
         match &mut self.standing {
@@ -120,9 +122,13 @@ impl Auditor {
     /// lines are wanted is no fault. After Memory it answers as before.
     pub fn fault(&self) -> Option<(u64, Fault)>
         ensures known { result ≡ known_fault self.now }
-        ensures first { (second : Bool) (c : Certificate) (fed : List (List ℕ)) → HasFed self.now second c fed → length fed + 3 < 2 ^ 64
-            → IfSome result (λ found. (rest : List ℕ) → FirstFault (text_of_lines (bundle_lines second c fed) ++ rest) found.0 found.1) }
-        ensures none { (second : Bool) (c : Certificate) (fed : List (List ℕ)) → HasFed self.now second c fed → (HasFailed self.now → ⊥)
+        ensures first { (second : Bool) (c : Certificate) (fed : List (List ℕ))
+            → HasFed self.now second c fed → length fed + 3 < 2 ^ 64
+            → IfSome result
+            (λ found. (rest : List ℕ)
+            → FirstFault (text_of_lines (bundle_lines second c fed) ++ rest) found.0 found.1) }
+        ensures none { (second : Bool) (c : Certificate) (fed : List (List ℕ))
+            → HasFed self.now second c fed → (HasFailed self.now → ⊥)
             → IfNone result (HaveNoFault (bundle_lines second c fed)) }
     {
         match &self.standing {
@@ -134,7 +140,8 @@ impl Auditor {
 
     /// The verdict on the lines fed, which are all. An Err is Memory, and comes only where `feed` answered it.
     pub fn end(self) -> Result<Verdict, EngineFail>
-        ensures verdict { (second : Bool) (c : Certificate) (fed : List (List ℕ)) → HasFed self second c fed → length fed + 3 < 2 ^ 64
+        ensures verdict { (second : Bool) (c : Certificate) (fed : List (List ℕ))
+            → HasFed self second c fed → length fed + 3 < 2 ^ 64
             → IfOk result (IsVerdict (text_of_lines (bundle_lines second c fed))) }
         ensures err { IfErr result (λ e. (e ≡ EngineFail.Memory) × HasFailed self) }
         ensures spent { HasFailed self → result ≡ Err EngineFail.Memory }

@@ -38,7 +38,8 @@ fn add_lines(
     requires begun { IsBegun sections.old }
     requires here { IsPlace sections.old place.old }
     ensures sites { sections.new.sites ≡ sections.old.sites }
-    ensures all { IfOk result (λ all. AreSpelled all second sections.old.sites bytes.now (lines_read sections.new)) }
+    ensures all { IfOk result
+        (λ all. AreSpelled all second sections.old.sites bytes.now (lines_read sections.new)) }
 {
     let mut rest = bytes;
     'lines: while let Some((line, more)) = split_line(rest) {

@@ -34,7 +34,8 @@ use std::alloc::{AllocError, Global};
 /// Whether the line goes on with the block that is open at the end of the log, if one is.
 #[inline(always)]
 pub fn continues_log(place: &OpenPlace, line: &SectionLine) -> bool
-    ensures { (log : SiteLog) → IsOpenPlace log place.now → (IsTrue result ↔ ContinuesLog log line.now) }
+    ensures { (log : SiteLog) → IsOpenPlace log place.now
+        → (IsTrue result ↔ ContinuesLog log line.now) }
 {
     let Some(last) = place.last_entry() else {
         return true;
@@ -55,8 +56,10 @@ fn judge_entry(
     entry: &Entry,
 ) -> Option<Fault>
     requires { line.now ≡ Logged entry.now }
-    ensures { (c : Certificate) (before : List SectionLine) (log : SiteLog) → IsDecidedOnce c.decisions
-        → AreRanks (ranks c.decisions) → IsOpenPlace log place.now → IsKnownOf c.decisions state.now entry.now known.now
+    ensures { (c : Certificate) (before : List SectionLine) (log : SiteLog)
+        → IsDecidedOnce c.decisions
+        → AreRanks (ranks c.decisions) → IsOpenPlace log place.now
+        → IsKnownOf c.decisions state.now entry.now known.now
         → TracksOpen c.decisions log.items log.entries state.now
         → HasOpen before log → Begins c.sites (before ++ Logged entry.now ∷ [])
         → JudgedLine (Keeps c before (Logged entry.now)) result }
@@ -87,9 +90,12 @@ fn judge_entry(
 
 /// The least fault of a final value.
 pub fn judge_final(state: &SiteState, place: &OpenPlace, holding: &Holding) -> Option<Fault>
-    ensures { (ds : List Decision) (c : Certificate) (before : List SectionLine) (log : SiteLog) → IsOpenPlace log place.now
-        → TracksOpen ds log.items log.entries state.now → Contains (names log.items) holding.now.item → HasOpen before log
-        → Begins c.sites (before ++ Final holding.now ∷ []) → JudgedLine (Keeps c before (Final holding.now)) result }
+    ensures { (ds : List Decision) (c : Certificate) (before : List SectionLine) (log : SiteLog)
+        → IsOpenPlace log place.now
+        → TracksOpen ds log.items log.entries state.now
+        → Contains (names log.items) holding.now.item → HasOpen before log
+        → Begins c.sites (before ++ Final holding.now ∷ [])
+        → JudgedLine (Keeps c before (Final holding.now)) result }
 {
     if !continues_log(place, &SectionLine::Final(*holding)) {
         return Some(Fault::Block);
@@ -105,7 +111,8 @@ pub fn judge_final(state: &SiteState, place: &OpenPlace, holding: &Holding) -> O
 
 /// The least fault of a section's end, but for the walks.
 pub fn judge_end(state: &SiteState, place: &OpenPlace) -> Option<Fault>
-    ensures { (ds : List Decision) (c : Certificate) (before : List SectionLine) (log : SiteLog) → IsOpenPlace log place.now
+    ensures { (ds : List Decision) (c : Certificate) (before : List SectionLine) (log : SiteLog)
+        → IsOpenPlace log place.now
         → TracksOpen ds log.items log.entries state.now → HasOpen before log
         → Begins c.sites (before ++ End ∷ []) → JudgedLine (Keeps c before End) result }
 {
@@ -126,8 +133,10 @@ pub(crate) fn judge_inside(
     line: &SectionLine,
     known: &Option<Known>,
 ) -> Option<Fault>
-    ensures { (c : Certificate) (before : List SectionLine) (log : SiteLog) → IsDecidedOnce c.decisions
-        → AreRanks (ranks c.decisions) → IsOpenPlace log place.now → IsKnownLine c.decisions state.now line.now known.now
+    ensures { (c : Certificate) (before : List SectionLine) (log : SiteLog)
+        → IsDecidedOnce c.decisions
+        → AreRanks (ranks c.decisions) → IsOpenPlace log place.now
+        → IsKnownLine c.decisions state.now line.now known.now
         → TracksOpen c.decisions log.items log.entries state.now
         → HasOpen before log → Fits log line.now → Begins c.sites (before ++ line.now ∷ [])
         → JudgedLine (Keeps c before line.now) result }
@@ -153,8 +162,10 @@ pub(crate) fn judge_line(
 ) -> Option<Fault>
     ensures may_follow { (b : Begun) → IsBegun b → IsPlace b tracked.now.place
         → IfNone result (Begins b.sites (lines_read b ++ line.now ∷ [])) }
-    ensures judged { (c : Certificate) (b : Begun) → c.sites ≡ b.sites → IsDecidedOnce c.decisions → AreRanks (ranks c.decisions)
-        → IsBegun b → IsKnownLine c.decisions tracked.now.state line.now known.now → IsTracked c.decisions b tracked.now
+    ensures judged { (c : Certificate) (b : Begun) → c.sites ≡ b.sites → IsDecidedOnce c.decisions
+        → AreRanks (ranks c.decisions)
+        → IsBegun b → IsKnownLine c.decisions tracked.now.state line.now known.now
+        → IsTracked c.decisions b tracked.now
         → JudgedLine (Keeps c (lines_read b) line.now) result }
 {
     if !tracked.place.may_go_on(line) {

@@ -45,7 +45,8 @@ impl Kept {
 
     /// The fault of the next line, where it is none of the format.
     fn unread(&self) -> Fault
-        ensures { (l : List ℕ) (s : Stage) → SpellsNone (IsLineIn self.now.second) line_text l → IsAt self.now s
+        ensures { (l : List ℕ) (s : Stage) → SpellsNone (IsLineIn self.now.second) line_text l
+            → IsAt self.now s
             → Breaks (Rule s (whole l)) result }
     {
         if self.is_complete() {
@@ -73,7 +74,8 @@ impl Kept {
     #[inline(always)]
     fn follow_entry(&mut self, entry: &Entry) -> Result<Option<Fault>, AllocError>
         ensures sections { is_some self.new.sections ≡ is_some self.old.sections }
-        ensures follows { let line = Logged entry.now in IsLineIn self.old.second line → (s : Stage) → IsAt self.old s
+        ensures follows { let line = Logged entry.now in
+            IsLineIn self.old.second line → (s : Stage) → IsAt self.old s
             → IfOk result (Follows s (line_text line) (Reading self.new)) }
     {
         match *entry {
@@ -88,7 +90,8 @@ impl Kept {
     #[inline(never)]
     fn follow_read(&mut self, tx: Tx, item: Item, value: Value) -> Result<Option<Fault>, AllocError>
         ensures sections { is_some self.new.sections ≡ is_some self.old.sections }
-        ensures follows { let line = Logged (Read tx item value) in IsLineIn self.old.second line → (s : Stage) → IsAt self.old s
+        ensures follows { let line = Logged (Read tx item value) in
+            IsLineIn self.old.second line → (s : Stage) → IsAt self.old s
             → IfOk result (Follows s (line_text line) (Reading self.new)) }
     {
         self.follow_line(&SectionLine::Logged(Entry::Read { tx, item, value }))
@@ -103,7 +106,8 @@ impl Kept {
         value: Value,
     ) -> Result<Option<Fault>, AllocError>
         ensures sections { is_some self.new.sections ≡ is_some self.old.sections }
-        ensures follows { let line = Logged (Write tx item value) in IsLineIn self.old.second line → (s : Stage) → IsAt self.old s
+        ensures follows { let line = Logged (Write tx item value) in
+            IsLineIn self.old.second line → (s : Stage) → IsAt self.old s
             → IfOk result (Follows s (line_text line) (Reading self.new)) }
     {
         self.follow_line(&SectionLine::Logged(Entry::Write { tx, item, value }))
@@ -113,7 +117,8 @@ impl Kept {
     #[inline(never)]
     fn follow_commit(&mut self, tx: Tx) -> Result<Option<Fault>, AllocError>
         ensures sections { is_some self.new.sections ≡ is_some self.old.sections }
-        ensures follows { let line = Logged (Commit tx) in IsLineIn self.old.second line → (s : Stage) → IsAt self.old s
+        ensures follows { let line = Logged (Commit tx) in
+            IsLineIn self.old.second line → (s : Stage) → IsAt self.old s
             → IfOk result (Follows s (line_text line) (Reading self.new)) }
     {
         self.follow_line(&SectionLine::Logged(Entry::Commit { tx }))
@@ -154,7 +159,8 @@ impl Kept {
     /// The next line, without its LF.
     pub(crate) fn next(&mut self, line: &[u8]) -> Result<Option<Fault>, AllocError>
         ensures sections { is_some self.new.sections ≡ is_some self.old.sections }
-        ensures follows { (s : Stage) → IsAt self.old s → IfOk result (Follows s line.now (Reading self.new)) }
+        ensures follows { (s : Stage) → IsAt self.old s
+            → IfOk result (Follows s line.now (Reading self.new)) }
     {
         match read_line(self.second, line) {
             Some(read) => self.follow(read),
@@ -180,7 +186,8 @@ impl Kept {
     /// the fault.
     pub(crate) fn end(self, rest: &[u8], line: u64) -> Result<Kept, FirstFault>
         ensures same { IfOk result (λ k. k ≡ self) }
-        ensures ends { (s : Stage) → IsAt self s → length rest.now ≤ limit_of s → EndsWith s rest.now line result }
+        ensures ends { (s : Stage) → IsAt self s → length rest.now ≤ limit_of s
+            → EndsWith s rest.now line result }
     {
         if !self.is_complete() {
             return Err(FirstFault {

@@ -98,7 +98,8 @@ impl Machine {
 
     /// The next line, without its LF.
     pub(crate) fn line(&mut self, line: &[u8]) -> Result<Option<Fault>, EngineFail>
-        ensures follows { (s : Stage) → Stands self.old.progress s → IfOk result (Follows s line.now self.new.progress) }
+        ensures follows { (s : Stage) → Stands self.old.progress s
+            → IfOk result (Follows s line.now self.new.progress) }
         ensures err { IfErr result (λ e. e ≡ EngineFail.Memory) }
         ensures kept { (keeps : Bool) → IsKeeping keeps self.old → IsKeeping keeps self.new }
     {
@@ -129,7 +130,8 @@ impl Machine {
 
     /// The fault of a line that is too long.
     pub(crate) fn too_long(&self) -> Fault
-        ensures { (s : Stage) (p : Piece) → Stands self.now.progress s → ((second : Bool) → s ≢ headed second)
+        ensures { (s : Stage) (p : Piece) → Stands self.now.progress s
+            → ((second : Bool) → s ≢ headed second)
             → limit_of s < length (bytes_of p) → Breaks (Rule s p) result }
     {
         match &self.progress {
@@ -148,7 +150,8 @@ impl Machine {
     /// What was read, if all is there at the end of the input, in the line of this number, with these bytes behind the last LF; or the
     /// fault.
     pub(crate) fn end(self, rest: &[u8], line: u64) -> Result<Kept, FirstFault>
-        ensures ends { (s : Stage) → Stands self.progress s → length rest.now ≤ limit_of s → EndsWith s rest.now line result }
+        ensures ends { (s : Stage) → Stands self.progress s → length rest.now ≤ limit_of s
+            → EndsWith s rest.now line result }
         ensures kept { IsKeeping true self → IfOk result (λ k. IsSome k.sections) }
     {
         let Machine { progress, .. } = self;

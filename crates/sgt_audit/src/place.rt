@@ -23,7 +23,8 @@ pub struct OpenPlace {
 
 /// Whether the last of the items, if there is one, comes before this one.
 fn come_before(items: &[Item], item: &Item) -> bool
-    ensures { IsTrue result ↔ ForSome (slice_get items.now (length items.now - 1)) (λ x. ComesBefore x item.now) }
+    ensures { IsTrue result
+        ↔ ForSome (slice_get items.now (length items.now - 1)) (λ x. ComesBefore x item.now) }
 {
     match items.last() {
         Some(last) => *last < *item,
@@ -36,8 +37,11 @@ impl OpenPlace {
     #[inline(always)]
     pub(crate) fn last_entry(&self) -> Option<&Entry>
         ensures some { (log : SiteLog) → IsOpenPlace log self.now
-            → IfSome result (λ e. (log.finals ≡ []) × (slice_get log.entries (length log.entries - 1) ≡ Some e.now)) }
-        ensures none { (log : SiteLog) → IsOpenPlace log self.now → IfNone result (log.finals ≡ [] → log.entries ≡ []) }
+            → IfSome result
+            (λ e. (log.finals ≡ [])
+            × (slice_get log.entries (length log.entries - 1) ≡ Some e.now)) }
+        ensures none { (log : SiteLog) → IsOpenPlace log self.now
+            → IfNone result (log.finals ≡ [] → log.entries ≡ []) }
     {
         if self.finals != 0 {
             return None;
@@ -107,7 +111,8 @@ pub struct Place {
 impl Place {
     /// Before the first section, of so many sites.
     pub fn new(alloc: Global, sites: u8) -> Place
-        ensures { (b : Begun) → b ≡ record { sites = sites; whole = []; current = None } → IsPlace b result }
+        ensures { (b : Begun) → b ≡ record { sites = sites; whole = []; current = None }
+            → IsPlace b result }
     {
         Place {
             alloc,
@@ -120,7 +125,8 @@ impl Place {
     /// Whether all sections were read, and none is open.
     #[inline(always)]
     pub fn is_complete(&self) -> bool
-        ensures { (b : Begun) → IsBegun b → IsPlace b self.now → (IsTrue result ↔ AreSections b.sites (lines_read b)) }
+        ensures { (b : Begun) → IsBegun b → IsPlace b self.now
+            → (IsTrue result ↔ AreSections b.sites (lines_read b)) }
     {
         match &self.current {
             Some(_) => false,
@@ -131,7 +137,8 @@ impl Place {
     /// Whether some sections begin with the lines that were read and this one.
     #[inline(always)]
     pub fn may_go_on(&self, line: &SectionLine) -> bool
-        ensures { (b : Begun) → IsBegun b → IsPlace b self.now → (IsTrue result ↔ Begins b.sites (lines_read b ++ line.now ∷ [])) }
+        ensures { (b : Begun) → IsBegun b → IsPlace b self.now
+            → (IsTrue result ↔ Begins b.sites (lines_read b ++ line.now ∷ [])) }
     {
         match &self.current {
             Some(here) => here.has_room_for(line),

@@ -19,7 +19,8 @@ use std::alloc::{AllocError, Global};
 /// Feeds what was kept the line that is found at the front of the held bytes, if one is: how many bytes it has with its LF,
 /// and its fault.
 fn feed_front(kept: &mut Kept, held: &[u8]) -> Result<Option<(usize, Option<Fault>)>, AllocError>
-    ensures fed { IfOk result (λ found. IfSome found (λ r. FedFront kept.old kept.new held.now r.0 r.1)) }
+    ensures fed { IfOk result
+        (λ found. IfSome found (λ r. FedFront kept.old kept.new held.now r.0 r.1)) }
     ensures none { IfOk result (λ found. IfNone found (kept.new ≡ kept.old)) }
     ensures sections { is_some kept.new.sections ≡ is_some kept.old.sections }
 {
@@ -39,7 +40,8 @@ fn feed_kept(
     number: &mut u64,
 ) -> Result<Option<Fault>, AllocError>
     requires { number.old + most_left lines.old ≤ 2 ^ 48 }
-    ensures goes { (all told : Option (List ℕ)) (reads : ℕ) → Goes all (Reading kept.old) (coming lines.old told) number.old reads
+    ensures goes { (all told : Option (List ℕ)) (reads : ℕ)
+        → Goes all (Reading kept.old) (coming lines.old told) number.old reads
         → IfOk result (FedHeld all told (Reading kept.new) lines.new number.new reads) }
     ensures unread { lines.new.reads ≡ lines.old.reads }
     ensures few { number.new + most_left lines.new ≤ number.old + most_left lines.old }
@@ -63,7 +65,8 @@ fn feed_held(
     number: &mut u64,
 ) -> Result<Option<Fault>, AllocError>
     requires { number.old + most_left lines.old ≤ 2 ^ 48 }
-    ensures goes { (all told : Option (List ℕ)) (reads : ℕ) → Goes all machine.old.progress (coming lines.old told) number.old reads
+    ensures goes { (all told : Option (List ℕ)) (reads : ℕ)
+        → Goes all machine.old.progress (coming lines.old told) number.old reads
         → IfOk result (FedHeld all told machine.new.progress lines.new number.new reads) }
     ensures unread { lines.new.reads ≡ lines.old.reads }
     ensures few { number.new + most_left lines.new ≤ number.old + most_left lines.old }
@@ -87,9 +90,11 @@ fn feed_lines<R: Source>(
 ) -> Result<Result<u64, FirstFault>, EngineFail>
     requires fresh { lines.old ≡ record { held = []; reads = most_reads } }
     requires starts { Stands machine.old.progress start }
-    ensures stops { IfOk result (λ stop. IsStop (R.tells reader.old) stop machine.new.progress line.new.items
+    ensures stops { IfOk result
+        (λ stop. IsStop (R.tells reader.old) stop machine.new.progress line.new.items
         (R.asked reader.new - R.asked reader.old)) }
-    ensures quiet { result ≢ Err EngineFail.ReadFault → R.failures reader.new ≡ R.failures reader.old }
+    ensures quiet { result ≢ Err EngineFail.ReadFault
+        → R.failures reader.new ≡ R.failures reader.old }
     ensures read_fault { IsErrOf result EngineFail.ReadFault → ReadFaultIsDue (R.tells reader.old)
         (R.failures reader.old) (R.failures reader.new) (R.asked reader.old) (R.asked reader.new) }
     ensures write_fault { result ≢ Err EngineFail.WriteFault }
@@ -140,7 +145,8 @@ pub(crate) fn judge<R: Source>(
     ensures no_further { IfOk result (λ j. IfSome (R.tells reader.old) (λ bytes.
         ReadsNoFurther bytes (R.asked reader.new - R.asked reader.old))) }
     ensures kept { IsTrue keeps → IfOk result (λ j. IfOk j (λ k. IsSome k.sections)) }
-    ensures quiet { result ≢ Err EngineFail.ReadFault → R.failures reader.new ≡ R.failures reader.old }
+    ensures quiet { result ≢ Err EngineFail.ReadFault
+        → R.failures reader.new ≡ R.failures reader.old }
     ensures read_fault { IsErrOf result EngineFail.ReadFault → ReadFaultIsDue (R.tells reader.old)
         (R.failures reader.old) (R.failures reader.new) (R.asked reader.old) (R.asked reader.new) }
     ensures write_fault { result ≢ Err EngineFail.WriteFault }

@@ -53,8 +53,10 @@ pub fn is_listed(known: &Known, entry: &Entry) -> bool
 /// Whether the entry is not the second read of its item by its transaction, nor its second change, made or asked for.
 #[inline(always)]
 pub fn is_first(state: &SiteState, known: &Known, entry: &Entry) -> bool
-    ensures { (ds : List Decision) (items : List Holding) (entries : List Entry) → IsKnownOf ds state.now entry.now known.now
-        → TracksOpen ds items entries state.now → ForSome (item_of entry.now) (Contains (names items))
+    ensures { (ds : List Decision) (items : List Holding) (entries : List Entry)
+        → IsKnownOf ds state.now entry.now known.now
+        → TracksOpen ds items entries state.now
+        → ForSome (item_of entry.now) (Contains (names items))
         → (IsTrue result ↔ All (λ f. (x : Name) → Repeats x f entry.now → ⊥) entries) }
 {
     match known.place {
@@ -65,8 +67,10 @@ pub fn is_first(state: &SiteState, known: &Known, entry: &Entry) -> bool
 
 /// Whether the holding, of a listed item, has the value of its item.
 pub(crate) fn holds_value(state: &SiteState, holding: &Holding) -> bool
-    ensures { (ds : List Decision) (items : List Holding) (entries : List Entry) → TracksOpen ds items entries state.now
-        → Contains (names items) holding.now.item → (IsTrue result ↔ (value_at items entries holding.now.item ≡ Some holding.now.value)) }
+    ensures { (ds : List Decision) (items : List Holding) (entries : List Entry)
+        → TracksOpen ds items entries state.now
+        → Contains (names items) holding.now.item
+        → (IsTrue result ↔ (value_at items entries holding.now.item ≡ Some holding.now.value)) }
 {
     match state.place_of(&holding.item) {
         Some(place) => state.has_value(place, holding.value),
@@ -77,8 +81,10 @@ pub(crate) fn holds_value(state: &SiteState, holding: &Holding) -> bool
 /// Whether the entry, on a listed item if it is a read, has the value of its item then.
 #[inline(always)]
 pub fn is_legal(state: &SiteState, known: &Known, entry: &Entry) -> bool
-    ensures { (ds : List Decision) (items : List Holding) (entries : List Entry) → IsKnownOf ds state.now entry.now known.now
-        → TracksOpen ds items entries state.now → ForSome (item_of entry.now) (Contains (names items))
+    ensures { (ds : List Decision) (items : List Holding) (entries : List Entry)
+        → IsKnownOf ds state.now entry.now known.now
+        → TracksOpen ds items entries state.now
+        → ForSome (item_of entry.now) (Contains (names items))
         → (IsTrue result ↔ IsLegalRead items entries entry.now) }
 {
     match *entry {
@@ -93,9 +99,11 @@ pub fn is_legal(state: &SiteState, known: &Known, entry: &Entry) -> bool
 /// Whether the entry conflicts with no entry before it of a committed transaction of greater rank, if its own is committed.
 #[inline(always)]
 pub(crate) fn is_in_rank(state: &SiteState, known: &Known, entry: &Entry) -> bool
-    ensures { (ds : List Decision) (items : List Holding) (entries : List Entry) → IsDecidedOnce ds → AreRanks (ranks ds)
+    ensures { (ds : List Decision) (items : List Holding) (entries : List Entry) → IsDecidedOnce ds
+        → AreRanks (ranks ds)
         → IsKnownOf ds state.now entry.now known.now
-        → TracksOpen ds items entries state.now → ForSome (item_of entry.now) (Contains (names items))
+        → TracksOpen ds items entries state.now
+        → ForSome (item_of entry.now) (Contains (names items))
         → (IsTrue result ↔ All (λ f. RiseInRank ds f entry.now) entries) }
 {
     match known.place {
@@ -107,8 +115,10 @@ pub(crate) fn is_in_rank(state: &SiteState, known: &Known, entry: &Entry) -> boo
 /// Whether the entry of which this is known has its transaction decided as it says, with no end before it.
 #[inline(always)]
 pub fn is_active(state: &SiteState, known: &Known) -> bool
-    ensures { (ds : List Decision) (e : Entry) (items : List Holding) (entries : List Entry) → IsKnownOf ds state.now e known.now
-        → TracksOpen ds items entries state.now → (IsTrue result ↔ (((number : ℕ) × IsDecided ds e number)
+    ensures { (ds : List Decision) (e : Entry) (items : List Holding) (entries : List Entry)
+        → IsKnownOf ds state.now e known.now
+        → TracksOpen ds items entries state.now
+        → (IsTrue result ↔ (((number : ℕ) × IsDecided ds e number)
         × All (λ f. IsEnd f → tx_of f ≢ tx_of e) entries)) }
 {
     match known.ruling.suiting {
@@ -135,9 +145,12 @@ pub(crate) fn is_in_order(state: &SiteState, known: &Known, entry: &Entry) -> bo
 fn enter(state: &mut SiteState, known: &Known, entry: &Entry) -> Result<(), AllocError>
     ensures section { state.new.section ≡ state.old.section }
     ensures tracks { OnOk result ((ds : List Decision) (items : List Holding) (entries : List Entry)
-        → IsKnownOf ds state.old entry.now known.now → IsDecidedOnce ds → AllPairs (λ x y. x ≢ y) (names items)
-        → ForSome (item_of entry.now) (Contains (names items)) → ((number : ℕ) × IsDecided ds entry.now number)
-        → TracksOpen ds items entries state.old → TracksOpen ds items (entries ++ entry.now ∷ []) state.new) }
+        → IsKnownOf ds state.old entry.now known.now → IsDecidedOnce ds
+        → AllPairs (λ x y. x ≢ y) (names items)
+        → ForSome (item_of entry.now) (Contains (names items))
+        → ((number : ℕ) × IsDecided ds entry.now number)
+        → TracksOpen ds items entries state.old
+        → TracksOpen ds items (entries ++ entry.now ∷ []) state.new) }
 {
     match known.ruling.suiting {
         Some(number) => state.enter(known.place, entry, number, known.ruling.rank),
@@ -152,7 +165,9 @@ pub fn enter_line(
     line: &SectionLine,
     known: &Option<Known>,
 ) -> Result<(), AllocError>
-    ensures { OnOk result ((ds : List Decision) → IsKnownLine ds state.old line.now known.now → (b : Begun) → IsDecidedOnce ds → IsBegun b
+    ensures { OnOk result
+        ((ds : List Decision) → IsKnownLine ds state.old line.now known.now → (b : Begun)
+        → IsDecidedOnce ds → IsBegun b
         → MayFollow b b.current line.now → AdmitsLine ds b.current line.now
         → Tracks ds b state.old → Tracks ds (with_next b b.current line.now) state.new) }
 {
@@ -179,7 +194,8 @@ impl Tracked {
         certificate: &Decided,
     ) -> Result<Tracked, AllocError>
         ensures { IfOk result (λ t. (b : Begun) → IsCertificate certificate.now
-            → b ≡ record { sites = sites; whole = []; current = None } → IsTracked certificate.now.decisions b t) }
+            → b ≡ record { sites = sites; whole = []; current = None }
+            → IsTracked certificate.now.decisions b t) }
     {
         let place = Place::new(alloc, sites);
         let state = SiteState::new(alloc, certificate.decisions().len())?;
@@ -199,9 +215,11 @@ impl Tracked {
         line: &SectionLine,
         known: &Option<Known>,
     ) -> Result<(), AllocError>
-        ensures { OnOk result (IsKnownLine certificate.now.decisions self.old.state line.now known.now
+        ensures { OnOk result
+            (IsKnownLine certificate.now.decisions self.old.state line.now known.now
             → (b : Begun) → IsDecidedOnce certificate.now.decisions → IsBegun b
-            → MayFollow b b.current line.now → AdmitsLine certificate.now.decisions b.current line.now
+            → MayFollow b b.current line.now
+            → AdmitsLine certificate.now.decisions b.current line.now
             → IsTracked certificate.now.decisions b self.old
             → IsTracked certificate.now.decisions (with_next b b.current line.now) self.new) }
     {

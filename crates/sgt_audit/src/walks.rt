@@ -29,7 +29,8 @@ pub struct Walks {
 
 /// Whether the step is a conflict in the open log.
 fn is_met(certificate: &Decided, state: &SiteState, edge: &Edge) -> bool
-    ensures { (items : List Holding) (entries : List Entry) → TracksOpen certificate.now.decisions items entries state.now
+    ensures { (items : List Holding) (entries : List Entry)
+        → TracksOpen certificate.now.decisions items entries state.now
         → (IsTrue result ↔ IsMet entries edge.now) }
 {
     let from = edge.from;
@@ -45,7 +46,8 @@ fn is_met(certificate: &Decided, state: &SiteState, edge: &Edge) -> bool
 
 /// Whether each of the steps is a conflict in the open log.
 pub(crate) fn are_met(certificate: &Decided, state: &SiteState, edges: &[Edge]) -> bool
-    ensures { (items : List Holding) (entries : List Entry) → TracksOpen certificate.now.decisions items entries state.now
+    ensures { (items : List Holding) (entries : List Entry)
+        → TracksOpen certificate.now.decisions items entries state.now
         → (IsTrue result ↔ All (IsMet entries) edges.now) }
 {
     for edge in edges {
@@ -59,7 +61,8 @@ pub(crate) fn are_met(certificate: &Decided, state: &SiteState, edges: &[Edge]) 
 impl Walks {
     /// Before the first section.
     pub(crate) fn new(steps: Steps) -> Walks
-        ensures { (decisions : List Decision) → AreStepsOf decisions steps → MeansMet decisions [] result }
+        ensures { (decisions : List Decision) → AreStepsOf decisions steps
+            → MeansMet decisions [] result }
     {
         Walks { steps, met: true }
     }
@@ -67,7 +70,8 @@ impl Walks {
     /// One more line. The end of a section makes its log whole.
     #[inline(always)]
     pub(crate) fn pass(&mut self, certificate: &Decided, state: &SiteState, line: &SectionLine)
-        ensures { (b : Begun) → MayFollow b b.current line.now → Tracks certificate.now.decisions b state.now
+        ensures { (b : Begun) → MayFollow b b.current line.now
+            → Tracks certificate.now.decisions b state.now
             → MeansMet certificate.now.decisions b.whole self.old
             → MeansMet certificate.now.decisions (with_next b b.current line.now).whole self.new }
     {

@@ -8,3 +8,4 @@ pub mod Listing
 pub mod Clashing
 pub mod Lists
 pub mod Linked
+pub mod Rows

@@ -2,3 +2,4 @@
 pub mod Noted
 pub mod Deeds
 pub mod Linked
+pub mod Rows

@@ -66,7 +66,7 @@ pub(crate) fn act_of(at: usize, place: u32, entry: &Entry) -> Act
 impl Deed {
     /// Whether it changes the item.
     #[inline(always)]
-    fn changes(self) -> bool
+    pub(crate) fn changes(self) -> bool
         ensures { result ≡ changes self }
     {
         match self {

@@ -6,6 +6,7 @@ mod cell;
 mod chain;
 mod record;
 mod record_table;
+mod row;
 mod state;
 
 pub use act::item_in;

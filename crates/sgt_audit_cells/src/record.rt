@@ -11,7 +11,14 @@ pub struct Slot {
     pub section: usize,
     pub last: usize,
     pub ended: bool,
+    /// How many entries of it were counted, up to `MANY`.
+    pub count: u8,
+    /// The number of its row, if it has one. Nothing need be known of it.
+    pub row: u32,
 }
+
+/// A transaction with as many entries in a section gets a row.
+const MANY: u8 = 32;
 
 /// What a transaction did, and where the one before it of the same transaction stands, counted from 1 over the section. 0 is none.
 #[derive(Clone, Copy)]
@@ -30,12 +37,32 @@ pub(crate) struct Turn {
 impl Slot {
     /// Of a transaction that no section has met.
     pub(crate) fn fresh() -> Slot
-        ensures { result ≡ record { section = 0; last = 0; ended = false } }
+        ensures { result ≡ record { section = 0; last = 0; ended = false; count = 0; row = 0 } }
     {
         Slot {
             section: 0,
             last: 0,
             ended: false,
+            count: 0,
+            row: 0,
+        }
+    }
+
+    /// Whether it has many entries in the section.
+    #[inline(always)]
+    pub(crate) fn is_long(&self, section: usize) -> bool {
+        self.count >= MANY && self.section == section
+    }
+
+    /// How many of its entries are counted with one more in the section.
+    #[inline(always)]
+    pub(crate) fn count_after(&self, section: usize) -> u8 {
+        if self.count < MANY {
+            self.count + 1
+        } else if self.section == section {
+            self.count
+        } else {
+            1
         }
     }
 

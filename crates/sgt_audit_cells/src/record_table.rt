@@ -11,6 +11,7 @@ ghost use Rattle.sgt_audit_cells.specs.private.Deeds.{IsTouched, ClashesWith};
 use crate::act::{Act, deed_of};
 use crate::chain::{has_done, have_clash, link};
 use crate::record::{Node, Slot, Turn};
+use crate::row::{Row, keep, shown};
 use sgt_names::{Entry, Kind};
 use std::alloc::{AllocError, Global};
 use std::marker::Model;
@@ -21,6 +22,8 @@ pub struct RecordTable {
     slots: Vec<Slot>,
     /// What was done in the open section.
     nodes: Vec<Node>,
+    /// What transactions with many operations did there, by bits.
+    rows: Vec<Row>,
     /// How many nodes the sections before had.
     base: usize,
 }
@@ -29,19 +32,28 @@ impl Model for RecordTable {
     ghost use Rattle.std.specs.Prelude.{List, length, ◌+◌, ◌<◌, ◌^◌};
     ghost use Rattle.sgt_audit_cells.specs.Records.{Record};
     ghost use Rattle.sgt_audit_cells.specs.private.Linked.{AreLinked, AreWithin, records_of};
+    ghost use Rattle.sgt_audit_cells.specs.private.Rows.{AreRows};
 
     ghost Value = { List Record };
 
     ghost view = { λ t. records_of t.base t.nodes.items t.slots.items };
 
     ghost invariant = { λ t. AreLinked t.nodes.items × AreWithin t.base (length t.nodes.items) t.slots.items
-        × (t.base + length t.nodes.items < 2 ^ 64) };
+        × (t.base + length t.nodes.items < 2 ^ 64) × AreRows t.nodes.items t.rows.items };
 }
 
 /// Of so many transactions, that no section has met.
 fn fresh_slots(alloc: Global, count: usize) -> Result<Vec<Slot>, AllocError>
     ensures len { IfOk result (λ slots. length slots.items ≡ count) }
-    ensures fresh { IfOk result (λ slots. All (λ s. s ≡ record { section = 0; last = 0; ended = false }) slots.items) }
+    ensures fresh { IfOk result
+        (λ slots. All
+        (λ s. s ≡ record {
+          section = 0;
+          last = 0;
+          ended = false;
+          count = 0;
+          row = 0;
+        }) slots.items) }
 {
     vec![in alloc; Slot::fresh(); count]
 }
@@ -55,6 +67,7 @@ impl RecordTable {
         Ok(RecordTable {
             slots,
             nodes: Vec::new(alloc),
+            rows: Vec::new(alloc),
             base: 0,
         })
     }
@@ -62,10 +75,12 @@ impl RecordTable {
     /// What was done is forgotten.
     pub(crate) fn clear(&mut self)
         ensures length { length self.new ≡ length self.old }
-        ensures stamps { (bound : ℕ) → All (λ r. r.section < bound) self.old → All (λ r. r.section < bound) self.new }
+        ensures stamps { (bound : ℕ) → All (λ r. r.section < bound) self.old
+            → All (λ r. r.section < bound) self.new }
     {
         self.base = self.base.saturating_add(self.nodes.len());
         self.nodes.clear();
+        self.rows.clear();
     }
 
     /// How many there are.
@@ -86,21 +101,30 @@ impl RecordTable {
         place: usize,
         entry: &Entry,
     ) -> bool
-        ensures { (r : Record) (ns : List Name) (entries : List Entry) (x : Name) → slice_get self.now number ≡ Some r
-            → slice_get ns place ≡ Some x → item_of entry.now ≡ Some x → AreActs ns entries (tx_of entry.now) (acts_in section r)
+        ensures { (r : Record) (ns : List Name) (entries : List Entry) (x : Name)
+            → slice_get self.now number ≡ Some r
+            → slice_get ns place ≡ Some x → item_of entry.now ≡ Some x
+            → AreActs ns entries (tx_of entry.now) (acts_in section r)
             → (IsTrue result ↔ All (λ f. (y : Name) → Repeats y f entry.now → ⊥) entries) }
     {
         let Some(slot) = self.slots.get(number) else {
             return false;
         };
         let last = slot.last_in(section).saturating_sub(self.base);
-        !has_done(self.nodes.as_slice(), last, place, deed_of(entry))
+        let deed = deed_of(entry);
+        if slot.is_long(section) {
+            if let Some(done) = shown(self.rows.as_slice(), slot.row, last, place, deed) {
+                return !done;
+            }
+        }
+        !has_done(self.nodes.as_slice(), last, place, deed)
     }
 
     /// Whether the transaction of this number ended in the section.
     #[inline(always)]
     pub(crate) fn has_ended(&self, number: usize, section: usize) -> bool
-        ensures { (r : Record) → slice_get self.now number ≡ Some r → result ≡ has_ended_in section r }
+        ensures { (r : Record) → slice_get self.now number ≡ Some r
+            → result ≡ has_ended_in section r }
     {
         match self.slots.get(number) {
             Some(slot) => slot.has_ended(section),
@@ -117,8 +141,11 @@ impl RecordTable {
         kind: Kind,
         place: usize,
     ) -> bool
-        ensures { (q r : Record) → slice_get self.now numbers.0 ≡ Some q → slice_get self.now numbers.1 ≡ Some r
-            → (IsTrue result ↔ Any (λ a. (a.place ≡ place) × Any (ClashesWith kind a) (acts_in section r)) (acts_in section q)) }
+        ensures { (q r : Record) → slice_get self.now numbers.0 ≡ Some q
+            → slice_get self.now numbers.1 ≡ Some r
+            → (IsTrue result
+            ↔ Any (λ a. (a.place ≡ place) × Any (ClashesWith kind a) (acts_in section r))
+            (acts_in section q)) }
     {
         let Some(first) = self.slots.get(numbers.0) else {
             return false;
@@ -145,7 +172,8 @@ impl RecordTable {
         ends: bool,
     ) -> Result<Turn, AllocError>
         ensures { IfOk result (λ turn. (r : Record) → slice_get self.old number ≡ Some r
-            → (s : Record) × (self.new ≡ slice_set self.old number s) × IsTouched section (option_to_list act) ends r s
+            → (s : Record) × (self.new ≡ slice_set self.old number s)
+            × IsTouched section (option_to_list act) ends r s
             × (turn.was_live ≡ is_live_in section r) × (turn.is_live ≡ is_live_in section s)) }
     {
         if number >= self.slots.len() {
@@ -156,10 +184,14 @@ impl RecordTable {
         }
         let slot = self.slots[number];
         let last = link(&mut self.nodes, self.base, slot.last_in(section), act)?;
+        let node = last.saturating_sub(self.base);
+        let row = keep(&mut self.rows, self.nodes.as_slice(), &slot, section, node)?;
         let next = Slot {
             section,
             last,
             ended: slot.has_ended_after(section, ends),
+            count: slot.count_after(section),
+            row,
         };
         self.slots[number] = next;
         Ok(Turn {

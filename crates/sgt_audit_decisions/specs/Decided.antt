@@ -9,7 +9,8 @@ use Rattle.sgt_audit_decisions.specs.declared.decided.Ruling.{Ruling}
 
 -- the decision of this number is on the transaction
 abbrev pub Decides : List Decision → (number tx : ℕ) → Type 0
-Decides decisions number tx = (d : Decision) × (slice_get decisions number ≡ Some d) × (decided_tx d ≡ tx)
+Decides decisions number tx = (d : Decision) × (slice_get decisions number ≡ Some d)
+    × (decided_tx d ≡ tx)
 
 -- the number that was found is such a one, or there is none
 abbrev pub IsFound : (ℕ → Type 0) → Option ℕ → Type 0

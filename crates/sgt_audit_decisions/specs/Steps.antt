@@ -23,7 +23,8 @@ edges_in decisions = flat_map edges_of decisions
 
 -- these are the steps of all walks at the site
 abbrev pub AreStepsAt : List Decision → ℕ → List Edge → Type 0
-AreStepsAt decisions site here = (e : Edge) → Contains here e ↔ (Contains (edges_in decisions) e × (e.step.label.site ≡ site))
+AreStepsAt decisions site here = (e : Edge)
+    → Contains here e ↔ (Contains (edges_in decisions) e × (e.step.label.site ≡ site))
 
 -- they are the steps of all walks, by their sites
 pub record AreStepsOf (decisions : List Decision) (s : Steps) : Type 0 where

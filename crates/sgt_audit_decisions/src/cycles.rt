@@ -34,7 +34,8 @@ fn are_distinct(alloc: Global, walk: &[Step]) -> Result<bool, AllocError>
 /// Whether each step leads to another transaction, committed by a decision of smaller number.
 fn lead_to_committed(certificate: &Decided, number: usize, tx: Tx, walk: &[Step]) -> bool
     ensures { IsTrue result ↔ All (λ s. (s.to ≢ tx)
-        × ((m rank : ℕ) × (m < number) × IsCommitted certificate.now.decisions m s.to rank)) walk.now }
+        × ((m rank : ℕ) × (m < number)
+        × IsCommitted certificate.now.decisions m s.to rank)) walk.now }
 {
     for step in walk {
         if step.to == tx || !certificate.is_committed_before(number, step.to) {
@@ -76,7 +77,8 @@ fn has_cycle(
     number: usize,
     decision: &Decision,
 ) -> Result<bool, AllocError>
-    ensures { IfOk result (λ has. IsTrue has ↔ ((tx : ℕ) (walk : List Step) → decision.now ≡ Refuse tx walk
+    ensures { IfOk result
+        (λ has. IsTrue has ↔ ((tx : ℕ) (walk : List Step) → decision.now ≡ Refuse tx walk
         → IsCycle certificate.now.decisions number tx walk)) }
 {
     match decision {
@@ -88,7 +90,8 @@ fn has_cycle(
 /// Whether the walk of each refused transaction has the shape of a cycle. Err: memory ran out.
 pub fn are_cycles(alloc: Global, certificate: &Decided) -> Result<bool, AllocError>
     ensures { IfOk result (λ are. IsTrue are ↔ ((number tx : ℕ) (walk : List Step)
-        → slice_get certificate.now.decisions number ≡ Some (Refuse tx walk) → IsCycle certificate.now.decisions number tx walk)) }
+        → slice_get certificate.now.decisions number ≡ Some (Refuse tx walk)
+        → IsCycle certificate.now.decisions number tx walk)) }
 {
     for (number, decision) in certificate.decisions().iter().enumerate() {
         if !has_cycle(alloc, certificate, number, decision)? {

@@ -86,7 +86,8 @@ impl Decided {
 
     /// The steps of all walks, by their sites. Err: memory ran out.
     pub fn steps(&self, alloc: Global) -> Result<Steps, AllocError>
-        ensures { IfOk result (λ steps. IsCertificate self.now → AreStepsOf self.now.decisions steps) }
+        ensures { IfOk result
+            (λ steps. IsCertificate self.now → AreStepsOf self.now.decisions steps) }
     {
         Steps::new(alloc, self.certificate.sites as usize, self.decisions())
     }
@@ -101,7 +102,9 @@ impl Decided {
 
     /// The decision on the transaction, with its number.
     fn decision_of(&self, tx: Tx) -> Option<(usize, &Decision)>
-        ensures some { IfSome result (λ found. (slice_get self.now.decisions found.0 ≡ Some found.1.now) × (decided_tx found.1.now ≡ tx)
+        ensures some { IfSome result
+            (λ found. (slice_get self.now.decisions found.0 ≡ Some found.1.now)
+            × (decided_tx found.1.now ≡ tx)
             × ((number : ℕ) → Decides self.now.decisions number tx → number ≡ found.0)) }
         ensures none { IfNone result ((number : ℕ) → Decides self.now.decisions number tx → ⊥) }
     {
@@ -142,7 +145,8 @@ impl Decided {
 
     /// Whether the transaction is committed by a decision of smaller number.
     pub(crate) fn is_committed_before(&self, number: usize, tx: Tx) -> bool
-        ensures { IsTrue result ↔ ((m rank : ℕ) × (m < number) × IsCommitted self.now.decisions m tx rank) }
+        ensures { IsTrue result
+            ↔ ((m rank : ℕ) × (m < number) × IsCommitted self.now.decisions m tx rank) }
     {
         match self.decision_of(tx) {
             Some((earlier, decision)) => earlier < number && decision.is_commit(),

@@ -41,7 +41,9 @@ impl Group {
 
 /// One more step, if its site is among them.
 fn add_edge(groups: &mut [Group], edge: &Edge) -> Result<(), AllocError>
-    ensures { OnOk result ((edges : List Edge) → AreGrouped edges groups.old → AreGrouped (edges ++ edge.now ∷ []) groups.new) }
+    ensures { OnOk result
+        ((edges : List Edge) → AreGrouped edges groups.old
+        → AreGrouped (edges ++ edge.now ∷ []) groups.new) }
 {
     let site = edge.step.label.site.number() as usize;
     if site >= groups.len() {
@@ -52,7 +54,9 @@ fn add_edge(groups: &mut [Group], edge: &Edge) -> Result<(), AllocError>
 
 /// The steps of a walk from the transaction.
 fn add_walk(groups: &mut [Group], from: Tx, walk: &[Step]) -> Result<(), AllocError>
-    ensures { OnOk result ((edges : List Edge) → AreGrouped edges groups.old → AreGrouped (edges ++ edges_from from walk.now) groups.new) }
+    ensures { OnOk result
+        ((edges : List Edge) → AreGrouped edges groups.old
+        → AreGrouped (edges ++ edges_from from walk.now) groups.new) }
 {
     let mut at = from;
     for step in walk {
@@ -68,7 +72,9 @@ fn add_walk(groups: &mut [Group], from: Tx, walk: &[Step]) -> Result<(), AllocEr
 
 /// The steps of the decision's walk, if it refuses.
 fn add_decision(groups: &mut [Group], decision: &Decision) -> Result<(), AllocError>
-    ensures { OnOk result ((edges : List Edge) → AreGrouped edges groups.old → AreGrouped (edges ++ edges_of decision.now) groups.new) }
+    ensures { OnOk result
+        ((edges : List Edge) → AreGrouped edges groups.old
+        → AreGrouped (edges ++ edges_of decision.now) groups.new) }
 {
     match decision {
         Decision::Refuse { tx, walk } => add_walk(groups, *tx, walk.as_slice()),
@@ -77,7 +83,8 @@ fn add_decision(groups: &mut [Group], decision: &Decision) -> Result<(), AllocEr
 }
 
 fn add_decisions(groups: &mut [Group], decisions: &[Decision]) -> Result<(), AllocError>
-    ensures { OnOk result (AreGrouped [] groups.old → AreGrouped (edges_in decisions.now) groups.new) }
+    ensures { OnOk result
+        (AreGrouped [] groups.old → AreGrouped (edges_in decisions.now) groups.new) }
 {
     for decision in decisions {
         add_decision(groups, decision)?;
@@ -87,7 +94,8 @@ fn add_decisions(groups: &mut [Group], decisions: &[Decision]) -> Result<(), All
 
 /// No step at any of so many sites.
 fn fresh(alloc: Global, sites: usize) -> Result<Vec<Group>, AllocError>
-    ensures { IfOk result (λ groups. (length groups.items ≡ sites) × All (λ g. g.edges.items ≡ []) groups.items) }
+    ensures { IfOk result
+        (λ groups. (length groups.items ≡ sites) × All (λ g. g.edges.items ≡ []) groups.items) }
 {
     let mut groups = Vec::new(alloc);
     for _ in 0..sites {
@@ -105,7 +113,9 @@ impl Steps {
         sites: usize,
         decisions: &[Decision],
     ) -> Result<Steps, AllocError>
-        ensures { IfOk result (λ steps. All (λ e. e.step.label.site < sites) (edges_in decisions.now) → AreStepsOf decisions.now steps) }
+        ensures { IfOk result
+            (λ steps. All (λ e. e.step.label.site < sites) (edges_in decisions.now)
+            → AreStepsOf decisions.now steps) }
     {
         let mut groups = fresh(alloc, sites)?;
         add_decisions(groups.as_mut_slice(), decisions)?;
@@ -114,7 +124,8 @@ impl Steps {
 
     /// The steps at the site of this number.
     pub fn at(&self, site: usize) -> &[Edge]
-        ensures { (decisions : List Decision) → AreStepsOf decisions self.now → AreStepsAt decisions site result.now }
+        ensures { (decisions : List Decision) → AreStepsOf decisions self.now
+            → AreStepsAt decisions site result.now }
     {
         match self.groups.get(site) {
             Some(group) => group.edges.as_slice(),

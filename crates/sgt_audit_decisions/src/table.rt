@@ -48,7 +48,8 @@ fn fill_dense(places: &mut Vec<Option<Placed<u32>>>, decisions: &[Decision]) -> 
     requires fresh { All (λ placed. placed ≡ None) places.old.items }
     requires few { length decisions.now < 2 ^ 32 }
     ensures once { IsTrue result ↔ IsDecidedOnce decisions.now }
-    ensures table { IsTrue result → ArePlacedOf decisions.now (λ tx. slice_index_or places.new.items tx None) }
+    ensures table { IsTrue result
+        → ArePlacedOf decisions.now (λ tx. slice_index_or places.new.items tx None) }
 {
     for (number, decision) in decisions.iter().enumerate() {
         let place = decision.tx().number() as usize;
@@ -70,7 +71,8 @@ fn fill_sparse(
 ) -> Result<bool, AllocError>
     requires { places.old.entries ≡ [] }
     ensures once { IfOk result (λ filled. IsTrue filled ↔ IsDecidedOnce decisions.now) }
-    ensures table { IfOk result (λ filled. IsTrue filled → ArePlacedOf decisions.now (get nat_cmp places.new)) }
+    ensures table { IfOk result
+        (λ filled. IsTrue filled → ArePlacedOf decisions.now (get nat_cmp places.new)) }
 {
     for (number, decision) in decisions.iter().enumerate() {
         let placed = Placed {

@@ -19,7 +19,8 @@ pub record IsWholeSection (second : Bool) (c : Certificate) (k : ℕ) (bytes : L
 -- they are that, or they have this fault, whatever follows them, or where nothing does
 abbrev pub IsJudgedSection : Bool → Certificate → ℕ → List ℕ → Judged → Type 0
 IsJudgedSection second c k bytes (Whole lines met) = IsWholeSection second c k bytes lines met
-IsJudgedSection second c k bytes (Faulty n f) = (more : List ℕ) → OwnFault second c k (bytes ++ more) n f
+IsJudgedSection second c k bytes (Faulty n f) = (more : List ℕ)
+    → OwnFault second c k (bytes ++ more) n f
 IsJudgedSection second c k bytes (Open n f) = OwnFault second c k bytes n f
 IsJudgedSection second c k bytes Unfit = Unit {0}
 

@@ -1,4 +1,5 @@
--- The sections of a text by themselves, with the certificate lent: what a section's own fault is, and when it has none.
+-- The sections of a text by themselves, with the certificate lent: what a section's own fault is,
+-- and when it has none.
 use Rattle.std.specs.Prelude.{◌≡◌, ◌≢◌, ◌<◌, ℕ, ◌+◌, Bool, List, [], ◌∷◌, ◌++◌, length, map, replicate, All, Some, slice_get}
 use Rattle.sgt_notation.specs.Spelling.{line_text, text_of_lines}
 use Rattle.sgt_notation.specs.declared.SectionLine.{SectionLine}
@@ -21,16 +22,20 @@ empty_log = record { items = []; entries = []; finals = [] }
 abbrev pub alone : ℕ → List SectionLine → List SectionLine
 alone k own = sections_from 0 (replicate k empty_log) ++ own
 
--- what a line of the section of site k keeps there, behind these lines of it: every rule but that of the walks
+-- what a line of the section of site k keeps there, behind these lines of it: every rule but that
+-- of the walks
 abbrev pub KeepsAlone : Certificate → ℕ → List SectionLine → SectionLine → Type 0
-KeepsAlone c k own line = (f : Fault) → fault_number f < fault_number WalkStep → Keeps c (alone k own) line f
+KeepsAlone c k own line = (f : Fault) → fault_number f < fault_number WalkStep
+    → Keeps c (alone k own) line f
 
 -- each of these lines of the section does
 abbrev pub AreKeptAlone : Bool → Certificate → ℕ → List SectionLine → Type 0
-AreKeptAlone second c k own = (earlier later : List SectionLine) (l : SectionLine) → own ≡ earlier ++ l ∷ later
+AreKeptAlone second c k own = (earlier later : List SectionLine) (l : SectionLine)
+    → own ≡ earlier ++ l ∷ later
     → IsLineIn second l × KeepsAlone c k earlier l
 
--- The bytes, as the section of site k, have a fault of their own: line n of them has f, of the faults of that line the least, and no line
+-- The bytes, as the section of site k, have a fault of their own: line n of them has f, of the
+-- faults of that line the least, and no line
 -- before it has one. The sections before are not asked: they might be empty.
 pub record OwnFault (second : Bool) (c : Certificate) (k : ℕ) (bytes : List ℕ) (n : ℕ) (f : Fault) : Type 0 where
   -- the lines before it
@@ -53,14 +58,17 @@ pub record IsFaultlessSection (second : Bool) (c : Certificate) (k : ℕ) (log :
 
 -- the sections of the first sites
 abbrev pub AreFaultlessSections : Bool → Certificate → List SiteLog → Type 0
-AreFaultlessSections second c logs = (k : ℕ) (log : SiteLog) → slice_get logs k ≡ Some log → IsFaultlessSection second c k log
+AreFaultlessSections second c logs = (k : ℕ) (log : SiteLog) → slice_get logs k ≡ Some log
+    → IsFaultlessSection second c k log
 
 -- each step of a walk at site k is a conflict in its log
 abbrev pub StepsAreFound : List Decision → ℕ → SiteLog → Type 0
-StepsAreFound decisions k log = All (λ e. e.step.label.site ≡ k → IsMet log.entries e) (edges_in decisions)
+StepsAreFound decisions k log =
+    All (λ e. e.step.label.site ≡ k → IsMet log.entries e) (edges_in decisions)
 
 abbrev pub AllStepsAreFound : List Decision → List SiteLog → Type 0
-AllStepsAreFound decisions logs = (k : ℕ) (log : SiteLog) → slice_get logs k ≡ Some log → StepsAreFound decisions k log
+AllStepsAreFound decisions logs = (k : ℕ) (log : SiteLog) → slice_get logs k ≡ Some log
+    → StepsAreFound decisions k log
 
 -- a certificate with no fault by itself
 pub record IsFaultlessCertificate (c : Certificate) : Type 0 where
@@ -69,7 +77,8 @@ pub record IsFaultlessCertificate (c : Certificate) : Type 0 where
 
 -- the text up to the sections of the first sites, with them; and how many lines that are
 abbrev pub front_lines : Bool → Certificate → List SiteLog → List (List ℕ)
-front_lines second c logs = format_line second ∷ certificate_text c ∷ map line_text (sections_from 0 logs)
+front_lines second c logs =
+    format_line second ∷ certificate_text c ∷ map line_text (sections_from 0 logs)
 
 abbrev pub front_text : Bool → Certificate → List SiteLog → List ℕ
 front_text second c logs = text_of_lines (front_lines second c logs)

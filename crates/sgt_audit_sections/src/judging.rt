@@ -57,7 +57,9 @@ fn feed_front(
     edges: &[Edge],
     bytes: &[u8],
 ) -> Result<Option<(usize, Option<Fault>)>, AllocError>
-    ensures fed { IfOk result (λ found. IfSome found (λ r. FedAlone certificate.now edges.now alone.old alone.new bytes.now r.0 r.1)) }
+    ensures fed { IfOk result
+        (λ found. IfSome found
+        (λ r. FedAlone certificate.now edges.now alone.old alone.new bytes.now r.0 r.1)) }
     ensures none { IfOk result (λ found. IfNone found (HasNoLf bytes.now)) }
     ensures same { IfOk result (λ found. IfNone found (alone.new ≡ alone.old)) }
     ensures second { alone.new.second ≡ alone.old.second }
@@ -102,7 +104,8 @@ pub fn judge_section(
     requires site { site < certificate.now.sites }
     requires steps { AreStepsAt certificate.now.decisions site edges.now }
     ensures judged { IfOk result (IsJudgedSection alone.old.second certificate.now site bytes.now) }
-    ensures ready { IfOk result (λ j. IsWhole j → IsReadyAlone certificate.now (site + 1) alone.new) }
+    ensures ready { IfOk result
+        (λ j. IsWhole j → IsReadyAlone certificate.now (site + 1) alone.new) }
     ensures second { alone.new.second ≡ alone.old.second }
 {
     alone.begin(site);

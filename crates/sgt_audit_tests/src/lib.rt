@@ -1,5 +1,4 @@
-//! Tests of the auditor and of the serial run, and of the crates that they stand on: what no proof reaches, and each public
-//! function on its happy path.
+//! Tests of the auditor, of the serial run and of certificates for logs: what no proof reaches.
 #![tactic(auto)]
 
 #[cfg(test)]
@@ -7,12 +6,10 @@ mod bundles;
 #[cfg(test)]
 mod calls;
 #[cfg(test)]
-mod decisions;
-#[cfg(test)]
 mod devices;
 #[cfg(test)]
 mod faults;
 #[cfg(test)]
 mod runs;
 #[cfg(test)]
-mod sections;
+mod sound;

@@ -16,113 +16,97 @@ fn answers(alloc: Global, line: &str, wanted: Option<CertFault>) -> bool {
     }
 }
 
+/// Lines, and their faults.
+const LINES: [(&str, Option<CertFault>); 27] = [
+    ("{\"decisions\":[],\"sites\":1}", None),
+    ("{\"sites\":1 , \"decisions\":[]}", Some(CertFault::Range)),
+    ("{\"decisions\":[],\"sites\":1.0}", Some(CertFault::Range)),
+    ("{\"decisions\":[],\"sites\":1,}", Some(CertFault::NotJson)),
+    ("{\"sites\":1}", Some(CertFault::Shape)),
+    (
+        "{\"decisions\":[{\"commit\":\"1\",\"rank\":0}],\"sites\":0}",
+        Some(CertFault::Shape),
+    ),
+    (
+        "{\"decisions\":[{\"commit\":0,\"rank\":0}],\"sites\":1}",
+        Some(CertFault::Range),
+    ),
+    ("{\"decisions\":[],\"sites\":17}", None),
+    ("{\"decisions\":[],\"sites\":64}", None),
+    ("{\"decisions\":[],\"sites\":65}", Some(CertFault::Range)),
+    (
+        "{\"decisions\":[],\"\\u0073ites\":1}",
+        Some(CertFault::Range),
+    ),
+    (
+        "{\"decisions\":[],\"sites\":1,\"sites\":1}",
+        Some(CertFault::Range),
+    ),
+    ("{\"decisions\":[],\"sites\":01}", Some(CertFault::NotJson)),
+    ("", Some(CertFault::NotJson)),
+    (
+        "{\"decisions\":[{\"commit\":4294967295,\"rank\":4294967295}],\"sites\":1}",
+        None,
+    ),
+    (
+        "{\"decisions\":[{\"commit\":4294967296,\"rank\":0}],\"sites\":1}",
+        Some(CertFault::Range),
+    ),
+    (
+        "{\"decisions\":[{\"rank\":0,\"commit\":1}],\"sites\":1}",
+        Some(CertFault::Range),
+    ),
+    (
+        "{\"decisions\":[{\"refuse\":2,\"walk\":[{\"item\":\"x\",\"kind\":\"ww\",\"site\":1,\"to\":1}]}],\"sites\":1}",
+        Some(CertFault::Range),
+    ),
+    (
+        "{\"decisions\":[{\"refuse\":2,\"walk\":[{\"item\":\"x\",\"kind\":\"wr\",\"site\":0}]}],\"sites\":1}",
+        Some(CertFault::Shape),
+    ),
+    (
+        "{\"decisions\":[{\"commit\":1,\"rank\":0}],\"sites\":1} ",
+        Some(CertFault::Range),
+    ),
+    (
+        "{\"decisions\": [{\"refuse\": 2, \"walk\": [{\"item\": \"x\", \"kind\": \"rw\", \"site\": 0, \"to\": 2}]}, {\"withdraw\": 3}], \"sites\": 1}",
+        Some(CertFault::Range),
+    ),
+    (
+        "{\"decisions\": [{\"commit\": 1, \"rank\": null}], \"sites\": 1}",
+        Some(CertFault::Shape),
+    ),
+    (
+        "{\"decisions\": [{\"commit\": 1}], \"sites\": 1}",
+        Some(CertFault::Shape),
+    ),
+    (
+        "{\"decisions\": [], \"sites\": 1, \"sites\": \"1\"}",
+        Some(CertFault::Shape),
+    ),
+    (
+        "{\"sites\": \"1\", \"decisions\": [], \"sites\": 1}",
+        Some(CertFault::Range),
+    ),
+    (
+        "{\"decisions\": [], \"sites\": 1} x",
+        Some(CertFault::NotJson),
+    ),
+    (
+        "{\"decisions\": [], \"sites\": 1e999}",
+        Some(CertFault::NotJson),
+    ),
+];
+
 #[test]
-fn whole_lines(rt: HostRuntime) -> Result<(), Fail> {
-    for (line, wanted) in [
-        ("{\"decisions\":[],\"sites\":1}", None),
-        ("{\"sites\":1 , \"decisions\":[]}", Some(CertFault::Range)),
-        ("{\"decisions\":[],\"sites\":1.0}", Some(CertFault::Range)),
-        ("{\"decisions\":[],\"sites\":1,}", Some(CertFault::NotJson)),
-        ("{\"sites\":1}", Some(CertFault::Shape)),
-        (
-            "{\"decisions\":[{\"commit\":\"1\",\"rank\":0}],\"sites\":0}",
-            Some(CertFault::Shape),
-        ),
-        (
-            "{\"decisions\":[{\"commit\":0,\"rank\":0}],\"sites\":1}",
-            Some(CertFault::Range),
-        ),
-        ("{\"decisions\":[],\"sites\":17}", None),
-        ("{\"decisions\":[],\"sites\":64}", None),
-        ("{\"decisions\":[],\"sites\":65}", Some(CertFault::Range)),
-        (
-            "{\"decisions\":[],\"\\u0073ites\":1}",
-            Some(CertFault::Range),
-        ),
-        (
-            "{\"decisions\":[],\"sites\":1,\"sites\":1}",
-            Some(CertFault::Range),
-        ),
-        ("{\"decisions\":[],\"sites\":01}", Some(CertFault::NotJson)),
-        ("", Some(CertFault::NotJson)),
-    ] {
+fn lines(rt: HostRuntime) {
+    for (line, wanted) in LINES {
         assert!(rt; answers(rt.alloc(), line, wanted), "{line}");
     }
     certificates_are_read_back();
     certificates_have_one_reading();
     lines_are_read_or_refused();
     lines_are_refused_once();
-    Ok(())
-}
-
-#[test]
-fn decisions(rt: HostRuntime) -> Result<(), Fail> {
-    for (line, wanted) in [
-        (
-            "{\"decisions\":[{\"commit\":4294967295,\"rank\":4294967295}],\"sites\":1}",
-            None,
-        ),
-        (
-            "{\"decisions\":[{\"commit\":4294967296,\"rank\":0}],\"sites\":1}",
-            Some(CertFault::Range),
-        ),
-        (
-            "{\"decisions\":[{\"rank\":0,\"commit\":1}],\"sites\":1}",
-            Some(CertFault::Range),
-        ),
-        (
-            "{\"decisions\":[{\"refuse\":2,\"walk\":[{\"item\":\"x\",\"kind\":\"ww\",\"site\":1,\"to\":1}]}],\"sites\":1}",
-            Some(CertFault::Range),
-        ),
-        (
-            "{\"decisions\":[{\"refuse\":2,\"walk\":[{\"item\":\"x\",\"kind\":\"wr\",\"site\":0}]}],\"sites\":1}",
-            Some(CertFault::Shape),
-        ),
-    ] {
-        assert!(rt; answers(rt.alloc(), line, wanted), "{line}");
-    }
-    Ok(())
-}
-
-#[test]
-fn lines_with_spaces(rt: HostRuntime) -> Result<(), Fail> {
-    for (line, wanted) in [
-        (
-            "{\"decisions\":[{\"commit\":1,\"rank\":0}],\"sites\":1} ",
-            Some(CertFault::Range),
-        ),
-        (
-            "{\"decisions\": [{\"refuse\": 2, \"walk\": [{\"item\": \"x\", \"kind\": \"rw\", \"site\": 0, \"to\": 2}]}, {\"withdraw\": 3}], \"sites\": 1}",
-            Some(CertFault::Range),
-        ),
-        (
-            "{\"decisions\": [{\"commit\": 1, \"rank\": null}], \"sites\": 1}",
-            Some(CertFault::Shape),
-        ),
-        (
-            "{\"decisions\": [{\"commit\": 1}], \"sites\": 1}",
-            Some(CertFault::Shape),
-        ),
-        (
-            "{\"decisions\": [], \"sites\": 1, \"sites\": \"1\"}",
-            Some(CertFault::Shape),
-        ),
-        (
-            "{\"sites\": \"1\", \"decisions\": [], \"sites\": 1}",
-            Some(CertFault::Range),
-        ),
-        (
-            "{\"decisions\": [], \"sites\": 1} x",
-            Some(CertFault::NotJson),
-        ),
-        (
-            "{\"decisions\": [], \"sites\": 1e999}",
-            Some(CertFault::NotJson),
-        ),
-    ] {
-        assert!(rt; answers(rt.alloc(), line, wanted), "{line}");
-    }
-    Ok(())
 }
 
 /// Whether what is read from the line is written as it.
@@ -169,19 +153,12 @@ fn each_kind_of_decision(rt: HostRuntime) -> Result<(), Fail> {
 
 #[test]
 fn faults_as_text(rt: HostRuntime) -> Result<(), Fail> {
-    for (fault, text) in [
-        (CertFault::NotJson, "K1: the line is no JSON value"),
-        (
-            CertFault::Shape,
-            "K2: a member is missing, unknown or of another JSON type",
-        ),
-        (
-            CertFault::Range,
-            "K3: a number, name or kind is out of its range, or the line is not the compact text",
-        ),
-        (CertFault::Memory, "K4: out of memory"),
-    ] {
-        assert_eq!(rt; format!(in rt.alloc(); "{fault}")?.as_str(), text);
-    }
+    let (json, shape) = (CertFault::NotJson, CertFault::Shape);
+    let (range, memory) = (CertFault::Range, CertFault::Memory);
+    let told = format!(in rt.alloc(); "{json}|{shape}|{range}|{memory}")?;
+    assert!(rt;
+        told.as_str()
+            == "K1: the line is no JSON value|K2: a member is missing, unknown or of another JSON type|K3: a number, name or kind is out of its range, or the line is not the compact text|K4: out of memory"
+    );
     Ok(())
 }

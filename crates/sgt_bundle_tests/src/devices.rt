@@ -1,8 +1,7 @@
-//! Readers and writers: over memory, and over those of std that fail.
+//! Readers and writers over those of std, which may fail.
 
-use sgt_names::{FromRead, MemSink, MemSource, Sink, Source, ToWrite, write_all};
+use sgt_names::{FromRead, Sink, Source, ToWrite};
 use std::io::{self, Read, Write};
-use std::test::Fail;
 
 /// A reader whose second call fails.
 #[derive(Drop)]
@@ -48,27 +47,7 @@ fn taken<W: Sink>(sink: &mut W, bytes: &[u8]) -> usize {
 }
 
 #[test]
-fn sources_over_memory(rt: HostRuntime) -> Result<(), Fail> {
-    let mut source = MemSource::new(b"abc", 2, Some(3));
-    assert_eq!(rt;
-        [
-            two(&mut source),
-            two(&mut source),
-            two(&mut source),
-            two(&mut source)
-        ],
-        [(2, b'a'), (1, b'c'), (9, b'-'), (9, b'-')]
-    );
-    let mut whole = MemSource::new(b"ab", 1, None);
-    assert_eq!(rt;
-        [two(&mut whole), two(&mut whole), two(&mut whole)],
-        [(1, b'a'), (1, b'b'), (0, b'-')]
-    );
-    Ok(())
-}
-
-#[test]
-fn readers_of_std(rt: HostRuntime) -> Result<(), Fail> {
+fn readers_of_std(rt: HostRuntime) {
     let mut torn = FromRead::new(Torn {
         left: b"xyz",
         calls: 0,
@@ -82,41 +61,10 @@ fn readers_of_std(rt: HostRuntime) -> Result<(), Fail> {
         ],
         [(2, b'x'), (9, b'-'), (1, b'z'), (0, b'-')]
     );
-    Ok(())
 }
 
 #[test]
-fn sinks_over_memory(rt: HostRuntime) -> Result<(), Fail> {
-    let mut sink = MemSink::new(rt.alloc(), 3)?;
-    assert_eq!(rt;
-        [
-            taken(&mut sink, b"ab"),
-            taken(&mut sink, b"cd"),
-            taken(&mut sink, b"d"),
-            taken(&mut sink, b"")
-        ],
-        [2, 1, 9, 0]
-    );
-    assert!(rt; sink.bytes() == b"abc".as_slice());
-    Ok(())
-}
-
-#[test]
-fn all_is_written_or_not(rt: HostRuntime) -> Result<(), Fail> {
-    let mut sink = MemSink::new(rt.alloc(), 5)?;
-    assert_eq!(rt;
-        (
-            write_all(&mut sink, b"abc").is_ok(),
-            write_all(&mut sink, b"def").is_ok()
-        ),
-        (true, false)
-    );
-    assert!(rt; sink.bytes() == b"abcde".as_slice());
-    Ok(())
-}
-
-#[test]
-fn writers_of_std(rt: HostRuntime) -> Result<(), Fail> {
+fn writers_of_std(rt: HostRuntime) {
     let mut vector = ToWrite::new(Vec::new(rt.alloc()));
     let mut shut = ToWrite::new(Shut);
     assert_eq!(rt;
@@ -127,5 +75,4 @@ fn writers_of_std(rt: HostRuntime) -> Result<(), Fail> {
         ],
         [2, 9, 0]
     );
-    Ok(())
 }

@@ -8,8 +8,6 @@ mod certificates;
 #[cfg(test)]
 mod devices;
 #[cfg(test)]
-mod drafts;
-#[cfg(test)]
 mod events;
 #[cfg(test)]
 mod fronts;

@@ -1,9 +1,9 @@
 //! Lines, read and written.
 
-use sgt_names::{Entry, Item, SiteNo, Tx};
+use sgt_names::{Entry, Tx};
 use sgt_notation::{
-    NotationFault, SectionLine, lines_are_read_back, lines_are_short, lines_have_no_lf,
-    lines_have_one_reading, push_number, read_entry, read_section, write_entry, write_section,
+    NotationFault, lines_are_read_back, lines_are_short, lines_have_no_lf, lines_have_one_reading,
+    push_number, read_entry, read_event, read_section, write_entry, write_section,
 };
 use std::alloc::AllocError;
 use std::test::Fail;
@@ -18,24 +18,26 @@ fn is_read(out: &mut Vec<u8>, line: &str) -> Result<bool, AllocError> {
     Ok(out.as_slice() == line.as_bytes())
 }
 
+const LINES: [&str; 13] = [
+    "site 0",
+    "site 63",
+    "item a_b2c3d4e5f6g7_=18446744073709551615",
+    "final x=7",
+    "end",
+    "r12[x_1]=5",
+    "w4294967295[abcdefghijklmnop]=18446744073709551615",
+    "d1[x]=3",
+    "p1[r2]=10",
+    "q2[x]=18446744073709551615",
+    "c1",
+    "n20",
+    "a4294967295",
+];
+
 #[test]
 fn lines_are_read_and_written(rt: HostRuntime) -> Result<(), Fail> {
     let mut out = Vec::new(rt.alloc());
-    for line in [
-        "site 0",
-        "site 63",
-        "item a_b2c3d4e5f6g7_=18446744073709551615",
-        "final x=7",
-        "end",
-        "r12[x_1]=5",
-        "w4294967295[abcdefghijklmnop]=18446744073709551615",
-        "d1[x]=3",
-        "p1[r2]=10",
-        "q2[x]=18446744073709551615",
-        "c1",
-        "n20",
-        "a4294967295",
-    ] {
+    for line in LINES {
         assert!(rt; is_read(&mut out, line)?, "{line}");
     }
     lines_are_read_back();
@@ -45,79 +47,66 @@ fn lines_are_read_and_written(rt: HostRuntime) -> Result<(), Fail> {
     Ok(())
 }
 
-#[test]
-fn each_kind_of_line(rt: HostRuntime) -> Result<(), Fail> {
-    let tx = Tx::new(12)?;
-    let item = Item::new(b"x_1")?;
-    let value = 5;
-    for (line, entry) in [
-        ("r12[x_1]=5", Entry::Read { tx, item, value }),
-        ("w12[x_1]=5", Entry::Write { tx, item, value }),
-        ("d12[x_1]=5", Entry::Add { tx, item, value }),
-        ("p12[x_1]=5", Entry::Want { tx, item, value }),
-        ("q12[x_1]=5", Entry::WantAdd { tx, item, value }),
-        ("c12", Entry::Commit { tx }),
-        ("n12", Entry::Refuse { tx }),
-        ("a12", Entry::Withdraw { tx }),
-    ] {
-        assert!(rt; read_entry(line.as_bytes()) == Ok(entry), "{line}");
+/// Whether the bytes are no line of a section.
+fn is_no_line(line: &[u8]) -> bool {
+    match read_section(line) {
+        Ok(_) => false,
+        Err(fault) => fault == NotationFault::NotALine,
     }
-    let site = SectionLine::Site(SiteNo::new(16)?);
-    assert!(rt; read_section(b"site 16") == Ok(site));
-    Ok(())
 }
 
+const NO_LINES: [&str; 23] = [
+    "",
+    "end\n",
+    "end ",
+    "End",
+    "sgt 1",
+    "c1\r",
+    "c+1",
+    "c0",
+    "c01",
+    "d1",
+    "q1[x]=",
+    "c4294967296",
+    "r1[x]=05",
+    "r1[x]= 5",
+    "r1[x]=18446744073709551616",
+    "r1[X]=5",
+    "r1[1x]=5",
+    "r1[abcdefghijklmnopq]=5",
+    "item  x=5",
+    "final x==5",
+    "site 64",
+    "site 00",
+    "site 256",
+];
+
 #[test]
-fn other_bytes_are_refused(rt: HostRuntime) -> Result<(), Fail> {
-    for line in [
-        "",
-        "end\n",
-        "end ",
-        "End",
-        "sgt 1",
-        "c1\r",
-        "c+1",
-        "c0",
-        "c01",
-        "d1",
-        "q1[x]=",
-        "c4294967296",
-        "r1[x]=05",
-        "r1[x]= 5",
-        "r1[x]=18446744073709551616",
-        "r1[X]=5",
-        "r1[1x]=5",
-        "r1[abcdefghijklmnopq]=5",
-        "item  x=5",
-        "final x==5",
-        "site 64",
-        "site 00",
-        "site 256",
-    ] {
-        assert!(rt;
-            read_section(line.as_bytes()) == Err(NotationFault::NotALine),
-            "{line}"
-        );
+fn other_bytes_are_refused(rt: HostRuntime) {
+    for line in NO_LINES {
+        assert!(rt; is_no_line(line.as_bytes()), "{line}");
     }
-    Ok(())
 }
 
+// One byte above the greatest length.
 #[test]
 fn lines_that_are_too_long(rt: HostRuntime) -> Result<(), Fail> {
-    let mut long = vec![in rt.alloc(); b'1'; 1_048_576]?;
-    assert!(rt; read_entry(&long) == Err(NotationFault::NotALine));
-    long.push(b'1')?;
+    let long = vec![in rt.alloc(); b' '; 1_048_577]?;
+    assert!(rt; read_entry(&long[1..]) == Err(NotationFault::NotALine));
     assert!(rt; read_entry(&long) == Err(NotationFault::TooLong));
     assert!(rt; read_section(&long) == Err(NotationFault::TooLong));
+    assert!(rt; read_event(&long) == Err(NotationFault::TooLong));
     Ok(())
 }
 
 #[test]
 fn numbers_and_entries_are_written_behind_what_is_there(rt: HostRuntime) -> Result<(), Fail> {
+    let entry = Entry::Commit { tx: Tx::new(7)? };
+    assert!(rt; read_entry(b"c7") == Ok(entry));
     let mut out = Vec::new(rt.alloc());
     push_number(&mut out, 0)?;
     push_number(&mut out, u64::MAX)?;
-    write_entry(&mut out, &Entry::Commit { tx: Tx::new(7)? })?;
+    write_entry(&mut out, &entry)?;
     assert!(rt; out.as_slice() == b"018446744073709551615c7".as_slice());
     Ok(())
 }

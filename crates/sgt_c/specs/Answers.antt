@@ -40,20 +40,26 @@ told_verdict (No line f) =
 
 -- what C is told where there is none
 abbrev pub told_none : NoAnswer → SgtVerdict
-told_none why = record { kind = number_of why; fault = 0; line = 0; committed = 0; refused = 0; withdrawn = 0 }
+told_none why =
+    record { kind = number_of why; fault = 0; line = 0; committed = 0; refused = 0; withdrawn = 0 }
 
--- the text that the bytes are answered by: with a yes the serial run of the bundle that they spell, with a no the line of their
+-- the text that the bytes are answered by: with a yes the serial run of the bundle that they spell,
+-- with a no the line of their
 -- first fault
 abbrev pub IsSerialText : List ℕ → ℕ → List ℕ → Type 0
 IsSerialText bytes n text =
-    ((n ≡ 0) × IsAnswer (Some bytes) outcome.Yes text) ⊎ ((n ≡ 1) × IsAnswer (Some bytes) outcome.No text)
+    ((n ≡ 0) × IsAnswer (Some bytes) outcome.Yes text)
+    ⊎ ((n ≡ 1) × IsAnswer (Some bytes) outcome.No text)
 
--- the text that logs without a certificate are answered by: with a yes the bundle that was made, with a no why there is none
+-- the text that logs without a certificate are answered by: with a yes the bundle that was made,
+-- with a no why there is none
 abbrev pub IsCertifyText : List ℕ → ℕ → List ℕ → Type 0
 IsCertifyText bytes n text =
-    ((n ≡ 0) × certify.IsAnswer bytes outcome.Yes text) ⊎ ((n ≡ 1) × certify.IsAnswer bytes outcome.No text)
+    ((n ≡ 0) × certify.IsAnswer bytes outcome.Yes text)
+    ⊎ ((n ≡ 1) × certify.IsAnswer bytes outcome.No text)
 
 -- the text that the bytes are explained by
 abbrev pub IsExplainText : List ℕ → ℕ → List ℕ → Type 0
 IsExplainText bytes n text =
-    ((n ≡ 0) × IsExplained (Some bytes) outcome.Yes text) ⊎ ((n ≡ 1) × IsExplained (Some bytes) outcome.No text)
+    ((n ≡ 0) × IsExplained (Some bytes) outcome.Yes text)
+    ⊎ ((n ≡ 1) × IsExplained (Some bytes) outcome.No text)

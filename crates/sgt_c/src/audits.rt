@@ -39,7 +39,8 @@ fn verdict_on(alloc: Global, bytes: &[u8]) -> Result<Verdict, NoAnswer>
 pub extern "C" fn sgt_audit(alloc: Global, bytes: &[u8], verdict: &mut SgtVerdict) -> u32
     ensures number { IsNumber result }
     ensures kind { verdict.new.kind ≡ result }
-    ensures verdict { IsAnswered result → (v : Verdict) × IsVerdict bytes.now v × (verdict.new ≡ told_verdict v) }
+    ensures verdict { IsAnswered result
+        → (v : Verdict) × IsVerdict bytes.now v × (verdict.new ≡ told_verdict v) }
     ensures headline { result ≡ SGT_YES → HoldsHeadline bytes.now }
     ensures none { (IsAnswered result → ⊥) → (why : NoAnswer) × (verdict.new ≡ told_none why) }
     ensures long { result ≡ SGT_LONG → most_reads ≤ length bytes.now }

@@ -34,7 +34,8 @@ fn explain_text(alloc: Global, bytes: &[u8]) -> Result<Answered, NoAnswer>
 #[unsafe(no_mangle)]
 pub extern "C" fn sgt_explain_len(alloc: Global, bytes: &[u8], text_len: &mut usize) -> u32
     ensures number { IsNumber result }
-    ensures text { IsAnswered result → (text : List ℕ) × IsExplainText bytes.now result text × (text_len.new ≡ length text) }
+    ensures text { IsAnswered result
+        → (text : List ℕ) × IsExplainText bytes.now result text × (text_len.new ≡ length text) }
     ensures none { (IsAnswered result → ⊥) → text_len.new ≡ 0 }
     ensures long { result ≡ SGT_LONG → most_reads ≤ length bytes.now }
 {

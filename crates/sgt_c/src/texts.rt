@@ -55,9 +55,11 @@ pub fn measure(answer: &Result<Answered, NoAnswer>, text_len: &mut usize) -> u32
 pub fn put(answer: &Result<Answered, NoAnswer>, out: &mut [u8], text_len: &mut usize) -> u32
     ensures whole { IfOk answer.now (λ a. length a.text.items ≤ length out.old
         → (result ≡ a.number) × (out.new ≡ a.text.items ++ drop (length a.text.items) out.old)) }
-    ensures room { IfOk answer.now (λ a. length out.old < length a.text.items → (result ≡ SGT_ROOM) × (out.new ≡ out.old)) }
+    ensures room { IfOk answer.now
+        (λ a. length out.old < length a.text.items → (result ≡ SGT_ROOM) × (out.new ≡ out.old)) }
     ensures measured { IfOk answer.now (λ a. text_len.new ≡ length a.text.items) }
-    ensures err { IfErr answer.now (λ why. (result ≡ number_of why) × (text_len.new ≡ 0) × (out.new ≡ out.old)) }
+    ensures err { IfErr answer.now
+        (λ why. (result ≡ number_of why) × (text_len.new ≡ 0) × (out.new ≡ out.old)) }
 {
     let number = measure(answer, text_len);
     if let Ok(answer) = answer {

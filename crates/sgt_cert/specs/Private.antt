@@ -1,4 +1,5 @@
--- Words of private clauses alone: the certificate in a JSON value that has the shape of one, the answer to a line, and the
+-- Words of private clauses alone: the certificate in a JSON value that has the shape of one, the
+-- answer to a line, and the
 -- tokens of JSON that has the shape.
 use Rattle.std.specs.Prelude.{◌≡◌, ℕ, ◌+◌, ◌≤◌, ◌<◌, ◌^◌, List, [], ◌∷◌, ◌++◌, length, ◌&&◌, Bool, false, true, nat_le, nat_lt, if◌then◌else◌, decimal}
 use Rattle.std.specs.List.{list_all}
@@ -75,7 +76,8 @@ step_in sites d =
 
 abbrev pub walk_in : ℕ → List Data → Option (List Step)
 walk_in sites [] = Some []
-walk_in sites (d ∷ ds) = option_and_then (λ x. option_map (λ xs. x ∷ xs) (walk_in sites ds)) (step_in sites d)
+walk_in sites (d ∷ ds) =
+    option_and_then (λ x. option_map (λ xs. x ∷ xs) (walk_in sites ds)) (step_in sites d)
 
 abbrev pub commit_in : Data → Option Decision
 commit_in d = option_and_then (λ tx. option_map (λ rank. Commit tx rank) (whole_at (codes "rank") 0 (2 ^ 32) d)) (tx_at (codes "commit") d)
@@ -93,7 +95,8 @@ decision_in sites d = if is_commit_object d then commit_in d else (if is_refuse_
 
 abbrev pub decisions_in : ℕ → List Data → Option (List Decision)
 decisions_in sites [] = Some []
-decisions_in sites (d ∷ ds) = option_and_then (λ x. option_map (λ xs. x ∷ xs) (decisions_in sites ds)) (decision_in sites d)
+decisions_in sites (d ∷ ds) =
+    option_and_then (λ x. option_map (λ xs. x ∷ xs) (decisions_in sites ds)) (decision_in sites d)
 
 -- the certificate in a value of its shape, where each number, name and kind is in its range
 abbrev pub certificate_in : Data → Option Certificate
@@ -133,10 +136,12 @@ HasText old new = (text : List ℕ) × (old ≡ Token.string text ∷ new)
 
 -- a value that passes the test and nests no deeper, and then the other tokens
 abbrev pub HasValue : (Data → Bool) → ℕ → (old new : List Token) → Type 0
-HasValue test deep old new = (j : json.Json) × (d : Data) × (old ≡ tree.json_tokens j ++ new) × (of_json j ≡ Some d)
+HasValue test deep old new = (j : json.Json) × (d : Data) × (old ≡ tree.json_tokens j ++ new)
+    × (of_json j ≡ Some d)
     × (test d ≡ true) × (tree.depth j ≤ deep)
 
 -- such values up to the closing bracket
 abbrev pub HasItems : (Data → Bool) → ℕ → (old new : List Token) → Type 0
-HasItems test deep old new = (js : json.Items) × (ds : Items) × (old ≡ tree.items_tokens js ++ new) × (of_items js ≡ Some ds)
+HasItems test deep old new = (js : json.Items) × (ds : Items) × (old ≡ tree.items_tokens js ++ new)
+    × (of_items js ≡ Some ds)
     × (list_all test (items_list ds) ≡ true) × (tree.items_depth js ≤ deep)

@@ -105,7 +105,8 @@ fn step(value: &Value, sites: u8) -> Option<Step>
 /// The steps, or `None` where a number, a name or a kind is out of its range.
 fn walk(alloc: Global, items: &[Value], sites: u8) -> Result<Option<Vec<Step>>, AllocError>
     requires { sites ≤ max_sites }
-    ensures { IfOk result (λ found. option_map (λ v. v.items) found ≡ walk_in sites (map view items.now)) }
+    ensures { IfOk result
+        (λ found. option_map (λ v. v.items) found ≡ walk_in sites (map view items.now)) }
 {
     let mut found = Vec::new(alloc);
     for item in items {
@@ -170,7 +171,8 @@ fn decision(alloc: Global, value: &Value, sites: u8) -> Result<Option<Decision>,
 /// The decisions, or `None` where a number, a name or a kind is out of its range.
 fn decisions(alloc: Global, items: &[Value], sites: u8) -> Result<Option<Vec<Decision>>, AllocError>
     requires { sites ≤ max_sites }
-    ensures { IfOk result (λ found. option_map (λ v. v.items) found ≡ decisions_in sites (map view items.now)) }
+    ensures { IfOk result
+        (λ found. option_map (λ v. v.items) found ≡ decisions_in sites (map view items.now)) }
 {
     let mut found = Vec::new(alloc);
     for item in items {

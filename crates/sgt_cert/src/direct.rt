@@ -16,7 +16,8 @@ use std::alloc::{AllocError, Global};
 
 /// What stands behind this word, where it stands in front.
 fn behind<'b>(bytes: &'b [u8], word: &[u8]) -> Option<&'b [u8]>
-    ensures { MatchOption result ((rest : List ℕ) → bytes.entry.now ≢ word.now ++ rest) (λ rest. bytes.entry.now ≡ word.now ++ rest.now) }
+    ensures { MatchOption result ((rest : List ℕ) → bytes.entry.now ≢ word.now ++ rest)
+        (λ rest. bytes.entry.now ≡ word.now ++ rest.now) }
 {
     bytes.strip_prefix(word)
 }
@@ -238,8 +239,10 @@ fn sites(bytes: &[u8]) -> Option<u8>
 
 /// The certificate that the line spells, were there `MAX_SITES` sites.
 pub(crate) fn spelled(alloc: Global, line: &[u8]) -> Result<Option<Certificate>, AllocError>
-    ensures sites { IfOk result (λ found. IfSome found (λ c. (1 ≤ c.sites) × (c.sites ≤ max_sites))) }
-    ensures in_range { IfOk result (λ found. IfSome found (λ c. All (IsDecision max_sites) c.decisions)) }
+    ensures sites { IfOk result
+        (λ found. IfSome found (λ c. (1 ≤ c.sites) × (c.sites ≤ max_sites))) }
+    ensures in_range { IfOk result
+        (λ found. IfSome found (λ c. All (IsDecision max_sites) c.decisions)) }
     ensures text { IfOk result (λ found. IfSome found (λ c. line.now ≡ certificate_text c)) }
 {
     let Some(rest) = behind(line, b"{\"decisions\":[") else {

@@ -91,7 +91,8 @@ pub(crate) fn decisions_fit(decisions: &[Decision], sites: u8) -> bool
 
 /// Whether these are the parts of a bundle.
 pub(crate) fn parts_fit(certificate: &Certificate, sites: &[SiteLog]) -> bool
-    ensures { IsTrue result ↔ FitTogether (record { certificate = certificate.now; sites = sites.now }) }
+    ensures { IsTrue result
+        ↔ FitTogether (record { certificate = certificate.now; sites = sites.now }) }
 {
     let count = certificate.sites;
     1 <= count

@@ -67,7 +67,8 @@ fn push_step_parts(
 }
 
 fn push_step(out: &mut Vec<u8>, step: &Step) -> Result<(), AllocError>
-    ensures text { OnOk result (out.new.items ≡ out.old.items ++ compact_text (step_data step.now)) }
+    ensures text { OnOk result
+        (out.new.items ≡ out.old.items ++ compact_text (step_data step.now)) }
     ensures in_range { IsStep max_sites step.now }
 {
     let label = step.label;
@@ -82,7 +83,8 @@ fn push_step(out: &mut Vec<u8>, step: &Step) -> Result<(), AllocError>
 
 /// The steps with commas between, and the closing bracket.
 fn push_steps(out: &mut Vec<u8>, walk: &[Step]) -> Result<(), AllocError>
-    ensures text { OnOk result (out.new.items ≡ out.old.items ++ items_text false (items_data step_data walk.now)) }
+    ensures text { OnOk result
+        (out.new.items ≡ out.old.items ++ items_text false (items_data step_data walk.now)) }
     ensures in_range { OnOk result (All (IsStep max_sites) walk.now) }
 {
     if let Some((first, further)) = walk.split_first() {
@@ -124,7 +126,8 @@ fn push_withdraw(out: &mut Vec<u8>, tx: u64) -> Result<(), AllocError>
 }
 
 fn push_decision(out: &mut Vec<u8>, decision: &Decision) -> Result<(), AllocError>
-    ensures text { OnOk result (out.new.items ≡ out.old.items ++ compact_text (decision_data decision.now)) }
+    ensures text { OnOk result
+        (out.new.items ≡ out.old.items ++ compact_text (decision_data decision.now)) }
     ensures in_range { OnOk result (IsDecision max_sites decision.now) }
 {
     match decision {
@@ -136,7 +139,9 @@ fn push_decision(out: &mut Vec<u8>, decision: &Decision) -> Result<(), AllocErro
 
 /// The decisions with commas between, and the closing bracket.
 fn push_decisions(out: &mut Vec<u8>, decisions: &[Decision]) -> Result<(), AllocError>
-    ensures text { OnOk result (out.new.items ≡ out.old.items ++ items_text false (items_data decision_data decisions.now)) }
+    ensures text { OnOk result
+        (out.new.items
+        ≡ out.old.items ++ items_text false (items_data decision_data decisions.now)) }
     ensures in_range { OnOk result (All (IsDecision max_sites) decisions.now) }
 {
     if let Some((first, further)) = decisions.split_first() {
@@ -194,7 +199,8 @@ fn judge(alloc: Global, value: &Value, line: &[u8]) -> Result<Certificate, CertF
 
 /// The certificate that the line spells, where that is seen without a tree.
 fn read_directly(alloc: Global, line: &[u8]) -> Result<Option<Certificate>, AllocError>
-    ensures { IfOk result (λ found. IfSome found (λ c. IsCertificate c × (line.now ≡ certificate_text c))) }
+    ensures { IfOk result
+        (λ found. IfSome found (λ c. IsCertificate c × (line.now ≡ certificate_text c))) }
 {
     let Some(found) = spelled(alloc, line)? else {
         return Ok(None);

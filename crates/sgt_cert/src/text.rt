@@ -16,7 +16,8 @@ use sgt_notation::{SectionLine, write_section};
 use std::alloc::{AllocError, Global};
 
 fn push_line(out: &mut Vec<u8>, line: &SectionLine) -> Result<(), AllocError>
-    ensures text { OnOk result (out.new.items ≡ out.old.items ++ text_of_lines (map line_text (line.now ∷ []))) }
+    ensures text { OnOk result
+        (out.new.items ≡ out.old.items ++ text_of_lines (map line_text (line.now ∷ []))) }
     ensures in_range { OnOk result (IsLine line.now) }
 {
     write_section(out, line)?;
@@ -24,7 +25,9 @@ fn push_line(out: &mut Vec<u8>, line: &SectionLine) -> Result<(), AllocError>
 }
 
 fn push_items(out: &mut Vec<u8>, items: &[Holding]) -> Result<(), AllocError>
-    ensures text { OnOk result (out.new.items ≡ out.old.items ++ text_of_lines (map line_text (map SectionLine.Initial items.now))) }
+    ensures text { OnOk result
+        (out.new.items
+        ≡ out.old.items ++ text_of_lines (map line_text (map SectionLine.Initial items.now))) }
     ensures in_range { OnOk result (All IsHolding items.now) }
 {
     for item in items {
@@ -34,7 +37,9 @@ fn push_items(out: &mut Vec<u8>, items: &[Holding]) -> Result<(), AllocError>
 }
 
 fn push_entries(out: &mut Vec<u8>, entries: &[Entry]) -> Result<(), AllocError>
-    ensures text { OnOk result (out.new.items ≡ out.old.items ++ text_of_lines (map line_text (map SectionLine.Logged entries.now))) }
+    ensures text { OnOk result
+        (out.new.items
+        ≡ out.old.items ++ text_of_lines (map line_text (map SectionLine.Logged entries.now))) }
     ensures in_range { OnOk result (All IsEntry entries.now) }
 {
     for entry in entries {
@@ -44,7 +49,9 @@ fn push_entries(out: &mut Vec<u8>, entries: &[Entry]) -> Result<(), AllocError>
 }
 
 fn push_finals(out: &mut Vec<u8>, finals: &[Holding]) -> Result<(), AllocError>
-    ensures text { OnOk result (out.new.items ≡ out.old.items ++ text_of_lines (map line_text (map SectionLine.Final finals.now))) }
+    ensures text { OnOk result
+        (out.new.items
+        ≡ out.old.items ++ text_of_lines (map line_text (map SectionLine.Final finals.now))) }
     ensures in_range { OnOk result (All IsHolding finals.now) }
 {
     for item in finals {
@@ -54,7 +61,9 @@ fn push_finals(out: &mut Vec<u8>, finals: &[Holding]) -> Result<(), AllocError>
 }
 
 fn push_section(out: &mut Vec<u8>, site: SiteNo, log: &SiteLog) -> Result<(), AllocError>
-    ensures text { OnOk result (out.new.items ≡ out.old.items ++ text_of_lines (map line_text (section_lines site log.now))) }
+    ensures text { OnOk result
+        (out.new.items
+        ≡ out.old.items ++ text_of_lines (map line_text (section_lines site log.now))) }
     ensures in_range { OnOk result (IsLog log.now) }
 {
     push_line(out, &SectionLine::Site(site))?;
@@ -66,7 +75,9 @@ fn push_section(out: &mut Vec<u8>, site: SiteNo, log: &SiteLog) -> Result<(), Al
 
 fn push_sections(out: &mut Vec<u8>, sites: &[SiteLog]) -> Result<(), AllocError>
     requires { length sites.now ≤ max_sites }
-    ensures text { OnOk result (out.new.items ≡ out.old.items ++ text_of_lines (map line_text (sections_from 0 sites.now))) }
+    ensures text { OnOk result
+        (out.new.items
+        ≡ out.old.items ++ text_of_lines (map line_text (sections_from 0 sites.now))) }
     ensures in_range { OnOk result (All IsLog sites.now) }
 {
     for (k, log) in sites.iter().enumerate() {
@@ -100,7 +111,9 @@ pub(crate) fn text(
     sites: &[SiteLog],
 ) -> Result<Vec<u8>, AllocError>
     requires { length sites.now ≤ max_sites }
-    ensures text { IfOk result (λ text. text.items ≡ text_of (record { certificate = certificate.now; sites = sites.now })) }
+    ensures text { IfOk result
+        (λ text. text.items
+        ≡ text_of (record { certificate = certificate.now; sites = sites.now })) }
     ensures decisions { IfOk result (λ _. All (IsDecision max_sites) certificate.now.decisions) }
     ensures logs { IfOk result (λ _. All IsLog sites.now) }
 {

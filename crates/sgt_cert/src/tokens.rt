@@ -157,7 +157,9 @@ fn certificate(reader: &mut Reader<'_>) -> Option<()>
 
 /// Whether it is seen that the text is JSON of a certificate's shape.
 fn is_shaped(text: &str, scratch: &mut Scratch) -> Result<bool, AllocError>
-    ensures { IfOk result (λ seen. IsTrue seen → (d : Data) × (read text.now ≡ Some d) × (is_certificate_object d ≡ true)) }
+    ensures { IfOk result
+        (λ seen. IsTrue seen
+        → (d : Data) × (read text.now ≡ Some d) × (is_certificate_object d ≡ true)) }
 {
     let mut reader = Reader::new(text, scratch)?;
     let Some(()) = certificate(&mut reader) else {

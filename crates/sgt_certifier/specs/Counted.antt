@@ -42,7 +42,8 @@ pub record CountsEach (site : ℕ) (items : List Name) (old new : Counts) : Type
   pub other : (s : ℕ) (x : Name) → s ≢ site → count_at new s x ≡ count_at old s x
   pub kept : (s : ℕ) (x : Name) → HasPlace old s x → HasPlace new s x
 
--- the counts are those of the history, and the items of the lists that were made in advance have their places
+-- the counts are those of the history, and the items of the lists that were made in advance have
+-- their places
 pub record AreCounted (counts : Counts) (history : List Call) (expected : List Prepared) : Type 0 where
   pub exact : (s : ℕ) (x : Name) → count_at counts s x ≡ counted history s x
   pub placed : All (HavePlaces counts) expected

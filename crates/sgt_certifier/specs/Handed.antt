@@ -8,7 +8,8 @@ use Rattle.sgt_certifier.specs.Certifier.{State, serial}
 -- the call decides with an edge from a to b; the calls before it begin its ends
 abbrev pub HandsAt : List Call → Call → ℕ → ℕ → Type 0
 HandsAt seen (call.Decide h edges reply) a b =
-    (e : Edge) × Contains edges e × Contains seen (call.Begin a e.from) × Contains seen (call.Begin b e.to)
+    (e : Edge) × Contains edges e × Contains seen (call.Begin a e.from)
+    × Contains seen (call.Begin b e.to)
 HandsAt seen _ a b = ⊥
 
 -- one of the calls does, behind those that were seen

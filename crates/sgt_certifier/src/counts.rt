@@ -76,7 +76,8 @@ impl Counts {
         requires place { HasPlace self.old site item }
         requires small { count_at self.old site item + 1 < 2 ^ 64 }
         ensures here { stands_at self.new site item ≡ Some (suc (count_at self.old site item)) }
-        ensures others { (s : ℕ) (x : Name) → ((s ≡ site) × (x ≡ item) → ⊥) → stands_at self.new s x ≡ stands_at self.old s x }
+        ensures others { (s : ℕ) (x : Name) → ((s ≡ site) × (x ≡ item) → ⊥)
+            → stands_at self.new s x ≡ stands_at self.old s x }
     {
         self.rows[site.number() as usize].add(item);
     }

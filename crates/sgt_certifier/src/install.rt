@@ -73,15 +73,19 @@ fn are_changed(items: &[Item], touched: &[Touch], site: SiteNo) -> bool
 
 // Whether the list was made for this site of the draft.
 fn is_for(prepared: &Prepared, touched: &[Touch], site: SiteNo) -> bool
-    ensures { IsTrue result ↔ (prepared.now ≡ record { site = site; items = changed_at touched.now site }) }
+    ensures { IsTrue result
+        ↔ (prepared.now ≡ record { site = site; items = changed_at touched.now site }) }
 {
     prepared.site == site && are_changed(prepared.items.as_slice(), touched, site)
 }
 
 // The place of the list that was made for this site of the draft.
 fn place_of(expected: &[Prepared], touched: &[Touch], site: SiteNo) -> Option<usize>
-    ensures found { IfSome result (λ k. slice_get expected.now k ≡ Some (record { site = site; items = changed_at touched.now site })) }
-    ensures none { IfNone result (Contains expected.now (record { site = site; items = changed_at touched.now site }) → ⊥) }
+    ensures found { IfSome result
+        (λ k. slice_get expected.now k
+        ≡ Some (record { site = site; items = changed_at touched.now site })) }
+    ensures none { IfNone result
+        (Contains expected.now (record { site = site; items = changed_at touched.now site }) → ⊥) }
 {
     for place in 0..expected.len() {
         if is_for(&expected[place], touched, site) {
@@ -106,7 +110,8 @@ pub fn take_items(
     ensures widens { Widens counts.old counts.new }
     ensures others { (other : List Touched) (s : ℕ)
         → s ≢ site → IsExpected expected.old.items other s → IsExpected expected.new.items other s }
-    ensures fewer { (p : APrepared) → Contains expected.new.items p → Contains expected.old.items p }
+    ensures fewer { (p : APrepared) → Contains expected.new.items p
+        → Contains expected.old.items p }
     ensures err { OnErr result (expected.new.items ≡ expected.old.items) }
     ensures wants { OnErr result (IsExpected expected.old.items touched.now site → ⊥) }
 {
@@ -154,10 +159,12 @@ fn add_lists(
     touched: &[Touch],
     draft: &Draft,
 ) -> Result<(), AllocError>
-    requires each { (p : APrepared) → Contains lists.old.items p → p.items ≡ changed_at draft.now.touched p.site }
+    requires each { (p : APrepared) → Contains lists.old.items p
+        → p.items ≡ changed_at draft.now.touched p.site }
     ensures each { OnOk result ((p : APrepared)
         → Contains lists.new.items p → p.items ≡ changed_at draft.now.touched p.site) }
-    ensures kept { OnOk result ((p : APrepared) → Contains lists.old.items p → Contains lists.new.items p) }
+    ensures kept { OnOk result
+        ((p : APrepared) → Contains lists.old.items p → Contains lists.new.items p) }
     ensures all { OnOk result ((s : ℕ) → (changed_at touched.now s ≡ [])
         ⊎ Contains lists.new.items (record { site = s; items = changed_at draft.now.touched s })) }
 {

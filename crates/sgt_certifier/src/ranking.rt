@@ -27,7 +27,8 @@ pub fn rank_all(ranks: &mut Vec<u32>, serial: &[Tx])
     requires within { All (λ tx. tx < vec_len ranks.old) serial.now }
     requires distinct { AllPairs (λ a b. a ≢ b) serial.now }
     requires few { length serial.now ≤ 2 ^ 32 }
-    ensures ranks { (k tx : ℕ) → slice_get serial.now k ≡ Some tx → slice_get ranks.new.items tx ≡ Some k }
+    ensures ranks { (k tx : ℕ) → slice_get serial.now k ≡ Some tx
+        → slice_get ranks.new.items tx ≡ Some k }
     ensures len { vec_len ranks.new ≡ vec_len ranks.old }
 {
     for place in 0..serial.len() {
@@ -64,8 +65,11 @@ fn decision_of(
     ranks: &[u32],
 ) -> Result<Option<Decision>, AllocError>
     requires table { length ranks.now ≤ 2 ^ 32 }
-    requires ranked { All (λ r. ruled r < length ranks.now) (rulings_from 0 before (call.now ∷ [])) }
-    ensures { IfOk result (λ d. option_to_list d ≡ map (with_rank_in ranks.now) (rulings_from 0 before (call.now ∷ []))) }
+    requires ranked { All (λ r. ruled r < length ranks.now)
+        (rulings_from 0 before (call.now ∷ [])) }
+    ensures { IfOk result
+        (λ d. option_to_list d
+        ≡ map (with_rank_in ranks.now) (rulings_from 0 before (call.now ∷ []))) }
 {
     match call {
         Call::Decide { handle, reply, .. } => {
@@ -98,7 +102,8 @@ pub fn decisions_of(
 ) -> Result<Vec<Decision>, AllocError>
     requires table { length ranks.now ≤ 2 ^ 32 }
     requires ranked { All (λ r. ruled r < length ranks.now) (rulings_from 0 0 history.now) }
-    ensures { IfOk result (λ ds. ds.items ≡ map (with_rank_in ranks.now) (rulings_from 0 0 history.now)) }
+    ensures { IfOk result
+        (λ ds. ds.items ≡ map (with_rank_in ranks.now) (rulings_from 0 0 history.now)) }
 {
     let mut decisions = Vec::new(alloc);
     let mut begun = 0;

@@ -103,7 +103,8 @@ impl Row {
 // Puts a place for the item there.
 fn place_at(counts: &mut Vec<ItemCount>, at: usize, item: Item) -> Result<(), AllocError>
     requires { at ≤ vec_len counts.old }
-    ensures ok { OnOk result (counts.new.items ≡ insert counts.old.items at (record { item = item; count = 0 })) }
+    ensures ok { OnOk result
+        (counts.new.items ≡ insert counts.old.items at (record { item = item; count = 0 })) }
     ensures err { OnErr result (counts.new.items ≡ counts.old.items) }
 {
     counts.reserve(1)?;

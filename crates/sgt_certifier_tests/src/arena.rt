@@ -13,31 +13,21 @@ fn values_and_windows(rt: HostRuntime) -> Result<(), Fail> {
     if let Some(value) = arena.get_mut(old) {
         *value = 9;
     }
-    assert_eq!(rt;
-        (old, arena.get(old).copied()),
-        (handle(0, 4_294_967_294), Some(9))
-    );
-    assert_eq!(rt; (arena.close(), arena.is_empty()), (Ok(()), true));
+    assert!(rt; old == handle(0, 4_294_967_294) && arena.get(old).copied() == Some(9));
+    assert!(rt; arena.close().is_ok() && arena.is_empty());
     assert!(rt; arena.get(old).is_none());
-    assert_eq!(rt;
-        (arena.reserve(4097), MAX_PLACES, arena.reserve(4096)),
-        (Err(ArenaFault::Full), 4096, Ok(()))
-    );
+    assert!(rt; arena.reserve(4097) == Err(ArenaFault::Full) && MAX_PLACES == 4096);
+    assert!(rt; arena.reserve(4096).is_ok());
     let mut placed = 0u32;
     for number in 0..4097u32 {
         if arena.place(number).is_ok() {
             placed = number + 1;
         }
     }
-    assert_eq!(rt;
-        (placed, arena.len(), arena.reserve(1)),
-        (4096, 4096, Err(ArenaFault::Full))
-    );
-    assert_eq!(rt;
-        (arena.close(), arena.len(), arena.generation()),
-        (Err(ArenaFault::GenerationsSpent), 4096, 4_294_967_295)
-    );
-    assert_eq!(rt; arena.get(handle(8, 4_294_967_295)).copied(), Some(8));
+    assert!(rt; placed == 4096 && arena.reserve(1) == Err(ArenaFault::Full));
+    assert!(rt; arena.close() == Err(ArenaFault::GenerationsSpent));
+    assert!(rt; arena.len() == 4096 && arena.generation() == 4_294_967_295);
+    assert!(rt; arena.get(handle(8, 4_294_967_295)).copied() == Some(8));
     Ok(())
 }
 
@@ -78,8 +68,8 @@ fn each_value_is_dropped_once_in_order(rt: HostRuntime) {
         for closes in [true, false] {
             let drops = AtomicU64::new(0);
             let dropped = dropped_by_a_close(rt.alloc(), size, closes, &drops);
-            assert_eq!(rt; dropped, (size, if closes { size } else { 0 }));
-            assert_eq!(rt; drops.load(Ordering::SeqCst), size);
+            assert!(rt; dropped == (size, if closes { size } else { 0 }), "{size}");
+            assert!(rt; drops.load(Ordering::SeqCst) == size, "{size}");
         }
     }
 }

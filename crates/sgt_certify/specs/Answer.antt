@@ -21,7 +21,8 @@ use Rattle.sgt_certify.specs.declared.refuting.Refusal.TheVariants.{Order, Ranks
 abbrev pub SpellsValid : List ℕ → Type 0
 SpellsValid text = (b : Parts) × Spells text b × IsValid b
 
--- the text is the bytes with a certificate put in as their second line, and spells a valid bundle of the very logs that they spell
+-- the text is the bytes with a certificate put in as their second line, and spells a valid bundle
+-- of the very logs that they spell
 pub record IsCertified (bytes text : List ℕ) : Type 0 where
   pub bundle : Parts
   pub logs : SpellsLogs bytes bundle.sites
@@ -31,7 +32,8 @@ pub record IsCertified (bytes text : List ℕ) : Type 0 where
 
 -- the bytes spell logs that this certificate, of as many sites, makes valid
 abbrev pub IsCertifiedBy : List ℕ → Certificate → Type 0
-IsCertifiedBy bytes c = (sites : List SiteLog) × SpellsLogs bytes sites × IsValid (record { certificate = c; sites = sites }) × (c.sites ≡ length sites)
+IsCertifiedBy bytes c = (sites : List SiteLog) × SpellsLogs bytes sites
+    × IsValid (record { certificate = c; sites = sites }) × (c.sites ≡ length sites)
 
 -- the bytes spell logs that some certificate makes valid
 abbrev pub HasCertificate : List ℕ → Type 0
@@ -43,13 +45,15 @@ refusal_text Order = codes "no order\n"
 refusal_text Ranks = codes "no ranks\n"
 refusal_text Walk = codes "no walk\n"
 
--- what the logs have, by which no certificate makes them valid: ends in a cycle, committed conflicts in a cycle, a stuck set
+-- what the logs have, by which no certificate makes them valid: ends in a cycle, committed
+-- conflicts in a cycle, a stuck set
 abbrev pub Excludes : Refusal → List SiteLog → Type 0
 Excludes Order sites = HaveEndsInACycle sites
 Excludes Ranks sites = HaveConflictsInACycle sites
 Excludes Walk sites = (decided : List ℕ) × IsStuck sites decided
 
--- the text begins with the line of a refusal, the bytes have no fault, the logs that they spell have what that line says, and so
+-- the text begins with the line of a refusal, the bytes have no fault, the logs that they spell
+-- have what that line says, and so
 -- no certificate
 pub record IsRefused (bytes text : List ℕ) : Type 0 where
   pub refusal : Refusal
@@ -65,7 +69,8 @@ pub record IsRefused (bytes text : List ℕ) : Type 0 where
 abbrev pub fault_text : (line number : ℕ) → List ℕ
 fault_text line number = codes "no line " ++ (decimal line ++ (codes " F" ++ (decimal number ++ codes "\n")))
 
--- the text is the line of the first fault that the bytes have whatever certificate is put in, and so none makes their logs valid
+-- the text is the line of the first fault that the bytes have whatever certificate is put in, and
+-- so none makes their logs valid
 pub record IsFaulty (bytes text : List ℕ) : Type 0 where
   pub line : ℕ
   pub fault : Fault
@@ -73,7 +78,8 @@ pub record IsFaulty (bytes text : List ℕ) : Type 0 where
   pub shown : IsFirstFault bytes line fault
   pub none : HasNoCertificate bytes
 
--- the text that the bytes are answered by: with a yes the bundle, with a no the first fault, or where there is none a refusal
+-- the text that the bytes are answered by: with a yes the bundle, with a no the first fault, or
+-- where there is none a refusal
 abbrev pub IsAnswer : List ℕ → Outcome → List ℕ → Type 0
 IsAnswer bytes Yes text = IsCertified bytes text
 IsAnswer bytes No text = IsRefused bytes text ⊎ IsFaulty bytes text
@@ -81,13 +87,16 @@ IsAnswer bytes Unreadable text = ⊥
 
 -- the text is all that was told, or all that stands in front of a line that is too long
 abbrev pub IsTaken : Option (List ℕ) → List ℕ → Bool → Type 0
-IsTaken told text all = IfSome told (λ bytes. (more : List ℕ) × (bytes ≡ text ++ more) × GoesOn all more)
+IsTaken told text all =
+    IfSome told (λ bytes. (more : List ℕ) × (bytes ≡ text ++ more) × GoesOn all more)
 
 -- that text was written
 abbrev pub WroteAnswer : (told : Option (List ℕ)) → Outcome → (old new : Option (List ℕ)) → Type 0
-WroteAnswer told outcome old new = (text : List ℕ) × IfSome told (λ bytes. IsAnswer bytes outcome text) × Appends old new text
+WroteAnswer told outcome old new = (text : List ℕ)
+    × IfSome told (λ bytes. IsAnswer bytes outcome text) × Appends old new text
 
 -- nothing was written, or a front of that text, and less than the whole
 abbrev pub WroteAnswerFront : (told old new : Option (List ℕ)) → Type 0
 WroteAnswerFront told old new = AppendsOrForgets old new []
-    ⊎ ((outcome : Outcome) × (text : List ℕ) × IfSome told (λ bytes. IsAnswer bytes outcome text) × WritesFront old new text)
+    ⊎ ((outcome : Outcome) × (text : List ℕ) × IfSome told (λ bytes. IsAnswer bytes outcome text)
+    × WritesFront old new text)

@@ -71,7 +71,8 @@ fn lines_of(alloc: Global, txs: &[Tx]) -> Result<Vec<u8>, AllocError> {
 
 /// The no by what the logs have, told by these transactions.
 fn reason_answer(alloc: Global, refusal: Refusal, txs: &[Tx]) -> Result<Answer, AllocError>
-    ensures { IfOk result (λ a. (bytes : List ℕ) (logs : List SiteLog) → IsFaultless bytes → SpellsLogs bytes logs
+    ensures { IfOk result
+        (λ a. (bytes : List ℕ) (logs : List SiteLog) → IsFaultless bytes → SpellsLogs bytes logs
         → Excludes refusal logs → IsAnswer bytes a.outcome a.text.items) }
 {
     let lines = lines_of(alloc, txs)?;

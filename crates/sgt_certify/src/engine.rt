@@ -32,7 +32,9 @@ fn fault_line(alloc: Global, line: usize, fault: Fault) -> Result<Vec<u8>, Alloc
 
 /// A no for the first fault of a text.
 fn fault_answer(alloc: Global, first: FirstFault) -> Result<Answer, AllocError>
-    ensures { IfOk result (λ a. (bytes : List ℕ) → IsFirstFault bytes first.line first.fault → IsAnswer bytes a.outcome a.text.items) }
+    ensures { IfOk result
+        (λ a. (bytes : List ℕ) → IsFirstFault bytes first.line first.fault
+        → IsAnswer bytes a.outcome a.text.items) }
 {
     Ok(Answer {
         outcome: Outcome::No,
@@ -72,7 +74,9 @@ fn no_answer(
     all: bool,
     reason: Option<Reason>,
 ) -> Result<Answer, EngineFail>
-    ensures answer { IfOk result (λ a. (more : List ℕ) → GoesOn all more → IsAnswer (text.items ++ more) a.outcome a.text.items) }
+    ensures answer { IfOk result
+        (λ a. (more : List ℕ) → GoesOn all more
+        → IsAnswer (text.items ++ more) a.outcome a.text.items) }
     ensures err { IfErr result (λ e. e ≡ EngineFail.Memory) }
 {
     let bytes = text.as_slice();
@@ -84,7 +88,9 @@ fn no_answer(
 
 /// The answer to a text, by what was found of it.
 fn found_answer(alloc: Global, text: Vec<u8>, found: Found) -> Result<Answer, EngineFail>
-    ensures answer { IfOk result (λ a. (more : List ℕ) → GoesOn true more → IsAnswer (text.items ++ more) a.outcome a.text.items) }
+    ensures answer { IfOk result
+        (λ a. (more : List ℕ) → GoesOn true more
+        → IsAnswer (text.items ++ more) a.outcome a.text.items) }
     ensures err { IfErr result (λ e. e ≡ EngineFail.Memory) }
 {
     match found {
@@ -102,7 +108,8 @@ fn found_answer(alloc: Global, text: Vec<u8>, found: Found) -> Result<Answer, En
 
 /// The answer to what a reader gave.
 fn answer_to(alloc: Global, taken: Taken) -> Result<Answer, EngineFail>
-    ensures answer { IfOk result (λ a. (told : Option (List ℕ)) → IsTaken told taken.text.items taken.all
+    ensures answer { IfOk result
+        (λ a. (told : Option (List ℕ)) → IsTaken told taken.text.items taken.all
         → IfSome told (λ bytes. IsAnswer bytes a.outcome a.text.items)) }
     ensures err { IfErr result (λ e. e ≡ EngineFail.Memory) }
 {
@@ -126,18 +133,26 @@ pub fn certify<R: Source, W: Sink>(
     reader: &mut R,
     writer: &mut W,
 ) -> Result<Outcome, EngineFail>
-    ensures answer { IfOk result (λ outcome. WroteAnswer (R.tells reader.old) outcome (W.holds writer.old) (W.holds writer.new)) }
-    ensures exact { IfOk result (λ outcome. IfSome (R.tells reader.old) (λ bytes. outcome ≡ Outcome.Yes ↔ HasCertificate bytes)) }
-    ensures front { OnErr result (WroteAnswerFront (R.tells reader.old) (W.holds writer.old) (W.holds writer.new)) }
+    ensures answer { IfOk result
+        (λ outcome. WroteAnswer (R.tells reader.old) outcome (W.holds writer.old)
+        (W.holds writer.new)) }
+    ensures exact { IfOk result
+        (λ outcome. IfSome (R.tells reader.old)
+        (λ bytes. outcome ≡ Outcome.Yes ↔ HasCertificate bytes)) }
+    ensures front { OnErr result
+        (WroteAnswerFront (R.tells reader.old) (W.holds writer.old) (W.holds writer.new)) }
     ensures unwritten { IsErrOf result EngineFail.ReadFault → writer.new ≡ writer.old }
     ensures untouched { IsErrOf result EngineFail.Memory → writer.new ≡ writer.old }
 
     // A fault tells of its device, and no fault of a device is passed over.
     ensures read_fault { IsErrOf result EngineFail.ReadFault → ReadFaultIsDue (R.tells reader.old)
         (R.failures reader.old) (R.failures reader.new) (R.asked reader.old) (R.asked reader.new) }
-    ensures write_fault { IsErrOf result EngineFail.WriteFault → W.failures writer.old < W.failures writer.new }
-    ensures quiet_reader { result ≢ Err EngineFail.ReadFault → R.failures reader.new ≡ R.failures reader.old }
-    ensures quiet_writer { result ≢ Err EngineFail.WriteFault → W.failures writer.new ≡ W.failures writer.old }
+    ensures write_fault { IsErrOf result EngineFail.WriteFault
+        → W.failures writer.old < W.failures writer.new }
+    ensures quiet_reader { result ≢ Err EngineFail.ReadFault
+        → R.failures reader.new ≡ R.failures reader.old }
+    ensures quiet_writer { result ≢ Err EngineFail.WriteFault
+        → W.failures writer.new ≡ W.failures writer.old }
 {
     let taken = take_text(alloc, reader)?;
     let answer = answer_to(alloc, taken)?;

@@ -41,7 +41,8 @@ fn assembled(alloc: Global, first: &[u8], second: &[u8], rest: &[u8]) -> Result<
 /// The text with this line put in behind its first one, if it has one.
 pub fn with_line(alloc: Global, text: &[u8], line: &[u8]) -> Result<Option<Vec<u8>>, AllocError>
     requires { HasNoLf line.now }
-    ensures made { IfOk result (λ found. IfSome found (λ made. IsWithLine text.now line.now made.items)) }
+    ensures made { IfOk result
+        (λ found. IfSome found (λ made. IsWithLine text.now line.now made.items)) }
     ensures none { IfOk result (λ found. IfNone found (HasNoLf text.now)) }
 {
     let Some((first, rest)) = split_line(text) else {
@@ -58,7 +59,8 @@ fn with_certificate(
     text: Vec<u8>,
     certificate: Certificate,
 ) -> Result<Result<Vec<u8>, Vec<u8>>, AllocError>
-    ensures made { IfOk result (λ made. IfOk made (λ m. IsWithLine text.items (certificate_text certificate) m.items)) }
+    ensures made { IfOk result
+        (λ made. IfOk made (λ m. IsWithLine text.items (certificate_text certificate) m.items)) }
     ensures again { IfOk result (λ made. IfErr made (λ t. t.items ≡ text.items)) }
 {
     let line = to_line(alloc, &certificate)?;
@@ -88,8 +90,11 @@ fn is_valid(alloc: Global, text: &[u8]) -> Result<bool, EngineFail>
 
 /// The bytes without their second line, if they have two.
 fn without_line(alloc: Global, made: &[u8]) -> Result<Option<Vec<u8>>, AllocError>
-    ensures some { IfOk result (λ found. IfSome found (λ t. (bytes line : List ℕ) → IsWithLine bytes line made.now → t.items ≡ bytes)) }
-    ensures none { IfOk result (λ found. IfNone found ((bytes line : List ℕ) → IsWithLine bytes line made.now → ⊥)) }
+    ensures some { IfOk result
+        (λ found. IfSome found
+        (λ t. (bytes line : List ℕ) → IsWithLine bytes line made.now → t.items ≡ bytes)) }
+    ensures none { IfOk result
+        (λ found. IfNone found ((bytes line : List ℕ) → IsWithLine bytes line made.now → ⊥)) }
 {
     let Some((first, behind)) = split_line(made) else {
         return Ok(None);

@@ -64,7 +64,8 @@ fn shown(alloc: Global, sites: &[SiteLog], proof: &Proof) -> Result<Option<Refus
 
 /// The line of a certificate that decides nothing, of so many sites.
 fn empty_line(alloc: Global, sites: u8) -> Result<Vec<u8>, AllocError>
-    ensures text { IfOk result (λ line. line.items ≡ certificate_text (record { decisions = []; sites = sites })) }
+    ensures text { IfOk result
+        (λ line. line.items ≡ certificate_text (record { decisions = []; sites = sites })) }
     ensures one_line { IfOk result (λ line. HasNoLf line.items) }
 {
     let empty = Certificate {
@@ -77,7 +78,9 @@ fn empty_line(alloc: Global, sites: u8) -> Result<Vec<u8>, AllocError>
 /// The logs that the text spells, if they are of so many sites.
 pub fn logs_of(alloc: Global, text: &[u8], sites: u8) -> Result<Option<Bundle>, EngineFail>
     ensures logs { IfOk result (λ found. IfSome found (λ b. SpellsLogs text.now b.sites)) }
-    ensures none { IfOk result (λ found. IfNone found ((logs : List SiteLog) → SpellsLogs text.now logs → length logs ≡ sites → ⊥)) }
+    ensures none { IfOk result
+        (λ found. IfNone found
+        ((logs : List SiteLog) → SpellsLogs text.now logs → length logs ≡ sites → ⊥)) }
     ensures err { IfErr result (λ e. e ≡ EngineFail.Memory) }
 {
     let line = empty_line(alloc, sites)?;

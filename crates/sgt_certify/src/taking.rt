@@ -30,7 +30,9 @@ fn whole_lines(bytes: &[u8]) -> usize
 
 /// Moves the lines that are held whole to the text.
 fn take_held(lines: &mut Lines, text: &mut Vec<u8>) -> Result<(), AllocError>
-    ensures { OnOk result ((n : ℕ) × (lines.new ≡ passed n lines.old) × (text.new.items ≡ text.old.items ++ take n lines.old.held)) }
+    ensures { OnOk result
+        ((n : ℕ) × (lines.new ≡ passed n lines.old)
+        × (text.new.items ≡ text.old.items ++ take n lines.old.held)) }
 {
     let n = whole_lines(lines.held());
     text.extend_from_slice(&lines.held()[..n])?;
@@ -48,7 +50,8 @@ fn take_lines<R: Source>(
     requires fresh { lines.old ≡ record { held = []; reads = most_reads } }
     requires none { text.old.items ≡ [] }
     ensures taken { IfOk result (λ all. IsTaken (R.tells reader.old) text.new.items all) }
-    ensures quiet { result ≢ Err EngineFail.ReadFault → R.failures reader.new ≡ R.failures reader.old }
+    ensures quiet { result ≢ Err EngineFail.ReadFault
+        → R.failures reader.new ≡ R.failures reader.old }
     ensures read_fault { IsErrOf result EngineFail.ReadFault → ReadFaultIsDue (R.tells reader.old)
         (R.failures reader.old) (R.failures reader.new) (R.asked reader.old) (R.asked reader.new) }
     ensures write_fault { result ≢ Err EngineFail.WriteFault }
@@ -82,7 +85,8 @@ pub struct Taken {
 /// needed, or Memory.
 pub fn take_text<R: Source>(alloc: Global, reader: &mut R) -> Result<Taken, EngineFail>
     ensures taken { IfOk result (λ taken. IsTaken (R.tells reader.old) taken.text.items taken.all) }
-    ensures quiet { result ≢ Err EngineFail.ReadFault → R.failures reader.new ≡ R.failures reader.old }
+    ensures quiet { result ≢ Err EngineFail.ReadFault
+        → R.failures reader.new ≡ R.failures reader.old }
     ensures read_fault { IsErrOf result EngineFail.ReadFault → ReadFaultIsDue (R.tells reader.old)
         (R.failures reader.old) (R.failures reader.new) (R.asked reader.old) (R.asked reader.new) }
     ensures write_fault { result ≢ Err EngineFail.WriteFault }

@@ -1,4 +1,5 @@
--- Faults of logs that no certificate mends: the rules of their lines, as far as those don't speak of the certificate.
+-- Faults of logs that no certificate mends: the rules of their lines, as far as those don't speak
+-- of the certificate.
 use Rattle.std.specs.Prelude.{◌≡◌, ◌≢◌, ℕ, ◌+◌, ◌≤◌, Bool, true, false, List, [], ◌∷◌, ◌++◌, length, map, All}
 use Rattle.std.specs.List.{filter_map}
 use Rattle.sgt_names.specs.Limits.{max_sites}
@@ -22,11 +23,14 @@ use Rattle.sgt_audit.specs.Faults.{entries_in, fault_number, logged_in, IsLineIn
 abbrev pub undecided : Certificate
 undecided = record { decisions = []; sites = 0 }
 
--- a line of a section, after the lines before it: it goes on with sections, of whatever number of sites; no earlier entry of its
--- transaction asks for another kind of end, and none at its site is its end; and what the auditor asks where nothing is decided
+-- a line of a section, after the lines before it: it goes on with sections, of whatever number of
+-- sites; no earlier entry of its
+-- transaction asks for another kind of end, and none at its site is its end; and what the auditor
+-- asks where nothing is decided
 abbrev pub KeepsAlone : List SectionLine → SectionLine → Fault → Type 0
 KeepsAlone before line fault.Section = (count : ℕ) × Begins count (before ++ line ∷ [])
-KeepsAlone before (Line.Logged e) fault.End = All (λ f. tx_of f ≡ tx_of e → EndAlike f e) (filter_map logged_in before)
+KeepsAlone before (Line.Logged e) fault.End =
+    All (λ f. tx_of f ≡ tx_of e → EndAlike f e) (filter_map logged_in before)
     × All (λ f. IsEnd f → tx_of f ≢ tx_of e) (entries_in before)
 KeepsAlone before line f = Keeps undecided before line f
 
@@ -51,12 +55,16 @@ AreSpelled (behind second before) = All (IsLineIn second) before
 abbrev pub AreAll : List SectionLine → Type 0
 AreAll before = AreSections max_sites before
 
--- what the next line keeps, or the end, behind lines that aren't all: no line is too long, and the input ends behind a whole section
+-- what the next line keeps, or the end, behind lines that aren't all: no line is too long, and the
+-- input ends behind a whole section
 abbrev pub RuleWithin : Bool → List SectionLine → Piece → Fault → Type 0
-RuleWithin second before (whole l) fault.Notation = (line : SectionLine) × IsLineIn second line × (l ≡ line_text line)
-RuleWithin second before (whole l) f = (line : SectionLine) → IsLineIn second line → l ≡ line_text line → KeepsAlone before line f
+RuleWithin second before (whole l) fault.Notation = (line : SectionLine) × IsLineIn second line
+    × (l ≡ line_text line)
+RuleWithin second before (whole l) f = (line : SectionLine) → IsLineIn second line
+    → l ≡ line_text line → KeepsAlone before line f
 RuleWithin second before (last l) fault.Notation = length l ≤ max_line
-RuleWithin second before (last l) fault.Truncated = (l ≡ []) × ((count : ℕ) × AreSections count before)
+RuleWithin second before (last l) fault.Truncated = (l ≡ [])
+    × ((count : ℕ) × AreSections count before)
 RuleWithin second before (last l) f = Unit {0}
 
 -- what comes next keeps: nothing follows all sections
@@ -80,7 +88,8 @@ pub record HasFault (bytes : List ℕ) (n : ℕ) (f : Fault) : Type 0 where
 
 -- each line is one of its format, and keeps every rule behind the lines before it
 abbrev pub AreKept : Bool → List SectionLine → Type 0
-AreKept second lines = (earlier later : List SectionLine) (l : SectionLine) → lines ≡ earlier ++ l ∷ later
+AreKept second lines = (earlier later : List SectionLine) (l : SectionLine)
+    → lines ≡ earlier ++ l ∷ later
     → IsLineIn second l × ((f : Fault) → KeepsAlone earlier l f)
 
 -- line n has the fault, no line before it has one, and of its own this is the least

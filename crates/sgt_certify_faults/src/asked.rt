@@ -81,7 +81,8 @@ impl Asking {
 
 /// One more entry of the transaction that stands at this place.
 fn note_again(list: &mut [Asking], number: usize, entry: &Entry)
-    ensures { (k : Asking) → slice_get list.old number ≡ Some k → list.new ≡ slice_set list.old number (asking_with k entry.now) }
+    ensures { (k : Asking) → slice_get list.old number ≡ Some k
+        → list.new ≡ slice_set list.old number (asking_with k entry.now) }
 {
     if number < list.len() {
         list[number] = list[number].with(entry);
@@ -101,7 +102,9 @@ impl Askings {
 
     /// One more entry.
     fn add(&mut self, entry: &Entry) -> Result<(), AllocError>
-        ensures { OnOk result ((entries : List Entry) → AreAskings entries self.old → AreAskings (entries ++ entry.now ∷ []) self.new) }
+        ensures { OnOk result
+            ((entries : List Entry) → AreAskings entries self.old
+            → AreAskings (entries ++ entry.now ∷ []) self.new) }
     {
         let tx = entry.tx();
         if let Some(number) = self.numbers.get(&tx) {

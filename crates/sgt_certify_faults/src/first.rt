@@ -24,7 +24,8 @@ pub struct FirstFault {
 
 /// The fault of a text without an LF.
 fn fault_of_end(text: &[u8], all: bool) -> Fault
-    ensures { HasNoLf text.now → (more : List ℕ) → GoesOn all more → IsFirstFault (text.now ++ more) 1 result }
+    ensures { HasNoLf text.now → (more : List ℕ) → GoesOn all more
+        → IsFirstFault (text.now ++ more) 1 result }
 {
     if all && text.len() <= MAX_LINE {
         Fault::Truncated
@@ -44,7 +45,8 @@ fn fault_behind(
     requires { AreDecidedAsAsked second bytes.now decided.now.decisions }
     ensures found { IfOk result (λ found. IfSome found (λ first. (more : List ℕ) → GoesOn all more
         → IsFirstFault (format_line second ++ 10 ∷ (bytes.now ++ more)) first.line first.fault)) }
-    ensures none { IfOk result (λ found. IfNone found (IsTrue all × IsFaultless (format_line second ++ 10 ∷ bytes.now)
+    ensures none { IfOk result
+        (λ found. IfNone found (IsTrue all × IsFaultless (format_line second ++ 10 ∷ bytes.now)
         × SpellsSoundLogs (format_line second ++ 10 ∷ bytes.now))) }
 {
     let mut reading = Reading::new(alloc, decided)?;
@@ -73,7 +75,8 @@ fn fault_behind(
 pub fn first_fault(alloc: Global, text: &[u8], all: bool) -> Result<Option<FirstFault>, AllocError>
     ensures found { IfOk result (λ found. IfSome found (λ first. (more : List ℕ) → GoesOn all more
         → IsFirstFault (text.now ++ more) first.line first.fault)) }
-    ensures none { IfOk result (λ found. IfNone found (IsTrue all × IsFaultless text.now × SpellsSoundLogs text.now)) }
+    ensures none { IfOk result
+        (λ found. IfNone found (IsTrue all × IsFaultless text.now × SpellsSoundLogs text.now)) }
 {
     let Some((first, behind)) = split_line(text) else {
         let fault = fault_of_end(text, all);

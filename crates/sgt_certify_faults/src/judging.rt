@@ -32,8 +32,10 @@ fn judge_entry(
     entry: &Entry,
 ) -> Option<Fault>
     requires { line.now ≡ Logged entry.now }
-    ensures { (ds : List Decision) (before : List SectionLine) (log : SiteLog) → IsOpenPlace log place.now
-        → IsKnownOf ds state.now entry.now known.now → TracksOpen ds log.items log.entries state.now → HasOpen before log
+    ensures { (ds : List Decision) (before : List SectionLine) (log : SiteLog)
+        → IsOpenPlace log place.now
+        → IsKnownOf ds state.now entry.now known.now → TracksOpen ds log.items log.entries state.now
+        → HasOpen before log
         → Begins max_sites (before ++ Logged entry.now ∷ []) → TellsOdds ds before entry.now
         → IsJudged (KeepsAlone before (Logged entry.now)) result }
 {
@@ -62,9 +64,12 @@ pub fn judge_inside(
     line: &SectionLine,
     known: &Option<Known>,
 ) -> Option<Fault>
-    ensures { (ds : List Decision) (before : List SectionLine) (log : SiteLog) → IsOpenPlace log place.now
-        → IsKnownLine ds state.now line.now known.now → TracksOpen ds log.items log.entries state.now → HasOpen before log
-        → Fits log line.now → Begins max_sites (before ++ line.now ∷ []) → TellsLineOdds ds before line.now
+    ensures { (ds : List Decision) (before : List SectionLine) (log : SiteLog)
+        → IsOpenPlace log place.now
+        → IsKnownLine ds state.now line.now known.now
+        → TracksOpen ds log.items log.entries state.now → HasOpen before log
+        → Fits log line.now → Begins max_sites (before ++ line.now ∷ [])
+        → TellsLineOdds ds before line.now
         → IsJudged (KeepsAlone before line.now) result }
 {
     match line {

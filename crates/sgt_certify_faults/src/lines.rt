@@ -56,7 +56,8 @@ pub fn read_line(second: bool, line: &[u8]) -> Option<SectionLine>
 
 /// The line of a section in this format that stands at the front, and what stands behind it.
 pub fn split_read(second: bool, bytes: &[u8]) -> Option<(SectionLine, &[u8])>
-    ensures some { IfSome result (λ r. IsLineIn second r.0 × (bytes.now ≡ line_text r.0 ++ 10 ∷ r.1.now)) }
+    ensures some { IfSome result
+        (λ r. IsLineIn second r.0 × (bytes.now ≡ line_text r.0 ++ 10 ∷ r.1.now)) }
     ensures none { IfNone result ((line : SectionLine) (more : List ℕ) → IsLineIn second line
         → bytes.now ≡ line_text line ++ 10 ∷ more → ⊥) }
 {

@@ -34,7 +34,9 @@ pub struct Reading {
 impl Reading {
     /// Before the first line of a section.
     pub fn new(alloc: Global, decided: &Decided) -> Result<Reading, AllocError>
-        ensures { IfOk result (λ r. (second : Bool) (bytes : List ℕ) → HasRead second decided.now.decisions bytes 0 r bytes) }
+        ensures { IfOk result
+            (λ r. (second : Bool) (bytes : List ℕ)
+            → HasRead second decided.now.decisions bytes 0 r bytes) }
     {
         Ok(Reading {
             place: Place::new(alloc, MAX_SITES),
@@ -44,8 +46,10 @@ impl Reading {
 
     /// The least fault of a line of a section, of which this is known.
     fn judge(&self, line: &SectionLine, known: &Option<Known>) -> Option<Fault>
-        ensures { (ds : List Decision) (b : Begun) → b.sites ≡ max_sites → IsBegun b → IsPlace b self.now.place → Tracks ds b self.now.state
-            → IsKnownLine ds self.now.state line.now known.now → TellsLineOdds ds (lines_read b) line.now
+        ensures { (ds : List Decision) (b : Begun) → b.sites ≡ max_sites → IsBegun b
+            → IsPlace b self.now.place → Tracks ds b self.now.state
+            → IsKnownLine ds self.now.state line.now known.now
+            → TellsLineOdds ds (lines_read b) line.now
             → IsJudged (KeepsAlone (lines_read b) line.now) result }
     {
         if !self.place.may_go_on(line) {
@@ -61,9 +65,11 @@ impl Reading {
     fn follow(&mut self, decided: &Decided, line: &SectionLine) -> Result<Option<Fault>, AllocError>
         ensures { IfOk result (λ fault. (second : Bool) (bytes rest more : List ℕ) (count : ℕ)
             → AreDecidedAsAsked second bytes decided.now.decisions
-            → (read : HasRead second decided.now.decisions bytes count self.old rest) → (AreAll (lines_read read.sections) → ⊥)
+            → (read : HasRead second decided.now.decisions bytes count self.old rest)
+            → (AreAll (lines_read read.sections) → ⊥)
             → IsLineIn second line.now → rest ≡ line_text line.now ++ 10 ∷ more
-            → Follows second decided.now.decisions bytes count self.old self.new rest (line_text line.now) more fault) }
+            → Follows second decided.now.decisions bytes count self.old self.new rest
+            (line_text line.now) more fault) }
     {
         let known = look_up(decided, &self.state, line);
         if let Some(fault) = self.judge(line, &known) {
@@ -81,8 +87,11 @@ impl Reading {
         second: bool,
         line: &[u8],
     ) -> Result<Option<Fault>, AllocError>
-        ensures { IfOk result (λ fault. (bytes rest more : List ℕ) (count : ℕ) → AreDecidedAsAsked second bytes decided.now.decisions
-            → HasRead second decided.now.decisions bytes count self.old rest → rest ≡ line.now ++ 10 ∷ more
+        ensures { IfOk result
+            (λ fault. (bytes rest more : List ℕ) (count : ℕ)
+            → AreDecidedAsAsked second bytes decided.now.decisions
+            → HasRead second decided.now.decisions bytes count self.old rest
+            → rest ≡ line.now ++ 10 ∷ more
             → Follows second decided.now.decisions bytes count self.old self.new rest line.now more fault) }
     {
         if self.place.is_complete() {
@@ -96,9 +105,12 @@ impl Reading {
 
     /// The least fault of the end of the input, with these bytes behind the last LF, if it has one.
     pub fn end(&self, rest: &[u8]) -> Option<Fault>
-        ensures some { IfSome result (λ fault. (b : Begun) (second : Bool) → b.sites ≡ max_sites → IsBegun b → IsPlace b self.now.place
+        ensures some { IfSome result
+            (λ fault. (b : Begun) (second : Bool) → b.sites ≡ max_sites → IsBegun b
+            → IsPlace b self.now.place
             → Breaks (RuleAlone (behind second (lines_read b)) (last rest.now)) fault) }
-        ensures none { IfNone result ((b : Begun) → b.sites ≡ max_sites → IsBegun b → IsPlace b self.now.place
+        ensures none { IfNone result
+            ((b : Begun) → b.sites ≡ max_sites → IsBegun b → IsPlace b self.now.place
             → (rest.now ≡ []) × ((count : ℕ) × AreSections count (lines_read b))) }
     {
         if self.place.is_complete() {
@@ -119,8 +131,10 @@ impl Reading {
 
     /// The least fault of a line that is too long.
     pub fn too_long(&self) -> Fault
-        ensures { (b : Begun) (second : Bool) (next : Piece) → b.sites ≡ max_sites → IsBegun b → IsPlace b self.now.place
-            → max_line < length (bytes_of next) → Breaks (RuleAlone (behind second (lines_read b)) next) result }
+        ensures { (b : Begun) (second : Bool) (next : Piece) → b.sites ≡ max_sites → IsBegun b
+            → IsPlace b self.now.place
+            → max_line < length (bytes_of next)
+            → Breaks (RuleAlone (behind second (lines_read b)) next) result }
     {
         if self.place.is_complete() {
             Fault::Trailing

@@ -7,9 +7,11 @@ use Rattle.sgt_certify_greedy.specs.declared.deciding.Answer.{Answer}
 use Rattle.sgt_certify_greedy.specs.declared.deciding.Answer.TheVariants as answer
 use Rattle.sgt_certify_greedy.specs.Sorted.{IsRing}
 
--- a certificate that makes the logs valid, a cycle of their ends, a cycle of their committed conflicts, or a set that is stuck in them
+-- a certificate that makes the logs valid, a cycle of their ends, a cycle of their committed
+-- conflicts, or a set that is stuck in them
 abbrev pub IsAnswerTo : List SiteLog → Answer → Type 0
-IsAnswerTo sites (answer.Certificate c) = IsValid (record { certificate = c; sites = sites }) × (c.sites ≡ length sites)
+IsAnswerTo sites (answer.Certificate c) = IsValid (record { certificate = c; sites = sites })
+    × (c.sites ≡ length sites)
 IsAnswerTo sites (answer.Order cycle) = IsRing (EndsBefore sites) cycle.items
 IsAnswerTo sites (answer.Ranks cycle) = IsRing (PrecedesCommitted sites) cycle.items
 IsAnswerTo sites (answer.Stuck set) = IsStuck sites set.items

@@ -15,10 +15,13 @@ use Rattle.sgt_certify_greedy.specs.Pairs.{ArePairsOf, IsFollowed}
 use Rattle.sgt_certify_greedy.specs.Sorted.{IsOrdered}
 use Rattle.sgt_certify_greedy.specs.Walks.{HasNoRound, IsRound}
 
--- the decision is as the logs say: a commit with its rank in this order, a refusal with a walk through these, or a withdrawal
+-- the decision is as the logs say: a commit with its rank in this order, a refusal with a walk
+-- through these, or a withdrawal
 abbrev pub IsFitting : List SiteLog → List ℕ → (ℕ → Type 0) → Decision → Type 0
-IsFitting sites order Through (Commit t rank) = IsIn sites (entry.Commit t) × (slice_get order rank ≡ Some t)
-IsFitting sites order Through (Refuse t walk) = IsIn sites (entry.Refuse t) × IsRound sites Through t walk
+IsFitting sites order Through (Commit t rank) = IsIn sites (entry.Commit t)
+    × (slice_get order rank ≡ Some t)
+IsFitting sites order Through (Refuse t walk) = IsIn sites (entry.Refuse t)
+    × IsRound sites Through t walk
 IsFitting sites order Through (Withdraw t) = IsIn sites (entry.Withdraw t)
 
 -- none of these ends before the transaction
@@ -35,14 +38,16 @@ HasCommit decisions t = (number : ℕ) × (rank : ℕ) × IsCommitted decisions 
 
 -- whoever ends in the log at this site is among these
 abbrev pub HasEnders : List ℕ → List SiteLog → ℕ → Type 0
-HasEnders txs sites site = (n : ℕ) (log : SiteLog) (e : Entry) → slice_get sites site ≡ Some log → slice_get log.entries n ≡ Some e → IsEnd e → Contains txs (tx_of e)
+HasEnders txs sites site = (n : ℕ) (log : SiteLog) (e : Entry) → slice_get sites site ≡ Some log
+    → slice_get log.entries n ≡ Some e → IsEnd e → Contains txs (tx_of e)
 
 -- what is known of the logs: their pairs, and the order of the committed ones
 pub record AreKnown (sites : List SiteLog) (known : Known) : Type 0 where
   pub few : length sites ≤ max_sites
   pub ends : ArePairsOf Ends sites known.ends.items
   pub conflicts : ArePairsOf Conflicts sites known.conflicts.items
-  -- the committed ones and no others have a place in the order, and there are no more places than ranks
+  -- the committed ones and no others have a place in the order, and there are no more places than
+  -- ranks
   pub committed : (t : ℕ) → IsIn sites (entry.Commit t) → Contains known.order.items t
   pub only : (t : ℕ) → Contains known.order.items t → IsIn sites (entry.Commit t)
   pub ordered : IsOrdered (IsFollowed Conflicts sites) known.order.items known.order.items
@@ -62,7 +67,8 @@ OnFronts {A} P xs = (n : ℕ) (x : A) → slice_get xs n ≡ Some x → P (take 
 abbrev pub txs_of : List Decision → List ℕ
 txs_of ds = map decided_tx ds
 
--- the decision was due when those in front of it were taken: it is on another transaction, all that end before it are decided, and it fits
+-- the decision was due when those in front of it were taken: it is on another transaction, all that
+-- end before it are decided, and it fits
 pub record IsDue (sites : List SiteLog) (order : List ℕ) (front : List Decision) (d : Decision) : Type 0 where
   pub new : Contains (txs_of front) (decided_tx d) → ⊥
   pub before : (u : ℕ) → EndsBefore sites u (decided_tx d) → Contains (txs_of front) u

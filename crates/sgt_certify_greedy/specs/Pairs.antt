@@ -35,10 +35,13 @@ Leads pairs a b = (pair : Pair) × Contains pairs pair × (pair.from ≡ a) × (
 abbrev pub IsFollowed : Rule → List SiteLog → ℕ → ℕ → Type 0
 IsFollowed rule sites a b = (pair : Pair) × IsPair rule sites pair × (pair.from ≡ a) × (pair.to ≡ b)
 
--- among those found are all pairs of the log at this site of which the second entry is at this place
+-- among those found are all pairs of the log at this site of which the second entry is at this
+-- place
 abbrev pub HasPairsTo : Rule → List SiteLog → List Pair → (site q : ℕ) → Type 0
-HasPairsTo rule sites found site q = (p : ℕ) (log : SiteLog) (e f : Entry) → p < q → slice_get sites site ≡ Some log
-    → slice_get log.entries p ≡ Some e → slice_get log.entries q ≡ Some f → ArePaired rule e f → Leads found (tx_of e) (tx_of f)
+HasPairsTo rule sites found site q = (p : ℕ) (log : SiteLog) (e f : Entry) → p < q
+    → slice_get sites site ≡ Some log
+    → slice_get log.entries p ≡ Some e → slice_get log.entries q ≡ Some f → ArePaired rule e f
+    → Leads found (tx_of e) (tx_of f)
 
 -- these are the pairs that the logs have
 pub record ArePairsOf (rule : Rule) (sites : List SiteLog) (pairs : List Pair) : Type 0 where

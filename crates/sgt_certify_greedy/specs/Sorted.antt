@@ -22,7 +22,8 @@ pub record IsOrdered (R : ℕ → ℕ → Type 0) (txs order : List ℕ) : Type 
   pub all : (t : ℕ) → Contains txs t → Contains order t
   pub only : (t : ℕ) → Contains order t → Contains txs t
   pub once : AllPairs (λ a b. a ≢ b) order
-  pub behind : (n a b : ℕ) → slice_get order n ≡ Some b → Contains txs a → R a b → Contains (take n order) a
+  pub behind : (n a b : ℕ) → slice_get order n ≡ Some b → Contains txs a → R a b
+      → Contains (take n order) a
 
 -- these in their order, or a cycle among them
 abbrev pub IsSorting : List ℕ → (ℕ → ℕ → Type 0) → Sorting → Type 0

@@ -33,5 +33,6 @@ pub record IsRound (sites : List SiteLog) (Through : ℕ → Type 0) (tx : ℕ) 
 
 -- no walk of logged conflicts leads from the transaction back to it through these
 abbrev pub HasNoRound : List SiteLog → List ℕ → ℕ → Type 0
-HasNoRound sites through tx = (walk : List Step) (between : List ℕ) → AreLogged sites tx walk → stops walk ≡ between ++ tx ∷ []
+HasNoRound sites through tx = (walk : List Step) (between : List ℕ) → AreLogged sites tx walk
+    → stops walk ≡ between ++ tx ∷ []
     → All (Contains through) between → ⊥

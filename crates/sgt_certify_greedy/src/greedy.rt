@@ -85,8 +85,10 @@ fn next_decision(
     requires ends { All (HasEnd sites.now) left.now }
     requires apart { (t : ℕ) → Contains left.now t → Contains commits.now t → ⊥ }
     ensures some { IfOk result (λ found. IfSome found (λ d. Contains left.now (decided_tx d)
-        × IsUnpreceded sites.now left.now (decided_tx d) × IsFitting sites.now known.now.order.items (Contains commits.now) d)) }
-    ensures none { IfOk result (λ found. IfNone found ((t : ℕ) → Contains left.now t → IsUnpreceded sites.now left.now t
+        × IsUnpreceded sites.now left.now (decided_tx d)
+        × IsFitting sites.now known.now.order.items (Contains commits.now) d)) }
+    ensures none { IfOk result
+        (λ found. IfNone found ((t : ℕ) → Contains left.now t → IsUnpreceded sites.now left.now t
         → IsHopeless sites.now commits.now t)) }
 {
     for tx in left {
@@ -124,7 +126,8 @@ pub fn decide_each(
     requires known { AreKnown sites.now known.now }
     requires ends { All (HasEnd sites.now) ended.now }
     requires all { (t : ℕ) → HasEnd sites.now t → Contains ended.now t }
-    ensures { IfOk result (λ s. IsSettled sites.now known.now.order.items s.left.items s.decisions.items) }
+    ensures { IfOk result
+        (λ s. IsSettled sites.now known.now.order.items s.left.items s.decisions.items) }
 {
     let mut left = Vec::from_slice(alloc, ended)?;
     let mut commits = Vec::new(alloc);

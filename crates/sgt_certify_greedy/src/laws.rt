@@ -8,5 +8,6 @@ ghost use Rattle.sgt_certify_greedy.specs.declared.deciding.Answer.{Answer};
 
 /// Logs have a certificate exactly where the answer to them is one.
 pub fn answers_are_certificates_where_there_are_some()
-    ensures { (sites : List SiteLog) (answer : Answer) → IsAnswerTo sites answer → (AreCertifiable sites ↔ IsCertifying answer) }
+    ensures { (sites : List SiteLog) (answer : Answer) → IsAnswerTo sites answer
+        → (AreCertifiable sites ↔ IsCertifying answer) }
 {}

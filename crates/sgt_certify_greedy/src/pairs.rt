@@ -72,7 +72,8 @@ pub struct Clashing {
 /// The conflict of two entries.
 pub fn conflict_of(first: &Entry, second: &Entry) -> Option<Clashing>
     ensures some { IfSome result (λ c. Clash c.kind c.item first.now second.now) }
-    ensures none { IfNone result ((kind : AnyKind) (x : Name) → Clash kind x first.now second.now → ⊥) }
+    ensures none { IfNone result
+        ((kind : AnyKind) (x : Name) → Clash kind x first.now second.now → ⊥) }
 {
     let item = first.item()?;
     let kind = kind_of(&item, first, second)?;
@@ -97,8 +98,10 @@ fn note_pair(
     first: &Entry,
     second: &Entry,
 ) -> Result<(), AllocError>
-    ensures kept { OnOk result ((p : Found) → Contains found.old.items p → Contains found.new.items p) }
-    ensures has { OnOk result (ArePaired rule first.now second.now → Contains found.new.items pair) }
+    ensures kept { OnOk result
+        ((p : Found) → Contains found.old.items p → Contains found.new.items p) }
+    ensures has { OnOk result
+        (ArePaired rule first.now second.now → Contains found.new.items pair) }
     ensures only { OnOk result ((p : Found) → Contains found.new.items p
         → Contains found.old.items p ⊎ (ArePaired rule first.now second.now × (pair ≡ p))) }
 {
@@ -118,8 +121,11 @@ fn add_pairs_to(
     second: usize,
 ) -> Result<(), AllocError>
     requires { (log : Log) × (slice_get sites.now site ≡ Some log) × (second < length log.entries) }
-    ensures kept { OnOk result ((pair : Found) → Contains found.old.items pair → Contains found.new.items pair) }
-    ensures only { OnOk result (All (IsPair rule sites.now) found.old.items → All (IsPair rule sites.now) found.new.items) }
+    ensures kept { OnOk result
+        ((pair : Found) → Contains found.old.items pair → Contains found.new.items pair) }
+    ensures only { OnOk result
+        (All (IsPair rule sites.now) found.old.items
+        → All (IsPair rule sites.now) found.new.items) }
     ensures has { OnOk result (HasPairsTo rule sites.now found.new.items site second) }
 {
     let entries = sites[site].entries.as_slice();
@@ -148,8 +154,11 @@ fn add_pairs_in(
     site: usize,
 ) -> Result<(), AllocError>
     requires { site < length sites.now }
-    ensures kept { OnOk result ((pair : Found) → Contains found.old.items pair → Contains found.new.items pair) }
-    ensures only { OnOk result (All (IsPair rule sites.now) found.old.items → All (IsPair rule sites.now) found.new.items) }
+    ensures kept { OnOk result
+        ((pair : Found) → Contains found.old.items pair → Contains found.new.items pair) }
+    ensures only { OnOk result
+        (All (IsPair rule sites.now) found.old.items
+        → All (IsPair rule sites.now) found.new.items) }
     ensures has { OnOk result ((q : ℕ) → HasPairsTo rule sites.now found.new.items site q) }
 {
     let count = sites[site].entries.as_slice().len();

@@ -59,7 +59,9 @@ pub fn stands_in(sites: &[SiteLog], entry: &Entry) -> bool
 pub fn note_if(txs: &mut Vec<Tx>, tx: Tx, noted: bool) -> Result<(), AllocError>
     ensures kept { OnOk result ((t : ℕ) → Contains txs.old.items t → Contains txs.new.items t) }
     ensures has { OnOk result (IsTrue noted → Contains txs.new.items tx) }
-    ensures only { OnOk result ((t : ℕ) → Contains txs.new.items t → Contains txs.old.items t ⊎ (IsTrue noted × (tx ≡ t))) }
+    ensures only { OnOk result
+        ((t : ℕ) → Contains txs.new.items t
+        → Contains txs.old.items t ⊎ (IsTrue noted × (tx ≡ t))) }
 {
     if !noted {
         return Ok(());
@@ -72,7 +74,8 @@ pub fn note_if(txs: &mut Vec<Tx>, tx: Tx, noted: bool) -> Result<(), AllocError>
 fn add_ended(txs: &mut Vec<Tx>, sites: &[SiteLog], site: usize) -> Result<(), AllocError>
     requires { site < length sites.now }
     ensures kept { OnOk result ((t : ℕ) → Contains txs.old.items t → Contains txs.new.items t) }
-    ensures only { OnOk result (All (HasEnd sites.now) txs.old.items → All (HasEnd sites.now) txs.new.items) }
+    ensures only { OnOk result
+        (All (HasEnd sites.now) txs.old.items → All (HasEnd sites.now) txs.new.items) }
     ensures has { OnOk result (HasEnders txs.new.items sites.now site) }
 {
     let entries = sites[site].entries.as_slice();
@@ -97,7 +100,9 @@ pub fn ended(alloc: Global, sites: &[SiteLog]) -> Result<Vec<Tx>, AllocError>
 /// Those of the transactions that a log commits. Err: memory ran out.
 pub fn committed(alloc: Global, sites: &[SiteLog], txs: &[Tx]) -> Result<Vec<Tx>, AllocError>
     ensures only { IfOk result (λ found. All (λ t. IsIn sites.now (Committed t)) found.items) }
-    ensures has { IfOk result (λ found. (t : ℕ) → Contains txs.now t → IsIn sites.now (Committed t) → Contains found.items t) }
+    ensures has { IfOk result
+        (λ found. (t : ℕ) → Contains txs.now t → IsIn sites.now (Committed t)
+        → Contains found.items t) }
 {
     let mut found = Vec::new(alloc);
     for tx in txs {

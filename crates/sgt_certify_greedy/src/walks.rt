@@ -30,7 +30,8 @@ struct Onward {
 
 /// Where the transaction stands among those reached.
 fn reach_of(reached: &[Reached], tx: Tx) -> Option<usize>
-    ensures some { IfSome result (λ n. (r : Met) × (slice_get reached.now n ≡ Some r) × (r.tx ≡ tx)) }
+    ensures some { IfSome result
+        (λ n. (r : Met) × (slice_get reached.now n ≡ Some r) × (r.tx ≡ tx)) }
     ensures none { IfNone result (IsReached reached.now tx → ⊥) }
 {
     for place in 0..reached.len() {
@@ -45,7 +46,8 @@ fn reach_of(reached: &[Reached], tx: Tx) -> Option<usize>
 fn lead_of(pair: &Pair, reached: &[Reached], wanted: &[Tx]) -> Option<usize>
     ensures some { IfSome result (λ n. Contains wanted.now pair.now.to
         × ((r : Met) × (slice_get reached.now n ≡ Some r) × (r.tx ≡ pair.now.from))) }
-    ensures none { IfNone result (Contains wanted.now pair.now.to → IsReached reached.now pair.now.from → ⊥) }
+    ensures none { IfNone result
+        (Contains wanted.now pair.now.to → IsReached reached.now pair.now.from → ⊥) }
 {
     if !is_among(wanted, pair.to) {
         return None;
@@ -57,7 +59,8 @@ fn lead_of(pair: &Pair, reached: &[Reached], wanted: &[Tx]) -> Option<usize>
 fn next_pair(pairs: &[Pair], reached: &[Reached], wanted: &[Tx]) -> Option<Onward>
     ensures some { IfSome result (λ o. Contains pairs.now o.pair × Contains wanted.now o.pair.to
         × ((r : Met) × (slice_get reached.now o.place ≡ Some r) × (r.tx ≡ o.pair.from))) }
-    ensures none { IfNone result ((a b : ℕ) → IsReached reached.now a → Leads pairs.now a b → Contains wanted.now b → ⊥) }
+    ensures none { IfNone result
+        ((a b : ℕ) → IsReached reached.now a → Leads pairs.now a b → Contains wanted.now b → ⊥) }
 {
     for pair in pairs {
         if let Some(place) = lead_of(pair, reached, wanted) {
@@ -113,7 +116,9 @@ fn reach_all(
     requires other { Contains through.now tx → ⊥ }
     ensures paths { IfOk result (λ reached. All (IsPath sites.now through.now tx) reached.items) }
     ensures start { IfOk result (λ reached. IsReached reached.items tx) }
-    ensures closed { IfOk result (λ reached. (a b : ℕ) → IsReached reached.items a → Leads pairs.now a b → Contains through.now b
+    ensures closed { IfOk result
+        (λ reached. (a b : ℕ) → IsReached reached.items a → Leads pairs.now a b
+        → Contains through.now b
         → IsReached reached.items b) }
 {
     let none = Vec::new(alloc);
@@ -142,7 +147,8 @@ pub fn walk_back(
     requires few { length sites.now ≤ max_sites }
     requires pairs { ArePairsOf Conflicts sites.now pairs.now }
     requires other { Contains through.now tx → ⊥ }
-    ensures some { IfOk result (λ found. IfSome found (λ walk. IsRound sites.now (Contains through.now) tx walk)) }
+    ensures some { IfOk result
+        (λ found. IfSome found (λ walk. IsRound sites.now (Contains through.now) tx walk)) }
     ensures none { IfOk result (λ found. IfNone found (HasNoRound sites.now through.now tx)) }
 {
     let reached = reach_all(alloc, sites, pairs, through, tx)?;

@@ -13,7 +13,8 @@ use Rattle.sgt_certify_logs.specs.Witness.{IsIn}
 abbrev pub EndAlike : Entry → Entry → Type 0
 EndAlike e f = (d : Decision) × Suits e d × Suits f d
 
--- a log is in order, each of its transactions has an end there, and each read and each final value is right
+-- a log is in order, each of its transactions has an end there, and each read and each final value
+-- is right
 pub record IsSoundLog (log : SiteLog) : Type 0 where
   pub formed : IsFormed log.items log.entries
   pub reads : ReadsAreLegal log.items log.entries

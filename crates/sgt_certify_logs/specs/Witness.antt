@@ -1,4 +1,5 @@
--- What shows of logs that no certificate makes them valid: ends in a cycle, committed conflicts in a cycle, a stuck set.
+-- What shows of logs that no certificate makes them valid: ends in a cycle, committed conflicts in
+-- a cycle, a stuck set.
 use Rattle.std.specs.Prelude.{◌≡◌, ℕ, ◌<◌, List, [], ◌∷◌, ◌++◌, Some, slice_get, All, Contains}
 use Rattle.sgt_names.specs.Name.{Name}
 use Rattle.sgt_names.specs.Entry.{tx_of, IsEnd}
@@ -47,7 +48,8 @@ pub record EndsBefore (sites : List SiteLog) (a b : ℕ) : Type 0 where
   pub to : tx_of f ≡ b
   pub ends : IsEnd e × IsEnd f
 
--- two committed transactions, of which the first has an entry in front of one of the second in conflict with it
+-- two committed transactions, of which the first has an entry in front of one of the second in
+-- conflict with it
 pub record PrecedesCommitted (sites : List SiteLog) (a b : ℕ) : Type 0 where
   pub committed : IsIn sites (Commit a) × IsIn sites (Commit b)
   pub log : SiteLog
@@ -66,13 +68,15 @@ HaveConflictsInACycle sites = HasCycle (PrecedesCommitted sites)
 
 -- ---- a stuck set
 
--- the transaction can be decided next: it isn't among those decided, and all that end before it in a log are
+-- the transaction can be decided next: it isn't among those decided, and all that end before it in
+-- a log are
 pub record IsFree (sites : List SiteLog) (decided : List ℕ) (t : ℕ) : Type 0 where
   pub ends : HasEnd sites t
   pub open_yet : Contains decided t → ⊥
   pub next : (u : ℕ) → EndsBefore sites u t → Contains decided u
 
--- a walk of logged conflicts leads from the transaction back to it, through committed ones among those decided
+-- a walk of logged conflicts leads from the transaction back to it, through committed ones among
+-- those decided
 pub record LiesOnCycle (sites : List SiteLog) (decided : List ℕ) (t : ℕ) : Type 0 where
   pub walk : List Step
   pub between : List ℕ
@@ -83,4 +87,5 @@ pub record LiesOnCycle (sites : List SiteLog) (decided : List ℕ) (t : ℕ) : T
 -- some transaction is left, and each that can be decided next is refused and lies on no such cycle
 pub record IsStuck (sites : List SiteLog) (decided : List ℕ) : Type 0 where
   pub left : (t : ℕ) × HasEnd sites t × (Contains decided t → ⊥)
-  pub refused : (t : ℕ) → IsFree sites decided t → IsIn sites (Refuse t) × (LiesOnCycle sites decided t → ⊥)
+  pub refused : (t : ℕ) → IsFree sites decided t
+      → IsIn sites (Refuse t) × (LiesOnCycle sites decided t → ⊥)

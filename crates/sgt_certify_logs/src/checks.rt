@@ -115,7 +115,8 @@ fn clashes(kind: Kind, item: &Item, first: &Entry, second: &Entry) -> bool
 
 /// Whether the logs commit both transactions of the step.
 fn are_committed(sites: &[SiteLog], step: &ConflictStep) -> bool
-    ensures { IsTrue result → IsIn sites.now (Committed step.now.from) × IsIn sites.now (Committed step.now.to) }
+    ensures { IsTrue result
+        → IsIn sites.now (Committed step.now.from) × IsIn sites.now (Committed step.now.to) }
 {
     has_entry(sites, step.from_end, &Entry::Commit { tx: step.from })
         && has_entry(sites, step.to_end, &Entry::Commit { tx: step.to })
@@ -123,14 +124,18 @@ fn are_committed(sites: &[SiteLog], step: &ConflictStep) -> bool
 
 /// Whether the entries are of two transactions, those of the step.
 fn are_of(step: &ConflictStep, first: &Entry, second: &Entry) -> bool
-    ensures { IsTrue result → (tx_of first.now ≡ step.now.from) × (tx_of second.now ≡ step.now.to) × (step.now.from ≢ step.now.to) }
+    ensures { IsTrue result
+        → (tx_of first.now ≡ step.now.from) × (tx_of second.now ≡ step.now.to)
+        × (step.now.from ≢ step.now.to) }
 {
     first.tx() == step.from && second.tx() == step.to && step.from != step.to
 }
 
 /// Whether the entries are in the conflict of the step.
 fn are_in_conflict(step: &ConflictStep, first: &Entry, second: &Entry) -> bool
-    ensures { IsTrue result → ((tx_of first.now ≡ step.now.from) × (tx_of second.now ≡ step.now.to) × (step.now.from ≢ step.now.to))
+    ensures { IsTrue result
+        → ((tx_of first.now ≡ step.now.from) × (tx_of second.now ≡ step.now.to)
+        × (step.now.from ≢ step.now.to))
         × Clash step.now.kind step.now.item first.now second.now }
 {
     are_of(step, first, second) && clashes(step.kind, &step.item, first, second)
@@ -138,7 +143,8 @@ fn are_in_conflict(step: &ConflictStep, first: &Entry, second: &Entry) -> bool
 
 /// Whether the entries have the conflict of the step.
 fn has_conflict(entries: &[Entry], step: &ConflictStep) -> bool
-    ensures { IsTrue result → Conflicts entries.now step.now.kind step.now.item step.now.from step.now.to }
+    ensures { IsTrue result
+        → Conflicts entries.now step.now.kind step.now.item step.now.from step.now.to }
 {
     let Some(first) = entries.get(step.first.entry) else {
         return false;

@@ -21,19 +21,24 @@ pub fn conflicts_in_a_cycle_have_no_certificate()
 /// Where a set of transactions is stuck, no certificate makes the logs valid: the first decision on one outside it would be on
 /// a refused transaction without a cycle.
 pub fn stuck_logs_have_no_certificate()
-    ensures { (sites : List SiteLog) (decided : List ℕ) → IsStuck sites decided → AreCertifiable sites → ⊥ }
+    ensures { (sites : List SiteLog) (decided : List ℕ) → IsStuck sites decided
+        → AreCertifiable sites → ⊥ }
 {}
 
 /// The text of logs becomes that of a bundle where the line of a certificate of so many sites is put in. Where a line that is put in
 /// makes the bytes the text of a bundle, they spelled its logs, and the line is that of its certificate.
 pub fn logs_are_bundles_without_a_line()
-    ensures bundle { (bytes text : List ℕ) (c : Certificate) (sites : List SiteLog) → IsWithLine bytes (certificate_text c) text
-        → IsCertificate c → c.sites ≡ length sites → SpellsLogs bytes sites → Spells text (record { certificate = c; sites = sites }) }
-    ensures logs { (bytes line text : List ℕ) (b : Parts) → IsWithLine bytes line text → Spells text b
+    ensures bundle { (bytes text : List ℕ) (c : Certificate) (sites : List SiteLog)
+        → IsWithLine bytes (certificate_text c) text
+        → IsCertificate c → c.sites ≡ length sites → SpellsLogs bytes sites
+        → Spells text (record { certificate = c; sites = sites }) }
+    ensures logs { (bytes line text : List ℕ) (b : Parts) → IsWithLine bytes line text
+        → Spells text b
         → SpellsLogs bytes b.sites × (line ≡ certificate_text b.certificate) }
 {}
 
 /// No bytes spell the logs of two.
 pub fn no_bytes_spell_two_logs()
-    ensures { (bytes : List ℕ) (s t : List SiteLog) → SpellsLogs bytes s → SpellsLogs bytes t → s ≡ t }
+    ensures { (bytes : List ℕ) (s t : List SiteLog) → SpellsLogs bytes s → SpellsLogs bytes t
+        → s ≡ t }
 {}

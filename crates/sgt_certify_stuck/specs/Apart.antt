@@ -1,4 +1,5 @@
--- What a check of a stuck set says: that some transactions are never followed by some others in conflict.
+-- What a check of a stuck set says: that some transactions are never followed by some others in
+-- conflict.
 use Rattle.std.specs.Prelude.{◌≡◌, ℕ, ◌<◌, true, IsTrue, List, [], ◌∷◌, ◌++◌, All, Contains, Some, slice_get}
 use Rattle.std.specs.BTreeSet.{BTreeSet, contains}
 use Rattle.std.specs.Ordering.{nat_cmp}
@@ -29,16 +30,20 @@ Does class.Read x e = Reads x e
 Does class.Change x e = Writes x e
 Does class.Put x e = Writes x e × (IsTrue (is_increment e) → ⊥)
 
--- no entry of the first transactions that does the first stands before one of the second that does the second to the same item
+-- no entry of the first transactions that does the first stands before one of the second that does
+-- the second to the same item
 abbrev pub IsClear : List Entry → (sources barred : BTreeSet ℕ) → (first second : Class) → Type 0
-IsClear entries sources barred first second = (p q : ℕ) (e f : Entry) (x : Name) → p < q → slice_get entries p ≡ Some e → slice_get entries q ≡ Some f
+IsClear entries sources barred first second = (p q : ℕ) (e f : Entry) (x : Name) → p < q
+    → slice_get entries p ≡ Some e → slice_get entries q ≡ Some f
     → HasTx sources (tx_of e) → HasTx barred (tx_of f) → Does first x e → Does second x f → ⊥
 
 -- no conflict leads from one of the first to one of the second
 abbrev pub AreApart : List Entry → (sources barred : BTreeSet ℕ) → Type 0
-AreApart entries sources barred = (kind : Kind) (x : Name) (a b : ℕ) → Conflicts entries kind x a b → HasTx sources a → HasTx barred b → ⊥
+AreApart entries sources barred = (kind : Kind) (x : Name) (a b : ℕ) → Conflicts entries kind x a b
+    → HasTx sources a → HasTx barred b → ⊥
 
 -- no walk of logged conflicts leads from the transaction back to it through these
 abbrev pub HasNoWalk : List SiteLog → List ℕ → ℕ → Type 0
-HasNoWalk sites through tx = (walk : List Step) (between : List ℕ) → AreLogged sites tx walk → stops walk ≡ between ++ tx ∷ []
+HasNoWalk sites through tx = (walk : List Step) (between : List ℕ) → AreLogged sites tx walk
+    → stops walk ≡ between ++ tx ∷ []
     → All (Contains through) between → ⊥

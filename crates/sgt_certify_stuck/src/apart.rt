@@ -44,8 +44,11 @@ fn item_by(class: Class, entry: &Entry) -> Option<Item>
 
 /// Whether the entry is of a barred transaction and does this to an item that was seen.
 fn meets(seen: &BTreeSet<Item>, barred: &BTreeSet<Tx>, class: Class, entry: &Entry) -> bool
-    ensures only { IsTrue result → (x : Name) × HasItem seen.now x × HasTx barred.now (tx_of entry.now) × Does class x entry.now }
-    ensures all { (x : Name) → HasItem seen.now x → HasTx barred.now (tx_of entry.now) → Does class x entry.now → IsTrue result }
+    ensures only { IsTrue result
+        → (x : Name) × HasItem seen.now x × HasTx barred.now (tx_of entry.now)
+        × Does class x entry.now }
+    ensures all { (x : Name) → HasItem seen.now x → HasTx barred.now (tx_of entry.now)
+        → Does class x entry.now → IsTrue result }
 {
     if !barred.contains(&entry.tx()) {
         return false;
@@ -64,7 +67,9 @@ fn note(
     entry: &Entry,
 ) -> Result<(), AllocError>
     ensures kept { OnOk result ((x : Name) → HasItem seen.old x → HasItem seen.new x) }
-    ensures added { OnOk result ((x : Name) → HasTx sources.now (tx_of entry.now) → Does class x entry.now → HasItem seen.new x) }
+    ensures added { OnOk result
+        ((x : Name) → HasTx sources.now (tx_of entry.now) → Does class x entry.now
+        → HasItem seen.new x) }
     ensures only { OnOk result ((x : Name) → HasItem seen.new x
         → HasItem seen.old x ⊎ (HasTx sources.now (tx_of entry.now) × Does class x entry.now)) }
 {
@@ -91,7 +96,9 @@ fn is_clear(
     barred: &BTreeSet<Tx>,
     pair: Pair,
 ) -> Result<bool, AllocError>
-    ensures { IfOk result (λ clear. IsTrue clear ↔ IsClear entries.now sources.now barred.now pair.first pair.second) }
+    ensures { IfOk result
+        (λ clear. IsTrue clear
+        ↔ IsClear entries.now sources.now barred.now pair.first pair.second) }
 {
     let mut seen = BTreeSet::new(alloc);
     for entry in entries {
@@ -150,7 +157,9 @@ pub fn are_all_apart(
     sources: &BTreeSet<Tx>,
     barred: &BTreeSet<Tx>,
 ) -> Result<bool, AllocError>
-    ensures { IfOk result (λ apart. IsTrue apart → (log : Log) → Contains sites.now log → AreApart log.entries sources.now barred.now) }
+    ensures { IfOk result
+        (λ apart. IsTrue apart → (log : Log) → Contains sites.now log
+        → AreApart log.entries sources.now barred.now) }
 {
     for log in sites {
         if !are_apart(alloc, log.entries.as_slice(), sources, barred)? {

@@ -56,7 +56,8 @@ fn is_behind(entries: &[Entry], decided: &BTreeSet<Tx>, tx: Tx) -> bool
 
 /// Whether in some log an end of a transaction that isn't decided stands before one of this.
 pub fn waits(sites: &[SiteLog], decided: &BTreeSet<Tx>, tx: Tx) -> bool
-    ensures { IsTrue result → (u : ℕ) × EndsBefore sites.now u tx × (contains nat_cmp decided.now u ≡ false) }
+    ensures { IsTrue result
+        → (u : ℕ) × EndsBefore sites.now u tx × (contains nat_cmp decided.now u ≡ false) }
 {
     for log in sites {
         if is_behind(log.entries.as_slice(), decided, tx) {
@@ -83,7 +84,8 @@ pub fn is_refused(sites: &[SiteLog], tx: Tx) -> bool
 
 /// Whether no log commits one of these.
 pub fn are_uncommitted(sites: &[SiteLog], others: &BTreeSet<Tx>) -> bool
-    ensures { IsTrue result → (t : ℕ) → IsIn sites.now (Committed t) → contains nat_cmp others.now t ≡ false }
+    ensures { IsTrue result → (t : ℕ) → IsIn sites.now (Committed t)
+        → contains nat_cmp others.now t ≡ false }
 {
     for log in sites {
         if !has_no_commit(log.entries.as_slice(), others) {
@@ -94,7 +96,8 @@ pub fn are_uncommitted(sites: &[SiteLog], others: &BTreeSet<Tx>) -> bool
 }
 
 fn has_no_commit(entries: &[Entry], others: &BTreeSet<Tx>) -> bool
-    ensures { IsTrue result → (k t : ℕ) → slice_get entries.now k ≡ Some (Committed t) → contains nat_cmp others.now t ≡ false }
+    ensures { IsTrue result → (k t : ℕ) → slice_get entries.now k ≡ Some (Committed t)
+        → contains nat_cmp others.now t ≡ false }
 {
     for entry in entries {
         if let Entry::Commit { tx } = entry {

@@ -93,7 +93,8 @@ fn is_shown(
     decided: &BTreeSet<Tx>,
     tx: Tx,
 ) -> Result<bool, AllocError>
-    ensures { IfOk result (λ shown. IsTrue shown → IsShown sites.now decided.now stuck.now.committed.items tx) }
+    ensures { IfOk result
+        (λ shown. IsTrue shown → IsShown sites.now decided.now stuck.now.committed.items tx) }
 {
     if waits(sites, decided, tx) {
         return Ok(true);
@@ -112,7 +113,9 @@ fn is_log_shown(
     decided: &BTreeSet<Tx>,
     log: &SiteLog,
 ) -> Result<bool, AllocError>
-    ensures { IfOk result (λ shown. IsTrue shown → IsLogShown sites.now decided.now stuck.now.committed.items log.now) }
+    ensures { IfOk result
+        (λ shown. IsTrue shown
+        → IsLogShown sites.now decided.now stuck.now.committed.items log.now) }
 {
     match first_left(log.entries.as_slice(), decided) {
         Some(tx) => is_shown(alloc, sites, stuck, decided, tx),
@@ -127,7 +130,8 @@ fn are_shown(
     stuck: &StuckSet,
     decided: &BTreeSet<Tx>,
 ) -> Result<bool, AllocError>
-    ensures { IfOk result (λ shown. IsTrue shown → AreShown sites.now decided.now stuck.now.committed.items) }
+    ensures { IfOk result
+        (λ shown. IsTrue shown → AreShown sites.now decided.now stuck.now.committed.items) }
 {
     for log in sites {
         let shown = is_log_shown(alloc, sites, stuck, decided, log)?;
@@ -140,8 +144,12 @@ fn are_shown(
 
 /// The transactions of the set.
 fn decided_of(alloc: Global, stuck: &StuckSet) -> Result<BTreeSet<Tx>, AllocError>
-    ensures has { IfOk result (λ set. (t : ℕ) → Contains (stuck.now.committed.items ++ stuck.now.others.items) t → HasTx set t) }
-    ensures only { IfOk result (λ set. (t : ℕ) → HasTx set t → Contains (stuck.now.committed.items ++ stuck.now.others.items) t) }
+    ensures has { IfOk result
+        (λ set. (t : ℕ) → Contains (stuck.now.committed.items ++ stuck.now.others.items) t
+        → HasTx set t) }
+    ensures only { IfOk result
+        (λ set. (t : ℕ) → HasTx set t
+        → Contains (stuck.now.committed.items ++ stuck.now.others.items) t) }
 {
     let mut all = Vec::from_slice(alloc, stuck.committed.as_slice())?;
     all.extend_from_slice(stuck.others.as_slice())?;
@@ -151,7 +159,9 @@ fn decided_of(alloc: Global, stuck: &StuckSet) -> Result<BTreeSet<Tx>, AllocErro
 /// Whether the set is stuck in these logs: some transaction is left, and each that can be decided next is refused and lies on no cycle
 /// of conflicts through committed ones of the set. The circles show it. Err: memory ran out.
 pub fn is_stuck(alloc: Global, sites: &[SiteLog], stuck: &StuckSet) -> Result<bool, AllocError>
-    ensures { IfOk result (λ is. IsTrue is → IsStuck sites.now (stuck.now.committed.items ++ stuck.now.others.items)) }
+    ensures { IfOk result
+        (λ is. IsTrue is
+        → IsStuck sites.now (stuck.now.committed.items ++ stuck.now.others.items)) }
 {
     let others = set_of(alloc, stuck.others.as_slice())?;
     if !are_uncommitted(sites, &others) {

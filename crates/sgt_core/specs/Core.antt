@@ -1,4 +1,5 @@
--- The state of the core: the logs of its sites, the certifier, what the active transactions mean to change, and the open step.
+-- The state of the core: the logs of its sites, the certifier, what the active transactions mean to
+-- change, and the open step.
 use Rattle.std.specs.Prelude.{◌≡◌, ◌⊎◌, ℕ, List, [], ◌∷◌, ◌++◌, length, map, Bool, true, false, ◌==◌, ◌||◌, Contains, Option, Some, None, if◌then◌else◌, unwrap_or, option_map, filter, find, slice_get}
 use Rattle.std.specs.List.{list_any, list_all, range_with_len, enumerate_from, filter_map}
 use Rattle.std.specs.Ordering.{nat_cmp, is_lt}
@@ -35,7 +36,15 @@ pub record CoreState : Type 0 where
 
 -- sites with these items, and nothing has happened yet
 abbrev pub fresh : List (List Holding) → CoreState
-fresh items = record { items = items; entries = λ s. []; certifier = opening; changes = λ tx s. []; step = None; due = λ s. [] }
+fresh items =
+    record {
+      items = items;
+      entries = λ s. [];
+      certifier = opening;
+      changes = λ tx s. [];
+      step = None;
+      due = λ s. [];
+    }
 
 -- the numbers of the sites
 abbrev pub sites_of : CoreState → List ℕ
@@ -57,11 +66,14 @@ comes_before x y = is_lt (slice_cmp nat_cmp x y)
 
 -- what is meant to be done to the item
 abbrev pub change_in : List (Name × Change) → Name → Option Change
-change_in cs x = option_map (λ (d : Name × Change). d.1) (find (λ (d : Name × Change). bytes_eq d.0 x) cs)
+change_in cs x =
+    option_map (λ (d : Name × Change). d.1) (find (λ (d : Name × Change). bytes_eq d.0 x) cs)
 
 -- the change at its place by name, in the stead of an earlier one of its item
 abbrev pub put_in : Name × Change → List (Name × Change) → List (Name × Change)
-put_in d cs = filter (λ (f : Name × Change). comes_before f.0 d.0) cs ++ d ∷ filter (λ (f : Name × Change). comes_before d.0 f.0) cs
+put_in d cs =
+    filter (λ (f : Name × Change). comes_before f.0 d.0) cs ++ d
+    ∷ filter (λ (f : Name × Change). comes_before d.0 f.0) cs
 
 -- ---- at one place
 
@@ -93,7 +105,8 @@ read_of tx x _ = None
 abbrev pub seen : CoreState → ℕ → ℕ → Name → Option ℕ
 seen c tx s x = slice_get (filter_map (read_of tx x) (c.entries s)) 0
 
--- what the transaction finds without the site: its private write, or else what it read with its private increment behind it
+-- what the transaction finds without the site: its private write, or else what it read with its
+-- private increment behind it
 abbrev pub look : CoreState → ℕ → ℕ → Name → Option ℕ
 look c tx s x = value_with_any (seen c tx s x) (change_in (c.changes tx s) x)
 
@@ -119,15 +132,20 @@ as_changes tx cs = map (λ (d : Name × Change). change_entry tx d.0 d.1) cs
 abbrev pub followed : CoreState → ℕ → ℕ → List Entry
 followed c i s = c.entries s ++ as_changes i (c.changes i s)
 
--- a labelled edge of i: a conflict of i with a committed transaction, in the log of the site followed by i's private changes.
--- (The committed ones are those of this window: an edge from an older one is left out, and none leads back to one.)
+-- a labelled edge of i: a conflict of i with a committed transaction, in the log of the site
+-- followed by i's private changes.
+-- (The committed ones are those of this window: an edge from an older one is left out, and none
+-- leads back to one.)
 pub record IsEdgeOf (c : CoreState) (i : ℕ) (arc : Arc) : Type 0 where
-  pub ends : ((arc.from ≡ i) × Contains c.certifier.order arc.to) ⊎ ((arc.to ≡ i) × Contains c.certifier.order arc.from)
-  pub conflict : Conflicts (followed c i arc.label.site) arc.label.kind arc.label.item arc.from arc.to
+  pub ends : ((arc.from ≡ i) × Contains c.certifier.order arc.to)
+      ⊎ ((arc.to ≡ i) × Contains c.certifier.order arc.from)
+  pub conflict : Conflicts
+      (followed c i arc.label.site) arc.label.kind arc.label.item arc.from arc.to
 
 -- the list has just the edges of i
 abbrev pub AreEdges : CoreState → ℕ → List Arc → Type 0
-AreEdges c i arcs = (arc : Arc) → (Contains arcs arc → IsEdgeOf c i arc) × (IsEdgeOf c i arc → Contains arcs arc)
+AreEdges c i arcs = (arc : Arc)
+    → (Contains arcs arc → IsEdgeOf c i arc) × (IsEdgeOf c i arc → Contains arcs arc)
 
 -- ---- blocks
 
@@ -168,16 +186,22 @@ noted c i s = if is_committed c i then with_install c.certifier i s (map (λ (d 
 -- the block due at the site is written
 abbrev pub installed : CoreState → ℕ → ℕ → CoreState
 installed c i s =
-    closed_if_written (record (with_entries c (only_at s (c.due s))) { certifier = noted c i s; due = changed_at s [] c.due }) i
+    closed_if_written
+    (record (with_entries c (only_at s (c.due s))) {
+      certifier = noted c i s;
+      due = changed_at s [] c.due;
+    }) i
 
 -- ---- the bundle
 
 -- the items with their values at the end of the log
 abbrev pub finals_of : List Holding → List Entry → List Holding
-finals_of items entries = map (λ h. record { item = h.item; value = unwrap_or (value_at items entries h.item) 0 }) items
+finals_of items entries =
+    map (λ h. record { item = h.item; value = unwrap_or (value_at items entries h.item) 0 }) items
 
 abbrev pub site_log : List Holding → List Entry → SiteLog
-site_log items entries = record { items = items; entries = entries; finals = finals_of items entries }
+site_log items entries =
+    record { items = items; entries = entries; finals = finals_of items entries }
 
 -- the logs with the certificate
 abbrev pub bundle_of : CoreState → Parts

@@ -14,7 +14,8 @@ use Rattle.sgt_core.specs.declared.machine.Open.{Open}
 use Rattle.sgt_core.specs.declared.machine.Phase.{Phase}
 use Rattle.sgt_core.specs.declared.machine.Phase.TheVariants.{Gathering}
 
--- the edges are given of the transaction at this place of the table, and stand for all of its edges at the site
+-- the edges are given of the transaction at this place of the table, and stand for all of its edges
+-- at the site
 pub record AreGiven (places : List Place) (table : List (Option Running)) (site slot : ℕ) (edges : List Edge) : Type 0 where
   pub place : Place
   pub running : Running
@@ -26,7 +27,8 @@ pub record AreGiven (places : List Place) (table : List (Option Running)) (site 
 
 -- the site refuses no pledge of the transaction at this place of the table
 abbrev pub MayPledgeAt : List Place → List (Option Running) → (site slot tx : ℕ) → Type 0
-MayPledgeAt places table site slot tx = (p : Place) (r : Running) → slice_get places site ≡ Some p → slice_get table slot ≡ Some (Some r)
+MayPledgeAt places table site slot tx = (p : Place) (r : Running) → slice_get places site ≡ Some p
+    → slice_get table slot ≡ Some (Some r)
     → MayPledge p.site tx r.draft.touched
 
 -- the transaction at this place of the table is pledged at the site, and nothing else changes
@@ -37,7 +39,10 @@ pub record PledgesAt (old new : List Place) (table : List (Option Running)) (sit
   pub runs : slice_get table slot ≡ Some (Some running)
   pub may : MayPledge place.site tx running.draft.touched
   pub is : new ≡ slice_set old site (record {
-    site = record place.site { pledge = Some (record { tx = tx; part = at_site place.site.number running.draft.touched }) };
+    site = record place.site {
+      pledge = Some
+          (record { tx = tx; part = at_site place.site.number running.draft.touched });
+    };
     part = Due;
   })
 
@@ -50,14 +55,17 @@ abbrev pub step_with : Option Open → ℕ → List Edge → Option Open
 step_with None tx more = Some (record { tx = tx; phase = Gathering more })
 step_with (Some o) tx more = Some (record { tx = o.tx; phase = phase_with o.phase more })
 
--- the site without the pledge of the transaction, and with no part of a step. A pledge of another stays
+-- the site without the pledge of the transaction, and with no part of a step. A pledge of another
+-- stays
 pub record IsReleased (tx : ℕ) (old new : Place) : Type 0 where
-  pub pledged : IsPledged old.site tx → new ≡ record { site = record old.site { pledge = None }; part = Idle }
+  pub pledged : IsPledged old.site tx
+      → new ≡ record { site = record old.site { pledge = None }; part = Idle }
   pub other : (IsPledged old.site tx → ⊥) → new ≡ record old { part = Idle }
 
 pub record AreReleased (tx : ℕ) (old new : List Place) : Type 0 where
   pub long : length new ≡ length old
-  pub each : (k : ℕ) (p q : Place) → slice_get old k ≡ Some p → slice_get new k ≡ Some q → IsReleased tx p q
+  pub each : (k : ℕ) (p q : Place) → slice_get old k ≡ Some p → slice_get new k ≡ Some q
+      → IsReleased tx p q
 
 -- the touched item is of a site to which the open step hasn't come
 abbrev pub IsMissedAt : List Place → Touch → Type 0

@@ -27,7 +27,8 @@ abbrev pub IsMemory : Reply → Type 0
 IsMemory (Fault fault.Memory) = Unit {0}
 IsMemory _ = ⊥
 
--- the items that the core may be made of: those of one site at least, and of at most so many, each with its items by rising name
+-- the items that the core may be made of: those of one site at least, and of at most so many, each
+-- with its items by rising name
 pub record AreSites (items : List (List Holding)) : Type 0 where
   pub some : 1 ≤ length items
   pub few : length items ≤ max_sites
@@ -39,9 +40,11 @@ without_walk (committed tx) = committed tx
 without_walk (refused tx walk) = refused tx []
 without_walk (withdrawn tx) = withdrawn tx
 
--- the two states have the same edges in some order, and the same decisions but for the walks of refusals; nothing else differs
+-- the two states have the same edges in some order, and the same decisions but for the walks of
+-- refusals; nothing else differs
 pub record AreAlike (c d : CoreState) : Type 0 where
   pub same : d ≡ record c { certifier = d.certifier }
-  pub certifier : d.certifier ≡ record c.certifier { arcs = d.certifier.arcs; rulings = d.certifier.rulings }
+  pub certifier : d.certifier
+      ≡ record c.certifier { arcs = d.certifier.arcs; rulings = d.certifier.rulings }
   pub edges : (arc : Arc) → Contains c.certifier.arcs arc ↔ Contains d.certifier.arcs arc
   pub rulings : map without_walk c.certifier.rulings ≡ map without_walk d.certifier.rulings

@@ -80,7 +80,8 @@ Fails c (Put tx s x v) fault.UnknownItem = IsOfSite c s x → ⊥
 Fails c (Add tx s x v) fault.UnknownItem = IsOfSite c s x → ⊥
 Fails c (Gather tx s) fault.UnknownItem = length c.items ≤ s
 Fails c (Install tx s) fault.UnknownItem = length c.items ≤ s
-Fails c (Decide tx) fault.NotGathered = (s : ℕ) × Contains (touched c tx) s × (IsGathered c tx s → ⊥)
+Fails c (Decide tx) fault.NotGathered = (s : ℕ) × Contains (touched c tx) s
+    × (IsGathered c tx s → ⊥)
 Fails c (Install tx s) fault.NotGathered = IsDecided c tx → ⊥
 Fails c (Gather tx s) fault.AlreadyDone = IsGathered c tx s
 Fails c (Decide tx) fault.AlreadyDone = IsDecided c tx
@@ -110,13 +111,15 @@ fault_place fault.Memory = 13
 
 -- the fault is there, and none that is told before it
 abbrev pub IsRefused : CoreState → Event → CoreFault → Type 0
-IsRefused c event f = Fails c event f × ((g : CoreFault) → fault_place g < fault_place f → Fails c event g → ⊥)
+IsRefused c event f = Fails c event f
+    × ((g : CoreFault) → fault_place g < fault_place f → Fails c event g → ⊥)
 
 -- no fault is there
 abbrev pub IsAllowed : CoreState → Event → Type 0
 IsAllowed c event = (f : CoreFault) → Fails c event f → ⊥
 
--- after want of memory the state is as it was, but the step of a Gather, Decide or Commit is as if it had never been opened.
+-- after want of memory the state is as it was, but the step of a Gather, Decide or Commit is as if
+-- it had never been opened.
 -- Install and a Read from the draft take no memory
 abbrev pub AfterMemory : CoreState → Event → CoreState → Type 0
 AfterMemory old (Gather tx s) new = new ≡ record old { step = None }
@@ -128,13 +131,15 @@ AfterMemory old event new = new ≡ old
 
 -- ---- answers
 
--- the item is read at the site: the value at the end of the log is logged, and the answer is what the transaction finds then
+-- the item is read at the site: the value at the end of the log is logged, and the answer is what
+-- the transaction finds then
 abbrev pub ReadsSite : CoreState → ℕ → ℕ → Name → ℕ → CoreState → Type 0
 ReadsSite old tx s x v new =
     (u : ℕ) × (value_at (items_at old s) (old.entries s) x ≡ Some u)
     × (new ≡ with_entries old (only_at s (entry.Read tx x u ∷ []))) × (look new tx s x ≡ Some v)
 
--- a read answers what the transaction finds without the site, and changes nothing; or else it reads the site
+-- a read answers what the transaction finds without the site, and changes nothing; or else it reads
+-- the site
 abbrev pub Reads : CoreState → ℕ → ℕ → Name → ℕ → Option ℕ → CoreState → Type 0
 Reads old tx s x v (Some found) new = (v ≡ found) × (new ≡ old)
 Reads old tx s x v None new = ReadsSite old tx s x v new
@@ -157,17 +162,22 @@ pub record RefusesAt (old : CoreState) (i : ℕ) (new : CoreState) : Type 0 wher
 
 -- each event with its answer, and the state that it leaves
 abbrev pub Does : CoreState → Event → Reply → CoreState → Type 0
-Does old Begin (Begun tx) new = (tx ≡ suc old.certifier.begun) × (new ≡ record old { certifier = with_begun old.certifier })
+Does old Begin (Begun tx) new = (tx ≡ suc old.certifier.begun)
+    × (new ≡ record old { certifier = with_begun old.certifier })
 Does old (Read tx s x) (Value v) new = Reads old tx s x v (look old tx s x) new
 Does old (Put tx s x v) Kept new = new ≡ with_change old tx s x (change.Put v)
-Does old (Add tx s x v) Kept new = new ≡ with_change old tx s x (added_to (change_in (old.changes tx s) x) v)
-Does old (Gather tx s) Gathered new = new ≡ record old { step = Some (record { tx = tx; gathered = s ∷ gathered_in old.step }) }
+Does old (Add tx s x v) Kept new =
+    new ≡ with_change old tx s x (added_to (change_in (old.changes tx s) x) v)
+Does old (Gather tx s) Gathered new =
+    new ≡ record old { step = Some (record { tx = tx; gathered = s ∷ gathered_in old.step }) }
 Does old (Decide tx) Yes new = CommitsAt old tx new
 Does old (Decide tx) No new = RefusesAt old tx new
 Does old (Install tx s) Installed new = new ≡ installed old tx s
 Does old (Withdraw tx) Withdrawn new =
-    new ≡ record (with_entries old (withdrawn_block old tx)) { certifier = with_withdrawn old.certifier tx }
-Does old Close (Closed ranks) new = (ranks ≡ length (serial old.certifier)) × (new ≡ record old { certifier = with_closed old.certifier })
+    new ≡ record (with_entries old
+    (withdrawn_block old tx)) { certifier = with_withdrawn old.certifier tx }
+Does old Close (Closed ranks) new = (ranks ≡ length (serial old.certifier))
+    × (new ≡ record old { certifier = with_closed old.certifier })
 Does _ _ _ _ = ⊥
 
 -- an event other than Commit, allowed and answered
@@ -177,7 +187,8 @@ Serves old event reply new = IsAllowed old event × Does old event reply new
 -- such events one after another
 abbrev pub ServesAll : CoreState → List Event → List Reply → CoreState → Type 0
 ServesAll old [] [] new = new ≡ old
-ServesAll old (event ∷ events) (reply ∷ replies) new = (mid : CoreState) × Serves old event reply mid × ServesAll mid events replies new
+ServesAll old (event ∷ events) (reply ∷ replies) new = (mid : CoreState)
+    × Serves old event reply mid × ServesAll mid events replies new
 ServesAll old _ _ new = ⊥
 
 -- a commit gathers at each touched site, decides, and installs at each touched site
@@ -188,7 +199,9 @@ abbrev pub replies_of_commit : List ℕ → Reply → List Reply
 replies_of_commit sites verdict = map (λ s. Gathered) sites ++ verdict ∷ map (λ s. Installed) sites
 
 abbrev pub CommitsWith : CoreState → ℕ → Reply → CoreState → Type 0
-CommitsWith old tx verdict new = ServesAll old (parts_of_commit (touched old tx) tx) (replies_of_commit (touched old tx) verdict) new
+CommitsWith old tx verdict new =
+    ServesAll old (parts_of_commit (touched old tx) tx)
+    (replies_of_commit (touched old tx) verdict) new
 
 -- a commit's gathers and its decision, without the installs
 abbrev pub parts_of_decision : List ℕ → ℕ → List Event
@@ -198,11 +211,14 @@ abbrev pub replies_of_decision : List ℕ → Reply → List Reply
 replies_of_decision sites verdict = map (λ s. Gathered) sites ++ verdict ∷ []
 
 abbrev pub DecidesWith : CoreState → ℕ → Reply → CoreState → Type 0
-DecidesWith old tx verdict new = ServesAll old (parts_of_decision (touched old tx) tx) (replies_of_decision (touched old tx) verdict) new
+DecidesWith old tx verdict new =
+    ServesAll old (parts_of_decision (touched old tx) tx)
+    (replies_of_decision (touched old tx) verdict) new
 
 -- tx is gathered wherever it touches and decided, refused where its commit is
 abbrev pub MayDecide : CoreState → ℕ → Reply → CoreState → Type 0
-MayDecide old tx (Fault fault.Memory) new = IsAllowed old (Commit tx) × AfterMemory old (Commit tx) new
+MayDecide old tx (Fault fault.Memory) new = IsAllowed old (Commit tx)
+    × AfterMemory old (Commit tx) new
 MayDecide old tx (Fault f) new = IsRefused old (Commit tx) f × (new ≡ old)
 MayDecide old tx verdict new = IsAllowed old (Commit tx) × DecidesWith old tx verdict new
 
@@ -216,5 +232,6 @@ MayStep old event reply new = Serves old event reply new
 -- the events may be given these replies, one step after another
 abbrev pub Run : CoreState → List Event → List Reply → CoreState → Type 0
 Run old [] [] new = new ≡ old
-Run old (event ∷ events) (reply ∷ replies) new = (mid : CoreState) × MayStep old event reply mid × Run mid events replies new
+Run old (event ∷ events) (reply ∷ replies) new = (mid : CoreState) × MayStep old event reply mid
+    × Run mid events replies new
 Run old _ _ new = ⊥

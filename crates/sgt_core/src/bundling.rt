@@ -16,7 +16,8 @@ impl Machine {
     /// The logs with the certificate. It errs where there is no memory.
     pub(crate) fn bundle(&self, alloc: Global) -> Result<Bundle, CoreFault>
         requires { Stands (parts_of self.now) }
-        ensures ok { IfOk result (λ b. (c : CoreState) → StandsFor (parts_of self.now) c → b ≡ bundle_of c) }
+        ensures ok { IfOk result
+            (λ b. (c : CoreState) → StandsFor (parts_of self.now) c → b ≡ bundle_of c) }
         ensures refused { IfErr result (λ f. f ≡ NoMemory) }
     {
         let count = self.places.len() as u8;
@@ -36,7 +37,8 @@ impl Machine {
     /// certificate.
     pub(crate) fn into_bundle(self, alloc: Global) -> Result<Bundle, CoreFault>
         requires { Stands (parts_of self) }
-        ensures ok { IfOk result (λ b. (c : CoreState) → StandsFor (parts_of self) c → b ≡ bundle_of c) }
+        ensures ok { IfOk result
+            (λ b. (c : CoreState) → StandsFor (parts_of self) c → b ≡ bundle_of c) }
         ensures refused { IfErr result (λ f. f ≡ NoMemory) }
     {
         let Machine {
@@ -81,7 +83,8 @@ fn log_of(alloc: Global, site: &Site) -> Result<SiteLog, SiteFault>
 
 // The logs of the sites, by number.
 fn logs_of(alloc: Global, places: &[Place]) -> Result<Vec<SiteLog>, SiteFault>
-    ensures { IfOk result (λ logs. logs.items ≡ map (λ p. site_log p.site.items p.site.entries) places.now) }
+    ensures { IfOk result
+        (λ logs. logs.items ≡ map (λ p. site_log p.site.items p.site.entries) places.now) }
 {
     let mut logs = Vec::new(alloc);
     if logs.reserve(places.len()).is_err() {
@@ -115,7 +118,8 @@ fn log_from(alloc: Global, site: Site) -> Result<SiteLog, SiteFault>
 
 // The logs of sites that are given up, by number. It errs where there is no memory.
 fn logs_from(alloc: Global, places: Vec<Place>) -> Result<Vec<SiteLog>, AllocError>
-    ensures { IfOk result (λ logs. logs.items ≡ map (λ p. site_log p.site.items p.site.entries) places.items) }
+    ensures { IfOk result
+        (λ logs. logs.items ≡ map (λ p. site_log p.site.items p.site.entries) places.items) }
 {
     let mut logs = Vec::new(alloc);
     for place in places {

@@ -21,7 +21,8 @@ impl Machine {
     /// The transaction is decided, where it is gathered wherever it touches. Where it touches nothing, its step ends at once.
     pub(crate) fn decide(&mut self, tx: Tx) -> Reply
         requires { Stands (parts_of self.old) }
-        ensures { GoesOn (λ c d. MayStep c (event.Decide tx) result d) (parts_of self.old) (parts_of self.new) }
+        ensures { GoesOn (λ c d. MayStep c (event.Decide tx) result d) (parts_of self.old)
+            (parts_of self.new) }
     {
         let slot = match self.slot_of(tx) {
             Ok(slot) => slot,
@@ -43,8 +44,10 @@ impl Machine {
     fn decide_gathered(&mut self, tx: Tx, slot: usize) -> Reply
         requires stands { Stands (parts_of self.old) }
         requires slot { IsSlotOf (parts_of self.old) tx slot }
-        requires allowed { (c : CoreState) → StandsFor (parts_of self.old) c → IsAllowed c (event.Decide tx) }
-        ensures { GoesOn (λ c d. MayStep c (event.Decide tx) result d) (parts_of self.old) (parts_of self.new) }
+        requires allowed { (c : CoreState) → StandsFor (parts_of self.old) c
+            → IsAllowed c (event.Decide tx) }
+        ensures { GoesOn (λ c d. MayStep c (event.Decide tx) result d) (parts_of self.old)
+            (parts_of self.new) }
     {
         let edges = edges_of(self.alloc, self.step.take());
         match rule(&mut self.certifier, self.running.as_slice(), slot, edges) {
@@ -116,7 +119,8 @@ fn rule(
 ) -> Result<Decided, CertifierFault>
     requires slot { (r : ARunning) × (slice_get table.now slot ≡ Some (Some r)) }
     requires may { MayRuleAt certifier.old.state table.now slot edges }
-    ensures ok { IfOk result (λ decided. RulesAt certifier.old certifier.new table.now slot edges decided) }
+    ensures ok { IfOk result
+        (λ decided. RulesAt certifier.old certifier.new table.now slot edges decided) }
     ensures err { OnErr result (certifier.new.state ≡ certifier.old.state) }
     ensures memory { IfErr result (λ f. f ≡ CertifierFault.Memory) }
 {

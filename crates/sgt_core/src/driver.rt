@@ -88,7 +88,8 @@ impl Core {
 
     /// Serves the events, one after another. It errs where there is no memory for the replies, and then nothing was served.
     pub fn run(&mut self, alloc: Global, events: &[Event]) -> Result<Vec<Reply>, AllocError>
-        ensures run { IfOk result (λ replies. GoesOn (λ c d. Run c events.now replies.items d) self.old self.new) }
+        ensures run { IfOk result
+            (λ replies. GoesOn (λ c d. Run c events.now replies.items d) self.old self.new) }
         ensures err { OnErr result (self.new ≡ self.old) }
     {
         let mut replies = Vec::new(alloc);
@@ -101,7 +102,8 @@ impl Core {
 
     /// How many transactions are active. Constant time.
     pub fn active(&self) -> u64
-        ensures active { (c : CoreState) → StandsFor self.now c → result ≡ length c.certifier.active }
+        ensures active { (c : CoreState) → StandsFor self.now c
+            → result ≡ length c.certifier.active }
         ensures stands { Stands self.now }
     {
         self.machine.certifier.active()
@@ -112,8 +114,10 @@ impl Core {
     pub fn bundle(&self, alloc: Global) -> Result<Bundle, CoreFault>
         ensures ok { IfOk result (λ b. (c : CoreState) → StandsFor self.now c → b ≡ bundle_of c) }
         ensures valid { IfOk result IsValid }
-        ensures idle { OnOk result ((c : CoreState) → StandsFor self.now c → c.certifier.active ≡ []) }
-        ensures refused { IfErr result (λ f. (c : CoreState) → StandsFor self.now c → RefusesBundle c f) }
+        ensures idle { OnOk result
+            ((c : CoreState) → StandsFor self.now c → c.certifier.active ≡ []) }
+        ensures refused { IfErr result
+            (λ f. (c : CoreState) → StandsFor self.now c → RefusesBundle c f) }
     {
         let certifier = &self.machine.certifier;
         if certifier.active() > 0 {
@@ -128,7 +132,8 @@ impl Core {
         ensures ok { IfOk result (λ b. (c : CoreState) → StandsFor self c → b ≡ bundle_of c) }
         ensures valid { IfOk result IsValid }
         ensures idle { OnOk result ((c : CoreState) → StandsFor self c → c.certifier.active ≡ []) }
-        ensures refused { IfErr result (λ f. (c : CoreState) → StandsFor self c → RefusesBundle c f) }
+        ensures refused { IfErr result
+            (λ f. (c : CoreState) → StandsFor self c → RefusesBundle c f) }
     {
         let Core { machine } = self;
         if machine.certifier.active() > 0 {

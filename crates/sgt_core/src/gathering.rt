@@ -23,7 +23,8 @@ pub(crate) fn edges_at(
 ) -> Result<EdgeList, EdgeFault>
     requires site { at < length places.now }
     requires slot { (r : ARunning) × (slice_get table.now slot ≡ Some (Some r)) }
-    requires seen { (p : APlace) (r : ARunning) → slice_get places.now at ≡ Some p → slice_get table.now slot ≡ Some (Some r)
+    requires seen { (p : APlace) (r : ARunning) → slice_get places.now at ≡ Some p
+        → slice_get table.now slot ≡ Some (Some r)
         → SeesTooNew p.site r.draft.touched → ⊥ }
     ensures ok { IfOk result (λ edges. AreGiven places.now table.now at slot edges) }
     ensures memory { IfErr result (λ f. f ≡ EdgeFault.Memory) }
@@ -125,7 +126,8 @@ pub(crate) fn is_gathered(places: &[Place], at: usize) -> bool
 // Whether the transaction at a place of the table touches a site to which the open step hasn't come.
 pub(crate) fn misses(places: &[Place], table: &[Option<Running>], slot: usize) -> bool
     requires { slot < length table.now }
-    ensures { (r : ARunning) → slice_get table.now slot ≡ Some (Some r) → IsTrue result ↔ Any (IsMissedAt places.now) r.draft.touched }
+    ensures { (r : ARunning) → slice_get table.now slot ≡ Some (Some r)
+        → IsTrue result ↔ Any (IsMissedAt places.now) r.draft.touched }
 {
     match &table[slot] {
         Some(running) => misses_any(places, &running.draft),

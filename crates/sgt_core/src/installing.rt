@@ -28,7 +28,8 @@ impl Machine {
     /// The transaction's block is written at the site, and the transaction ends behind the last block of its step.
     pub(crate) fn install(&mut self, tx: Tx, site: SiteNo) -> Reply
         requires { Stands (parts_of self.old) }
-        ensures { GoesOn (λ c d. MayStep c (event.Install tx site) result d) (parts_of self.old) (parts_of self.new) }
+        ensures { GoesOn (λ c d. MayStep c (event.Install tx site) result d) (parts_of self.old)
+            (parts_of self.new) }
     {
         let slot = match self.slot_of(tx) {
             Ok(slot) => slot,
@@ -76,7 +77,8 @@ impl Machine {
     // Writes the block of the transaction that was decided so at the site, and notes its install.
     fn write(&mut self, tx: Tx, site: SiteNo, slot: usize, verdict: Verdict)
         requires pledge { IsPledgedAt self.old.places.items self.old.running.items site slot tx }
-        requires awaits { verdict ≡ Verdict.Committed → AwaitsAt self.old.certifier self.old.running.items site slot tx }
+        requires awaits { verdict ≡ Verdict.Committed
+            → AwaitsAt self.old.certifier self.old.running.items site slot tx }
         ensures { Writes verdict (parts_of self.old) (parts_of self.new) site slot tx }
     {
         let table = self.running.as_slice();

@@ -129,7 +129,8 @@ impl Machine {
 
     // Whether the open step is that of the transaction.
     fn owns_step(&self, tx: Tx) -> bool
-        ensures { (c : CoreState) → StandsFor (parts_of self.now) c → IsTrue result ↔ IsOwnOpen c tx }
+        ensures { (c : CoreState) → StandsFor (parts_of self.now) c
+            → IsTrue result ↔ IsOwnOpen c tx }
     {
         match &self.step {
             Some(open) => open.tx == tx,
@@ -139,7 +140,8 @@ impl Machine {
 
     // Whether the open step is that of another transaction.
     pub(crate) fn other_step(&self, tx: Tx) -> bool
-        ensures { (c : CoreState) → StandsFor (parts_of self.now) c → IsTrue result ↔ IsOtherOpen c tx }
+        ensures { (c : CoreState) → StandsFor (parts_of self.now) c
+            → IsTrue result ↔ IsOtherOpen c tx }
     {
         match &self.step {
             Some(open) => open.tx != tx,
@@ -149,7 +151,8 @@ impl Machine {
 
     // Whether the item is at the site.
     fn has_item(&self, site: SiteNo, item: Item) -> bool
-        ensures { (c : CoreState) → StandsFor (parts_of self.now) c → IsTrue result ↔ IsOfSite c site item }
+        ensures { (c : CoreState) → StandsFor (parts_of self.now) c
+            → IsTrue result ↔ IsOfSite c site item }
     {
         let at = site.number() as usize;
         if at >= self.places.len() {
@@ -163,9 +166,13 @@ impl Machine {
     fn free_slot(&self, tx: Tx, site: SiteNo, item: Item) -> Result<usize, CoreFault>
         requires { Stands (parts_of self.now) }
         ensures ok { IfOk result (λ slot. IsSlotOf (parts_of self.now) tx slot) }
-        ensures closed { OnOk result ((c : CoreState) → StandsFor (parts_of self.now) c → IsOwnOpen c tx → ⊥) }
-        ensures known { OnOk result ((c : CoreState) → StandsFor (parts_of self.now) c → IsOfSite c site item) }
-        ensures err { IfErr result (λ f. (c : CoreState) → StandsFor (parts_of self.now) c → RefusesItem c tx site item f) }
+        ensures closed { OnOk result
+            ((c : CoreState) → StandsFor (parts_of self.now) c → IsOwnOpen c tx → ⊥) }
+        ensures known { OnOk result
+            ((c : CoreState) → StandsFor (parts_of self.now) c → IsOfSite c site item) }
+        ensures err { IfErr result
+            (λ f. (c : CoreState) → StandsFor (parts_of self.now) c
+            → RefusesItem c tx site item f) }
     {
         let slot = match self.slot_of(tx) {
             Ok(slot) => slot,
@@ -183,7 +190,8 @@ impl Machine {
     /// The transaction is to write the value.
     pub(crate) fn put(&mut self, tx: Tx, site: SiteNo, item: Item, value: Value) -> Reply
         requires { Stands (parts_of self.old) }
-        ensures { GoesOn (λ c d. MayStep c (event.Put tx site item value) result d) (parts_of self.old) (parts_of self.new) }
+        ensures { GoesOn (λ c d. MayStep c (event.Put tx site item value) result d)
+            (parts_of self.old) (parts_of self.new) }
     {
         let slot = match self.free_slot(tx, site, item) {
             Ok(slot) => slot,
@@ -198,7 +206,8 @@ impl Machine {
     /// The transaction is to add the value.
     pub(crate) fn add(&mut self, tx: Tx, site: SiteNo, item: Item, value: Value) -> Reply
         requires { Stands (parts_of self.old) }
-        ensures { GoesOn (λ c d. MayStep c (event.Add tx site item value) result d) (parts_of self.old) (parts_of self.new) }
+        ensures { GoesOn (λ c d. MayStep c (event.Add tx site item value) result d)
+            (parts_of self.old) (parts_of self.new) }
     {
         let slot = match self.free_slot(tx, site, item) {
             Ok(slot) => slot,
@@ -213,7 +222,8 @@ impl Machine {
     /// The next transaction begins.
     pub(crate) fn begin(&mut self) -> Reply
         requires { Stands (parts_of self.old) }
-        ensures { GoesOn (λ c d. MayStep c event.Begin result d) (parts_of self.old) (parts_of self.new) }
+        ensures { GoesOn (λ c d. MayStep c event.Begin result d) (parts_of self.old)
+            (parts_of self.new) }
     {
         if self.step.is_some() {
             return refused(CoreFault::StepOpen);
@@ -244,7 +254,8 @@ impl Machine {
     /// The transaction is gathered at the site: its pledge there, and its edges.
     pub(crate) fn gather(&mut self, tx: Tx, site: SiteNo) -> Reply
         requires { Stands (parts_of self.old) }
-        ensures { GoesOn (λ c d. MayStep c (event.Gather tx site) result d) (parts_of self.old) (parts_of self.new) }
+        ensures { GoesOn (λ c d. MayStep c (event.Gather tx site) result d) (parts_of self.old)
+            (parts_of self.new) }
     {
         let slot = match self.slot_of(tx) {
             Ok(slot) => slot,
@@ -277,10 +288,12 @@ impl Machine {
         requires site { at < length self.old.places.items }
         requires slot { (r : ARunning) × (slice_get self.old.running.items slot ≡ Some (Some r)) }
         requires seen { (p : APlace) (r : ARunning) → slice_get self.old.places.items at ≡ Some p
-            → slice_get self.old.running.items slot ≡ Some (Some r) → SeesTooNew p.site r.draft.touched → ⊥ }
+            → slice_get self.old.running.items slot ≡ Some (Some r)
+            → SeesTooNew p.site r.draft.touched → ⊥ }
         requires may { MayPledgeAt self.old.places.items self.old.running.items at slot tx }
         ensures ok { OnOk result (GathersAt (parts_of self.old) (parts_of self.new) tx slot at) }
-        ensures err { OnErr result (parts_of self.new ≡ record (parts_of self.old) { step = self.new.step }) }
+        ensures err { OnErr result
+            (parts_of self.new ≡ record (parts_of self.old) { step = self.new.step }) }
     {
         let table = self.running.as_slice();
         let more = match edges_at(self.alloc, self.places.as_slice(), table, at, slot) {
@@ -299,7 +312,8 @@ impl Machine {
     // Closes the transaction's step as if it had never been opened.
     pub(crate) fn give_up(&mut self, tx: Tx)
         ensures places { AreReleased tx self.old.places.items self.new.places.items }
-        ensures rest { parts_of self.new ≡ record (parts_of self.old) { places = self.new.places.items; step = None } }
+        ensures rest { parts_of self.new
+            ≡ record (parts_of self.old) { places = self.new.places.items; step = None } }
     {
         release_all(&mut self.places, tx);
         self.step = None;
@@ -308,7 +322,8 @@ impl Machine {
     /// The transaction reads the item.
     pub(crate) fn read(&mut self, tx: Tx, site: SiteNo, item: Item) -> Reply
         requires { Stands (parts_of self.old) }
-        ensures { GoesOn (λ c d. MayStep c (event.Read tx site item) result d) (parts_of self.old) (parts_of self.new) }
+        ensures { GoesOn (λ c d. MayStep c (event.Read tx site item) result d) (parts_of self.old)
+            (parts_of self.new) }
     {
         let slot = match self.free_slot(tx, site, item) {
             Ok(slot) => slot,
@@ -335,7 +350,8 @@ impl Machine {
     /// The window is closed.
     pub(crate) fn close(&mut self) -> Reply
         requires { Stands (parts_of self.old) }
-        ensures { GoesOn (λ c d. MayStep c event.Close result d) (parts_of self.old) (parts_of self.new) }
+        ensures { GoesOn (λ c d. MayStep c event.Close result d) (parts_of self.old)
+            (parts_of self.new) }
     {
         if self.step.is_some() {
             return refused(CoreFault::StepOpen);
@@ -379,7 +395,9 @@ fn put_at(
     value: Value,
 ) -> Result<(), AllocError>
     requires { (r : ARunning) × (slice_get table.old.items slot ≡ Some (Some r)) }
-    ensures ok { OnOk result (Redrafts table.old.items table.new.items slot (ChangesTo site item (λ c. change.Put value))) }
+    ensures ok { OnOk result
+        (Redrafts table.old.items table.new.items slot
+        (ChangesTo site item (λ c. change.Put value))) }
     ensures err { OnErr result (table.new.items ≡ table.old.items) }
 {
     match &mut table[slot] {
@@ -401,7 +419,9 @@ fn add_at(
     value: Value,
 ) -> Result<(), AllocError>
     requires { (r : ARunning) × (slice_get table.old.items slot ≡ Some (Some r)) }
-    ensures ok { OnOk result (Redrafts table.old.items table.new.items slot (ChangesTo site item (λ c. added_to c value))) }
+    ensures ok { OnOk result
+        (Redrafts table.old.items table.new.items slot
+        (ChangesTo site item (λ c. added_to c value))) }
     ensures err { OnErr result (table.new.items ≡ table.old.items) }
 {
     match &mut table[slot] {
@@ -441,7 +461,8 @@ fn room_at(table: &mut Vec<Option<Running>>, slot: usize) -> Result<(), AllocErr
 // Reads an item at its site. It errs for want of memory alone.
 fn read_at(places: &mut Vec<Place>, tx: Tx, site: SiteNo, item: Item) -> Result<Seen, SiteFault>
     requires site { site < length places.old.items }
-    requires may { (p : APlace) → slice_get places.old.items site ≡ Some p → MayRead p.site tx item }
+    requires may { (p : APlace) → slice_get places.old.items site ≡ Some p
+        → MayRead p.site tx item }
     ensures ok { IfOk result (λ seen. ReadsAt places.old.items places.new.items tx site item seen) }
     ensures err { OnErr result (places.new.items ≡ places.old.items) }
     ensures memory { IfErr result (λ f. f ≡ SiteFault.Memory) }
@@ -452,7 +473,8 @@ fn read_at(places: &mut Vec<Place>, tx: Tx, site: SiteNo, item: Item) -> Result<
 
 // Keeps a read in a draft of the table that has room for it.
 fn keep_at(table: &mut Vec<Option<Running>>, slot: usize, site: SiteNo, item: Item, seen: Seen)
-    requires { (r : ARunning) × (slice_get table.old.items slot ≡ Some (Some r)) × (r.draft.has_room ≡ true)
+    requires { (r : ARunning) × (slice_get table.old.items slot ≡ Some (Some r))
+        × (r.draft.has_room ≡ true)
         × (seen_at r.draft.touched (site, item) ≡ None) }
     ensures { Redrafts table.old.items table.new.items slot (ReadsTo site item seen) }
 {
@@ -472,7 +494,8 @@ fn keep_at(table: &mut Vec<Option<Running>>, slot: usize, site: SiteNo, item: It
 // Whether the transaction at a place of the table touches the site.
 pub(crate) fn touches(table: &[Option<Running>], slot: usize, site: SiteNo) -> bool
     requires { slot < length table.now }
-    ensures { (r : ARunning) → slice_get table.now slot ≡ Some (Some r) → IsTrue result ↔ Touches r.draft.touched site }
+    ensures { (r : ARunning) → slice_get table.now slot ≡ Some (Some r)
+        → IsTrue result ↔ Touches r.draft.touched site }
 {
     match &table[slot] {
         Some(running) => running.draft.touches(site),
@@ -483,7 +506,9 @@ pub(crate) fn touches(table: &[Option<Running>], slot: usize, site: SiteNo) -> b
 // A site with these items, to which nothing has happened. None where there was no memory.
 fn opened_place(alloc: Global, number: usize, items: &[Holding]) -> Result<Option<Place>, SiteFault>
     requires { number < max_sites }
-    ensures ok { IfOk result (λ o. (p : APlace) → o ≡ Some p → p ≡ record { site = opened number items.now; part = Idle }) }
+    ensures ok { IfOk result
+        (λ o. (p : APlace) → o ≡ Some p
+        → p ≡ record { site = opened number items.now; part = Idle }) }
     ensures allowed { OnOk result (AreItems items.now) }
     ensures refused { IfErr result (λ f. (f ≡ BadItems) × (AreItems items.now → ⊥)) }
 {
@@ -502,7 +527,8 @@ fn opened_place(alloc: Global, number: usize, items: &[Holding]) -> Result<Optio
 
 // Adds a site, and says whether it is there and there was memory.
 fn add_place(places: &mut Vec<Place>, place: Option<Place>) -> bool
-    ensures { IsTrue result → (p : APlace) × (place ≡ Some p) × (places.new.items ≡ places.old.items ++ p ∷ []) }
+    ensures { IsTrue result
+        → (p : APlace) × (place ≡ Some p) × (places.new.items ≡ places.old.items ++ p ∷ []) }
 {
     match place {
         Some(place) => places.push(place).is_ok(),

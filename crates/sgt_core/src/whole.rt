@@ -18,7 +18,8 @@ impl Machine {
     /// The transaction is committed or refused, as a whole.
     pub(crate) fn commit(&mut self, tx: Tx) -> Reply
         requires { Stands (parts_of self.old) }
-        ensures { GoesOn (λ c d. MayStep c (event.Commit tx) result d) (parts_of self.old) (parts_of self.new) }
+        ensures { GoesOn (λ c d. MayStep c (event.Commit tx) result d) (parts_of self.old)
+            (parts_of self.new) }
     {
         let sites = match self.whole_sites(tx) {
             Ok(sites) => sites,
@@ -47,8 +48,11 @@ impl Machine {
     // The sites that a transaction touches that may be committed.
     fn whole_sites(&self, tx: Tx) -> Result<Vec<SiteNo>, CoreFault>
         requires { Stands (parts_of self.now) }
-        ensures ok { IfOk result (λ sites. (c : CoreState) → StandsFor (parts_of self.now) c → IsWhole c tx sites.items) }
-        ensures err { IfErr result (λ f. (c : CoreState) → StandsFor (parts_of self.now) c → RefusesWhole c tx f) }
+        ensures ok { IfOk result
+            (λ sites. (c : CoreState) → StandsFor (parts_of self.now) c
+            → IsWhole c tx sites.items) }
+        ensures err { IfErr result
+            (λ f. (c : CoreState) → StandsFor (parts_of self.now) c → RefusesWhole c tx f) }
     {
         let slot = match self.slot_of(tx) {
             Ok(slot) => slot,
@@ -66,8 +70,10 @@ impl Machine {
     // Gathers the transaction at each of its sites, and decides it.
     fn decide_whole(&mut self, tx: Tx, sites: &[SiteNo]) -> Reply
         requires stands { Stands (parts_of self.old) }
-        requires whole { (c : CoreState) → StandsFor (parts_of self.old) c → IsWhole c tx sites.now }
-        ensures { GoesOn (λ c d. DecidesWhole c tx sites.now result d) (parts_of self.old) (parts_of self.new) }
+        requires whole { (c : CoreState) → StandsFor (parts_of self.old) c
+            → IsWhole c tx sites.now }
+        ensures { GoesOn (λ c d. DecidesWhole c tx sites.now result d) (parts_of self.old)
+            (parts_of self.new) }
     {
         match self.gather_all(tx, sites) {
             Ok(()) => self.decide(tx),
@@ -78,9 +84,12 @@ impl Machine {
     // Gathers the transaction at each of its sites. It errs for want of memory alone, and the step is closed then.
     fn gather_all(&mut self, tx: Tx, sites: &[SiteNo]) -> Result<(), AllocError>
         requires stands { Stands (parts_of self.old) }
-        requires whole { (c : CoreState) → StandsFor (parts_of self.old) c → IsWhole c tx sites.now }
-        ensures ok { OnOk result (GoesOn (λ c d. GathersAll c tx sites.now d) (parts_of self.old) (parts_of self.new)) }
-        ensures err { OnErr result (GoesOn (λ c d. d ≡ record c { step = None }) (parts_of self.old) (parts_of self.new)) }
+        requires whole { (c : CoreState) → StandsFor (parts_of self.old) c
+            → IsWhole c tx sites.now }
+        ensures ok { OnOk result
+            (GoesOn (λ c d. GathersAll c tx sites.now d) (parts_of self.old) (parts_of self.new)) }
+        ensures err { OnErr result
+            (GoesOn (λ c d. d ≡ record c { step = None }) (parts_of self.old) (parts_of self.new)) }
     {
         for site in sites {
             match self.gather(tx, *site) {

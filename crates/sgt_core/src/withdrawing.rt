@@ -23,7 +23,8 @@ impl Machine {
     /// The transaction is withdrawn.
     pub(crate) fn withdraw(&mut self, tx: Tx) -> Reply
         requires { Stands (parts_of self.old) }
-        ensures { GoesOn (λ c d. MayStep c (event.Withdraw tx) result d) (parts_of self.old) (parts_of self.new) }
+        ensures { GoesOn (λ c d. MayStep c (event.Withdraw tx) result d) (parts_of self.old)
+            (parts_of self.new) }
     {
         let slot = match self.slot_of(tx) {
             Ok(slot) => slot,
@@ -45,11 +46,13 @@ impl Machine {
     // nothing else has changed.
     fn withdraw_at(&mut self, tx: Tx, slot: usize) -> Result<(), AllocError>
         requires slot { (r : ARunning) × (slice_get self.old.running.items slot ≡ Some (Some r)) }
-        requires may { (t : ℕ) → MayPledgeAt self.old.places.items self.old.running.items t slot tx }
+        requires may { (t : ℕ)
+            → MayPledgeAt self.old.places.items self.old.running.items t slot tx }
         requires allowed { MayWithdrawAt self.old.certifier.state self.old.running.items slot }
         ensures ok { OnOk result (WithdrawsAt (parts_of self.old) (parts_of self.new) tx slot) }
         ensures offered { OnErr result (AreOffered tx self.old.places.items self.new.places.items) }
-        ensures rest { OnErr result (parts_of self.new ≡ record (parts_of self.old) { places = self.new.places.items }) }
+        ensures rest { OnErr result
+            (parts_of self.new ≡ record (parts_of self.old) { places = self.new.places.items }) }
     {
         let table = self.running.as_slice();
         let handle = match offer_at(&mut self.places, table, slot, tx) {
@@ -86,7 +89,8 @@ fn offer(place: &mut Place, tx: Tx, draft: &Draft) -> Result<(), SiteFault>
 
 // Makes room for the block of a transaction at each site that its draft touches. It errs for want of memory alone.
 fn offer_all(places: &mut Vec<Place>, tx: Tx, draft: &Draft) -> Result<(), SiteFault>
-    requires { (t : ℕ) (p : APlace) → slice_get places.old.items t ≡ Some p → MayPledge p.site tx draft.now.touched }
+    requires { (t : ℕ) (p : APlace) → slice_get places.old.items t ≡ Some p
+        → MayPledge p.site tx draft.now.touched }
     ensures memory { IfErr result (λ f. f ≡ SiteFault.Memory) }
     ensures offered { AreOffered tx places.old.items places.new.items }
     ensures ok { OnOk result (ArePledgedBy tx draft.now.touched places.old.items places.new.items) }
@@ -112,7 +116,8 @@ fn offer_at(
     requires may { (t : ℕ) → MayPledgeAt places.old.items table.now t slot tx }
     ensures memory { IfErr result (λ f. f ≡ SiteFault.Memory) }
     ensures offered { AreOffered tx places.old.items places.new.items }
-    ensures ok { IfOk result (λ handle. OffersAt places.old.items places.new.items table.now slot tx handle) }
+    ensures ok { IfOk result
+        (λ handle. OffersAt places.old.items places.new.items table.now slot tx handle) }
 {
     match &table[slot] {
         Some(running) => match offer_all(places, tx, &running.draft) {

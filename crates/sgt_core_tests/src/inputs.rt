@@ -82,16 +82,17 @@ fn repeated(alloc: Global, line: &[u8], count: usize, end: &[u8]) -> Result<Vec<
 }
 
 // Lines about the greatest length, and many events.
+const LONG: [(&[u8], usize, &[u8], &str); 5] = [
+    (b"b", 1_048_576, b"\nq\n", "L1 line 2"),
+    (b"b", 1_048_577, b"\nq\n", "L2 line 2"),
+    (b"b", 1_048_577, b"", "L2 line 2"),
+    (b"b", 1_048_576, b"", "L1 line 2"),
+    (b"c4294967295\n", 200_000, b"", "1 sites 200000 events"),
+];
+
 #[test]
 fn long_inputs(rt: HostRuntime) -> Result<(), Fail> {
-    let cases: [(&[u8], usize, &[u8], &str); 5] = [
-        (b"b", 1_048_576, b"\nq\n", "L1 line 2"),
-        (b"b", 1_048_577, b"\nq\n", "L2 line 2"),
-        (b"b", 1_048_577, b"", "L2 line 2"),
-        (b"b", 1_048_576, b"", "L1 line 2"),
-        (b"c4294967295\n", 200_000, b"", "1 sites 200000 events"),
-    ];
-    for (line, count, end, said) in cases {
+    for (line, count, end, said) in LONG {
         let text = repeated(rt.alloc(), line, count, end)?;
         let as_said = reads_as(rt.alloc(), text.as_slice(), 65_536, said)?;
         assert!(rt; as_said, "{count} times");

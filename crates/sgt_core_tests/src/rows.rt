@@ -5,7 +5,7 @@ ghost use Rattle.sgt_names.specs.Limits.{max_sites};
 
 use sgt_core::Core;
 use sgt_names::{Holding, Listed, MemSource};
-use sgt_notation::{EventLine, SiteLine};
+use sgt_notation::SiteLine;
 use sgt_replay::{Reading, read_input};
 use std::alloc::{AllocError, Global};
 
@@ -180,14 +180,14 @@ end
     },
 ];
 
-/// A core over the sites of an input, and the events that it is asked. None: the input can't be read, or memory ran out.
-pub fn opened(alloc: Global, input: &str) -> Option<(Core, Listed<EventLine>)> {
+/// A core over the sites of an input. None: the input can't be read, or memory ran out.
+pub fn opened(alloc: Global, input: &str) -> Option<Core> {
     let mut source = MemSource::new(input.as_bytes(), 65_536, None);
     match read_input(alloc, &mut source) {
-        Ok(Reading::Readable(input)) => {
-            let items = items_of(alloc, input.sites).ok()?;
-            Some((core_of(alloc, items.as_slice())?, input.events))
-        }
+        Ok(Reading::Readable(input)) => match items_of(alloc, input.sites) {
+            Ok(items) => core_of(alloc, items.as_slice()),
+            Err(_) => None,
+        },
         _ => None,
     }
 }

@@ -12,18 +12,21 @@ use Rattle.sgt_audit.specs.Verdict.{text_of}
 use Rattle.sgt_audit.specs.declared.faults.Fault.{Fault}
 use Rattle.sgt_audit.specs.declared.verdict.Verdict.TheVariants as verdict
 
--- the text that an input is answered by: with a yes, which is for a valid bundle alone, a picture, and with a no the line of its first fault
+-- the text that an input is answered by: with a yes, which is for a valid bundle alone, a picture,
+-- and with a no the line of its first fault
 abbrev pub IsDrawn : Option (List ℕ) → Outcome → List ℕ → Type 0
 IsDrawn told Yes text = (b : Parts) × IsValid b × IfSome told (λ bytes. Spells bytes b)
 IsDrawn told No text =
-    (line : ℕ) × (fault : Fault) × IfSome told (λ bytes. FirstFault bytes line fault) × (text ≡ text_of (verdict.No line fault))
+    (line : ℕ) × (fault : Fault) × IfSome told (λ bytes. FirstFault bytes line fault)
+    × (text ≡ text_of (verdict.No line fault))
 IsDrawn told Unreadable text = ⊥
 
 -- that text was written
 abbrev pub WroteDrawn : (told : Option (List ℕ)) → Outcome → (old new : Option (List ℕ)) → Type 0
 WroteDrawn told outcome old new = (text : List ℕ) × IsDrawn told outcome text × Appends old new text
 
--- nothing was written, or a front of the text that the input is answered by, and less than the whole text
+-- nothing was written, or a front of the text that the input is answered by, and less than the
+-- whole text
 abbrev pub WroteDrawnFront : (told old new : Option (List ℕ)) → Type 0
 WroteDrawnFront told old new = AppendsOrForgets old new []
     ⊎ ((outcome : Outcome) × (text : List ℕ) × IsDrawn told outcome text × WritesFront old new text)

@@ -11,7 +11,8 @@ IsEntity text = (text ≡ codes "&lt;") ⊎ (text ≡ codes "&gt;") ⊎ (text �
 
 -- none of the five bytes of markup stands in the text but in an entity
 abbrev pub IsClean : List ℕ → Type 0
-IsClean text = (pieces : List (List ℕ)) × All (λ piece. IsEntity piece ⊎ All IsPlain piece) pieces × (text ≡ flat_map (λ (piece : List ℕ). piece) pieces)
+IsClean text = (pieces : List (List ℕ)) × All (λ piece. IsEntity piece ⊎ All IsPlain piece) pieces
+    × (text ≡ flat_map (λ (piece : List ℕ). piece) pieces)
 
 -- a byte as it is written: by its entity, where it has one
 abbrev pub written_byte : ℕ → List ℕ

@@ -72,7 +72,8 @@ struct Answer {
 /// The answer to what was audited.
 fn answer_to(alloc: Global, wanted: Wanted, audited: Audited) -> Result<Answer, AllocError>
     requires { HandsOutValid audited }
-    ensures { IfOk result (λ answer. (told : Option (List ℕ)) → IfSome told (λ bytes. IsAudited bytes audited)
+    ensures { IfOk result
+        (λ answer. (told : Option (List ℕ)) → IfSome told (λ bytes. IsAudited bytes audited)
         → IsDrawn told answer.outcome answer.text.items) }
 {
     match audited {
@@ -103,19 +104,25 @@ pub fn draw<R: Source, W: Sink>(
     reader: &mut R,
     writer: &mut W,
 ) -> Result<Outcome, EngineFail>
-    ensures answer { IfOk result (λ outcome. WroteDrawn (R.tells reader.old) outcome (W.holds writer.old) (W.holds writer.new)) }
+    ensures answer { IfOk result
+        (λ outcome. WroteDrawn (R.tells reader.old) outcome (W.holds writer.old)
+        (W.holds writer.new)) }
     ensures no_further { IfOk result (λ outcome. IfSome (R.tells reader.old) (λ bytes.
         ReadsNoFurther bytes (R.asked reader.new - R.asked reader.old))) }
-    ensures front { OnErr result (WroteDrawnFront (R.tells reader.old) (W.holds writer.old) (W.holds writer.new)) }
+    ensures front { OnErr result
+        (WroteDrawnFront (R.tells reader.old) (W.holds writer.old) (W.holds writer.new)) }
     ensures unwritten { IsErrOf result EngineFail.ReadFault → writer.new ≡ writer.old }
     ensures untouched { IsErrOf result EngineFail.Memory → writer.new ≡ writer.old }
 
     // A fault tells of its device, and no fault of a device is passed over.
     ensures read_fault { IsErrOf result EngineFail.ReadFault → ReadFaultIsDue (R.tells reader.old)
         (R.failures reader.old) (R.failures reader.new) (R.asked reader.old) (R.asked reader.new) }
-    ensures write_fault { IsErrOf result EngineFail.WriteFault → W.failures writer.old < W.failures writer.new }
-    ensures quiet_reader { result ≢ Err EngineFail.ReadFault → R.failures reader.new ≡ R.failures reader.old }
-    ensures quiet_writer { result ≢ Err EngineFail.WriteFault → W.failures writer.new ≡ W.failures writer.old }
+    ensures write_fault { IsErrOf result EngineFail.WriteFault
+        → W.failures writer.old < W.failures writer.new }
+    ensures quiet_reader { result ≢ Err EngineFail.ReadFault
+        → R.failures reader.new ≡ R.failures reader.old }
+    ensures quiet_writer { result ≢ Err EngineFail.WriteFault
+        → W.failures writer.new ≡ W.failures writer.old }
 {
     let audited = audit_bundle(alloc, reader)?;
     let answer = answer_to(alloc, wanted, audited)?;

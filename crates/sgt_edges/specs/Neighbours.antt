@@ -20,7 +20,8 @@ AddsOnly s x n m = (j : ℕ) (w : Writer) → n ≤ j → j < m → IsWriter s x
 abbrev pub IsUnread : SiteState → Name → ℕ → ℕ → Type 0
 IsUnread s x n m = (r : Reader) → HasReader s x r → n ≤ r.version → r.version < m → ⊥
 
--- a writer directly in front of version n: an increment of the run there, or the write at its beginning where the run is empty.
+-- a writer directly in front of version n: an increment of the run there, or the write at its
+-- beginning where the run is empty.
 -- No version between the two was read
 pub record IsInFront (s : SiteState) (x : Name) (n k : ℕ) (w : Writer) : Type 0 where
   pub writer : IsWriter s x k w
@@ -48,21 +49,31 @@ pub record IsLastReader (s : SiteState) (x : Name) (r : Reader) : Type 0 where
   pub run : AddsOnly s x r.version (version_at s.entries x)
   pub unread : IsUnread s x (suc r.version) (suc (version_at s.entries x))
 
--- what precedes or follows mine as a neighbour: for a read the run in front of its version, and what comes up to the next write, each
--- as far as no committed read stands between; for a write the readers of the present version, and the present run as far as nobody
+-- what precedes or follows mine as a neighbour: for a read the run in front of its version, and
+-- what comes up to the next write, each
+-- as far as no committed read stands between; for a write the readers of the present version, and
+-- the present run as far as nobody
 -- has read it since; for an increment the last write and the last readers since then
 pub data IsNeighbour (s : SiteState) (touched : List Touch) (me : Handle) (x : Name) : Handle → Handle → Kind → Type 0 where
-  in_front : (n k : ℕ) (w : Writer) → SawAt s touched x n → IsInFront s x n k w → IsNeighbour s touched me x w.handle me Wr
-  behind : (n k : ℕ) (w : Writer) → SawAt s touched x n → IsBehind s x n k w → IsNeighbour s touched me x me w.handle Rw
-  put_last : (v k : ℕ) (w : Writer) → IsToChange s touched x (Put v) → IsInFront s x (version_at s.entries x) k w
+  in_front : (n k : ℕ) (w : Writer) → SawAt s touched x n → IsInFront s x n k w
+      → IsNeighbour s touched me x w.handle me Wr
+  behind : (n k : ℕ) (w : Writer) → SawAt s touched x n → IsBehind s x n k w
+      → IsNeighbour s touched me x me w.handle Rw
+  put_last : (v k : ℕ) (w : Writer) → IsToChange s touched x (Put v)
+      → IsInFront s x (version_at s.entries x) k w
       → (w.increment ≡ false) ⊎ IsUnread s x (version_at s.entries x) (suc (version_at s.entries x))
       → IsNeighbour s touched me x w.handle me Ww
-  add_last : (v k : ℕ) (w : Writer) → IsToChange s touched x (Add v) → IsLastWrite s x k w → IsNeighbour s touched me x w.handle me Ww
-  put_read : (v : ℕ) (r : Reader) → IsToChange s touched x (Put v) → HasReader s x r → r.version ≡ version_at s.entries x
+  add_last : (v k : ℕ) (w : Writer) → IsToChange s touched x (Add v) → IsLastWrite s x k w
+      → IsNeighbour s touched me x w.handle me Ww
+  put_read : (v : ℕ) (r : Reader) → IsToChange s touched x (Put v) → HasReader s x r
+      → r.version ≡ version_at s.entries x
       → IsNeighbour s touched me x r.handle me Rw
-  add_read : (v : ℕ) (r : Reader) → IsToChange s touched x (Add v) → IsLastReader s x r → IsNeighbour s touched me x r.handle me Rw
+  add_read : (v : ℕ) (r : Reader) → IsToChange s touched x (Add v) → IsLastReader s x r
+      → IsNeighbour s touched me x r.handle me Rw
 
 -- each neighbour under another handle is among the edges
 abbrev pub HaveNeighbours : SiteState → List Touch → Handle → List Edge → Type 0
-HaveNeighbours s touched me edges = (x : Name) (f t : Handle) (k : Kind) → f ≢ t → IsNeighbour s touched me x f t k
-    → Contains edges (record { from = f; to = t; label = record { site = s.number; item = x; kind = k } })
+HaveNeighbours s touched me edges = (x : Name) (f t : Handle) (k : Kind) → f ≢ t
+    → IsNeighbour s touched me x f t k
+    → Contains edges
+    (record { from = f; to = t; label = record { site = s.number; item = x; kind = k } })

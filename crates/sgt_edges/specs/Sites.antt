@@ -15,7 +15,8 @@ pub record Gathering : Type 0 where
 
 -- what `gather` promises of them
 abbrev pub IsGathered : List Touch → Handle → Gathering → Type 0
-IsGathered touched me g = All (IsGiven g.site touched me) g.edges × StandsForAll g.site touched me g.edges
+IsGathered touched me g = All (IsGiven g.site touched me) g.edges
+    × StandsForAll g.site touched me g.edges
 
 -- a conflict between committed transactions in the log of one of the sites
 abbrev pub IsLogged : List Gathering → Handle → Handle → Type 0
@@ -23,11 +24,14 @@ IsLogged gs from to = Any (λ g. (x : Name) × IsOldEdge g.site x from to) gs
 
 -- a given edge of one of the sites, or such a conflict
 abbrev pub IsGivenStep : List Gathering → Handle → Handle → Type 0
-IsGivenStep gs from to = Any (λ g. Any (λ e. (e.from ≡ from) × (e.to ≡ to)) g.edges) gs ⊎ IsLogged gs from to
+IsGivenStep gs from to = Any (λ g. Any (λ e. (e.from ≡ from) × (e.to ≡ to)) g.edges) gs
+    ⊎ IsLogged gs from to
 
 -- an edge of the draft at one of the sites, given or not, or such a conflict
 abbrev pub IsStep : List Touch → Handle → List Gathering → Handle → Handle → Type 0
-IsStep touched me gs from to = Any (λ g. (x : Name) × ((k : Kind) × IsEdge g.site touched me x from to k)) gs ⊎ IsLogged gs from to
+IsStep touched me gs from to =
+    Any (λ g. (x : Name) × ((k : Kind) × IsEdge g.site touched me x from to k)) gs
+    ⊎ IsLogged gs from to
 
 -- a walk of one or more steps
 pub data Leads (Step : Handle → Handle → Type 0) : Handle → Handle → Type 0 where

@@ -47,7 +47,8 @@ fn to_neighbours(
 ) -> Result<EdgeList, AllocError>
     requires seen { Any (IsTooNew site.now) touched.now → ⊥ }
     requires rising { AreRising touched.now }
-    ensures near { IfOk result (λ edges. (e : AnEdge) → Contains edges e ↔ IsNear site.now touched.now me e) }
+    ensures near { IfOk result
+        (λ edges. (e : AnEdge) → Contains edges e ↔ IsNear site.now touched.now me e) }
     ensures once { HaveOwnHandles site.now → IfOk result AreApart }
     ensures site { IsSite site.now }
 {
@@ -89,7 +90,8 @@ fn add_edges(
     requires seen { IsTooNew site.now touch.now → ⊥ }
     ensures all { OnOk result (AddsAll (IsNear site.now (touch.now ∷ []) me) edges.old edges.new) }
     ensures once { OnOk result
-        (HaveOwnHandles site.now → AddsOnce (IsNear site.now (touch.now ∷ []) me) edges.old edges.new) }
+        (HaveOwnHandles site.now
+        → AddsOnce (IsNear site.now (touch.now ∷ []) me) edges.old edges.new) }
 {
     if touch.site != here {
         return Ok(());
@@ -135,7 +137,8 @@ fn add_of_change(
     requires apart { HaveOwnHandles site.now → WritersApart writers.now }
     ensures all { OnOk result (AddsAll (IsOfChange site.now touch.now me) edges.old edges.new) }
     ensures once { OnOk result
-        (HaveOwnHandles site.now → AddsOnce (IsOfChange site.now touch.now me) edges.old edges.new) }
+        (HaveOwnHandles site.now
+        → AddsOnce (IsOfChange site.now touch.now me) edges.old edges.new) }
 {
     let Some(change) = touch.change else {
         return Ok(());
@@ -154,9 +157,13 @@ fn add_before(
     writers: &[Writer],
     me: Handle,
 ) -> Result<(), AllocError>
-    ensures all { OnOk result (AddsAll (λ e. Any (λ w. FromWriter touch.now kind me w e) writers.now) edges.old edges.new) }
+    ensures all { OnOk result
+        (AddsAll (λ e.
+        Any (λ w. FromWriter touch.now kind me w e) writers.now) edges.old edges.new) }
     ensures once { OnOk result
-        (WritersApart writers.now → AddsOnce (λ e. Any (λ w. FromWriter touch.now kind me w e) writers.now) edges.old edges.new) }
+        (WritersApart writers.now
+        → AddsOnce (λ e.
+        Any (λ w. FromWriter touch.now kind me w e) writers.now) edges.old edges.new) }
 {
     for w in writers {
         add(edges, touch, kind, w.handle, me)?;
@@ -171,9 +178,12 @@ fn add_after(
     writers: &[Writer],
     me: Handle,
 ) -> Result<(), AllocError>
-    ensures all { OnOk result (AddsAll (λ e. Any (λ w. ToWriter touch.now me w e) writers.now) edges.old edges.new) }
+    ensures all { OnOk result
+        (AddsAll (λ e. Any (λ w. ToWriter touch.now me w e) writers.now) edges.old edges.new) }
     ensures once { OnOk result
-        (WritersApart writers.now → AddsOnce (λ e. Any (λ w. ToWriter touch.now me w e) writers.now) edges.old edges.new) }
+        (WritersApart writers.now
+        → AddsOnce (λ e.
+        Any (λ w. ToWriter touch.now me w e) writers.now) edges.old edges.new) }
 {
     for w in writers {
         add(edges, touch, Kind::Rw, me, w.handle)?;
@@ -188,9 +198,12 @@ fn add_readers(
     readers: &[Reader],
     me: Handle,
 ) -> Result<(), AllocError>
-    ensures all { OnOk result (AddsAll (λ e. Any (λ r. FromReader touch.now me r e) readers.now) edges.old edges.new) }
+    ensures all { OnOk result
+        (AddsAll (λ e. Any (λ r. FromReader touch.now me r e) readers.now) edges.old edges.new) }
     ensures once { OnOk result
-        (ReadersApart readers.now → AddsOnce (λ e. Any (λ r. FromReader touch.now me r e) readers.now) edges.old edges.new) }
+        (ReadersApart readers.now
+        → AddsOnce (λ e.
+        Any (λ r. FromReader touch.now me r e) readers.now) edges.old edges.new) }
 {
     for r in readers {
         add(edges, touch, Kind::Rw, r.handle, me)?;

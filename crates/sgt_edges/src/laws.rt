@@ -15,14 +15,16 @@ ghost use Rattle.sgt_edges.specs.declared.fault.EdgeFault.{EdgeFault};
 /// The edges of an active transaction at a site are its conflicts with the committed ones under other handles, in the site's log
 /// followed by its private changes there.
 pub fn edges_are_conflicts()
-    ensures { (s : SiteState) (tx : ℕ) (touched : List Touch) (me : Handle) → IsSite s → IsActive s tx touched
+    ensures { (s : SiteState) (tx : ℕ) (touched : List Touch) (me : Handle) → IsSite s
+        → IsActive s tx touched
         → (x : Name) (from to : Handle) (kind : Kind)
         → IsEdge s touched me x from to kind ↔ IsConflict s tx touched me x from to kind }
 {}
 
 /// A transaction whose pledge for its draft stands is active, so that its edges are its conflicts.
 pub fn pledged_are_active()
-    ensures { (s : SiteState) (tx : ℕ) (touched : List Touch) → IsSite s → IsPledgedFor s tx touched → IsActive s tx touched }
+    ensures { (s : SiteState) (tx : ℕ) (touched : List Touch) → IsSite s → IsPledgedFor s tx touched
+        → IsActive s tx touched }
 {}
 
 /// Each edge leads to me from a committed transaction of the site, or from me to one, and one end alone is me.
@@ -41,14 +43,17 @@ pub fn gathers_are_refused_once()
 /// transactions is one over the edges that were given and such conflicts, and the other way round. So a certifier that is handed
 /// the given edges decides as on all of them.
 pub fn given_edges_lead_as_all_do()
-    ensures { (touched : List Touch) (me : Handle) (gs : List Gathering) → All (IsGathered touched me) gs
-        → (from to : Handle) → Leads (IsStep touched me gs) from to ↔ Leads (IsGivenStep gs) from to }
+    ensures { (touched : List Touch) (me : Handle) (gs : List Gathering)
+        → All (IsGathered touched me) gs
+        → (from to : Handle)
+        → Leads (IsStep touched me gs) from to ↔ Leads (IsGivenStep gs) from to }
 {}
 
 /// Edges to neighbours carry every conflict: where they are all given, they stand for all edges of the draft at the site.
 /// Each of them is one.
 pub fn neighbours_carry_every_conflict()
-    ensures carry { (s : SiteState) (touched : List Touch) (me : Handle) (edges : List Edge) → IsSite s → (SeesTooNew s touched → ⊥)
+    ensures carry { (s : SiteState) (touched : List Touch) (me : Handle) (edges : List Edge)
+        → IsSite s → (SeesTooNew s touched → ⊥)
         → HaveNeighbours s touched me edges → StandsForAll s touched me edges }
     ensures edges { (s : SiteState) (touched : List Touch) (me : Handle) (x : Name) (from to : Handle) (kind : Kind)
         → from ≢ to → IsNeighbour s touched me x from to kind → IsEdge s touched me x from to kind }

@@ -27,7 +27,8 @@ pub(crate) fn writers_at(site: &Site, item: Item) -> &[Writer]
 
 // The version that the last write of the item made. One that isn't at the site has none.
 fn version_written_at(site: &Site, item: Item) -> u64
-    ensures version { IsVersionWritten (writers_of site.now.installed site.now.entries item) result }
+    ensures version { IsVersionWritten
+        (writers_of site.now.installed site.now.entries item) result }
     ensures site { IsSite site.now }
 {
     match site.version_written(item) {
@@ -38,7 +39,8 @@ fn version_written_at(site: &Site, item: Item) -> u64
 
 // The committed readers of the item, by rising version. One that isn't at the site has none.
 fn readers_at(site: &Site, item: Item) -> &[Reader]
-    ensures readers { (r : CommittedReader) → Contains result.now r ↔ IsReader site.now.installed site.now.entries item r }
+    ensures readers { (r : CommittedReader)
+        → Contains result.now r ↔ IsReader site.now.installed site.now.entries item r }
     ensures by_version { AllPairs (λ a b. a.version ≤ b.version) result.now }
     ensures apart { HaveOwnHandles site.now → ReadersApart result.now }
     ensures site { IsSite site.now }
@@ -52,7 +54,8 @@ fn readers_at(site: &Site, item: Item) -> &[Reader]
 // The greatest version below this one at which a committed transaction read the item, 0 where there is none.
 fn read_below(site: &Site, item: Item, version: u64) -> u64
     ensures below { (result ≡ 0) ⊎ (result < version) }
-    ensures read { (result ≡ 0) ⊎ ((r : CommittedReader) × HasReader site.now item r × (r.version ≡ result)) }
+    ensures read { (result ≡ 0)
+        ⊎ ((r : CommittedReader) × HasReader site.now item r × (r.version ≡ result)) }
     ensures unread { IsUnread site.now item (suc result) version }
 {
     let readers = readers_at(site, item);
@@ -67,7 +70,8 @@ fn read_below(site: &Site, item: Item, version: u64) -> u64
 fn older_readers(readers: &[Reader], version: u64) -> usize
     requires { AllPairs (λ a b. a.version ≤ b.version) readers.now }
     ensures within { result ≤ length readers.now }
-    ensures point { IsPartitionPoint (λ r. ltb r.version version ≡ true) (λ r. ltb r.version version ≡ false) readers.now result }
+    ensures point { IsPartitionPoint (λ r. ltb r.version version ≡ true)
+        (λ r. ltb r.version version ≡ false) readers.now result }
 {
     readers.partition_point(|r| r.version < version)
 }
@@ -78,7 +82,8 @@ fn read_above(site: &Site, item: Item, version: u64, present: u64) -> u64
     requires below { version < present }
     ensures above { version < result }
     ensures upto { result ≤ present }
-    ensures read { (result ≡ present) ⊎ ((r : CommittedReader) × HasReader site.now item r × (r.version ≡ result)) }
+    ensures read { (result ≡ present)
+        ⊎ ((r : CommittedReader) × HasReader site.now item r × (r.version ≡ result)) }
     ensures unread { IsUnread site.now item (suc version) result }
 {
     let readers = readers_at(site, item);
@@ -92,7 +97,8 @@ fn read_above(site: &Site, item: Item, version: u64, present: u64) -> u64
 // Whether a committed transaction read the present version of the item.
 fn is_read(site: &Site, item: Item, present: u64) -> bool
     requires { present ≡ version_at site.now.entries item }
-    ensures { IsTrue result ↔ ((r : CommittedReader) × HasReader site.now item r × (r.version ≡ present)) }
+    ensures { IsTrue result
+        ↔ ((r : CommittedReader) × HasReader site.now item r × (r.version ≡ present)) }
 {
     match readers_at(site, item).last() {
         Some(r) => r.version == present,
@@ -110,7 +116,8 @@ pub(crate) fn in_front<'a>(
 ) -> &'a [Writer]
     requires writers { AreWriters site.now item writers.now }
     requires known { version ≤ length writers.now }
-    ensures neighbours { (w : CommittedWriter) → Contains result.now w ↔ ((k : ℕ) × IsInFront site.now item version k w) }
+    ensures neighbours { (w : CommittedWriter)
+        → Contains result.now w ↔ ((k : ℕ) × IsInFront site.now item version k w) }
     ensures apart { WritersApart writers.now → WritersApart result.now }
 {
     let before = &writers[..version as usize];
@@ -123,7 +130,9 @@ pub(crate) fn in_front<'a>(
 
 // Whether the last of the writers added to the item.
 fn ends_with_increment(writers: &[Writer]) -> bool
-    ensures { IsTrue result ↔ ((w : CommittedWriter) × (slice_get writers.now (length writers.now - 1) ≡ Some w) × (w.increment ≡ true)) }
+    ensures { IsTrue result
+        ↔ ((w : CommittedWriter) × (slice_get writers.now (length writers.now - 1) ≡ Some w)
+        × (w.increment ≡ true)) }
 {
     match writers.last() {
         Some(w) => w.increment,
@@ -150,7 +159,8 @@ pub(crate) fn behind<'a>(
 ) -> &'a [Writer]
     requires writers { AreWriters site.now item writers.now }
     requires known { version ≤ length writers.now }
-    ensures neighbours { (w : CommittedWriter) → Contains result.now w ↔ ((k : ℕ) × IsBehind site.now item version k w) }
+    ensures neighbours { (w : CommittedWriter)
+        → Contains result.now w ↔ ((k : ℕ) × IsBehind site.now item version k w) }
     ensures apart { WritersApart writers.now → WritersApart result.now }
 {
     let present = writers.len() as u64;
@@ -186,7 +196,8 @@ pub(crate) fn changes_before<'a>(
     change: Change,
 ) -> &'a [Writer]
     requires { AreWriters site.now item writers.now }
-    ensures before { (w : CommittedWriter) → Contains result.now w ↔ ChangesBefore site.now item change w }
+    ensures before { (w : CommittedWriter)
+        → Contains result.now w ↔ ChangesBefore site.now item change w }
     ensures apart { WritersApart writers.now → WritersApart result.now }
 {
     match change {
@@ -198,7 +209,8 @@ pub(crate) fn changes_before<'a>(
 // Of the item's writers those that a write has its edges from.
 fn before_write<'a>(site: &Site, item: Item, writers: &'a [Writer]) -> &'a [Writer]
     requires { AreWriters site.now item writers.now }
-    ensures before { (w : CommittedWriter) → Contains result.now w ↔ ((k : ℕ) × IsBeforeWrite site.now item k w) }
+    ensures before { (w : CommittedWriter)
+        → Contains result.now w ↔ ((k : ℕ) × IsBeforeWrite site.now item k w) }
     ensures apart { WritersApart writers.now → WritersApart result.now }
 {
     let present = writers.len() as u64;
@@ -212,7 +224,8 @@ fn before_write<'a>(site: &Site, item: Item, writers: &'a [Writer]) -> &'a [Writ
 // Of the item's writers the last one that is a write, if there is one.
 fn last_write<'a>(site: &Site, item: Item, writers: &'a [Writer]) -> &'a [Writer]
     requires { AreWriters site.now item writers.now }
-    ensures last { (w : CommittedWriter) → Contains result.now w ↔ ((k : ℕ) × IsLastWrite site.now item k w) }
+    ensures last { (w : CommittedWriter)
+        → Contains result.now w ↔ ((k : ℕ) × IsLastWrite site.now item k w) }
     ensures apart { WritersApart writers.now → WritersApart result.now }
 {
     let written = version_written_at(site, item) as usize;
@@ -223,7 +236,8 @@ fn last_write<'a>(site: &Site, item: Item, writers: &'a [Writer]) -> &'a [Writer
 /// version that was read, if it was read since the last write.
 pub(crate) fn reads_before(site: &Site, item: Item, version: u64, change: Change) -> &[Reader]
     requires { version ≡ version_at site.now.entries item }
-    ensures before { (r : CommittedReader) → Contains result.now r ↔ ReadsBefore site.now item change r }
+    ensures before { (r : CommittedReader)
+        → Contains result.now r ↔ ReadsBefore site.now item change r }
     ensures apart { HaveOwnHandles site.now → ReadersApart result.now }
 {
     match change {
@@ -250,7 +264,8 @@ fn last_readers(site: &Site, item: Item) -> &[Reader]
 // The readers of this version and of later ones.
 fn readers_since(readers: &[Reader], version: u64) -> &[Reader]
     requires { AllPairs (λ a b. a.version ≤ b.version) readers.now }
-    ensures since { (r : CommittedReader) → Contains result.now r ↔ (Contains readers.now r × (version ≤ r.version)) }
+    ensures since { (r : CommittedReader)
+        → Contains result.now r ↔ (Contains readers.now r × (version ≤ r.version)) }
     ensures apart { ReadersApart readers.now → ReadersApart result.now }
 {
     match readers.iter().rposition(|r| r.version < version) {

@@ -23,17 +23,26 @@ abbrev pub outcome_of : Verdict → Outcome
 outcome_of (Yes committed refused withdrawn) = outcome.Yes
 outcome_of (No line f) = outcome.No
 
--- what a first fault adds to a text: of a read and of a final what is shown of its value, in words; of ranks and of a step likewise, or
+-- what a first fault adds to a text: of a read and of a final what is shown of its value, in words;
+-- of ranks and of a step likewise, or
 -- nothing
 abbrev pub Tells : List ℕ → Verdict → (old new : List ℕ) → Type 0
-Tells bytes (No line fault.ReadValue) old new = (first : FirstFault bytes line fault.ReadValue) → (tx : ℕ) × (shown : Misvalued)
-    × ShowsRead (lines_before first.stage) (bytes_of first.next) tx shown × (new ≡ old ++ read_text tx shown)
-Tells bytes (No line fault.Final) old new = (first : FirstFault bytes line fault.Final) → (shown : Misvalued)
-    × ShowsFinal (lines_before first.stage) (bytes_of first.next) shown × (new ≡ old ++ final_text shown)
-Tells bytes (No line fault.RankOrder) old new = (first : FirstFault bytes line fault.RankOrder) → (new ≡ old) ⊎ ((shown : RanksShown)
-    × ShowsRanks (decisions_before first.stage) (lines_before first.stage) (bytes_of first.next) line shown × (new ≡ old ++ rank_order_text shown))
-Tells bytes (No line fault.WalkStep) old new = (first : FirstFault bytes line fault.WalkStep) → (new ≡ old) ⊎ ((shown : Unmet)
-    × ShowsStep (decisions_before first.stage) (lines_before first.stage) (bytes_of first.next) shown × (new ≡ old ++ walk_step_text shown))
+Tells bytes (No line fault.ReadValue) old new = (first : FirstFault bytes line fault.ReadValue)
+    → (tx : ℕ) × (shown : Misvalued)
+    × ShowsRead (lines_before first.stage) (bytes_of first.next) tx shown
+    × (new ≡ old ++ read_text tx shown)
+Tells bytes (No line fault.Final) old new = (first : FirstFault bytes line fault.Final)
+    → (shown : Misvalued)
+    × ShowsFinal (lines_before first.stage) (bytes_of first.next) shown
+    × (new ≡ old ++ final_text shown)
+Tells bytes (No line fault.RankOrder) old new = (first : FirstFault bytes line fault.RankOrder)
+    → (new ≡ old) ⊎ ((shown : RanksShown)
+    × ShowsRanks (decisions_before first.stage) (lines_before first.stage)
+    (bytes_of first.next) line shown × (new ≡ old ++ rank_order_text shown))
+Tells bytes (No line fault.WalkStep) old new = (first : FirstFault bytes line fault.WalkStep)
+    → (new ≡ old) ⊎ ((shown : Unmet)
+    × ShowsStep (decisions_before first.stage) (lines_before first.stage)
+    (bytes_of first.next) shown × (new ≡ old ++ walk_step_text shown))
 Tells _ _ _ _ = Unit {0}
 
 -- what a verdict on the bytes means begins with that
@@ -43,16 +52,21 @@ pub record Means (bytes : List ℕ) (v : Verdict) (meaning : List ℕ) : Type 0 
   pub text : meaning ≡ said ++ more
   pub told : Tells bytes v [] said
 
--- the text that an input is explained by: the line of the verdict on its bytes, and what that means behind it
+-- the text that an input is explained by: the line of the verdict on its bytes, and what that means
+-- behind it
 abbrev pub IsExplained : Option (List ℕ) → Outcome → List ℕ → Type 0
-IsExplained told ended text = (v : Verdict) × (meaning : List ℕ) × IfSome told (λ bytes. IsVerdict bytes v × Means bytes v meaning)
+IsExplained told ended text = (v : Verdict) × (meaning : List ℕ)
+    × IfSome told (λ bytes. IsVerdict bytes v × Means bytes v meaning)
     × (ended ≡ outcome_of v) × (text ≡ text_of v ++ meaning)
 
 -- that text was written
-abbrev pub WroteExplained : (told : Option (List ℕ)) → Outcome → (old new : Option (List ℕ)) → Type 0
-WroteExplained told ended old new = (text : List ℕ) × IsExplained told ended text × Appends old new text
+abbrev pub WroteExplained : (told : Option (List ℕ)) → Outcome → (old new : Option (List ℕ))
+    → Type 0
+WroteExplained told ended old new = (text : List ℕ) × IsExplained told ended text
+    × Appends old new text
 
--- nothing was written, or a front of the text that the input is explained by, and less than the whole text
+-- nothing was written, or a front of the text that the input is explained by, and less than the
+-- whole text
 abbrev pub WroteExplainedFront : (told old new : Option (List ℕ)) → Type 0
 WroteExplainedFront told old new = AppendsOrForgets old new []
     ⊎ ((ended : Outcome) × (text : List ℕ) × IsExplained told ended text × WritesFront old new text)

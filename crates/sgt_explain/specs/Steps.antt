@@ -22,17 +22,23 @@ pub record EndsSite (lines : List SectionLine) (site : ℕ) (upto : List Section
   pub cut : lines ≡ upto ++ End ∷ later
   pub begun : open_site upto ≡ Some site
 
--- of the end of the last section: a step of a refusal's walk that is no conflict of the logs, and of the entries of its site the two that
--- the step is about, as far as they are there, and a conflict of another kind of the same transactions on the item
+-- of the end of the last section: a step of a refusal's walk that is no conflict of the logs, and
+-- of the entries of its site the two that
+-- the step is about, as far as they are there, and a conflict of another kind of the same
+-- transactions on the item
 pub record ShowsStep (decisions : List Decision) (before : List SectionLine) (line : List ℕ) (shown : Unmet) : Type 0 where
   pub last : line ≡ line_text End
   pub at : IsStepAt decisions shown
-  pub unmet : (logs : List SiteLog) → sections_from 0 logs ≡ before ++ End ∷ [] → IsLogged logs shown.from shown.step → ⊥
+  pub unmet : (logs : List SiteLog) → sections_from 0 logs ≡ before ++ End ∷ []
+      → IsLogged logs shown.from shown.step → ⊥
   pub upto : List SectionLine
   pub section : EndsSite (before ++ End ∷ []) shown.step.label.site upto
-  pub first : ShowsOwn (numbered_entries upto) shown.from (begins_with_read shown.step.label.kind) shown.step.label.item shown.first
-  pub second : ShowsOwn (numbered_entries upto) shown.step.to (ends_with_read shown.step.label.kind) shown.step.label.item shown.second
-  pub misfit : (one other : Logged) → shown.first ≡ Some one → shown.second ≡ Some other → AreMisfit (numbered_entries upto) one other
+  pub first : ShowsOwn (numbered_entries upto) shown.from
+      (begins_with_read shown.step.label.kind) shown.step.label.item shown.first
+  pub second : ShowsOwn (numbered_entries upto) shown.step.to
+      (ends_with_read shown.step.label.kind) shown.step.label.item shown.second
+  pub misfit : (one other : Logged) → shown.first ≡ Some one → shown.second ≡ Some other
+      → AreMisfit (numbered_entries upto) one other
   pub other : IfSome shown.other (MeetsThere (numbered_entries upto) shown.from shown.step)
 
 -- ---- for private clauses
@@ -48,7 +54,10 @@ pub record IsStepThere (lines : List SectionLine) (at shown : Unmet) : Type 0 wh
   pub section : Section
   pub whole : IsWhole lines at.step.label.site section
   pub same : SameStep at shown
-  pub broken : Conflicts (entries_of section.entries.items) shown.step.label.kind shown.step.label.item shown.from shown.step.to → ⊥
-  pub first : ShowsOwn section.entries.items shown.from (begins_with_read shown.step.label.kind) shown.step.label.item shown.first
-  pub second : ShowsOwn section.entries.items shown.step.to (ends_with_read shown.step.label.kind) shown.step.label.item shown.second
+  pub broken : Conflicts
+      (entries_of section.entries.items) shown.step.label.kind shown.step.label.item shown.from shown.step.to → ⊥
+  pub first : ShowsOwn section.entries.items shown.from
+      (begins_with_read shown.step.label.kind) shown.step.label.item shown.first
+  pub second : ShowsOwn section.entries.items shown.step.to
+      (ends_with_read shown.step.label.kind) shown.step.label.item shown.second
   pub other : IfSome shown.other (MeetsThere section.entries.items shown.from shown.step)

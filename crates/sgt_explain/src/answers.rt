@@ -106,7 +106,8 @@ pub fn answer_to(
 ) -> Result<Answer, AllocError>
     ensures outcome { IfOk result (λ answer. answer.outcome ≡ outcome_of verdict) }
     ensures line { IfOk result (λ answer. string_bytes answer.line ≡ text_of verdict) }
-    ensures meaning { IfOk result (λ answer. Means bytes.now verdict (string_bytes answer.meaning)) }
+    ensures meaning { IfOk result
+        (λ answer. Means bytes.now verdict (string_bytes answer.meaning)) }
 {
     let line = verdict.to_line(alloc)?;
     let meaning = meaning_of(alloc, bytes, verdict, asked)?;

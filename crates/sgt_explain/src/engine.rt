@@ -19,9 +19,11 @@ use std::alloc::Global;
 fn answer<R: Source>(alloc: Global, reader: &mut R, asked: Option<Tx>) -> Result<Answer, EngineFail>
     ensures answer { IfOk result (λ answer. IsExplained (R.tells reader.old) answer.outcome
         (string_bytes answer.line ++ string_bytes answer.meaning)) }
-    ensures quiet { result ≢ Err EngineFail.ReadFault → R.failures reader.new ≡ R.failures reader.old }
+    ensures quiet { result ≢ Err EngineFail.ReadFault
+        → R.failures reader.new ≡ R.failures reader.old }
     ensures read_fault { IsErrOf result EngineFail.ReadFault →
-        ((R.failures reader.old < R.failures reader.new) ⊎ IfSome (R.tells reader.old) (λ bytes. most_reads ≤ length bytes)) }
+        ((R.failures reader.old < R.failures reader.new)
+        ⊎ IfSome (R.tells reader.old) (λ bytes. most_reads ≤ length bytes)) }
     ensures write_fault { result ≢ Err EngineFail.WriteFault }
 {
     let text = read_all(alloc, reader)?;
@@ -34,8 +36,10 @@ fn answer<R: Source>(alloc: Global, reader: &mut R, asked: Option<Tx>) -> Result
 
 /// Writes two texts, one behind the other. An Err is the writer's, as in `write_all`.
 fn write_both<W: Sink>(writer: &mut W, first: &[u8], second: &[u8]) -> Result<(), Failed>
-    ensures ok { OnOk result (Appends (W.holds writer.old) (W.holds writer.new) (first.now ++ second.now)) }
-    ensures err { OnErr result (WritesFront (W.holds writer.old) (W.holds writer.new) (first.now ++ second.now)) }
+    ensures ok { OnOk result
+        (Appends (W.holds writer.old) (W.holds writer.new) (first.now ++ second.now)) }
+    ensures err { OnErr result
+        (WritesFront (W.holds writer.old) (W.holds writer.new) (first.now ++ second.now)) }
     ensures fails { CountsFailures result (W.failures writer.old) (W.failures writer.new) }
 {
     match write_all(writer, first) {
@@ -51,15 +55,22 @@ fn explain_asked<R: Source, W: Sink>(
     reader: &mut R,
     writer: &mut W,
 ) -> Result<Outcome, EngineFail>
-    ensures answer { IfOk result (λ outcome. WroteExplained (R.tells reader.old) outcome (W.holds writer.old) (W.holds writer.new)) }
-    ensures front { OnErr result (WroteExplainedFront (R.tells reader.old) (W.holds writer.old) (W.holds writer.new)) }
+    ensures answer { IfOk result
+        (λ outcome. WroteExplained (R.tells reader.old) outcome (W.holds writer.old)
+        (W.holds writer.new)) }
+    ensures front { OnErr result
+        (WroteExplainedFront (R.tells reader.old) (W.holds writer.old) (W.holds writer.new)) }
     ensures unwritten { IsErrOf result EngineFail.ReadFault → writer.new ≡ writer.old }
     ensures untouched { IsErrOf result EngineFail.Memory → writer.new ≡ writer.old }
     ensures read_fault { IsErrOf result EngineFail.ReadFault →
-        ((R.failures reader.old < R.failures reader.new) ⊎ IfSome (R.tells reader.old) (λ bytes. most_reads ≤ length bytes)) }
-    ensures write_fault { IsErrOf result EngineFail.WriteFault → W.failures writer.old < W.failures writer.new }
-    ensures quiet_reader { result ≢ Err EngineFail.ReadFault → R.failures reader.new ≡ R.failures reader.old }
-    ensures quiet_writer { result ≢ Err EngineFail.WriteFault → W.failures writer.new ≡ W.failures writer.old }
+        ((R.failures reader.old < R.failures reader.new)
+        ⊎ IfSome (R.tells reader.old) (λ bytes. most_reads ≤ length bytes)) }
+    ensures write_fault { IsErrOf result EngineFail.WriteFault
+        → W.failures writer.old < W.failures writer.new }
+    ensures quiet_reader { result ≢ Err EngineFail.ReadFault
+        → R.failures reader.new ≡ R.failures reader.old }
+    ensures quiet_writer { result ≢ Err EngineFail.WriteFault
+        → W.failures writer.new ≡ W.failures writer.old }
 {
     let answer = answer(alloc, reader, asked)?;
     match write_both(writer, answer.line.as_bytes(), answer.meaning.as_bytes()) {
@@ -80,17 +91,24 @@ pub fn explain<R: Source, W: Sink>(
     reader: &mut R,
     writer: &mut W,
 ) -> Result<Outcome, EngineFail>
-    ensures answer { IfOk result (λ outcome. WroteExplained (R.tells reader.old) outcome (W.holds writer.old) (W.holds writer.new)) }
-    ensures front { OnErr result (WroteExplainedFront (R.tells reader.old) (W.holds writer.old) (W.holds writer.new)) }
+    ensures answer { IfOk result
+        (λ outcome. WroteExplained (R.tells reader.old) outcome (W.holds writer.old)
+        (W.holds writer.new)) }
+    ensures front { OnErr result
+        (WroteExplainedFront (R.tells reader.old) (W.holds writer.old) (W.holds writer.new)) }
     ensures unwritten { IsErrOf result EngineFail.ReadFault → writer.new ≡ writer.old }
     ensures untouched { IsErrOf result EngineFail.Memory → writer.new ≡ writer.old }
 
     // A fault tells of its device, and no fault of a device is passed over.
     ensures read_fault { IsErrOf result EngineFail.ReadFault →
-        ((R.failures reader.old < R.failures reader.new) ⊎ IfSome (R.tells reader.old) (λ bytes. most_reads ≤ length bytes)) }
-    ensures write_fault { IsErrOf result EngineFail.WriteFault → W.failures writer.old < W.failures writer.new }
-    ensures quiet_reader { result ≢ Err EngineFail.ReadFault → R.failures reader.new ≡ R.failures reader.old }
-    ensures quiet_writer { result ≢ Err EngineFail.WriteFault → W.failures writer.new ≡ W.failures writer.old }
+        ((R.failures reader.old < R.failures reader.new)
+        ⊎ IfSome (R.tells reader.old) (λ bytes. most_reads ≤ length bytes)) }
+    ensures write_fault { IsErrOf result EngineFail.WriteFault
+        → W.failures writer.old < W.failures writer.new }
+    ensures quiet_reader { result ≢ Err EngineFail.ReadFault
+        → R.failures reader.new ≡ R.failures reader.old }
+    ensures quiet_writer { result ≢ Err EngineFail.WriteFault
+        → W.failures writer.new ≡ W.failures writer.old }
 {
     explain_asked(alloc, None, reader, writer)
 }
@@ -104,17 +122,24 @@ pub fn explain_transaction<R: Source, W: Sink>(
     reader: &mut R,
     writer: &mut W,
 ) -> Result<Outcome, EngineFail>
-    ensures answer { IfOk result (λ outcome. WroteExplained (R.tells reader.old) outcome (W.holds writer.old) (W.holds writer.new)) }
-    ensures front { OnErr result (WroteExplainedFront (R.tells reader.old) (W.holds writer.old) (W.holds writer.new)) }
+    ensures answer { IfOk result
+        (λ outcome. WroteExplained (R.tells reader.old) outcome (W.holds writer.old)
+        (W.holds writer.new)) }
+    ensures front { OnErr result
+        (WroteExplainedFront (R.tells reader.old) (W.holds writer.old) (W.holds writer.new)) }
     ensures unwritten { IsErrOf result EngineFail.ReadFault → writer.new ≡ writer.old }
     ensures untouched { IsErrOf result EngineFail.Memory → writer.new ≡ writer.old }
 
     // A fault tells of its device, and no fault of a device is passed over.
     ensures read_fault { IsErrOf result EngineFail.ReadFault →
-        ((R.failures reader.old < R.failures reader.new) ⊎ IfSome (R.tells reader.old) (λ bytes. most_reads ≤ length bytes)) }
-    ensures write_fault { IsErrOf result EngineFail.WriteFault → W.failures writer.old < W.failures writer.new }
-    ensures quiet_reader { result ≢ Err EngineFail.ReadFault → R.failures reader.new ≡ R.failures reader.old }
-    ensures quiet_writer { result ≢ Err EngineFail.WriteFault → W.failures writer.new ≡ W.failures writer.old }
+        ((R.failures reader.old < R.failures reader.new)
+        ⊎ IfSome (R.tells reader.old) (λ bytes. most_reads ≤ length bytes)) }
+    ensures write_fault { IsErrOf result EngineFail.WriteFault
+        → W.failures writer.old < W.failures writer.new }
+    ensures quiet_reader { result ≢ Err EngineFail.ReadFault
+        → R.failures reader.new ≡ R.failures reader.old }
+    ensures quiet_writer { result ≢ Err EngineFail.WriteFault
+        → W.failures writer.new ≡ W.failures writer.old }
 {
     explain_asked(alloc, Some(tx), reader, writer)
 }
@@ -123,10 +148,12 @@ pub fn explain_transaction<R: Source, W: Sink>(
 /// text may have been written.
 pub fn explain_topic<W: Sink>(topic: Topic, writer: &mut W) -> Result<Outcome, EngineFail>
     ensures ok { IfOk result (λ outcome. outcome ≡ Outcome.Yes) }
-    ensures text { OnOk result ((text : List ℕ) × Appends (W.holds writer.old) (W.holds writer.new) text) }
+    ensures text { OnOk result
+        ((text : List ℕ) × Appends (W.holds writer.old) (W.holds writer.new) text) }
     ensures rule { OnOk result ((text : List ℕ) × IsRuleOf (topic_name topic) text
         × Appends (W.holds writer.old) (W.holds writer.new) text) }
-    ensures front { OnErr result ((text : List ℕ) × WritesFront (W.holds writer.old) (W.holds writer.new) text) }
+    ensures front { OnErr result
+        ((text : List ℕ) × WritesFront (W.holds writer.old) (W.holds writer.new) text) }
     ensures only { OnErr result (result ≡ Err EngineFail.WriteFault) }
     ensures write_fault { OnErr result (W.failures writer.old < W.failures writer.new) }
     ensures quiet_writer { OnOk result (W.failures writer.new ≡ W.failures writer.old) }

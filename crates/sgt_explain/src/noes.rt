@@ -91,7 +91,8 @@ pub fn push_no(
     line: u64,
     fault: Fault,
 ) -> Result<(), AllocError>
-    ensures { OnOk result (Tells bytes.now (No line fault) (string_bytes out.old) (string_bytes out.new)) }
+    ensures { OnOk result
+        (Tells bytes.now (No line fault) (string_bytes out.old) (string_bytes out.new)) }
 {
     match fault {
         Fault::Format => push_format(out, bytes),

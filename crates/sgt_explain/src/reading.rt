@@ -21,12 +21,15 @@ fn take_some<R: Source>(
     text: &mut Vec<u8>,
 ) -> Result<usize, EngineFail>
     requires { 0 < length buffer.old }
-    ensures taken { IfOk result (λ n. Consumes (R.tells reader.old) (R.tells reader.new) (take n buffer.new)
+    ensures taken { IfOk result
+        (λ n. Consumes (R.tells reader.old) (R.tells reader.new) (take n buffer.new)
         × (text.new.items ≡ text.old.items ++ take n buffer.new) × (n ≤ length buffer.new)
         × (n ≡ 0 → IsAtEnd (R.tells reader.new))) }
     ensures same { length buffer.new ≡ length buffer.old }
-    ensures quiet { result ≢ Err EngineFail.ReadFault → R.failures reader.new ≡ R.failures reader.old }
-    ensures read_fault { IsErrOf result EngineFail.ReadFault → R.failures reader.old < R.failures reader.new }
+    ensures quiet { result ≢ Err EngineFail.ReadFault
+        → R.failures reader.new ≡ R.failures reader.old }
+    ensures read_fault { IsErrOf result EngineFail.ReadFault
+        → R.failures reader.old < R.failures reader.new }
     ensures write_fault { result ≢ Err EngineFail.WriteFault }
 {
     match reader.read(buffer) {
@@ -42,9 +45,11 @@ fn take_some<R: Source>(
 /// a growth was refused.
 pub fn read_all<R: Source>(alloc: Global, reader: &mut R) -> Result<Vec<u8>, EngineFail>
     ensures all { IfOk result (λ text. IfSome (R.tells reader.old) (λ bytes. text.items ≡ bytes)) }
-    ensures quiet { result ≢ Err EngineFail.ReadFault → R.failures reader.new ≡ R.failures reader.old }
+    ensures quiet { result ≢ Err EngineFail.ReadFault
+        → R.failures reader.new ≡ R.failures reader.old }
     ensures read_fault { IsErrOf result EngineFail.ReadFault →
-        ((R.failures reader.old < R.failures reader.new) ⊎ IfSome (R.tells reader.old) (λ bytes. most_reads ≤ length bytes)) }
+        ((R.failures reader.old < R.failures reader.new)
+        ⊎ IfSome (R.tells reader.old) (λ bytes. most_reads ≤ length bytes)) }
     ensures write_fault { result ≢ Err EngineFail.WriteFault }
 {
     let mut buffer = empty_buffer(alloc)?;

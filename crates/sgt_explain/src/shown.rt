@@ -34,7 +34,8 @@ pub(crate) fn text_before(bytes: &[u8], number: u64) -> &[u8] {
 /// The certificate of line 2, if it is one. Err: memory ran out.
 pub fn certificate_of(alloc: Global, bytes: &[u8]) -> Result<Option<Certificate>, AllocError>
     ensures { (first : List ℕ) (c : Certificate) (rest : List ℕ) → HasNoLf first → IsCertificate c
-        → bytes.now ≡ first ++ 10 ∷ (certificate_text c ++ 10 ∷ rest) → IfOk result (λ found. found ≡ Some c) }
+        → bytes.now ≡ first ++ 10 ∷ (certificate_text c ++ 10 ∷ rest)
+        → IfOk result (λ found. found ≡ Some c) }
 {
     let (_, behind) = cut_line(bytes);
     let (line, _) = cut_line(behind);
@@ -62,7 +63,8 @@ fn logged_on(number: u64, line: &SectionLine) -> Option<Logged>
 
 /// The entry of a line, if it is one.
 pub fn logged_at(bytes: &[u8], number: u64) -> Option<Logged>
-    ensures { (before : List SectionLine) (line : SectionLine) → HasLine bytes.now number before line
+    ensures { (before : List SectionLine) (line : SectionLine)
+        → HasLine bytes.now number before line
         → result ≡ logged_in (number, line) }
 {
     match section_line_at(bytes, number) {
@@ -134,7 +136,8 @@ fn final_shown(alloc: Global, bytes: &[u8], number: u64) -> Result<Option<Misval
 /// F11: this entry and one before it that stands against it.
 fn ranks_shown(alloc: Global, bytes: &[u8], number: u64) -> Result<Option<RanksShown>, AllocError>
     ensures { (first : FirstFault bytes.now number RankOrder) → IfOk result (λ found.
-        IfSome found (ShowsRanks (decisions_before first.stage) (lines_before first.stage) (bytes_of first.next) number)) }
+        IfSome found (ShowsRanks (decisions_before first.stage) (lines_before first.stage)
+        (bytes_of first.next) number)) }
 {
     let section = section_before(alloc, bytes, number)?;
     let Some(certificate) = certificate_of(alloc, bytes)? else {
@@ -149,7 +152,8 @@ fn ranks_shown(alloc: Global, bytes: &[u8], number: u64) -> Result<Option<RanksS
 }
 
 fn push_read_shown(out: &mut String, found: &Option<(Tx, Misvalued)>) -> Result<(), AllocError>
-    ensures { OnOk result (IfSome found.now (λ s. string_bytes out.new ≡ string_bytes out.old ++ read_text s.0 s.1)) }
+    ensures { OnOk result
+        (IfSome found.now (λ s. string_bytes out.new ≡ string_bytes out.old ++ read_text s.0 s.1)) }
 {
     match found {
         Some(read) => push_read(out, read.0, &read.1),
@@ -164,7 +168,8 @@ pub fn push_read_value(
     bytes: &[u8],
     number: u64,
 ) -> Result<(), AllocError>
-    ensures { OnOk result (Tells bytes.now (No number ReadValue) (string_bytes out.old) (string_bytes out.new)) }
+    ensures { OnOk result
+        (Tells bytes.now (No number ReadValue) (string_bytes out.old) (string_bytes out.new)) }
 {
     match read_shown(alloc, bytes, number) {
         Ok(found) => push_read_shown(out, &found),
@@ -173,7 +178,8 @@ pub fn push_read_value(
 }
 
 fn push_final_shown(out: &mut String, found: &Option<Misvalued>) -> Result<(), AllocError>
-    ensures { OnOk result (IfSome found.now (λ m. string_bytes out.new ≡ string_bytes out.old ++ final_text m)) }
+    ensures { OnOk result
+        (IfSome found.now (λ m. string_bytes out.new ≡ string_bytes out.old ++ final_text m)) }
 {
     match found {
         Some(shown) => push_final(out, shown),
@@ -188,7 +194,8 @@ pub fn push_final_value(
     bytes: &[u8],
     number: u64,
 ) -> Result<(), AllocError>
-    ensures { OnOk result (Tells bytes.now (No number Final) (string_bytes out.old) (string_bytes out.new)) }
+    ensures { OnOk result
+        (Tells bytes.now (No number Final) (string_bytes out.old) (string_bytes out.new)) }
 {
     match final_shown(alloc, bytes, number) {
         Ok(found) => push_final_shown(out, &found),
@@ -197,7 +204,8 @@ pub fn push_final_value(
 }
 
 fn push_ranks_shown(out: &mut String, found: &Option<RanksShown>) -> Result<(), AllocError>
-    ensures { OnOk result (IfSome found.now (λ m. string_bytes out.new ≡ string_bytes out.old ++ rank_order_text m)
+    ensures { OnOk result
+        (IfSome found.now (λ m. string_bytes out.new ≡ string_bytes out.old ++ rank_order_text m)
         × IfNone found.now (string_bytes out.new ≡ string_bytes out.old)) }
 {
     match found {
@@ -213,7 +221,8 @@ pub fn push_rank_order_of(
     bytes: &[u8],
     number: u64,
 ) -> Result<(), AllocError>
-    ensures { OnOk result (Tells bytes.now (No number RankOrder) (string_bytes out.old) (string_bytes out.new)) }
+    ensures { OnOk result
+        (Tells bytes.now (No number RankOrder) (string_bytes out.old) (string_bytes out.new)) }
 {
     match ranks_shown(alloc, bytes, number) {
         Ok(found) => push_ranks_shown(out, &found),

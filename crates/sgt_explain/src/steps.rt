@@ -73,7 +73,9 @@ fn whole_section(
     number: u64,
     site: SiteNo,
 ) -> Result<Option<Section>, AllocError>
-    ensures { IfOk result (λ found. (before : List SectionLine) (line : SectionLine) → HasLine bytes.now number before line
+    ensures { IfOk result
+        (λ found. (before : List SectionLine) (line : SectionLine)
+        → HasLine bytes.now number before line
         → IfSome found (IsWhole (before ++ line ∷ []) site)) }
 {
     let end = end_of(bytes, number, site);
@@ -113,7 +115,9 @@ fn step_there(
     number: u64,
     unmet: &Unmet,
 ) -> Result<Option<Unmet>, AllocError>
-    ensures { IfOk result (λ found. (before : List SectionLine) (line : SectionLine) → HasLine bytes.now number before line
+    ensures { IfOk result
+        (λ found. (before : List SectionLine) (line : SectionLine)
+        → HasLine bytes.now number before line
         → IfSome found (IsStepThere (before ++ line ∷ []) unmet.now)) }
 {
     let found = whole_section(alloc, bytes, number, unmet.step.label.site)?;
@@ -126,7 +130,8 @@ fn step_there(
 /// F17: the first step of a walk that is no conflict of the logs.
 fn step_shown(alloc: Global, bytes: &[u8], number: u64) -> Result<Option<Unmet>, AllocError>
     ensures { (first : FirstFault bytes.now number WalkStep) → IfOk result (λ found.
-        IfSome found (ShowsStep (decisions_before first.stage) (lines_before first.stage) (bytes_of first.next))) }
+        IfSome found (ShowsStep (decisions_before first.stage) (lines_before first.stage)
+        (bytes_of first.next))) }
 {
     let found = unmet_step(alloc, bytes, number)?;
     match found {
@@ -136,7 +141,8 @@ fn step_shown(alloc: Global, bytes: &[u8], number: u64) -> Result<Option<Unmet>,
 }
 
 fn push_step_shown(out: &mut String, found: &Option<Unmet>) -> Result<(), AllocError>
-    ensures { OnOk result (IfSome found.now (λ u. string_bytes out.new ≡ string_bytes out.old ++ walk_step_text u)
+    ensures { OnOk result
+        (IfSome found.now (λ u. string_bytes out.new ≡ string_bytes out.old ++ walk_step_text u)
         × IfNone found.now (string_bytes out.new ≡ string_bytes out.old)) }
 {
     match found {
@@ -152,7 +158,8 @@ pub fn push_unmet_step(
     bytes: &[u8],
     number: u64,
 ) -> Result<(), AllocError>
-    ensures { OnOk result (Tells bytes.now (No number WalkStep) (string_bytes out.old) (string_bytes out.new)) }
+    ensures { OnOk result
+        (Tells bytes.now (No number WalkStep) (string_bytes out.old) (string_bytes out.new)) }
 {
     match step_shown(alloc, bytes, number) {
         Ok(found) => push_step_shown(out, &found),

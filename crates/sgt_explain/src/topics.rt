@@ -139,7 +139,8 @@ fn reply_of(word: &[u8]) -> Option<Reply>
 /// The rule of a bundle or of its second line with this name.
 fn rule(word: &[u8]) -> Option<Topic>
     ensures some { IfSome result (λ topic. word.now ≡ topic_name topic) }
-    ensures none { IfNone result (((f : Fault) → word.now ≢ fault_name f) × ((f : CertFault) → word.now ≢ line_name f)) }
+    ensures none { IfNone result
+        (((f : Fault) → word.now ≢ fault_name f) × ((f : CertFault) → word.now ≢ line_name f)) }
 {
     if let Some(fault) = fault_of(word) {
         return Some(Topic::Bundle(fault));

@@ -1,4 +1,5 @@
 pub mod Adding
+pub mod Beside
 pub mod Making
 pub mod Numbering
 pub mod Showing

@@ -1,7 +1,7 @@
 -- Lines cut off a text, and the section that is open behind one more of them.
-use Rattle.std.proofs.Common.{◌≡◌, ◌≢◌, ℕ, suc, zero, ◌+◌, List, [], ◌∷◌, ◌++◌, length, map, drop, Option, Some, None, inl, inr, refl, sym, subst, ap, ap₂, ◌∙◌, ◌-◌, ◌<◌, ◌≤◌, arith, append_assoc, length-append, All}
+use Rattle.std.proofs.Common.{◌≡◌, ◌≢◌, ℕ, suc, ◌+◌, List, [], ◌∷◌, ◌++◌, length, map, drop, Some, None, inl, inr, refl, sym, subst, ap, ap₂, ◌∙◌, ◌-◌, ◌<◌, ◌≤◌, arith, append_assoc, length-append, All}
 use Rattle.std.specs.Prelude.{fold, Result, Ok, Err, OnOk, slice_get}
-use Rattle.std.specs.List.{filter_map, cons_option, enumerate_from, AllByRecursion}
+use Rattle.std.specs.List.{filter_map, enumerate_from}
 use Rattle.std.proofs.lemmas.Grind.{flat_map-append}
 use Rattle.std.proofs.lemmas.List.{append-nil, drop_all, length-map}
 use Rattle.std.proofs.lemmas.List.Elements.{filter_map-append, recursion_from_All, All-from_recursion, All-append}
@@ -13,9 +13,9 @@ use Rattle.sgt_notation.specs.Reading.{Reads}
 use Rattle.sgt_notation.specs.declared.fault.NotationFault.{NotationFault}
 use Rattle.sgt_notation.specs.declared.SectionLine.{SectionLine}
 use Rattle.sgt_notation.specs.declared.SectionLine.TheVariants.{Site, Initial, Logged, Final, End}
-use Rattle.sgt_notation.proofs.OneSpelling.{HasNot, cut_at_byte, line-one, line-one_line}
+use Rattle.sgt_notation.proofs.OneSpelling.{cut_at_byte, line-one, line-one_line}
 use Rattle.sgt_explain_lines.specs.declared.section.Section.{Section}
-use Rattle.sgt_explain_lines.specs.Numbered.{IsLineAt, HasLine, with_line, open_lines, with_site, open_site, stated_in, logged_in, numbered_items, numbered_entries, items_with, entries_with, IsSectionOf, HasOneMore}
+use Rattle.sgt_explain_lines.specs.Numbered.{IsLineAt, HasLine, with_line, open_lines, with_site, open_site, stated_in, logged_in, items_with, entries_with, IsSectionOf, HasOneMore}
 
 -- ---- texts
 

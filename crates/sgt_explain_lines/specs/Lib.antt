@@ -1,3 +1,4 @@
+pub mod Beside
 pub mod Numbered
 pub mod Told
 pub mod Values

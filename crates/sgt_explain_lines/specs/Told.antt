@@ -150,6 +150,3 @@ pub record ShowsEntry (words : List ℕ) (logged : Logged) (old new : List ℕ) 
   pub upto : List ℕ
   pub begins : Adds (old ++ words) upto
   pub goes_on : Adds (upto ++ shown_line logged) new
-
-abbrev pub item_words : Name → ℕ → List ℕ
-item_words x site = codes "Item: site " ++ (decimal site ++ (codes " has no item " ++ (x ++ codes "\n")))

@@ -1,8 +1,8 @@
 //! What is said of a line by itself, or by its place: of line 1, of a line that spells nothing, of the end of the input.
 
-ghost use Rattle.std.specs.Prelude.{ℕ, List, ◌++◌, OnOk, codes, string_bytes};
+ghost use Rattle.std.specs.Prelude.{ℕ, ◌-◌, ◌<◌, List, [], ◌++◌, OnOk, codes, string_bytes};
 ghost use Rattle.sgt_explain_lines.specs.Numbered.{IsLineAt};
-ghost use Rattle.sgt_explain_lines.specs.Told.{Adds, ShowsLine};
+ghost use Rattle.sgt_explain_lines.specs.Told.{Adds, ShowsLine, ShowsNumbered};
 
 use crate::input::{line_at, text_at};
 use crate::section::Section;
@@ -111,26 +111,57 @@ fn push_allowed(out: &mut String, section: &Section) -> Result<(), AllocError>
     }
 }
 
+/// That the line has no LF.
+fn push_no_lf(out: &mut String, number: u64) -> Result<(), AllocError>
+    ensures { OnOk result (Adds (string_bytes out.old) (string_bytes out.new)) }
+{
+    writeln!(out, "line {number} has no LF, so it isn't whole")
+}
+
+/// The line where the input ends, which has no LF, or that there is none.
+fn push_broken_off(out: &mut String, bytes: &[u8], number: u64) -> Result<(), AllocError>
+    ensures line { (line : List ℕ) → IsLineAt bytes.now number line
+        → OnOk result (ShowsLine [] number line (string_bytes out.old) (string_bytes out.new)) }
+    ensures behind { OnOk result (Adds (string_bytes out.old) (string_bytes out.new)) }
+{
+    match line_at(bytes, number) {
+        Some(line) => {
+            push_numbered(out, number, line)?;
+            push_no_lf(out, number)
+        }
+        None => writeln!(out, "line {number} isn't there"),
+    }
+}
+
+/// What the line of this number has to be.
+fn push_awaited(out: &mut String, number: u64, section: &Section) -> Result<(), AllocError>
+    ensures { OnOk result (Adds (string_bytes out.old) (string_bytes out.new)) }
+{
+    match number {
+        1 => out.push_str("line 1 has to be `sgt 1` or `sgt 2`\n"),
+        2 => out.push_str("line 2 has to be the certificate\n"),
+        _ => push_allowed(out, section),
+    }
+}
+
 /// F18: the input ends.
 pub fn push_truncated(
     out: &mut String,
     bytes: &[u8],
     number: u64,
     section: &Section,
-) -> Result<(), AllocError> {
-    out.push_str("Truncated: the input ends before its bundle does\n")?;
-    match line_at(bytes, number) {
-        Some(line) => {
-            push_numbered(out, number, line)?;
-            writeln!(out, "line {number} has no LF, so it isn't whole")?;
-        }
-        None => writeln!(out, "line {number} isn't there")?,
-    }
-    match number {
-        1 => out.push_str("line 1 has to be `sgt 1` or `sgt 2`\n"),
-        2 => out.push_str("line 2 has to be the certificate\n"),
-        _ => push_allowed(out, section),
-    }
+) -> Result<(), AllocError>
+    ensures line { (line : List ℕ) → IsLineAt bytes.now number line
+        → OnOk result (ShowsLine (codes "Truncated: ") number line (string_bytes out.old) (string_bytes out.new)) }
+    ensures begins { OnOk result (Adds (string_bytes out.old ++ codes "Truncated: ") (string_bytes out.new)) }
+{
+    push_words(
+        out,
+        "Truncated: ",
+        "the input ends before its bundle does\n",
+    )?;
+    push_broken_off(out, bytes, number)?;
+    push_awaited(out, number, section)
 }
 
 /// Which line ends the bundle that this line follows.
@@ -177,22 +208,49 @@ fn push_item_rule(out: &mut String, section: &Section, item: &Item) -> Result<()
     }
 }
 
+/// The line before the one of this number, where it is one of a section.
+fn push_line_before(out: &mut String, bytes: &[u8], number: u64) -> Result<(), AllocError>
+    ensures line { (line : List ℕ) → 3 < number → IsLineAt bytes.now (number - 1) line
+        → OnOk result (ShowsNumbered (number - 1) line (string_bytes out.old) (string_bytes out.new)) }
+    ensures behind { OnOk result (Adds (string_bytes out.old) (string_bytes out.new)) }
+{
+    let before = number.saturating_sub(1);
+    if before > 2 {
+        push_numbered(out, before, text_at(bytes, before))
+    } else {
+        out.push_str("")
+    }
+}
+
+/// Why the section doesn't allow the line, and what may stand there.
+fn push_section_rule(out: &mut String, section: &Section, line: &[u8]) -> Result<(), AllocError>
+    ensures { OnOk result (Adds (string_bytes out.old) (string_bytes out.new)) }
+{
+    if let Ok(SectionLine::Initial(holding)) = read_section(line) {
+        push_item_rule(out, section, &holding.item)?;
+    }
+    push_allowed(out, section)
+}
+
 /// F7: a line that the section doesn't allow.
 pub fn push_section(
     out: &mut String,
     bytes: &[u8],
     number: u64,
     section: &Section,
-) -> Result<(), AllocError> {
-    out.push_str("Section: the section doesn't allow this line here\n")?;
-    let before = number.saturating_sub(1);
-    if before > 2 {
-        push_numbered(out, before, text_at(bytes, before))?;
-    }
+) -> Result<(), AllocError>
+    ensures line { (line : List ℕ) → IsLineAt bytes.now number line
+        → OnOk result (ShowsLine (codes "Section: ") number line (string_bytes out.old) (string_bytes out.new)) }
+    ensures before { (line : List ℕ) → 3 < number → IsLineAt bytes.now (number - 1) line
+        → OnOk result (ShowsLine (codes "Section: ") (number - 1) line (string_bytes out.old) (string_bytes out.new)) }
+{
+    push_words(
+        out,
+        "Section: ",
+        "the section doesn't allow this line here\n",
+    )?;
+    push_line_before(out, bytes, number)?;
     let line = text_at(bytes, number);
     push_numbered(out, number, line)?;
-    if let Ok(SectionLine::Initial(holding)) = read_section(line) {
-        push_item_rule(out, section, &holding.item)?;
-    }
-    push_allowed(out, section)
+    push_section_rule(out, section, line)
 }

@@ -45,7 +45,8 @@ abbrev pub misfit_reason : Bool → List ℕ
 misfit_reason adds = if adds then codes "\nboth are increments, which are in no conflict\n" else codes "\nthe two are there in the other order\n"
 
 abbrev pub misfit_text : Logged → Logged → List ℕ
-misfit_text one other = pair_text one other ++ misfit_reason (is_increment one.entry && is_increment other.entry)
+misfit_text one other =
+    pair_text one other ++ misfit_reason (is_increment one.entry && is_increment other.entry)
 
 abbrev pub reason_text : Unmet → Option Logged → Option Logged → List ℕ
 reason_text u (Some one) (Some other) = misfit_text one other
@@ -66,4 +67,6 @@ other_text (Some m) = met_text m
 other_text None = []
 
 abbrev pub walk_step_text : Unmet → List ℕ
-walk_step_text u = step_head u ++ (wish_text u.from u.step ++ (reason_text u u.first u.second ++ other_text u.other))
+walk_step_text u =
+    step_head u ++ (wish_text u.from u.step
+    ++ (reason_text u u.first u.second ++ other_text u.other))

@@ -24,7 +24,8 @@ abbrev pub Does : Bool → Name → Entry → Type 0
 Does true x e = Reads x e
 Does false x e = Writes x e
 
--- the entry shown is one of these, with its line: the transaction's own, which reads or changes the item; none is shown where there is none
+-- the entry shown is one of these, with its line: the transaction's own, which reads or changes the
+-- item; none is shown where there is none
 pub record ShowsOwn (entries : List Logged) (tx : ℕ) (reads : Bool) (x : Name) (shown : Option Logged) : Type 0 where
   pub there : IfSome shown (λ l. Contains entries l × (tx_of l.entry ≡ tx) × Does reads x l.entry)
   pub none : IfNone shown (All (λ l. tx_of l.entry ≡ tx → Does reads x l.entry → ⊥) entries)
@@ -37,10 +38,12 @@ pub record StandsBefore (entries : List Logged) (one other : Logged) : Type 0 wh
   pub second : slice_get entries q ≡ Some other
   pub before : p < q
 
--- two entries that a step is about, the first its own and the second that of the transaction that it leads to, are no conflict of its
+-- two entries that a step is about, the first its own and the second that of the transaction that
+-- it leads to, are no conflict of its
 -- kind: both are increments, or they stand in the other order
 abbrev pub AreMisfit : List Logged → Logged → Logged → Type 0
-AreMisfit entries one other = (IsIncrement one.entry × IsIncrement other.entry) ⊎ StandsBefore entries other one
+AreMisfit entries one other = (IsIncrement one.entry × IsIncrement other.entry)
+    ⊎ StandsBefore entries other one
 
 -- the conflict of the one transaction with the other that is there
 pub record MeetsThere (entries : List Logged) (tx : ℕ) (step : Step) (met : Met) : Type 0 where

@@ -93,7 +93,8 @@ pub fn is_met(entries: &[Logged], from: Tx, step: &Step) -> bool
 
 /// The conflict that the second entry is in with the first, of the transactions of the step and on its item.
 fn met_by(from: Tx, step: &Step, first: &Logged, second: &Logged) -> Option<Met>
-    ensures { IfSome result (λ m. (m.first ≡ first.now) × (m.second ≡ second.now) × (tx_of m.first.entry ≡ from)
+    ensures { IfSome result
+        (λ m. (m.first ≡ first.now) × (m.second ≡ second.now) × (tx_of m.first.entry ≡ from)
         × Clash m.kind step.now.label.item m.first.entry m.second.entry) }
 {
     if first.entry.tx() != from {
@@ -115,7 +116,8 @@ fn met_with(entries: &[Logged], from: Tx, step: &Step, second: &Logged) -> Optio
     ensures among { IfSome result (λ m. Contains entries.now m.first) }
     ensures from { IfSome result (λ m. tx_of m.first.entry ≡ from) }
     ensures to { IfSome result (λ m. tx_of m.second.entry ≡ step.now.to) }
-    ensures clash { IfSome result (λ m. Clash m.kind step.now.label.item m.first.entry m.second.entry) }
+    ensures clash { IfSome result
+        (λ m. Clash m.kind step.now.label.item m.first.entry m.second.entry) }
 {
     let item = &step.label.item;
     let is_on_it = second.entry.reads(item) || second.entry.writes(item);

@@ -60,11 +60,14 @@ pub fn step_at(decisions: &[Decision], number: usize, place: usize) -> Option<Un
 pub fn with_entries(unmet: &Unmet, entries: &[Logged]) -> Option<Unmet>
     ensures same { IfSome result (SameStep unmet.now) }
     ensures broken { IfSome result (λ u.
-        Conflicts (entries_of entries.now) u.step.label.kind u.step.label.item u.from u.step.to → ⊥) }
+        Conflicts (entries_of entries.now) u.step.label.kind u.step.label.item u.from u.step.to
+        → ⊥) }
     ensures first { IfSome result (λ u.
-        ShowsOwn entries.now u.from (begins_with_read u.step.label.kind) u.step.label.item u.first) }
+        ShowsOwn entries.now u.from
+        (begins_with_read u.step.label.kind) u.step.label.item u.first) }
     ensures second { IfSome result (λ u.
-        ShowsOwn entries.now u.step.to (ends_with_read u.step.label.kind) u.step.label.item u.second) }
+        ShowsOwn entries.now u.step.to
+        (ends_with_read u.step.label.kind) u.step.label.item u.second) }
     ensures other { IfSome result (λ u. IfSome u.other (MeetsThere entries.now u.from u.step)) }
 {
     let from = unmet.from;

@@ -63,7 +63,8 @@ fn push_wish(out: &mut String, from: Tx, step: &Step) -> Result<(), AllocError>
 
 /// That the transaction has no such entry on the item.
 fn push_absent(out: &mut String, tx: Tx, step: &Step, reads: bool) -> Result<(), AllocError>
-    ensures { OnOk result (string_bytes out.new ≡ string_bytes out.old ++ absent_text tx step.now reads) }
+    ensures { OnOk result
+        (string_bytes out.new ≡ string_bytes out.old ++ absent_text tx step.now reads) }
 {
     let item = step.label.item;
     let what = deed(reads);
@@ -72,7 +73,8 @@ fn push_absent(out: &mut String, tx: Tx, step: &Step, reads: bool) -> Result<(),
 
 /// Two entries, with a line break between them.
 fn push_pair(out: &mut String, one: &Logged, other: &Logged) -> Result<(), AllocError>
-    ensures { OnOk result (string_bytes out.new ≡ string_bytes out.old ++ pair_text one.now other.now) }
+    ensures { OnOk result
+        (string_bytes out.new ≡ string_bytes out.old ++ pair_text one.now other.now) }
 {
     push_logged(out, one)?;
     out.push_str("\n")?;
@@ -97,7 +99,8 @@ fn misfit_reason(adds: bool) -> &'static str
 
 /// Why two entries that are there are no such conflict.
 fn push_misfit(out: &mut String, one: &Logged, other: &Logged) -> Result<(), AllocError>
-    ensures { OnOk result (string_bytes out.new ≡ string_bytes out.old ++ misfit_text one.now other.now) }
+    ensures { OnOk result
+        (string_bytes out.new ≡ string_bytes out.old ++ misfit_text one.now other.now) }
 {
     let adds = are_increments(one, other);
     push_pair(out, one, other)?;
@@ -106,7 +109,9 @@ fn push_misfit(out: &mut String, one: &Logged, other: &Logged) -> Result<(), All
 
 /// Why a step is no conflict of the logs.
 fn push_reason(out: &mut String, unmet: &Unmet) -> Result<(), AllocError>
-    ensures { OnOk result (string_bytes out.new ≡ string_bytes out.old ++ reason_text unmet.now unmet.now.first unmet.now.second) }
+    ensures { OnOk result
+        (string_bytes out.new
+        ≡ string_bytes out.old ++ reason_text unmet.now unmet.now.first unmet.now.second) }
 {
     let step = &unmet.step;
     let kind = step.label.kind;
@@ -149,7 +154,8 @@ fn push_other(out: &mut String, other: &Option<Met>) -> Result<(), AllocError>
 
 /// F17: a step of a walk that is no conflict of the logs.
 pub fn push_walk_step(out: &mut String, unmet: &Unmet) -> Result<(), AllocError>
-    ensures { OnOk result (string_bytes out.new ≡ string_bytes out.old ++ walk_step_text unmet.now) }
+    ensures { OnOk result
+        (string_bytes out.new ≡ string_bytes out.old ++ walk_step_text unmet.now) }
 {
     push_head(out, unmet)?;
     push_wish(out, unmet.from, &unmet.step)?;

@@ -17,4 +17,5 @@ pub record IsTaken (begins took : List (List ℕ) → Type 0) (told : Option (Li
 -- at the end of what the bytes told spell, or at their first line that can't be read
 abbrev pub IsStop : (begins took : List (List ℕ) → Type 0) → Option (List ℕ) → Stop → Type 0
 IsStop begins took told Ended = IsTaken begins took told
-IsStop begins took told (Unreadable line fault) = (fault ≢ Memory) × IfSome told (λ bytes. IsFirstUnreadable begins bytes line fault)
+IsStop begins took told (Unreadable line fault) = (fault ≢ Memory)
+    × IfSome told (λ bytes. IsFirstUnreadable begins bytes line fault)

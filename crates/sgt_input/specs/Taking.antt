@@ -2,11 +2,13 @@
 use Rattle.std.specs.Prelude.{◌≡◌, ℕ, Bool, true, false, List, [], ◌∷◌, ◌++◌}
 
 -- behind these lines the line is taken, where an input may go on with it, or may not stand there
-abbrev pub TakesLine : (begins took : List (List ℕ) → Type 0) → List (List ℕ) → List ℕ → Bool → Type 0
+abbrev pub TakesLine : (begins took : List (List ℕ) → Type 0) → List (List ℕ) → List ℕ → Bool
+    → Type 0
 TakesLine begins took lines line true = begins (lines ++ line ∷ []) × took (lines ++ line ∷ [])
 TakesLine begins took lines line false = begins (lines ++ line ∷ []) → ⊥
 
--- ---- of values that are kept of the lines: which of them an input may begin with, and what lines they have
+-- ---- of values that are kept of the lines: which of them an input may begin with, and what lines
+-- they have
 
 -- these are the lines of what is kept
 abbrev pub HasLines : {A : Type 0} → (A → Type 0) → (A → List (List ℕ)) → A → List (List ℕ) → Type 0
@@ -17,6 +19,9 @@ abbrev pub BeginsSo : {A : Type 0} → (A → Type 0) → (A → List (List ℕ)
 BeginsSo {A} Is lines_of lines = (kept : A) × Is kept × (lines ≡ lines_of kept)
 
 -- with the line the old value becomes the new one, or no input goes on with it
-abbrev pub Continues : {A : Type 0} → (A → Type 0) → (A → List (List ℕ)) → A → List ℕ → A → Bool → Type 0
-Continues {A} Is lines_of old line new true = Is old → Is new × (lines_of new ≡ lines_of old ++ line ∷ [])
-Continues {A} Is lines_of old line new false = Is old → BeginsSo Is lines_of (lines_of old ++ line ∷ []) → ⊥
+abbrev pub Continues : {A : Type 0} → (A → Type 0) → (A → List (List ℕ)) → A → List ℕ → A → Bool
+    → Type 0
+Continues {A} Is lines_of old line new true = Is old
+    → Is new × (lines_of new ≡ lines_of old ++ line ∷ [])
+Continues {A} Is lines_of old line new false = Is old
+    → BeginsSo Is lines_of (lines_of old ++ line ∷ []) → ⊥

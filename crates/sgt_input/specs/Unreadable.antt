@@ -1,4 +1,5 @@
--- The first line of an input that can't be read, where it is known which lines an input may begin with.
+-- The first line of an input that can't be read, where it is known which lines an input may begin
+-- with.
 use Rattle.std.specs.Prelude.{◌≡◌, ◌≤◌, ◌⊎◌, ℕ, ◌+◌, List, [], ◌∷◌, ◌++◌, length}
 use Rattle.sgt_notation.specs.Limits.{max_line}
 use Rattle.sgt_notation.specs.Lines.{IsLongerThan}
@@ -21,7 +22,8 @@ pub record IsCutOff (before : List (List ℕ)) (rest : List ℕ) : Type 0 where
   pub short : length rest ≤ max_line
   pub empty : rest ≡ [] → before ≡ []
 
--- why the line that comes behind these can't be read. (Of the faults of lines want of memory is none.)
+-- why the line that comes behind these can't be read. (Of the faults of lines want of memory is
+-- none.)
 abbrev pub Blocks : (List (List ℕ) → Type 0) → List (List ℕ) → List ℕ → NotationFault → Type 0
 Blocks begins before rest NotALine = IsMisplaced begins before rest ⊎ IsCutOff before rest
 Blocks begins before rest TooLong = IsLongerThan max_line rest

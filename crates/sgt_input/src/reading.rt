@@ -41,7 +41,8 @@ pub fn read_lines<R: Source, T: Taker>(
     requires begins { T.begins [] }
     requires fresh { T.took taker.old [] }
     ensures stops { IfOk result (IsStop T.begins (T.took taker.new) (R.tells reader.old)) }
-    ensures quiet { result ≢ Err EngineFail.ReadFault → R.failures reader.new ≡ R.failures reader.old }
+    ensures quiet { result ≢ Err EngineFail.ReadFault
+        → R.failures reader.new ≡ R.failures reader.old }
     ensures read_fault { IsErrOf result EngineFail.ReadFault → ReadFaultIsDue (R.tells reader.old)
         (R.failures reader.old) (R.failures reader.new) (R.asked reader.old) (R.asked reader.new) }
     ensures write_fault { result ≢ Err EngineFail.WriteFault }

@@ -1,4 +1,5 @@
--- What a reader tells over one read, and a writer over one write: of its bytes, and of how often it has failed.
+-- What a reader tells over one read, and a writer over one write: of its bytes, and of how often it
+-- has failed.
 use Rattle.std.specs.Prelude.{◌≡◌, ◌≤◌, ◌<◌, ℕ, ◌+◌, List, ◌++◌, length, take, ⊤, Option, Some, None, Result, Ok, Err}
 use Rattle.std.specs.Io.KnownBytes.{Consumes, Appends, IsAtEnd}
 
@@ -8,13 +9,17 @@ KeepsOrForgets None new = ⊤
 KeepsOrForgets (Some xs) None = ⊤
 KeepsOrForgets (Some xs) (Some ys) = ys ≡ xs
 
--- a read takes n bytes off the front and puts them into the front of the buffer; 0 only at the end, or without room
-abbrev pub TakesFront : {E : Type 0} → Option (List ℕ) → Option (List ℕ) → Result ℕ E → List ℕ → Type 0
-TakesFront old new (Ok n) buffer = Consumes old new (take n buffer) × (n ≡ 0 → 0 < length buffer → IsAtEnd new)
+-- a read takes n bytes off the front and puts them into the front of the buffer; 0 only at the end,
+-- or without room
+abbrev pub TakesFront : {E : Type 0} → Option (List ℕ) → Option (List ℕ) → Result ℕ E → List ℕ
+    → Type 0
+TakesFront old new (Ok n) buffer = Consumes old new (take n buffer)
+    × (n ≡ 0 → 0 < length buffer → IsAtEnd new)
 TakesFront old new (Err e) buffer = KeepsOrForgets old new
 
 -- a write puts the first n of the bytes behind those written before
-abbrev pub PutsBehind : {E : Type 0} → Option (List ℕ) → Option (List ℕ) → Result ℕ E → List ℕ → Type 0
+abbrev pub PutsBehind : {E : Type 0} → Option (List ℕ) → Option (List ℕ) → Result ℕ E → List ℕ
+    → Type 0
 PutsBehind old new (Ok n) bytes = Appends old new (take n bytes)
 PutsBehind old new (Err e) bytes = KeepsOrForgets old new
 

@@ -14,7 +14,8 @@ use Rattle.sgt_names.specs.declared.entry.Change.TheVariants.{Put, Add}
 use Rattle.sgt_names.specs.declared.draft.Seen.{Seen}
 use Rattle.sgt_names.specs.declared.draft.Touch.{Touch}
 
--- what contracts see of a draft: the items that it touches, by rising site and name, and whether one more fits
+-- what contracts see of a draft: the items that it touches, by rising site and name, and whether
+-- one more fits
 pub record DraftView : Type 0 where
   pub touched : List Touch
   pub has_room : Bool
@@ -71,7 +72,8 @@ seen_at ts p = option_and_then (λ t. t.seen) (touched_at ts p)
 abbrev pub change_at : List Touch → Place → Option Change
 change_at ts p = option_and_then (λ t. t.change) (touched_at ts p)
 
--- a change with an increment behind it, as one change: of a write a write of the sum, of an increment an increment by it
+-- a change with an increment behind it, as one change: of a write a write of the sum, of an
+-- increment an increment by it
 abbrev pub added_to : Option Change → ℕ → Change
 added_to None v = Add v
 added_to (Some (Put u)) v = Put ((u + v) % 2 ^ 64)
@@ -85,7 +87,8 @@ look_of t = value_with_any (option_map (λ seen. seen.value) t.seen) t.change
 abbrev pub Touches : List Touch → ℕ → Type 0
 Touches ts s = Any (λ t. (t.site ≡ s) × IsUsed t) ts
 
--- the new list has this item touched so, in the place of what the old one had there, and is the old one elsewhere
+-- the new list has this item touched so, in the place of what the old one had there, and is the old
+-- one elsewhere
 pub record ChangesOnly (old new : List Touch) (touch : Touch) : Type 0 where
   pub front : List Touch
   pub there : Option Touch

@@ -6,7 +6,8 @@ use Rattle.sgt_names.specs.Ordered.{IsRisingBy}
 use Rattle.sgt_names.specs.Draft.{AreRising, IsUsed}
 use Rattle.sgt_names.specs.declared.draft.Touch.{Touch}
 
--- what contracts see of a part: its site, the items that it touches there, and whether one more fits
+-- what contracts see of a part: its site, the items that it touches there, and whether one more
+-- fits
 pub record PartView : Type 0 where
   pub site : ℕ
   pub touched : List Touch

@@ -1,7 +1,8 @@
 -- Sources and sinks over memory.
 use Rattle.std.specs.Prelude.{◌≡◌, ℕ, ◌+◌, ◌-◌, ◌<◌, ◌^◌, List, ◌++◌, length, take, drop, min, Option, Some, option_map}
 
--- what contracts see of a source: the bytes that are left, how many it gives at a read at most, how many more reads succeed where not
+-- what contracts see of a source: the bytes that are left, how many it gives at a read at most, how
+-- many more reads succeed where not
 -- all do, how often it has failed, and how often it was asked
 pub record Supply : Type 0 where
   pub rest : List ℕ
@@ -18,9 +19,15 @@ MustFail s = (s.good ≡ Some 0) × (s.failures < 2 ^ 64 - 1)
 pub record Supplies (old new : Supply) (buffer buffer' : List ℕ) (n : ℕ) : Type 0 where
   pub size : n ≡ min (min (length old.rest) old.per_read) (length buffer)
   pub given : buffer' ≡ take n old.rest ++ drop n buffer
-  pub left : new ≡ record old { rest = drop n old.rest; good = option_map (λ g. g - 1) old.good; asked = old.asked + 1 }
+  pub left : new
+      ≡ record old {
+        rest = drop n old.rest;
+        good = option_map (λ g. g - 1) old.good;
+        asked = old.asked + 1;
+      }
 
--- what contracts see of a sink: the bytes that it took, how many more it takes, and how often it has failed
+-- what contracts see of a sink: the bytes that it took, how many more it takes, and how often it
+-- has failed
 pub record Room : Type 0 where
   pub bytes : List ℕ
   pub room : ℕ

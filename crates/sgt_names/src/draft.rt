@@ -46,16 +46,20 @@ impl Kept {
 
     // Keeps a read; answers whether the list is too long with it.
     fn seen(&mut self, site: SiteNo, item: Item, seen: Seen) -> Result<bool, AllocError>
-        ensures ok { OnOk result (ChangesOnly (view_of self.old).touched (view_of self.new).touched (record {
-          site = site;
-          item = item;
-          seen = Some seen;
-          change = change_at (view_of self.old).touched (site, item);
-        })) }
+        ensures ok { OnOk result
+            (ChangesOnly (view_of self.old).touched (view_of self.new).touched (record {
+              site = site;
+              item = item;
+              seen = Some seen;
+              change = change_at (view_of self.old).touched (site, item);
+            })) }
         ensures err { OnErr result (view_of self.new ≡ view_of self.old) }
-        ensures succeeds { IsTrue (view_of self.old).has_room ⊎ IsSome (touched_at (view_of self.old).touched (site, item)) → IsOk result }
-        ensures room { IsSome (touched_at (view_of self.old).touched (site, item)) → (view_of self.new).has_room ≡ (view_of self.old).has_room }
-        ensures known { IsSome (touched_at (view_of self.old).touched (site, item)) → IfOk result (λ long. long ≡ false) }
+        ensures succeeds { IsTrue (view_of self.old).has_room
+            ⊎ IsSome (touched_at (view_of self.old).touched (site, item)) → IsOk result }
+        ensures room { IsSome (touched_at (view_of self.old).touched (site, item))
+            → (view_of self.new).has_room ≡ (view_of self.old).has_room }
+        ensures known { IsSome (touched_at (view_of self.old).touched (site, item))
+            → IfOk result (λ long. long ≡ false) }
     {
         match self {
             Kept::Few(list) => {
@@ -80,16 +84,20 @@ impl Kept {
 
     // Keeps a private change, in place of an earlier one; answers whether the list is too long with it.
     fn set_change(&mut self, site: SiteNo, item: Item, change: Change) -> Result<bool, AllocError>
-        ensures ok { OnOk result (ChangesOnly (view_of self.old).touched (view_of self.new).touched (record {
-          site = site;
-          item = item;
-          seen = seen_at (view_of self.old).touched (site, item);
-          change = Some change;
-        })) }
+        ensures ok { OnOk result
+            (ChangesOnly (view_of self.old).touched (view_of self.new).touched (record {
+              site = site;
+              item = item;
+              seen = seen_at (view_of self.old).touched (site, item);
+              change = Some change;
+            })) }
         ensures err { OnErr result (view_of self.new ≡ view_of self.old) }
-        ensures succeeds { IsTrue (view_of self.old).has_room ⊎ IsSome (touched_at (view_of self.old).touched (site, item)) → IsOk result }
-        ensures room { IsSome (touched_at (view_of self.old).touched (site, item)) → (view_of self.new).has_room ≡ (view_of self.old).has_room }
-        ensures known { IsSome (touched_at (view_of self.old).touched (site, item)) → IfOk result (λ long. long ≡ false) }
+        ensures succeeds { IsTrue (view_of self.old).has_room
+            ⊎ IsSome (touched_at (view_of self.old).touched (site, item)) → IsOk result }
+        ensures room { IsSome (touched_at (view_of self.old).touched (site, item))
+            → (view_of self.new).has_room ≡ (view_of self.old).has_room }
+        ensures known { IsSome (touched_at (view_of self.old).touched (site, item))
+            → IfOk result (λ long. long ≡ false) }
     {
         match self {
             Kept::Few(list) => {
@@ -226,8 +234,10 @@ impl Draft {
           change = change_at self.old.touched (site, item);
         })) }
         ensures err { OnErr result (self.new ≡ self.old) }
-        ensures succeeds { IsTrue self.old.has_room ⊎ IsSome (touched_at self.old.touched (site, item)) → IsOk result }
-        ensures room { IsSome (touched_at self.old.touched (site, item)) → self.new.has_room ≡ self.old.has_room }
+        ensures succeeds { IsTrue self.old.has_room
+            ⊎ IsSome (touched_at self.old.touched (site, item)) → IsOk result }
+        ensures room { IsSome (touched_at self.old.touched (site, item))
+            → self.new.has_room ≡ self.old.has_room }
     {
         let seen = Seen { value, version };
         if self.kept.seen(site, item, seen)? {
@@ -246,8 +256,10 @@ impl Draft {
           change = Some (Put value);
         })) }
         ensures err { OnErr result (self.new ≡ self.old) }
-        ensures succeeds { IsTrue self.old.has_room ⊎ IsSome (touched_at self.old.touched (site, item)) → IsOk result }
-        ensures room { IsSome (touched_at self.old.touched (site, item)) → self.new.has_room ≡ self.old.has_room }
+        ensures succeeds { IsTrue self.old.has_room
+            ⊎ IsSome (touched_at self.old.touched (site, item)) → IsOk result }
+        ensures room { IsSome (touched_at self.old.touched (site, item))
+            → self.new.has_room ≡ self.old.has_room }
     {
         self.set_change(site, item, Change::Put(value))
     }
@@ -263,8 +275,10 @@ impl Draft {
           change = Some (added_to (change_at self.old.touched (site, item)) value);
         })) }
         ensures err { OnErr result (self.new ≡ self.old) }
-        ensures succeeds { IsTrue self.old.has_room ⊎ IsSome (touched_at self.old.touched (site, item)) → IsOk result }
-        ensures room { IsSome (touched_at self.old.touched (site, item)) → self.new.has_room ≡ self.old.has_room }
+        ensures succeeds { IsTrue self.old.has_room
+            ⊎ IsSome (touched_at self.old.touched (site, item)) → IsOk result }
+        ensures room { IsSome (touched_at self.old.touched (site, item))
+            → self.new.has_room ≡ self.old.has_room }
     {
         let change = sum(self.change(site, item), value);
         self.set_change(site, item, change)
@@ -287,8 +301,10 @@ impl Draft {
           change = Some change;
         })) }
         ensures err { OnErr result (self.new ≡ self.old) }
-        ensures succeeds { IsTrue self.old.has_room ⊎ IsSome (touched_at self.old.touched (site, item)) → IsOk result }
-        ensures room { IsSome (touched_at self.old.touched (site, item)) → self.new.has_room ≡ self.old.has_room }
+        ensures succeeds { IsTrue self.old.has_room
+            ⊎ IsSome (touched_at self.old.touched (site, item)) → IsOk result }
+        ensures room { IsSome (touched_at self.old.touched (site, item))
+            → self.new.has_room ≡ self.old.has_room }
     {
         if self.kept.set_change(site, item, change)? {
             self.kept.spread();
@@ -310,7 +326,8 @@ impl Draft {
     /// over what is touched at the site.
     pub fn kept(&self, site: SiteNo, n: usize) -> Option<(Item, Value, u64)>
         ensures nth { result ≡ slice_get (kept_in (at_site site self.now.touched)) n }
-        ensures rising { IsRisingBy (λ k. k.0) (slice_cmp nat_cmp) (kept_in (at_site site self.now.touched)) }
+        ensures rising { IsRisingBy (λ k. k.0) (slice_cmp nat_cmp)
+            (kept_in (at_site site self.now.touched)) }
     {
         nth_kept(self.at(site), n)
     }
@@ -318,7 +335,8 @@ impl Draft {
     /// The private write or increment of this number at a site, counted from 0 by rising item. Goes over what is touched at the site.
     pub fn writing(&self, site: SiteNo, n: usize) -> Option<(Item, Change)>
         ensures nth { result ≡ slice_get (writing_in (at_site site self.now.touched)) n }
-        ensures rising { IsRisingBy (λ w. w.0) (slice_cmp nat_cmp) (writing_in (at_site site self.now.touched)) }
+        ensures rising { IsRisingBy (λ w. w.0) (slice_cmp nat_cmp)
+            (writing_in (at_site site self.now.touched)) }
     {
         nth_writing(self.at(site), n)
     }

@@ -71,8 +71,10 @@ impl Part {
         ensures site { self.new.site ≡ self.old.site }
         ensures ok { OnOk result (ChangesOnly self.old.touched self.new.touched touch) }
         ensures err { OnErr result (self.new ≡ self.old) }
-        ensures succeeds { IsTrue self.old.has_room ⊎ IsSome (touched_at self.old.touched (place_of touch)) → IsOk result }
-        ensures room { IsSome (touched_at self.old.touched (place_of touch)) → self.new.has_room ≡ self.old.has_room }
+        ensures succeeds { IsTrue self.old.has_room
+            ⊎ IsSome (touched_at self.old.touched (place_of touch)) → IsOk result }
+        ensures room { IsSome (touched_at self.old.touched (place_of touch))
+            → self.new.has_room ≡ self.old.has_room }
         ensures part { IsPart self.new }
     {
         let kept = self.list.keep(touch);
@@ -171,8 +173,10 @@ impl Parts {
         requires { IsUsed touch }
         ensures ok { OnOk result (ChangesOnly self.old.touched self.new.touched touch) }
         ensures err { OnErr result (self.new ≡ self.old) }
-        ensures succeeds { IsTrue self.old.has_room ⊎ IsSome (touched_at self.old.touched (place_of touch)) → IsOk result }
-        ensures room { IsSome (touched_at self.old.touched (place_of touch)) → self.new.has_room ≡ self.old.has_room }
+        ensures succeeds { IsTrue self.old.has_room
+            ⊎ IsSome (touched_at self.old.touched (place_of touch)) → IsOk result }
+        ensures room { IsSome (touched_at self.old.touched (place_of touch))
+            → self.new.has_room ≡ self.old.has_room }
     {
         match find(self.parts.as_slice(), touch.site) {
             Ok(at) => self.parts[at].keep(touch),
@@ -208,10 +212,13 @@ fn add_part(
     requires used { IsUsed touch }
     requires blank { spare.old.items ≡ [] }
     ensures ok { OnOk result (InsertsPart parts.old.items parts.new.items at touch) }
-    ensures err { OnErr result ((parts.new.items ≡ parts.old.items) × (vec_len parts.new ≡ vec_len parts.old)) }
+    ensures err { OnErr result
+        ((parts.new.items ≡ parts.old.items) × (vec_len parts.new ≡ vec_len parts.old)) }
     ensures blank { spare.new.items ≡ [] }
-    ensures full { OnErr result (vec_len parts.old < vec_capacity parts.old → 0 < vec_capacity spare.old → ⊥) }
-    ensures stays_full { OnErr result (vec_len parts.new < vec_capacity parts.new → 0 < vec_capacity spare.new → ⊥) }
+    ensures full { OnErr result
+        (vec_len parts.old < vec_capacity parts.old → 0 < vec_capacity spare.old → ⊥) }
+    ensures stays_full { OnErr result
+        (vec_len parts.new < vec_capacity parts.new → 0 < vec_capacity spare.new → ⊥) }
 {
     spare.reserve(1)?;
     parts.reserve(1)?;
@@ -226,10 +233,13 @@ fn add_part(
 // Makes room for one more item at each site.
 fn make_rooms(parts: &mut Vec<Part>) -> Result<(), AllocError>
     ensures same { touched_in parts.new.items ≡ touched_in parts.old.items }
-    ensures parts { PartsRise parts.old.items × All IsPart parts.old.items → PartsRise parts.new.items × All IsPart parts.new.items }
+    ensures parts { PartsRise parts.old.items × All IsPart parts.old.items
+        → PartsRise parts.new.items × All IsPart parts.new.items }
     ensures ok { OnOk result (all_fit parts.new.items ≡ true) }
-    ensures err { OnErr result ((all_fit parts.old.items ≡ false) × (all_fit parts.new.items ≡ false)) }
-    ensures slots { (vec_len parts.new ≡ vec_len parts.old) × (vec_capacity parts.new ≡ vec_capacity parts.old) }
+    ensures err { OnErr result
+        ((all_fit parts.old.items ≡ false) × (all_fit parts.new.items ≡ false)) }
+    ensures slots { (vec_len parts.new ≡ vec_len parts.old)
+        × (vec_capacity parts.new ≡ vec_capacity parts.old) }
 {
     for at in 0..parts.len() {
         parts[at].room()?;

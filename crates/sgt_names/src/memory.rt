@@ -37,7 +37,14 @@ impl<'a> MemSource<'a> {
     /// one fails (2^64 - 1 of them); 0 counts as 1.
     pub fn new(bytes: &'a [u8], per_read: usize, fail_at: Option<u64>) -> MemSource<'a>
         requires { 0 < per_read }
-        ensures { result ≡ record { rest = bytes.entry.now; per_read = per_read; good = option_map (λ at. at - 1) fail_at; failures = 0; asked = 0 } }
+        ensures { result
+            ≡ record {
+              rest = bytes.entry.now;
+              per_read = per_read;
+              good = option_map (λ at. at - 1) fail_at;
+              failures = 0;
+              asked = 0;
+            } }
     {
         MemSource {
             rest: bytes,
@@ -65,7 +72,11 @@ impl Source for MemSource<'_> {
         // and, of this source, exactly when it fails and what it gives
         ensures must_fail { IsErr result ↔ MustFail self.old }
         ensures ok { IfOk result (Supplies self.old self.new buffer.old buffer.new) }
-        ensures err { OnErr result ((self.new ≡ record self.old { failures = self.old.failures + 1; asked = self.old.asked + 1 })
+        ensures err { OnErr result
+            ((self.new ≡ record self.old {
+              failures = self.old.failures + 1;
+              asked = self.old.asked + 1;
+            })
             × (buffer.new ≡ buffer.old)) }
     {
         self.asks = self.asks.one_more();
@@ -130,8 +141,10 @@ impl Sink for MemSink {
     ghost failures = { λ s. s.failures };
 
     fn write(&mut self, bytes: &[u8]) -> Result<usize, Failed>
-        ensures bytes { PutsBehind (if nat_lt self.old.failures (2 ^ 64 - 1) then Some self.old.bytes else None)
-            (if nat_lt self.new.failures (2 ^ 64 - 1) then Some self.new.bytes else None) result bytes.now }
+        ensures bytes { PutsBehind
+            (if nat_lt self.old.failures (2 ^ 64 - 1) then Some self.old.bytes else None)
+            (if nat_lt self.new.failures (2 ^ 64 - 1) then Some self.new.bytes
+            else None) result bytes.now }
         ensures count { AtMost result (length bytes.now) }
         ensures some { TakesSome result (length bytes.now) }
         ensures fails { CountsFailures result self.old.failures self.new.failures }
@@ -139,8 +152,10 @@ impl Sink for MemSink {
         // and, of this sink, exactly when it fails and what it takes
         ensures is_full { IsErr result ↔ IsFull self.old bytes.now }
         ensures ok { (IsSpent self.old → ⊥) → IfOk result (Takes self.old self.new bytes.now) }
-        ensures spent { IsSpent self.old → IfOk result (λ n. (n ≡ length bytes.now) × (self.new ≡ self.old)) }
-        ensures err { OnErr result (self.new ≡ record self.old { failures = self.old.failures + 1 }) }
+        ensures spent { IsSpent self.old
+            → IfOk result (λ n. (n ≡ length bytes.now) × (self.new ≡ self.old)) }
+        ensures err { OnErr result
+            (self.new ≡ record self.old { failures = self.old.failures + 1 }) }
     {
         let n = bytes.len().min(self.room);
         if n == 0 && !bytes.is_empty() {

@@ -107,9 +107,12 @@ impl TouchList {
           change = change_at self.old.touched (site, item);
         })) }
         ensures err { OnErr result (self.new ≡ self.old) }
-        ensures succeeds { IsTrue self.old.has_room ⊎ IsSome (touched_at self.old.touched (site, item)) → IsOk result }
-        ensures room { IsSome (touched_at self.old.touched (site, item)) → self.new.has_room ≡ self.old.has_room }
-        ensures same { IsSome (touched_at self.old.touched (site, item)) → length self.new.touched ≡ length self.old.touched }
+        ensures succeeds { IsTrue self.old.has_room
+            ⊎ IsSome (touched_at self.old.touched (site, item)) → IsOk result }
+        ensures room { IsSome (touched_at self.old.touched (site, item))
+            → self.new.has_room ≡ self.old.has_room }
+        ensures same { IsSome (touched_at self.old.touched (site, item))
+            → length self.new.touched ≡ length self.old.touched }
     {
         match search(self.touched.as_slice(), site, item) {
             Ok(at) => {
@@ -142,9 +145,12 @@ impl TouchList {
           change = Some change;
         })) }
         ensures err { OnErr result (self.new ≡ self.old) }
-        ensures succeeds { IsTrue self.old.has_room ⊎ IsSome (touched_at self.old.touched (site, item)) → IsOk result }
-        ensures room { IsSome (touched_at self.old.touched (site, item)) → self.new.has_room ≡ self.old.has_room }
-        ensures same { IsSome (touched_at self.old.touched (site, item)) → length self.new.touched ≡ length self.old.touched }
+        ensures succeeds { IsTrue self.old.has_room
+            ⊎ IsSome (touched_at self.old.touched (site, item)) → IsOk result }
+        ensures room { IsSome (touched_at self.old.touched (site, item))
+            → self.new.has_room ≡ self.old.has_room }
+        ensures same { IsSome (touched_at self.old.touched (site, item))
+            → length self.new.touched ≡ length self.old.touched }
     {
         match search(self.touched.as_slice(), site, item) {
             Ok(at) => {
@@ -169,8 +175,10 @@ impl TouchList {
         requires { IsUsed touch }
         ensures ok { OnOk result (ChangesOnly self.old.touched self.new.touched touch) }
         ensures err { OnErr result (self.new ≡ self.old) }
-        ensures succeeds { IsTrue self.old.has_room ⊎ IsSome (touched_at self.old.touched (place_of touch)) → IsOk result }
-        ensures room { IsSome (touched_at self.old.touched (place_of touch)) → self.new.has_room ≡ self.old.has_room }
+        ensures succeeds { IsTrue self.old.has_room
+            ⊎ IsSome (touched_at self.old.touched (place_of touch)) → IsOk result }
+        ensures room { IsSome (touched_at self.old.touched (place_of touch))
+            → self.new.has_room ≡ self.old.has_room }
     {
         match search(self.touched.as_slice(), touch.site, touch.item) {
             Ok(at) => {
@@ -217,7 +225,8 @@ fn part_at(touched: &[Touch], site: SiteNo) -> &[Touch]
 fn count_below(touched: &[Touch], site: SiteNo) -> usize
     requires { AreRising touched.now }
     ensures within { result ≤ length touched.now }
-    ensures point { IsPartitionPoint (λ t. nat_lt t.site site ≡ true) (λ t. nat_lt t.site site ≡ false) touched.now result }
+    ensures point { IsPartitionPoint (λ t. nat_lt t.site site ≡ true)
+        (λ t. nat_lt t.site site ≡ false) touched.now result }
 {
     touched.partition_point(|t| t.site.number() < site.number())
 }
@@ -226,7 +235,8 @@ fn count_below(touched: &[Touch], site: SiteNo) -> usize
 fn count_upto(touched: &[Touch], site: SiteNo) -> usize
     requires { AreRising touched.now }
     ensures within { result ≤ length touched.now }
-    ensures point { IsPartitionPoint (λ t. leb t.site site ≡ true) (λ t. leb t.site site ≡ false) touched.now result }
+    ensures point { IsPartitionPoint (λ t. leb t.site site ≡ true)
+        (λ t. leb t.site site ≡ false) touched.now result }
 {
     touched.partition_point(|t| t.site.number() <= site.number())
 }
@@ -246,7 +256,8 @@ pub(crate) fn look_at(touch: &Touch) -> Option<Value>
 fn insert_touch(touched: &mut Vec<Touch>, at: usize, touch: Touch) -> Result<(), AllocError>
     requires { at ≤ vec_len touched.old }
     ensures ok { OnOk result (touched.new.items ≡ insert touched.old.items at touch) }
-    ensures err { OnErr result ((touched.new.items ≡ touched.old.items) × (vec_len touched.new ≡ vec_len touched.old)
+    ensures err { OnErr result
+        ((touched.new.items ≡ touched.old.items) × (vec_len touched.new ≡ vec_len touched.old)
         × (vec_capacity touched.new ≡ vec_capacity touched.old)) }
     ensures succeeds { vec_len touched.old < vec_capacity touched.old → IsOk result }
 {

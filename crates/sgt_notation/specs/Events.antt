@@ -84,9 +84,11 @@ pub record IsSiteLine (l : SiteLine) : Type 0 where
   pub room : length l.items ≤ max_items
   pub rising : IsRisingBy (λ h. h.item) (slice_cmp nat_cmp) l.items
 
--- What a reading of a site's line gives: the site that it spells; or L1 or L2, where it spells none; or want of memory, where it
+-- What a reading of a site's line gives: the site that it spells; or L1 or L2, where it spells
+-- none; or want of memory, where it
 -- spells a site with some item.
 abbrev pub ReadsSite : List ℕ → Result SiteLine NotationFault → Type 0
 ReadsSite line (Ok l) = IsSiteLine l × (line ≡ site_text l)
-ReadsSite line (Err Memory) = (l : SiteLine) × IsSiteLine l × (0 < length l.items) × (line ≡ site_text l)
+ReadsSite line (Err Memory) = (l : SiteLine) × IsSiteLine l × (0 < length l.items)
+    × (line ≡ site_text l)
 ReadsSite line (Err e) = Refuses line e × SpellsNone IsSiteLine site_text line

@@ -1,4 +1,5 @@
--- What a reader of lines has ahead of it, what comes next of it, and what a call that asks for it gives.
+-- What a reader of lines has ahead of it, what comes next of it, and what a call that asks for it
+-- gives.
 use Rattle.std.specs.Prelude.{◌≡◌, ◌≢◌, ◌<◌, ◌≤◌, ℕ, ◌+◌, ◌-◌, ◌*◌, ◌^◌, ◌⊎◌, ⊤}
 use Rattle.std.specs.Prelude.{List, [], ◌∷◌, ◌++◌, length, take, drop, Option, Some, None, IfSome}
 use Rattle.std.specs.Io.KnownBytes.{prepend_known, Consumes}
@@ -33,9 +34,11 @@ IsLongerThan size bytes = (size < length bytes) × HasNoLf (take (size + 1) byte
 -- What comes next of these bytes, which line it is, and what is left of them.
 abbrev pub IsNext : ℕ → List ℕ → Next → List ℕ → List ℕ → Type 0
 -- a line with its LF, which is left out
-IsNext limit bytes Line line rest = HasNoLf line × (length line ≤ limit) × (bytes ≡ line ++ 10 ∷ rest)
+IsNext limit bytes Line line rest = HasNoLf line × (length line ≤ limit)
+    × (bytes ≡ line ++ 10 ∷ rest)
 -- the bytes after the last LF
-IsNext limit bytes Cut line rest = HasNoLf line × (0 < length line) × (length line ≤ limit) × (bytes ≡ line) × (rest ≡ [])
+IsNext limit bytes Cut line rest = HasNoLf line × (0 < length line) × (length line ≤ limit)
+    × (bytes ≡ line) × (rest ≡ [])
 -- a line that is longer than the limit. Some of its bytes stand in the line, the others are left
 IsNext limit bytes TooLong line rest = IsLongerThan limit bytes × (bytes ≡ line ++ rest)
 -- no bytes
@@ -68,7 +71,8 @@ SpendsNext End reads old reads' new = Spends reads old (reads' + 1) new
 
 -- ---- what a call gives
 
--- a reader of lines with its source: what is ahead of it, what the source tells, and how often that has failed
+-- a reader of lines with its source: what is ahead of it, what the source tells, and how often that
+-- has failed
 pub record Stream : Type 0 where
   pub ahead : Ahead
   pub told : Option (List ℕ)
@@ -87,7 +91,8 @@ pub record GaveNext (limit : ℕ) (old : Stream) (next : Next) (line : List ℕ)
   pub ended : (next ≡ Cut) ⊎ (next ≡ End) → new.ahead.reads < old.ahead.reads
   pub unlimited : limit ≡ 2 ^ 64 - 1 → next ≢ TooLong
 
--- a read fault is due: the source failed between these counts of its failures; or it was asked as often as lines may ask it, and each
+-- a read fault is due: the source failed between these counts of its failures; or it was asked as
+-- often as lines may ask it, and each
 -- read took a byte at least
 abbrev pub ReadFaultIsDue : Option (List ℕ) → (failures failures' asked asked' : ℕ) → Type 0
 ReadFaultIsDue told failures failures' asked asked' = (failures < failures')
@@ -99,7 +104,8 @@ Failed old new = (new.failures ≡ old.failures + 1) × (new.ahead.reads < old.a
 
 -- no read is left, and each of those that were made took a byte at least
 abbrev pub IsSpent : Stream → Stream → Type 0
-IsSpent old new = (new.ahead.reads ≡ 0) × (new.failures ≡ old.failures) × Spends old.ahead.reads old.told 0 new.told
+IsSpent old new = (new.ahead.reads ≡ 0) × (new.failures ≡ old.failures)
+    × Spends old.ahead.reads old.told 0 new.told
 
 -- a call that met a failing read, or had no read left: all that was read stands in the line
 pub record MetReadFault (old : Stream) (line : List ℕ) (new : Stream) : Type 0 where

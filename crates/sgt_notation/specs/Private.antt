@@ -1,4 +1,5 @@
--- Words of private clauses alone: parts of a line as they are read, and a look into the bytes that are held.
+-- Words of private clauses alone: parts of a line as they are read, and a look into the bytes that
+-- are held.
 use Rattle.std.specs.Prelude.{◌≡◌, ◌<◌, ◌≤◌, ℕ, ◌+◌, List, [], ◌∷◌, ◌++◌, length, take, drop, ⊤, Bool, true, false, Option, Some, None}
 use Rattle.sgt_names.specs.Name.{Name, IsName}
 use Rattle.sgt_notation.specs.Spelling.{operation, HasNoLf, IsTx, IsValue}
@@ -16,15 +17,19 @@ operation_text o = operation o.0 o.1 o.2
 
 -- ---- a look
 
--- What a look into the held bytes gave, and the line that it made longer by n of them: a whole line, too long a line
+-- What a look into the held bytes gave, and the line that it made longer by n of them: a whole
+-- line, too long a line
 -- (of which it took nothing), or all of them with no LF.
 abbrev pub Looks : ℕ → List ℕ → List ℕ → Option Next → ℕ → List ℕ → Type 0
 Looks limit held line (Some Line) n line' = (n < length held) × HasNoLf (take n held)
-    × (held ≡ take n held ++ 10 ∷ drop (n + 1) held) × (line' ≡ line ++ take n held) × (length line' ≤ limit)
-Looks limit held line (Some TooLong) n line' = (n ≤ length held) × HasNoLf (take n held) × (limit < length line + n) × (line' ≡ line)
+    × (held ≡ take n held ++ 10 ∷ drop (n + 1) held) × (line' ≡ line ++ take n held)
+    × (length line' ≤ limit)
+Looks limit held line (Some TooLong) n line' = (n ≤ length held) × HasNoLf (take n held)
+    × (limit < length line + n) × (line' ≡ line)
 Looks limit held line (Some Cut) n line' = ⊥
 Looks limit held line (Some End) n line' = ⊥
-Looks limit held line None n line' = (n ≡ length held) × HasNoLf held × (line' ≡ line ++ held) × (length line' ≤ limit)
+Looks limit held line None n line' = (n ≡ length held) × HasNoLf held × (line' ≡ line ++ held)
+    × (length line' ≤ limit)
 
 -- what is held after such a look: the LF is taken with its line
 abbrev pub IsLeft : List ℕ → Option Next → ℕ → List ℕ → Type 0
@@ -44,7 +49,8 @@ Moves None old new = old ≡ new
 
 -- the line and some held bytes with no LF are more than the room, and within the limit
 abbrev pub Outgrows : (room limit : ℕ) → List ℕ → List ℕ → Type 0
-Outgrows room limit line held = (n : ℕ) × (n ≤ length held) × HasNoLf (take n held) × (room < length line + n) × (length line + n ≤ limit)
+Outgrows room limit line held = (n : ℕ) × (n ≤ length held) × HasNoLf (take n held)
+    × (room < length line + n) × (length line + n ≤ limit)
 
 -- ---- places
 

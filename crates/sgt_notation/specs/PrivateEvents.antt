@@ -1,4 +1,5 @@
--- Words of private clauses alone: parts of the line of an event, and of a site's line as it is read.
+-- Words of private clauses alone: parts of the line of an event, and of a site's line as it is
+-- read.
 use Rattle.std.specs.Prelude.{◌≡◌, ℕ, ◌-◌, ◌<◌, Bool, true, false, List, [], ◌∷◌, length, map, Option, Some, None, ◌==◌}
 use Rattle.std.specs.List.{slice_split}
 use Rattle.std.specs.Ordering.{nat_cmp}
@@ -64,7 +65,8 @@ IsBehind (Some y) x = slice_cmp nat_cmp y x ≡ Less
 -- items that may stand behind that name, where so many more fit
 abbrev pub MayFollow : Option Name → ℕ → List Holding → Type 0
 MayFollow last room [] = Unit {0}
-MayFollow last room (h ∷ hs) = IsHolding h × ((0 < room) × IsBehind last h.item) × MayFollow (Some h.item) (room - 1) hs
+MayFollow last room (h ∷ hs) = IsHolding h × ((0 < room) × IsBehind last h.item)
+    × MayFollow (Some h.item) (room - 1) hs
 
 -- items that these words spell, and what was kept of them: all, or not all where there are some
 pub record Keeps (all : List (List ℕ)) (items : List Holding) (kept : Bool) : Type 0 where
@@ -76,5 +78,7 @@ pub record Keeps (all : List (List ℕ)) (items : List Holding) (kept : Bool) : 
 
 -- the line spells a site of this number, and so much was kept of its items
 abbrev pub KeepsSite : List ℕ → ℕ → List Holding → Bool → Type 0
-KeepsSite line k items true = IsSiteLine (record { site = k; items = items }) × (line ≡ site_text (record { site = k; items = items }))
-KeepsSite line k items false = (l : SiteLine) × IsSiteLine l × (0 < length l.items) × (line ≡ site_text l)
+KeepsSite line k items true = IsSiteLine (record { site = k; items = items })
+    × (line ≡ site_text (record { site = k; items = items }))
+KeepsSite line k items false = (l : SiteLine) × IsSiteLine l × (0 < length l.items)
+    × (line ≡ site_text l)

@@ -49,7 +49,9 @@ pub record KeepsAll (all : List (List ℕ)) (kept_ops : List Op) (kept : Bool) :
   pub spelled : all ≡ map op_text ops
   pub whole : kept ≡ true → kept_ops ≡ ops
 
--- the line spells a script, whose operations were kept; or it is refused as `read_script` refuses it
+-- the line spells a script, whose operations were kept; or it is refused as `read_script` refuses
+-- it
 abbrev pub KeepsScript : List ℕ → List Op → Result (Unit {0}) NotationFault → Type 0
-KeepsScript line ops (Ok u) = IsScript (record { operations = ops }) × (line ≡ script_text (record { operations = ops }))
+KeepsScript line ops (Ok u) = IsScript (record { operations = ops })
+    × (line ≡ script_text (record { operations = ops }))
 KeepsScript line ops (Err e) = ReadsScript line (Err e)

@@ -46,17 +46,21 @@ HasSource earlier _ = Unit {0}
 abbrev pub AreSourcesNamed : List Op → Type 0
 AreSourcesNamed ops = (n : ℕ) (op : Op) → slice_get ops n ≡ Some op → HasSource (take n ops) op
 
--- a script that a line may give: one operation or more, their sources named, and no longer than a line may be
+-- a script that a line may give: one operation or more, their sources named, and no longer than a
+-- line may be
 pub record IsScript (s : Script) : Type 0 where
   pub each : All IsOp s.operations
   pub some : 1 ≤ length s.operations
   pub named : AreSourcesNamed s.operations
   pub room : length (script_text s) ≤ max_line
 
--- What a reading of a script's line gives: the script that it spells; or L1 or L2, where it spells none; or want of memory, where
--- it spells one operation or more and isn't too long. Whether their sources are named can't be told without memory.
+-- What a reading of a script's line gives: the script that it spells; or L1 or L2, where it spells
+-- none; or want of memory, where
+-- it spells one operation or more and isn't too long. Whether their sources are named can't be told
+-- without memory.
 abbrev pub ReadsScript : List ℕ → Result Script NotationFault → Type 0
 ReadsScript line (Ok s) = IsScript s × (line ≡ script_text s)
 ReadsScript line (Err Memory) =
-    (s : Script) × All IsOp s.operations × (1 ≤ length s.operations) × (line ≡ script_text s) × (length line ≤ max_line)
+    (s : Script) × All IsOp s.operations × (1 ≤ length s.operations) × (line ≡ script_text s)
+    × (length line ≤ max_line)
 ReadsScript line (Err e) = Refuses line e × SpellsNone IsScript script_text line

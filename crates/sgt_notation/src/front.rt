@@ -139,7 +139,8 @@ fn name_at(bytes: &[u8], from: usize, end: u8) -> Option<(Item, usize)>
 
 /// `NAME=NUM`, and the place behind it.
 fn holding_at(bytes: &[u8], from: usize) -> Option<(Holding, usize)>
-    ensures { IfSome result (λ r. IsHolding r.0 × Spans bytes.now from (assignment r.0.item r.0.value) r.1) }
+    ensures { IfSome result
+        (λ r. IsHolding r.0 × Spans bytes.now from (assignment r.0.item r.0.value) r.1) }
 {
     let (item, to) = name_at(bytes, from, b'=')?;
     let (value, to) = value_at(bytes, byte_at(bytes, to, b'=')?)?;
@@ -193,7 +194,8 @@ fn of_operation(
 /// The line of an end that this letter and a transaction's number spell, with this number.
 #[inline(always)]
 fn of_tx(letter: u8, tx: Tx, to: usize) -> Option<(SectionLine, usize)>
-    ensures { IfSome result (λ r. (line_text r.0 ≡ letter ∷ decimal tx) × (r.1 ≡ to) × (IsTx tx → IsLine r.0)) }
+    ensures { IfSome result
+        (λ r. (line_text r.0 ≡ letter ∷ decimal tx) × (r.1 ≡ to) × (IsTx tx → IsLine r.0)) }
 {
     match letter {
         b'c' => Some((SectionLine::Logged(Entry::Commit { tx }), to)),
@@ -219,7 +221,8 @@ fn line_end(bytes: &[u8], from: usize, wants_lf: bool) -> Option<usize>
 /// The line of an entry at the front, and the place behind it, or behind its LF.
 #[inline(always)]
 fn front_entry(bytes: &[u8], wants_lf: bool) -> Option<(SectionLine, usize)>
-    ensures { IfSome result (λ r. IsLine r.0 × Spans bytes.now 0 (line_text r.0 ++ ending wants_lf) r.1) }
+    ensures { IfSome result
+        (λ r. IsLine r.0 × Spans bytes.now 0 (line_text r.0 ++ ending wants_lf) r.1) }
 {
     let letter = *bytes.first()?;
     let (tx, to) = tx_at(bytes, 1)?;
@@ -255,7 +258,8 @@ fn word_line(bytes: &[u8]) -> Option<(SectionLine, usize)>
 /// The same, or the place behind its LF.
 #[inline(never)]
 fn front_word(bytes: &[u8], wants_lf: bool) -> Option<(SectionLine, usize)>
-    ensures { IfSome result (λ r. IsLine r.0 × Spans bytes.now 0 (line_text r.0 ++ ending wants_lf) r.1) }
+    ensures { IfSome result
+        (λ r. IsLine r.0 × Spans bytes.now 0 (line_text r.0 ++ ending wants_lf) r.1) }
 {
     let (line, to) = word_line(bytes)?;
     Some((line, line_end(bytes, to, wants_lf)?))
@@ -264,7 +268,8 @@ fn front_word(bytes: &[u8], wants_lf: bool) -> Option<(SectionLine, usize)>
 /// The line of a section at the front, and the place behind it, or behind its LF.
 #[inline(always)]
 pub(crate) fn front_section(bytes: &[u8], wants_lf: bool) -> Option<(SectionLine, usize)>
-    ensures { IfSome result (λ r. IsLine r.0 × Spans bytes.now 0 (line_text r.0 ++ ending wants_lf) r.1) }
+    ensures { IfSome result
+        (λ r. IsLine r.0 × Spans bytes.now 0 (line_text r.0 ++ ending wants_lf) r.1) }
 {
     match bytes.first() {
         Some(b'e' | b'f' | b'i' | b's') => {
@@ -280,7 +285,9 @@ pub(crate) fn front_section(bytes: &[u8], wants_lf: bool) -> Option<(SectionLine
 /// None says nothing of the bytes: there may be such a line, but this function doesn't find it.
 #[inline(always)]
 pub fn front_line(bytes: &[u8]) -> Option<(SectionLine, usize)>
-    ensures { IfSome result (λ r. IsLine r.0 × (r.1 ≤ length bytes.now) × (take r.1 bytes.now ≡ line_text r.0 ++ 10 ∷ [])) }
+    ensures { IfSome result
+        (λ r. IsLine r.0 × (r.1 ≤ length bytes.now)
+        × (take r.1 bytes.now ≡ line_text r.0 ++ 10 ∷ [])) }
 {
     front_section(bytes, true)
 }

@@ -95,7 +95,8 @@ fn look_in(
     ensures looks { IfOk result (λ r. Looks limit held.now line.old.items r.0 r.1 line.new.items) }
     ensures left { IfOk result (λ r. IsLeft held.now r.0 r.1 (drop r.2 held.now)) }
     ensures used { IfOk result (λ r. (r.2 ≤ length held.now) × (r.0 ≡ Some Next.Line → 0 < r.2)) }
-    ensures unlimited { length held.now ≤ buffer_size → limit ≡ 2 ^ 64 - 1 → IfOk result (λ r. r.0 ≢ Some Next.TooLong) }
+    ensures unlimited { length held.now ≤ buffer_size → limit ≡ 2 ^ 64 - 1
+        → IfOk result (λ r. r.0 ≢ Some Next.TooLong) }
     ensures err { IfErr result (λ e. e ≡ LinesFault.Memory) }
     ensures kept { OnErr result (line.new.items ≡ line.old.items) }
     ensures wanted { OnErr result (Outgrows (vec_capacity line.old) limit line.old.items held.now) }
@@ -171,8 +172,10 @@ impl Lines {
     /// bytes. None says nothing of what comes: `next` tells that.
     #[inline(always)]
     pub fn next_held(&mut self) -> Option<SectionLine>
-        ensures some { (limit : ℕ) (told : Option (List ℕ)) (failures : ℕ) → 50 ≤ limit → IfSome result (λ l. IsLine l
-            × GaveNext limit (stream self.old told failures) Next.Line (line_text l) (stream self.new told failures)) }
+        ensures some { (limit : ℕ) (told : Option (List ℕ)) (failures : ℕ) → 50 ≤ limit
+            → IfSome result (λ l. IsLine l
+            × GaveNext limit (stream self.old told failures) Next.Line (line_text l)
+            (stream self.new told failures)) }
         ensures none { IfNone result (self.new ≡ self.old) }
     {
         let (line, n) = front_line(self.held())?;
@@ -183,15 +186,20 @@ impl Lines {
     /// Reads once into the empty buffer; 0 is the end.
     fn fill<S: Source>(&mut self, source: &mut S) -> Result<usize, LinesFault>
         requires { self.old.held ≡ [] }
-        ensures ok { IfOk result (λ n. Consumes (S.tells source.old) (S.tells source.new) self.new.held
-            × (length self.new.held ≡ n) × (n ≤ buffer_size) × (n ≡ 0 → IsAtEnd (S.tells source.new))
-            × (self.old.reads ≡ self.new.reads + 1) × (S.failures source.new ≡ S.failures source.old)) }
+        ensures ok { IfOk result
+            (λ n. Consumes (S.tells source.old) (S.tells source.new) self.new.held
+            × (length self.new.held ≡ n) × (n ≤ buffer_size)
+            × (n ≡ 0 → IsAtEnd (S.tells source.new))
+            × (self.old.reads ≡ self.new.reads + 1)
+            × (S.failures source.new ≡ S.failures source.old)) }
         ensures fault { OnErr result (
-            ((S.failures source.new ≡ S.failures source.old + 1) × (self.old.reads ≡ self.new.reads + 1))
+            ((S.failures source.new ≡ S.failures source.old + 1)
+            × (self.old.reads ≡ self.new.reads + 1))
             ⊎ ((self.old.reads ≡ 0) × (self.new.reads ≡ 0) × (source.new ≡ source.old))) }
         ensures counted { self.old.reads ≤ self.new.reads + 1 }
         ensures asks { S.asked source.new + self.new.reads ≡ S.asked source.old + self.old.reads }
-        ensures left { OnErr result ((self.new.held ≡ []) × Leaves (S.tells source.old) [] (S.tells source.new)) }
+        ensures left { OnErr result
+            ((self.new.held ≡ []) × Leaves (S.tells source.old) [] (S.tells source.new)) }
         ensures err { IfErr result (λ e. e ≡ LinesFault.ReadFault) }
     {
         if self.reads == 0 {
@@ -216,16 +224,19 @@ impl Lines {
         limit: usize,
     ) -> Result<(Option<Next>, usize), LinesFault>
         requires { vec_len line.old ≤ limit }
-        ensures looks { IfOk result (λ r. Looks limit self.old.held line.old.items r.0 r.1 line.new.items) }
+        ensures looks { IfOk result
+            (λ r. Looks limit self.old.held line.old.items r.0 r.1 line.new.items) }
         ensures left { IfOk result (λ r. IsLeft self.old.held r.0 r.1 self.new.held) }
         ensures reads { self.new.reads ≡ self.old.reads }
         ensures moved { IfOk result (λ r. Moves r.0 (length self.old.held + length line.old.items)
             (length self.new.held + length line.new.items)) }
-        ensures falls { IfOk result (λ r. r.0 ≡ Some Next.Line → length self.new.held < length self.old.held) }
+        ensures falls { IfOk result
+            (λ r. r.0 ≡ Some Next.Line → length self.new.held < length self.old.held) }
         ensures unlimited { limit ≡ 2 ^ 64 - 1 → IfOk result (λ r. r.0 ≢ Some Next.TooLong) }
         ensures err { IfErr result (λ e. e ≡ LinesFault.Memory) }
         ensures kept { OnErr result ((line.new.items ≡ line.old.items) × (self.new ≡ self.old)) }
-        ensures wanted { OnErr result (Outgrows (vec_capacity line.old) limit line.old.items self.old.held) }
+        ensures wanted { OnErr result
+            (Outgrows (vec_capacity line.old) limit line.old.items self.old.held) }
         ensures capacity { vec_capacity line.old ≤ vec_capacity line.new }
     {
         let (found, n, used) = look_in(&self.buffer[self.start..self.end], line, limit)?;
@@ -254,7 +265,8 @@ impl Lines {
             IsErrOf result LinesFault.ReadFault → MetReadFault old line.new.items new }
         ensures memory { let old = stream self.old (S.tells source.old) (S.failures source.old) in
             let new = stream self.new (S.tells source.new) (S.failures source.new) in
-            IsErrOf result LinesFault.Memory → WantedMemory limit (vec_capacity line.old) old line.new.items new }
+            IsErrOf result LinesFault.Memory
+            → WantedMemory limit (vec_capacity line.old) old line.new.items new }
         // of each of these
         ensures line { HasNoLf line.new.items × (length line.new.items ≤ limit) }
         ensures capacity { vec_capacity line.old ≤ vec_capacity line.new }

@@ -13,7 +13,8 @@ use sgt_names::{Entry, Holding, Item, Tx, Value};
 
 /// What stands before the first such byte, and what after it.
 pub(crate) fn cut(bytes: &[u8], at: u8) -> Option<(&[u8], &[u8])>
-    ensures some { IfSome result (λ r. (bytes.now ≡ r.0.now ++ at ∷ r.1.now) × All (λ b. b ≢ at) r.0.now) }
+    ensures some { IfSome result
+        (λ r. (bytes.now ≡ r.0.now ++ at ∷ r.1.now) × All (λ b. b ≢ at) r.0.now) }
     ensures none { IfNone result (All (λ b. b ≢ at) bytes.now) }
 {
     let n = bytes.iter().position(|byte| *byte == at)?;
@@ -22,7 +23,8 @@ pub(crate) fn cut(bytes: &[u8], at: u8) -> Option<(&[u8], &[u8])>
 
 /// What stands behind this word at the front.
 pub(crate) fn behind<'a>(bytes: &'a [u8], word: &[u8]) -> Option<&'a [u8]>
-    ensures { MatchOption result ((rest : List ℕ) → bytes.entry.now ≢ word.now ++ rest) (λ r. bytes.entry.now ≡ word.now ++ r.now) }
+    ensures { MatchOption result ((rest : List ℕ) → bytes.entry.now ≢ word.now ++ rest)
+        (λ r. bytes.entry.now ≡ word.now ++ r.now) }
 {
     bytes.strip_prefix(word)
 }

@@ -109,7 +109,8 @@ fn find_op(word: &[u8]) -> Option<Op>
 fn keep_ops(ops: &mut Vec<Op>, line: &[u8]) -> Option<bool>
     requires { ops.old.items ≡ [] }
     ensures some { IfSome result (KeepsAll (words line.now) ops.new.items) }
-    ensures none { IfNone result ((os : List AnOp) → All IsOp os → words line.now ≢ map op_text os) }
+    ensures none { IfNone result
+        ((os : List AnOp) → All IsOp os → words line.now ≢ map op_text os) }
 {
     let mut rest = Some(line);
     let mut kept = true;

@@ -17,7 +17,8 @@ use std::alloc::Global;
 
 /// The first word, and what stands behind its space, if it has one.
 pub(crate) fn first_word(text: &[u8]) -> (&[u8], Option<&[u8]>)
-    ensures words { words text.now ≡ result.0.now ∷ words_behind (option_map (λ r. r.now) result.1) }
+    ensures words { words text.now
+        ≡ result.0.now ∷ words_behind (option_map (λ r. r.now) result.1) }
     ensures shorter { IfSome result.1 (λ r. length r.now < length text.now) }
 {
     match cut(text, b' ') {
@@ -52,7 +53,8 @@ fn may_follow(last: Option<Item>, room: usize, item: &Item) -> bool
 /// Keeps the items that these words spell: whether there was room for all. `None` where they spell no items.
 fn keep_items(items: &mut Vec<Holding>, text: Option<&[u8]>) -> Option<bool>
     requires { items.old.items ≡ [] }
-    ensures some { IfSome result (Keeps (words_behind (option_map (λ t. t.now) text.entry)) items.new.items) }
+    ensures some { IfSome result
+        (Keeps (words_behind (option_map (λ t. t.now) text.entry)) items.new.items) }
     ensures none { IfNone result ((hs : List Listing) → MayFollow None max_items hs
         → words_behind (option_map (λ t. t.now) text.entry) ≢ item_words hs) }
 {

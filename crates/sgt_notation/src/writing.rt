@@ -24,7 +24,8 @@ fn push_operation(out: &mut Vec<u8>, tx: Tx, item: &Item, value: Value) -> Resul
     ensures ok { OnOk result (out.new.items ≡ out.old.items ++ operation tx item.now value) }
     ensures in_range { OnOk result (IsTx tx × IsName item.now × IsValue value) }
     ensures err { OnErr result (take (vec_len out.old) out.new.items ≡ out.old.items) }
-    ensures room { vec_len out.old + length (operation tx item.now value) ≤ vec_capacity out.old → IsOk result }
+    ensures room { vec_len out.old + length (operation tx item.now value) ≤ vec_capacity out.old
+        → IsOk result }
     ensures capacity { vec_capacity out.old ≤ vec_capacity out.new }
 {
     push_number(out, tx.number() as u64)?;
@@ -35,10 +36,12 @@ fn push_operation(out: &mut Vec<u8>, tx: Tx, item: &Item, value: Value) -> Resul
 }
 
 fn push_assignment(out: &mut Vec<u8>, holding: &Holding) -> Result<(), AllocError>
-    ensures ok { OnOk result (out.new.items ≡ out.old.items ++ assignment holding.now.item holding.now.value) }
+    ensures ok { OnOk result
+        (out.new.items ≡ out.old.items ++ assignment holding.now.item holding.now.value) }
     ensures in_range { OnOk result (IsHolding holding.now) }
     ensures err { OnErr result (take (vec_len out.old) out.new.items ≡ out.old.items) }
-    ensures room { vec_len out.old + length (assignment holding.now.item holding.now.value) ≤ vec_capacity out.old → IsOk result }
+    ensures room { vec_len out.old + length (assignment holding.now.item holding.now.value)
+        ≤ vec_capacity out.old → IsOk result }
     ensures capacity { vec_capacity out.old ≤ vec_capacity out.new }
 {
     out.extend_from_slice(holding.item.as_bytes())?;
@@ -50,7 +53,8 @@ fn push_entry(out: &mut Vec<u8>, entry: &Entry) -> Result<(), AllocError>
     ensures ok { OnOk result (out.new.items ≡ out.old.items ++ entry_text entry.now) }
     ensures in_range { OnOk result (IsEntry entry.now) }
     ensures err { OnErr result (take (vec_len out.old) out.new.items ≡ out.old.items) }
-    ensures room { vec_len out.old + length (entry_text entry.now) ≤ vec_capacity out.old → IsOk result }
+    ensures room { vec_len out.old + length (entry_text entry.now) ≤ vec_capacity out.old
+        → IsOk result }
     ensures capacity { vec_capacity out.old ≤ vec_capacity out.new }
 {
     match entry {
@@ -93,7 +97,8 @@ fn push_line(out: &mut Vec<u8>, line: &SectionLine) -> Result<(), AllocError>
     ensures ok { OnOk result (out.new.items ≡ out.old.items ++ line_text line.now) }
     ensures in_range { OnOk result (IsLine line.now) }
     ensures err { OnErr result (take (vec_len out.old) out.new.items ≡ out.old.items) }
-    ensures room { vec_len out.old + length (line_text line.now) ≤ vec_capacity out.old → IsOk result }
+    ensures room { vec_len out.old + length (line_text line.now) ≤ vec_capacity out.old
+        → IsOk result }
     ensures capacity { vec_capacity out.old ≤ vec_capacity out.new }
 {
     match line {
@@ -120,7 +125,8 @@ pub fn write_entry(out: &mut Vec<u8>, entry: &Entry) -> Result<(), AllocError>
     ensures ok { OnOk result (out.new.items ≡ out.old.items ++ entry_text entry.now) }
     ensures in_range { OnOk result (IsEntry entry.now) }
     ensures err { OnErr result (out.new.items ≡ out.old.items) }
-    ensures room { vec_len out.old + length (entry_text entry.now) ≤ vec_capacity out.old → IsOk result }
+    ensures room { vec_len out.old + length (entry_text entry.now) ≤ vec_capacity out.old
+        → IsOk result }
     ensures capacity { vec_capacity out.old ≤ vec_capacity out.new }
 {
     write_section(out, &SectionLine::Logged(*entry))
@@ -132,7 +138,8 @@ pub fn write_section(out: &mut Vec<u8>, line: &SectionLine) -> Result<(), AllocE
     ensures ok { OnOk result (out.new.items ≡ out.old.items ++ line_text line.now) }
     ensures in_range { OnOk result (IsLine line.now) }
     ensures err { OnErr result (out.new.items ≡ out.old.items) }
-    ensures room { vec_len out.old + length (line_text line.now) ≤ vec_capacity out.old → IsOk result }
+    ensures room { vec_len out.old + length (line_text line.now) ≤ vec_capacity out.old
+        → IsOk result }
     ensures capacity { vec_capacity out.old ≤ vec_capacity out.new }
 {
     let before = out.len();

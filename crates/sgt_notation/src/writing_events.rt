@@ -14,7 +14,8 @@ fn push_access(out: &mut Vec<u8>, tx: Tx, site: SiteNo, item: &Item) -> Result<(
     ensures ok { OnOk result (out.new.items ≡ out.old.items ++ access tx site item.now) }
     ensures in_range { OnOk result (IsTx tx × (IsSite site × IsName item.now)) }
     ensures err { OnErr result (take (vec_len out.old) out.new.items ≡ out.old.items) }
-    ensures room { vec_len out.old + length (access tx site item.now) ≤ vec_capacity out.old → IsOk result }
+    ensures room { vec_len out.old + length (access tx site item.now) ≤ vec_capacity out.old
+        → IsOk result }
     ensures capacity { vec_capacity out.old ≤ vec_capacity out.new }
 {
     push_number(out, tx.number() as u64)?;
@@ -35,7 +36,8 @@ fn push_update(
     ensures ok { OnOk result (out.new.items ≡ out.old.items ++ update tx site item.now value) }
     ensures in_range { OnOk result ((IsTx tx × (IsSite site × IsName item.now)) × IsValue value) }
     ensures err { OnErr result (take (vec_len out.old) out.new.items ≡ out.old.items) }
-    ensures room { vec_len out.old + length (update tx site item.now value) ≤ vec_capacity out.old → IsOk result }
+    ensures room { vec_len out.old + length (update tx site item.now value) ≤ vec_capacity out.old
+        → IsOk result }
     ensures capacity { vec_capacity out.old ≤ vec_capacity out.new }
 {
     push_access(out, tx, site, item)?;
@@ -60,7 +62,8 @@ fn push_event(out: &mut Vec<u8>, event: &EventLine) -> Result<(), AllocError>
     ensures ok { OnOk result (out.new.items ≡ out.old.items ++ event_text event.now) }
     ensures in_range { OnOk result (IsEventLine event.now) }
     ensures err { OnErr result (take (vec_len out.old) out.new.items ≡ out.old.items) }
-    ensures room { vec_len out.old + length (event_text event.now) ≤ vec_capacity out.old → IsOk result }
+    ensures room { vec_len out.old + length (event_text event.now) ≤ vec_capacity out.old
+        → IsOk result }
     ensures capacity { vec_capacity out.old ≤ vec_capacity out.new }
 {
     match event {
@@ -119,7 +122,8 @@ pub fn write_event(out: &mut Vec<u8>, event: &EventLine) -> Result<(), AllocErro
     ensures ok { OnOk result (out.new.items ≡ out.old.items ++ event_text event.now) }
     ensures in_range { OnOk result (IsEventLine event.now) }
     ensures err { OnErr result (out.new.items ≡ out.old.items) }
-    ensures room { vec_len out.old + length (event_text event.now) ≤ vec_capacity out.old → IsOk result }
+    ensures room { vec_len out.old + length (event_text event.now) ≤ vec_capacity out.old
+        → IsOk result }
     ensures capacity { vec_capacity out.old ≤ vec_capacity out.new }
 {
     let before = out.len();

@@ -41,7 +41,8 @@ pub(crate) fn admit_in(
 ) -> Result<(), Admit>
     requires rest { IsAtRest dag.old region.old.marks.items }
     requires node { IsSome (get dag.old.nodes new) }
-    requires admissible { IsAdmissible dag.old.nodes.generation dag.old.order.items new (in_window new offered.now) }
+    requires admissible { IsAdmissible dag.old.nodes.generation dag.old.order.items new
+        (in_window new offered.now) }
     requires members { vec_len dag.old.order + 1 < 2 ^ 64 }
     ensures sound { IsSound dag.new }
     ensures rows { RowsCover dag.new.rows.items dag.new.edges.items }
@@ -52,7 +53,8 @@ pub(crate) fn admit_in(
     ensures acyclic { OnOk result (IsAcyclic (Joins (edges_with dag.old new offered.now))) }
     ensures forward { OnOk result (LeadsToOlder new offered.now → ⊥) }
     ensures order { OnOk result
-        (IsPlaced (Joins (edges_with dag.old new offered.now)) dag.old.order.items new dag.new.order.items) }
+        (IsPlaced (Joins
+        (edges_with dag.old new offered.now)) dag.old.order.items new dag.new.order.items) }
     ensures edges { OnOk result (dag.new.edges.items ≡ edges_with dag.old new offered.now) }
     ensures keeps { OnErr result (KeepsRoom dag.old dag.new region.old.next region.new.next) }
     ensures fault { IfErr result (RefusesAdmission dag.old region.old.next new offered.now) }

@@ -60,7 +60,9 @@ pub(crate) fn are_among(words: &[u64], others: &[u64]) -> bool
 
 /// Sets a bit of a row. A row that can't have it has no words from then on.
 pub(crate) fn add(row: &mut Row, at: usize)
-    ensures kept { IsOpenRow row.new → IsOpenRow row.old × ((i : ℕ) → HasBit row.old.words.items i → HasBit row.new.words.items i) }
+    ensures kept { IsOpenRow row.new
+        → IsOpenRow row.old
+        × ((i : ℕ) → HasBit row.old.words.items i → HasBit row.new.words.items i) }
     ensures set { IsOpenRow row.new → HasBit row.new.words.items at }
 {
     if at / 64 < row.words.len() {

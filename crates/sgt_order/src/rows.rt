@@ -19,7 +19,8 @@ const WIDE: usize = 8;
 
 // Sets the bit of an edge, if the node that it comes from has a row.
 fn add_edge(rows: &mut [Row], edge: &Edge)
-    ensures { (over : List Joint) → RowsCover rows.old over → RowsCover rows.new (over ++ edge.now ∷ []) }
+    ensures { (over : List Joint) → RowsCover rows.old over
+        → RowsCover rows.new (over ++ edge.now ∷ []) }
 {
     let from = edge.from.index as usize;
     if from < rows.len() {
@@ -29,7 +30,8 @@ fn add_edge(rows: &mut [Row], edge: &Edge)
 
 /// Sets the bits of the edges of the window.
 pub(crate) fn add_edges(rows: &mut [Row], generation: u32, offered: &[Edge])
-    ensures { (over : List Joint) → RowsCover rows.old over → RowsCover rows.new (over ++ filter (is_present generation) offered.now) }
+    ensures { (over : List Joint) → RowsCover rows.old over
+        → RowsCover rows.new (over ++ filter (is_present generation) offered.now) }
 {
     for edge in offered {
         if is_present(generation, edge) {
@@ -41,7 +43,8 @@ pub(crate) fn add_edges(rows: &mut [Row], generation: u32, offered: &[Edge])
 // Sets the bits of the edges with these numbers.
 fn add_listed(row: &mut Row, listed: &[usize], edges: &[Edge])
     requires { (j n : ℕ) → slice_get listed.now j ≡ Some n → n < length edges.now }
-    ensures { IsOpenRow row.new → (e : Joint) → IsListed edges.now listed.now e → HasBit row.new.words.items e.to.index }
+    ensures { IsOpenRow row.new → (e : Joint) → IsListed edges.now listed.now e
+        → HasBit row.new.words.items e.to.index }
 {
     for number in listed {
         add(row, edges[*number].to.index as usize);
@@ -51,7 +54,9 @@ fn add_listed(row: &mut Row, listed: &[usize], edges: &[Edge])
 // The row of the edges with these numbers.
 fn row_of(alloc: Global, listed: &[usize], edges: &[Edge]) -> Result<Row, AllocError>
     requires { (j n : ℕ) → slice_get listed.now j ≡ Some n → n < length edges.now }
-    ensures { IfOk result (λ row. IsOpenRow row → (e : Joint) → IsListed edges.now listed.now e → HasBit row.words.items e.to.index) }
+    ensures { IfOk result
+        (λ row. IsOpenRow row → (e : Joint) → IsListed edges.now listed.now e
+        → HasBit row.words.items e.to.index) }
 {
     let mut row = Row {
         words: vec![in alloc; 0; WORDS]?,
@@ -63,7 +68,8 @@ fn row_of(alloc: Global, listed: &[usize], edges: &[Edge]) -> Result<Row, AllocE
 // Puts a row at this index, with empty ones in front of it where there are none.
 fn put_row(rows: &mut Vec<Row>, at: usize, row: Row) -> Result<(), AllocError>
     requires { at < 2 ^ 32 }
-    ensures { (over : List Joint) → RowsCover rows.old.items over → (IsOpenRow row → Covers over at row.words.items)
+    ensures { (over : List Joint) → RowsCover rows.old.items over
+        → (IsOpenRow row → Covers over at row.words.items)
         → RowsCover rows.new.items over }
 {
     let alloc = *rows.allocator();
@@ -87,7 +93,8 @@ fn open_row(
     from: Handle,
 ) -> Result<(), AllocError>
     requires lists { Lists nodes.now edges.now }
-    requires window { (n : ℕ) (e : Joint) → slice_get edges.now n ≡ Some e → e.from.generation ≡ nodes.now.generation }
+    requires window { (n : ℕ) (e : Joint) → slice_get edges.now n ≡ Some e
+        → e.from.generation ≡ nodes.now.generation }
     requires rows { RowsCover rows.old.items edges.now }
     ensures { RowsCover rows.new.items edges.now }
 {
@@ -108,7 +115,8 @@ fn open_row(
 /// Gives the nodes that these edges come from a row, if they have many edges. Where memory is refused they have none.
 pub(crate) fn open_rows(rows: &mut Vec<Row>, nodes: &Arena<Node>, edges: &[Edge], offered: &[Edge])
     requires lists { Lists nodes.now edges.now }
-    requires window { (n : ℕ) (e : Joint) → slice_get edges.now n ≡ Some e → e.from.generation ≡ nodes.now.generation }
+    requires window { (n : ℕ) (e : Joint) → slice_get edges.now n ≡ Some e
+        → e.from.generation ≡ nodes.now.generation }
     requires rows { RowsCover rows.old.items edges.now }
     ensures { RowsCover rows.new.items edges.now }
 {

@@ -25,20 +25,25 @@ outcome (No line fault) = Outcome_.No
 
 -- this verdict was written, and it is that of the bytes told
 abbrev pub Says : Verdict → (told written written' : Option (List ℕ)) → Type 0
-Says verdict told written written' = IfSome told (λ bytes. IsVerdict bytes verdict) × Appends written written' (text_of verdict)
+Says verdict told written written' = IfSome told (λ bytes. IsVerdict bytes verdict)
+    × Appends written written' (text_of verdict)
 
 -- a yes was said, and the headline holds of the bytes told
 abbrev pub SaysYes : (told written written' : Option (List ℕ)) → Type 0
 SaysYes told written written' =
-    IfSome told HoldsHeadline × ((committed refused withdrawn : ℕ) × Says (Yes committed refused withdrawn) told written written')
+    IfSome told HoldsHeadline
+    × ((committed refused withdrawn : ℕ)
+    × Says (Yes committed refused withdrawn) told written written')
 
 -- a no was said, and it names the first fault of the bytes told
 abbrev pub SaysNo : (told written written' : Option (List ℕ)) → Type 0
-SaysNo told written written' = (line : ℕ) × (fault : Fault) × Says (No line fault) told written written'
+SaysNo told written written' = (line : ℕ) × (fault : Fault)
+    × Says (No line fault) told written written'
 
 -- the serial run of the valid bundle that the bytes told spell was written
 abbrev pub ShowsRun : (told written written' : Option (List ℕ)) → Type 0
-ShowsRun told written written' = (text : List ℕ) × IsAnswer told Outcome_.Yes text × Appends written written' text
+ShowsRun told written written' = (text : List ℕ) × IsAnswer told Outcome_.Yes text
+    × Appends written written' text
 
 -- some text was written: the help
 abbrev pub ShowsHelp : (written written' : Option (List ℕ)) → Type 0
@@ -58,39 +63,47 @@ pub record AnswersSerial (status : ℕ) (told written written' : Option (List �
   pub known : status ≢ 2
   pub front : 3 ≤ status → serial.WroteAnswerFront told written written'
 
--- what an engine wrote, by the status: at 0, 1 and 2 its whole answer, and at 3 and 4 a front of one
+-- what an engine wrote, by the status: at 0, 1 and 2 its whole answer, and at 3 and 4 a front of
+-- one
 pub record ByStatus (Wrote : Outcome → Type 0) (Front : Type 0) (status : ℕ) : Type 0 where
   pub yes : status ≡ 0 → Wrote Outcome_.Yes
   pub no : status ≡ 1 → Wrote Outcome_.No
   pub unreadable : status ≡ 2 → Wrote Outcome_.Unreadable
   pub front : 3 ≤ status → Front
 
--- the replay: the replies with the bundle behind them, the replies with a refusal behind them where a transaction is active at
+-- the replay: the replies with the bundle behind them, the replies with a refusal behind them where
+-- a transaction is active at
 -- the end, or the line that can't be read
 abbrev pub AnswersReplay : (status : ℕ) (told written written' : Option (List ℕ)) → Type 0
 AnswersReplay status told written written' =
-    ByStatus (λ outcome. replay.WroteAnswer told outcome written written') (replay.WroteAnswerFront told written written') status
+    ByStatus (λ outcome. replay.WroteAnswer told outcome written written')
+    (replay.WroteAnswerFront told written written') status
 
--- the run of scripts: their lines, the verdict and the bundle, at 0 where each script was committed and the verdict is yes, and else
+-- the run of scripts: their lines, the verdict and the bundle, at 0 where each script was committed
+-- and the verdict is yes, and else
 -- at 1; the fault that ended the run, at 1; or the line that can't be read
 abbrev pub AnswersRun : (tries status : ℕ) (told written written' : Option (List ℕ)) → Type 0
 AnswersRun tries status told written written' =
-    ByStatus (λ outcome. run.WroteAnswer tries told outcome written written') (run.WroteAnswerFront tries told written written') status
+    ByStatus (λ outcome. run.WroteAnswer tries told outcome written written')
+    (run.WroteAnswerFront tries told written written') status
 
 -- the certificate of logs that have none: at 0 the bundle that was made, and at 1 a reason
 abbrev pub AnswersCertify : (status : ℕ) (told written written' : Option (List ℕ)) → Type 0
 AnswersCertify status told written written' =
-    ByStatus (λ outcome. certify.WroteAnswer told outcome written written') (certify.WroteAnswerFront told written written') status
+    ByStatus (λ outcome. certify.WroteAnswer told outcome written written')
+    (certify.WroteAnswerFront told written written') status
 
 -- the explanation: the line of the verdict, a yes at 0 and a no at 1, and what it means
 abbrev pub AnswersExplain : (status : ℕ) (told written written' : Option (List ℕ)) → Type 0
 AnswersExplain status told written written' =
-    ByStatus (λ outcome. explain.WroteExplained told outcome written written') (explain.WroteExplainedFront told written written') status
+    ByStatus (λ outcome. explain.WroteExplained told outcome written written')
+    (explain.WroteExplainedFront told written written') status
 
 -- the picture of a valid bundle at 0, and at 1 the line of a no
 abbrev pub AnswersDraw : (status : ℕ) (told written written' : Option (List ℕ)) → Type 0
 AnswersDraw status told written written' =
-    ByStatus (λ outcome. draw.WroteDrawn told outcome written written') (draw.WroteDrawnFront told written written') status
+    ByStatus (λ outcome. draw.WroteDrawn told outcome written written')
+    (draw.WroteDrawnFront told written written') status
 
 -- a rule: its text at 0, and nothing else but a front at 3 and 4
 pub record AnswersRule (status : ℕ) (written written' : Option (List ℕ)) : Type 0 where

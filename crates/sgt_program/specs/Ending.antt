@@ -19,21 +19,26 @@ status_of (Ran (Err Memory)) = 3
 status_of (Ran (Err ReadFault)) = 4
 status_of (Ran (Err WriteFault)) = 4
 
--- the reader failed between these counts of its failures, or it told more than the bound of reads allows
+-- the reader failed between these counts of its failures, or it told more than the bound of reads
+-- allows
 abbrev pub ReadFailed : Option (List ℕ) → (failures failures' : ℕ) → Type 0
-ReadFailed told failures failures' = (failures < failures') ⊎ IfSome told (λ bytes. most_reads ≤ length bytes)
+ReadFailed told failures failures' = (failures < failures')
+    ⊎ IfSome told (λ bytes. most_reads ≤ length bytes)
 
--- how the devices come out of a run that ends so: where no device is blamed none has failed, and where one is blamed it has;
+-- how the devices come out of a run that ends so: where no device is blamed none has failed, and
+-- where one is blamed it has;
 -- nothing is written for words that are no command, for want of memory and after a read that failed
 abbrev pub LeavesDevices : Ending → (quiet read_failed write_failed unwritten : Type 0) → Type 0
 LeavesDevices (Ran (Ok outcome)) quiet read_failed write_failed unwritten = quiet
 LeavesDevices NoCommand quiet read_failed write_failed unwritten = quiet × unwritten
 LeavesDevices (Ran (Err Memory)) quiet read_failed write_failed unwritten = quiet × unwritten
-LeavesDevices (Ran (Err ReadFault)) quiet read_failed write_failed unwritten = read_failed × unwritten
+LeavesDevices (Ran (Err ReadFault)) quiet read_failed write_failed unwritten = read_failed
+    × unwritten
 LeavesDevices (Ran (Err WriteFault)) quiet read_failed write_failed unwritten = write_failed
 
 -- the text was written; or the writer failed, and a front of the text was, less than the whole
-abbrev pub WroteOrFailed : (written written' : Option (List ℕ)) (failures failures' : ℕ) (text : List ℕ) → Type 0
+abbrev pub WroteOrFailed : (written written' : Option (List ℕ))
+    (failures failures' : ℕ) (text : List ℕ) → Type 0
 WroteOrFailed written written' failures failures' text = Appends written written' text
     ⊎ ((failures < failures') × WritesFront written written' text)
 
@@ -43,7 +48,8 @@ text_of_fail Memory = codes "sgt: memory\n"
 text_of_fail ReadFault = codes "sgt: read fault\n"
 text_of_fail WriteFault = codes "sgt: write fault\n"
 
--- what the error stream is told of a run that ends so: nothing of an answer, something of words that are no command,
+-- what the error stream is told of a run that ends so: nothing of an answer, something of words
+-- that are no command,
 -- and else why there is no answer
 abbrev pub TellsErrors : Ending → (silent : Type 0) → (tells : List ℕ → Type 0) → Type 0
 TellsErrors (Ran (Ok outcome)) silent tells = silent

@@ -21,7 +21,8 @@ fn finish<E: Sink>(errors: &mut E, run: Result<Outcome, EngineFail>) -> u8
     ensures status { result ≡ status_of (Ran run) }
     ensures silent { IsOk run → errors.new ≡ errors.old }
     ensures told { IfErr run (λ fail.
-        WroteOrFailed (E.holds errors.old) (E.holds errors.new) (E.failures errors.old) (E.failures errors.new) (text_of_fail fail)) }
+        WroteOrFailed (E.holds errors.old) (E.holds errors.new) (E.failures errors.old)
+        (E.failures errors.new) (text_of_fail fail)) }
 {
     if let Err(fail) = run {
         tell_fail(errors, fail);
@@ -32,7 +33,8 @@ fn finish<E: Sink>(errors: &mut E, run: Result<Outcome, EngineFail>) -> u8
 /// Says why there is no answer, and gives the exit status. Where the error stream fails too, the status is the same.
 pub fn give_up<E: Sink>(errors: &mut E, fail: EngineFail) -> u8
     ensures status { result ≡ status_of (Ran (Err fail)) }
-    ensures told { WroteOrFailed (E.holds errors.old) (E.holds errors.new) (E.failures errors.old) (E.failures errors.new)
+    ensures told { WroteOrFailed (E.holds errors.old) (E.holds errors.new) (E.failures errors.old)
+        (E.failures errors.new)
         (text_of_fail fail) }
 {
     finish(errors, Err(fail))
@@ -43,7 +45,8 @@ fn refuse<E: Sink>(errors: &mut E, text: &str) -> u8
     requires { 0 < length text.now }
     ensures status { result ≡ status_of NoCommand }
     ensures some { 0 < length text.now }
-    ensures told { WroteOrFailed (E.holds errors.old) (E.holds errors.new) (E.failures errors.old) (E.failures errors.new) text.now }
+    ensures told { WroteOrFailed (E.holds errors.old) (E.holds errors.new) (E.failures errors.old)
+        (E.failures errors.new) text.now }
 {
     tell(errors, text);
     status(Ending::NoCommand)
@@ -86,17 +89,20 @@ pub fn program<H: Threads + Wait + Sync, R: Source, W: Sink, E: Sink>(
     ensures run { (workers tries : ℕ) → AsksRun (map string_bytes words.now) workers tries
         → AnswersRun tries result (R.tells reader.old) (W.holds writer.old) (W.holds writer.new) }
     ensures others { AsksNone (map string_bytes words.now)
-        → (reader.new ≡ reader.old) × AnswersOthers result (W.holds writer.old) (W.holds writer.new) }
+        → (reader.new ≡ reader.old)
+        × AnswersOthers result (W.holds writer.old) (W.holds writer.new) }
 
     // how the run ended: by its status, by the devices, and by what the error stream was told
     ensures ends { (ending : Ending) × (result ≡ status_of ending)
         × LeavesDevices ending
-        ((R.failures reader.new ≡ R.failures reader.old) × (W.failures writer.new ≡ W.failures writer.old))
+        ((R.failures reader.new ≡ R.failures reader.old)
+        × (W.failures writer.new ≡ W.failures writer.old))
         (ReadFailed (R.tells reader.old) (R.failures reader.old) (R.failures reader.new))
         (W.failures writer.old < W.failures writer.new)
         (writer.new ≡ writer.old)
         × TellsErrors ending (errors.new ≡ errors.old)
-        (WroteOrFailed (E.holds errors.old) (E.holds errors.new) (E.failures errors.old) (E.failures errors.new)) }
+        (WroteOrFailed (E.holds errors.old) (E.holds errors.new) (E.failures errors.old)
+        (E.failures errors.new)) }
 {
     match choose(alloc, words) {
         Ok(choice) => finish(errors, run_choice(rt, alloc, choice, reader, writer)),

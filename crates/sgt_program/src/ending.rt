@@ -40,14 +40,16 @@ fn fail_text(fail: EngineFail) -> &'static str
 
 /// Writes the text, as far as the error stream takes it.
 pub fn tell<E: Sink>(errors: &mut E, text: &str)
-    ensures { WroteOrFailed (E.holds errors.old) (E.holds errors.new) (E.failures errors.old) (E.failures errors.new) text.now }
+    ensures { WroteOrFailed (E.holds errors.old) (E.holds errors.new) (E.failures errors.old)
+        (E.failures errors.new) text.now }
 {
     let _ = write_all(errors, text.as_bytes());
 }
 
 /// Says why there is no answer.
 pub fn tell_fail<E: Sink>(errors: &mut E, fail: EngineFail)
-    ensures { WroteOrFailed (E.holds errors.old) (E.holds errors.new) (E.failures errors.old) (E.failures errors.new) (text_of_fail fail) }
+    ensures { WroteOrFailed (E.holds errors.old) (E.holds errors.new) (E.failures errors.old)
+        (E.failures errors.new) (text_of_fail fail) }
 {
     tell(errors, fail_text(fail));
 }

@@ -40,9 +40,11 @@ pub fn run_choice<H: Threads + Wait + Sync, R: Source, W: Sink>(
     writer: &mut W,
 ) -> Result<Outcome, EngineFail>
     requires { CanRun choice }
-    ensures answers { Answers choice (status_of (Ran result)) (R.tells reader.old) (W.holds writer.old) (W.holds writer.new) }
+    ensures answers { Answers choice (status_of (Ran result)) (R.tells reader.old)
+        (W.holds writer.old) (W.holds writer.new) }
     ensures ends { LeavesDevices (Ran result)
-        ((R.failures reader.new ≡ R.failures reader.old) × (W.failures writer.new ≡ W.failures writer.old))
+        ((R.failures reader.new ≡ R.failures reader.old)
+        × (W.failures writer.new ≡ W.failures writer.old))
         (ReadFailed (R.tells reader.old) (R.failures reader.old) (R.failures reader.new))
         (W.failures writer.old < W.failures writer.new)
         (writer.new ≡ writer.old) }
@@ -77,9 +79,12 @@ pub fn show_help<W: Sink>(writer: &mut W, text: &str) -> Result<Outcome, EngineF
     requires { 0 < length text.now }
     ensures text { OnOk result (Appends (W.holds writer.old) (W.holds writer.new) text.now) }
     ensures front { OnErr result (WritesFront (W.holds writer.old) (W.holds writer.new) text.now) }
-    ensures others { AnswersOthers (status_of (Ran result)) (W.holds writer.old) (W.holds writer.new) }
-    ensures yes { IfOk result (λ outcome. (outcome ≡ Outcome.Yes) × (W.failures writer.new ≡ W.failures writer.old)) }
-    ensures fault { IfErr result (λ fail. (fail ≡ EngineFail.WriteFault) × (W.failures writer.old < W.failures writer.new)) }
+    ensures others { AnswersOthers (status_of (Ran result)) (W.holds writer.old)
+        (W.holds writer.new) }
+    ensures yes { IfOk result
+        (λ outcome. (outcome ≡ Outcome.Yes) × (W.failures writer.new ≡ W.failures writer.old)) }
+    ensures fault { IfErr result
+        (λ fail. (fail ≡ EngineFail.WriteFault) × (W.failures writer.old < W.failures writer.new)) }
 {
     match write_all(writer, text.as_bytes()) {
         Ok(()) => Ok(Outcome::Yes),

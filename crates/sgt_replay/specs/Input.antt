@@ -1,4 +1,5 @@
--- What the bytes of a replay's input spell: the sites that it starts from, and then its events; or else the first line that can't be read.
+-- What the bytes of a replay's input spell: the sites that it starts from, and then its events; or
+-- else the first line that can't be read.
 use Rattle.std.specs.Prelude.{◌≡◌, ◌≢◌, ◌≤◌, ℕ, List, [], ◌++◌, length, map, All}
 use Rattle.std.specs.List.{range_with_len}
 use Rattle.sgt_names.specs.Limits.{max_sites}
@@ -11,7 +12,8 @@ use Rattle.sgt_replay.specs.declared.input.Input.{Input}
 use Rattle.sgt_replay.specs.declared.input.Reading.{Reading}
 use Rattle.sgt_replay.specs.declared.input.Reading.TheVariants.{Readable, Unreadable}
 
--- what is read of an input, as far as it goes: sites numbered from 0, and behind the first of them events
+-- what is read of an input, as far as it goes: sites numbered from 0, and behind the first of them
+-- events
 pub record IsBegun (input : Input) : Type 0 where
   pub few : length input.sites ≤ max_sites
   pub numbered : map (λ l. l.site) input.sites ≡ range_with_len 0 (length input.sites)
@@ -48,7 +50,8 @@ abbrev pub IsRead : List ℕ → Reading → Type 0
 IsRead bytes (Readable input) = Spells bytes input
 IsRead bytes (Unreadable line fault) = FirstUnreadable bytes line fault
 
--- what is handed out is an input, or a fault other than want of memory, also where the reader tells nothing
+-- what is handed out is an input, or a fault other than want of memory, also where the reader tells
+-- nothing
 abbrev pub IsUsable : Reading → Type 0
 IsUsable (Readable input) = IsInput input
 IsUsable (Unreadable line fault) = fault ≢ Memory

@@ -30,10 +30,12 @@ MayAnswer old (ToDecide tx) reply new = MayDecide old tx reply new
 abbrev pub Replies : CoreState → List EventLine → List Reply → CoreState → Type 0
 Replies old [] [] new = new ≡ old
 Replies old (line ∷ lines) (reply ∷ replies) new =
-    (mid : CoreState) × MayAnswer old line reply mid × (IsMemory reply → ⊥) × Replies mid lines replies new
+    (mid : CoreState) × MayAnswer old line reply mid × (IsMemory reply → ⊥)
+    × Replies mid lines replies new
 Replies old _ _ new = ⊥
 
--- how a run ends that leaves this state: where no transaction is active, with the bundle, which is valid; else with a refusal
+-- how a run ends that leaves this state: where no transaction is active, with the bundle, which is
+-- valid; else with a refusal
 abbrev pub EndsWith : CoreState → Outcome → List ℕ → Type 0
 EndsWith c outcome.Yes text = (c.certifier.active ≡ []) × IsValid (bundle_of c) × (text ≡ codes "---\n" ++ text_of (bundle_of c))
 EndsWith c outcome.No text = (c.certifier.active ≢ []) × (text ≡ codes "! E8\n")
@@ -62,8 +64,10 @@ unreadable_text line f = codes "! L" ++ (decimal (line_fault_number f) ++ (codes
 
 -- the text of a run over what was read; or, where nothing was, the first line that can't be read
 abbrev pub IsAnswer : Option (List ℕ) → Outcome → List ℕ → Type 0
-IsAnswer told outcome.Yes text = (input : Input) × IfSome told (λ bytes. Spells bytes input) × IsRunText input outcome.Yes text
-IsAnswer told outcome.No text = (input : Input) × IfSome told (λ bytes. Spells bytes input) × IsRunText input outcome.No text
+IsAnswer told outcome.Yes text = (input : Input) × IfSome told (λ bytes. Spells bytes input)
+    × IsRunText input outcome.Yes text
+IsAnswer told outcome.No text = (input : Input) × IfSome told (λ bytes. Spells bytes input)
+    × IsRunText input outcome.No text
 IsAnswer told outcome.Unreadable text = (line : ℕ) × (f : NotationFault) × (f ≢ fault.Memory)
     × IfSome told (λ bytes. FirstUnreadable bytes line f) × (text ≡ unreadable_text line f)
 
@@ -73,9 +77,12 @@ TellsUnreadable bytes o = (o ≡ outcome.Unreadable) ↔ ((input : Input) → Sp
 
 -- that text was written
 abbrev pub WroteAnswer : (told : Option (List ℕ)) → Outcome → (old new : Option (List ℕ)) → Type 0
-WroteAnswer told outcome old new = (text : List ℕ) × IsAnswer told outcome text × Appends old new text
+WroteAnswer told outcome old new = (text : List ℕ) × IsAnswer told outcome text
+    × Appends old new text
 
--- nothing was written, or a front of the text that the input is answered by, and less than the whole text
+-- nothing was written, or a front of the text that the input is answered by, and less than the
+-- whole text
 abbrev pub WroteAnswerFront : (told old new : Option (List ℕ)) → Type 0
 WroteAnswerFront told old new = AppendsOrForgets old new []
-    ⊎ ((outcome : Outcome) × (text : List ℕ) × IsAnswer told outcome text × WritesFront old new text)
+    ⊎ ((outcome : Outcome) × (text : List ℕ) × IsAnswer told outcome text
+    × WritesFront old new text)

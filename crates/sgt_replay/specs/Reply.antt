@@ -22,7 +22,8 @@ fault_number fault.GenerationsSpent = 10
 fault_number fault.NumbersSpent = 11
 fault_number fault.NotTouched = 12
 
--- the line of a refusal; of an answer, the line that asked for it with what the answer tells behind it
+-- the line of a refusal; of an answer, the line that asked for it with what the answer tells behind
+-- it
 abbrev pub answer_text : List ℕ → Reply → List ℕ
 answer_text asked (Fault f) = codes "! E" ++ decimal (fault_number f)
 answer_text asked (Begun tx) = asked ++ decimal tx

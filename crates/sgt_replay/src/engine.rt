@@ -30,7 +30,8 @@ struct Ending {
 fn write_ending(alloc: Global, core: Core, out: &mut Vec<u8>) -> Result<Ending, AllocError>
     requires { (c : CoreState) × StandsFor core c }
     ensures { IfOk result (λ end. (c : CoreState) → StandsFor core c
-        → (ending : List ℕ) × EndsWith c end.outcome ending × (out.new.items ++ end.bundle.items ≡ out.old.items ++ ending)) }
+        → (ending : List ℕ) × EndsWith c end.outcome ending
+        × (out.new.items ++ end.bundle.items ≡ out.old.items ++ ending)) }
 {
     match core.into_bundle(alloc) {
         Ok(bundle) => {
@@ -73,8 +74,10 @@ fn core_at_end(alloc: Global, core: Option<Core>, sites: Vec<SiteLine>) -> Resul
 
 /// The text of the run of a whole input.
 fn run_text(alloc: Global, player: Player) -> Result<Answer, AllocError>
-    requires { (input : Input) × IsInput input × IsPlayed input player.sites.items player.core player.text.items }
-    ensures { IfOk result (λ answer. (input : Input) → IsPlayed input player.sites.items player.core player.text.items
+    requires { (input : Input) × IsInput input
+        × IsPlayed input player.sites.items player.core player.text.items }
+    ensures { IfOk result
+        (λ answer. (input : Input) → IsPlayed input player.sites.items player.core player.text.items
         → IsRunText input answer.outcome (answer.text.items ++ answer.bundle.items)) }
 {
     let Player {
@@ -110,7 +113,8 @@ fn unreadable_line(alloc: Global, line: u64, fault: NotationFault) -> Result<Vec
 
 /// The answer to an input that was read up to there.
 fn answer_to(alloc: Global, player: Player, stop: Stop) -> Result<Answer, AllocError>
-    requires { (told : Option (List ℕ)) × StopsPlayer told player.sites.items player.core player.text.items stop }
+    requires { (told : Option (List ℕ))
+        × StopsPlayer told player.sites.items player.core player.text.items stop }
     ensures { IfOk result (λ answer. (told : Option (List ℕ))
         → StopsPlayer told player.sites.items player.core player.text.items stop
         → IsAnswer told answer.outcome (answer.text.items ++ answer.bundle.items)) }
@@ -127,8 +131,10 @@ fn answer_to(alloc: Global, player: Player, stop: Stop) -> Result<Answer, AllocE
 
 /// Writes two texts, one behind the other. An Err is the writer's, as in `write_all`.
 fn write_both<W: Sink>(writer: &mut W, first: &[u8], second: &[u8]) -> Result<(), Failed>
-    ensures ok { OnOk result (Appends (W.holds writer.old) (W.holds writer.new) (first.now ++ second.now)) }
-    ensures err { OnErr result (WritesFront (W.holds writer.old) (W.holds writer.new) (first.now ++ second.now)) }
+    ensures ok { OnOk result
+        (Appends (W.holds writer.old) (W.holds writer.new) (first.now ++ second.now)) }
+    ensures err { OnErr result
+        (WritesFront (W.holds writer.old) (W.holds writer.new) (first.now ++ second.now)) }
     ensures fails { CountsFailures result (W.failures writer.old) (W.failures writer.new) }
 {
     match write_all(writer, first) {
@@ -149,18 +155,25 @@ pub fn replay<R: Source, W: Sink>(
     reader: &mut R,
     writer: &mut W,
 ) -> Result<Outcome, EngineFail>
-    ensures answer { IfOk result (λ outcome. WroteAnswer (R.tells reader.old) outcome (W.holds writer.old) (W.holds writer.new)) }
-    ensures unreadable { IfOk result (λ outcome. IfSome (R.tells reader.old) (λ bytes. TellsUnreadable bytes outcome)) }
-    ensures front { OnErr result (WroteAnswerFront (R.tells reader.old) (W.holds writer.old) (W.holds writer.new)) }
+    ensures answer { IfOk result
+        (λ outcome. WroteAnswer (R.tells reader.old) outcome (W.holds writer.old)
+        (W.holds writer.new)) }
+    ensures unreadable { IfOk result
+        (λ outcome. IfSome (R.tells reader.old) (λ bytes. TellsUnreadable bytes outcome)) }
+    ensures front { OnErr result
+        (WroteAnswerFront (R.tells reader.old) (W.holds writer.old) (W.holds writer.new)) }
     ensures unwritten { IsErrOf result EngineFail.ReadFault → writer.new ≡ writer.old }
     ensures untouched { IsErrOf result EngineFail.Memory → writer.new ≡ writer.old }
 
     // A fault tells of its device, and no fault of a device is passed over.
     ensures read_fault { IsErrOf result EngineFail.ReadFault → ReadFaultIsDue (R.tells reader.old)
         (R.failures reader.old) (R.failures reader.new) (R.asked reader.old) (R.asked reader.new) }
-    ensures write_fault { IsErrOf result EngineFail.WriteFault → W.failures writer.old < W.failures writer.new }
-    ensures quiet_reader { result ≢ Err EngineFail.ReadFault → R.failures reader.new ≡ R.failures reader.old }
-    ensures quiet_writer { result ≢ Err EngineFail.WriteFault → W.failures writer.new ≡ W.failures writer.old }
+    ensures write_fault { IsErrOf result EngineFail.WriteFault
+        → W.failures writer.old < W.failures writer.new }
+    ensures quiet_reader { result ≢ Err EngineFail.ReadFault
+        → R.failures reader.new ≡ R.failures reader.old }
+    ensures quiet_writer { result ≢ Err EngineFail.WriteFault
+        → W.failures writer.new ≡ W.failures writer.old }
 {
     let mut player = Player::new(alloc);
     let stop = read_lines(alloc, reader, &mut player)?;

@@ -32,7 +32,7 @@ fn status_of<H: Threads + Wait + Sync>(
 }
 
 /// Whether the words are no command, also where the error stream takes nothing.
-pub fn are_no_command<H: Threads + Wait + Sync>(
+pub(crate) fn are_no_command<H: Threads + Wait + Sync>(
     rt: &H,
     alloc: Global,
     line: &str,
@@ -74,7 +74,7 @@ fn gives_up<H: Threads + Wait + Sync>(
 
 /// Whether the program gives up at each read that fails, with the read that would tell the end, and at each byte that the writer doesn't
 /// take.
-pub fn devices_tell<H: Threads + Wait + Sync>(
+pub(crate) fn devices_tell<H: Threads + Wait + Sync>(
     rt: &H,
     alloc: Global,
     row: &Row,
@@ -101,7 +101,7 @@ pub fn devices_tell<H: Threads + Wait + Sync>(
 }
 
 /// Whether an error stream that takes so many bytes is told the words' and memory's faults, as far as it takes them.
-pub fn faults_are_told(alloc: Global, takes: usize) -> Result<bool, AllocError> {
+pub(crate) fn faults_are_told(alloc: Global, takes: usize) -> Result<bool, AllocError> {
     let mut errors = MemSink::new(alloc, takes)?;
     let statuses = (
         refuse_words(&mut errors),

@@ -31,7 +31,7 @@ pub struct Row {
 }
 
 /// The words of a line, the program's name before them.
-pub fn words_of(alloc: Global, line: &str) -> Result<Vec<String>, AllocError> {
+pub(crate) fn words_of(alloc: Global, line: &str) -> Result<Vec<String>, AllocError> {
     let mut words = Vec::new(alloc);
     words.push(String::from_str(alloc, "sgt")?)?;
     for word in line.split_whitespace() {
@@ -83,7 +83,7 @@ fn wanted_of<R: Files + AllocGlobal>(rt: &R, name: &str) -> io::Result<Wanted> {
 
 impl Row {
     /// The row in the folder of this name, with the files `args` (none: no words), `stdin`, `stdout`, `status` (none: 0) and `must`.
-    pub fn read<R: Files + AllocGlobal>(rt: &R, name: &str) -> io::Result<Row> {
+    pub(crate) fn read<R: Files + AllocGlobal>(rt: &R, name: &str) -> io::Result<Row> {
         let given = given_of(rt, name)?;
         Ok(Row {
             given,

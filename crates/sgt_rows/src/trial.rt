@@ -148,7 +148,7 @@ fn answers<H: Threads + Wait + Sync>(
 }
 
 /// Whether the program answers as the row says, whatever pieces it reads.
-pub fn holds<H: Threads + Wait + Sync>(
+pub(crate) fn holds<H: Threads + Wait + Sync>(
     rt: &H,
     alloc: Global,
     row: &Row,

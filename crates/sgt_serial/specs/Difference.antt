@@ -30,33 +30,45 @@ abbrev pub store_after_all : List SiteLog → List ℕ → Store → Store
 store_after_all sites [] store = store
 store_after_all sites (tx ∷ txs) store = store_after_all sites txs (store_after sites tx store)
 
--- each of these transactions, run one after another from this store, reads and writes as its logs say
+-- each of these transactions, run one after another from this store, reads and writes as its logs
+-- say
 abbrev pub AllRunOn : List SiteLog → List ℕ → Store → Type 0
 AllRunOn sites [] store = Unit {0}
-AllRunOn sites (tx ∷ txs) store = RunsOn sites tx store × AllRunOn sites txs (store_after sites tx store)
+AllRunOn sites (tx ∷ txs) store = RunsOn sites tx store
+    × AllRunOn sites txs (store_after sites tx store)
 
--- reads and then changes on this store first differ from it at this item of this site: there is the first read of which the store has
--- another value or none, or, where the store has the values of all reads, the first write or increment whose item isn't there
-abbrev pub DiffersFrom : Store → (reads : List SiteValue) → (writes : List SiteChange) → ℕ → Name → Type 0
+-- reads and then changes on this store first differ from it at this item of this site: there is the
+-- first read of which the store has
+-- another value or none, or, where the store has the values of all reads, the first write or
+-- increment whose item isn't there
+abbrev pub DiffersFrom : Store → (reads : List SiteValue) → (writes : List SiteChange) → ℕ → Name
+    → Type 0
 DiffersFrom store reads writes s x =
     ((v : ℕ) × IsFirstWithout (Has store) reads (record { site = s; item = x; value = v }))
-    ⊎ (All (Has store) reads × ((c : Change) × IsFirstWithout (Knows store) writes (record { site = s; item = x; change = c })))
+    ⊎ (All (Has store) reads
+    × ((c : Change)
+    × IsFirstWithout (Knows store) writes (record { site = s; item = x; change = c })))
 
--- these transactions, run one after another from this store, first differ from their logs in this one, at this item of this site:
+-- these transactions, run one after another from this store, first differ from their logs in this
+-- one, at this item of this site:
 -- those before it run as logged
 abbrev pub DiffersIn : List SiteLog → List ℕ → Store → ℕ → ℕ → Name → Type 0
 DiffersIn sites txs store tx s x =
     (n : ℕ) × (slice_get txs n ≡ Some tx) × AllRunOn sites (take n txs) store
-    × DiffersFrom (store_after_all sites (take n txs) store) (reads_of sites tx) (writes_of sites tx) s x
+    × DiffersFrom (store_after_all sites (take n txs) store) (reads_of sites tx)
+    (writes_of sites tx) s x
 
 -- the store that the committed transactions leave, run by rank
 abbrev pub last_store : Parts → Store
 last_store b = store_after_all b.sites (by_rank b.certificate.decisions) (initial_store b.sites)
 
--- the first difference of the bundle's serial run from the record is at this item of this site: in this transaction,
+-- the first difference of the bundle's serial run from the record is at this item of this site: in
+-- this transaction,
 -- or in none, where all transactions run as logged and the final values differ
 abbrev pub IsFirstDifference : Parts → Option ℕ → ℕ → Name → Type 0
-IsFirstDifference b (Some tx) s x = DiffersIn b.sites (by_rank b.certificate.decisions) (initial_store b.sites) tx s x
+IsFirstDifference b (Some tx) s x =
+    DiffersIn b.sites (by_rank b.certificate.decisions) (initial_store b.sites) tx s x
 IsFirstDifference b None s x =
     (v : ℕ) × AllRunOn b.sites (by_rank b.certificate.decisions) (initial_store b.sites)
-    × IsFirstWithout (Has (last_store b)) (finals_of b.sites) (record { site = s; item = x; value = v })
+    × IsFirstWithout (Has (last_store b)) (finals_of b.sites)
+    (record { site = s; item = x; value = v })

@@ -1,4 +1,5 @@
--- What a serial run reports: each committed transaction by rank, with its logged reads, writes and increments, and the final values.
+-- What a serial run reports: each committed transaction by rank, with its logged reads, writes and
+-- increments, and the final values.
 use Rattle.std.specs.Prelude.{ℕ, List, [], length, map, Option, Some, None, slice_get}
 use Rattle.std.specs.List.{filter_map, flat_map, range_with_len}
 use Rattle.sgt_names.specs.declared.entry.Entry.{Entry}
@@ -31,7 +32,8 @@ by_site of_site sites = flat_map of_site (range_with_len 0 (length sites))
 
 -- what is picked of a transaction's entries: by site, then in log order
 abbrev pub picked_of : {A : Type 0} → (ℕ → Entry → Option A) → List SiteLog → ℕ → List A
-picked_of pick sites tx = by_site (λ s. filter_map (pick s) (own_entries tx (entries_of sites s))) sites
+picked_of pick sites tx =
+    by_site (λ s. filter_map (pick s) (own_entries tx (entries_of sites s))) sites
 
 -- the transaction's logged reads
 abbrev pub reads_of : List SiteLog → ℕ → List SiteValue
@@ -59,4 +61,8 @@ run_of sites tx = record { tx = tx; reads = reads_of sites tx; writes = writes_o
 
 -- the report of the bundle's serial run
 abbrev pub report_of : Parts → SerialReport
-report_of b = record { runs = map (run_of b.sites) (by_rank b.certificate.decisions); finals = finals_of b.sites }
+report_of b =
+    record {
+      runs = map (run_of b.sites) (by_rank b.certificate.decisions);
+      finals = finals_of b.sites;
+    }

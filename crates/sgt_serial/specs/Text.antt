@@ -28,7 +28,9 @@ letter_of (Add v) = codes "d"
 
 -- a write or an increment of the transaction
 abbrev pub change_line : ℕ → SiteChange → List ℕ
-change_line tx a = operation_line (letter_of a.change) tx (record { site = a.site; item = a.item; value = value_of a.change })
+change_line tx a =
+    operation_line (letter_of a.change) tx
+    (record { site = a.site; item = a.item; value = value_of a.change })
 
 -- a transaction, then its reads, then its writes and increments
 abbrev pub run_lines : SerialTx → List (List ℕ)

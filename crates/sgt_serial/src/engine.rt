@@ -24,12 +24,16 @@ fn write_fault<W: Sink>(
     line: u64,
     fault: Fault,
 ) -> Result<(), EngineFail>
-    ensures ok { OnOk result (Appends (W.holds writer.old) (W.holds writer.new) (text_of (verdict.No line fault))) }
-    ensures front { IsErrOf result EngineFail.WriteFault → WritesFront (W.holds writer.old) (W.holds writer.new) (text_of (verdict.No line fault)) }
+    ensures ok { OnOk result
+        (Appends (W.holds writer.old) (W.holds writer.new) (text_of (verdict.No line fault))) }
+    ensures front { IsErrOf result EngineFail.WriteFault
+        → WritesFront (W.holds writer.old) (W.holds writer.new) (text_of (verdict.No line fault)) }
     ensures untouched { IsErrOf result EngineFail.Memory → writer.new ≡ writer.old }
     ensures unread { result ≢ Err EngineFail.ReadFault }
-    ensures fault { IsErrOf result EngineFail.WriteFault → W.failures writer.old < W.failures writer.new }
-    ensures quiet { result ≢ Err EngineFail.WriteFault → W.failures writer.new ≡ W.failures writer.old }
+    ensures fault { IsErrOf result EngineFail.WriteFault
+        → W.failures writer.old < W.failures writer.new }
+    ensures quiet { result ≢ Err EngineFail.WriteFault
+        → W.failures writer.new ≡ W.failures writer.old }
 {
     let verdict = Verdict::No { line, fault }.to_line(alloc)?;
     match write_all(writer, verdict.as_bytes()) {
@@ -40,12 +44,17 @@ fn write_fault<W: Sink>(
 
 /// Writes the run of the bundle.
 fn write_serial<W: Sink>(alloc: Global, writer: &mut W, bundle: &Bundle) -> Result<(), EngineFail>
-    ensures ok { OnOk result (Appends (W.holds writer.old) (W.holds writer.new) (report_text (report_of bundle.now))) }
-    ensures front { IsErrOf result EngineFail.WriteFault → WritesFront (W.holds writer.old) (W.holds writer.new) (report_text (report_of bundle.now)) }
+    ensures ok { OnOk result
+        (Appends (W.holds writer.old) (W.holds writer.new) (report_text (report_of bundle.now))) }
+    ensures front { IsErrOf result EngineFail.WriteFault
+        → WritesFront (W.holds writer.old) (W.holds writer.new)
+        (report_text (report_of bundle.now)) }
     ensures untouched { IsErrOf result EngineFail.Memory → writer.new ≡ writer.old }
     ensures unread { result ≢ Err EngineFail.ReadFault }
-    ensures fault { IsErrOf result EngineFail.WriteFault → W.failures writer.old < W.failures writer.new }
-    ensures quiet { result ≢ Err EngineFail.WriteFault → W.failures writer.new ≡ W.failures writer.old }
+    ensures fault { IsErrOf result EngineFail.WriteFault
+        → W.failures writer.old < W.failures writer.new }
+    ensures quiet { result ≢ Err EngineFail.WriteFault
+        → W.failures writer.new ≡ W.failures writer.old }
 {
     let plan = Plan::new(alloc, bundle)?;
     match plan.write(writer, bundle) {
@@ -62,13 +71,16 @@ fn write_answer<W: Sink>(
 ) -> Result<Outcome, EngineFail>
     requires { HandsOutValid audited }
     ensures answer { (told : Option (List ℕ)) → IfSome told (λ bytes. IsAudited bytes audited)
-        → IfOk result (λ outcome. WroteAnswer told outcome (W.holds writer.old) (W.holds writer.new)) }
+        → IfOk result
+        (λ outcome. WroteAnswer told outcome (W.holds writer.old) (W.holds writer.new)) }
     ensures front { (told : Option (List ℕ)) → IfSome told (λ bytes. IsAudited bytes audited)
         → OnErr result (WroteAnswerFront told (W.holds writer.old) (W.holds writer.new)) }
     ensures untouched { IsErrOf result EngineFail.Memory → writer.new ≡ writer.old }
     ensures unread { result ≢ Err EngineFail.ReadFault }
-    ensures fault { IsErrOf result EngineFail.WriteFault → W.failures writer.old < W.failures writer.new }
-    ensures quiet { result ≢ Err EngineFail.WriteFault → W.failures writer.new ≡ W.failures writer.old }
+    ensures fault { IsErrOf result EngineFail.WriteFault
+        → W.failures writer.old < W.failures writer.new }
+    ensures quiet { result ≢ Err EngineFail.WriteFault
+        → W.failures writer.new ≡ W.failures writer.old }
 {
     match audited {
         Audited::Valid(bundle) => {
@@ -94,19 +106,25 @@ pub fn serial<R: Source, W: Sink>(
     reader: &mut R,
     writer: &mut W,
 ) -> Result<Outcome, EngineFail>
-    ensures answer { IfOk result (λ outcome. WroteAnswer (R.tells reader.old) outcome (W.holds writer.old) (W.holds writer.new)) }
+    ensures answer { IfOk result
+        (λ outcome. WroteAnswer (R.tells reader.old) outcome (W.holds writer.old)
+        (W.holds writer.new)) }
     ensures no_further { IfOk result (λ outcome. IfSome (R.tells reader.old) (λ bytes.
         ReadsNoFurther bytes (R.asked reader.new - R.asked reader.old))) }
-    ensures front { OnErr result (WroteAnswerFront (R.tells reader.old) (W.holds writer.old) (W.holds writer.new)) }
+    ensures front { OnErr result
+        (WroteAnswerFront (R.tells reader.old) (W.holds writer.old) (W.holds writer.new)) }
     ensures unwritten { IsErrOf result EngineFail.ReadFault → writer.new ≡ writer.old }
     ensures untouched { IsErrOf result EngineFail.Memory → writer.new ≡ writer.old }
 
     // A fault tells of its device, and no fault of a device is passed over.
     ensures read_fault { IsErrOf result EngineFail.ReadFault → ReadFaultIsDue (R.tells reader.old)
         (R.failures reader.old) (R.failures reader.new) (R.asked reader.old) (R.asked reader.new) }
-    ensures write_fault { IsErrOf result EngineFail.WriteFault → W.failures writer.old < W.failures writer.new }
-    ensures quiet_reader { result ≢ Err EngineFail.ReadFault → R.failures reader.new ≡ R.failures reader.old }
-    ensures quiet_writer { result ≢ Err EngineFail.WriteFault → W.failures writer.new ≡ W.failures writer.old }
+    ensures write_fault { IsErrOf result EngineFail.WriteFault
+        → W.failures writer.old < W.failures writer.new }
+    ensures quiet_reader { result ≢ Err EngineFail.ReadFault
+        → R.failures reader.new ≡ R.failures reader.old }
+    ensures quiet_writer { result ≢ Err EngineFail.WriteFault
+        → W.failures writer.new ≡ W.failures writer.old }
 {
     let audited = audit_bundle(alloc, reader)?;
     write_answer(alloc, writer, audited)

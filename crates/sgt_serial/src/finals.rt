@@ -27,7 +27,8 @@ fn add_finals(
     site: SiteNo,
     holdings: &[Holding],
 ) -> Result<(), AllocError>
-    ensures { OnOk result (finals.new.items ≡ finals.old.items ++ map (final_at site) holdings.now) }
+    ensures { OnOk result
+        (finals.new.items ≡ finals.old.items ++ map (final_at site) holdings.now) }
 {
     for holding in holdings {
         finals.push(SiteValue {

@@ -33,13 +33,15 @@ pub struct Span {
 }
 
 fn reads(alloc: Global, own: &[SiteEntry]) -> Result<Vec<SiteValue>, AllocError>
-    ensures { IfOk result (λ reads. reads.items ≡ filter_map (λ e. read_at e.site e.entry) own.now) }
+    ensures { IfOk result
+        (λ reads. reads.items ≡ filter_map (λ e. read_at e.site e.entry) own.now) }
 {
     own.iter().filter_map(read_of).collect(alloc)
 }
 
 fn writes(alloc: Global, own: &[SiteEntry]) -> Result<Vec<SiteChange>, AllocError>
-    ensures { IfOk result (λ writes. writes.items ≡ filter_map (λ e. write_at e.site e.entry) own.now) }
+    ensures { IfOk result
+        (λ writes. writes.items ≡ filter_map (λ e. write_at e.site e.entry) own.now) }
 {
     own.iter().filter_map(write_of).collect(alloc)
 }
@@ -62,7 +64,8 @@ impl Operations {
         ensures rising { result.from ≤ result.to }
         ensures within { result.to ≤ count_in self.now }
         ensures entries { (logs : List SiteLog) → AreOperationsOf logs self.now
-            → entries_in logs self.now result.from result.to ≡ filter (is_by tx) (all_entries logs) }
+            → entries_in logs self.now result.from result.to
+            ≡ filter (is_by tx) (all_entries logs) }
     {
         match self {
             Operations::Grouped(grouped) => grouped.span(tx),
@@ -76,7 +79,8 @@ impl Operations {
         requires of { AreOperationsOf logs.now self.now }
         requires within { place < count_in self.now }
         ensures { (from : ℕ) → from ≤ place
-            → entries_in logs.now self.now from (place + 1) ≡ entries_in logs.now self.now from place ++ result ∷ [] }
+            → entries_in logs.now self.now from (place + 1)
+            ≡ entries_in logs.now self.now from place ++ result ∷ [] }
     {
         match self {
             Operations::Grouped(grouped) => grouped.at(logs, place),

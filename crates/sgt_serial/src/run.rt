@@ -22,9 +22,12 @@ use std::alloc::Global;
 fn run_one(store: &mut Store, run: &SerialTx) -> Result<(), SerialFail>
     ensures reads { OnOk result (All (Has (store_of store.old)) run.now.reads) }
     ensures writes { OnOk result (All (Knows (store_of store.old)) run.now.writes) }
-    ensures after { OnOk result ((s : ℕ) (x : Name) → store_of store.new s x ≡ with_all run.now.writes (store_of store.old) s x) }
+    ensures after { OnOk result
+        ((s : ℕ) (x : Name)
+        → store_of store.new s x ≡ with_all run.now.writes (store_of store.old) s x) }
     ensures differs { (tx : Option ℕ) (s : ℕ) (x : Name) → result ≡ Err (SerialFail.Differs tx s x)
-        → (tx ≡ Some run.now.tx) × DiffersFrom (store_of store.old) run.now.reads run.now.writes s x }
+        → (tx ≡ Some run.now.tx)
+        × DiffersFrom (store_of store.old) run.now.reads run.now.writes s x }
 {
     if let Some(read) = store.first_other(run.reads.as_slice()) {
         return Err(SerialFail::Differs(Some(run.tx), read.site, read.item));
@@ -64,7 +67,8 @@ fn run_all(
 fn run_bundle(alloc: Global, bundle: &Bundle) -> Result<SerialReport, SerialFail>
     ensures agrees { OnOk result (SerialAgrees bundle.now) }
     ensures report { IfOk result (λ report. report ≡ report_of bundle.now) }
-    ensures differs { (tx : Option ℕ) (s : ℕ) (x : Name) → result ≡ Err (SerialFail.Differs tx s x) → IsFirstDifference bundle.now tx s x }
+    ensures differs { (tx : Option ℕ) (s : ℕ) (x : Name) → result ≡ Err (SerialFail.Differs tx s x)
+        → IsFirstDifference bundle.now tx s x }
 {
     let sites = bundle.sites();
     let order = serial_order(alloc, bundle.certificate().decisions.as_slice())?;
@@ -89,11 +93,14 @@ pub fn serial_run(alloc: Global, bundle: &Bundle) -> Result<SerialReport, Serial
     // What is said is so.
     ensures agrees { OnOk result (SerialAgrees bundle.now) }
     ensures report { IfOk result (λ report. report ≡ report_of bundle.now) }
-    ensures differs { (tx : Option ℕ) (s : ℕ) (x : Name) → result ≡ Err (SerialFail.Differs tx s x) → IsFirstDifference bundle.now tx s x }
+    ensures differs { (tx : Option ℕ) (s : ℕ) (x : Name) → result ≡ Err (SerialFail.Differs tx s x)
+        → IsFirstDifference bundle.now tx s x }
 
     // What is so is said, unless memory runs out.
-    ensures ok { SerialAgrees bundle.now → (result ≡ Ok (report_of bundle.now)) ⊎ (result ≡ Err SerialFail.Memory) }
-    ensures valid { IsValid bundle.now → (result ≡ Ok (report_of bundle.now)) ⊎ (result ≡ Err SerialFail.Memory) }
+    ensures ok { SerialAgrees bundle.now
+        → (result ≡ Ok (report_of bundle.now)) ⊎ (result ≡ Err SerialFail.Memory) }
+    ensures valid { IsValid bundle.now
+        → (result ≡ Ok (report_of bundle.now)) ⊎ (result ≡ Err SerialFail.Memory) }
     ensures first { (tx : Option ℕ) (s : ℕ) (x : Name) → IsFirstDifference bundle.now tx s x
         → (result ≡ Err (SerialFail.Differs tx s x)) ⊎ (result ≡ Err SerialFail.Memory) }
 {

@@ -39,14 +39,16 @@ impl Model for Sorted {
 fn count_below(entries: &[SiteEntry], number: u64) -> usize
     requires { IsNonDecreasingBy owner entries.now }
     ensures within { result ≤ length entries.now }
-    ensures point { IsPartitionPoint (λ e. nat_lt (owner e) number ≡ true) (λ e. nat_lt (owner e) number ≡ false) entries.now result }
+    ensures point { IsPartitionPoint (λ e. nat_lt (owner e) number ≡ true)
+        (λ e. nat_lt (owner e) number ≡ false) entries.now result }
 {
     entries.partition_point(|own| u64::from(own.entry.tx().number()) < number)
 }
 
 /// Adds the entries of a site's log.
 fn add_site(entries: &mut Vec<SiteEntry>, site: SiteNo, logged: &[Entry]) -> Result<(), AllocError>
-    ensures { OnOk result (entries.new.items ≡ entries.old.items ++ map (entry_at site) logged.now) }
+    ensures { OnOk result
+        (entries.new.items ≡ entries.old.items ++ map (entry_at site) logged.now) }
 {
     for entry in logged {
         entries.push(SiteEntry {
@@ -76,7 +78,9 @@ impl Sorted {
     pub fn span(&self, tx: Tx) -> Span
         ensures rising { result.from ≤ result.to }
         ensures within { result.to ≤ length self.now }
-        ensures entries { (logs : List SiteLog) → entries_in logs (operations.Sorted self.now) result.from result.to ≡ filter (is_by tx) self.now }
+        ensures entries { (logs : List SiteLog)
+            → entries_in logs (operations.Sorted self.now) result.from result.to
+            ≡ filter (is_by tx) self.now }
     {
         let entries = self.entries.as_slice();
         let number = u64::from(tx.number());
@@ -91,7 +95,8 @@ impl Sorted {
     /// The entry at a place.
     pub fn at(&self, place: usize) -> SiteEntry
         requires { place < length self.now }
-        ensures { (logs : List SiteLog) (from : ℕ) → from ≤ place → entries_in logs (operations.Sorted self.now) from (place + 1)
+        ensures { (logs : List SiteLog) (from : ℕ) → from ≤ place
+            → entries_in logs (operations.Sorted self.now) from (place + 1)
             ≡ entries_in logs (operations.Sorted self.now) from place ++ result ∷ [] }
     {
         self.entries[place]

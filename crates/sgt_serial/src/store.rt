@@ -44,7 +44,8 @@ impl SiteStore {
     /// Where the item stands.
     fn place(&self, item: &Item) -> Option<usize>
         ensures { MatchOption result (value_in self.now item.now ≡ None)
-            (λ i. (v : ℕ) × (slice_get self.now i ≡ Some (record { item = item.now; value = v })) × (value_in self.now item.now ≡ Some v)) }
+            (λ i. (v : ℕ) × (slice_get self.now i ≡ Some (record { item = item.now; value = v }))
+            × (value_in self.now item.now ≡ Some v)) }
     {
         self.holdings
             .as_slice()
@@ -66,7 +67,8 @@ impl SiteStore {
     fn change(&mut self, item: &Item, change: Change) -> bool
         ensures there { result ≡ is_some (value_in self.old item.now) }
         ensures after { (x : Name) → value_in self.new x
-            ≡ (if result && bytes_eq item.now x then value_with (value_in self.old x) change else value_in self.old x) }
+            ≡ (if result && bytes_eq item.now x then value_with (value_in self.old x) change
+            else value_in self.old x) }
     {
         match self.place(item) {
             Some(place) => {
@@ -120,7 +122,9 @@ impl Store {
     fn change(&mut self, write: &SiteChange) -> bool
         ensures known { result ≡ is_some (store_of self.old write.now.site write.now.item) }
         ensures after { (s : ℕ) (x : Name) → store_of self.new s x
-            ≡ (if result && is_of s x write.now then value_with (store_of self.old s x) write.now.change else store_of self.old s x) }
+            ≡ (if result && is_of s x write.now
+            then value_with (store_of self.old s x) write.now.change
+            else store_of self.old s x) }
     {
         let site = write.site.number() as usize;
         if site < self.sites.len() {
@@ -149,7 +153,9 @@ impl Store {
         ensures known { MatchOption result
             (All (Knows (store_of self.old)) writes.now)
             (IsFirstWithout (Knows (store_of self.old)) writes.now) }
-        ensures after { IfNone result ((s : ℕ) (x : Name) → store_of self.new s x ≡ with_all writes.now (store_of self.old) s x) }
+        ensures after { IfNone result
+            ((s : ℕ) (x : Name)
+            → store_of self.new s x ≡ with_all writes.now (store_of self.old) s x) }
     {
         for write in writes {
             if !self.change(write) {

@@ -18,7 +18,8 @@ fn push_operation(
     tx: Tx,
     value: &SiteValue,
 ) -> Result<(), AllocError>
-    ensures ok { OnOk result (out.new.items ≡ out.old.items ++ with_lf (operation_line (letter ∷ []) tx value.now)) }
+    ensures ok { OnOk result
+        (out.new.items ≡ out.old.items ++ with_lf (operation_line (letter ∷ []) tx value.now)) }
     ensures room { vec_len out.old + 64 ≤ vec_capacity out.old → IsOk result }
     ensures capacity { vec_capacity out.old ≤ vec_capacity out.new }
 {
@@ -86,7 +87,8 @@ fn push_reads(out: &mut Vec<u8>, tx: Tx, reads: &[SiteValue]) -> Result<(), Allo
 }
 
 fn push_changes(out: &mut Vec<u8>, tx: Tx, writes: &[SiteChange]) -> Result<(), AllocError>
-    ensures { OnOk result (out.new.items ≡ out.old.items ++ text_of_lines (map (change_line tx) writes.now)) }
+    ensures { OnOk result
+        (out.new.items ≡ out.old.items ++ text_of_lines (map (change_line tx) writes.now)) }
 {
     for write in writes {
         push_change(out, tx, write)?;
@@ -103,7 +105,8 @@ fn push_run(out: &mut Vec<u8>, run: &SerialTx) -> Result<(), AllocError>
 }
 
 fn push_finals(out: &mut Vec<u8>, values: &[SiteValue]) -> Result<(), AllocError>
-    ensures { OnOk result (out.new.items ≡ out.old.items ++ text_of_lines (map final_line values.now)) }
+    ensures { OnOk result
+        (out.new.items ≡ out.old.items ++ text_of_lines (map final_line values.now)) }
 {
     for value in values {
         push_final(out, value)?;

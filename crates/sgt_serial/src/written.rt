@@ -38,8 +38,10 @@ pub struct Plan {
 #[inline(always)]
 fn make_room<W: Sink>(writer: &mut W, out: &mut Vec<u8>) -> Result<(), Failed>
     requires { 65600 ≤ vec_capacity out.old }
-    ensures ok { OnOk result (PassesOn (W.holds writer.old) (W.holds writer.new) out.old.items [] out.new.items) }
-    ensures err { OnErr result (WritesFront (W.holds writer.old) (W.holds writer.new) out.old.items) }
+    ensures ok { OnOk result
+        (PassesOn (W.holds writer.old) (W.holds writer.new) out.old.items [] out.new.items) }
+    ensures err { OnErr result
+        (WritesFront (W.holds writer.old) (W.holds writer.new) out.old.items) }
     ensures room { OnOk result (vec_len out.new + 64 ≤ vec_capacity out.new) }
     ensures capacity { vec_capacity out.old ≤ vec_capacity out.new }
     ensures fails { CountsFailures result (W.failures writer.old) (W.failures writer.new) }
@@ -272,8 +274,12 @@ impl Plan {
     /// asked.
     pub fn write<W: Sink>(self, writer: &mut W, bundle: &Bundle) -> Result<(), Failed>
         requires { IsPlanOf bundle.now 65600 self }
-        ensures ok { OnOk result (Appends (W.holds writer.old) (W.holds writer.new) (report_text (report_of bundle.now))) }
-        ensures err { OnErr result (WritesFront (W.holds writer.old) (W.holds writer.new) (report_text (report_of bundle.now))) }
+        ensures ok { OnOk result
+            (Appends (W.holds writer.old) (W.holds writer.new)
+            (report_text (report_of bundle.now))) }
+        ensures err { OnErr result
+            (WritesFront (W.holds writer.old) (W.holds writer.new)
+            (report_text (report_of bundle.now))) }
         ensures fails { CountsFailures result (W.failures writer.old) (W.failures writer.new) }
     {
         let Plan {

@@ -30,27 +30,39 @@ pub record ArePutInOrder (given found : List Done) : Type 0 where
 
 -- what was found behind the locks, and what was told of it
 abbrev pub run_of : Opened → List Done → Run
-run_of o dones = record { certifier = o.certifier; sites = o.sites.items; counts = o.counts.items; dones = dones }
+run_of o dones =
+    record {
+      certifier = o.certifier;
+      sites = o.sites.items;
+      counts = o.counts.items;
+      dones = dones;
+    }
 
--- if these seats have all parts of the ledger, the certifier has as many decisions as their shares together
+-- if these seats have all parts of the ledger, the certifier has as many decisions as their shares
+-- together
 abbrev pub IsCountedBy : {L : Type 0} → (parts : ℕ) → List (Seat L) → Kept → Type 0
 IsCountedBy parts seats c = parts_of seats ≡ parts → decision_count c ≡ amount_of seats
 
--- the run has these Dones, its decisions are counted by these seats, and so is at each of so many sites what was written there
+-- the run has these Dones, its decisions are counted by these seats, and so is at each of so many
+-- sites what was written there
 pub record IsLeftOf {L : Type 0} (sites parts : ℕ) (seats : List (Seat L)) (dones : List Done) (r : Run) : Type 0 where
   pub told : r.dones ≡ dones
   pub many : length r.sites ≡ sites
   pub counted : r.counts ≡ counts_of sites seats
   pub decided : IsCountedBy parts seats r.certifier
 
--- the certifier and the tickets alone tell the fault, whatever the sites are: it is that of each run with them. Or the tickets are the
+-- the certifier and the tickets alone tell the fault, whatever the sites are: it is that of each
+-- run with them. Or the tickets are the
 -- certifier's decisions, and memory is wanted for the sites
 abbrev pub IsToldAlone : Kept → List Done → ServiceFault → Type 0
 IsToldAlone c dones f =
-    ((f ≡ Memory) × AreTickets c.state.rulings dones) ⊎ ((r : Run) → r.certifier ≡ c → r.dones ≡ dones → IsUnsettled r f)
+    ((f ≡ Memory) × AreTickets c.state.rulings dones)
+    ⊎ ((r : Run) → r.certifier ≡ c → r.dones ≡ dones → IsUnsettled r f)
 
--- what is left isn't settled; or its sites are not known, and its certifier, whose decisions the seats count, tells the fault without them
-abbrev pub IsRefused : {L : Type 0} → (sites parts : ℕ) → List (Seat L) → List Done → ServiceFault → Type 0
+-- what is left isn't settled; or its sites are not known, and its certifier, whose decisions the
+-- seats count, tells the fault without them
+abbrev pub IsRefused : {L : Type 0} → (sites parts : ℕ) → List (Seat L) → List Done → ServiceFault
+    → Type 0
 IsRefused sites parts seats dones f =
     ((r : Run) × IsLeftOf sites parts seats dones r × AreKept r × IsUnsettled r f)
     ⊎ ((c : Kept) × IsCountedBy parts seats c × Replays c.history c.state × IsToldAlone c dones f)

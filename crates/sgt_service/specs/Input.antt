@@ -1,4 +1,5 @@
--- What the bytes of a run's input spell: the sites that it starts from, and then its scripts; or else the first line that can't be read.
+-- What the bytes of a run's input spell: the sites that it starts from, and then its scripts; or
+-- else the first line that can't be read.
 use Rattle.std.specs.Prelude.{◌≡◌, ◌≢◌, ◌≤◌, ℕ, List, [], ◌++◌, length, map, All, Any, Some, slice_get}
 use Rattle.std.specs.List.{range_with_len}
 use Rattle.sgt_names.specs.Name.{Name}
@@ -25,7 +26,8 @@ max_scripts = 1000
 abbrev pub HasPlace : List SiteLine → ℕ → Name → Type 0
 HasPlace sites s x = (l : SiteLine) × (slice_get sites s ≡ Some l) × Any (λ h. h.item ≡ x) l.items
 
--- the operation is of an item that is there. (The source of a sum is the item of an earlier operation.)
+-- the operation is of an item that is there. (The source of a sum is the item of an earlier
+-- operation.)
 abbrev pub IsPlaced : List SiteLine → Op → Type 0
 IsPlaced sites (Read s x) = HasPlace sites s x
 IsPlaced sites (Put s x v) = HasPlace sites s x
@@ -73,7 +75,8 @@ abbrev pub IsRead : List ℕ → Reading → Type 0
 IsRead bytes (Readable input) = Spells bytes input
 IsRead bytes (Unreadable line fault) = FirstUnreadable bytes line fault
 
--- what is handed out is an input, or a fault other than want of memory, also where the reader tells nothing
+-- what is handed out is an input, or a fault other than want of memory, also where the reader tells
+-- nothing
 abbrev pub IsUsable : Reading → Type 0
 IsUsable (Readable input) = IsInput input
 IsUsable (Unreadable line fault) = fault ≢ Memory

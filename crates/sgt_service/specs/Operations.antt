@@ -28,38 +28,48 @@ op_fits touched _ = true
 
 -- a draft has this private change of the item, and no other item is touched
 abbrev pub Changes : ℕ → Name → Change → List Touch → List Touch → Type 0
-Changes s x c old new = ChangesOnly old new (record { site = s; item = x; seen = seen_at old (s, x); change = Some c })
+Changes s x c old new =
+    ChangesOnly old new (record { site = s; item = x; seen = seen_at old (s, x); change = Some c })
 
 -- a draft has a private write of the sum
 abbrev pub PutsSum : ℕ → Name → Option ℕ → ℕ → List Touch → List Touch → Type 0
-PutsSum s x source v old new = (seen : ℕ) × (source ≡ Some seen) × Changes s x (change.Put (seen + v)) old new
+PutsSum s x source v old new = (seen : ℕ) × (source ≡ Some seen)
+    × Changes s x (change.Put (seen + v)) old new
 
 -- what a read at the site and without it leaves
 abbrev pub KeepsRead : ℕ → Name → List Touch → List Touch → Type 0
-KeepsRead s x old new = (look_in old s x ≡ None → GainsRead s x old new) × (IsSome (look_in old s x) → new ≡ old)
+KeepsRead s x old new = (look_in old s x ≡ None → GainsRead s x old new)
+    × (IsSome (look_in old s x) → new ≡ old)
 
--- the operation is done: a read is kept and answers what the draft shows then, anything else changes the draft alone
+-- the operation is done: a read is kept and answers what the draft shows then, anything else
+-- changes the draft alone
 abbrev pub Does : Op → (old new : List Touch) → (reads reads' : List ℕ) → Type 0
 Does (Read s x) old new reads reads' =
     KeepsRead s x old new × ((v : ℕ) × (look_in new s x ≡ Some v) × (reads' ≡ reads ++ v ∷ []))
 Does (Put s x v) old new reads reads' = Changes s x (change.Put v) old new × (reads' ≡ reads)
-Does (Add s x v) old new reads reads' = Changes s x (added_to (change_at old (s, x)) v) old new × (reads' ≡ reads)
-Does (Sum s x t y v) old new reads reads' = PutsSum s x (look_in old t y) v old new × (reads' ≡ reads)
+Does (Add s x v) old new reads reads' = Changes s x (added_to (change_at old (s, x)) v) old new
+    × (reads' ≡ reads)
+Does (Sum s x t y v) old new reads reads' = PutsSum s x (look_in old t y) v old new
+    × (reads' ≡ reads)
 
--- the operations are done one after another: all of them, or those in front of the first whose sum is too large
+-- the operations are done one after another: all of them, or those in front of the first whose sum
+-- is too large
 abbrev pub DoesAll : List Op → Bool → (old new : List Touch) → (reads reads' : List ℕ) → Type 0
 DoesAll [] all old new reads reads' = (all ≡ true) × (new ≡ old) × (reads' ≡ reads)
 DoesAll (op ∷ ops) all old new reads reads' =
     ((op_fits old op ≡ false) × (all ≡ false) × (new ≡ old) × (reads' ≡ reads))
     ⊎ ((op_fits old op ≡ true)
-    × ((mid : List Touch) × (heard : List ℕ) × Does op old mid reads heard × DoesAll ops all mid new heard reads'))
+    × ((mid : List Touch) × (heard : List ℕ) × Does op old mid reads heard
+    × DoesAll ops all mid new heard reads'))
 
 -- what an operation may be refused for
 abbrev pub IsOfOperation : ServiceFault → Type 0
 IsOfOperation f = IsOfRead f ⊎ IsOfChange f
 
--- A try of the script by this transaction, which heard these values: it began and did what the script says, all of it or what stands in front
--- of the first sum that is too large, and nothing else. The ticket is of its end: it is withdrawn where a sum is too large, and else decided
+-- A try of the script by this transaction, which heard these values: it began and did what the
+-- script says, all of it or what stands in front
+-- of the first sum that is too large, and nothing else. The ticket is of its end: it is withdrawn
+-- where a sum is too large, and else decided
 pub record TriesBy (active : Active) (ops : List Op) (t : Ticket) (reads : List ℕ) : Type 0 where
   pub begun : HasAdded (call.Begin active.tx active.handle)
   pub all : Bool

@@ -1,4 +1,5 @@
--- What a run of an input writes: a line for each script, the verdict on the run's own bundle, and the bundle.
+-- What a run of an input writes: a line for each script, the verdict on the run's own bundle, and
+-- the bundle.
 use Rattle.std.specs.Prelude.{◌≡◌, ◌≢◌, ◌⊎◌, ◌↔◌, ◌++◌, ⊤, ℕ, List, [], length, map, take, codes, decimal, All, Option, IfSome, slice_get}
 use Rattle.std.specs.Io.KnownBytes.{Appends}
 use Rattle.sgt_names.specs.Device.{AppendsOrForgets, WritesFront}
@@ -38,7 +39,8 @@ use Rattle.sgt_service.specs.declared.input.Input.{Input}
 
 -- ---- a run of an input
 
--- a run of these scripts at so many sites: each script has its tries, each site is there, as many decisions were taken as there are tickets,
+-- a run of these scripts at so many sites: each script has its tries, each site is there, as many
+-- decisions were taken as there are tickets,
 -- and what was counted at the sites is what the workers of these tries wrote there
 pub record IsRunOf (scripts : List Script) (places tries : ℕ) (run : Run) : Type 0 where
   pub dones : AreDonesOf scripts tries run.dones
@@ -60,7 +62,8 @@ IsOutcome dones v outcome.Yes = All IsCommitted dones × IsYes v
 IsOutcome dones v outcome.No = All IsCommitted dones × IsYes v → ⊥
 IsOutcome dones v outcome.Unreadable = ⊥
 
--- the text of a run: a line for each script, the verdict on the text of the run's bundle, and that text
+-- the text of a run: a line for each script, the verdict on the text of the run's bundle, and that
+-- text
 pub record IsTextOf (run : Run) (o : Outcome) (text : List ℕ) : Type 0 where
   pub whole : Parts
   pub bundled : IsBundleOf run whole
@@ -73,7 +76,8 @@ pub record IsTextOf (run : Run) (o : Outcome) (text : List ℕ) : Type 0 where
 
 -- the text of a settled run of the input's scripts, which began with the input's sites
 abbrev pub IsRunText : Input → ℕ → Outcome → List ℕ → Type 0
-IsRunText input tries o text = (run : Run) × IsSettled run × IsRunOf input.scripts (length input.sites) tries run
+IsRunText input tries o text = (run : Run) × IsSettled run
+    × IsRunOf input.scripts (length input.sites) tries run
     × (site_items run ≡ map (λ l. l.items) input.sites) × IsTextOf run o text
 
 -- ---- a run that a fault ends
@@ -100,15 +104,19 @@ pool_fault_number (pool.Doubled job) = 3
 abbrev pub IsOfRun : ServiceFault → Type 0
 IsOfRun f = IsOfCall f × (f ≢ fault.Memory)
 
--- these are a run's certifier and its Dones: each script has its tries, and as many decisions were taken as there are tickets
+-- these are a run's certifier and its Dones: each script has its tries, and as many decisions were
+-- taken as there are tickets
 pub record AreToldOf (scripts : List Script) (tries : ℕ) (c : Kept) (dones : List Done) : Type 0 where
   pub dones_of : AreDonesOf scripts tries dones
   pub decided : decision_count c ≡ length (tickets_of dones)
 
--- a run of these scripts isn't settled; or its certifier and its tickets tell the fault without the sites
+-- a run of these scripts isn't settled; or its certifier and its tickets tell the fault without the
+-- sites
 abbrev pub EndsUnsettled : List Script → (places tries : ℕ) → ServiceFault → Type 0
-EndsUnsettled scripts places tries f = ((run : Run) × IsRunOf scripts places tries run × AreKept run × IsUnsettled run f)
-    ⊎ ((c : Kept) × (dones : List Done) × AreToldOf scripts tries c dones × Replays c.history c.state × IsToldAlone c dones f)
+EndsUnsettled scripts places tries f =
+    ((run : Run) × IsRunOf scripts places tries run × AreKept run × IsUnsettled run f)
+    ⊎ ((c : Kept) × (dones : List Done) × AreToldOf scripts tries c dones
+    × Replays c.history c.state × IsToldAlone c dones f)
 
 -- the site of this number is the first that has other items or first values than were given
 pub record BeganOtherwise (given found : List (List Holding)) (number : ℕ) : Type 0 where
@@ -124,7 +132,8 @@ pub record EndsElsewhere (scripts : List Script) (items : List (List Holding)) (
   pub began : BeganOtherwise items (site_items run) number
   pub told : f ≡ fault.LogDiffers number
 
--- what may end a run of these scripts at sites with these items: a call of the service, a run that isn't settled or isn't theirs, or a
+-- what may end a run of these scripts at sites with these items: a call of the service, a run that
+-- isn't settled or isn't theirs, or a
 -- job that the pool didn't run
 abbrev pub EndsRun : List Script → List (List Holding) → ℕ → PoolFail ServiceFault → Type 0
 EndsRun scripts items tries (Work f) =
@@ -145,14 +154,16 @@ IsFaultLine (Pool f) text = (f ≢ pool.Memory) × (text ≡ codes "! P" ++ (dec
 -- the line of a fault that ended the run of the input's scripts
 abbrev pub IsFaultText : Input → ℕ → List ℕ → Type 0
 IsFaultText input tries text =
-    (f : PoolFail ServiceFault) × EndsRun input.scripts (map (λ l. l.items) input.sites) tries f × IsFaultLine f text
+    (f : PoolFail ServiceFault) × EndsRun input.scripts (map (λ l. l.items) input.sites) tries f
+    × IsFaultLine f text
 
 -- ---- what an input is answered by
 
 -- the text of its run, or the line of the fault that ended it
 abbrev pub IsRunAnswer : Input → ℕ → Outcome → List ℕ → Type 0
 IsRunAnswer input tries outcome.Yes text = IsRunText input tries outcome.Yes text
-IsRunAnswer input tries outcome.No text = IsRunText input tries outcome.No text ⊎ IsFaultText input tries text
+IsRunAnswer input tries outcome.No text = IsRunText input tries outcome.No text
+    ⊎ IsFaultText input tries text
 IsRunAnswer input tries outcome.Unreadable text = ⊥
 
 abbrev pub line_fault_number : NotationFault → ℕ
@@ -164,14 +175,18 @@ line_fault_number notation.Memory = 3
 abbrev pub unreadable_text : ℕ → NotationFault → List ℕ
 unreadable_text line f = codes "! L" ++ (decimal (line_fault_number f) ++ (codes " line " ++ (decimal line ++ codes "\n")))
 
--- what was told is answered: an input by its run, with so many tries for each script; other bytes by their first line that can't be
+-- what was told is answered: an input by its run, with so many tries for each script; other bytes
+-- by their first line that can't be
 -- read
 abbrev pub IsAnswer : ℕ → (told : Option (List ℕ)) → Outcome → List ℕ → Type 0
 IsAnswer tries told outcome.Yes text =
-    (input : Input) × IfSome told (λ bytes. Spells bytes input) × IsRunAnswer input tries outcome.Yes text
+    (input : Input) × IfSome told (λ bytes. Spells bytes input)
+    × IsRunAnswer input tries outcome.Yes text
 IsAnswer tries told outcome.No text =
-    (input : Input) × IfSome told (λ bytes. Spells bytes input) × IsRunAnswer input tries outcome.No text
-IsAnswer tries told outcome.Unreadable text = (line : ℕ) × (f : NotationFault) × (f ≢ notation.Memory)
+    (input : Input) × IfSome told (λ bytes. Spells bytes input)
+    × IsRunAnswer input tries outcome.No text
+IsAnswer tries told outcome.Unreadable text = (line : ℕ) × (f : NotationFault)
+    × (f ≢ notation.Memory)
     × IfSome told (λ bytes. FirstUnreadable bytes line f) × (text ≡ unreadable_text line f)
 
 -- it is called unreadable exactly where the bytes spell no input
@@ -179,8 +194,10 @@ abbrev pub TellsUnreadable : List ℕ → Outcome → Type 0
 TellsUnreadable bytes o = (o ≡ outcome.Unreadable) ↔ ((input : Input) → Spells bytes input → ⊥)
 
 -- that text was written
-abbrev pub WroteAnswer : ℕ → (told : Option (List ℕ)) → Outcome → (old new : Option (List ℕ)) → Type 0
-WroteAnswer tries told o old new = (text : List ℕ) × IsAnswer tries told o text × Appends old new text
+abbrev pub WroteAnswer : ℕ → (told : Option (List ℕ)) → Outcome → (old new : Option (List ℕ))
+    → Type 0
+WroteAnswer tries told o old new = (text : List ℕ) × IsAnswer tries told o text
+    × Appends old new text
 
 -- nothing was written, or a front of the text that is the answer, and less than the whole text
 abbrev pub WroteAnswerFront : ℕ → (told old new : Option (List ℕ)) → Type 0

@@ -15,7 +15,8 @@ ending_text Committed = codes " committed "
 ending_text Refused = codes " refused "
 ending_text Withdrawn = codes " withdrawn "
 
--- the line of a script: its number, how its last try ended, the transaction of that try, and how many tries there were
+-- the line of a script: its number, how its last try ended, the transaction of that try, and how
+-- many tries there were
 abbrev pub told_text : Done → Option Ticket → List ℕ
 told_text d (Some t) =
     codes "s" ++ (decimal d.job ++ (ending_text t.verdict ++ (decimal t.tx ++ (codes " tries " ++ decimal (length d.tickets.items)))))

@@ -14,7 +14,8 @@ use Rattle.sgt_service_locks.specs.declared.seat.Seat.{Seat}
 use Rattle.sgt_service.specs.Operations.{TriesBy}
 use Rattle.sgt_service.specs.Tries.{reads_at, with_reads}
 
--- how many transactions a worker began, up to the greatest number, how many of its were decided, and its entries at each site
+-- how many transactions a worker began, up to the greatest number, how many of its were decided,
+-- and its entries at each site
 pub record Tally : Type 0 where
   pub begun : ℕ
   pub decided : ℕ
@@ -22,24 +23,29 @@ pub record Tally : Type 0 where
 
 -- what a seat counted
 abbrev pub tally_of : {L : Type 0} → Seat L → Tally
-tally_of seat = record { begun = seat.begun; decided = seat.share.amount; counts = seat.counts.items }
+tally_of seat =
+    record { begun = seat.begun; decided = seat.share.amount; counts = seat.counts.items }
 
 -- nothing yet, at so many sites
 abbrev pub no_tally : ℕ → Tally
 no_tally sites = record { begun = 0; decided = 0; counts = replicate sites no_counts }
 
--- one transaction with this ticket, which tried the operations, and nothing else: one begin, one decision, at each site as many reads as
+-- one transaction with this ticket, which tried the operations, and nothing else: one begin, one
+-- decision, at each site as many reads as
 -- its draft keeps there, and its block
 abbrev pub TriesOnce : List Op → Ticket → Tally → Tally → Type 0
 TriesOnce ops t old new = (active : Active) × (heard : List ℕ) × TriesBy active ops t heard
     × (new.begun ≡ capped (old.begun + 1)) × (new.decided ≡ old.decided + 1)
-    × AreCounted (λ site c. with_others (blocks_of t.verdict active.draft.touched site) (with_reads (reads_at site active.draft.touched) c))
+    × AreCounted (λ site c.
+    with_others (blocks_of t.verdict active.draft.touched site)
+    (with_reads (reads_at site active.draft.touched) c))
     old.counts new.counts
 
 -- tries with these tickets, one after another
 abbrev pub TriesInTurn : List Op → List Ticket → Tally → Tally → Type 0
 TriesInTurn ops [] old new = new ≡ old
-TriesInTurn ops (t ∷ ts) old new = (mid : Tally) × TriesOnce ops t old mid × TriesInTurn ops ts mid new
+TriesInTurn ops (t ∷ ts) old new = (mid : Tally) × TriesOnce ops t old mid
+    × TriesInTurn ops ts mid new
 
 -- those of a job's script
 abbrev pub DoesJob : Tally → ℕ → Script → Done → Tally → Type 0
@@ -47,9 +53,11 @@ DoesJob old number script d new = TriesInTurn script.operations d.tickets.items 
 
 -- the entries that they counted together at each of so many sites
 abbrev pub counted_by : ℕ → List Tally → List EntryCounts
-counted_by sites tallies = fold (λ counts (t : Tally). added counts t.counts) (replicate sites no_counts) tallies
+counted_by sites tallies =
+    fold (λ counts (t : Tally). added counts t.counts) (replicate sites no_counts) tallies
 
--- The Dones are those of some workers who had counted nothing at so many sites, each of whom did the tries of its share of the jobs and nothing
+-- The Dones are those of some workers who had counted nothing at so many sites, each of whom did
+-- the tries of its share of the jobs and nothing
 -- else; and these are the entries that they counted together.
 pub record AreCountsOf (scripts : List Script) (sites : ℕ) (dones : List Done) (counts : List EntryCounts) : Type 0 where
   pub workers : ℕ

@@ -24,7 +24,8 @@ use Rattle.sgt_service.specs.Operations.{Tries, TriesBy}
 abbrev pub IsRefused : Ticket → Type 0
 IsRefused t = t.verdict ≡ Refused
 
--- the tickets of a script that may be tried so often: all but the last are refused, and the last only where no try is left
+-- the tickets of a script that may be tried so often: all but the last are refused, and the last
+-- only where no try is left
 pub record AreTries (tries : ℕ) (tickets : List Ticket) : Type 0 where
   pub refusals : List Ticket
   pub last : Ticket
@@ -37,7 +38,8 @@ pub record AreTries (tries : ℕ) (tickets : List Ticket) : Type 0 where
 abbrev pub IsTryOf : List Op → Ticket → Type 0
 IsTryOf ops t = (heard : List ℕ) × Tries ops t heard
 
--- each ticket is that of a try of these operations, and the values are those that the reads of the last try answered
+-- each ticket is that of a try of these operations, and the values are those that the reads of the
+-- last try answered
 pub record AreTriesOf (tries : ℕ) (ops : List Op) (tickets : List Ticket) (reads : List ℕ) : Type 0 where
   pub whole : AreTries tries tickets
   pub each : All (IsTryOf ops) tickets
@@ -66,45 +68,57 @@ with_reads (suc n) c = record c { reads = capped (c.reads + suc n) }
 -- one operation counts a read of what its draft doesn't show, at the site of it, and nothing else
 abbrev pub CountsOp : Op → List Touch → (old new : List EntryCounts) → Type 0
 CountsOp (Read s x) touched old new =
-    (look_in touched s x ≡ None → AreCounted (only_at s with_read) old new) × (IsSome (look_in touched s x) → new ≡ old)
+    (look_in touched s x ≡ None → AreCounted (only_at s with_read) old new)
+    × (IsSome (look_in touched s x) → new ≡ old)
 CountsOp _ touched old new = new ≡ old
 
 -- at each site as many reads more are counted as the draft keeps more of there, and nothing else
 abbrev pub CountsReads : (old new : List Touch) → (counts counts' : List EntryCounts) → Type 0
-CountsReads old new counts counts' = (more : ℕ → ℕ) × ((site : ℕ) → reads_at site new ≡ reads_at site old + more site)
+CountsReads old new counts counts' = (more : ℕ → ℕ)
+    × ((site : ℕ) → reads_at site new ≡ reads_at site old + more site)
     × AreCounted (λ site. with_reads (more site)) counts counts'
 
 module _ {L : Type 0} where
-  -- one transaction was begun and ended so, with this draft: one begin, one decision, at each site as many reads as the draft keeps there,
+  -- one transaction was begun and ended so, with this draft: one begin, one decision, at each site
+  -- as many reads as the draft keeps there,
   -- and the block of this transaction
   abbrev pub CountsTry : Ending → List Touch → Seat L → Seat L → Type 0
-  CountsTry verdict touched old new = (new.begun ≡ capped (old.begun + 1)) × (new.share.parts ≡ old.share.parts)
+  CountsTry verdict touched old new = (new.begun ≡ capped (old.begun + 1))
+      × (new.share.parts ≡ old.share.parts)
       × (new.share.amount ≡ old.share.amount + 1)
-      × AreCounted (λ site c. with_others (blocks_of verdict touched site) (with_reads (reads_at site touched) c)) old.counts.items new.counts.items
+      × AreCounted (λ site c.
+      with_others (blocks_of verdict touched site)
+      (with_reads (reads_at site touched) c)) old.counts.items new.counts.items
 
   -- the one transaction that the seat counts is the one that tried the script
   abbrev pub TriesAt : List Op → Ticket → List ℕ → Seat L → Seat L → Type 0
-  TriesAt ops t reads old new = (active : Active) × TriesBy active ops t reads × CountsTry t.verdict active.draft.touched old new
+  TriesAt ops t reads old new = (active : Active) × TriesBy active ops t reads
+      × CountsTry t.verdict active.draft.touched old new
 
   -- tries with these tickets, one after another
   abbrev pub AreTried : List Op → List Ticket → Seat L → Seat L → Type 0
   AreTried ops [] old new = new ≡ old
-  AreTried ops (t ∷ ts) old new = (mid : Seat L) × ((heard : List ℕ) × TriesAt ops t heard old mid) × AreTried ops ts mid new
+  AreTried ops (t ∷ ts) old new = (mid : Seat L) × ((heard : List ℕ) × TriesAt ops t heard old mid)
+      × AreTried ops ts mid new
 
   -- those of a job's script
   abbrev pub TriesJob : Seat L → ℕ → Script → Done → Seat L → Type 0
   TriesJob old number script d new = AreTried script.operations d.tickets.items old new
 
-  -- a transaction without a ticket leaves its seat as it was. Or it was decided so, and V7 names the site that had lost its pledge
+  -- a transaction without a ticket leaves its seat as it was. Or it was decided so, and V7 names
+  -- the site that had lost its pledge
   abbrev pub IsHalt : (Ending → Type 0) → Active → Seat L → Seat L → ServiceFault → Type 0
   IsHalt decided active old new f = SameSeat old new
-      ⊎ ((verdict : Ending) × (site : ℕ) × decided verdict × (f ≡ NotPledged site) × CountsLoss verdict active site old new)
+      ⊎ ((verdict : Ending) × (site : ℕ) × decided verdict × (f ≡ NotPledged site)
+      × CountsLoss verdict active site old new)
 
-  -- a try without a ticket took no decision. Or it took one, and V7 names the site that had lost its pledge
+  -- a try without a ticket took no decision. Or it took one, and V7 names the site that had lost
+  -- its pledge
   abbrev pub IsStopped : Seat L → Seat L → ServiceFault → Type 0
   IsStopped old new f = (new.share ≡ old.share)
       ⊎ ((site : ℕ) × (f ≡ NotPledged site) × (new.share.amount ≡ old.share.amount + 1))
 
   -- tries with these tickets, all refused, and behind them one without a ticket
   abbrev pub AreStopped : List Op → List Ticket → Seat L → Seat L → ServiceFault → Type 0
-  AreStopped ops tickets old new f = All IsRefused tickets × ((mid : Seat L) × AreTried ops tickets old mid × IsStopped mid new f)
+  AreStopped ops tickets old new f = All IsRefused tickets
+      × ((mid : Seat L) × AreTried ops tickets old mid × IsStopped mid new f)

@@ -17,7 +17,8 @@ fn has_items(site: &Site, items: &[Holding]) -> bool
 pub fn first_other(sites: &[Site], given: &[Listed<Holding>]) -> Option<SiteNo>
     requires many { length sites.now ≡ length given.now }
     requires few { length sites.now ≤ max_sites }
-    ensures { MatchOption result (map (λ s. s.items) sites.now ≡ given.now) (BeganOtherwise given.now (map (λ s. s.items) sites.now)) }
+    ensures { MatchOption result (map (λ s. s.items) sites.now ≡ given.now)
+        (BeganOtherwise given.now (map (λ s. s.items) sites.now)) }
 {
     for place in 0..sites.len() {
         if !has_items(&sites[place], given[place].as_slice()) {

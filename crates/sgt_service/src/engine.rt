@@ -253,7 +253,8 @@ fn answer_to<G: Gate + Sync, R: Threads + Wait + Sync>(
 ) -> Result<Answer, AllocError>
     requires some { (1 ≤ workers) × (1 ≤ tries) }
     requires usable { IsUsable reading }
-    ensures { IfOk result (λ answer. (told : Option (List ℕ)) → IfSome told (λ bytes. IsRead bytes reading)
+    ensures { IfOk result
+        (λ answer. (told : Option (List ℕ)) → IfSome told (λ bytes. IsRead bytes reading)
         → IsAnswer tries told answer.outcome answer.text.items) }
 {
     match reading {
@@ -286,18 +287,25 @@ pub fn run_scripts<S: Source, W: Sink, G: Gate + Sync, R: Threads + Wait + Sync>
     gate: &G,
 ) -> Result<Outcome, EngineFail>
     requires { (1 ≤ workers) × (1 ≤ tries) }
-    ensures answer { IfOk result (λ outcome. WroteAnswer tries (S.tells reader.old) outcome (W.holds writer.old) (W.holds writer.new)) }
-    ensures unreadable { IfOk result (λ outcome. IfSome (S.tells reader.old) (λ bytes. TellsUnreadable bytes outcome)) }
-    ensures front { OnErr result (WroteAnswerFront tries (S.tells reader.old) (W.holds writer.old) (W.holds writer.new)) }
+    ensures answer { IfOk result
+        (λ outcome. WroteAnswer tries (S.tells reader.old) outcome (W.holds writer.old)
+        (W.holds writer.new)) }
+    ensures unreadable { IfOk result
+        (λ outcome. IfSome (S.tells reader.old) (λ bytes. TellsUnreadable bytes outcome)) }
+    ensures front { OnErr result
+        (WroteAnswerFront tries (S.tells reader.old) (W.holds writer.old) (W.holds writer.new)) }
     ensures unwritten { IsErrOf result EngineFail.ReadFault → writer.new ≡ writer.old }
     ensures untouched { IsErrOf result EngineFail.Memory → writer.new ≡ writer.old }
 
     // A fault tells of its device, and no fault of a device is passed over.
     ensures read_fault { IsErrOf result EngineFail.ReadFault → ReadFaultIsDue (S.tells reader.old)
         (S.failures reader.old) (S.failures reader.new) (S.asked reader.old) (S.asked reader.new) }
-    ensures write_fault { IsErrOf result EngineFail.WriteFault → W.failures writer.old < W.failures writer.new }
-    ensures quiet_reader { result ≢ Err EngineFail.ReadFault → S.failures reader.new ≡ S.failures reader.old }
-    ensures quiet_writer { result ≢ Err EngineFail.WriteFault → W.failures writer.new ≡ W.failures writer.old }
+    ensures write_fault { IsErrOf result EngineFail.WriteFault
+        → W.failures writer.old < W.failures writer.new }
+    ensures quiet_reader { result ≢ Err EngineFail.ReadFault
+        → S.failures reader.new ≡ S.failures reader.old }
+    ensures quiet_writer { result ≢ Err EngineFail.WriteFault
+        → W.failures writer.new ≡ W.failures writer.old }
 {
     let reading = read_input(alloc, reader)?;
     let answer = answer_to(rt, alloc, reading, workers, tries, gate)?;

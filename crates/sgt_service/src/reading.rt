@@ -41,9 +41,11 @@ impl Taker for Keeper {
 /// An Err is ReadFault, where a read failed or too many were needed (`MOST_READS` of sgt_notation), or Memory. How far was
 /// read then is not promised.
 pub fn read_input<R: Source>(alloc: Global, reader: &mut R) -> Result<Reading, EngineFail>
-    ensures read { IfOk result (λ reading. IfSome (R.tells reader.old) (λ bytes. IsRead bytes reading)) }
+    ensures read { IfOk result
+        (λ reading. IfSome (R.tells reader.old) (λ bytes. IsRead bytes reading)) }
     ensures usable { IfOk result IsUsable }
-    ensures quiet { result ≢ Err EngineFail.ReadFault → R.failures reader.new ≡ R.failures reader.old }
+    ensures quiet { result ≢ Err EngineFail.ReadFault
+        → R.failures reader.new ≡ R.failures reader.old }
     ensures read_fault { IsErrOf result EngineFail.ReadFault → ReadFaultIsDue (R.tells reader.old)
         (R.failures reader.old) (R.failures reader.new) (R.asked reader.old) (R.asked reader.new) }
     ensures write_fault { result ≢ Err EngineFail.WriteFault }

@@ -70,7 +70,8 @@ fn push_done(out: &mut Vec<u8>, done: &Done) -> Result<(), AllocError>
 
 /// Writes a line for each script. Err: memory ran out.
 pub fn push_dones(out: &mut Vec<u8>, dones: &[Done]) -> Result<(), AllocError>
-    ensures { OnOk result (out.new.items ≡ out.old.items ++ text_of_lines (map done_text dones.now)) }
+    ensures { OnOk result
+        (out.new.items ≡ out.old.items ++ text_of_lines (map done_text dones.now)) }
 {
     for done in dones {
         push_done(out, done)?;

@@ -52,7 +52,8 @@ impl<'a, L: Ledger, G: Gate> Runner<'a, L, G> {
         value: Value,
     ) -> Result<bool, ServiceFault>
         ensures fits { IfOk result (λ fits. fits ≡ sum_fits seen value) }
-        ensures sum { result ≡ Ok true → PutsSum site item seen value active.old.draft.touched active.new.draft.touched }
+        ensures sum { result ≡ Ok true
+            → PutsSum site item seen value active.old.draft.touched active.new.draft.touched }
         ensures same { result ≡ Ok false → active.new.draft.touched ≡ active.old.draft.touched }
         ensures named { IsOfActive active.old active.new }
         ensures err { OnErr result (active.new.draft.touched ≡ active.old.draft.touched) }
@@ -82,10 +83,13 @@ impl<'a, L: Ledger, G: Gate> Runner<'a, L, G> {
         ensures does { result ≡ Ok true
             → Does op.now active.old.draft.touched active.new.draft.touched reads.old.items reads.new.items }
         ensures same { result ≡ Ok false
-            → (active.new.draft.touched ≡ active.old.draft.touched) × (reads.new.items ≡ reads.old.items) }
+            → (active.new.draft.touched ≡ active.old.draft.touched)
+            × (reads.new.items ≡ reads.old.items) }
         ensures named { IsOfActive active.old active.new }
-        ensures share { (worker.new.seat.share ≡ worker.old.seat.share) × (worker.new.seat.begun ≡ worker.old.seat.begun) }
-        ensures counts { OnOk result (CountsOp op.now active.old.draft.touched worker.old.seat.counts.items worker.new.seat.counts.items) }
+        ensures share { (worker.new.seat.share ≡ worker.old.seat.share)
+            × (worker.new.seat.begun ≡ worker.old.seat.begun) }
+        ensures counts { OnOk result
+            (CountsOp op.now active.old.draft.touched worker.old.seat.counts.items worker.new.seat.counts.items) }
         ensures err { OnErr result ((active.new.draft.touched ≡ active.old.draft.touched)
             × (worker.new.seat.counts.items ≡ worker.old.seat.counts.items)) }
         ensures fault { IfErr result IsOfOperation }
@@ -133,7 +137,8 @@ impl<'a, L: Ledger, G: Gate> Runner<'a, L, G> {
         ensures does { IfOk result (λ all. DoesAll script.now.operations all
             active.old.draft.touched active.new.draft.touched reads.old.items reads.new.items) }
         ensures named { IsOfActive active.old active.new }
-        ensures share { (worker.new.seat.share ≡ worker.old.seat.share) × (worker.new.seat.begun ≡ worker.old.seat.begun) }
+        ensures share { (worker.new.seat.share ≡ worker.old.seat.share)
+            × (worker.new.seat.begun ≡ worker.old.seat.begun) }
         ensures counts { CountsReads active.old.draft.touched active.new.draft.touched
             worker.old.seat.counts.items worker.new.seat.counts.items }
         ensures fault { IfErr result IsOfOperation }
@@ -160,8 +165,10 @@ impl<'a, L: Ledger, G: Gate> Runner<'a, L, G> {
         ensures decided { IfOk result (λ t. t.verdict ≢ Withdrawn) }
         ensures told { IfOk result (IsTicketOf (vec_len self.now.service.now.sites) active) }
         ensures parts { worker.new.seat.share.parts ≡ worker.old.seat.share.parts }
-        ensures ends { IfOk result (λ t. CountsEnd t.verdict active worker.old.seat worker.new.seat) }
-        ensures halt { IfErr result (IsHalt (λ verdict. verdict ≢ Withdrawn) active worker.old.seat worker.new.seat) }
+        ensures ends { IfOk result
+            (λ t. CountsEnd t.verdict active worker.old.seat worker.new.seat) }
+        ensures halt { IfErr result
+            (IsHalt (λ verdict. verdict ≢ Withdrawn) active worker.old.seat worker.new.seat) }
         ensures fault { IfErr result IsOfCommit }
     {
         let Worker { number, seat } = worker;
@@ -185,8 +192,10 @@ impl<'a, L: Ledger, G: Gate> Runner<'a, L, G> {
         ensures decided { IfOk result (λ t. t.verdict ≡ Withdrawn) }
         ensures told { IfOk result (IsTicketOf (vec_len self.now.service.now.sites) active) }
         ensures parts { worker.new.seat.share.parts ≡ worker.old.seat.share.parts }
-        ensures ends { IfOk result (λ t. CountsEnd t.verdict active worker.old.seat worker.new.seat) }
-        ensures halt { IfErr result (IsHalt (λ verdict. verdict ≡ Withdrawn) active worker.old.seat worker.new.seat) }
+        ensures ends { IfOk result
+            (λ t. CountsEnd t.verdict active worker.old.seat worker.new.seat) }
+        ensures halt { IfErr result
+            (IsHalt (λ verdict. verdict ≡ Withdrawn) active worker.old.seat worker.new.seat) }
         ensures fault { IfErr result IsOfWithdraw }
     {
         let Worker { number: _, seat } = worker;
@@ -208,8 +217,11 @@ impl<'a, L: Ledger, G: Gate> Runner<'a, L, G> {
         ensures withdrawn { IfOk result (λ t. (t.verdict ≡ Withdrawn) ↔ (fits ≡ false)) }
         ensures told { IfOk result (IsTicketOf (vec_len self.now.service.now.sites) active) }
         ensures parts { worker.new.seat.share.parts ≡ worker.old.seat.share.parts }
-        ensures ends { IfOk result (λ t. CountsEnd t.verdict active worker.old.seat worker.new.seat) }
-        ensures halt { IfErr result (IsHalt (λ verdict. (verdict ≡ Withdrawn) ↔ (fits ≡ false)) active worker.old.seat worker.new.seat) }
+        ensures ends { IfOk result
+            (λ t. CountsEnd t.verdict active worker.old.seat worker.new.seat) }
+        ensures halt { IfErr result
+            (IsHalt (λ verdict. (verdict ≡ Withdrawn)
+            ↔ (fits ≡ false)) active worker.old.seat worker.new.seat) }
         ensures fault { IfErr result IsOfCommit }
         ensures unfit { fits ≡ false → IfErr result IsOfWithdraw }
     {
@@ -228,7 +240,8 @@ impl<'a, L: Ledger, G: Gate> Runner<'a, L, G> {
         script: &Script,
         reads: &mut Vec<Value>,
     ) -> Result<Ticket, ServiceFault>
-        ensures tries { IfOk result (λ t. TriesAt script.now.operations t reads.new.items worker.old.seat worker.new.seat) }
+        ensures tries { IfOk result
+            (λ t. TriesAt script.now.operations t reads.new.items worker.old.seat worker.new.seat) }
         ensures parts { worker.new.seat.share.parts ≡ worker.old.seat.share.parts }
         ensures halt { IfErr result (IsStopped worker.old.seat worker.new.seat) }
         ensures fault { IfErr result IsOfCall }
@@ -251,10 +264,13 @@ impl<'a, L: Ledger, G: Gate> Runner<'a, L, G> {
         reads: &mut Vec<Value>,
     ) -> Result<(), ServiceFault>
         requires { tickets.old.items ≡ [] }
-        ensures tries { OnOk result (AreTriesOf self.now.tries script.now.operations tickets.new.items reads.new.items) }
+        ensures tries { OnOk result
+            (AreTriesOf self.now.tries script.now.operations tickets.new.items reads.new.items) }
         ensures parts { worker.new.seat.share.parts ≡ worker.old.seat.share.parts }
-        ensures tried { OnOk result (AreTried script.now.operations tickets.new.items worker.old.seat worker.new.seat) }
-        ensures halt { IfErr result (AreStopped script.now.operations tickets.new.items worker.old.seat worker.new.seat) }
+        ensures tried { OnOk result
+            (AreTried script.now.operations tickets.new.items worker.old.seat worker.new.seat) }
+        ensures halt { IfErr result
+            (AreStopped script.now.operations tickets.new.items worker.old.seat worker.new.seat) }
         ensures fault { IfErr result IsOfCall }
     {
         for _ in 0..self.tries {

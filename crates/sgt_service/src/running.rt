@@ -43,9 +43,12 @@ pub fn run<L: Ledger + Send + Sync, G: Gate + Sync, R: Threads + Wait + Sync>(
     ensures dones { IfOk result (λ r. AreDonesOf scripts.now tries r.0.items) }
     ensures seats { IfOk result (λ r. vec_len r.1 ≡ vec_len seats) }
     ensures parts { IfOk result (λ r. parts_of r.1.items ≡ parts_of seats.items) }
-    ensures counted { IfOk result (λ r. amount_of r.1.items ≡ amount_of seats.items + length (tickets_of r.0.items)) }
-    ensures begun { IfOk result (λ r. begun_of r.1.items ≡ capped (begun_of seats.items + length (tickets_of r.0.items))) }
-    ensures tried { IfOk result (λ r. AreShared TriesJob scripts.now seats.items r.0.items r.1.items) }
+    ensures counted { IfOk result
+        (λ r. amount_of r.1.items ≡ amount_of seats.items + length (tickets_of r.0.items)) }
+    ensures begun { IfOk result
+        (λ r. begun_of r.1.items ≡ capped (begun_of seats.items + length (tickets_of r.0.items))) }
+    ensures tried { IfOk result
+        (λ r. AreShared TriesJob scripts.now seats.items r.0.items r.1.items) }
     ensures fault { IfErr result (IsFault IsOfCall (length scripts.now)) }
 {
     let workers = numbered(alloc, seats)?;
@@ -63,7 +66,8 @@ pub fn run<L: Ledger + Send + Sync, G: Gate + Sync, R: Threads + Wait + Sync>(
 // The seats with their numbers.
 fn numbered<L: Ledger>(alloc: Global, seats: Vec<Seat<L>>) -> Result<Vec<Worker<L>>, AllocError>
     ensures seats { IfOk result (λ workers. map (λ w. w.seat) workers.items ≡ seats.items) }
-    ensures numbers { IfOk result (λ workers. map (λ w. w.number) workers.items ≡ range_with_len 0 (length workers.items)) }
+    ensures numbers { IfOk result
+        (λ workers. map (λ w. w.number) workers.items ≡ range_with_len 0 (length workers.items)) }
 {
     let mut workers = Vec::new(alloc);
     for seat in seats {

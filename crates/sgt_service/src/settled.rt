@@ -141,7 +141,8 @@ pub fn settle<L: Ledger>(
         → decision_count s.certifier ≡ amount_of seats.items) }
     ensures refused { IfErr result (λ f. (told : List ADone) × ArePutInOrder dones.items told
         × IsRefused (vec_len service.names) L.parts seats.items told f) }
-    ensures memory { result ≡ Err Memory → (c : Kept) × (told : List ADone) × Replays c.history c.state
+    ensures memory { result ≡ Err Memory
+        → (c : Kept) × (told : List ADone) × Replays c.history c.state
         × ArePutInOrder dones.items told × AreTickets c.state.rulings told }
 {
     let told = put_in_order(dones);
@@ -219,7 +220,8 @@ fn log_of(alloc: Global, site: &Site) -> Result<SiteLog, AllocError>
 
 // The logs of the sites, by number.
 fn logs_of(alloc: Global, sites: &[Site]) -> Result<Vec<SiteLog>, AllocError>
-    ensures { IfOk result (λ logs. AllZip (λ s log. IsLogOf s log × IsSite s) sites.now logs.items) }
+    ensures { IfOk result
+        (λ logs. AllZip (λ s log. IsLogOf s log × IsSite s) sites.now logs.items) }
 {
     let mut logs = Vec::new(alloc);
     logs.reserve(sites.len())?;

@@ -105,7 +105,8 @@ pub fn take_line(
     scripts: &mut Vec<Script>,
     line: &[u8],
 ) -> Result<bool, AllocError>
-    ensures { IfOk result (Takes (record { sites = sites.old.items; scripts = scripts.old.items }) line.now
+    ensures { IfOk result
+        (Takes (record { sites = sites.old.items; scripts = scripts.old.items }) line.now
         (record { sites = sites.new.items; scripts = scripts.new.items })) }
 {
     if !scripts.is_empty() {

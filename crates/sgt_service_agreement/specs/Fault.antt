@@ -1,4 +1,5 @@
--- What a layer's refusal is to a service: its want of memory is the service's own, and any other is handed on.
+-- What a layer's refusal is to a service: its want of memory is the service's own, and any other is
+-- handed on.
 use Rattle.sgt_site.specs.declared.fault.SiteFault.{SiteFault}
 use Rattle.sgt_site.specs.declared.fault.SiteFault.TheVariants as site
 use Rattle.sgt_certifier.specs.declared.call.CertifierFault.{CertifierFault}

@@ -69,7 +69,8 @@ fn met_with(counts: &[ItemCount], met: usize, item: Item, version: u64) -> Optio
 
 // Whether the item is the next one, with this count.
 fn is_next(counts: &[ItemCount], met: usize, item: Item, count: u64) -> bool
-    ensures { IsTrue result → slice_get counts.now met ≡ Some (record { item = item; count = count }) }
+    ensures { IsTrue result
+        → slice_get counts.now met ≡ Some (record { item = item; count = count }) }
 {
     match counts.get(met) {
         Some(counted) => is_count(counted, item, count),
@@ -130,14 +131,16 @@ pub fn gather_agreed(
 ) -> Result<EdgeList, ServiceFault>
     ensures agreed { OnOk result (VersionsAgree certifier.now.history site.old) }
     ensures allowed { OnOk result (MayPledge site.old tx draft.now.touched) }
-    ensures differs { (VersionsAgree certifier.now.history site.old → ⊥) → result ≡ Err (ServiceFault.NotPledged site.old.number) }
+    ensures differs { (VersionsAgree certifier.now.history site.old → ⊥)
+        → result ≡ Err (ServiceFault.NotPledged site.old.number) }
     ensures pledged { OnOk result (site.new ≡ record site.old {
       pledge = Some (record { tx = tx; part = at_site site.old.number draft.now.touched });
     }) }
     ensures given { IfOk result (λ edges. All (IsGiven site.new draft.now.touched me) edges) }
     ensures stands { IfOk result (StandsForAll site.new draft.now.touched me) }
     ensures err { OnErr result (site.new ≡ site.old) }
-    ensures refused { IfErr result (RefusesAgreed certifier.now.history site.old tx draft.now.touched) }
+    ensures refused { IfErr result
+        (RefusesAgreed certifier.now.history site.old tx draft.now.touched) }
 {
     let agreed = agrees(certifier, site);
     if !agreed {

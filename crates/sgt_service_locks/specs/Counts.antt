@@ -19,15 +19,19 @@ with_others zero c = c
 with_others (suc n) c = record c { others = capped (c.others + suc n) }
 
 -- the counts of each site have become what the function tells of it
-abbrev pub AreCounted : (ℕ → EntryCounts → EntryCounts) → List EntryCounts → List EntryCounts → Type 0
+abbrev pub AreCounted : (ℕ → EntryCounts → EntryCounts) → List EntryCounts → List EntryCounts
+    → Type 0
 AreCounted f old new =
-    (length new ≡ length old) × ((site : ℕ) (c : EntryCounts) → slice_get old site ≡ Some c → slice_get new site ≡ Some (f site c))
+    (length new ≡ length old)
+    × ((site : ℕ) (c : EntryCounts) → slice_get old site ≡ Some c
+    → slice_get new site ≡ Some (f site c))
 
 -- the change at one site alone
 abbrev pub only_at : ℕ → (EntryCounts → EntryCounts) → ℕ → EntryCounts → EntryCounts
 only_at here f site c = if site == here then f c else c
 
--- how many entries the block has that ends a transaction so at a site where it touches these items: none where it touches none,
+-- how many entries the block has that ends a transaction so at a site where it touches these items:
+-- none where it touches none,
 -- else its end, behind its changes if it was decided
 abbrev pub block_length : Ending → List Touch → ℕ
 block_length verdict [] = 0

@@ -24,11 +24,14 @@ WritesNext old new = (new.written ≡ old.written + 1) × (new.below ≡ old.bel
 abbrev pub Stops : Blocks → Blocks → Type 0
 Stops old new = (new.stopped ≡ true) × (new.written ≡ old.written) × (new.below ≡ old.below)
 
--- the log of the site of this number ends with the block of a transaction that was decided so, which has spent its pledge
+-- the log of the site of this number ends with the block of a transaction that was decided so,
+-- which has spent its pledge
 abbrev pub HasBlock : Ending → Active → ℕ → SiteState → Type 0
-HasBlock verdict active here s = (before : SiteState) × (before.number ≡ here) × IsEnded verdict active before s
+HasBlock verdict active here s = (before : SiteState) × (before.number ≡ here)
+    × IsEnded verdict active before s
 
--- what stands at the place of this number has another one, or no pledge of the transaction: none for its draft, where it was decided, and
+-- what stands at the place of this number has another one, or no pledge of the transaction: none
+-- for its draft, where it was decided, and
 -- none at all, where it was withdrawn
 abbrev pub HasLostPledge : Ending → Active → ℕ → SiteState → Type 0
 HasLostPledge Withdrawn active here s = s.number ≡ here → IsPledged s active.tx → ⊥

@@ -30,7 +30,8 @@ IsOfActive old new = (new.tx ≡ old.tx) × (new.handle ≡ old.handle)
 abbrev pub SameActive : Active → Active → Type 0
 SameActive old new = IsOfActive old new × (new.draft.touched ≡ old.draft.touched)
 
--- a transaction has read the item at the site of this number, which logged this read for it; its draft keeps the value and the version that the item had there,
+-- a transaction has read the item at the site of this number, which logged this read for it; its
+-- draft keeps the value and the version that the item had there,
 -- and is as it was elsewhere
 pub record ReadsAt (here : ℕ) (x : Name) (old new : Active) (before after : SiteState) : Type 0 where
   pub number : before.number ≡ here
@@ -38,7 +39,8 @@ pub record ReadsAt (here : ℕ) (x : Name) (old new : Active) (before after : Si
   pub seen : Seen
   pub value : value_at before.items before.entries x ≡ Some seen.value
   pub version : seen.version ≡ version_at before.entries x
-  pub logged : after ≡ record before { entries = before.entries ++ entry.Read old.tx x seen.value ∷ [] }
+  pub logged : after
+      ≡ record before { entries = before.entries ++ entry.Read old.tx x seen.value ∷ [] }
   pub kept : ChangesOnly old.draft.touched new.draft.touched (record {
     site = here;
     item = x;

@@ -27,9 +27,11 @@ abbrev pub IsRefusedBy : Option ℕ → State → Request → ServiceFault → T
 IsRefusedBy (Some lost) s request f = f ≡ NotPledged lost
 IsRefusedBy None s request f = HandsOn s request f
 
--- so it is refused by some certifier, whose state is the replay of its history, with some site found to have lost its pledge or none
+-- so it is refused by some certifier, whose state is the replay of its history, with some site
+-- found to have lost its pledge or none
 abbrev pub IsToldOf : Request → ServiceFault → Type 0
-IsToldOf request f = (lost : Option ℕ) × ((k : Kept) × Replays k.history k.state × IsRefusedBy lost k.state request f)
+IsToldOf request f = (lost : Option ℕ)
+    × ((k : Kept) × Replays k.history k.state × IsRefusedBy lost k.state request f)
 
 -- the names of a site's items rise by their bytes
 abbrev pub NamesRise : List Name → Type 0
@@ -65,7 +67,8 @@ IsOfChange (Site site.UnknownItem) = Unit {0}
 IsOfChange Memory = Unit {0}
 IsOfChange _ = ⊥
 
--- a read there that is refused: another site stands at the place, or the site of this number refuses it
+-- a read there that is refused: another site stands at the place, or the site of this number
+-- refuses it
 abbrev pub IsToldOfRead : ℕ → SiteState → ℕ → Name → ServiceFault → Type 0
 IsToldOfRead here s tx x f =
     ((s.number ≢ here) × (f ≡ Site site.UnknownItem))
@@ -99,6 +102,7 @@ abbrev pub IsOfCommit : ServiceFault → Type 0
 IsOfCommit (Certifier certifier.Stale) = Unit {0}
 IsOfCommit f = IsOfWithdraw f
 
--- what any call of a transaction may be refused for: its begin, a read, a change, its commit or its withdrawal
+-- what any call of a transaction may be refused for: its begin, a read, a change, its commit or its
+-- withdrawal
 abbrev pub IsOfCall : ServiceFault → Type 0
 IsOfCall f = IsOfBegin f ⊎ (IsOfRead f ⊎ (IsOfChange f ⊎ (IsOfCommit f ⊎ IsOfWithdraw f)))

@@ -7,7 +7,11 @@ use Rattle.sgt_service_locks.specs.declared.seat.Seat.{Seat}
 
 -- the counts of two together
 abbrev pub both : EntryCounts → EntryCounts → EntryCounts
-both mine theirs = record { reads = capped (mine.reads + theirs.reads); others = capped (mine.others + theirs.others) }
+both mine theirs =
+    record {
+      reads = capped (mine.reads + theirs.reads);
+      others = capped (mine.others + theirs.others);
+    }
 
 -- the counts at each site, with those of a seat
 abbrev pub added : List EntryCounts → List EntryCounts → List EntryCounts
@@ -28,4 +32,5 @@ module _ {L : Type 0} where
 
   -- what they counted together at each of so many sites
   abbrev pub counts_of : ℕ → List (Seat L) → List EntryCounts
-  counts_of sites seats = fold (λ counts (s : Seat L). added counts s.counts.items) (replicate sites no_counts) seats
+  counts_of sites seats =
+      fold (λ counts (s : Seat L). added counts s.counts.items) (replicate sites no_counts) seats

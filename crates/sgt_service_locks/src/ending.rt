@@ -61,11 +61,15 @@ impl<L: Ledger> Service<L> {
         seat: &mut Seat<L>,
         active: Active,
     ) -> Result<Ticket, Back>
-        ensures ok { IfOk result (λ t. (t.tx ≡ active.tx) × (t.verdict ≢ Withdrawn) × CountsEnd t.verdict active seat.old seat.new) }
+        ensures ok { IfOk result
+            (λ t. (t.tx ≡ active.tx) × (t.verdict ≢ Withdrawn)
+            × CountsEnd t.verdict active seat.old seat.new) }
         ensures step { IfOk result (IsDecidedBy (vec_len self.now.sites) active) }
-        ensures back { IfErr result (IsBack (λ verdict. verdict ≢ Withdrawn) active seat.old seat.new) }
+        ensures back { IfErr result
+            (IsBack (λ verdict. verdict ≢ Withdrawn) active seat.old seat.new) }
         ensures fault { IfErr result (λ back. IsOfCommit back.fault) }
-        ensures refused { IfErr result (ComesBackBy (IsToldOfCommit (vec_len self.now.sites) active)) }
+        ensures refused { IfErr result
+            (ComesBackBy (IsToldOfCommit (vec_len self.now.sites) active)) }
     {
         self.commit_at(rt, alloc, seat, active, 0, &NoGate)
     }
@@ -93,11 +97,15 @@ impl<L: Ledger> Service<L> {
         worker: usize,
         gate: &G,
     ) -> Result<Ticket, Back>
-        ensures ok { IfOk result (λ t. (t.tx ≡ active.tx) × (t.verdict ≢ Withdrawn) × CountsEnd t.verdict active seat.old seat.new) }
+        ensures ok { IfOk result
+            (λ t. (t.tx ≡ active.tx) × (t.verdict ≢ Withdrawn)
+            × CountsEnd t.verdict active seat.old seat.new) }
         ensures step { IfOk result (IsDecidedBy (vec_len self.now.sites) active) }
-        ensures back { IfErr result (IsBack (λ verdict. verdict ≢ Withdrawn) active seat.old seat.new) }
+        ensures back { IfErr result
+            (IsBack (λ verdict. verdict ≢ Withdrawn) active seat.old seat.new) }
         ensures fault { IfErr result (λ back. IsOfCommit back.fault) }
-        ensures refused { IfErr result (ComesBackBy (IsToldOfCommit (vec_len self.now.sites) active)) }
+        ensures refused { IfErr result
+            (ComesBackBy (IsToldOfCommit (vec_len self.now.sites) active)) }
     {
         match self.certify(rt, alloc, seat, &active, worker, gate) {
             Ok(ticket) => Ok(ticket),
@@ -119,11 +127,15 @@ impl<L: Ledger> Service<L> {
         seat: &mut Seat<L>,
         active: Active,
     ) -> Result<Ticket, Back>
-        ensures ok { IfOk result (λ t. (t.tx ≡ active.tx) × (t.verdict ≡ Withdrawn) × CountsEnd Withdrawn active seat.old seat.new) }
+        ensures ok { IfOk result
+            (λ t. (t.tx ≡ active.tx) × (t.verdict ≡ Withdrawn)
+            × CountsEnd Withdrawn active seat.old seat.new) }
         ensures step { IfOk result (IsWithdrawnBy active) }
-        ensures back { IfErr result (IsBack (λ verdict. verdict ≡ Withdrawn) active seat.old seat.new) }
+        ensures back { IfErr result
+            (IsBack (λ verdict. verdict ≡ Withdrawn) active seat.old seat.new) }
         ensures fault { IfErr result (λ back. IsOfWithdraw back.fault) }
-        ensures refused { IfErr result (ComesBackBy (IsToldOfWithdraw (vec_len self.now.sites) active)) }
+        ensures refused { IfErr result
+            (ComesBackBy (IsToldOfWithdraw (vec_len self.now.sites) active)) }
     {
         match self.take_back(rt, seat, &active) {
             Ok(ticket) => Ok(ticket),
@@ -144,8 +156,10 @@ impl<L: Ledger> Service<L> {
         ensures ok { IfOk result (λ t. (t.tx ≡ active.now.tx) × (t.verdict ≢ Withdrawn)
             × CountsEnd t.verdict active.now seat.old seat.new) }
         ensures step { IfOk result (IsDecidedBy (vec_len self.now.sites) active.now) }
-        ensures stop { IfErr result (IsStop (λ verdict. verdict ≢ Withdrawn) active.now seat.old seat.new) }
-        ensures why { IfErr result (IsUndecidedBy (IsToldOfCommit (vec_len self.now.sites) active.now)) }
+        ensures stop { IfErr result
+            (IsStop (λ verdict. verdict ≢ Withdrawn) active.now seat.old seat.new) }
+        ensures why { IfErr result
+            (IsUndecidedBy (IsToldOfCommit (vec_len self.now.sites) active.now)) }
     {
         let mut guard = self.certifier.lock(rt);
         let guarded = &mut *guard;
@@ -165,14 +179,20 @@ impl<L: Ledger> Service<L> {
     ) -> Result<Ticket, Stop>
         ensures ok { IfOk result (λ t. (t.tx ≡ active.now.tx) × (t.verdict ≢ Withdrawn)
             × CountsEnd t.verdict active.now seat.old seat.new) }
-        ensures stop { IfErr result (IsStop (λ verdict. verdict ≢ Withdrawn) active.now seat.old seat.new) }
+        ensures stop { IfErr result
+            (IsStop (λ verdict. verdict ≢ Withdrawn) active.now seat.old seat.new) }
         ensures why { IfErr result (IsUndecidedBy
-            (IsUncommitted (vec_len self.now.sites) guarded.old.lost guarded.old.certifier active.now)) }
+            (IsUncommitted
+            (vec_len self.now.sites) guarded.old.lost guarded.old.certifier active.now)) }
         ensures replays { Replays guarded.old.certifier.history guarded.old.certifier.state }
-        ensures step { IfOk result (λ t. TakesStep (vec_len self.now.sites) active.now t guarded.old.certifier guarded.new.certifier) }
-        ensures first { IfSome guarded.old.lost (λ site. result ≡ Err (Undecided (NotPledged site))) }
+        ensures step { IfOk result
+            (λ t. TakesStep
+            (vec_len self.now.sites) active.now t guarded.old.certifier guarded.new.certifier) }
+        ensures first { IfSome guarded.old.lost
+            (λ site. result ≡ Err (Undecided (NotPledged site))) }
         ensures kept { OnOk result (guarded.new.lost ≡ guarded.old.lost) }
-        ensures leaves { IfErr result (LeavesGuard guarded.old.certifier guarded.new.certifier guarded.old.lost guarded.new.lost) }
+        ensures leaves { IfErr result
+            (LeavesGuard guarded.old.certifier guarded.new.certifier guarded.old.lost guarded.new.lost) }
     {
         let (edges, pledges) = match self.gathered(rt, alloc, guarded, active) {
             Ok(gathered) => gathered,
@@ -213,8 +233,10 @@ impl<L: Ledger> Service<L> {
         ensures ok { IfOk result (λ t. (t.tx ≡ active.now.tx) × (t.verdict ≡ Withdrawn)
             × CountsEnd Withdrawn active.now seat.old seat.new) }
         ensures step { IfOk result (IsWithdrawnBy active.now) }
-        ensures stop { IfErr result (IsStop (λ verdict. verdict ≡ Withdrawn) active.now seat.old seat.new) }
-        ensures why { IfErr result (IsUndecidedBy (IsToldOfWithdraw (vec_len self.now.sites) active.now)) }
+        ensures stop { IfErr result
+            (IsStop (λ verdict. verdict ≡ Withdrawn) active.now seat.old seat.new) }
+        ensures why { IfErr result
+            (IsUndecidedBy (IsToldOfWithdraw (vec_len self.now.sites) active.now)) }
     {
         let mut guard = self.certifier.lock(rt);
         let guarded = &mut *guard;
@@ -231,14 +253,19 @@ impl<L: Ledger> Service<L> {
     ) -> Result<Ticket, Stop>
         ensures ok { IfOk result (λ t. (t.tx ≡ active.now.tx) × (t.verdict ≡ Withdrawn)
             × CountsEnd Withdrawn active.now seat.old seat.new) }
-        ensures stop { IfErr result (IsStop (λ verdict. verdict ≡ Withdrawn) active.now seat.old seat.new) }
+        ensures stop { IfErr result
+            (IsStop (λ verdict. verdict ≡ Withdrawn) active.now seat.old seat.new) }
         ensures why { IfErr result (IsUndecidedBy
-            (IsNotWithdrawn (vec_len self.now.sites) guarded.old.lost guarded.old.certifier active.now)) }
+            (IsNotWithdrawn
+            (vec_len self.now.sites) guarded.old.lost guarded.old.certifier active.now)) }
         ensures replays { Replays guarded.old.certifier.history guarded.old.certifier.state }
-        ensures step { IfOk result (λ t. TakesBack active.now t guarded.old.certifier guarded.new.certifier) }
-        ensures first { IfSome guarded.old.lost (λ site. result ≡ Err (Undecided (NotPledged site))) }
+        ensures step { IfOk result
+            (λ t. TakesBack active.now t guarded.old.certifier guarded.new.certifier) }
+        ensures first { IfSome guarded.old.lost
+            (λ site. result ≡ Err (Undecided (NotPledged site))) }
         ensures kept { OnOk result (guarded.new.lost ≡ guarded.old.lost) }
-        ensures leaves { IfErr result (LeavesGuard guarded.old.certifier guarded.new.certifier guarded.old.lost guarded.new.lost) }
+        ensures leaves { IfErr result
+            (LeavesGuard guarded.old.certifier guarded.new.certifier guarded.old.lost guarded.new.lost) }
     {
         let pledges = match self.pledged(rt, guarded, active) {
             Ok(pledges) => pledges,

@@ -53,7 +53,8 @@ impl<L: Ledger> Guarded<L> {
     pub(crate) fn new(alloc: Global, book: Book<L>, none: Share<L>) -> Guarded<L>
         requires book { book.total ≡ 0 }
         requires none { (none.parts ≡ 0) × (none.amount ≡ 0) }
-        ensures { (result.certifier.state ≡ opening) × (result.certifier.history ≡ []) × (result.lost ≡ None) }
+        ensures { (result.certifier.state ≡ opening) × (result.certifier.history ≡ [])
+            × (result.lost ≡ None) }
     {
         Guarded {
             certifier: Certifier::new(alloc),
@@ -89,7 +90,8 @@ impl<L: Ledger> Guarded<L> {
     /// where its installs aren't those of the sites, V1 and V9 where its decisions or edges aren't those that were told. False, and
     /// nothing is changed, where it hasn't as many decisions.
     pub fn exchange_in_a_test(&mut self, other: Certifier) -> bool
-        ensures same_count { IsTrue result ↔ (decision_count other ≡ decision_count self.old.certifier) }
+        ensures same_count { IsTrue result
+            ↔ (decision_count other ≡ decision_count self.old.certifier) }
         ensures exchanged { IsTrue result → self.new.certifier ≡ other }
         ensures kept { result ≡ false → self.new.certifier ≡ self.old.certifier }
         ensures lost { self.new.lost ≡ self.old.lost }
@@ -142,12 +144,14 @@ impl<L: Ledger> Guarded<L> {
         share: &mut Share<L>,
     ) -> Result<u64, ServiceFault>
         requires { 0 < share.old.parts }
-        ensures ok { IfOk result (λ number. Adds self.old.certifier (call.Withdraw handle number) self.new.certifier) }
+        ensures ok { IfOk result
+            (λ number. Adds self.old.certifier (call.Withdraw handle number) self.new.certifier) }
         ensures counted { OnOk result (share.new.amount ≡ share.old.amount + 1) }
         ensures err { IfErr result (λ f. HandsOn self.old.certifier.state (withdraw handle) f
             × (self.new.certifier ≡ self.old.certifier) × (share.new ≡ share.old)) }
         ensures number { IfOk result (λ number. number ≡ decision_count self.old.certifier) }
-        ensures decided { OnOk result (IsDecided self.new.certifier.state (tx_under self.old.certifier.state handle)) }
+        ensures decided { OnOk result
+            (IsDecided self.new.certifier.state (tx_under self.old.certifier.state handle)) }
         ensures parts { share.new.parts ≡ share.old.parts }
         ensures lost { self.new.lost ≡ self.old.lost }
     {
@@ -170,12 +174,15 @@ impl<L: Ledger> Guarded<L> {
     ) -> Result<Ticket, ServiceFault>
         requires part { 0 < share.old.parts }
         requires named { tx_under self.old.certifier.state active.now.handle ≡ active.now.tx }
-        requires room { (site : ℕ) → IsExpected self.old.certifier.expected active.now.draft.touched site }
+        requires room { (site : ℕ)
+            → IsExpected self.old.certifier.expected active.now.draft.touched site }
         ensures ok { IfOk result (λ t. (reply : Reply) × (t ≡ ticket_of active.now.tx reply)
-            × Adds self.old.certifier (call.Decide active.now.handle edges reply) self.new.certifier) }
+            × Adds self.old.certifier
+            (call.Decide active.now.handle edges reply) self.new.certifier) }
         ensures number { IfOk result (λ t. t.number ≡ decision_count self.old.certifier) }
         ensures counted { OnOk result (share.new.amount ≡ share.old.amount + 1) }
-        ensures err { IfErr result (λ f. HandsOn self.old.certifier.state (decide active.now.handle edges) f
+        ensures err { IfErr result
+            (λ f. HandsOn self.old.certifier.state (decide active.now.handle edges) f
             × (self.new.certifier ≡ self.old.certifier) × (share.new ≡ share.old)) }
         ensures step { OnOk result (self.new.certifier.state.step ≡ Some active.now.tx) }
         ensures decided { OnOk result (IsDecided self.new.certifier.state active.now.tx) }
@@ -221,11 +228,15 @@ impl<L: Ledger> Guarded<L> {
     /// Whether a transaction may be decided here at all: no site was found to have lost its pledge, and the certifier has its
     /// number under its handle.
     pub(crate) fn check(&self, active: &Active) -> Result<(), ServiceFault>
-        ensures ok { OnOk result ((self.now.lost ≡ None) × (tx_under self.now.certifier.state active.now.handle ≡ active.now.tx)) }
+        ensures ok { OnOk result
+            ((self.now.lost ≡ None)
+            × (tx_under self.now.certifier.state active.now.handle ≡ active.now.tx)) }
         ensures replays { Replays self.now.certifier.history self.now.certifier.state }
-        ensures refused { IfErr result (RefusesActive self.now.lost self.now.certifier.state active.now) }
+        ensures refused { IfErr result
+            (RefusesActive self.now.lost self.now.certifier.state active.now) }
         ensures lost { IfSome self.now.lost (λ site. result ≡ Err (NotPledged site)) }
-        ensures noted { IfErr result (λ f. (site : ℕ) → f ≡ NotPledged site → self.now.lost ≡ Some site) }
+        ensures noted { IfErr result
+            (λ f. (site : ℕ) → f ≡ NotPledged site → self.now.lost ≡ Some site) }
     {
         let _history = self.certifier.history();
         if let Some(site) = self.lost {
@@ -241,15 +252,20 @@ impl<L: Ledger> Guarded<L> {
     pub(crate) fn expect(&mut self, active: &Active) -> Result<(), ServiceFault>
         ensures ok { OnOk result ((self.old.lost ≡ None)
             × (tx_under self.new.certifier.state active.now.handle ≡ active.now.tx)) }
-        ensures room { OnOk result ((site : ℕ) → IsExpected self.new.certifier.expected active.now.draft.touched site) }
+        ensures room { OnOk result
+            ((site : ℕ) → IsExpected self.new.certifier.expected active.now.draft.touched site) }
         ensures replays { Replays self.old.certifier.history self.old.certifier.state }
         ensures state { (self.new.certifier.state ≡ self.old.certifier.state)
             × (self.new.certifier.history ≡ self.old.certifier.history) }
         ensures first { IfSome self.old.lost (λ site. result ≡ Err (NotPledged site)) }
-        ensures noted { IfErr result (λ f. (site : ℕ) → f ≡ NotPledged site → self.old.lost ≡ Some site) }
-        ensures allowed { OnOk result (IsAllowed self.old.certifier.state (expect active.now.handle)) }
-        ensures refused { IfErr result (λ f. RefusesActive self.old.lost self.old.certifier.state active.now f
-            ⊎ (IsHeld self.old.lost self.old.certifier.state active.now × HandsOn self.old.certifier.state (expect active.now.handle) f)) }
+        ensures noted { IfErr result
+            (λ f. (site : ℕ) → f ≡ NotPledged site → self.old.lost ≡ Some site) }
+        ensures allowed { OnOk result
+            (IsAllowed self.old.certifier.state (expect active.now.handle)) }
+        ensures refused { IfErr result
+            (λ f. RefusesActive self.old.lost self.old.certifier.state active.now f
+            ⊎ (IsHeld self.old.lost self.old.certifier.state active.now
+            × HandsOn self.old.certifier.state (expect active.now.handle) f)) }
         ensures lost { self.new.lost ≡ self.old.lost }
     {
         self.check(active)?;
@@ -269,12 +285,17 @@ impl<L: Ledger> Guarded<L> {
         edges: &mut EdgeList,
     ) -> Result<(), ServiceFault>
         ensures pledged { OnOk result (site.new ≡ record site.old {
-          pledge = Some (record { tx = active.now.tx; part = at_site site.old.number active.now.draft.touched });
+          pledge = Some
+              (record {
+                tx = active.now.tx;
+                part = at_site site.old.number active.now.draft.touched;
+              });
         }) }
         ensures edges { OnOk result ((more : List AnEdge) × (edges.new ≡ edges.old ++ more)
             × IsGathered self.old.certifier.history active.now here site.new more) }
         ensures err { OnErr result (site.new ≡ site.old) }
-        ensures refused { IfErr result (RefusesGather self.old.certifier.history here site.old active.now) }
+        ensures refused { IfErr result
+            (RefusesGather self.old.certifier.history here site.old active.now) }
         ensures site { IsSite site.old }
         ensures certifier { self.new.certifier ≡ self.old.certifier }
         ensures kept { OnOk result (self.new.lost ≡ self.old.lost) }
@@ -297,12 +318,17 @@ impl<L: Ledger> Guarded<L> {
         edges: &mut EdgeList,
     ) -> Result<(), ServiceFault>
         ensures pledged { OnOk result (site.new ≡ record site.old {
-          pledge = Some (record { tx = active.now.tx; part = at_site site.old.number active.now.draft.touched });
+          pledge = Some
+              (record {
+                tx = active.now.tx;
+                part = at_site site.old.number active.now.draft.touched;
+              });
         }) }
         ensures edges { OnOk result ((more : List AnEdge) × (edges.new ≡ edges.old ++ more)
             × IsGathered self.now.certifier.history active.now here site.new more) }
         ensures err { OnErr result (site.new ≡ site.old) }
-        ensures refused { IfErr result (RefusesGather self.now.certifier.history here site.old active.now) }
+        ensures refused { IfErr result
+            (RefusesGather self.now.certifier.history here site.old active.now) }
     {
         if !is_numbered(site, here) {
             return Err(ServiceFault::NotPledged(here));
@@ -334,7 +360,8 @@ impl<L: Ledger> Guarded<L> {
         active: &Active,
     ) -> Result<(), ServiceFault>
         ensures number { OnOk result (site.new.number ≡ here) }
-        ensures pledged { OnOk result (IsPledgedFor site.new active.now.tx active.now.draft.touched) }
+        ensures pledged { OnOk result
+            (IsPledgedFor site.new active.now.tx active.now.draft.touched) }
         ensures err { OnErr result (site.new ≡ site.old) }
         ensures refused { IfErr result (RefusesPledgeAt here site.old active.now) }
         ensures site { IsSite site.old }
@@ -373,15 +400,18 @@ impl<L: Ledger> Guarded<L> {
         active: &Active,
         verdict: Ending,
     ) -> bool
-        requires { verdict ≡ Committed → AwaitsInstalls self.old.certifier active.now.tx active.now.draft.touched here }
+        requires { verdict ≡ Committed
+            → AwaitsInstalls self.old.certifier active.now.tx active.now.draft.touched here }
         ensures awaits { IsTrue result → verdict ≡ Committed
             → AwaitsInstalls self.new.certifier active.now.tx active.now.draft.touched (here + 1) }
         ensures noted { IsTrue result → verdict ≡ Committed → Adds self.old.certifier
-            (call.Installed active.now.tx here (changed_at active.now.draft.touched here)) self.new.certifier }
+            (call.Installed active.now.tx here
+            (changed_at active.now.draft.touched here)) self.new.certifier }
         ensures number { IsTrue result → site.old.number ≡ here }
         ensures ended { IsTrue result → IsEnded verdict active.now site.old site.new }
         ensures quiet { (verdict ≡ Committed → ⊥) → self.new.certifier ≡ self.old.certifier }
-        ensures unchanged { result ≡ false → (site.new ≡ site.old) × (self.new.certifier ≡ self.old.certifier) }
+        ensures unchanged { result ≡ false
+            → (site.new ≡ site.old) × (self.new.certifier ≡ self.old.certifier) }
         ensures lost { result ≡ false → HasLostPledge verdict active.now here site.new }
         ensures step { self.new.certifier.state.step ≡ self.old.certifier.state.step }
         ensures kept { IsTrue result → self.new.lost ≡ self.old.lost }
@@ -396,18 +426,22 @@ impl<L: Ledger> Guarded<L> {
 
     // The same, of which no loss is noted.
     fn end_held(&mut self, site: &mut Site, here: SiteNo, active: &Active, verdict: Ending) -> bool
-        requires { verdict ≡ Committed → AwaitsInstalls self.old.certifier active.now.tx active.now.draft.touched here }
+        requires { verdict ≡ Committed
+            → AwaitsInstalls self.old.certifier active.now.tx active.now.draft.touched here }
         ensures awaits { IsTrue result → verdict ≡ Committed
             → AwaitsInstalls self.new.certifier active.now.tx active.now.draft.touched (here + 1) }
         ensures noted { IsTrue result → verdict ≡ Committed → Adds self.old.certifier
-            (call.Installed active.now.tx here (changed_at active.now.draft.touched here)) self.new.certifier }
+            (call.Installed active.now.tx here
+            (changed_at active.now.draft.touched here)) self.new.certifier }
         ensures number { IsTrue result → site.old.number ≡ here }
         ensures ended { IsTrue result → IsEnded verdict active.now site.old site.new }
         ensures quiet { (verdict ≡ Committed → ⊥) → self.new.certifier ≡ self.old.certifier }
-        ensures unchanged { result ≡ false → (site.new ≡ site.old) × (self.new.certifier ≡ self.old.certifier) }
+        ensures unchanged { result ≡ false
+            → (site.new ≡ site.old) × (self.new.certifier ≡ self.old.certifier) }
         ensures stands { site.old.number ≡ here → (verdict ≡ Withdrawn → ⊥)
             → IsPledgedFor site.old active.now.tx active.now.draft.touched → IsTrue result }
-        ensures stands_withdrawn { site.old.number ≡ here → verdict ≡ Withdrawn → IsPledged site.old active.now.tx → IsTrue result }
+        ensures stands_withdrawn { site.old.number ≡ here → verdict ≡ Withdrawn
+            → IsPledged site.old active.now.tx → IsTrue result }
         ensures step { self.new.certifier.state.step ≡ self.old.certifier.state.step }
         ensures same { self.new.lost ≡ self.old.lost }
     {
@@ -423,12 +457,16 @@ impl<L: Ledger> Guarded<L> {
 
     fn install(&mut self, site: &mut Site, here: SiteNo, active: &Active) -> bool
         requires { AwaitsInstalls self.old.certifier active.now.tx active.now.draft.touched here }
-        ensures awaits { IsTrue result → AwaitsInstalls self.new.certifier active.now.tx active.now.draft.touched (here + 1) }
+        ensures awaits { IsTrue result
+            → AwaitsInstalls self.new.certifier active.now.tx active.now.draft.touched (here + 1) }
         ensures noted { IsTrue result → Adds self.old.certifier
-            (call.Installed active.now.tx here (changed_at active.now.draft.touched here)) self.new.certifier }
+            (call.Installed active.now.tx here
+            (changed_at active.now.draft.touched here)) self.new.certifier }
         ensures ended { IsTrue result → IsEnded Committed active.now site.old site.new }
-        ensures stands { IsPledgedFor site.old active.now.tx active.now.draft.touched → IsTrue result }
-        ensures lost { result ≡ false → (site.new ≡ site.old) × (self.new.certifier ≡ self.old.certifier) }
+        ensures stands { IsPledgedFor site.old active.now.tx active.now.draft.touched
+            → IsTrue result }
+        ensures lost { result ≡ false
+            → (site.new ≡ site.old) × (self.new.certifier ≡ self.old.certifier) }
         ensures step { self.new.certifier.state.step ≡ self.old.certifier.state.step }
         ensures same { self.new.lost ≡ self.old.lost }
     {

@@ -31,7 +31,8 @@ impl<L: Ledger> Service<L> {
         ensures decisions { IfOk result (λ o. parts_of seats.items ≡ L.parts
             → decision_count o.certifier ≡ amount_of seats.items) }
         ensures sites { IfOk result (λ o. vec_len o.sites ≡ vec_len self.names) }
-        ensures counts { IfOk result (λ o. o.counts.items ≡ counts_of (vec_len self.names) seats.items) }
+        ensures counts { IfOk result
+            (λ o. o.counts.items ≡ counts_of (vec_len self.names) seats.items) }
         ensures unopened { IfErr result (λ certifier. parts_of seats.items ≡ L.parts
             → decision_count certifier ≡ amount_of seats.items) }
     {

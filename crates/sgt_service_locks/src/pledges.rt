@@ -173,7 +173,8 @@ impl Blocks {
     )
         requires next { here ≡ self.old.written }
         requires lost { HasLostPledge verdict active.now here (held guard) }
-        ensures { (self.new.stopped ≡ true) × (self.new.written ≡ self.old.written) × (self.new.below ≡ self.old.below) }
+        ensures { (self.new.stopped ≡ true) × (self.new.written ≡ self.old.written)
+            × (self.new.below ≡ self.old.below) }
     {
         drop(guard);
         let _ = active;

@@ -62,8 +62,10 @@ impl<L: Ledger> Service<L> {
     // Whether each site that the draft touches is there.
     #[tactic(auto, using(crate::proofs::Counting::none_above, crate::proofs::Counting::some_above))]
     fn has_sites(&self, draft: &Draft) -> bool
-        ensures all { IsTrue result → (site : ℕ) → vec_len self.now.sites ≤ site → at_site site draft.now.touched ≡ [] }
-        ensures beyond { result ≡ false → (site : ℕ) × (vec_len self.now.sites ≤ site) × (at_site site draft.now.touched ≢ []) }
+        ensures all { IsTrue result → (site : ℕ) → vec_len self.now.sites ≤ site
+            → at_site site draft.now.touched ≡ [] }
+        ensures beyond { result ≡ false
+            → (site : ℕ) × (vec_len self.now.sites ≤ site) × (at_site site draft.now.touched ≢ []) }
     {
         stays_below(draft, self.sites.len())
     }
@@ -130,7 +132,8 @@ impl<L: Ledger> Service<L> {
         requires touched { at_site here active.now.draft.touched ≢ [] }
         ensures taken { OnOk result (TakesNext pledges.old pledges.new) }
         ensures err { OnErr result (pledges.new ≡ pledges.old) }
-        ensures refused { IfErr result (λ f. (s : SiteState) × IsSite s × RefusesPledgeAt here s active.now f) }
+        ensures refused { IfErr result
+            (λ f. (s : SiteState) × IsSite s × RefusesPledgeAt here s active.now f) }
         ensures certifier { guarded.new.certifier ≡ guarded.old.certifier }
         ensures kept { OnOk result (guarded.new.lost ≡ guarded.old.lost) }
         ensures noted { IfErr result (NotesLoss guarded.old.lost guarded.new.lost) }
@@ -149,14 +152,19 @@ impl<L: Ledger> Service<L> {
         active: &Active,
     ) -> Result<Pledges, ServiceFault>
         ensures below { IfOk result (IsWhole (vec_len self.now.sites)) }
-        ensures held { OnOk result (IsHeld guarded.old.lost guarded.old.certifier.state active.now) }
+        ensures held { OnOk result
+            (IsHeld guarded.old.lost guarded.old.certifier.state active.now) }
         ensures replays { Replays guarded.old.certifier.history guarded.old.certifier.state }
-        ensures sites { OnOk result ((site : ℕ) → vec_len self.now.sites ≤ site → at_site site active.now.draft.touched ≡ []) }
+        ensures sites { OnOk result
+            ((site : ℕ) → vec_len self.now.sites ≤ site
+            → at_site site active.now.draft.touched ≡ []) }
         ensures first { IfSome guarded.old.lost (λ site. result ≡ Err (NotPledged site)) }
         ensures kept { OnOk result (guarded.new.lost ≡ guarded.old.lost) }
         ensures noted { IfErr result (NotesLoss guarded.old.lost guarded.new.lost) }
         ensures same { guarded.new.certifier ≡ guarded.old.certifier }
-        ensures refused { IfErr result (IsNotWithdrawn (vec_len self.now.sites) guarded.old.lost guarded.old.certifier active.now) }
+        ensures refused { IfErr result
+            (IsNotWithdrawn
+            (vec_len self.now.sites) guarded.old.lost guarded.old.certifier active.now) }
     {
         if let Err(fault) = guarded.check(active) {
             return Err(fault);
@@ -178,19 +186,28 @@ impl<L: Ledger> Service<L> {
         guarded: &mut Guarded<L>,
         active: &Active,
     ) -> Result<(EdgeList, Pledges), ServiceFault>
-        ensures edges { IfOk result (λ r. IsGatheredBelow guarded.old.certifier.history active.now (vec_len self.now.sites) r.0) }
+        ensures edges { IfOk result
+            (λ r. IsGatheredBelow guarded.old.certifier.history active.now
+            (vec_len self.now.sites) r.0) }
         ensures below { IfOk result (λ r. IsWhole (vec_len self.now.sites) r.1) }
-        ensures may { OnOk result (MayGather (vec_len self.now.sites) guarded.old.lost guarded.old.certifier active.now) }
+        ensures may { OnOk result
+            (MayGather (vec_len self.now.sites) guarded.old.lost guarded.old.certifier active.now) }
         ensures replays { Replays guarded.old.certifier.history guarded.old.certifier.state }
-        ensures named { OnOk result (tx_under guarded.new.certifier.state active.now.handle ≡ active.now.tx) }
-        ensures room { OnOk result ((site : ℕ) → IsExpected guarded.new.certifier.expected active.now.draft.touched site) }
-        ensures sites { OnOk result ((site : ℕ) → vec_len self.now.sites ≤ site → at_site site active.now.draft.touched ≡ []) }
+        ensures named { OnOk result
+            (tx_under guarded.new.certifier.state active.now.handle ≡ active.now.tx) }
+        ensures room { OnOk result
+            ((site : ℕ) → IsExpected guarded.new.certifier.expected active.now.draft.touched site) }
+        ensures sites { OnOk result
+            ((site : ℕ) → vec_len self.now.sites ≤ site
+            → at_site site active.now.draft.touched ≡ []) }
         ensures first { IfSome guarded.old.lost (λ site. result ≡ Err (NotPledged site)) }
         ensures kept { OnOk result (guarded.new.lost ≡ guarded.old.lost) }
         ensures noted { IfErr result (NotesLoss guarded.old.lost guarded.new.lost) }
         ensures same { (guarded.new.certifier.state ≡ guarded.old.certifier.state)
             × (guarded.new.certifier.history ≡ guarded.old.certifier.history) }
-        ensures refused { IfErr result (IsUncommitted (vec_len self.now.sites) guarded.old.lost guarded.old.certifier active.now) }
+        ensures refused { IfErr result
+            (IsUncommitted
+            (vec_len self.now.sites) guarded.old.lost guarded.old.certifier active.now) }
     {
         if let Err(fault) = guarded.expect(active) {
             return Err(fault);
@@ -216,12 +233,15 @@ impl<L: Ledger> Service<L> {
         edges: &mut EdgeList,
     ) -> Result<Pledges, ServiceFault>
         requires { edges.old ≡ [] }
-        ensures edges { OnOk result (IsGatheredBelow guarded.old.certifier.history active.now (vec_len self.now.sites) edges.new) }
+        ensures edges { OnOk result
+            (IsGatheredBelow guarded.old.certifier.history active.now
+            (vec_len self.now.sites) edges.new) }
         ensures below { IfOk result (IsWhole (vec_len self.now.sites)) }
         ensures certifier { guarded.new.certifier ≡ guarded.old.certifier }
         ensures kept { OnOk result (guarded.new.lost ≡ guarded.old.lost) }
         ensures noted { IfErr result (NotesLoss guarded.old.lost guarded.new.lost) }
-        ensures refused { IfErr result (IsUngathered (vec_len self.now.sites) guarded.old.certifier.history active.now) }
+        ensures refused { IfErr result
+            (IsUngathered (vec_len self.now.sites) guarded.old.certifier.history active.now) }
     {
         let mut pledges = Pledges::none();
         for place in 0..self.sites.len() {
@@ -261,11 +281,14 @@ impl<L: Ledger> Service<L> {
         requires place { here < vec_len self.now.sites }
         requires next { here ≡ pledges.old.below }
         requires touched { at_site here active.now.draft.touched ≢ [] }
-        ensures edges { OnOk result ((s : SiteState) × (more : List AnEdge) × (edges.new ≡ edges.old ++ more)
+        ensures edges { OnOk result
+            ((s : SiteState) × (more : List AnEdge) × (edges.new ≡ edges.old ++ more)
             × IsGathered guarded.old.certifier.history active.now here s more) }
         ensures taken { OnOk result (TakesNext pledges.old pledges.new) }
         ensures err { OnErr result (pledges.new ≡ pledges.old) }
-        ensures refused { IfErr result (λ f. (s : SiteState) × IsSite s × RefusesGather guarded.old.certifier.history here s active.now f) }
+        ensures refused { IfErr result
+            (λ f. (s : SiteState) × IsSite s
+            × RefusesGather guarded.old.certifier.history here s active.now f) }
         ensures certifier { guarded.new.certifier ≡ guarded.old.certifier }
         ensures kept { OnOk result (guarded.new.lost ≡ guarded.old.lost) }
         ensures noted { IfErr result (NotesLoss guarded.old.lost guarded.new.lost) }
@@ -290,17 +313,20 @@ impl<L: Ledger> Service<L> {
     ) -> Result<(), Lost>
         requires awaits { verdict ≡ Committed
             → AwaitsInstalls guarded.old.certifier active.now.tx active.now.draft.touched 0 }
-        requires sites { (site : ℕ) → vec_len self.now.sites ≤ site → at_site site active.now.draft.touched ≡ [] }
+        requires sites { (site : ℕ) → vec_len self.now.sites ≤ site
+            → at_site site active.now.draft.touched ≡ [] }
         requires owed { (blocks.written ≡ 0) × (blocks.below ≡ vec_len self.now.sites) }
         ensures step { guarded.new.certifier.state.step ≡ guarded.old.certifier.state.step }
         ensures share { (seat.new.share ≡ seat.old.share) × (seat.new.begun ≡ seat.old.begun) }
-        ensures ok { OnOk result (AreCounted (λ site. with_others (blocks_of verdict active.now.draft.touched site))
+        ensures ok { OnOk result
+            (AreCounted (λ site. with_others (blocks_of verdict active.now.draft.touched site))
             seat.old.counts.items seat.new.counts.items) }
         ensures lost { IfErr result (λ e. AreCounted
             (λ site. with_others (below e.site (blocks_of verdict active.now.draft.touched) site))
             seat.old.counts.items seat.new.counts.items) }
         ensures history { OnOk result (guarded.new.certifier.history
-            ≡ guarded.old.certifier.history ++ notes_below verdict active.now (vec_len self.now.sites)) }
+            ≡ guarded.old.certifier.history
+            ++ notes_below verdict active.now (vec_len self.now.sites)) }
         ensures kept { OnOk result (guarded.new.lost ≡ guarded.old.lost) }
         ensures noted { IfErr result (λ e. guarded.new.lost ≡ Some e.site) }
         ensures touched { IfErr result (λ e. at_site e.site active.now.draft.touched ≢ []) }
@@ -345,7 +371,8 @@ impl<L: Ledger> Service<L> {
         requires awaits { verdict ≡ Committed
             → AwaitsInstalls guarded.old.certifier active.now.tx active.now.draft.touched here }
         ensures awaits { IsTrue result → verdict ≡ Committed
-            → AwaitsInstalls guarded.new.certifier active.now.tx active.now.draft.touched (here + 1) }
+            → AwaitsInstalls guarded.new.certifier active.now.tx active.now.draft.touched
+            (here + 1) }
         ensures step { guarded.new.certifier.state.step ≡ guarded.old.certifier.state.step }
         ensures share { (seat.new.share ≡ seat.old.share) × (seat.new.begun ≡ seat.old.begun) }
         ensures counted { IsTrue result → AreCounted
@@ -392,9 +419,11 @@ impl<L: Ledger> Service<L> {
         ensures written { IsTrue result → WritesNext blocks.old blocks.new }
         ensures stopped { result ≡ false → Stops blocks.old blocks.new }
         ensures awaits { IsTrue result → verdict ≡ Committed
-            → AwaitsInstalls guarded.new.certifier active.now.tx active.now.draft.touched (here + 1) }
+            → AwaitsInstalls guarded.new.certifier active.now.tx active.now.draft.touched
+            (here + 1) }
         ensures noted { IsTrue result → verdict ≡ Committed → Adds guarded.old.certifier
-            (call.Installed active.now.tx here (changed_at active.now.draft.touched here)) guarded.new.certifier }
+            (call.Installed active.now.tx here
+            (changed_at active.now.draft.touched here)) guarded.new.certifier }
         ensures quiet { (verdict ≡ Committed → ⊥) → guarded.new.certifier ≡ guarded.old.certifier }
         ensures lost { result ≡ false → guarded.new.certifier ≡ guarded.old.certifier }
         ensures step { guarded.new.certifier.state.step ≡ guarded.old.certifier.state.step }

@@ -40,10 +40,14 @@ impl<L: Ledger> Service<L> {
         ensures gained { OnOk result (look_in active.old.draft.touched site item ≡ None
             → GainsRead site item active.old.draft.touched active.new.draft.touched
             × AreCounted (only_at site with_read) seat.old.counts.items seat.new.counts.items) }
-        ensures named { IsOfActive active.old active.new × (seat.new.share ≡ seat.old.share) × (seat.new.begun ≡ seat.old.begun) }
+        ensures named { IsOfActive active.old active.new × (seat.new.share ≡ seat.old.share)
+            × (seat.new.begun ≡ seat.old.begun) }
         ensures err { OnErr result (SameActive active.old active.new × SameSeat seat.old seat.new) }
-        ensures allowed { OnOk result (look_in active.old.draft.touched site item ≡ None → HasItem self.now.names.items site item) }
-        ensures unknown { (HasItem self.now.names.items site item → ⊥) → look_in active.old.draft.touched site item ≡ None
+        ensures allowed { OnOk result
+            (look_in active.old.draft.touched site item ≡ None
+            → HasItem self.now.names.items site item) }
+        ensures unknown { (HasItem self.now.names.items site item → ⊥)
+            → look_in active.old.draft.touched site item ≡ None
             → result ≡ Err (AtSite UnknownItem) }
         ensures fault { IfErr result IsOfRead }
     {
@@ -74,10 +78,14 @@ impl<L: Ledger> Service<L> {
         ensures gained { OnOk result (look_in active.old.draft.touched site item ≡ None
             → GainsRead site item active.old.draft.touched active.new.draft.touched
             × AreCounted (only_at site with_read) seat.old.counts.items seat.new.counts.items) }
-        ensures named { IsOfActive active.old active.new × (seat.new.share ≡ seat.old.share) × (seat.new.begun ≡ seat.old.begun) }
+        ensures named { IsOfActive active.old active.new × (seat.new.share ≡ seat.old.share)
+            × (seat.new.begun ≡ seat.old.begun) }
         ensures err { OnErr result (SameActive active.old active.new × SameSeat seat.old seat.new) }
-        ensures allowed { OnOk result (look_in active.old.draft.touched site item ≡ None → HasItem self.now.names.items site item) }
-        ensures unknown { (HasItem self.now.names.items site item → ⊥) → look_in active.old.draft.touched site item ≡ None
+        ensures allowed { OnOk result
+            (look_in active.old.draft.touched site item ≡ None
+            → HasItem self.now.names.items site item) }
+        ensures unknown { (HasItem self.now.names.items site item → ⊥)
+            → look_in active.old.draft.touched site item ≡ None
             → result ≡ Err (AtSite UnknownItem) }
         ensures fault { IfErr result IsOfRead }
     {
@@ -109,7 +117,8 @@ impl<L: Ledger> Service<L> {
         requires room { IsTrue active.old.draft.has_room }
         requires unread { look_in active.old.draft.touched site item ≡ None }
         ensures value { IfOk result (λ v. look_in active.new.draft.touched site item ≡ Some v) }
-        ensures gained { OnOk result (GainsRead site item active.old.draft.touched active.new.draft.touched) }
+        ensures gained { OnOk result
+            (GainsRead site item active.old.draft.touched active.new.draft.touched) }
         ensures named { IsOfActive active.old active.new }
         ensures err { OnErr result (SameActive active.old active.new) }
         ensures fault { IfErr result IsOfRead }

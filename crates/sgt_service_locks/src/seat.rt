@@ -46,7 +46,8 @@ impl<L: Ledger> Seat<L> {
     #[tactic(auto, using(crate::proofs::Counting::counted_set, crate::proofs::Counting::counted_past))]
     pub(crate) fn count_read(&mut self, site: SiteNo)
         ensures share { (self.new.share ≡ self.old.share) × (self.new.begun ≡ self.old.begun) }
-        ensures counts { AreCounted (only_at site with_read) self.old.counts.items self.new.counts.items }
+        ensures counts { AreCounted
+            (only_at site with_read) self.old.counts.items self.new.counts.items }
     {
         let place = site.number() as usize;
         if place < self.counts.len() {
@@ -58,7 +59,8 @@ impl<L: Ledger> Seat<L> {
     #[tactic(auto, using(crate::proofs::Counting::counted_set, crate::proofs::Counting::counted_past))]
     pub(crate) fn count_others(&mut self, site: SiteNo, more: u64)
         ensures share { (self.new.share ≡ self.old.share) × (self.new.begun ≡ self.old.begun) }
-        ensures counts { AreCounted (only_at site (with_others more)) self.old.counts.items self.new.counts.items }
+        ensures counts { AreCounted
+            (only_at site (with_others more)) self.old.counts.items self.new.counts.items }
     {
         let place = site.number() as usize;
         if place < self.counts.len() {

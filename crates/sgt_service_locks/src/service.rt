@@ -62,7 +62,8 @@ impl<L: Ledger> Service<L> {
     ) -> Result<(Service<L>, Vec<Seat<L>>), ServiceFault>
         requires ledger { (blank.name ≡ L.name) × (blank.parts ≡ L.parts) × (blank.parts ≡ seats) }
         requires sites { (1 ≤ length sites.now) × (length sites.now ≤ max_sites) }
-        ensures seats { IfOk result (λ r. (vec_len r.1 ≡ seats) × All (IsNew (length sites.now)) r.1.items) }
+        ensures seats { IfOk result
+            (λ r. (vec_len r.1 ≡ seats) × All (IsNew (length sites.now)) r.1.items) }
         ensures names { IfOk result (λ r. r.0.names.items ≡ map names sites.now) }
         ensures allowed { OnOk result (All AreItems sites.now) }
         ensures refused { IfErr result (RefusesSites sites.now) }
@@ -165,12 +166,13 @@ impl<L: Ledger> Service<L> {
         item: Item,
         value: Value,
     ) -> Result<(), ServiceFault>
-        ensures ok { OnOk result (ChangesOnly active.old.draft.touched active.new.draft.touched (record {
-          site = site;
-          item = item;
-          seen = seen_at active.old.draft.touched (site, item);
-          change = Some (Put value);
-        })) }
+        ensures ok { OnOk result
+            (ChangesOnly active.old.draft.touched active.new.draft.touched (record {
+              site = site;
+              item = item;
+              seen = seen_at active.old.draft.touched (site, item);
+              change = Some (Put value);
+            })) }
         ensures named { (active.new.tx ≡ active.old.tx) × (active.new.handle ≡ active.old.handle) }
         ensures err { OnErr result (active.new ≡ active.old) }
         ensures allowed { OnOk result (HasItem self.now.names.items site item) }
@@ -194,12 +196,13 @@ impl<L: Ledger> Service<L> {
         item: Item,
         value: Value,
     ) -> Result<(), ServiceFault>
-        ensures ok { OnOk result (ChangesOnly active.old.draft.touched active.new.draft.touched (record {
-          site = site;
-          item = item;
-          seen = seen_at active.old.draft.touched (site, item);
-          change = Some (added_to (change_at active.old.draft.touched (site, item)) value);
-        })) }
+        ensures ok { OnOk result
+            (ChangesOnly active.old.draft.touched active.new.draft.touched (record {
+              site = site;
+              item = item;
+              seen = seen_at active.old.draft.touched (site, item);
+              change = Some (added_to (change_at active.old.draft.touched (site, item)) value);
+            })) }
         ensures named { (active.new.tx ≡ active.old.tx) × (active.new.handle ≡ active.old.handle) }
         ensures err { OnErr result (active.new ≡ active.old) }
         ensures allowed { OnOk result (HasItem self.now.names.items site item) }
@@ -266,7 +269,8 @@ fn open_site(alloc: Global, number: SiteNo, items: &[Holding]) -> Result<Option<
 
 // Adds the site, and says whether it is there and there was memory.
 fn add_site(all: &mut Vec<Site>, site: Option<Site>) -> bool
-    ensures { IsTrue result → (s : SiteState) × (site ≡ Some s) × (all.new.items ≡ all.old.items ++ s ∷ []) }
+    ensures { IsTrue result
+        → (s : SiteState) × (site ≡ Some s) × (all.new.items ≡ all.old.items ++ s ∷ []) }
 {
     match site {
         Some(site) => all.push(site).is_ok(),

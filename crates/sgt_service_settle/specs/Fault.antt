@@ -8,12 +8,15 @@ use Rattle.sgt_service_agreement.specs.Agreed.{VersionsAgree}
 use Rattle.sgt_service_agreement.specs.declared.fault.ServiceFault.{ServiceFault}
 use Rattle.sgt_service_agreement.specs.declared.fault.ServiceFault.TheVariants as fault
 
--- something isn't as it should be, at the fault's number. The others are no matter of a run that is over
+-- something isn't as it should be, at the fault's number. The others are no matter of a run that is
+-- over
 abbrev pub Shows : Run → ServiceFault → Type 0
 Shows r (fault.StrayTicket k) =
-    (t : Ticket) × Contains (tickets_of r.dones) t × (t.number ≡ k) × (IsGood r.certifier.state.rulings t → ⊥)
+    (t : Ticket) × Contains (tickets_of r.dones) t × (t.number ≡ k)
+    × (IsGood r.certifier.state.rulings t → ⊥)
 Shows r (fault.TwoTickets k) = 2 ≤ count_of k (tickets_of r.dones)
-Shows r (fault.MissingTicket k) = (k < length r.certifier.state.rulings) × (count_of k (tickets_of r.dones) ≡ 0)
+Shows r (fault.MissingTicket k) = (k < length r.certifier.state.rulings)
+    × (count_of k (tickets_of r.dones) ≡ 0)
 Shows r (fault.TicketOrder job) = (d : Done) × Contains r.dones d × (d.job ≡ job) × (Rises d → ⊥)
 Shows r (fault.LogDiffers site) = IsSettledAt r site → ⊥
 Shows r (fault.VersionsDiffer site) =
@@ -43,15 +46,19 @@ fault_at _ = 0
 pub record IsFirst (r : Run) (f : ServiceFault) : Type 0 where
   pub shown : Shows r f
   pub first : (g : ServiceFault) → kind_place g < kind_place f → Shows r g → ⊥
-  pub least : (g : ServiceFault) → kind_place g ≡ kind_place f → fault_at g < fault_at f → Shows r g → ⊥
+  pub least : (g : ServiceFault) → kind_place g ≡ kind_place f → fault_at g < fault_at f → Shows r g
+      → ⊥
 
--- a site that could not be judged: its number and the entries that were counted there don't tell it to differ, and no site before it
+-- a site that could not be judged: its number and the entries that were counted there don't tell it
+-- to differ, and no site before it
 -- differs
 pub record IsUnjudged (r : Run) (site : ℕ) : Type 0 where
   pub counted : AreCountedAt r.sites r.counts site
   pub before : (k : ℕ) → k < site → IsSettledAt r k
 
--- the run is refused so. Want of memory stands in place of a V9 alone: the tickets are the decisions, and a site could not be judged
+-- the run is refused so. Want of memory stands in place of a V9 alone: the tickets are the
+-- decisions, and a site could not be judged
 abbrev pub IsUnsettled : Run → ServiceFault → Type 0
-IsUnsettled r fault.Memory = AreTickets r.certifier.state.rulings r.dones × ((site : ℕ) × IsUnjudged r site)
+IsUnsettled r fault.Memory = AreTickets r.certifier.state.rulings r.dones
+    × ((site : ℕ) × IsUnjudged r site)
 IsUnsettled r f = IsFirst r f

@@ -64,9 +64,11 @@ pub record AreEntriesCounted (counts : EntryCounts) (log : List Entry) : Type 0 
 -- the edge is a conflict of the log with its label; the history names its ends
 abbrev pub IsLogged : List Call → List Entry → Edge → Type 0
 IsLogged history log e =
-    (a : ℕ) × (b : ℕ) × IsNamed history e.from a × IsNamed history e.to b × Conflicts log e.label.kind e.label.item a b
+    (a : ℕ) × (b : ℕ) × IsNamed history e.from a × IsNamed history e.to b
+    × Conflicts log e.label.kind e.label.item a b
 
--- an edge on the item, handed to a decision of at most this number, leads from a to b, which are committed
+-- an edge on the item, handed to a decision of at most this number, leads from a to b, which are
+-- committed
 pub record Carries (history : List Call) (rulings : List Ruling) (site : ℕ) (x : Name) (last a b : ℕ) : Type 0 where
   pub handed : Handed
   pub is : Contains (handed_in history) handed
@@ -78,19 +80,25 @@ pub record Carries (history : List Call) (rulings : List Ruling) (site : ℕ) (x
   pub first : IsCommitted rulings a
   pub second : IsCommitted rulings b
 
--- the log of a site has the entries that were counted, and its conflicts are those that the decisions were handed
+-- the log of a site has the entries that were counted, and its conflicts are those that the
+-- decisions were handed
 pub record IsLogSettled (history : List Call) (rulings : List Ruling) (site : ℕ) (counts : EntryCounts) (log : List Entry) : Type 0 where
   pub counted : AreEntriesCounted counts log
   -- each edge that a decision was handed is a conflict of the log
-  pub edges : (h : Handed) → Contains (handed_in history) h → h.edge.label.site ≡ site → IsLogged history log h.edge
-  -- of two conflicting committed transactions edges lead from the earlier to the later, handed until both were decided
+  pub edges : (h : Handed) → Contains (handed_in history) h → h.edge.label.site ≡ site
+      → IsLogged history log h.edge
+  -- of two conflicting committed transactions edges lead from the earlier to the later, handed
+  -- until both were decided
   pub conflicts : (kind : Kind) (x : Name) (a b m n : ℕ) → Conflicts log kind x a b →
-      IsCommittedBy rulings a m → IsCommittedBy rulings b n → Reaches (Carries history rulings site x (max m n)) a b
+      IsCommittedBy rulings a m → IsCommittedBy rulings b n
+      → Reaches (Carries history rulings site x (max m n)) a b
 
 -- the site is the one of this number, and agrees with the history; one that isn't there has no edge
-abbrev pub IsSiteSettled : List Call → List Ruling → List EntryCounts → ℕ → Option SiteState → Type 0
+abbrev pub IsSiteSettled : List Call → List Ruling → List EntryCounts → ℕ → Option SiteState
+    → Type 0
 IsSiteSettled history rulings counts site (Some s) =
-    (c : EntryCounts) × (slice_get counts site ≡ Some c) × (s.number ≡ site) × IsLogSettled history rulings site c s.entries
+    (c : EntryCounts) × (slice_get counts site ≡ Some c) × (s.number ≡ site)
+    × IsLogSettled history rulings site c s.entries
 IsSiteSettled history rulings counts site None =
     (h : Handed) → Contains (handed_in history) h → h.edge.label.site ≡ site → ⊥
 
@@ -101,11 +109,13 @@ IsCounted k c s = (s.number ≡ k) × AreEntriesCounted c s.entries
 -- so is what stands at its place, if anything does
 abbrev pub AreCountedAt : List SiteState → List EntryCounts → ℕ → Type 0
 AreCountedAt sites counts k =
-    (s : SiteState) (c : EntryCounts) → slice_get sites k ≡ Some s → slice_get counts k ≡ Some c → IsCounted k c s
+    (s : SiteState) (c : EntryCounts) → slice_get sites k ≡ Some s → slice_get counts k ≡ Some c
+    → IsCounted k c s
 
 -- ---- a run
 
--- what is left of a run: the certifier, the sites and the entries that were counted at each by their places, and what each script
+-- what is left of a run: the certifier, the sites and the entries that were counted at each by
+-- their places, and what each script
 -- was told
 pub record Run : Type 0 where
   pub certifier : Kept
@@ -113,15 +123,19 @@ pub record Run : Type 0 where
   pub counts : List EntryCounts
   pub dones : List Done
 
--- the certifier's state is the replay of its history, and each site is one whose log its own calls made
+-- the certifier's state is the replay of its history, and each site is one whose log its own calls
+-- made
 pub record AreKept (r : Run) : Type 0 where
   pub replays : Replays r.certifier.history r.certifier.state
   pub sites : All IsSite r.sites
 
 abbrev pub IsSettledAt : Run → ℕ → Type 0
-IsSettledAt r site = IsSiteSettled r.certifier.history r.certifier.state.rulings r.counts site (slice_get r.sites site)
+IsSettledAt r site =
+    IsSiteSettled r.certifier.history r.certifier.state.rulings r.counts site
+    (slice_get r.sites site)
 
--- the tickets are the decisions of the history, at each place is the site of that number, which agrees with it, and each version is
+-- the tickets are the decisions of the history, at each place is the site of that number, which
+-- agrees with it, and each version is
 -- the number of installs that it counts
 pub record IsSettled (r : Run) : Type 0 where
   pub kept : AreKept r

@@ -16,7 +16,8 @@ number_of (decided.Refused number walk) = number
 
 -- the edges that a call hands to a decision, each with the decision's number
 abbrev pub handed_by : Call → List Handed
-handed_by (call.Decide h edges reply) = map (λ e. record { edge = e; number = number_of reply }) edges
+handed_by (call.Decide h edges reply) =
+    map (λ e. record { edge = e; number = number_of reply }) edges
 handed_by _ = []
 
 -- the edges that the decisions of a history were handed

@@ -41,7 +41,9 @@ pub(crate) fn place_of(items: &[Holding], item: Item) -> Option<usize>
 // Where the entry's item is, if it has one that is there.
 fn place_in(items: &[Holding], entry: &Entry) -> Option<usize>
     requires { IsRisingBy (λ h. h.item) (slice_cmp nat_cmp) items.now }
-    ensures { (at : ℕ) → (result ≡ Some at) ↔ ((x : Name) × (item_of entry.now ≡ Some x) × IsItemAt items.now x at) }
+    ensures { (at : ℕ)
+        → (result ≡ Some at)
+        ↔ ((x : Name) × (item_of entry.now ≡ Some x) × IsItemAt items.now x at) }
 {
     match entry.item() {
         Some(item) => place_of(items, item),

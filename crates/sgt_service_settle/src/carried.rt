@@ -53,7 +53,8 @@ fn is_sided(
     forward: &[bool],
     backward: &[bool],
 ) -> bool
-    ensures { IsTrue result ↔ IsSided (IsMarked backward.now (tx_of other.now)) (IsMarked forward.now (tx_of other.now))
+    ensures { IsTrue result
+        ↔ IsSided (IsMarked backward.now (tx_of other.now)) (IsMarked forward.now (tx_of other.now))
         item.now place at entry.now other.now }
 {
     if at < place {
@@ -73,7 +74,8 @@ fn all_sided(
     forward: &[bool],
     backward: &[bool],
 ) -> bool
-    ensures { IsTrue result ↔ AllSided log.now commits.now cut.now place entry.now forward.now backward.now }
+    ensures { IsTrue result
+        ↔ AllSided log.now commits.now cut.now place entry.now forward.now backward.now }
 {
     for (at, other) in log.iter().enumerate() {
         if is_due(commits, entry, other, cut.last)
@@ -100,7 +102,8 @@ fn is_place_carried(
     requires commit { tx_of entry.now < length index.now.commits.items }
     requires forward { length forward.old ≡ length index.now.commits.items }
     requires backward { length backward.old ≡ length index.now.commits.items }
-    ensures { IfOk result (λ yes. IsTrue yes ↔ IsPlaceCarried index.now log.now cut.now place entry.now) }
+    ensures { IfOk result
+        (λ yes. IsTrue yes ↔ IsPlaceCarried index.now log.now cut.now place entry.now) }
 {
     let start = entry.tx().number() as usize;
     search(alloc, index.out.as_slice(), start, cut, forward)?;
@@ -112,7 +115,8 @@ fn is_place_carried(
 // The operations of committed transactions on one item, and by which decision they are: none for other entries.
 pub(crate) fn cut_at(commits: &[Option<u64>], site: SiteNo, entry: &Entry) -> Option<Cut>
     ensures { (cut : ACut) → (result ≡ Some cut)
-        ↔ ((item_of entry.now ≡ Some cut.item) × IsIn commits.now (tx_of entry.now) cut.last × (cut.site ≡ site)) }
+        ↔ ((item_of entry.now ≡ Some cut.item) × IsIn commits.now (tx_of entry.now) cut.last
+        × (cut.site ≡ site)) }
 {
     let Some(item) = entry.item() else {
         return None;

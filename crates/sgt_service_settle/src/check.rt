@@ -29,12 +29,17 @@ fn first_differing(
     requires few { length sites.now ≤ max_sites }
     requires counts { length counts.now ≡ length sites.now }
     ensures ok { IfOk result (λ found. MatchOption found
-        ((k : ℕ) → IsSiteSettled certifier.now.history certifier.now.state.rulings counts.now k (slice_get sites.now k))
-        (λ site. (IsSiteSettled certifier.now.history certifier.now.state.rulings counts.now site (slice_get sites.now site) → ⊥)
+        ((k : ℕ) → IsSiteSettled certifier.now.history certifier.now.state.rulings counts.now k
+        (slice_get sites.now k))
+        (λ site. (IsSiteSettled certifier.now.history certifier.now.state.rulings counts.now site
+        (slice_get sites.now site) → ⊥)
         × ((k : ℕ) → k < site
-        → IsSiteSettled certifier.now.history certifier.now.state.rulings counts.now k (slice_get sites.now k)))) }
-    ensures err { OnErr result ((site : ℕ) × AreCountedAt sites.now counts.now site × ((k : ℕ) → k < site
-        → IsSiteSettled certifier.now.history certifier.now.state.rulings counts.now k (slice_get sites.now k))) }
+        → IsSiteSettled certifier.now.history certifier.now.state.rulings counts.now k
+        (slice_get sites.now k)))) }
+    ensures err { OnErr result
+        ((site : ℕ) × AreCountedAt sites.now counts.now site × ((k : ℕ) → k < site
+        → IsSiteSettled certifier.now.history certifier.now.state.rulings counts.now k
+        (slice_get sites.now k))) }
 {
     let Ok(first) = SiteNo::new(0) else {
         unreachable!();

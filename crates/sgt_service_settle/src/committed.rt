@@ -36,9 +36,11 @@ fn above_all(decisions: &[Decision]) -> usize
 // Writes the number of each commit into the table, at its transaction.
 fn note_commits(commits: &mut [Option<u64>], decisions: &[Decision])
     requires once { IsDecidedOnce decisions.now }
-    requires room { (number tx rank : ℕ) → IsCommitted decisions.now number tx rank → tx < length commits.old }
+    requires room { (number tx rank : ℕ) → IsCommitted decisions.now number tx rank
+        → tx < length commits.old }
     requires empty { (tx number : ℕ) → IsIn commits.old tx number → ⊥ }
-    ensures { (tx number : ℕ) → IsIn commits.new tx number ↔ ((rank : ℕ) × IsCommitted decisions.now number tx rank) }
+    ensures { (tx number : ℕ)
+        → IsIn commits.new tx number ↔ ((rank : ℕ) × IsCommitted decisions.now number tx rank) }
 {
     for (number, decision) in decisions.iter().enumerate() {
         if let Decision::Commit { tx, .. } = decision {

@@ -115,7 +115,8 @@ fn back_of(course: &Course, version: usize) -> usize
 // Whether the changes directly in front of the version are noted.
 fn are_front_noted(course: &Course, version: usize, tx: Tx, marks: &Marks) -> bool
     requires { version ≤ length course.now.changes.items }
-    ensures { IsTrue result → AreFrontNoted (IsNoted marks.now.from.items marks.now.step tx) course.now version }
+    ensures { IsTrue result
+        → AreFrontNoted (IsNoted marks.now.from.items marks.now.step tx) course.now version }
 {
     let first = front_of(course, version);
     let front = &course.changes[first..version];
@@ -125,7 +126,8 @@ fn are_front_noted(course: &Course, version: usize, tx: Tx, marks: &Marks) -> bo
 // Whether those directly behind it are.
 fn are_back_noted(course: &Course, version: usize, tx: Tx, marks: &Marks) -> bool
     requires { version ≤ length course.now.changes.items }
-    ensures { IsTrue result → AreBackNoted (IsNoted marks.now.to.items marks.now.step tx) course.now version }
+    ensures { IsTrue result
+        → AreBackNoted (IsNoted marks.now.to.items marks.now.step tx) course.now version }
 {
     let end = back_of(course, version);
     let back = &course.changes[version..end];
@@ -134,7 +136,8 @@ fn are_back_noted(course: &Course, version: usize, tx: Tx, marks: &Marks) -> boo
 
 // Whether the reads of the version are noted.
 fn are_reads_noted(course: &Course, version: usize, tx: Tx, marks: &Marks) -> bool
-    ensures { IsTrue result → AreReadsNoted (IsNoted marks.now.from.items marks.now.step tx) course.now version }
+    ensures { IsTrue result
+        → AreReadsNoted (IsNoted marks.now.from.items marks.now.step tx) course.now version }
 {
     match course.reads.get(version) {
         Some(reads) => are_noted(marks.from.as_slice(), marks.step, tx, reads.as_slice()),
@@ -144,7 +147,8 @@ fn are_reads_noted(course: &Course, version: usize, tx: Tx, marks: &Marks) -> bo
 
 // Whether the last write is noted, if there is one.
 fn is_write_noted(course: &Course, tx: Tx, marks: &Marks) -> bool
-    ensures { IsTrue result → IsLastWriteNoted (IsNoted marks.now.from.items marks.now.step tx) course.now }
+    ensures { IsTrue result
+        → IsLastWriteNoted (IsNoted marks.now.from.items marks.now.step tx) course.now }
 {
     if course.written == 0 {
         return true;
@@ -157,7 +161,8 @@ fn is_write_noted(course: &Course, tx: Tx, marks: &Marks) -> bool
 
 // Whether an increment follows: the last write, and the reads of the last version that was read since.
 fn follows_as_increment(course: &Course, tx: Tx, marks: &Marks) -> bool
-    ensures { IsTrue result → FollowsAsIncrement (IsNoted marks.now.from.items marks.now.step tx) course.now }
+    ensures { IsTrue result
+        → FollowsAsIncrement (IsNoted marks.now.from.items marks.now.step tx) course.now }
 {
     is_write_noted(course, tx, marks)
         && (course.last_read < course.written
@@ -166,7 +171,8 @@ fn follows_as_increment(course: &Course, tx: Tx, marks: &Marks) -> bool
 
 // Whether a write follows: the reads of the present version, or the changes directly in front of it where there are none.
 fn follows_as_write(course: &Course, tx: Tx, marks: &Marks) -> bool
-    ensures { IsTrue result → FollowsAsWrite (IsNoted marks.now.from.items marks.now.step tx) course.now }
+    ensures { IsTrue result
+        → FollowsAsWrite (IsNoted marks.now.from.items marks.now.step tx) course.now }
 {
     let present = course.changes.len();
     are_reads_noted(course, present, tx, marks)
@@ -242,7 +248,9 @@ fn add_change(alloc: Global, course: &mut Course, deed: &Deed) -> Result<(), All
 pub(crate) fn add(alloc: Global, course: &mut Course, deed: &Deed) -> Result<(), AllocError>
     requires shaped { IsShaped course.old }
     requires fits { Fits course.old deed.now }
-    ensures { OnOk result ((done : List ADeed) → IsCourse done course.old → IsCourse (done ++ deed.now ∷ []) course.new) }
+    ensures { OnOk result
+        ((done : List ADeed) → IsCourse done course.old
+        → IsCourse (done ++ deed.now ∷ []) course.new) }
 {
     if deed.read {
         add_read(course, deed)

@@ -37,9 +37,12 @@ pub struct Track {
 // Adds the operation that stands at this place.
 fn add(track: &mut Track, entry: &Entry, number: u64, place: usize) -> Result<(), AllocError>
     requires { track.old.version + 1 < 2 ^ 64 }
-    ensures deeds { OnOk result (track.new.deeds.items ≡ track.old.deeds.items ++ deed_of entry.now number place track.old.version ∷ []) }
+    ensures deeds { OnOk result
+        (track.new.deeds.items
+        ≡ track.old.deeds.items ++ deed_of entry.now number place track.old.version ∷ []) }
     ensures read { OnOk result (is_read entry.now ≡ true → track.new.version ≡ track.old.version) }
-    ensures change { OnOk result (is_read entry.now ≡ false → track.new.version ≡ track.old.version + 1) }
+    ensures change { OnOk result
+        (is_read entry.now ≡ false → track.new.version ≡ track.old.version + 1) }
 {
     let read = is_read(entry);
     let deed = Deed {
@@ -82,7 +85,8 @@ pub(crate) fn tracks_of(
 ) -> Result<Vec<Track>, AllocError>
     requires { IsRisingBy (λ h. h.item) (slice_cmp nat_cmp) items.now }
     ensures long { IfOk result (λ tracks. length tracks.items ≡ length items.now) }
-    ensures tracks { IfOk result (λ tracks. AreTracks commits.now items.now log.now (length log.now) tracks.items) }
+    ensures tracks { IfOk result
+        (λ tracks. AreTracks commits.now items.now log.now (length log.now) tracks.items) }
 {
     let mut tracks = no_tracks(alloc, items.len())?;
     for (place, entry) in log.iter().enumerate() {
@@ -98,7 +102,8 @@ pub(crate) fn tracks_of(
 /// The deeds in the order of their decisions.
 pub(crate) fn by_number(alloc: Global, deeds: &[Deed]) -> Result<Vec<Deed>, AllocError>
     ensures same { IfOk result (λ order. IsPermutation deeds.now order.items) }
-    ensures sorted { IfOk result (λ order. IsNonDecreasingBy (λ (d : ADeed). d.number) order.items) }
+    ensures sorted { IfOk result
+        (λ order. IsNonDecreasingBy (λ (d : ADeed). d.number) order.items) }
 {
     let mut order = Vec::new(alloc);
     order.extend_from_slice(deeds)?;

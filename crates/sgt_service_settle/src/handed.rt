@@ -27,7 +27,8 @@ fn number_of(reply: &Decided) -> u64
 
 // Adds these edges with the number.
 fn add_edges(handed: &mut Vec<Handed>, edges: &HandedEdges, number: u64) -> Result<(), AllocError>
-    ensures { OnOk result (handed.new.items ≡ handed.old.items ++ map (with_number number) edges.now) }
+    ensures { OnOk result
+        (handed.new.items ≡ handed.old.items ++ map (with_number number) edges.now) }
 {
     for place in 0..edges.count() {
         let edge = edges.at(place);

@@ -56,7 +56,8 @@ fn first_since(links: &[Link], start: usize, number: u64) -> usize
 
 // Marks the far end of an edge, where the near end is the transaction.
 fn mark_far(marks: &mut Vec<usize>, step: usize, near: usize, far: usize, tx: Tx)
-    ensures { (marks.new.items ≡ marks.old.items) ⊎ ((near ≡ tx) × (marks.new.items ≡ slice_set marks.old.items far step)) }
+    ensures { (marks.new.items ≡ marks.old.items)
+        ⊎ ((near ≡ tx) × (marks.new.items ≡ slice_set marks.old.items far step)) }
 {
     if near == tx.number() as usize && far < marks.len() {
         marks[far] = step;
@@ -98,9 +99,11 @@ impl Marks {
         ensures under { IfOk result (λ yes. IsTrue yes → AreUnder self.new (self.new.step + 1)) }
         ensures fits { IfOk result (λ yes. IsTrue yes → Fits course.old deed.now) }
         ensures follows { IfOk result (λ yes. IsTrue yes
-            → Follows (ComesTo links.now deed.now) (LeadsTo links.now deed.now) course.old deed.now) }
+            → Follows (ComesTo links.now deed.now)
+            (LeadsTo links.now deed.now) course.old deed.now) }
         ensures course { IfOk result (λ yes. IsTrue yes
-            → (done : List ADeed) → IsCourse done course.old → IsCourse (done ++ deed.now ∷ []) course.new) }
+            → (done : List ADeed) → IsCourse done course.old
+            → IsCourse (done ++ deed.now ∷ []) course.new) }
     {
         let Some(step) = self.step.checked_add(1) else {
             return Ok(false);

@@ -34,7 +34,8 @@ pub(crate) fn clash(kind: Kind, item: &Item, first: &Entry, second: &Entry) -> b
 
 // Whether one of these acts, behind the first, is in such a conflict with it.
 fn is_followed(first: &Act, acts: &[Act], kind: Kind, item: &Item) -> bool
-    ensures { IsTrue result ↔ ((m : ℕ) × (b : AnAct) × (slice_get acts.now m ≡ Some b) × (first.now.place < b.place)
+    ensures { IsTrue result
+        ↔ ((m : ℕ) × (b : AnAct) × (slice_get acts.now m ≡ Some b) × (first.now.place < b.place)
         × Clash kind item.now first.now.entry b.entry) }
 {
     for second in acts {
@@ -61,7 +62,8 @@ fn are_between(from: &[Act], to: &[Act], kind: Kind, item: &Item) -> bool
 fn count_below(acts: &[Act], number: u64) -> usize
     requires { IsNonDecreasingBy actor acts.now }
     ensures within { result ≤ length acts.now }
-    ensures point { IsPartitionPoint (λ a. nat_lt (actor a) number ≡ true) (λ a. nat_lt (actor a) number ≡ false) acts.now result }
+    ensures point { IsPartitionPoint (λ a. nat_lt (actor a) number ≡ true)
+        (λ a. nat_lt (actor a) number ≡ false) acts.now result }
 {
     acts.partition_point(|act| u64::from(act.entry.tx().number()) < number)
 }

@@ -9,7 +9,8 @@ use std::alloc::{AllocError, Global};
 // Marks a transaction, and puts it on the stack, if it has no mark.
 fn mark(to: usize, marks: &mut [bool], stack: &mut Vec<usize>) -> Result<(), AllocError>
     requires { to < length marks.old }
-    ensures { OnOk result (Marked (λ k. k ≡ to) marks.old stack.old.items marks.new stack.new.items) }
+    ensures { OnOk result
+        (Marked (λ k. k ≡ to) marks.old stack.old.items marks.new stack.new.items) }
 {
     if !marks[to] {
         stack.reserve(1)?;
@@ -27,7 +28,8 @@ fn mark_row(
     stack: &mut Vec<usize>,
 ) -> Result<(), AllocError>
     requires { AreWithin row.now cut.now (length marks.old) }
-    ensures { OnOk result (Marked (IsTarget row.now cut.now) marks.old stack.old.items marks.new stack.new.items) }
+    ensures { OnOk result
+        (Marked (IsTarget row.now cut.now) marks.old stack.old.items marks.new stack.new.items) }
 {
     for arc in row {
         if passes(arc, cut) {

@@ -111,7 +111,8 @@ pub(crate) fn first_unfit(
         ((k : ℕ) → k < length sites.now → IsFitAt index.now sites.now counts.now k)
         (λ site. (site < length sites.now) × (IsFitAt index.now sites.now counts.now site → ⊥)
         × ((k : ℕ) → k < site → IsFitAt index.now sites.now counts.now k))) }
-    ensures err { OnErr result ((site : ℕ) × (site < length sites.now) × AreCountedAt sites.now counts.now site
+    ensures err { OnErr result
+        ((site : ℕ) × (site < length sites.now) × AreCountedAt sites.now counts.now site
         × ((k : ℕ) → k < site → IsFitAt index.now sites.now counts.now k)) }
 {
     for k in 0..sites.len() {
@@ -138,7 +139,8 @@ fn lesser(least: Option<SiteNo>, site: SiteNo) -> SiteNo
 
 /// The least site of an edge that is beyond those that there are.
 pub(crate) fn first_beyond(handed: &[Handed], sites: usize) -> Option<SiteNo>
-    ensures { IsLeastOf (λ (h : AHanded). h.edge.label.site) (λ (h : AHanded). sites ≤ h.edge.label.site) handed.now result }
+    ensures { IsLeastOf (λ (h : AHanded). h.edge.label.site)
+        (λ (h : AHanded). sites ≤ h.edge.label.site) handed.now result }
 {
     let mut least = None;
     for one in handed {

@@ -17,7 +17,8 @@ fn one_more(tally: u8) -> u8
 
 // Counts these tickets.
 fn add_tickets(tallies: &mut [u8], tickets: &[Ticket])
-    ensures { (seen : List ATicket) → AreTallies tallies.old seen → AreTallies tallies.new (seen ++ tickets.now) }
+    ensures { (seen : List ATicket) → AreTallies tallies.old seen
+        → AreTallies tallies.new (seen ++ tickets.now) }
 {
     for ticket in tickets {
         let number = ticket.number as usize;

@@ -25,7 +25,8 @@ fn least_stray(
     least: Option<u64>,
 ) -> Option<u64>
     requires { AreVerdicts (rulings_from 0 0 history.now) verdicts.now }
-    ensures { (seen : List ATicket) → IsLeastOf (λ (t : ATicket). t.number) (IsStray history.now) seen least
+    ensures { (seen : List ATicket)
+        → IsLeastOf (λ (t : ATicket). t.number) (IsStray history.now) seen least
         → IsLeastOf (λ (t : ATicket). t.number) (IsStray history.now) (seen ++ tickets.now) result }
 {
     let mut least = least;
@@ -40,7 +41,8 @@ fn least_stray(
 // The least number of a ticket that is not good.
 fn first_stray(history: &[Call], verdicts: &[Verdict], dones: &[Done]) -> Option<u64>
     requires { AreVerdicts (rulings_from 0 0 history.now) verdicts.now }
-    ensures { IsLeastOf (λ (t : ATicket). t.number) (IsStray history.now) (tickets_of dones.now) result }
+    ensures { IsLeastOf (λ (t : ATicket). t.number) (IsStray history.now)
+        (tickets_of dones.now) result }
 {
     let mut least = None;
     for done in dones {
@@ -114,7 +116,8 @@ pub(crate) fn check_tickets(
     dones: &[Done],
 ) -> Result<(), ServiceFault>
     ensures ok { OnOk result (AreTickets (rulings_from 0 0 history.now) dones.now) }
-    ensures err { IfErr result (λ f. (r : Run) → IsRunOf r history.now dones.now → IsUnsettled r f) }
+    ensures err { IfErr result
+        (λ f. (r : Run) → IsRunOf r history.now dones.now → IsUnsettled r f) }
 {
     let decisions = decisions_in(history);
     let verdicts = verdicts(alloc, history);

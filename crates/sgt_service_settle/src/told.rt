@@ -19,7 +19,8 @@ use std::alloc::Global;
 /// costs a walk over the history or the tickets.
 pub fn check_told(alloc: Global, certifier: &Certifier, dones: &[Done]) -> Result<(), ServiceFault>
     ensures ok { OnOk result (AreTickets certifier.now.state.rulings dones.now) }
-    ensures err { IfErr result (λ f. (r : Run) → r.certifier ≡ certifier.now → r.dones ≡ dones.now → IsUnsettled r f) }
+    ensures err { IfErr result
+        (λ f. (r : Run) → r.certifier ≡ certifier.now → r.dones ≡ dones.now → IsUnsettled r f) }
     ensures memory { IfErr result (λ f. f ≢ Memory) }
     ensures replays { Replays certifier.now.history certifier.now.state }
 {

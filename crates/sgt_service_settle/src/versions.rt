@@ -15,8 +15,10 @@ use sgt_site::Site;
 pub(crate) fn first_uncounted(certifier: &Certifier, sites: &[Site]) -> Option<SiteNo>
     requires { length sites.now ≤ max_sites }
     ensures { MatchOption result (All (VersionsAgree certifier.now.history) sites.now)
-        (λ site. ((s : SiteState) × (slice_get sites.now site ≡ Some s) × (VersionsAgree certifier.now.history s → ⊥))
-        × ((k : ℕ) (s : SiteState) → k < site → slice_get sites.now k ≡ Some s → VersionsAgree certifier.now.history s)) }
+        (λ site. ((s : SiteState) × (slice_get sites.now site ≡ Some s)
+        × (VersionsAgree certifier.now.history s → ⊥))
+        × ((k : ℕ) (s : SiteState) → k < site → slice_get sites.now k ≡ Some s
+        → VersionsAgree certifier.now.history s)) }
 {
     for k in 0..sites.len() {
         let Ok(site) = SiteNo::new(k as u64) else {

@@ -1,4 +1,5 @@
--- When a site refuses: the cases exclude each other, and memory is answered only where no other refusal holds.
+-- When a site refuses: the cases exclude each other, and memory is answered only where no other
+-- refusal holds.
 use Rattle.std.specs.Prelude.{◌≡◌, ◌≢◌, ℕ, List, None, All, Contains}
 use Rattle.sgt_names.specs.Name.{Name}
 use Rattle.sgt_names.specs.Log.{names}
@@ -50,7 +51,8 @@ ChangesKnown s touched = All (λ c. IsHere s c.0) (writing_in (at_site s.number 
 abbrev pub IsSame : SiteState → ℕ → List Touch → Type 0
 IsSame s tx touched = KeepsReads s.entries tx (kept_in (at_site s.number touched))
 
--- a draft that changes items of the site alone, for a transaction that is active; no pledge stands either
+-- a draft that changes items of the site alone, for a transaction that is active; no pledge stands
+-- either
 abbrev pub IsTaken : SiteState → ℕ → List Touch → Type 0
 IsTaken s tx touched = ChangesKnown s touched × (HasEnded s.entries tx → ⊥)
 

@@ -1,4 +1,5 @@
--- A site as contracts see it: its items, its log, the handles of its committed transactions and the pledge that stands.
+-- A site as contracts see it: its items, its log, the handles of its committed transactions and the
+-- pledge that stands.
 use Rattle.std.specs.Prelude.{◌≡◌, ℕ, suc, true, false, ◌==◌, List, [], ◌∷◌, ◌++◌, length, map, take, Option, Some, None, if◌then◌else◌, All, Any, Contains, slice_get, ◌↔◌, ◌≤◌, option_map, option_and_then}
 use Rattle.std.specs.List.{filter_map}
 use Rattle.std.specs.Option.{ForSome}
@@ -26,7 +27,8 @@ pub record Pledge : Type 0 where
   pub tx : ℕ
   pub part : List Touch
 
--- what contracts see of a site: its items with their first values, its log, each committed transaction with its handle in the
+-- what contracts see of a site: its items with their first values, its log, each committed
+-- transaction with its handle in the
 -- order of the commits, and the pledge that stands
 pub record SiteState : Type 0 where
   pub number : ℕ
@@ -42,7 +44,8 @@ pub record AreItems (items : List Holding) : Type 0 where
 
 -- a site with no entries
 abbrev pub opened : ℕ → List Holding → SiteState
-opened number items = record { number = number; items = items; entries = []; installed = []; pledge = None }
+opened number items =
+    record { number = number; items = items; entries = []; installed = []; pledge = None }
 
 -- the version of an item after these entries: how often it was written or added to
 abbrev pub version_at : List Entry → Name → ℕ
@@ -64,7 +67,8 @@ pub record LogsRead (entries : List Entry) (tx : ℕ) (x : Name) (v n : ℕ) : T
 
 -- these kept reads are all of the transaction's reads in the log, each with its value and version
 abbrev pub KeepsReads : List Entry → ℕ → List (Name × ℕ × ℕ) → Type 0
-KeepsReads entries tx kept = (x : Name) (v n : ℕ) → Contains kept (x, v, n) ↔ LogsRead entries tx x v n
+KeepsReads entries tx kept = (x : Name) (v n : ℕ)
+    → Contains kept (x, v, n) ↔ LogsRead entries tx x v n
 
 -- the handle that was given for a committed transaction
 abbrev pub handle_of : List Install → ℕ → Option Handle
@@ -75,13 +79,15 @@ handle_of (i ∷ is) tx = if i.tx == tx then Some i.handle else handle_of is tx
 abbrev pub writer : List Install → Name → Entry → Option Writer
 writer installed x e =
     let made : Handle → Writer = λ h. record { tx = tx_of e; handle = h; increment = is_increment e } in
-    option_and_then (λ (c : Change). option_map made (handle_of installed (tx_of e))) (change_of x e)
+    option_and_then (λ (c : Change). option_map made (handle_of installed (tx_of e)))
+    (change_of x e)
 
 -- who wrote an item or added to it, with their handles, in the order of the log
 abbrev pub writers_of : List Install → List Entry → Name → List Writer
 writers_of installed entries x = filter_map (writer installed x) entries
 
--- the version that the last write of an item made, of these writers: 0 where none of them wrote. Those since then only added to it
+-- the version that the last write of an item made, of these writers: 0 where none of them wrote.
+-- Those since then only added to it
 pub record IsVersionWritten (ws : List Writer) (n : ℕ) : Type 0 where
   pub within : n ≤ length ws
   pub write : (k : ℕ) (w : Writer) → suc k ≡ n → slice_get ws k ≡ Some w → w.increment ≡ false
@@ -89,7 +95,8 @@ pub record IsVersionWritten (ws : List Writer) (n : ℕ) : Type 0 where
 
 -- a committed transaction with its handle, which read the item at this version
 abbrev pub IsReader : List Install → List Entry → Name → Reader → Type 0
-IsReader installed entries x r = (handle_of installed r.tx ≡ Some r.handle) × ((v : ℕ) × LogsRead entries r.tx x v r.version)
+IsReader installed entries x r = (handle_of installed r.tx ≡ Some r.handle)
+    × ((v : ℕ) × LogsRead entries r.tx x v r.version)
 
 -- the transaction that a commit commits
 abbrev pub committed_in : Entry → Option ℕ
@@ -105,7 +112,8 @@ abbrev pub want_entry : ℕ → Name → Change → Entry
 want_entry tx x (Put v) = entry.Want tx x v
 want_entry tx x (Add v) = entry.WantAdd tx x v
 
--- the blocks that end a transaction: its writes and increments and the commit, what it asked for and the refusal, the withdrawal
+-- the blocks that end a transaction: its writes and increments and the commit, what it asked for
+-- and the refusal, the withdrawal
 abbrev pub commit_block : ℕ → List (Name × Change) → List Entry
 commit_block tx cs = map (λ c. change_entry tx c.0 c.1) cs ++ entry.Commit tx ∷ []
 
@@ -121,7 +129,8 @@ IsWant (entry.Want tx x v) = Unit {0}
 IsWant (entry.WantAdd tx x v) = Unit {0}
 IsWant _ = ⊥
 
--- what a pledge for the transaction and its draft covers: items of this site by rising name, the reads that the log has,
+-- what a pledge for the transaction and its draft covers: items of this site by rising name, the
+-- reads that the log has,
 -- changes of items that are there, and no end yet
 pub record IsCovered (s : SiteState) (p : Pledge) : Type 0 where
   pub here : All (λ t. t.site ≡ s.number) p.part
@@ -140,7 +149,8 @@ pub record IsSite (s : SiteState) : Type 0 where
   -- who changes an item is committed, and who asked to is refused
   pub changes : (e : Entry) (x : Name) (c : Change) → Contains s.entries e → change_of x e ≡ Some c
       → Contains s.entries (entry.Commit (tx_of e))
-  pub wants : (e : Entry) → Contains s.entries e → IsWant e → Contains s.entries (entry.Refuse (tx_of e))
+  pub wants : (e : Entry) → Contains s.entries e → IsWant e
+      → Contains s.entries (entry.Refuse (tx_of e))
   pub pledged : ForSome s.pledge (IsCovered s)
 
 -- the pledge of the transaction stands

@@ -137,7 +137,8 @@ impl Cell {
 
     /// What the transaction's read of the item answered, if it has read it.
     pub(crate) fn seen_by(&self, tx: Tx) -> Option<Seen>
-        ensures { (seen : Answer) → (result ≡ Some seen) ↔ Contains self.now.readings (record { tx = tx; seen = seen }) }
+        ensures { (seen : Answer)
+            → (result ≡ Some seen) ↔ Contains self.now.readings (record { tx = tx; seen = seen }) }
     {
         self.readings.seen_by(tx)
     }
@@ -217,7 +218,8 @@ const NEAR: usize = 8;
 fn behind(readers: &[Reader], version: u64) -> usize
     requires { AllPairs (λ a b. a.version ≤ b.version) readers.now }
     ensures within { result ≤ length readers.now }
-    ensures point { IsPartitionPoint (λ r. leb r.version version ≡ true) (λ r. leb r.version version ≡ false) readers.now result }
+    ensures point { IsPartitionPoint (λ r. leb r.version version ≡ true)
+        (λ r. leb r.version version ≡ false) readers.now result }
 {
     let from = near_end(readers, version);
     from + behind_all(&readers[from..], version)
@@ -227,7 +229,8 @@ fn behind(readers: &[Reader], version: u64) -> usize
 fn near_end(readers: &[Reader], version: u64) -> usize
     requires { AllPairs (λ a b. a.version ≤ b.version) readers.now }
     ensures within { result ≤ length readers.now }
-    ensures before { (n : ℕ) (r : CommittedReader) → n < result → slice_get readers.now n ≡ Some r → r.version ≤ version }
+    ensures before { (n : ℕ) (r : CommittedReader) → n < result → slice_get readers.now n ≡ Some r
+        → r.version ≤ version }
 {
     let end = readers.len();
     if are_upto(readers, end, version) {
@@ -249,7 +252,8 @@ fn near_end(readers: &[Reader], version: u64) -> usize
 fn are_upto(readers: &[Reader], place: usize, version: u64) -> bool
     requires sorted { AllPairs (λ a b. a.version ≤ b.version) readers.now }
     requires within { place ≤ length readers.now }
-    ensures { IsTrue result → (n : ℕ) (r : CommittedReader) → n < place → slice_get readers.now n ≡ Some r → r.version ≤ version }
+    ensures { IsTrue result → (n : ℕ) (r : CommittedReader) → n < place
+        → slice_get readers.now n ≡ Some r → r.version ≤ version }
 {
     place > 0 && readers[place - 1].version <= version
 }
@@ -258,7 +262,8 @@ fn are_upto(readers: &[Reader], place: usize, version: u64) -> bool
 fn behind_all(readers: &[Reader], version: u64) -> usize
     requires { AllPairs (λ a b. a.version ≤ b.version) readers.now }
     ensures within { result ≤ length readers.now }
-    ensures point { IsPartitionPoint (λ r. leb r.version version ≡ true) (λ r. leb r.version version ≡ false) readers.now result }
+    ensures point { IsPartitionPoint (λ r. leb r.version version ≡ true)
+        (λ r. leb r.version version ≡ false) readers.now result }
 {
     readers.partition_point(|r| r.version <= version)
 }

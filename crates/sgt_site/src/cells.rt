@@ -103,7 +103,8 @@ impl Cells {
     /// Answers a transaction that has not read the item of this cell.
     pub(crate) fn answer(&mut self, at: usize, tx: Tx) -> Result<Seen, AllocError>
         requires within { at < length self.old }
-        requires first { (c : Contents) → slice_get self.old at ≡ Some c → IsAnswering c.readings tx → ⊥ }
+        requires first { (c : Contents) → slice_get self.old at ≡ Some c → IsAnswering c.readings tx
+            → ⊥ }
         ensures ok { IfOk result (λ seen. AnswersAt self.old self.new at tx seen) }
         ensures err { OnErr result (self.new ≡ self.old) }
     {
@@ -113,7 +114,8 @@ impl Cells {
     /// Makes room in the cells of the items that are touched.
     pub(crate) fn reserve(&mut self, part: &[Touch]) -> bool
         ensures same { AreChanged SameButRoom self.old self.new }
-        ensures room { IsTrue result → All (λ c. IsTouched part.now c.item → 0 < c.has_room) self.new }
+        ensures room { IsTrue result
+            → All (λ c. IsTouched part.now c.item → 0 < c.has_room) self.new }
     {
         reserve_all(&mut self.cells, self.hints.as_slice(), part)
     }
@@ -122,7 +124,8 @@ impl Cells {
     pub(crate) fn note(&mut self, by: &Install, part: &[Touch])
         requires once { ItemsRise part.now }
         requires room { All (λ c. IsTouched part.now c.item → 0 < c.has_room) self.old }
-        ensures { AreChanged (λ c d. IsNoted by.now (touch_in part.now c.item) c d) self.old self.new }
+        ensures { AreChanged
+            (λ c d. IsNoted by.now (touch_in part.now c.item) c d) self.old self.new }
     {
         let versions = self.versions.as_mut_slice();
         note_all(&mut self.cells, versions, self.hints.as_slice(), by, part)
@@ -197,7 +200,8 @@ fn is_of(cell: &Cell, item: &Item) -> bool
 
 // Whether the item is at this place.
 fn is_at(cells: &[Cell], place: usize, item: &Item) -> bool
-    ensures { IsTrue result → (c : Contents) × (slice_get cells.now place ≡ Some c) × (c.item ≡ item.now) }
+    ensures { IsTrue result
+        → (c : Contents) × (slice_get cells.now place ≡ Some c) × (c.item ≡ item.now) }
 {
     match cells.get(place) {
         Some(cell) => is_of(cell, item),
@@ -240,7 +244,8 @@ fn order(cell: &Cell, item: &Item) -> Ordering
 fn reserve_all(cells: &mut Vec<Cell>, hints: &[u16], part: &[Touch]) -> bool
     requires { CellsRise cells.old.items }
     ensures same { AreChanged SameButRoom cells.old.items cells.new.items }
-    ensures room { IsTrue result → All (λ c. IsTouched part.now c.item → 0 < c.has_room) cells.new.items }
+    ensures room { IsTrue result
+        → All (λ c. IsTouched part.now c.item → 0 < c.has_room) cells.new.items }
 {
     for t in part {
         if !reserve_for(cells, hints, t.item) {
@@ -289,7 +294,8 @@ fn note_all(
     requires once { ItemsRise part.now }
     requires room { All (λ c. IsTouched part.now c.item → 0 < c.has_room) cells.old.items }
     requires versions { versions.old ≡ versions_of cells.old.items }
-    ensures noted { AreChanged (λ c d. IsNoted by.now (touch_in part.now c.item) c d) cells.old.items cells.new.items }
+    ensures noted { AreChanged
+        (λ c d. IsNoted by.now (touch_in part.now c.item) c d) cells.old.items cells.new.items }
     ensures versions { versions.new ≡ versions_of cells.new.items }
 {
     for t in part {

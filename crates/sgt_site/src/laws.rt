@@ -10,12 +10,14 @@ ghost use Rattle.sgt_site.specs.declared.fault.SiteFault.{SiteFault};
 
 /// No items are refused for two reasons; want of memory stands where there is no other.
 pub fn items_are_refused_once()
-    ensures { (items : List Holding) (f g : SiteFault) → RefusesItems items f → RefusesItems items g → f ≡ g }
+    ensures { (items : List Holding) (f g : SiteFault) → RefusesItems items f → RefusesItems items g
+        → f ≡ g }
 {}
 
 /// No read is refused for two reasons; want of memory stands where there is no other, so a read that may be made has none.
 pub fn reads_are_refused_once()
-    ensures { (s : SiteState) (tx : ℕ) (x : Name) (f g : SiteFault) → RefusesRead s tx x f → RefusesRead s tx x g → f ≡ g }
+    ensures { (s : SiteState) (tx : ℕ) (x : Name) (f g : SiteFault) → RefusesRead s tx x f
+        → RefusesRead s tx x g → f ≡ g }
 {}
 
 /// No pledge is refused for two reasons; want of memory stands where there is no other, so a pledge that may be given has none.

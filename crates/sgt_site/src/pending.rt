@@ -44,7 +44,8 @@ impl Pending {
 
     /// Takes the transaction's last read back. A search of the transactions.
     pub(crate) fn take_back(&mut self, tx: Tx)
-        ensures own { (items : List Name) (item : Name) → items_by self.old tx ≡ items ++ item ∷ [] → items_by self.new tx ≡ items }
+        ensures own { (items : List Name) (item : Name) → items_by self.old tx ≡ items ++ item ∷ []
+            → items_by self.new tx ≡ items }
         ensures others { (t : ℕ) → t ≢ tx → items_by self.new t ≡ items_by self.old t }
     {
         if let Some(items) = self.reads.get_mut(&tx) {

@@ -56,7 +56,8 @@ impl Readings {
 
     /// What the transaction's read answered, if there is one.
     pub(crate) fn seen_by(&self, tx: Tx) -> Option<Seen>
-        ensures { (seen : Answer) → (result ≡ Some seen) ↔ Contains self.now (record { tx = tx; seen = seen }) }
+        ensures { (seen : Answer)
+            → (result ≡ Some seen) ↔ Contains self.now (record { tx = tx; seen = seen }) }
     {
         match search(self.readings.as_slice(), tx) {
             Ok(at) => Some(self.readings[at].seen),

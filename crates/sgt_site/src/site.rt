@@ -131,7 +131,8 @@ impl Site {
 
     /// The version of each item, in the order of the items: how often the log writes it or adds to it. Copies nothing.
     pub fn versions(&self) -> &[u64]
-        ensures versions { result.now ≡ map (λ h. version_at self.now.entries h.item) self.now.items }
+        ensures versions { result.now
+            ≡ map (λ h. version_at self.now.entries h.item) self.now.items }
         ensures site { IsSite self.now }
     {
         self.cells.versions()
@@ -169,7 +170,8 @@ impl Site {
     /// Searches the items, the reads of this one, the ended transactions and those that have read and have no end, each in the
     /// logarithm of their number, and not the log.
     pub fn read(&mut self, tx: Tx, item: Item) -> Result<Seen, SiteFault>
-        ensures value { IfOk result (λ seen. value_at self.old.items self.old.entries item ≡ Some seen.value) }
+        ensures value { IfOk result
+            (λ seen. value_at self.old.items self.old.entries item ≡ Some seen.value) }
         ensures version { IfOk result (λ seen. seen.version ≡ version_at self.old.entries item) }
         ensures logged { IfOk result (λ seen. self.new ≡ record self.old {
           entries = self.old.entries ++ Read tx item seen.value ∷ [];
@@ -218,7 +220,11 @@ impl Site {
     ///
     /// - S5: no pledge of the transaction stands.
     pub fn withdraw(&mut self, tx: Tx) -> Result<(), SiteFault>
-        ensures ok { OnOk result (self.new ≡ record self.old { entries = self.old.entries ++ withdraw_block tx; pledge = None }) }
+        ensures ok { OnOk result
+            (self.new ≡ record self.old {
+              entries = self.old.entries ++ withdraw_block tx;
+              pledge = None;
+            }) }
         ensures err { OnErr result (self.new ≡ self.old) }
         ensures succeeds { IsOk result ↔ IsPledged self.old tx }
         ensures refused { IfErr result (λ f. f ≡ SiteFault.NotPledged) }
@@ -238,10 +244,12 @@ impl Site {
     ///
     /// - S1: the item isn't at this site.
     pub fn writers(&self, item: Item) -> Result<&[Writer], SiteFault>
-        ensures ok { IfOk result (λ ws. ws.now ≡ writers_of self.now.installed self.now.entries item) }
+        ensures ok { IfOk result
+            (λ ws. ws.now ≡ writers_of self.now.installed self.now.entries item) }
         ensures site { IsSite self.now }
         ensures allowed { OnOk result (IsHere self.now item) }
-        ensures refused { IfErr result (λ f. (f ≡ SiteFault.UnknownItem) × (IsHere self.now item → ⊥)) }
+        ensures refused { IfErr result
+            (λ f. (f ≡ SiteFault.UnknownItem) × (IsHere self.now item → ⊥)) }
     {
         match self.cells.find(item) {
             Some(at) => Ok(self.cells.as_slice()[at].writers()),
@@ -254,10 +262,12 @@ impl Site {
     ///
     /// - S1: the item isn't at this site.
     pub fn version_written(&self, item: Item) -> Result<u64, SiteFault>
-        ensures ok { IfOk result (IsVersionWritten (writers_of self.now.installed self.now.entries item)) }
+        ensures ok { IfOk result
+            (IsVersionWritten (writers_of self.now.installed self.now.entries item)) }
         ensures site { IsSite self.now }
         ensures allowed { OnOk result (IsHere self.now item) }
-        ensures refused { IfErr result (λ f. (f ≡ SiteFault.UnknownItem) × (IsHere self.now item → ⊥)) }
+        ensures refused { IfErr result
+            (λ f. (f ≡ SiteFault.UnknownItem) × (IsHere self.now item → ⊥)) }
     {
         match self.cells.find(item) {
             Some(at) => Ok(self.cells.as_slice()[at].version_written()),
@@ -269,12 +279,15 @@ impl Site {
     ///
     /// - S1: the item isn't at this site.
     pub fn readers(&self, item: Item) -> Result<&[Reader], SiteFault>
-        ensures ok { IfOk result (λ rs. (r : Reader) → Contains rs.now r ↔ IsReader self.now.installed self.now.entries item r) }
+        ensures ok { IfOk result
+            (λ rs. (r : Reader)
+            → Contains rs.now r ↔ IsReader self.now.installed self.now.entries item r) }
         ensures once { IfOk result (λ rs. AllPairs (λ a b. a.tx ≢ b.tx) rs.now) }
         ensures by_version { IfOk result (λ rs. AllPairs (λ a b. a.version ≤ b.version) rs.now) }
         ensures site { IsSite self.now }
         ensures allowed { OnOk result (IsHere self.now item) }
-        ensures refused { IfErr result (λ f. (f ≡ SiteFault.UnknownItem) × (IsHere self.now item → ⊥)) }
+        ensures refused { IfErr result
+            (λ f. (f ≡ SiteFault.UnknownItem) × (IsHere self.now item → ⊥)) }
     {
         match self.cells.find(item) {
             Some(at) => Ok(self.cells.as_slice()[at].readers()),
@@ -287,7 +300,8 @@ impl Site {
     /// - S4: there was no memory.
     pub fn final_values(&self, alloc: Global) -> Result<Vec<Holding>, SiteFault>
         ensures items { IfOk result (λ finals. names finals.items ≡ names self.now.items) }
-        ensures values { IfOk result (λ finals. FinalsAreLegal self.now.items self.now.entries finals.items) }
+        ensures values { IfOk result
+            (λ finals. FinalsAreLegal self.now.items self.now.entries finals.items) }
         ensures refused { IfErr result (λ f. f ≡ SiteFault.Memory) }
     {
         match holdings(alloc, self.cells.as_slice()) {

@@ -20,7 +20,8 @@ number_rule name most default = record (new_rule name) {
   parser = Some (parser.Unsigned 1 most);
 }
 
--- the command line of `run`: `--workers`, which is 1 where it isn't there, and `--tries`, which is 4
+-- the command line of `run`: `--workers`, which is 1 where it isn't there, and `--tries`, which is
+-- 4
 abbrev pub run_line : App
 run_line = with_rule (with_rule (new_app (codes "run")) (number_rule (codes "workers") max_workers (codes "1")))
     (number_rule (codes "tries") max_tries (codes "4"))

@@ -42,7 +42,8 @@ AsksNamed words choice = drop 1 words ≡ name_of choice ∷ []
 abbrev pub NamesRun : List (List ℕ) → Type 0
 NamesRun words = take 1 (drop 1 words) ≡ codes "run" ∷ []
 
--- the words ask for a run of scripts by so many workers, with so many tries for each: behind the program's name stands `run`, and
+-- the words ask for a run of scripts by so many workers, with so many tries for each: behind the
+-- program's name stands `run`, and
 -- clap finds these numbers in what follows
 abbrev pub AsksRun : List (List ℕ) → (workers tries : ℕ) → Type 0
 AsksRun words workers tries = NamesRun words × SaysRun (drop 1 words) workers tries
@@ -104,7 +105,8 @@ abbrev pub IsHelp : NoChoice → Type 0
 IsHelp (Help text) = ⊤
 IsHelp _ = ⊥
 
--- the word is clap's for help or for the version, the short ones with more letters behind them or none
+-- the word is clap's for help or for the version, the short ones with more letters behind them or
+-- none
 abbrev pub NamesHelp : List ℕ → Type 0
 NamesHelp word = ((word ≡ codes "--help") ⊎ (word ≡ codes "--version"))
     ⊎ (((rest : List ℕ) × (word ≡ codes "-h" ++ rest)) ⊎ ((rest : List ℕ) × (word ≡ codes "-V" ++ rest)))

@@ -60,7 +60,8 @@ impl From<AllocError> for NoChoice {
 // The command that the word names, if that has no option.
 fn plain_of(word: &str) -> Option<Choice>
     ensures only { IfSome result (λ choice. IsPlain choice × (word.now ≡ name_of choice)) }
-    ensures all { (choice : Choice) → IsPlain choice → word.now ≡ name_of choice → result ≡ Some choice }
+    ensures all { (choice : Choice) → IsPlain choice → word.now ≡ name_of choice
+        → result ≡ Some choice }
 {
     if word == "audit" {
         return Some(Choice::Audit);
@@ -86,7 +87,8 @@ fn plain_of(word: &str) -> Option<Choice>
 // What words ask for that name no run. Other words than the plain ones are help or no command.
 fn choose_plain(alloc: Global, words: &[String]) -> Result<Choice, NoChoice>
     ensures audit { AsksAudit (map string_bytes words.now) → result ≡ Ok Choice.Audit }
-    ensures plain { (choice : Choice) → IsPlain choice → drop 1 (map string_bytes words.now) ≡ name_of choice ∷ [] → result ≡ Ok choice }
+    ensures plain { (choice : Choice) → IsPlain choice
+        → drop 1 (map string_bytes words.now) ≡ name_of choice ∷ [] → result ≡ Ok choice }
     ensures only { IfOk result (AsksPlain (map string_bytes words.now)) }
     ensures text { IfErr result HasText }
     ensures help { IfErr result (TellsHelp (map string_bytes words.now)) }
@@ -225,7 +227,8 @@ fn choose_draw(alloc: Global, words: &[String]) -> Result<Choice, NoChoice>
 /// command.
 pub fn choose(alloc: Global, words: &[String]) -> Result<Choice, NoChoice>
     ensures audit { AsksAudit (map string_bytes words.now) → result ≡ Ok Choice.Audit }
-    ensures plain { (choice : Choice) → IsPlain choice → drop 1 (map string_bytes words.now) ≡ name_of choice ∷ [] → result ≡ Ok choice }
+    ensures plain { (choice : Choice) → IsPlain choice
+        → drop 1 (map string_bytes words.now) ≡ name_of choice ∷ [] → result ≡ Ok choice }
     ensures run { (workers tries : ℕ) → AsksRun (map string_bytes words.now) workers tries
         → (result ≡ Ok (Choice.Run workers tries)) ⊎ (result ≡ Err NoChoice.Memory) }
     ensures only { IfOk result (AsksFor (map string_bytes words.now)) }

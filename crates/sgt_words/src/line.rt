@@ -193,8 +193,10 @@ pub fn told_of(
     error: &Error,
 ) -> Result<NoChoice, AllocError>
     ensures text { IfOk result HasText }
-    ensures help { IfOk result (λ no. IsHelp no → Any (λ word. NamesHelp (string_bytes word)) words.now) }
-    ensures memory { IfOk result (λ no. kind_of error.now ≡ ErrorKind.OutOfMemory → no ≡ NoChoice.Memory) }
+    ensures help { IfOk result
+        (λ no. IsHelp no → Any (λ word. NamesHelp (string_bytes word)) words.now) }
+    ensures memory { IfOk result
+        (λ no. kind_of error.now ≡ ErrorKind.OutOfMemory → no ≡ NoChoice.Memory) }
 {
     if error.use_stderr() || asks_help(words) {
         return Ok(refused(alloc, error));

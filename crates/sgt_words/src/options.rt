@@ -69,8 +69,10 @@ pub fn run_line<'a>(alloc: Global) -> Result<Command<'a>, AllocError>
 
 // The number that clap found for the option, where it is in its range.
 fn number_of(matches: &ArgMatches, name: &str, most: u64) -> Option<u64>
-    ensures found { IfSome result (λ n. ReadsNumber (one_text (found_of matches.now) name.now) n × (1 ≤ n) × (n ≤ most)) }
-    ensures all { (n : ℕ) → ReadsNumber (one_text (found_of matches.now) name.now) n → 1 ≤ n → n ≤ most → result ≡ Some n }
+    ensures found { IfSome result
+        (λ n. ReadsNumber (one_text (found_of matches.now) name.now) n × (1 ≤ n) × (n ≤ most)) }
+    ensures all { (n : ℕ) → ReadsNumber (one_text (found_of matches.now) name.now) n → 1 ≤ n
+        → n ≤ most → result ≡ Some n }
 {
     let number = matches.get_one::<u64>(name)?;
     if 1 <= number && number <= most {
@@ -82,7 +84,8 @@ fn number_of(matches: &ArgMatches, name: &str, most: u64) -> Option<u64>
 // The workers and the tries that clap found, where they are in their ranges.
 fn numbers_of(matches: &ArgMatches) -> Option<(u64, u64)>
     ensures found { IfSome result (λ n. FindsRun matches.now n.0 n.1) }
-    ensures all { (workers tries : ℕ) → FindsRun matches.now workers tries → result ≡ Some (workers, tries) }
+    ensures all { (workers tries : ℕ) → FindsRun matches.now workers tries
+        → result ≡ Some (workers, tries) }
 {
     let workers = number_of(matches, "workers", MAX_WORKERS)?;
     let tries = number_of(matches, "tries", MAX_TRIES)?;

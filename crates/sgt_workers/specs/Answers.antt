@@ -22,25 +22,32 @@ IsJob count n = (0 < n) × (n ≤ count)
 
 -- a right Done of the job that it names, whose script is the one of this number, from 1
 abbrev pub IsAnswer : {C : Type 0} → (ℕ → C → Done → Type 0) → List C → Done → Type 0
-IsAnswer {C} answers scripts d = (0 < d.job) × ((c : C) × (slice_get scripts (d.job - 1) ≡ Some c) × answers d.job c d)
+IsAnswer {C} answers scripts d = (0 < d.job)
+    × ((c : C) × (slice_get scripts (d.job - 1) ≡ Some c) × answers d.job c d)
 
 -- one call for each of these Dones, in this order, leads from the state `s` to `t`
-abbrev pub Runs : {S C : Type 0} → (S → ℕ → C → Done → S → Type 0) → List C → S → List Done → S → Type 0
+abbrev pub Runs : {S C : Type 0} → (S → ℕ → C → Done → S → Type 0) → List C → S → List Done → S
+    → Type 0
 Runs does scripts s [] t = s ≡ t
 Runs {S} {C} does scripts s (d ∷ ds) t =
-    (c : C) × (u : S) × (slice_get scripts (d.job - 1) ≡ Some c) × does s d.job c d u × Runs does scripts u ds t
+    (c : C) × (u : S) × (slice_get scripts (d.job - 1) ≡ Some c) × does s d.job c d u
+    × Runs does scripts u ds t
 
 -- Dones that go up by number, and lead from the state `s` to `t`
-abbrev pub IsShare : {S C : Type 0} → (S → ℕ → C → Done → S → Type 0) → List C → S → List Done → S → Type 0
+abbrev pub IsShare : {S C : Type 0} → (S → ℕ → C → Done → S → Type 0) → List C → S → List Done → S
+    → Type 0
 IsShare does scripts s dones t = JobsRise dones × Runs does scripts s dones t
 
 -- what a worker that began at the state `s` left
-abbrev pub IsReport : {S C : Type 0} → (S → ℕ → C → Done → S → Type 0) → List C → S → Report S → Type 0
+abbrev pub IsReport : {S C : Type 0} → (S → ℕ → C → Done → S → Type 0) → List C → S → Report S
+    → Type 0
 IsReport does scripts s r = IsShare does scripts s r.dones.items r.state
 
--- each state has a share of the Dones that leads from it to the one of its place after, and all shares together are just
+-- each state has a share of the Dones that leads from it to the one of its place after, and all
+-- shares together are just
 -- these Dones
-abbrev pub AreShared : {S C : Type 0} → (S → ℕ → C → Done → S → Type 0) → List C → List S → List Done → List S → Type 0
+abbrev pub AreShared : {S C : Type 0} → (S → ℕ → C → Done → S → Type 0) → List C → List S
+    → List Done → List S → Type 0
 AreShared {S} does scripts states dones after =
     (shares : List (List Done × S))
     × AllZip (λ s share. IsShare does scripts s share.0 share.1) states shares
@@ -60,7 +67,8 @@ abbrev pub IsOwn : {E : Type 0} → PoolFail E → Type 0
 IsOwn (Work e) = ⊥
 IsOwn (Pool f) = ⊤
 
--- one that a pool gives: want of memory, or one of the jobs that has no Done; none is ever run twice
+-- one that a pool gives: want of memory, or one of the jobs that has no Done; none is ever run
+-- twice
 abbrev pub IsMet : ℕ → PoolFault → Type 0
 IsMet count Memory = ⊤
 IsMet count (Unrun n) = IsJob count n

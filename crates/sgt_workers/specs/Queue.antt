@@ -1,4 +1,5 @@
--- The rule of the queue: the numbers of the jobs go up by one, the stops come last, and each job is taken once.
+-- The rule of the queue: the numbers of the jobs go up by one, the stops come last, and each job is
+-- taken once.
 use Rattle.std.specs.Prelude.{◌≡◌, ℕ, ◌+◌, ◌<◌, ◌≤◌, ◌⊎◌, List, [], ◌∷◌, ◌++◌, Bool, true, false}
 use Rattle.std.specs.List.{All, sum_by, range_with_len}
 use Rattle.atomic_table.specs.declared.badge.Badge.{Badge}
@@ -13,7 +14,8 @@ use Rattle.sgt_workers.specs.declared.queue.Task.TheVariants.{Run, Stop}
 use Rattle.sgt_workers.specs.declared.queue.Hold.{Hold}
 
 abbrev pub hold : Bool → ℕ → ℕ → List ℕ → Bool → Hold
-hold sends sent stops taken stopped = record { sends = sends; sent = sent; stops = stops; taken = taken; stopped = stopped }
+hold sends sent stops taken stopped =
+    record { sends = sends; sent = sent; stops = stops; taken = taken; stopped = stopped }
 
 -- the sender's, with so many jobs and stops sent
 abbrev pub sender_of : ℕ → ℕ → Hold
@@ -62,7 +64,8 @@ Follows low top stops [] = low ≡ top
 Follows low top stops (Run n ∷ ts) = (n ≡ low + 1) × Follows n top stops ts
 Follows low top stops (Stop ∷ ts) = (0 < stops) × (low ≡ top) × AreStops ts
 
--- only the pass of the number `by` sends, and it knows how many jobs and stops were sent; who knows of stops knows all
+-- only the pass of the number `by` sends, and it knows how many jobs and stops were sent; who knows
+-- of stops knows all
 -- jobs, and there are as many stops; none has taken a number above `low`
 abbrev pub Knows : ℕ → ℕ → ℕ → ℕ → ℕ → Hold → Type 0
 Knows by low top stops pass v =
@@ -70,9 +73,11 @@ Knows by low top stops pass v =
     × (0 < v.stops → (v.sent ≡ top) × (v.stops ≤ stops))
     × All (λ n. n ≤ low) v.taken
 
--- weighed in any way, what all have taken weighs what 1 to `low` weigh: each of them was taken once, and no other number
+-- weighed in any way, what all have taken weighs what 1 to `low` weigh: each of them was taken
+-- once, and no other number
 abbrev pub Accounts : ℕ → List Hold → Type 0
-Accounts low holds = (weight : ℕ → ℕ) → sum_by (λ v. sum_by weight v.taken) holds ≡ sum_by weight (range_with_len 1 low)
+Accounts low holds = (weight : ℕ → ℕ)
+    → sum_by (λ v. sum_by weight v.taken) holds ≡ sum_by weight (range_with_len 1 low)
 
 abbrev pub Kept : List Task → List Hold → Type 0
 Kept tasks holds =
@@ -85,7 +90,8 @@ abbrev pub Takes : Hold → Task → Hold → Type 0
 Takes v (Run n) w = (0 < n) × All (λ m. m < n) v.taken × (0 < v.stops → n ≤ v.sent) × (w ≡ took n v)
 Takes v Stop w = w ≡ at_stop v
 
--- weighed in any way, these numbers weigh no more than 1 to `count`: none of them is there twice, and no other
+-- weighed in any way, these numbers weigh no more than 1 to `count`: none of them is there twice,
+-- and no other
 abbrev pub OnceAtMost : ℕ → List ℕ → Type 0
 OnceAtMost count ns = (weight : ℕ → ℕ) → sum_by weight ns ≤ sum_by weight (range_with_len 1 count)
 
@@ -97,11 +103,13 @@ HasRoom tasks capacity = (tasks ≤ capacity) ⊎ (18446744073709551615 ≤ capa
 abbrev pub HasStops : ℕ → Pass Task Hold → Type 0
 HasStops stops pass = (view pass).stops ≡ stops
 
-module _ {Q M L A : Type 0} (queue : Rows (Badge (Key Task)) (Doing Task Hold) Q M (Key Task) L A) where
+module _ {Q M L A : Type 0}
+    (queue : Rows (Badge (Key Task)) (Doing Task Hold) Q M (Key Task) L A) where
   -- a worker's pass at its begin: it knows the number of jobs, and has taken none
   abbrev pub IsBegun : ℕ → Pass Task Hold → Type 0
   IsBegun count pass = IsSeatAt queue pass × IsFilled count (view pass) × ((view pass).taken ≡ [])
 
   -- a worker's pass at its stop, which has taken just these jobs
   abbrev pub IsEnded : Pass Task Hold → List ℕ → Type 0
-  IsEnded pass jobs = IsSeatAt queue pass × ((view pass).stopped ≡ true) × (jobs ≡ (view pass).taken)
+  IsEnded pass jobs = IsSeatAt queue pass × ((view pass).stopped ≡ true)
+      × (jobs ≡ (view pass).taken)

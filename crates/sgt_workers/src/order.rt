@@ -14,7 +14,8 @@ pub fn in_order(mut dones: Vec<Done>, jobs: u64) -> Result<Vec<Done>, PoolFault>
     requires { All (λ d. IsJob jobs d.job) dones.items }
     ensures same { IfOk result (λ v. IsPermutation dones.items v.items) }
     ensures jobs { IfOk result (λ v. jobs_of v.items ≡ range_with_len 1 jobs) }
-    ensures fault { IfErr result (λ f. (v : List Done) × IsPermutation dones.items v × IsTold jobs v f) }
+    ensures fault { IfErr result
+        (λ f. (v : List Done) × IsPermutation dones.items v × IsTold jobs v f) }
 {
     dones.sort_unstable_by_key(|done| done.job);
     each_once(&dones, jobs)?;

@@ -157,7 +157,8 @@ pub fn fill<R: Wait>(
     requires room { HasRoom (jobs + workers) (ruled_capacity (sends_on sender.now)) }
     ensures seat { IsSeatAt (sends_on sender.now) pass.new }
     ensures sent { OnOk result (view pass.new ≡ sender_of jobs workers) }
-    ensures unsent { OnErr result (((view pass.new).sent < jobs) ⊎ ((view pass.new).stops < workers)) }
+    ensures unsent { OnErr result
+        (((view pass.new).sent < jobs) ⊎ ((view pass.new).stops < workers)) }
 {
     send_jobs(rt, sender, pass, jobs)?;
     send_stops(rt, sender, pass, workers)
@@ -243,7 +244,8 @@ pub fn take_job<'a, C, R: Wait>(
     requires filled { IsFilled (length scripts.now) (view pass.old) }
     ensures seat { IsSeatAt (receives_on receiver.now) pass.new }
     ensures job { IfSome result (λ j. view pass.new ≡ took j.number (view pass.old)) }
-    ensures rising { IfSome result (λ j. (0 < j.number) × All (λ n. n < j.number) (view pass.old).taken) }
+    ensures rising { IfSome result
+        (λ j. (0 < j.number) × All (λ n. n < j.number) (view pass.old).taken) }
     ensures script { IfSome result (λ j. slice_get scripts.now (j.number - 1) ≡ Some j.script.now) }
     ensures stop { IfNone result (view pass.new ≡ at_stop (view pass.old)) }
 {

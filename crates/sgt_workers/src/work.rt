@@ -32,9 +32,11 @@ pub trait Work<S, C, E> {
     /// Runs the script of a job, in a state that no other worker has.
     fn work<R: Wait>(&self, rt: &R, state: &mut S, job: Job<&C>) -> Result<Done, E>
         ensures job { IfOk result (λ d. d.job ≡ job.entry.number) }
-        ensures answer { IfOk result (λ d. answers self.now job.entry.number job.entry.script.now d) }
+        ensures answer { IfOk result
+            (λ d. answers self.now job.entry.number job.entry.script.now d) }
         ensures fault { IfErr result (λ e. faults self.now e) }
-        ensures does { IfOk result (λ d. does self.now state.old job.entry.number job.entry.script.now d state.new) }
+        ensures does { IfOk result
+            (λ d. does self.now state.old job.entry.number job.entry.script.now d state.new) }
         ensures keeps { keeps state.old state.new };
 
     ghost keeps_same: { (s : S) → keeps s s };

@@ -38,11 +38,14 @@ pub fn run_worker<S: Drop, C, E: Drop, W: Work<S, C, E>, R: Wait>(
     work: &W,
 ) -> Result<Report<S>, PoolFail<E>>
     requires { IsBegun (receives_on receiver.now) (length scripts.now) kit.pass }
-    ensures taken { IfOk result (λ r. IsEnded (receives_on receiver.now) r.pass (jobs_of r.dones.items)) }
+    ensures taken { IfOk result
+        (λ r. IsEnded (receives_on receiver.now) r.pass (jobs_of r.dones.items)) }
     ensures keeps { IfOk result (λ r. W.keeps kit.state r.state) }
-    ensures answers { IfOk result (λ r. All (IsAnswer (W.answers work.now) scripts.now) r.dones.items) }
+    ensures answers { IfOk result
+        (λ r. All (IsAnswer (W.answers work.now) scripts.now) r.dones.items) }
     ensures rising { IfOk result (λ r. JobsRise r.dones.items) }
-    ensures runs { IfOk result (λ r. Runs (W.does work.now) scripts.now kit.state r.dones.items r.state) }
+    ensures runs { IfOk result
+        (λ r. Runs (W.does work.now) scripts.now kit.state r.dones.items r.state) }
     ensures fault { IfErr result (IsFault (W.faults work.now) (length scripts.now)) }
 {
     let Kit {
@@ -68,12 +71,15 @@ fn run_jobs<S, C, E: Drop, W: Work<S, C, E>, R: Wait>(
 ) -> Result<(), PoolFail<E>>
     requires pass { IsBegun (receives_on receiver.now) (length scripts.now) pass.old }
     requires dones { dones.old.items ≡ [] }
-    ensures taken { OnOk result (IsEnded (receives_on receiver.now) pass.new (jobs_of dones.new.items)) }
+    ensures taken { OnOk result
+        (IsEnded (receives_on receiver.now) pass.new (jobs_of dones.new.items)) }
     ensures keeps { W.keeps state.old state.new }
     ensures answers { All (IsAnswer (W.answers work.now) scripts.now) dones.new.items }
     ensures rising { JobsRise dones.new.items }
-    ensures runs { OnOk result (Runs (W.does work.now) scripts.now state.old dones.new.items state.new) }
-    ensures own { IfErr result (λ f. IsOwn f → Runs (W.does work.now) scripts.now state.old dones.new.items state.new) }
+    ensures runs { OnOk result
+        (Runs (W.does work.now) scripts.now state.old dones.new.items state.new) }
+    ensures own { IfErr result
+        (λ f. IsOwn f → Runs (W.does work.now) scripts.now state.old dones.new.items state.new) }
     ensures fault { IfErr result (IsFault (W.faults work.now) (length scripts.now)) }
 {
     for _ in rt.forever() {

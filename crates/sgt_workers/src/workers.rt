@@ -38,7 +38,8 @@ pub fn pool<
     requires { 0 < vec_len states }
     ensures jobs { IfOk result (λ r. jobs_of r.0.items ≡ range_with_len 1 (length scripts.now)) }
     ensures answers { IfOk result (λ r. All (IsAnswer (W.answers work.now) scripts.now) r.0.items) }
-    ensures shares { IfOk result (λ r. AreShared (W.does work.now) scripts.now states.items r.0.items r.1.items) }
+    ensures shares { IfOk result
+        (λ r. AreShared (W.does work.now) scripts.now states.items r.0.items r.1.items) }
     ensures states { IfOk result (λ r. AllZip W.keeps states.items r.1.items) }
     ensures fault { IfErr result (IsFault (W.faults work.now) (length scripts.now)) }
 {
@@ -84,7 +85,8 @@ fn run_all<
     ensures once { IfOk result (λ r. OnceAtMost (length scripts.now) (jobs_of r.0.items)) }
     ensures answers { IfOk result (λ r. All (IsAnswer (W.answers work.now) scripts.now) r.0.items) }
     ensures keeps { IfOk result (λ r. AllZip W.keeps states.items r.1.items) }
-    ensures shares { IfOk result (λ r. AreShared (W.does work.now) scripts.now states.items r.0.items r.1.items) }
+    ensures shares { IfOk result
+        (λ r. AreShared (W.does work.now) scripts.now states.items r.0.items r.1.items) }
     ensures fault { IfErr result (IsFault (W.faults work.now) (length scripts.now)) }
 {
     let workers = states.len();
@@ -111,7 +113,10 @@ fn make_kits<S: Drop>(
     requires { IsSeatAt (sends_on sender.now) pass.old }
     ensures seat { IsSeatAt (sends_on sender.now) pass.new × (view pass.new ≡ view pass.old) }
     ensures kits { IfOk result (λ v. AllZip (λ s k. k.state ≡ s) states.items v.items) }
-    ensures cut { IfOk result (λ v. All (λ k. IsSeatAt (sends_on sender.now) k.pass × (view k.pass ≡ newcomer (view pass.old))) v.items) }
+    ensures cut { IfOk result
+        (λ v. All (λ k.
+        IsSeatAt (sends_on sender.now) k.pass
+        × (view k.pass ≡ newcomer (view pass.old))) v.items) }
 {
     let mut kits = Vec::new(alloc);
     for state in states {
@@ -136,21 +141,36 @@ fn run_workers<
     scripts: &[C],
     work: &W,
 ) -> Result<Vec<Result<Report<S>, PoolFail<E>>>, AllocError>
-    requires begun { All (λ k. IsBegun (receives_on receiver.now) (length scripts.now) k.pass) kits.items }
+    requires begun { All
+        (λ k. IsBegun (receives_on receiver.now) (length scripts.now) k.pass) kits.items }
     requires stops { All (λ k. HasStops (vec_len kits) k.pass) kits.items }
-    ensures taken { IfOk result (λ v. All (λ e. IfOk e (λ r. IsEnded (receives_on receiver.now) r.pass (jobs_of r.dones.items))) v.items) }
-    ensures keeps { IfOk result (λ v. AllZip (λ k e. IfOk e (λ r. W.keeps k.state r.state)) kits.items v.items) }
-    ensures reports { IfOk result (λ v. AllZip (λ k e. IfOk e (IsReport (W.does work.now) scripts.now k.state)) kits.items v.items) }
-    ensures answers { IfOk result (λ v. All (λ e. IfOk e (λ r. All (IsAnswer (W.answers work.now) scripts.now) r.dones.items)) v.items) }
-    ensures fault { IfOk result (λ v. All (λ e. IfErr e (IsFault (W.faults work.now) (length scripts.now))) v.items) }
+    ensures taken { IfOk result
+        (λ v. All (λ e.
+        IfOk e (λ r. IsEnded (receives_on receiver.now) r.pass
+        (jobs_of r.dones.items))) v.items) }
+    ensures keeps { IfOk result
+        (λ v. AllZip (λ k e. IfOk e (λ r. W.keeps k.state r.state)) kits.items v.items) }
+    ensures reports { IfOk result
+        (λ v. AllZip (λ k e.
+        IfOk e (IsReport (W.does work.now) scripts.now k.state)) kits.items v.items) }
+    ensures answers { IfOk result
+        (λ v. All (λ e.
+        IfOk e (λ r. All
+        (IsAnswer (W.answers work.now) scripts.now) r.dones.items)) v.items) }
+    ensures fault { IfOk result
+        (λ v. All (λ e. IfErr e (IsFault (W.faults work.now) (length scripts.now))) v.items) }
 {
     let one = |kit: Kit<S>| -> Result<Report<S>, PoolFail<E>>
         requires { IsBegun (receives_on receiver.now) (length scripts.now) kit.pass }
-        ensures taken { IfOk result (λ r. IsEnded (receives_on receiver.entry.now) r.pass (jobs_of r.dones.items)) }
+        ensures taken { IfOk result
+            (λ r. IsEnded (receives_on receiver.entry.now) r.pass (jobs_of r.dones.items)) }
         ensures keeps { IfOk result (λ r. W.keeps kit.state r.state) }
-        ensures reports { IfOk result (IsReport (W.does work.entry.now) scripts.entry.now kit.state) }
-        ensures answers { IfOk result (λ r. All (IsAnswer (W.answers work.entry.now) scripts.entry.now) r.dones.items) }
-        ensures fault { IfErr result (IsFault (W.faults work.entry.now) (length scripts.entry.now)) }
+        ensures reports { IfOk result
+            (IsReport (W.does work.entry.now) scripts.entry.now kit.state) }
+        ensures answers { IfOk result
+            (λ r. All (IsAnswer (W.answers work.entry.now) scripts.entry.now) r.dones.items) }
+        ensures fault { IfErr result
+            (IsFault (W.faults work.entry.now) (length scripts.entry.now)) }
     { run_worker(rt, alloc, receiver, kit, scripts, work) };
     thread::map_vec(rt, kits, &one)
 }
@@ -191,12 +211,14 @@ fn collect<S: Drop>(
     reports: Vec<Report<S>>,
 ) -> Result<(Vec<Done>, Vec<S>), AllocError>
     requires pass { IsSeatAt (sends_on sender.now) pass.old × ((view pass.old).taken ≡ []) }
-    requires reports { All (λ w. IsEnded (sends_on sender.now) w.pass (jobs_of w.dones.items)) reports.items }
+    requires reports { All
+        (λ w. IsEnded (sends_on sender.now) w.pass (jobs_of w.dones.items)) reports.items }
     ensures seat { IsSeatAt (sends_on sender.now) pass.new }
     ensures dones { IfOk result (λ r. r.0.items ≡ flat_map (λ w. w.dones.items) reports.items) }
     ensures states { IfOk result (λ r. r.1.items ≡ map (λ w. w.state) reports.items) }
     ensures taken { IfOk result (λ r. (view pass.new).taken ≡ jobs_of r.0.items) }
-    ensures sent { ((view pass.new).sends ≡ (view pass.old).sends) × ((view pass.new).sent ≡ (view pass.old).sent) }
+    ensures sent { ((view pass.new).sends ≡ (view pass.old).sends)
+        × ((view pass.new).sent ≡ (view pass.old).sent) }
 {
     let mut all = Vec::new(alloc);
     let mut states = Vec::new(alloc);

@@ -14,7 +14,8 @@ abbrev pub IsComplete : Stage → Type 0
 IsComplete (complete second c before) = Unit {0}
 IsComplete _ = ⊥
 
--- at the end of the input, in the line of this number, with these bytes behind the last LF: all was read, or the least fault
+-- at the end of the input, in the line of this number, with these bytes behind the last LF: all was
+-- read, or the least fault
 abbrev pub EndsWith : Stage → List ℕ → ℕ → Result Kept FirstFault → Type 0
 EndsWith s l n (Ok k) = IsAt k s × IsComplete s × (l ≡ [])
 EndsWith s l n (Err first) = (first.line ≡ n) × Breaks (Rule s (last l)) first.fault

@@ -59,4 +59,5 @@ next_whole whole log _ = whole
 
 abbrev pub with_next : Begun → Option SiteLog → SectionLine → Begun
 with_next b None line = record b { current = Some no_log }
-with_next b (Some log) line = record b { whole = next_whole b.whole log line; current = next_current log line }
+with_next b (Some log) line =
+    record b { whole = next_whole b.whole log line; current = next_current log line }

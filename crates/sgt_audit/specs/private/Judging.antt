@@ -27,7 +27,8 @@ ContinuesBlock f line = IsOpen f → (e : Entry) × (line ≡ Line.Logged e) × 
 
 -- the line goes on with the block that is open at the end of the log, if one is
 abbrev pub ContinuesLog : SiteLog → SectionLine → Type 0
-ContinuesLog log line = (f : Entry) → log.finals ≡ [] → slice_get log.entries (length log.entries - 1) ≡ Some f → ContinuesBlock f line
+ContinuesLog log line = (f : Entry) → log.finals ≡ []
+    → slice_get log.entries (length log.entries - 1) ≡ Some f → ContinuesBlock f line
 
 -- the log is the one that these lines have open
 pub record HasOpen (before : List SectionLine) (log : SiteLog) : Type 0 where
@@ -35,10 +36,12 @@ pub record HasOpen (before : List SectionLine) (log : SiteLog) : Type 0 where
   pub entries : entries_in before ≡ log.entries
   pub last : (f : Entry) → last_or None before ≡ Some (Line.Logged f)
       → (log.finals ≡ []) × (slice_get log.entries (length log.entries - 1) ≡ Some f)
-  pub entry_last : (f : Entry) → log.finals ≡ [] → slice_get log.entries (length log.entries - 1) ≡ Some f
+  pub entry_last : (f : Entry) → log.finals ≡ []
+      → slice_get log.entries (length log.entries - 1) ≡ Some f
       → last_or None before ≡ Some (Line.Logged f)
 
--- what what is kept asks of a line: an entry's item is listed, and its transaction is decided as it says
+-- what what is kept asks of a line: an entry's item is listed, and its transaction is decided as it
+-- says
 abbrev pub AdmitsLine : List Decision → Option SiteLog → SectionLine → Type 0
 AdmitsLine decisions (Some log) (Line.Logged e) = ForSome (item_of e) (Contains (names log.items))
     × ((number : ℕ) × IsDecided decisions e number)

@@ -13,7 +13,8 @@ use Rattle.sgt_audit.specs.declared.known.Known.{Known}
 
 -- of an entry: the place of its item in the open section, and what is decided on its transaction
 pub record IsKnownOf (decisions : List Decision) (s : SiteState) (e : Entry) (k : Known) : Type 0 where
-  pub place : (items : List Holding) (entries : List Entry) → TracksOpen decisions items entries s → IsPlaceAmong (names items) e k.place
+  pub place : (items : List Holding) (entries : List Entry) → TracksOpen decisions items entries s
+      → IsPlaceAmong (names items) e k.place
   pub ruling : IsRulingOn decisions e k.ruling
 
 -- of a line: the same, if it is an entry

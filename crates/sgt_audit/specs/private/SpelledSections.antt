@@ -6,7 +6,8 @@ use Rattle.sgt_cert.specs.Text.{AreSections}
 use Rattle.sgt_audit.specs.Faults.{IsLineIn}
 use Rattle.sgt_audit.specs.Reading.{Begun, lines_read}
 
--- the bytes spell these lines, which are the sections of so many sites in the second format or the first
+-- the bytes spell these lines, which are the sections of so many sites in the second format or the
+-- first
 pub record SpellsSections (second : Bool) (sites : ℕ) (bytes : List ℕ) (lines : List SectionLine) : Type 0 where
   pub each : All (IsLineIn second) lines
   pub all : AreSections sites lines
@@ -15,9 +16,12 @@ pub record SpellsSections (second : Bool) (sites : ℕ) (bytes : List ℕ) (line
 -- the bytes spell these lines, or no sections at all
 abbrev pub AreSpelled : Bool → Bool → ℕ → List ℕ → List SectionLine → Type 0
 AreSpelled true second sites bytes lines = SpellsSections second sites bytes lines
-AreSpelled false second sites bytes lines = (others : List SectionLine) → SpellsSections second sites bytes others → ⊥
+AreSpelled false second sites bytes lines = (others : List SectionLine)
+    → SpellsSections second sites bytes others → ⊥
 
 -- these sections are what the bytes spell, or they spell none
 abbrev pub AnswersSections : Bool → ℕ → List ℕ → Option Begun → Type 0
-AnswersSections second sites bytes None = (lines : List SectionLine) → SpellsSections second sites bytes lines → ⊥
-AnswersSections second sites bytes (Some b) = (b.sites ≡ sites) × SpellsSections second sites bytes (lines_read b)
+AnswersSections second sites bytes None = (lines : List SectionLine)
+    → SpellsSections second sites bytes lines → ⊥
+AnswersSections second sites bytes (Some b) = (b.sites ≡ sites)
+    × SpellsSections second sites bytes (lines_read b)

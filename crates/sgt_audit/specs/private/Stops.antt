@@ -20,16 +20,19 @@ IsRest s None coming = ⊤
 IsRest s (Some bytes) None = ⊥
 IsRest s (Some bytes) (Some rest) = bytes ≡ text_of_lines (lines_so_far s) ++ rest
 
--- the machine stands at a stage of the text, this is the number of the next line, and there were no more reads than bytes
+-- the machine stands at a stage of the text, this is the number of the next line, and there were no
+-- more reads than bytes
 abbrev pub Goes : Option (List ℕ) → Progress → Option (List ℕ) → ℕ → ℕ → Type 0
-Goes told p coming n reads = (s : Stage) × Stands p s × IsRest s told coming × (n ≡ length (lines_so_far s) + 1)
+Goes told p coming n reads = (s : Stage) × Stands p s × IsRest s told coming
+    × (n ≡ length (lines_so_far s) + 1)
     × (reads ≤ length (text_of_lines (lines_so_far s)))
 
 -- the text has this first fault, and there were no more reads than bytes up to and with its line
 abbrev pub MeetsFault : List ℕ → ℕ → Fault → ℕ → Type 0
 MeetsFault bytes n f reads = (first : FirstFault bytes n f) × (reads ≤ reach bytes n f first)
 
--- a line of so many bytes with its LF stands at the front and was fed, and this is what it was answered with
+-- a line of so many bytes with its LF stands at the front and was fed, and this is what it was
+-- answered with
 pub record FedFront (old new : Kept) (held : List ℕ) (n : ℕ) (fault : Option Fault) : Type 0 where
   pub line : SectionLine
   pub is : IsLine line
@@ -37,18 +40,24 @@ pub record FedFront (old new : Kept) (held : List ℕ) (n : ℕ) (fault : Option
   pub front : take n held ≡ line_text line ++ 10 ∷ []
   pub follows : (s : Stage) → IsAt old s → Follows s (line_text line) (Reading new) fault
 
--- the lines that were held whole were fed: the machine stands behind them, or the last of them has the first fault of the text
-abbrev pub FedHeld : Option (List ℕ) → Option (List ℕ) → Progress → Ahead → (n reads : ℕ) → Option Fault → Type 0
+-- the lines that were held whole were fed: the machine stands behind them, or the last of them has
+-- the first fault of the text
+abbrev pub FedHeld : Option (List ℕ) → Option (List ℕ) → Progress → Ahead → (n reads : ℕ)
+    → Option Fault → Type 0
 FedHeld all told p ahead n reads None = Goes all p (coming ahead told) n reads
 FedHeld all told p ahead n reads (Some f) = IfSome all (λ bytes. MeetsFault bytes n f reads)
 
--- where reading stopped, with these bytes behind the last LF: at the first fault of the text that was told, or at its end,
+-- where reading stopped, with these bytes behind the last LF: at the first fault of the text that
+-- was told, or at its end,
 -- in the line of this number
-abbrev pub IsStop : Option (List ℕ) → Result ℕ found.FirstFault → Progress → List ℕ → (reads : ℕ) → Type 0
-IsStop told (Err first) p l reads = IfSome told (λ bytes. MeetsFault bytes first.line first.fault reads)
+abbrev pub IsStop : Option (List ℕ) → Result ℕ found.FirstFault → Progress → List ℕ → (reads : ℕ)
+    → Type 0
+IsStop told (Err first) p l reads =
+    IfSome told (λ bytes. MeetsFault bytes first.line first.fault reads)
 IsStop told (Ok n) p l reads = (s : Stage) × Stands p s × (length l ≤ limit_of s) × HasNoLf l
     × (reads ≤ length (text_of_lines (lines_so_far s)) + length l + 1)
-    × IfSome told (λ bytes. (bytes ≡ text_of_lines (lines_so_far s) ++ l) × (n ≡ length (lines_so_far s) + 1))
+    × IfSome told
+    (λ bytes. (bytes ≡ text_of_lines (lines_so_far s) ++ l) × (n ≡ length (lines_so_far s) + 1))
 
 -- what is kept is all of the lines of a text with no fault
 abbrev pub IsWhole : Kept → Type 0
@@ -56,5 +65,6 @@ IsWhole k = (s : Stage) × IsAt k s × IsComplete s
 
 -- the text has no fault, and is this; or it has this first fault
 abbrev pub IsJudged : Result Kept found.FirstFault → List ℕ → Type 0
-IsJudged (Ok k) bytes = (s : Stage) × IsAt k s × IsComplete s × (bytes ≡ text_of_lines (lines_so_far s))
+IsJudged (Ok k) bytes = (s : Stage) × IsAt k s × IsComplete s
+    × (bytes ≡ text_of_lines (lines_so_far s))
 IsJudged (Err first) bytes = FirstFault bytes first.line first.fault

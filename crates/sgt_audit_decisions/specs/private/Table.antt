@@ -16,11 +16,13 @@ placed_at (Sparse places) tx = get nat_cmp places tx
 
 -- the number of the decision on the transaction, and what that comes to
 abbrev pub IsPlacedOf : List Decision → ℕ → Placed ℕ → Type 0
-IsPlacedOf decisions tx p = (d : Decision) × (slice_get decisions p.number ≡ Some d) × (decided_tx d ≡ tx) × (outcome_of d ≡ p.outcome)
+IsPlacedOf decisions tx p = (d : Decision) × (slice_get decisions p.number ≡ Some d)
+    × (decided_tx d ≡ tx) × (outcome_of d ≡ p.outcome)
 
 -- so it is for each transaction that these decide, and for the others there is nothing
 abbrev pub ArePlacedOf : List Decision → (ℕ → Option (Placed ℕ)) → Type 0
-ArePlacedOf decisions places = (tx : ℕ) (p : Placed ℕ) → (places tx ≡ Some p) ↔ IsPlacedOf decisions tx p
+ArePlacedOf decisions places = (tx : ℕ) (p : Placed ℕ)
+    → (places tx ≡ Some p) ↔ IsPlacedOf decisions tx p
 
 abbrev pub IsTableOf : List Decision → Table → Type 0
 IsTableOf decisions table = ArePlacedOf decisions (placed_at table)

@@ -48,10 +48,14 @@ asking_with k e = record k { end = first_of k.end (asked_end e) }
 
 -- these are the transactions of the entries, each once, with the kind that it asks for first
 pub record AreAskings (entries : List Entry) (a : Askings) : Type 0 where
-  pub placed : (n : ℕ) (k : Asking) → slice_get a.list.items n ≡ Some k → get nat_cmp a.numbers k.tx ≡ Some n
-  pub found : (tx n : ℕ) → get nat_cmp a.numbers tx ≡ Some n → (k : Asking) × (slice_get a.list.items n ≡ Some k) × (k.tx ≡ tx)
-  pub ends : (n : ℕ) (k : Asking) → slice_get a.list.items n ≡ Some k → k.end ≡ first_end k.tx entries
-  pub all : (n : ℕ) (e : Entry) → slice_get entries n ≡ Some e → (number : ℕ) × (get nat_cmp a.numbers (tx_of e) ≡ Some number)
+  pub placed : (n : ℕ) (k : Asking) → slice_get a.list.items n ≡ Some k
+      → get nat_cmp a.numbers k.tx ≡ Some n
+  pub found : (tx n : ℕ) → get nat_cmp a.numbers tx ≡ Some n
+      → (k : Asking) × (slice_get a.list.items n ≡ Some k) × (k.tx ≡ tx)
+  pub ends : (n : ℕ) (k : Asking) → slice_get a.list.items n ≡ Some k
+      → k.end ≡ first_end k.tx entries
+  pub all : (n : ℕ) (e : Entry) → slice_get entries n ≡ Some e
+      → (number : ℕ) × (get nat_cmp a.numbers (tx_of e) ≡ Some number)
 
 -- a decision of the kind
 abbrev pub decision_with : ℕ → Option Asked → Decision
@@ -68,18 +72,23 @@ pub record AreInFront (second : Bool) (bytes : List ℕ) (lines : List SectionLi
   pub each : All (IsLineIn second) lines
   pub rest : List ℕ
   pub text : bytes ≡ text_of_lines (map line_text lines) ++ rest
-  pub no_more : (line : SectionLine) (more : List ℕ) → IsLineIn second line → rest ≡ line_text line ++ 10 ∷ more → ⊥
+  pub no_more : (line : SectionLine) (more : List ℕ) → IsLineIn second line
+      → rest ≡ line_text line ++ 10 ∷ more → ⊥
 
 abbrev pub IsAskedIn : Bool → List ℕ → Askings → Type 0
-IsAskedIn second bytes a = (lines : List SectionLine) × AreInFront second bytes lines × AreAskings (filter_map logged_in lines) a
+IsAskedIn second bytes a = (lines : List SectionLine) × AreInFront second bytes lines
+    × AreAskings (filter_map logged_in lines) a
 
--- the decision on the entry's transaction suits it, or an earlier entry of the transaction asks for another kind of end
+-- the decision on the entry's transaction suits it, or an earlier entry of the transaction asks for
+-- another kind of end
 abbrev pub AsksAsDecided : List Decision → List Entry → Entry → Type 0
-AsksAsDecided ds earlier e = ((number : ℕ) × IsDecided ds e number) ⊎ (All (λ f. tx_of f ≡ tx_of e → EndAlike f e) earlier → ⊥)
+AsksAsDecided ds earlier e = ((number : ℕ) × IsDecided ds e number)
+    ⊎ (All (λ f. tx_of f ≡ tx_of e → EndAlike f e) earlier → ⊥)
 
 -- so it is of each entry of these lines
 pub record AreDecidedAsAsked (second : Bool) (bytes : List ℕ) (ds : List Decision) : Type 0 where
   pub once : IsDecidedOnce ds
   pub lines : List SectionLine
   pub front : AreInFront second bytes lines
-  pub asks : (n : ℕ) (e : Entry) → slice_get (filter_map logged_in lines) n ≡ Some e → AsksAsDecided ds (take n (filter_map logged_in lines)) e
+  pub asks : (n : ℕ) (e : Entry) → slice_get (filter_map logged_in lines) n ≡ Some e
+      → AsksAsDecided ds (take n (filter_map logged_in lines)) e

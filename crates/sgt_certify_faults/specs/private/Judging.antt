@@ -16,9 +16,11 @@ abbrev pub IsJudged : (Fault → Type 0) → Option Fault → Type 0
 IsJudged rule None = (f : Fault) → rule f
 IsJudged rule (Some f) = Breaks rule f
 
--- the decisions suit the entry exactly where no earlier entry of its transaction asks for another kind of end
+-- the decisions suit the entry exactly where no earlier entry of its transaction asks for another
+-- kind of end
 abbrev pub TellsOdds : List Decision → List SectionLine → Entry → Type 0
-TellsOdds ds before e = ((number : ℕ) × IsDecided ds e number) ↔ All (λ f. tx_of f ≡ tx_of e → EndAlike f e) (filter_map logged_in before)
+TellsOdds ds before e = ((number : ℕ) × IsDecided ds e number)
+    ↔ All (λ f. tx_of f ≡ tx_of e → EndAlike f e) (filter_map logged_in before)
 
 abbrev pub TellsLineOdds : List Decision → List SectionLine → SectionLine → Type 0
 TellsLineOdds ds before (Logged e) = TellsOdds ds before e

@@ -12,7 +12,8 @@ use Rattle.sgt_audit.specs.declared.faults.Fault.{Fault}
 use Rattle.sgt_certify_faults.specs.Faults.{AreKept, RuleAlone, behind}
 use Rattle.sgt_certify_faults.specs.declared.reading.Reading.{Reading}
 
--- these sections stand in so many lines at the front of the bytes, none of which has a fault, and then comes the rest
+-- these sections stand in so many lines at the front of the bytes, none of which has a fault, and
+-- then comes the rest
 pub record IsReadTo (second : Bool) (bytes : List ℕ) (count : ℕ) (b : Begun) (rest : List ℕ) : Type 0 where
   pub begun : IsBegun b
   pub sites : b.sites ≡ max_sites
@@ -26,9 +27,14 @@ pub record HasRead (second : Bool) (ds : List Decision) (bytes : List ℕ) (coun
   pub read : IsReadTo second bytes count sections rest
   pub place : IsPlace sections r.place
   pub open_site : Tracks ds sections r.state
-  pub decided : All (λ e. (number : ℕ) × IsDecided ds e number) (filter_map logged_in (lines_read sections))
+  pub decided : All (λ e. (number : ℕ) × IsDecided ds e number)
+      (filter_map logged_in (lines_read sections))
 
 -- after a line with its LF: one more was read, or this is its least fault
-abbrev pub Follows : Bool → List Decision → List ℕ → ℕ → (old new : Reading) → (rest line more : List ℕ) → Option Fault → Type 0
-Follows second ds bytes count old new rest line more None = HasRead second ds bytes (count + 1) new more
-Follows second ds bytes count old new rest line more (Some f) = (b : Begun) × IsReadTo second bytes count b rest × Breaks (RuleAlone (behind second (lines_read b)) (whole line)) f
+abbrev pub Follows : Bool → List Decision → List ℕ → ℕ → (old new : Reading)
+    → (rest line more : List ℕ) → Option Fault → Type 0
+Follows second ds bytes count old new rest line more None =
+    HasRead second ds bytes (count + 1) new more
+Follows second ds bytes count old new rest line more (Some f) = (b : Begun)
+    × IsReadTo second bytes count b rest
+    × Breaks (RuleAlone (behind second (lines_read b)) (whole line)) f

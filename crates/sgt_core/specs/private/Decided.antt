@@ -1,4 +1,5 @@
--- A gathered transaction is decided: what the certifier is asked and answers, and what the step is afterwards.
+-- A gathered transaction is decided: what the certifier is asked and answers, and what the step is
+-- afterwards.
 use Rattle.std.specs.Prelude.{◌≡◌, ◌⊎◌, ℕ, List, [], Option, Some, None, slice_get, slice_set}
 use Rattle.sgt_edges.specs.declared.edge.Edge.{Edge}
 use Rattle.sgt_certifier.specs.Certifier.{State}
@@ -40,14 +41,17 @@ reply_after (verdict.Refused number walk) = No
 
 -- the certifier refuses no decision of the transaction at this place of the table with these edges
 abbrev pub MayRuleAt : State → List (Option Running) → ℕ → List Edge → Type 0
-MayRuleAt s table slot edges = (r : Running) → slice_get table slot ≡ Some (Some r) → IsAllowed s (decide r.handle edges)
+MayRuleAt s table slot edges = (r : Running) → slice_get table slot ≡ Some (Some r)
+    → IsAllowed s (decide r.handle edges)
 
--- the transaction at this place of the table is decided with these edges, and each of its installs can be noted
+-- the transaction at this place of the table is decided with these edges, and each of its installs
+-- can be noted
 pub record RulesAt (old new : Kept) (table : List (Option Running)) (slot : ℕ) (edges : List Edge) (decided : Decided) : Type 0 where
   pub running : Running
   pub runs : slice_get table slot ≡ Some (Some running)
   pub serves : Serves old.state (call.Decide running.handle edges decided) new.state
-  pub awaits : phase_after decided ≡ Committed → (s : ℕ) → AwaitsInstall new (tx_under old.state running.handle) running.draft.touched s
+  pub awaits : phase_after decided ≡ Committed → (s : ℕ)
+      → AwaitsInstall new (tx_under old.state running.handle) running.draft.touched s
 
 -- the transaction at this place of the table ends with its step
 pub record EndsAt (old new : Parts) (tx slot : ℕ) : Type 0 where

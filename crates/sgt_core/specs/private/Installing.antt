@@ -29,7 +29,8 @@ abbrev pub verdict_of : Option Open → Option Verdict
 verdict_of None = None
 verdict_of (Some o) = verdict_in o.phase
 
--- the block that ends a transaction decided so, and the transactions that are committed with it at its site
+-- the block that ends a transaction decided so, and the transactions that are committed with it at
+-- its site
 abbrev pub block_by : Verdict → ℕ → List (Name × Change) → List Entry
 block_by Committed tx changes = commit_block tx changes
 block_by Refused tx changes = refuse_block tx changes
@@ -60,7 +61,8 @@ pub record WritesAt (verdict : Verdict) (old new : List Place) (table : List (Op
   pub running : Running
   pub there : slice_get old site ≡ Some place
   pub runs : slice_get table slot ≡ Some (Some running)
-  pub is : new ≡ slice_set old site (record { site = ended_by verdict tx running place.site; part = Written })
+  pub is : new ≡ slice_set old site
+      (record { site = ended_by verdict tx running place.site; part = Written })
 
 -- the certifier takes the install of the transaction at this place of the table
 pub record AwaitsAt (certifier : Kept) (table : List (Option Running)) (site slot tx : ℕ) : Type 0 where
@@ -71,7 +73,8 @@ pub record AwaitsAt (certifier : Kept) (table : List (Option Running)) (site slo
 
 -- it has noted the install, if there is one
 abbrev pub IsNotedBy : Verdict → Kept → Kept → List (Option Running) → ℕ → ℕ → ℕ → Type 0
-IsNotedBy Committed old new table site slot tx = (running : Running) × (slice_get table slot ≡ Some (Some running))
+IsNotedBy Committed old new table site slot tx = (running : Running)
+    × (slice_get table slot ≡ Some (Some running))
     × Adds old (call.Installed tx site (changed_at running.draft.touched site)) new
 IsNotedBy Refused old new table site slot tx = new ≡ old
 
@@ -87,10 +90,16 @@ IsAtRest old new = new ≡ record old { part = Idle }
 
 pub record AreAtRest (old new : List Place) : Type 0 where
   pub long : length new ≡ length old
-  pub each : (k : ℕ) (p q : Place) → slice_get old k ≡ Some p → slice_get new k ≡ Some q → IsAtRest p q
+  pub each : (k : ℕ) (p q : Place) → slice_get old k ≡ Some p → slice_get new k ≡ Some q
+      → IsAtRest p q
 
 -- the step has ended, and its transaction with it
 pub record Ends (old new : Parts) (slot tx : ℕ) : Type 0 where
   pub serves : Serves old.certifier.state (call.Finish tx) new.certifier.state
   pub places : AreAtRest old.places new.places
-  pub is : new ≡ record old { places = new.places; certifier = new.certifier; table = slice_set old.table slot None; step = None }
+  pub is : new ≡ record old {
+    places = new.places;
+    certifier = new.certifier;
+    table = slice_set old.table slot None;
+    step = None;
+  }

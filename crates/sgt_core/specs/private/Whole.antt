@@ -1,4 +1,5 @@
--- A transaction is gathered wherever it touches, decided, and its blocks are written: what is so between the parts.
+-- A transaction is gathered wherever it touches, decided, and its blocks are written: what is so
+-- between the parts.
 use Rattle.std.specs.Prelude.{◌≡◌, ◌↔◌, ◌<◌, ◌≤◌, ℕ, Bool, true, List, [], ◌∷◌, length, map, filter, Contains, Some}
 use Rattle.std.specs.List.{range_with_len}
 use Rattle.sgt_names.specs.Draft.{Touches}
@@ -13,7 +14,8 @@ use Rattle.sgt_core.specs.Step.{IsOtherOpen, gathered_in, IsRefused, IsAllowed, 
 
 -- the sites below this number that are touched, rising
 abbrev pub AreTouched : List Touch → ℕ → List ℕ → Type 0
-AreTouched touched count sites = (p : ℕ → Bool) → ((s : ℕ) → (p s ≡ true) ↔ Touches touched s) → sites ≡ filter p (range_with_len 0 count)
+AreTouched touched count sites = (p : ℕ → Bool) → ((s : ℕ) → (p s ≡ true) ↔ Touches touched s)
+    → sites ≡ filter p (range_with_len 0 count)
 
 -- the transaction may be committed, and touches these sites
 pub record IsWhole (c : CoreState) (tx : ℕ) (sites : List ℕ) : Type 0 where
@@ -42,16 +44,20 @@ pub record IsBlockDue (c : CoreState) (tx s : ℕ) : Type 0 where
   pub touched : touches c tx s ≡ true
   pub due : c.due s ≡ [] → ⊥
 
--- its block is due at each of the sites, which are apart. Where there are none, its step may have ended
+-- its block is due at each of the sites, which are apart. Where there are none, its step may have
+-- ended
 abbrev pub AwaitsBlocks : CoreState → ℕ → List ℕ → Type 0
 AwaitsBlocks c tx [] = Unit {0}
-AwaitsBlocks c tx (s ∷ sites) = IsBlockDue c tx s × ((Contains sites s → ⊥) × AwaitsBlocks c tx sites)
+AwaitsBlocks c tx (s ∷ sites) = IsBlockDue c tx s
+    × ((Contains sites s → ⊥) × AwaitsBlocks c tx sites)
 
--- the transaction is gathered at each of its sites and decided. After a verdict its blocks are due there
+-- the transaction is gathered at each of its sites and decided. After a verdict its blocks are due
+-- there
 abbrev pub DecidesWhole : CoreState → ℕ → List ℕ → Reply → CoreState → Type 0
 DecidesWhole old tx sites (Fault f) new = MayDecide old tx (Fault f) new
 DecidesWhole old tx sites verdict new = MayDecide old tx verdict new × AwaitsBlocks new tx sites
 
 -- the blocks are written
 abbrev pub InstallsAll : CoreState → ℕ → List ℕ → CoreState → Type 0
-InstallsAll old tx sites new = ServesAll old (map (Install tx) sites) (map (λ s. Installed) sites) new
+InstallsAll old tx sites new =
+    ServesAll old (map (Install tx) sites) (map (λ s. Installed) sites) new

@@ -19,7 +19,8 @@ pub record IsOffered (tx : ℕ) (old new : Place) : Type 0 where
 
 pub record AreOffered (tx : ℕ) (old new : List Place) : Type 0 where
   pub long : length new ≡ length old
-  pub each : (k : ℕ) (p q : Place) → slice_get old k ≡ Some p → slice_get new k ≡ Some q → IsOffered tx p q
+  pub each : (k : ℕ) (p q : Place) → slice_get old k ≡ Some p → slice_get new k ≡ Some q
+      → IsOffered tx p q
 
 -- the pledge stands where the transaction touches the site, and else what stood before
 pub record IsPledgedBy (tx : ℕ) (touched : List Touch) (old new : Place) : Type 0 where
@@ -29,19 +30,27 @@ pub record IsPledgedBy (tx : ℕ) (touched : List Touch) (old new : Place) : Typ
 
 pub record ArePledgedBy (tx : ℕ) (touched : List Touch) (old new : List Place) : Type 0 where
   pub long : length new ≡ length old
-  pub each : (k : ℕ) (p q : Place) → slice_get old k ≡ Some p → slice_get new k ≡ Some q → IsPledgedBy tx touched p q
+  pub each : (k : ℕ) (p q : Place) → slice_get old k ≡ Some p → slice_get new k ≡ Some q
+      → IsPledgedBy tx touched p q
 
 -- the block is written where the pledge of the transaction stood
 pub record IsWithdrawn (tx : ℕ) (old new : Place) : Type 0 where
   pub pledged : IsPledged old.site tx
-      → new ≡ record old { site = record old.site { entries = old.site.entries ++ withdraw_block tx; pledge = None } }
+      → new ≡ record old {
+        site = record old.site {
+          entries = old.site.entries ++ withdraw_block tx;
+          pledge = None;
+        };
+      }
   pub other : (IsPledged old.site tx → ⊥) → new ≡ old
 
 pub record AreWithdrawn (tx : ℕ) (old new : List Place) : Type 0 where
   pub long : length new ≡ length old
-  pub each : (k : ℕ) (p q : Place) → slice_get old k ≡ Some p → slice_get new k ≡ Some q → IsWithdrawn tx p q
+  pub each : (k : ℕ) (p q : Place) → slice_get old k ≡ Some p → slice_get new k ≡ Some q
+      → IsWithdrawn tx p q
 
--- the pledge of the transaction at this place of the table, which has this handle, stands wherever it touches
+-- the pledge of the transaction at this place of the table, which has this handle, stands wherever
+-- it touches
 pub record OffersAt (old new : List Place) (table : List (Option Running)) (slot tx : ℕ) (handle : Handle) : Type 0 where
   pub running : Running
   pub there : slice_get table slot ≡ Some (Some running)
@@ -50,7 +59,8 @@ pub record OffersAt (old new : List Place) (table : List (Option Running)) (slot
 
 -- the certifier refuses no withdrawal of the transaction at this place of the table
 abbrev pub MayWithdrawAt : State → List (Option Running) → ℕ → Type 0
-MayWithdrawAt s table slot = (r : Running) → slice_get table slot ≡ Some (Some r) → IsAllowed s (withdraw r.handle)
+MayWithdrawAt s table slot = (r : Running) → slice_get table slot ≡ Some (Some r)
+    → IsAllowed s (withdraw r.handle)
 
 -- the transaction at this place of the table is withdrawn
 pub record WithdrawsAt (old new : Parts) (tx slot : ℕ) : Type 0 where
@@ -60,4 +70,8 @@ pub record WithdrawsAt (old new : Parts) (tx slot : ℕ) : Type 0 where
   pub places : AreWithdrawn tx pledged new.places
   pub number : ℕ
   pub adds : Adds old.certifier (call.Withdraw handle number) new.certifier
-  pub is : new ≡ record old { places = new.places; certifier = new.certifier; table = slice_set old.table slot None }
+  pub is : new ≡ record old {
+    places = new.places;
+    certifier = new.certifier;
+    table = slice_set old.table slot None;
+  }

@@ -17,16 +17,23 @@ use Rattle.sgt_edges.specs.declared.edge.Edge.{Edge}
 
 -- the item is at the site, and was read at a version that exceeds the site's
 abbrev pub IsTooNew : SiteState → Touch → Type 0
-IsTooNew s t = (t.site ≡ s.number) × ((seen : Seen) × (t.seen ≡ Some seen) × (version_at s.entries t.item < seen.version))
+IsTooNew s t = (t.site ≡ s.number)
+    × ((seen : Seen) × (t.seen ≡ Some seen) × (version_at s.entries t.item < seen.version))
 
 -- the edge is one to or from a neighbour
 abbrev pub IsNear : SiteState → List Touch → Handle → Edge → Type 0
-IsNear s touched me e = (e.label.site ≡ s.number) × (e.from ≢ e.to) × IsNeighbour s touched me e.label.item e.from e.to e.label.kind
+IsNear s touched me e = (e.label.site ≡ s.number) × (e.from ≢ e.to)
+    × IsNeighbour s touched me e.label.item e.from e.to e.label.kind
 
 -- the edge between two handles on the touched item, if they differ
 abbrev pub IsBetween : Touch → Kind → Handle → Handle → Edge → Type 0
 IsBetween t kind from to e =
-    (from ≢ to) × (e ≡ record { from = from; to = to; label = record { site = t.site; item = t.item; kind = kind } })
+    (from ≢ to) × (e
+    ≡ record {
+      from = from;
+      to = to;
+      label = record { site = t.site; item = t.item; kind = kind };
+    })
 
 -- the edges that are so were added, and no others
 abbrev pub AddsAll : (Edge → Type 0) → List Edge → List Edge → Type 0
@@ -55,35 +62,42 @@ FromReader t me r e = IsBetween t Rw r.handle me e
 
 -- these are the writers of the item, one for each version
 abbrev pub AreWriters : SiteState → Name → List Writer → Type 0
-AreWriters s x writers = (writers ≡ writers_of s.installed s.entries x) × (length writers ≡ version_at s.entries x)
+AreWriters s x writers = (writers ≡ writers_of s.installed s.entries x)
+    × (length writers ≡ version_at s.entries x)
 
--- so many of the writers, those at the front, are increments, and the next one writes, if there is one
+-- so many of the writers, those at the front, are increments, and the next one writes, if there is
+-- one
 pub record IsRunLength (ws : List Writer) (n : ℕ) : Type 0 where
   pub within : n ≤ length ws
   pub run : (k : ℕ) (w : Writer) → k < n → slice_get ws k ≡ Some w → w.increment ≡ true
   pub write : (w : Writer) → slice_get ws n ≡ Some w → w.increment ≡ false
 
--- a writer that a write has its edge from: one directly in front of it, but no increment where the present version was read
+-- a writer that a write has its edge from: one directly in front of it, but no increment where the
+-- present version was read
 abbrev pub IsBeforeWrite : SiteState → Name → ℕ → Writer → Type 0
 IsBeforeWrite s x k w =
     IsInFront s x (version_at s.entries x) k w
     × ((w.increment ≡ false) ⊎ IsUnread s x (version_at s.entries x) (suc (version_at s.entries x)))
 
--- the writers that a change has its edges from: for a write those in front of it, for an increment the last write
+-- the writers that a change has its edges from: for a write those in front of it, for an increment
+-- the last write
 abbrev pub ChangesBefore : SiteState → Name → Change → Writer → Type 0
 ChangesBefore s x (Put v) w = (k : ℕ) × IsBeforeWrite s x k w
 ChangesBefore s x (Add v) w = (k : ℕ) × IsLastWrite s x k w
 
--- and the readers: for a write those of the present version, for an increment the last ones since the last write
+-- and the readers: for a write those of the present version, for an increment the last ones since
+-- the last write
 abbrev pub ReadsBefore : SiteState → Name → Change → Reader → Type 0
 ReadsBefore s x (Put v) r = HasReader s x r × (r.version ≡ version_at s.entries x)
 ReadsBefore s x (Add v) r = IsLastReader s x r
 
--- the edges of a touched item's read: from the writers in front of its version, and to those behind it
+-- the edges of a touched item's read: from the writers in front of its version, and to those behind
+-- it
 pub record IsOfRead (s : SiteState) (t : Touch) (me : Handle) (e : Edge) : Type 0 where
   pub seen : Seen
   pub keeps : t.seen ≡ Some seen
-  pub which : ((w : Writer) × ((k : ℕ) × IsInFront s t.item seen.version k w) × FromWriter t Wr me w e)
+  pub which : ((w : Writer) × ((k : ℕ) × IsInFront s t.item seen.version k w)
+      × FromWriter t Wr me w e)
       ⊎ ((w : Writer) × ((k : ℕ) × IsBehind s t.item seen.version k w) × ToWriter t me w e)
 
 -- the edges of its change: from those writers and from those readers

@@ -22,11 +22,15 @@ edges_with dag h offered = dag.edges.items ++ in_window h offered
 -- the room and the space that an admission needs are there
 abbrev pub HasAllRoom : Dag → Vec Handle Global → Handle → List Edge → Type 0
 HasAllRoom dag next h offered =
-    HaveRoom dag next (vec_len dag.order + 1) (length (in_window h offered)) × HaveSpace dag.nodes (in_window h offered)
+    HaveRoom dag next (vec_len dag.order + 1) (length (in_window h offered))
+    × HaveSpace dag.nodes (in_window h offered)
 
 -- why h isn't admitted
 abbrev pub RefusesAdmission : Dag → Vec Handle Global → Handle → List Edge → Admit → Type 0
-RefusesAdmission dag next h offered (Cycle walk) = IsCycleThrough (edges_with dag h offered) dag.order.items h walk
-RefusesAdmission dag next h offered Stale = LeadsToOlder h offered × IsAcyclic (Joins (edges_with dag h offered))
+RefusesAdmission dag next h offered (Cycle walk) =
+    IsCycleThrough (edges_with dag h offered) dag.order.items h walk
+RefusesAdmission dag next h offered Stale = LeadsToOlder h offered
+    × IsAcyclic (Joins (edges_with dag h offered))
 RefusesAdmission dag next h offered Memory =
-    IsAcyclic (Joins (edges_with dag h offered)) → (LeadsToOlder h offered → ⊥) × (HasAllRoom dag next h offered → ⊥)
+    IsAcyclic (Joins (edges_with dag h offered))
+    → (LeadsToOlder h offered → ⊥) × (HasAllRoom dag next h offered → ⊥)

@@ -19,9 +19,11 @@ pub record SameNodes (old new : Arena Node) : Type 0 where
 pub record Widened (old new : Arena Node) : Type 0 where
   pub same : SameNodes old new
   pub wider : (h : Handle) (node : Node) → get new h ≡ Some node
-      → (was : Node) × (get old h ≡ Some was) × (was.out.capacity ≤ node.out.capacity) × (node.place ≡ was.place)
+      → (was : Node) × (get old h ≡ Some was) × (was.out.capacity ≤ node.out.capacity)
+      × (node.place ≡ was.place)
 
--- the node was told a place from first on, and stands there; or it kept its place, and stands at none from first on
+-- the node was told a place from first on, and stands there; or it kept its place, and stands at
+-- none from first on
 abbrev pub IsTold : ℕ → List Handle → Handle → Node → Node → Type 0
 IsTold first order h was node =
     ((p : ℕ) × (first ≤ p) × (slice_get order p ≡ Some h) × (node.place ≡ Some p))
@@ -33,15 +35,18 @@ pub record Renumbered (first : ℕ) (order : List Handle) (old new : Arena Node)
   pub told : (h : Handle) (node : Node) → get new h ≡ Some node
       → (was : Node) × (get old h ≡ Some was) × (node.out ≡ was.out) × IsTold first order h was node
 
--- one more member fits in the order, so many in the region's next order, and so many more edges among the edges
+-- one more member fits in the order, so many in the region's next order, and so many more edges
+-- among the edges
 abbrev pub HaveRoom : Dag → Vec Handle Global → ℕ → ℕ → Type 0
 HaveRoom dag next members more =
-    (members ≤ vec_capacity next) × (vec_len dag.order < vec_capacity dag.order) × (vec_len dag.edges + more ≤ vec_capacity dag.edges)
+    (members ≤ vec_capacity next) × (vec_len dag.order < vec_capacity dag.order)
+    × (vec_len dag.edges + more ≤ vec_capacity dag.edges)
 
 -- each node can list those of the added edges that come from it without taking memory
 abbrev pub HaveSpace : Arena Node → List Edge → Type 0
 HaveSpace nodes added =
-    (h : Handle) (node : Node) → get nodes h ≡ Some node → small_vec_len node.out + length (filter (leaves h) added) ≤ node.out.capacity
+    (h : Handle) (node : Node) → get nodes h ≡ Some node
+    → small_vec_len node.out + length (filter (leaves h) added) ≤ node.out.capacity
 
 -- the order and the edges stay, and there is no less room
 pub record KeepsRoom (old new : Dag) (next next' : Vec Handle Global) : Type 0 where

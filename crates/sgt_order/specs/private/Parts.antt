@@ -8,10 +8,12 @@ use Rattle.sgt_order.specs.declared.node.Node.{Node}
 use Rattle.sgt_order.specs.declared.dag.Dag.{Dag}
 use Rattle.sgt_order.specs.SerializationGraph.{StandsBefore, leaves}
 
--- the members of the order are of this window, no two are the same, and each edge leads from an earlier to a later one
+-- the members of the order are of this window, no two are the same, and each edge leads from an
+-- earlier to a later one
 pub record IsForward (generation : ℕ) (order : List Handle) (edges : List Edge) : Type 0 where
   pub window : (p : ℕ) (h : Handle) → slice_get order p ≡ Some h → h.generation ≡ generation
-  pub once : (p q : ℕ) (h : Handle) → slice_get order p ≡ Some h → slice_get order q ≡ Some h → p ≡ q
+  pub once : (p q : ℕ) (h : Handle) → slice_get order p ≡ Some h → slice_get order q ≡ Some h
+      → p ≡ q
   pub forward : (n : ℕ) (e : Edge) → slice_get edges n ≡ Some e → StandsBefore order e.from e.to
 
 -- the numbers of the edges that come from h, where the first of these edges has the number n
@@ -26,17 +28,20 @@ pub record ListsEdges (edges : List Edge) (h : Handle) (out : SmallVec ℕ) : Ty
 
 -- each node lists the edges that come from it
 abbrev pub Lists : Arena Node → List Edge → Type 0
-Lists nodes edges = (h : Handle) (node : Node) → get nodes h ≡ Some node → ListsEdges edges h node.out
+Lists nodes edges = (h : Handle) (node : Node) → get nodes h ≡ Some node
+    → ListsEdges edges h node.out
 
 -- each member of the order is a node, and each node lists its edges
 pub record Holds (nodes : Arena Node) (order : List Handle) (edges : List Edge) : Type 0 where
-  pub placed : (p : ℕ) (h : Handle) → slice_get order p ≡ Some h → (node : Node) × (get nodes h ≡ Some node)
+  pub placed : (p : ℕ) (h : Handle) → slice_get order p ≡ Some h
+      → (node : Node) × (get nodes h ≡ Some node)
   pub lists : Lists nodes edges
 
 -- each node tells where it stands in the order
 abbrev pub TellsPlaces : Arena Node → List Handle → Type 0
 TellsPlaces nodes order =
-    (h : Handle) (node : Node) → get nodes h ≡ Some node → (p : ℕ) → (node.place ≡ Some p) ↔ (slice_get order p ≡ Some h)
+    (h : Handle) (node : Node) → get nodes h ≡ Some node → (p : ℕ)
+    → (node.place ≡ Some p) ↔ (slice_get order p ≡ Some h)
 
 -- the nodes, the order and the edges fit together
 pub record FitTogether (nodes : Arena Node) (order : List Handle) (edges : List Edge) : Type 0 where

@@ -14,13 +14,16 @@ IsOpenRow row = length row.words.items ≡ 64
 
 -- the edges from the node with this index lead to nodes whose bits are set
 abbrev pub Covers : List Edge → ℕ → List ℕ → Type 0
-Covers edges k words = (n : ℕ) (e : Edge) → slice_get edges n ≡ Some e → e.from.index ≡ k → HasBit words e.to.index
+Covers edges k words = (n : ℕ) (e : Edge) → slice_get edges n ≡ Some e → e.from.index ≡ k
+    → HasBit words e.to.index
 
 -- each row that has its words covers the edges of its node
 abbrev pub RowsCover : List Row → List Edge → Type 0
-RowsCover rows edges = (k : ℕ) (row : Row) → slice_get rows k ≡ Some row → IsOpenRow row → Covers edges k row.words.items
+RowsCover rows edges = (k : ℕ) (row : Row) → slice_get rows k ≡ Some row → IsOpenRow row
+    → Covers edges k row.words.items
 
 -- the row at this place has its words, and each of their bits is among these
 abbrev pub IsAmong : List Row → ℕ → List ℕ → Type 0
 IsAmong rows k words =
-    (row : Row) × (slice_get rows k ≡ Some row) × IsOpenRow row × ((i : ℕ) → HasBit row.words.items i → HasBit words i)
+    (row : Row) × (slice_get rows k ≡ Some row) × IsOpenRow row
+    × ((i : ℕ) → HasBit row.words.items i → HasBit words i)

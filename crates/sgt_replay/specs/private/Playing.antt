@@ -15,21 +15,25 @@ use Rattle.sgt_replay.specs.private.Taking.{HaveLines, Takes}
 abbrev pub IsPlayed : Input → List SiteLine → Option Parts → List ℕ → Type 0
 IsPlayed input sites None text = (input.sites ≡ sites) × (input.events ≡ []) × (text ≡ [])
 IsPlayed input sites (Some core) text = (input.sites ≢ []) × (input.events ≢ [])
-    × (m : Parts) × StandsFor m (fresh (map (λ l. l.items) input.sites)) × WritesReplies m input.events core [] text
+    × (m : Parts) × StandsFor m (fresh (map (λ l. l.items) input.sites))
+    × WritesReplies m input.events core [] text
 
 -- these are the lines of an input that was played so
 abbrev pub HasPlayed : List SiteLine → Option Parts → List ℕ → List (List ℕ) → Type 0
-HasPlayed sites core text lines = (input : Input) × HaveLines input lines × IsPlayed input sites core text
+HasPlayed sites core text lines = (input : Input) × HaveLines input lines
+    × IsPlayed input sites core text
 
 -- the line goes on with the input, which is played so, or may not stand there
 abbrev pub PlaysOn : Input → List ℕ → List SiteLine → Option Parts → List ℕ → Bool → Type 0
-PlaysOn old line sites core text true = (new : Input) × Takes old line new true × IsPlayed new sites core text
+PlaysOn old line sites core text true = (new : Input) × Takes old line new true
+    × IsPlayed new sites core text
 PlaysOn old line sites core text false = Takes old line old false
 
 -- the line spells an event, whose reply is written, or none
 abbrev pub AnswersEvent : Parts → List ℕ → Parts → (text written : List ℕ) → Bool → Type 0
 AnswersEvent old line new text written true =
-    (e : EventLine) × IsEventLine e × (line ≡ event_text e) × WritesReplies old (e ∷ []) new text written
+    (e : EventLine) × IsEventLine e × (line ≡ event_text e)
+    × WritesReplies old (e ∷ []) new text written
 AnswersEvent old line new text written false = SpellsNone IsEventLine event_text line
 
 -- a core can be opened over these sites

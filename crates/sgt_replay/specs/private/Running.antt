@@ -11,7 +11,8 @@ use Rattle.sgt_replay.specs.Reply.{reply_lines}
 
 -- the core answers a line
 abbrev pub AnswersLine : Parts → EventLine → Reply → Parts → Type 0
-AnswersLine old line reply new = GoesOn (λ c d. MayAnswer c line reply d) old new × (IsMemory reply → ⊥)
+AnswersLine old line reply new = GoesOn (λ c d. MayAnswer c line reply d) old new
+    × (IsMemory reply → ⊥)
 
 -- the lines are answered so, and the replies are written
 pub record RepliesSo (c : CoreState) (lines : List EventLine) (d : CoreState) (text written : List ℕ) : Type 0 where

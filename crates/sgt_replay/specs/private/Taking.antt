@@ -13,7 +13,8 @@ HaveLines input lines = HasLines IsBegun input_lines input lines
 
 -- the line spells an event, which is kept, or none
 abbrev pub TakesEvent : List EventLine → List ℕ → List EventLine → Bool → Type 0
-TakesEvent old line new true = (e : EventLine) × IsEventLine e × (line ≡ event_text e) × (new ≡ old ++ e ∷ [])
+TakesEvent old line new true = (e : EventLine) × IsEventLine e × (line ≡ event_text e)
+    × (new ≡ old ++ e ∷ [])
 TakesEvent old line new false = SpellsNone IsEventLine event_text line × (new ≡ old)
 
 -- the line goes on with the input, or may not stand there

@@ -16,7 +16,8 @@ IsRising items = AllPairs ComesBefore (names items)
 
 -- the store of these lists of items with their values, one of each site
 abbrev pub store_of : List (List Holding) → Store
-store_of values s x = option_and_then (λ (items : List Holding). value_in items x) (slice_get values s)
+store_of values s x =
+    option_and_then (λ (items : List Holding). value_in items x) (slice_get values s)
 
 -- the change is of this item
 abbrev pub is_of : ℕ → Name → SiteChange → Bool

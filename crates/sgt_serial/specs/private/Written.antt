@@ -31,9 +31,11 @@ text_of_change tx e = text_of_lines (map (change_line tx) (filter_map change_by 
 abbrev pub with_lf : List ℕ → List ℕ
 with_lf line = line ++ 10 ∷ []
 
--- of the bytes that were held back, and these behind them, some were written, and the others are held back
+-- of the bytes that were held back, and these behind them, some were written, and the others are
+-- held back
 abbrev pub PassesOn : (old new : Option (List ℕ)) → (held bytes left : List ℕ) → Type 0
-PassesOn old new held bytes left = (front : List ℕ) × Appends old new front × (held ++ bytes ≡ front ++ left)
+PassesOn old new held bytes left = (front : List ℕ) × Appends old new front
+    × (held ++ bytes ≡ front ++ left)
 
 -- all that the writing of the bundle's run needs
 pub record IsPlanOf (b : Parts) (most : ℕ) (p : Plan) : Type 0 where

@@ -12,11 +12,14 @@ use Rattle.sgt_service.specs.Input.{IsBegun, IsScriptOver, input_lines, max_scri
 abbrev pub HaveLines : Input → List (List ℕ) → Type 0
 HaveLines input lines = HasLines IsBegun input_lines input lines
 
--- the line spells a script over the sites, which is kept, or none; or there are as many as there may be
+-- the line spells a script over the sites, which is kept, or none; or there are as many as there
+-- may be
 abbrev pub TakesScript : List SiteLine → List Script → List ℕ → List Script → Bool → Type 0
 TakesScript sites old line new true =
-    (s : Script) × IsScriptOver sites s × (line ≡ script_text s) × (new ≡ old ++ s ∷ []) × (length new ≤ max_scripts)
-TakesScript sites old line new false = (SpellsNone (IsScriptOver sites) script_text line ⊎ (max_scripts ≤ length old)) × (new ≡ old)
+    (s : Script) × IsScriptOver sites s × (line ≡ script_text s) × (new ≡ old ++ s ∷ [])
+    × (length new ≤ max_scripts)
+TakesScript sites old line new false =
+    (SpellsNone (IsScriptOver sites) script_text line ⊎ (max_scripts ≤ length old)) × (new ≡ old)
 
 -- the line goes on with the input, or may not stand there
 abbrev pub Takes : Input → List ℕ → Input → Bool → Type 0

@@ -26,12 +26,14 @@ IsActOn log x a = (slice_get log a.place ≡ Some a.entry) × (item_of a.entry �
 
 -- at the place of each item stand the operations of the log on it, and no others
 abbrev pub AreActs : List Holding → List Entry → List (Vec Act Global) → Type 0
-AreActs items log acts = (at : ℕ) (x : Name) (row : Vec Act Global) → IsItemAt items x at → slice_get acts at ≡ Some row
+AreActs items log acts = (at : ℕ) (x : Name) (row : Vec Act Global) → IsItemAt items x at
+    → slice_get acts at ≡ Some row
     → (a : Act) → Contains row.items a ↔ IsActOn log x a
 
 -- those of an item in the order of their transactions
 abbrev pub AreByActor : List (Vec Act Global) → Type 0
-AreByActor acts = (at : ℕ) (row : Vec Act Global) → slice_get acts at ≡ Some row → IsNonDecreasingBy actor row.items
+AreByActor acts = (at : ℕ) (row : Vec Act Global) → slice_get acts at ≡ Some row
+    → IsNonDecreasingBy actor row.items
 
 -- one row was put in the order of its transactions
 pub record IsSortedAt (old : List (Vec Act Global)) (at : ℕ) (new : List (Vec Act Global)) : Type 0 where

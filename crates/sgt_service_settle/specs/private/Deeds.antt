@@ -10,12 +10,14 @@ use Rattle.sgt_service_settle.specs.declared.deeds.Track.{Track}
 use Rattle.sgt_service_settle.specs.private.Words.{IsItemAt}
 use Rattle.sgt_service_settle.specs.private.Index.{IsIn}
 
--- the operation at this place, by a transaction that the decision of this number commits, where the item has this version
+-- the operation at this place, by a transaction that the decision of this number commits, where the
+-- item has this version
 abbrev pub deed_of : Entry → ℕ → ℕ → ℕ → Deed
 deed_of e number place version =
     record { tx = tx_of e; number = number; place = place; version = version; read = is_read e; increment = is_increment e }
 
--- the one comes before the item's next version: a change before the version that it makes, a read no later than the version that it met
+-- the one comes before the item's next version: a change before the version that it makes, a read
+-- no later than the version that it met
 pub record IsBefore (d : Deed) (version : ℕ) : Type 0 where
   pub read : d.read ≡ true → d.version ≤ version
   pub change : d.read ≡ false → d.version < version
@@ -30,7 +32,8 @@ pub record IsTrack (place : ℕ) (t : Track) : Type 0 where
   pub sound : (d : Deed) → Contains t.deeds.items d → IsSound d
   pub placed : (d : Deed) → Contains t.deeds.items d → d.place < place
   pub before : (d : Deed) → Contains t.deeds.items d → IsBefore d t.version
-  pub ordered : (d e : Deed) → Contains t.deeds.items d → Contains t.deeds.items e → d.place < e.place → IsBefore d e.version
+  pub ordered : (d e : Deed) → Contains t.deeds.items d → Contains t.deeds.items e
+      → d.place < e.place → IsBefore d e.version
 
 -- the deed of an operation is in the track of its item
 pub record IsTracked (tracks : List Track) (at : ℕ) (e : Entry) (number place : ℕ) : Type 0 where
@@ -43,8 +46,10 @@ pub record IsTracked (tracks : List Track) (at : ℕ) (e : Entry) (number place 
 pub record AreTracks (commits : List (Option ℕ)) (items : List Holding) (log : List Entry) (place : ℕ) (tracks : List Track)
     : Type 0 where
   pub each : (at : ℕ) (t : Track) → slice_get tracks at ≡ Some t → IsTrack place t
-  pub all : (q number at : ℕ) (e : Entry) (x : Name) → q < place → slice_get log q ≡ Some e → item_of e ≡ Some x
+  pub all : (q number at : ℕ) (e : Entry) (x : Name) → q < place → slice_get log q ≡ Some e
+      → item_of e ≡ Some x
       → IsIn commits (tx_of e) number → IsItemAt items x at → IsTracked tracks at e number q
 
 abbrev pub AreBare : List Track → Type 0
-AreBare tracks = (at : ℕ) (t : Track) → slice_get tracks at ≡ Some t → (t.deeds.items ≡ []) × (t.version ≡ 0)
+AreBare tracks = (at : ℕ) (t : Track) → slice_get tracks at ≡ Some t
+    → (t.deeds.items ≡ []) × (t.version ≡ 0)

@@ -32,7 +32,8 @@ abbrev pub IsIn : List (Option ℕ) → ℕ → ℕ → Type 0
 IsIn commits tx number = slice_get commits tx ≡ Some (Some number)
 
 abbrev pub AreCommits : List Ruling → List (Option ℕ) → Type 0
-AreCommits rulings commits = (tx number : ℕ) → IsIn commits tx number ↔ IsCommittedBy rulings tx number
+AreCommits rulings commits = (tx number : ℕ)
+    → IsIn commits tx number ↔ IsCommittedBy rulings tx number
 
 -- the committed transaction under the handle
 abbrev pub IsEnd : List (Vec ℕ Global) → List (Option ℕ) → Handle → ℕ → Type 0
@@ -47,7 +48,8 @@ pub record IsLinkOf (windows : List (Vec ℕ Global)) (commits : List (Option �
 
 abbrev pub AreLinks : List (Vec ℕ Global) → List (Option ℕ) → List Handed → List Link → Type 0
 AreLinks windows commits handed links =
-    (l : Link) → Contains links l ↔ ((h : Handed) × Contains handed h × IsLinkOf windows commits h l)
+    (l : Link) → Contains links l
+    ↔ ((h : Handed) × Contains handed h × IsLinkOf windows commits h l)
 
 -- the edges that count, as the history tells them
 abbrev pub CarriesBy : List Call → List Ruling → Cut → ℕ → ℕ → Type 0
@@ -57,9 +59,12 @@ CarriesBy history rulings cut a b = Carries history rulings cut.site cut.item cu
 pub record IsPaired (index : Index) : Type 0 where
   pub out : length index.out.items ≡ length index.commits.items
   pub back : length index.back.items ≡ length index.commits.items
-  pub within : (cut : Cut) (a b : ℕ) → InRows index.out.items cut a b → (a < length index.commits.items) × (b < length index.commits.items)
-  pub links : (cut : Cut) (a b : ℕ) → LinksBy index.links.items cut a b → InRows index.out.items cut a b
-  pub turned : (cut : Cut) (a b : ℕ) → InRows index.back.items cut b a ↔ InRows index.out.items cut a b
+  pub within : (cut : Cut) (a b : ℕ) → InRows index.out.items cut a b
+      → (a < length index.commits.items) × (b < length index.commits.items)
+  pub links : (cut : Cut) (a b : ℕ) → LinksBy index.links.items cut a b
+      → InRows index.out.items cut a b
+  pub turned : (cut : Cut) (a b : ℕ)
+      → InRows index.back.items cut b a ↔ InRows index.out.items cut a b
 
 -- the index is that of the history
 pub record IsIndex (history : List Call) (rulings : List Ruling) (index : Index) : Type 0 where
@@ -74,7 +79,8 @@ pub record IsIndex (history : List Call) (rulings : List Ruling) (index : Index)
 -- the edge is a conflict of the log
 abbrev pub IsLoggedBy : List (Vec ℕ Global) → List Entry → Edge → Type 0
 IsLoggedBy windows log e =
-    (a : ℕ) × (b : ℕ) × Names windows e.from a × Names windows e.to b × Conflicts log e.label.kind e.label.item a b
+    (a : ℕ) × (b : ℕ) × Names windows e.from a × Names windows e.to b
+    × Conflicts log e.label.kind e.label.item a b
 
 -- each conflict of the log between committed transactions is carried
 abbrev pub AreCarried : Index → ℕ → List Entry → Type 0
@@ -89,18 +95,23 @@ pub record IsDue (commits : List (Option ℕ)) (e f : Entry) (last : ℕ) : Type
   pub commit : IsIn commits (tx_of f) number
   pub early : number ≤ last
 
--- where the entry at p and the other at q conflict, this holds of the earlier and the later transaction's side
+-- where the entry at p and the other at q conflict, this holds of the earlier and the later
+-- transaction's side
 pub record IsSided (Before After : Type 0) (x : Name) (p q : ℕ) (e f : Entry) : Type 0 where
   pub before : q < p → (kind : Kind) → Clash kind x f e → Before
   pub after : p ≤ q → (kind : Kind) → Clash kind x e f → After
 
 -- the conflicts of the entry at p with those that are due have their marks
-abbrev pub AllSided : List Entry → List (Option ℕ) → Cut → ℕ → Entry → List Bool → List Bool → Type 0
-AllSided log commits cut p e forward backward = (q : ℕ) (f : Entry) → slice_get log q ≡ Some f → IsDue commits e f cut.last →
+abbrev pub AllSided : List Entry → List (Option ℕ) → Cut → ℕ → Entry → List Bool → List Bool
+    → Type 0
+AllSided log commits cut p e forward backward = (q : ℕ) (f : Entry) → slice_get log q ≡ Some f
+    → IsDue commits e f cut.last →
     IsSided (IsMarked backward (tx_of f)) (IsMarked forward (tx_of f)) cut.item p q e f
 
 -- they are carried
 abbrev pub IsPlaceCarried : Index → List Entry → Cut → ℕ → Entry → Type 0
-IsPlaceCarried index log cut p e = (q : ℕ) (f : Entry) → slice_get log q ≡ Some f → IsDue index.commits.items e f cut.last →
-    IsSided (Reaches (InRows index.out.items cut) (tx_of f) (tx_of e)) (Reaches (InRows index.out.items cut) (tx_of e) (tx_of f))
+IsPlaceCarried index log cut p e = (q : ℕ) (f : Entry) → slice_get log q ≡ Some f
+    → IsDue index.commits.items e f cut.last →
+    IsSided (Reaches (InRows index.out.items cut) (tx_of f) (tx_of e))
+    (Reaches (InRows index.out.items cut) (tx_of e) (tx_of f))
     cut.item p q e f

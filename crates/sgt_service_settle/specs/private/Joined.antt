@@ -11,11 +11,13 @@ use Rattle.sgt_service_settle.specs.private.Deeds.{IsBefore}
 
 -- at the place of each item stand edges on it at the site, of these links
 abbrev pub AreItemLinks : List Link → ℕ → List Holding → List (Vec Link Global) → Type 0
-AreItemLinks links site items rows = (at n : ℕ) (l : Link) → At rows at n l → Contains links l × (l.label.site ≡ site) × IsItemAt items l.label.item at
+AreItemLinks links site items rows = (at n : ℕ) (l : Link) → At rows at n l
+    → Contains links l × (l.label.site ≡ site) × IsItemAt items l.label.item at
 
 -- an edge that was handed to a decision of at most this number leads from a to b
 abbrev pub IsHanded : List Link → ℕ → ℕ → ℕ → Type 0
-IsHanded links last a b = (l : Link) × Contains links l × (l.from ≡ a) × (l.to ≡ b) × (l.number ≤ last)
+IsHanded links last a b = (l : Link) × Contains links l × (l.from ≡ a) × (l.to ≡ b)
+    × (l.number ≤ last)
 
 -- they are one transaction, or such edges lead from a to b
 abbrev pub GetsTo : List Link → ℕ → ℕ → ℕ → Type 0
@@ -29,7 +31,8 @@ pub record Precedes (d e : Deed) : Type 0 where
 
 -- edges carry the conflicts of the deeds, each handed until both were decided
 abbrev pub AreDeedsCarried : List Link → List Deed → Type 0
-AreDeedsCarried links deeds = (d e : Deed) → Contains deeds d → Contains deeds e → Precedes d e → GetsTo links (max d.number e.number) d.tx e.tx
+AreDeedsCarried links deeds = (d e : Deed) → Contains deeds d → Contains deeds e → Precedes d e
+    → GetsTo links (max d.number e.number) d.tx e.tx
 
 -- ---- marks
 

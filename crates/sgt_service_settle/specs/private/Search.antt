@@ -37,7 +37,8 @@ pub record Passes (cut : Cut) (label : Label) (number : ℕ) : Type 0 where
 
 -- an edge of the row that passes leads to k
 abbrev pub IsTarget : List Arc → Cut → ℕ → Type 0
-IsTarget row cut k = (n : ℕ) × (arc : Arc) × (slice_get row n ≡ Some arc) × (arc.to ≡ k) × Passes cut arc.label arc.number
+IsTarget row cut k = (n : ℕ) × (arc : Arc) × (slice_get row n ≡ Some arc) × (arc.to ≡ k)
+    × Passes cut arc.label arc.number
 
 -- the edges of the row that pass lead to transactions of these numbers
 abbrev pub AreWithin : List Arc → Cut → ℕ → Type 0
@@ -45,7 +46,8 @@ AreWithin row cut all = (k : ℕ) → IsTarget row cut k → k < all
 
 -- an edge of the rows that passes leads from a to b
 abbrev pub InRows : List (Vec Arc Global) → Cut → ℕ → ℕ → Type 0
-InRows rows cut a b = (row : Vec Arc Global) × (slice_get rows a ≡ Some row) × IsTarget row.items cut b
+InRows rows cut a b = (row : Vec Arc Global) × (slice_get rows a ≡ Some row)
+    × IsTarget row.items cut b
 
 abbrev pub AreRowsWithin : List (Vec Arc Global) → Cut → Type 0
 AreRowsWithin rows cut = (a b : ℕ) → InRows rows cut a b → b < length rows
@@ -57,7 +59,8 @@ Hold rows R = (cut : Cut) (a b : ℕ) → InRows rows cut a b ↔ R cut a b
 -- the rows got one more edge
 abbrev pub Adds : List (Vec Arc Global) → ℕ → Arc → List (Vec Arc Global) → Type 0
 Adds old from arc new = (cut : Cut) (a b : ℕ) →
-    InRows new cut a b ↔ (InRows old cut a b ⊎ ((from ≡ a) × (arc.to ≡ b) × Passes cut arc.label arc.number))
+    InRows new cut a b
+    ↔ (InRows old cut a b ⊎ ((from ≡ a) × (arc.to ≡ b) × Passes cut arc.label arc.number))
 
 -- the marks tell whom the transaction reaches
 abbrev pub Told : List (Vec Arc Global) → Cut → ℕ → List Bool → Type 0
@@ -66,7 +69,8 @@ Told rows cut start marks = (k : ℕ) → IsMarked marks k ↔ Reaches (InRows r
 -- a link that passes leads from a to b
 abbrev pub LinksBy : List Link → Cut → ℕ → ℕ → Type 0
 LinksBy links cut a b =
-    (n : ℕ) × (l : Link) × (slice_get links n ≡ Some l) × (l.from ≡ a) × (l.to ≡ b) × Passes cut l.label l.number
+    (n : ℕ) × (l : Link) × (slice_get links n ≡ Some l) × (l.from ≡ a) × (l.to ≡ b)
+    × Passes cut l.label l.number
 
 abbrev pub AreEnds : List Link → ℕ → Type 0
 AreEnds links all = (n : ℕ) (l : Link) → slice_get links n ≡ Some l → (l.from < all) × (l.to < all)

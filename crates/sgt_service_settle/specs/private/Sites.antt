@@ -11,9 +11,11 @@ use Rattle.sgt_service_settle.specs.private.Index.{IsLoggedBy, AreCarried}
 
 -- each edge on the site is a conflict of its log
 abbrev pub AreLogged : List (Vec ℕ Global) → List Handed → ℕ → List Entry → Type 0
-AreLogged windows handed site log = (h : Handed) → Contains handed h → h.edge.label.site ≡ site → IsLoggedBy windows log h.edge
+AreLogged windows handed site log = (h : Handed) → Contains handed h → h.edge.label.site ≡ site
+    → IsLoggedBy windows log h.edge
 
--- the log of the site has the counted entries, and its conflicts are those that the decisions were handed
+-- the log of the site has the counted entries, and its conflicts are those that the decisions were
+-- handed
 pub record IsLogFit (index : Index) (site : ℕ) (counts : EntryCounts) (log : List Entry) : Type 0 where
   pub counted : AreEntriesCounted counts log
   pub edges : AreLogged index.windows.items index.handed.items site log
@@ -25,4 +27,5 @@ IsSiteFit index site counts s = (s.number ≡ site) × IsLogFit index site count
 
 abbrev pub IsFitAt : Index → List SiteState → List EntryCounts → ℕ → Type 0
 IsFitAt index sites counts k =
-    (s : SiteState) (c : EntryCounts) → slice_get sites k ≡ Some s → slice_get counts k ≡ Some c → IsSiteFit index k c s
+    (s : SiteState) (c : EntryCounts) → slice_get sites k ≡ Some s → slice_get counts k ≡ Some c
+    → IsSiteFit index k c s

@@ -24,14 +24,17 @@ is_decision _ = false
 
 -- the ticket tells the call's decision, where so many transactions were begun before the window
 abbrev pub IsToldBy : Ticket → ℕ → Call → Type 0
-IsToldBy t before (call.Decide h edges reply) = (t.tx ≡ tx_at before h) × (t.verdict ≡ ending_of reply)
+IsToldBy t before (call.Decide h edges reply) = (t.tx ≡ tx_at before h)
+    × (t.verdict ≡ ending_of reply)
 IsToldBy t before (call.Withdraw h number) = (t.tx ≡ tx_at before h) × (t.verdict ≡ Withdrawn)
 IsToldBy t before _ = ⊥
 
 -- the decision of a call, where so many transactions were begun before the window
 abbrev pub verdict_of : ℕ → Call → Option Verdict
-verdict_of before (call.Decide h edges reply) = Some (record { before = before; handle = h; ending = ending_of reply })
-verdict_of before (call.Withdraw h number) = Some (record { before = before; handle = h; ending = Withdrawn })
+verdict_of before (call.Decide h edges reply) =
+    Some (record { before = before; handle = h; ending = ending_of reply })
+verdict_of before (call.Withdraw h number) =
+    Some (record { before = before; handle = h; ending = Withdrawn })
 verdict_of before _ = None
 
 -- the ticket has the transaction and the ending of the decision
@@ -40,11 +43,13 @@ TellsVerdict t v = (t.tx ≡ tx_at v.before v.handle) × (t.verdict ≡ v.ending
 
 -- each decision of the table is that of its number
 abbrev pub AreVerdicts : List Ruling → List Verdict → Type 0
-AreVerdicts rulings verdicts = (t : Ticket) (v : Verdict) → slice_get verdicts t.number ≡ Some v → IsGood rulings t ↔ TellsVerdict t v
+AreVerdicts rulings verdicts = (t : Ticket) (v : Verdict) → slice_get verdicts t.number ≡ Some v
+    → IsGood rulings t ↔ TellsVerdict t v
 
 -- the table has at each number how many tickets have it, 2 standing for more
 abbrev pub AreTallies : List ℕ → List Ticket → Type 0
-AreTallies tallies tickets = (k tally : ℕ) → slice_get tallies k ≡ Some tally → tally ≡ min 2 (count_of k tickets)
+AreTallies tallies tickets = (k tally : ℕ) → slice_get tallies k ≡ Some tally
+    → tally ≡ min 2 (count_of k tickets)
 
 -- no decision of the history has the ticket's number, transaction and verdict
 abbrev pub IsStray : List Call → Ticket → Type 0

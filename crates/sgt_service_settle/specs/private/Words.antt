@@ -12,7 +12,8 @@ with_number number e = record { edge = e; number = number }
 
 -- the element stands at this place of this row
 abbrev pub At : {T : Type 0} → List (Vec T Global) → ℕ → ℕ → T → Type 0
-At {T} rows k n x = (row : Vec T Global) × (slice_get rows k ≡ Some row) × (slice_get row.items n ≡ Some x)
+At {T} rows k n x = (row : Vec T Global) × (slice_get rows k ≡ Some row)
+    × (slice_get row.items n ≡ Some x)
 
 -- the row of this number got one more element
 pub record Pushed {T : Type 0} (old : List (Vec T Global)) (k : ℕ) (x : T) (new : List (Vec T Global)) : Type 0 where

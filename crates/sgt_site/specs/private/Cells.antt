@@ -19,7 +19,8 @@ use Rattle.sgt_site.specs.declared.cell.Writer.{Writer}
 use Rattle.sgt_site.specs.declared.cell.Reader.{Reader}
 use Rattle.sgt_site.specs.declared.readings.Reading.{Reading}
 
--- what is kept of an item: its present value, its writers, its committed readers, its reads by whomever, and how many more
+-- what is kept of an item: its present value, its writers, its committed readers, its reads by
+-- whomever, and how many more
 -- writers and readers fit
 pub record Contents : Type 0 where
   pub item : Name
@@ -120,7 +121,8 @@ HasItem cells x = Contains (items_of cells) x
 
 -- the transaction's read of the item is in the cells, and was answered so
 abbrev pub InCells : List Contents → ℕ → Name → Seen → Type 0
-InCells cells tx x seen = Any (λ c. (c.item ≡ x) × Contains c.readings (record { tx = tx; seen = seen })) cells
+InCells cells tx x seen =
+    Any (λ c. (c.item ≡ x) × Contains c.readings (record { tx = tx; seen = seen })) cells
 
 -- a read of the item of the site is kept
 abbrev pub KeepsItem : List Touch → ℕ → Name → Type 0
@@ -148,12 +150,15 @@ seen_in touch = option_and_then (λ t. t.seen) touch
 
 -- the writer that a change makes
 abbrev pub noted_writers : Install → Option Change → List Writer
-noted_writers i change = option_to_list (option_map (λ c. record { tx = i.tx; handle = i.handle; increment = adds c }) change)
+noted_writers i change =
+    option_to_list
+    (option_map (λ c. record { tx = i.tx; handle = i.handle; increment = adds c }) change)
 
 -- a kept read makes a reader, somewhere among the others
 abbrev pub AddsReader : Install → Option Seen → List Reader → List Reader → Type 0
 AddsReader i None old new = new ≡ old
-AddsReader i (Some s) old new = (n : ℕ) × (new ≡ insert old n (record { tx = i.tx; handle = i.handle; version = s.version }))
+AddsReader i (Some s) old new = (n : ℕ)
+    × (new ≡ insert old n (record { tx = i.tx; handle = i.handle; version = s.version }))
 
 -- the new cell is the old one after the commit, which touches its item so
 pub record IsNoted (i : Install) (touch : Option Touch) (old new : Contents) : Type 0 where

@@ -19,7 +19,8 @@ pub record IsCell (items : List Holding) (installed : List Install) (entries : L
   pub writers : c.writers ≡ writers_of installed entries c.item
   pub readers : (r : Reader) → Contains c.readers r ↔ IsReader installed entries c.item r
   pub readers_once : AllPairs (λ a b. a.tx ≢ b.tx) c.readers
-  pub readings : (m : Reading) → Contains c.readings m ↔ LogsRead entries m.tx c.item m.seen.value m.seen.version
+  pub readings : (m : Reading)
+      → Contains c.readings m ↔ LogsRead entries m.tx c.item m.seen.value m.seen.version
 
 -- how many more entries, handles and ended transactions fit
 pub record Spare : Type 0 where

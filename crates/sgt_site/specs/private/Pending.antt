@@ -26,4 +26,5 @@ AreSame old new = (t : ℕ) → items_by new t ≡ items_by old t
 
 -- kept are the reads in the log whose transactions have no end there
 abbrev pub ArePending : Pending → List Entry → Type 0
-ArePending pending entries = (tx : ℕ) (x : Name) → Contains (items_by pending tx) x ↔ (HasRead entries tx x × (HasEnded entries tx → ⊥))
+ArePending pending entries = (tx : ℕ) (x : Name)
+    → Contains (items_by pending tx) x ↔ (HasRead entries tx x × (HasEnded entries tx → ⊥))

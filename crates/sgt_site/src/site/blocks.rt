@@ -25,7 +25,8 @@ impl Site {
     /// of newer versions move by a place.
     pub fn install(&mut self, tx: Tx, handle: Handle, draft: &Draft) -> Result<(), SiteFault>
         ensures ok { OnOk result (self.new ≡ record self.old {
-          entries = self.old.entries ++ commit_block tx (writing_in (at_site self.old.number draft.now.touched));
+          entries = self.old.entries
+              ++ commit_block tx (writing_in (at_site self.old.number draft.now.touched));
           installed = self.old.installed ++ record { tx = tx; handle = handle } ∷ [];
           pledge = None;
         }) }
@@ -54,7 +55,8 @@ impl Site {
     /// - S5: no pledge of the transaction stands, or the draft reads or writes otherwise here than the one that was pledged.
     pub fn refuse(&mut self, tx: Tx, draft: &Draft) -> Result<(), SiteFault>
         ensures ok { OnOk result (self.new ≡ record self.old {
-          entries = self.old.entries ++ refuse_block tx (writing_in (at_site self.old.number draft.now.touched));
+          entries = self.old.entries
+              ++ refuse_block tx (writing_in (at_site self.old.number draft.now.touched));
           pledge = None;
         }) }
         ensures err { OnErr result (self.new ≡ self.old) }
@@ -97,7 +99,8 @@ fn same_touch(a: &Touch, b: &Touch) -> bool
 // Logs the writes and increments.
 fn log_changes(log: &mut Vec<Entry>, tx: Tx, part: &[Touch])
     requires { vec_len log.old + length part.now ≤ vec_capacity log.old }
-    ensures entries { log.new.items ≡ log.old.items ++ map (λ c. change_entry tx c.0 c.1) (writing_in part.now) }
+    ensures entries { log.new.items
+        ≡ log.old.items ++ map (λ c. change_entry tx c.0 c.1) (writing_in part.now) }
     ensures len { vec_len log.new ≤ vec_len log.old + length part.now }
     ensures capacity { vec_capacity log.new ≡ vec_capacity log.old }
 {
@@ -120,7 +123,8 @@ fn change_of(tx: Tx, item: Item, change: Change) -> Entry
 // Logs what was asked for.
 fn log_wants(log: &mut Vec<Entry>, tx: Tx, part: &[Touch])
     requires { vec_len log.old + length part.now ≤ vec_capacity log.old }
-    ensures entries { log.new.items ≡ log.old.items ++ map (λ c. want_entry tx c.0 c.1) (writing_in part.now) }
+    ensures entries { log.new.items
+        ≡ log.old.items ++ map (λ c. want_entry tx c.0 c.1) (writing_in part.now) }
     ensures len { vec_len log.new ≤ vec_len log.old + length part.now }
     ensures capacity { vec_capacity log.new ≡ vec_capacity log.old }
 {

@@ -101,7 +101,8 @@ impl Site {
 
 // Whether each item that the draft changes at the site is there.
 fn changes_known(cells: &Cells, number: SiteNo, touched: &[Touch]) -> bool
-    ensures { IsTrue result ↔ All (λ t. t.site ≡ number → IsSome t.change → HasItem cells.now t.item) touched.now }
+    ensures { IsTrue result
+        ↔ All (λ t. t.site ≡ number → IsSome t.change → HasItem cells.now t.item) touched.now }
 {
     for t in touched {
         if !is_known(cells, number, t) {
@@ -113,7 +114,8 @@ fn changes_known(cells: &Cells, number: SiteNo, touched: &[Touch]) -> bool
 
 // Whether the item is there, if the draft changes it at the site.
 fn is_known(cells: &Cells, number: SiteNo, touch: &Touch) -> bool
-    ensures { IsTrue result ↔ (touch.now.site ≡ number → IsSome touch.now.change → HasItem cells.now touch.now.item) }
+    ensures { IsTrue result
+        ↔ (touch.now.site ≡ number → IsSome touch.now.change → HasItem cells.now touch.now.item) }
 {
     match touch.change {
         Some(_) if touch.site == number => cells.has(touch.item),
@@ -124,9 +126,11 @@ fn is_known(cells: &Cells, number: SiteNo, touch: &Touch) -> bool
 // Whether the draft's reads at the site are those of the transaction.
 fn keeps_reads(cells: &Cells, pending: &Pending, tx: Tx, number: SiteNo, touched: &[Touch]) -> bool
     requires rising { AreRising touched.now }
-    ensures logged { IsTrue result → All (λ t. t.site ≡ number → ForSome t.seen (InCells cells.now tx t.item)) touched.now }
+    ensures logged { IsTrue result
+        → All (λ t. t.site ≡ number → ForSome t.seen (InCells cells.now tx t.item)) touched.now }
     ensures kept { IsTrue result → All (KeepsItem touched.now number) (items_by pending.now tx) }
-    ensures differs { All (λ t. t.site ≡ number → ForSome t.seen (InCells cells.now tx t.item)) touched.now
+    ensures differs { All
+        (λ t. t.site ≡ number → ForSome t.seen (InCells cells.now tx t.item)) touched.now
         → All (KeepsItem touched.now number) (items_by pending.now tx) → IsTrue result }
 {
     all_logged(cells, tx, number, touched) && all_kept(pending.items_of(tx), number, touched)
@@ -134,7 +138,8 @@ fn keeps_reads(cells: &Cells, pending: &Pending, tx: Tx, number: SiteNo, touched
 
 // Whether each read that the draft keeps at the site is the transaction's.
 fn all_logged(cells: &Cells, tx: Tx, number: SiteNo, touched: &[Touch]) -> bool
-    ensures { IsTrue result ↔ All (λ t. t.site ≡ number → ForSome t.seen (InCells cells.now tx t.item)) touched.now }
+    ensures { IsTrue result
+        ↔ All (λ t. t.site ≡ number → ForSome t.seen (InCells cells.now tx t.item)) touched.now }
 {
     for t in touched {
         if !is_logged(cells, tx, number, t) {
@@ -146,7 +151,8 @@ fn all_logged(cells: &Cells, tx: Tx, number: SiteNo, touched: &[Touch]) -> bool
 
 // Whether the read is the transaction's, if the draft keeps one at the site.
 fn is_logged(cells: &Cells, tx: Tx, number: SiteNo, touch: &Touch) -> bool
-    ensures { IsTrue result ↔ (touch.now.site ≡ number → ForSome touch.now.seen (InCells cells.now tx touch.now.item)) }
+    ensures { IsTrue result
+        ↔ (touch.now.site ≡ number → ForSome touch.now.seen (InCells cells.now tx touch.now.item)) }
 {
     match touch.seen {
         Some(seen) if touch.site == number => is_same(cells.seen_by(tx, touch.item), seen),
@@ -189,7 +195,8 @@ fn make_rooms(
     part: &[Touch],
 ) -> bool
     ensures log { (log.new.items ≡ log.old.items) × (vec_len log.new ≡ vec_len log.old) }
-    ensures installed { (installed.new.items ≡ installed.old.items) × (vec_len installed.new ≡ vec_len installed.old) }
+    ensures installed { (installed.new.items ≡ installed.old.items)
+        × (vec_len installed.new ≡ vec_len installed.old) }
     ensures ended { (ended.new.items ≡ ended.old.items) × (vec_len ended.new ≡ vec_len ended.old) }
     ensures log_room { IsTrue result → vec_len log.old + length part.now < vec_capacity log.new }
     ensures installed_room { IsTrue result → vec_len installed.old < vec_capacity installed.new }

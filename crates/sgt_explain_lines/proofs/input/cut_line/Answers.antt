@@ -1,4 +1,4 @@
-use Rattle.std.proofs.Common.{◌+◌, ◌∙◌, sym, take, drop}
+use Rattle.std.proofs.Common.{◌+◌, ◌∙◌, take, drop}
 use Rattle.std.proofs.lemmas.List.{take_rest}
 use Rattle.sgt_notation.proofs.Unspelled.{never}
 use Rattle.sgt_explain_lines.proofs.Numbering.{line-cut}

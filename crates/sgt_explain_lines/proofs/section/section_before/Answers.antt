@@ -1,4 +1,4 @@
-use Rattle.std.proofs.Common.{◌≡◌, ℕ, List, ◌+◌, ◌-◌, ◌≤◌, ◌∷◌, ◌++◌, length, map, take, drop, sym, ap, ◌∙◌, subst, arith, take_all}
+use Rattle.std.proofs.Common.{◌≡◌, List, ◌+◌, ◌-◌, ◌≤◌, ◌∷◌, ◌++◌, length, map, take, drop, sym, ap, ◌∙◌, subst, arith, take_all}
 use Rattle.std.proofs.lemmas.List.{length-take-le}
 use Rattle.sgt_names.proofs.Lists.{take_next}
 use Rattle.sgt_notation.specs.Spelling.{line_text, text_of_lines}

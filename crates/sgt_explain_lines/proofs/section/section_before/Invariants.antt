@@ -1,4 +1,4 @@
-use Rattle.std.proofs.Common.{◌≡◌, ℕ, List, ◌∷◌, ◌++◌, ◌-◌, take, drop, map}
+use Rattle.std.proofs.Common.{◌≡◌, List, ◌∷◌, ◌++◌, ◌-◌, take, drop, map}
 use Rattle.sgt_notation.specs.Spelling.{line_text, text_of_lines}
 use Rattle.sgt_notation.specs.declared.SectionLine.{SectionLine}
 use Rattle.sgt_explain_lines.specs.Numbered.{HasLine, IsSectionOf}

@@ -1,4 +1,4 @@
-use Rattle.std.proofs.Common.{◌++◌, codes, get_or, refl, take, arith, ap, ◌∙◌, append_assoc}
+use Rattle.std.proofs.Common.{◌++◌, codes, get_or, take, arith, ap, ◌∙◌, append_assoc}
 use Rattle.std.specs.Prelude.{string_bytes}
 use Rattle.std.proofs.lemmas.Option.{slice_get-get_or}
 use Rattle.sgt_explain_lines.specs.Told.{shown_bytes}

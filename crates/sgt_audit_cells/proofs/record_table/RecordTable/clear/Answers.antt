@@ -5,6 +5,7 @@ use Rattle.std.proofs.lemmas.List.{length-map}
 use Rattle.sgt_names.proofs.Lists.{All-map, All-from_map}
 use Rattle.sgt_audit_cells.specs.Records.{Record}
 use Rattle.sgt_audit_cells.specs.private.Linked.{record_of}
+use Rattle.sgt_audit_cells.proofs.Rows.{no-rows}
 use Rattle.sgt_audit_cells.proofs.record_table.RecordTable.clear.Goals as goal
 
 pub returns-clause-length : goal.returns-clause-length
@@ -25,4 +26,5 @@ invariant_of-self c =
       λ i n at. absurd (none-some n (ap (λ ns. slice_get ns i) (sym none) ∙ at)),
       λ k d lt. let le = c.self.invariant.1 k d lt in let total = c.self.invariant.2 in omega (arith, le, total, c.saturating_add-self-inside.ensures, c.len.ensures, t.nodes.ok.0),
       (let zero_long = ap length none in let total = c.self.invariant.2 in omega (arith, zero_long, total, c.saturating_add-self-inside.ensures, c.len.ensures, t.nodes.ok.0)),
+      no-rows _ _ c.clear-2.ensures.items,
     )
