@@ -21,8 +21,13 @@ PARTS = ("proofs", "tests", "edits")
 UNIT = "sgt_names"
 
 
+def words_of(pid):
+    with open(f"/proc/{pid}/cmdline", "rb") as file:
+        return file.read().decode("utf-8", "replace").split("\0")
+
+
 def look(seen, top):
-    """Notes the time of each prover that descends from the command."""
+    """Notes the time of each prover that descends from the command, and of the kernel that a prover starts."""
     parents, stats = {}, {}
     for pid in filter(str.isdigit, os.listdir("/proc")):
         try:
@@ -37,12 +42,13 @@ def look(seen, top):
             above = pid
             while above not in ("0", top):
                 above = parents.get(above, "0")
-            if not stat.split("(", 1)[1].startswith("rattle") or above != top:
+            if not stat.split("(", 1)[1].startswith(("rattle", "antt")) or above != top:
                 continue
             key = (pid, fields[19])
             if key not in seen:
-                with open(f"/proc/{pid}/cmdline", "rb") as file:
-                    words = file.read().decode("utf-8", "replace").split("\0")
+                words = words_of(pid)
+                if "--crate-name" not in words:
+                    words = words_of(parents[pid])
                 seen[key] = [words, os.readlink(f"/proc/{pid}/cwd"), 0.0]
             seen[key][2] = (int(fields[11]) + int(fields[12])) / TICKS
         except (OSError, ValueError):
