@@ -1,6 +1,6 @@
 #!/usr/bin/env python3
 """Looks over the pages: links, anchors, paths and names of definitions that lead nowhere, pages that are too long, and
-commands, options and statuses that a page lacks of the code's, or has beyond them. With a built program it runs each
+commands, options, statuses and counts that a page lacks of the code's, or has beyond them. With a built program it runs each
 command that stands behind a `$ ` in a block, and compares what it prints with what stands below it.
 
 usage: check_pages.py [PROGRAM]        (at the top of a checkout; the status is 1 if anything was found)
@@ -150,6 +150,17 @@ def more_words():
         yield f"docs/sgt.bash: nothing of {word}"
 
 
+def other_counts():
+    """What PROOFS.md says of how many functions ask something, and how many lines the headline rests on."""
+    told = [int(number.replace(",", "")) for number in re.findall(r"\b\d[\d,]*\b", text_of("docs/PROOFS.md"))]
+    for program in ("count_requires", "count_headline"):
+        ran = subprocess.run([sys.executable, f"bench/{program}.py"], capture_output=True, text=True, check=True)
+        numbers = re.findall(r"\d+", ran.stdout.splitlines()[-1])
+        for number in numbers if program == "count_requires" else numbers[:1]:
+            if int(number) not in told:
+                yield f"docs/PROOFS.md: {program}.py counts {number}"
+
+
 def shown_commands():
     """Of each block with commands: its page, and each command with what is shown below it."""
     for page in PAGES:
@@ -183,7 +194,7 @@ def other_outputs(program):
 def main():
     if len(sys.argv) > 2:
         sys.exit(__doc__)
-    found = [*dead_links(), *dead_paths(), *long_pages(), *missing_words(), *more_words(), *(other_outputs(sys.argv[1]) if len(sys.argv) > 1 else ())]
+    found = [*dead_links(), *dead_paths(), *long_pages(), *missing_words(), *more_words(), *other_counts(), *(other_outputs(sys.argv[1]) if len(sys.argv) > 1 else ())]
     print("\n".join([*found, f"{len(PAGES)} pages, {len(found)} found"]))
     sys.exit(bool(found))
 
