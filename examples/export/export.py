@@ -4,7 +4,8 @@
     export.py LOG.jsonl [NAMES.json] > LOGS
 
 LOG.jsonl has an event a line, in the order in which the events took effect; docs/EXPORT.md says what the events are. NAMES.json gets
-what the names, numbers and values of the text stand for. Status 1 and a message: the log has something that the text can't hold.
+what the names, numbers and values of the text stand for, and the line of the log that each entry of the text came from. Status 1 and a
+message: the log has something that the text can't hold.
 """
 import json
 import re
@@ -51,9 +52,9 @@ class Log:
 
     def __init__(self):
         self.initial, self.now, self.final = {}, {}, {}
-        self.entries = []  # (letter, transaction, item or None, value)
+        self.entries = []  # (letter, transaction, item or None, value, line of the log)
         self.reads = {}  # (transaction, item): how often the item had been changed, and the value
-        self.asked = {}  # transaction: {item: (letter, value)}
+        self.asked = {}  # transaction: {item: (letter, value, line of the log)}
         self.changes = {}  # item: how often it was changed
         self.ended, self.live = set(), set()
 
@@ -66,9 +67,9 @@ class Log:
         if item not in self.initial:
             self.initial[item] = self.now[item] = value
 
-    def read(self, tx, item, value):
+    def read(self, tx, item, value, line):
         if item in self.asked.get(tx, {}):
-            letter, own = self.asked[tx][item]
+            letter, own, _ = self.asked[tx][item]
             if value != (own if letter == "w" else (self.now[item] + own) % 2**64):
                 raise Bad("a read of %s that isn't what the transaction's own change left" % item)
             return  # its own change, which nobody else could see
@@ -79,42 +80,43 @@ class Log:
             return
         self.meet(item, value)
         self.reads[tx, item] = (self.changes.get(item, 0), value)
-        self.entries.append(("r", tx, item, value))
+        self.entries.append(("r", tx, item, value, line))
 
-    def change(self, tx, item, letter, value):
+    def change(self, tx, item, letter, value, line):
         self.meet(item, 0)
         asked = self.asked.setdefault(tx, {})
         if letter == "d" and item in asked:
             letter, value = asked[item][0], (asked[item][1] + value) % 2**64
-        asked[item] = (letter, value)
+        asked[item] = (letter, value, line)
 
-    def end(self, tx, how):
+    def end(self, tx, how, end_line):
         asked = self.asked.pop(tx, {})
         if how != "a":
-            for item, (letter, value) in sorted(asked.items()):
+            for item, (letter, value, line) in sorted(asked.items()):
                 if how == "c":
                     self.changes[item] = self.changes.get(item, 0) + 1
                     self.now[item] = value if letter == "w" else (self.now[item] + value) % 2**64
-                self.entries.append((letter if how == "c" else {"w": "p", "d": "q"}[letter], tx, item, value))
-        self.entries.append((how, tx, None, 0))
+                self.entries.append((letter if how == "c" else {"w": "p", "d": "q"}[letter], tx, item, value, line))
+        self.entries.append((how, tx, None, 0, end_line))
         self.ended.add(tx)
 
     def take(self, tx, event, codes):
         if tx in self.ended:
             raise Bad("an event of a transaction behind its end here")
         self.live.add(tx)
+        line = event["line"]
         if "read" in event:
-            self.read(tx, event["read"], codes.number(event["value"]))
+            self.read(tx, event["read"], codes.number(event["value"]), line)
         elif "write" in event:
-            self.change(tx, event["write"], "w", codes.number(event["value"]))
+            self.change(tx, event["write"], "w", codes.number(event["value"]), line)
         elif "add" in event:
             if not codes.plain:
                 raise Bad("an increment beside values that are no whole numbers below 2^64")
             if type(event["value"]) is not int or event["value"] < 0:
                 raise Bad("an increment by what is no whole number from 0 on")
-            self.change(tx, event["add"], "d", event["value"])
+            self.change(tx, event["add"], "d", event["value"], line)
         elif event.get("end") in LETTERS:
-            self.end(tx, LETTERS[event["end"]])
+            self.end(tx, LETTERS[event["end"]], line)
         else:
             raise Bad("an end that is none of commit, abort and refuse")
 
@@ -130,7 +132,15 @@ def checked(event):
         raise Bad("a transaction's event has tx and one of read, write, add and end, and no other has any of these")
     if not acts and "items" not in event and "final" not in event:
         raise Bad("an event with neither tx, items nor final")
-    return event
+    if type(event.get("at", 0)) not in (int, float):
+        raise Bad("an \"at\" that is no number")
+    for key in ("items", "final"):
+        if not isinstance(event.get(key, {}), dict):
+            raise Bad("%s are an object of names and values" % key)
+    for key in ("site", "tx", "read", "write", "add", "end"):
+        if key in event and not isinstance(event[key], (str, int)):
+            raise Bad("a %s that is neither a string nor a number" % key)
+    return {key: str(value) if key in ("site", "read", "write", "add") else value for key, value in event.items()}
 
 
 def logs_of(events, codes):
@@ -139,7 +149,8 @@ def logs_of(events, codes):
     timed = {"at" in event for event in events if "tx" in event}
     if len(timed) > 1:
         raise Bad("some events of transactions have an \"at\" and some have none")
-    for number, event in enumerate(sorted(events, key=lambda e: e.get("at", 0)), 1):
+    for event in sorted(events, key=lambda e: e.get("at", 0)):
+        number = event["line"]
         try:
             log = logs.setdefault(event["site"], Log())
             for item, value in event.get("items", {}).items():
@@ -149,9 +160,9 @@ def logs_of(events, codes):
             if "tx" in event:
                 log.take(numbers.setdefault(str(event["tx"]), len(numbers) + 1), event, codes)
         except KeyError as why:
-            raise Bad("event %d: no %s" % (number, why))
+            raise Bad("line %d: no %s" % (number, why))
         except Bad as why:
-            raise Bad("event %d: %s" % (number, why))
+            raise Bad("line %d: %s" % (number, why))
     for site, log in logs.items():
         for item in sorted(set(log.final) - set(log.initial)):
             raise Bad("a value at the end of %s at site %s, which nothing else names" % (item, site))
@@ -169,17 +180,17 @@ def short_names(logs):
 
 
 def section(k, log, names, here):
-    """The section of the items `here`."""
+    """The section of the items `here`: each line, with the line of the log that it came from, if it came from one."""
     order = sorted(here, key=lambda item: names[item])
-    touched = {tx for _, tx, item, _ in log.entries if item in here}
-    idle = log.ended - {tx for _, tx, item, _ in log.entries if item is not None}
-    lines = ["site %d" % k] + ["item %s=%d" % (names[i], log.initial[i]) for i in order]
-    for letter, tx, item, value in log.entries:
+    touched = {tx for _, tx, item, _, _ in log.entries if item in here}
+    idle = log.ended - {tx for _, tx, item, _, _ in log.entries if item is not None}
+    lines = [("site %d" % k, None)] + [("item %s=%d" % (names[i], log.initial[i]), None) for i in order]
+    for letter, tx, item, value, line in log.entries:
         if item in here:
-            lines.append("%s%d[%s]=%d" % (letter, tx, names[item], value))
+            lines.append(("%s%d[%s]=%d" % (letter, tx, names[item], value), line))
         elif item is None and (tx in touched or tx in idle):
-            lines.append("%s%d" % (letter, tx))
-    return lines + ["final %s=%d" % (names[i], log.final.get(i, log.now[i])) for i in order] + ["end"]
+            lines.append(("%s%d" % (letter, tx), line))
+    return lines + [("final %s=%d" % (names[i], log.final.get(i, log.now[i])), None) for i in order] + [("end", None)]
 
 
 def text_of(logs, names):
@@ -192,8 +203,9 @@ def text_of(logs, names):
             places.append(site)
     if not 1 <= len(places) <= MOST_SITES:
         raise Bad("%d sections, and not 1 to %d" % (len(places), MOST_SITES))
-    second = any(re.match("[dq]", line) and "[" in line for line in lines)
-    return "\n".join(["sgt 2" if second else "sgt 1"] + lines) + "\n", places
+    second = any(re.match("[dq]", line) and "[" in line for line, _ in lines)
+    sources = {at: line for at, (_, line) in enumerate(lines, 2) if line is not None}
+    return "\n".join(["sgt 2" if second else "sgt 1"] + [line for line, _ in lines]) + "\n", places, sources
 
 
 def main(path, names_path=None):
@@ -202,15 +214,15 @@ def main(path, names_path=None):
         for number, line in enumerate(source, 1):
             try:
                 if line.strip():
-                    events.append(checked(json.loads(line)))
+                    events.append({**checked(json.loads(line)), "line": number})
             except (Bad, ValueError) as why:
                 raise Bad("line %d: %s" % (number, why))
     codes = Codes(events)
     logs, numbers = logs_of(events, codes)
     names = short_names(logs)
-    text, places = text_of(logs, names)
+    text, places, sources = text_of(logs, names)
     if names_path:
-        told = {"sites": places, "transactions": numbers, "items": names, "values": codes.numbers}
+        told = {"sites": places, "transactions": numbers, "items": names, "values": codes.numbers, "lines": sources}
         with open(names_path, "w") as out:
             json.dump(told, out, indent=1)
     sys.stdout.write(text)
