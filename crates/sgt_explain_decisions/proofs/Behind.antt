@@ -1,6 +1,6 @@
 -- Texts put together, one behind the other.
 use Rattle.std.proofs.Common.{◌≡◌, ℕ, List, ◌++◌, Option, ◌<◌, inr, refl, subst, ap, ◌∙◌, append_assoc}
-use Rattle.std.specs.Prelude.{Contains, IfSome, IfNone}
+use Rattle.std.specs.Prelude.{Contains, IfSome, IfNone, Result, Ok, Err, OnOk, is_ok, if◌then◌else◌}
 use Rattle.sgt_names.specs.Entry.{tx_of, IsEnd}
 use Rattle.sgt_explain_lines.specs.declared.section.Logged.{Logged}
 use Rattle.sgt_explain_lines.specs.Told.{Adds}
@@ -9,6 +9,11 @@ use Rattle.sgt_explain_decisions.specs.declared.order.Decided.{Decided}
 use Rattle.sgt_explain_decisions.specs.declared.placed.Placed.{Placed}
 use Rattle.sgt_explain_decisions.specs.Decided.{AreMisplaced, IsDecidedAs, decision_order_head, if_decided, decided_text, TellsDecisionOrder}
 use Rattle.sgt_explain_decisions.specs.Ends.{EndsTx, HasNoEnd, IsEndOf, end_head, TellsEnd, not_ended_head, TellsNotEnded}
+
+-- what a last text put there, where there was memory for it
+pub str-ok : {T E : Type 0} (r : Result T E) (new a b : List ℕ) → new ≡ (if is_ok r then a else b) → OnOk r (new ≡ a)
+str-ok (Ok t) new a b e = e
+str-ok (Err x) new a b e = tt
 
 pub two-parts : (old a one two new : List ℕ) → a ≡ old ++ one → new ≡ a ++ two → new ≡ old ++ (one ++ two)
 two-parts old a one two new e f = f ∙ ap (λ t. t ++ two) e ∙ append_assoc old one two

@@ -30,19 +30,6 @@ fn entry_at(site: &mut u8, line: u64, text: &[u8]) -> Option<Entry> {
     if line > 2 { entry_of(site, text) } else { None }
 }
 
-/// The entry with its site and line, if it is the transaction's.
-fn own_of(site: u8, line: u64, entry: Option<Entry>, tx: Tx) -> Option<Own>
-    ensures { IfSome result (IsOwn tx) }
-{
-    match entry {
-        Some(entry) if entry.tx() == tx => Some(Own {
-            site,
-            logged: Logged { line, entry },
-        }),
-        _ => None,
-    }
-}
-
 /// The entries of the transaction in the lines before this one.
 fn own_in(alloc: Global, bytes: &[u8], end: u64, tx: Tx) -> Result<Vec<Own>, AllocError>
     ensures { IfOk result (λ own. All (IsOwn tx) own.items) }
@@ -52,9 +39,12 @@ fn own_in(alloc: Global, bytes: &[u8], end: u64, tx: Tx) -> Result<Vec<Own>, All
     let mut rest = bytes;
     for line in 1..end {
         let (text, behind) = cut_line(rest);
-        let entry = entry_at(&mut site, line, text);
-        if let Some(one) = own_of(site, line, entry, tx) {
-            own.push(one)?;
+        match entry_at(&mut site, line, text) {
+            Some(entry) if entry.tx() == tx => own.push(Own {
+                site,
+                logged: Logged { line, entry },
+            })?,
+            _ => {}
         }
         rest = behind;
         if rest.is_empty() {

@@ -5,7 +5,7 @@ use Rattle.sgt_explain_decisions.proofs.cycles.push_cycle.Given as goal
 
 abbrev pub invariant-loop-step : goal.invariant-loop-step
 invariant-loop-step l = record {
-  from : l.from ≡ last_stop l.tx (take l.step-index l.walk);
-  told : (told : List ℕ) × TellsCycle l.sought l.tx (take l.step-index l.walk) told
+  from : l.from ≡ last_stop l.fn.tx (take l.step-index l.walk);
+  told : (told : List ℕ) × TellsCycle l.sought l.fn.tx (take l.step-index l.walk) told
       × (string_bytes l.out ≡ string_bytes l.initial.out ++ told);
 }
