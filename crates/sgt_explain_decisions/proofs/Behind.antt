@@ -7,7 +7,7 @@ use Rattle.sgt_explain_lines.specs.Told.{Adds}
 use Rattle.sgt_explain_lines.proofs.Adding.{adds-more}
 use Rattle.sgt_explain_decisions.specs.declared.order.Decided.{Decided}
 use Rattle.sgt_explain_decisions.specs.declared.placed.Placed.{Placed}
-use Rattle.sgt_explain_decisions.specs.Decided.{AreMisplaced, IsDecidedAs, decision_order_head, if_decided, decided_text, TellsDecisionOrder}
+use Rattle.sgt_explain_decisions.specs.Decided.{IsDecidedAs, decision_order_head, if_decided, decided_text, TellsDecisionOrder}
 use Rattle.sgt_explain_decisions.specs.Ends.{EndsTx, HasNoEnd, IsEndOf, end_head, TellsEnd, not_ended_head, TellsNotEnded}
 
 -- what a last text put there, where there was memory for it

@@ -1,5 +1,5 @@
 -- What is said of the ends of transactions at a site.
-use Rattle.std.specs.Prelude.{◌≡◌, ◌⊎◌, ℕ, List, ◌++◌, All, Contains, codes, decimal, Option, Some, None, IfSome, IfNone}
+use Rattle.std.specs.Prelude.{◌≡◌, ◌⊎◌, ℕ, List, ◌++◌, All, Contains, codes, decimal, Option, IfSome, IfNone}
 use Rattle.sgt_names.specs.Entry.{tx_of, IsEnd}
 use Rattle.sgt_names.specs.declared.entry.Entry.{Entry}
 use Rattle.sgt_explain_lines.specs.declared.section.Logged.{Logged}
