@@ -1,3 +1,9 @@
 pub mod Against
+pub mod Cycles
+pub mod Dealings
+pub mod Decided
+pub mod Ends
 pub mod Placed
+pub mod Ranks
 pub mod Told
+pub mod Walks

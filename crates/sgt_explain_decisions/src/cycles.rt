@@ -1,7 +1,7 @@
 //! The cycles of refused transactions, in words; and which step is no conflict of the logs.
 
-ghost use Rattle.std.specs.Prelude.{◌<◌, IfSome, OnOk, length, string_bytes};
-ghost use Rattle.sgt_explain_lines.specs.Told.{Adds};
+ghost use Rattle.std.specs.Prelude.{◌≡◌, ◌<◌, ◌++◌, ℕ, List, Some, IfSome, IsTrue, OnOk, length, string_bytes};
+ghost use Rattle.sgt_explain_decisions.specs.Cycles.{AreInOrder, IsShownStep, step_text, refusal_head, TellsCycle, TellsRefusal, TellsCycles};
 ghost use Rattle.sgt_explain_decisions.specs.Placed.{IsPlace};
 
 use crate::sought::{Sought, first_of, found_of, second_of};
@@ -11,12 +11,20 @@ use sgt_names::Tx;
 use std::alloc::AllocError;
 use std::fmt::Write;
 
-/// The two entries, where the first stands before the second and they are in conflict.
-fn in_order(first: Option<Logged>, second: Option<Logged>) -> Option<(Logged, Logged)> {
+/// Whether the one entry stands before the other, and they aren't both increments.
+fn are_in_order(one: &Logged, other: &Logged) -> bool
+    ensures { IsTrue result → AreInOrder one.now other.now }
+{
+    one.line < other.line && !(one.entry.is_increment() && other.entry.is_increment())
+}
+
+/// The two entries, where they are so.
+fn in_order(first: Option<Logged>, second: Option<Logged>) -> Option<(Logged, Logged)>
+    ensures { IfSome result (λ two. (first ≡ Some two.0) × (second ≡ Some two.1) × AreInOrder two.0 two.1) }
+{
     let one = first?;
     let other = second?;
-    let are_increments = one.entry.is_increment() && other.entry.is_increment();
-    if one.line < other.line && !are_increments {
+    if are_in_order(&one, &other) {
         Some((one, other))
     } else {
         None
@@ -24,7 +32,9 @@ fn in_order(first: Option<Logged>, second: Option<Logged>) -> Option<(Logged, Lo
 }
 
 /// The two entries that a step from this transaction shows, if it is a conflict of the logs.
-fn shown_by(sought: &[Sought], from: Tx, step: &Step) -> Option<(Logged, Logged)> {
+fn shown_by(sought: &[Sought], from: Tx, step: &Step) -> Option<(Logged, Logged)>
+    ensures { IfSome result (λ two. IsShownStep sought.now from step.now two.0 two.1) }
+{
     let first = found_of(sought, step, from);
     let second = found_of(sought, step, step.to);
     let kind = step.label.kind;
@@ -32,18 +42,28 @@ fn shown_by(sought: &[Sought], from: Tx, step: &Step) -> Option<(Logged, Logged)
 }
 
 /// A step in words: `2 read y before 1 wrote it: site 0, lines 6 and 7`.
-fn push_step(out: &mut String, sought: &[Sought], from: Tx, step: &Step) -> Result<(), AllocError> {
-    let Some((one, other)) = shown_by(sought, from, step) else {
-        let to = step.to;
-        return writeln!(
-            out,
-            "  {from} to {to}: not shown by the lines before the fault"
-        );
-    };
-    let site = step.label.site.number();
-    out.push_str("  ")?;
-    push_conflict(out, site, &step.label.item, &one, &other)?;
-    out.push_str("\n")
+fn push_step(
+    out: &mut String,
+    from: Tx,
+    step: &Step,
+    shown: &Option<(Logged, Logged)>,
+) -> Result<(), AllocError>
+    ensures { OnOk result (string_bytes out.new ≡ string_bytes out.old ++ step_text from step.now shown.now) }
+{
+    match shown {
+        Some((one, other)) => {
+            out.push_str("  ")?;
+            push_conflict(out, step.label.site.number(), &step.label.item, one, other)?;
+            out.push_str("\n")
+        }
+        None => {
+            let to = step.to;
+            write!(
+                out,
+                "  {from} to {to}: not shown by the lines before the fault\n"
+            )
+        }
+    }
 }
 
 /// A cycle in words: the step of each line, from the refused transaction back to it.
@@ -52,13 +72,45 @@ pub(crate) fn push_cycle(
     sought: &[Sought],
     tx: Tx,
     walk: &[Step],
-) -> Result<(), AllocError> {
+) -> Result<(), AllocError>
+    ensures { OnOk result ((told : List ℕ) × TellsCycle sought.now tx walk.now told
+        × (string_bytes out.new ≡ string_bytes out.old ++ told)) }
+{
     let mut from = tx;
     for step in walk {
-        push_step(out, sought, from, step)?;
+        let shown = shown_by(sought, from, step);
+        push_step(out, from, step, &shown)?;
         from = step.to;
     }
     Ok(())
+}
+
+fn push_refusal_head(out: &mut String, number: usize, tx: Tx) -> Result<(), AllocError>
+    ensures { OnOk result (string_bytes out.new ≡ string_bytes out.old ++ refusal_head number tx) }
+{
+    write!(
+        out,
+        "transaction {tx} was refused (decision {number}), since it would close a cycle:\n"
+    )
+}
+
+/// The transaction of a refusal with its cycle; nothing of another decision.
+fn push_refusal(
+    out: &mut String,
+    sought: &[Sought],
+    number: usize,
+    decision: &Decision,
+) -> Result<(), AllocError>
+    ensures { OnOk result ((told : List ℕ) × TellsRefusal sought.now number decision.now told
+        × (string_bytes out.new ≡ string_bytes out.old ++ told)) }
+{
+    match decision {
+        Decision::Refuse { tx, walk } => {
+            push_refusal_head(out, number, *tx)?;
+            push_cycle(out, sought, *tx, walk.as_slice())
+        }
+        _ => out.push_str(""),
+    }
 }
 
 /// Each refused transaction with its cycle.
@@ -66,16 +118,12 @@ pub fn push_cycles(
     out: &mut String,
     decisions: &[Decision],
     sought: &[Sought],
-) -> Result<(), AllocError> {
+) -> Result<(), AllocError>
+    ensures { OnOk result ((told : List ℕ) × TellsCycles sought.now 0 decisions.now told
+        × (string_bytes out.new ≡ string_bytes out.old ++ told)) }
+{
     for (number, decision) in decisions.iter().enumerate() {
-        if let Some(walk) = decision.walk() {
-            let tx = decision.tx();
-            writeln!(
-                out,
-                "transaction {tx} was refused (decision {number}), since it would close a cycle:"
-            )?;
-            push_cycle(out, sought, tx, walk)?;
-        }
+        push_refusal(out, sought, number, decision)?;
     }
     Ok(())
 }

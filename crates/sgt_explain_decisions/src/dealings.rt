@@ -1,5 +1,9 @@
 //! What one transaction did: its entries at each site, and its conflicts.
 
+ghost use Rattle.std.specs.Prelude.{◌≡◌, ◌++◌, ℕ, None, All, IfOk, IfSome, OnOk, string_bytes};
+ghost use Rattle.sgt_explain_lines.specs.Told.{Adds};
+ghost use Rattle.sgt_explain_decisions.specs.Dealings.{IsOwn, site_if_new, one_text, own_text, own_head, IsDecisionOn, no_decision_text, TellsFate, TellsDealings};
+
 use crate::cycles::push_cycle;
 use crate::placed::{number_on, placed_in};
 use crate::sought::sought_in;
@@ -16,9 +20,9 @@ const MOST_SHOWN: u64 = 40;
 
 /// An entry of the transaction at a site.
 #[derive(Clone, Copy)]
-struct Own {
-    site: u8,
-    logged: Logged,
+pub struct Own {
+    pub site: u8,
+    pub logged: Logged,
 }
 
 /// The entry of a line of a section. Lines 1 and 2 are none.
@@ -27,7 +31,9 @@ fn entry_at(site: &mut u8, line: u64, text: &[u8]) -> Option<Entry> {
 }
 
 /// The entries of the transaction in the lines before this one.
-fn own_in(alloc: Global, bytes: &[u8], end: u64, tx: Tx) -> Result<Vec<Own>, AllocError> {
+fn own_in(alloc: Global, bytes: &[u8], end: u64, tx: Tx) -> Result<Vec<Own>, AllocError>
+    ensures { IfOk result (λ own. All (IsOwn tx) own.items) }
+{
     let mut own = Vec::new(alloc);
     let mut site = 0u8;
     let mut rest = bytes;
@@ -48,17 +54,34 @@ fn own_in(alloc: Global, bytes: &[u8], end: u64, tx: Tx) -> Result<Vec<Own>, All
     Ok(own)
 }
 
+/// The site of an entry, where that isn't the last one.
+fn push_site(out: &mut String, last: Option<u8>, site: u8) -> Result<(), AllocError>
+    ensures { OnOk result (string_bytes out.new ≡ string_bytes out.old ++ site_if_new last site) }
+{
+    if last == Some(site) {
+        out.push_str("")
+    } else {
+        write!(out, "site {site}\n")
+    }
+}
+
+/// An entry, behind its site where that isn't the last one.
+fn push_one_own(out: &mut String, last: Option<u8>, own: &Own) -> Result<(), AllocError>
+    ensures { OnOk result (string_bytes out.new ≡ string_bytes out.old ++ one_text last own.now) }
+{
+    push_site(out, last, own.site)?;
+    push_logged(out, &own.logged)?;
+    out.push_str("\n")
+}
+
 /// The entries, site by site.
-fn push_own(out: &mut String, own: &[Own]) -> Result<(), AllocError> {
-    let mut open: Option<u8> = None;
+fn push_own(out: &mut String, own: &[Own]) -> Result<(), AllocError>
+    ensures { OnOk result (string_bytes out.new ≡ string_bytes out.old ++ own_text None own.now) }
+{
+    let mut last: Option<u8> = None;
     for one in own {
-        if open != Some(one.site) {
-            let site = one.site;
-            writeln!(out, "site {site}")?;
-            open = Some(site);
-        }
-        push_logged(out, &one.logged)?;
-        out.push_str("\n")?;
+        push_one_own(out, last, one)?;
+        last = Some(one.site);
     }
     Ok(())
 }
@@ -93,7 +116,9 @@ fn push_pair(
     item: &Item,
     other: &Logged,
     shows: bool,
-) -> Result<bool, AllocError> {
+) -> Result<bool, AllocError>
+    ensures { OnOk result (Adds (string_bytes out.old) (string_bytes out.new)) }
+{
     let (first, second) = if own.logged.line < other.line {
         (own.logged, *other)
     } else {
@@ -117,7 +142,9 @@ fn push_pairs(
     site: u8,
     other: &Logged,
     count: &mut u64,
-) -> Result<(), AllocError> {
+) -> Result<(), AllocError>
+    ensures { OnOk result (Adds (string_bytes out.old) (string_bytes out.new)) }
+{
     let Some(item) = other.entry.item() else {
         return Ok(());
     };
@@ -141,7 +168,9 @@ fn push_conflicts(
     sorted: &[Own],
     bytes: &[u8],
     end: u64,
-) -> Result<u64, AllocError> {
+) -> Result<u64, AllocError>
+    ensures { OnOk result (Adds (string_bytes out.old) (string_bytes out.new)) }
+{
     let mut count = 0u64;
     let mut site = 0u8;
     let mut rest = bytes;
@@ -158,6 +187,48 @@ fn push_conflicts(
     Ok(count)
 }
 
+/// The decision on the transaction with its number, if there is one.
+fn decision_on(
+    alloc: Global,
+    decisions: &[Decision],
+    tx: Tx,
+) -> Result<Option<(usize, &Decision)>, AllocError>
+    ensures { IfOk result (λ found. IfSome found (λ d. IsDecisionOn decisions.now tx d.0 d.1.now)) }
+{
+    let placed = placed_in(alloc, decisions)?;
+    let Some(number) = number_on(placed.as_slice(), tx) else {
+        return Ok(None);
+    };
+    match decisions.get(number) {
+        Some(decision) if decision.tx() == tx => Ok(Some((number, decision))),
+        _ => Ok(None),
+    }
+}
+
+/// Why the decision is as it is: the cycle of a refusal.
+fn push_cause(
+    alloc: Global,
+    out: &mut String,
+    decisions: &[Decision],
+    bytes: &[u8],
+    decision: &Decision,
+) -> Result<(), AllocError>
+    ensures { OnOk result (Adds (string_bytes out.old) (string_bytes out.new)) }
+{
+    let Some(walk) = decision.walk() else {
+        return out.push_str("\n");
+    };
+    out.push_str(", since it would close a cycle:\n")?;
+    let sought = sought_in(alloc, decisions, bytes)?;
+    push_cycle(out, sought.as_slice(), decision.tx(), walk)
+}
+
+fn push_no_decision(out: &mut String, tx: Tx) -> Result<(), AllocError>
+    ensures { OnOk result (string_bytes out.new ≡ string_bytes out.old ++ no_decision_text tx) }
+{
+    write!(out, "transaction {tx} has no decision in the certificate\n")
+}
+
 /// The decision on the transaction with its rank, and the cycle where it was refused.
 pub fn push_fate(
     alloc: Global,
@@ -165,23 +236,37 @@ pub fn push_fate(
     decisions: &[Decision],
     bytes: &[u8],
     tx: Tx,
-) -> Result<(), AllocError> {
-    let placed = placed_in(alloc, decisions)?;
-    let Some(number) = number_on(placed.as_slice(), tx) else {
-        return writeln!(out, "transaction {tx} has no decision in the certificate");
-    };
-    let Some(decision) = decisions.get(number) else {
-        return Ok(());
+) -> Result<(), AllocError>
+    ensures { OnOk result (TellsFate decisions.now tx (string_bytes out.old) (string_bytes out.new)) }
+{
+    let found = decision_on(alloc, decisions, tx)?;
+    let Some((number, decision)) = found else {
+        return push_no_decision(out, tx);
     };
     push_decision(out, number, decision)?;
-    match decision.walk() {
-        Some(walk) => {
-            out.push_str(", since it would close a cycle:\n")?;
-            let sought = sought_in(alloc, decisions, bytes)?;
-            push_cycle(out, sought.as_slice(), tx, walk)
+    push_cause(alloc, out, decisions, bytes, decision)
+}
+
+/// How many conflicts there are, where not all were shown.
+fn push_count(out: &mut String, count: u64) -> Result<(), AllocError>
+    ensures { OnOk result (Adds (string_bytes out.old) (string_bytes out.new)) }
+{
+    match count {
+        0 => out.push_str("  with nobody\n"),
+        _ if count > MOST_SHOWN => {
+            let more = count.saturating_sub(MOST_SHOWN);
+            writeln!(out, "  and {more} more")
         }
-        None => out.push_str("\n"),
+        _ => out.push_str(""),
     }
+}
+
+/// The entries of the transaction, and the words before its conflicts.
+fn push_own_head(out: &mut String, own: &[Own]) -> Result<(), AllocError>
+    ensures { OnOk result (string_bytes out.new ≡ string_bytes out.old ++ own_head own.now) }
+{
+    push_own(out, own)?;
+    out.push_str("in conflict:\n")
 }
 
 /// What the transaction did in the lines before this one: its entries at each site with their lines, and its conflicts with other transactions, each in its direction. Forty conflicts are shown, and the others counted.
@@ -191,21 +276,15 @@ pub fn push_dealings(
     bytes: &[u8],
     end: u64,
     tx: Tx,
-) -> Result<(), AllocError> {
+) -> Result<(), AllocError>
+    ensures { OnOk result (TellsDealings tx (string_bytes out.old) (string_bytes out.new)) }
+{
     let own = own_in(alloc, bytes, end, tx)?;
     if own.is_empty() {
         return out.push_str("it has no entry\n");
     }
-    push_own(out, own.as_slice())?;
+    push_own_head(out, own.as_slice())?;
     let sorted = by_item(alloc, own.as_slice())?;
-    out.push_str("in conflict:\n")?;
     let count = push_conflicts(out, sorted.as_slice(), bytes, end)?;
-    match count {
-        0 => out.push_str("  with nobody\n"),
-        _ if count > MOST_SHOWN => {
-            let more = count.saturating_sub(MOST_SHOWN);
-            writeln!(out, "  and {more} more")
-        }
-        _ => Ok(()),
-    }
+    push_count(out, count)
 }

@@ -1,17 +1,31 @@
 //! What is said of the ends of transactions.
 
+ghost use Rattle.std.specs.Prelude.{◌≡◌, ◌↔◌, ◌++◌, All, Contains, IfNone, IfOk, IfSome, IsTrue, OnOk, string_bytes, unwrap_or};
+ghost use Rattle.sgt_names.specs.Entry.{tx_of, IsEnd};
+ghost use Rattle.sgt_explain_lines.specs.Told.{Adds};
+ghost use Rattle.sgt_explain_decisions.specs.Ends.{EndsTx, HasNoEnd, end_head, TellsEnd, without_end, not_ended_head, TellsNotEnded};
+
 use crate::placed::{Placed, number_on};
 use crate::words::push_decision;
 use sgt_cert::Decision;
-use sgt_explain_lines::{Logged, Section, push_logged};
-use sgt_names::Tx;
+use sgt_explain_lines::{Logged, Section, push_if_there, push_logged};
+use sgt_names::{Entry, Tx};
 use std::alloc::{AllocError, Global};
 use std::fmt::Write;
 
+fn ends(entry: &Entry, tx: Tx) -> bool
+    ensures { IsTrue result ↔ EndsTx tx entry.now }
+{
+    entry.is_end() && entry.tx() == tx
+}
+
 /// The end of the transaction among these entries.
-fn end_of(entries: &[Logged], tx: Tx) -> Option<Logged> {
+fn end_of(entries: &[Logged], tx: Tx) -> Option<Logged>
+    ensures there { IfSome result (λ l. Contains entries.now l × EndsTx tx l.entry) }
+    ensures none { IfNone result (HasNoEnd entries.now tx) }
+{
     for logged in entries {
-        if logged.entry.is_end() && logged.entry.tx() == tx {
+        if ends(&logged.entry, tx) {
             return Some(*logged);
         }
     }
@@ -27,6 +41,45 @@ fn entries_of(decision: &Decision) -> &'static str {
     }
 }
 
+/// Why an entry may not stand behind that end of its transaction, or by the decision on that.
+fn push_end_reason(
+    out: &mut String,
+    decisions: &[Decision],
+    placed: &[Placed],
+    tx: Tx,
+    has_ended: bool,
+) -> Result<(), AllocError>
+    ensures { OnOk result (Adds (string_bytes out.old) (string_bytes out.new)) }
+{
+    let Some(number) = number_on(placed, tx) else {
+        return writeln!(out, "transaction {tx} has no decision in the certificate");
+    };
+    if has_ended {
+        return writeln!(
+            out,
+            "transaction {tx} has ended at this site: nothing of it may follow"
+        );
+    }
+    match decisions.get(number) {
+        Some(decision) => {
+            push_decision(out, number, decision)?;
+            let letters = entries_of(decision);
+            writeln!(out, ": of {tx} may stand {letters} alone")
+        }
+        None => out.push_str(""),
+    }
+}
+
+/// The end of the transaction, if it has one, and the entry.
+fn push_both(out: &mut String, ended: &Option<Logged>, logged: &Logged) -> Result<(), AllocError>
+    ensures { OnOk result (string_bytes out.new ≡ string_bytes out.old ++ end_head ended.now logged.now) }
+{
+    out.push_str("End: the transaction isn't decided as this entry says, or has ended here\n")?;
+    push_if_there(out, ended)?;
+    push_logged(out, logged)?;
+    out.push_str("\n")
+}
+
 /// F13: an entry whose transaction isn't decided so, or has ended.
 pub fn push_end(
     out: &mut String,
@@ -34,31 +87,13 @@ pub fn push_end(
     placed: &[Placed],
     section: &Section,
     logged: &Logged,
-) -> Result<(), AllocError> {
+) -> Result<(), AllocError>
+    ensures { OnOk result (TellsEnd section.now.entries.items logged.now (string_bytes out.old) (string_bytes out.new)) }
+{
     let tx = logged.entry.tx();
-    out.push_str("End: the transaction isn't decided as this entry says, or has ended here\n")?;
     let ended = end_of(section.entries.as_slice(), tx);
-    if let Some(end) = &ended {
-        push_logged(out, end)?;
-        out.push_str("\n")?;
-    }
-    push_logged(out, logged)?;
-    out.push_str("\n")?;
-    let Some(number) = number_on(placed, tx) else {
-        return writeln!(out, "transaction {tx} has no decision in the certificate");
-    };
-    if ended.is_some() {
-        return writeln!(
-            out,
-            "transaction {tx} has ended at this site: nothing of it may follow"
-        );
-    }
-    let Some(decision) = decisions.get(number) else {
-        return Ok(());
-    };
-    push_decision(out, number, decision)?;
-    let letters = entries_of(decision);
-    writeln!(out, ": of {tx} may stand {letters} alone")
+    push_both(out, &ended, logged)?;
+    push_end_reason(out, decisions, placed, tx, ended.is_some())
 }
 
 /// The numbers of the transactions that end among these entries, sorted.
@@ -73,15 +108,26 @@ fn ended_in(alloc: Global, entries: &[Logged]) -> Result<Vec<u32>, AllocError> {
     Ok(ended)
 }
 
+/// Whether the transaction doesn't end among these, of which the ends' numbers are given.
+fn lacks_end(entries: &[Logged], ended: &[u32], tx: Tx) -> bool
+    ensures { IsTrue result → HasNoEnd entries.now tx }
+{
+    if ended.binary_search(&tx.number()).is_ok() {
+        return false;
+    }
+    match end_of(entries, tx) {
+        Some(_) => false,
+        None => true,
+    }
+}
+
 /// The first entry whose transaction doesn't end among these.
-fn unended(alloc: Global, entries: &[Logged]) -> Result<Option<Logged>, AllocError> {
+fn unended(alloc: Global, entries: &[Logged]) -> Result<Option<Logged>, AllocError>
+    ensures { IfOk result (λ found. IfSome found (λ l. Contains entries.now l × HasNoEnd entries.now (tx_of l.entry))) }
+{
     let ended = ended_in(alloc, entries)?;
     for logged in entries {
-        if ended
-            .as_slice()
-            .binary_search(&logged.entry.tx().number())
-            .is_err()
-        {
+        if lacks_end(entries, ended.as_slice(), logged.entry.tx()) {
             return Ok(Some(*logged));
         }
     }
@@ -148,7 +194,9 @@ fn first_behind(placed: &[Placed], entries: &[Logged], own: usize) -> Option<Dec
 }
 
 /// How the end of a decision reads: `n2`.
-fn push_wanted_end(out: &mut String, decision: &Decision) -> Result<(), AllocError> {
+fn push_wanted_end(out: &mut String, decision: &Decision) -> Result<(), AllocError>
+    ensures { OnOk result (Adds (string_bytes out.old) (string_bytes out.new)) }
+{
     let tx = decision.tx();
     match decision {
         Decision::Commit { .. } => writeln!(out, ": c{tx} has to stand among the entries"),
@@ -158,7 +206,9 @@ fn push_wanted_end(out: &mut String, decision: &Decision) -> Result<(), AllocErr
 }
 
 /// An end and the number of its decision, in a line of words.
-fn push_near(out: &mut String, word: &str, found: Option<DecidedEnd>) -> Result<(), AllocError> {
+fn push_near(out: &mut String, word: &str, found: Option<DecidedEnd>) -> Result<(), AllocError>
+    ensures { OnOk result (Adds (string_bytes out.old) (string_bytes out.new)) }
+{
     if let Some(end) = found {
         let number = end.number;
         let line = end.line;
@@ -174,7 +224,9 @@ fn push_place(
     placed: &[Placed],
     entries: &[Logged],
     tx: Tx,
-) -> Result<(), AllocError> {
+) -> Result<(), AllocError>
+    ensures { OnOk result (Adds (string_bytes out.old) (string_bytes out.new)) }
+{
     let Some(number) = number_on(placed, tx) else {
         return Ok(());
     };
@@ -187,6 +239,25 @@ fn push_place(
     push_near(out, "before", first_behind(placed, entries, number))
 }
 
+/// That the transaction has no end at the site.
+fn push_without_end(out: &mut String, site: u8, tx: Tx) -> Result<(), AllocError>
+    ensures { OnOk result (string_bytes out.new ≡ string_bytes out.old ++ without_end site tx) }
+{
+    write!(
+        out,
+        "NotEnded: transaction {tx} has an entry at site {site} and no end\n"
+    )
+}
+
+/// The same of the transaction of an entry, and the entry.
+fn push_unended(out: &mut String, site: u8, logged: &Logged) -> Result<(), AllocError>
+    ensures { OnOk result (string_bytes out.new ≡ string_bytes out.old ++ not_ended_head site logged.now) }
+{
+    push_without_end(out, site, logged.entry.tx())?;
+    push_logged(out, logged)?;
+    out.push_str("\n")
+}
+
 /// F15: a transaction with entries and no end.
 pub fn push_not_ended(
     alloc: Global,
@@ -194,17 +265,15 @@ pub fn push_not_ended(
     decisions: &[Decision],
     placed: &[Placed],
     section: &Section,
-) -> Result<(), AllocError> {
-    let Some(logged) = unended(alloc, section.entries.as_slice())? else {
+) -> Result<(), AllocError>
+    ensures { OnOk result (TellsNotEnded section.now.entries.items (unwrap_or section.now.site 0)
+        (string_bytes out.old) (string_bytes out.new)) }
+{
+    let entries = section.entries.as_slice();
+    let found = unended(alloc, entries)?;
+    let Some(logged) = found else {
         return Ok(());
     };
-    let tx = logged.entry.tx();
-    let site = section.site_number();
-    writeln!(
-        out,
-        "NotEnded: transaction {tx} has an entry at site {site} and no end"
-    )?;
-    push_logged(out, &logged)?;
-    out.push_str("\n")?;
-    push_place(out, decisions, placed, section.entries.as_slice(), tx)
+    push_unended(out, section.site_number(), &logged)?;
+    push_place(out, decisions, placed, entries, logged.entry.tx())
 }

@@ -1,9 +1,10 @@
 //! What is said of entries that stand against the ranks or the decisions.
 
-ghost use Rattle.std.specs.Prelude.{◌≡◌, ◌++◌, IfSome, OnOk, Contains, string_bytes, unwrap_or};
-ghost use Rattle.sgt_names.specs.Entry.{tx_of};
+ghost use Rattle.std.specs.Prelude.{◌≡◌, ◌<◌, ◌++◌, IfSome, OnOk, Contains, string_bytes, unwrap_or};
+ghost use Rattle.sgt_names.specs.Entry.{tx_of, IsEnd};
 ghost use Rattle.sgt_cert.specs.Certificate.{IsCommitted};
 ghost use Rattle.sgt_explain_decisions.specs.Against.{StandAgainst};
+ghost use Rattle.sgt_explain_decisions.specs.Decided.{IsDecidedAs, decided_text, if_decided, undecided_text, decision_order_head, TellsDecisionOrder};
 ghost use Rattle.sgt_explain_decisions.specs.Told.{ranked_text, both_ranked, first_deed, second_deed, rank_wish, ranks_wanted, rank_order_head, rank_order_text};
 
 use crate::placed::{Placed, number_on, rank_on};
@@ -18,6 +19,13 @@ use std::fmt::Write;
 pub struct Ranked {
     pub logged: Logged,
     pub rank: u32,
+    pub number: usize,
+}
+
+/// An end of a decided transaction, with the number of its decision.
+#[derive(Clone, Copy)]
+pub struct Decided {
+    pub logged: Logged,
     pub number: usize,
 }
 
@@ -165,27 +173,66 @@ pub fn push_rank_order(out: &mut String, shown: &RanksShown) -> Result<(), Alloc
     push_wanted_ranks(out, shown)
 }
 
-/// The first end before this one that was decided later.
-fn decided_later(placed: &[Placed], entries: &[Logged], tx: Tx) -> Option<Logged> {
-    let own = number_on(placed, tx)?;
+/// An end with the number of its decision, if that is later than this one.
+fn later_decided(placed: &[Placed], other: &Logged, own: usize) -> Option<Decided>
+    ensures { IfSome result (λ d. (d.logged ≡ other.now) × IsEnd d.logged.entry × IsDecidedAs placed.now d × (own < d.number)) }
+{
+    if !other.entry.is_end() {
+        return None;
+    }
+    match number_on(placed, other.entry.tx()) {
+        Some(number) if number > own => Some(Decided {
+            logged: *other,
+            number,
+        }),
+        _ => None,
+    }
+}
+
+/// The first of these ends that was decided later than the decision of this number.
+fn decided_later(placed: &[Placed], entries: &[Logged], own: usize) -> Option<Decided>
+    ensures { IfSome result (λ d. Contains entries.now d.logged × IsEnd d.logged.entry × IsDecidedAs placed.now d × (own < d.number)) }
+{
     for other in entries {
-        if other.entry.is_end() {
-            match number_on(placed, other.entry.tx()) {
-                Some(number) if number > own => return Some(*other),
-                _ => {}
-            }
+        let found = later_decided(placed, other, own);
+        if found.is_some() {
+            return found;
         }
     }
     None
 }
 
 /// An end with the number of its decision.
-fn push_decided(out: &mut String, placed: &[Placed], logged: &Logged) -> Result<(), AllocError> {
-    push_aside(out, logged)?;
-    match number_on(placed, logged.entry.tx()) {
-        Some(number) => writeln!(out, "decision {number}"),
-        None => out.push_str("\n"),
+fn push_decided(out: &mut String, decided: &Decided) -> Result<(), AllocError>
+    ensures { OnOk result (string_bytes out.new ≡ string_bytes out.old ++ decided_text decided.now) }
+{
+    let number = decided.number;
+    push_aside(out, &decided.logged)?;
+    write!(out, "decision {number}\n")
+}
+
+/// The same, if there is one.
+fn push_if_decided(out: &mut String, decided: &Option<Decided>) -> Result<(), AllocError>
+    ensures { OnOk result (string_bytes out.new ≡ string_bytes out.old ++ if_decided decided.now) }
+{
+    match decided {
+        Some(end) => push_decided(out, end),
+        None => out.push_str(""),
     }
+}
+
+/// An end on whose transaction there is no decision.
+fn push_undecided(out: &mut String, logged: &Logged) -> Result<(), AllocError>
+    ensures { OnOk result (string_bytes out.new ≡ string_bytes out.old ++ undecided_text logged.now) }
+{
+    push_aside(out, logged)?;
+    out.push_str("\n")
+}
+
+fn push_decision_order_head(out: &mut String) -> Result<(), AllocError>
+    ensures { OnOk result (string_bytes out.new ≡ string_bytes out.old ++ decision_order_head) }
+{
+    out.push_str("DecisionOrder: the ends of a log stand in the order of their decisions\n")
 }
 
 /// F14: an end behind one that was decided later.
@@ -194,10 +241,19 @@ pub fn push_decision_order(
     placed: &[Placed],
     section: &Section,
     logged: &Logged,
-) -> Result<(), AllocError> {
-    out.push_str("DecisionOrder: the ends of a log stand in the order of their decisions\n")?;
-    if let Some(first) = decided_later(placed, section.entries.as_slice(), logged.entry.tx()) {
-        push_decided(out, placed, &first)?;
-    }
-    push_decided(out, placed, logged)
+) -> Result<(), AllocError>
+    ensures { OnOk result (TellsDecisionOrder placed.now section.now.entries.items logged.now
+        (string_bytes out.old) (string_bytes out.new)) }
+{
+    push_decision_order_head(out)?;
+    let Some(number) = number_on(placed, logged.entry.tx()) else {
+        return push_undecided(out, logged);
+    };
+    let own = Decided {
+        logged: *logged,
+        number,
+    };
+    let first = decided_later(placed, section.entries.as_slice(), number);
+    push_if_decided(out, &first)?;
+    push_decided(out, &own)
 }

@@ -1,6 +1,11 @@
 //! What is said of the ranks of a certificate, and of a transaction that is decided twice.
 
-use crate::placed::placed_in;
+ghost use Rattle.std.specs.Prelude.{◌≡◌, ◌≢◌, ◌+◌, ◌<◌, ◌≤◌, ◌⊎◌, ◌++◌, All, IfOk, IfSome, OnOk, Some, Contains, IsPermutation, length, slice_get, string_bytes};
+ghost use Rattle.std.specs.List.Sorted.{IsNonDecreasingBy};
+ghost use Rattle.sgt_cert.specs.declared.certificate.Decision.{Decision};
+ghost use Rattle.sgt_explain_decisions.specs.Ranks.{given_by, all_given, AreDoubled, AreRanksFound, ranks_head, doubled_text, if_doubled, if_above, if_missing, TellsRanks, AreOfOne, IsTwice, decision_line, twice_text, TellsTwice};
+
+use crate::placed::{Placed, placed_in};
 use crate::words::push_decision;
 use sgt_cert::Decision;
 use sgt_names::Tx;
@@ -9,19 +14,44 @@ use std::fmt::Write;
 
 /// The rank of a commit, with its transaction and the number of its decision.
 #[derive(Clone, Copy)]
-struct Given {
-    rank: u32,
-    tx: Tx,
-    number: usize,
+pub struct Given {
+    pub rank: u32,
+    pub tx: Tx,
+    pub number: usize,
+}
+
+/// What is wrong with the ranks of so many commits: two that are one, one that is too great, and one that nobody has.
+#[derive(Clone, Copy)]
+pub struct RanksFound {
+    pub commits: usize,
+    pub doubled: Option<(Given, Given)>,
+    pub above: Option<Given>,
+    pub missing: Option<usize>,
+}
+
+/// The rank that the decision of this number gives, if it is a commit.
+fn given_by(number: usize, decision: &Decision) -> Option<Given>
+    ensures { result ≡ given_by number decision.now }
+{
+    match decision {
+        Decision::Commit { tx, rank } => Some(Given {
+            rank: *rank,
+            tx: *tx,
+            number,
+        }),
+        _ => None,
+    }
 }
 
 /// The ranks of all commits, from the least on.
-fn given_in(alloc: Global, decisions: &[Decision]) -> Result<Vec<Given>, AllocError> {
+fn given_in(alloc: Global, decisions: &[Decision]) -> Result<Vec<Given>, AllocError>
+    ensures all { IfOk result (λ given. IsPermutation (all_given decisions.now) given.items) }
+    ensures rising { IfOk result (λ given. IsNonDecreasingBy (λ g. g.rank) given.items) }
+{
     let mut given = Vec::new(alloc);
     for (number, decision) in decisions.iter().enumerate() {
-        if let Some(rank) = decision.rank() {
-            let tx = decision.tx();
-            given.push(Given { rank, tx, number })?;
+        if let Some(one) = given_by(number, decision) {
+            given.push(one)?;
         }
     }
     given.sort_by_key(|one| one.rank)?;
@@ -29,102 +59,215 @@ fn given_in(alloc: Global, decisions: &[Decision]) -> Result<Vec<Given>, AllocEr
 }
 
 /// The first two of one rank.
-fn doubled(given: &[Given]) -> Option<(Given, Given)> {
+fn doubled(given: &[Given]) -> Option<(Given, Given)>
+    ensures { IfSome result (λ two. Contains given.now two.0 × Contains given.now two.1 × AreDoubled two.0 two.1) }
+{
     let mut before: Option<Given> = None;
     for one in given {
         match before {
-            Some(other) if other.rank == one.rank => return Some((other, *one)),
+            Some(other) if other.rank == one.rank && other.number < one.number => {
+                return Some((other, *one));
+            }
             _ => before = Some(*one),
         }
     }
     None
 }
 
-/// The least rank that is not given.
-fn missing(given: &[Given]) -> u32 {
-    let mut wanted = 0u32;
-    for one in given {
-        if one.rank == wanted {
-            wanted = wanted.saturating_add(1);
-        }
+/// The next number, where the rank is this one.
+fn wanted_behind(wanted: usize, rank: u32) -> usize
+    ensures met { rank ≡ wanted → result ≡ wanted + 1 }
+    ensures other { rank ≢ wanted → result ≡ wanted }
+{
+    if rank as usize == wanted {
+        wanted + 1
+    } else {
+        wanted
     }
-    wanted
 }
 
-fn push_doubled(out: &mut String, first: &Given, second: &Given) -> Result<(), AllocError> {
-    let rank = first.rank;
-    let one = first.tx;
-    let number = first.number;
-    write!(out, "rank {rank} is given to {one} (decision {number})")?;
-    let other = second.tx;
-    let number = second.number;
-    writeln!(out, " and to {other} (decision {number})")
+/// The least rank that is not given, if it is smaller than their count.
+fn missing(given: &[Given]) -> Option<usize>
+    requires { IsNonDecreasingBy (λ g. g.rank) given.now }
+    ensures { IfSome result (λ rank. (rank < length given.now) × All (λ g. g.rank ≢ rank) given.now) }
+{
+    let mut wanted = 0usize;
+    for one in given {
+        wanted = wanted_behind(wanted, one.rank);
+    }
+    if wanted < given.len() {
+        Some(wanted)
+    } else {
+        None
+    }
 }
 
 /// The greatest rank, where there are not more commits.
-fn push_above(out: &mut String, given: &[Given]) -> Result<(), AllocError> {
+fn above(given: &[Given]) -> Option<Given>
+    ensures { IfSome result (λ g. Contains given.now g × (length given.now ≤ g.rank)) }
+{
     match given.last() {
-        Some(last) if last.rank as usize >= given.len() => {
-            let rank = last.rank;
-            let tx = last.tx;
-            let number = last.number;
-            writeln!(out, "rank {rank} of {tx} (decision {number}) is too great")
+        Some(last) if last.rank as usize >= given.len() => Some(*last),
+        _ => None,
+    }
+}
+
+/// What is wrong with the ranks of all commits.
+fn ranks_found(alloc: Global, decisions: &[Decision]) -> Result<RanksFound, AllocError>
+    ensures { IfOk result (AreRanksFound decisions.now) }
+{
+    let given = given_in(alloc, decisions)?;
+    Ok(RanksFound {
+        commits: given.len(),
+        doubled: doubled(given.as_slice()),
+        above: above(given.as_slice()),
+        missing: missing(given.as_slice()),
+    })
+}
+
+fn push_ranks_head(out: &mut String, commits: usize) -> Result<(), AllocError>
+    ensures { OnOk result (string_bytes out.new ≡ string_bytes out.old ++ ranks_head commits) }
+{
+    let greatest = commits.saturating_sub(1);
+    write!(
+        out,
+        "Ranks: the ranks of the {commits} commits have to be 0 to {greatest}, each once\n"
+    )
+}
+
+/// Two decisions that give one rank.
+fn push_both_given(out: &mut String, first: &Given, second: &Given) -> Result<(), AllocError>
+    ensures { OnOk result (string_bytes out.new ≡ string_bytes out.old ++ doubled_text first.now second.now) }
+{
+    let rank = first.rank;
+    let one = first.tx;
+    let number = first.number;
+    let other = second.tx;
+    let again = second.number;
+    write!(
+        out,
+        "rank {rank} is given to {one} (decision {number}) and to {other} (decision {again})\n"
+    )
+}
+
+/// The same, if there are such.
+fn push_doubled(out: &mut String, found: &Option<(Given, Given)>) -> Result<(), AllocError>
+    ensures { OnOk result (string_bytes out.new ≡ string_bytes out.old ++ if_doubled found.now) }
+{
+    match found {
+        Some((first, second)) => push_both_given(out, first, second),
+        None => out.push_str(""),
+    }
+}
+
+/// A rank that is too great, if there is one.
+fn push_above(out: &mut String, found: &Option<Given>) -> Result<(), AllocError>
+    ensures { OnOk result (string_bytes out.new ≡ string_bytes out.old ++ if_above found.now) }
+{
+    match found {
+        Some(given) => {
+            let rank = given.rank;
+            let tx = given.tx;
+            let number = given.number;
+            write!(
+                out,
+                "rank {rank} of {tx} (decision {number}) is too great\n"
+            )
         }
-        _ => Ok(()),
+        None => out.push_str(""),
+    }
+}
+
+/// A rank that nobody has, if there is one.
+fn push_missing(out: &mut String, found: Option<usize>) -> Result<(), AllocError>
+    ensures { OnOk result (string_bytes out.new ≡ string_bytes out.old ++ if_missing found) }
+{
+    match found {
+        Some(rank) => write!(out, "rank {rank} is given to nobody\n"),
+        None => out.push_str(""),
     }
 }
 
 /// F4: the ranks aren't 0 to n-1, each once.
-pub fn push_ranks(
-    alloc: Global,
-    out: &mut String,
-    decisions: &[Decision],
-) -> Result<(), AllocError> {
-    let given = given_in(alloc, decisions)?;
-    let commits = given.len();
-    let greatest = commits.saturating_sub(1);
-    writeln!(
-        out,
-        "Ranks: the ranks of the {commits} commits have to be 0 to {greatest}, each once"
-    )?;
-    if let Some((first, second)) = doubled(given.as_slice()) {
-        push_doubled(out, &first, &second)?;
+pub fn push_ranks(alloc: Global, out: &mut String, decisions: &[Decision]) -> Result<(), AllocError>
+    ensures { OnOk result (TellsRanks decisions.now (string_bytes out.old) (string_bytes out.new)) }
+{
+    let found = ranks_found(alloc, decisions)?;
+    push_ranks_head(out, found.commits)?;
+    push_doubled(out, &found.doubled)?;
+    push_above(out, &found.above)?;
+    push_missing(out, found.missing)
+}
+
+/// Whichever pair has the smaller second number.
+fn earlier_of(found: Option<(Placed, Placed)>, one: Placed, other: Placed) -> (Placed, Placed)
+    ensures { (result ≡ (one, other)) ⊎ (found ≡ Some result) }
+{
+    match found {
+        Some(before) if before.1.number <= other.number => before,
+        _ => (one, other),
     }
-    push_above(out, given.as_slice())?;
-    let rank = missing(given.as_slice());
-    if (rank as usize) < commits {
-        writeln!(out, "rank {rank} is given to nobody")?;
+}
+
+/// Two of one transaction, the second the least that there is.
+fn placed_twice(placed: &[Placed]) -> Option<(Placed, Placed)>
+    ensures { IfSome result (λ two. Contains placed.now two.0 × Contains placed.now two.1 × AreOfOne two.0 two.1) }
+{
+    let mut before: Option<Placed> = None;
+    let mut found: Option<(Placed, Placed)> = None;
+    for one in placed {
+        match before {
+            Some(first) if first.tx == one.tx && first.number < one.number => {
+                found = Some(earlier_of(found, first, *one));
+            }
+            _ => {}
+        }
+        before = Some(*one);
     }
-    Ok(())
+    found
 }
 
 /// The numbers of two decisions on one transaction, the second the least that there is.
-fn twice_in(alloc: Global, decisions: &[Decision]) -> Result<Option<(usize, usize)>, AllocError> {
+fn twice_in(alloc: Global, decisions: &[Decision]) -> Result<Option<(usize, usize)>, AllocError>
+    ensures { IfOk result (λ found. IfSome found (λ two. IsTwice decisions.now two.0 two.1)) }
+{
     let placed = placed_in(alloc, decisions)?;
-    let mut before: Option<(Tx, usize)> = None;
-    let mut found: Option<(usize, usize)> = None;
-    for one in placed.as_slice() {
-        if let Some((tx, first)) = before {
-            let is_earlier = found.is_none_or(|(_, second)| one.number < second);
-            if tx == one.tx && is_earlier {
-                found = Some((first, one.number));
-            }
-        }
-        before = Some((one.tx, one.number));
+    match placed_twice(placed.as_slice()) {
+        Some((one, other)) => Ok(Some((one.number, other.number))),
+        None => Ok(None),
     }
-    Ok(found)
 }
 
+/// A decision, as a line.
 fn push_numbered_decision(
     out: &mut String,
     decisions: &[Decision],
     number: usize,
-) -> Result<(), AllocError> {
-    if let Some(decision) = decisions.get(number) {
-        push_decision(out, number, decision)?;
-        out.push_str("\n")?;
+) -> Result<(), AllocError>
+    ensures { (d : Decision) → slice_get decisions.now number ≡ Some d
+        → OnOk result (string_bytes out.new ≡ string_bytes out.old ++ decision_line number d) }
+{
+    match decisions.get(number) {
+        Some(decision) => {
+            push_decision(out, number, decision)?;
+            out.push_str("\n")
+        }
+        None => Ok(()),
     }
-    Ok(())
+}
+
+/// Two decisions, each as a line.
+fn push_two(
+    out: &mut String,
+    decisions: &[Decision],
+    first: usize,
+    second: usize,
+) -> Result<(), AllocError>
+    ensures { (two : IsTwice decisions.now first second)
+        → OnOk result (string_bytes out.new ≡ string_bytes out.old ++ twice_text first second two.one two.other) }
+{
+    push_numbered_decision(out, decisions, first)?;
+    push_numbered_decision(out, decisions, second)
 }
 
 /// F5: a transaction is decided twice.
@@ -132,11 +275,13 @@ pub fn push_decided_twice(
     alloc: Global,
     out: &mut String,
     decisions: &[Decision],
-) -> Result<(), AllocError> {
+) -> Result<(), AllocError>
+    ensures { OnOk result (TellsTwice decisions.now (string_bytes out.old) (string_bytes out.new)) }
+{
+    let found = twice_in(alloc, decisions)?;
     out.push_str("DecidedTwice: a transaction has one decision\n")?;
-    if let Some((first, second)) = twice_in(alloc, decisions)? {
-        push_numbered_decision(out, decisions, first)?;
-        push_numbered_decision(out, decisions, second)?;
-    }
-    Ok(())
+    let Some((first, second)) = found else {
+        return Ok(());
+    };
+    push_two(out, decisions, first, second)
 }

@@ -1,5 +1,9 @@
 //! What is said of a walk that is no cycle.
 
+ghost use Rattle.std.specs.Prelude.{◌≡◌, ◌++◌, IfOk, IfSome, OnOk, string_bytes};
+ghost use Rattle.sgt_explain_lines.specs.Told.{Adds};
+ghost use Rattle.sgt_explain_decisions.specs.Walks.{IsRefused, walk_shape_head, TellsWalk};
+
 use crate::placed::{Placed, number_on, placed_in};
 use crate::words::push_decision;
 use sgt_cert::{Decision, Step};
@@ -112,7 +116,9 @@ fn flaw_of(
 }
 
 /// Why the walk is no cycle: a line.
-fn push_flaw(out: &mut String, decisions: &[Decision], flaw: Flaw) -> Result<(), AllocError> {
+fn push_flaw(out: &mut String, decisions: &[Decision], flaw: Flaw) -> Result<(), AllocError>
+    ensures { OnOk result (Adds (string_bytes out.old) (string_bytes out.new)) }
+{
     match flaw {
         Flaw::Short => out.push_str("a walk has at least two steps\n"),
         Flaw::Elsewhere(tx) => writeln!(out, "its last step leads to {tx}, and not back to it"),
@@ -136,25 +142,68 @@ fn push_flaw(out: &mut String, decisions: &[Decision], flaw: Flaw) -> Result<(),
     }
 }
 
+/// A refusal whose walk is no cycle: the number of the decision, its transaction, and why.
+#[derive(Clone, Copy)]
+struct Flawed {
+    number: usize,
+    tx: Tx,
+    flaw: Flaw,
+}
+
+/// The refusal of this number, if it is one.
+fn refused_by(decisions: &[Decision], number: usize) -> Option<Tx>
+    ensures { IfSome result (λ tx. IsRefused decisions.now number tx) }
+{
+    match decisions.get(number) {
+        Some(Decision::Refuse { tx, .. }) => Some(*tx),
+        _ => None,
+    }
+}
+
+/// The first refusal whose walk is no cycle.
+fn first_flawed(
+    alloc: Global,
+    decisions: &[Decision],
+    placed: &[Placed],
+) -> Result<Option<Flawed>, AllocError>
+    ensures { IfOk result (λ found. IfSome found (λ f. IsRefused decisions.now f.number f.tx)) }
+{
+    for number in 0..decisions.len() {
+        if let Some(flaw) = flaw_of(alloc, decisions, placed, number)? {
+            if let Some(tx) = refused_by(decisions, number) {
+                return Ok(Some(Flawed { number, tx, flaw }));
+            }
+        }
+    }
+    Ok(None)
+}
+
+/// Whose walk is no cycle.
+fn push_walk_head(out: &mut String, number: usize, tx: Tx) -> Result<(), AllocError>
+    ensures { OnOk result (string_bytes out.new ≡ string_bytes out.old ++ walk_shape_head number tx) }
+{
+    write!(
+        out,
+        "WalkShape: the walk of refused transaction {tx} (decision {number}) is no cycle\n"
+    )
+}
+
 /// F6: a walk that is no cycle.
 pub fn push_walk_shape(
     alloc: Global,
     out: &mut String,
     decisions: &[Decision],
-) -> Result<(), AllocError> {
+) -> Result<(), AllocError>
+    ensures { OnOk result (TellsWalk decisions.now (string_bytes out.old) (string_bytes out.new)) }
+{
     let placed = placed_in(alloc, decisions)?;
-    for (number, decision) in decisions.iter().enumerate() {
-        if let Some(flaw) = flaw_of(alloc, decisions, placed.as_slice(), number)? {
-            let tx = decision.tx();
-            writeln!(
-                out,
-                "WalkShape: the walk of refused transaction {tx} (decision {number}) is no cycle"
-            )?;
-            push_flaw(out, decisions, flaw)?;
-            return out.push_str(
-                "it has to lead through transactions that earlier decisions commit, each once, and back\n",
-            );
-        }
-    }
-    Ok(())
+    let flawed = first_flawed(alloc, decisions, placed.as_slice())?;
+    let Some(found) = flawed else {
+        return Ok(());
+    };
+    push_walk_head(out, found.number, found.tx)?;
+    push_flaw(out, decisions, found.flaw)?;
+    out.push_str(
+        "it has to lead through transactions that earlier decisions commit, each once, and back\n",
+    )
 }

@@ -1,0 +1,41 @@
+-- One more step of a cycle that is told, and one more decision.
+use Rattle.std.proofs.Common.{◌≡◌, ℕ, suc, ◌+◌, List, [], ◌∷◌, ◌++◌, length, Option, refl, sym, subst, ap, ◌∙◌, arith, append_assoc}
+use Rattle.std.specs.Prelude.{IfSome}
+use Rattle.std.proofs.lemmas.List.{append-nil}
+use Rattle.sgt_cert.specs.declared.certificate.Step.{Step}
+use Rattle.sgt_cert.specs.declared.certificate.Decision.{Decision}
+use Rattle.sgt_explain_lines.specs.declared.section.Logged.{Logged}
+use Rattle.sgt_explain_decisions.specs.declared.sought.Sought.{Sought}
+use Rattle.sgt_explain_decisions.specs.Cycles.{IsShownStep, step_text, last_stop, TellsCycle, TellsRefusal, TellsCycles}
+
+pub last_stop-next : (from : ℕ) (walk : List Step) (step : Step) → last_stop from (walk ++ step ∷ []) ≡ step.to
+last_stop-next from [] step = refl
+last_stop-next from (s ∷ walk) step = last_stop-next s.to walk step
+
+pub cycle-next : (sought : List Sought) (from : ℕ) (walk : List Step) (step : Step) (told : List ℕ) (shown : Option (Logged × Logged)) → TellsCycle sought from walk told
+    → IfSome shown (λ two. IsShownStep sought (last_stop from walk) step two.0 two.1)
+    → TellsCycle sought from (walk ++ step ∷ []) (told ++ step_text (last_stop from walk) step shown)
+cycle-next sought from [] step told shown tells there =
+    (shown, [], there, refl, ap (λ t. t ++ step_text from step shown) tells ∙ sym (append-nil (step_text from step shown)))
+cycle-next sought from (s ∷ walk) step told shown tells there =
+    let more = step_text (last_stop s.to walk) step shown in (
+      tells.0,
+      tells.1 ++ more,
+      tells.2,
+      cycle-next sought s.to walk step tells.1 shown tells.3 there,
+      ap (λ t. t ++ more) tells.4 ∙ append_assoc (step_text from s tells.0) tells.1 more,
+    )
+
+pub cycles-next : (sought : List Sought) (n : ℕ) (ds : List Decision) (d : Decision) (told one : List ℕ) → TellsCycles sought n ds told
+    → TellsRefusal sought (n + length ds) d one → TellsCycles sought n (ds ++ d ∷ []) (told ++ one)
+cycles-next sought n [] d told one tells refusal =
+    let e : n + 0 ≡ n = omega arith in
+    (one, [], subst (λ k. TellsRefusal sought k d one) e refusal, refl, ap (λ t. t ++ one) tells ∙ sym (append-nil one))
+cycles-next sought n (e ∷ ds) d told one tells refusal =
+    let same : n + suc (length ds) ≡ n + 1 + length ds = omega arith in (
+      tells.0,
+      tells.1 ++ one,
+      tells.2,
+      cycles-next sought (n + 1) ds d tells.1 one tells.3 (subst (λ k. TellsRefusal sought k d one) same refusal),
+      ap (λ t. t ++ one) tells.4 ∙ append_assoc tells.0 tells.1 one,
+    )
