@@ -4,7 +4,8 @@
 usage: hostile.py PROGRAM [KIND ..]        (without a KIND all of them; KINDs are below, their inputs in hostile_inputs.py)
 
 Each kind of input is made at sizes that double, until a run takes three seconds or the input has 16 MB. The last two sizes are
-run three times, and the least time of each counts. A kind is named where the time of the last doubling (of a run of 0.2 s at
+run by turns, three times, and the least time of each counts; a kind that is found is run five and eight times more, since other
+work on the machine makes single runs longer. A kind is named where the time of the last doubling (of a run of 0.2 s at
 least) grew by more than 2.3, or where the last run took over 1 s a MB. The status is the number of kinds that were found.
 
 A window of w transactions may have w²/4 edges of one item, where increments stand on one side and reads on the other. So the
@@ -90,8 +91,8 @@ def time_of(program, words, text):
     return after.ru_utime + after.ru_stime - before.ru_utime - before.ru_stime
 
 
-def search(program, name):
-    words, make = KINDS[name]
+def last_two(program, words, make):
+    """The inputs of the last two sizes."""
     n, texts, last = 1000, [], 0.0
     while not texts or (last < MOST_TIME and len(texts[-1]) < MOST_SIZE):
         text = make(n)
@@ -99,17 +100,33 @@ def search(program, name):
             break
         texts, last = [*texts[-1:], text], time_of(program, words, text)
         n *= 2
-    times = [min(time_of(program, words, text) for _ in range(3)) for text in texts]
+    return texts
+
+
+def judged(name, texts, times):
+    """By how much the time of the last doubling grew, how many windows the input fills, and whether the kind is found."""
     size, last, grew = len(texts[-1]), times[-1], 0.0
     if len(texts) > 1 and last >= LEAST_TIME:
         grew = last / max(times[0], 0.001) * 2 * len(texts[0]) / size
     windows = texts[-1].count("z\n") if name in BOUNDED else 0
     dear = last > windows * MOST_OF_WINDOW if windows else last / size * 1e6 > MOST_OF_MEGABYTE
-    found = grew > 2.3 or (last >= LEAST_TIME and dear)
-    said = "  FOUND" if found and name not in TOLD else "  as told" if found else ""
-    told = ", %.2f s a window" % (last / windows) if windows else ""
-    print("%-20s %-8s %8.2f MB %7.2f s, grew by %.1f%s%s" % (name, words[0], size / 1e6, last, grew, told, said), flush=True)
-    return found and name not in TOLD
+    return grew, windows, grew > 2.3 or (last >= LEAST_TIME and dear)
+
+
+def search(program, name):
+    words, make = KINDS[name]
+    texts = last_two(program, words, make)
+    times, found = [float("inf")] * len(texts), True
+    for rounds in (3, 5, 8):
+        for _ in range(rounds * found):
+            times = [min(time, time_of(program, words, text)) for time, text in zip(times, texts)]
+        grew, windows, found = judged(name, texts, times)
+        found = found and name not in TOLD
+    said = "  FOUND" if found else "  as told" if judged(name, texts, times)[2] else ""
+    told = ", %.2f s a window" % (times[-1] / windows) if windows else ""
+    size = len(texts[-1]) / 1e6
+    print("%-20s %-8s %8.2f MB %7.2f s, grew by %.1f%s%s" % (name, words[0], size, times[-1], grew, told, said), flush=True)
+    return found
 
 
 def main():
