@@ -1,78 +1,115 @@
-//! The auditor that is fed.
+//! The auditor that is fed, and the bundles that are handed out.
 
-use sgt_audit::{Auditor, Verdict};
+use crate::bundles::{INCREMENTS, ONLY_CYCLE, OWN_READ_BEFORE_WRITE, READER_TORN};
+use sgt_audit::{Audited, Auditor, Fault, Verdict, audit_bundle, read_bundle};
 use sgt_cert::from_line;
-use sgt_names::EngineFail;
+use sgt_names::MemSource;
 use sgt_notation::find_lf;
 use std::alloc::Global;
 use std::test::Fail;
 
 /// Feeds the auditor a line, if it holds no LF.
-fn feed(auditor: &mut Auditor, line: &[u8]) -> Result<(), EngineFail> {
+fn feed(auditor: &mut Auditor, line: &str) -> Result<(), Fail> {
+    let line = line.as_bytes();
     match find_lf(line) {
-        None => auditor.feed(line),
+        None => Ok(auditor.feed(line)?),
         Some(_) => Ok(()),
     }
 }
 
-/// Feeds the auditor lines, and counts those behind which it tells no fault.
-fn feed_all(auditor: &mut Auditor, lines: &str) -> Result<u64, EngineFail> {
-    let mut count = 0u64;
-    for line in lines.split('/') {
-        feed(auditor, line.as_bytes())?;
-        if auditor.fault().is_none() {
-            count = count.saturating_add(1);
-        }
-    }
-    Ok(count)
-}
-
-/// An auditor of the second format, or of the first, with the certificate of this line.
-fn begun(alloc: Global, second: bool, line: &str) -> Result<Auditor, Fail> {
+/// What an auditor of one of the two formats says that is fed the lines of one section.
+fn fed(alloc: Global, second: bool, decisions: &str, section: &str) -> Result<Verdict, Fail> {
+    let line = format!(in alloc; "{{\"decisions\":[{decisions}],\"sites\":1}}")?;
     let certificate = from_line(alloc, line.as_bytes())?;
-    Ok(if second {
+    let mut auditor = if second {
         Auditor::new_2(alloc, certificate)?
     } else {
         Auditor::new(alloc, certificate)?
-    })
+    };
+    for line in section.split('/') {
+        feed(&mut auditor, line)?;
+    }
+    Ok(auditor.end()?)
 }
 
-fn is_line(alloc: Global, verdict: &Verdict, wanted: &str) -> bool {
-    match verdict.to_line(alloc) {
-        Ok(line) => line.as_str() == wanted,
-        Err(_) => false,
+/// How many lines an auditor is fed, with the first two, until it tells a fault; and what it tells when all were fed.
+fn told(alloc: Global, decisions: &str, section: &str) -> Result<Option<(u64, u64, Fault)>, Fail> {
+    let line = format!(in alloc; "{{\"decisions\":[{decisions}],\"sites\":1}}")?;
+    let mut auditor = Auditor::new(alloc, from_line(alloc, line.as_bytes())?)?;
+    let mut lines = 3u64;
+    for line in section.split('/') {
+        feed(&mut auditor, line)?;
+        if auditor.fault().is_none() {
+            lines = lines.saturating_add(1);
+        }
+    }
+    match auditor.fault() {
+        Some((line, fault)) => Ok(Some((lines, line, fault))),
+        None => Ok(None),
     }
 }
 
-/// Whether the auditor tells no fault behind so many of the lines, and ends with this verdict.
-fn is_told(alloc: Global, auditor: Auditor, lines: &str, count: u64, verdict: &str) -> bool {
-    let mut auditor = auditor;
-    let fed = feed_all(&mut auditor, lines);
-    match (fed, auditor.end()) {
-        (Ok(fed), Ok(ended)) => fed == count && is_line(alloc, &ended, verdict),
-        _ => false,
-    }
+#[test]
+fn faults_are_told_at_once(rt: HostRuntime) -> Result<(), Fail> {
+    let values_cannot_tell = "site 0/item x=5/w1[x]=7/c1/w2[x]=7/c2/final x=7/end";
+    let ranks = "{\"commit\":1,\"rank\":1},{\"commit\":2,\"rank\":0}";
+    let found = told(rt.alloc(), ranks, values_cannot_tell)?;
+    assert!(rt; found == Some((7, 7, Fault::RankOrder)));
+    Ok(())
 }
 
-// The fault is told behind the line that has it, and from there on.
 #[test]
 fn auditors_are_fed(rt: HostRuntime) -> Result<(), Fail> {
+    let alloc = rt.alloc();
     let increments = "site 0/item x=5/d2[x]=4/c2/d1[x]=3/c1/final x=12/end";
-    let values_cannot_tell = "site 0/item x=5/w1[x]=7/c1/w2[x]=7/c2/final x=7/end";
-    let line = "{\"decisions\":[{\"commit\":2,\"rank\":0},{\"commit\":1,\"rank\":1}],\"sites\":1}";
-    for (second, lines, count, verdict) in [
-        (
-            true,
-            increments,
-            8,
-            "yes 2 committed 0 refused 0 withdrawn\n",
-        ),
-        (false, increments, 2, "no line 5 F2\n"),
-        (false, values_cannot_tell, 4, "no line 7 F11\n"),
+    let ranks = "{\"commit\":2,\"rank\":0},{\"commit\":1,\"rank\":1}";
+    for (second, wanted) in [
+        (true, "yes 2 committed 0 refused 0 withdrawn\n"),
+        (false, "no line 5 F2\n"),
     ] {
-        let auditor = begun(rt.alloc(), second, line)?;
-        let is_told = is_told(rt.alloc(), auditor, lines, count, verdict);
-        assert!(rt; is_told, "{verdict}");
+        let verdict = fed(alloc, second, ranks, increments)?;
+        assert!(rt; verdict.to_line(alloc)?.as_str() == wanted, "{wanted}");
     }
+    Ok(())
+}
+
+#[test]
+fn bundles_are_handed_out(rt: HostRuntime) -> Result<(), Fail> {
+    let alloc = rt.alloc();
+    for text in [OWN_READ_BEFORE_WRITE, READER_TORN, INCREMENTS] {
+        let mut reader = MemSource::new(text.as_bytes(), 7, None);
+        match audit_bundle(alloc, &mut reader)? {
+            Audited::Valid(bundle) => assert!(rt;
+                bundle.to_text(alloc)?.as_slice() == text.as_bytes()
+            ),
+            Audited::No { line, .. } => assert!(rt; line == 0),
+        }
+        match read_bundle(alloc, text.as_bytes())? {
+            Some(bundle) => assert!(rt; bundle.to_text(alloc)?.as_slice() == text.as_bytes()),
+            None => assert!(rt; text.is_empty()),
+        }
+    }
+    Ok(())
+}
+
+#[test]
+fn no_bundle_is_spelled(rt: HostRuntime) -> Result<(), Fail> {
+    for text in [
+        "",
+        "sgt 3\n{\"decisions\":[],\"sites\":1}\nsite 0\nend\n",
+        "sgt 1\n{\"sites\":1}\nsite 0\nend\n",
+        "sgt 1\n{\"decisions\":[],\"sites\":1}\nsite 0\nitem X=5\nend\n",
+        "sgt 1\n{\"decisions\":[],\"sites\":1}\nsite 0\n",
+        "sgt 1\n{\"decisions\":[],\"sites\":1}\nsite 1\nend\n",
+        "sgt 1\n{\"decisions\":[],\"sites\":1}\nsite 0\nend\nend\n",
+    ] {
+        assert!(rt;
+            read_bundle(rt.alloc(), text.as_bytes())?.is_none(),
+            "{text}"
+        );
+    }
+    // A bundle that isn't valid is spelled all the same.
+    let refused = ONLY_CYCLE.replace(rt.alloc(), "r1[x]=5", "r1[x]=4")?;
+    assert!(rt; read_bundle(rt.alloc(), refused.as_bytes())?.is_some());
     Ok(())
 }

@@ -1,6 +1,6 @@
-//! A reader that fails behind a fault, and growths that are refused. Readers and writers that fail elsewhere stand in `sgt_rows`.
+//! Readers and writers that fail at each place, and growths that are refused.
 
-use crate::bundles::{ONLY_CYCLE, OWN_READ_BEFORE_WRITE, READER_TORN};
+use crate::bundles::{ONLY_CYCLE, OWN_READ_BEFORE_WRITE, RANK_MOVES, READER_TORN};
 use sgt_audit::{Verdict, audit};
 use sgt_names::{EngineFail, MemSink, MemSource};
 use sgt_serial::serial;
@@ -19,6 +19,69 @@ fn fail_of(
     } else {
         audit(alloc, reader, writer).err()
     }
+}
+
+/// Whether a reader of one byte a read that fails at this read is answered as that, and nothing written.
+fn read_fails(alloc: Global, serially: bool, text: &str, read: u64) -> Result<bool, Fail> {
+    let mut reader = MemSource::new(text.as_bytes(), 1, Some(read));
+    let mut writer = MemSink::new(alloc, 100)?;
+    let fail = fail_of(alloc, serially, &mut reader, &mut writer);
+    Ok(fail == Some(EngineFail::ReadFault) && writer.bytes().is_empty())
+}
+
+// Also the read that would tell the end.
+#[test]
+fn each_read_fails(rt: HostRuntime) -> Result<(), Fail> {
+    for (serially, text, reads) in [
+        (false, OWN_READ_BEFORE_WRITE, 104u64),
+        (true, RANK_MOVES, 156),
+    ] {
+        for read in 1..=reads {
+            assert!(rt; read_fails(rt.alloc(), serially, text, read)?, "{read}");
+        }
+        assert!(rt; !read_fails(rt.alloc(), serially, text, reads.saturating_add(1))?);
+    }
+    Ok(())
+}
+
+/// Whether a writer that takes so many bytes and then fails is answered as that, and holds that front of the answer.
+fn write_fails(
+    alloc: Global,
+    serially: bool,
+    text: &str,
+    takes: usize,
+    answer: &str,
+) -> Result<bool, Fail> {
+    let mut reader = MemSource::new(text.as_bytes(), 9, None);
+    let mut writer = MemSink::new(alloc, takes)?;
+    let fail = fail_of(alloc, serially, &mut reader, &mut writer);
+    Ok(
+        fail == Some(EngineFail::WriteFault)
+            && writer.bytes().len() == takes
+            && answer.as_bytes().starts_with(writer.bytes()),
+    )
+}
+
+#[test]
+fn each_write_fails(rt: HostRuntime) -> Result<(), Fail> {
+    for (serially, text, answer) in [
+        (
+            false,
+            OWN_READ_BEFORE_WRITE,
+            "yes 1 committed 0 refused 0 withdrawn\n",
+        ),
+        (
+            true,
+            RANK_MOVES,
+            "t1\nr1[0.x]=5\nw1[0.y]=3\nt2\nw2[0.x]=6\nfinal 0.x=6\nfinal 0.y=3\n",
+        ),
+    ] {
+        for takes in 0..answer.len() {
+            let fails = write_fails(rt.alloc(), serially, text, takes, answer)?;
+            assert!(rt; fails, "{takes}");
+        }
+    }
+    Ok(())
 }
 
 // A reader that fails behind the line with the fault isn't met.

@@ -1,6 +1,6 @@
 //! Texts that break a rule, and the line that is written on each.
 
-use crate::bundles::bundle_of;
+use crate::bundles::{ONLY_CYCLE, OWN_READ_BEFORE_WRITE, READER_TORN};
 use sgt_audit::audit;
 use sgt_names::{MemSink, MemSource};
 use std::alloc::Global;
@@ -169,6 +169,20 @@ const BUNDLES: [(&str, &str, u8, &str, &str); 22] = [
     ),
 ];
 
+/// The text of a bundle whose lines stand with `/` for LF.
+fn bundle_of(
+    alloc: Global,
+    format: &str,
+    decisions: &str,
+    sites: u8,
+    lines: &str,
+) -> Result<String, Fail> {
+    let lines = lines.replace(alloc, "/", "\n")?;
+    Ok(format!(in alloc;
+        "sgt {format}\n{{\"decisions\":[{decisions}],\"sites\":{sites}}}\n{lines}\n"
+    )?)
+}
+
 /// Whether the verdict on the text is this line.
 fn has_verdict(alloc: Global, text: &str, verdict: &str) -> Result<bool, Fail> {
     let wanted = format!(in alloc; "{verdict}\n")?;
@@ -196,40 +210,54 @@ fn lengthen(bytes: &mut Vec<u8>, letters: usize, ended: bool) -> Result<(), Fail
     Ok(())
 }
 
-/// The front, how many letters come behind it, whether a LF does, and the verdict.
-const LONG: [(&str, usize, bool, &str); 7] = [
-    ("", 1_048_577, false, "no line 1 F1\n"),
-    ("", 1_048_576, false, "no line 1 F18\n"),
-    ("sgt 2\n", 1_048_577, true, "no line 2 F3\n"),
-    ("sgt 1\n", 1_048_577, false, "no line 2 F18\n"),
-    (
-        "sgt 2\n{\"decisions\":[],\"sites\":1}\n",
-        1_048_577,
-        false,
-        "no line 3 F2\n",
-    ),
-    (
-        "sgt 1\n{\"decisions\":[],\"sites\":1}\n",
-        1_048_576,
-        false,
-        "no line 3 F18\n",
-    ),
-    (
-        "sgt 1\n{\"decisions\":[],\"sites\":1}\nsite 0\nend\n",
-        1,
-        false,
-        "no line 5 F19\n",
-    ),
-];
-
 #[test]
 fn long_lines(rt: HostRuntime) -> Result<(), Fail> {
     let alloc = rt.alloc();
-    for (front, letters, ended, wanted) in LONG {
+    for (front, letters, ended, wanted) in [
+        ("", 1_048_577usize, false, "no line 1 F1\n"),
+        ("", 1_048_576, false, "no line 1 F18\n"),
+        ("sgt 2\n", 1_048_577, true, "no line 2 F3\n"),
+        ("sgt 1\n", 1_048_577, false, "no line 2 F18\n"),
+        (
+            "sgt 2\n{\"decisions\":[],\"sites\":1}\n",
+            1_048_577,
+            false,
+            "no line 3 F2\n",
+        ),
+        (
+            "sgt 1\n{\"decisions\":[],\"sites\":1}\n",
+            1_048_576,
+            false,
+            "no line 3 F18\n",
+        ),
+        (
+            "sgt 1\n{\"decisions\":[],\"sites\":1}\nsite 0\nend\n",
+            1,
+            false,
+            "no line 5 F19\n",
+        ),
+    ] {
         let mut text = Vec::from_slice(alloc, front.as_bytes())?;
         lengthen(&mut text, letters, ended)?;
         let said = is_said(alloc, text.as_slice(), wanted)?;
         assert!(rt; said, "{wanted}");
+    }
+    Ok(())
+}
+
+#[test]
+fn cut_bundles(rt: HostRuntime) -> Result<(), Fail> {
+    for text in [OWN_READ_BEFORE_WRITE, ONLY_CYCLE, READER_TORN] {
+        let mut line = 1u64;
+        for (bytes, last) in text.as_bytes().iter().enumerate() {
+            let wanted = format!(in rt.alloc(); "no line {line} F18\n")?;
+            let front = text.as_bytes().get(..bytes).unwrap_or(b"");
+            let said = is_said(rt.alloc(), front, wanted.as_str())?;
+            assert!(rt; said, "{bytes} bytes");
+            if *last == b'\n' {
+                line = line.saturating_add(1);
+            }
+        }
     }
     Ok(())
 }

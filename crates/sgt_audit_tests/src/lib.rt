@@ -1,4 +1,5 @@
-//! Tests of the auditor, of the serial run and of certificates for logs: what no proof reaches.
+//! Tests of the auditor, of the serial run, of certificates for logs and of the crates that they stand on: what no proof reaches,
+//! and each public function on its happy path.
 #![tactic(auto)]
 
 #[cfg(test)]
@@ -6,10 +7,14 @@ mod bundles;
 #[cfg(test)]
 mod calls;
 #[cfg(test)]
+mod decisions;
+#[cfg(test)]
 mod devices;
 #[cfg(test)]
 mod faults;
 #[cfg(test)]
 mod runs;
+#[cfg(test)]
+mod sections;
 #[cfg(test)]
 mod sound;
