@@ -16,8 +16,6 @@ mod runs;
 #[cfg(test)]
 mod schedules;
 #[cfg(test)]
-mod settling;
-#[cfg(test)]
 mod steps;
 #[cfg(test)]
 mod windows;

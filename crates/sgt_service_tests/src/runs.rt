@@ -105,29 +105,6 @@ fn rows_of_one_worker(rt: HostRuntime) -> Result<(), Fail> {
     Ok(())
 }
 
-// Of a write that is read back. The last read, which would tell the end of the input, has the number of its bytes and one more.
-#[test]
-fn readers_that_fail(rt: HostRuntime) -> Result<(), Fail> {
-    for at in 1..=INPUT.len() as u64 + 1 {
-        let mut writer = MemSink::new(rt.alloc(), ROOM)?;
-        let ended = ended(&rt, rt.alloc(), INPUT, Some(at), &mut writer);
-        assert_eq!(rt; ended, Err(EngineFail::ReadFault), "at read {at}");
-        assert!(rt; writer.bytes().is_empty());
-    }
-    Ok(())
-}
-
-#[test]
-fn writers_that_fail(rt: HostRuntime) -> Result<(), Fail> {
-    for takes in 0..OUTPUT.len() {
-        let mut writer = MemSink::new(rt.alloc(), takes)?;
-        let ended = ended(&rt, rt.alloc(), INPUT, None, &mut writer);
-        assert_eq!(rt; ended, Err(EngineFail::WriteFault), "with room for {takes}");
-        assert_eq!(rt; writer.bytes(), &OUTPUT.as_bytes()[..takes]);
-    }
-    Ok(())
-}
-
 const BETWEEN: &str = "site 0 x=5
 site 1 u=0
 site 2 y=2
