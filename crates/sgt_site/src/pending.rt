@@ -1,5 +1,7 @@
 //! The reads of transactions that have no end yet.
 
+ghost use Rattle.std.specs.Prelude.{◌≡◌, []};
+
 use sgt_names::{Item, Tx};
 use std::alloc::{AllocError, Global};
 use std::collections::BTreeMap;
@@ -7,9 +9,13 @@ use std::collections::BTreeMap;
 /// The items that each such transaction has read, in the order of its reads.
 #[derive(Drop)]
 pub(crate) struct Pending {
-    alloc: Global,
     reads: BTreeMap<Tx, Vec<Item>>,
+    // short lists of transactions that have ended, whose room is used again
+    spare: Vec<Vec<Item>>,
 }
+
+// How much room a list has at most that is used again.
+const SHORT: usize = 16;
 
 impl Pending {
     ghost use Rattle.std.specs.Prelude.{◌≡◌, ◌≢◌, ℕ, [], ◌∷◌, ◌++◌, List, OnOk, OnErr};
@@ -21,8 +27,8 @@ impl Pending {
         ensures { (tx : ℕ) → items_by result tx ≡ [] }
     {
         Pending {
-            alloc,
             reads: BTreeMap::new(alloc),
+            spare: Vec::new(alloc),
         }
     }
 
@@ -34,7 +40,7 @@ impl Pending {
         match self.reads.get_mut(&tx) {
             Some(items) => items.push(item)?,
             None => {
-                let mut items = Vec::new(self.alloc);
+                let mut items = empty_list(&mut self.spare);
                 items.push(item)?;
                 self.reads.insert(tx, items)?;
             }
@@ -67,6 +73,33 @@ impl Pending {
         ensures own { items_by self.new tx ≡ [] }
         ensures others { (t : ℕ) → t ≢ tx → items_by self.new t ≡ items_by self.old t }
     {
-        let _ = self.reads.remove(&tx);
+        let removed = self.reads.remove(&tx);
+        keep_room(&mut self.spare, removed);
+    }
+}
+
+// A list with no items, with the room of one that was kept if there is one. Else there is room to keep some from then on, if memory
+// is had.
+fn empty_list(spare: &mut Vec<Vec<Item>>) -> Vec<Item>
+    ensures { result.items ≡ [] }
+{
+    match spare.pop() {
+        Some(mut items) => {
+            items.clear();
+            items
+        }
+        None => {
+            let _ = spare.reserve(1);
+            Vec::new(*spare.allocator())
+        }
+    }
+}
+
+// Keeps the room of a short list, if there is one and a place for it. It takes no memory.
+fn keep_room(spare: &mut Vec<Vec<Item>>, removed: Option<Vec<Item>>) {
+    if let Some(items) = removed {
+        if items.capacity() <= SHORT && spare.len() < spare.capacity() {
+            spare.push_reserved(items);
+        }
     }
 }

@@ -23,5 +23,5 @@ pub returns-in_ok-insert-in-None-clause-ok : goal.returns-in_ok-insert-in-None-c
 returns-in_ok-insert-in-None-clause-ok c =
     let updates = rw c.get_mut.follows.holds-at-none at c.in_ok-insert-in-None.ensures.updates in
     let was = sym {A = List Name} (ap or_nothing c.in-None.ensures.value) in
-    added c.args.self.now (record c.args.self.now { reads = c.insert.new.self }) c.args.tx (Some c.push-in-None.new.self) updates c.args.item
-    (c.in_ok-push-in-None.ensures.items ∙ ap (λ xs. xs ++ c.args.item ∷ []) (c.new-items.ensures.items ∙ sym was))
+    added c.args.self.now (record c.args.self.now { reads = c.insert.new.self; spare = c.empty_list-items.new.spare }) c.args.tx (Some c.push-in-None.new.self) updates c.args.item
+    (c.in_ok-push-in-None.ensures.items ∙ ap (λ xs. xs ++ c.args.item ∷ []) (c.empty_list-items.ensures ∙ sym was))
