@@ -1,11 +1,12 @@
 //! How often each item of one site was installed.
 
-ghost use Rattle.std.specs.Prelude.{◌≡◌, ◌≤◌, vec_len, OnOk, OnErr, IfOk, IfErr};
+ghost use Rattle.std.specs.Prelude.{◌≡◌, ◌≤◌, ◌↔◌, Some, slice_get, vec_len, IsTrue, OnOk, OnErr, IfOk, IfErr};
 ghost use Rattle.std.specs.List.{insert};
 ghost use Rattle.std.specs.Ordering.{nat_cmp};
 ghost use Rattle.std.specs.Cmp.Lexicographic.{slice_cmp};
 ghost use Rattle.sgt_names.specs.Ordered.{IsAt, IsGapFor};
 ghost use Rattle.sgt_certifier.specs.Row.{AreRising};
+ghost use Rattle.sgt_certifier.specs.declared.row.ItemCount.{ItemCount as Member};
 
 use sgt_names::Item;
 use std::alloc::{AllocError, Global};
@@ -24,6 +25,8 @@ pub struct ItemCount {
 pub struct Row {
     // by rising name
     counts: Vec<ItemCount>,
+    // where the item stands that was last given a place
+    near: usize,
 }
 
 impl Model for Row {
@@ -49,6 +52,7 @@ impl Row {
     {
         Row {
             counts: Vec::new(alloc),
+            near: 0,
         }
     }
 
@@ -77,8 +81,11 @@ impl Row {
         ensures ok { OnOk result (IsSome (found_in self.new item)) }
         ensures err { OnErr result (IsSome (found_in self.old item) → ⊥) }
     {
-        match search(self.counts.as_slice(), item) {
-            Ok(_) => Ok(()),
+        match find(self.counts.as_slice(), self.near, item) {
+            Ok(at) => {
+                self.near = at;
+                Ok(())
+            }
             Err(at) => place_at(&mut self.counts, at, item),
         }
     }
@@ -90,7 +97,7 @@ impl Row {
         ensures here { found_in self.new item ≡ Some (suc (count_in self.old item)) }
         ensures others { (x : Name) → x ≢ item → found_in self.new x ≡ found_in self.old x }
     {
-        match search(self.counts.as_slice(), item) {
+        match find(self.counts.as_slice(), self.near, item) {
             Ok(at) => {
                 let counted = &mut self.counts[at];
                 counted.count += 1;
@@ -111,7 +118,35 @@ fn place_at(counts: &mut Vec<ItemCount>, at: usize, item: Item) -> Result<(), Al
     Ok(())
 }
 
-// Where the item stands, or where it would go.
+fn is_of(counted: &ItemCount, item: &Item) -> bool
+    ensures { IsTrue result ↔ (counted.now.item ≡ item.now) }
+{
+    counted.item == *item
+}
+
+// Whether the item stands at this place.
+fn is_at(counts: &[ItemCount], place: usize, item: &Item) -> bool
+    ensures { IsTrue result → (c : Member) × (slice_get counts.now place ≡ Some c) × (c.item ≡ item.now) }
+{
+    match counts.get(place) {
+        Some(counted) => is_of(counted, item),
+        None => false,
+    }
+}
+
+// Where the item stands, or where it would go. The place near is tried first.
+fn find(counts: &[ItemCount], near: usize, item: Item) -> Result<usize, usize>
+    requires { AreRising counts.now }
+    ensures found { IfOk result (IsAt (λ c. c.item) counts.now item) }
+    ensures absent { IfErr result (IsGapFor (λ c. c.item) (slice_cmp nat_cmp) counts.now item) }
+{
+    if is_at(counts, near, &item) {
+        return Ok(near);
+    }
+    search(counts, item)
+}
+
+// Where the item stands, or where it would go, by a binary search.
 fn search(counts: &[ItemCount], item: Item) -> Result<usize, usize>
     requires { AreRising counts.now }
     ensures found { IfOk result (IsAt (λ c. c.item) counts.now item) }
