@@ -92,7 +92,7 @@ fn answer_event(core: &mut Core, line: &[u8], text: &mut Vec<u8>) -> Result<bool
         Ok(event) => {
             let reply = answer_line(core, &event)?;
             write_reply(text, line, &reply)?;
-            text.extend_from_slice(b"\n")?;
+            text.push(b'\n')?;
             Ok(true)
         }
         Err(_) => Ok(false),

@@ -42,7 +42,7 @@ fn push_answer(out: &mut Vec<u8>, asked: &[u8], reply: &Reply) -> Result<(), All
         }
         Reply::Value { value } => {
             out.extend_from_slice(asked)?;
-            out.extend_from_slice(b"=")?;
+            out.push(b'=')?;
             push_number(out, *value)
         }
         Reply::Yes => {
@@ -55,7 +55,7 @@ fn push_answer(out: &mut Vec<u8>, asked: &[u8], reply: &Reply) -> Result<(), All
         }
         Reply::Closed { ranks } => {
             out.extend_from_slice(asked)?;
-            out.extend_from_slice(b" ")?;
+            out.push(b' ')?;
             push_number(out, *ranks)
         }
         Reply::Kept | Reply::Gathered | Reply::Installed | Reply::Withdrawn => {
