@@ -1,17 +1,18 @@
 //! A transaction is committed or refused as a whole: gathered at each site that it touches, decided, and its block written there.
 
-ghost use Rattle.std.specs.Prelude.{◌≡◌, ◌<◌, ◌≤◌, Some, None, length, slice_get, IfOk, IfErr, OnOk, OnErr};
+ghost use Rattle.std.specs.Prelude.{◌≡◌, ◌<◌, ◌≤◌, Some, None, length, slice_get, All, Any, IfOk, IfErr, OnOk, OnErr};
+ghost use Rattle.sgt_names.specs.Draft.{IsUsed, Touches};
 ghost use Rattle.sgt_names.specs.Limits.{max_sites};
 ghost use Rattle.sgt_notation.specs.declared.event.Event.TheVariants as event;
 ghost use Rattle.sgt_core.specs.Core.{CoreState};
 ghost use Rattle.sgt_core.specs.Step.{MayStep, MayDecide};
 ghost use Rattle.sgt_core.specs.Machine.{parts_of, StandsFor, Stands, GoesOn};
-ghost use Rattle.sgt_core.specs.private.Whole.{AreTouched, IsWhole, RefusesWhole, GathersAll, AwaitsBlocks, DecidesWhole, InstallsAll};
+ghost use Rattle.sgt_core.specs.private.Whole.{AreFlags, AreTouched, Marks, IsWhole, RefusesWhole, GathersAll, AwaitsBlocks, DecidesWhole, InstallsAll};
 ghost use Rattle.sgt_core.specs.declared.machine.Running.{Running as ARunning};
 
-use crate::machine::{Machine, Running, refused, touches};
+use crate::machine::{Machine, Running, refused};
 use crate::reply::{CoreFault, Reply};
-use sgt_names::{SiteNo, Tx};
+use sgt_names::{Draft, Part, SiteNo, Touch, Tx};
 use std::alloc::{AllocError, Global};
 
 impl Machine {
@@ -115,14 +116,56 @@ fn touched_sites(
     ensures { (r : ARunning) → slice_get table.now slot ≡ Some (Some r)
         → IfOk result (λ sites. AreTouched r.draft.touched count sites.items) }
 {
+    let flags = flags_at(table, slot);
     let mut sites = Vec::new(alloc);
     for number in 0..count {
         let Ok(site) = SiteNo::new(number as u64) else {
             unreachable!();
         };
-        if touches(table, slot, site) {
+        if flags[number] {
             sites.push(site)?;
         }
     }
     Ok(sites)
+}
+
+// Which sites the transaction at a place of the table touches.
+fn flags_at(table: &[Option<Running>], slot: usize) -> [bool; 64]
+    requires { slot < length table.now }
+    ensures { (r : ARunning) → slice_get table.now slot ≡ Some (Some r) → AreFlags result r.draft.touched }
+{
+    match &table[slot] {
+        Some(running) => flags_of(&running.draft),
+        None => [false; 64],
+    }
+}
+
+// Which sites the draft touches.
+fn flags_of(draft: &Draft) -> [bool; 64]
+    ensures { AreFlags result draft.now.touched }
+{
+    let mut flags = [false; 64];
+    let (few, parts) = draft.touched();
+    mark_parts(&mut flags, parts);
+    mark_all(&mut flags, few);
+    flags
+}
+
+// Sets the flags of the sites of these parts.
+fn mark_parts(flags: &mut [bool; 64], parts: &[Part])
+    ensures { Marks flags.old flags.new (λ s. Any (λ p. Touches p.touched s) parts.now) }
+{
+    for part in parts {
+        mark_all(flags, part.touched());
+    }
+}
+
+// Sets the flags of the sites of these items.
+fn mark_all(flags: &mut [bool; 64], touched: &[Touch])
+    requires { All IsUsed touched.now }
+    ensures { Marks flags.old flags.new (Touches touched.now) }
+{
+    for touch in touched {
+        flags[touch.site.number() as usize] = true;
+    }
 }
