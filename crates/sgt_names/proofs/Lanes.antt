@@ -1,7 +1,12 @@
 -- From sixteen lanes to the bytes that pass a test.
 use Rattle.std.proofs.Common.{◌≡◌, ◌≤◌, ◌<◌, ◌+◌, ◌*◌, ◌%◌, ◌^◌, ℕ, zero, suc, List, [], ◌∷◌, length, take, map, get_or, eqb, leb, cond, Bool, true, false, not, w8, refl, sym, ap, ◌∙◌, arith, inl, inr}
-use Rattle.std.specs.Prelude.{◌&&◌, bytes_eq}
-use Rattle.std.specs.List.{list_all, prefix_len}
+use Rattle.std.specs.Prelude.{◌≢◌, ◌&&◌, bytes_eq}
+use Rattle.std.specs.List.{common_prefix_len, list_all, prefix_len}
+use Rattle.std.specs.Ordering.{nat_cmp, ordering_then}
+use Rattle.std.specs.declared.cmp.Ordering.{Ordering}
+use Rattle.std.specs.declared.cmp.Ordering.TheVariants.{Less, Equal, Greater}
+use Rattle.std.specs.Cmp.{nat_cmp_is}
+use Rattle.std.specs.Cmp.Lexicographic.{slice_cmp}
 use Rattle.std.proofs.lemmas.Bool.{agree_below, agree_below_at, cases_eq, cases_lt, eq-eqb, ne_eqb, le-leb, lt-leb}
 use Rattle.std.proofs.lemmas.List.{length-map}
 use Rattle.std.proofs.lemmas.Simd.{map-map, mask_l-mod, first_set_mask_l, length-zip2, tops_compared, zip2_of_maps}
@@ -71,3 +76,82 @@ same_of xs ys long other =
     ap (λ l. eqb (mask_l l % 2 ^ 64) 0) (tops_compared w8 (λ a b. not (eqb a b)) xs ys)
     ∙ ap (λ (n : ℕ). eqb n 0) (mask_l-mod (zip2 (λ a b. not (eqb a b)) xs ys) 64 (omega (arith, length-zip2 (λ a b. not (eqb a b)) xs ys (omega (arith, long, other)), long)))
     ∙ mask_same xs ys (omega (arith, long, other))
+
+-- ---- the first two that differ
+
+paired : (xs ys : List ℕ) → zip2 (λ a b. not (eqb a b)) xs ys ≡ map (λ (p : ℕ × ℕ). not (eqb p.0 p.1)) (zip2 (λ a b. (a, b)) xs ys)
+paired [] ys = refl
+paired (x ∷ xs) [] = refl
+paired (x ∷ xs) (y ∷ ys) = ap (λ l. not (eqb x y) ∷ l) (paired xs ys)
+
+not_not : (b : Bool) → not (not b) ≡ b
+not_not true = refl
+not_not false = refl
+
+prefix_paired : (xs ys : List ℕ) → prefix_len (λ (p : ℕ × ℕ). not (not (eqb p.0 p.1))) (zip2 (λ a b. (a, b)) xs ys) ≡ common_prefix_len (λ a b. eqb a b) xs ys
+prefix_paired [] ys = refl
+prefix_paired (x ∷ xs) [] = refl
+prefix_paired (x ∷ xs) (y ∷ ys) =
+    ap (λ (t : Bool). cond t (1 + prefix_len (λ (p : ℕ × ℕ). not (not (eqb p.0 p.1))) (zip2 (λ a b. (a, b)) xs ys)) 0) (not_not (eqb x y))
+    ∙ ap (λ (n : ℕ). cond (eqb x y) (1 + n) 0) (prefix_paired xs ys)
+
+-- the lowest lane that differs is the first place where the bytes do
+pub same_front : (xs ys : List ℕ) (r : ℕ) → length xs ≡ 16 → length ys ≡ 16
+    → r ≡ first_set (mask_l (map (top 7) (zip2 (λ a b. cond (not (eqb a b)) 255 0) xs ys)) % 2 ^ 64) → r ≡ common_prefix_len (λ a b. eqb a b) xs ys
+same_front xs ys r long other found =
+    found
+    ∙ ap (λ l. first_set (mask_l l % 2 ^ 64)) (tops_compared w8 (λ a b. not (eqb a b)) xs ys)
+    ∙ ap first_set (mask_l-mod (zip2 (λ a b. not (eqb a b)) xs ys) 64 (omega (arith, length-zip2 (λ a b. not (eqb a b)) xs ys (omega (arith, long, other)), long)))
+    ∙ ap (λ l. first_set (mask_l l)) (paired xs ys)
+    ∙ first_set_mask_l (λ (p : ℕ × ℕ). not (eqb p.0 p.1)) (zip2 (λ a b. (a, b)) xs ys) 16 (omega (arith, length-zip2 {C = ℕ × ℕ} (λ a b. (a, b)) xs ys (omega (arith, long, other)), long)) (omega arith)
+    ∙ prefix_paired xs ys
+
+-- two that differ decide
+decided : (x y : ℕ) (o : Ordering) → x ≢ y → nat_cmp x y ≡ ordering_then (nat_cmp x y) o
+decided x y o apart = elim (cases_lt x y) [
+  | inl less ↦ subst (λ c. c ≡ ordering_then c o) (nat_cmp_is x y Less less) refl
+  | inr most ↦ elim (cases_lt y x) [
+    | inl more ↦ subst (λ c. c ≡ ordering_then c o) (nat_cmp_is x y Greater more) refl
+    | inr least ↦ absurd (apart (omega (arith, most, least)))
+  ]
+]
+
+-- two that are the same do not
+passed : (x y : ℕ) (o : Ordering) → x ≡ y → o ≡ ordering_then (nat_cmp x y) o
+passed x y o same = ap (λ c. ordering_then c o) (nat_cmp_is x y Equal same)
+
+-- the first two that differ say in which order the bytes stand
+pub order_at : (xs ys : List ℕ) → length xs ≡ length ys → common_prefix_len (λ a b. eqb a b) xs ys < length xs
+    → nat_cmp (get_or xs (common_prefix_len (λ a b. eqb a b) xs ys) 0) (get_or ys (common_prefix_len (λ a b. eqb a b) xs ys) 0) ≡ slice_cmp nat_cmp xs ys
+order_at [] [] long less = absurd (omega (arith, less))
+order_at [] (y ∷ ys) long less = absurd (omega (arith, long))
+order_at (x ∷ xs) [] long less = absurd (omega (arith, long))
+order_at (x ∷ xs) (y ∷ ys) long less = elim (cases_eq x y) [
+  | inl same ↦
+      let n = common_prefix_len (λ a b. eqb a b) xs ys in
+      let next : common_prefix_len (λ a b. eqb a b) (x ∷ xs) (y ∷ ys) ≡ suc n = ap (λ (t : Bool). cond t (1 + n) 0) (eq-eqb x y same) in
+      ap (λ (k : ℕ). nat_cmp (get_or (x ∷ xs) k 0) (get_or (y ∷ ys) k 0)) next
+      ∙ order_at xs ys (omega (arith, long)) (omega (arith, less, next))
+      ∙ passed x y (slice_cmp nat_cmp xs ys) same
+  | inr other ↦
+      let n = common_prefix_len (λ a b. eqb a b) xs ys in
+      let here : common_prefix_len (λ a b. eqb a b) (x ∷ xs) (y ∷ ys) ≡ 0 = ap (λ (t : Bool). cond t (1 + n) 0) (ne_eqb x y other) in
+      ap (λ (k : ℕ). nat_cmp (get_or (x ∷ xs) k 0) (get_or (y ∷ ys) k 0)) here
+      ∙ decided x y (slice_cmp nat_cmp xs ys) other
+]
+
+-- and where no two differ they are the same
+pub order_same : (xs ys : List ℕ) → length xs ≡ length ys → length xs ≤ common_prefix_len (λ a b. eqb a b) xs ys → Equal ≡ slice_cmp nat_cmp xs ys
+order_same [] [] long all = refl
+order_same [] (y ∷ ys) long all = absurd (omega (arith, long))
+order_same (x ∷ xs) [] long all = absurd (omega (arith, long))
+order_same (x ∷ xs) (y ∷ ys) long all = elim (cases_eq x y) [
+  | inl same ↦
+      let n = common_prefix_len (λ a b. eqb a b) xs ys in
+      let next : common_prefix_len (λ a b. eqb a b) (x ∷ xs) (y ∷ ys) ≡ suc n = ap (λ (t : Bool). cond t (1 + n) 0) (eq-eqb x y same) in
+      order_same xs ys (omega (arith, long)) (omega (arith, all, next)) ∙ passed x y (slice_cmp nat_cmp xs ys) same
+  | inr other ↦
+      let n = common_prefix_len (λ a b. eqb a b) xs ys in
+      let here : common_prefix_len (λ a b. eqb a b) (x ∷ xs) (y ∷ ys) ≡ 0 = ap (λ (t : Bool). cond t (1 + n) 0) (ne_eqb x y other) in
+      absurd (omega (arith, all, here))
+]

@@ -1,7 +1,7 @@
 //! The names of items.
 
-ghost use Rattle.std.specs.Prelude.{◌≡◌, ◌≤◌, ◌-◌, ◌++◌, ◌↔◌, IsTrue, take, replicate};
-ghost use Rattle.std.specs.List.{list_all, prefix_len};
+ghost use Rattle.std.specs.Prelude.{◌≡◌, ◌==◌, ◌≤◌, ◌-◌, ◌++◌, ◌↔◌, IsTrue, take, replicate};
+ghost use Rattle.std.specs.List.{common_prefix_len, list_all, prefix_len};
 ghost use Rattle.std.specs.Prelude.{Some, refl, bytes_eq};
 ghost use Rattle.std.specs.Ordering.{nat_cmp};
 ghost use Rattle.std.specs.Cmp.{partial_equiv_from_equiv};
@@ -126,7 +126,7 @@ impl Ord for Item {
     ghost matches_eq = { texts_ties };
 
     fn cmp(&self, other: &Item) -> Ordering {
-        self.bytes.cmp(&other.bytes)
+        order(&self.bytes, &other.bytes)
     }
 }
 
@@ -248,6 +248,27 @@ fn are_same(bytes: &[u8; 16], others: &[u8; 16]) -> bool
 {
     let differ = u8x16::from_array(*bytes).simd_ne(u8x16::from_array(*others));
     differ.to_bitmask() == 0
+}
+
+// How many bytes stand in front of the first two that differ.
+#[inline(always)]
+fn same_len(bytes: &[u8; 16], others: &[u8; 16]) -> usize
+    ensures { result ≡ common_prefix_len (λ a b. a == b) bytes.now others.now }
+{
+    let differ = u8x16::from_array(*bytes).simd_ne(u8x16::from_array(*others));
+    first_set(differ.to_bitmask())
+}
+
+// In which order the bytes stand: that of the first two that differ.
+fn order(bytes: &[u8; 16], others: &[u8; 16]) -> Ordering
+    ensures { result ≡ slice_cmp nat_cmp bytes.now others.now }
+{
+    let at = same_len(bytes, others);
+    if at < 16 {
+        bytes[at].cmp(&others[at])
+    } else {
+        Ordering::Equal
+    }
 }
 
 // These bytes up to a place, and zeros from there on.
