@@ -10,8 +10,9 @@ use crate::shown::{
 use crate::steps::push_unmet_step;
 use sgt_audit::Fault;
 use sgt_cert::Certificate;
+use sgt_explain_certificate::push_certificate;
 use sgt_explain_decisions::{
-    placed_in, push_certificate, push_decided_twice, push_decision_order, push_end, push_not_ended,
+    placed_in, push_decided_twice, push_decision_order, push_end, push_not_ended,
     push_ranks, push_walk_shape,
 };
 use sgt_explain_lines::{

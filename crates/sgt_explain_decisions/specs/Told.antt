@@ -3,18 +3,9 @@ use Rattle.std.specs.Prelude.{List, ◌++◌, ℕ, codes, decimal}
 use Rattle.sgt_names.specs.Entry.{tx_of}
 use Rattle.sgt_cert.specs.declared.certificate.Decision.{Decision}
 use Rattle.sgt_cert.specs.declared.certificate.Decision.TheVariants.{Commit, Refuse, Withdraw}
-use Rattle.sgt_cert.specs.declared.fault.CertFault.{CertFault}
-use Rattle.sgt_cert.specs.declared.fault.CertFault.TheVariants.{NotJson, Shape, Range, Memory}
 use Rattle.sgt_explain_lines.specs.Told.{noted_line, verb_text, kind_text}
 use Rattle.sgt_explain_decisions.specs.declared.order.Ranked.{Ranked}
 use Rattle.sgt_explain_decisions.specs.declared.order.RanksShown.{RanksShown}
-
--- why a line is no certificate, by its name
-abbrev pub fault_words : CertFault → List ℕ
-fault_words NotJson = codes "Certificate: K1, "
-fault_words Shape = codes "Certificate: K2, "
-fault_words Range = codes "Certificate: K3, "
-fault_words Memory = codes ""
 
 -- what a decision does
 abbrev pub decision_text : ℕ → Decision → List ℕ

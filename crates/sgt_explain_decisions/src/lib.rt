@@ -1,8 +1,6 @@
 //! What an explanation says of the decisions of a bundle: of its second line, and of the logs against it.
 #![tactic(auto)]
 
-mod certificate;
-mod compact;
 mod cycles;
 mod dealings;
 mod ends;
@@ -13,7 +11,6 @@ mod sought;
 mod walks;
 mod words;
 
-pub use certificate::push_certificate;
 pub use cycles::{push_cycles, unmet_in};
 pub use dealings::{push_dealings, push_fate};
 pub use ends::{push_end, push_not_ended};

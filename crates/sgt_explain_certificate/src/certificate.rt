@@ -6,7 +6,7 @@ ghost use Rattle.sgt_cert.specs.Text.{certificate_text, IsCertificate};
 ghost use Rattle.sgt_cert.specs.declared.certificate.Certificate.{Certificate};
 ghost use Rattle.sgt_cert.specs.declared.fault.CertFault.{CertFault};
 ghost use Rattle.sgt_explain_lines.specs.Told.{Adds, ShowsLine};
-ghost use Rattle.sgt_explain_decisions.specs.Told.{fault_words};
+ghost use Rattle.sgt_explain_certificate.specs.Told.{fault_words};
 
 use crate::compact::{Turn, turn_in};
 use serde_json::Value;

@@ -1,6 +1,6 @@
 use Rattle.sgt_explain_lines.proofs.Numbering.{on-ok}
-use Rattle.sgt_explain_decisions.proofs.Refusing.{shows-refused}
-use Rattle.sgt_explain_decisions.proofs.certificate.push_refused.Goals as goal
+use Rattle.sgt_explain_certificate.proofs.Refusing.{shows-refused}
+use Rattle.sgt_explain_certificate.proofs.certificate.push_refused.Goals as goal
 
 pub returns : goal.returns
 returns c =

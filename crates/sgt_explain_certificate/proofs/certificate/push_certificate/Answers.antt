@@ -2,9 +2,9 @@ use Rattle.std.proofs.Common.{inl, inr, refl, subst}
 use Rattle.std.specs.Prelude.{OnOk, string_bytes}
 use Rattle.sgt_explain_lines.specs.Told.{ShowsLine}
 use Rattle.sgt_explain_lines.proofs.Numbering.{on-ok}
-use Rattle.sgt_explain_decisions.specs.Told.{fault_words}
-use Rattle.sgt_explain_decisions.proofs.certificate.push_certificate.Goals as goal
-use Rattle.sgt_explain_decisions.proofs.certificate.push_certificate.Goals.{in-Ok, in-Err}
+use Rattle.sgt_explain_certificate.specs.Told.{fault_words}
+use Rattle.sgt_explain_certificate.proofs.certificate.push_certificate.Goals as goal
+use Rattle.sgt_explain_certificate.proofs.certificate.push_certificate.Goals.{in-Ok, in-Err}
 
 pub returns-clause-refused : goal.returns-clause-refused
 returns-clause-refused c = λ e apart refuses.
