@@ -27,7 +27,7 @@ fn outcome(verdict: Verdict) -> Outcome
     }
 }
 
-/// What the verdict on the bytes means. Of a yes nothing, where one transaction is asked for.
+/// What the verdict on the bytes means. Of a yes nothing, where one transaction is asked for or none was refused.
 fn push_verdict(
     alloc: Global,
     out: &mut String,
@@ -39,10 +39,13 @@ fn push_verdict(
 {
     match verdict {
         Verdict::No { line, fault } => push_no(alloc, out, bytes, line, fault),
-        Verdict::Yes { .. } => match asked {
-            Some(_) => Ok(()),
-            None => push_yes(alloc, out, bytes),
-        },
+        Verdict::Yes { refused, .. } => {
+            if asked.is_some() || refused == 0 {
+                Ok(())
+            } else {
+                push_yes(alloc, out, bytes)
+            }
+        }
     }
 }
 
