@@ -23,8 +23,8 @@ r[3.a] w[0.x]=6 w[1.u]=1 w[2.y]=3
 r[4.b] r[0.x] r[2.y]
 ";
 
-const REFUSED: [&str; 2] = [
-    "s1 committed 1 tries 1
+const REFUSED: Told = Told {
+    start: "s1 committed 1 tries 1
 s2 refused 2 tries 1
 yes 1 committed 1 refused 0 withdrawn
 ---
@@ -32,7 +32,12 @@ sgt 1
 {\"decisions\":[{\"commit\":1,\"rank\":0},{\"refuse\":2,\"walk\":[{\"item\":\"y\",\"kind\":\"rw\",\"site\":2,\"to\":1},\
 {\"item\":\"x\",\"kind\":\"wr\",\"site\":0,\"to\":2}]}],\"sites\":5}
 ",
-    "s1 committed 2 tries 1
+    one: "r2[x]=6",
+    other: "r2[y]=2",
+};
+
+const REFUSED_TOO: Told = Told {
+    start: "s1 committed 2 tries 1
 s2 refused 1 tries 1
 yes 1 committed 1 refused 0 withdrawn
 ---
@@ -40,18 +45,27 @@ sgt 1
 {\"decisions\":[{\"commit\":2,\"rank\":0},{\"refuse\":1,\"walk\":[{\"item\":\"y\",\"kind\":\"rw\",\"site\":2,\"to\":2},\
 {\"item\":\"x\",\"kind\":\"wr\",\"site\":0,\"to\":1}]}],\"sites\":5}
 ",
-];
+    one: "r1[x]=6",
+    other: "r1[y]=2",
+};
 
-const TRIED_AGAIN: [&str; 2] = [
-    "s1 committed 1 tries 1
+const TRIED_AGAIN: Told = Told {
+    start: "s1 committed 1 tries 1
 s2 committed 3 tries 2
 yes 2 committed 1 refused 0 withdrawn
 ",
-    "s1 committed 2 tries 1
+    one: "r3[x]=6",
+    other: "r3[y]=3",
+};
+
+const TRIED_AGAIN_TOO: Told = Told {
+    start: "s1 committed 2 tries 1
 s2 committed 3 tries 2
 yes 2 committed 1 refused 0 withdrawn
 ",
-];
+    one: "r3[x]=6",
+    other: "r3[y]=3",
+};
 
 // One reads an item while the other, which is to write it, has its step open: it is decided later, and comes before.
 const IN_STEP: &str = "site 0 x=5
@@ -61,22 +75,29 @@ r[2.z] w[0.x]=6
 r[1.y] r[0.x]
 ";
 
-const BEFORE: [&str; 2] = [
-    "s1 committed 1 tries 1
+const BEFORE: Told = Told {
+    start: "s1 committed 1 tries 1
 s2 committed 2 tries 1
 yes 2 committed 0 refused 0 withdrawn
 ---
 sgt 1
 {\"decisions\":[{\"commit\":1,\"rank\":1},{\"commit\":2,\"rank\":0}],\"sites\":3}
 ",
-    "s1 committed 2 tries 1
+    one: "r2[x]=5",
+    other: "r2[y]=2",
+};
+
+const BEFORE_TOO: Told = Told {
+    start: "s1 committed 2 tries 1
 s2 committed 1 tries 1
 yes 2 committed 0 refused 0 withdrawn
 ---
 sgt 1
 {\"decisions\":[{\"commit\":2,\"rank\":1},{\"commit\":1,\"rank\":0}],\"sites\":3}
 ",
-];
+    one: "r1[x]=5",
+    other: "r1[y]=2",
+};
 
 // One reads at its site, where it is held under the site's lock until the other has read at another.
 const AT_ONCE: &str = "site 0 x=5
@@ -85,16 +106,23 @@ r[0.x]
 r[1.y]
 ";
 
-const BOTH: [&str; 2] = [
-    "s1 committed 1 tries 1
+const BOTH: Told = Told {
+    start: "s1 committed 1 tries 1
 s2 committed 2 tries 1
 yes 2 committed 0 refused 0 withdrawn
 ",
-    "s1 committed 2 tries 1
+    one: "r1[x]=5",
+    other: "r2[y]=2",
+};
+
+const BOTH_TOO: Told = Told {
+    start: "s1 committed 2 tries 1
 s2 committed 1 tries 1
 yes 2 committed 0 refused 0 withdrawn
 ",
-];
+    one: "r2[x]=5",
+    other: "r1[y]=2",
+};
 
 /// A place at the site of this number.
 #[derive(Clone, Copy)]
@@ -105,67 +133,115 @@ enum At {
     InInstall(u64),
 }
 
-/// A run of two workers.
-struct Schedule {
-    input: &'static str,
-    /// Who arrives at the first of two places is held there until somebody arrives at the second.
-    holds: [(At, At); 3],
-    tries: u64,
-    outcome: Outcome,
-    /// How what is written begins, where the first script's transaction is the first that begins, and where the second's is.
-    starts: [&'static str; 2],
-    /// Lines that stand in it then.
-    lines: [[&'static str; 2]; 2],
+/// Who arrives at the first place is held there until somebody arrives at the second.
+#[derive(Clone, Copy)]
+struct Hold {
+    at: At,
+    until: At,
 }
 
-const HOLDS_BETWEEN: [(At, At); 3] = [
-    (At::AfterRead(3), At::AfterRead(4)),
-    (At::AfterRead(4), At::InInstall(1)),
-    (At::InInstall(1), At::AfterRead(2)),
-];
+/// How what is written begins, and two lines that stand in it.
+#[derive(Clone, Copy)]
+struct Told {
+    start: &'static str,
+    one: &'static str,
+    other: &'static str,
+}
 
-const SCHEDULES: [Schedule; 4] = [
-    Schedule {
-        input: BETWEEN,
-        holds: HOLDS_BETWEEN,
-        tries: 1,
-        outcome: Outcome::No,
-        starts: REFUSED,
-        lines: [["r2[x]=6", "r2[y]=2"], ["r1[x]=6", "r1[y]=2"]],
+/// A run of two workers.
+#[derive(Clone, Copy)]
+struct Schedule {
+    input: &'static str,
+    first: Hold,
+    second: Hold,
+    third: Hold,
+    tries: u64,
+    outcome: Outcome,
+    /// Where the first script's transaction is the first that begins.
+    told: Told,
+    /// Where the second's is.
+    otherwise: Told,
+}
+
+const BETWEEN_BLOCKS: Schedule = Schedule {
+    input: BETWEEN,
+    first: Hold {
+        at: At::AfterRead(3),
+        until: At::AfterRead(4),
     },
-    Schedule {
-        input: BETWEEN,
-        holds: HOLDS_BETWEEN,
-        tries: 2,
-        outcome: Outcome::Yes,
-        starts: TRIED_AGAIN,
-        lines: [["r3[x]=6", "r3[y]=3"], ["r3[x]=6", "r3[y]=3"]],
+    second: Hold {
+        at: At::AfterRead(4),
+        until: At::InInstall(1),
     },
-    Schedule {
-        input: IN_STEP,
-        holds: [
-            (At::AfterRead(2), At::AfterRead(1)),
-            (At::AfterRead(1), At::InStep),
-            (At::InStep, At::AfterRead(0)),
-        ],
-        tries: 1,
-        outcome: Outcome::Yes,
-        starts: BEFORE,
-        lines: [["r2[x]=5", "r2[y]=2"], ["r1[x]=5", "r1[y]=2"]],
+    third: Hold {
+        at: At::InInstall(1),
+        until: At::AfterRead(2),
     },
-    Schedule {
-        input: AT_ONCE,
-        holds: [
-            (At::InRead(0), At::AfterRead(1)),
-            (At::AfterRead(1), At::AfterRead(1)),
-            (At::InStep, At::InStep),
-        ],
-        tries: 1,
-        outcome: Outcome::Yes,
-        starts: BOTH,
-        lines: [["r1[x]=5", "r2[y]=2"], ["r2[x]=5", "r1[y]=2"]],
+    tries: 1,
+    outcome: Outcome::No,
+    told: REFUSED,
+    otherwise: REFUSED_TOO,
+};
+
+const BETWEEN_BLOCKS_AGAIN: Schedule = Schedule {
+    input: BETWEEN,
+    first: Hold {
+        at: At::AfterRead(3),
+        until: At::AfterRead(4),
     },
-];
+    second: Hold {
+        at: At::AfterRead(4),
+        until: At::InInstall(1),
+    },
+    third: Hold {
+        at: At::InInstall(1),
+        until: At::AfterRead(2),
+    },
+    tries: 2,
+    outcome: Outcome::Yes,
+    told: TRIED_AGAIN,
+    otherwise: TRIED_AGAIN_TOO,
+};
+
+const WHILE_IN_STEP: Schedule = Schedule {
+    input: IN_STEP,
+    first: Hold {
+        at: At::AfterRead(2),
+        until: At::AfterRead(1),
+    },
+    second: Hold {
+        at: At::AfterRead(1),
+        until: At::InStep,
+    },
+    third: Hold {
+        at: At::InStep,
+        until: At::AfterRead(0),
+    },
+    tries: 1,
+    outcome: Outcome::Yes,
+    told: BEFORE,
+    otherwise: BEFORE_TOO,
+};
+
+const TWO_AT_ONCE: Schedule = Schedule {
+    input: AT_ONCE,
+    first: Hold {
+        at: At::InRead(0),
+        until: At::AfterRead(1),
+    },
+    second: Hold {
+        at: At::AfterRead(1),
+        until: At::AfterRead(1),
+    },
+    third: Hold {
+        at: At::InStep,
+        until: At::InStep,
+    },
+    tries: 1,
+    outcome: Outcome::Yes,
+    told: BOTH,
+    otherwise: BOTH_TOO,
+};
 
 fn place_of(at: At) -> Result<Place, BadNumber> {
     Ok(match at {
@@ -176,8 +252,8 @@ fn place_of(at: At) -> Result<Place, BadNumber> {
     })
 }
 
-fn hold_of(hold: (At, At)) -> Result<HoldUntil, BadNumber> {
-    Ok(HoldUntil::new(place_of(hold.0)?, place_of(hold.1)?))
+fn hold_of(hold: Hold) -> Result<HoldUntil, BadNumber> {
+    Ok(HoldUntil::new(place_of(hold.at)?, place_of(hold.until)?))
 }
 
 /// Whether this was written.
@@ -185,13 +261,12 @@ fn is_told(written: &[u8], schedule: &Schedule) -> bool {
     let Ok(text) = str::from_utf8(written) else {
         return false;
     };
-    let order = if text.starts_with(schedule.starts[0]) {
-        0
+    let told = if text.starts_with(schedule.told.start) {
+        schedule.told
     } else {
-        1
+        schedule.otherwise
     };
-    let [first, second] = schedule.lines[order];
-    text.starts_with(schedule.starts[order]) && text.contains(first) && text.contains(second)
+    text.starts_with(told.start) && text.contains(told.one) && text.contains(told.other)
 }
 
 /// Whether the run ends as told.
@@ -212,14 +287,25 @@ fn ends<R: Threads + Wait + Sync>(
     }
 }
 
+/// Whether the schedule is brought about, and the run ends as told.
+fn holds<R: Threads + Wait + Sync>(
+    rt: &R,
+    alloc: Global,
+    schedule: Schedule,
+) -> Result<bool, BadNumber> {
+    let first = hold_of(schedule.first)?;
+    let second = hold_of(schedule.second)?;
+    let third = hold_of(schedule.third)?;
+    let gate = HoldThree::new(first, second, third);
+    Ok(ends(rt, alloc, &schedule, &gate) && !gate.failed())
+}
+
 #[test]
 fn schedules(rt: HostRuntime) -> Result<(), Fail> {
-    for schedule in &SCHEDULES {
-        let [first, second, third] = schedule.holds;
-        let gate = HoldThree::new(hold_of(first)?, hold_of(second)?, hold_of(third)?);
-        let is_so = ends(&rt, rt.alloc(), schedule, &gate);
-        assert!(rt; is_so && !gate.failed(), "{}", schedule.input);
-    }
+    assert!(rt; holds(&rt, rt.alloc(), BETWEEN_BLOCKS)?);
+    assert!(rt; holds(&rt, rt.alloc(), BETWEEN_BLOCKS_AGAIN)?);
+    assert!(rt; holds(&rt, rt.alloc(), WHILE_IN_STEP)?);
+    assert!(rt; holds(&rt, rt.alloc(), TWO_AT_ONCE)?);
     Ok(())
 }
 

@@ -187,15 +187,20 @@ fn follow<L: Ledger, R: Wait>(
     standing: &mut Standing,
     course: Course<'_>,
 ) -> bool {
-    if !serve_all(rt, service, seat, standing, course.steps) {
+    let Course {
+        steps,
+        exchanged,
+        others,
+    } = course;
+    if !serve_all(rt, service, seat, standing, steps) {
         return false;
     }
-    if let Some(other) = course.exchanged {
+    if let Some(other) = exchanged {
         if !service.certifier.lock(rt).exchange_in_a_test(other) {
             return false;
         }
     }
-    serve_all(rt, service, seat, standing, course.others)
+    serve_all(rt, service, seat, standing, others)
 }
 
 /// Whether the calls answer as the course tells, and how what is left is settled, whose one job was told all tickets. None: there was no
@@ -222,9 +227,10 @@ pub fn stepped<L: Ledger, R: Wait>(
         Some(seat) => follow(rt, &service, seat, &mut standing, course),
         None => false,
     };
+    let Standing { active: _, tickets } = standing;
     let done = Done {
         job: 1,
-        tickets: standing.tickets,
+        tickets,
         reads: Vec::new(alloc),
     };
     if dones.push(done).is_err() {
