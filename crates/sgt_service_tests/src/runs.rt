@@ -1,4 +1,4 @@
-//! Whole runs over memory, schedules that gates bring about, and devices that fail.
+//! Whole runs over memory, and schedules that gates bring about.
 
 use crate::gates::{HoldThree, HoldUntil, SixteenTake};
 use sgt_names::{EngineFail, MemSink, MemSource, Outcome, SiteNo};
