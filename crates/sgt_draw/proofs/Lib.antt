@@ -1,1 +1,2 @@
+mod Begun
 mod Clean

@@ -11,11 +11,13 @@ use Rattle.sgt_audit.specs.Faults.{FirstFault}
 use Rattle.sgt_audit.specs.Verdict.{text_of}
 use Rattle.sgt_audit.specs.declared.faults.Fault.{Fault}
 use Rattle.sgt_audit.specs.declared.verdict.Verdict.TheVariants as verdict
+use Rattle.sgt_draw.specs.Picture.{IsPicture}
 
 -- the text that an input is answered by: with a yes, which is for a valid bundle alone, a picture,
 -- and with a no the line of its first fault
 abbrev pub IsDrawn : Option (List ℕ) → Outcome → List ℕ → Type 0
-IsDrawn told Yes text = (b : Parts) × IsValid b × IfSome told (λ bytes. Spells bytes b)
+IsDrawn told Yes text =
+    (b : Parts) × IsValid b × IfSome told (λ bytes. Spells bytes b) × IsPicture text
 IsDrawn told No text =
     (line : ℕ) × (fault : Fault) × IfSome told (λ bytes. FirstFault bytes line fault)
     × (text ≡ text_of (verdict.No line fault))

@@ -1,3 +1,4 @@
 pub mod Drawn
 pub mod Escaped
 pub mod Parts
+pub mod Picture

@@ -1,8 +1,9 @@
 //! The text of a picture: markup, and names and numbers between it.
 
-ghost use Rattle.std.specs.Prelude.{◌≡◌, ◌++◌, ◌∷◌, [], IfNone, IfSome, OnOk};
+ghost use Rattle.std.specs.Prelude.{◌≡◌, ◌++◌, ◌∷◌, [], decimal, IfNone, IfOk, IfSome, OnOk};
 ghost use Rattle.sgt_draw.specs.Escaped.{IsClean, escaped, written_byte};
 ghost use Rattle.sgt_draw.specs.Parts.{part_text, parts_text};
+ghost use Rattle.sgt_draw.specs.Picture.{IsPicture, foot_of, head_of};
 
 use sgt_notation::push_number;
 use std::alloc::{AllocError, Global};
@@ -63,10 +64,43 @@ fn push_escaped(out: &mut Vec<u8>, text: &[u8]) -> Result<(), AllocError>
     Ok(())
 }
 
-/// The text of a picture, as far as it is made.
+/// A name as it is written.
+fn name_text(alloc: Global, name: &[u8]) -> Result<Vec<u8>, AllocError>
+    ensures { IfOk result (λ text. text.items ≡ escaped name.now) }
+{
+    let mut text = Vec::new(alloc);
+    push_escaped(&mut text, name)?;
+    Ok(text)
+}
+
+/// A number as it is written.
+fn number_text(alloc: Global, number: u64) -> Result<Vec<u8>, AllocError>
+    ensures { IfOk result (λ text. text.items ≡ escaped (decimal number)) }
+{
+    let mut digits = Vec::new(alloc);
+    push_number(&mut digits, number)?;
+    name_text(alloc, digits.as_slice())
+}
+
+/// What a picture begins with.
+fn head(is_dot: bool) -> &'static str
+    ensures { result.now ≡ head_of is_dot }
+{
+    if is_dot { "digraph sgt {\n" } else { "<svg " }
+}
+
+/// What it ends with.
+fn foot(is_dot: bool) -> &'static str
+    ensures { result.now ≡ foot_of is_dot }
+{
+    if is_dot { "}\n" } else { "</svg>\n" }
+}
+
+/// The text of a picture, as far as it is made: its head, and what parts are written as.
 #[derive(Drop)]
 pub struct Canvas {
     alloc: Global,
+    is_dot: bool,
     text: Vec<u8>,
 }
 
@@ -75,18 +109,23 @@ impl Model for Canvas {
 
     ghost Value = { List ℕ };
 
+    ghost use Rattle.sgt_draw.specs.Picture.{IsBegun};
+
     ghost view = { λ s. s.text.items };
+
+    ghost invariant = { λ s. IsBegun s.is_dot s.text.items };
 }
 
 impl Canvas {
-    /// Nothing yet.
-    pub fn new(alloc: Global) -> Canvas
-        ensures { result ≡ [] }
+    /// The head of Graphviz text, or of SVG.
+    pub fn new(alloc: Global, is_dot: bool) -> Result<Canvas, AllocError>
+        ensures { IfOk result (λ canvas. canvas ≡ head_of is_dot) }
     {
-        Canvas {
+        Ok(Canvas {
             alloc,
-            text: Vec::new(alloc),
-        }
+            is_dot,
+            text: Vec::from_slice(alloc, head(is_dot).as_bytes())?,
+        })
     }
 
     fn put_one(&mut self, part: &Part) -> Result<(), AllocError>
@@ -94,11 +133,13 @@ impl Canvas {
     {
         match *part {
             Part::Markup(text) => self.text.extend_from_slice(text.as_bytes()),
-            Part::Name(name) => push_escaped(&mut self.text, name),
+            Part::Name(name) => {
+                let text = name_text(self.alloc, name)?;
+                self.text.extend_from_slice(text.as_slice())
+            }
             Part::Number(number) => {
-                let mut digits = Vec::new(self.alloc);
-                push_number(&mut digits, number)?;
-                push_escaped(&mut self.text, digits.as_slice())
+                let text = number_text(self.alloc, number)?;
+                self.text.extend_from_slice(text.as_slice())
             }
         }
     }
@@ -113,10 +154,12 @@ impl Canvas {
         Ok(())
     }
 
-    /// The text.
-    pub fn into_text(self) -> Vec<u8>
-        ensures { result.items ≡ self }
+    /// The text with its foot.
+    pub fn into_text(self) -> Result<Vec<u8>, AllocError>
+        ensures { IfOk result (λ text. IsPicture text.items) }
     {
-        self.text
+        let mut text = self.text;
+        text.extend_from_slice(foot(self.is_dot).as_bytes())?;
+        Ok(text)
     }
 }

@@ -92,7 +92,7 @@ fn put_refused(canvas: &mut Canvas, decision: &Decision) -> Result<(), AllocErro
 }
 
 fn put_head(canvas: &mut Canvas) -> Result<(), AllocError> {
-    canvas.put(&[Part::Markup("digraph sgt {\n  rankdir=LR;\n  node [shape=box];\n")])
+    canvas.put(&[Part::Markup("  rankdir=LR;\n  node [shape=box];\n")])
 }
 
 /// All that is drawn.
@@ -126,7 +126,7 @@ pub(crate) fn put_graph(
             " [style=filled, fillcolor=\"#dddddd\", color=\"#888888\"];\n",
         )?;
     }
-    canvas.put(&[Part::Markup("}\n")])
+    Ok(())
 }
 
 /// The cycle of one refused transaction alone. Nothing but the transaction where it was not refused.
@@ -142,5 +142,5 @@ pub(crate) fn put_alone(
             put_refused(canvas, decision)?;
         }
     }
-    canvas.put(&[Part::Markup("}\n")])
+    Ok(())
 }

@@ -1,5 +1,9 @@
 //! The conflicts between neighbours: of the operations on an item, between each and those just before it.
 
+ghost use Rattle.std.specs.Prelude.{◌≡◌, ◌⊎◌, ◌↔◌, IsTrue, IfNone, IfSome};
+ghost use Rattle.sgt_names.specs.Entry.{Clash};
+ghost use Rattle.sgt_names.specs.declared.entry.Kind.{Kind};
+
 use crate::scene::Scene;
 use sgt_cert::SiteLog;
 use sgt_names::{Entry, Item, Kind};
@@ -19,44 +23,81 @@ pub struct Edge {
     pub more: u64,
 }
 
-#[derive(Clone, Copy, PartialEq, Eq)]
-enum Act {
-    Read,
-    Write,
-    Add,
-}
-
 /// An operation of a transaction that is drawn.
 #[derive(Clone, Copy)]
 struct Access {
+    entry: Entry,
     item: Item,
     place: u32,
-    act: Act,
 }
 
-/// The kind of the conflict that the second is in with the first, which is before it.
-fn kind_between(first: &Access, second: &Access) -> Option<Kind> {
-    if first.item != second.item || first.place == second.place {
+fn clashes(kind: Kind, item: &Item, first: &Entry, second: &Entry) -> bool
+    ensures { IsTrue result ↔ Clash kind item.now first.now second.now }
+{
+    match kind {
+        Kind::Wr => first.writes(item) && second.reads(item),
+        Kind::Rw => first.reads(item) && second.writes(item),
+        Kind::Ww => {
+            first.writes(item)
+                && second.writes(item)
+                && !(first.is_increment() && second.is_increment())
+        }
+    }
+}
+
+/// The kind of the conflict on this item that the second entry is in with the first, which is before it.
+fn kind_between(item: &Item, first: &Entry, second: &Entry) -> Option<Kind>
+    ensures some { IfSome result (λ kind. Clash kind item.now first.now second.now) }
+    ensures none { IfNone result
+        ((kind : Kind) → Clash kind item.now first.now second.now → ⊥) }
+{
+    if clashes(Kind::Wr, item, first, second) {
+        return Some(Kind::Wr);
+    }
+    if clashes(Kind::Rw, item, first, second) {
+        return Some(Kind::Rw);
+    }
+    if clashes(Kind::Ww, item, first, second) {
+        return Some(Kind::Ww);
+    }
+    None
+}
+
+/// The edge for two accesses, the first before the second, where they are of two transactions and in conflict.
+fn edge_between(site: u64, first: &Access, second: &Access) -> Option<Edge>
+    ensures conflict { IfSome result
+        (λ edge. Clash edge.kind edge.item first.now.entry second.now.entry) }
+    ensures place { IfSome result
+        (λ edge. (edge.site ≡ site) × (edge.from ≡ first.now.place) × (edge.to ≡ second.now.place)) }
+    ensures none { IfNone result ((first.now.place ≡ second.now.place)
+        ⊎ ((kind : Kind) → Clash kind first.now.item first.now.entry second.now.entry → ⊥)) }
+{
+    if first.place == second.place {
         return None;
     }
-    match (first.act, second.act) {
-        (Act::Read, Act::Read) => None,
-        (Act::Add, Act::Add) => None,
-        (Act::Read, _) => Some(Kind::Rw),
-        (_, Act::Read) => Some(Kind::Wr),
-        (_, _) => Some(Kind::Ww),
-    }
+    let kind = kind_between(&first.item, &first.entry, &second.entry)?;
+    Some(Edge {
+        from: first.place,
+        to: second.place,
+        kind,
+        site,
+        item: first.item,
+        is_increment: first.entry.is_increment() || second.entry.is_increment(),
+        more: 0,
+    })
 }
 
 fn access_of(scene: &Scene, entry: &Entry) -> Option<Access> {
-    let (item, act) = match *entry {
-        Entry::Read { item, .. } => (item, Act::Read),
-        Entry::Write { item, .. } => (item, Act::Write),
-        Entry::Add { item, .. } => (item, Act::Add),
+    let item = match *entry {
+        Entry::Read { item, .. } | Entry::Write { item, .. } | Entry::Add { item, .. } => item,
         _ => return None,
     };
     let place = scene.place_of(entry.tx())?;
-    Some(Access { item, place, act })
+    Some(Access {
+        entry: *entry,
+        item,
+        place,
+    })
 }
 
 /// The operations at a site, item by item, each in the order of the log.
@@ -71,17 +112,25 @@ fn accesses_in(alloc: Global, scene: &Scene, entries: &[Entry]) -> Result<Vec<Ac
     Ok(accesses)
 }
 
+/// Whether two accesses are reads of one item, or increments of one.
+fn are_alike(first: &Access, second: &Access) -> bool {
+    let item = &first.item;
+    if first.entry.is_increment() {
+        return second.entry.is_increment() && second.entry.writes(item);
+    }
+    first.entry.reads(item) && second.entry.reads(item)
+}
+
 /// How many of the first accesses are on one item and in no conflict: reads, or increments, or one write.
 fn front_group(accesses: &[Access]) -> usize {
+    let Some(first) = accesses.first() else {
+        return 0;
+    };
     let mut count = 0usize;
-    let mut before: Option<Access> = None;
     for access in accesses {
-        if let Some(first) = before {
-            if first.item != access.item || first.act != access.act || first.act == Act::Write {
-                return count;
-            }
+        if count > 0 && !are_alike(first, access) {
+            return count;
         }
-        before = Some(*access);
         count = count.saturating_add(1);
     }
     count
@@ -122,16 +171,8 @@ impl Table {
     fn connect(&mut self, site: u64, first: &[Access], second: &[Access]) {
         for one in first {
             for other in second {
-                if let Some(kind) = kind_between(one, other) {
-                    self.add(Edge {
-                        from: one.place,
-                        to: other.place,
-                        kind,
-                        site,
-                        item: one.item,
-                        is_increment: one.act == Act::Add || other.act == Act::Add,
-                        more: 0,
-                    });
+                if let Some(edge) = edge_between(site, one, other) {
+                    self.add(edge);
                 }
             }
         }
@@ -146,7 +187,7 @@ impl Table {
             let count = front_group(rest);
             let group = rest.get(..count).unwrap_or(&[]);
             self.connect(site, last, group);
-            if last.first().is_some_and(|one| one.act == Act::Read) {
+            if last.first().is_some_and(|one| one.entry.reads(&one.item)) {
                 self.connect(site, earlier, group);
             }
             earlier = last;

@@ -5,6 +5,7 @@ ghost use Rattle.sgt_notation.specs.Lines.{ReadFaultIsDue};
 ghost use Rattle.sgt_audit.specs.Faults.{ReadsNoFurther};
 ghost use Rattle.sgt_audit.specs.Verdict.{IsAudited, HandsOutValid};
 ghost use Rattle.sgt_draw.specs.Drawn.{IsDrawn, WroteDrawn, WroteDrawnFront};
+ghost use Rattle.sgt_draw.specs.Picture.{IsPicture};
 
 use crate::canvas::Canvas;
 use crate::dot;
@@ -51,15 +52,17 @@ fn put_all(
 }
 
 /// The picture of a bundle.
-fn picture(alloc: Global, wanted: Wanted, bundle: &Bundle) -> Result<Vec<u8>, AllocError> {
-    let mut canvas = Canvas::new(alloc);
+fn picture(alloc: Global, wanted: Wanted, bundle: &Bundle) -> Result<Vec<u8>, AllocError>
+    ensures { IfOk result (λ text. IsPicture text.items) }
+{
+    let mut canvas = Canvas::new(alloc, wanted.is_dot)?;
     let decisions = bundle.certificate().decisions();
     match wanted.tx {
         Some(tx) if wanted.is_dot => dot::put_alone(&mut canvas, decisions, tx)?,
         Some(tx) => put_alone(&mut canvas, decisions, tx)?,
         None => put_all(alloc, &mut canvas, wanted.is_dot, bundle)?,
     }
-    Ok(canvas.into_text())
+    canvas.into_text()
 }
 
 /// An outcome, and what is to be written.

@@ -10,7 +10,5 @@ mod lanes;
 mod marks;
 mod scene;
 mod svg;
-#[cfg(test)]
-mod tests;
 
 pub use engine::{Wanted, draw};

@@ -27,7 +27,7 @@ pub struct Picture<'a> {
 /// The head of the text: its size, and the tip of an arrow.
 pub(crate) fn put_head(canvas: &mut Canvas, width: u64, height: u64) -> Result<(), AllocError> {
     canvas.put(&[
-        Part::Markup("<svg xmlns=\"http://www.w3.org/2000/svg\" width=\""),
+        Part::Markup("xmlns=\"http://www.w3.org/2000/svg\" width=\""),
         Part::Number(width),
         Part::Markup("\" height=\""),
         Part::Number(height),
@@ -44,11 +44,6 @@ pub(crate) fn put_head(canvas: &mut Canvas, width: u64, height: u64) -> Result<(
         ),
         Part::Markup("<rect width=\"100%\" height=\"100%\" fill=\"#ffffff\"/>\n"),
     ])
-}
-
-/// The foot of the text.
-pub(crate) fn put_foot(canvas: &mut Canvas) -> Result<(), AllocError> {
-    canvas.put(&[Part::Markup("</svg>\n")])
 }
 
 /// What a kind looks like, and its name in words.
@@ -336,8 +331,7 @@ impl Picture<'_> {
         self.put_edges(canvas, row)?;
         self.put_row(canvas, row)?;
         self.put_cycles(canvas)?;
-        self.put_withdrawn(canvas)?;
-        put_foot(canvas)
+        self.put_withdrawn(canvas)
     }
 }
 
@@ -384,8 +378,7 @@ pub(crate) fn put_alone(
                         Part::Markup(" would close"),
                     ],
                 )?;
-                cycle.put(canvas, TOP)?;
-                return put_foot(canvas);
+                return cycle.put(canvas, TOP);
             }
         }
     }
@@ -398,6 +391,5 @@ pub(crate) fn put_alone(
             Part::Number(u64::from(tx.number())),
             Part::Markup(" was not refused: it has no cycle"),
         ],
-    )?;
-    put_foot(canvas)
+    )
 }
