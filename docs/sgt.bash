@@ -2,7 +2,7 @@
 _sgt() {
     local word=${COMP_WORDS[COMP_CWORD]} command=${COMP_WORDS[1]} options=
     if [ "$COMP_CWORD" = 1 ]; then
-        COMPREPLY=($(compgen -W 'audit serial replay run certify explain draw --help --version' -- "$word"))
+        COMPREPLY=($(compgen -W 'audit serial replay run certify explain draw help --help --version' -- "$word"))
         return
     fi
     case $command in
@@ -13,6 +13,7 @@ _sgt() {
         draw) options='--tx --dot --help' ;;
         serial) options='--progress --help' ;;
         certify) options='--help' ;;
+        help) COMPREPLY=($(compgen -W 'audit serial replay run certify explain draw' -- "$word")); return ;;
     esac
     COMPREPLY=($(compgen -W "$options" -- "$word") $(compgen -f -- "$word"))
 }

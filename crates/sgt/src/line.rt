@@ -32,6 +32,8 @@ enum Kind {
     Quiet,
     Strict,
     Progress,
+    // Behind it each word is a file.
+    Dashes,
 }
 
 // The command that a line begins with.
@@ -91,10 +93,34 @@ fn kind_of(command: Command, word: &str) -> Kind {
         "--workers" | "--tries" if command == Command::Run => Kind::WithNumber,
         "--tx" if command == Command::Explain || command == Command::Draw => Kind::WithNumber,
         "-" => Kind::File,
+        "--" => Kind::Dashes,
         _ if word.starts_with('-') => Kind::Plain,
         _ if command == Command::Explain && is_rule(word) => Kind::Plain,
         _ => Kind::File,
     }
+}
+
+// Whether the words are `sgt help`, or have one more behind.
+fn asks_help(given: &[String]) -> bool {
+    match given {
+        [_, word] | [_, word, _] => word.as_str() == "help",
+        _ => false,
+    }
+}
+
+// The words, with `sgt help COMMAND` as `sgt COMMAND --help`, and `sgt help` as `sgt --help`.
+fn without_help(alloc: Global, given: Vec<String>) -> Result<Vec<String>, AllocError> {
+    if !asks_help(given.as_slice()) {
+        return Ok(given);
+    }
+    let mut words = Vec::new(alloc);
+    for (place, word) in given.into_iter().enumerate() {
+        if place != 1 {
+            words.push(word)?;
+        }
+    }
+    words.push(String::from_str(alloc, "--help")?)?;
+    Ok(words)
 }
 
 impl Line {
@@ -140,37 +166,68 @@ impl Line {
         Ok(())
     }
 
+    // The same behind `--`.
+    fn add_behind(&mut self, alloc: Global, word: String) -> Result<(), AllocError> {
+        if self.command == Command::Audit || self.files.is_empty() {
+            self.files.push(word)?;
+            return Ok(());
+        }
+        self.words.push(String::from_str(alloc, "--")?)?;
+        self.words.push(word)?;
+        Ok(())
+    }
+
+    // One more word, behind one of this kind; the kind that it is of.
+    fn take(
+        &mut self,
+        alloc: Global,
+        before: Kind,
+        word: String,
+        is_last: bool,
+    ) -> Result<Kind, AllocError> {
+        let kind = match before {
+            Kind::WithNumber => Kind::Plain,
+            Kind::Dashes => {
+                self.add_behind(alloc, word)?;
+                return Ok(before);
+            }
+            Kind::Bundle if self.bundle.is_none() => {
+                self.bundle = Some(word);
+                return Ok(Kind::Plain);
+            }
+            _ => kind_of(self.command, word.as_str()),
+        };
+        if self.command == Command::Explain && is_rule(word.as_str()) {
+            self.command = Command::Topic;
+        }
+        let is_taken = match kind {
+            Kind::Bundle => self.bundle.is_none(),
+            Kind::Dashes => !is_last,
+            _ => false,
+        };
+        if !is_taken {
+            self.add(kind, word)?;
+        }
+        Ok(kind)
+    }
+
     /// The line of these words, the program's name first.
     pub(crate) fn of(alloc: Global, given: Vec<String>) -> Result<Line, AllocError> {
+        let given = without_help(alloc, given)?;
         let mut line = Line::new(alloc);
         let mut before = Kind::Plain;
-        let is_bare = given.len() <= 1;
+        let last = given.len().saturating_sub(1);
         for (place, word) in given.into_iter().enumerate() {
-            let kind = match before {
-                Kind::WithNumber => Kind::Plain,
-                _ => kind_of(line.command, word.as_str()),
-            };
+            let command = command_of(word.as_str());
+            before = line.take(alloc, before, word, place == last)?;
             if place == 1 {
-                line.command = command_of(word.as_str());
+                line.command = command;
             }
-            if before == Kind::Bundle && line.bundle.is_none() {
-                line.bundle = Some(word);
-                before = Kind::Plain;
-                continue;
-            }
-            if line.command == Command::Explain && is_rule(word.as_str()) {
-                line.command = Command::Topic;
-            }
-            before = kind;
-            if kind == Kind::Bundle && line.bundle.is_none() {
-                continue;
-            }
-            line.add(kind, word)?;
         }
         if before == Kind::Bundle {
             line.words.push(String::from_str(alloc, "--bundle")?)?;
         }
-        if is_bare {
+        if last == 0 {
             line.command = Command::Audit;
         }
         Ok(line)

@@ -95,6 +95,27 @@ fn put_head(canvas: &mut Canvas) -> Result<(), AllocError> {
     canvas.put(&[Part::Markup("  rankdir=LR;\n  node [shape=box];\n")])
 }
 
+/// The refused transactions with their cycles, and the withdrawn ones.
+fn put_others(
+    canvas: &mut Canvas,
+    scene: &Scene,
+    decisions: &[Decision],
+) -> Result<(), AllocError> {
+    for number in scene.refusals.as_slice() {
+        if let Some(decision) = decisions.get(*number as usize) {
+            put_refused(canvas, decision)?;
+        }
+    }
+    for tx in scene.withdrawn.as_slice() {
+        put_node(
+            canvas,
+            *tx,
+            " [style=filled, fillcolor=\"#dddddd\", color=\"#888888\"];\n",
+        )?;
+    }
+    Ok(())
+}
+
 /// All that is drawn.
 pub(crate) fn put_graph(
     canvas: &mut Canvas,
@@ -114,19 +135,7 @@ pub(crate) fn put_graph(
     for edge in edges {
         put_edge(canvas, scene, edge)?;
     }
-    for number in scene.refusals.as_slice() {
-        if let Some(decision) = decisions.get(*number as usize) {
-            put_refused(canvas, decision)?;
-        }
-    }
-    for tx in scene.withdrawn.as_slice() {
-        put_node(
-            canvas,
-            *tx,
-            " [style=filled, fillcolor=\"#dddddd\", color=\"#888888\"];\n",
-        )?;
-    }
-    Ok(())
+    put_others(canvas, scene, decisions)
 }
 
 /// The cycle of one refused transaction alone. Nothing but the transaction where it was not refused.

@@ -2,6 +2,7 @@
 #![tactic(auto)]
 
 mod choice;
+mod commands;
 mod line;
 mod options;
 

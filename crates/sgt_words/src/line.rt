@@ -1,125 +1,14 @@
-//! The command line, and what its refusals come to.
+//! What refusals of the command line come to.
 
 ghost use Rattle.std.specs.Prelude.{◌≡◌, ◌<◌, ◌↔◌, ◌++◌, ℕ, Any, List, IfOk, IsTrue, drop, length, map, string_bytes};
 ghost use Rattle.clap.specs.Words.{kind_of};
 ghost use Rattle.sgt_words.specs.Words.{AsksHelp, AsksOther, HasText, IsHelp, IsUsage, NamesHelp};
 
 use crate::choice::NoChoice;
-use crate::options::run_line;
+use crate::commands::{command, draw_line, explain_line, listing_line};
 use clap::error::ErrorKind;
-use clap::{Arg, ArgAction, Command, Error};
+use clap::{Command, Error};
 use std::alloc::{AllocError, Global};
-
-const VERSION: &str = "0.5.0 (bundles: sgt 1, sgt 2)";
-
-const ABOUT: &str =
-    "Audits the logs of certified runs, explains and draws them, makes the certificate of logs that have none, replays runs from events, and runs scripts.";
-
-const AUDIT: &str =
-    "Writes `yes C committed R refused W withdrawn` for a valid bundle, else `no line L FN` (the default)";
-
-const SERIAL: &str =
-    "Runs a valid bundle's committed transactions one after another by rank, else writes audit's `no` line";
-
-const REPLAY: &str =
-    "Reads sites and events, and writes a reply to each event, then `---` and the bundle, or `! E8`";
-
-const CERTIFY: &str =
-    "Makes the certificate of logs that have none, and writes the bundle, or why there is no certificate";
-
-const EXPLAIN: &str = "Writes audit's line on a bundle, and what it means";
-
-const DRAW: &str =
-    "Draws a valid bundle as SVG: transactions by rank, their conflicts, and refused ones with their cycles; else writes audit's `no` line";
-
-// The usage of each command, with an example. What of it is a file or about files is taken out of the words before.
-const AUDIT_USAGE: &str = "sgt audit [-q] [--progress] [FILE]...\n  e.g. sgt audit bundle.txt";
-
-const SERIAL_USAGE: &str = "sgt serial [--progress] [FILE]\n  e.g. sgt serial bundle.txt";
-
-const REPLAY_USAGE: &str =
-    "sgt replay [--strict] [--progress] [--bundle FILE] [FILE]\n  e.g. sgt replay --bundle bundle.txt events.txt";
-
-const CERTIFY_USAGE: &str = "sgt certify [FILE]\n  e.g. sgt certify logs.txt > bundle.txt";
-
-const EXPLAIN_USAGE: &str =
-    "sgt explain [--tx N] [FILE]\n       sgt explain RULE\n  e.g. sgt explain bundle.txt";
-
-const DRAW_USAGE: &str =
-    "sgt draw [--tx N] [--dot] [FILE]\n  e.g. sgt draw bundle.txt > bundle.svg";
-
-/// What the help of each command ends with.
-pub const MORE: &str =
-    "Behind each command a FILE may stand; with none, or -, standard input is read. audit takes several files, and -q to answer by the status alone. replay and run take --bundle FILE, where the bundle goes then, and replay --strict. With --progress, and where standard error is a terminal, audit, serial and replay tell it of every million lines read.
-
-L is the first line with a fault and FN the fault: docs/FORMAT.md has the faults and the formats of a bundle, a replay and scripts.
-
-Exit status:
-  0  yes or done, or help was asked for
-  1  no: the bundle is not valid, no certificate was made, a replay ended with a transaction active or refused an event under --strict, a script was not committed, or a fault ended a run
-  2  the words are no command and nothing was read, or `! LN line L`: line L of events or scripts is the first that can't be read
-  3  want of memory
-  4  a read or a write failed";
-
-// Adds a command that has no option but about files.
-fn add<'a>(
-    alloc: Global,
-    line: Command<'a>,
-    name: &'a str,
-    about: &'a str,
-    usage: &'a str,
-) -> Result<Command<'a>, AllocError> {
-    let command = Command::new(alloc, name).about(about).after_help(MORE);
-    line.subcommand(command.override_usage(usage))
-}
-
-fn explain_line<'a>(alloc: Global) -> Result<Command<'a>, AllocError> {
-    let rule = Arg::new(alloc, "RULE").help(
-        "Says what F1 to F19 or K1 to K4 is, or a reply's E8, L1 or V9",
-    );
-    let tx = Arg::new(alloc, "tx")
-        .long("tx")
-        .value_name("N")
-        .help("Says what transaction N did");
-    Command::new(alloc, "explain")
-        .about(EXPLAIN)
-        .override_usage(EXPLAIN_USAGE)
-        .after_help(MORE)
-        .arg(rule)?
-        .arg(tx)
-}
-
-fn draw_line<'a>(alloc: Global) -> Result<Command<'a>, AllocError> {
-    let tx = Arg::new(alloc, "tx")
-        .long("tx")
-        .value_name("N")
-        .help("Draws the cycle of refused transaction N alone");
-    let dot = Arg::new(alloc, "dot")
-        .long("dot")
-        .action(ArgAction::SetTrue)
-        .help("Writes Graphviz text in place of SVG");
-    Command::new(alloc, "draw")
-        .about(DRAW)
-        .override_usage(DRAW_USAGE)
-        .after_help(MORE)
-        .arg(tx)?
-        .arg(dot)
-}
-
-fn command<'a>(alloc: Global) -> Result<Command<'a>, AllocError> {
-    let line = Command::new(alloc, "sgt")
-        .about(ABOUT)
-        .after_help(MORE)
-        .version(VERSION)
-        .disable_help_subcommand(true);
-    let line = add(alloc, line, "audit", AUDIT, AUDIT_USAGE)?;
-    let line = add(alloc, line, "serial", SERIAL, SERIAL_USAGE)?;
-    let line = add(alloc, line, "replay", REPLAY, REPLAY_USAGE)?;
-    let line = line.subcommand(run_line(alloc)?)?;
-    let line = add(alloc, line, "certify", CERTIFY, CERTIFY_USAGE)?;
-    let line = line.subcommand(explain_line(alloc)?)?;
-    line.subcommand(draw_line(alloc)?)
-}
 
 // What clap says, or this where it says nothing.
 fn message(alloc: Global, error: &Error) -> Result<String, AllocError>
@@ -185,6 +74,25 @@ fn asks_help(words: &[String]) -> bool
     false
 }
 
+// The help of the command that these words begin with: clap's text for what is left for the program, or where it can be had one
+// that lists also what is taken out of the words before.
+fn listed(alloc: Global, words: &[String], text: String) -> Result<NoChoice, AllocError>
+    requires { 0 < length (string_bytes text) }
+    ensures { IfOk result HasText }
+{
+    let Some(word) = words.first() else {
+        return Ok(NoChoice::Help(text));
+    };
+    let Some(mut line) = listing_line(alloc, word.as_str())? else {
+        return Ok(NoChoice::Help(text));
+    };
+    let list = line.render_help()?;
+    if list.is_empty() {
+        return Ok(NoChoice::Help(text));
+    }
+    Ok(NoChoice::Help(list))
+}
+
 /// What clap's fault in these words comes to, which stand behind the program's name. It is help only where one of them asks for it.
 pub fn told_of(
     alloc: Global,
@@ -199,7 +107,10 @@ pub fn told_of(
         (λ no. kind_of error.now ≡ ErrorKind.OutOfMemory → no ≡ NoChoice.Memory) }
 {
     if error.use_stderr() || asks_help(words) {
-        return Ok(refused(alloc, error));
+        return match refused(alloc, error) {
+            NoChoice::Help(text) => listed(alloc, words, text),
+            told => Ok(told),
+        };
     }
     no_command(alloc, line)
 }

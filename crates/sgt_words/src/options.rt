@@ -7,7 +7,8 @@ ghost use Rattle.sgt_words.specs.Words.{AsksHelp, HasText, IsHelp, IsRunOf};
 ghost use Rattle.sgt_words.specs.private.Found.{FindsRun};
 
 use crate::choice::{Choice, NoChoice};
-use crate::line::{MORE, no_command, told_of};
+use crate::commands::MORE;
+use crate::line::{no_command, told_of};
 use clap::builder::ValueParser;
 use clap::{Arg, ArgMatches, Command};
 use std::alloc::{AllocError, Global};

@@ -1,0 +1,196 @@
+//! The commands with their words, and the texts of their help.
+
+use crate::options::run_line;
+use clap::{Arg, ArgAction, Command};
+use std::alloc::{AllocError, Global};
+
+const VERSION: &str = "0.5.0 (bundles: sgt 1, sgt 2)";
+
+const ABOUT: &str =
+    "Audits the logs of certified runs, explains and draws them, makes the certificate of logs that have none, replays runs from events, and runs scripts.";
+
+const AUDIT: &str =
+    "Writes `yes C committed R refused W withdrawn` for a valid bundle, else `no line L FN` (the default)";
+
+const SERIAL: &str =
+    "Runs a valid bundle's committed transactions one after another by rank, else writes audit's `no` line";
+
+const REPLAY: &str =
+    "Reads sites and events, and writes a reply to each event, then `---` and the bundle, or `! E8`";
+
+const CERTIFY: &str =
+    "Makes the certificate of logs that have none, and writes the bundle, or why there is no certificate";
+
+const EXPLAIN: &str = "Writes audit's line on a bundle, and what it means";
+
+const DRAW: &str =
+    "Draws a valid bundle as SVG: transactions by rank, their conflicts, and refused ones with their cycles; else writes audit's `no` line";
+
+// The usage of each command, with an example. What of it is a file or about files is taken out of the words before.
+const AUDIT_USAGE: &str = "sgt audit [-q] [--progress] [FILE]...\n  e.g. sgt audit bundle.txt";
+
+const SERIAL_USAGE: &str = "sgt serial [--progress] [FILE]\n  e.g. sgt serial bundle.txt";
+
+const REPLAY_USAGE: &str =
+    "sgt replay [--strict] [--progress] [--bundle FILE] [FILE]\n  e.g. sgt replay --bundle bundle.txt events.txt";
+
+const CERTIFY_USAGE: &str = "sgt certify [FILE]\n  e.g. sgt certify logs.txt > bundle.txt";
+
+const EXPLAIN_USAGE: &str =
+    "sgt explain [--tx N] [FILE]\n       sgt explain RULE\n  e.g. sgt explain bundle.txt";
+
+const DRAW_USAGE: &str =
+    "sgt draw [--tx N] [--dot] [FILE]\n  e.g. sgt draw bundle.txt > bundle.svg";
+
+/// What the help of each command ends with.
+pub const MORE: &str =
+    "Behind each command a FILE may stand; with none, or -, standard input is read. Where standard error is a terminal, audit, serial and replay tell it of each million lines read, as with --progress. sgt COMMAND --help lists all options of a command.
+
+L is the first line with a fault and FN the fault: docs/FORMAT.md has the faults and the formats of a bundle, a replay and scripts.
+
+Exit status:
+  0  yes or done, or help was asked for
+  1  no: the bundle is not valid, no certificate was made, a replay ended with a transaction active or refused an event under --strict, a script was not committed, or a fault ended a run
+  2  the words are no command and nothing was read, or `! LN line L`: line L of events or scripts is the first that can't be read
+  3  want of memory
+  4  a read or a write failed";
+
+// A command that has no option but what is taken out of the words before.
+fn plain_line<'a>(alloc: Global, name: &'a str, about: &'a str, usage: &'a str) -> Command<'a> {
+    Command::new(alloc, name)
+        .about(about)
+        .override_usage(usage)
+        .after_help(MORE)
+}
+
+fn audit_line<'a>(alloc: Global) -> Command<'a> {
+    plain_line(alloc, "audit", AUDIT, AUDIT_USAGE)
+}
+
+fn serial_line<'a>(alloc: Global) -> Command<'a> {
+    plain_line(alloc, "serial", SERIAL, SERIAL_USAGE)
+}
+
+fn replay_line<'a>(alloc: Global) -> Command<'a> {
+    plain_line(alloc, "replay", REPLAY, REPLAY_USAGE)
+}
+
+fn certify_line<'a>(alloc: Global) -> Command<'a> {
+    plain_line(alloc, "certify", CERTIFY, CERTIFY_USAGE)
+}
+
+/// The words of `explain`.
+pub fn explain_line<'a>(alloc: Global) -> Result<Command<'a>, AllocError> {
+    let rule = Arg::new(alloc, "RULE").help(
+        "Says what F1 to F19 or K1 to K4 is, or a reply's E8, L1 or V9",
+    );
+    let tx = Arg::new(alloc, "tx")
+        .long("tx")
+        .value_name("N")
+        .help("Says what transaction N did");
+    Command::new(alloc, "explain")
+        .about(EXPLAIN)
+        .override_usage(EXPLAIN_USAGE)
+        .after_help(MORE)
+        .arg(rule)?
+        .arg(tx)
+}
+
+/// The words of `draw`.
+pub fn draw_line<'a>(alloc: Global) -> Result<Command<'a>, AllocError> {
+    let tx = Arg::new(alloc, "tx")
+        .long("tx")
+        .value_name("N")
+        .help("Draws the cycle of refused transaction N alone");
+    let dot = Arg::new(alloc, "dot")
+        .long("dot")
+        .action(ArgAction::SetTrue)
+        .help("Writes Graphviz text in place of SVG");
+    Command::new(alloc, "draw")
+        .about(DRAW)
+        .override_usage(DRAW_USAGE)
+        .after_help(MORE)
+        .arg(tx)?
+        .arg(dot)
+}
+
+/// All that is left for the program of the words.
+pub fn command<'a>(alloc: Global) -> Result<Command<'a>, AllocError> {
+    let line = Command::new(alloc, "sgt")
+        .about(ABOUT)
+        .after_help(MORE)
+        .version(VERSION)
+        .disable_help_subcommand(true);
+    line.subcommand(audit_line(alloc))?
+        .subcommand(serial_line(alloc))?
+        .subcommand(replay_line(alloc))?
+        .subcommand(run_line(alloc)?)?
+        .subcommand(certify_line(alloc))?
+        .subcommand(explain_line(alloc)?)?
+        .subcommand(draw_line(alloc)?)
+}
+
+fn flag<'a>(alloc: Global, name: &'a str, help: &'a str) -> Arg<'a> {
+    Arg::new(alloc, name)
+        .long(name)
+        .action(ArgAction::SetTrue)
+        .help(help)
+}
+
+fn progress<'a>(alloc: Global) -> Arg<'a> {
+    flag(
+        alloc,
+        "progress",
+        "Tells standard error of each million lines read",
+    )
+}
+
+fn bundle<'a>(alloc: Global) -> Arg<'a> {
+    Arg::new(alloc, "bundle")
+        .long("bundle")
+        .value_name("FILE")
+        .help("Writes the bundle to this file, once all is done")
+}
+
+fn file<'a>(alloc: Global) -> Arg<'a> {
+    Arg::new(alloc, "FILE").help("Is read in place of standard input")
+}
+
+fn full_audit<'a>(alloc: Global) -> Result<Command<'a>, AllocError> {
+    let quiet = flag(alloc, "quiet", "Answers by the status alone").short('q');
+    let files = Arg::new(alloc, "FILE").action(ArgAction::Append).help(
+        "Are read in place of standard input; of several, a line each",
+    );
+    audit_line(alloc)
+        .arg(files)?
+        .arg(quiet)?
+        .arg(progress(alloc))
+}
+
+fn full_replay<'a>(alloc: Global) -> Result<Command<'a>, AllocError> {
+    let strict = flag(
+        alloc,
+        "strict",
+        "Ends with status 1 where an event was refused",
+    );
+    replay_line(alloc)
+        .arg(file(alloc))?
+        .arg(strict)?
+        .arg(progress(alloc))?
+        .arg(bundle(alloc))
+}
+
+/// The words of a command with those that are taken out before, for its help. None: this is no command.
+pub fn listing_line<'a>(alloc: Global, name: &str) -> Result<Option<Command<'a>>, AllocError> {
+    let line = match name {
+        "audit" => full_audit(alloc)?,
+        "serial" => serial_line(alloc).arg(file(alloc))?.arg(progress(alloc))?,
+        "replay" => full_replay(alloc)?,
+        "run" => run_line(alloc)?.arg(file(alloc))?.arg(bundle(alloc))?,
+        "certify" => certify_line(alloc).arg(file(alloc))?,
+        "explain" => explain_line(alloc)?.arg(file(alloc))?,
+        "draw" => draw_line(alloc)?.arg(file(alloc))?,
+        _ => return Ok(None),
+    };
+    Ok(Some(line))
+}
