@@ -180,17 +180,32 @@ fn full_replay<'a>(alloc: Global) -> Result<Command<'a>, AllocError> {
         .arg(bundle(alloc))
 }
 
+fn full_serial<'a>(alloc: Global) -> Result<Command<'a>, AllocError> {
+    serial_line(alloc).arg(file(alloc))?.arg(progress(alloc))
+}
+
+fn full_run<'a>(alloc: Global) -> Result<Command<'a>, AllocError> {
+    run_line(alloc)?.arg(file(alloc))?.arg(bundle(alloc))
+}
+
+fn full_explain<'a>(alloc: Global) -> Result<Command<'a>, AllocError> {
+    explain_line(alloc)?.arg(file(alloc))
+}
+
+fn full_draw<'a>(alloc: Global) -> Result<Command<'a>, AllocError> {
+    draw_line(alloc)?.arg(file(alloc))
+}
+
 /// The words of a command with those that are taken out before, for its help. None: this is no command.
-pub fn listing_line<'a>(alloc: Global, name: &str) -> Result<Option<Command<'a>>, AllocError> {
-    let line = match name {
-        "audit" => full_audit(alloc)?,
-        "serial" => serial_line(alloc).arg(file(alloc))?.arg(progress(alloc))?,
-        "replay" => full_replay(alloc)?,
-        "run" => run_line(alloc)?.arg(file(alloc))?.arg(bundle(alloc))?,
-        "certify" => certify_line(alloc).arg(file(alloc))?,
-        "explain" => explain_line(alloc)?.arg(file(alloc))?,
-        "draw" => draw_line(alloc)?.arg(file(alloc))?,
-        _ => return Ok(None),
-    };
-    Ok(Some(line))
+pub fn listing_line<'a>(alloc: Global, name: &str) -> Option<Result<Command<'a>, AllocError>> {
+    match name {
+        "audit" => Some(full_audit(alloc)),
+        "serial" => Some(full_serial(alloc)),
+        "replay" => Some(full_replay(alloc)),
+        "run" => Some(full_run(alloc)),
+        "certify" => Some(certify_line(alloc).arg(file(alloc))),
+        "explain" => Some(full_explain(alloc)),
+        "draw" => Some(full_draw(alloc)),
+        _ => None,
+    }
 }

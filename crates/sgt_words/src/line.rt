@@ -80,17 +80,15 @@ fn listed(alloc: Global, words: &[String], text: String) -> Result<NoChoice, All
     requires { 0 < length (string_bytes text) }
     ensures { IfOk result HasText }
 {
-    let Some(word) = words.first() else {
-        return Ok(NoChoice::Help(text));
-    };
-    let Some(mut line) = listing_line(alloc, word.as_str())? else {
-        return Ok(NoChoice::Help(text));
-    };
-    let list = line.render_help()?;
-    if list.is_empty() {
-        return Ok(NoChoice::Help(text));
+    if let Some(word) = words.first() {
+        if let Some(line) = listing_line(alloc, word.as_str()) {
+            let list = line?.render_help()?;
+            if !list.is_empty() {
+                return Ok(NoChoice::Help(list));
+            }
+        }
     }
-    Ok(NoChoice::Help(list))
+    Ok(NoChoice::Help(text))
 }
 
 /// What clap's fault in these words comes to, which stand behind the program's name. It is help only where one of them asks for it.
