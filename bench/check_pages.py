@@ -32,9 +32,14 @@ def commands():
 
 def options():
     """The options that the code knows, by their long names."""
-    named = re.findall(r'\.long\("(\w+)"\)', text_of(f"{WORDS}/line.rt"))
+    named = re.findall(r'\.long\("(\w+)"\)', text_of(f"{WORDS}/commands.rt"))
     named += re.findall(r'number_option\(\s*alloc,\s*"(\w+)"', text_of(f"{WORDS}/options.rt"))
     return sorted({*(f"--{name}" for name in named), *re.findall(r'"(--\w+)"', text_of(FILES)), "--help", "--version"})
+
+
+def rewritten():
+    """The words in a command's place that are made into other words before."""
+    return re.findall(r'word\.as_str\(\) == "(\w+)"', text_of(FILES))
 
 
 def topics():
@@ -51,7 +56,7 @@ def completed():
 
 def statuses():
     """The statuses that the help of each command has."""
-    return re.findall(r"^  (\d)  ", text_of(f"{WORDS}/line.rt"), flags=re.M)
+    return re.findall(r"^  (\d)  ", text_of(f"{WORDS}/commands.rt"), flags=re.M)
 
 
 def anchor(heading):
@@ -139,11 +144,11 @@ def more_words():
         yield f"README.md: there is no status {status}"
     manual = text_of("docs/sgt.1")
     told = {word for line in re.findall(r"^\.It Cm (.*)$", manual, flags=re.M) for word in line.split()}
-    for word in sorted(told - set(commands())):
+    for word in sorted(told - {*commands(), *rewritten()}):
         yield f"docs/sgt.1: there is no command {word}"
     for word in sorted({f"-{word}" for word in re.findall(r"Fl (-\w+)", manual)} - set(options())):
         yield f"docs/sgt.1: there is no option {word}"
-    known = {*options(), *commands(), *topics(), "-q"}
+    known = {*options(), *commands(), *rewritten(), *topics(), "-q"}
     for word in sorted(completed() - known):
         yield f"docs/sgt.bash: {word} is no word of a command line"
     for word in sorted(known - completed()):
