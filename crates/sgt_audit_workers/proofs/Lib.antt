@@ -1,0 +1,5 @@
+pub mod Heads
+pub mod OneMore
+pub mod Reading
+pub mod Given
+pub mod Taken
