@@ -1,6 +1,6 @@
 //! Batches of sections, each section judged by a worker of its own.
 
-ghost use Rattle.std.specs.Prelude.{◌≡◌, ◌≢◌, ◌+◌, ◌<◌, ◌≤◌, ℕ, List, Option, Err, All, length, IfOk, IfErr, IsErrOf, vec_len};
+ghost use Rattle.std.specs.Prelude.{◌≡◌, ◌≢◌, ◌+◌, ◌<◌, ◌≤◌, ◌∷◌, ◌++◌, [], ℕ, List, Option, Err, All, length, IfOk, IfErr, OnOk, IsErrOf, vec_len};
 ghost use Rattle.std.specs.List.{AllZip};
 ghost use Rattle.sgt_notation.specs.Lines.{coming};
 ghost use Rattle.sgt_audit_workers.specs.Head.{IsHead};
@@ -99,6 +99,14 @@ fn give<R: Source>(
     Ok(job)
 }
 
+/// One more worker.
+fn add(jobs: &mut Vec<Job>, job: Job) -> Result<(), AllocError>
+    ensures { OnOk result (jobs.new.items ≡ jobs.old.items ++ job ∷ []) }
+{
+    jobs.push(job)?;
+    Ok(())
+}
+
 /// Gives workers the sections of these sites.
 pub fn give_all<R: Source>(
     reader: &mut R,
@@ -135,7 +143,7 @@ pub fn give_all<R: Source>(
             unreachable!()
         };
         let job = give(reader, text, idle, site)?;
-        given.push(job)?;
+        add(&mut given, job)?;
     }
     Ok(given)
 }
