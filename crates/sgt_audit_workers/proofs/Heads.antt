@@ -3,8 +3,8 @@ use Rattle.std.proofs.Common.{◌≡◌, ℕ, ◌+◌, ◌<◌, ◌≤◌, Bool,
 use Rattle.std.specs.Io.KnownBytes.{Consumes}
 use Rattle.std.proofs.KnownBytes.{Consumes-trans}
 use Rattle.std.proofs.lemmas.List.{append-nil}
-use Rattle.sgt_notation.specs.Limits.{max_line}
-use Rattle.sgt_notation.specs.Lines.{Gives, IsNext, IsLongerThan}
+use Rattle.sgt_notation.specs.Limits.{max_line, most_reads}
+use Rattle.sgt_notation.specs.Lines.{Ahead, Gives, IsNext, Spends, coming}
 use Rattle.sgt_notation.specs.Spelling.{HasNoLf, text_of_lines}
 use Rattle.sgt_notation.specs.declared.lines.Next.{Next}
 use Rattle.sgt_notation.specs.declared.lines.Next.TheVariants.{Line, Cut, TooLong, End}
@@ -126,3 +126,12 @@ pub front-told : (told mid new : Option (List ℕ)) (second : Bool) (c : Certifi
 front-told told mid new second c first later =
     subst (λ (t : List ℕ). Consumes told new ((format_line second ++ 10 ∷ []) ++ t)) (sym (append-nil (certificate_text c ++ 10 ∷ [])))
     (Consumes-trans told mid new (format_line second ++ 10 ∷ []) (certificate_text c ++ 10 ∷ []) first later)
+
+-- nothing was read of the text
+pub all-comes : (ahead : Ahead) (told : Option (List ℕ)) → ahead ≡ record { held = []; reads = most_reads } → coming ahead told ≡ told
+all-comes ahead None fresh = refl
+all-comes ahead (Some text) fresh = ap (λ (a : Ahead). Some (a.held ++ text)) fresh
+
+pub spends-none : (reads : ℕ) (told : Option (List ℕ)) → Spends reads told reads told
+spends-none reads None = tt
+spends-none reads (Some bytes) = omega arith

@@ -69,7 +69,7 @@ batches-preserved g c =
       some = omega (arith, len, inv.some, c.batches-test.true);
       spends = λ told spent. c.in_ok-given.ensures.spends told (inv.spends told spent);
       asks = omega (arith, c.in_ok-given.ensures.asks, inv.asks);
-      quiet = ? ∙ inv.quiet;
+      quiet = c.in_ok-given.ensures.quiet (λ same. cc) ∙ inv.quiet;
     }
 
 pub at_end-requires : goal.at_end-requires
