@@ -3,3 +3,4 @@ pub mod OneMore
 pub mod Reading
 pub mod Given
 pub mod Taken
+pub mod Whole

@@ -16,17 +16,17 @@ use Rattle.sgt_audit.specs.Alone.{IsReadyAlone}
 use Rattle.sgt_audit.specs.Verdict.{IsVerdict, yes_of}
 use Rattle.sgt_audit.specs.declared.verdict.Verdict.{Verdict}
 use Rattle.sgt_audit.proofs.MayFollow.{sections-append}
-use Rattle.sgt_audit.proofs.NoFault.{bundle_of, spells-bundle, valid-bundle}
 use Rattle.sgt_audit_sections.specs.Judged.{IsJudgedSection, IsWhole}
 use Rattle.sgt_audit_sections.specs.Sections.{AllStepsAreFound, IsFaultlessCertificate, front_text}
 use Rattle.sgt_audit_sections.specs.declared.judging.Judged.{Judged}
-use Rattle.sgt_audit_sections.proofs.SectionFaults.{found-no_fault, text-split}
+use Rattle.sgt_audit_sections.proofs.SectionFaults.{text-split}
 use Rattle.sgt_audit_workers.specs.Tallies.{Adds, IsTally}
 use Rattle.sgt_audit_workers.specs.declared.batches.Job.{Job}
 use Rattle.sgt_audit_workers.specs.Head.{IsHead}
 use Rattle.sgt_audit_workers.specs.declared.head.Head.{Head}
 use Rattle.sgt_audit_workers.specs.declared.tally.Tally.{Tally}
 use Rattle.sgt_audit_workers.specs.private.Batches.{HasJudged, IsGiven, IsIdle, IsTallied}
+use Rattle.sgt_audit_workers.proofs.Whole.{yes}
 
 -- ---- one more section
 
@@ -118,15 +118,7 @@ module _ (h : Head) (told coming : Option (List ℕ)) (t : Tally) (is : IsTallie
       on-rest (Some bytes) (Some more) front = subst (λ (b : List ℕ). IsVerdict b v) (sym front) (verdict more)
 
   yes-on : AllStepsAreFound h.certificate.decisions is.logs → IsVerdict (front_text h.second h.certificate is.logs) (yes_of h.certificate.decisions)
-  yes-on found =
-      let text = front_text h.second h.certificate is.logs in
-      let none = found-no_fault h.second h.certificate is.logs is.tally.certificate is.tally.faultless each found in
-      let before = sections_from 0 is.logs in (
-        bundle_of text h.second h.certificate before none.3.0 none.3.1 refl,
-        spells-bundle text h.second h.certificate before none.3.0 none.3.1 refl,
-        valid-bundle text h.second h.certificate before none.3.0 none.3.1 refl,
-        refl,
-      )
+  yes-on = yes h.second h.certificate is.logs is.tally.certificate is.tally.faultless each
 
   -- nothing more comes
   pub yes-at-end : AllStepsAreFound h.certificate.decisions is.logs → IfSome told (λ bytes. IsAtEnd coming) → IfSome told (λ bytes. IsVerdict bytes (yes_of h.certificate.decisions))

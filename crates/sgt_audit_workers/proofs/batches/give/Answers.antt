@@ -1,4 +1,7 @@
-use Rattle.std.proofs.Common.{List, ℕ, false, refl, sym, subst, arith}
+use Rattle.std.proofs.Common.{rules, List, ℕ, refl, sym, subst, ◌∙◌}
+use Rattle.std.specs.Prelude.{IsErrOf}
+use Rattle.std.proofs.lemmas.Bool.{false≢true}
+use Rattle.sgt_names.specs.declared.outcome.EngineFail.TheVariants.{ReadFault}
 use Rattle.std.specs.Io.KnownBytes.{Consumes}
 use Rattle.sgt_notation.specs.Lines.{coming}
 use Rattle.sgt_audit_workers.proofs.Given.{behind-more, cut-ends, cut-reads}
@@ -35,3 +38,8 @@ returns-clause-given g c told behind = record {
 pub returns-clause-behind : goal.returns-clause-behind
 returns-clause-behind g c told behind =
     behind-more told _ _ _ _ _ behind (cut-reads _ _ _ _ c.in_ok-read_section.ensures.cut) (λ ends. cut-ends told _ _ _ _ behind.read (rw c.if-branch.false at c.in_ok-read_section.ensures.cut))
+
+pub returns-in_err-read_section-clause-read_fault : goal.returns-in_err-read_section-clause-read_fault
+returns-in_err-read_section-clause-read_fault g c same first from spent counts =
+    let was : IsErrOf c.read_section.result ReadFault = search rules in
+    c.read_section.ensures.read_fault was first from (spent c.if-text.false) counts

@@ -1,18 +1,21 @@
-use Rattle.std.proofs.Common.{arith, ap, length, refl, ◌∷◌, [], ◌∙◌}
+use Rattle.std.proofs.Common.{rules, All, arith, ap, length, refl, sym, subst, ◌∷◌, [], ◌∙◌}
 use Rattle.std.proofs.lemmas.List.{length-append}
 use Rattle.std.proofs.lemmas.List.Elements.{All-nil, All-pop, All-push}
-use Rattle.sgt_audit_workers.specs.private.Batches.{IsIdle}
+use Rattle.std.specs.Prelude.{IsErrOf}
+use Rattle.sgt_names.specs.declared.outcome.EngineFail.TheVariants.{ReadFault}
+use Rattle.sgt_notation.specs.Lines.{coming}
+use Rattle.sgt_audit_workers.specs.private.Batches.{AreGiven, IsIdle}
 use Rattle.sgt_audit_workers.proofs.Given.{fails-from, given-more, idle-same}
 use Rattle.std.proofs.KnownBytes.{Consumes-nil}
 use Rattle.sgt_audit_workers.proofs.batches.give_all.Goals as goal
 
 pub loop-site-init : goal.loop-site-init
 loop-site-init g c = record {
-  given = λ told behind. Consumes-nil _;
+  given = λ told behind. subst (λ js. AreGiven told (coming c.args.text.now.lines (g.R.Source.tells c.args.reader.now)) c.args.first js (coming c.args.text.now.lines (g.R.Source.tells c.args.reader.now))) (sym c.new-given.ensures.items) (Consumes-nil _);
   behind = λ told behind. behind;
   len = omega arith;
   enough = omega (arith, c.requires.enough);
-  idle = λ h k all. All-nil (IsIdle h k);
+  idle = λ h k all. subst (All (IsIdle h k)) (sym c.new-given.ensures.items) (All-nil (IsIdle h k));
   others = λ h k all. all;
   spends = λ told spent. spent;
   asks = refl;
@@ -37,3 +40,9 @@ loop-site-preserved g c =
       asks = omega (arith, c.in_ok-job.ensures.asks, inv.asks);
       quiet = c.in_ok-job.ensures.quiet (λ same. cc) ∙ inv.quiet;
     }
+
+pub returns-in_err-job-clause-read_fault : goal.returns-in_err-job-clause-read_fault
+returns-in_err-job-clause-read_fault g c same =
+    let was : IsErrOf c.give.result ReadFault = search rules in
+    let inv = c.loop-site.invariant in
+    fails-from c.args.text.now c.loop-site.text _ _ _ _ _ _ _ _ (c.give.ensures.read_fault was) inv.spends inv.asks inv.quiet

@@ -2,13 +2,8 @@ use Rattle.std.proofs.Common.{Bool, ◌∙◌, refl, sym, subst, ap, IfOk}
 use Rattle.sgt_audit_sections.specs.Judged.{IsJudgedSection}
 use Rattle.sgt_audit_workers.proofs.batches.run.Goals as goal
 
-pub judge_section-requires : goal.judge_section-requires
-judge_section-requires c = record {
-  ready = c.requires.idle.0;
-  good = c.requires.head.good;
-  site = c.requires.site;
-  steps = c.at-steps.ensures c.args.head.now.certificate.decisions c.requires.head.steps;
-}
+pub judge_section-job-requires-clause-steps : goal.judge_section-job-requires-clause-steps
+judge_section-job-requires-clause-steps c = c.at-steps.ensures c.args.head.now.certificate.decisions c.requires.head.steps
 
 pub returns : goal.returns
 returns c = record {
@@ -16,8 +11,8 @@ returns c = record {
   section = refl;
   last = refl;
   done = record {
-    second = c.judge_section.ensures.second ∙ c.requires.idle.1;
-    judged = subst (λ (second : Bool). IfOk c.judge_section.result (IsJudgedSection second c.args.head.now.certificate c.args.job.site c.args.job.section.items)) c.requires.idle.1 c.judge_section.ensures.judged;
-    ready = c.judge_section.ensures.ready;
+    second = c.judge_section-job.ensures.second ∙ c.requires.idle.1;
+    judged = subst (λ (second : Bool). IfOk c.judge_section-job.result (IsJudgedSection second c.args.head.now.certificate c.args.job.site c.args.job.section.items)) c.requires.idle.1 c.judge_section-job.ensures.judged;
+    ready = c.judge_section-job.ensures.ready;
   };
 }

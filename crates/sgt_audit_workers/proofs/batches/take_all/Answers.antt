@@ -28,7 +28,7 @@ loop-job-preserved c = record {
         let done = All_at (HasJudged h) xs i job c.requires here in
         let judged = c.in-Ok.judged in
         let same = c.in-Ok.is in
-        let added = rw c.in_default.is at (c.in_ok-add.ensures.adds h.second h.certificate inv.1.logs job.section.items (rest_of told rest.0) inv.1.tally
+        let added = rw c.in_default.is at (c.in_ok-verdict.ensures.adds h.second h.certificate inv.1.logs job.section.items (rest_of told rest.0) inv.1.tally
             (omega (arith, inv.2, inv.1.tally.whole, few, c.loop-job-test.true)) (judged-at h told inv.0 rest.0 job c.loop-job.tally inv.1 rest.1 judged done same) (ends-last h told inv.0 rest.0 job c.loop-job.tally inv.1 rest.1)) in
         let now = taken h told inv.0 rest.0 job c.loop-job.tally inv.1 rest.1 c.add.new.self added in (
           rest.0,
@@ -37,7 +37,7 @@ loop-job-preserved c = record {
           subst (λ k. AreGiven told rest.0 k (drop (i + 1) xs) new) (sym now.1) rest.2,
           All-next (IsIdle h (c.args.tally.now.whole + length xs)) xs i job here
               (idle-later h (job.site + 1) (c.args.tally.now.whole + length xs) job (omega (arith, rest.1.site, inv.2, c.loop-job-test.true))
-              (idle-behind h job judged done same (rw c.in_default.is at c.in_ok-add.ensures.whole))) inv.4,
+              (idle-behind h job judged done same (rw c.in_default.is at c.in_ok-verdict.ensures.whole))) inv.4,
         );
 }
 
@@ -53,7 +53,7 @@ returns-in-Some-clause-takes c told old new t given few =
     let done = All_at (HasJudged h) xs i job c.requires here in
     let judged = c.in-Ok.judged in
     let same = c.in-Ok.is in
-    let added = rw c.in-Some.is at (c.in_ok-add.ensures.adds h.second h.certificate inv.1.logs job.section.items (rest_of told rest.0) inv.1.tally
+    let added = rw c.in-Some.is at (c.in_ok-verdict.ensures.adds h.second h.certificate inv.1.logs job.section.items (rest_of told rest.0) inv.1.tally
         (omega (arith, inv.2, inv.1.tally.whole, few, c.loop-job-test.true)) (judged-at h told inv.0 rest.0 job c.loop-job.tally inv.1 rest.1 judged done same) (ends-last h told inv.0 rest.0 job c.loop-job.tally inv.1 rest.1)) in
     found h told inv.0 rest.0 job c.loop-job.tally inv.1 rest.1 c.add.new.self c.in-Some.verdict added
 

@@ -1,4 +1,4 @@
-use Rattle.std.proofs.Common.{◌≡◌, ◌≤◌, ◌<◌, ◌+◌, ◌-◌, ℕ, List, Option, All, length}
+use Rattle.std.proofs.Common.{◌≡◌, ◌≤◌, ◌<◌, ◌+◌, ◌-◌, ℕ, List, [], Option, All, length}
 use Rattle.std.specs.Io.KnownBytes.{Consumes}
 use Rattle.sgt_notation.specs.Lines.{coming}
 use Rattle.sgt_audit_sections.specs.Sections.{front_text}
