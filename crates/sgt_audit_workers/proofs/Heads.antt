@@ -118,8 +118,8 @@ behind-first (Some all) (Some bytes) second P first holds =
     subst P (sym (first ∙ ap (λ (t : List ℕ). t ++ bytes) (sym (append-nil (format_line second ++ 10 ∷ []))))) holds
 
 -- a line of a text that is this
-pub line-told : (limit : ℕ) (old new : Option (List ℕ)) (l text : List ℕ) → l ≡ text → Gives limit old Line l new → Consumes old new (text ++ 10 ∷ [])
-line-told limit old new l text same gives = subst (λ (t : List ℕ). Consumes old new (t ++ 10 ∷ [])) same (line-more limit old new l gives)
+pub line-told : (limit : ℕ) (old new : Option (List ℕ)) (l spelled : List ℕ) → l ≡ spelled → Gives limit old Line l new → Consumes old new (spelled ++ 10 ∷ [])
+line-told limit old new l spelled same gives = subst (λ (t : List ℕ). Consumes old new (t ++ 10 ∷ [])) same (line-more limit old new l gives)
 
 -- the two lines
 pub front-told : (told mid new : Option (List ℕ)) (second : Bool) (c : Certificate) → Consumes told mid (format_line second ++ 10 ∷ []) → Consumes mid new (certificate_text c ++ 10 ∷ []) → Consumes told new (front_text second c [])
@@ -130,7 +130,7 @@ front-told told mid new second c first later =
 -- nothing was read of the text
 pub all-comes : (ahead : Ahead) (told : Option (List ℕ)) → ahead ≡ record { held = []; reads = most_reads } → coming ahead told ≡ told
 all-comes ahead None fresh = refl
-all-comes ahead (Some text) fresh = ap (λ (a : Ahead). Some (a.held ++ text)) fresh
+all-comes ahead (Some bytes) fresh = ap (λ (a : Ahead). Some (a.held ++ bytes)) fresh
 
 pub spends-none : (reads : ℕ) (told : Option (List ℕ)) → Spends reads told reads told
 spends-none reads None = tt

@@ -1,4 +1,4 @@
-use Rattle.std.proofs.Common.{Bool, ◌∙◌, refl, sym, subst, ap, IfOk}
+use Rattle.std.proofs.Common.{Bool, List, ℕ, ◌∙◌, refl, sym, subst, ap, IfOk}
 use Rattle.sgt_audit_sections.specs.Judged.{IsJudgedSection}
 use Rattle.sgt_audit_workers.proofs.batches.run.Goals as goal
 
@@ -12,7 +12,8 @@ returns c = record {
   last = refl;
   done = record {
     second = c.judge_section-job.ensures.second ∙ c.requires.idle.1;
-    judged = subst (λ (second : Bool). IfOk c.judge_section-job.result (IsJudgedSection second c.args.head.now.certificate c.args.job.site c.args.job.section.items)) c.requires.idle.1 c.judge_section-job.ensures.judged;
+    judged = subst (λ (second : Bool). IfOk c.judge_section-job.result (IsJudgedSection second c.args.head.now.certificate c.args.job.site c.args.job.section.items)) c.requires.idle.1
+        (subst (λ (bytes : List ℕ). IfOk c.judge_section-job.result (IsJudgedSection c.args.job.alone.second c.args.head.now.certificate c.args.job.site bytes)) c.as_slice.ensures.value c.judge_section-job.ensures.judged);
     ready = c.judge_section-job.ensures.ready;
   };
 }

@@ -12,25 +12,30 @@ use Rattle.sgt_audit_workers.proofs.Taken.{tallied-first}
 use Rattle.sgt_audit_workers.proofs.engine.judge_behind.Goals as goal
 
 pub batches-init : goal.batches-init
-batches-init g c = record {
-  behind = λ told front. record { front = front_text c.args.head.now.second c.args.head.now.certificate []; read = front; ended = λ ends. absurd (false≢true (sym c.requires.going ∙ ends)) };
-  tallied = λ told front. tallied-first c.args.head.now told _ c.new-tally.result c.requires.head c.new-tally.ensures front;
-  few = omega arith;
-  idle = c.in_ok-jobs.ensures.idle;
-  some = omega (arith, c.in_ok-jobs.ensures.len, c.requires.count, c.requires.head.sites, c.requires.head.good.spelled.0);
-  spends = λ first spent. spent;
-  asks = refl;
-  quiet = refl;
-}
+batches-init g c =
+    let h = c.args.head.now in
+    let jobs : List Job = c.in_ok-jobs.jobs.items in
+    let none : c.new-tally.result.whole ≡ 0 = (c.new-tally.ensures h.second h.certificate c.requires.head.good).whole in
+    let idle : All (IsIdle h 0) jobs = c.in_ok-jobs.ensures.idle in
+    record {
+      behind = λ told front. record { front = front_text h.second h.certificate []; read = front; ended = λ ends. absurd (false≢true (sym c.requires.going ∙ ends)) };
+      tallied = λ told front. tallied-first h told _ c.new-tally.result c.requires.head c.new-tally.ensures front;
+      few = omega (arith, none);
+      idle = subst (λ k. All (IsIdle h k) jobs) (sym none) idle;
+      some = omega (arith, c.in_ok-jobs.ensures.len, c.requires.count, c.requires.head.sites, c.requires.head.good.spelled.0);
+      spends = λ first spent. spent;
+      asks = refl;
+      quiet = refl;
+    }
 
 pub run_all-requires-clause-idle : goal.run_all-requires-clause-idle
-run_all-requires-clause-idle g c =
+run_all-requires-clause-idle g c κs lives =
     let h = c.args.head.now in
     let given = c.in_ok-given.ensures.given None (behind-none _ _) in
     idle-at-sites h None _ _ c.batches.tally.whole c.batches.tally.whole c.in_ok-given.given.items (omega arith) given (c.in_ok-given.ensures.idle h c.batches.tally.whole c.batches.invariant.idle)
 
 pub run_all-requires-clause-sites : goal.run_all-requires-clause-sites
-run_all-requires-clause-sites g c =
+run_all-requires-clause-sites g c κs lives =
     let given = c.in_ok-given.ensures.given None (behind-none _ _) in
     sites-below None _ _ c.batches.tally.whole c.args.head.now.certificate.sites c.in_ok-given.given.items given (omega (arith, c.in_ok-given.ensures.len, c.requires.head.sites))
 
@@ -45,7 +50,7 @@ returns-in-Some-clause-verdict g c told front =
     let new = coming c.give_all.new.text.lines (g.R.Source.tells c.give_all.new.reader) in
     let given = given-run h told old new c.batches.tally.whole c.in_ok-given.given.items c.in_ok-done.done.items (c.in_ok-given.ensures.given told (inv.behind told front)) c.in_ok-done.ensures in
     let shown = subst (λ js. AreGiven told old c.batches.tally.whole js new) (sym c.as_slice.ensures.value) given in
-    let many = omega (arith, ap length c.as_slice.ensures.value, length-run h _ _ c.in_ok-done.ensures, c.in_ok-given.ensures.len, c.requires.head.sites) in
+    let many : c.batches.tally.whole + length c.as_slice.result.now ≤ h.certificate.sites = omega (arith, ap length c.as_slice.ensures.value, length-run h _ _ c.in_ok-done.ensures, c.in_ok-given.ensures.len, c.requires.head.sites) in
     rw c.in-Some.is at (c.in_ok-verdict.ensures.takes told old new (inv.tallied told front) shown many)
 
 pub batches-preserved : goal.batches-preserved
