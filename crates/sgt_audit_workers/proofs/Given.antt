@@ -1,5 +1,5 @@
 -- Workers that have sections, one after another.
-use Rattle.std.proofs.Common.{◌≡◌, ℕ, Bool, true, false, IfSome, zero, suc, ◌+◌, ◌<◌, ◌≤◌, List, [], ◌∷◌, ◌++◌, length, Option, Some, None, IsTrue, All, refl, sym, ap, ◌∙◌, subst, arith, slice_index_or}
+use Rattle.std.proofs.Common.{◌≡◌, ℕ, Bool, true, false, IfSome, suc, ◌+◌, ◌<◌, ◌≤◌, List, [], ◌∷◌, ◌++◌, length, Option, Some, None, IsTrue, All, refl, sym, ap, ◌∙◌, subst, arith, slice_index_or}
 use Rattle.std.specs.Prelude.{Result, Ok, Err, IfOk}
 use Rattle.std.specs.List.{AllZip}
 use Rattle.std.specs.Io.KnownBytes.{Consumes, IsAtEnd}

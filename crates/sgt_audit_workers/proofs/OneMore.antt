@@ -1,11 +1,10 @@
 -- One more section behind those that were judged.
-use Rattle.std.proofs.Common.{◌≡◌, ◌≢◌, ℕ, ◌+◌, ◌<◌, Bool, true, false, IsTrue, List, [], ◌∷◌, ◌++◌, length, map, Option, Some, None, refl, sym, ap, ◌∙◌, subst, arith, inl, inr, zero-add, All}
-use Rattle.std.specs.Prelude.{◌↔◌, ◌&&◌, IfOk, Result, Ok, Err, slice_get}
+use Rattle.std.proofs.Common.{◌≡◌, ◌≢◌, ℕ, ◌+◌, ◌<◌, Bool, true, false, IsTrue, List, [], ◌∷◌, ◌++◌, length, Option, Some, refl, sym, ap, ◌∙◌, subst, arith, inl, inr, zero-add}
+use Rattle.std.specs.Prelude.{◌↔◌, ◌&&◌, IfOk, Result, Ok, Err}
 use Rattle.std.proofs.lemmas.Bool.{false≢true}
 use Rattle.std.proofs.lemmas.List.{append-nil, length-append}
 use Rattle.std.proofs.lemmas.Option.{none-some}
 use Rattle.sgt_names.proofs.Lists.{front_at, middle_at}
-use Rattle.sgt_notation.specs.Spelling.{line_text, text_of_lines}
 use Rattle.sgt_notation.specs.declared.SectionLine.{SectionLine}
 use Rattle.sgt_cert.specs.Text.{section_lines, sections_from}
 use Rattle.sgt_cert.specs.declared.bundle.SiteLog.{SiteLog}
@@ -20,7 +19,7 @@ use Rattle.sgt_audit_sections.specs.Sections.{AllStepsAreFound, AreFaultlessSect
 use Rattle.sgt_audit_sections.specs.Judged.{IsWholeSection}
 use Rattle.sgt_audit_sections.proofs.SectionFaults.{own-first, missed-first, trailing-first}
 use Rattle.sgt_audit_workers.specs.declared.tally.Tally.{Tally}
-use Rattle.sgt_audit_workers.specs.Tallies.{Adds, IsTally}
+use Rattle.sgt_audit_workers.specs.Tallies.{IsTally}
 
 pub none-yet : (second : Bool) (c : Certificate) (t : Tally) → IsFaultlessCertificate c → t.whole ≡ 0 → t.lines ≡ 2 → t.met ≡ true → IsTally second c [] t
 none-yet second c t good whole lines met = record {

@@ -1,5 +1,5 @@
 -- What the workers found, one after another.
-use Rattle.std.proofs.Common.{◌≡◌, ℕ, ◌+◌, ◌<◌, ◌≤◌, Bool, false, true, IsTrue, List, [], ◌∷◌, ◌++◌, length, map, Option, Some, None, IfSome, refl, sym, ap, ◌∙◌, subst, arith, zero-add}
+use Rattle.std.proofs.Common.{◌≡◌, ℕ, ◌+◌, Bool, IsTrue, List, [], ◌∷◌, ◌++◌, length, map, Option, Some, None, IfSome, refl, sym, ap, ◌∙◌, subst, arith, zero-add}
 use Rattle.std.specs.Prelude.{Result, Ok, Err, IfOk, ◌≢◌}
 use Rattle.std.specs.Io.KnownBytes.{Consumes, IsAtEnd}
 use Rattle.std.proofs.KnownBytes.{Consumes-trans}
@@ -33,9 +33,9 @@ use Rattle.sgt_audit_workers.proofs.Whole.{yes}
 module _ (second : Bool) (c : Certificate) (logs : List SiteLog) (log : SiteLog) where
   one-more : sections_from 0 logs ++ section_lines (length logs) log ≡ sections_from 0 (logs ++ log ∷ [])
   one-more = sym (
-    sections-append 0 logs (log ∷ [])
-    ∙ ap (λ (ls : List SectionLine). sections_from 0 logs ++ ls) (append-nil (section_lines (0 + length logs) log) ∙ ap (λ j. section_lines j log) (zero-add (length logs)))
-  )
+      sections-append 0 logs (log ∷ [])
+      ∙ ap (λ (ls : List SectionLine). sections_from 0 logs ++ ls) (append-nil (section_lines (0 + length logs) log) ∙ ap (λ j. section_lines j log) (zero-add (length logs)))
+      )
 
   front-more : (told old new : Option (List ℕ)) (section : List ℕ) → Consumes told old (front_text second c logs) → Consumes old new section → section ≡ text_of_lines (map line_text (section_lines (length logs) log)) → Consumes told new (front_text second c (logs ++ log ∷ []))
   front-more None old new section front is text = tt

@@ -1,11 +1,10 @@
 -- A text whose sections have no fault, and where each step of a walk is found, spells a valid bundle.
-use Rattle.std.proofs.Common.{◌≡◌, ℕ, Bool, List, [], ◌∷◌, ◌++◌, length, Some, refl, sym, ap, ◌∙◌, subst, All, Contains}
+use Rattle.std.proofs.Common.{◌≡◌, ℕ, Bool, List, [], ◌∷◌, ◌++◌, length, Some, refl, sym, ◌∙◌, subst, Contains}
 use Rattle.std.specs.Prelude.{slice_get}
 use Rattle.std.proofs.lemmas.List.{append-nil}
 use Rattle.sgt_names.proofs.Places.{All_at, All-from_at}
 use Rattle.sgt_notation.specs.declared.SectionLine.{SectionLine}
 use Rattle.sgt_notation.specs.declared.SectionLine.TheVariants.{End}
-use Rattle.sgt_cert.specs.Parts.{IsShaped}
 use Rattle.sgt_cert.specs.Valid.{AreLogged}
 use Rattle.sgt_cert.specs.Text.{sections_from, AreSections}
 use Rattle.sgt_cert.specs.declared.bundle.SiteLog.{SiteLog}

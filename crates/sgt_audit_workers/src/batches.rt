@@ -187,11 +187,7 @@ pub fn run_all<H: Threads + Sync>(
 }
 
 /// Adds what the workers found, in the order of the sites: the verdict on the text, if it has a fault in one of these sections.
-pub fn take_all(
-    tally: &mut Tally,
-    head: &Head,
-    jobs: &[Job],
-) -> Result<Option<Verdict>, EngineFail>
+pub fn take_all(tally: &mut Tally, head: &Head, jobs: &[Job]) -> Result<Option<Verdict>, EngineFail>
     requires { All (HasJudged head.now) jobs.now }
     ensures takes { let end = tally.old.whole + length jobs.now in
         (told old new : Option (List ℕ)) → IsTallied head.now told old tally.old

@@ -6,5 +6,7 @@ mod cutting;
 mod engine;
 mod head;
 mod tally;
+#[cfg(test)]
+mod tests;
 
 pub use engine::audit_with;

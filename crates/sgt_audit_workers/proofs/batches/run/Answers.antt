@@ -1,4 +1,4 @@
-use Rattle.std.proofs.Common.{Bool, List, ℕ, ◌∙◌, refl, sym, subst, ap, IfOk}
+use Rattle.std.proofs.Common.{Bool, List, ℕ, ◌∙◌, refl, subst, IfOk}
 use Rattle.sgt_audit_sections.specs.Judged.{IsJudgedSection}
 use Rattle.sgt_audit_workers.proofs.batches.run.Goals as goal
 

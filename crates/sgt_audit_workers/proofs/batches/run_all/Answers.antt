@@ -1,4 +1,4 @@
-use Rattle.std.proofs.Common.{◌∙◌, IfOk, sym, subst, slice_index_or}
+use Rattle.std.proofs.Common.{◌∙◌, sym, subst, slice_index_or}
 use Rattle.sgt_audit_workers.specs.declared.batches.Job.{Job}
 use Rattle.sgt_audit_workers.specs.private.Batches.{HasRun}
 use Rattle.sgt_audit_workers.proofs.Given.{if_ok_both, zip_by}

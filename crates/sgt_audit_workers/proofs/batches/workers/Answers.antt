@@ -1,4 +1,4 @@
-use Rattle.std.proofs.Common.{arith, subst, sym}
+use Rattle.std.proofs.Common.{arith}
 use Rattle.std.proofs.lemmas.List.Elements.{All-push}
 use Rattle.sgt_audit_workers.specs.private.Batches.{IsIdle}
 use Rattle.sgt_audit_workers.proofs.batches.workers.Goals as goal

@@ -1,4 +1,4 @@
-use Rattle.std.proofs.Common.{rules, ◌≡◌, ◌≤◌, ◌<◌, ◌+◌, ◌-◌, ◌∙◌, ℕ, List, [], Option, None, Some, All, ap, arith, length, refl, subst, sym}
+use Rattle.std.proofs.Common.{rules, ◌≡◌, ◌≤◌, ◌<◌, ◌+◌, ◌-◌, ◌∙◌, ℕ, List, [], Option, None, All, ap, arith, length, refl, subst, sym}
 use Rattle.std.specs.Io.KnownBytes.{Consumes}
 use Rattle.std.proofs.lemmas.Bool.{false≢true}
 use Rattle.std.specs.Prelude.{IsErrOf}
@@ -64,10 +64,10 @@ batches-preserved g c =
     let same : c.as_slice.result.now ≡ done = c.as_slice.ensures.value in
     let len : first + length done ≡ c.min-end.result = omega (arith, length-run h _ _ c.in_ok-done.ensures, c.in_ok-given.ensures.len) in
     let taken = λ (told : Option (List ℕ)). λ (front : Consumes told (coming c.args.text.now.lines (g.R.Source.tells c.args.reader.now)) (front_text h.second h.certificate [])).
-        let given = given-run h told old new first c.in_ok-given.given.items done (c.in_ok-given.ensures.given told (inv.behind told front)) c.in_ok-done.ensures in
-        subst (λ (js : List Job). TakesAll h told new (first + length js) js c.take_all.new.tally None) same
-        (rw c.in_default.is at (c.in_ok-verdict.ensures.takes told old new (inv.tallied told front) (subst (λ js. AreGiven told old first js new) (sym same) given)
-        (omega (arith, ap length same, len, c.requires.head.sites)))) in
+    let given = given-run h told old new first c.in_ok-given.given.items done (c.in_ok-given.ensures.given told (inv.behind told front)) c.in_ok-done.ensures in
+    subst (λ (js : List Job). TakesAll h told new (first + length js) js c.take_all.new.tally None) same
+    (rw c.in_default.is at (c.in_ok-verdict.ensures.takes told old new (inv.tallied told front) (subst (λ js. AreGiven told old first js new) (sym same) given)
+    (omega (arith, ap length same, len, c.requires.head.sites)))) in
     let unknown = taken None tt in
     record {
       behind = λ told front. c.in_ok-given.ensures.behind told (inv.behind told front);
@@ -108,7 +108,7 @@ batches-smaller g c =
     let len : first + length done ≡ c.min-end.result = omega (arith, length-run h _ _ c.in_ok-done.ensures, c.in_ok-given.ensures.len) in
     let given = given-run h None old new first c.in_ok-given.given.items done (c.in_ok-given.ensures.given None (inv.behind None tt)) c.in_ok-done.ensures in
     let taken = subst (λ (js : List Job). TakesAll h None new (first + length js) js c.take_all.new.tally None) same
-        (rw c.in_default.is at (c.in_ok-verdict.ensures.takes None old new (inv.tallied None tt) (subst (λ js. AreGiven None old first js new) (sym same) given)
-        (omega (arith, ap length same, len, c.requires.head.sites)))) in
+    (rw c.in_default.is at (c.in_ok-verdict.ensures.takes None old new (inv.tallied None tt) (subst (λ js. AreGiven None old first js new) (sym same) given)
+    (omega (arith, ap length same, len, c.requires.head.sites)))) in
     let less : h.certificate.sites - c.take_all.new.tally.whole < h.certificate.sites - first = omega (arith, taken.1, len, inv.some, c.batches-test.true, c.requires.head.sites) in
     less
