@@ -1,0 +1,4 @@
+pub mod Head
+pub mod Tallies
+pub mod Cut
+pub mod private

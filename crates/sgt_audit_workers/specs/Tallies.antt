@@ -1,0 +1,27 @@
+-- What the first sections of a text were found to be.
+use Rattle.std.specs.Prelude.{◌≡◌, ◌↔◌, ℕ, Bool, IsTrue, List, [], ◌∷◌, ◌++◌, length, map, Option, Some, None}
+use Rattle.sgt_notation.specs.Spelling.{line_text, text_of_lines}
+use Rattle.sgt_cert.specs.Text.{section_lines}
+use Rattle.sgt_cert.specs.declared.bundle.SiteLog.{SiteLog}
+use Rattle.sgt_cert.specs.declared.certificate.Certificate.{Certificate}
+use Rattle.sgt_audit.specs.declared.verdict.Verdict.{Verdict}
+use Rattle.sgt_audit.specs.Verdict.{IsVerdict}
+use Rattle.sgt_audit_sections.specs.Sections.{AllStepsAreFound, AreFaultlessSections, IsFaultlessCertificate, front_text, lines_in_front}
+use Rattle.sgt_audit_workers.specs.declared.tally.Tally.{Tally}
+
+-- the tally is that of these logs, the first ones of the certificate's sites
+pub record IsTally (second : Bool) (c : Certificate) (logs : List SiteLog) (t : Tally) : Type 0 where
+  pub certificate : IsFaultlessCertificate c
+  pub faultless : AreFaultlessSections second c logs
+  pub whole : t.whole ≡ length logs
+  pub lines : t.lines ≡ lines_in_front logs
+  pub met : IsTrue t.met ↔ AllStepsAreFound c.decisions logs
+
+-- after one more section of these bytes, with more behind them: it is whole, and the tally is that
+-- with its log; or this is the verdict on the text
+abbrev pub Adds : Bool → Certificate → List SiteLog → (bytes more : List ℕ) → Tally
+    → Option Verdict → Type 0
+Adds second c logs bytes more new None = (log : SiteLog) × IsTally second c (logs ++ log ∷ []) new
+    × (bytes ≡ text_of_lines (map line_text (section_lines (length logs) log)))
+Adds second c logs bytes more new (Some v) =
+    IsVerdict (front_text second c logs ++ (bytes ++ more)) v

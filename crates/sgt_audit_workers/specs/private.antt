@@ -1,0 +1,2 @@
+-- Words that private clauses alone use.
+pub mod Batches

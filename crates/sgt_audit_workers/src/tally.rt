@@ -1,0 +1,121 @@
+//! The sections judged so far, in their order.
+
+ghost use Rattle.std.specs.Prelude.{◌≡◌, ◌≢◌, ◌<◌, ◌↔◌, ◌++◌, ◌+◌, [], ℕ, Bool, IsTrue, IfOk, IfErr, IfSome, IfNone, List, length};
+ghost use Rattle.sgt_cert.specs.declared.bundle.SiteLog.{SiteLog};
+ghost use Rattle.sgt_cert.specs.declared.certificate.Certificate.{Certificate};
+ghost use Rattle.sgt_audit.specs.Verdict.{IsVerdict};
+ghost use Rattle.sgt_audit_sections.specs.Judged.{IsJudgedSection, IsWhole};
+ghost use Rattle.sgt_audit_sections.specs.Sections.{IsFaultlessCertificate, front_text, AllStepsAreFound};
+ghost use Rattle.sgt_audit_workers.specs.Tallies.{Adds, IsTally};
+
+use sgt_audit::{Fault, Verdict};
+use sgt_audit_sections::Judged;
+use sgt_names::EngineFail;
+
+/// What the first sections of a text were found to be: none has a fault but perhaps one of a walk.
+#[derive(Clone, Copy)]
+pub struct Tally {
+    /// How many they are.
+    pub whole: usize,
+    /// How many lines were read, with the first two.
+    pub lines: u64,
+    /// Whether each step of a walk at their sites is a conflict there.
+    pub met: bool,
+}
+
+/// The line of this number behind so many.
+fn counted_on(lines: u64, line: u64) -> Result<u64, EngineFail>
+    ensures ok { IfOk result (λ n. n ≡ lines + line) }
+    ensures err { IfErr result (λ e. e ≡ EngineFail.Memory) }
+{
+    match lines.checked_add(line) {
+        Some(number) => Ok(number),
+        None => Err(EngineFail::Memory),
+    }
+}
+
+impl Tally {
+    /// Before the first section.
+    pub fn new() -> Tally
+        ensures { (second : Bool) (c : Certificate) → IsFaultlessCertificate c
+            → IsTally second c [] result }
+    {
+        Tally {
+            whole: 0,
+            lines: 2,
+            met: true,
+        }
+    }
+
+    /// A fault at this line of the next section.
+    fn fault_at(&self, line: u64, fault: Fault) -> Result<Option<Verdict>, EngineFail>
+        ensures ok { IfOk result
+            (λ found. found ≡ Some (Verdict.No (self.now.lines + line) fault)) }
+        ensures err { IfErr result (λ e. e ≡ EngineFail.Memory) }
+    {
+        let line = counted_on(self.lines, line)?;
+        Ok(Some(Verdict::No { line, fault }))
+    }
+
+    /// One more section: the verdict on the text, if it has a fault. An Err is Memory. The section was cut behind its first line `end`,
+    /// or it is the last; so it is not unfit, and where the text may end in it, it ends there.
+    pub fn add(&mut self, judged: Judged, is_last: bool) -> Result<Option<Verdict>, EngineFail>
+        ensures adds { (second : Bool) (c : Certificate) (logs : List SiteLog)
+            (bytes more : List ℕ) → IsTally second c logs self.old → length logs < c.sites
+            → IsJudgedSection second c (length logs) bytes judged → (IsTrue is_last → more ≡ [])
+            → IfOk result (Adds second c logs bytes more self.new) }
+        ensures whole { IfOk result (λ found. IfNone found (IsWhole judged)) }
+        ensures err { IfErr result (λ e. e ≡ EngineFail.Memory) }
+    {
+        match judged {
+            Judged::Whole { lines, met } => {
+                self.lines = counted_on(self.lines, lines)?;
+                self.whole = self.whole.saturating_add(1);
+                self.met = self.met && met;
+                Ok(None)
+            }
+            Judged::Faulty { line, fault } => self.fault_at(line, fault),
+            Judged::Open { line, fault } => {
+                if is_last {
+                    self.fault_at(line, fault)
+                } else {
+                    Err(EngineFail::Memory)
+                }
+            }
+            Judged::Unfit => Err(EngineFail::Memory),
+        }
+    }
+
+    /// The fault of the last line of all sections, if a step of a walk is no conflict.
+    pub fn walk_fault(&self) -> Option<Verdict>
+        ensures some { (second : Bool) (c : Certificate) (logs : List SiteLog) (more : List ℕ)
+            → IsTally second c logs self.now → length logs ≡ c.sites
+            → IfSome result (IsVerdict (front_text second c logs ++ more)) }
+        ensures none { (second : Bool) (c : Certificate) (logs : List SiteLog)
+            → IsTally second c logs self.now
+            → IfNone result (AllStepsAreFound c.decisions logs) }
+    {
+        if self.met {
+            return None;
+        }
+        Some(Verdict::No {
+            line: self.lines,
+            fault: Fault::WalkStep,
+        })
+    }
+
+    /// The fault of what follows all sections.
+    pub fn trailing(&self) -> Result<Verdict, EngineFail>
+        ensures trails { (second : Bool) (c : Certificate) (logs : List SiteLog) (more : List ℕ)
+            → IsTally second c logs self.now → length logs ≡ c.sites
+            → AllStepsAreFound c.decisions logs → more ≢ []
+            → IfOk result (IsVerdict (front_text second c logs ++ more)) }
+        ensures err { IfErr result (λ e. e ≡ EngineFail.Memory) }
+    {
+        let line = counted_on(self.lines, 1)?;
+        Ok(Verdict::No {
+            line,
+            fault: Fault::Trailing,
+        })
+    }
+}
