@@ -1,8 +1,8 @@
 -- One more step of a cycle that is told, and one more decision.
-use Rattle.std.proofs.Common.{◌≡◌, ℕ, suc, ◌+◌, ◌<◌, List, [], ◌∷◌, ◌++◌, length, take, Option, Some, None, inl, inr, refl, sym, subst, ap, ◌∙◌, arith, append_assoc}
-use Rattle.std.specs.Prelude.{slice_get}
+use Rattle.std.proofs.Common.{◌≡◌, true, ℕ, suc, ◌+◌, ◌<◌, List, [], ◌∷◌, ◌++◌, length, take, Option, Some, None, inl, inr, refl, sym, subst, ap, ◌∙◌, arith, append_assoc}
+use Rattle.std.specs.Prelude.{slice_get, is_some}
 use Rattle.std.proofs.lemmas.List.{append-nil}
-use Rattle.std.proofs.lemmas.Bool.{cases_order}
+use Rattle.std.proofs.lemmas.Bool.{cases_order, false≢true}
 use Rattle.std.proofs.lemmas.Option.{same_Some}
 use Rattle.sgt_cert.specs.declared.certificate.Step.{Step}
 use Rattle.sgt_cert.specs.declared.certificate.Decision.{Decision}
@@ -42,6 +42,11 @@ cycles-next sought n (e ∷ ds) d told one tells refusal =
     )
 
 -- ---- which step isn't shown
+
+pub shown-pair : (sought : Sought) (from : ℕ) (step : Step) (shown : Option (Logged × Logged)) → Shows sought from step shown → is_some shown ≡ true
+    → (two : Logged × Logged) × IsShownStep sought from step two.0 two.1
+shown-pair sought from step (Some two) shows some = (two, shows.some)
+shown-pair sought from step None shows some = absurd (false≢true some)
 
 -- a step that is shown, behind others that are
 pub shown-next : (sought : Sought) (tx from place : ℕ) (walk : List Step) (step : Step) (two : Logged × Logged) → slice_get walk place ≡ Some step → from ≡ last_stop tx (take place walk)
