@@ -1,25 +1,17 @@
 -- What is said of one transaction: its decision, and its entries site by site.
-use Rattle.std.specs.Prelude.{◌≡◌, ◌⊎◌, ℕ, List, [], ◌∷◌, ◌++◌, All, slice_get, codes, decimal, Option, Some, None, if◌then◌else◌, ◌==◌}
+use Rattle.std.specs.Prelude.{◌≡◌, ◌⊎◌, ℕ, List, [], ◌∷◌, ◌++◌, All, codes, decimal, Option, Some, None, if◌then◌else◌, ◌==◌}
 use Rattle.sgt_names.specs.Entry.{tx_of}
-use Rattle.sgt_cert.specs.Certificate.{decided_tx}
 use Rattle.sgt_cert.specs.declared.certificate.Decision.{Decision}
 use Rattle.sgt_explain_lines.specs.Told.{Adds, shown_line}
 use Rattle.sgt_explain_decisions.specs.declared.dealings.Own.{Own}
-use Rattle.sgt_explain_decisions.specs.Told.{decision_text}
+use Rattle.sgt_explain_decisions.specs.Placed.{IsDecisionOn, IsUndecided}
+use Rattle.sgt_explain_decisions.specs.Told.{decision_text, no_decision_text}
 
 -- ---- its decision
 
--- the decision of this number is on the transaction
-pub record IsDecisionOn (decisions : List Decision) (tx number : ℕ) (decision : Decision) : Type 0 where
-  pub there : slice_get decisions number ≡ Some decision
-  pub on : decided_tx decision ≡ tx
-
-abbrev pub no_decision_text : ℕ → List ℕ
-no_decision_text tx = codes "transaction " ++ (decimal tx ++ codes " has no decision in the certificate\n")
-
--- a decision on the transaction is told, and more is said; or that there is none
+-- a decision on the transaction is told, and more is said; or that there is none, where there is none
 abbrev pub TellsFate : List Decision → ℕ → (old new : List ℕ) → Type 0
-TellsFate decisions tx old new = (new ≡ old ++ no_decision_text tx) ⊎ ((number : ℕ) × (decision : Decision)
+TellsFate decisions tx old new = (IsUndecided decisions tx × (new ≡ old ++ no_decision_text tx)) ⊎ ((number : ℕ) × (decision : Decision)
     × IsDecisionOn decisions tx number decision × Adds (old ++ decision_text number decision) new)
 
 -- ---- its entries

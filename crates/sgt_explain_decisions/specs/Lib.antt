@@ -4,6 +4,7 @@ pub mod Dealings
 pub mod Decided
 pub mod Ends
 pub mod Placed
-pub mod Ranks
+pub mod Sought
 pub mod Told
+pub mod Twice
 pub mod Walks

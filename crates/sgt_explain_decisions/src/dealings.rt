@@ -1,13 +1,15 @@
 //! What one transaction did: its entries at each site, and its conflicts.
 
-ghost use Rattle.std.specs.Prelude.{◌≡◌, ◌++◌, ℕ, None, All, IfOk, IfSome, OnOk, string_bytes};
+ghost use Rattle.std.specs.Prelude.{◌≡◌, ◌++◌, None, All, IfOk, IfSome, IfNone, OnOk, string_bytes};
 ghost use Rattle.sgt_explain_lines.specs.Told.{Adds};
-ghost use Rattle.sgt_explain_decisions.specs.Dealings.{IsOwn, site_if_new, one_text, own_text, own_head, IsDecisionOn, no_decision_text, TellsFate, TellsDealings};
+ghost use Rattle.sgt_explain_decisions.specs.Dealings.{IsOwn, site_if_new, one_text, own_text, own_head, TellsFate, TellsDealings};
+ghost use Rattle.sgt_explain_decisions.specs.Placed.{IsDecisionOn, IsUndecided};
+ghost use Rattle.sgt_explain_decisions.specs.Told.{no_decision_text};
 
 use crate::cycles::push_cycle;
-use crate::placed::{number_on, placed_in};
+use crate::placed::{decision_on, placed_in};
 use crate::sought::sought_in;
-use crate::words::push_decision;
+use crate::words::{push_decision, push_no_decision};
 use sgt_cert::Decision;
 use sgt_explain_lines::{Logged, clash, cut_line, entry_of, push_conflict, push_logged};
 use sgt_names::{Entry, Item, Tx};
@@ -188,21 +190,16 @@ fn push_conflicts(
 }
 
 /// The decision on the transaction with its number, if there is one.
-fn decision_on(
+fn fate_of(
     alloc: Global,
     decisions: &[Decision],
     tx: Tx,
 ) -> Result<Option<(usize, &Decision)>, AllocError>
-    ensures { IfOk result (λ found. IfSome found (λ d. IsDecisionOn decisions.now tx d.0 d.1.now)) }
+    ensures some { IfOk result (λ found. IfSome found (λ d. IsDecisionOn decisions.now tx d.0 d.1.now)) }
+    ensures none { IfOk result (λ found. IfNone found (IsUndecided decisions.now tx)) }
 {
     let placed = placed_in(alloc, decisions)?;
-    let Some(number) = number_on(placed.as_slice(), tx) else {
-        return Ok(None);
-    };
-    match decisions.get(number) {
-        Some(decision) if decision.tx() == tx => Ok(Some((number, decision))),
-        _ => Ok(None),
-    }
+    Ok(decision_on(decisions, placed.as_slice(), tx))
 }
 
 /// Why the decision is as it is: the cycle of a refusal.
@@ -220,13 +217,7 @@ fn push_cause(
     };
     out.push_str(", since it would close a cycle:\n")?;
     let sought = sought_in(alloc, decisions, bytes)?;
-    push_cycle(out, sought.as_slice(), decision.tx(), walk)
-}
-
-fn push_no_decision(out: &mut String, tx: Tx) -> Result<(), AllocError>
-    ensures { OnOk result (string_bytes out.new ≡ string_bytes out.old ++ no_decision_text tx) }
-{
-    write!(out, "transaction {tx} has no decision in the certificate\n")
+    push_cycle(out, &sought, decision.tx(), walk)
 }
 
 /// The decision on the transaction with its rank, and the cycle where it was refused.
@@ -239,7 +230,7 @@ pub fn push_fate(
 ) -> Result<(), AllocError>
     ensures { OnOk result (TellsFate decisions.now tx (string_bytes out.old) (string_bytes out.new)) }
 {
-    let found = decision_on(alloc, decisions, tx)?;
+    let found = fate_of(alloc, decisions, tx)?;
     let Some((number, decision)) = found else {
         return push_no_decision(out, tx);
     };

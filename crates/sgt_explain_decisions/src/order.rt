@@ -1,10 +1,13 @@
 //! What is said of entries that stand against the ranks or the decisions.
 
-ghost use Rattle.std.specs.Prelude.{◌≡◌, ◌<◌, ◌++◌, IfSome, OnOk, Contains, string_bytes, unwrap_or};
+ghost use Rattle.std.specs.Prelude.{◌≡◌, ◌<◌, ◌++◌, ℕ, All, IfSome, IfNone, OnOk, Contains, string_bytes, unwrap_or};
+ghost use Rattle.sgt_names.specs.Name.{Name};
 ghost use Rattle.sgt_names.specs.Entry.{tx_of, IsEnd};
-ghost use Rattle.sgt_cert.specs.Certificate.{IsCommitted};
-ghost use Rattle.sgt_explain_decisions.specs.Against.{StandAgainst};
+ghost use Rattle.sgt_cert.specs.Certificate.{IsCommitted, IsDecidedOnce};
+ghost use Rattle.sgt_cert.specs.Valid.{RiseInRank};
+ghost use Rattle.sgt_explain_decisions.specs.Against.{StandAgainst, IsAgainst};
 ghost use Rattle.sgt_explain_decisions.specs.Decided.{IsDecidedAs, decided_text, if_decided, undecided_text, decision_order_head, TellsDecisionOrder};
+ghost use Rattle.sgt_explain_decisions.specs.Placed.{ArePlaced, IsUncommitted};
 ghost use Rattle.sgt_explain_decisions.specs.Told.{ranked_text, both_ranked, first_deed, second_deed, rank_wish, ranks_wanted, rank_order_head, rank_order_text};
 
 use crate::placed::{Placed, number_on, rank_on};
@@ -43,6 +46,8 @@ pub struct RanksShown {
 fn with_rank(decisions: &[Decision], placed: &[Placed], logged: &Logged) -> Option<Ranked>
     ensures same { IfSome result (λ r. r.logged ≡ logged.now) }
     ensures rank { IfSome result (λ r. IsCommitted decisions.now r.number (tx_of r.logged.entry) r.rank) }
+    ensures none { ArePlaced decisions.now placed.now → IsDecidedOnce decisions.now
+        → IfNone result (IsUncommitted decisions.now (tx_of logged.now.entry)) }
 {
     match rank_on(decisions, placed, logged.entry.tx()) {
         Some((rank, number)) => Some(Ranked {
@@ -57,12 +62,37 @@ fn with_rank(decisions: &[Decision], placed: &[Placed], logged: &Logged) -> Opti
 /// The item and the kind of the conflict of two entries of which the first stands against the second: its transaction has no
 /// smaller rank.
 fn stand_against(first: &Ranked, second: &Ranked) -> Option<(Item, Kind)>
-    ensures { IfSome result (λ c. StandAgainst first.now second.now c.1 c.0) }
+    ensures some { IfSome result (λ c. StandAgainst first.now second.now c.1 c.0) }
+    ensures none { IfNone result ((kind : Kind) (item : Name) → StandAgainst first.now second.now kind item → ⊥) }
 {
     match clash(&first.logged.entry, &second.logged.entry) {
         Some((item, kind)) if second.rank <= first.rank => Some((item, kind)),
         _ => None,
     }
+}
+
+/// This entry and the other, which has its rank, if it stands against that. Of the section of the site.
+fn shown_against(
+    decisions: &[Decision],
+    placed: &[Placed],
+    site: u8,
+    one: &Logged,
+    second: &Ranked,
+) -> Option<RanksShown>
+    ensures some { IfSome result (IsAgainst decisions.now site one.now second.now) }
+    ensures none { ArePlaced decisions.now placed.now → IsDecidedOnce decisions.now
+        → IsCommitted decisions.now second.now.number (tx_of second.now.logged.entry) second.now.rank
+        → IfNone result (RiseInRank decisions.now one.now.entry second.now.logged.entry) }
+{
+    let first = with_rank(decisions, placed, one)?;
+    let (item, kind) = stand_against(&first, second)?;
+    Some(RanksShown {
+        site,
+        item,
+        kind,
+        first,
+        second: *second,
+    })
 }
 
 /// The first of these entries, of the site, that stands against this one, with the ranks of both.
@@ -78,21 +108,15 @@ pub fn against_ranks(
     ensures first { IfSome result (λ s. IsCommitted decisions.now s.first.number (tx_of s.first.logged.entry) s.first.rank) }
     ensures second { IfSome result (λ s. IsCommitted decisions.now s.second.number (tx_of s.second.logged.entry) s.second.rank) }
     ensures stand { IfSome result (λ s. StandAgainst s.first s.second s.kind s.item) }
+    ensures none { ArePlaced decisions.now placed.now → IsDecidedOnce decisions.now
+        → IfNone result (All (λ l. RiseInRank decisions.now l.entry logged.now.entry) section.now.entries.items) }
 {
-    let Some(second) = with_rank(decisions, placed, logged) else {
-        return None;
-    };
+    let second = with_rank(decisions, placed, logged)?;
+    let site = section.site_number();
     for other in section.entries.as_slice() {
-        if let Some(first) = with_rank(decisions, placed, other) {
-            if let Some((item, kind)) = stand_against(&first, &second) {
-                return Some(RanksShown {
-                    site: section.site_number(),
-                    item,
-                    kind,
-                    first,
-                    second,
-                });
-            }
+        let shown = shown_against(decisions, placed, site, other, &second);
+        if shown.is_some() {
+            return shown;
         }
     }
     None
