@@ -1,6 +1,6 @@
 //! The entries that the steps of walks are about, found in one pass over the logs.
 
-ghost use Rattle.std.specs.Prelude.{◌≡◌, ◌<◌, Some, IfOk, OnOk, length};
+ghost use Rattle.std.specs.Prelude.{◌≡◌, ◌<◌, ℕ, Some, IfOk, IfSome, OnOk, length};
 ghost use Rattle.sgt_names.specs.Name.{Name};
 ghost use Rattle.sgt_names.specs.Entry.{tx_of, item_of};
 ghost use Rattle.sgt_explain_decisions.specs.Sought.{IsFound, AreFound, found_of, begun_by, ended_by, nothing};
@@ -33,15 +33,56 @@ fn nothing() -> Found
     }
 }
 
+/// With an entry of the transaction on the item.
+fn with_entry(found: Found, line: u64, entry: Entry) -> Found
+    ensures { (item : Name) (tx : ℕ) → IsFound item tx found → tx_of entry ≡ tx → item_of entry ≡ Some item → IsFound item tx result }
+{
+    let logged = Some(Logged { line, entry });
+    match &entry {
+        Entry::Read { .. } => Found {
+            read: logged,
+            ..found
+        },
+        Entry::Write { .. } | Entry::Add { .. } | Entry::Want { .. } | Entry::WantAdd { .. } => {
+            Found {
+                change: logged,
+                ..found
+            }
+        }
+        Entry::Commit { .. } | Entry::Refuse { .. } | Entry::Withdraw { .. } => found,
+    }
+}
+
+/// Puts at the key what was found, and an entry where one is given.
+fn put(
+    sought: &mut Sought,
+    key: (u8, Item, Tx),
+    found: Found,
+    given: &Option<Logged>,
+) -> Result<(), AllocError>
+    ensures { AreFound sought.old → IsFound key.1 key.2 found
+        → IfSome given.now (λ l. (tx_of l.entry ≡ key.2) × (item_of l.entry ≡ Some key.1)) → OnOk result (AreFound sought.new) }
+{
+    match given {
+        Some(logged) => {
+            let more = with_entry(found, logged.line, logged.entry);
+            sought.found.insert(key, more)?;
+        }
+        None => {
+            sought.found.insert(key, found)?;
+        }
+    }
+    Ok(())
+}
+
 /// Seeks both transactions of a step on its item.
 fn seek(sought: &mut Sought, step: &Step, from: Tx) -> Result<(), AllocError>
     ensures { AreFound sought.old → OnOk result (AreFound sought.new) }
 {
     let site = step.label.site.number();
     let item = step.label.item;
-    sought.found.insert((site, item, from), nothing())?;
-    sought.found.insert((site, item, step.to), nothing())?;
-    Ok(())
+    put(sought, (site, item, from), nothing(), &None)?;
+    put(sought, (site, item, step.to), nothing(), &None)
 }
 
 /// Seeks what the steps of a walk from this transaction are about.
@@ -56,26 +97,6 @@ fn add_walk(sought: &mut Sought, tx: Tx, walk: &[Step]) -> Result<(), AllocError
     Ok(())
 }
 
-/// With an entry of the transaction on the item.
-fn with_entry(found: Found, logged: Logged) -> Found
-    ensures { (item : Name) → item_of logged.entry ≡ Some item → IsFound item (tx_of logged.entry) found
-        → IsFound item (tx_of logged.entry) result }
-{
-    match logged.entry {
-        Entry::Read { .. } => Found {
-            read: Some(logged),
-            ..found
-        },
-        Entry::Write { .. } | Entry::Add { .. } | Entry::Want { .. } | Entry::WantAdd { .. } => {
-            Found {
-                change: Some(logged),
-                ..found
-            }
-        }
-        Entry::Commit { .. } | Entry::Refuse { .. } | Entry::Withdraw { .. } => found,
-    }
-}
-
 /// Puts an entry where it is sought.
 fn take(sought: &mut Sought, site: u8, logged: Logged) -> Result<(), AllocError>
     ensures { AreFound sought.old → OnOk result (AreFound sought.new) }
@@ -84,23 +105,30 @@ fn take(sought: &mut Sought, site: u8, logged: Logged) -> Result<(), AllocError>
         return Ok(());
     };
     let key = (site, item, logged.entry.tx());
-    let Some(found) = sought.found.get(&key).copied() else {
-        return Ok(());
-    };
-    sought.found.insert(key, with_entry(found, logged))?;
-    Ok(())
+    match sought.found.get(&key).copied() {
+        Some(found) => put(sought, key, found, &Some(logged)),
+        None => Ok(()),
+    }
 }
 
 // Into so many classes transactions are put by their numbers.
 const CLASSES: usize = 65536;
+
+/// Marks the class of the transaction.
+fn mark(classes: &mut Vec<bool>, tx: Tx)
+    requires { length classes.old.items ≡ 65536 }
+    ensures { length classes.new.items ≡ 65536 }
+{
+    classes[tx.number() as usize % CLASSES] = true;
+}
 
 /// Of each class of transactions whether one of it is sought.
 fn classes_of(alloc: Global, sought: &Sought) -> Result<Vec<bool>, AllocError>
     ensures { IfOk result (λ classes. length classes.items ≡ 65536) }
 {
     let mut classes = vec![in alloc; false; CLASSES]?;
-    for (_, _, tx) in sought.found.keys() {
-        classes[tx.number() as usize % CLASSES] = true;
+    for key in sought.found.keys() {
+        mark(&mut classes, key.2);
     }
     Ok(classes)
 }
