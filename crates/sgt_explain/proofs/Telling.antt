@@ -1,11 +1,11 @@
 -- What holds of a call that went well, and of what it found.
-use Rattle.std.proofs.Common.{◌≡◌, ℕ, List, [], ◌++◌, inl, inr, subst}
+use Rattle.std.proofs.Common.{◌≡◌, ◌≢◌, ℕ, List, [], ◌++◌, inl, inr, codes, subst}
 use Rattle.std.specs.Prelude.{Result, Ok, Err, OnOk, Option, Some, None, IfOk, IfSome, IfNone, IsSomeAnd}
 use Rattle.sgt_audit.specs.declared.verdict.Verdict.{Verdict}
 use Rattle.sgt_audit.specs.declared.verdict.Verdict.TheVariants.{No}
 use Rattle.sgt_audit.specs.declared.faults.Fault.TheVariants as fault
 use Rattle.sgt_audit.specs.Faults.{FirstFault, bytes_of}
-use Rattle.sgt_explain_lines.specs.Told.{read_text, final_text}
+use Rattle.sgt_explain_lines.specs.Told.{read_text, final_text, Adds, ShowsLine}
 use Rattle.sgt_explain_lines.specs.declared.values.Misvalued.{Misvalued}
 use Rattle.sgt_explain_decisions.specs.Told.{rank_order_text}
 use Rattle.sgt_explain_decisions.specs.declared.order.RanksShown.{RanksShown}
@@ -14,10 +14,21 @@ use Rattle.sgt_explain_steps.specs.declared.unmet.Unmet.{Unmet}
 use Rattle.sgt_explain.specs.Explained.{Tells, Means}
 use Rattle.sgt_explain.specs.Shown.{lines_before, decisions_before, ShowsRead, ShowsFinal, ShowsRanks}
 use Rattle.sgt_explain.specs.Steps.{ShowsStep}
+use Rattle.sgt_explain.specs.Lines.{ShowsEnd}
 
 pub on-ok : {T E P Q : Type 0} (r : Result T E) → (P → Q) → OnOk r P → OnOk r Q
 on-ok (Ok t) f p = f p
 on-ok (Err e) f p = tt
+
+-- what holds of a call that went well, by each of some facts
+pub on-all : {T E F : Type 0} (P : F → Type 0) (r : Result T E) → ((f : F) → OnOk r (P f)) → OnOk r ((f : F) → P f)
+on-all P (Ok t) each = each
+on-all P (Err e) each = tt
+
+pub ends-shown : {T E : Type 0} (r : Result T E) (line : List ℕ) (n : ℕ) (old new : List ℕ) → OnOk r (Adds (old ++ codes "Truncated: ") new)
+    → (line ≢ [] → OnOk r (ShowsLine (codes "Truncated: ") n line old new)) → OnOk r (ShowsEnd line n old new)
+ends-shown (Ok t) line n old new begins shown = record { begins = begins; shown = shown }
+ends-shown (Err e) line n old new begins shown = tt
 
 pub some-if : {A : Type 0} (P : A → Type 0) (o : Option A) (a : A) → o ≡ Some a → IfSome o P → P a
 some-if P o a e h = subst (λ q. IfSome q P) e h
@@ -37,10 +48,10 @@ tells-final bytes n (Some m) old new shows text = λ first. (m, shows first, tex
 tells-final bytes n None old new shows text = λ first. absurd (shows first)
 
 pub tells-ranks : (bytes : List ℕ) (n : ℕ) (found : Option RanksShown) (old new : List ℕ)
-    → ((first : FirstFault bytes n fault.RankOrder) → IfSome found (ShowsRanks (decisions_before first.stage) (lines_before first.stage) (bytes_of first.next) n))
-    → IfSome found (λ m. new ≡ old ++ rank_order_text m) × IfNone found (new ≡ old) → Tells bytes (No n fault.RankOrder) old new
-tells-ranks bytes n (Some m) old new shows text = λ first. inr (m, shows first, text.0)
-tells-ranks bytes n None old new shows text = λ first. inl text.1
+    → ((first : FirstFault bytes n fault.RankOrder) → IsSomeAnd found (ShowsRanks (decisions_before first.stage) (lines_before first.stage) (bytes_of first.next) n))
+    → IfSome found (λ m. new ≡ old ++ rank_order_text m) → Tells bytes (No n fault.RankOrder) old new
+tells-ranks bytes n (Some m) old new shows text = λ first. (m, shows first, text)
+tells-ranks bytes n None old new shows text = λ first. absurd (shows first)
 
 pub tells-step : (bytes : List ℕ) (n : ℕ) (found : Option Unmet) (old new : List ℕ)
     → ((first : FirstFault bytes n fault.WalkStep) → IfSome found (ShowsStep (decisions_before first.stage) (lines_before first.stage) (bytes_of first.next)))

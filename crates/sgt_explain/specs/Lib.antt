@@ -1,4 +1,6 @@
+pub mod Certified
 pub mod Explained
+pub mod Lines
 pub mod Shown
 pub mod Steps
 pub mod Topics
