@@ -10,9 +10,9 @@ use crate::shown::{
 use crate::steps::push_unmet_step;
 use sgt_audit::Fault;
 use sgt_cert::Certificate;
+use sgt_explain_certificate::{push_certificate, push_ranks};
 use sgt_explain_decisions::{
-    placed_in, push_certificate, push_decided_twice, push_decision_order, push_end, push_not_ended,
-    push_ranks, push_walk_shape,
+    placed_in, push_decided_twice, push_decision_order, push_end, push_not_ended, push_walk_shape,
 };
 use sgt_explain_lines::{
     Section, push_block, push_format, push_item, push_notation, push_section, push_trailing,

@@ -13,7 +13,7 @@ pub(crate) fn push_yes(alloc: Global, out: &mut String, bytes: &[u8]) -> Result<
     };
     let decisions = certificate.decisions();
     let sought = sought_in(alloc, decisions, bytes)?;
-    push_cycles(out, decisions, sought.as_slice())
+    push_cycles(out, decisions, &sought)
 }
 
 /// The line behind the last that may be shown of a transaction: all lines of a valid bundle, else those before the first fault.
