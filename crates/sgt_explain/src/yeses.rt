@@ -2,7 +2,8 @@
 
 use crate::shown::{certificate_of, text_before};
 use sgt_audit::Verdict;
-use sgt_explain_decisions::{push_cycles, push_dealings, push_fate, sought_in};
+use sgt_explain_dealings::push_dealings;
+use sgt_explain_decisions::{push_cycles, push_fate, sought_in};
 use sgt_names::Tx;
 use std::alloc::{AllocError, Global};
 

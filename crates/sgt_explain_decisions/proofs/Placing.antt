@@ -141,3 +141,7 @@ one-rank ds tx m n r s once one other =
 pub on-none : {A : Type 0} (o : Option A) (P Q : Type 0) → (P → Q) → IfNone o P → IfNone o Q
 on-none (Some a) P Q f p = p
 on-none None P Q f p = f p
+
+pub if-none : {A : Type 0} (o : Option A) (P : Type 0) → P → IfNone o P
+if-none (Some a) P p = tt
+if-none None P p = p

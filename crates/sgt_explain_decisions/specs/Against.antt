@@ -15,9 +15,9 @@ pub record StandAgainst (first second : Ranked) (kind : Kind) (item : Name) : Ty
   pub apart : tx_of first.logged.entry ≢ tx_of second.logged.entry
   pub falls : second.rank ≤ first.rank
 
--- this entry of the site is shown against the other, with the rank of its transaction
-pub record IsAgainst (decisions : List Decision) (site : ℕ) (one : Logged) (second : Ranked) (s : RanksShown) : Type 0 where
-  pub site : s.site ≡ site
+-- this entry of the site k is shown against the other, with the rank of its transaction
+pub record IsAgainst (decisions : List Decision) (k : ℕ) (one : Logged) (second : Ranked) (s : RanksShown) : Type 0 where
+  pub site : s.site ≡ k
   pub own : s.first.logged ≡ one
   pub other : s.second ≡ second
   pub committed : IsCommitted decisions s.first.number (tx_of s.first.logged.entry) s.first.rank

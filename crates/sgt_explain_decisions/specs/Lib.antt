@@ -1,8 +1,8 @@
 pub mod Against
 pub mod Cycles
-pub mod Dealings
 pub mod Decided
 pub mod Ends
+pub mod Fate
 pub mod Placed
 pub mod Sought
 pub mod Told

@@ -2,8 +2,8 @@
 #![tactic(auto)]
 
 mod cycles;
-mod dealings;
 mod ends;
+mod fate;
 mod order;
 mod placed;
 mod sought;
@@ -12,8 +12,8 @@ mod walks;
 mod words;
 
 pub use cycles::{push_cycles, unmet_in};
-pub use dealings::{push_dealings, push_fate};
 pub use ends::{push_end, push_not_ended};
+pub use fate::push_fate;
 pub use order::{Ranked, RanksShown, against_ranks, push_decision_order, push_rank_order};
 pub use placed::{Placed, number_on, placed_in};
 pub use sought::{Found, Sought, sought_in};

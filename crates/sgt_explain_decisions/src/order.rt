@@ -65,10 +65,10 @@ fn stand_against(first: &Ranked, second: &Ranked) -> Option<(Item, Kind)>
     ensures some { IfSome result (λ c. StandAgainst first.now second.now c.1 c.0) }
     ensures none { IfNone result ((kind : Kind) (item : Name) → StandAgainst first.now second.now kind item → ⊥) }
 {
-    match clash(&first.logged.entry, &second.logged.entry) {
-        Some((item, kind)) if second.rank <= first.rank => Some((item, kind)),
-        _ => None,
+    if second.rank > first.rank {
+        return None;
     }
+    clash(&first.logged.entry, &second.logged.entry)
 }
 
 /// This entry and the other, which has its rank, if it stands against that. Of the section of the site.

@@ -3,7 +3,7 @@ use Rattle.std.specs.Prelude.{string_bytes}
 use Rattle.sgt_explain_lines.proofs.Numbering.{on-ok}
 use Rattle.sgt_explain_decisions.specs.Told.{decision_text}
 use Rattle.sgt_explain_decisions.proofs.Behind.{adds-behind}
-use Rattle.sgt_explain_decisions.proofs.dealings.push_fate.Goals as goal
+use Rattle.sgt_explain_decisions.proofs.fate.push_fate.Goals as goal
 
 pub returns : goal.returns
 returns c =

@@ -2,8 +2,8 @@ use Rattle.std.proofs.Common.{◌+◌, ◌++◌, Some, drop, sym, ap, ◌∙◌,
 use Rattle.std.specs.Prelude.{string_bytes}
 use Rattle.std.proofs.lemmas.List.{append-nil, drop_all}
 use Rattle.sgt_names.proofs.Lists.{element_at, drop_next}
-use Rattle.sgt_explain_decisions.specs.Dealings.{one_text, own_text}
-use Rattle.sgt_explain_decisions.proofs.dealings.push_own.Goals as goal
+use Rattle.sgt_explain_dealings.specs.Dealings.{one_text, own_text}
+use Rattle.sgt_explain_dealings.proofs.dealings.push_own.Goals as goal
 
 pub loop-one-preserved : goal.loop-one-preserved
 loop-one-preserved c =

@@ -1,20 +1,8 @@
--- What is said of one transaction: its decision, and its entries site by site.
+-- What is said of one transaction's entries, site by site.
 use Rattle.std.specs.Prelude.{◌≡◌, ◌⊎◌, ℕ, List, [], ◌∷◌, ◌++◌, All, codes, decimal, Option, Some, None, if◌then◌else◌, ◌==◌}
 use Rattle.sgt_names.specs.Entry.{tx_of}
-use Rattle.sgt_cert.specs.declared.certificate.Decision.{Decision}
 use Rattle.sgt_explain_lines.specs.Told.{Adds, shown_line}
-use Rattle.sgt_explain_decisions.specs.declared.dealings.Own.{Own}
-use Rattle.sgt_explain_decisions.specs.Placed.{IsDecisionOn, IsUndecided}
-use Rattle.sgt_explain_decisions.specs.Told.{decision_text, no_decision_text}
-
--- ---- its decision
-
--- a decision on the transaction is told, and more is said; or that there is none, where there is none
-abbrev pub TellsFate : List Decision → ℕ → (old new : List ℕ) → Type 0
-TellsFate decisions tx old new = (IsUndecided decisions tx × (new ≡ old ++ no_decision_text tx)) ⊎ ((number : ℕ) × (decision : Decision)
-    × IsDecisionOn decisions tx number decision × Adds (old ++ decision_text number decision) new)
-
--- ---- its entries
+use Rattle.sgt_explain_dealings.specs.declared.dealings.Own.{Own}
 
 abbrev pub IsOwn : ℕ → Own → Type 0
 IsOwn tx own = tx_of own.logged.entry ≡ tx
