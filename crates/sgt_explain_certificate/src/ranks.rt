@@ -1,8 +1,8 @@
 //! What is said of ranks that aren't 0 to n-1, each once.
 
-ghost use Rattle.std.specs.Prelude.{◌≡◌, ◌≢◌, ◌+◌, ◌<◌, ◌≤◌, ◌++◌, All, IfOk, IfSome, OnOk, Contains, IsPermutation, length, string_bytes};
+ghost use Rattle.std.specs.Prelude.{◌≡◌, ◌≢◌, ◌+◌, ◌<◌, ◌≤◌, ◌++◌, ℕ, All, IfOk, IfSome, IfNone, OnOk, Contains, IsPermutation, length, string_bytes};
 ghost use Rattle.std.specs.List.Sorted.{IsNonDecreasingBy};
-ghost use Rattle.sgt_explain_certificate.specs.Ranks.{given_by, all_given, AreDoubled, AreRanksFound, ranks_head, doubled_text, if_doubled, if_above, if_missing, TellsRanks};
+ghost use Rattle.sgt_explain_certificate.specs.Ranks.{given_by, all_given, HasRank, AreDoubled, AreRanksFound, ranks_head, doubled_text, if_doubled, if_above, if_missing, TellsRanks};
 
 use sgt_cert::Decision;
 use sgt_names::Tx;
@@ -86,7 +86,8 @@ fn wanted_behind(wanted: usize, rank: u32) -> usize
 /// The least rank that is not given, if it is smaller than their count.
 fn missing(given: &[Given]) -> Option<usize>
     requires { IsNonDecreasingBy (λ g. g.rank) given.now }
-    ensures { IfSome result (λ rank. (rank < length given.now) × All (λ g. g.rank ≢ rank) given.now) }
+    ensures some { IfSome result (λ rank. (rank < length given.now) × All (λ g. g.rank ≢ rank) given.now) }
+    ensures none { IfNone result ((rank : ℕ) → rank < length given.now → HasRank given.now rank) }
 {
     let mut wanted = 0usize;
     for one in given {
