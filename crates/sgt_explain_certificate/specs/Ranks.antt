@@ -31,7 +31,7 @@ pub record AreDoubled (one other : Given) : Type 0 where
   pub same : one.rank ≡ other.rank
   pub apart : one.number < other.number
 
--- what is found wrong with the ranks: two that are one, one that is too great, and one that nobody has
+-- what is found wrong with the ranks: two that are one, one that is too great, and one that nobody has. Where none is missing, each is given
 pub record AreRanksFound (decisions : List Decision) (found : RanksFound) : Type 0 where
   pub commits : found.commits ≡ length (ranks decisions)
   pub doubled : IfSome found.doubled (λ two. IsGiven decisions two.0 × IsGiven decisions two.1 × AreDoubled two.0 two.1)

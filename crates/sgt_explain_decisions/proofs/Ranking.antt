@@ -28,10 +28,10 @@ pub rise-ranked : (ds : List Decision) (one : Logged) (first second : Ranked) �
     → ((kind : Kind) (item : Name) → StandAgainst first second kind item → ⊥) → RiseInRank ds one.entry second.logged.entry
 rise-ranked ds one first second same once own other none =
     subst (λ (l : Logged). RiseInRank ds l.entry second.logged.entry) same (λ kind x m n r s clash apart is its.
-        let a = one-rank ds (tx_of first.logged.entry) m first.number r first.rank once is own in
-        let b = one-rank ds (tx_of second.logged.entry) n second.number s second.rank once its other in
-        elim (cases_order r s) [
-          | inl even ↦ absurd (none kind x (record { clash = clash; apart = apart; falls = omega (arith, a, b, even) }))
-          | inr (inl rises) ↦ rises
-          | inr (inr falls) ↦ absurd (none kind x (record { clash = clash; apart = apart; falls = omega (arith, a, b, falls) }))
-        ])
+    let a = one-rank ds (tx_of first.logged.entry) m first.number r first.rank once is own in
+    let b = one-rank ds (tx_of second.logged.entry) n second.number s second.rank once its other in
+    elim (cases_order r s) [
+      | inl even ↦ absurd (none kind x (record { clash = clash; apart = apart; falls = omega (arith, a, b, even) }))
+      | inr (inl rises) ↦ rises
+      | inr (inr falls) ↦ absurd (none kind x (record { clash = clash; apart = apart; falls = omega (arith, a, b, falls) }))
+    ])
