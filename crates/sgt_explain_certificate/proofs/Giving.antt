@@ -1,19 +1,20 @@
 -- The ranks that decisions give, each with the number of its decision.
-use Rattle.std.proofs.Common.{◌≡◌, ◌≢◌, ℕ, zero, suc, ◌+◌, ◌<◌, ◌≤◌, List, [], ◌∷◌, ◌++◌, length, map, take, Some, None, refl, sym, ap, ◌∙◌, subst, arith, All, Contains}
-use Rattle.std.specs.Prelude.{slice_get, IsPermutation, Option, IfSome}
+use Rattle.std.proofs.Common.{◌≡◌, ◌≢◌, ℕ, zero, suc, ◌+◌, ◌<◌, ◌≤◌, List, [], ◌∷◌, ◌++◌, length, map, take, Some, None, inl, inr, refl, sym, ap, ◌∙◌, subst, arith, All, Contains}
+use Rattle.std.specs.Prelude.{slice_get, IsPermutation, Option, IfSome, IfNone, option_map}
 use Rattle.std.specs.List.{filter_map, enumerate_from, cons_option}
 use Rattle.std.specs.List.Sorted.{IsNonDecreasingBy}
 use Rattle.std.proofs.lemmas.List.{length-take-le, length-map, append-nil}
 use Rattle.std.proofs.lemmas.List.Elements.{filter_map-append}
 use Rattle.std.proofs.lemmas.List.Sorted.{Contains-permutation, IsPermutation-sym, length_permutation}
-use Rattle.std.proofs.lemmas.Option.{same_Some, slice_get_within, get_or_from_slice_get}
+use Rattle.std.proofs.lemmas.Option.{same_Some, slice_get_within, get_or_from_slice_get, slice_get-map}
+use Rattle.std.proofs.lemmas.Bool.{cases_order}
 use Rattle.sgt_names.proofs.Lists.{take_next, map_at, All_in, All-next}
 use Rattle.sgt_names.proofs.Places.{All-from_at, Contains_at, Contains-from_at, slice_get-take}
 use Rattle.sgt_cert.specs.Certificate.{IsCommitted, ranks}
 use Rattle.sgt_cert.specs.declared.certificate.Decision.{Decision}
 use Rattle.sgt_cert.specs.declared.certificate.Decision.TheVariants.{Commit, Refuse, Withdraw}
 use Rattle.sgt_explain_certificate.specs.declared.ranks.Given.{Given}
-use Rattle.sgt_explain_certificate.specs.Ranks.{given_by, given_of, all_given, IsGiven, AreDoubled}
+use Rattle.sgt_explain_certificate.specs.Ranks.{given_by, given_of, all_given, IsGiven, HasRank, AreDoubled}
 
 -- what stands at a place among the ranks is given by a decision
 given-at : (k : ℕ) (ds : List Decision) (n : ℕ) (g : Given) → slice_get (filter_map given_of (enumerate_from k ds)) n ≡ Some g
@@ -110,6 +111,18 @@ missing-is ds gs given (Some rank) moved same h = (
 )
 missing-is ds gs given None moved same h = h
 
+has-given : (ds : List Decision) (gs : List Given) (rank : ℕ) → IsPermutation (all_given ds) gs → HasRank gs rank → Contains (ranks ds) rank
+has-given ds gs rank moved has =
+    let at = Contains_at (all_given ds) has.0 (Contains-permutation gs (all_given ds) has.0 (IsPermutation-sym (all_given ds) gs moved) has.1) in
+    Contains-from_at (ranks ds) at.0 rank
+    (ap (λ rs. slice_get rs at.0) (sym (given-ranks 0 ds)) ∙ slice_get-map (λ (g : Given). g.rank) (all_given ds) at.0 ∙ ap (option_map (λ (g : Given). g.rank)) at.1 ∙ ap Some has.2)
+
+pub given-all : (ds : List Decision) (gs given : List Given) (found : Option ℕ) → IsPermutation (all_given ds) gs → given ≡ gs
+    → IfNone found ((rank : ℕ) → rank < length given → HasRank given rank) → IfNone found ((rank : ℕ) → rank < length (ranks ds) → Contains (ranks ds) rank)
+given-all ds gs given (Some rank) moved same h = h
+given-all ds gs given None moved same h = λ rank less.
+    has-given ds gs rank moved (subst (λ xs. HasRank xs rank) same (h rank (subst (λ k. rank < k) (sym (ap length same ∙ given-count ds gs moved)) less)))
+
 -- ---- the least rank that is not given, up to one more of the ranks, which rise
 
 pub missing-next : (gs : List Given) (i wanted : ℕ) (g : Given) → IsNonDecreasingBy (λ (h : Given). h.rank) gs → slice_get gs i ≡ Some g → g.rank ≡ wanted
@@ -124,3 +137,12 @@ missing-next gs i wanted g rising at is = All-from_at (λ (h : Given). h.rank �
 pub missing-kept : (gs : List Given) (i wanted : ℕ) (g : Given) → slice_get gs i ≡ Some g → g.rank ≢ wanted
     → All (λ (h : Given). h.rank ≢ wanted) (take i gs) → All (λ (h : Given). h.rank ≢ wanted) (take (i + 1) gs)
 missing-kept gs i wanted g at other all = All-next (λ (h : Given). h.rank ≢ wanted) gs i g at other all
+
+pub met-next : (gs : List Given) (i wanted : ℕ) (g : Given) → slice_get gs i ≡ Some g → g.rank ≡ wanted
+    → ((rank : ℕ) → rank < wanted → HasRank gs rank) → (rank : ℕ) → rank < wanted + 1 → HasRank gs rank
+met-next gs i wanted g at is met rank less =
+    elim (cases_order rank wanted) [
+      | inl here ↦ (g, Contains-from_at gs i g at, is ∙ sym here)
+      | inr (inl below) ↦ met rank below
+      | inr (inr above) ↦ absurd (omega (arith, less, above))
+    ]

@@ -1,5 +1,5 @@
 -- What is said of ranks that aren't 0 to n - 1, each once.
-use Rattle.std.specs.Prelude.{◌≡◌, ℕ, ◌-◌, ◌<◌, ◌≤◌, List, ◌++◌, length, Contains, codes, decimal, Option, Some, None, IfSome}
+use Rattle.std.specs.Prelude.{◌≡◌, ℕ, ◌-◌, ◌<◌, ◌≤◌, List, ◌++◌, length, Contains, codes, decimal, Option, Some, None, IfSome, IfNone}
 use Rattle.std.specs.List.{filter_map, enumerate_from}
 use Rattle.sgt_cert.specs.Certificate.{IsCommitted, ranks}
 use Rattle.sgt_cert.specs.declared.certificate.Decision.{Decision}
@@ -22,17 +22,22 @@ all_given decisions = filter_map given_of (enumerate_from 0 decisions)
 abbrev pub IsGiven : List Decision → Given → Type 0
 IsGiven decisions g = IsCommitted decisions g.number g.tx g.rank
 
+-- one of these has the rank
+abbrev pub HasRank : List Given → ℕ → Type 0
+HasRank given rank = (g : Given) × Contains given g × (g.rank ≡ rank)
+
 -- two decisions give one rank
 pub record AreDoubled (one other : Given) : Type 0 where
   pub same : one.rank ≡ other.rank
   pub apart : one.number < other.number
 
--- what is found wrong with the ranks: two that are one, one that is too great, and one that nobody has
+-- what is found wrong with the ranks: two that are one, one that is too great, and one that nobody has. Where none is missing, each is given
 pub record AreRanksFound (decisions : List Decision) (found : RanksFound) : Type 0 where
   pub commits : found.commits ≡ length (ranks decisions)
   pub doubled : IfSome found.doubled (λ two. IsGiven decisions two.0 × IsGiven decisions two.1 × AreDoubled two.0 two.1)
   pub above : IfSome found.above (λ g. IsGiven decisions g × (length (ranks decisions) ≤ g.rank))
   pub missing : IfSome found.missing (λ rank. (rank < length (ranks decisions)) × (Contains (ranks decisions) rank → ⊥))
+  pub given : IfNone found.missing ((rank : ℕ) → rank < length (ranks decisions) → Contains (ranks decisions) rank)
 
 abbrev pub ranks_head : ℕ → List ℕ
 ranks_head n = codes "Ranks: the ranks of the " ++ (decimal n ++ (codes " commits have to be 0 to " ++ (decimal (n - 1) ++ codes ", each once\n")))

@@ -82,7 +82,8 @@ fn json_break(alloc: Global, line: &[u8]) -> Result<Option<usize>, AllocError> {
 
 /// Why line 2 is no certificate, and line 2.
 fn push_refused(out: &mut String, name: &str, words: &str, line: &[u8]) -> Result<(), AllocError>
-    ensures { OnOk result (ShowsLine name.now 2 line.now (string_bytes out.old) (string_bytes out.new)) }
+    ensures { OnOk result (ShowsLine name.now 2 line.now
+        (string_bytes out.old) (string_bytes out.new)) }
 {
     out.push_str(name)?;
     out.push_str(words)?;
@@ -120,14 +121,16 @@ fn push_remedy(out: &mut String, line: &[u8]) -> Result<(), AllocError>
 
 /// K1: no JSON value.
 fn push_no_json(alloc: Global, out: &mut String, line: &[u8]) -> Result<(), AllocError>
-    ensures { OnOk result (ShowsLine (codes "Certificate: K1, ") 2 line.now (string_bytes out.old) (string_bytes out.new)) }
+    ensures { OnOk result (ShowsLine (codes "Certificate: K1, ") 2 line.now
+        (string_bytes out.old) (string_bytes out.new)) }
 {
     push_refused(out, "Certificate: K1, ", "line 2 is no JSON value\n", line)?;
     push_break(alloc, out, line)?;
     push_remedy(out, line)
 }
 
-/// The first place that leaves the compact text, with its members in the order of their keys, or as they are.
+/// The first place that leaves the compact text, with its members in the order of their keys, or
+/// as they are.
 fn first_turn(line: &[u8]) -> Option<Turn> {
     match turn_in(line, true) {
         Some(turn) => Some(turn),
@@ -137,7 +140,8 @@ fn first_turn(line: &[u8]) -> Option<Turn> {
 
 /// K2: a member is missing, unknown or of another type.
 fn push_shape(out: &mut String, line: &[u8]) -> Result<(), AllocError>
-    ensures { OnOk result (ShowsLine (codes "Certificate: K2, ") 2 line.now (string_bytes out.old) (string_bytes out.new)) }
+    ensures { OnOk result (ShowsLine (codes "Certificate: K2, ") 2 line.now
+        (string_bytes out.old) (string_bytes out.new)) }
 {
     push_refused(
         out,
@@ -148,7 +152,8 @@ fn push_shape(out: &mut String, line: &[u8]) -> Result<(), AllocError>
     push_turn(out, line, first_turn(line))
 }
 
-/// Whether the JSON value in the line says a certificate, in whatever order of keys and with whatever spaces.
+/// Whether the JSON value in the line says a certificate, in whatever order of keys and with
+/// whatever spaces.
 fn says_certificate(alloc: Global, line: &[u8]) -> Result<bool, AllocError> {
     let value = match Value::from_slice(alloc, line) {
         Ok(value) => value,
@@ -165,7 +170,8 @@ fn says_certificate(alloc: Global, line: &[u8]) -> Result<bool, AllocError> {
 
 /// K3, of a line that says no certificate.
 fn push_no_text(out: &mut String, line: &[u8], turn: Option<Turn>) -> Result<(), AllocError>
-    ensures { OnOk result (ShowsLine (codes "Certificate: K3, ") 2 line.now (string_bytes out.old) (string_bytes out.new)) }
+    ensures { OnOk result (ShowsLine (codes "Certificate: K3, ") 2 line.now
+        (string_bytes out.old) (string_bytes out.new)) }
 {
     push_refused(
         out,
@@ -185,7 +191,8 @@ fn push_spelling(out: &mut String) -> Result<(), AllocError>
 
 /// K3, of a line that says a certificate, and is spelled otherwise.
 fn push_not_compact(out: &mut String, line: &[u8]) -> Result<(), AllocError>
-    ensures { OnOk result (ShowsLine (codes "Certificate: K3, ") 2 line.now (string_bytes out.old) (string_bytes out.new)) }
+    ensures { OnOk result (ShowsLine (codes "Certificate: K3, ") 2 line.now
+        (string_bytes out.old) (string_bytes out.new)) }
 {
     push_refused(
         out,
@@ -199,7 +206,8 @@ fn push_not_compact(out: &mut String, line: &[u8]) -> Result<(), AllocError>
 
 /// K3: out of range, or not the compact text.
 fn push_range(alloc: Global, out: &mut String, line: &[u8]) -> Result<(), AllocError>
-    ensures { OnOk result (ShowsLine (codes "Certificate: K3, ") 2 line.now (string_bytes out.old) (string_bytes out.new)) }
+    ensures { OnOk result (ShowsLine (codes "Certificate: K3, ") 2 line.now
+        (string_bytes out.old) (string_bytes out.new)) }
 {
     let turn = turn_in(line, true);
     if turn.is_some() && !says_certificate(alloc, line)? {
@@ -215,7 +223,8 @@ fn push_fault(
     line: &[u8],
     fault: CertFault,
 ) -> Result<(), AllocError>
-    ensures shown { OnOk result (ShowsLine (fault_words fault) 2 line.now (string_bytes out.old) (string_bytes out.new)) }
+    ensures shown { OnOk result (ShowsLine (fault_words fault) 2 line.now
+        (string_bytes out.old) (string_bytes out.new)) }
     ensures memory { fault ≡ CertFault.Memory → OnOk result ⊥ }
 {
     match fault {
@@ -226,11 +235,12 @@ fn push_fault(
     }
 }
 
-/// F3: line 2 is no certificate. K1, K2 or K3, the column of the first place where the line goes wrong, what stands there and
-/// what would.
+/// F3: line 2 is no certificate. K1, K2 or K3, the column of the first place where the line goes
+/// wrong, what stands there and what would.
 pub fn push_certificate(alloc: Global, out: &mut String, line: &[u8]) -> Result<(), AllocError>
     ensures refused { (e : CertFault) → e ≢ CertFault.Memory → Refuses line.now e
-        → OnOk result (ShowsLine (fault_words e) 2 line.now (string_bytes out.old) (string_bytes out.new)) }
+        → OnOk result (ShowsLine (fault_words e) 2 line.now
+        (string_bytes out.old) (string_bytes out.new)) }
     ensures read { (c : Certificate) → IsCertificate c → line.now ≡ certificate_text c
         → OnOk result (string_bytes out.new ≡ string_bytes out.old) }
 {

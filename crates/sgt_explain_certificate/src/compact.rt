@@ -2,7 +2,8 @@
 
 use sgt_names::Item;
 
-/// A place of a line where it isn't what the compact text of a certificate has there, and what that is.
+/// A place of a line where it isn't what the compact text of a certificate has there, and what
+/// that is.
 #[derive(Clone, Copy)]
 pub struct Turn {
     pub at: usize,
@@ -260,8 +261,8 @@ impl Followed<'_> {
     }
 }
 
-/// The first place where the line leaves the compact text of a certificate. Where spaces are passed over, those between the
-/// words of the text don't count.
+/// The first place where the line leaves the compact text of a certificate. Where spaces are
+/// passed over, those between the words of the text don't count.
 pub(crate) fn turn_in(line: &[u8], skips: bool) -> Option<Turn> {
     match (Followed { line, skips }).certificate() {
         Ok(_) => None,

@@ -1,8 +1,8 @@
 //! What is said of ranks that aren't 0 to n-1, each once.
 
-ghost use Rattle.std.specs.Prelude.{◌≡◌, ◌≢◌, ◌+◌, ◌<◌, ◌≤◌, ◌++◌, All, IfOk, IfSome, OnOk, Contains, IsPermutation, length, string_bytes};
+ghost use Rattle.std.specs.Prelude.{◌≡◌, ◌≢◌, ◌+◌, ◌<◌, ◌≤◌, ◌++◌, ℕ, All, IfOk, IfSome, IfNone, OnOk, Contains, IsPermutation, length, string_bytes};
 ghost use Rattle.std.specs.List.Sorted.{IsNonDecreasingBy};
-ghost use Rattle.sgt_explain_certificate.specs.Ranks.{given_by, all_given, AreDoubled, AreRanksFound, ranks_head, doubled_text, if_doubled, if_above, if_missing, TellsRanks};
+ghost use Rattle.sgt_explain_certificate.specs.Ranks.{given_by, all_given, HasRank, AreDoubled, AreRanksFound, ranks_head, doubled_text, if_doubled, if_above, if_missing, TellsRanks};
 
 use sgt_cert::Decision;
 use sgt_names::Tx;
@@ -17,7 +17,8 @@ pub struct Given {
     pub number: usize,
 }
 
-/// What is wrong with the ranks of so many commits: two that are one, one that is too great, and one that nobody has.
+/// What is wrong with the ranks of so many commits: two that are one, one that is too great, and
+/// one that nobody has.
 #[derive(Clone, Copy)]
 pub struct RanksFound {
     pub commits: usize,
@@ -57,7 +58,8 @@ fn given_in(alloc: Global, decisions: &[Decision]) -> Result<Vec<Given>, AllocEr
 
 /// The first two of one rank.
 fn doubled(given: &[Given]) -> Option<(Given, Given)>
-    ensures { IfSome result (λ two. Contains given.now two.0 × Contains given.now two.1 × AreDoubled two.0 two.1) }
+    ensures { IfSome result (λ two. Contains given.now two.0 × Contains given.now two.1
+        × AreDoubled two.0 two.1) }
 {
     let mut before: Option<Given> = None;
     for one in given {
@@ -86,7 +88,9 @@ fn wanted_behind(wanted: usize, rank: u32) -> usize
 /// The least rank that is not given, if it is smaller than their count.
 fn missing(given: &[Given]) -> Option<usize>
     requires { IsNonDecreasingBy (λ g. g.rank) given.now }
-    ensures { IfSome result (λ rank. (rank < length given.now) × All (λ g. g.rank ≢ rank) given.now) }
+    ensures some { IfSome result (λ rank. (rank < length given.now) × All
+        (λ g. g.rank ≢ rank) given.now) }
+    ensures none { IfNone result ((rank : ℕ) → rank < length given.now → HasRank given.now rank) }
 {
     let mut wanted = 0usize;
     for one in given {
@@ -134,7 +138,8 @@ fn push_ranks_head(out: &mut String, commits: usize) -> Result<(), AllocError>
 
 /// Two decisions that give one rank.
 fn push_both_given(out: &mut String, first: &Given, second: &Given) -> Result<(), AllocError>
-    ensures { OnOk result (string_bytes out.new ≡ string_bytes out.old ++ doubled_text first.now second.now) }
+    ensures { OnOk result (string_bytes out.new ≡ string_bytes out.old
+        ++ doubled_text first.now second.now) }
 {
     let rank = first.rank;
     let one = first.tx;

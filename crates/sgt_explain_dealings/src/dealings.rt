@@ -104,7 +104,8 @@ fn first_on(sorted: &[Own], site: u8, item: &Item) -> usize {
     sorted.partition_point(|one| order(one, site, item) == Ordering::Less)
 }
 
-/// A conflict of an entry with one of the transaction's, in the order of the log. Whether there was one.
+/// A conflict of an entry with one of the transaction's, in the order of the log. Whether there
+/// was one.
 fn push_pair(
     out: &mut String,
     own: &Own,
@@ -130,7 +131,8 @@ fn push_pair(
     Ok(true)
 }
 
-/// The conflicts of an entry with those of the transaction on its item, of which there are two at most.
+/// The conflicts of an entry with those of the transaction on its item, of which there are two at
+/// most.
 fn push_pairs(
     out: &mut String,
     sorted: &[Own],
@@ -204,7 +206,9 @@ fn push_own_head(out: &mut String, own: &[Own]) -> Result<(), AllocError>
     out.push_str("in conflict:\n")
 }
 
-/// What the transaction did in the lines before this one: its entries at each site with their lines, and its conflicts with other transactions, each in its direction. Forty conflicts are shown, and the others counted.
+/// What the transaction did in the lines before this one: its entries at each site with their
+/// lines, and its conflicts with other transactions, each in its direction. Forty conflicts are
+/// shown, and the others counted.
 pub fn push_dealings(
     alloc: Global,
     out: &mut String,

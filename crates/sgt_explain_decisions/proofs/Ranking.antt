@@ -1,9 +1,8 @@
 -- Entries that stand against the ranks, and those that don't.
-use Rattle.std.proofs.Common.{◌≡◌, ◌<◌, ℕ, Option, Some, None, inl, inr, sym, subst, ap, arith}
-use Rattle.std.specs.Prelude.{IfSome, IfNone}
+use Rattle.std.proofs.Common.{◌≡◌, inl, inr, subst, arith}
 use Rattle.std.proofs.lemmas.Bool.{cases_order}
 use Rattle.sgt_names.specs.Name.{Name}
-use Rattle.sgt_names.specs.Entry.{Clash, tx_of}
+use Rattle.sgt_names.specs.Entry.{tx_of}
 use Rattle.sgt_names.specs.declared.entry.Kind.{Kind}
 use Rattle.sgt_cert.specs.Certificate.{IsCommitted, IsDecidedOnce}
 use Rattle.sgt_cert.specs.Valid.{RiseInRank}
@@ -28,10 +27,10 @@ pub rise-ranked : (ds : List Decision) (one : Logged) (first second : Ranked) �
     → ((kind : Kind) (item : Name) → StandAgainst first second kind item → ⊥) → RiseInRank ds one.entry second.logged.entry
 rise-ranked ds one first second same once own other none =
     subst (λ (l : Logged). RiseInRank ds l.entry second.logged.entry) same (λ kind x m n r s clash apart is its.
-        let a = one-rank ds (tx_of first.logged.entry) m first.number r first.rank once is own in
-        let b = one-rank ds (tx_of second.logged.entry) n second.number s second.rank once its other in
-        elim (cases_order r s) [
-          | inl even ↦ absurd (none kind x (record { clash = clash; apart = apart; falls = omega (arith, a, b, even) }))
-          | inr (inl rises) ↦ rises
-          | inr (inr falls) ↦ absurd (none kind x (record { clash = clash; apart = apart; falls = omega (arith, a, b, falls) }))
-        ])
+    let a = one-rank ds (tx_of first.logged.entry) m first.number r first.rank once is own in
+    let b = one-rank ds (tx_of second.logged.entry) n second.number s second.rank once its other in
+    elim (cases_order r s) [
+      | inl even ↦ absurd (none kind x (record { clash = clash; apart = apart; falls = omega (arith, a, b, even) }))
+      | inr (inl rises) ↦ rises
+      | inr (inr falls) ↦ absurd (none kind x (record { clash = clash; apart = apart; falls = omega (arith, a, b, falls) }))
+    ])

@@ -21,8 +21,10 @@ fn are_in_order(one: &Logged, other: &Logged) -> bool
 
 /// The two entries, where they are so.
 fn in_order(first: Option<Logged>, second: Option<Logged>) -> Option<(Logged, Logged)>
-    ensures some { IfSome result (λ two. (first ≡ Some two.0) × (second ≡ Some two.1) × AreInOrder two.0 two.1) }
-    ensures none { IfNone result ((one other : Logged) → first ≡ Some one → second ≡ Some other → AreInOrder one other → ⊥) }
+    ensures some { IfSome result
+        (λ two. (first ≡ Some two.0) × (second ≡ Some two.1) × AreInOrder two.0 two.1) }
+    ensures none { IfNone result ((one other : Logged) → first ≡ Some one → second ≡ Some other
+        → AreInOrder one other → ⊥) }
 {
     let one = first?;
     let other = second?;
@@ -50,7 +52,8 @@ fn push_step(
     step: &Step,
     shown: &Option<(Logged, Logged)>,
 ) -> Result<(), AllocError>
-    ensures { OnOk result (string_bytes out.new ≡ string_bytes out.old ++ step_text from step.now shown.now) }
+    ensures { OnOk result (string_bytes out.new ≡ string_bytes out.old
+        ++ step_text from step.now shown.now) }
 {
     match shown {
         Some((one, other)) => {
@@ -156,7 +159,8 @@ fn unmet_of(sought: &Sought, decision: &Decision) -> Option<usize>
     }
 }
 
-/// The first step of all walks that is no conflict of the logs: the number of the decision, and the place of the step from 0.
+/// The first step of all walks that is no conflict of the logs: the number of the decision, and
+/// the place of the step from 0.
 pub fn unmet_in(decisions: &[Decision], sought: &Sought) -> Option<(usize, usize)>
     ensures some { IfSome result (λ at. IsFirstUnmet sought.now decisions.now at.0 at.1) }
     ensures none { IfNone result (All (IsShownWhole sought.now) decisions.now) }

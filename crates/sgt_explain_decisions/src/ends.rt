@@ -45,7 +45,8 @@ fn letters(decision: &Decision) -> &'static str
 
 /// Which entries a transaction may have that is decided so.
 fn push_letters(out: &mut String, number: usize, decision: &Decision) -> Result<(), AllocError>
-    ensures { OnOk result (string_bytes out.new ≡ string_bytes out.old ++ letters_text number decision.now) }
+    ensures { OnOk result (string_bytes out.new ≡ string_bytes out.old
+        ++ letters_text number decision.now) }
 {
     push_decision(out, number, decision)?;
     let tx = decision.tx();
@@ -60,11 +61,15 @@ fn push_end_reason(
     decision: &Decision,
     has_ended: bool,
 ) -> Result<(), AllocError>
-    ensures { OnOk result (string_bytes out.new ≡ string_bytes out.old ++ reason_text number decision.now has_ended) }
+    ensures { OnOk result (string_bytes out.new ≡ string_bytes out.old
+        ++ reason_text number decision.now has_ended) }
 {
     if has_ended {
         let tx = decision.tx();
-        write!(out, "transaction {tx} has ended at this site: nothing of it may follow\n")
+        write!(
+            out,
+            "transaction {tx} has ended at this site: nothing of it may follow\n"
+        )
     } else {
         push_letters(out, number, decision)
     }
@@ -89,7 +94,8 @@ fn push_reason(
 
 /// The end of the transaction, if it has one, and the entry.
 fn push_both(out: &mut String, ended: &Option<Logged>, logged: &Logged) -> Result<(), AllocError>
-    ensures { OnOk result (string_bytes out.new ≡ string_bytes out.old ++ end_head ended.now logged.now) }
+    ensures { OnOk result (string_bytes out.new ≡ string_bytes out.old
+        ++ end_head ended.now logged.now) }
 {
     out.push_str("End: the transaction isn't decided as this entry says, or has ended here\n")?;
     push_if_there(out, ended)?;
@@ -141,7 +147,8 @@ fn lacks_end(entries: &[Logged], ended: &[u32], tx: Tx) -> bool
 
 /// The first entry whose transaction doesn't end among these.
 fn unended(alloc: Global, entries: &[Logged]) -> Result<Option<Logged>, AllocError>
-    ensures { IfOk result (λ found. IfSome found (λ l. Contains entries.now l × HasNoEnd entries.now (tx_of l.entry))) }
+    ensures { IfOk result (λ found. IfSome found
+        (λ l. Contains entries.now l × HasNoEnd entries.now (tx_of l.entry))) }
 {
     let ended = ended_in(alloc, entries)?;
     for logged in entries {
@@ -266,7 +273,8 @@ fn push_without_end(out: &mut String, site: u8, tx: Tx) -> Result<(), AllocError
 
 /// The same of the transaction of an entry, and the entry.
 fn push_unended(out: &mut String, site: u8, logged: &Logged) -> Result<(), AllocError>
-    ensures { OnOk result (string_bytes out.new ≡ string_bytes out.old ++ not_ended_head site logged.now) }
+    ensures { OnOk result (string_bytes out.new ≡ string_bytes out.old
+        ++ not_ended_head site logged.now) }
 {
     push_without_end(out, site, logged.entry.tx())?;
     push_logged(out, logged)?;

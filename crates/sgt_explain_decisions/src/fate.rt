@@ -19,7 +19,8 @@ fn fate_of(
     decisions: &[Decision],
     tx: Tx,
 ) -> Result<Option<(usize, &Decision)>, AllocError>
-    ensures some { IfOk result (λ found. IfSome found (λ d. IsDecisionOn decisions.now tx d.0 d.1.now)) }
+    ensures some { IfOk result (λ found. IfSome found
+        (λ d. IsDecisionOn decisions.now tx d.0 d.1.now)) }
     ensures none { IfOk result (λ found. IfNone found (IsUndecided decisions.now tx)) }
 {
     let placed = placed_in(alloc, decisions)?;
@@ -52,7 +53,8 @@ pub fn push_fate(
     bytes: &[u8],
     tx: Tx,
 ) -> Result<(), AllocError>
-    ensures { OnOk result (TellsFate decisions.now tx (string_bytes out.old) (string_bytes out.new)) }
+    ensures { OnOk result (TellsFate decisions.now tx
+        (string_bytes out.old) (string_bytes out.new)) }
 {
     let found = fate_of(alloc, decisions, tx)?;
     let Some((number, decision)) = found else {

@@ -1,4 +1,5 @@
-//! What an explanation says of the decisions of a bundle: by themselves, and of the logs against them.
+//! What an explanation says of the decisions of a bundle: by themselves, and of the logs against
+//! them.
 #![tactic(auto)]
 
 mod cycles;

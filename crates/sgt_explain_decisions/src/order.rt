@@ -45,7 +45,8 @@ pub struct RanksShown {
 /// The entry with the rank of its transaction, if that is committed.
 fn with_rank(decisions: &[Decision], placed: &[Placed], logged: &Logged) -> Option<Ranked>
     ensures same { IfSome result (λ r. r.logged ≡ logged.now) }
-    ensures rank { IfSome result (λ r. IsCommitted decisions.now r.number (tx_of r.logged.entry) r.rank) }
+    ensures rank { IfSome result
+        (λ r. IsCommitted decisions.now r.number (tx_of r.logged.entry) r.rank) }
     ensures none { ArePlaced decisions.now placed.now → IsDecidedOnce decisions.now
         → IfNone result (IsUncommitted decisions.now (tx_of logged.now.entry)) }
 {
@@ -59,11 +60,12 @@ fn with_rank(decisions: &[Decision], placed: &[Placed], logged: &Logged) -> Opti
     }
 }
 
-/// The item and the kind of the conflict of two entries of which the first stands against the second: its transaction has no
-/// smaller rank.
+/// The item and the kind of the conflict of two entries of which the first stands against the
+/// second: its transaction has no smaller rank.
 fn stand_against(first: &Ranked, second: &Ranked) -> Option<(Item, Kind)>
     ensures some { IfSome result (λ c. StandAgainst first.now second.now c.1 c.0) }
-    ensures none { IfNone result ((kind : Kind) (item : Name) → StandAgainst first.now second.now kind item → ⊥) }
+    ensures none { IfNone result ((kind : Kind) (item : Name)
+        → StandAgainst first.now second.now kind item → ⊥) }
 {
     if second.rank > first.rank {
         return None;
@@ -71,7 +73,8 @@ fn stand_against(first: &Ranked, second: &Ranked) -> Option<(Item, Kind)>
     clash(&first.logged.entry, &second.logged.entry)
 }
 
-/// This entry and the other, which has its rank, if it stands against that. Of the section of the site.
+/// This entry and the other, which has its rank, if it stands against that. Of the section of the
+/// site.
 fn shown_against(
     decisions: &[Decision],
     placed: &[Placed],
@@ -105,11 +108,14 @@ pub fn against_ranks(
     ensures site { IfSome result (λ s. s.site ≡ unwrap_or section.now.site 0) }
     ensures among { IfSome result (λ s. Contains section.now.entries.items s.first.logged) }
     ensures same { IfSome result (λ s. s.second.logged ≡ logged.now) }
-    ensures first { IfSome result (λ s. IsCommitted decisions.now s.first.number (tx_of s.first.logged.entry) s.first.rank) }
-    ensures second { IfSome result (λ s. IsCommitted decisions.now s.second.number (tx_of s.second.logged.entry) s.second.rank) }
+    ensures first { IfSome result
+        (λ s. IsCommitted decisions.now s.first.number (tx_of s.first.logged.entry) s.first.rank) }
+    ensures second { IfSome result
+        (λ s. IsCommitted decisions.now s.second.number (tx_of s.second.logged.entry) s.second.rank) }
     ensures stand { IfSome result (λ s. StandAgainst s.first s.second s.kind s.item) }
     ensures none { ArePlaced decisions.now placed.now → IsDecidedOnce decisions.now
-        → IfNone result (All (λ l. RiseInRank decisions.now l.entry logged.now.entry) section.now.entries.items) }
+        → IfNone result
+        (All (λ l. RiseInRank decisions.now l.entry logged.now.entry) section.now.entries.items) }
 {
     let second = with_rank(decisions, placed, logged)?;
     let site = section.site_number();
@@ -190,7 +196,8 @@ fn push_order_head(out: &mut String) -> Result<(), AllocError>
 
 /// F11: two entries of a site that stand against the ranks.
 pub fn push_rank_order(out: &mut String, shown: &RanksShown) -> Result<(), AllocError>
-    ensures { OnOk result (string_bytes out.new ≡ string_bytes out.old ++ rank_order_text shown.now) }
+    ensures { OnOk result (string_bytes out.new ≡ string_bytes out.old
+        ++ rank_order_text shown.now) }
 {
     push_order_head(out)?;
     push_both_ranked(out, shown)?;
@@ -199,7 +206,8 @@ pub fn push_rank_order(out: &mut String, shown: &RanksShown) -> Result<(), Alloc
 
 /// An end with the number of its decision, if that is later than this one.
 fn later_decided(placed: &[Placed], other: &Logged, own: usize) -> Option<Decided>
-    ensures { IfSome result (λ d. (d.logged ≡ other.now) × IsEnd d.logged.entry × IsDecidedAs placed.now d × (own < d.number)) }
+    ensures { IfSome result (λ d. (d.logged ≡ other.now) × IsEnd d.logged.entry
+        × IsDecidedAs placed.now d × (own < d.number)) }
 {
     if !other.entry.is_end() {
         return None;
@@ -215,7 +223,8 @@ fn later_decided(placed: &[Placed], other: &Logged, own: usize) -> Option<Decide
 
 /// The first of these ends that was decided later than the decision of this number.
 fn decided_later(placed: &[Placed], entries: &[Logged], own: usize) -> Option<Decided>
-    ensures { IfSome result (λ d. Contains entries.now d.logged × IsEnd d.logged.entry × IsDecidedAs placed.now d × (own < d.number)) }
+    ensures { IfSome result (λ d. Contains entries.now d.logged × IsEnd d.logged.entry
+        × IsDecidedAs placed.now d × (own < d.number)) }
 {
     for other in entries {
         let found = later_decided(placed, other, own);
@@ -228,7 +237,8 @@ fn decided_later(placed: &[Placed], entries: &[Logged], own: usize) -> Option<De
 
 /// An end with the number of its decision.
 fn push_decided(out: &mut String, decided: &Decided) -> Result<(), AllocError>
-    ensures { OnOk result (string_bytes out.new ≡ string_bytes out.old ++ decided_text decided.now) }
+    ensures { OnOk result (string_bytes out.new ≡ string_bytes out.old
+        ++ decided_text decided.now) }
 {
     let number = decided.number;
     push_aside(out, &decided.logged)?;
@@ -247,7 +257,8 @@ fn push_if_decided(out: &mut String, decided: &Option<Decided>) -> Result<(), Al
 
 /// An end on whose transaction there is no decision.
 fn push_undecided(out: &mut String, logged: &Logged) -> Result<(), AllocError>
-    ensures { OnOk result (string_bytes out.new ≡ string_bytes out.old ++ undecided_text logged.now) }
+    ensures { OnOk result (string_bytes out.new ≡ string_bytes out.old
+        ++ undecided_text logged.now) }
 {
     push_aside(out, logged)?;
     out.push_str("\n")

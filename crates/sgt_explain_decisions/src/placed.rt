@@ -32,7 +32,8 @@ pub fn placed_in(alloc: Global, decisions: &[Decision]) -> Result<Vec<Placed>, A
     Ok(placed)
 }
 
-/// How many stand before those of the transaction, where they are sorted by transaction. A binary search.
+/// How many stand before those of the transaction, where they are sorted by transaction. A binary
+/// search.
 fn count_before(placed: &[Placed], tx: Tx) -> usize
     ensures { IsNonDecreasingBy (λ p. p.tx) placed.now → StandBefore placed.now tx result }
 {
@@ -54,7 +55,8 @@ fn number_at(placed: &[Placed], at: usize, tx: Tx) -> Option<usize>
 /// The number of the first decision on the transaction, where these are sorted by transaction.
 pub fn number_on(placed: &[Placed], tx: Tx) -> Option<usize>
     ensures some { IfSome result (λ n. Contains placed.now (record { tx = tx; number = n })) }
-    ensures none { IsNonDecreasingBy (λ p. p.tx) placed.now → IfNone result (All (λ p. p.tx ≢ tx) placed.now) }
+    ensures none { IsNonDecreasingBy (λ p. p.tx) placed.now
+        → IfNone result (All (λ p. p.tx ≢ tx) placed.now) }
 {
     number_at(placed, count_before(placed, tx), tx)
 }
@@ -62,7 +64,8 @@ pub fn number_on(placed: &[Placed], tx: Tx) -> Option<usize>
 /// The decision of this number, if it is on the transaction.
 fn numbered_on(decisions: &[Decision], number: usize, tx: Tx) -> Option<(usize, &Decision)>
     ensures some { IfSome result (λ d. IsDecisionOn decisions.now tx d.0 d.1.now) }
-    ensures none { IfNone result ((d : Decision) → slice_get decisions.now number ≡ Some d → decided_tx d ≢ tx) }
+    ensures none { IfNone result ((d : Decision) → slice_get decisions.now number ≡ Some d
+        → decided_tx d ≢ tx) }
 {
     match decisions.get(number) {
         Some(decision) if decision.tx() == tx => Some((number, decision)),
@@ -77,7 +80,8 @@ pub fn decision_on<'a>(
     tx: Tx,
 ) -> Option<(usize, &'a Decision)>
     ensures some { IfSome result (λ d. IsDecisionOn decisions.now tx d.0 d.1.now) }
-    ensures none { ArePlaced decisions.now placed.now → IfNone result (IsUndecided decisions.now tx) }
+    ensures none { ArePlaced decisions.now placed.now
+        → IfNone result (IsUndecided decisions.now tx) }
 {
     match number_on(placed, tx) {
         Some(number) => numbered_on(decisions, number, tx),

@@ -11,7 +11,8 @@ use sgt_names::{Entry, Item, Kind, Tx};
 use std::alloc::{AllocError, Global};
 use std::collections::BTreeMap;
 
-/// What was found of a transaction on an item of a site: its read of it, and its change of it, made or asked for.
+/// What was found of a transaction on an item of a site: its read of it, and its change of it,
+/// made or asked for.
 #[derive(Clone, Copy)]
 pub struct Found {
     pub read: Option<Logged>,
@@ -35,7 +36,8 @@ fn nothing() -> Found
 
 /// With an entry of the transaction on the item.
 fn with_entry(found: Found, line: u64, entry: Entry) -> Found
-    ensures { (item : Name) (tx : ℕ) → IsFound item tx found → tx_of entry ≡ tx → item_of entry ≡ Some item → IsFound item tx result }
+    ensures { (item : Name) (tx : ℕ) → IsFound item tx found → tx_of entry ≡ tx
+        → item_of entry ≡ Some item → IsFound item tx result }
 {
     let logged = Some(Logged { line, entry });
     match &entry {
@@ -61,7 +63,8 @@ fn put(
     given: &Option<Logged>,
 ) -> Result<(), AllocError>
     ensures { AreFound sought.old → IsFound key.1 key.2 found
-        → IfSome given.now (λ l. (tx_of l.entry ≡ key.2) × (item_of l.entry ≡ Some key.1)) → OnOk result (AreFound sought.new) }
+        → IfSome given.now (λ l. (tx_of l.entry ≡ key.2) × (item_of l.entry ≡ Some key.1))
+        → OnOk result (AreFound sought.new) }
 {
     match given {
         Some(logged) => {
@@ -151,7 +154,8 @@ fn class_of(text: &[u8]) -> usize
     number as usize % CLASSES
 }
 
-/// Whether the line begins a section, or may be an operation of a transaction that is sought. Few others are read whole.
+/// Whether the line begins a section, or may be an operation of a transaction that is sought. Few
+/// others are read whole.
 fn may_matter(classes: &[bool], text: &[u8]) -> bool
     requires { length classes.now ≡ 65536 }
 {
@@ -215,13 +219,10 @@ fn unfound_in(alloc: Global, decisions: &[Decision]) -> Result<Sought, AllocErro
     Ok(sought)
 }
 
-/// What the walks of all refusals are about, each with its entries in the logs of the text, of which a transaction has
-/// two at most on an item. Where there is no refusal, the text isn't gone over.
-pub fn sought_in(
-    alloc: Global,
-    decisions: &[Decision],
-    bytes: &[u8],
-) -> Result<Sought, AllocError>
+/// What the walks of all refusals are about, each with its entries in the logs of the text, of
+/// which a transaction has two at most on an item. Where there is no refusal, the text isn't gone
+/// over.
+pub fn sought_in(alloc: Global, decisions: &[Decision], bytes: &[u8]) -> Result<Sought, AllocError>
     ensures { IfOk result AreFound }
 {
     let mut sought = unfound_in(alloc, decisions)?;

@@ -21,7 +21,8 @@ fn earlier_of(found: Option<(Placed, Placed)>, one: Placed, other: Placed) -> (P
 
 /// Two of one transaction, the second the least that there is.
 fn placed_twice(placed: &[Placed]) -> Option<(Placed, Placed)>
-    ensures { IfSome result (λ two. Contains placed.now two.0 × Contains placed.now two.1 × AreOfOne two.0 two.1) }
+    ensures { IfSome result (λ two. Contains placed.now two.0 × Contains placed.now two.1
+        × AreOfOne two.0 two.1) }
 {
     let mut before: Option<Placed> = None;
     let mut found: Option<(Placed, Placed)> = None;
@@ -74,7 +75,8 @@ fn push_two(
     second: usize,
 ) -> Result<(), AllocError>
     ensures { (two : IsTwice decisions.now first second)
-        → OnOk result (string_bytes out.new ≡ string_bytes out.old ++ twice_text first second two.one two.other) }
+        → OnOk result (string_bytes out.new ≡ string_bytes out.old
+        ++ twice_text first second two.one two.other) }
 {
     push_numbered_decision(out, decisions, first)?;
     push_numbered_decision(out, decisions, second)

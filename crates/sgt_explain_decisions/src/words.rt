@@ -10,7 +10,8 @@ use std::fmt::Write;
 
 /// What the decision of this number does: `decision 1 refuses 2`.
 pub fn push_decision(out: &mut String, number: usize, decision: &Decision) -> Result<(), AllocError>
-    ensures { OnOk result (string_bytes out.new ≡ string_bytes out.old ++ decision_text number decision.now) }
+    ensures { OnOk result (string_bytes out.new ≡ string_bytes out.old
+        ++ decision_text number decision.now) }
 {
     let tx = decision.tx();
     match decision {
