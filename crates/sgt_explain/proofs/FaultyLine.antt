@@ -1,5 +1,5 @@
 -- The line of a section that has the first fault of a text, and the lines before it.
-use Rattle.std.proofs.Common.{◌≡◌, ◌≢◌, ℕ, suc, ◌+◌, ◌<◌, List, [], ◌∷◌, ◌++◌, length, map, take, drop, Option, Some, None, Bool, refl, sym, ap, ap₂, ◌∙◌, subst, arith, append_assoc, take-append-drop, All}
+use Rattle.std.proofs.Common.{◌≡◌, ◌≢◌, ℕ, suc, ◌+◌, ◌<◌, List, [], ◌∷◌, ◌++◌, length, map, take, drop, Some, Bool, refl, sym, ap, ◌∙◌, subst, arith, append_assoc, take-append-drop, All}
 use Rattle.std.specs.Prelude.{fold, slice_get}
 use Rattle.std.specs.List.{filter_map, enumerate_from}
 use Rattle.std.proofs.lemmas.Grind.{flat_map-append}
@@ -11,7 +11,7 @@ use Rattle.sgt_notation.specs.Spelling.{line_text, text_of_lines, HasNoLf, IsLin
 use Rattle.sgt_notation.specs.declared.SectionLine.{SectionLine}
 use Rattle.sgt_notation.specs.declared.SectionLine.TheVariants.{Site, Initial, Logged, Final, End}
 use Rattle.sgt_notation.proofs.OneSpelling.{line-one}
-use Rattle.sgt_cert.specs.Text.{certificate_text, format_line, IsCertificate}
+use Rattle.sgt_cert.specs.Text.{certificate_text, format_line}
 use Rattle.sgt_cert.specs.declared.certificate.Certificate.{Certificate}
 use Rattle.sgt_cert.proofs.OneLine.{certificate-one_line}
 use Rattle.sgt_cert.proofs.OneText.{format-one_line, line_front}

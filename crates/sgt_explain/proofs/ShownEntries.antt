@@ -1,5 +1,5 @@
 -- What is shown of an entry by the lines before it in its section.
-use Rattle.std.proofs.Common.{◌≡◌, ◌≢◌, ℕ, suc, zero, ◌-◌, ◌<◌, ◌⊎◌, List, [], ◌∷◌, ◌++◌, length, Option, Some, None, inl, inr, refl, sym, ap, ◌∙◌, subst, arith, rules, All, length-append}
+use Rattle.std.proofs.Common.{◌≡◌, ℕ, ◌-◌, ◌<◌, ◌⊎◌, List, [], ◌∷◌, ◌++◌, length, Option, Some, None, inl, inr, refl, sym, ap, ◌∙◌, subst, arith, rules, length-append}
 use Rattle.std.specs.Prelude.{Result, Ok, Err, OnOk, slice_get, unwrap_or}
 use Rattle.std.specs.List.{last_or, filter_map}
 use Rattle.std.proofs.lemmas.List.Elements.{filter_map-append}
@@ -8,12 +8,12 @@ use Rattle.std.proofs.lemmas.Option.{same_Some, none-some}
 use Rattle.sgt_names.proofs.Lists.{option_cases, within_at}
 use Rattle.sgt_names.proofs.Places.{All-from_at}
 use Rattle.sgt_names.specs.Name.{Name}
-use Rattle.sgt_names.specs.Entry.{tx_of, item_of, Reads, Writes, IsOpen, Continues, Repeats}
+use Rattle.sgt_names.specs.Entry.{item_of, Reads, Writes, Repeats}
 use Rattle.sgt_names.specs.declared.entry.Entry.{Entry}
 use Rattle.sgt_names.specs.declared.entry.Entry.TheVariants.{Read, Write, Add, Want, WantAdd, Commit, Refuse, Withdraw}
 use Rattle.sgt_notation.specs.Spelling.{line_text}
 use Rattle.sgt_notation.specs.declared.SectionLine.{SectionLine}
-use Rattle.sgt_notation.specs.declared.SectionLine.TheVariants.{Site, Initial, Logged, Final, End}
+use Rattle.sgt_notation.specs.declared.SectionLine.TheVariants.{Logged}
 use Rattle.sgt_cert.specs.declared.certificate.Certificate.{Certificate}
 use Rattle.sgt_audit.specs.declared.faults.Fault.{Fault}
 use Rattle.sgt_audit.specs.declared.faults.Fault.TheVariants as fault
@@ -25,7 +25,7 @@ use Rattle.sgt_explain_lines.specs.Values.{entries_of}
 use Rattle.sgt_explain_lines.specs.declared.section.Logged.{Logged as LoggedEntry}
 use Rattle.sgt_explain_lines.specs.declared.section.Stated.{Stated}
 use Rattle.sgt_explain_lines.specs.declared.section.Section.{Section}
-use Rattle.sgt_explain.specs.Lines.{IsEntryOf, ShowsUnlisted, ShowsRepeating, ShowsCut}
+use Rattle.sgt_explain.specs.Lines.{ShowsUnlisted, ShowsRepeating, ShowsCut}
 use Rattle.sgt_explain.specs.Shown.{lines_before}
 use Rattle.sgt_explain.proofs.FaultyLine.{FaultyLine, entries-same, item-line, twice-line, block-line}
 use Rattle.sgt_explain.proofs.ShownValues.{logged-parts}

@@ -1,5 +1,5 @@
 -- What is shown of a value that a line gives its item, by the section before that line.
-use Rattle.std.proofs.Common.{◌≡◌, ◌≢◌, ℕ, suc, zero, List, [], ◌∷◌, ◌++◌, Option, Some, None, true, false, refl, sym, ap, ap₂, ◌∙◌, subst, arith, ◌⊎◌, inl, inr, Contains}
+use Rattle.std.proofs.Common.{◌≡◌, ◌≢◌, ℕ, suc, zero, List, [], ◌∷◌, ◌++◌, Option, Some, None, refl, sym, ap, ap₂, ◌∙◌, subst, arith, inl, inr, Contains}
 use Rattle.std.specs.Prelude.{cond, slice_get, unwrap_or, IfSome, IfNone, IsSomeAnd, All}
 use Rattle.std.specs.Str.{bytes_eq}
 use Rattle.std.proofs.lemmas.Bool.{cases_Bool}
@@ -11,19 +11,19 @@ use Rattle.sgt_names.specs.Name.{Name}
 use Rattle.sgt_names.specs.Entry.{tx_of}
 use Rattle.sgt_names.specs.Log.{names, value_in, value_at}
 use Rattle.sgt_names.specs.declared.entry.Entry.{Entry}
-use Rattle.sgt_names.specs.declared.entry.Entry.TheVariants.{Read, Write, Add, Want, WantAdd, Commit, Refuse, Withdraw}
+use Rattle.sgt_names.specs.declared.entry.Entry.TheVariants.{Read}
 use Rattle.sgt_names.specs.declared.entry.Holding.{Holding}
 use Rattle.sgt_notation.specs.Spelling.{line_text, HasNoLf}
 use Rattle.sgt_notation.specs.declared.SectionLine.{SectionLine}
-use Rattle.sgt_notation.specs.declared.SectionLine.TheVariants.{Site, Initial, Logged, Final, End}
+use Rattle.sgt_notation.specs.declared.SectionLine.TheVariants.{Logged, Final}
 use Rattle.sgt_cert.specs.Certificate.{IsCommitted, IsDecidedOnce}
 use Rattle.sgt_cert.specs.Valid.{RiseInRank}
 use Rattle.sgt_cert.specs.declared.certificate.Decision.{Decision}
 use Rattle.sgt_cert.specs.Text.{certificate_text, IsCertificate}
 use Rattle.sgt_cert.specs.declared.certificate.Certificate.{Certificate}
 use Rattle.sgt_audit.specs.declared.faults.Fault.TheVariants as fault
-use Rattle.sgt_audit.specs.Faults.{items_in, entries_in, Keeps, Stage, Piece, whole, within, bytes_of, FirstFault}
-use Rattle.sgt_explain_lines.specs.Numbered.{HasLine, IsSectionOf, open_site, logged_in, numbered_items, numbered_entries}
+use Rattle.sgt_audit.specs.Faults.{items_in, entries_in, Keeps, bytes_of, FirstFault}
+use Rattle.sgt_explain_lines.specs.Numbered.{HasLine, IsSectionOf, logged_in, numbered_entries}
 use Rattle.sgt_explain_lines.specs.Values.{holdings_of, entries_of, last_change, stated_as, HadUntil}
 use Rattle.sgt_explain_lines.specs.declared.section.Logged.{Logged as LoggedEntry}
 use Rattle.sgt_explain_lines.specs.declared.section.Section.{Section}

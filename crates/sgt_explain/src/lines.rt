@@ -13,11 +13,7 @@ use sgt_explain_lines::{
 use std::alloc::{AllocError, Global};
 
 /// F1: line 1 is no format.
-pub fn tell_format(
-    out: &mut String,
-    bytes: &[u8],
-    number: u64,
-) -> Result<(), AllocError>
+pub fn tell_format(out: &mut String, bytes: &[u8], number: u64) -> Result<(), AllocError>
     ensures { OnOk result
         (Tells bytes.now (No number Format) (string_bytes out.old) (string_bytes out.new)) }
 {
@@ -25,11 +21,7 @@ pub fn tell_format(
 }
 
 /// F2: the line spells nothing.
-pub fn tell_notation(
-    out: &mut String,
-    bytes: &[u8],
-    number: u64,
-) -> Result<(), AllocError>
+pub fn tell_notation(out: &mut String, bytes: &[u8], number: u64) -> Result<(), AllocError>
     ensures { OnOk result
         (Tells bytes.now (No number Notation) (string_bytes out.old) (string_bytes out.new)) }
 {
@@ -37,11 +29,7 @@ pub fn tell_notation(
 }
 
 /// F19: the line follows the last section.
-pub fn tell_trailing(
-    out: &mut String,
-    bytes: &[u8],
-    number: u64,
-) -> Result<(), AllocError>
+pub fn tell_trailing(out: &mut String, bytes: &[u8], number: u64) -> Result<(), AllocError>
     ensures { OnOk result
         (Tells bytes.now (No number Trailing) (string_bytes out.old) (string_bytes out.new)) }
 {

@@ -5,8 +5,8 @@ ghost use Rattle.sgt_audit.specs.declared.verdict.Verdict.TheVariants.{No};
 ghost use Rattle.sgt_explain.specs.Explained.{Tells};
 
 use crate::certified::{
-    tell_certificate, tell_decided_twice, tell_decision_order, tell_end, tell_not_ended, tell_ranks,
-    tell_walk_shape,
+    tell_certificate, tell_decided_twice, tell_decision_order, tell_end, tell_not_ended,
+    tell_ranks, tell_walk_shape,
 };
 use crate::lines::{
     tell_block, tell_format, tell_item, tell_notation, tell_section, tell_trailing, tell_truncated,

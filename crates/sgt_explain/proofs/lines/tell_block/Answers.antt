@@ -1,4 +1,3 @@
-use Rattle.std.proofs.Common.{sym}
 use Rattle.sgt_audit.specs.Faults.{bytes_of}
 use Rattle.sgt_explain.proofs.FaultyText.{block-at}
 use Rattle.sgt_explain.proofs.ShownEntries.{shows-cut}
