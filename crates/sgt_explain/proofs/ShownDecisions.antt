@@ -20,14 +20,11 @@ use Rattle.sgt_explain_decisions.specs.declared.placed.Placed.{Placed}
 use Rattle.sgt_explain_decisions.specs.Placed.{ArePlaced}
 use Rattle.sgt_explain_decisions.specs.Decided.{TellsDecisionOrder}
 use Rattle.sgt_explain_decisions.specs.Ends.{TellsEnd, TellsNotEnded}
+use Rattle.sgt_explain.specs.Asked.{HoldsCertificate}
 use Rattle.sgt_explain.specs.Certified.{ShowsAgainstEnd, ShowsMisplaced, ShowsUnended}
 use Rattle.sgt_explain.specs.Shown.{lines_before, decisions_before}
 use Rattle.sgt_explain.proofs.FaultyLine.{FaultyLine, end-line, decision-line, left-line}
 use Rattle.sgt_explain.proofs.ShownValues.{logged-parts}
-
--- the certificate is line 2 of the text
-abbrev pub HoldsCertificate : List ℕ → Certificate → Type 0
-HoldsCertificate bytes c = (front : List ℕ) × (rest : List ℕ) × HasNoLf front × IsCertificate c × (bytes ≡ front ++ 10 ∷ (certificate_text c ++ 10 ∷ rest))
 
 -- what was read there
 abbrev pub Reads : List ℕ → Option Certificate → Type 0

@@ -19,6 +19,7 @@ use Rattle.sgt_cert.specs.declared.certificate.Certificate.{Certificate}
 use Rattle.sgt_explain_certificate.specs.Ranks.{TellsRanks}
 use Rattle.sgt_explain_decisions.specs.Twice.{TellsTwice}
 use Rattle.sgt_explain_decisions.specs.Walks.{TellsWalk}
+use Rattle.sgt_explain.specs.Asked.{TellsAsked}
 use Rattle.sgt_explain.specs.Certified.{TellsNoCertificate, SpellsCertificate, ShowsAgainstEnd, ShowsMisplaced, ShowsUnended}
 use Rattle.sgt_explain.specs.Lines.{ShowsFaulty, ShowsEnd, ShowsUnlisted, ShowsRepeating, ShowsCut}
 use Rattle.sgt_explain.specs.Shown.{lines_before, decisions_before, ShowsRead, ShowsFinal, ShowsRanks}
@@ -86,12 +87,18 @@ Tells bytes (No line fault.WalkStep) old new = (first : FirstFault bytes line fa
     (bytes_of first.next) shown × (new ≡ old ++ walk_step_text shown))
 Tells _ _ _ _ = Unit {0}
 
--- what a verdict on the bytes means begins with that
-pub record Means (bytes : List ℕ) (v : Verdict) (meaning : List ℕ) : Type 0 where
+-- what a verdict on the bytes means is that, and behind it what is told of the transaction, if one
+-- is asked for
+pub record MeansOf (bytes : List ℕ) (asked : Option ℕ) (v : Verdict) (meaning : List ℕ) : Type 0 where
   pub said : List ℕ
   pub more : List ℕ
   pub text : meaning ≡ said ++ more
   pub told : Tells bytes v [] said
+  pub dealings : TellsAsked bytes asked [] more
+
+-- whether one is asked for or not
+abbrev pub Means : List ℕ → Verdict → List ℕ → Type 0
+Means bytes v meaning = (asked : Option ℕ) × MeansOf bytes asked v meaning
 
 -- the text that an input is explained by: the line of the verdict on its bytes, and what that means
 -- behind it
@@ -99,6 +106,17 @@ abbrev pub IsExplained : Option (List ℕ) → Outcome → List ℕ → Type 0
 IsExplained told ended text = (v : Verdict) × (meaning : List ℕ)
     × IfSome told (λ bytes. IsVerdict bytes v × Means bytes v meaning)
     × (ended ≡ outcome_of v) × (text ≡ text_of v ++ meaning)
+
+-- the same where this transaction is asked for, or none
+abbrev pub IsExplainedOf : Option ℕ → Option (List ℕ) → Outcome → List ℕ → Type 0
+IsExplainedOf asked told ended text = (v : Verdict) × (meaning : List ℕ)
+    × IfSome told (λ bytes. IsVerdict bytes v × MeansOf bytes asked v meaning)
+    × (ended ≡ outcome_of v) × (text ≡ text_of v ++ meaning)
+
+abbrev pub WroteExplainedOf : Option ℕ → (told : Option (List ℕ)) → Outcome
+    → (old new : Option (List ℕ)) → Type 0
+WroteExplainedOf asked told ended old new = (text : List ℕ) × IsExplainedOf asked told ended text
+    × Appends old new text
 
 -- that text was written
 abbrev pub WroteExplained : (told : Option (List ℕ)) → Outcome → (old new : Option (List ℕ))
