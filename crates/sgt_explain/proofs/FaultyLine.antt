@@ -1,5 +1,5 @@
 -- The line of a section that has the first fault of a text, and the lines before it.
-use Rattle.std.proofs.Common.{◌≡◌, ◌≢◌, ℕ, suc, ◌+◌, ◌<◌, List, [], ◌∷◌, ◌++◌, length, map, take, drop, Option, Some, None, Bool, refl, sym, ap, ap₂, ◌∙◌, subst, arith, append_assoc, take-append-drop, All}
+use Rattle.std.proofs.Common.{◌≡◌, ◌≢◌, ℕ, suc, ◌+◌, ◌<◌, List, [], ◌∷◌, ◌++◌, length, map, take, drop, Some, Bool, refl, sym, ap, ◌∙◌, subst, arith, append_assoc, take-append-drop, All}
 use Rattle.std.specs.Prelude.{fold, slice_get}
 use Rattle.std.specs.List.{filter_map, enumerate_from}
 use Rattle.std.proofs.lemmas.Grind.{flat_map-append}
@@ -11,7 +11,7 @@ use Rattle.sgt_notation.specs.Spelling.{line_text, text_of_lines, HasNoLf, IsLin
 use Rattle.sgt_notation.specs.declared.SectionLine.{SectionLine}
 use Rattle.sgt_notation.specs.declared.SectionLine.TheVariants.{Site, Initial, Logged, Final, End}
 use Rattle.sgt_notation.proofs.OneSpelling.{line-one}
-use Rattle.sgt_cert.specs.Text.{certificate_text, format_line, IsCertificate}
+use Rattle.sgt_cert.specs.Text.{certificate_text, format_line}
 use Rattle.sgt_cert.specs.declared.certificate.Certificate.{Certificate}
 use Rattle.sgt_cert.proofs.OneLine.{certificate-one_line}
 use Rattle.sgt_cert.proofs.OneText.{format-one_line, line_front}
@@ -76,13 +76,13 @@ pub record FaultyLine (bytes : List ℕ) (n : ℕ) (f : Fault) (stage : Stage) (
   pub kept : AllKept second c before
   pub certified : (first : List ℕ) × (more : List ℕ) × HasNoLf first × (bytes ≡ first ++ 10 ∷ (certificate_text c ++ 10 ∷ more))
   pub begun : Keeps c before line fault.Section
-  pub known : Keeps c before line fault.Item
+  pub known : fault_number fault.Item < fault_number f → Keeps c before line fault.Item
   pub broken : Keeps c before line f → ⊥
 
 split_at : (ls : List SectionLine) (n : ℕ) (l : SectionLine) → slice_get ls n ≡ Some l → ls ≡ take n ls ++ l ∷ drop (n + 1) ls
 split_at ls n l at = sym (take-append-drop n ls) ∙ ap (λ ms. take n ls ++ ms) (drop_next ls n l at)
 
-kept-spelled : (second : Bool) (c : Certificate) (before : List SectionLine) → AllKept second c before → All IsLine before
+pub kept-spelled : (second : Bool) (c : Certificate) (before : List SectionLine) → AllKept second c before → All IsLine before
 kept-spelled second c before kept = All-from_at IsLine before (λ n l at. (kept.lines (take n before) (drop (n + 1) before) l (split_at before n l at)).0.0)
 
 module _ (bytes rest l : List ℕ) (n : ℕ) (second : Bool) (c : Certificate) (before : List SectionLine) (text : bytes ≡ text_of_lines (lines_so_far (within second c before)) ++ rest)
@@ -110,7 +110,8 @@ module _ (bytes rest l : List ℕ) (n : ℕ) (second : Bool) (c : Certificate) (
         counted = omega (arith, number, lines, long);
       }
 
-  inside : (f : Fault) → Rule (within second c before) (whole l) fault.Notation → Rule (within second c before) (whole l) fault.Section → Rule (within second c before) (whole l) fault.Item → (((line : SectionLine) → IsLineIn second line → l ≡ line_text line → Keeps c before line f) → ⊥)
+  inside : (f : Fault) → Rule (within second c before) (whole l) fault.Notation → Rule (within second c before) (whole l) fault.Section
+      → (fault_number fault.Item < fault_number f → Rule (within second c before) (whole l) fault.Item) → (((line : SectionLine) → IsLineIn second line → l ≡ line_text line → Keeps c before line f) → ⊥)
       → FaultyLine bytes n f (within second c before) (whole l)
   inside f spelled begun known broken = record {
     second = second;
@@ -129,7 +130,7 @@ module _ (bytes rest l : List ℕ) (n : ℕ) (second : Bool) (c : Certificate) (
           ∙ ap (λ (r : List ℕ). format_line second ++ 10 ∷ r) (line_front (certificate_text c) (map line_text before) rest),
     );
     begun = begun spelled.0 spelled.1 spelled.2;
-    known = known spelled.0 spelled.1 spelled.2;
+    known = λ less. known less spelled.0 spelled.1 spelled.2;
     broken = λ keeps. broken (λ m is e. subst (λ k. Keeps c before k f) (line-one spelled.0 m spelled.1.0 is.0 (sym spelled.2 ∙ e)) keeps);
   }
 
@@ -145,7 +146,7 @@ module _ (bytes rest : List ℕ) (n : ℕ) where
   read-of (complete second c before) (whole l) text kept number comes breaks = absurd (breaks.broken tt)
   read-of (complete second c before) (last l) text kept number comes breaks = absurd (breaks.broken tt)
   read-of (within second c before) (whole l) text kept number comes breaks =
-      inside bytes rest l n second c before text kept number comes fault.ReadValue (breaks.least fault.Notation (omega arith)) (breaks.least fault.Section (omega arith)) (breaks.least fault.Item (omega arith)) breaks.broken
+      inside bytes rest l n second c before text kept number comes fault.ReadValue (breaks.least fault.Notation (omega arith)) (breaks.least fault.Section (omega arith)) (breaks.least fault.Item) breaks.broken
 
   final-of : (stage : Stage) (next : Piece) → bytes ≡ text_of_lines (lines_so_far stage) ++ rest → IsFaultless stage → n ≡ length (lines_so_far stage) + 1 → ComesNext rest next
       → Breaks (Rule stage next) fault.Final → FaultyLine bytes n fault.Final stage next
@@ -157,7 +158,7 @@ module _ (bytes rest : List ℕ) (n : ℕ) where
   final-of (complete second c before) (whole l) text kept number comes breaks = absurd (breaks.broken tt)
   final-of (complete second c before) (last l) text kept number comes breaks = absurd (breaks.broken tt)
   final-of (within second c before) (whole l) text kept number comes breaks =
-      inside bytes rest l n second c before text kept number comes fault.Final (breaks.least fault.Notation (omega arith)) (breaks.least fault.Section (omega arith)) (breaks.least fault.Item (omega arith)) breaks.broken
+      inside bytes rest l n second c before text kept number comes fault.Final (breaks.least fault.Notation (omega arith)) (breaks.least fault.Section (omega arith)) (breaks.least fault.Item) breaks.broken
 
   rank-of : (stage : Stage) (next : Piece) → bytes ≡ text_of_lines (lines_so_far stage) ++ rest → IsFaultless stage → n ≡ length (lines_so_far stage) + 1 → ComesNext rest next
       → Breaks (Rule stage next) fault.RankOrder → FaultyLine bytes n fault.RankOrder stage next
@@ -169,7 +170,7 @@ module _ (bytes rest : List ℕ) (n : ℕ) where
   rank-of (complete second c before) (whole l) text kept number comes breaks = absurd (breaks.broken tt)
   rank-of (complete second c before) (last l) text kept number comes breaks = absurd (breaks.broken tt)
   rank-of (within second c before) (whole l) text kept number comes breaks =
-      inside bytes rest l n second c before text kept number comes fault.RankOrder (breaks.least fault.Notation (omega arith)) (breaks.least fault.Section (omega arith)) (breaks.least fault.Item (omega arith)) breaks.broken
+      inside bytes rest l n second c before text kept number comes fault.RankOrder (breaks.least fault.Notation (omega arith)) (breaks.least fault.Section (omega arith)) (breaks.least fault.Item) breaks.broken
 
   step-of : (stage : Stage) (next : Piece) → bytes ≡ text_of_lines (lines_so_far stage) ++ rest → IsFaultless stage → n ≡ length (lines_so_far stage) + 1 → ComesNext rest next
       → Breaks (Rule stage next) fault.WalkStep → FaultyLine bytes n fault.WalkStep stage next
@@ -181,7 +182,79 @@ module _ (bytes rest : List ℕ) (n : ℕ) where
   step-of (complete second c before) (whole l) text kept number comes breaks = absurd (breaks.broken tt)
   step-of (complete second c before) (last l) text kept number comes breaks = absurd (breaks.broken tt)
   step-of (within second c before) (whole l) text kept number comes breaks =
-      inside bytes rest l n second c before text kept number comes fault.WalkStep (breaks.least fault.Notation (omega arith)) (breaks.least fault.Section (omega arith)) (breaks.least fault.Item (omega arith)) breaks.broken
+      inside bytes rest l n second c before text kept number comes fault.WalkStep (breaks.least fault.Notation (omega arith)) (breaks.least fault.Section (omega arith)) (breaks.least fault.Item) breaks.broken
+
+  item-of : (stage : Stage) (next : Piece) → bytes ≡ text_of_lines (lines_so_far stage) ++ rest → IsFaultless stage → n ≡ length (lines_so_far stage) + 1 → ComesNext rest next
+      → Breaks (Rule stage next) fault.Item → FaultyLine bytes n fault.Item stage next
+  item-of start (whole l) text kept number comes breaks = absurd (breaks.broken tt)
+  item-of start (last l) text kept number comes breaks = absurd (breaks.broken tt)
+  item-of (headed second) (whole l) text kept number comes breaks = absurd (breaks.broken (λ c is e. tt))
+  item-of (headed second) (last l) text kept number comes breaks = absurd (breaks.broken tt)
+  item-of (within second c before) (last l) text kept number comes breaks = absurd (breaks.broken tt)
+  item-of (complete second c before) (whole l) text kept number comes breaks = absurd (breaks.broken tt)
+  item-of (complete second c before) (last l) text kept number comes breaks = absurd (breaks.broken tt)
+  item-of (within second c before) (whole l) text kept number comes breaks =
+      inside bytes rest l n second c before text kept number comes fault.Item (breaks.least fault.Notation (omega arith)) (breaks.least fault.Section (omega arith)) (breaks.least fault.Item) breaks.broken
+
+  twice-of : (stage : Stage) (next : Piece) → bytes ≡ text_of_lines (lines_so_far stage) ++ rest → IsFaultless stage → n ≡ length (lines_so_far stage) + 1 → ComesNext rest next
+      → Breaks (Rule stage next) fault.Twice → FaultyLine bytes n fault.Twice stage next
+  twice-of start (whole l) text kept number comes breaks = absurd (breaks.broken tt)
+  twice-of start (last l) text kept number comes breaks = absurd (breaks.broken tt)
+  twice-of (headed second) (whole l) text kept number comes breaks = absurd (breaks.broken (λ c is e. tt))
+  twice-of (headed second) (last l) text kept number comes breaks = absurd (breaks.broken tt)
+  twice-of (within second c before) (last l) text kept number comes breaks = absurd (breaks.broken tt)
+  twice-of (complete second c before) (whole l) text kept number comes breaks = absurd (breaks.broken tt)
+  twice-of (complete second c before) (last l) text kept number comes breaks = absurd (breaks.broken tt)
+  twice-of (within second c before) (whole l) text kept number comes breaks =
+      inside bytes rest l n second c before text kept number comes fault.Twice (breaks.least fault.Notation (omega arith)) (breaks.least fault.Section (omega arith)) (breaks.least fault.Item) breaks.broken
+
+  block-of : (stage : Stage) (next : Piece) → bytes ≡ text_of_lines (lines_so_far stage) ++ rest → IsFaultless stage → n ≡ length (lines_so_far stage) + 1 → ComesNext rest next
+      → Breaks (Rule stage next) fault.Block → FaultyLine bytes n fault.Block stage next
+  block-of start (whole l) text kept number comes breaks = absurd (breaks.broken tt)
+  block-of start (last l) text kept number comes breaks = absurd (breaks.broken tt)
+  block-of (headed second) (whole l) text kept number comes breaks = absurd (breaks.broken (λ c is e. tt))
+  block-of (headed second) (last l) text kept number comes breaks = absurd (breaks.broken tt)
+  block-of (within second c before) (last l) text kept number comes breaks = absurd (breaks.broken tt)
+  block-of (complete second c before) (whole l) text kept number comes breaks = absurd (breaks.broken tt)
+  block-of (complete second c before) (last l) text kept number comes breaks = absurd (breaks.broken tt)
+  block-of (within second c before) (whole l) text kept number comes breaks =
+      inside bytes rest l n second c before text kept number comes fault.Block (breaks.least fault.Notation (omega arith)) (breaks.least fault.Section (omega arith)) (breaks.least fault.Item) breaks.broken
+
+  end-of : (stage : Stage) (next : Piece) → bytes ≡ text_of_lines (lines_so_far stage) ++ rest → IsFaultless stage → n ≡ length (lines_so_far stage) + 1 → ComesNext rest next
+      → Breaks (Rule stage next) fault.End → FaultyLine bytes n fault.End stage next
+  end-of start (whole l) text kept number comes breaks = absurd (breaks.broken tt)
+  end-of start (last l) text kept number comes breaks = absurd (breaks.broken tt)
+  end-of (headed second) (whole l) text kept number comes breaks = absurd (breaks.broken (λ c is e. tt))
+  end-of (headed second) (last l) text kept number comes breaks = absurd (breaks.broken tt)
+  end-of (within second c before) (last l) text kept number comes breaks = absurd (breaks.broken tt)
+  end-of (complete second c before) (whole l) text kept number comes breaks = absurd (breaks.broken tt)
+  end-of (complete second c before) (last l) text kept number comes breaks = absurd (breaks.broken tt)
+  end-of (within second c before) (whole l) text kept number comes breaks =
+      inside bytes rest l n second c before text kept number comes fault.End (breaks.least fault.Notation (omega arith)) (breaks.least fault.Section (omega arith)) (breaks.least fault.Item) breaks.broken
+
+  decision-of : (stage : Stage) (next : Piece) → bytes ≡ text_of_lines (lines_so_far stage) ++ rest → IsFaultless stage → n ≡ length (lines_so_far stage) + 1 → ComesNext rest next
+      → Breaks (Rule stage next) fault.DecisionOrder → FaultyLine bytes n fault.DecisionOrder stage next
+  decision-of start (whole l) text kept number comes breaks = absurd (breaks.broken tt)
+  decision-of start (last l) text kept number comes breaks = absurd (breaks.broken tt)
+  decision-of (headed second) (whole l) text kept number comes breaks = absurd (breaks.broken (λ c is e. tt))
+  decision-of (headed second) (last l) text kept number comes breaks = absurd (breaks.broken tt)
+  decision-of (within second c before) (last l) text kept number comes breaks = absurd (breaks.broken tt)
+  decision-of (complete second c before) (whole l) text kept number comes breaks = absurd (breaks.broken tt)
+  decision-of (complete second c before) (last l) text kept number comes breaks = absurd (breaks.broken tt)
+  decision-of (within second c before) (whole l) text kept number comes breaks =
+      inside bytes rest l n second c before text kept number comes fault.DecisionOrder (breaks.least fault.Notation (omega arith)) (breaks.least fault.Section (omega arith)) (breaks.least fault.Item) breaks.broken
+
+  left-of : (stage : Stage) (next : Piece) → bytes ≡ text_of_lines (lines_so_far stage) ++ rest → IsFaultless stage → n ≡ length (lines_so_far stage) + 1 → ComesNext rest next
+      → Breaks (Rule stage next) fault.NotEnded → FaultyLine bytes n fault.NotEnded stage next
+  left-of start (whole l) text kept number comes breaks = absurd (breaks.broken tt)
+  left-of start (last l) text kept number comes breaks = absurd (breaks.broken tt)
+  left-of (headed second) (whole l) text kept number comes breaks = absurd (breaks.broken (λ c is e. tt))
+  left-of (headed second) (last l) text kept number comes breaks = absurd (breaks.broken tt)
+  left-of (within second c before) (last l) text kept number comes breaks = absurd (breaks.broken tt)
+  left-of (complete second c before) (whole l) text kept number comes breaks = absurd (breaks.broken tt)
+  left-of (complete second c before) (last l) text kept number comes breaks = absurd (breaks.broken tt)
+  left-of (within second c before) (whole l) text kept number comes breaks =
+      inside bytes rest l n second c before text kept number comes fault.NotEnded (breaks.least fault.Notation (omega arith)) (breaks.least fault.Section (omega arith)) (breaks.least fault.Item) breaks.broken
 
 pub rank-line : (bytes : List ℕ) (n : ℕ) (first : FirstFault bytes n fault.RankOrder) → FaultyLine bytes n fault.RankOrder first.stage first.next
 rank-line bytes n first = rank-of bytes first.rest n first.stage first.next first.text first.faultless first.number first.comes first.breaks
@@ -194,3 +267,21 @@ final-line bytes n first = final-of bytes first.rest n first.stage first.next fi
 
 pub step-line : (bytes : List ℕ) (n : ℕ) (first : FirstFault bytes n fault.WalkStep) → FaultyLine bytes n fault.WalkStep first.stage first.next
 step-line bytes n first = step-of bytes first.rest n first.stage first.next first.text first.faultless first.number first.comes first.breaks
+
+pub item-line : (bytes : List ℕ) (n : ℕ) (first : FirstFault bytes n fault.Item) → FaultyLine bytes n fault.Item first.stage first.next
+item-line bytes n first = item-of bytes first.rest n first.stage first.next first.text first.faultless first.number first.comes first.breaks
+
+pub twice-line : (bytes : List ℕ) (n : ℕ) (first : FirstFault bytes n fault.Twice) → FaultyLine bytes n fault.Twice first.stage first.next
+twice-line bytes n first = twice-of bytes first.rest n first.stage first.next first.text first.faultless first.number first.comes first.breaks
+
+pub block-line : (bytes : List ℕ) (n : ℕ) (first : FirstFault bytes n fault.Block) → FaultyLine bytes n fault.Block first.stage first.next
+block-line bytes n first = block-of bytes first.rest n first.stage first.next first.text first.faultless first.number first.comes first.breaks
+
+pub end-line : (bytes : List ℕ) (n : ℕ) (first : FirstFault bytes n fault.End) → FaultyLine bytes n fault.End first.stage first.next
+end-line bytes n first = end-of bytes first.rest n first.stage first.next first.text first.faultless first.number first.comes first.breaks
+
+pub decision-line : (bytes : List ℕ) (n : ℕ) (first : FirstFault bytes n fault.DecisionOrder) → FaultyLine bytes n fault.DecisionOrder first.stage first.next
+decision-line bytes n first = decision-of bytes first.rest n first.stage first.next first.text first.faultless first.number first.comes first.breaks
+
+pub left-line : (bytes : List ℕ) (n : ℕ) (first : FirstFault bytes n fault.NotEnded) → FaultyLine bytes n fault.NotEnded first.stage first.next
+left-line bytes n first = left-of bytes first.rest n first.stage first.next first.text first.faultless first.number first.comes first.breaks

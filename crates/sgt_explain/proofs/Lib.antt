@@ -1,5 +1,8 @@
 pub mod FaultyLine
+pub mod FaultyText
 pub mod ListedItems
+pub mod ShownDecisions
+pub mod ShownEntries
 pub mod ShownSteps
 pub mod ShownValues
 pub mod Taken

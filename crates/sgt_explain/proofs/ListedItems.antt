@@ -6,7 +6,7 @@ use Rattle.sgt_names.proofs.Places.{All_at, Contains-from_at}
 use Rattle.sgt_names.specs.Log.{names}
 use Rattle.sgt_names.specs.declared.entry.Holding.{Holding}
 use Rattle.sgt_notation.specs.declared.SectionLine.{SectionLine}
-use Rattle.sgt_notation.specs.declared.SectionLine.TheVariants.{Site, Initial, Logged, Final, End}
+use Rattle.sgt_notation.specs.declared.SectionLine.TheVariants.{Logged, Final}
 use Rattle.sgt_cert.specs.Parts.{IsShapedLog}
 use Rattle.sgt_cert.specs.Text.{Begins}
 use Rattle.sgt_cert.specs.declared.bundle.SiteLog.{SiteLog}

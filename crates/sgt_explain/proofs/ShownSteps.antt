@@ -1,5 +1,5 @@
 -- What is shown of a step of a walk, by the section of its site.
-use Rattle.std.proofs.Common.{◌≡◌, ◌≢◌, ℕ, zero, suc, ◌+◌, ◌-◌, ◌<◌, ◌≤◌, List, [], ◌∷◌, ◌++◌, length, map, take, drop, Option, Some, None, refl, sym, ap, ap₂, ◌∙◌, subst, arith, append_assoc, length-append, All, Contains}
+use Rattle.std.proofs.Common.{◌≡◌, ◌≢◌, ℕ, zero, suc, ◌+◌, ◌-◌, ◌<◌, ◌≤◌, List, [], ◌∷◌, ◌++◌, length, map, take, drop, Option, Some, None, refl, sym, ap, ap₂, ◌∙◌, subst, arith, append_assoc, length-append, All}
 use Rattle.std.specs.Prelude.{fold, slice_get, IfSome}
 use Rattle.std.specs.List.{AllByRecursion}
 use Rattle.std.proofs.lemmas.Grind.{flat_map-append}
@@ -31,7 +31,7 @@ use Rattle.sgt_explain_lines.specs.Values.{entries_of}
 use Rattle.sgt_explain_lines.specs.declared.section.Logged.{Logged as LoggedEntry}
 use Rattle.sgt_explain_lines.specs.declared.section.Section.{Section}
 use Rattle.sgt_explain_steps.specs.Told.{begins_with_read, ends_with_read}
-use Rattle.sgt_explain_steps.specs.Unmet.{ShowsOwn, AreMisfit, MeetsThere, IsStepAt, SameStep}
+use Rattle.sgt_explain_steps.specs.Unmet.{ShowsOwn, AreMisfit, ShowsOther, IsStepAt, SameStep}
 use Rattle.sgt_explain_steps.specs.declared.unmet.Unmet.{Unmet}
 use Rattle.sgt_explain_steps.proofs.Meetings.{are-misfit, leads-on}
 use Rattle.sgt_explain.specs.Shown.{lines_before, decisions_before}
@@ -160,7 +160,7 @@ module _ (bytes : List ℕ) (n : ℕ) (first : FirstFault bytes n fault.WalkStep
       → (Conflicts (entries_of section.entries.items) shown.step.label.kind shown.step.label.item shown.from shown.step.to → ⊥)
       → ShowsOwn section.entries.items shown.from (begins_with_read shown.step.label.kind) shown.step.label.item shown.first
       → ShowsOwn section.entries.items shown.step.to (ends_with_read shown.step.label.kind) shown.step.label.item shown.second
-      → IfSome shown.other (MeetsThere section.entries.items shown.from shown.step)
+      → ShowsOther section.entries.items shown.from shown.step shown.other
       → ShowsStep (decisions_before first.stage) (lines_before first.stage) (bytes_of first.next) shown
   shows-step at shown section is whole same broken own its met =
       let end : faulty.line ≡ End = end-line faulty.c faulty.before faulty.line faulty.broken in
@@ -189,7 +189,7 @@ module _ (bytes : List ℕ) (n : ℕ) (first : FirstFault bytes n fault.WalkStep
         second = subst (λ es. ShowsOwn es shown.step.to (ends_with_read shown.step.label.kind) shown.step.label.item shown.second) w.is.entries its;
         misfit = subst (λ es. (one two : LoggedEntry) → shown.first ≡ Some one → shown.second ≡ Some two → AreMisfit es one two) w.is.entries
             (are-misfit section.entries.items shown.from shown.step shown.first shown.second apart broken own its);
-        other = subst (λ es. IfSome shown.other (MeetsThere es shown.from shown.step)) w.is.entries met;
+        other = subst (λ es. ShowsOther es shown.from shown.step shown.other) w.is.entries met;
       })
 
   pub shows-step-found : (at : Unmet) (found : Option Unmet)
@@ -207,7 +207,7 @@ pub step-there : (lines : List SectionLine) (at : Unmet) (section : Section) (fo
     → IfSome found (λ u. Conflicts (entries_of section.entries.items) u.step.label.kind u.step.label.item u.from u.step.to → ⊥)
     → IfSome found (λ u. ShowsOwn section.entries.items u.from (begins_with_read u.step.label.kind) u.step.label.item u.first)
     → IfSome found (λ u. ShowsOwn section.entries.items u.step.to (ends_with_read u.step.label.kind) u.step.label.item u.second)
-    → IfSome found (λ u. IfSome u.other (MeetsThere section.entries.items u.from u.step))
+    → IfSome found (λ u. ShowsOther section.entries.items u.from u.step u.other)
     → IfSome found (IsStepThere lines at)
 step-there lines at section None whole same broken own its met = tt
 step-there lines at section (Some shown) whole same broken own its met = record {

@@ -1,26 +1,29 @@
 -- What is shown of a value that a line gives its item, by the section before that line.
-use Rattle.std.proofs.Common.{◌≡◌, ◌≢◌, ℕ, suc, zero, List, [], ◌∷◌, ◌++◌, Option, Some, None, true, false, refl, sym, ap, ap₂, ◌∙◌, subst, ◌⊎◌, inl, inr, Contains}
-use Rattle.std.specs.Prelude.{cond, slice_get, unwrap_or, IfSome}
+use Rattle.std.proofs.Common.{◌≡◌, ◌≢◌, ℕ, suc, zero, List, [], ◌∷◌, ◌++◌, Option, Some, None, refl, sym, ap, ap₂, ◌∙◌, subst, arith, inl, inr, Contains}
+use Rattle.std.specs.Prelude.{cond, slice_get, unwrap_or, IfSome, IfNone, IsSomeAnd, All}
 use Rattle.std.specs.Str.{bytes_eq}
 use Rattle.std.proofs.lemmas.Bool.{cases_Bool}
 use Rattle.std.proofs.lemmas.Option.{same_Some, none-some}
 use Rattle.std.proofs.lemmas.Slice.Eq.{bytes_eq-Decides}
+use Rattle.sgt_names.proofs.Lists.{All-from_map}
 use Rattle.sgt_names.proofs.Places.{Contains_at}
 use Rattle.sgt_names.specs.Name.{Name}
 use Rattle.sgt_names.specs.Entry.{tx_of}
 use Rattle.sgt_names.specs.Log.{names, value_in, value_at}
 use Rattle.sgt_names.specs.declared.entry.Entry.{Entry}
-use Rattle.sgt_names.specs.declared.entry.Entry.TheVariants.{Read, Write, Add, Want, WantAdd, Commit, Refuse, Withdraw}
+use Rattle.sgt_names.specs.declared.entry.Entry.TheVariants.{Read}
 use Rattle.sgt_names.specs.declared.entry.Holding.{Holding}
 use Rattle.sgt_notation.specs.Spelling.{line_text, HasNoLf}
 use Rattle.sgt_notation.specs.declared.SectionLine.{SectionLine}
-use Rattle.sgt_notation.specs.declared.SectionLine.TheVariants.{Site, Initial, Logged, Final, End}
-use Rattle.sgt_cert.specs.Certificate.{IsCommitted}
+use Rattle.sgt_notation.specs.declared.SectionLine.TheVariants.{Logged, Final}
+use Rattle.sgt_cert.specs.Certificate.{IsCommitted, IsDecidedOnce}
+use Rattle.sgt_cert.specs.Valid.{RiseInRank}
+use Rattle.sgt_cert.specs.declared.certificate.Decision.{Decision}
 use Rattle.sgt_cert.specs.Text.{certificate_text, IsCertificate}
 use Rattle.sgt_cert.specs.declared.certificate.Certificate.{Certificate}
 use Rattle.sgt_audit.specs.declared.faults.Fault.TheVariants as fault
-use Rattle.sgt_audit.specs.Faults.{items_in, entries_in, Keeps, Stage, Piece, whole, within, bytes_of, FirstFault}
-use Rattle.sgt_explain_lines.specs.Numbered.{HasLine, IsSectionOf, open_site, logged_in, numbered_items, numbered_entries}
+use Rattle.sgt_audit.specs.Faults.{items_in, entries_in, Keeps, bytes_of, FirstFault}
+use Rattle.sgt_explain_lines.specs.Numbered.{HasLine, IsSectionOf, logged_in, numbered_entries}
 use Rattle.sgt_explain_lines.specs.Values.{holdings_of, entries_of, last_change, stated_as, HadUntil}
 use Rattle.sgt_explain_lines.specs.declared.section.Logged.{Logged as LoggedEntry}
 use Rattle.sgt_explain_lines.specs.declared.section.Section.{Section}
@@ -111,7 +114,7 @@ module _ (bytes : List ℕ) (n : ℕ) (first : FirstFault bytes n fault.ReadValu
 
       pub some-value : value_in (holdings_of section.items.items) x ≡ None → ⊥
       some-value none =
-          let known = subst (λ l. Keeps found.c found.before l fault.Item) line-is found.known in
+          let known = subst (λ l. Keeps found.c found.before l fault.Item) line-is (found.known (omega arith)) in
           listed (items_in found.before) x (known x refl) (ap (λ hs. value_in hs x) (sym (ap holdings_of section-is.items ∙ items-same found.before)) ∙ none)
 
       pub shows-read : (m : Misvalued) → (m.item ≡ x) × (m.given ≡ v) → m.site ≡ unwrap_or section.site 0
@@ -173,7 +176,7 @@ module _ (bytes : List ℕ) (n : ℕ) (first : FirstFault bytes n fault.Final) w
 
 -- ---- F11
 
-logged-parts : (n : ℕ) (l : SectionLine) (o : LoggedEntry) → Some o ≡ logged_in (n, l) → (l ≡ Logged o.entry) × (o.line ≡ n)
+pub logged-parts : (n : ℕ) (l : SectionLine) (o : LoggedEntry) → Some o ≡ logged_in (n, l) → (l ≡ Logged o.entry) × (o.line ≡ n)
 logged-parts n (Logged e) o eq =
     let same = same_Some (record { line = n; entry = e }) o (sym eq) in
     (ap (λ (g : LoggedEntry). Logged g.entry) same, sym (ap (λ (g : LoggedEntry). g.line) same))
@@ -207,6 +210,20 @@ module _ (bytes : List ℕ) (n : ℕ) (first : FirstFault bytes n fault.RankOrde
         stand = stand;
       })
 
+  -- an entry that stands against none before it keeps the ranks
+  rises : (before : List SectionLine) (e : Entry) (ds : List Decision) → All (λ (l : LoggedEntry). RiseInRank ds l.entry e) (numbered_entries before) → All (λ f. RiseInRank ds f e) (entries_in before)
+  rises before e ds all = subst (All (λ f. RiseInRank ds f e)) (entries-same before) (All-from_map (λ f. RiseInRank ds f e) (λ (l : LoggedEntry). l.entry) (numbered_entries before) all)
+
+  pub no-certificate : ((front : List ℕ) (c : Certificate) (rest : List ℕ) → HasNoLf front → IsCertificate c → bytes ≡ front ++ 10 ∷ (certificate_text c ++ 10 ∷ rest) → None ≡ Some c) → ⊥
+  no-certificate one = let cert = found_ranks.certified in none-some found_ranks.c (one cert.0 found_ranks.c cert.1 cert.2 found_ranks.kept.spelled cert.3)
+
+  no-logged : (c : Certificate) (before : List SectionLine) (l : SectionLine) → None ≡ logged_in (n, l) → Keeps c before l fault.RankOrder
+  no-logged c before (Logged e) none = absurd (none-some (record { line = n; entry = e }) none)
+  no-logged c before l none = tt
+
+  pub no-entry : ((before : List SectionLine) (l : SectionLine) → HasLine bytes n before l → None ≡ logged_in (n, l)) → ⊥
+  no-entry at = found_ranks.broken (no-logged found_ranks.c found_ranks.before found_ranks.line (at found_ranks.before found_ranks.line found_ranks.has))
+
   pub shows-ranks-found : (section : Section) (d : Certificate) (logged : LoggedEntry) (found : Option RanksShown)
       → ((before : List SectionLine) (l : SectionLine) → HasLine bytes n before l → IsSectionOf before section)
       → ((front : List ℕ) (c : Certificate) (rest : List ℕ) → HasNoLf front → IsCertificate c → bytes ≡ front ++ 10 ∷ (certificate_text c ++ 10 ∷ rest) → Some d ≡ Some c)
@@ -215,7 +232,19 @@ module _ (bytes : List ℕ) (n : ℕ) (first : FirstFault bytes n fault.RankOrde
       → IfSome found (λ s. IsCommitted d.decisions s.first.number (tx_of s.first.logged.entry) s.first.rank)
       → IfSome found (λ s. IsCommitted d.decisions s.second.number (tx_of s.second.logged.entry) s.second.rank)
       → IfSome found (λ s. StandAgainst s.first s.second s.kind s.item)
-      → IfSome found (ShowsRanks (decisions_before first.stage) (lines_before first.stage) (bytes_of first.next) n)
-  shows-ranks-found section d logged None are one at site among same one-rank other-rank stand = tt
-  shows-ranks-found section d logged (Some shown) are one at site among same one-rank other-rank stand =
+      → (IsDecidedOnce d.decisions → IfNone found (All (λ (l : LoggedEntry). RiseInRank d.decisions l.entry logged.entry) section.entries.items))
+      → IsSomeAnd found (ShowsRanks (decisions_before first.stage) (lines_before first.stage) (bytes_of first.next) n)
+  shows-ranks-found section d logged (Some shown) are one at site among same one-rank other-rank stand none =
       shows-ranks section d logged shown are one at site among same one-rank other-rank stand
+  shows-ranks-found section d logged None are one at site among same one-rank other-rank stand none =
+      let before = found_ranks.before in
+      let is = are before found_ranks.line found_ranks.has in
+      let cert = found_ranks.certified in
+      let c = found_ranks.c in
+      let same_c : d ≡ c = same_Some d c (one cert.0 c cert.1 cert.2 found_ranks.kept.spelled cert.3) in
+      let decisions : d.decisions ≡ c.decisions = ap (λ (k : Certificate). k.decisions) same_c in
+      let once : IsDecidedOnce d.decisions = subst IsDecidedOnce (sym decisions) (found_ranks.kept.itself fault.DecidedTwice) in
+      let all = subst (λ es. All (λ (l : LoggedEntry). RiseInRank d.decisions l.entry logged.entry) es) is.entries (none once) in
+      let rise = subst (λ ds. All (λ f. RiseInRank ds f logged.entry) (entries_in before)) decisions (rises before logged.entry d.decisions all) in
+      let line : found_ranks.line ≡ Logged logged.entry = (logged-parts n found_ranks.line logged (at before found_ranks.line found_ranks.has)).0 in
+      found_ranks.broken (subst (λ l. Keeps c before l fault.RankOrder) (sym line) rise)

@@ -1,23 +1,37 @@
 -- What holds of a call that went well, and of what it found.
-use Rattle.std.proofs.Common.{◌≡◌, ℕ, List, [], ◌++◌, inl, inr, subst}
+use Rattle.std.proofs.Common.{◌≡◌, ◌≢◌, ℕ, List, [], ◌++◌, inl, inr, codes, subst}
 use Rattle.std.specs.Prelude.{Result, Ok, Err, OnOk, Option, Some, None, IfOk, IfSome, IfNone, IsSomeAnd}
 use Rattle.sgt_audit.specs.declared.verdict.Verdict.{Verdict}
 use Rattle.sgt_audit.specs.declared.verdict.Verdict.TheVariants.{No}
 use Rattle.sgt_audit.specs.declared.faults.Fault.TheVariants as fault
 use Rattle.sgt_audit.specs.Faults.{FirstFault, bytes_of}
-use Rattle.sgt_explain_lines.specs.Told.{read_text, final_text}
+use Rattle.sgt_explain_lines.specs.Told.{read_text, final_text, Adds, ShowsLine}
 use Rattle.sgt_explain_lines.specs.declared.values.Misvalued.{Misvalued}
 use Rattle.sgt_explain_decisions.specs.Told.{rank_order_text}
 use Rattle.sgt_explain_decisions.specs.declared.order.RanksShown.{RanksShown}
 use Rattle.sgt_explain_steps.specs.Told.{walk_step_text}
 use Rattle.sgt_explain_steps.specs.declared.unmet.Unmet.{Unmet}
-use Rattle.sgt_explain.specs.Explained.{Tells, Means}
+use Rattle.sgt_names.specs.declared.outcome.Outcome.{Outcome}
+use Rattle.sgt_audit.specs.Verdict.{IsVerdict}
+use Rattle.sgt_explain.specs.Asked.{TellsAsked}
+use Rattle.sgt_explain.specs.Explained.{Tells, Means, MeansOf, IsExplained, IsExplainedOf, WroteExplained, WroteExplainedOf}
 use Rattle.sgt_explain.specs.Shown.{lines_before, decisions_before, ShowsRead, ShowsFinal, ShowsRanks}
 use Rattle.sgt_explain.specs.Steps.{ShowsStep}
+use Rattle.sgt_explain.specs.Lines.{ShowsEnd}
 
 pub on-ok : {T E P Q : Type 0} (r : Result T E) → (P → Q) → OnOk r P → OnOk r Q
 on-ok (Ok t) f p = f p
 on-ok (Err e) f p = tt
+
+-- what holds of a call that went well, by each of some facts
+pub on-all : {T E F : Type 0} (P : F → Type 0) (r : Result T E) → ((f : F) → OnOk r (P f)) → OnOk r ((f : F) → P f)
+on-all P (Ok t) each = each
+on-all P (Err e) each = tt
+
+pub ends-shown : {T E : Type 0} (r : Result T E) (line : List ℕ) (n : ℕ) (old new : List ℕ) → OnOk r (Adds (old ++ codes "Truncated: ") new)
+    → (line ≢ [] → OnOk r (ShowsLine (codes "Truncated: ") n line old new)) → OnOk r (ShowsEnd line n old new)
+ends-shown (Ok t) line n old new begins shown = record { begins = begins; shown = shown }
+ends-shown (Err e) line n old new begins shown = tt
 
 pub some-if : {A : Type 0} (P : A → Type 0) (o : Option A) (a : A) → o ≡ Some a → IfSome o P → P a
 some-if P o a e h = subst (λ q. IfSome q P) e h
@@ -37,10 +51,10 @@ tells-final bytes n (Some m) old new shows text = λ first. (m, shows first, tex
 tells-final bytes n None old new shows text = λ first. absurd (shows first)
 
 pub tells-ranks : (bytes : List ℕ) (n : ℕ) (found : Option RanksShown) (old new : List ℕ)
-    → ((first : FirstFault bytes n fault.RankOrder) → IfSome found (ShowsRanks (decisions_before first.stage) (lines_before first.stage) (bytes_of first.next) n))
-    → IfSome found (λ m. new ≡ old ++ rank_order_text m) × IfNone found (new ≡ old) → Tells bytes (No n fault.RankOrder) old new
-tells-ranks bytes n (Some m) old new shows text = λ first. inr (m, shows first, text.0)
-tells-ranks bytes n None old new shows text = λ first. inl text.1
+    → ((first : FirstFault bytes n fault.RankOrder) → IsSomeAnd found (ShowsRanks (decisions_before first.stage) (lines_before first.stage) (bytes_of first.next) n))
+    → IfSome found (λ m. new ≡ old ++ rank_order_text m) → Tells bytes (No n fault.RankOrder) old new
+tells-ranks bytes n (Some m) old new shows text = λ first. (m, shows first, text)
+tells-ranks bytes n None old new shows text = λ first. absurd (shows first)
 
 pub tells-step : (bytes : List ℕ) (n : ℕ) (found : Option Unmet) (old new : List ℕ)
     → ((first : FirstFault bytes n fault.WalkStep) → IfSome found (ShowsStep (decisions_before first.stage) (lines_before first.stage) (bytes_of first.next)))
@@ -54,10 +68,23 @@ pub if-ok : {T E : Type 0} {P Q : T → Type 0} (r : Result T E) → ((t : T) �
 if-ok (Ok t) f p = f t p
 if-ok (Err e) f p = tt
 
-pub means-both : (bytes : List ℕ) (v : Verdict) (told more meaning : List ℕ) → Tells bytes v [] told → meaning ≡ told ++ more → Means bytes v meaning
-means-both bytes v told more meaning tells text = record {
+pub means-both : (bytes : List ℕ) (asked : Option ℕ) (v : Verdict) (told more meaning : List ℕ) → Tells bytes v [] told → TellsAsked bytes asked [] more → meaning ≡ told ++ more → MeansOf bytes asked v meaning
+means-both bytes asked v told more meaning tells dealings text = record {
   said = told;
   more = more;
   text = text;
   told = tells;
+  dealings = dealings;
 }
+
+explained : (asked : Option ℕ) (told : Option (List ℕ)) (v : Verdict) (meaning : List ℕ) → IfSome told (λ bytes. IsVerdict bytes v × MeansOf bytes asked v meaning) → IfSome told (λ bytes. IsVerdict bytes v × Means bytes v meaning)
+explained asked None v meaning h = tt
+explained asked (Some bytes) v meaning h = (h.0, (asked, h.1))
+
+-- whether one was asked for or not
+pub is-explained : (asked : Option ℕ) (told : Option (List ℕ)) (ended : Outcome) (text : List ℕ) → IsExplainedOf asked told ended text → IsExplained told ended text
+is-explained asked told ended text h = (h.0, h.1, explained asked told h.0 h.1 h.2, h.3, h.4)
+
+pub wrote-explained : {E : Type 0} (r : Result Outcome E) (asked : Option ℕ) (told old new : Option (List ℕ)) → IfOk r (λ ended. WroteExplainedOf asked told ended old new) → IfOk r (λ ended. WroteExplained told ended old new)
+wrote-explained (Ok ended) asked told old new h = (h.0, is-explained asked told ended h.0 h.1, h.2)
+wrote-explained (Err e) asked told old new h = tt

@@ -1,5 +1,5 @@
 -- What an explanation of an input writes.
-use Rattle.std.specs.Prelude.{◌≡◌, ◌⊎◌, ℕ, List, [], ◌++◌, Option, IfSome}
+use Rattle.std.specs.Prelude.{◌≡◌, ◌⊎◌, ℕ, List, [], ◌++◌, codes, Option, IfSome}
 use Rattle.std.specs.Io.KnownBytes.{Appends}
 use Rattle.sgt_names.specs.Device.{AppendsOrForgets, WritesFront}
 use Rattle.sgt_names.specs.declared.outcome.Outcome.{Outcome}
@@ -15,6 +15,13 @@ use Rattle.sgt_explain_decisions.specs.Told.{rank_order_text}
 use Rattle.sgt_explain_steps.specs.Told.{walk_step_text}
 use Rattle.sgt_explain_decisions.specs.declared.order.RanksShown.{RanksShown}
 use Rattle.sgt_explain_steps.specs.declared.unmet.Unmet.{Unmet}
+use Rattle.sgt_cert.specs.declared.certificate.Certificate.{Certificate}
+use Rattle.sgt_explain_certificate.specs.Ranks.{TellsRanks}
+use Rattle.sgt_explain_decisions.specs.Twice.{TellsTwice}
+use Rattle.sgt_explain_decisions.specs.Walks.{TellsWalk}
+use Rattle.sgt_explain.specs.Asked.{TellsAsked}
+use Rattle.sgt_explain.specs.Certified.{TellsNoCertificate, SpellsCertificate, ShowsAgainstEnd, ShowsMisplaced, ShowsUnended}
+use Rattle.sgt_explain.specs.Lines.{ShowsFaulty, ShowsEnd, ShowsUnlisted, ShowsRepeating, ShowsCut}
 use Rattle.sgt_explain.specs.Shown.{lines_before, decisions_before, ShowsRead, ShowsFinal, ShowsRanks}
 use Rattle.sgt_explain.specs.Steps.{ShowsStep}
 
@@ -23,10 +30,45 @@ abbrev pub outcome_of : Verdict → Outcome
 outcome_of (Yes committed refused withdrawn) = outcome.Yes
 outcome_of (No line f) = outcome.No
 
--- what a first fault adds to a text: of a read and of a final what is shown of its value, in words;
--- of ranks and of a step likewise, or
--- nothing
+-- what a first fault adds to a text: its name, and the line that has it, with what the lines before
+-- it have of that; of a read and of a final what is shown of its value, in words; of ranks likewise;
+-- of a step likewise, or nothing
 abbrev pub Tells : List ℕ → Verdict → (old new : List ℕ) → Type 0
+Tells bytes (No line fault.Format) old new =
+    ShowsFaulty (codes "Format: ") bytes line fault.Format old new
+Tells bytes (No line fault.Notation) old new =
+    ShowsFaulty (codes "Notation: ") bytes line fault.Notation old new
+Tells bytes (No line fault.Certificate) old new = TellsNoCertificate bytes line old new
+Tells bytes (No line fault.Ranks) old new = (first : FirstFault bytes line fault.Ranks)
+    → (c : Certificate) → SpellsCertificate (bytes_of first.next) c
+    → TellsRanks c.decisions old new
+Tells bytes (No line fault.DecidedTwice) old new = (first : FirstFault bytes line fault.DecidedTwice)
+    → (c : Certificate) → SpellsCertificate (bytes_of first.next) c
+    → TellsTwice c.decisions old new
+Tells bytes (No line fault.WalkShape) old new = (first : FirstFault bytes line fault.WalkShape)
+    → (c : Certificate) → SpellsCertificate (bytes_of first.next) c
+    → TellsWalk c.decisions old new
+Tells bytes (No line fault.End) old new = (first : FirstFault bytes line fault.End)
+    → ShowsAgainstEnd (decisions_before first.stage) (lines_before first.stage)
+    (bytes_of first.next) line old new
+Tells bytes (No line fault.DecisionOrder) old new =
+    (first : FirstFault bytes line fault.DecisionOrder)
+    → ShowsMisplaced (decisions_before first.stage) (lines_before first.stage)
+    (bytes_of first.next) line old new
+Tells bytes (No line fault.NotEnded) old new = (first : FirstFault bytes line fault.NotEnded)
+    → ShowsUnended (lines_before first.stage) old new
+Tells bytes (No line fault.Section) old new =
+    ShowsFaulty (codes "Section: ") bytes line fault.Section old new
+Tells bytes (No line fault.Trailing) old new =
+    ShowsFaulty (codes "Trailing: ") bytes line fault.Trailing old new
+Tells bytes (No line fault.Truncated) old new = (first : FirstFault bytes line fault.Truncated)
+    → ShowsEnd (bytes_of first.next) line old new
+Tells bytes (No line fault.Item) old new = (first : FirstFault bytes line fault.Item)
+    → ShowsUnlisted (lines_before first.stage) (bytes_of first.next) line old new
+Tells bytes (No line fault.Twice) old new = (first : FirstFault bytes line fault.Twice)
+    → ShowsRepeating (lines_before first.stage) (bytes_of first.next) line old new
+Tells bytes (No line fault.Block) old new = (first : FirstFault bytes line fault.Block)
+    → ShowsCut (lines_before first.stage) (bytes_of first.next) line old new
 Tells bytes (No line fault.ReadValue) old new = (first : FirstFault bytes line fault.ReadValue)
     → (tx : ℕ) × (shown : Misvalued)
     × ShowsRead (lines_before first.stage) (bytes_of first.next) tx shown
@@ -36,21 +78,27 @@ Tells bytes (No line fault.Final) old new = (first : FirstFault bytes line fault
     × ShowsFinal (lines_before first.stage) (bytes_of first.next) shown
     × (new ≡ old ++ final_text shown)
 Tells bytes (No line fault.RankOrder) old new = (first : FirstFault bytes line fault.RankOrder)
-    → (new ≡ old) ⊎ ((shown : RanksShown)
+    → (shown : RanksShown)
     × ShowsRanks (decisions_before first.stage) (lines_before first.stage)
-    (bytes_of first.next) line shown × (new ≡ old ++ rank_order_text shown))
+    (bytes_of first.next) line shown × (new ≡ old ++ rank_order_text shown)
 Tells bytes (No line fault.WalkStep) old new = (first : FirstFault bytes line fault.WalkStep)
     → (new ≡ old) ⊎ ((shown : Unmet)
     × ShowsStep (decisions_before first.stage) (lines_before first.stage)
     (bytes_of first.next) shown × (new ≡ old ++ walk_step_text shown))
 Tells _ _ _ _ = Unit {0}
 
--- what a verdict on the bytes means begins with that
-pub record Means (bytes : List ℕ) (v : Verdict) (meaning : List ℕ) : Type 0 where
+-- what a verdict on the bytes means is that, and behind it what is told of the transaction, if one
+-- is asked for
+pub record MeansOf (bytes : List ℕ) (asked : Option ℕ) (v : Verdict) (meaning : List ℕ) : Type 0 where
   pub said : List ℕ
   pub more : List ℕ
   pub text : meaning ≡ said ++ more
   pub told : Tells bytes v [] said
+  pub dealings : TellsAsked bytes asked [] more
+
+-- whether one is asked for or not
+abbrev pub Means : List ℕ → Verdict → List ℕ → Type 0
+Means bytes v meaning = (asked : Option ℕ) × MeansOf bytes asked v meaning
 
 -- the text that an input is explained by: the line of the verdict on its bytes, and what that means
 -- behind it
@@ -58,6 +106,17 @@ abbrev pub IsExplained : Option (List ℕ) → Outcome → List ℕ → Type 0
 IsExplained told ended text = (v : Verdict) × (meaning : List ℕ)
     × IfSome told (λ bytes. IsVerdict bytes v × Means bytes v meaning)
     × (ended ≡ outcome_of v) × (text ≡ text_of v ++ meaning)
+
+-- the same where this transaction is asked for, or none
+abbrev pub IsExplainedOf : Option ℕ → Option (List ℕ) → Outcome → List ℕ → Type 0
+IsExplainedOf asked told ended text = (v : Verdict) × (meaning : List ℕ)
+    × IfSome told (λ bytes. IsVerdict bytes v × MeansOf bytes asked v meaning)
+    × (ended ≡ outcome_of v) × (text ≡ text_of v ++ meaning)
+
+abbrev pub WroteExplainedOf : Option ℕ → (told : Option (List ℕ)) → Outcome
+    → (old new : Option (List ℕ)) → Type 0
+WroteExplainedOf asked told ended old new = (text : List ℕ) × IsExplainedOf asked told ended text
+    × Appends old new text
 
 -- that text was written
 abbrev pub WroteExplained : (told : Option (List ℕ)) → Outcome → (old new : Option (List ℕ))

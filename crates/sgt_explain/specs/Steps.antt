@@ -1,5 +1,5 @@
 -- What is shown of a step of a walk that is no conflict of the logs.
-use Rattle.std.specs.Prelude.{◌≡◌, ℕ, List, [], ◌∷◌, ◌++◌, Some, IfSome}
+use Rattle.std.specs.Prelude.{◌≡◌, ℕ, List, [], ◌∷◌, ◌++◌, Some}
 use Rattle.sgt_notation.specs.Spelling.{line_text}
 use Rattle.sgt_notation.specs.declared.SectionLine.{SectionLine}
 use Rattle.sgt_notation.specs.declared.SectionLine.TheVariants.{End}
@@ -13,7 +13,7 @@ use Rattle.sgt_explain_lines.specs.Numbered.{IsSectionOf, open_site, numbered_en
 use Rattle.sgt_explain_lines.specs.declared.section.Logged.{Logged}
 use Rattle.sgt_explain_lines.specs.declared.section.Section.{Section}
 use Rattle.sgt_explain_steps.specs.Told.{begins_with_read, ends_with_read}
-use Rattle.sgt_explain_steps.specs.Unmet.{ShowsOwn, AreMisfit, MeetsThere, IsStepAt, SameStep}
+use Rattle.sgt_explain_steps.specs.Unmet.{ShowsOwn, AreMisfit, ShowsOther, IsStepAt, SameStep}
 use Rattle.sgt_explain_steps.specs.declared.unmet.Unmet.{Unmet}
 
 -- the lines before the end of this site's section
@@ -24,7 +24,7 @@ pub record EndsSite (lines : List SectionLine) (site : ℕ) (upto : List Section
 
 -- of the end of the last section: a step of a refusal's walk that is no conflict of the logs, and
 -- of the entries of its site the two that
--- the step is about, as far as they are there, and a conflict of another kind of the same
+-- the step is about, as far as they are there, and a conflict of another kind, if there is one, of the same
 -- transactions on the item
 pub record ShowsStep (decisions : List Decision) (before : List SectionLine) (line : List ℕ) (shown : Unmet) : Type 0 where
   pub last : line ≡ line_text End
@@ -39,7 +39,7 @@ pub record ShowsStep (decisions : List Decision) (before : List SectionLine) (li
       (ends_with_read shown.step.label.kind) shown.step.label.item shown.second
   pub misfit : (one other : Logged) → shown.first ≡ Some one → shown.second ≡ Some other
       → AreMisfit (numbered_entries upto) one other
-  pub other : IfSome shown.other (MeetsThere (numbered_entries upto) shown.from shown.step)
+  pub other : ShowsOther (numbered_entries upto) shown.from shown.step shown.other
 
 -- ---- for private clauses
 
@@ -60,4 +60,4 @@ pub record IsStepThere (lines : List SectionLine) (at shown : Unmet) : Type 0 wh
       (begins_with_read shown.step.label.kind) shown.step.label.item shown.first
   pub second : ShowsOwn section.entries.items shown.step.to
       (ends_with_read shown.step.label.kind) shown.step.label.item shown.second
-  pub other : IfSome shown.other (MeetsThere section.entries.items shown.from shown.step)
+  pub other : ShowsOther section.entries.items shown.from shown.step shown.other

@@ -2,7 +2,8 @@
 
 ghost use Rattle.std.specs.Prelude.{◌≡◌, ◌++◌, [], IfOk, OnOk, string_bytes};
 ghost use Rattle.sgt_audit.specs.Verdict.{text_of};
-ghost use Rattle.sgt_explain.specs.Explained.{outcome_of, Tells, Means};
+ghost use Rattle.sgt_explain.specs.Asked.{TellsAsked};
+ghost use Rattle.sgt_explain.specs.Explained.{outcome_of, Tells, MeansOf};
 
 use crate::noes::push_no;
 use crate::yeses::{push_transaction, push_yes};
@@ -64,16 +65,33 @@ fn told_of(
 }
 
 /// What is said of the transaction, if one is asked for.
+fn push_asked(
+    alloc: Global,
+    out: &mut String,
+    bytes: &[u8],
+    verdict: Verdict,
+    asked: &Option<Tx>,
+) -> Result<(), AllocError>
+    ensures { OnOk result
+        (TellsAsked bytes.now asked.now (string_bytes out.old) (string_bytes out.new)) }
+{
+    match asked {
+        Some(tx) => push_transaction(alloc, out, bytes, verdict, *tx),
+        None => Ok(()),
+    }
+}
+
+/// The same, as a text of its own.
 fn dealings_of(
     alloc: Global,
     bytes: &[u8],
     verdict: Verdict,
     asked: &Option<Tx>,
-) -> Result<String, AllocError> {
+) -> Result<String, AllocError>
+    ensures { IfOk result (λ told. TellsAsked bytes.now asked.now [] (string_bytes told)) }
+{
     let mut dealings = String::new(alloc);
-    if let Some(tx) = asked {
-        push_transaction(alloc, &mut dealings, bytes, verdict, *tx)?;
-    }
+    push_asked(alloc, &mut dealings, bytes, verdict, asked)?;
     Ok(dealings)
 }
 
@@ -93,7 +111,7 @@ fn meaning_of(
     verdict: Verdict,
     asked: Option<Tx>,
 ) -> Result<String, AllocError>
-    ensures { IfOk result (λ meaning. Means bytes.now verdict (string_bytes meaning)) }
+    ensures { IfOk result (λ meaning. MeansOf bytes.now asked verdict (string_bytes meaning)) }
 {
     let told = told_of(alloc, bytes, verdict, &asked)?;
     let dealings = dealings_of(alloc, bytes, verdict, &asked)?;
@@ -110,7 +128,7 @@ pub fn answer_to(
     ensures outcome { IfOk result (λ answer. answer.outcome ≡ outcome_of verdict) }
     ensures line { IfOk result (λ answer. string_bytes answer.line ≡ text_of verdict) }
     ensures meaning { IfOk result
-        (λ answer. Means bytes.now verdict (string_bytes answer.meaning)) }
+        (λ answer. MeansOf bytes.now asked verdict (string_bytes answer.meaning)) }
 {
     let line = verdict.to_line(alloc)?;
     let meaning = meaning_of(alloc, bytes, verdict, asked)?;

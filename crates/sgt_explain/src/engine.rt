@@ -1,10 +1,10 @@
 //! The explanation of all that a reader gives.
 
-ghost use Rattle.std.specs.Prelude.{◌≡◌, ◌≢◌, ◌⊎◌, ◌<◌, ◌≤◌, ◌++◌, [], ℕ, List, Err, length, string_bytes, IfOk, OnOk, OnErr, IfSome, IsErrOf};
+ghost use Rattle.std.specs.Prelude.{◌≡◌, ◌≢◌, ◌⊎◌, ◌<◌, ◌≤◌, ◌++◌, [], ℕ, List, Some, None, Err, length, string_bytes, IfOk, OnOk, OnErr, IfSome, IsErrOf};
 ghost use Rattle.std.specs.Io.KnownBytes.{Appends};
 ghost use Rattle.sgt_names.specs.Device.{CountsFailures, WritesFront};
 ghost use Rattle.sgt_notation.specs.Limits.{most_reads};
-ghost use Rattle.sgt_explain.specs.Explained.{IsExplained, WroteExplained, WroteExplainedFront};
+ghost use Rattle.sgt_explain.specs.Explained.{IsExplainedOf, WroteExplained, WroteExplainedOf, WroteExplainedFront};
 ghost use Rattle.sgt_explain.specs.Topics.{topic_name, IsRuleOf};
 
 use crate::answers::{Answer, answer_to};
@@ -17,7 +17,7 @@ use std::alloc::Global;
 
 /// The answer to all that the reader gives.
 fn answer<R: Source>(alloc: Global, reader: &mut R, asked: Option<Tx>) -> Result<Answer, EngineFail>
-    ensures answer { IfOk result (λ answer. IsExplained (R.tells reader.old) answer.outcome
+    ensures answer { IfOk result (λ answer. IsExplainedOf asked (R.tells reader.old) answer.outcome
         (string_bytes answer.line ++ string_bytes answer.meaning)) }
     ensures quiet { result ≢ Err EngineFail.ReadFault
         → R.failures reader.new ≡ R.failures reader.old }
@@ -56,7 +56,7 @@ fn explain_asked<R: Source, W: Sink>(
     writer: &mut W,
 ) -> Result<Outcome, EngineFail>
     ensures answer { IfOk result
-        (λ outcome. WroteExplained (R.tells reader.old) outcome (W.holds writer.old)
+        (λ outcome. WroteExplainedOf asked (R.tells reader.old) outcome (W.holds writer.old)
         (W.holds writer.new)) }
     ensures front { OnErr result
         (WroteExplainedFront (R.tells reader.old) (W.holds writer.old) (W.holds writer.new)) }
@@ -94,6 +94,9 @@ pub fn explain<R: Source, W: Sink>(
     ensures answer { IfOk result
         (λ outcome. WroteExplained (R.tells reader.old) outcome (W.holds writer.old)
         (W.holds writer.new)) }
+    ensures asked { IfOk result
+        (λ outcome. WroteExplainedOf None (R.tells reader.old) outcome (W.holds writer.old)
+        (W.holds writer.new)) }
     ensures front { OnErr result
         (WroteExplainedFront (R.tells reader.old) (W.holds writer.old) (W.holds writer.new)) }
     ensures unwritten { IsErrOf result EngineFail.ReadFault → writer.new ≡ writer.old }
@@ -114,8 +117,8 @@ pub fn explain<R: Source, W: Sink>(
 }
 
 /// The same, and behind it what the transaction did: its decision and rank, or the cycle where it was refused, its entries at
-/// each site with their lines, and whom it is in conflict with, in which direction. Of a text with a fault the lines before that
-/// are shown. In place of the cycles of a yes: of this transaction alone.
+/// each site with their lines, and whom it is in conflict with, in which direction. Of a text with a fault by line 2 and the
+/// lines of logs before that. In place of the cycles of a yes: of this transaction alone.
 pub fn explain_transaction<R: Source, W: Sink>(
     alloc: Global,
     tx: Tx,
@@ -124,6 +127,9 @@ pub fn explain_transaction<R: Source, W: Sink>(
 ) -> Result<Outcome, EngineFail>
     ensures answer { IfOk result
         (λ outcome. WroteExplained (R.tells reader.old) outcome (W.holds writer.old)
+        (W.holds writer.new)) }
+    ensures asked { IfOk result
+        (λ outcome. WroteExplainedOf (Some tx) (R.tells reader.old) outcome (W.holds writer.old)
         (W.holds writer.new)) }
     ensures front { OnErr result
         (WroteExplainedFront (R.tells reader.old) (W.holds writer.old) (W.holds writer.new)) }

@@ -2,8 +2,10 @@
 #![tactic(auto)]
 
 mod answers;
+mod certified;
 mod engine;
 mod judging;
+mod lines;
 mod noes;
 mod reading;
 mod replies;

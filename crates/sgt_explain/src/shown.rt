@@ -1,6 +1,6 @@
 //! What is shown of a line that gives an item another value than the item has there, and of one that stands against the ranks.
 
-ghost use Rattle.std.specs.Prelude.{◌≡◌, ℕ, List, ◌∷◌, ◌++◌, Some, IfOk, OnOk, IfSome, IfNone, IsSomeAnd, string_bytes};
+ghost use Rattle.std.specs.Prelude.{◌≡◌, ℕ, List, ◌∷◌, ◌++◌, Some, IfOk, OnOk, IfSome, IsSomeAnd, string_bytes};
 ghost use Rattle.sgt_notation.specs.Spelling.{HasNoLf};
 ghost use Rattle.sgt_notation.specs.declared.SectionLine.{SectionLine};
 ghost use Rattle.sgt_cert.specs.Text.{certificate_text, IsCertificate};
@@ -136,7 +136,7 @@ fn final_shown(alloc: Global, bytes: &[u8], number: u64) -> Result<Option<Misval
 /// F11: this entry and one before it that stands against it.
 fn ranks_shown(alloc: Global, bytes: &[u8], number: u64) -> Result<Option<RanksShown>, AllocError>
     ensures { (first : FirstFault bytes.now number RankOrder) → IfOk result (λ found.
-        IfSome found (ShowsRanks (decisions_before first.stage) (lines_before first.stage)
+        IsSomeAnd found (ShowsRanks (decisions_before first.stage) (lines_before first.stage)
         (bytes_of first.next) number)) }
 {
     let section = section_before(alloc, bytes, number)?;
@@ -205,8 +205,7 @@ pub fn push_final_value(
 
 fn push_ranks_shown(out: &mut String, found: &Option<RanksShown>) -> Result<(), AllocError>
     ensures { OnOk result
-        (IfSome found.now (λ m. string_bytes out.new ≡ string_bytes out.old ++ rank_order_text m)
-        × IfNone found.now (string_bytes out.new ≡ string_bytes out.old)) }
+        (IfSome found.now (λ m. string_bytes out.new ≡ string_bytes out.old ++ rank_order_text m)) }
 {
     match found {
         Some(shown) => push_rank_order(out, shown),

@@ -102,7 +102,7 @@ fn unmet_step(alloc: Global, bytes: &[u8], number: u64) -> Result<Option<Unmet>,
     };
     let decisions = certificate.decisions();
     let sought = sought_in(alloc, decisions, text_before(bytes, number))?;
-    let Some((decision, place)) = unmet_in(decisions, sought.as_slice()) else {
+    let Some((decision, place)) = unmet_in(decisions, &sought) else {
         return Ok(None);
     };
     Ok(step_at(decisions, decision, place))

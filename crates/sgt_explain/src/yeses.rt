@@ -1,8 +1,14 @@
 //! What is said of a yes, and of one transaction.
 
+ghost use Rattle.std.specs.Prelude.{OnOk, string_bytes};
+ghost use Rattle.sgt_cert.specs.declared.certificate.Certificate.{Certificate};
+ghost use Rattle.sgt_explain_decisions.specs.Fate.{TellsFate};
+ghost use Rattle.sgt_explain.specs.Asked.{HoldsCertificate, TellsTransaction};
+
 use crate::shown::{certificate_of, text_before};
 use sgt_audit::Verdict;
-use sgt_explain_decisions::{push_cycles, push_dealings, push_fate, sought_in};
+use sgt_explain_dealings::push_dealings;
+use sgt_explain_decisions::{push_cycles, push_fate, sought_in};
 use sgt_names::Tx;
 use std::alloc::{AllocError, Global};
 
@@ -13,7 +19,7 @@ pub(crate) fn push_yes(alloc: Global, out: &mut String, bytes: &[u8]) -> Result<
     };
     let decisions = certificate.decisions();
     let sought = sought_in(alloc, decisions, bytes)?;
-    push_cycles(out, decisions, sought.as_slice())
+    push_cycles(out, decisions, &sought)
 }
 
 /// The line behind the last that may be shown of a transaction: all lines of a valid bundle, else those before the first fault.
@@ -24,6 +30,26 @@ fn end_of(verdict: Verdict) -> u64 {
     }
 }
 
+/// The decision on one transaction, if line 2 is a certificate.
+fn push_decided(
+    alloc: Global,
+    out: &mut String,
+    bytes: &[u8],
+    end: u64,
+    tx: Tx,
+) -> Result<(), AllocError>
+    ensures { OnOk result ((c : Certificate) → HoldsCertificate bytes.now c
+        → TellsFate c.decisions tx (string_bytes out.old) (string_bytes out.new)) }
+{
+    match certificate_of(alloc, bytes)? {
+        Some(certificate) => {
+            let seen = text_before(bytes, end);
+            push_fate(alloc, out, certificate.decisions(), seen, tx)
+        }
+        None => out.push_str("line 2 is no certificate\n"),
+    }
+}
+
 /// What is said of one transaction.
 pub(crate) fn push_transaction(
     alloc: Global,
@@ -31,14 +57,11 @@ pub(crate) fn push_transaction(
     bytes: &[u8],
     verdict: Verdict,
     tx: Tx,
-) -> Result<(), AllocError> {
+) -> Result<(), AllocError>
+    ensures { OnOk result
+        (TellsTransaction bytes.now tx (string_bytes out.old) (string_bytes out.new)) }
+{
     let end = end_of(verdict);
-    match certificate_of(alloc, bytes)? {
-        Some(certificate) => {
-            let seen = text_before(bytes, end);
-            push_fate(alloc, out, certificate.decisions(), seen, tx)?;
-        }
-        None => out.push_str("line 2 is no certificate\n")?,
-    }
+    push_decided(alloc, out, bytes, end, tx)?;
     push_dealings(alloc, out, bytes, end, tx)
 }

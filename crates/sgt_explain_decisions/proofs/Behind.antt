@@ -1,14 +1,15 @@
 -- Texts put together, one behind the other.
-use Rattle.std.proofs.Common.{◌≡◌, ℕ, List, ◌++◌, Option, ◌<◌, inr, refl, subst, ap, ◌∙◌, append_assoc}
-use Rattle.std.specs.Prelude.{Contains, IfSome, IfNone, Result, Ok, Err, OnOk, is_ok, if◌then◌else◌}
+use Rattle.std.proofs.Common.{◌≡◌, ℕ, Bool, List, ◌++◌, Option, ◌<◌, inr, refl, subst, ap, ◌∙◌, append_assoc}
+use Rattle.std.specs.Prelude.{Contains, IfSome, IfNone, Result, Ok, Err, OnOk, is_ok, is_some, if◌then◌else◌}
 use Rattle.sgt_names.specs.Entry.{tx_of, IsEnd}
+use Rattle.sgt_cert.specs.declared.certificate.Decision.{Decision}
 use Rattle.sgt_explain_lines.specs.declared.section.Logged.{Logged}
 use Rattle.sgt_explain_lines.specs.Told.{Adds}
 use Rattle.sgt_explain_lines.proofs.Adding.{adds-more}
 use Rattle.sgt_explain_decisions.specs.declared.order.Decided.{Decided}
 use Rattle.sgt_explain_decisions.specs.declared.placed.Placed.{Placed}
 use Rattle.sgt_explain_decisions.specs.Decided.{IsDecidedAs, decision_order_head, if_decided, decided_text, TellsDecisionOrder}
-use Rattle.sgt_explain_decisions.specs.Ends.{EndsTx, HasNoEnd, IsEndOf, end_head, TellsEnd, not_ended_head, TellsNotEnded}
+use Rattle.sgt_explain_decisions.specs.Ends.{EndsTx, HasNoEnd, IsEndOf, IsReason, end_head, TellsEnd, not_ended_head, TellsNotEnded}
 
 -- what a last text put there, where there was memory for it
 pub str-ok : {T E : Type 0} (r : Result T E) (new a b : List ℕ) → new ≡ (if is_ok r then a else b) → OnOk r (new ≡ a)
@@ -48,13 +49,16 @@ tells-order placed entries given l tx number first own old a b new same of is ha
   three-parts old a b decision_order_head (if_decided first) (decided_text (record { logged = l; number = number })) new e f (g ∙ ap (λ d. b ++ decided_text d) is),
 )
 
--- the end of the transaction of an entry
-pub tells-end : (entries given : List Logged) (tx : ℕ) (l : Logged) (ended : Option Logged) (old a new : List ℕ) → given ≡ entries → tx ≡ tx_of l.entry
-    → IfSome ended (λ e. Contains given e × EndsTx tx e.entry) → IfNone ended (HasNoEnd given tx) → a ≡ old ++ end_head ended l → Adds a new → TellsEnd entries l old new
-tells-end entries given tx l ended old a new same of there none e adds = (
+-- the end of the transaction of an entry, and why this may not stand there
+pub tells-end : (ds : List Decision) (ps : List Placed) (entries given : List Logged) (tx : ℕ) (l : Logged) (ended : Option Logged) (has_ended : Bool) (reason old a new : List ℕ)
+    → given ≡ entries → tx ≡ tx_of l.entry → IfSome ended (λ e. Contains given e × EndsTx tx e.entry) → IfNone ended (HasNoEnd given tx) → has_ended ≡ is_some ended
+    → IsReason ds ps tx has_ended reason → a ≡ old ++ end_head ended l → new ≡ a ++ reason → TellsEnd ds ps entries l old new
+tells-end ds ps entries given tx l ended has_ended reason old a new same of there none has why e f = (
   ended,
+  reason,
   subst (λ ls. IsEndOf ls (tx_of l.entry) ended) same (subst (λ t. IsEndOf given t ended) of (record { there = there; none = none })),
-  adds-behind old (end_head ended l) a new e adds,
+  subst (λ b. IsReason ds ps (tx_of l.entry) b reason) has (subst (λ t. IsReason ds ps t has_ended reason) of why),
+  two-parts old a (end_head ended l) reason new e f,
 )
 
 -- an entry whose transaction has no end

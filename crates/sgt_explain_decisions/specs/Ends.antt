@@ -1,10 +1,16 @@
 -- What is said of the ends of transactions at a site.
-use Rattle.std.specs.Prelude.{◌≡◌, ◌⊎◌, ℕ, List, ◌++◌, All, Contains, codes, decimal, Option, IfSome, IfNone}
+use Rattle.std.specs.Prelude.{◌≡◌, ◌⊎◌, ℕ, Bool, List, ◌++◌, All, Contains, codes, decimal, Option, is_some, IfSome, IfNone, if◌then◌else◌}
 use Rattle.sgt_names.specs.Entry.{tx_of, IsEnd}
 use Rattle.sgt_names.specs.declared.entry.Entry.{Entry}
+use Rattle.sgt_cert.specs.Certificate.{decided_tx}
+use Rattle.sgt_cert.specs.declared.certificate.Decision.{Decision}
+use Rattle.sgt_cert.specs.declared.certificate.Decision.TheVariants.{Commit, Refuse, Withdraw}
 use Rattle.sgt_explain_lines.specs.declared.section.Logged.{Logged}
 use Rattle.sgt_explain_lines.specs.Told.{Adds, shown_line}
 use Rattle.sgt_explain_lines.specs.Beside.{line_if_there}
+use Rattle.sgt_explain_decisions.specs.declared.placed.Placed.{Placed}
+use Rattle.sgt_explain_decisions.specs.Placed.{ArePlaced, IsDecisionOn, IsUndecided}
+use Rattle.sgt_explain_decisions.specs.Told.{decision_text, no_decision_text}
 
 -- the entry ends the transaction
 abbrev pub EndsTx : ℕ → Entry → Type 0
@@ -25,9 +31,31 @@ abbrev pub end_head : Option Logged → Logged → List ℕ
 end_head ended l = codes "End: the transaction isn't decided as this entry says, or has ended here\n"
     ++ (line_if_there ended ++ (shown_line l ++ codes "\n"))
 
--- the end of its transaction is shown, if it has one, and the entry; and more is said
-abbrev pub TellsEnd : List Logged → Logged → (old new : List ℕ) → Type 0
-TellsEnd entries l old new = (ended : Option Logged) × IsEndOf entries (tx_of l.entry) ended × Adds (old ++ end_head ended l) new
+-- which entries a transaction may have that is decided so
+abbrev pub letters_of : Decision → List ℕ
+letters_of (Commit tx rank) = codes "r, w, d and c"
+letters_of (Refuse tx walk) = codes "r, p, q and n"
+letters_of (Withdraw tx) = codes "r and a"
+
+abbrev pub letters_text : ℕ → Decision → List ℕ
+letters_text n d = decision_text n d ++ (codes ": of " ++ (decimal (decided_tx d) ++ (codes " may stand " ++ (letters_of d ++ codes " alone\n"))))
+
+abbrev pub ended_text : ℕ → List ℕ
+ended_text tx = codes "transaction " ++ (decimal tx ++ codes " has ended at this site: nothing of it may follow\n")
+
+abbrev pub reason_text : ℕ → Decision → Bool → List ℕ
+reason_text n d has_ended = if has_ended then ended_text (decided_tx d) else letters_text n d
+
+-- what is told why it may not stand there: the decision on its transaction, or that there is none
+abbrev pub IsReason : List Decision → List Placed → (tx : ℕ) → Bool → List ℕ → Type 0
+IsReason decisions placed tx has_ended reason =
+    ((ArePlaced decisions placed → IsUndecided decisions tx) × (reason ≡ no_decision_text tx))
+    ⊎ ((number : ℕ) × (decision : Decision) × IsDecisionOn decisions tx number decision × (reason ≡ reason_text number decision has_ended))
+
+-- the end of its transaction is shown, if it has one, and the entry; and why it may not stand there
+abbrev pub TellsEnd : List Decision → List Placed → List Logged → Logged → (old new : List ℕ) → Type 0
+TellsEnd decisions placed entries l old new = (ended : Option Logged) × (reason : List ℕ) × IsEndOf entries (tx_of l.entry) ended
+    × IsReason decisions placed (tx_of l.entry) (is_some ended) reason × (new ≡ old ++ (end_head ended l ++ reason))
 
 -- ---- a transaction with no end
 

@@ -1,9 +1,10 @@
 pub mod Against
 pub mod Cycles
-pub mod Dealings
 pub mod Decided
 pub mod Ends
+pub mod Fate
 pub mod Placed
-pub mod Ranks
+pub mod Sought
 pub mod Told
+pub mod Twice
 pub mod Walks

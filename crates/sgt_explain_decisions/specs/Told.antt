@@ -3,24 +3,18 @@ use Rattle.std.specs.Prelude.{List, ◌++◌, ℕ, codes, decimal}
 use Rattle.sgt_names.specs.Entry.{tx_of}
 use Rattle.sgt_cert.specs.declared.certificate.Decision.{Decision}
 use Rattle.sgt_cert.specs.declared.certificate.Decision.TheVariants.{Commit, Refuse, Withdraw}
-use Rattle.sgt_cert.specs.declared.fault.CertFault.{CertFault}
-use Rattle.sgt_cert.specs.declared.fault.CertFault.TheVariants.{NotJson, Shape, Range, Memory}
 use Rattle.sgt_explain_lines.specs.Told.{noted_line, verb_text, kind_text}
 use Rattle.sgt_explain_decisions.specs.declared.order.Ranked.{Ranked}
 use Rattle.sgt_explain_decisions.specs.declared.order.RanksShown.{RanksShown}
-
--- why a line is no certificate, by its name
-abbrev pub fault_words : CertFault → List ℕ
-fault_words NotJson = codes "Certificate: K1, "
-fault_words Shape = codes "Certificate: K2, "
-fault_words Range = codes "Certificate: K3, "
-fault_words Memory = codes ""
 
 -- what a decision does
 abbrev pub decision_text : ℕ → Decision → List ℕ
 decision_text n (Commit tx rank) = codes "decision " ++ (decimal n ++ (codes " commits " ++ (decimal tx ++ (codes " with rank " ++ decimal rank))))
 decision_text n (Refuse tx walk) = codes "decision " ++ (decimal n ++ (codes " refuses " ++ decimal tx))
 decision_text n (Withdraw tx) = codes "decision " ++ (decimal n ++ (codes " withdraws " ++ decimal tx))
+
+abbrev pub no_decision_text : ℕ → List ℕ
+no_decision_text tx = codes "transaction " ++ (decimal tx ++ codes " has no decision in the certificate\n")
 
 abbrev pub ranked_text : Ranked → List ℕ
 ranked_text r = noted_line r.logged ++ (codes "transaction " ++ (decimal (tx_of r.logged.entry) ++ (codes " has rank "

@@ -1,8 +1,9 @@
 //! The cycles of refused transactions, in words; and which step is no conflict of the logs.
 
-ghost use Rattle.std.specs.Prelude.{◌≡◌, ◌<◌, ◌++◌, ℕ, List, Some, IfSome, IsTrue, OnOk, length, string_bytes};
-ghost use Rattle.sgt_explain_decisions.specs.Cycles.{AreInOrder, IsShownStep, step_text, refusal_head, TellsCycle, TellsRefusal, TellsCycles};
-ghost use Rattle.sgt_explain_decisions.specs.Placed.{IsPlace};
+ghost use Rattle.std.specs.Prelude.{◌≡◌, ◌↔◌, ◌++◌, ℕ, List, Some, All, IfSome, IfNone, IsTrue, OnOk, length, string_bytes};
+ghost use Rattle.sgt_explain_lines.specs.declared.section.Logged.{Logged};
+ghost use Rattle.sgt_explain_decisions.specs.Cycles.{AreInOrder, IsShownStep, Shows, step_text, refusal_head, TellsCycle, TellsRefusal, TellsCycles};
+ghost use Rattle.sgt_explain_decisions.specs.Cycles.{AreShown, IsFirstUnshown, IsUnshownAt, IsShownWhole, IsFirstUnmet};
 
 use crate::sought::{Sought, first_of, found_of, second_of};
 use sgt_cert::{Decision, Step};
@@ -13,14 +14,17 @@ use std::fmt::Write;
 
 /// Whether the one entry stands before the other, and they aren't both increments.
 fn are_in_order(one: &Logged, other: &Logged) -> bool
-    ensures { IsTrue result → AreInOrder one.now other.now }
+    ensures { IsTrue result ↔ AreInOrder one.now other.now }
 {
     one.line < other.line && !(one.entry.is_increment() && other.entry.is_increment())
 }
 
 /// The two entries, where they are so.
 fn in_order(first: Option<Logged>, second: Option<Logged>) -> Option<(Logged, Logged)>
-    ensures { IfSome result (λ two. (first ≡ Some two.0) × (second ≡ Some two.1) × AreInOrder two.0 two.1) }
+    ensures some { IfSome result
+        (λ two. (first ≡ Some two.0) × (second ≡ Some two.1) × AreInOrder two.0 two.1) }
+    ensures none { IfNone result ((one other : Logged) → first ≡ Some one → second ≡ Some other
+        → AreInOrder one other → ⊥) }
 {
     let one = first?;
     let other = second?;
@@ -32,8 +36,8 @@ fn in_order(first: Option<Logged>, second: Option<Logged>) -> Option<(Logged, Lo
 }
 
 /// The two entries that a step from this transaction shows, if it is a conflict of the logs.
-fn shown_by(sought: &[Sought], from: Tx, step: &Step) -> Option<(Logged, Logged)>
-    ensures { IfSome result (λ two. IsShownStep sought.now from step.now two.0 two.1) }
+fn shown_by(sought: &Sought, from: Tx, step: &Step) -> Option<(Logged, Logged)>
+    ensures { Shows sought.now from step.now result }
 {
     let first = found_of(sought, step, from);
     let second = found_of(sought, step, step.to);
@@ -48,7 +52,8 @@ fn push_step(
     step: &Step,
     shown: &Option<(Logged, Logged)>,
 ) -> Result<(), AllocError>
-    ensures { OnOk result (string_bytes out.new ≡ string_bytes out.old ++ step_text from step.now shown.now) }
+    ensures { OnOk result (string_bytes out.new ≡ string_bytes out.old
+        ++ step_text from step.now shown.now) }
 {
     match shown {
         Some((one, other)) => {
@@ -69,7 +74,7 @@ fn push_step(
 /// A cycle in words: the step of each line, from the refused transaction back to it.
 pub(crate) fn push_cycle(
     out: &mut String,
-    sought: &[Sought],
+    sought: &Sought,
     tx: Tx,
     walk: &[Step],
 ) -> Result<(), AllocError>
@@ -97,7 +102,7 @@ fn push_refusal_head(out: &mut String, number: usize, tx: Tx) -> Result<(), Allo
 /// The transaction of a refusal with its cycle; nothing of another decision.
 fn push_refusal(
     out: &mut String,
-    sought: &[Sought],
+    sought: &Sought,
     number: usize,
     decision: &Decision,
 ) -> Result<(), AllocError>
@@ -117,7 +122,7 @@ fn push_refusal(
 pub fn push_cycles(
     out: &mut String,
     decisions: &[Decision],
-    sought: &[Sought],
+    sought: &Sought,
 ) -> Result<(), AllocError>
     ensures { OnOk result ((told : List ℕ) × TellsCycles sought.now 0 decisions.now told
         × (string_bytes out.new ≡ string_bytes out.old ++ told)) }
@@ -129,8 +134,9 @@ pub fn push_cycles(
 }
 
 /// The place, from 0, of the first step of the walk that is no conflict of the logs.
-fn first_unmet(sought: &[Sought], tx: Tx, walk: &[Step]) -> Option<usize>
-    ensures { IfSome result (λ place. place < length walk.now) }
+fn first_unmet(sought: &Sought, tx: Tx, walk: &[Step]) -> Option<usize>
+    ensures some { IfSome result (IsFirstUnshown sought.now tx walk.now) }
+    ensures none { IfNone result (AreShown sought.now tx walk.now (length walk.now)) }
 {
     let mut from = tx;
     for (place, step) in walk.iter().enumerate() {
@@ -142,15 +148,26 @@ fn first_unmet(sought: &[Sought], tx: Tx, walk: &[Step]) -> Option<usize>
     None
 }
 
-/// The first step of all walks that is no conflict of the logs: the number of the decision, and the place of the step from 0.
-pub fn unmet_in(decisions: &[Decision], sought: &[Sought]) -> Option<(usize, usize)>
-    ensures { IfSome result (λ at. IsPlace decisions.now at.0 at.1) }
+/// The same of the walk of a refusal.
+fn unmet_of(sought: &Sought, decision: &Decision) -> Option<usize>
+    ensures some { IfSome result (IsUnshownAt sought.now decision.now) }
+    ensures none { IfNone result (IsShownWhole sought.now decision.now) }
+{
+    match decision {
+        Decision::Refuse { tx, walk } => first_unmet(sought, *tx, walk.as_slice()),
+        _ => None,
+    }
+}
+
+/// The first step of all walks that is no conflict of the logs: the number of the decision, and
+/// the place of the step from 0.
+pub fn unmet_in(decisions: &[Decision], sought: &Sought) -> Option<(usize, usize)>
+    ensures some { IfSome result (λ at. IsFirstUnmet sought.now decisions.now at.0 at.1) }
+    ensures none { IfNone result (All (IsShownWhole sought.now) decisions.now) }
 {
     for (number, decision) in decisions.iter().enumerate() {
-        if let Some(walk) = decision.walk() {
-            if let Some(place) = first_unmet(sought, decision.tx(), walk) {
-                return Some((number, place));
-            }
+        if let Some(place) = unmet_of(sought, decision) {
+            return Some((number, place));
         }
     }
     None

@@ -1,12 +1,12 @@
 //! What is said of the ends of transactions.
 
-ghost use Rattle.std.specs.Prelude.{◌≡◌, ◌↔◌, ◌++◌, All, Contains, IfNone, IfOk, IfSome, IsTrue, OnOk, string_bytes, unwrap_or};
+ghost use Rattle.std.specs.Prelude.{◌≡◌, ◌↔◌, ◌++◌, ℕ, List, All, Contains, IfNone, IfOk, IfSome, IsTrue, OnOk, string_bytes, unwrap_or};
 ghost use Rattle.sgt_names.specs.Entry.{tx_of, IsEnd};
 ghost use Rattle.sgt_explain_lines.specs.Told.{Adds};
-ghost use Rattle.sgt_explain_decisions.specs.Ends.{EndsTx, HasNoEnd, end_head, TellsEnd, without_end, not_ended_head, TellsNotEnded};
+ghost use Rattle.sgt_explain_decisions.specs.Ends.{EndsTx, HasNoEnd, letters_of, letters_text, reason_text, IsReason, end_head, TellsEnd, without_end, not_ended_head, TellsNotEnded};
 
-use crate::placed::{Placed, number_on};
-use crate::words::push_decision;
+use crate::placed::{Placed, decision_on, number_on};
+use crate::words::{push_decision, push_no_decision};
 use sgt_cert::Decision;
 use sgt_explain_lines::{Logged, Section, push_if_there, push_logged};
 use sgt_names::{Entry, Tx};
@@ -33,7 +33,9 @@ fn end_of(entries: &[Logged], tx: Tx) -> Option<Logged>
 }
 
 /// The entries that a transaction has that is decided so.
-fn entries_of(decision: &Decision) -> &'static str {
+fn letters(decision: &Decision) -> &'static str
+    ensures { result.now ≡ letters_of decision.now }
+{
     match decision {
         Decision::Commit { .. } => "r, w, d and c",
         Decision::Refuse { .. } => "r, p, q and n",
@@ -41,38 +43,59 @@ fn entries_of(decision: &Decision) -> &'static str {
     }
 }
 
-/// Why an entry may not stand behind that end of its transaction, or by the decision on that.
+/// Which entries a transaction may have that is decided so.
+fn push_letters(out: &mut String, number: usize, decision: &Decision) -> Result<(), AllocError>
+    ensures { OnOk result (string_bytes out.new ≡ string_bytes out.old
+        ++ letters_text number decision.now) }
+{
+    push_decision(out, number, decision)?;
+    let tx = decision.tx();
+    let letters = letters(decision);
+    write!(out, ": of {tx} may stand {letters} alone\n")
+}
+
+/// Why an entry may not stand where its transaction is decided so, and has ended or not.
 fn push_end_reason(
+    out: &mut String,
+    number: usize,
+    decision: &Decision,
+    has_ended: bool,
+) -> Result<(), AllocError>
+    ensures { OnOk result (string_bytes out.new ≡ string_bytes out.old
+        ++ reason_text number decision.now has_ended) }
+{
+    if has_ended {
+        let tx = decision.tx();
+        write!(
+            out,
+            "transaction {tx} has ended at this site: nothing of it may follow\n"
+        )
+    } else {
+        push_letters(out, number, decision)
+    }
+}
+
+/// Why an entry may not stand behind that end of its transaction, or by the decision on that.
+fn push_reason(
     out: &mut String,
     decisions: &[Decision],
     placed: &[Placed],
     tx: Tx,
     has_ended: bool,
 ) -> Result<(), AllocError>
-    ensures { OnOk result (Adds (string_bytes out.old) (string_bytes out.new)) }
+    ensures { OnOk result ((reason : List ℕ) × IsReason decisions.now placed.now tx has_ended reason
+        × (string_bytes out.new ≡ string_bytes out.old ++ reason)) }
 {
-    let Some(number) = number_on(placed, tx) else {
-        return writeln!(out, "transaction {tx} has no decision in the certificate");
-    };
-    if has_ended {
-        return writeln!(
-            out,
-            "transaction {tx} has ended at this site: nothing of it may follow"
-        );
-    }
-    match decisions.get(number) {
-        Some(decision) => {
-            push_decision(out, number, decision)?;
-            let letters = entries_of(decision);
-            writeln!(out, ": of {tx} may stand {letters} alone")
-        }
-        None => out.push_str(""),
+    match decision_on(decisions, placed, tx) {
+        Some((number, decision)) => push_end_reason(out, number, decision, has_ended),
+        None => push_no_decision(out, tx),
     }
 }
 
 /// The end of the transaction, if it has one, and the entry.
 fn push_both(out: &mut String, ended: &Option<Logged>, logged: &Logged) -> Result<(), AllocError>
-    ensures { OnOk result (string_bytes out.new ≡ string_bytes out.old ++ end_head ended.now logged.now) }
+    ensures { OnOk result (string_bytes out.new ≡ string_bytes out.old
+        ++ end_head ended.now logged.now) }
 {
     out.push_str("End: the transaction isn't decided as this entry says, or has ended here\n")?;
     push_if_there(out, ended)?;
@@ -88,12 +111,13 @@ pub fn push_end(
     section: &Section,
     logged: &Logged,
 ) -> Result<(), AllocError>
-    ensures { OnOk result (TellsEnd section.now.entries.items logged.now (string_bytes out.old) (string_bytes out.new)) }
+    ensures { OnOk result (TellsEnd decisions.now placed.now section.now.entries.items logged.now
+        (string_bytes out.old) (string_bytes out.new)) }
 {
     let tx = logged.entry.tx();
     let ended = end_of(section.entries.as_slice(), tx);
     push_both(out, &ended, logged)?;
-    push_end_reason(out, decisions, placed, tx, ended.is_some())
+    push_reason(out, decisions, placed, tx, ended.is_some())
 }
 
 /// The numbers of the transactions that end among these entries, sorted.
@@ -123,7 +147,8 @@ fn lacks_end(entries: &[Logged], ended: &[u32], tx: Tx) -> bool
 
 /// The first entry whose transaction doesn't end among these.
 fn unended(alloc: Global, entries: &[Logged]) -> Result<Option<Logged>, AllocError>
-    ensures { IfOk result (λ found. IfSome found (λ l. Contains entries.now l × HasNoEnd entries.now (tx_of l.entry))) }
+    ensures { IfOk result (λ found. IfSome found
+        (λ l. Contains entries.now l × HasNoEnd entries.now (tx_of l.entry))) }
 {
     let ended = ended_in(alloc, entries)?;
     for logged in entries {
@@ -227,10 +252,7 @@ fn push_place(
 ) -> Result<(), AllocError>
     ensures { OnOk result (Adds (string_bytes out.old) (string_bytes out.new)) }
 {
-    let Some(number) = number_on(placed, tx) else {
-        return Ok(());
-    };
-    let Some(decision) = decisions.get(number) else {
+    let Some((number, decision)) = decision_on(decisions, placed, tx) else {
         return Ok(());
     };
     push_decision(out, number, decision)?;
@@ -251,7 +273,8 @@ fn push_without_end(out: &mut String, site: u8, tx: Tx) -> Result<(), AllocError
 
 /// The same of the transaction of an entry, and the entry.
 fn push_unended(out: &mut String, site: u8, logged: &Logged) -> Result<(), AllocError>
-    ensures { OnOk result (string_bytes out.new ≡ string_bytes out.old ++ not_ended_head site logged.now) }
+    ensures { OnOk result (string_bytes out.new ≡ string_bytes out.old
+        ++ not_ended_head site logged.now) }
 {
     push_without_end(out, site, logged.entry.tx())?;
     push_logged(out, logged)?;

@@ -1,24 +1,22 @@
-//! What an explanation says of the decisions of a bundle: of its second line, and of the logs against it.
+//! What an explanation says of the decisions of a bundle: by themselves, and of the logs against
+//! them.
 #![tactic(auto)]
 
-mod certificate;
-mod compact;
 mod cycles;
-mod dealings;
 mod ends;
+mod fate;
 mod order;
 mod placed;
-mod ranks;
 mod sought;
+mod twice;
 mod walks;
 mod words;
 
-pub use certificate::push_certificate;
 pub use cycles::{push_cycles, unmet_in};
-pub use dealings::{push_dealings, push_fate};
 pub use ends::{push_end, push_not_ended};
+pub use fate::push_fate;
 pub use order::{Ranked, RanksShown, against_ranks, push_decision_order, push_rank_order};
 pub use placed::{Placed, number_on, placed_in};
-pub use ranks::{push_decided_twice, push_ranks};
-pub use sought::{Sought, sought_in};
+pub use sought::{Found, Sought, sought_in};
+pub use twice::push_decided_twice;
 pub use walks::push_walk_shape;

@@ -1,10 +1,13 @@
 //! What is said of entries that stand against the ranks or the decisions.
 
-ghost use Rattle.std.specs.Prelude.{◌≡◌, ◌<◌, ◌++◌, IfSome, OnOk, Contains, string_bytes, unwrap_or};
+ghost use Rattle.std.specs.Prelude.{◌≡◌, ◌<◌, ◌++◌, ℕ, All, IfSome, IfNone, OnOk, Contains, string_bytes, unwrap_or};
+ghost use Rattle.sgt_names.specs.Name.{Name};
 ghost use Rattle.sgt_names.specs.Entry.{tx_of, IsEnd};
-ghost use Rattle.sgt_cert.specs.Certificate.{IsCommitted};
-ghost use Rattle.sgt_explain_decisions.specs.Against.{StandAgainst};
+ghost use Rattle.sgt_cert.specs.Certificate.{IsCommitted, IsDecidedOnce};
+ghost use Rattle.sgt_cert.specs.Valid.{RiseInRank};
+ghost use Rattle.sgt_explain_decisions.specs.Against.{StandAgainst, IsAgainst};
 ghost use Rattle.sgt_explain_decisions.specs.Decided.{IsDecidedAs, decided_text, if_decided, undecided_text, decision_order_head, TellsDecisionOrder};
+ghost use Rattle.sgt_explain_decisions.specs.Placed.{ArePlaced, IsUncommitted};
 ghost use Rattle.sgt_explain_decisions.specs.Told.{ranked_text, both_ranked, first_deed, second_deed, rank_wish, ranks_wanted, rank_order_head, rank_order_text};
 
 use crate::placed::{Placed, number_on, rank_on};
@@ -42,7 +45,10 @@ pub struct RanksShown {
 /// The entry with the rank of its transaction, if that is committed.
 fn with_rank(decisions: &[Decision], placed: &[Placed], logged: &Logged) -> Option<Ranked>
     ensures same { IfSome result (λ r. r.logged ≡ logged.now) }
-    ensures rank { IfSome result (λ r. IsCommitted decisions.now r.number (tx_of r.logged.entry) r.rank) }
+    ensures rank { IfSome result
+        (λ r. IsCommitted decisions.now r.number (tx_of r.logged.entry) r.rank) }
+    ensures none { ArePlaced decisions.now placed.now → IsDecidedOnce decisions.now
+        → IfNone result (IsUncommitted decisions.now (tx_of logged.now.entry)) }
 {
     match rank_on(decisions, placed, logged.entry.tx()) {
         Some((rank, number)) => Some(Ranked {
@@ -54,15 +60,42 @@ fn with_rank(decisions: &[Decision], placed: &[Placed], logged: &Logged) -> Opti
     }
 }
 
-/// The item and the kind of the conflict of two entries of which the first stands against the second: its transaction has no
-/// smaller rank.
+/// The item and the kind of the conflict of two entries of which the first stands against the
+/// second: its transaction has no smaller rank.
 fn stand_against(first: &Ranked, second: &Ranked) -> Option<(Item, Kind)>
-    ensures { IfSome result (λ c. StandAgainst first.now second.now c.1 c.0) }
+    ensures some { IfSome result (λ c. StandAgainst first.now second.now c.1 c.0) }
+    ensures none { IfNone result ((kind : Kind) (item : Name)
+        → StandAgainst first.now second.now kind item → ⊥) }
 {
-    match clash(&first.logged.entry, &second.logged.entry) {
-        Some((item, kind)) if second.rank <= first.rank => Some((item, kind)),
-        _ => None,
+    if second.rank > first.rank {
+        return None;
     }
+    clash(&first.logged.entry, &second.logged.entry)
+}
+
+/// This entry and the other, which has its rank, if it stands against that. Of the section of the
+/// site.
+fn shown_against(
+    decisions: &[Decision],
+    placed: &[Placed],
+    site: u8,
+    one: &Logged,
+    second: &Ranked,
+) -> Option<RanksShown>
+    ensures some { IfSome result (IsAgainst decisions.now site one.now second.now) }
+    ensures none { ArePlaced decisions.now placed.now → IsDecidedOnce decisions.now
+        → IsCommitted decisions.now second.now.number (tx_of second.now.logged.entry) second.now.rank
+        → IfNone result (RiseInRank decisions.now one.now.entry second.now.logged.entry) }
+{
+    let first = with_rank(decisions, placed, one)?;
+    let (item, kind) = stand_against(&first, second)?;
+    Some(RanksShown {
+        site,
+        item,
+        kind,
+        first,
+        second: *second,
+    })
 }
 
 /// The first of these entries, of the site, that stands against this one, with the ranks of both.
@@ -75,24 +108,21 @@ pub fn against_ranks(
     ensures site { IfSome result (λ s. s.site ≡ unwrap_or section.now.site 0) }
     ensures among { IfSome result (λ s. Contains section.now.entries.items s.first.logged) }
     ensures same { IfSome result (λ s. s.second.logged ≡ logged.now) }
-    ensures first { IfSome result (λ s. IsCommitted decisions.now s.first.number (tx_of s.first.logged.entry) s.first.rank) }
-    ensures second { IfSome result (λ s. IsCommitted decisions.now s.second.number (tx_of s.second.logged.entry) s.second.rank) }
+    ensures first { IfSome result
+        (λ s. IsCommitted decisions.now s.first.number (tx_of s.first.logged.entry) s.first.rank) }
+    ensures second { IfSome result
+        (λ s. IsCommitted decisions.now s.second.number (tx_of s.second.logged.entry) s.second.rank) }
     ensures stand { IfSome result (λ s. StandAgainst s.first s.second s.kind s.item) }
+    ensures none { ArePlaced decisions.now placed.now → IsDecidedOnce decisions.now
+        → IfNone result
+        (All (λ l. RiseInRank decisions.now l.entry logged.now.entry) section.now.entries.items) }
 {
-    let Some(second) = with_rank(decisions, placed, logged) else {
-        return None;
-    };
+    let second = with_rank(decisions, placed, logged)?;
+    let site = section.site_number();
     for other in section.entries.as_slice() {
-        if let Some(first) = with_rank(decisions, placed, other) {
-            if let Some((item, kind)) = stand_against(&first, &second) {
-                return Some(RanksShown {
-                    site: section.site_number(),
-                    item,
-                    kind,
-                    first,
-                    second,
-                });
-            }
+        let shown = shown_against(decisions, placed, site, other, &second);
+        if shown.is_some() {
+            return shown;
         }
     }
     None
@@ -166,7 +196,8 @@ fn push_order_head(out: &mut String) -> Result<(), AllocError>
 
 /// F11: two entries of a site that stand against the ranks.
 pub fn push_rank_order(out: &mut String, shown: &RanksShown) -> Result<(), AllocError>
-    ensures { OnOk result (string_bytes out.new ≡ string_bytes out.old ++ rank_order_text shown.now) }
+    ensures { OnOk result (string_bytes out.new ≡ string_bytes out.old
+        ++ rank_order_text shown.now) }
 {
     push_order_head(out)?;
     push_both_ranked(out, shown)?;
@@ -175,7 +206,8 @@ pub fn push_rank_order(out: &mut String, shown: &RanksShown) -> Result<(), Alloc
 
 /// An end with the number of its decision, if that is later than this one.
 fn later_decided(placed: &[Placed], other: &Logged, own: usize) -> Option<Decided>
-    ensures { IfSome result (λ d. (d.logged ≡ other.now) × IsEnd d.logged.entry × IsDecidedAs placed.now d × (own < d.number)) }
+    ensures { IfSome result (λ d. (d.logged ≡ other.now) × IsEnd d.logged.entry
+        × IsDecidedAs placed.now d × (own < d.number)) }
 {
     if !other.entry.is_end() {
         return None;
@@ -191,7 +223,8 @@ fn later_decided(placed: &[Placed], other: &Logged, own: usize) -> Option<Decide
 
 /// The first of these ends that was decided later than the decision of this number.
 fn decided_later(placed: &[Placed], entries: &[Logged], own: usize) -> Option<Decided>
-    ensures { IfSome result (λ d. Contains entries.now d.logged × IsEnd d.logged.entry × IsDecidedAs placed.now d × (own < d.number)) }
+    ensures { IfSome result (λ d. Contains entries.now d.logged × IsEnd d.logged.entry
+        × IsDecidedAs placed.now d × (own < d.number)) }
 {
     for other in entries {
         let found = later_decided(placed, other, own);
@@ -204,7 +237,8 @@ fn decided_later(placed: &[Placed], entries: &[Logged], own: usize) -> Option<De
 
 /// An end with the number of its decision.
 fn push_decided(out: &mut String, decided: &Decided) -> Result<(), AllocError>
-    ensures { OnOk result (string_bytes out.new ≡ string_bytes out.old ++ decided_text decided.now) }
+    ensures { OnOk result (string_bytes out.new ≡ string_bytes out.old
+        ++ decided_text decided.now) }
 {
     let number = decided.number;
     push_aside(out, &decided.logged)?;
@@ -223,7 +257,8 @@ fn push_if_decided(out: &mut String, decided: &Option<Decided>) -> Result<(), Al
 
 /// An end on whose transaction there is no decision.
 fn push_undecided(out: &mut String, logged: &Logged) -> Result<(), AllocError>
-    ensures { OnOk result (string_bytes out.new ≡ string_bytes out.old ++ undecided_text logged.now) }
+    ensures { OnOk result (string_bytes out.new ≡ string_bytes out.old
+        ++ undecided_text logged.now) }
 {
     push_aside(out, logged)?;
     out.push_str("\n")

@@ -1,9 +1,10 @@
 //! Which decision is on a transaction.
 
-ghost use Rattle.std.specs.Prelude.{◌≡◌, IfOk, IfSome, Contains, IsPermutation};
-ghost use Rattle.sgt_cert.specs.Certificate.{IsCommitted};
-ghost use Rattle.sgt_cert.specs.declared.certificate.Decision.TheVariants.{Commit};
-ghost use Rattle.sgt_explain_decisions.specs.Placed.{all_placed};
+ghost use Rattle.std.specs.Prelude.{◌≡◌, ◌≢◌, Some, IfOk, IfSome, IfNone, All, Contains, slice_get};
+ghost use Rattle.std.specs.List.Sorted.{IsNonDecreasingBy};
+ghost use Rattle.sgt_cert.specs.Certificate.{decided_tx, IsCommitted, IsDecidedOnce};
+ghost use Rattle.sgt_cert.specs.declared.certificate.Decision.{Decision};
+ghost use Rattle.sgt_explain_decisions.specs.Placed.{ArePlaced, StandBefore, IsDecisionOn, IsUndecided, IsUncommitted};
 
 use sgt_cert::Decision;
 use sgt_names::Tx;
@@ -18,7 +19,7 @@ pub struct Placed {
 
 /// The decisions by their transactions; those of one transaction by their numbers.
 pub fn placed_in(alloc: Global, decisions: &[Decision]) -> Result<Vec<Placed>, AllocError>
-    ensures { IfOk result (λ placed. IsPermutation (all_placed decisions.now) placed.items) }
+    ensures { IfOk result (λ placed. ArePlaced decisions.now placed.items) }
 {
     let mut placed = Vec::new(alloc);
     for (number, decision) in decisions.iter().enumerate() {
@@ -31,42 +32,72 @@ pub fn placed_in(alloc: Global, decisions: &[Decision]) -> Result<Vec<Placed>, A
     Ok(placed)
 }
 
-/// The number of the first decision on the transaction, where these are sorted by transaction. A binary search.
-pub fn number_on(placed: &[Placed], tx: Tx) -> Option<usize>
-    ensures { IfSome result (λ n. Contains placed.now (record { tx = tx; number = n })) }
+/// How many stand before those of the transaction, where they are sorted by transaction. A binary
+/// search.
+fn count_before(placed: &[Placed], tx: Tx) -> usize
+    ensures { IsNonDecreasingBy (λ p. p.tx) placed.now → StandBefore placed.now tx result }
 {
-    let at = placed.partition_point(|one| one.tx.number() < tx.number());
+    let least = tx.number();
+    placed.partition_point(|one| one.tx.number() < least)
+}
+
+/// The number at this place, if it is the transaction's.
+fn number_at(placed: &[Placed], at: usize, tx: Tx) -> Option<usize>
+    ensures some { IfSome result (λ n. Contains placed.now (record { tx = tx; number = n })) }
+    ensures none { IfNone result ((p : Placed) → slice_get placed.now at ≡ Some p → p.tx ≢ tx) }
+{
     match placed.get(at) {
         Some(found) if found.tx == tx => Some(found.number),
         _ => None,
     }
 }
 
-/// The rank that the decision commits the transaction with.
-fn rank_in(decision: &Decision, tx: Tx) -> Option<u32>
-    ensures { IfSome result (λ rank. decision.now ≡ Commit tx rank) }
+/// The number of the first decision on the transaction, where these are sorted by transaction.
+pub fn number_on(placed: &[Placed], tx: Tx) -> Option<usize>
+    ensures some { IfSome result (λ n. Contains placed.now (record { tx = tx; number = n })) }
+    ensures none { IsNonDecreasingBy (λ p. p.tx) placed.now
+        → IfNone result (All (λ p. p.tx ≢ tx) placed.now) }
 {
-    match decision {
-        Decision::Commit {
-            tx: committed,
-            rank,
-        } if *committed == tx => Some(*rank),
+    number_at(placed, count_before(placed, tx), tx)
+}
+
+/// The decision of this number, if it is on the transaction.
+fn numbered_on(decisions: &[Decision], number: usize, tx: Tx) -> Option<(usize, &Decision)>
+    ensures some { IfSome result (λ d. IsDecisionOn decisions.now tx d.0 d.1.now) }
+    ensures none { IfNone result ((d : Decision) → slice_get decisions.now number ≡ Some d
+        → decided_tx d ≢ tx) }
+{
+    match decisions.get(number) {
+        Some(decision) if decision.tx() == tx => Some((number, decision)),
         _ => None,
+    }
+}
+
+/// The decision on the transaction, with its number.
+pub fn decision_on<'a>(
+    decisions: &'a [Decision],
+    placed: &[Placed],
+    tx: Tx,
+) -> Option<(usize, &'a Decision)>
+    ensures some { IfSome result (λ d. IsDecisionOn decisions.now tx d.0 d.1.now) }
+    ensures none { ArePlaced decisions.now placed.now
+        → IfNone result (IsUndecided decisions.now tx) }
+{
+    match number_on(placed, tx) {
+        Some(number) => numbered_on(decisions, number, tx),
+        None => None,
     }
 }
 
 /// The rank that the transaction is committed with, and the number of the decision.
 pub fn rank_on(decisions: &[Decision], placed: &[Placed], tx: Tx) -> Option<(u32, usize)>
-    ensures { IfSome result (λ r. IsCommitted decisions.now r.1 tx r.0) }
+    ensures some { IfSome result (λ r. IsCommitted decisions.now r.1 tx r.0) }
+    ensures none { ArePlaced decisions.now placed.now → IsDecidedOnce decisions.now
+        → IfNone result (IsUncommitted decisions.now tx) }
 {
-    let Some(number) = number_on(placed, tx) else {
-        return None;
-    };
-    let Some(decision) = decisions.get(number) else {
-        return None;
-    };
-    let Some(rank) = rank_in(decision, tx) else {
-        return None;
-    };
-    Some((rank, number))
+    let (number, decision) = decision_on(decisions, placed, tx)?;
+    match decision.rank() {
+        Some(rank) => Some((rank, number)),
+        None => None,
+    }
 }

@@ -1,56 +1,96 @@
 //! The entries that the steps of walks are about, found in one pass over the logs.
 
-ghost use Rattle.std.specs.Prelude.{◌≡◌, ◌<◌, Some, None, All, IfOk, OnOk, length};
+ghost use Rattle.std.specs.Prelude.{◌≡◌, ◌<◌, ℕ, Some, IfOk, IfSome, OnOk, length};
+ghost use Rattle.sgt_names.specs.Name.{Name};
 ghost use Rattle.sgt_names.specs.Entry.{tx_of, item_of};
-ghost use Rattle.sgt_explain_decisions.specs.Cycles.{IsFound, IsFoundOf, begun_by, ended_by};
+ghost use Rattle.sgt_explain_decisions.specs.Sought.{IsFound, AreFound, found_of, begun_by, ended_by, nothing};
 
 use sgt_cert::{Decision, Step};
 use sgt_explain_lines::{Logged, cut_line, entry_of};
 use sgt_names::{Entry, Item, Kind, Tx};
 use std::alloc::{AllocError, Global};
-use std::cmp::Ordering;
+use std::collections::BTreeMap;
 
-/// A transaction on an item of a site: its read of it, and its change of it, made or asked for.
+/// What was found of a transaction on an item of a site: its read of it, and its change of it,
+/// made or asked for.
 #[derive(Clone, Copy)]
-pub struct Sought {
-    pub site: u8,
-    pub item: Item,
-    pub tx: Tx,
+pub struct Found {
     pub read: Option<Logged>,
     pub change: Option<Logged>,
 }
 
-fn order(one: &Sought, other: &Sought) -> Ordering {
-    one.site
-        .cmp(&other.site)
-        .then(one.item.cmp(&other.item))
-        .then(one.tx.number().cmp(&other.tx.number()))
+/// What the steps of walks are about: the site, the item and the transaction, with what was found.
+#[derive(Drop)]
+pub struct Sought {
+    pub found: BTreeMap<(u8, Item, Tx), Found>,
 }
 
-fn unfound(site: u8, item: Item, tx: Tx) -> Sought
-    ensures { result ≡ record { site = site; item = item; tx = tx; read = None; change = None } }
+fn nothing() -> Found
+    ensures { result ≡ nothing }
 {
-    Sought {
-        site,
-        item,
-        tx,
+    Found {
         read: None,
         change: None,
     }
 }
 
+/// With an entry of the transaction on the item.
+fn with_entry(found: Found, line: u64, entry: Entry) -> Found
+    ensures { (item : Name) (tx : ℕ) → IsFound item tx found → tx_of entry ≡ tx
+        → item_of entry ≡ Some item → IsFound item tx result }
+{
+    let logged = Some(Logged { line, entry });
+    match &entry {
+        Entry::Read { .. } => Found {
+            read: logged,
+            ..found
+        },
+        Entry::Write { .. } | Entry::Add { .. } | Entry::Want { .. } | Entry::WantAdd { .. } => {
+            Found {
+                change: logged,
+                ..found
+            }
+        }
+        Entry::Commit { .. } | Entry::Refuse { .. } | Entry::Withdraw { .. } => found,
+    }
+}
+
+/// Puts at the key what was found, and an entry where one is given.
+fn put(
+    sought: &mut Sought,
+    key: (u8, Item, Tx),
+    found: Found,
+    given: &Option<Logged>,
+) -> Result<(), AllocError>
+    ensures { AreFound sought.old → IsFound key.1 key.2 found
+        → IfSome given.now (λ l. (tx_of l.entry ≡ key.2) × (item_of l.entry ≡ Some key.1))
+        → OnOk result (AreFound sought.new) }
+{
+    match given {
+        Some(logged) => {
+            let more = with_entry(found, logged.line, logged.entry);
+            sought.found.insert(key, more)?;
+        }
+        None => {
+            sought.found.insert(key, found)?;
+        }
+    }
+    Ok(())
+}
+
 /// Seeks both transactions of a step on its item.
-fn seek(sought: &mut Vec<Sought>, step: &Step, from: Tx) -> Result<(), AllocError>
-    ensures { All IsFound sought.old.items → OnOk result (All IsFound sought.new.items) }
+fn seek(sought: &mut Sought, step: &Step, from: Tx) -> Result<(), AllocError>
+    ensures { AreFound sought.old → OnOk result (AreFound sought.new) }
 {
     let site = step.label.site.number();
     let item = step.label.item;
-    sought.extend_from_slice(&[unfound(site, item, from), unfound(site, item, step.to)])
+    put(sought, (site, item, from), nothing(), &None)?;
+    put(sought, (site, item, step.to), nothing(), &None)
 }
 
 /// Seeks what the steps of a walk from this transaction are about.
-fn add_walk(sought: &mut Vec<Sought>, tx: Tx, walk: &[Step]) -> Result<(), AllocError>
-    ensures { All IsFound sought.old.items → OnOk result (All IsFound sought.new.items) }
+fn add_walk(sought: &mut Sought, tx: Tx, walk: &[Step]) -> Result<(), AllocError>
+    ensures { AreFound sought.old → OnOk result (AreFound sought.new) }
 {
     let mut from = tx;
     for step in walk {
@@ -60,56 +100,38 @@ fn add_walk(sought: &mut Vec<Sought>, tx: Tx, walk: &[Step]) -> Result<(), Alloc
     Ok(())
 }
 
-/// With an entry of the transaction on the item.
-fn with_entry(found: Sought, logged: Logged) -> Sought
-    ensures { IsFound found → tx_of logged.entry ≡ found.tx → item_of logged.entry ≡ Some found.item → IsFound result }
-{
-    match logged.entry {
-        Entry::Read { .. } => Sought {
-            read: Some(logged),
-            ..found
-        },
-        Entry::Write { .. } | Entry::Add { .. } | Entry::Want { .. } | Entry::WantAdd { .. } => {
-            Sought {
-                change: Some(logged),
-                ..found
-            }
-        }
-        Entry::Commit { .. } | Entry::Refuse { .. } | Entry::Withdraw { .. } => found,
-    }
-}
-
 /// Puts an entry where it is sought.
-fn take(sought: &mut Vec<Sought>, site: u8, logged: Logged)
-    ensures { All IsFound sought.old.items → All IsFound sought.new.items }
+fn take(sought: &mut Sought, site: u8, logged: Logged) -> Result<(), AllocError>
+    ensures { AreFound sought.old → OnOk result (AreFound sought.new) }
 {
     let Some(item) = logged.entry.item() else {
-        return;
+        return Ok(());
     };
-    let tx = logged.entry.tx();
-    let key = unfound(site, item, tx);
-    let at = sought
-        .as_slice()
-        .partition_point(|one| order(one, &key) == Ordering::Less);
-    if at >= sought.len() {
-        return;
-    }
-    let found = sought[at];
-    if found.site == site && found.item == item && found.tx == tx {
-        sought[at] = with_entry(found, logged);
+    let key = (site, item, logged.entry.tx());
+    match sought.found.get(&key).copied() {
+        Some(found) => put(sought, key, found, &Some(logged)),
+        None => Ok(()),
     }
 }
 
 // Into so many classes transactions are put by their numbers.
 const CLASSES: usize = 65536;
 
+/// Marks the class of the transaction.
+fn mark(classes: &mut Vec<bool>, tx: Tx)
+    requires { length classes.old.items ≡ 65536 }
+    ensures { length classes.new.items ≡ 65536 }
+{
+    classes[tx.number() as usize % CLASSES] = true;
+}
+
 /// Of each class of transactions whether one of it is sought.
-fn classes_of(alloc: Global, sought: &[Sought]) -> Result<Vec<bool>, AllocError>
+fn classes_of(alloc: Global, sought: &Sought) -> Result<Vec<bool>, AllocError>
     ensures { IfOk result (λ classes. length classes.items ≡ 65536) }
 {
     let mut classes = vec![in alloc; false; CLASSES]?;
-    for one in sought {
-        classes[one.tx.number() as usize % CLASSES] = true;
+    for key in sought.found.keys() {
+        mark(&mut classes, key.2);
     }
     Ok(classes)
 }
@@ -132,7 +154,8 @@ fn class_of(text: &[u8]) -> usize
     number as usize % CLASSES
 }
 
-/// Whether the line begins a section, or may be an operation of a transaction that is sought. Few others are read whole.
+/// Whether the line begins a section, or may be an operation of a transaction that is sought. Few
+/// others are read whole.
 fn may_matter(classes: &[bool], text: &[u8]) -> bool
     requires { length classes.now ≡ 65536 }
 {
@@ -144,84 +167,86 @@ fn may_matter(classes: &[bool], text: &[u8]) -> bool
 }
 
 /// Finds in a line what is sought.
-fn find_in(sought: &mut Vec<Sought>, classes: &[bool], site: &mut u8, line: u64, text: &[u8])
+fn find_in(
+    sought: &mut Sought,
+    classes: &[bool],
+    site: &mut u8,
+    line: u64,
+    text: &[u8],
+) -> Result<(), AllocError>
     requires { length classes.now ≡ 65536 }
-    ensures { All IsFound sought.old.items → All IsFound sought.new.items }
+    ensures { AreFound sought.old → OnOk result (AreFound sought.new) }
 {
     if line <= 2 || !may_matter(classes, text) {
-        return;
+        return Ok(());
     }
-    let Some(entry) = entry_of(site, text) else {
-        return;
-    };
-    take(sought, *site, Logged { line, entry });
+    match entry_of(site, text) {
+        Some(entry) => take(sought, *site, Logged { line, entry }),
+        None => Ok(()),
+    }
 }
 
 /// Finds what is sought in the logs of the text.
-fn find_all(sought: &mut Vec<Sought>, classes: &[bool], bytes: &[u8])
+fn find_all(sought: &mut Sought, classes: &[bool], bytes: &[u8]) -> Result<(), AllocError>
     requires { length classes.now ≡ 65536 }
-    ensures { All IsFound sought.old.items → All IsFound sought.new.items }
+    ensures { AreFound sought.old → OnOk result (AreFound sought.new) }
 {
     let mut rest = bytes;
     let mut site = 0u8;
     for line in 1..u64::MAX {
         let (text, behind) = cut_line(rest);
-        find_in(sought, classes, &mut site, line, text);
+        find_in(sought, classes, &mut site, line, text)?;
         rest = behind;
         if rest.is_empty() {
-            return;
+            break;
         }
     }
+    Ok(())
 }
 
-/// What the walks of all refusals are about, sorted, with nothing found.
-fn unfound_in(alloc: Global, decisions: &[Decision]) -> Result<Vec<Sought>, AllocError>
-    ensures { IfOk result (λ sought. All IsFound sought.items) }
+/// What the walks of all refusals are about, with nothing found.
+fn unfound_in(alloc: Global, decisions: &[Decision]) -> Result<Sought, AllocError>
+    ensures { IfOk result AreFound }
 {
-    let mut sought = Vec::new(alloc);
+    let mut sought = Sought {
+        found: BTreeMap::new(alloc),
+    };
     for decision in decisions {
         if let Some(walk) = decision.walk() {
             add_walk(&mut sought, decision.tx(), walk)?;
         }
     }
-    sought.sort_by_key(|one| (one.site, one.item, one.tx.number()))?;
     Ok(sought)
 }
 
-/// What the walks of all refusals are about, sorted, each with its entries in the logs of the text, of which a transaction has
-/// two at most on an item. Where there is no refusal, the text isn't gone over.
-pub fn sought_in(
-    alloc: Global,
-    decisions: &[Decision],
-    bytes: &[u8],
-) -> Result<Vec<Sought>, AllocError>
-    ensures { IfOk result (λ sought. All IsFound sought.items) }
+/// What the walks of all refusals are about, each with its entries in the logs of the text, of
+/// which a transaction has two at most on an item. Where there is no refusal, the text isn't gone
+/// over.
+pub fn sought_in(alloc: Global, decisions: &[Decision], bytes: &[u8]) -> Result<Sought, AllocError>
+    ensures { IfOk result AreFound }
 {
     let mut sought = unfound_in(alloc, decisions)?;
-    if sought.is_empty() {
+    if sought.found.is_empty() {
         return Ok(sought);
     }
-    let classes = classes_of(alloc, sought.as_slice())?;
-    find_all(&mut sought, classes.as_slice(), bytes);
+    let classes = classes_of(alloc, &sought)?;
+    find_all(&mut sought, classes.as_slice(), bytes)?;
     Ok(sought)
 }
 
 /// What was found of the transaction on the item of a step.
-pub(crate) fn found_of(sought: &[Sought], step: &Step, tx: Tx) -> Sought
-    ensures { IsFoundOf sought.now step.now tx result }
+pub(crate) fn found_of(sought: &Sought, step: &Step, tx: Tx) -> Found
+    ensures { result ≡ found_of sought.now step.now tx }
 {
-    let site = step.label.site.number();
-    let item = step.label.item;
-    let key = unfound(site, item, tx);
-    let at = sought.partition_point(|one| order(one, &key) == Ordering::Less);
-    match sought.get(at) {
-        Some(found) if found.site == site && found.item == item && found.tx == tx => *found,
-        _ => key,
+    let key = (step.label.site.number(), step.label.item, tx);
+    match sought.found.get(&key) {
+        Some(found) => *found,
+        None => nothing(),
     }
 }
 
 /// The entry of the transaction that a step of this kind begins with.
-pub(crate) fn first_of(found: &Sought, kind: Kind) -> Option<Logged>
+pub(crate) fn first_of(found: &Found, kind: Kind) -> Option<Logged>
     ensures { result ≡ begun_by kind found.now }
 {
     match kind {
@@ -231,7 +256,7 @@ pub(crate) fn first_of(found: &Sought, kind: Kind) -> Option<Logged>
 }
 
 /// The entry of the transaction that a step of this kind ends with.
-pub(crate) fn second_of(found: &Sought, kind: Kind) -> Option<Logged>
+pub(crate) fn second_of(found: &Found, kind: Kind) -> Option<Logged>
     ensures { result ≡ ended_by kind found.now }
 {
     match kind {

@@ -11,7 +11,8 @@ use sgt_names::Tx;
 use std::alloc::{AllocError, Global};
 use std::fmt::Write;
 
-/// Why a walk is no cycle through transactions that were committed before. Steps are counted from 1.
+/// Why a walk is no cycle through transactions that were committed before. Steps are counted from
+/// 1.
 #[derive(Clone, Copy)]
 enum Flaw {
     /// It has fewer than two steps.
@@ -22,7 +23,8 @@ enum Flaw {
     Closed { step: usize },
     /// The step leads to a transaction with no decision.
     Undecided { step: usize, tx: Tx },
-    /// The step leads to a transaction that the decision of this number doesn't commit, or not before.
+    /// The step leads to a transaction that the decision of this number doesn't commit, or not
+    /// before.
     NotBefore { step: usize, number: usize },
     /// Some step leads to this transaction, and a later one again.
     Again(Tx),
@@ -180,7 +182,8 @@ fn first_flawed(
 
 /// Whose walk is no cycle.
 fn push_walk_head(out: &mut String, number: usize, tx: Tx) -> Result<(), AllocError>
-    ensures { OnOk result (string_bytes out.new ≡ string_bytes out.old ++ walk_shape_head number tx) }
+    ensures { OnOk result (string_bytes out.new ≡ string_bytes out.old
+        ++ walk_shape_head number tx) }
 {
     write!(
         out,

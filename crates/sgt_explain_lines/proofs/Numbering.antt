@@ -6,7 +6,7 @@ use Rattle.std.proofs.lemmas.Grind.{flat_map-append}
 use Rattle.std.proofs.lemmas.List.{append-nil, drop_all, length-map}
 use Rattle.std.proofs.lemmas.List.Elements.{filter_map-append, recursion_from_All, All-from_recursion, All-append}
 use Rattle.std.proofs.lemmas.List.Sums.{fold-append}
-use Rattle.sgt_names.proofs.Lists.{within_at, drop_next, map_at, All-from_map, All-weaken}
+use Rattle.sgt_names.proofs.Lists.{within_at, drop_next, map_at, middle_at, All-from_map, All-weaken}
 use Rattle.sgt_names.proofs.Places.{All_at}
 use Rattle.sgt_notation.specs.Spelling.{line_text, text_of_lines, HasNoLf, IsLine}
 use Rattle.sgt_notation.specs.Reading.{Reads}
@@ -15,7 +15,7 @@ use Rattle.sgt_notation.specs.declared.SectionLine.{SectionLine}
 use Rattle.sgt_notation.specs.declared.SectionLine.TheVariants.{Site, Initial, Logged, Final, End}
 use Rattle.sgt_notation.proofs.OneSpelling.{cut_at_byte, line-one, line-one_line}
 use Rattle.sgt_explain_lines.specs.declared.section.Section.{Section}
-use Rattle.sgt_explain_lines.specs.Numbered.{IsLineAt, HasLine, with_line, open_lines, with_site, open_site, stated_in, logged_in, items_with, entries_with, IsSectionOf, HasOneMore}
+use Rattle.sgt_explain_lines.specs.Numbered.{IsLineAt, HasLine, with_line, open_lines, with_site, open_site, stated_in, logged_in, final_stated_in, last_line, items_with, entries_with, finals_with, IsSectionOf, HasOneMore}
 
 -- ---- texts
 
@@ -64,7 +64,7 @@ all-passed lines rest now n most is = is ∙ ap (λ ls. text_of_lines ls ++ rest
 line-plain : (l : SectionLine) → IsLine l → HasNoLf (line_text l)
 line-plain l is = All-from_recursion (λ b. b ≢ 10) (line_text l) (line-one_line l is)
 
-lines-plain : (before : List SectionLine) → All IsLine before → All HasNoLf (map line_text before)
+pub lines-plain : (before : List SectionLine) → All IsLine before → All HasNoLf (map line_text before)
 lines-plain before spelled = All-from_map HasNoLf line_text before (All-weaken IsLine (λ l. HasNoLf (line_text l)) before line-plain spelled)
 
 -- a loop's line of a section
@@ -154,6 +154,19 @@ entries-step section n (Initial h) = filter_map-append logged_in section ((n, In
 entries-step section n (Final h) = filter_map-append logged_in section ((n, Final h) ∷ []) ∙ append-nil (filter_map logged_in section)
 entries-step section n End = filter_map-append logged_in section ((n, End) ∷ []) ∙ append-nil (filter_map logged_in section)
 
+finals-step : (section : List (ℕ × SectionLine)) (n : ℕ) (line : SectionLine) → filter_map final_stated_in (with_line section (n, line)) ≡ finals_with (filter_map final_stated_in section) n line
+finals-step section n (Site k) = refl
+finals-step section n (Final h) = filter_map-append final_stated_in section ((n, Final h) ∷ [])
+finals-step section n (Initial h) = filter_map-append final_stated_in section ((n, Initial h) ∷ []) ∙ append-nil (filter_map final_stated_in section)
+finals-step section n (Logged e) = filter_map-append final_stated_in section ((n, Logged e) ∷ []) ∙ append-nil (filter_map final_stated_in section)
+finals-step section n End = filter_map-append final_stated_in section ((n, End) ∷ []) ∙ append-nil (filter_map final_stated_in section)
+
+last-next : (before : List SectionLine) (line : SectionLine) → last_line (before ++ line ∷ []) ≡ Some line
+last-next before line =
+    let long : length (before ++ line ∷ []) ≡ length before + 1 = length-append before (line ∷ []) in
+    let place : length (before ++ line ∷ []) - 1 ≡ length before = omega (arith, long) in
+    ap (slice_get (before ++ line ∷ [])) place ∙ middle_at before line []
+
 pub section-next : (before : List SectionLine) (line : SectionLine) (n : ℕ) (old new : Section) → IsSectionOf before old → n ≡ length before + 3 → HasOneMore old new n line → IsSectionOf (before ++ line ∷ []) new
 section-next before line n old new is at more =
     let number : n ≡ 3 + length before = omega (arith, at) in
@@ -163,4 +176,7 @@ section-next before line n old new is at more =
           ∙ sym (items-step (open_lines before) (3 + length before) line) ∙ ap (filter_map stated_in) (sym (open-next before line));
       entries = more.entries ∙ ap₂ (λ xs k. entries_with xs k line) is.entries number
           ∙ sym (entries-step (open_lines before) (3 + length before) line) ∙ ap (filter_map logged_in) (sym (open-next before line));
+      finals = more.finals ∙ ap₂ (λ xs k. finals_with xs k line) is.finals number
+          ∙ sym (finals-step (open_lines before) (3 + length before) line) ∙ ap (filter_map final_stated_in) (sym (open-next before line));
+      last = more.last ∙ sym (last-next before line);
     }

@@ -26,5 +26,5 @@ cut-off text i b at fits wide =
     ∙ length-append (shown_bytes (take (i + 1) text)) rest in
     record {
       whole = λ le. absurd (omega (arith, one, next, all, le, wide));
-      cut = λ more. (i, fits, refl);
+      cut = λ more. (i, fits, omega (arith, one, next, wide), refl);
     }

@@ -1,5 +1,5 @@
 -- What is said of an entry by the items and the entries before it in its section.
-use Rattle.std.specs.Prelude.{◌≡◌, ℕ, ◌-◌, List, ◌++◌, take, slice_get, All, Contains, codes, decimal, Option, Some, None, IfSome, IfNone, option_map}
+use Rattle.std.specs.Prelude.{◌≡◌, ℕ, ◌-◌, ◌≤◌, List, ◌++◌, length, take, slice_get, All, Contains, codes, decimal, Option, Some, None, IfSome, IfNone, option_map}
 use Rattle.std.specs.Ordering.{nat_cmp}
 use Rattle.std.specs.Cmp.Lexicographic.{slice_cmp}
 use Rattle.std.specs.declared.cmp.Ordering.TheVariants.{Less}
@@ -21,9 +21,10 @@ abbrev pub name_at : List Stated → ℕ → Option Name
 name_at items n = option_map (λ s. s.holding.item) (slice_get items n)
 
 -- of items whose names rise, so many don't come behind the name: the nearest before it is the last of them, and the nearest behind it is the one
--- that follows
+-- that follows. So none is near only where there are no items
 pub record AreNearest (items : List Stated) (x : Name) (before behind : Option Name) : Type 0 where
   pub count : ℕ
+  pub within : count ≤ length items
   pub upto : All (λ s. ComesBefore x s.holding.item → ⊥) (take count items)
   pub last : before ≡ name_at (take count items) (count - 1)
   pub next : behind ≡ name_at items count

@@ -1,5 +1,5 @@
 -- The lines of a text by their numbers, and the section that is open before one of them.
-use Rattle.std.specs.Prelude.{◌≡◌, ◌≢◌, ◌⊎◌, ℕ, ◌+◌, List, [], ◌∷◌, ◌++◌, length, map, fold, All, Option, Some, None}
+use Rattle.std.specs.Prelude.{◌≡◌, ◌≢◌, ◌⊎◌, ℕ, ◌+◌, ◌-◌, List, [], ◌∷◌, ◌++◌, length, map, fold, slice_get, All, Option, Some, None}
 use Rattle.std.specs.List.{filter_map, enumerate_from}
 use Rattle.sgt_names.specs.declared.entry.Entry.{Entry}
 use Rattle.sgt_notation.specs.Spelling.{line_text, text_of_lines, HasNoLf, IsLine}
@@ -39,7 +39,7 @@ with_line section (n, line) = section ++ (n, line) ∷ []
 abbrev pub open_lines : List SectionLine → List (ℕ × SectionLine)
 open_lines before = fold with_line [] (enumerate_from 3 before)
 
--- its site, its items and its entries
+-- its site, its items, its entries and its finals
 abbrev pub with_site : Option ℕ → SectionLine → Option ℕ
 with_site site (Line.Site k) = Some k
 with_site site _ = site
@@ -55,11 +55,22 @@ abbrev pub logged_in : ℕ × SectionLine → Option Logged
 logged_in (n, Line.Logged e) = Some (record { line = n; entry = e })
 logged_in _ = None
 
+abbrev pub final_stated_in : ℕ × SectionLine → Option Stated
+final_stated_in (n, Line.Final h) = Some (record { line = n; holding = h })
+final_stated_in _ = None
+
 abbrev pub numbered_items : List SectionLine → List Stated
 numbered_items before = filter_map stated_in (open_lines before)
 
 abbrev pub numbered_entries : List SectionLine → List Logged
 numbered_entries before = filter_map logged_in (open_lines before)
+
+abbrev pub numbered_finals : List SectionLine → List Stated
+numbered_finals before = filter_map final_stated_in (open_lines before)
+
+-- the last of these lines, of whichever section
+abbrev pub last_line : List SectionLine → Option SectionLine
+last_line before = slice_get before (length before - 1)
 
 -- the entry that a line has, and the site that is open behind it
 abbrev pub entry_in : SectionLine → Option Entry
@@ -75,6 +86,8 @@ pub record IsSectionOf (before : List SectionLine) (section : Section) : Type 0 
   pub site : section.site ≡ open_site before
   pub items : section.items.items ≡ numbered_items before
   pub entries : section.entries.items ≡ numbered_entries before
+  pub finals : section.finals.items ≡ numbered_finals before
+  pub last : section.last ≡ last_line before
 
 -- ---- one more line, for private clauses
 
@@ -88,7 +101,14 @@ entries_with entries n (Line.Site k) = []
 entries_with entries n (Line.Logged e) = entries ++ record { line = n; entry = e } ∷ []
 entries_with entries n _ = entries
 
+abbrev pub finals_with : List Stated → ℕ → SectionLine → List Stated
+finals_with finals n (Line.Site k) = []
+finals_with finals n (Line.Final h) = finals ++ record { line = n; holding = h } ∷ []
+finals_with finals n _ = finals
+
 pub record HasOneMore (old new : Section) (n : ℕ) (line : SectionLine) : Type 0 where
   pub site : new.site ≡ with_site old.site line
   pub items : new.items.items ≡ items_with old.items.items n line
   pub entries : new.entries.items ≡ entries_with old.entries.items n line
+  pub finals : new.finals.items ≡ finals_with old.finals.items n line
+  pub last : new.last ≡ Some line

@@ -1,5 +1,5 @@
 -- How entries and values are written where they are shown.
-use Rattle.std.specs.Prelude.{◌≡◌, ℕ, ◌/◌, ◌%◌, ◌<◌, ◌≤◌, Bool, false, ◌&&◌, List, [], ◌∷◌, ◌++◌, length, take, codes, decimal, flat_map, Option, Some, None, if◌then◌else◌, nat_lt, ◌==◌}
+use Rattle.std.specs.Prelude.{◌≡◌, ℕ, ◌+◌, ◌/◌, ◌%◌, ◌<◌, ◌≤◌, Bool, false, ◌&&◌, List, [], ◌∷◌, ◌++◌, length, take, codes, decimal, flat_map, Option, Some, None, if◌then◌else◌, nat_lt, ◌==◌}
 use Rattle.std.specs.Fmt.{digit_glyph}
 use Rattle.sgt_names.specs.Name.{Name}
 use Rattle.sgt_names.specs.Entry.{tx_of, is_increment}
@@ -36,11 +36,12 @@ shown_byte b =
 abbrev pub shown_bytes : List ℕ → List ℕ
 shown_bytes text = flat_map shown_byte text
 
--- a text as it is shown: whole where it takes at most 71 columns, else a front of it that does, and two dots
+-- a text as it is shown: whole where it takes at most 71 columns, else the longest front of it that does, and two dots
 pub record IsShown (text shown : List ℕ) : Type 0 where
   pub whole : length (shown_bytes text) ≤ 71 → shown ≡ shown_bytes text
   pub cut : 71 < length (shown_bytes text)
-      → (n : ℕ) × (length (shown_bytes (take n text)) ≤ 71) × (shown ≡ shown_bytes (take n text) ++ codes "..")
+      → (n : ℕ) × (length (shown_bytes (take n text)) ≤ 71) × (71 < length (shown_bytes (take (n + 1) text)))
+      × (shown ≡ shown_bytes (take n text) ++ codes "..")
 
 -- a text was shown behind the old one, as a line with its number
 abbrev pub ShowsNumbered : ℕ → List ℕ → (old new : List ℕ) → Type 0

@@ -1,7 +1,9 @@
 //! Two entries of a log in conflict, in words.
 
-ghost use Rattle.std.specs.Prelude.{◌≡◌, ◌≢◌, ◌++◌, IfSome, OnOk, string_bytes};
+ghost use Rattle.std.specs.Prelude.{◌≡◌, ◌≢◌, ◌↔◌, ◌++◌, IfSome, IfNone, IsTrue, OnOk, string_bytes};
+ghost use Rattle.sgt_names.specs.Name.{Name};
 ghost use Rattle.sgt_names.specs.Entry.{Clash, tx_of};
+ghost use Rattle.sgt_explain_lines.specs.Clashing.{InNoConflict};
 ghost use Rattle.sgt_explain_lines.specs.Told.{verb_text, kind_text, order_text, conflict_text};
 
 use crate::section::Logged;
@@ -9,20 +11,30 @@ use sgt_names::{Entry, Item, Kind};
 use std::alloc::AllocError;
 use std::fmt::Write;
 
+/// Whether the second entry is in conflict with the first, on the item, as operations of this kind.
+pub fn is_clash(kind: Kind, item: &Item, first: &Entry, second: &Entry) -> bool
+    ensures { IsTrue result ↔ Clash kind item.now first.now second.now }
+{
+    match kind {
+        Kind::Wr => first.writes(item) && second.reads(item),
+        Kind::Rw => first.reads(item) && second.writes(item),
+        Kind::Ww => {
+            let are_increments = first.is_increment() && second.is_increment();
+            first.writes(item) && second.writes(item) && !are_increments
+        }
+    }
+}
+
 /// The kind of the conflict that the second entry is in with the first, on the item.
 pub fn clash_on(item: &Item, first: &Entry, second: &Entry) -> Option<Kind>
-    ensures { IfSome result (λ kind. Clash kind item.now first.now second.now) }
+    ensures some { IfSome result (λ kind. Clash kind item.now first.now second.now) }
+    ensures none { IfNone result (InNoConflict item.now first.now second.now) }
 {
-    if first.reads(item) && second.writes(item) {
-        return Some(Kind::Rw);
-    }
-    if !first.writes(item) {
-        return None;
-    }
-    if second.reads(item) {
-        return Some(Kind::Wr);
-    }
-    if second.writes(item) && !(first.is_increment() && second.is_increment()) {
+    if is_clash(Kind::Rw, item, first, second) {
+        Some(Kind::Rw)
+    } else if is_clash(Kind::Wr, item, first, second) {
+        Some(Kind::Wr)
+    } else if is_clash(Kind::Ww, item, first, second) {
         Some(Kind::Ww)
     } else {
         None
@@ -34,6 +46,8 @@ pub fn clash_on(item: &Item, first: &Entry, second: &Entry) -> Option<Kind>
 pub fn clash(first: &Entry, second: &Entry) -> Option<(Item, Kind)>
     ensures clash { IfSome result (λ c. Clash c.1 c.0 first.now second.now) }
     ensures apart { IfSome result (λ _. tx_of first.now ≢ tx_of second.now) }
+    ensures none { IfNone result (tx_of first.now ≢ tx_of second.now
+        → (item : Name) → InNoConflict item first.now second.now) }
 {
     let Some(item) = first.item() else {
         return None;

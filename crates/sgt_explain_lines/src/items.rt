@@ -36,6 +36,20 @@ fn push_unlisted(out: &mut String, site: u8, item: Item) -> Result<(), AllocErro
     write!(out, "Item: site {site} has no item {item}\n")
 }
 
+/// The name of an item, as the only one near.
+fn push_one_near(out: &mut String, one: Item) -> Result<(), AllocError>
+    ensures { OnOk result (string_bytes out.new ≡ string_bytes out.old ++ nearest_text (Some one) None) }
+{
+    write!(out, "\nthe nearest by name there: {one}\n")
+}
+
+/// The names of two items, as those near.
+fn push_two_near(out: &mut String, one: Item, other: Item) -> Result<(), AllocError>
+    ensures { OnOk result (string_bytes out.new ≡ string_bytes out.old ++ nearest_text (Some one) (Some other)) }
+{
+    write!(out, "\nthe nearest by name there: {one}, {other}\n")
+}
+
 /// The names of items nearest to one that isn't there.
 fn push_nearest(
     out: &mut String,
@@ -46,9 +60,8 @@ fn push_nearest(
 {
     match (before, behind) {
         (None, None) => out.push_str("\nthe site has no items\n"),
-        (Some(one), None) => write!(out, "\nthe nearest by name there: {one}\n"),
-        (None, Some(one)) => write!(out, "\nthe nearest by name there: {one}\n"),
-        (Some(one), Some(other)) => write!(out, "\nthe nearest by name there: {one}, {other}\n"),
+        (Some(one), None) | (None, Some(one)) => push_one_near(out, one),
+        (Some(one), Some(other)) => push_two_near(out, one, other),
     }
 }
 

@@ -54,6 +54,7 @@ impl Section {
         ensures site { self.new.site ≡ Some site }
         ensures items { self.new.items.items ≡ [] }
         ensures entries { self.new.entries.items ≡ [] }
+        ensures finals { self.new.finals.items ≡ [] }
     {
         self.site = Some(site);
         self.items.clear();

@@ -1,11 +1,11 @@
 //! Lines as they are shown: cut, escaped, with their numbers.
 
-ghost use Rattle.std.specs.Prelude.{◌≡◌, ℕ, List, ◌++◌, OnOk, codes, length, string_bytes};
-ghost use Rattle.sgt_notation.specs.Spelling.{entry_text};
+ghost use Rattle.std.specs.Prelude.{◌≡◌, ℕ, List, ◌++◌, OnOk, codes, decimal, length, string_bytes};
+ghost use Rattle.sgt_notation.specs.Spelling.{operation, entry_text};
 ghost use Rattle.sgt_explain_lines.specs.Told.{margin, bar, hex_text, shown_byte, IsShown, ShowsNumbered, shown_line, gap, noted_line};
 
 use crate::section::Logged;
-use sgt_names::Entry;
+use sgt_names::{Entry, Item, Tx, Value};
 use std::alloc::AllocError;
 use std::fmt::Write;
 
@@ -100,19 +100,39 @@ pub fn push_numbered(out: &mut String, number: u64, text: &[u8]) -> Result<(), A
     out.push_str("\n")
 }
 
+/// The line of an operation with this letter, without an LF.
+fn push_operation(
+    out: &mut String,
+    letter: &str,
+    tx: Tx,
+    item: Item,
+    value: Value,
+) -> Result<(), AllocError>
+    ensures { OnOk result (string_bytes out.new ≡ string_bytes out.old ++ (letter.now ++ operation tx item value)) }
+{
+    write!(out, "{letter}{tx}[{item}]={value}")
+}
+
+/// The line of an end with this letter, without an LF.
+fn push_ending(out: &mut String, letter: &str, tx: Tx) -> Result<(), AllocError>
+    ensures { OnOk result (string_bytes out.new ≡ string_bytes out.old ++ (letter.now ++ decimal tx)) }
+{
+    write!(out, "{letter}{tx}")
+}
+
 /// The line of an entry, without an LF.
 fn push_entry(out: &mut String, entry: &Entry) -> Result<(), AllocError>
     ensures { OnOk result (string_bytes out.new ≡ string_bytes out.old ++ entry_text entry.now) }
 {
     match *entry {
-        Entry::Read { tx, item, value } => write!(out, "r{tx}[{item}]={value}"),
-        Entry::Write { tx, item, value } => write!(out, "w{tx}[{item}]={value}"),
-        Entry::Add { tx, item, value } => write!(out, "d{tx}[{item}]={value}"),
-        Entry::Want { tx, item, value } => write!(out, "p{tx}[{item}]={value}"),
-        Entry::WantAdd { tx, item, value } => write!(out, "q{tx}[{item}]={value}"),
-        Entry::Commit { tx } => write!(out, "c{tx}"),
-        Entry::Refuse { tx } => write!(out, "n{tx}"),
-        Entry::Withdraw { tx } => write!(out, "a{tx}"),
+        Entry::Read { tx, item, value } => push_operation(out, "r", tx, item, value),
+        Entry::Write { tx, item, value } => push_operation(out, "w", tx, item, value),
+        Entry::Add { tx, item, value } => push_operation(out, "d", tx, item, value),
+        Entry::Want { tx, item, value } => push_operation(out, "p", tx, item, value),
+        Entry::WantAdd { tx, item, value } => push_operation(out, "q", tx, item, value),
+        Entry::Commit { tx } => push_ending(out, "c", tx),
+        Entry::Refuse { tx } => push_ending(out, "n", tx),
+        Entry::Withdraw { tx } => push_ending(out, "a", tx),
     }
 }
 

@@ -1,23 +1,26 @@
 -- Entries of two transactions, and the steps of a cycle.
-use Rattle.std.proofs.Common.{◌≡◌, ◌≢◌, ◌⊎◌, inl, inr, Bool, true, false, IsTrue, ℕ, zero, suc, ◌+◌, ◌-◌, ◌<◌, ◌≤◌, List, [], ◌∷◌, ◌++◌, length, take, Option, Some, None, refl, sym, ap, ◌∙◌, subst, arith, All, AllPairs, Contains}
+use Rattle.std.proofs.Common.{◌≡◌, ◌≢◌, ◌⊎◌, inl, inr, Bool, true, false, IsTrue, ℕ, zero, suc, ◌+◌, ◌-◌, ◌<◌, ◌≤◌, List, [], ◌∷◌, ◌++◌, length, take, Option, Some, None, refl, sym, ap, ◌∙◌, subst, arith, All, Any, AllPairs, Contains}
 use Rattle.std.specs.Prelude.{slice_get, option_map}
 use Rattle.std.proofs.lemmas.Bool.{false≢true, cases_order}
 use Rattle.std.proofs.lemmas.List.Quantifiers.{all_pairs_push}
-use Rattle.std.proofs.lemmas.Option.{same_Some, none-some, slice_get_within, slice_get-map}
-use Rattle.sgt_names.proofs.Places.{All_at, AllPairs_at, Contains_at, slice_get-take}
+use Rattle.std.proofs.lemmas.Option.{same_Some, none-some, slice_get_within, slice_get_past, slice_get-map}
+use Rattle.std.proofs.lemmas.List.{length-map}
+use Rattle.sgt_names.proofs.Lists.{Any_at}
+use Rattle.sgt_names.proofs.Places.{All_at, AllPairs_at, Contains_at, slice_get-take, slice_get-take_at}
 use Rattle.sgt_names.specs.Name.{Name}
 use Rattle.sgt_names.specs.Entry.{tx_of, is_increment, IsIncrement, Clash}
 use Rattle.sgt_names.specs.Log.{Conflicts}
 use Rattle.sgt_names.specs.declared.entry.Entry.{Entry}
 use Rattle.sgt_names.specs.declared.entry.Kind.{Kind}
 use Rattle.sgt_names.specs.declared.entry.Kind.TheVariants.{Wr, Rw, Ww}
-use Rattle.sgt_cert.specs.Certificate.{stops, IsCycle}
+use Rattle.sgt_cert.specs.Certificate.{stops, walk_of, IsCycle}
 use Rattle.sgt_cert.specs.declared.certificate.Decision.{Decision}
+use Rattle.sgt_cert.specs.declared.certificate.Decision.TheVariants.{Refuse}
 use Rattle.sgt_cert.specs.declared.certificate.Step.{Step}
 use Rattle.sgt_explain_lines.specs.Values.{entries_of}
 use Rattle.sgt_explain_lines.specs.declared.section.Logged.{Logged as LoggedEntry}
 use Rattle.sgt_explain_steps.specs.Told.{begins_with_read, ends_with_read}
-use Rattle.sgt_explain_steps.specs.Unmet.{Does, ShowsOwn, StandsBefore, AreMisfit}
+use Rattle.sgt_explain_steps.specs.Unmet.{Does, ShowsOwn, StandsBefore, AreMisfit, StepsTo, NoStepAt}
 
 -- ---- no conflict among entries
 
@@ -26,25 +29,36 @@ at-entry [] p e at = absurd (none-some e at)
 at-entry (l ∷ ls) zero e at = (l, refl, same_Some l.entry e at)
 at-entry (l ∷ ls) (suc p) e at = at-entry ls p e at
 
-at-take : {A : Type 0} (xs : List A) (n k : ℕ) (a : A) → k < n → slice_get xs k ≡ Some a → slice_get (take n xs) k ≡ Some a
-at-take xs zero k a less at = absurd (omega (arith, less))
-at-take [] (suc n) k a less at = absurd (none-some a at)
-at-take (x ∷ xs) (suc n) zero a less at = at
-at-take (x ∷ xs) (suc n) (suc k) a less at = at-take xs n k a (omega (arith, less)) at
+-- none of the entries before an entry of the transaction, among so many, is to it otherwise than R
+-- says
+abbrev pub NonePaired : (R : Entry → Entry → Type 0) → ℕ → List LoggedEntry → ℕ → Type 0
+NonePaired R to entries upto = (q : ℕ) (f : LoggedEntry) → q < upto → slice_get entries q ≡ Some f → tx_of f.entry ≡ to
+    → All (λ (l : LoggedEntry). R l.entry f.entry) (take q entries)
 
--- none of the entries is the transaction's and in conflict with this one, as the step says
-abbrev pub NoClash : (from : ℕ) → Step → Entry → List LoggedEntry → Type 0
-NoClash from step second ls = All (λ (l : LoggedEntry). tx_of l.entry ≡ from → Clash step.label.kind step.label.item l.entry second → ⊥) ls
+-- of one entry more
+pub none-more : (R : Entry → Entry → Type 0) (to : ℕ) (entries : List LoggedEntry) (place : ℕ) (here : LoggedEntry) → slice_get entries place ≡ Some here
+    → NonePaired R to entries place → (tx_of here.entry ≡ to → All (λ (l : LoggedEntry). R l.entry here.entry) (take place entries)) → NonePaired R to entries (place + 1)
+none-more R to entries place here there below last q f less at is =
+    elim (cases_order q place) [
+      | inl same ↦ let is_here : f ≡ here = same_Some f here (sym at ∙ ap (slice_get entries) same ∙ there) in
+          subst (λ n. All (λ (l : LoggedEntry). R l.entry f.entry) (take n entries)) (sym same)
+          (subst (λ (g : LoggedEntry). All (λ (l : LoggedEntry). R l.entry g.entry) (take place entries)) (sym is_here)
+          (last (ap (λ (g : LoggedEntry). tx_of g.entry) (sym is_here) ∙ is)))
+      | inr (inl before) ↦ below q f before at is
+      | inr (inr behind) ↦ absurd (omega (arith, less, behind))
+    ]
 
-pub not-met : (entries : List LoggedEntry) (from : ℕ) (step : Step)
-    → ((q : ℕ) (f : LoggedEntry) → q < length entries → slice_get entries q ≡ Some f → tx_of f.entry ≡ step.to → NoClash from step f.entry (take q entries))
-    → Conflicts (entries_of entries) step.label.kind step.label.item from step.to → ⊥
-not-met entries from step none k =
+-- then they have no conflict of a kind that R excludes
+pub none-in : (R : Entry → Entry → Type 0) (entries : List LoggedEntry) (kind : Kind) (x : Name) (from to : ℕ)
+    → ((e f : Entry) → R e f → tx_of e ≡ from → Clash kind x e f → ⊥) → NonePaired R to entries (length entries) → Conflicts (entries_of entries) kind x from to → ⊥
+none-in R entries kind x from to excludes none k =
     let e = at-entry entries k.p k.e k.first in
     let f = at-entry entries k.q k.f k.second in
-    let clash = subst (λ g. Clash step.label.kind step.label.item g f.0.entry) (sym e.2) (subst (λ g. Clash step.label.kind step.label.item k.e g) (sym f.2) k.clash) in
-    All_at (λ (l : LoggedEntry). tx_of l.entry ≡ from → Clash step.label.kind step.label.item l.entry f.0.entry → ⊥) (take k.q entries) k.p e.0
-    (none k.q f.0 (slice_get_within entries k.q f.0 f.1) f.1 (ap tx_of f.2 ∙ k.to)) (at-take entries k.q k.p e.0 k.before e.1) (ap tx_of e.2 ∙ k.from) clash
+    let clash = subst (λ g. Clash kind x g f.0.entry) (sym e.2) (subst (λ g. Clash kind x k.e g) (sym f.2) k.clash) in
+    excludes e.0.entry f.0.entry
+    (All_at (λ (l : LoggedEntry). R l.entry f.0.entry) (take k.q entries) k.p e.0
+    (none k.q f.0 (slice_get_within entries k.q f.0 f.1) f.1 (ap tx_of f.2 ∙ k.to)) (slice_get-take_at entries k.q k.p e.0 k.before e.1))
+    (ap tx_of e.2 ∙ k.from) clash
 
 -- ---- two entries that are no conflict
 
@@ -61,6 +75,27 @@ clash-of Ww x e f own other = elim (both (is_increment e) (is_increment f)) [ in
 
 entry-at : (ls : List LoggedEntry) (p : ℕ) (l : LoggedEntry) → slice_get ls p ≡ Some l → slice_get (entries_of ls) p ≡ Some l.entry
 entry-at ls p l at = slice_get-map (λ (m : LoggedEntry). m.entry) ls p ∙ ap (option_map (λ (m : LoggedEntry). m.entry)) at
+
+-- an entry before another one of the transaction that the step leads to, and in conflict with it as the step says
+pub conflict-there : (entries : List LoggedEntry) (from : ℕ) (step : Step) (place : ℕ) (second : LoggedEntry) → from ≢ step.to → slice_get entries place ≡ Some second
+    → tx_of second.entry ≡ step.to → Any (λ (l : LoggedEntry). StepsTo from step l.entry second.entry) (take place entries)
+    → Conflicts (entries_of entries) step.label.kind step.label.item from step.to
+conflict-there entries from step place second apart at to among =
+    let one = Any_at (λ (l : LoggedEntry). StepsTo from step l.entry second.entry) (take place entries) among in
+    let there = slice_get-take entries place one.0 one.1 one.2 in
+    record {
+      p = one.0;
+      q = place;
+      e = one.1.entry;
+      f = second.entry;
+      before = there.0;
+      first = entry-at entries one.0 one.1 there.1;
+      second = entry-at entries place second at;
+      from = one.3.0;
+      to = to;
+      apart = apart;
+      clash = one.3.1;
+    }
 
 module _ (entries : List LoggedEntry) (from : ℕ) (step : Step) (apart : from ≢ step.to)
     (broken : Conflicts (entries_of entries) step.label.kind step.label.item from step.to → ⊥) (one other : LoggedEntry) (p q : ℕ)
@@ -141,23 +176,10 @@ clash-second Wr x e f clash = clash.1
 clash-second Rw x e f clash = clash.1
 clash-second Ww x e f clash = clash.1
 
--- no entry is in conflict with one that is no second entry of the step
-pub no-clash : (from : ℕ) (step : Step) (second : Entry) (ls : List LoggedEntry) → (Does (ends_with_read step.label.kind) step.label.item second → ⊥) → NoClash from step second ls
-no-clash from step second ls none k d within = λ own clash. none (clash-second step.label.kind step.label.item _ second clash)
-
--- none of one entry more
-pub none-more : (entries : List LoggedEntry) (from : ℕ) (step : Step) (place : ℕ) (here : LoggedEntry) → slice_get entries place ≡ Some here
-    → ((q : ℕ) (f : LoggedEntry) → q < place → slice_get entries q ≡ Some f → tx_of f.entry ≡ step.to → NoClash from step f.entry (take q entries))
-    → (tx_of here.entry ≡ step.to → NoClash from step here.entry (take place entries))
-    → (q : ℕ) (f : LoggedEntry) → q < place + 1 → slice_get entries q ≡ Some f → tx_of f.entry ≡ step.to → NoClash from step f.entry (take q entries)
-none-more entries from step place here there below last q f less at to =
-    elim (cases_order q place) [
-      | inl same ↦ let is : f ≡ here = same_Some f here (sym at ∙ ap (slice_get entries) same ∙ there) in
-          subst (λ n. NoClash from step f.entry (take n entries)) (sym same)
-          (subst (λ (g : LoggedEntry). NoClash from step g.entry (take place entries)) (sym is) (last (ap (λ (g : LoggedEntry). tx_of g.entry) (sym is) ∙ to)))
-      | inr (inl before) ↦ below q f before at to
-      | inr (inr behind) ↦ absurd (omega (arith, less, behind))
-    ]
+-- no entry steps to one that is no second entry of the step
+pub no-step : (from : ℕ) (step : Step) (second : Entry) (ls : List LoggedEntry) → (Does (ends_with_read step.label.kind) step.label.item second → ⊥)
+    → All (λ (l : LoggedEntry). StepsTo from step l.entry second → ⊥) ls
+no-step from step second ls none k d within = λ own. none (clash-second step.label.kind step.label.item _ second own.1)
 
 -- the transaction that a later step starts from
 pub start_later : (tx : ℕ) (walk : List Step) (place : ℕ) (s : Step) → 0 < place → slice_get walk (place - 1) ≡ Some s → slice_get (tx ∷ stops walk) place ≡ Some s.to
@@ -165,3 +187,16 @@ start_later tx walk zero s later at = absurd (omega (arith, later))
 start_later tx walk (suc n) s later at =
     let e : suc n - 1 ≡ n = omega arith in
     slice_get-map (λ (t : Step). t.to) walk n ∙ ap (option_map (λ (t : Step). t.to)) (ap (slice_get walk) (sym e) ∙ at)
+
+-- no step stands at a place from which the walk has none
+pub no-step-at : (decisions : List Decision) (number place tx : ℕ) (walk : List Step) → slice_get decisions number ≡ Some (Refuse tx walk) → length walk ≤ place → NoStepAt decisions number place
+no-step-at decisions number place tx walk at short other steps is =
+    let same : Refuse tx walk ≡ Refuse other steps = same_Some (Refuse tx walk) (Refuse other steps) (sym at ∙ is) in
+    subst (λ (ss : List Step). length ss ≤ place) (same_Some walk steps (ap walk_of same)) short
+
+-- behind the steps of a walk no step starts
+pub start_beyond : (tx : ℕ) (walk : List Step) (place : ℕ) → 0 < place → length walk ≤ place - 1 → None ≡ slice_get (tx ∷ stops walk) place
+start_beyond tx walk zero later short = absurd (omega (arith, later))
+start_beyond tx walk (suc n) later short =
+    let long : length (stops walk) ≡ length walk = length-map walk (λ (t : Step). t.to) in
+    sym (slice_get_past (stops walk) n (omega (arith, long, short)))

@@ -1,15 +1,23 @@
 -- A step of a walk, and what the entries of its site have of it.
-use Rattle.std.specs.Prelude.{◌≡◌, ◌⊎◌, ℕ, ◌<◌, Bool, true, false, List, ◌∷◌, length, All, Contains, Option, Some, IfSome, IfNone, slice_get}
+use Rattle.std.specs.Prelude.{◌≡◌, ◌⊎◌, ℕ, ◌<◌, ◌≤◌, Bool, true, false, List, ◌∷◌, length, All, Contains, Option, Some, IfSome, IfNone, slice_get}
 use Rattle.sgt_names.specs.Name.{Name}
 use Rattle.sgt_names.specs.Entry.{tx_of, Reads, Writes, IsIncrement, Clash}
+use Rattle.sgt_names.specs.Log.{Conflicts}
 use Rattle.sgt_names.specs.declared.entry.Entry.{Entry}
+use Rattle.sgt_names.specs.declared.entry.Kind.{Kind}
 use Rattle.sgt_cert.specs.Certificate.{stops}
 use Rattle.sgt_cert.specs.declared.certificate.Step.{Step}
 use Rattle.sgt_cert.specs.declared.certificate.Decision.{Decision}
 use Rattle.sgt_cert.specs.declared.certificate.Decision.TheVariants.{Refuse}
+use Rattle.sgt_explain_lines.specs.Values.{entries_of}
 use Rattle.sgt_explain_lines.specs.declared.section.Logged.{Logged}
 use Rattle.sgt_explain_steps.specs.declared.unmet.Met.{Met}
 use Rattle.sgt_explain_steps.specs.declared.unmet.Unmet.{Unmet}
+
+-- no refusal of this number has a step at this place of its walk
+abbrev pub NoStepAt : List Decision → (number place : ℕ) → Type 0
+NoStepAt decisions number place = (tx : ℕ) (walk : List Step)
+    → slice_get decisions number ≡ Some (Refuse tx walk) → length walk ≤ place
 
 -- the walk of a refusal, and the step at a place of it with the transaction that it starts from
 pub record IsStepAt (decisions : List Decision) (shown : Unmet) : Type 0 where
@@ -45,12 +53,22 @@ abbrev pub AreMisfit : List Logged → Logged → Logged → Type 0
 AreMisfit entries one other = (IsIncrement one.entry × IsIncrement other.entry)
     ⊎ StandsBefore entries other one
 
+-- the first entry is the transaction's, and in conflict with the second as the step says
+abbrev pub StepsTo : ℕ → Step → Entry → Entry → Type 0
+StepsTo tx step e f = (tx_of e ≡ tx) × Clash step.label.kind step.label.item e f
+
 -- the conflict of the one transaction with the other that is there
 pub record MeetsThere (entries : List Logged) (tx : ℕ) (step : Step) (met : Met) : Type 0 where
   pub clash : Clash met.kind step.label.item met.first.entry met.second.entry
   pub from : tx_of met.first.entry ≡ tx
   pub to : tx_of met.second.entry ≡ step.to
   pub order : StandsBefore entries met.first met.second
+
+-- the conflict shown, of whatever kind, is there; none is shown where there is none
+pub record ShowsOther (entries : List Logged) (tx : ℕ) (step : Step) (shown : Option Met) : Type 0 where
+  pub there : IfSome shown (MeetsThere entries tx step)
+  pub none : IfNone shown ((kind : Kind)
+      → Conflicts (entries_of entries) kind step.label.item tx step.to → ⊥)
 
 -- the step is the same, of the same refusal
 pub record SameStep (found shown : Unmet) : Type 0 where

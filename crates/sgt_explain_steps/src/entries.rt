@@ -1,16 +1,17 @@
 //! What the entries of a site have of a step of a walk.
 
-ghost use Rattle.std.specs.Prelude.{◌≡◌, ◌↔◌, All, Contains, IfSome, IsTrue, IsFalse};
+ghost use Rattle.std.specs.Prelude.{◌≡◌, ◌↔◌, All, Any, Contains, IfSome, IfNone, IsTrue, IsFalse};
 ghost use Rattle.sgt_names.specs.Entry.{tx_of, Clash};
 ghost use Rattle.sgt_names.specs.Log.{Conflicts};
+ghost use Rattle.sgt_explain_lines.specs.Clashing.{InNoConflict};
 ghost use Rattle.sgt_explain_lines.specs.Values.{entries_of};
-ghost use Rattle.sgt_explain_steps.specs.Unmet.{Does, ShowsOwn, MeetsThere};
+ghost use Rattle.sgt_explain_steps.specs.Unmet.{Does, ShowsOwn, StepsTo, MeetsThere, ShowsOther};
 
 use crate::told::ends_with_read;
 use crate::unmet::Met;
 use sgt_cert::Step;
-use sgt_explain_lines::{Logged, clash_on};
-use sgt_names::{Entry, Item, Kind, Tx};
+use sgt_explain_lines::{Logged, clash_on, is_clash};
+use sgt_names::{Entry, Item, Tx};
 
 /// Whether the entry reads the item, or else changes it or asks to.
 fn does(reads: bool, item: &Item, entry: &Entry) -> bool
@@ -44,27 +45,17 @@ pub fn own_in(entries: &[Logged], tx: Tx, item: &Item, reads: bool) -> Option<Lo
 
 /// Whether the first entry is the transaction's, and in conflict with the second as the step says.
 fn clashes(step: &Step, from: Tx, first: &Entry, second: &Entry) -> bool
-    ensures { IsFalse result → tx_of first.now ≡ from
-        → Clash step.now.label.kind step.now.label.item first.now second.now → ⊥ }
+    ensures { IsTrue result ↔ StepsTo from step.now first.now second.now }
 {
-    if first.tx() != from {
-        return false;
-    }
-    let item = &step.label.item;
-    match step.label.kind {
-        Kind::Wr => first.writes(item) && second.reads(item),
-        Kind::Rw => first.reads(item) && second.writes(item),
-        Kind::Ww => {
-            let are_increments = first.is_increment() && second.is_increment();
-            first.writes(item) && second.writes(item) && !are_increments
-        }
-    }
+    first.tx() == from && is_clash(step.label.kind, &step.label.item, first, second)
 }
 
 /// Whether the second entry is of the transaction that the step leads to, and one of these is in conflict with it as the step says.
 fn clashes_with(entries: &[Logged], from: Tx, step: &Step, second: &Entry) -> bool
-    ensures { IsFalse result → tx_of second.now ≡ step.now.to → All (λ l. tx_of l.entry ≡ from
-        → Clash step.now.label.kind step.now.label.item l.entry second.now → ⊥) entries.now }
+    ensures to { IsTrue result → tx_of second.now ≡ step.now.to }
+    ensures among { IsTrue result → Any (λ l. StepsTo from step.now l.entry second.now) entries.now }
+    ensures none { IsFalse result → tx_of second.now ≡ step.now.to
+        → All (λ l. StepsTo from step.now l.entry second.now → ⊥) entries.now }
 {
     let item = &step.label.item;
     if !is_own(second, step.to, item, ends_with_read(step.label.kind)) {
@@ -80,9 +71,12 @@ fn clashes_with(entries: &[Logged], from: Tx, step: &Step, second: &Entry) -> bo
 
 /// Whether these entries have the conflict of the step from this transaction.
 pub fn is_met(entries: &[Logged], from: Tx, step: &Step) -> bool
-    ensures { IsFalse result
-        → Conflicts (entries_of entries.now) step.now.label.kind step.now.label.item from step.now.to → ⊥ }
+    ensures { IsTrue result
+        ↔ Conflicts (entries_of entries.now) step.now.label.kind step.now.label.item from step.now.to }
 {
+    if from == step.to {
+        return false;
+    }
     for (place, second) in entries.iter().enumerate() {
         if clashes_with(&entries[..place], from, step, &second.entry) {
             return true;
@@ -93,9 +87,11 @@ pub fn is_met(entries: &[Logged], from: Tx, step: &Step) -> bool
 
 /// The conflict that the second entry is in with the first, of the transactions of the step and on its item.
 fn met_by(from: Tx, step: &Step, first: &Logged, second: &Logged) -> Option<Met>
-    ensures { IfSome result
+    ensures some { IfSome result
         (λ m. (m.first ≡ first.now) × (m.second ≡ second.now) × (tx_of m.first.entry ≡ from)
         × Clash m.kind step.now.label.item m.first.entry m.second.entry) }
+    ensures none { IfNone result (tx_of first.now.entry ≡ from
+        → InNoConflict step.now.label.item first.now.entry second.now.entry) }
 {
     if first.entry.tx() != from {
         return None;
@@ -118,6 +114,9 @@ fn met_with(entries: &[Logged], from: Tx, step: &Step, second: &Logged) -> Optio
     ensures to { IfSome result (λ m. tx_of m.second.entry ≡ step.now.to) }
     ensures clash { IfSome result
         (λ m. Clash m.kind step.now.label.item m.first.entry m.second.entry) }
+    ensures none { IfNone result (tx_of second.now.entry ≡ step.now.to
+        → All (λ l. tx_of l.entry ≡ from
+        → InNoConflict step.now.label.item l.entry second.now.entry) entries.now) }
 {
     let item = &step.label.item;
     let is_on_it = second.entry.reads(item) || second.entry.writes(item);
@@ -134,7 +133,7 @@ fn met_with(entries: &[Logged], from: Tx, step: &Step, second: &Logged) -> Optio
 
 /// The first conflict of these entries of the transactions of the step and on its item, of whatever kind.
 pub fn met_in(entries: &[Logged], from: Tx, step: &Step) -> Option<Met>
-    ensures { IfSome result (MeetsThere entries.now from step.now) }
+    ensures { ShowsOther entries.now from step.now result }
 {
     for (place, second) in entries.iter().enumerate() {
         if let Some(met) = met_with(&entries[..place], from, step, second) {

@@ -1,11 +1,11 @@
 //! A step of the walk of a refused transaction, with what the entries of its site have of it.
 
-ghost use Rattle.std.specs.Prelude.{◌≡◌, ◌∷◌, Some, IfSome, slice_get};
+ghost use Rattle.std.specs.Prelude.{◌≡◌, ◌∷◌, IfSome, IfNone, slice_get};
 ghost use Rattle.sgt_names.specs.Log.{Conflicts};
 ghost use Rattle.sgt_cert.specs.Certificate.{stops};
 ghost use Rattle.sgt_explain_lines.specs.Values.{entries_of};
 ghost use Rattle.sgt_explain_steps.specs.Told.{begins_with_read, ends_with_read};
-ghost use Rattle.sgt_explain_steps.specs.Unmet.{ShowsOwn, IsStepAt, SameStep, MeetsThere};
+ghost use Rattle.sgt_explain_steps.specs.Unmet.{ShowsOwn, IsStepAt, NoStepAt, SameStep, ShowsOther};
 
 use crate::entries::{is_met, met_in, own_in};
 use crate::told::{begins_with_read, ends_with_read};
@@ -16,7 +16,7 @@ use sgt_names::Tx;
 
 /// The transaction that the step at this place starts from.
 fn start_of(tx: Tx, walk: &[Step], place: usize) -> Option<Tx>
-    ensures { IfSome result (λ from. slice_get (tx ∷ stops walk.now) place ≡ Some from) }
+    ensures { result ≡ slice_get (tx ∷ stops walk.now) place }
 {
     if place == 0 {
         return Some(tx);
@@ -31,7 +31,9 @@ fn start_of(tx: Tx, walk: &[Step], place: usize) -> Option<Tx>
 
 /// The step at this place of the walk of this decision, with none of its entries yet.
 pub fn step_at(decisions: &[Decision], number: usize, place: usize) -> Option<Unmet>
-    ensures { IfSome result (IsStepAt decisions.now) }
+    ensures there { IfSome result (IsStepAt decisions.now) }
+    ensures asked { IfSome result (λ u. (u.number ≡ number) × (u.place ≡ place)) }
+    ensures none { IfNone result (NoStepAt decisions.now number place) }
 {
     let Some(decision) = decisions.get(number) else {
         return None;
@@ -68,7 +70,9 @@ pub fn with_entries(unmet: &Unmet, entries: &[Logged]) -> Option<Unmet>
     ensures second { IfSome result (λ u.
         ShowsOwn entries.now u.step.to
         (ends_with_read u.step.label.kind) u.step.label.item u.second) }
-    ensures other { IfSome result (λ u. IfSome u.other (MeetsThere entries.now u.from u.step)) }
+    ensures other { IfSome result (λ u. ShowsOther entries.now u.from u.step u.other) }
+    ensures met { IfNone result (Conflicts (entries_of entries.now)
+        unmet.now.step.label.kind unmet.now.step.label.item unmet.now.from unmet.now.step.to) }
 {
     let from = unmet.from;
     let step = &unmet.step;

@@ -3,7 +3,7 @@ use Rattle.std.specs.Prelude.{IfSome}
 use Rattle.sgt_names.specs.Log.{Conflicts}
 use Rattle.sgt_explain_lines.specs.Values.{entries_of}
 use Rattle.sgt_explain_steps.specs.Told.{begins_with_read, ends_with_read}
-use Rattle.sgt_explain_steps.specs.Unmet.{ShowsOwn, MeetsThere}
+use Rattle.sgt_explain_steps.specs.Unmet.{ShowsOwn, ShowsOther}
 use Rattle.sgt_explain.specs.Steps.{IsWhole}
 use Rattle.sgt_explain.proofs.Telling.{some-if}
 use Rattle.sgt_explain.proofs.ShownSteps.{step-there}
@@ -20,4 +20,4 @@ returns-in-Some c = λ before line h.
     (subst (λ es. IfSome found (λ u. Conflicts (entries_of es) u.step.label.kind u.step.label.item u.from u.step.to → ⊥)) entries e.broken)
     (subst (λ es. IfSome found (λ u. ShowsOwn es u.from (begins_with_read u.step.label.kind) u.step.label.item u.first)) entries e.first)
     (subst (λ es. IfSome found (λ u. ShowsOwn es u.step.to (ends_with_read u.step.label.kind) u.step.label.item u.second)) entries e.second)
-    (subst (λ es. IfSome found (λ u. IfSome u.other (MeetsThere es u.from u.step))) entries e.other)
+    (subst (λ es. IfSome found (λ u. ShowsOther es u.from u.step u.other)) entries e.other)

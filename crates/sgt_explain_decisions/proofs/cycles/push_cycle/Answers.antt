@@ -1,8 +1,8 @@
 use Rattle.std.proofs.Common.{◌++◌, List, ap, sym, subst, ◌∙◌, take, take_all, arith, append_assoc}
-use Rattle.std.specs.Prelude.{IfSome, string_bytes}
+use Rattle.std.specs.Prelude.{string_bytes}
 use Rattle.sgt_names.proofs.Lists.{element_at, take_next}
 use Rattle.sgt_cert.specs.declared.certificate.Step.{Step}
-use Rattle.sgt_explain_decisions.specs.Cycles.{IsShownStep, step_text, last_stop, TellsCycle}
+use Rattle.sgt_explain_decisions.specs.Cycles.{Shows, step_text, last_stop, TellsCycle}
 use Rattle.sgt_explain_decisions.proofs.Telling.{last_stop-next, cycle-next}
 use Rattle.sgt_explain_decisions.proofs.cycles.push_cycle.Goals as goal
 
@@ -18,7 +18,7 @@ loop-step-preserved c =
     let shown = c.shown_by-shown.result in
     let text = step_text (last_stop tx (take i walk)) s shown in
     let next = sym (take_next walk i s (element_at walk i s (omega arith) c.step-item.is)) in
-    let there = subst (λ k. IfSome shown (λ two. IsShownStep sought k s two.0 two.1)) so_far.from c.shown_by-shown.ensures in
+    let there = subst (λ k. Shows sought k s shown) so_far.from c.shown_by-shown.ensures in
     record {
       from = sym (last_stop-next tx (take i walk) s) ∙ ap (last_stop tx) next;
       told = (

@@ -1,16 +1,14 @@
-use Rattle.std.proofs.Common.{Some, ap, ◌∙◌, arith}
-use Rattle.sgt_names.proofs.Lists.{element_at}
-use Rattle.sgt_cert.specs.Certificate.{decided_tx}
-use Rattle.sgt_explain_decisions.proofs.Placing.{refusal}
+use Rattle.std.proofs.Common.{arith, rules}
+use Rattle.sgt_names.proofs.Lists.{element_at, All-next, All-whole}
+use Rattle.sgt_explain_decisions.specs.Cycles.{IsShownWhole}
 use Rattle.sgt_explain_decisions.proofs.cycles.unmet_in.Goals as goal
 
-pub returns-in-Some-first_unmet : goal.returns-in-Some-first_unmet
-returns-in-Some-first_unmet c =
-    let d = c.index-decisions-number.result in
+pub loop-number-preserved : goal.loop-number-preserved
+loop-number-preserved c =
+    let ds = c.args.decisions.now in
     let n = c.loop-number.number in
-    let walk = c.in-Some.walk.now in (
-      decided_tx d,
-      walk,
-      element_at c.args.decisions.now n d (omega arith) c.index-decisions-number.is ∙ ap Some (refusal d walk c.in-Some.ensures),
-      c.in-Some-first_unmet.ensures,
-    )
+    let d = c.index-decisions-number.result in
+    All-next (IsShownWhole c.args.sought.now) ds n d (element_at ds n d (omega arith) c.index-decisions-number.is) (search rules) c.loop-number.invariant
+
+pub returns-clause-none : goal.returns-clause-none
+returns-clause-none c = All-whole (IsShownWhole c.args.sought.now) c.args.decisions.now c.loop-number.number (omega (arith, c.loop-number-test.false)) c.loop-number.invariant

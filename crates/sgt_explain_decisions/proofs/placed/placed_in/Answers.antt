@@ -1,5 +1,7 @@
-use Rattle.std.proofs.Common.{◌++◌, ◌∷◌, [], List, sym, ap, ap₂, ◌∙◌, subst, arith, take_all}
+use Rattle.std.proofs.Common.{rules, ◌++◌, ◌∷◌, [], List, sym, ap, ap₂, ◌∙◌, subst, arith, take_all}
 use Rattle.std.specs.Prelude.{IsPermutation}
+use Rattle.std.proofs.lemmas.Fn.{always_returns_same}
+use Rattle.std.proofs.lemmas.List.Sorted.{IsNonDecreasingBy-from_sort}
 use Rattle.sgt_names.proofs.Lists.{element_at}
 use Rattle.sgt_explain_decisions.specs.Placed.{all_placed}
 use Rattle.sgt_explain_decisions.specs.declared.placed.Placed.{Placed}
@@ -17,5 +19,8 @@ loop-number-preserved c =
 pub returns : goal.returns
 returns c =
     let decisions = c.args.decisions.now in
-    subst (λ (ps : List Placed). IsPermutation ps c.sort_by_key.new.self.items) (c.loop-number.invariant ∙ ap all_placed (take_all c.loop-number.number decisions (omega (arith, c.loop-number-test.false))))
-    c.in_ok-sort_by_key.ensures.permutation
+    let facts = c.in_ok-sort_by_key.ensures in
+    record {
+      all = subst (λ (ps : List Placed). IsPermutation ps c.sort_by_key.new.self.items) (c.loop-number.invariant ∙ ap all_placed (take_all c.loop-number.number decisions (omega (arith, c.loop-number-test.false)))) facts.permutation;
+      rising = IsNonDecreasingBy-from_sort (λ (p : Placed). p.tx) c.sort_by_key.new.self.items (facts.sorted (λ (p : Placed). p.tx) (always_returns_same _ _ _ (λ a r g called. (search rules, search rules))));
+    }

@@ -1,0 +1,229 @@
+//! What one transaction did: its entries at each site, and its conflicts.
+
+ghost use Rattle.std.specs.Prelude.{◌≡◌, ◌++◌, None, All, IfOk, OnOk, string_bytes};
+ghost use Rattle.sgt_explain_lines.specs.Told.{Adds};
+ghost use Rattle.sgt_explain_dealings.specs.Dealings.{IsOwn, site_if_new, one_text, own_text, own_head, TellsDealings};
+
+use sgt_explain_lines::{Logged, clash, cut_line, entry_of, push_conflict, push_logged};
+use sgt_names::{Entry, Item, Tx};
+use std::alloc::{AllocError, Global};
+use std::cmp::Ordering;
+use std::fmt::Write;
+
+/// How many conflicts are shown; the others are counted.
+const MOST_SHOWN: u64 = 40;
+
+/// An entry of the transaction at a site.
+#[derive(Clone, Copy)]
+pub struct Own {
+    pub site: u8,
+    pub logged: Logged,
+}
+
+/// The entry of a line of a section. Lines 1 and 2 are none.
+fn entry_at(site: &mut u8, line: u64, text: &[u8]) -> Option<Entry> {
+    if line > 2 { entry_of(site, text) } else { None }
+}
+
+/// The entries of the transaction in the lines before this one.
+fn own_in(alloc: Global, bytes: &[u8], end: u64, tx: Tx) -> Result<Vec<Own>, AllocError>
+    ensures { IfOk result (λ own. All (IsOwn tx) own.items) }
+{
+    let mut own = Vec::new(alloc);
+    let mut site = 0u8;
+    let mut rest = bytes;
+    for line in 1..end {
+        let (text, behind) = cut_line(rest);
+        match entry_at(&mut site, line, text) {
+            Some(entry) if entry.tx() == tx => own.push(Own {
+                site,
+                logged: Logged { line, entry },
+            })?,
+            _ => {}
+        }
+        rest = behind;
+        if rest.is_empty() {
+            break;
+        }
+    }
+    Ok(own)
+}
+
+/// The site of an entry, where that isn't the last one.
+fn push_site(out: &mut String, last: Option<u8>, site: u8) -> Result<(), AllocError>
+    ensures { OnOk result (string_bytes out.new ≡ string_bytes out.old ++ site_if_new last site) }
+{
+    if last == Some(site) {
+        out.push_str("")
+    } else {
+        write!(out, "site {site}\n")
+    }
+}
+
+/// An entry, behind its site where that isn't the last one.
+fn push_one_own(out: &mut String, last: Option<u8>, own: &Own) -> Result<(), AllocError>
+    ensures { OnOk result (string_bytes out.new ≡ string_bytes out.old ++ one_text last own.now) }
+{
+    push_site(out, last, own.site)?;
+    push_logged(out, &own.logged)?;
+    out.push_str("\n")
+}
+
+/// The entries, site by site.
+fn push_own(out: &mut String, own: &[Own]) -> Result<(), AllocError>
+    ensures { OnOk result (string_bytes out.new ≡ string_bytes out.old ++ own_text None own.now) }
+{
+    let mut last: Option<u8> = None;
+    for one in own {
+        push_one_own(out, last, one)?;
+        last = Some(one.site);
+    }
+    Ok(())
+}
+
+/// The entries on items, by site and item.
+fn by_item(alloc: Global, own: &[Own]) -> Result<Vec<Own>, AllocError> {
+    let mut sorted = Vec::new(alloc);
+    for one in own {
+        if one.logged.entry.item().is_some() {
+            sorted.push(*one)?;
+        }
+    }
+    sorted.sort_by_key(|one| (one.site, one.logged.entry.item()))?;
+    Ok(sorted)
+}
+
+fn order(one: &Own, site: u8, item: &Item) -> Ordering {
+    one.site
+        .cmp(&site)
+        .then(one.logged.entry.item().cmp(&Some(*item)))
+}
+
+/// Whether the transaction has an entry on the item, and the first of them.
+fn first_on(sorted: &[Own], site: u8, item: &Item) -> usize {
+    sorted.partition_point(|one| order(one, site, item) == Ordering::Less)
+}
+
+/// A conflict of an entry with one of the transaction's, in the order of the log. Whether there
+/// was one.
+fn push_pair(
+    out: &mut String,
+    own: &Own,
+    item: &Item,
+    other: &Logged,
+    shows: bool,
+) -> Result<bool, AllocError>
+    ensures { OnOk result (Adds (string_bytes out.old) (string_bytes out.new)) }
+{
+    let (first, second) = if own.logged.line < other.line {
+        (own.logged, *other)
+    } else {
+        (*other, own.logged)
+    };
+    if clash(&first.entry, &second.entry).is_none() {
+        return Ok(false);
+    }
+    if shows {
+        out.push_str("  ")?;
+        push_conflict(out, own.site, item, &first, &second)?;
+        out.push_str("\n")?;
+    }
+    Ok(true)
+}
+
+/// The conflicts of an entry with those of the transaction on its item, of which there are two at
+/// most.
+fn push_pairs(
+    out: &mut String,
+    sorted: &[Own],
+    site: u8,
+    other: &Logged,
+    count: &mut u64,
+) -> Result<(), AllocError>
+    ensures { OnOk result (Adds (string_bytes out.old) (string_bytes out.new)) }
+{
+    let Some(item) = other.entry.item() else {
+        return Ok(());
+    };
+    let from = first_on(sorted, site, &item);
+    for at in from..from.saturating_add(2) {
+        match sorted.get(at) {
+            Some(own) if order(own, site, &item) == Ordering::Equal => {
+                if push_pair(out, own, &item, other, *count < MOST_SHOWN)? {
+                    *count = count.saturating_add(1);
+                }
+            }
+            _ => return Ok(()),
+        }
+    }
+    Ok(())
+}
+
+/// The conflicts of the transaction in the lines before this one: how many there are.
+fn push_conflicts(
+    out: &mut String,
+    sorted: &[Own],
+    bytes: &[u8],
+    end: u64,
+) -> Result<u64, AllocError>
+    ensures { OnOk result (Adds (string_bytes out.old) (string_bytes out.new)) }
+{
+    let mut count = 0u64;
+    let mut site = 0u8;
+    let mut rest = bytes;
+    for line in 1..end {
+        let (text, behind) = cut_line(rest);
+        if let Some(entry) = entry_at(&mut site, line, text) {
+            push_pairs(out, sorted, site, &Logged { line, entry }, &mut count)?;
+        }
+        rest = behind;
+        if rest.is_empty() {
+            break;
+        }
+    }
+    Ok(count)
+}
+
+/// How many conflicts there are, where not all were shown.
+fn push_count(out: &mut String, count: u64) -> Result<(), AllocError>
+    ensures { OnOk result (Adds (string_bytes out.old) (string_bytes out.new)) }
+{
+    match count {
+        0 => out.push_str("  with nobody\n"),
+        _ if count > MOST_SHOWN => {
+            let more = count.saturating_sub(MOST_SHOWN);
+            writeln!(out, "  and {more} more")
+        }
+        _ => out.push_str(""),
+    }
+}
+
+/// The entries of the transaction, and the words before its conflicts.
+fn push_own_head(out: &mut String, own: &[Own]) -> Result<(), AllocError>
+    ensures { OnOk result (string_bytes out.new ≡ string_bytes out.old ++ own_head own.now) }
+{
+    push_own(out, own)?;
+    out.push_str("in conflict:\n")
+}
+
+/// What the transaction did in the lines before this one: its entries at each site with their
+/// lines, and its conflicts with other transactions, each in its direction. Forty conflicts are
+/// shown, and the others counted.
+pub fn push_dealings(
+    alloc: Global,
+    out: &mut String,
+    bytes: &[u8],
+    end: u64,
+    tx: Tx,
+) -> Result<(), AllocError>
+    ensures { OnOk result (TellsDealings tx (string_bytes out.old) (string_bytes out.new)) }
+{
+    let own = own_in(alloc, bytes, end, tx)?;
+    if own.is_empty() {
+        return out.push_str("it has no entry\n");
+    }
+    push_own_head(out, own.as_slice())?;
+    let sorted = by_item(alloc, own.as_slice())?;
+    let count = push_conflicts(out, sorted.as_slice(), bytes, end)?;
+    push_count(out, count)
+}

@@ -1,0 +1,36 @@
+-- Entries that stand against the ranks, and those that don't.
+use Rattle.std.proofs.Common.{◌≡◌, inl, inr, subst, arith}
+use Rattle.std.proofs.lemmas.Bool.{cases_order}
+use Rattle.sgt_names.specs.Name.{Name}
+use Rattle.sgt_names.specs.Entry.{tx_of}
+use Rattle.sgt_names.specs.declared.entry.Kind.{Kind}
+use Rattle.sgt_cert.specs.Certificate.{IsCommitted, IsDecidedOnce}
+use Rattle.sgt_cert.specs.Valid.{RiseInRank}
+use Rattle.sgt_cert.specs.declared.certificate.Decision.{Decision}
+use Rattle.std.specs.Prelude.{List}
+use Rattle.sgt_explain_lines.specs.declared.section.Logged.{Logged}
+use Rattle.sgt_explain_decisions.specs.Against.{StandAgainst}
+use Rattle.sgt_explain_decisions.specs.Placed.{IsUncommitted}
+use Rattle.sgt_explain_decisions.specs.declared.order.Ranked.{Ranked}
+use Rattle.sgt_explain_decisions.proofs.Placing.{one-rank}
+
+-- an entry of a transaction that isn't committed stands against nothing, and nothing against it
+pub rise-first : (ds : List Decision) (one other : Logged) → IsUncommitted ds (tx_of one.entry) → RiseInRank ds one.entry other.entry
+rise-first ds one other none kind x m n r s clash apart is its = absurd (none m r is)
+
+pub rise-second : (ds : List Decision) (one other : Logged) → IsUncommitted ds (tx_of other.entry) → RiseInRank ds one.entry other.entry
+rise-second ds one other none kind x m n r s clash apart is its = absurd (none n s its)
+
+-- entries whose ranks don't stand against each other
+pub rise-ranked : (ds : List Decision) (one : Logged) (first second : Ranked) → first.logged ≡ one → IsDecidedOnce ds
+    → IsCommitted ds first.number (tx_of first.logged.entry) first.rank → IsCommitted ds second.number (tx_of second.logged.entry) second.rank
+    → ((kind : Kind) (item : Name) → StandAgainst first second kind item → ⊥) → RiseInRank ds one.entry second.logged.entry
+rise-ranked ds one first second same once own other none =
+    subst (λ (l : Logged). RiseInRank ds l.entry second.logged.entry) same (λ kind x m n r s clash apart is its.
+    let a = one-rank ds (tx_of first.logged.entry) m first.number r first.rank once is own in
+    let b = one-rank ds (tx_of second.logged.entry) n second.number s second.rank once its other in
+    elim (cases_order r s) [
+      | inl even ↦ absurd (none kind x (record { clash = clash; apart = apart; falls = omega (arith, a, b, even) }))
+      | inr (inl rises) ↦ rises
+      | inr (inr falls) ↦ absurd (none kind x (record { clash = clash; apart = apart; falls = omega (arith, a, b, falls) }))
+    ])

@@ -1,6 +1,0 @@
-use Rattle.std.proofs.Common.{All}
-use Rattle.sgt_explain_decisions.specs.Dealings.{IsOwn}
-use Rattle.sgt_explain_decisions.proofs.dealings.own_in.Given as goal
-
-abbrev pub invariant-loop-line : goal.invariant-loop-line
-invariant-loop-line l = All (IsOwn l.tx) l.own.items
