@@ -1,4 +1,5 @@
 pub mod Examples
 pub mod Numbers
 pub mod OneWord
+pub mod ThreeWords
 pub mod Helping

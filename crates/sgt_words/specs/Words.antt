@@ -1,11 +1,11 @@
 -- What the words of the command line ask for.
-use Rattle.std.specs.Prelude.{◌≡◌, ◌≢◌, ◌<◌, ◌≤◌, ℕ, ◌⊎◌, Any, List, [], ◌∷◌, ◌++◌, drop, take, codes, length, string_bytes, ⊤}
+use Rattle.std.specs.Prelude.{◌≡◌, ◌≢◌, ◌<◌, ◌≤◌, ℕ, ◌⊎◌, Any, List, [], ◌∷◌, ◌++◌, Some, drop, take, codes, length, string_bytes, ⊤}
 use Rattle.clap.specs.declared.error.kind.ErrorKind.{ErrorKind}
 use Rattle.clap.specs.declared.error.kind.ErrorKind.TheVariants.{DisplayHelp, DisplayVersion}
 use Rattle.sgt_explain.specs.Topics.{topic_name}
-use Rattle.sgt_words.specs.Options.{SaysRun}
+use Rattle.sgt_words.specs.Options.{ReadsNumber, SaysRun, max_workers}
 use Rattle.sgt_words.specs.declared.choice.Choice.{Choice}
-use Rattle.sgt_words.specs.declared.choice.Choice.TheVariants.{Audit, Certify, Draw, DrawWith, Explain, Replay, Rule, Run, Serial, Transaction}
+use Rattle.sgt_words.specs.declared.choice.Choice.TheVariants.{Audit, AuditWith, Certify, Draw, DrawWith, Explain, Replay, Rule, Run, Serial, Transaction}
 use Rattle.sgt_words.specs.declared.choice.NoChoice.{NoChoice}
 use Rattle.sgt_words.specs.declared.choice.NoChoice.TheVariants.{Help, Usage, Memory}
 
@@ -13,9 +13,20 @@ use Rattle.sgt_words.specs.declared.choice.NoChoice.TheVariants.{Help, Usage, Me
 abbrev pub AsksAudit : List (List ℕ) → Type 0
 AsksAudit words = (drop 1 words ≡ []) ⊎ (drop 1 words ≡ codes "audit" ∷ [])
 
+-- the text is this number of workers
+abbrev pub SaysWorkers : List ℕ → ℕ → Type 0
+SaysWorkers text n = ReadsNumber (Some text) n × (1 ≤ n) × (n ≤ max_workers)
+
+-- the words ask for the audit by so many workers: behind the program's name stands
+-- `audit --workers` with the number
+abbrev pub AsksWorkers : List (List ℕ) → ℕ → Type 0
+AsksWorkers words n = (text : List ℕ)
+    × (drop 1 words ≡ codes "audit" ∷ codes "--workers" ∷ text ∷ []) × SaysWorkers text n
+
 -- the name of a command
 abbrev pub name_of : Choice → List ℕ
 name_of Audit = codes "audit"
+name_of (AuditWith workers) = codes "audit"
 name_of Serial = codes "serial"
 name_of Replay = codes "replay"
 name_of Certify = codes "certify"
@@ -29,6 +40,7 @@ name_of (Run workers tries) = codes "run"
 -- a command without options
 abbrev pub IsPlain : Choice → Type 0
 IsPlain (Run workers tries) = ⊥
+IsPlain (AuditWith workers) = ⊥
 IsPlain (Transaction tx) = ⊥
 IsPlain (Rule topic) = ⊥
 IsPlain (DrawWith tx is_dot) = ⊥
@@ -70,6 +82,7 @@ NamesDraw words = take 1 (drop 1 words) ≡ codes "draw" ∷ []
 -- the words ask for this, by a command without options
 abbrev pub AsksPlain : List (List ℕ) → Choice → Type 0
 AsksPlain words Audit = AsksAudit words
+AsksPlain words (AuditWith workers) = ⊥
 AsksPlain words (Run workers tries) = ⊥
 AsksPlain words (Transaction tx) = ⊥
 AsksPlain words (Rule topic) = ⊥
@@ -79,6 +92,7 @@ AsksPlain words choice = AsksNamed words choice
 -- the words ask for this
 abbrev pub AsksFor : List (List ℕ) → Choice → Type 0
 AsksFor words Audit = AsksAudit words
+AsksFor words (AuditWith workers) = AsksWorkers words workers
 AsksFor words (Run workers tries) = AsksRun words workers tries
 AsksFor words (Transaction tx) = AsksMore words (Transaction tx)
 AsksFor words (Rule topic) = AsksMore words (Rule topic)

@@ -2,10 +2,11 @@
 
 ghost use Rattle.std.specs.Prelude.{◌≡◌, ◌⊎◌, ◌↔◌, ◌∷◌, ◌≤◌, [], ℕ, Ok, Err, Some, IfOk, IfErr, IfSome, IsTrue, drop, length, map, string_bytes};
 ghost use Rattle.sgt_words.specs.private.More.{IsDrawWith, SaysMore};
-ghost use Rattle.sgt_words.specs.Words.{AsksAudit, AsksFor, AsksMore, AsksPlain, AsksRun, HasText, IsPlain, NamesDraw, NamesExplain, NamesRun, TellsHelp, name_of};
+ghost use Rattle.sgt_words.specs.Words.{AsksAudit, AsksFor, AsksMore, AsksPlain, AsksRun, AsksWorkers, HasText, IsPlain, NamesDraw, NamesExplain, NamesRun, TellsHelp, name_of};
 
 use crate::line::no_choice;
 use crate::options::choose_run;
+use crate::workers::audit_workers;
 use sgt_explain::Topic;
 use sgt_names::Tx;
 use std::alloc::{AllocError, Global};
@@ -15,6 +16,8 @@ use std::alloc::{AllocError, Global};
 pub enum Choice {
     /// Judge a bundle.
     Audit,
+    /// The same, with so many sections judged at once.
+    AuditWith { workers: u64 },
     /// Judge a bundle, and run it serially where it is valid.
     Serial,
     /// Serve events, and write what is answered and the bundle that they leave.
@@ -222,10 +225,8 @@ fn choose_draw(alloc: Global, words: &[String]) -> Result<Choice, NoChoice>
     }
 }
 
-/// What the words ask for; the first word is the program's name. The options of `run` are read by clap, `explain` may have a
-/// rule's name or `--tx N` behind it, and `draw` `--tx N` and `--dot`; else a command stands alone. Other words are help or no
-/// command.
-pub fn choose(alloc: Global, words: &[String]) -> Result<Choice, NoChoice>
+// What the words ask for, which name no number of workers for an audit.
+fn choose_other(alloc: Global, words: &[String]) -> Result<Choice, NoChoice>
     ensures audit { AsksAudit (map string_bytes words.now) → result ≡ Ok Choice.Audit }
     ensures plain { (choice : Choice) → IsPlain choice
         → drop 1 (map string_bytes words.now) ≡ name_of choice ∷ [] → result ≡ Ok choice }
@@ -240,5 +241,26 @@ pub fn choose(alloc: Global, words: &[String]) -> Result<Choice, NoChoice>
         _ if names_explain(words) => choose_explain(alloc, words),
         _ if names_draw(words) => choose_draw(alloc, words),
         _ => choose_plain(alloc, words),
+    }
+}
+
+/// What the words ask for; the first word is the program's name. The options of `run` are read by clap, `audit` may have
+/// `--workers N` behind it, `explain` a rule's name or `--tx N`, and `draw` `--tx N` and `--dot`; else a command stands alone. Other
+/// words are help or no command.
+pub fn choose(alloc: Global, words: &[String]) -> Result<Choice, NoChoice>
+    ensures audit { AsksAudit (map string_bytes words.now) → result ≡ Ok Choice.Audit }
+    ensures workers { (workers : ℕ) → AsksWorkers (map string_bytes words.now) workers
+        → result ≡ Ok (Choice.AuditWith workers) }
+    ensures plain { (choice : Choice) → IsPlain choice
+        → drop 1 (map string_bytes words.now) ≡ name_of choice ∷ [] → result ≡ Ok choice }
+    ensures run { (workers tries : ℕ) → AsksRun (map string_bytes words.now) workers tries
+        → (result ≡ Ok (Choice.Run workers tries)) ⊎ (result ≡ Err NoChoice.Memory) }
+    ensures only { IfOk result (AsksFor (map string_bytes words.now)) }
+    ensures text { IfErr result HasText }
+    ensures help { IfErr result (TellsHelp (map string_bytes words.now)) }
+{
+    match audit_workers(words) {
+        Some(workers) => Ok(Choice::AuditWith { workers }),
+        None => choose_other(alloc, words),
     }
 }

@@ -5,5 +5,6 @@ mod choice;
 mod commands;
 mod line;
 mod options;
+mod workers;
 
 pub use choice::{Choice, NoChoice, choose};

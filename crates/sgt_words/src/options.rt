@@ -13,7 +13,8 @@ use clap::builder::ValueParser;
 use clap::{Arg, ArgMatches, Command};
 use std::alloc::{AllocError, Global};
 
-const MAX_WORKERS: u64 = 16;
+/// The most workers of an audit or a run.
+pub const MAX_WORKERS: u64 = 16;
 
 const MAX_TRIES: u64 = 4;
 

@@ -3,7 +3,7 @@ use Rattle.std.specs.Prelude.{IfErr}
 use Rattle.sgt_words.specs.Options.{SaysRun}
 use Rattle.sgt_words.specs.Words.{AsksHelp, IsHelp}
 use Rattle.sgt_words.proofs.OneWord.{map_rest}
-use Rattle.sgt_words.proofs.choice.choose.Goals as goal
+use Rattle.sgt_words.proofs.choice.choose_other.Goals as goal
 
 pub returns-in-len1-up-clause-run : goal.returns-in-len1-up-clause-run
 returns-in-len1-up-clause-run c = λ workers tries asks.
