@@ -36,7 +36,7 @@ returns-in-Err-2-clause-verdict g c =
     let second = c.in-Ok.second in
     let fault = c.in-Err-2.fault in
     let front = line-told max_line _ _ c.next_line.new.line.items (format_line second) (sym c.as_slice.ensures.value ∙ c.in-Ok.ensures.format.1) first.gives in
-    behind-first _ _ second (λ bytes. FirstFault bytes 2 fault) front
-    (next-told 18446744073709551615 _ _ c.in_ok-next.next c.next_line-2.new.line.items (λ bytes. FirstFault (text_of_lines (format_line second ∷ []) ++ bytes) 2 fault) c.in_ok-next.ensures.gave.gives
+    behind-first (coming c.args.lines.now (g.R.Source.tells c.args.reader.now)) (coming c.next_line.new.lines (g.R.Source.tells c.next_line.new.reader)) second (λ bytes. FirstFault bytes 2 fault) front
+    (next-told 18446744073709551615 (coming c.next_line.new.lines (g.R.Source.tells c.next_line.new.reader)) (coming c.next_line-2.new.lines (g.R.Source.tells c.next_line-2.new.reader)) c.in_ok-next.next c.next_line-2.new.line.items (λ bytes. FirstFault (text_of_lines (format_line second ∷ []) ++ bytes) 2 fault) c.in_ok-next.ensures.gave.gives
     (λ bytes rest is. rw c.in-Err-2.is at (c.in_ok-head.ensures.fault bytes rest (c.in_ok-next.ensures.gave.unlimited refl)
     (subst (λ (l : List ℕ). IsNext 18446744073709551615 bytes c.in_ok-next.next l rest) (sym c.as_slice-2.ensures.value) is))))
