@@ -69,7 +69,10 @@ fn each_read_fails(rt: HostRuntime) -> Result<(), Fail> {
         let mut reader = MemSource::new(text, 16, Some(read));
         let mut writer = MemSink::new(rt.alloc(), 100)?;
         let fail = audit_with(&rt, rt.alloc(), 2, &mut reader, &mut writer).err();
-        assert!(rt; fail == Some(EngineFail::ReadFault) && writer.bytes().is_empty(), "{read}");
+        assert!(rt;
+            fail == Some(EngineFail::ReadFault) && writer.bytes().is_empty(),
+            "{read}"
+        );
     }
     Ok(())
 }

@@ -2,7 +2,7 @@ use Rattle.std.proofs.Common.{rules, ◌∷◌, ◌++◌, [], ◌∙◌, ap, ari
 use Rattle.std.specs.Prelude.{IsErrOf}
 use Rattle.sgt_names.specs.declared.outcome.EngineFail.TheVariants.{ReadFault}
 use Rattle.sgt_notation.specs.Limits.{max_line}
-use Rattle.sgt_notation.specs.Lines.{IsNext}
+use Rattle.sgt_notation.specs.Lines.{IsNext, coming}
 use Rattle.sgt_notation.specs.Spelling.{text_of_lines}
 use Rattle.sgt_cert.specs.Text.{certificate_text, format_line}
 use Rattle.sgt_audit.specs.Faults.{FirstFault}
@@ -26,7 +26,7 @@ returns-in-Ok-2-clause-front g c =
     let first = rw c.in-Ok.ensures.format.0 at c.in_ok-first.ensures.gave in
     let spelled = rw c.in-Ok-2.is at c.in_ok-head.ensures.head in
     let next = rw spelled.2 at c.in_ok-next.ensures.gave in
-    front-told _ _ _ c.in-Ok-2.head.second c.in-Ok-2.head.certificate
+    front-told (coming c.args.lines.now (g.R.Source.tells c.args.reader.now)) (coming c.next_line.new.lines (g.R.Source.tells c.next_line.new.reader)) (coming c.next_line-2.new.lines (g.R.Source.tells c.next_line-2.new.reader)) c.in-Ok-2.head.second c.in-Ok-2.head.certificate
     (line-told max_line _ _ c.next_line.new.line.items (format_line c.in-Ok-2.head.second) (sym c.as_slice.ensures.value ∙ c.in-Ok.ensures.format.1 ∙ ap format_line (sym spelled.1)) first.gives)
     (line-told 18446744073709551615 _ _ c.next_line-2.new.line.items (certificate_text c.in-Ok-2.head.certificate) (sym c.as_slice-2.ensures.value ∙ spelled.3) next.gives)
 
@@ -36,7 +36,7 @@ returns-in-Err-2-clause-verdict g c =
     let second = c.in-Ok.second in
     let fault = c.in-Err-2.fault in
     let front = line-told max_line _ _ c.next_line.new.line.items (format_line second) (sym c.as_slice.ensures.value ∙ c.in-Ok.ensures.format.1) first.gives in
-    behind-first _ _ second (λ bytes. FirstFault bytes 2 fault) front
-    (next-told 18446744073709551615 _ _ c.in_ok-next.next c.next_line-2.new.line.items (λ bytes. FirstFault (text_of_lines (format_line second ∷ []) ++ bytes) 2 fault) c.in_ok-next.ensures.gave.gives
+    behind-first (coming c.args.lines.now (g.R.Source.tells c.args.reader.now)) (coming c.next_line.new.lines (g.R.Source.tells c.next_line.new.reader)) second (λ bytes. FirstFault bytes 2 fault) front
+    (next-told 18446744073709551615 (coming c.next_line.new.lines (g.R.Source.tells c.next_line.new.reader)) (coming c.next_line-2.new.lines (g.R.Source.tells c.next_line-2.new.reader)) c.in_ok-next.next c.next_line-2.new.line.items (λ bytes. FirstFault (text_of_lines (format_line second ∷ []) ++ bytes) 2 fault) c.in_ok-next.ensures.gave.gives
     (λ bytes rest is. rw c.in-Err-2.is at (c.in_ok-head.ensures.fault bytes rest (c.in_ok-next.ensures.gave.unlimited refl)
     (subst (λ (l : List ℕ). IsNext 18446744073709551615 bytes c.in_ok-next.next l rest) (sym c.as_slice-2.ensures.value) is))))
