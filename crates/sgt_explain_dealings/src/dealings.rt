@@ -1,17 +1,13 @@
-//! What one transaction did: its entries at each site, and its conflicts.
+//! What one transaction did: its entries at each site.
 
-ghost use Rattle.std.specs.Prelude.{◌≡◌, ◌++◌, None, All, IfOk, OnOk, string_bytes};
-ghost use Rattle.sgt_explain_lines.specs.Told.{Adds};
+ghost use Rattle.std.specs.Prelude.{◌≡◌, ◌++◌, ℕ, None, All, IfOk, OnOk, string_bytes};
 ghost use Rattle.sgt_explain_dealings.specs.Dealings.{IsOwn, site_if_new, one_text, own_text, own_head, TellsDealings};
 
-use sgt_explain_lines::{Logged, clash, cut_line, entry_of, push_conflict, push_logged};
-use sgt_names::{Entry, Item, Tx};
+use crate::conflicts::{push_conflicts, push_count};
+use sgt_explain_lines::{Logged, cut_line, entry_of, push_logged};
+use sgt_names::{Entry, Tx};
 use std::alloc::{AllocError, Global};
-use std::cmp::Ordering;
 use std::fmt::Write;
-
-/// How many conflicts are shown; the others are counted.
-const MOST_SHOWN: u64 = 40;
 
 /// An entry of the transaction at a site.
 #[derive(Clone, Copy)]
@@ -21,7 +17,7 @@ pub struct Own {
 }
 
 /// The entry of a line of a section. Lines 1 and 2 are none.
-fn entry_at(site: &mut u8, line: u64, text: &[u8]) -> Option<Entry> {
+pub(crate) fn entry_at(site: &mut u8, line: u64, text: &[u8]) -> Option<Entry> {
     if line > 2 { entry_of(site, text) } else { None }
 }
 
@@ -82,7 +78,9 @@ fn push_own(out: &mut String, own: &[Own]) -> Result<(), AllocError>
 }
 
 /// The entries on items, by site and item.
-fn by_item(alloc: Global, own: &[Own]) -> Result<Vec<Own>, AllocError> {
+fn by_item(alloc: Global, own: &[Own]) -> Result<Vec<Own>, AllocError>
+    ensures { (tx : ℕ) → All (IsOwn tx) own.now → IfOk result (λ sorted. All (IsOwn tx) sorted.items) }
+{
     let mut sorted = Vec::new(alloc);
     for one in own {
         if one.logged.entry.item().is_some() {
@@ -91,111 +89,6 @@ fn by_item(alloc: Global, own: &[Own]) -> Result<Vec<Own>, AllocError> {
     }
     sorted.sort_by_key(|one| (one.site, one.logged.entry.item()))?;
     Ok(sorted)
-}
-
-fn order(one: &Own, site: u8, item: &Item) -> Ordering {
-    one.site
-        .cmp(&site)
-        .then(one.logged.entry.item().cmp(&Some(*item)))
-}
-
-/// Whether the transaction has an entry on the item, and the first of them.
-fn first_on(sorted: &[Own], site: u8, item: &Item) -> usize {
-    sorted.partition_point(|one| order(one, site, item) == Ordering::Less)
-}
-
-/// A conflict of an entry with one of the transaction's, in the order of the log. Whether there
-/// was one.
-fn push_pair(
-    out: &mut String,
-    own: &Own,
-    item: &Item,
-    other: &Logged,
-    shows: bool,
-) -> Result<bool, AllocError>
-    ensures { OnOk result (Adds (string_bytes out.old) (string_bytes out.new)) }
-{
-    let (first, second) = if own.logged.line < other.line {
-        (own.logged, *other)
-    } else {
-        (*other, own.logged)
-    };
-    if clash(&first.entry, &second.entry).is_none() {
-        return Ok(false);
-    }
-    if shows {
-        out.push_str("  ")?;
-        push_conflict(out, own.site, item, &first, &second)?;
-        out.push_str("\n")?;
-    }
-    Ok(true)
-}
-
-/// The conflicts of an entry with those of the transaction on its item, of which there are two at
-/// most.
-fn push_pairs(
-    out: &mut String,
-    sorted: &[Own],
-    site: u8,
-    other: &Logged,
-    count: &mut u64,
-) -> Result<(), AllocError>
-    ensures { OnOk result (Adds (string_bytes out.old) (string_bytes out.new)) }
-{
-    let Some(item) = other.entry.item() else {
-        return Ok(());
-    };
-    let from = first_on(sorted, site, &item);
-    for at in from..from.saturating_add(2) {
-        match sorted.get(at) {
-            Some(own) if order(own, site, &item) == Ordering::Equal => {
-                if push_pair(out, own, &item, other, *count < MOST_SHOWN)? {
-                    *count = count.saturating_add(1);
-                }
-            }
-            _ => return Ok(()),
-        }
-    }
-    Ok(())
-}
-
-/// The conflicts of the transaction in the lines before this one: how many there are.
-fn push_conflicts(
-    out: &mut String,
-    sorted: &[Own],
-    bytes: &[u8],
-    end: u64,
-) -> Result<u64, AllocError>
-    ensures { OnOk result (Adds (string_bytes out.old) (string_bytes out.new)) }
-{
-    let mut count = 0u64;
-    let mut site = 0u8;
-    let mut rest = bytes;
-    for line in 1..end {
-        let (text, behind) = cut_line(rest);
-        if let Some(entry) = entry_at(&mut site, line, text) {
-            push_pairs(out, sorted, site, &Logged { line, entry }, &mut count)?;
-        }
-        rest = behind;
-        if rest.is_empty() {
-            break;
-        }
-    }
-    Ok(count)
-}
-
-/// How many conflicts there are, where not all were shown.
-fn push_count(out: &mut String, count: u64) -> Result<(), AllocError>
-    ensures { OnOk result (Adds (string_bytes out.old) (string_bytes out.new)) }
-{
-    match count {
-        0 => out.push_str("  with nobody\n"),
-        _ if count > MOST_SHOWN => {
-            let more = count.saturating_sub(MOST_SHOWN);
-            writeln!(out, "  and {more} more")
-        }
-        _ => out.push_str(""),
-    }
 }
 
 /// The entries of the transaction, and the words before its conflicts.

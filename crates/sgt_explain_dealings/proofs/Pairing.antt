@@ -1,0 +1,38 @@
+-- Conflicts told one behind the other.
+use Rattle.std.proofs.Common.{◌≡◌, ℕ, List, [], ◌∷◌, ◌++◌, sym, ap, ◌∙◌, append_assoc, All, Some, inr}
+use Rattle.std.specs.Prelude.{slice_get}
+use Rattle.std.proofs.lemmas.Grind.{flat_map-append}
+use Rattle.std.proofs.lemmas.List.{append-nil}
+use Rattle.std.proofs.lemmas.List.Elements.{All-append, All-from_recursion}
+use Rattle.sgt_names.proofs.Places.{All_at}
+use Rattle.sgt_explain_dealings.specs.declared.conflicts.Pair.{Pair}
+use Rattle.sgt_explain_lines.specs.Told.{Adds}
+use Rattle.sgt_explain_dealings.specs.declared.dealings.Own.{Own}
+use Rattle.sgt_explain_dealings.specs.Dealings.{IsOwn, own_head, TellsDealings}
+use Rattle.sgt_explain_dealings.specs.Conflicts.{IsOwnConflict, pair_text, pairs_text, AddsConflicts}
+
+pub conflicts-none : (tx : ℕ) (old : List ℕ) → AddsConflicts tx old old
+conflicts-none tx old = ([], All-from_recursion (IsOwnConflict tx) [] tt, sym (append-nil old))
+
+pub conflicts-one : (tx : ℕ) (old new : List ℕ) (p : Pair) → IsOwnConflict tx p → new ≡ old ++ pair_text p → AddsConflicts tx old new
+conflicts-one tx old new p is e = (p ∷ [], All-from_recursion (IsOwnConflict tx) (p ∷ []) (is, tt), e ∙ ap (λ t. old ++ t) (sym (append-nil (pair_text p))))
+
+pub conflicts-more : (tx : ℕ) (old a new : List ℕ) → AddsConflicts tx old a → AddsConflicts tx a new → AddsConflicts tx old new
+conflicts-more tx old a new first more = (
+  first.0 ++ more.0,
+  All-append (IsOwnConflict tx) first.0 more.0 first.1 more.1,
+  more.2 ∙ ap (λ t. t ++ pairs_text more.0) first.2 ∙ append_assoc old (pairs_text first.0) (pairs_text more.0)
+      ∙ ap (λ t. old ++ t) (sym (flat_map-append pair_text first.0 more.0)),
+)
+
+-- the entries, the conflicts, and more
+pub tells-dealings : (tx : ℕ) (own given : List Own) (old a b new : List ℕ) → given ≡ own → All (IsOwn tx) own → a ≡ old ++ own_head given → AddsConflicts tx a b → Adds b new
+    → TellsDealings tx old new
+tells-dealings tx own given old a b new same all e told more =
+    let front : a ≡ old ++ own_head own = e ∙ ap (λ (os : List Own). old ++ own_head os) same in
+    let whole : b ≡ old ++ (own_head own ++ pairs_text told.0) = told.2 ∙ ap (λ t. t ++ pairs_text told.0) front ∙ append_assoc old (own_head own) (pairs_text told.0) in
+    inr (own, told.0, all, told.1, (more.0, more.1 ∙ ap (λ t. t ++ more.0) whole))
+
+-- one entry of the transaction more
+pub own-more : (tx : ℕ) (own sorted : List Own) (n : ℕ) (o : Own) → slice_get own n ≡ Some o → All (IsOwn tx) own → All (IsOwn tx) sorted → All (IsOwn tx) (sorted ++ o ∷ [])
+own-more tx own sorted n o at all so_far = All-append (IsOwn tx) sorted (o ∷ []) so_far (All-from_recursion (IsOwn tx) (o ∷ []) (All_at (IsOwn tx) own n o all at, tt))

@@ -1,0 +1,168 @@
+//! The conflicts of one transaction, each in its direction.
+
+ghost use Rattle.std.specs.Prelude.{◌≡◌, ◌++◌, ℕ, All, IfSome, OnOk, string_bytes};
+ghost use Rattle.sgt_explain_lines.specs.Told.{Adds};
+ghost use Rattle.sgt_explain_dealings.specs.Conflicts.{IsClash, IsOwnConflict, pair_text, AddsConflicts};
+ghost use Rattle.sgt_explain_dealings.specs.Dealings.{IsOwn};
+
+use crate::dealings::{Own, entry_at};
+use sgt_explain_lines::{Logged, clash, cut_line, push_conflict};
+use sgt_names::Item;
+use std::alloc::AllocError;
+use std::cmp::Ordering;
+use std::fmt::Write;
+
+/// How many conflicts are shown; the others are counted.
+const MOST_SHOWN: u64 = 40;
+
+/// Two entries of a site in conflict on an item.
+#[derive(Clone, Copy)]
+pub struct Pair {
+    pub site: u8,
+    pub item: Item,
+    pub first: Logged,
+    pub second: Logged,
+}
+
+fn order(one: &Own, site: u8, item: &Item) -> Ordering {
+    one.site
+        .cmp(&site)
+        .then(one.logged.entry.item().cmp(&Some(*item)))
+}
+
+/// Whether the transaction has an entry on the item, and the first of them.
+fn first_on(sorted: &[Own], site: u8, item: &Item) -> usize {
+    sorted.partition_point(|one| order(one, site, item) == Ordering::Less)
+}
+
+/// The conflict that the second entry is in with the first, which stands before it.
+fn clashing(site: u8, first: &Logged, second: &Logged) -> Option<Pair>
+    ensures { IfSome result (IsClash first.now second.now) }
+{
+    match clash(&first.entry, &second.entry) {
+        Some((item, _)) => Some(Pair {
+            site,
+            item,
+            first: *first,
+            second: *second,
+        }),
+        None => None,
+    }
+}
+
+/// The conflict of an entry with one of the transaction's, in the order of the log.
+fn pair_of(own: &Own, other: &Logged) -> Option<Pair>
+    ensures { (tx : ℕ) → IsOwn tx own.now → IfSome result (IsOwnConflict tx) }
+{
+    if own.logged.line < other.line {
+        clashing(own.site, &own.logged, other)
+    } else {
+        clashing(own.site, other, &own.logged)
+    }
+}
+
+/// A conflict, as a line.
+fn push_pair(out: &mut String, pair: &Pair) -> Result<(), AllocError>
+    ensures { OnOk result (string_bytes out.new ≡ string_bytes out.old ++ pair_text pair.now) }
+{
+    out.push_str("  ")?;
+    push_conflict(out, pair.site, &pair.item, &pair.first, &pair.second)?;
+    out.push_str("\n")
+}
+
+/// The same, and counts it. What is too many is counted alone.
+fn show_pair(out: &mut String, pair: &Pair, count: &mut u64) -> Result<(), AllocError>
+    ensures { (tx : ℕ) → IsOwnConflict tx pair.now
+        → OnOk result (AddsConflicts tx (string_bytes out.old) (string_bytes out.new)) }
+{
+    let shown = *count;
+    *count = shown.saturating_add(1);
+    if shown < MOST_SHOWN {
+        push_pair(out, pair)
+    } else {
+        Ok(())
+    }
+}
+
+/// The conflict of an entry with one of the transaction's, if there is one.
+fn push_if_pair(
+    out: &mut String,
+    own: &Own,
+    other: &Logged,
+    count: &mut u64,
+) -> Result<(), AllocError>
+    ensures { (tx : ℕ) → IsOwn tx own.now
+        → OnOk result (AddsConflicts tx (string_bytes out.old) (string_bytes out.new)) }
+{
+    match pair_of(own, other) {
+        Some(pair) => show_pair(out, &pair, count),
+        None => Ok(()),
+    }
+}
+
+/// The conflicts of an entry with those of the transaction on its item, of which there are two at
+/// most.
+fn push_pairs(
+    out: &mut String,
+    sorted: &[Own],
+    site: u8,
+    other: &Logged,
+    count: &mut u64,
+) -> Result<(), AllocError>
+    ensures { (tx : ℕ) → All (IsOwn tx) sorted.now
+        → OnOk result (AddsConflicts tx (string_bytes out.old) (string_bytes out.new)) }
+{
+    let Some(item) = other.entry.item() else {
+        return Ok(());
+    };
+    let from = first_on(sorted, site, &item);
+    for at in from..from.saturating_add(2) {
+        match sorted.get(at) {
+            Some(own) if order(own, site, &item) == Ordering::Equal => {
+                push_if_pair(out, own, other, count)?;
+            }
+            _ => return Ok(()),
+        }
+    }
+    Ok(())
+}
+
+/// The conflicts of the transaction in the lines before this one: how many there are.
+pub(crate) fn push_conflicts(
+    out: &mut String,
+    sorted: &[Own],
+    bytes: &[u8],
+    end: u64,
+) -> Result<u64, AllocError>
+    ensures { (tx : ℕ) → All (IsOwn tx) sorted.now
+        → OnOk result (AddsConflicts tx (string_bytes out.old) (string_bytes out.new)) }
+{
+    let mut count = 0u64;
+    let mut site = 0u8;
+    let mut rest = bytes;
+    for line in 1..end {
+        let (text, behind) = cut_line(rest);
+        if let Some(entry) = entry_at(&mut site, line, text) {
+            push_pairs(out, sorted, site, &Logged { line, entry }, &mut count)?;
+        }
+        rest = behind;
+        if rest.is_empty() {
+            break;
+        }
+    }
+    Ok(count)
+}
+
+/// How many conflicts there are, where not all were shown.
+pub(crate) fn push_count(out: &mut String, count: u64) -> Result<(), AllocError>
+    ensures { OnOk result (Adds (string_bytes out.old) (string_bytes out.new)) }
+{
+    match count {
+        0 => out.push_str("  with nobody\n"),
+        _ if count > MOST_SHOWN => {
+            let more = count.saturating_sub(MOST_SHOWN);
+            writeln!(out, "  and {more} more")
+        }
+        _ => out.push_str(""),
+    }
+}
