@@ -20,6 +20,9 @@ pub struct Line {
     command: Command,
 }
 
+// How the number of an audit's workers begins where it stands in one word.
+const WORKERS: &str = "--workers=";
+
 // What a word is.
 #[derive(Clone, Copy, PartialEq, Eq)]
 enum Kind {
@@ -27,6 +30,8 @@ enum Kind {
     Plain,
     // The same, and so is the next.
     WithNumber,
+    // Two such words in one.
+    Joined,
     File,
     Bundle,
     Quiet,
@@ -90,7 +95,9 @@ fn kind_of(command: Command, word: &str) -> Kind {
         "--strict" if command == Command::Replay => Kind::Strict,
         "--progress" if tells_lines(command) => Kind::Progress,
         "--bundle" if command == Command::Replay || command == Command::Run => Kind::Bundle,
-        "--workers" | "--tries" if command == Command::Run => Kind::WithNumber,
+        "--workers" if command == Command::Audit || command == Command::Run => Kind::WithNumber,
+        "--tries" if command == Command::Run => Kind::WithNumber,
+        _ if command == Command::Audit && word.starts_with(WORKERS) => Kind::Joined,
         "--tx" if command == Command::Explain || command == Command::Draw => Kind::WithNumber,
         "-" => Kind::File,
         "--" => Kind::Dashes,
@@ -166,6 +173,15 @@ impl Line {
         Ok(())
     }
 
+    // The number of workers, as two words.
+    fn add_joined(&mut self, alloc: Global, word: &str) -> Result<(), AllocError> {
+        if let Some(number) = word.strip_prefix(WORKERS) {
+            self.words.push(String::from_str(alloc, "--workers")?)?;
+            self.words.push(String::from_str(alloc, number)?)?;
+        }
+        Ok(())
+    }
+
     // The same behind `--`.
     fn add_behind(&mut self, alloc: Global, word: String) -> Result<(), AllocError> {
         if self.command == Command::Audit || self.files.is_empty() {
@@ -197,6 +213,10 @@ impl Line {
             }
             _ => kind_of(self.command, word.as_str()),
         };
+        if kind == Kind::Joined {
+            self.add_joined(alloc, word.as_str())?;
+            return Ok(Kind::Plain);
+        }
         if self.command == Command::Explain && is_rule(word.as_str()) {
             self.command = Command::Topic;
         }

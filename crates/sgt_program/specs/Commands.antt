@@ -17,7 +17,7 @@ use Rattle.sgt_service.specs.Report as run
 use Rattle.sgt_serial.specs.Answer as serial
 use Rattle.sgt_serial.specs.Answer.{IsAnswer}
 use Rattle.sgt_words.specs.declared.choice.Choice.{Choice}
-use Rattle.sgt_words.specs.declared.choice.Choice.TheVariants.{Audit, Certify, Draw, DrawWith, Explain, Replay, Rule, Run, Serial, Transaction}
+use Rattle.sgt_words.specs.declared.choice.Choice.TheVariants.{Audit, AuditWith, Certify, Draw, DrawWith, Explain, Replay, Rule, Run, Serial, Transaction}
 
 abbrev pub outcome : Verdict → Outcome
 outcome (Yes c r w) = Outcome_.Yes
@@ -114,6 +114,7 @@ pub record AnswersRule (status : ℕ) (written written' : Option (List ℕ)) : T
 -- what was chosen
 abbrev pub Answers : Choice → (status : ℕ) (told written written' : Option (List ℕ)) → Type 0
 Answers Audit = AnswersAudit
+Answers (AuditWith workers) = AnswersAudit
 Answers Serial = AnswersSerial
 Answers Replay = AnswersReplay
 Answers Certify = AnswersCertify

@@ -3,7 +3,7 @@
 ghost use Rattle.std.specs.Prelude.{◌≡◌, ◌<◌, ℕ, Err, map, length, string_bytes, IfErr, IsOk, codes};
 ghost use Rattle.sgt_program.specs.Commands.{AnswersAudit, AnswersCertify, AnswersDraw, AnswersExplain, AnswersSerial, AnswersReplay, AnswersRun, AnswersOthers};
 ghost use Rattle.sgt_program.specs.Ending.{LeavesDevices, ReadFailed, TellsErrors, WroteOrFailed, status_of, text_of_fail};
-ghost use Rattle.sgt_words.specs.Words.{AsksAudit, AsksNamed, AsksNone, AsksRun};
+ghost use Rattle.sgt_words.specs.Words.{AsksAudit, AsksNamed, AsksNone, AsksRun, AsksWorkers};
 ghost use Rattle.sgt_words.specs.declared.choice.Choice.TheVariants as choice;
 ghost use Rattle.sgt_program.specs.declared.ending.Ending.{Ending};
 ghost use Rattle.sgt_program.specs.declared.ending.Ending.TheVariants.{Ran, NoCommand};
@@ -64,7 +64,7 @@ pub fn refuse_words<E: Sink>(errors: &mut E) -> u8
 /// Does what the words ask for, and gives the exit status: 0 yes or done (or help was shown); 1 no, a replay that ended with a
 /// transaction active, a script that was not committed, or a fault that ended a run; 2 the words are no command (nothing is read or
 /// written then) or a line of a replay's or a run's input can't be read; 3 want of memory; 4 a read or a write failed. The first word
-/// is the program's name. For help nothing is read. Only a run starts threads; they are joined when this returns.
+/// is the program's name. For help nothing is read. Only a run and an audit by workers start threads; they are joined when this returns.
 pub fn program<H: Threads + Wait + Sync, R: Source, W: Sink, E: Sink>(
     rt: &H,
     alloc: Global,
@@ -75,6 +75,8 @@ pub fn program<H: Threads + Wait + Sync, R: Source, W: Sink, E: Sink>(
 ) -> u8
     // what each command answers
     ensures audit { AsksAudit (map string_bytes words.now)
+        → AnswersAudit result (R.tells reader.old) (W.holds writer.old) (W.holds writer.new) }
+    ensures workers { (workers : ℕ) → AsksWorkers (map string_bytes words.now) workers
         → AnswersAudit result (R.tells reader.old) (W.holds writer.old) (W.holds writer.new) }
     ensures serial { AsksNamed (map string_bytes words.now) choice.Serial
         → AnswersSerial result (R.tells reader.old) (W.holds writer.old) (W.holds writer.new) }

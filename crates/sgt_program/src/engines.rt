@@ -3,12 +3,13 @@
 ghost use Rattle.std.specs.Prelude.{◌≡◌, ◌<◌, length, IfOk, IfErr, OnErr, OnOk};
 ghost use Rattle.std.specs.Io.KnownBytes.{Appends};
 ghost use Rattle.sgt_names.specs.Device.{WritesFront};
-ghost use Rattle.sgt_program.specs.Commands.{Answers, AnswersOthers, outcome};
+ghost use Rattle.sgt_program.specs.Commands.{Answers, AnswersAudit, AnswersOthers, outcome};
 ghost use Rattle.sgt_program.specs.Ending.{LeavesDevices, ReadFailed, status_of};
 ghost use Rattle.sgt_words.specs.Words.{CanRun};
 ghost use Rattle.sgt_program.specs.declared.ending.Ending.TheVariants.{Ran};
 
 use sgt_audit::{Verdict, audit};
+use sgt_audit_workers::audit_with;
 use sgt_certify::certify;
 use sgt_draw::{Wanted, draw};
 use sgt_explain::{explain, explain_topic, explain_transaction};
@@ -28,6 +29,29 @@ fn outcome_of(verdict: Verdict) -> Outcome
     match verdict {
         Verdict::Yes { .. } => Outcome::Yes,
         Verdict::No { .. } => Outcome::No,
+    }
+}
+
+// Audits with so many sections judged at once.
+fn audit_by<H: Threads + Sync, R: Source, W: Sink>(
+    rt: &H,
+    alloc: Global,
+    workers: u64,
+    reader: &mut R,
+    writer: &mut W,
+) -> Result<Outcome, EngineFail>
+    ensures answers { AnswersAudit (status_of (Ran result)) (R.tells reader.old)
+        (W.holds writer.old) (W.holds writer.new) }
+    ensures ends { LeavesDevices (Ran result)
+        ((R.failures reader.new ≡ R.failures reader.old)
+        × (W.failures writer.new ≡ W.failures writer.old))
+        (ReadFailed (R.tells reader.old) (R.failures reader.old) (R.failures reader.new))
+        (W.failures writer.old < W.failures writer.new)
+        (writer.new ≡ writer.old) }
+{
+    match audit_with(rt, alloc, workers as usize, reader, writer) {
+        Ok(verdict) => Ok(outcome_of(verdict)),
+        Err(fail) => Err(fail),
     }
 }
 
@@ -54,6 +78,7 @@ pub fn run_choice<H: Threads + Wait + Sync, R: Source, W: Sink>(
             Ok(verdict) => Ok(outcome_of(verdict)),
             Err(fail) => Err(fail),
         },
+        Choice::AuditWith { workers } => audit_by(rt, alloc, workers, reader, writer),
         Choice::Serial => serial(alloc, reader, writer),
         Choice::Replay => replay(alloc, reader, writer),
         Choice::Certify => certify(alloc, reader, writer),

@@ -1,6 +1,7 @@
 -- Three words behind the first.
-use Rattle.std.proofs.Common.{◌≡◌, ◌×◌, ℕ, List, [], ◌∷◌, codes, inl, inr, length, map, drop, take, get_or, refl, ap, sym, ◌∙◌, subst, arith}
-use Rattle.sgt_words.specs.Words.{AsksAudit, AsksWorkers, NamesRun}
+use Rattle.std.specs.Prelude.{IfSome}
+use Rattle.std.proofs.Common.{◌≡◌, ℕ, List, [], ◌∷◌, Option, Some, None, codes, inl, inr, length, map, drop, take, get_or, refl, ap, sym, ◌∙◌, subst, arith}
+use Rattle.sgt_words.specs.Words.{AsksAudit, AsksWorkers, NamesRun, SaysWorkers}
 
 -- four words are the first and three behind it
 pub three_words : {A B : Type 0} (f : A → B) (words : List A) (a b c : A) → length words ≡ 4
@@ -35,3 +36,12 @@ pub no_run : (words : List (List ℕ)) (n : ℕ) → AsksWorkers words n → Nam
 no_run words n (text, is, said) run =
     let bad : ◌≡◌ {A = List (List ℕ)} (codes "audit" ∷ []) (codes "run" ∷ []) = sym (ap (take 1) is) ∙ run in
     cc
+
+-- words that have this number of workers ask for it
+pub ask : (words : List (List ℕ)) (text : List ℕ) (found : Option ℕ) → drop 1 words ≡ codes "audit" ∷ codes "--workers" ∷ text ∷ []
+    → IfSome found (SaysWorkers text) → IfSome found (AsksWorkers words)
+ask words text (Some n) is said = (text, is, said)
+ask words text None is said = tt
+
+pub listed : {A : Type 0} {a b c x y z : A} → a ≡ x → b ≡ y → c ≡ z → ◌≡◌ {A = List A} (a ∷ b ∷ c ∷ []) (x ∷ y ∷ z ∷ [])
+listed is_x is_y is_z = cc

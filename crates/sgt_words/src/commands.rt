@@ -27,7 +27,7 @@ const DRAW: &str =
     "Draws a valid bundle as SVG: transactions by rank, their conflicts, and refused ones with their cycles; else writes audit's `no` line";
 
 // The usage of each command, with an example. What of it is a file or about files is taken out of the words before.
-const AUDIT_USAGE: &str = "sgt audit [-q] [--progress] [FILE]...\n  e.g. sgt audit bundle.txt";
+const AUDIT_USAGE: &str = "sgt audit [-q] [--workers N] [--progress] [FILE]...\n  e.g. sgt audit bundle.txt";
 
 const SERIAL_USAGE: &str = "sgt serial [--progress] [FILE]\n  e.g. sgt serial bundle.txt";
 
@@ -161,9 +161,14 @@ fn full_audit<'a>(alloc: Global) -> Result<Command<'a>, AllocError> {
     let files = Arg::new(alloc, "FILE").action(ArgAction::Append).help(
         "Are read in place of standard input; of several, a line each",
     );
+    let workers = Arg::new(alloc, "workers")
+        .long("workers")
+        .value_name("N")
+        .help("How many sections are judged at once, from 1 to 16");
     audit_line(alloc)
         .arg(files)?
         .arg(quiet)?
+        .arg(workers)?
         .arg(progress(alloc))
 }
 

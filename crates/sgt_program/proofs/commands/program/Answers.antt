@@ -4,7 +4,7 @@ use Rattle.sgt_program.proofs.Chosen.{is_memory, no_refusal, same_choice, same_r
 use Rattle.sgt_program.proofs.Told.{helped, tells-errors}
 use Rattle.sgt_program.specs.Commands.{Answers}
 use Rattle.sgt_program.specs.Ending.{status_of}
-use Rattle.sgt_words.specs.declared.choice.Choice.TheVariants.{Audit, Certify, Draw, Explain, Replay, Run, Serial}
+use Rattle.sgt_words.specs.declared.choice.Choice.TheVariants.{Audit, AuditWith, Certify, Draw, Explain, Replay, Run, Serial}
 use Rattle.sgt_program.specs.declared.ending.Ending.TheVariants.{Ran, NoCommand}
 use Rattle.sgt_program.proofs.commands.program.Goals as goal
 
@@ -142,3 +142,20 @@ pub returns-in-Err-Usage-clause-draw : goal.returns-in-Err-Usage-clause-draw
 returns-in-Err-Usage-clause-draw g c = λ asks.
     let said = c.in-Err-Usage in
     absurd (no_refusal c.choose.result Draw said.field-0 (inl (c.choose.ensures.plain Draw tt asks)) said.is (ap is_memory said.field-0-is))
+
+pub returns-in-Ok-clause-workers : goal.returns-in-Ok-clause-workers
+returns-in-Ok-clause-workers g c = λ workers asks.
+    rw c.finish.ensures.status
+    (same_choice c.choose.result _ (AuditWith workers) (λ choice. Answers choice (status_of (Ran c.run_choice.result))
+    (g.R.Source.tells c.args.reader.now) (g.W.Sink.holds c.args.writer.now) (g.W.Sink.holds c.run_choice.new.writer))
+    c.in-Ok.is (c.choose.ensures.workers workers asks) c.run_choice.ensures.answers)
+
+pub returns-in-Err-Help-clause-workers : goal.returns-in-Err-Help-clause-workers
+returns-in-Err-Help-clause-workers g c = λ workers asks.
+    let said = c.in-Err-Help in
+    absurd (no_refusal c.choose.result (AuditWith workers) said.field-0 (inl (c.choose.ensures.workers workers asks)) said.is (ap is_memory said.field-0-is))
+
+pub returns-in-Err-Usage-clause-workers : goal.returns-in-Err-Usage-clause-workers
+returns-in-Err-Usage-clause-workers g c = λ workers asks.
+    let said = c.in-Err-Usage in
+    absurd (no_refusal c.choose.result (AuditWith workers) said.field-0 (inl (c.choose.ensures.workers workers asks)) said.is (ap is_memory said.field-0-is))

@@ -79,3 +79,6 @@ returns-in-DrawWith-clause-answers g c =
     let new = g.W.Sink.holds c.draw-in-DrawWith.new.writer in
     rw c.in-DrawWith.is (status-answers (λ outcome. draw.WroteDrawn told outcome old new) (draw.WroteDrawnFront told old new)
     c.draw-in-DrawWith.result c.draw-in-DrawWith.ensures.answer c.draw-in-DrawWith.ensures.front)
+
+pub returns-in-AuditWith-clause-answers : goal.returns-in-AuditWith-clause-answers
+returns-in-AuditWith-clause-answers g c = rw c.in-AuditWith.is c.audit_by.ensures.answers

@@ -1,0 +1,10 @@
+use Rattle.sgt_program.proofs.Answered.{audit-fails, verdict-answers}
+use Rattle.sgt_program.proofs.engines.audit_by.Goals as goal
+
+pub returns-in-Ok-clause-answers : goal.returns-in-Ok-clause-answers
+returns-in-Ok-clause-answers g c =
+    let said = c.in-Ok.ensures in
+    rw c.outcome_of.ensures (verdict-answers _ _ _ c.in-Ok.verdict said.verdict said.headline said.written)
+
+pub returns-in-Err-clause-answers : goal.returns-in-Err-clause-answers
+returns-in-Err-clause-answers g c = audit-fails _ _ _ c.in-Err.fail c.in-Err.ensures.front
