@@ -1,6 +1,6 @@
 //! The commands with their words, and the texts of their help.
 
-use crate::options::run_line;
+use crate::options::{MAX_WORKERS, number_option, run_line};
 use clap::{Arg, ArgAction, Command};
 use std::alloc::{AllocError, Global};
 
@@ -27,7 +27,8 @@ const DRAW: &str =
     "Draws a valid bundle as SVG: transactions by rank, their conflicts, and refused ones with their cycles; else writes audit's `no` line";
 
 // The usage of each command, with an example. What of it is a file or about files is taken out of the words before.
-const AUDIT_USAGE: &str = "sgt audit [-q] [--workers N] [--progress] [FILE]...\n  e.g. sgt audit bundle.txt";
+const AUDIT_USAGE: &str =
+    "sgt audit [-q] [--workers N] [--progress] [FILE]...\n  e.g. sgt audit bundle.txt";
 
 const SERIAL_USAGE: &str = "sgt serial [--progress] [FILE]\n  e.g. sgt serial bundle.txt";
 
@@ -63,8 +64,16 @@ fn plain_line<'a>(alloc: Global, name: &'a str, about: &'a str, usage: &'a str) 
         .after_help(MORE)
 }
 
-fn audit_line<'a>(alloc: Global) -> Command<'a> {
-    plain_line(alloc, "audit", AUDIT, AUDIT_USAGE)
+/// The words of `audit`.
+pub fn audit_line<'a>(alloc: Global) -> Result<Command<'a>, AllocError> {
+    let workers = number_option(
+        alloc,
+        "workers",
+        MAX_WORKERS,
+        "1",
+        "How many sections are judged at once, from 1 to 16",
+    );
+    plain_line(alloc, "audit", AUDIT, AUDIT_USAGE).arg(workers)
 }
 
 fn serial_line<'a>(alloc: Global) -> Command<'a> {
@@ -121,7 +130,7 @@ pub fn command<'a>(alloc: Global) -> Result<Command<'a>, AllocError> {
         .after_help(MORE)
         .version(VERSION)
         .disable_help_subcommand(true);
-    line.subcommand(audit_line(alloc))?
+    line.subcommand(audit_line(alloc)?)?
         .subcommand(serial_line(alloc))?
         .subcommand(replay_line(alloc))?
         .subcommand(run_line(alloc)?)?
@@ -161,14 +170,9 @@ fn full_audit<'a>(alloc: Global) -> Result<Command<'a>, AllocError> {
     let files = Arg::new(alloc, "FILE").action(ArgAction::Append).help(
         "Are read in place of standard input; of several, a line each",
     );
-    let workers = Arg::new(alloc, "workers")
-        .long("workers")
-        .value_name("N")
-        .help("How many sections are judged at once, from 1 to 16");
-    audit_line(alloc)
+    audit_line(alloc)?
         .arg(files)?
         .arg(quiet)?
-        .arg(workers)?
         .arg(progress(alloc))
 }
 

@@ -5,7 +5,7 @@ ghost use Rattle.clap.specs.Words.{kind_of};
 ghost use Rattle.sgt_words.specs.Words.{AsksHelp, AsksOther, HasText, IsHelp, IsUsage, NamesHelp};
 
 use crate::choice::NoChoice;
-use crate::commands::{command, draw_line, explain_line, listing_line};
+use crate::commands::{audit_line, command, draw_line, explain_line, listing_line};
 use clap::error::ErrorKind;
 use clap::{Command, Error};
 use std::alloc::{AllocError, Global};
@@ -126,6 +126,7 @@ fn behind_first(words: &[String]) -> &[String]
 // The line whose usage is shown for such words: of the command that they begin with, where that has words of its own.
 fn line_of<'a>(alloc: Global, words: &[String]) -> Result<Command<'a>, AllocError> {
     match words {
+        [_, word, ..] if word.as_str() == "audit" => audit_line(alloc),
         [_, word, ..] if word.as_str() == "explain" => explain_line(alloc),
         [_, word, ..] if word.as_str() == "draw" => draw_line(alloc),
         _ => command(alloc),

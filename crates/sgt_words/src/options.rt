@@ -24,7 +24,8 @@ const RUN: &str =
 const USAGE: &str =
     "sgt run [--workers N] [--tries N] [--bundle FILE] [FILE]\n  e.g. sgt run --workers 4 scripts.txt";
 
-fn number_option<'a>(
+/// An option with a number from 1 to `most`.
+pub fn number_option<'a>(
     alloc: Global,
     name: &'a str,
     most: u64,
