@@ -35,22 +35,22 @@ spans_later bytes from text n within s = record {
 }
 
 -- what stands at the front of the first bytes stands at the front of all
-take-front : (bytes : List ℕ) (n m : ℕ) → n ≤ m → take n (take m bytes) ≡ take n bytes
+pub take-front : (bytes : List ℕ) (n m : ℕ) → n ≤ m → take n (take m bytes) ≡ take n bytes
 take-front bytes zero m few = refl
 take-front [] (suc n) zero few = refl
 take-front [] (suc n) (suc m) few = refl
 take-front (b ∷ bs) (suc n) zero few = absurd (omega (arith, few))
 take-front (b ∷ bs) (suc n) (suc m) few = ap (λ (t : List ℕ). b ∷ t) (take-front bs n m (omega (arith, few)))
 
-pub front_found : (bytes chunk : List ℕ) (n : ℕ) (r : Option (List ℕ)) → IsFirstChunk bytes chunk 16 → (IsSome r → SpellsFront chunk n)
-    → IfSome r (λ item. item ≡ take n chunk) → IfSome r (λ item. IsName item × Spans bytes 0 item n)
-front_found bytes chunk n None first spells found = tt
-front_found bytes chunk n (Some item) first spells found =
-    let front = spells refl in
+pub leading_found : (bytes chunk : List ℕ) (r : Option (List ℕ × ℕ)) → IsFirstChunk bytes chunk 16 → IfSome r (λ r. SpellsFront chunk r.1 × (r.0 ≡ take r.1 chunk))
+    → IfSome r (λ r. IsName r.0 × Spans bytes 0 r.0 r.1)
+leading_found bytes chunk None first found = tt
+leading_found bytes chunk (Some (item, n)) first found =
+    let front = found.0 in
     let long : length chunk ≡ 16 = ap length first.same ∙ length-take-le 16 bytes first.enough in (
-      subst IsName (sym found) front.1,
+      subst IsName (sym found.1) front.1,
       spans_front bytes n item (omega (arith, front.0, long, first.enough))
-          (sym (take-front bytes n 16 (omega (arith, front.0, long))) ∙ ap (take n) (sym first.same) ∙ sym found),
+          (sym (take-front bytes n 16 (omega (arith, front.0, long))) ∙ ap (take n) (sym first.same) ∙ sym found.1),
     )
 
 pub spans_word : (bytes : List ℕ) (from : ℕ) (word rest last : List ℕ) → from ≤ length bytes → rest ≡ drop from bytes → rest ≡ word ++ last → Spans bytes from word (from + length word)
@@ -63,6 +63,17 @@ spans_word bytes from word rest last within is starts =
 -- ---- numbers
 
 -- digits with no leading zero are the number that they write
+pub front_digits : (bytes : List ℕ) (n value : ℕ) → n ≤ digits_len bytes → value ≡ digits_value 10 (take n bytes) → 0 < n → n ≤ 19 → n ≤ length bytes → (get_or bytes 0 0 ≡ 48 → n ≤ 1)
+    → IsValue value × Spans bytes 0 (decimal value) n
+front_digits bytes n value end was some short within plain =
+    let front = take n bytes in
+    let digits : AllDigits 10 front = AllDigits-digits_len bytes n end in
+    let size : length front ≡ n = rw length-take (omega arith) in
+    let small : digits_value 10 front < 10 ^ 19 = digits_value_short own front 19 digits (omega arith) in
+    let first : get_or front 0 0 ≡ get_or bytes 0 0 = get_or-take n bytes 0 0 some in
+    let text : decimal (digits_value 10 front) ≡ front = decimal-digits_value own front digits (omega arith) (λ z. let one = plain (sym first ∙ z) in omega arith) (omega arith) in
+    (omega arith, spans_front bytes n (decimal value) within (sym text ∙ ap decimal (sym was)))
+
 pub front_number : (bytes : List ℕ) (n value k : ℕ) → n ≡ digits_len bytes → value ≡ (0 * k + digits_value 10 (slice_range bytes 0 n)) % 2 ^ 64 → 0 < n → n ≤ 19 → n ≤ length bytes → (get_or bytes 0 0 ≡ 48 → n ≤ 1)
     → IsValue value × Spans bytes 0 (decimal value) n
 front_number bytes n value k end wrapped some short within plain =
@@ -71,10 +82,7 @@ front_number bytes n value k end wrapped some short within plain =
     let size : length front ≡ n = rw length-take (omega arith) in
     let small : digits_value 10 front < 10 ^ 19 = digits_value_short own front 19 digits (omega arith) in
     let range : digits_value 10 (slice_range bytes 0 n) ≡ digits_value 10 front = ap (digits_value 10) (between_from_start bytes n) in
-    let was : value ≡ digits_value 10 front = omega arith in
-    let first : get_or front 0 0 ≡ get_or bytes 0 0 = get_or-take n bytes 0 0 some in
-    let text : decimal (digits_value 10 front) ≡ front = decimal-digits_value own front digits (omega arith) (λ z. let one = plain (sym first ∙ z) in omega arith) (omega arith) in
-    (omega arith, spans_front bytes n (decimal value) within (sym text ∙ ap decimal (sym was)))
+    front_digits bytes n value (omega arith) (omega arith) some short within plain
 
 -- ---- lines that are held
 

@@ -7,12 +7,12 @@ ghost use Rattle.sgt_notation.specs.PrivateEvents.{IsAccess, IsUpdate, access_te
 ghost use Rattle.sgt_notation.specs.Spelling.{IsHolding, IsLine, IsSite, IsTx, IsValue, assignment, line_text, operation};
 
 use crate::SectionLine;
+use crate::digits::up_to_seven;
 use crate::number::find_value;
 use crate::reading::behind;
 use crate::reading_events::Place;
 use core::dec2flt::read_digits;
 use sgt_names::{Entry, Holding, Item, SiteNo, Tx, Value};
-use std::simd::prelude::*;
 
 /// The place behind this byte.
 #[inline(always)]
@@ -62,15 +62,33 @@ fn long_value(bytes: &[u8], n: usize) -> Option<(Value, usize)>
     Some((value, n))
 }
 
-/// The number at the front, and how many digits it has.
-#[inline(always)]
-fn front_value(bytes: &[u8]) -> Option<(Value, usize)>
+/// The number at the front, and how many digits it has, however many.
+#[inline(never)]
+fn other_value(bytes: &[u8]) -> Option<(Value, usize)>
     ensures { IfSome result (λ r. IsValue r.0 × Spans bytes.now 0 (decimal r.0) r.1) }
 {
     let (n, value) = read_digits(bytes, 0, 0);
     if n == 0 || n > 19 || (n > 1 && bytes[0] == b'0') {
         return long_value(bytes, n);
     }
+    Some((value, n))
+}
+
+/// The number at the front, and how many digits it has. One of up to seven digits, with no zero first, is read at once.
+#[inline(always)]
+fn front_value(bytes: &[u8]) -> Option<(Value, usize)>
+    ensures { IfSome result (λ r. IsValue r.0 × Spans bytes.now 0 (decimal r.0) r.1) }
+{
+    if let Some(chunk) = bytes.first_chunk::<8>() {
+        let (n, value) = up_to_seven(u64::from_le_bytes(*chunk));
+        if n == 0 {
+            return None;
+        }
+        if n < 8 && chunk[0] != b'0' {
+            return Some((value, n));
+        }
+    }
+    let (value, n) = other_value(bytes)?;
     Some((value, n))
 }
 
@@ -103,26 +121,24 @@ fn site_at(bytes: &[u8], from: usize) -> Option<(SiteNo, usize)>
     Some((site, to))
 }
 
-/// How many bytes of the first sixteen stand before the first such byte. Nothing rests on it: it is only tried.
-#[inline(always)]
-fn guess_end(bytes: &[u8], byte: u8) -> usize {
-    match bytes.first_chunk::<16>() {
-        Some(chunk) => {
-            let same = u8x16::from_array(*chunk).simd_eq(u8x16::splat(byte));
-            same.to_bitmask().trailing_zeros() as usize
-        }
-        None => bytes.iter().position(|other| *other == byte).unwrap_or(0),
-    }
+/// The name at the front of few bytes, and how many bytes it has, where it ends before this byte.
+#[inline(never)]
+fn short_name(bytes: &[u8], end: u8) -> Option<(Item, usize)>
+    ensures { IfSome result (λ r. IsName r.0 × Spans bytes.now 0 r.0 r.1) }
+{
+    let n = bytes.iter().position(|other| *other == end)?;
+    let item = Item::new(up_to_place(bytes, n)?).ok()?;
+    Some((item, n))
 }
 
-/// The name that so many of the first bytes spell.
+/// The name at the front, and how many bytes it has, where it ends before this byte.
 #[inline(always)]
-fn front_name(bytes: &[u8], n: usize) -> Option<Item>
-    ensures { IfSome result (λ item. IsName item × Spans bytes.now 0 item n) }
+fn front_name(bytes: &[u8], end: u8) -> Option<(Item, usize)>
+    ensures { IfSome result (λ r. IsName r.0 × Spans bytes.now 0 r.0 r.1) }
 {
     match bytes.first_chunk::<16>() {
-        Some(chunk) => Item::front(chunk, n),
-        None => Item::new(up_to_place(bytes, n)?).ok(),
+        Some(chunk) => Item::leading(chunk),
+        None => short_name(bytes, end),
     }
 }
 
@@ -131,9 +147,7 @@ fn front_name(bytes: &[u8], n: usize) -> Option<Item>
 fn name_at(bytes: &[u8], from: usize, end: u8) -> Option<(Item, usize)>
     ensures { IfSome result (λ r. IsName r.0 × Spans bytes.now from r.0 r.1) }
 {
-    let rest = from_place(bytes, from)?;
-    let n = guess_end(rest, end);
-    let item = front_name(rest, n)?;
+    let (item, n) = front_name(from_place(bytes, from)?, end)?;
     Some((item, from + n))
 }
 
