@@ -5,7 +5,7 @@ use Rattle.std.proofs.lemmas.Fmt.{decimal-digits_value}
 use Rattle.core.proofs.dec2flt.Rows.{AllDigits-digits_len}
 use Rattle.std.specs.Array.{IsFirstChunk}
 use Rattle.std.specs.Prelude.{IsSome, IfSome}
-use Rattle.std.proofs.lemmas.List.{drop_all, length-take-le, drop-drop, take-append-drop, get_or-take}
+use Rattle.std.proofs.lemmas.List.{take_all, take-append-le, drop_all, length-take-le, drop-drop, take-append-drop, get_or-take}
 use Rattle.std.proofs.lemmas.Slice.{between_from_start}
 use Rattle.std.proofs.lemmas.Str.Parse.{digits_value_short}
 use Rattle.std.specs.Float.Numeral.{digits_len}
@@ -52,6 +52,27 @@ leading_found bytes chunk (Some (item, n)) first found =
       spans_front bytes n item (omega (arith, front.0, long, first.enough))
           (sym (take-front bytes n 16 (omega (arith, front.0, long))) ∙ ap (take n) (sym first.same) ∙ sym found.1),
     )
+
+taken : (bytes text : List ℕ) (n : ℕ) → Spans bytes 0 text n → take n bytes ≡ text
+taken bytes text n s =
+    let size : length bytes ≡ length text + length (drop n bytes) = ap length s.reads ∙ length-append text (drop n bytes) in
+    let left = length-drop n bytes in
+    let within = s.within in
+    let all : n ≡ length text = omega arith in
+    ap (take n) s.reads ∙ (take-append-le n text (drop n bytes) (omega (arith, all)) ∙ take_all n text (omega (arith, all)))
+
+-- what stands at the front of the first bytes, as a whole text, stands at the front of all
+spans_room : (bytes room text : List ℕ) (m n : ℕ) → IsFirstChunk bytes room m → Spans room 0 text n → Spans bytes 0 text n
+spans_room bytes room text m n first s =
+    let size : length room ≡ m = ap length first.same ∙ length-take-le m bytes first.enough in
+    let within = s.within in
+    let enough = first.enough in
+    spans_front bytes n text (omega arith) (sym (take-front bytes n m (omega arith)) ∙ (ap (take n) (sym first.same) ∙ taken room text n s))
+
+pub room_found : {A : Type 0} (Is : A → Type 0) (text : A → List ℕ) (bytes room : List ℕ) (m : ℕ) (r : Option (A × ℕ)) → IsFirstChunk bytes room m
+    → IfSome r (λ r. Is r.0 × Spans room 0 (text r.0) r.1) → IfSome r (λ r. Is r.0 × Spans bytes 0 (text r.0) r.1)
+room_found Is text bytes room m None first found = tt
+room_found Is text bytes room m (Some (a, n)) first found = (found.0, spans_room bytes room (text a) m n first found.1)
 
 pub spans_word : (bytes : List ℕ) (from : ℕ) (word rest last : List ℕ) → from ≤ length bytes → rest ≡ drop from bytes → rest ≡ word ++ last → Spans bytes from word (from + length word)
 spans_word bytes from word rest last within is starts =

@@ -14,6 +14,12 @@ use crate::reading_events::Place;
 use core::dec2flt::read_digits;
 use sgt_names::{Entry, Holding, Item, SiteNo, Tx, Value};
 
+/// No number has more digits.
+const MOST_DIGITS: usize = 20;
+
+/// Within so many bytes an entry's line is read, wherever its parts end.
+const ROOM: usize = 64;
+
 /// The place behind this byte.
 #[inline(always)]
 fn byte_at(bytes: &[u8], from: usize, byte: u8) -> Option<usize>
@@ -89,6 +95,10 @@ fn front_value(bytes: &[u8]) -> Option<(Value, usize)>
         }
     }
     let (value, n) = other_value(bytes)?;
+    // never so, but told here, so that the places behind it are known to be near
+    if n > MOST_DIGITS {
+        return None;
+    }
     Some((value, n))
 }
 
@@ -248,6 +258,27 @@ fn front_entry(bytes: &[u8], wants_lf: bool) -> Option<(SectionLine, usize)>
     of_operation(letter, tx, item, value, line_end(bytes, to, wants_lf)?)
 }
 
+/// The same near the end of the bytes.
+#[inline(never)]
+fn last_entry(bytes: &[u8], wants_lf: bool) -> Option<(SectionLine, usize)>
+    ensures { IfSome result
+        (λ r. IsLine r.0 × Spans bytes.now 0 (line_text r.0 ++ ending wants_lf) r.1) }
+{
+    front_entry(bytes, wants_lf)
+}
+
+/// The same. Where there is room for every entry, none of its places needs a test.
+#[inline(always)]
+fn roomy_entry(bytes: &[u8], wants_lf: bool) -> Option<(SectionLine, usize)>
+    ensures { IfSome result
+        (λ r. IsLine r.0 × Spans bytes.now 0 (line_text r.0 ++ ending wants_lf) r.1) }
+{
+    match bytes.first_chunk::<ROOM>() {
+        Some(room) => front_entry(room, wants_lf),
+        None => last_entry(bytes, wants_lf),
+    }
+}
+
 /// The line at the front that is no entry's, and the place behind it.
 fn word_line(bytes: &[u8]) -> Option<(SectionLine, usize)>
     ensures { IfSome result (λ r. IsLine r.0 × Spans bytes.now 0 (line_text r.0) r.1) }
@@ -291,7 +322,7 @@ pub(crate) fn front_section(bytes: &[u8], wants_lf: bool) -> Option<(SectionLine
             let (line, to) = front_word(bytes, wants_lf)?;
             Some((line, to))
         }
-        _ => front_entry(bytes, wants_lf),
+        _ => roomy_entry(bytes, wants_lf),
     }
 }
 
