@@ -40,4 +40,4 @@ short_number bytes chunk n value fits first reads some few plain =
     let end : digits_len bytes ≡ digits_len front = digits_len_short bytes 8 (omega (arith, r.0, few)) in
     let here : get_or chunk 0 0 ≡ get_or bytes 0 0 = ap (λ l. get_or l 0 0) first.same ∙ get_or-take 8 bytes 0 0 (omega arith) in
     front_digits bytes n value (omega (arith, end, r.0)) (r.1 ∙ ap (digits_value 10) (take-front bytes n 8 (omega (arith, few)))) some (omega (arith, few))
-        (let enough = first.enough in omega (arith, enough, few)) (λ z. absurd (plain (here ∙ z)))
+    (let enough = first.enough in omega (arith, enough, few)) (λ z. absurd (plain (here ∙ z)))
