@@ -165,6 +165,24 @@ leading-begins (c ∷ cs) begins =
     let more : prefix_len is_name_byte (c ∷ cs) ≡ suc (prefix_len is_name_byte cs) = omega (arith, step) in
     subst (λ (n : ℕ). BeginsName (take n (c ∷ cs))) (sym more) begins
 
+some-letters : (b : Bool) (n : ℕ) → (cond b (1 + n) 0 ≡ 0 → ⊥) → b ≡ true
+some-letters true n some = refl
+some-letters false n some = absurd (some refl)
+
+no-letters : (b : Bool) (n : ℕ) → cond b (1 + n) 0 ≡ 0 → b ≡ true → ⊥
+no-letters true n none is = absurd (omega (arith, none))
+no-letters false n none is = cc is
+
+-- a name begins with some letters
+pub letters-begin : (bytes : List ℕ) (n : ℕ) → n ≡ prefix_len is_small_letter bytes → (n ≡ 0 → ⊥) → BeginsName bytes
+letters-begin [] n is some = absurd (some is)
+letters-begin (c ∷ cs) n is some = some-letters (is_small_letter c) (prefix_len is_small_letter cs) (λ none. some (is ∙ none))
+
+pub no-letters-front : (bytes : List ℕ) (n len : ℕ) → n ≡ prefix_len is_small_letter bytes → n ≡ 0 → SpellsFront bytes len → ⊥
+no-letters-front bytes n zero is none spells = spells.1
+no-letters-front [] n (suc len) is none spells = spells.1
+no-letters-front (c ∷ cs) n (suc len) is none spells = no-letters (is_small_letter c) (prefix_len is_small_letter cs) (sym is ∙ none) spells.1.0
+
 counted : (b : Bool) (m n : ℕ) → m ≤ n → cond b (1 + m) 0 ≤ suc n
 counted true m n le = omega (arith, le)
 counted false m n le = omega (arith, le)

@@ -91,7 +91,7 @@ impl Item {
         ensures some { IfSome result (λ r. SpellsFront bytes.now r.1 × (r.0 ≡ take r.1 bytes.now)) }
         ensures longest { IfSome result (λ r. r.1 ≡ prefix_len is_name_byte bytes.now) }
     {
-        if !is_first(bytes) {
+        if letters_len(bytes) == 0 {
             return None;
         }
         let len = name_bytes_len(bytes);
@@ -232,6 +232,16 @@ fn name_bytes_len(bytes: &[u8; 16]) -> usize
     let is_no_digit = lanes.simd_lt(u8x16::splat(b'0')) | lanes.simd_gt(u8x16::splat(b'9'));
     let stops = is_no_letter & is_no_digit & lanes.simd_ne(u8x16::splat(b'_'));
     first_set(stops.to_bitmask())
+}
+
+// How many small letters stand at the front.
+#[inline(always)]
+fn letters_len(bytes: &[u8; 16]) -> usize
+    ensures { result ≡ prefix_len is_small_letter bytes.now }
+{
+    let lanes = u8x16::from_array(*bytes);
+    let is_no_letter = lanes.simd_lt(u8x16::splat(b'a')) | lanes.simd_gt(u8x16::splat(b'z'));
+    first_set(is_no_letter.to_bitmask())
 }
 
 // Whether each of so many first bytes may stand in a name.
