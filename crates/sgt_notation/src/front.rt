@@ -316,13 +316,13 @@ pub(crate) fn front_section(bytes: &[u8], wants_lf: bool) -> Option<(SectionLine
     ensures { IfSome result
         (λ r. IsLine r.0 × Spans bytes.now 0 (line_text r.0 ++ ending wants_lf) r.1) }
 {
-    match bytes.first() {
-        Some(b'e' | b'f' | b'i' | b's') => {
-            // taken apart, so that what `front_entry` finds need not go through the same memory
+    match roomy_entry(bytes, wants_lf) {
+        Some(found) => Some(found),
+        None => {
+            // taken apart, so that what `roomy_entry` finds need not go through the same memory
             let (line, to) = front_word(bytes, wants_lf)?;
             Some((line, to))
         }
-        _ => roomy_entry(bytes, wants_lf),
     }
 }
 
