@@ -275,7 +275,11 @@ fn roomy_entry(bytes: &[u8], wants_lf: bool) -> Option<(SectionLine, usize)>
 {
     match bytes.first_chunk::<ROOM>() {
         Some(room) => front_entry(room, wants_lf),
-        None => last_entry(bytes, wants_lf),
+        None => {
+            // taken apart, so that what stands in the room need not go through the same memory
+            let (line, to) = last_entry(bytes, wants_lf)?;
+            Some((line, to))
+        }
     }
 }
 
