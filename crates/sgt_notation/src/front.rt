@@ -80,6 +80,19 @@ fn other_value(bytes: &[u8]) -> Option<(Value, usize)>
     Some((value, n))
 }
 
+/// The same, by way of memory that only this way touches.
+#[inline(always)]
+fn far_value(bytes: &[u8]) -> Option<(Value, usize)>
+    ensures { IfSome result (λ r. IsValue r.0 × Spans bytes.now 0 (decimal r.0) r.1) }
+{
+    let (value, n) = other_value(bytes)?;
+    // never so, but told here, so that the places behind it are known to be near
+    if n > MOST_DIGITS {
+        return None;
+    }
+    Some((value, n))
+}
+
 /// The number at the front, and how many digits it has. One of up to seven digits, with no zero first, is read at once.
 #[inline(always)]
 fn front_value(bytes: &[u8]) -> Option<(Value, usize)>
@@ -94,12 +107,7 @@ fn front_value(bytes: &[u8]) -> Option<(Value, usize)>
             return Some((value, n));
         }
     }
-    let (value, n) = other_value(bytes)?;
-    // never so, but told here, so that the places behind it are known to be near
-    if n > MOST_DIGITS {
-        return None;
-    }
-    Some((value, n))
+    far_value(bytes)
 }
 
 /// A number, and the place behind it.
@@ -267,6 +275,16 @@ fn last_entry(bytes: &[u8], wants_lf: bool) -> Option<(SectionLine, usize)>
     front_entry(bytes, wants_lf)
 }
 
+/// The same, by way of memory that only this way touches.
+#[inline(always)]
+fn far_entry(bytes: &[u8], wants_lf: bool) -> Option<(SectionLine, usize)>
+    ensures { IfSome result
+        (λ r. IsLine r.0 × Spans bytes.now 0 (line_text r.0 ++ ending wants_lf) r.1) }
+{
+    let (line, to) = last_entry(bytes, wants_lf)?;
+    Some((line, to))
+}
+
 /// The same. Where there is room for every entry, none of its places needs a test.
 #[inline(always)]
 fn roomy_entry(bytes: &[u8], wants_lf: bool) -> Option<(SectionLine, usize)>
@@ -275,11 +293,7 @@ fn roomy_entry(bytes: &[u8], wants_lf: bool) -> Option<(SectionLine, usize)>
 {
     match bytes.first_chunk::<ROOM>() {
         Some(room) => front_entry(room, wants_lf),
-        None => {
-            // taken apart, so that what stands in the room need not go through the same memory
-            let (line, to) = last_entry(bytes, wants_lf)?;
-            Some((line, to))
-        }
+        None => far_entry(bytes, wants_lf),
     }
 }
 
@@ -314,6 +328,16 @@ fn front_word(bytes: &[u8], wants_lf: bool) -> Option<(SectionLine, usize)>
     Some((line, line_end(bytes, to, wants_lf)?))
 }
 
+/// The same, by way of memory that only this way touches.
+#[inline(always)]
+fn far_word(bytes: &[u8], wants_lf: bool) -> Option<(SectionLine, usize)>
+    ensures { IfSome result
+        (λ r. IsLine r.0 × Spans bytes.now 0 (line_text r.0 ++ ending wants_lf) r.1) }
+{
+    let (line, to) = front_word(bytes, wants_lf)?;
+    Some((line, to))
+}
+
 /// The line of a section at the front, and the place behind it, or behind its LF.
 #[inline(always)]
 pub(crate) fn front_section(bytes: &[u8], wants_lf: bool) -> Option<(SectionLine, usize)>
@@ -322,11 +346,7 @@ pub(crate) fn front_section(bytes: &[u8], wants_lf: bool) -> Option<(SectionLine
 {
     match roomy_entry(bytes, wants_lf) {
         Some(found) => Some(found),
-        None => {
-            // taken apart, so that what `roomy_entry` finds need not go through the same memory
-            let (line, to) = front_word(bytes, wants_lf)?;
-            Some((line, to))
-        }
+        None => far_word(bytes, wants_lf),
     }
 }
 
