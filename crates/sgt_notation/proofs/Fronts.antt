@@ -1,17 +1,16 @@
 -- What stands at the front of bytes, and what is behind it.
-use Rattle.std.proofs.Common.{◌≡◌, inl, inr, ℕ, zero, suc, ◌+◌, ◌-◌, ◌*◌, ◌%◌, ◌<◌, ◌≤◌, ◌^◌, List, [], ◌∷◌, ◌++◌, length, take, drop, get_or, Option, Some, None, Result, Ok, Err, refl, sym, ap, ◌∙◌, subst, decimal, append_assoc, append-nil, length-append, length-take, length-drop, arith}
+use Rattle.std.proofs.Common.{◌≡◌, inl, inr, ℕ, zero, suc, ◌+◌, ◌-◌, ◌*◌, ◌%◌, ◌<◌, ◌≤◌, ◌^◌, List, [], ◌∷◌, ◌++◌, length, take, drop, get_or, Option, Some, None, refl, sym, ap, ◌∙◌, subst, decimal, append_assoc, append-nil, length-append, length-take, length-drop, arith}
 use Rattle.std.proofs.Math.Seq.{drop-append_seam}
 use Rattle.std.proofs.lemmas.Fmt.{decimal-digits_value}
 use Rattle.core.proofs.dec2flt.Rows.{AllDigits-digits_len}
 use Rattle.std.specs.Array.{IsFirstChunk}
-use Rattle.std.specs.Prelude.{IsSome, IfSome}
+use Rattle.std.specs.Prelude.{IfSome}
 use Rattle.std.proofs.lemmas.List.{take_all, take-append-le, drop_all, length-take-le, drop-drop, take-append-drop, get_or-take}
 use Rattle.std.proofs.lemmas.Slice.{between_from_start}
 use Rattle.std.proofs.lemmas.Str.Parse.{digits_value_short}
 use Rattle.std.specs.Float.Numeral.{digits_len}
 use Rattle.std.specs.Prelude.{slice_range}
 use Rattle.std.specs.Str.Parse.{AllDigits, digits_value}
-use Rattle.std.specs.Result.{OkIff, result_ok}
 use Rattle.sgt_names.specs.Name.{IsName, SpellsFront}
 use Rattle.sgt_notation.specs.Lines.{Ahead, GaveNext, Spends, coming, passed, stream, Gives}
 use Rattle.sgt_notation.specs.Private.{Spans}

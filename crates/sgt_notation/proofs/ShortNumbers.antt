@@ -1,5 +1,5 @@
 -- Numbers of up to seven digits, as they are read from eight bytes.
-use Rattle.std.proofs.Common.{◌≡◌, ℕ, ◌<◌, ◌≤◌, List, [], ◌∷◌, length, take, get_or, sym, ap, ◌∙◌, decimal, arith}
+use Rattle.std.proofs.Common.{◌≡◌, ℕ, ◌<◌, List, [], ◌∷◌, length, take, get_or, ap, ◌∙◌, decimal, arith}
 use Rattle.std.proofs.lemmas.List.{get_or-take}
 use Rattle.std.specs.Array.{IsFirstChunk}
 use Rattle.std.specs.Float.Numeral.{digits_len}
