@@ -58,6 +58,29 @@ fn names_of_items(rt: HostRuntime) {
     }
 }
 
+const LEADING: [(&[u8; 16], &str); 6] = [
+    (b"x_1]=5\nr2[y]=0\n", "x_1"),
+    (b"abcdefghijklmnop", "abcdefghijklmnop"),
+    (b"z9_ a           ", "z9_"),
+    (b"9x=5            ", ""),
+    (b"_x=5            ", ""),
+    (b"Xy=5            ", ""),
+];
+
+#[test]
+fn names_at_the_front(rt: HostRuntime) -> Result<(), Fail> {
+    for (bytes, name) in LEADING {
+        let same = match Item::leading(bytes) {
+            Some((item, len)) => item.as_bytes() == name.as_bytes() && len == name.len(),
+            None => name.is_empty(),
+        };
+        assert!(rt; same, "{name}");
+    }
+    assert!(rt; Item::new(b"x")?.key() == 120);
+    assert!(rt; Item::new(b"abcdefghi")?.key() == 0x6867_6668_4463_6261);
+    Ok(())
+}
+
 #[test]
 fn what_is_printed(rt: HostRuntime) -> Result<(), Fail> {
     let (tx, site, item) = (Tx::new(7)?, SiteNo::new(3)?, Item::new(b"a_")?);

@@ -1,7 +1,7 @@
 //! The names of items.
 
 ghost use Rattle.std.specs.Prelude.{◌≡◌, ◌≤◌, ◌-◌, ◌++◌, ◌↔◌, IsTrue, take, replicate};
-ghost use Rattle.std.specs.List.{list_all, prefix_len};
+ghost use Rattle.std.specs.List.{prefix_len};
 ghost use Rattle.std.specs.Prelude.{Some, refl, bytes_eq};
 ghost use Rattle.std.specs.Ordering.{nat_cmp};
 ghost use Rattle.std.specs.Cmp.{partial_equiv_from_equiv};
@@ -68,20 +68,6 @@ impl Item {
             return Err(BadName);
         }
         Ok(Item { bytes: padded })
-    }
-
-    /// The name that the first bytes spell, so many of them, if they spell one. What stands behind them is not looked at.
-    #[inline(always)]
-    pub fn front(bytes: &[u8; 16], len: usize) -> Option<Item>
-        ensures is { IsSome result ↔ SpellsFront bytes.now len }
-        ensures some { IfSome result (λ item. item ≡ take len bytes.now) }
-    {
-        if len > 16 || !is_first(&bytes[..len]) || !are_name_bytes(bytes, len) {
-            return None;
-        }
-        Some(Item {
-            bytes: kept_to(bytes, len),
-        })
     }
 
     /// The longest name that stands at the front, and how many bytes it has. None where no name stands there.
@@ -242,15 +228,6 @@ fn letters_len(bytes: &[u8; 16]) -> usize
     let lanes = u8x16::from_array(*bytes);
     let is_no_letter = lanes.simd_lt(u8x16::splat(b'a')) | lanes.simd_gt(u8x16::splat(b'z'));
     first_set(is_no_letter.to_bitmask())
-}
-
-// Whether each of so many first bytes may stand in a name.
-#[inline(always)]
-fn are_name_bytes(bytes: &[u8; 16], len: usize) -> bool
-    requires { len ≤ 16 }
-    ensures { result ≡ list_all is_name_byte (take len bytes.now) }
-{
-    len <= name_bytes_len(bytes)
 }
 
 // Keeps the bytes in front of zeros, if there are at most 16 and each may stand in a name.
