@@ -59,7 +59,7 @@ fn names_of_items(rt: HostRuntime) {
 }
 
 const LEADING: [(&[u8; 16], &str); 6] = [
-    (b"x_1]=5\nr2[y]=0\n", "x_1"),
+    (b"x_1]=5\nr2[y]=05\n", "x_1"),
     (b"abcdefghijklmnop", "abcdefghijklmnop"),
     (b"z9_ a           ", "z9_"),
     (b"9x=5            ", ""),
