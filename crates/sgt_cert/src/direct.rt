@@ -1,7 +1,8 @@
 //! The certificate whose text a line is, read in one pass and without a tree. A line of which nothing is read here may
 //! still be that of a certificate.
 
-ghost use Rattle.std.specs.Prelude.{◌≡◌, ◌≢◌, ◌++◌, ◌<◌, ◌≤◌, ℕ, List, All, IfOk, IfSome, MatchOption, codes, decimal, false};
+ghost use Rattle.std.specs.Prelude.{◌≡◌, ◌≢◌, ◌++◌, ◌<◌, ◌≤◌, ◌↔◌, ℕ, List, length, IsTrue, All, IfOk, IfSome, MatchOption, codes};
+ghost use Rattle.std.specs.Prelude.{decimal, false};
 ghost use Rattle.serde_json.specs.Written.{compact_text, items_text};
 ghost use Rattle.sgt_names.specs.Limits.{max_sites};
 ghost use Rattle.sgt_names.specs.Name.{IsName};
@@ -14,12 +15,31 @@ use core::dec2flt::read_digits;
 use sgt_names::{Item, Kind, Label, Listed, MAX_SITES, SiteNo, Tx};
 use std::alloc::{AllocError, Global};
 
+/// Whether the bytes are those of the word. No byte decides alone, so a constant word is compared by eight bytes at a time.
+#[inline(always)]
+fn are_same(bytes: &[u8], word: &[u8]) -> bool
+    requires { length bytes.now ≡ length word.now }
+    ensures { IsTrue result ↔ (bytes.now ≡ word.now) }
+{
+    let mut same = true;
+    for i in 0..word.len() {
+        same &= bytes[i] == word[i];
+    }
+    same
+}
+
 /// What stands behind this word, where it stands in front.
+#[inline(always)]
 fn behind<'b>(bytes: &'b [u8], word: &[u8]) -> Option<&'b [u8]>
     ensures { MatchOption result ((rest : List ℕ) → bytes.entry.now ≢ word.now ++ rest)
         (λ rest. bytes.entry.now ≡ word.now ++ rest.now) }
 {
-    bytes.strip_prefix(word)
+    let (front, rest) = bytes.split_at_checked(word.len())?;
+    if are_same(front, word) {
+        Some(rest)
+    } else {
+        None
+    }
 }
 
 /// The number in front, and what stands behind it.
@@ -36,6 +56,7 @@ pub(crate) fn number(bytes: &[u8]) -> Option<(u64, &[u8])>
 }
 
 /// The transaction in front.
+#[inline(always)]
 fn transaction(bytes: &[u8]) -> Option<(Tx, &[u8])>
     ensures { IfSome result (λ r. IsTx r.0 × (bytes.now ≡ decimal r.0 ++ r.1.now)) }
 {
@@ -45,6 +66,7 @@ fn transaction(bytes: &[u8]) -> Option<(Tx, &[u8])>
 }
 
 /// The name up to the quotation mark.
+#[inline(always)]
 fn item(bytes: &[u8]) -> Option<(Item, &[u8])>
     ensures { IfSome result (λ r. IsName r.0 × (bytes.now ≡ r.0 ++ r.1.now)) }
 {
@@ -54,6 +76,7 @@ fn item(bytes: &[u8]) -> Option<(Item, &[u8])>
     Some((item, rest))
 }
 
+#[inline(always)]
 fn kind(bytes: &[u8]) -> Option<(Kind, &[u8])>
     ensures { IfSome result (λ r. bytes.now ≡ kind_name r.0 ++ r.1.now) }
 {
@@ -68,6 +91,7 @@ fn kind(bytes: &[u8]) -> Option<(Kind, &[u8])>
 }
 
 /// The item, the kind and the site of a step.
+#[inline(always)]
 fn label(bytes: &[u8]) -> Option<(Label, &[u8])>
     ensures in_range { IfSome result (λ r. IsName r.0.item × (r.0.site < max_sites)) }
     ensures text { IfSome result (λ r. bytes.now ≡ codes "{\"item\":\"" ++ (r.0.item ++ (codes "\",\"kind\":\""
@@ -89,6 +113,7 @@ fn label(bytes: &[u8]) -> Option<(Label, &[u8])>
     Some((Label { site, item, kind }, rest))
 }
 
+#[inline(always)]
 fn step(bytes: &[u8]) -> Option<(Step, &[u8])>
     ensures { IfSome result (λ r. IsStep max_sites r.0 × (bytes.now ≡ compact_text (step_data r.0) ++ r.1.now)) }
 {
@@ -104,6 +129,7 @@ fn step(bytes: &[u8]) -> Option<(Step, &[u8])>
 }
 
 /// The steps up to the closing bracket, behind those that the walk has, and what stands behind the bracket.
+#[inline(always)]
 fn add_steps<'b>(walk: &mut Vec<Step>, bytes: &'b [u8]) -> Result<Option<&'b [u8]>, AllocError>
     ensures in_range { IfOk result (λ found. IfSome found (λ _.
         All (IsStep max_sites) walk.old.items → All (IsStep max_sites) walk.new.items)) }
@@ -124,6 +150,7 @@ fn add_steps<'b>(walk: &mut Vec<Step>, bytes: &'b [u8]) -> Result<Option<&'b [u8
     Ok(None)
 }
 
+#[inline(always)]
 fn commit(bytes: &[u8]) -> Option<(Decision, &[u8])>
     ensures { IfSome result (λ r. IsDecision max_sites r.0 × (bytes.now ≡ compact_text (decision_data r.0) ++ r.1.now)) }
 {
@@ -140,6 +167,7 @@ fn commit(bytes: &[u8]) -> Option<(Decision, &[u8])>
     Some((Decision::Commit { tx, rank }, rest))
 }
 
+#[inline(always)]
 fn withdrawal(bytes: &[u8]) -> Option<(Decision, &[u8])>
     ensures { IfSome result (λ r. IsDecision max_sites r.0 × (bytes.now ≡ compact_text (decision_data r.0) ++ r.1.now)) }
 {
@@ -152,6 +180,7 @@ fn withdrawal(bytes: &[u8]) -> Option<(Decision, &[u8])>
 }
 
 /// The transaction of a refusal, and what stands from its first step on.
+#[inline(always)]
 fn refused(bytes: &[u8]) -> Option<(Tx, &[u8])>
     ensures { IfSome result (λ r. IsTx r.0 × (bytes.now ≡ codes "{\"refuse\":" ++ (decimal r.0 ++ (codes ",\"walk\":[" ++ r.1.now)))) }
 {
@@ -163,6 +192,7 @@ fn refused(bytes: &[u8]) -> Option<(Tx, &[u8])>
     Some((tx, rest))
 }
 
+#[inline(never)]
 fn refusal(alloc: Global, bytes: &[u8]) -> Result<Option<(Decision, &[u8])>, AllocError>
     ensures { IfOk result (λ found. IfSome found (λ r.
         IsDecision max_sites r.0 × (bytes.now ≡ compact_text (decision_data r.0) ++ r.1.now))) }
@@ -181,6 +211,7 @@ fn refusal(alloc: Global, bytes: &[u8]) -> Result<Option<(Decision, &[u8])>, All
     Ok(Some((Decision::Refuse { tx, walk }, rest)))
 }
 
+#[inline(always)]
 fn decision(alloc: Global, bytes: &[u8]) -> Result<Option<(Decision, &[u8])>, AllocError>
     ensures { IfOk result (λ found. IfSome found (λ r.
         IsDecision max_sites r.0 × (bytes.now ≡ compact_text (decision_data r.0) ++ r.1.now))) }
@@ -195,6 +226,7 @@ fn decision(alloc: Global, bytes: &[u8]) -> Result<Option<(Decision, &[u8])>, Al
 }
 
 /// The decisions up to the closing bracket, behind those that there are, and what stands behind the bracket.
+#[inline(always)]
 fn add_decisions<'b>(
     alloc: Global,
     decisions: &mut Vec<Decision>,
