@@ -1,8 +1,10 @@
 //! The certificate whose text a line is, read in one pass and without a tree. A line of which nothing is read here may
 //! still be that of a certificate.
 
-ghost use Rattle.std.specs.Prelude.{◌≡◌, ◌≢◌, ◌++◌, ◌<◌, ◌≤◌, ◌↔◌, ℕ, List, length, IsTrue, All, IfOk, IfSome, MatchOption, codes};
-ghost use Rattle.std.specs.Prelude.{decimal, false};
+ghost use Rattle.std.specs.Prelude.{◌≡◌, ◌≢◌, ◌++◌, ◌<◌, ◌≤◌, ◌↔◌, ℕ, List, length, drop, IsTrue, All, IfOk, IfSome, MatchOption, codes};
+ghost use Rattle.std.specs.Prelude.{◌%◌, ◌^◌, decimal, false, slice_range};
+ghost use Rattle.std.specs.Float.Numeral.{digits_len};
+ghost use Rattle.std.specs.Str.Parse.{digits_value};
 ghost use Rattle.serde_json.specs.Written.{compact_text, items_text};
 ghost use Rattle.sgt_names.specs.Limits.{max_sites};
 ghost use Rattle.sgt_names.specs.Name.{IsName};
@@ -14,6 +16,7 @@ use crate::certificate::{Certificate, Decision, Step};
 use core::dec2flt::read_digits;
 use sgt_names::{Item, Kind, Label, Listed, MAX_SITES, SiteNo, Tx};
 use std::alloc::{AllocError, Global};
+use std::simd::prelude::*;
 
 /// Whether the bytes are those of the word. No byte decides alone, so a constant word is compared by eight bytes at a time.
 #[inline(always)]
@@ -42,12 +45,28 @@ fn behind<'b>(bytes: &'b [u8], word: &[u8]) -> Option<&'b [u8]>
     }
 }
 
+/// How many digits stand in front, and their number wrapped to 64 bits. Up to seven are read from eight bytes, with no loop.
+#[inline(always)]
+fn digits(bytes: &[u8]) -> (usize, u64)
+    ensures end { result.0 ≡ digits_len bytes.now }
+    ensures within { result.0 ≤ length bytes.now }
+    ensures value { result.1 ≡ digits_value 10 (slice_range bytes.now 0 result.0) % 2 ^ 64 }
+{
+    if let Some(chunk) = bytes.first_chunk::<8>() {
+        let (n, number) = read_digits(chunk.as_slice(), 0, 0);
+        if n < 8 {
+            return (n, number);
+        }
+    }
+    read_digits(bytes, 0, 0)
+}
+
 /// The number in front, and what stands behind it.
 #[inline(always)]
 pub(crate) fn number(bytes: &[u8]) -> Option<(u64, &[u8])>
     ensures { IfSome result (λ r. bytes.now ≡ decimal r.0 ++ r.1.now) }
 {
-    let (n, number) = read_digits(bytes, 0, 0);
+    let (n, number) = digits(bytes);
     if n == 0 || n > 19 || (n > 1 && bytes[0] == b'0') {
         return None;
     }
@@ -65,14 +84,40 @@ fn transaction(bytes: &[u8]) -> Option<(Tx, &[u8])>
     Some((tx, rest))
 }
 
+/// How many of the first bytes stand before the first quotation mark, or 16. Nothing rests on it: it is only tried.
+#[inline(always)]
+fn guess_length(bytes: &[u8]) -> usize {
+    match bytes.first_chunk::<16>() {
+        Some(chunk) => {
+            let marks = u8x16::from_array(*chunk).simd_eq(u8x16::splat(b'"'));
+            (marks.to_bitmask() | 1 << 16).trailing_zeros() as usize
+        }
+        None => bytes.iter().position(|byte| *byte == b'"').unwrap_or(0),
+    }
+}
+
+/// The name that so many of the first bytes spell.
+#[inline(always)]
+fn name(bytes: &[u8], length: usize) -> Option<Item>
+    ensures { IfSome result (λ item. IsName item × (bytes.now ≡ item ++ drop length bytes.now)) }
+{
+    match bytes.first_chunk::<16>() {
+        Some(chunk) => Item::front(chunk, length),
+        None => {
+            let (name, _) = bytes.split_at_checked(length)?;
+            Item::new(name).ok()
+        }
+    }
+}
+
 /// The name up to the quotation mark.
 #[inline(always)]
 fn item(bytes: &[u8]) -> Option<(Item, &[u8])>
     ensures { IfSome result (λ r. IsName r.0 × (bytes.now ≡ r.0 ++ r.1.now)) }
 {
-    let length = bytes.iter().position(|byte| *byte == b'"')?;
-    let (name, rest) = bytes.split_at_checked(length)?;
-    let item = Item::new(name).ok()?;
+    let length = guess_length(bytes);
+    let item = name(bytes, length)?;
+    let (_, rest) = bytes.split_at_checked(length)?;
     Some((item, rest))
 }
 
