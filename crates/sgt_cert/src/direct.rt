@@ -1,7 +1,10 @@
 //! The certificate whose text a line is, read in one pass and without a tree. A line of which nothing is read here may
 //! still be that of a certificate.
 
-ghost use Rattle.std.specs.Prelude.{◌≡◌, ◌≢◌, ◌++◌, ◌<◌, ◌≤◌, ℕ, List, All, IfOk, IfSome, MatchOption, codes, decimal, false};
+ghost use Rattle.std.specs.Prelude.{◌≡◌, ◌≢◌, ◌++◌, ◌<◌, ◌≤◌, ◌↔◌, ℕ, List, length, drop, IsTrue, All, IfOk, IfSome, MatchOption, codes};
+ghost use Rattle.std.specs.Prelude.{◌%◌, ◌^◌, decimal, false, slice_range};
+ghost use Rattle.std.specs.Float.Numeral.{digits_len};
+ghost use Rattle.std.specs.Str.Parse.{digits_value};
 ghost use Rattle.serde_json.specs.Written.{compact_text, items_text};
 ghost use Rattle.sgt_names.specs.Limits.{max_sites};
 ghost use Rattle.sgt_names.specs.Name.{IsName};
@@ -13,13 +16,49 @@ use crate::certificate::{Certificate, Decision, Step};
 use core::dec2flt::read_digits;
 use sgt_names::{Item, Kind, Label, Listed, MAX_SITES, SiteNo, Tx};
 use std::alloc::{AllocError, Global};
+use std::simd::prelude::*;
+
+/// Whether the bytes are those of the word. No byte decides alone, so a constant word is compared by eight bytes at a time.
+#[inline(always)]
+fn are_same(bytes: &[u8], word: &[u8]) -> bool
+    requires { length bytes.now ≡ length word.now }
+    ensures { IsTrue result ↔ (bytes.now ≡ word.now) }
+{
+    let mut same = true;
+    for i in 0..word.len() {
+        same &= bytes[i] == word[i];
+    }
+    same
+}
 
 /// What stands behind this word, where it stands in front.
+#[inline(always)]
 fn behind<'b>(bytes: &'b [u8], word: &[u8]) -> Option<&'b [u8]>
     ensures { MatchOption result ((rest : List ℕ) → bytes.entry.now ≢ word.now ++ rest)
         (λ rest. bytes.entry.now ≡ word.now ++ rest.now) }
 {
-    bytes.strip_prefix(word)
+    let (front, rest) = bytes.split_at_checked(word.len())?;
+    if are_same(front, word) {
+        Some(rest)
+    } else {
+        None
+    }
+}
+
+/// How many digits stand in front, and their number wrapped to 64 bits. Up to seven are read from eight bytes, with no loop.
+#[inline(always)]
+fn digits(bytes: &[u8]) -> (usize, u64)
+    ensures end { result.0 ≡ digits_len bytes.now }
+    ensures within { result.0 ≤ length bytes.now }
+    ensures value { result.1 ≡ digits_value 10 (slice_range bytes.now 0 result.0) % 2 ^ 64 }
+{
+    if let Some(chunk) = bytes.first_chunk::<8>() {
+        let (n, number) = read_digits(chunk.as_slice(), 0, 0);
+        if n < 8 {
+            return (n, number);
+        }
+    }
+    read_digits(bytes, 0, 0)
 }
 
 /// The number in front, and what stands behind it.
@@ -27,7 +66,7 @@ fn behind<'b>(bytes: &'b [u8], word: &[u8]) -> Option<&'b [u8]>
 pub(crate) fn number(bytes: &[u8]) -> Option<(u64, &[u8])>
     ensures { IfSome result (λ r. bytes.now ≡ decimal r.0 ++ r.1.now) }
 {
-    let (n, number) = read_digits(bytes, 0, 0);
+    let (n, number) = digits(bytes);
     if n == 0 || n > 19 || (n > 1 && bytes[0] == b'0') {
         return None;
     }
@@ -36,6 +75,7 @@ pub(crate) fn number(bytes: &[u8]) -> Option<(u64, &[u8])>
 }
 
 /// The transaction in front.
+#[inline(always)]
 fn transaction(bytes: &[u8]) -> Option<(Tx, &[u8])>
     ensures { IfSome result (λ r. IsTx r.0 × (bytes.now ≡ decimal r.0 ++ r.1.now)) }
 {
@@ -44,16 +84,44 @@ fn transaction(bytes: &[u8]) -> Option<(Tx, &[u8])>
     Some((tx, rest))
 }
 
+/// How many of the first bytes stand before the first quotation mark, or 16. Nothing rests on it: it is only tried.
+#[inline(always)]
+fn guess_length(bytes: &[u8]) -> usize {
+    match bytes.first_chunk::<16>() {
+        Some(chunk) => {
+            let marks = u8x16::from_array(*chunk).simd_eq(u8x16::splat(b'"'));
+            (marks.to_bitmask() | 1 << 16).trailing_zeros() as usize
+        }
+        None => bytes.iter().position(|byte| *byte == b'"').unwrap_or(0),
+    }
+}
+
+/// The name that so many of the first bytes spell.
+#[inline(always)]
+fn name(bytes: &[u8], length: usize) -> Option<Item>
+    ensures { IfSome result (λ item. IsName item × (bytes.now ≡ item ++ drop length bytes.now)) }
+{
+    match bytes.first_chunk::<16>() {
+        Some(chunk) => Item::front(chunk, length),
+        None => {
+            let (name, _) = bytes.split_at_checked(length)?;
+            Item::new(name).ok()
+        }
+    }
+}
+
 /// The name up to the quotation mark.
+#[inline(always)]
 fn item(bytes: &[u8]) -> Option<(Item, &[u8])>
     ensures { IfSome result (λ r. IsName r.0 × (bytes.now ≡ r.0 ++ r.1.now)) }
 {
-    let length = bytes.iter().position(|byte| *byte == b'"')?;
-    let (name, rest) = bytes.split_at_checked(length)?;
-    let item = Item::new(name).ok()?;
+    let length = guess_length(bytes);
+    let item = name(bytes, length)?;
+    let (_, rest) = bytes.split_at_checked(length)?;
     Some((item, rest))
 }
 
+#[inline(always)]
 fn kind(bytes: &[u8]) -> Option<(Kind, &[u8])>
     ensures { IfSome result (λ r. bytes.now ≡ kind_name r.0 ++ r.1.now) }
 {
@@ -68,6 +136,7 @@ fn kind(bytes: &[u8]) -> Option<(Kind, &[u8])>
 }
 
 /// The item, the kind and the site of a step.
+#[inline(always)]
 fn label(bytes: &[u8]) -> Option<(Label, &[u8])>
     ensures in_range { IfSome result (λ r. IsName r.0.item × (r.0.site < max_sites)) }
     ensures text { IfSome result (λ r. bytes.now ≡ codes "{\"item\":\"" ++ (r.0.item ++ (codes "\",\"kind\":\""
@@ -89,6 +158,7 @@ fn label(bytes: &[u8]) -> Option<(Label, &[u8])>
     Some((Label { site, item, kind }, rest))
 }
 
+#[inline(always)]
 fn step(bytes: &[u8]) -> Option<(Step, &[u8])>
     ensures { IfSome result (λ r. IsStep max_sites r.0 × (bytes.now ≡ compact_text (step_data r.0) ++ r.1.now)) }
 {
@@ -104,6 +174,7 @@ fn step(bytes: &[u8]) -> Option<(Step, &[u8])>
 }
 
 /// The steps up to the closing bracket, behind those that the walk has, and what stands behind the bracket.
+#[inline(always)]
 fn add_steps<'b>(walk: &mut Vec<Step>, bytes: &'b [u8]) -> Result<Option<&'b [u8]>, AllocError>
     ensures in_range { IfOk result (λ found. IfSome found (λ _.
         All (IsStep max_sites) walk.old.items → All (IsStep max_sites) walk.new.items)) }
@@ -124,6 +195,7 @@ fn add_steps<'b>(walk: &mut Vec<Step>, bytes: &'b [u8]) -> Result<Option<&'b [u8
     Ok(None)
 }
 
+#[inline(always)]
 fn commit(bytes: &[u8]) -> Option<(Decision, &[u8])>
     ensures { IfSome result (λ r. IsDecision max_sites r.0 × (bytes.now ≡ compact_text (decision_data r.0) ++ r.1.now)) }
 {
@@ -140,6 +212,7 @@ fn commit(bytes: &[u8]) -> Option<(Decision, &[u8])>
     Some((Decision::Commit { tx, rank }, rest))
 }
 
+#[inline(always)]
 fn withdrawal(bytes: &[u8]) -> Option<(Decision, &[u8])>
     ensures { IfSome result (λ r. IsDecision max_sites r.0 × (bytes.now ≡ compact_text (decision_data r.0) ++ r.1.now)) }
 {
@@ -152,6 +225,7 @@ fn withdrawal(bytes: &[u8]) -> Option<(Decision, &[u8])>
 }
 
 /// The transaction of a refusal, and what stands from its first step on.
+#[inline(always)]
 fn refused(bytes: &[u8]) -> Option<(Tx, &[u8])>
     ensures { IfSome result (λ r. IsTx r.0 × (bytes.now ≡ codes "{\"refuse\":" ++ (decimal r.0 ++ (codes ",\"walk\":[" ++ r.1.now)))) }
 {
@@ -163,6 +237,7 @@ fn refused(bytes: &[u8]) -> Option<(Tx, &[u8])>
     Some((tx, rest))
 }
 
+#[inline(never)]
 fn refusal(alloc: Global, bytes: &[u8]) -> Result<Option<(Decision, &[u8])>, AllocError>
     ensures { IfOk result (λ found. IfSome found (λ r.
         IsDecision max_sites r.0 × (bytes.now ≡ compact_text (decision_data r.0) ++ r.1.now))) }
@@ -181,6 +256,7 @@ fn refusal(alloc: Global, bytes: &[u8]) -> Result<Option<(Decision, &[u8])>, All
     Ok(Some((Decision::Refuse { tx, walk }, rest)))
 }
 
+#[inline(always)]
 fn decision(alloc: Global, bytes: &[u8]) -> Result<Option<(Decision, &[u8])>, AllocError>
     ensures { IfOk result (λ found. IfSome found (λ r.
         IsDecision max_sites r.0 × (bytes.now ≡ compact_text (decision_data r.0) ++ r.1.now))) }
@@ -195,6 +271,7 @@ fn decision(alloc: Global, bytes: &[u8]) -> Result<Option<(Decision, &[u8])>, Al
 }
 
 /// The decisions up to the closing bracket, behind those that there are, and what stands behind the bracket.
+#[inline(always)]
 fn add_decisions<'b>(
     alloc: Global,
     decisions: &mut Vec<Decision>,
