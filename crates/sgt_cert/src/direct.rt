@@ -16,7 +16,6 @@ use crate::certificate::{Certificate, Decision, Step};
 use core::dec2flt::read_digits;
 use sgt_names::{Item, Kind, Label, Listed, MAX_SITES, SiteNo, Tx};
 use std::alloc::{AllocError, Global};
-use std::simd::prelude::*;
 
 /// Whether the bytes are those of the word. No byte decides alone, so a constant word is compared by eight bytes at a time.
 #[inline(always)]
@@ -84,39 +83,13 @@ fn transaction(bytes: &[u8]) -> Option<(Tx, &[u8])>
     Some((tx, rest))
 }
 
-/// How many of the first bytes stand before the first quotation mark, or 16. Nothing rests on it: it is only tried.
-#[inline(always)]
-fn guess_length(bytes: &[u8]) -> usize {
-    match bytes.first_chunk::<16>() {
-        Some(chunk) => {
-            let marks = u8x16::from_array(*chunk).simd_eq(u8x16::splat(b'"'));
-            (marks.to_bitmask() | 1 << 16).trailing_zeros() as usize
-        }
-        None => bytes.iter().position(|byte| *byte == b'"').unwrap_or(0),
-    }
-}
-
-/// The name that so many of the first bytes spell.
-#[inline(always)]
-fn name(bytes: &[u8], length: usize) -> Option<Item>
-    ensures { IfSome result (λ item. IsName item × (bytes.now ≡ item ++ drop length bytes.now)) }
-{
-    match bytes.first_chunk::<16>() {
-        Some(chunk) => Item::front(chunk, length),
-        None => {
-            let (name, _) = bytes.split_at_checked(length)?;
-            Item::new(name).ok()
-        }
-    }
-}
-
-/// The name up to the quotation mark.
+/// The name in front, of bytes that have at least sixteen: behind a name a step has more than so many.
 #[inline(always)]
 fn item(bytes: &[u8]) -> Option<(Item, &[u8])>
     ensures { IfSome result (λ r. IsName r.0 × (bytes.now ≡ r.0 ++ r.1.now)) }
 {
-    let length = guess_length(bytes);
-    let item = name(bytes, length)?;
+    let chunk = bytes.first_chunk::<16>()?;
+    let (item, length) = Item::leading(chunk)?;
     let (_, rest) = bytes.split_at_checked(length)?;
     Some((item, rest))
 }
