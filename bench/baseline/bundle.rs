@@ -33,6 +33,7 @@ enum Phase {
 }
 
 const SLOTS: usize = 4096;
+const SLOT_BITS: u32 = 12;
 const FREE: u16 = u16::MAX;
 
 /// The section that is open, or between two of them the next one.
@@ -128,10 +129,9 @@ impl<K: Keep> Section<K> {
     /// The place of the item with this name.
     #[inline(always)]
     fn place(&self, name: Name) -> Option<usize> {
-        let mut slot = name.hash() as usize;
+        let mut slot = name.hash(SLOT_BITS);
         loop {
-            slot %= SLOTS;
-            let place = self.slots[slot] as usize;
+            let place = self.slots[slot % SLOTS] as usize;
             if self.cells.get(place)?.name == name {
                 return Some(place);
             }
@@ -283,11 +283,11 @@ impl<K: Keep> Section<K> {
         if !fits || self.cells.last().is_some_and(|c| c.name.order() >= name.order()) {
             return Some(7);
         }
-        let mut slot = name.hash() as usize % SLOTS;
-        while self.slots[slot] != FREE {
-            slot = (slot + 1) % SLOTS;
+        let mut slot = name.hash(SLOT_BITS);
+        while self.slots[slot % SLOTS] != FREE {
+            slot += 1;
         }
-        self.slots[slot] = self.cells.len() as u16;
+        self.slots[slot % SLOTS] = self.cells.len() as u16;
         self.cells.push(Cell { name, value, reader: 0, writer: 0, adder: 0 });
         None
     }

@@ -40,6 +40,19 @@ impl<R: Read> Lines<R> {
         lines
     }
 
+    /// Reads on until a whole line stands next, and looks for the last LF. False where there is none, or it is too far.
+    pub fn ready(&mut self) -> bool {
+        loop {
+            self.find_whole();
+            if self.whole > self.start {
+                return true;
+            }
+            if self.end - self.start > LIMIT || !self.fill() {
+                return false;
+            }
+        }
+    }
+
     /// Looks for the last LF that was read.
     pub fn find_whole(&mut self) {
         let last = self.buffer[self.start..self.end].iter().rposition(|b| *b == b'\n');
@@ -208,11 +221,11 @@ impl Name {
         16 - self.0.leading_zeros() as usize / 8
     }
 
-    /// Thirty-two bits that are mostly other ones for another name; the upper ones are mixed best.
+    /// So many bits that are mostly other ones for another name.
     #[inline(always)]
-    pub fn hash(self) -> u32 {
+    pub fn hash(self, bits: u32) -> usize {
         let mixed = self.0 as u64 ^ ((self.0 >> 64) as u64).rotate_left(29);
-        (mixed.wrapping_mul(0x9e37_79b9_7f4a_7c15) >> 32) as u32
+        (mixed.wrapping_mul(0x9e37_79b9_7f4a_7c15) >> (64 - bits)) as usize
     }
 }
 

@@ -1,37 +1,47 @@
-//! Writing to standard output by blocks.
+//! Bytes put one behind another, with few checks.
 #![allow(dead_code)]
 use crate::input::Name;
 use std::io::Write;
 
-const BLOCK: usize = 1 << 16;
-
-/// Behind a block so many bytes may be put before it is written.
+/// Behind what was put so many bytes have room.
 const SPARE: usize = 256;
 
-/// Bytes that are written a block at a time. Behind `room` up to 256 bytes can be put.
+/// A growing text. `room` is to be called in front of at most 256 bytes.
 pub struct Out {
-    bytes: Box<[u8]>,
+    bytes: Vec<u8>,
     at: usize,
 }
 
 impl Out {
-    pub fn new() -> Out {
-        Out { bytes: vec![0; BLOCK + SPARE].into_boxed_slice(), at: 0 }
+    pub fn new(size: usize) -> Out {
+        Out { bytes: vec![0; size + SPARE], at: 0 }
     }
 
-    /// Makes room for a line.
     #[inline(always)]
     pub fn room(&mut self) {
-        if self.at >= BLOCK {
-            self.flush();
+        if self.bytes.len() - self.at < SPARE {
+            self.grow();
         }
     }
 
     #[cold]
     #[inline(never)]
-    pub fn flush(&mut self) {
+    fn grow(&mut self) {
+        self.bytes.resize(2 * self.bytes.len(), 0);
+    }
+
+    pub fn len(&self) -> usize {
+        self.at
+    }
+
+    /// Writes all to standard output and empties the text.
+    pub fn write(&mut self) {
         std::io::stdout().write_all(&self.bytes[..self.at]).expect("standard output can be written");
         self.at = 0;
+    }
+
+    pub fn take_back(&mut self, many: usize) {
+        self.at -= many;
     }
 
     /// Puts the first `many` of these bytes; those behind them are written over by what comes next.
@@ -47,9 +57,16 @@ impl Out {
         self.front(*bytes, N);
     }
 
+    /// At most 32 bytes from a place on to the end.
     #[inline(always)]
-    pub fn name(&mut self, name: Name, len: usize) {
-        self.front(name.0.to_le_bytes(), len);
+    pub fn tail(&self, from: usize) -> ([u8; 32], usize) {
+        debug_assert!(self.at - from <= 32 && from + 32 <= self.bytes.len());
+        (unsafe { self.bytes.as_ptr().add(from).cast::<[u8; 32]>().read() }, self.at - from)
+    }
+
+    #[inline(always)]
+    pub fn name(&mut self, name: Name) {
+        self.front(name.0.to_le_bytes(), name.len());
     }
 
     /// Puts a number, and says how many digits it has.

@@ -1,0 +1,157 @@
+//! The graph of a window: its committed transactions in an order that all edges follow.
+
+pub const NONE: u32 = u32::MAX;
+
+#[derive(Clone, Copy, PartialEq)]
+pub enum Conflict {
+    Wr,
+    Rw,
+    Ww,
+}
+
+#[derive(Clone, Copy)]
+pub struct Edge {
+    pub from: u32,
+    pub to: u32,
+    pub item: u32,
+    pub conflict: Conflict,
+    /// the next edge out of the same node
+    next: u32,
+}
+
+impl Edge {
+    pub fn new(from: u32, to: u32, item: usize, conflict: Conflict) -> Edge {
+        Edge { from, to, item: item as u32, conflict, next: NONE }
+    }
+}
+
+#[derive(Clone, Copy)]
+struct Node {
+    /// its place in the order, once it is committed
+    place: u32,
+    /// its first edge out
+    out: u32,
+    /// the search that came here last, and by which edge
+    mark: u32,
+    by: u32,
+}
+
+#[derive(Default)]
+pub struct Graph {
+    nodes: Vec<Node>,
+    edges: Vec<Edge>,
+    pub order: Vec<u32>,
+    mark: u32,
+    /// nodes that a search came to, those before `looked` looked at
+    reached: Vec<u32>,
+    moved: Vec<u32>,
+}
+
+impl Graph {
+    pub fn add_node(&mut self) {
+        self.nodes.push(Node { place: NONE, out: NONE, mark: 0, by: NONE });
+    }
+
+    pub fn clear(&mut self) {
+        self.nodes.clear();
+        self.edges.clear();
+        self.order.clear();
+        self.mark = 0;
+    }
+
+    fn link(&mut self, edge: Edge) {
+        let out = &mut self.nodes[edge.from as usize].out;
+        let next = std::mem::replace(out, self.edges.len() as u32);
+        self.edges.push(Edge { next, ..edge });
+    }
+
+    #[inline(always)]
+    fn reach(&mut self, edge: u32) {
+        let to = self.edges[edge as usize].to;
+        let node = &mut self.nodes[to as usize];
+        if node.mark != self.mark {
+            (node.mark, node.by) = (self.mark, edge);
+            self.reached.push(to);
+        }
+    }
+
+    /// Admits a node with its edges in and out, or answers a cycle of edges that it would close.
+    pub fn decide(&mut self, me: u32, ins: &[Edge], outs: &[Edge]) -> Result<(), Vec<Edge>> {
+        if outs.is_empty() {
+            self.nodes[me as usize].place = self.order.len() as u32;
+            self.order.push(me);
+        } else {
+            let kept = self.edges.len();
+            for edge in outs {
+                self.link(*edge);
+            }
+            self.search(me);
+            if let Some(back) = ins.iter().find(|e| self.nodes[e.from as usize].mark == self.mark) {
+                let cycle = self.cycle(me, *back);
+                self.edges.truncate(kept);
+                self.nodes[me as usize].out = NONE;
+                return Err(cycle);
+            }
+            self.make_room(me);
+        }
+        for edge in ins {
+            self.link(*edge);
+        }
+        Ok(())
+    }
+
+    /// Marks what the node leads to.
+    fn search(&mut self, me: u32) {
+        self.mark += 1;
+        self.reached.clear();
+        let (mut looked, mut node) = (0, me);
+        loop {
+            let mut edge = self.nodes[node as usize].out;
+            while edge != NONE {
+                self.reach(edge);
+                edge = self.edges[edge as usize].next;
+            }
+            if looked == self.reached.len() {
+                return;
+            }
+            node = self.reached[looked];
+            looked += 1;
+        }
+    }
+
+    fn cycle(&self, me: u32, back: Edge) -> Vec<Edge> {
+        let mut cycle = vec![back];
+        let mut at = back.from;
+        while at != me {
+            let edge = self.edges[self.nodes[at as usize].by as usize];
+            cycle.push(edge);
+            at = edge.from;
+        }
+        cycle.reverse();
+        cycle
+    }
+
+    /// Puts the node behind all that it doesn't lead to, and what it leads to behind it.
+    fn make_room(&mut self, me: u32) {
+        let least = self.reached.iter().map(|n| self.nodes[*n as usize].place).min().unwrap_or(0);
+        self.moved.clear();
+        self.moved.push(me);
+        let mut end = least as usize;
+        for n in least as usize..self.order.len() {
+            let it = self.order[n];
+            let node = &mut self.nodes[it as usize];
+            if node.mark == self.mark {
+                self.moved.push(it);
+            } else {
+                node.place = end as u32;
+                self.order[end] = it;
+                end += 1;
+            }
+        }
+        self.order.truncate(end);
+        for it in &self.moved {
+            self.nodes[*it as usize].place = self.order.len() as u32;
+            self.order.push(*it);
+        }
+    }
+}
