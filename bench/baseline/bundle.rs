@@ -4,12 +4,12 @@ use crate::certificate::{COMMIT, Certificate, Fault, Kind, REFUSE, WITHDRAW};
 use crate::input::{LIMIT, Lines, Name, Next, Text};
 use std::io::Read;
 
-/// Is told of lines that were found right, and where in the buffer they stand.
+/// Is told of lines that were found right. Places are those of items in their section, from 0 on.
 pub trait Keep {
-    /// An operation of the commit of this rank plus 1, from its letter and from its bracket to behind its LF.
-    fn operation(&mut self, _site: u8, _rank: u32, _is_read: bool, _bracket: usize, _behind: usize) {}
-    /// The final value of an item, from its name to behind its LF.
-    fn last_value(&mut self, _site: u8, _name: usize, _behind: usize) {}
+    fn item(&mut self, _site: u8, _place: usize, _name: Name) {}
+    /// An operation of the commit of this rank plus 1.
+    fn operation(&mut self, _rank: u32, _letter: u8, _place: usize, _value: u64) {}
+    fn last_value(&mut self, _value: u64) {}
 }
 
 /// Keeps nothing.
@@ -173,8 +173,8 @@ impl<K: Keep> Section<K> {
 
     #[inline(always)]
     fn plain_operation<const LETTER: u8>(&mut self, c: &mut Certificate, text: Text<'_>, from: usize) -> Option<usize> {
-        let (tx, bracket) = text.tx(from + 1)?;
-        let (name, at) = text.name(text.word(bracket, b"[")?)?;
+        let (tx, at) = text.tx(from + 1)?;
+        let (name, at) = text.name(text.word(at, b"[")?)?;
         let (value, at) = text.number(text.word(at, b"]=")?)?;
         let behind = text.word(at, b"\n")?;
         let n = *c.table.get(tx as usize)? as usize;
@@ -205,7 +205,7 @@ impl<K: Keep> Section<K> {
             self.block = key(tx, LETTER);
         }
         if rank > 0 {
-            self.keep.operation(self.number, rank, LETTER == b'r', bracket, behind);
+            self.keep.operation(rank, LETTER, place, value);
         }
         c.notice(n, self.number, name, LETTER);
         Some(behind)
@@ -241,24 +241,14 @@ impl<K: Keep> Section<K> {
 
     #[inline(always)]
     fn plain_final(&mut self, text: Text<'_>, at: usize) -> Option<usize> {
-        let from = text.word(at, b"final ")?;
-        let (name, value, behind) = pair(text, from)?;
-        if self.last_value(name, value).is_some() {
-            return None;
-        }
-        self.keep.last_value(self.number, from, behind);
-        Some(behind)
+        let (name, value, behind) = pair(text, text.word(at, b"final ")?)?;
+        if self.last_value(name, value).is_none() { Some(behind) } else { None }
     }
 
     /// The least fault of the line from one place to its LF at another, or None and what the line does.
     fn judge(&mut self, c: &mut Certificate, text: Text<'_>, from: usize, to: usize) -> Option<Fault> {
         if let Some(at) = text.word(from, b"final ") {
-            let Some((name, value, behind)) = pair(text, at) else { return Some(2) };
-            let fault = self.last_value(name, value);
-            if fault.is_none() {
-                self.keep.last_value(self.number, at, behind);
-            }
-            return fault;
+            return pair(text, at).map_or(Some(2), |(name, value, _)| self.last_value(name, value));
         }
         if let Some(at) = text.word(from, b"item ") {
             return pair(text, at).map_or(Some(2), |(name, value, _)| self.item(name, value));
@@ -288,6 +278,7 @@ impl<K: Keep> Section<K> {
             slot += 1;
         }
         self.slots[slot % SLOTS] = self.cells.len() as u16;
+        self.keep.item(self.number, self.cells.len(), name);
         self.cells.push(Cell { name, value, reader: 0, writer: 0, adder: 0 });
         None
     }
@@ -310,6 +301,7 @@ impl<K: Keep> Section<K> {
         if cell.value != value {
             return Some(16);
         }
+        self.keep.last_value(value);
         self.phase = Phase::Finals;
         self.finals += 1;
         None
@@ -333,8 +325,8 @@ impl<K: Keep> Section<K> {
         None
     }
 
-    /// What an entry's line says: its letter, its transaction, the place behind that, and of an operation the item and the number.
-    fn read_entry(&self, text: Text<'_>, from: usize, to: usize) -> Option<(u8, u32, usize, Option<(Name, u64)>)> {
+    /// What an entry's line says: its letter, its transaction, and of an operation the item and the number.
+    fn read_entry(&self, text: Text<'_>, from: usize, to: usize) -> Option<(u8, u32, Option<(Name, u64)>)> {
         let letter = text.byte(from);
         let (tx, at) = text.tx(from + 1).filter(|_| from < to)?;
         match letter {
@@ -342,9 +334,9 @@ impl<K: Keep> Section<K> {
             b'r' | b'w' | b'p' | b'd' | b'q' => {
                 let (name, next) = text.name(text.word(at, b"[")?)?;
                 let (value, next) = text.number(text.word(next, b"]=")?)?;
-                if next == to { Some((letter, tx, at, Some((name, value)))) } else { None }
+                if next == to { Some((letter, tx, Some((name, value)))) } else { None }
             }
-            b'c' | b'n' | b'a' if at == to => Some((letter, tx, at, None)),
+            b'c' | b'n' | b'a' if at == to => Some((letter, tx, None)),
             _ => None,
         }
     }
@@ -360,7 +352,7 @@ impl<K: Keep> Section<K> {
     }
 
     fn entry(&mut self, c: &mut Certificate, text: Text<'_>, from: usize, to: usize) -> Option<Fault> {
-        let Some((letter, tx, bracket, what)) = self.read_entry(text, from, to) else { return Some(2) };
+        let Some((letter, tx, what)) = self.read_entry(text, from, to) else { return Some(2) };
         if matches!(self.phase, Phase::Between | Phase::Finals) {
             return Some(7);
         }
@@ -404,7 +396,7 @@ impl<K: Keep> Section<K> {
         }
         self.cells[place].take_in(letter, value, rank);
         if rank > 0 {
-            self.keep.operation(self.number, rank, letter == b'r', bracket, to + 1);
+            self.keep.operation(rank, letter, place, value);
         }
         c.notice(n, self.number, name, letter);
         None
@@ -439,6 +431,7 @@ pub fn audit<R: Read, K: Keep>(lines: &mut Lines<R>, keep: K) -> Result<(Certifi
     };
     let Next::Line(a, b) = lines.next(usize::MAX) else { return Err((2, 18)) };
     let mut c = Certificate::read(Text(&lines.buffer), a, b).ok_or((2, 3))?;
+    lines.tidy();
     if let Some(fault) = c.judge() {
         return Err((2, fault));
     }

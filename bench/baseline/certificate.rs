@@ -36,9 +36,9 @@ pub struct Record {
     pub tx: u32,
     /// of a commit the rank plus 1, else 0
     pub rank: u32,
-    /// where the steps that begin or end at it stand among the watches
+    /// where its steps stand among the watches, if it has any
     watches: u32,
-    watches_end: u32,
+    is_watched: bool,
     pub kind: Kind,
     /// the last section that it was seen in, from 1 on, and whether it has ended there
     pub section: u8,
@@ -53,7 +53,7 @@ pub struct Certificate {
     pub table: Vec<u32>,
     sparse: HashMap<u32, u32>,
     pub steps: Vec<Step>,
-    /// Steps, by the decisions whose transactions they begin or end at.
+    /// Of each transaction at which steps begin or end: how many there are, and which.
     watches: Vec<u32>,
     /// Where the walk of each refusal stands among the steps.
     walks: Vec<(usize, usize)>,
@@ -79,7 +79,7 @@ impl Certificate {
     /// A decision from there on, and the place behind it.
     #[inline(always)]
     fn read_decision(&mut self, text: Text<'_>, at: usize) -> Option<usize> {
-        let mut new = Record { tx: 0, rank: 0, watches: 0, watches_end: 0, kind: WITHDRAW, section: 0, ended: false };
+        let mut new = Record { tx: 0, rank: 0, watches: 0, is_watched: false, kind: WITHDRAW, section: 0, ended: false };
         let behind;
         if let Some(at) = text.word(at, b"{\"commit\":") {
             let (tx, at) = text.tx(at)?;
@@ -199,34 +199,33 @@ impl Certificate {
         true
     }
 
-    /// For each decision the steps that begin or end at its transaction, side by side.
+    /// For each transaction at which steps begin or end, those steps side by side.
     fn place_watches(&mut self) {
         let mut ends = Vec::with_capacity(2 * self.steps.len());
         for step in &self.steps {
             ends.extend([step.from, step.to].map(|tx| self.find(tx).unwrap() as u32));
         }
         for n in &ends {
-            self.records[*n as usize].watches_end += 1;
+            self.records[*n as usize].watches += 1;
         }
         let mut many = 0;
-        for record in &mut self.records {
-            let own = record.watches_end;
-            (record.watches, record.watches_end) = (many, many);
+        for record in self.records.iter_mut().filter(|r| r.watches > 0) {
+            let own = record.watches + 1;
+            (record.watches, record.is_watched) = (many, true);
             many += own;
         }
-        self.watches = vec![0; ends.len()];
+        self.watches = vec![0; many as usize];
         for (at, n) in ends.iter().enumerate() {
-            let record = &mut self.records[*n as usize];
-            self.watches[record.watches_end as usize] = at as u32 / 2;
-            record.watches_end += 1;
+            let own = &mut self.watches[self.records[*n as usize].watches as usize..];
+            own[0] += 1;
+            own[own[0] as usize] = at as u32 / 2;
         }
     }
 
     /// Notes an operation in the steps of walks that wait for it.
     #[inline(always)]
     pub fn notice(&mut self, n: usize, site: u8, item: Name, letter: u8) {
-        let record = &self.records[n];
-        if record.watches < record.watches_end {
+        if self.records[n].is_watched {
             self.notice_steps(n, site, item, letter);
         }
     }
@@ -234,8 +233,9 @@ impl Certificate {
     #[inline(never)]
     fn notice_steps(&mut self, n: usize, site: u8, item: Name, letter: u8) {
         let (reads, adds) = (letter == b'r', matches!(letter, b'd' | b'q'));
-        let Record { tx, watches, watches_end, .. } = self.records[n];
-        for s in &self.watches[watches as usize..watches_end as usize] {
+        let Record { tx, watches, .. } = self.records[n];
+        let own = &self.watches[watches as usize..];
+        for s in &own[1..=own[0] as usize] {
             let step = &mut self.steps[*s as usize];
             if step.site != site || step.item != item {
                 continue;

@@ -6,6 +6,9 @@ use std::io::Read;
 /// A line has at most so many bytes.
 pub const LIMIT: usize = 1_048_576;
 
+/// So many bytes are read at once.
+const BLOCK: usize = 1 << 18;
+
 /// Behind the bytes of a line so many more may be looked at, whatever they are.
 pub const SPARE: usize = 64;
 
@@ -30,14 +33,7 @@ pub enum Next {
 
 impl<R: Read> Lines<R> {
     pub fn new(reader: R) -> Lines<R> {
-        Lines { reader, buffer: vec![0; (1 << 18) + SPARE], start: 0, end: 0, whole: 0 }
-    }
-
-    /// The same with the whole input read, so that places in the buffer stay what they are.
-    pub fn all_of(reader: R) -> Lines<R> {
-        let mut lines = Lines::new(reader);
-        while lines.fill() {}
-        lines
+        Lines { reader, buffer: vec![0; BLOCK + SPARE], start: 0, end: 0, whole: 0 }
     }
 
     /// Reads on until a whole line stands next, and looks for the last LF. False where there is none, or it is too far.
@@ -82,16 +78,24 @@ impl<R: Read> Lines<R> {
         }
     }
 
+    /// Brings what is left to the front, and gives back the room of a long line.
+    pub fn tidy(&mut self) {
+        self.buffer.copy_within(self.start..self.end, 0);
+        self.end -= self.start;
+        (self.start, self.whole) = (0, 0);
+        if self.buffer.len() > 2 * BLOCK && self.end < BLOCK {
+            self.buffer.truncate(BLOCK + SPARE);
+            self.buffer.shrink_to_fit();
+        }
+    }
+
     /// Reads on, behind what is left. False at the end of the input.
     pub fn fill(&mut self) -> bool {
         if self.start > 0 {
-            self.buffer.copy_within(self.start..self.end, 0);
-            self.end -= self.start;
-            self.whole = 0;
-            self.start = 0;
+            self.tidy();
         }
         if self.end + SPARE == self.buffer.len() {
-            self.buffer.resize(self.end * 2 + SPARE, 0);
+            self.buffer.resize(self.end + BLOCK + SPARE, 0);
         }
         let room = self.buffer.len() - SPARE;
         let n = self.reader.read(&mut self.buffer[self.end..room]).expect("standard input can be read");

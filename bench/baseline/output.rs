@@ -64,6 +64,13 @@ impl Out {
         (unsafe { self.bytes.as_ptr().add(from).cast::<[u8; 32]>().read() }, self.at - from)
     }
 
+    /// Puts another byte at a place in front of the end.
+    #[inline(always)]
+    pub fn set(&mut self, at: usize, byte: u8) {
+        debug_assert!(at < self.at);
+        unsafe { *self.bytes.get_unchecked_mut(at) = byte };
+    }
+
     #[inline(always)]
     pub fn name(&mut self, name: Name) {
         self.front(name.0.to_le_bytes(), name.len());
