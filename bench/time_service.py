@@ -23,7 +23,7 @@ CRATES = [
     "sgt_audit", "sgt_certifier", "sgt_service_agreement", "sgt_workers", "sgt_service_locks", "sgt_service_settle", "sgt_service",
 ]
 
-PROGRAM = r"""//! Runs the scripts of standard input on a service, and says how long they took and how long it took to settle them.
+PROGRAM = r"""//! Runs the scripts of standard input on a service again and again, and says how long that took and how long it took to settle.
 #![tactic(auto)]
 
 ghost use Rattle.std.specs.Prelude.{◌≡◌, ◌≤◌};
@@ -43,7 +43,7 @@ use std::sync::ledger::{Blank, Ledger};
 use std::thread::Threads;
 use std::time::Instant;
 
-// Microseconds of the run, of settling it, and how many tries there were.
+// Nanoseconds of runs, of settling them, and how many tries there were.
 #[derive(Clone, Copy)]
 struct Times {
     run: u128,
@@ -68,14 +68,14 @@ fn timed<L: Ledger + Send + Sync, R: Threads + Wait + Clock + Sync>(
     let (service, seats) = Service::<L>::new(alloc, blank, sites, workers).ok()?;
     let start = Instant::now(rt).ok()?;
     let (dones, seats) = run(rt, alloc, &service, seats, scripts, 4, &NoGate).ok()?;
-    let run = start.elapsed(rt).ok()?.as_micros();
+    let run = start.elapsed(rt).ok()?.as_nanos();
     let mut tries = 0usize;
     for done in &dones {
         tries = tries.saturating_add(done.tickets.len());
     }
     let start = Instant::now(rt).ok()?;
     let settled = settle(alloc, service, dones, seats).ok()?;
-    let settle = start.elapsed(rt).ok()?.as_micros();
+    let settle = start.elapsed(rt).ok()?.as_nanos();
     let _ = settled;
     Some(Times { run, settle, tries })
 }
@@ -95,23 +95,34 @@ fn main(rt: HostRuntime) -> Result<(), Error> {
     if let Some(word) = words.get(1) {
         workers = word.parse::<u64>()?.clamp(1, 16);
     }
+    let mut runs = 1u32;
+    if let Some(word) = words.get(2) {
+        runs = word.parse::<u32>()?;
+    }
     let Reading::Readable(input) = read_input(alloc, &mut FromRead::new(rt.stdin()))? else {
         println!(rt; "unreadable")?;
         return Ok(());
     };
     let (items, scripts) = items_of(alloc, input)?;
-    let times = timed::<Brand, _>(
-        &rt,
-        alloc,
-        Blank::new(workers),
-        workers,
-        items.as_slice(),
-        scripts.as_slice(),
-    );
-    match times {
-        Some(t) => println!(rt; "run {} settle {} tries {}", t.run, t.settle, t.tries)?,
-        None => println!(rt; "failed")?,
+    let mut all = Times { run: 0, settle: 0, tries: 0 };
+    for _ in 0..runs {
+        let times = timed::<Brand, _>(
+            &rt,
+            alloc,
+            Blank::new(workers),
+            workers,
+            items.as_slice(),
+            scripts.as_slice(),
+        );
+        let Some(t) = times else {
+            println!(rt; "failed")?;
+            return Ok(());
+        };
+        all.run = all.run.saturating_add(t.run);
+        all.settle = all.settle.saturating_add(t.settle);
+        all.tries = all.tries.saturating_add(t.tries);
     }
+    println!(rt; "run {} settle {} tries {}", all.run, all.settle, all.tries)?;
     Ok(())
 }
 """

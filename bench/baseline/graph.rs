@@ -1,6 +1,6 @@
 //! The graph of a window: its committed transactions in an order that all edges follow.
 
-pub const NONE: u32 = u32::MAX;
+const NONE: u32 = u32::MAX;
 
 #[derive(Clone, Copy, PartialEq)]
 pub enum Conflict {
@@ -20,8 +20,8 @@ pub struct Edge {
 }
 
 impl Edge {
-    pub fn new(from: u32, to: u32, item: usize, conflict: Conflict) -> Edge {
-        Edge { from, to, item: item as u32, conflict, next: NONE }
+    pub fn new(from: u32, to: u32, item: u32, conflict: Conflict) -> Edge {
+        Edge { from, to, item, conflict, next: NONE }
     }
 }
 
@@ -42,7 +42,7 @@ pub struct Graph {
     edges: Vec<Edge>,
     pub order: Vec<u32>,
     mark: u32,
-    /// nodes that a search came to, those before `looked` looked at
+    /// nodes that a search came to
     reached: Vec<u32>,
     moved: Vec<u32>,
 }

@@ -1,17 +1,11 @@
 //! The items of all sites, found by site and name.
 use crate::input::{Name, Text};
+use crate::output::Out;
 
-/// What is kept of an item. All but its value concerns the open window.
+/// An item: its name, its initial value and its site.
 pub struct Cell {
     pub name: Name,
     pub first: u64,
-    pub value: u64,
-    /// its first and its last change and its last write, in `Changes`, or 0
-    pub first_change: u32,
-    pub last_change: u32,
-    pub last_write: u32,
-    /// the last committed read of a version that no write has replaced, in `Readers`, or 0
-    pub reader: u32,
     pub site: u8,
 }
 
@@ -47,9 +41,7 @@ impl Items {
             if !rises || self.cells.len() - begin == 1024 {
                 return None;
             }
-            let none = (0, 0, 0, 0);
-            let (first_change, last_change, last_write, reader) = none;
-            self.cells.push(Cell { name, first: value, value, first_change, last_change, last_write, reader, site: number as u8 });
+            self.cells.push(Cell { name, first: value, site: number as u8 });
             at = next;
         }
         self.place_site(begin);
@@ -74,15 +66,44 @@ impl Items {
 
     /// The place of the item with this name at this site.
     #[inline(always)]
-    pub fn find(&self, site: usize, name: Name) -> Option<usize> {
+    pub fn find(&self, site: usize, name: Name) -> Option<u32> {
         let site = self.sites.get(site)?;
         let mut slot = name.hash(site.bits);
         loop {
-            let place = self.slots[site.slots as usize + slot % (1 << site.bits)].checked_sub(1)? as usize;
-            if self.cells[place].name == name {
+            let place = self.slots[site.slots as usize + slot % (1 << site.bits)].checked_sub(1)?;
+            if self.cells[place as usize].name == name {
                 return Some(place);
             }
             slot += 1;
         }
+    }
+
+    /// Puts a line for each item of a site: a word, the name and a value.
+    fn put_values<const N: usize>(&self, site: usize, word: &[u8; N], of: impl Fn(u32) -> u64, out: &mut Out) {
+        let Site { begin, end, .. } = self.sites[site];
+        for item in begin..end {
+            out.room();
+            out.put(word);
+            out.name(self.cells[item as usize].name);
+            out.put(b"=");
+            out.number(of(item));
+            out.put(b"\n");
+        }
+    }
+
+    /// Puts the head of a site's section.
+    pub fn put_head(&self, site: usize, out: &mut Out) {
+        out.room();
+        out.put(b"site ");
+        out.number(site as u64);
+        out.put(b"\n");
+        self.put_values(site, b"item ", |item| self.cells[item as usize].first, out);
+    }
+
+    /// Puts the end of a site's section.
+    pub fn put_tail(&self, site: usize, of: impl Fn(u32) -> u64, out: &mut Out) {
+        self.put_values(site, b"final ", of, out);
+        out.room();
+        out.put(b"end\n");
     }
 }

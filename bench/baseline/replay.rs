@@ -2,17 +2,18 @@
 //! (docs/BENCH.md). It reads events from standard input and writes what `sgt replay` writes, but for which cycle a walk shows.
 //!
 //! rustc --edition 2024 -O -C target-cpu=x86-64-v2 bench/baseline/replay.rs -o plain_replay
+mod decisions;
 mod graph;
 mod input;
 mod items;
 mod output;
 mod scheduler;
+mod versions;
 
-use graph::Conflict;
 use input::{Lines, Next, Text};
-use items::{Cell, Site};
+use items::Items;
 use output::Out;
-use scheduler::{Decision, Link, Refusal, Scheduler};
+use scheduler::{Refusal, Scheduler};
 
 /// The number of a site, from 0 to 63.
 #[inline(always)]
@@ -139,21 +140,25 @@ fn refused(replies: &mut Out, why: Refusal) {
     told(replies, b"! E", why as u64);
 }
 
-/// Runs all lines, or answers the number of the first one that can't be read and whether it is too long.
-fn run(core: &mut Scheduler, replies: &mut Out) -> Result<(), (u64, bool)> {
+/// The first line that can't be read, and whether it is too long.
+struct Unreadable {
+    line: u64,
+    is_too_long: bool,
+}
+
+/// Runs all lines, and puts the replies.
+fn run(replies: &mut Out) -> Result<Scheduler, Unreadable> {
     let mut lines = Lines::new(std::io::stdin().lock());
-    let (mut number, mut has_begun) = (0, false);
-    while lines.ready() {
+    let mut number = 0;
+    let mut items = Items::default();
+    while lines.ready() && let Some(next) = items.read_site(Text(&lines.buffer), lines.start) {
+        (lines.start, number) = (next, number + 1);
+    }
+    let mut core = Scheduler::new(items);
+    while number > 0 && lines.ready() {
         let text = Text(&lines.buffer);
         let mut at = lines.start;
-        while !has_begun && at < lines.whole && let Some(next) = core.items.read_site(text, at) {
-            (at, number) = (next, number + 1);
-        }
-        if !has_begun && at < lines.whole && number > 0 {
-            has_begun = true;
-            core.start();
-        }
-        while has_begun && at < lines.whole && let Some(next) = event(core, text, at, replies) {
+        while at < lines.whole && let Some(next) = event(&mut core, text, at, replies) {
             (at, number) = (next, number + 1);
         }
         lines.start = at;
@@ -161,117 +166,32 @@ fn run(core: &mut Scheduler, replies: &mut Out) -> Result<(), (u64, bool)> {
             break;
         }
     }
-    let is_too_long = match lines.next(input::LIMIT) {
-        Next::End if has_begun => return Ok(()),
-        Next::End if number > 0 => {
-            core.start();
-            return Ok(());
-        }
-        Next::TooLong => true,
-        _ => false,
-    };
-    Err((number + 1, is_too_long))
-}
-
-/// Puts a decision and a comma. Its walk, if it has one, begins there among all walks; answered is where it ends.
-fn put_decision(core: &Scheduler, decision: &Decision, begin: usize, ranks: &[u32], out: &mut Out) -> usize {
-    out.room();
-    match *decision {
-        Decision::Commit(tx) => {
-            out.put(b"{\"commit\":");
-            out.number(tx as u64);
-            out.put(b",\"rank\":");
-            out.number(ranks[tx as usize] as u64);
-            out.put(b"},");
-            begin
-        }
-        Decision::Withdraw(tx) => {
-            out.put(b"{\"withdraw\":");
-            out.number(tx as u64);
-            out.put(b"},");
-            begin
-        }
-        Decision::Refuse(tx, end) => {
-            out.put(b"{\"refuse\":");
-            out.number(tx as u64);
-            out.put(b",\"walk\":[");
-            put_walk(core, &core.walks[begin..end as usize], out);
-            out.put(b"]},");
-            end as usize
-        }
-    }
-}
-
-fn put_walk(core: &Scheduler, walk: &[Link], out: &mut Out) {
-    for link in walk {
-        let cell = &core.items.cells[link.item as usize];
-        out.room();
-        out.put(b"{\"item\":\"");
-        out.name(cell.name);
-        out.put(b"\",\"kind\":\"");
-        out.put(match link.conflict {
-            Conflict::Wr => b"wr",
-            Conflict::Rw => b"rw",
-            Conflict::Ww => b"ww",
-        });
-        out.put(b"\",\"site\":");
-        out.number(cell.site as u64);
-        out.put(b",\"to\":");
-        out.number(link.to as u64);
-        out.put(b"},");
-    }
-    out.take_back(1);
-    out.room();
-}
-
-fn put_values<const N: usize>(core: &Scheduler, site: &Site, word: &[u8; N], of: impl Fn(&Cell) -> u64, out: &mut Out) {
-    for cell in &core.items.cells[site.begin as usize..site.end as usize] {
-        out.room();
-        out.put(word);
-        out.name(cell.name);
-        out.put(b"=");
-        out.number(of(cell));
-        out.put(b"\n");
+    match lines.next(input::LIMIT) {
+        Next::End if number > 0 => Ok(core),
+        Next::TooLong => Err(Unreadable { line: number + 1, is_too_long: true }),
+        _ => Err(Unreadable { line: number + 1, is_too_long: false }),
     }
 }
 
 fn write_bundle(core: &mut Scheduler, out: &mut Out) {
-    let ranks = core.ranks();
     out.room();
     out.put(if core.second { b"sgt 2\n" } else { b"sgt 1\n" });
-    out.put(b"{\"decisions\":[");
-    let mut walk = 0;
-    for decision in &core.decisions {
-        walk = put_decision(core, decision, walk, &ranks, out);
-    }
-    out.take_back(usize::from(!core.decisions.is_empty()));
-    out.room();
-    out.put(b"],\"sites\":");
-    out.number(core.items.sites.len() as u64);
-    out.put(b"}\n");
-    for number in 0..core.items.sites.len() {
-        let site = core.items.sites[number];
-        out.room();
-        out.put(b"site ");
-        out.number(number as u64);
-        out.put(b"\n");
-        put_values(core, &site, b"item ", |cell| cell.first, out);
+    core.decisions.put(&core.items, &core.ranks(), out);
+    for site in 0..core.items.sites.len() {
+        core.items.put_head(site, out);
         out.write();
-        core.logs[number].write();
-        put_values(core, &site, b"final ", |cell| cell.value, out);
-        out.room();
-        out.put(b"end\n");
+        core.logs[site].write();
+        core.items.put_tail(site, |item| core.versions.value(item), out);
     }
     out.write();
 }
 
 fn main() {
-    let mut core = Scheduler::default();
     let mut replies = Out::new(1 << 16);
-    if let Err((line, is_too_long)) = run(&mut core, &mut replies) {
+    let mut core = run(&mut replies).unwrap_or_else(|Unreadable { line, is_too_long }| {
         println!("! L{} line {line}", if is_too_long { 2 } else { 1 });
         std::process::exit(2);
-    }
+    });
     replies.room();
     if core.active() > 0 {
         replies.put(b"! E8\n");

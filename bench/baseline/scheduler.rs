@@ -1,55 +1,16 @@
 //! A plain scheduler of one thread: it keeps what transactions read and ask for, decides them by the graph of their window, and
 //! writes the logs of the sites as it goes. Calls that aren't allowed are refused by the numbers of docs/FORMAT.md.
-use crate::graph::{Conflict, Edge, Graph};
+use crate::decisions::Decisions;
+use crate::graph::{Edge, Graph};
 use crate::input::Name;
 use crate::items::Items;
 use crate::output::Out;
+use crate::versions::{Draft, Versions, Wish};
 
 /// The number of a reason for which a call is refused.
 pub type Refusal = u8;
 
 const WINDOW: usize = 4096;
-
-/// A committed change of an item, in a list of the item's changes that goes both ways.
-#[derive(Clone, Copy, Default)]
-struct Change {
-    node: u32,
-    adds: bool,
-    before: u32,
-    behind: u32,
-}
-
-/// A committed read of an item, in a list.
-#[derive(Clone, Copy, Default)]
-struct Reader {
-    node: u32,
-    before: u32,
-}
-
-/// What a transaction has read: the value, and the item's last change before it.
-#[derive(Clone, Copy)]
-struct Seen {
-    value: u64,
-    item: u32,
-    last_change: u32,
-}
-
-/// What a transaction is to change: a value to write or to add.
-#[derive(Clone, Copy)]
-pub struct Wish {
-    pub value: u64,
-    pub item: u32,
-    pub adds: bool,
-}
-
-/// What an active transaction has done so far.
-#[derive(Default)]
-struct Draft {
-    reads: Vec<Seen>,
-    wishes: Vec<Wish>,
-    /// a bit for each site that it touches
-    sites: u64,
-}
 
 #[derive(Clone, Copy, PartialEq)]
 enum State {
@@ -72,32 +33,15 @@ struct Step {
     left: u64,
 }
 
-pub enum Decision {
-    Commit(u32),
-    /// a transaction, and where its walk ends among the walks of all
-    Refuse(u32, u32),
-    Withdraw(u32),
-}
-
-/// A step of a walk.
-pub struct Link {
-    pub item: u32,
-    pub conflict: Conflict,
-    pub to: u32,
-}
-
-#[derive(Default)]
 pub struct Scheduler {
     pub items: Items,
+    pub versions: Versions,
     pub logs: Vec<Out>,
-    pub decisions: Vec<Decision>,
-    pub walks: Vec<Link>,
+    pub decisions: Decisions,
     pub second: bool,
     nodes: Vec<Node>,
     drafts: Vec<Draft>,
     spare: Vec<u32>,
-    changes: Vec<Change>,
-    readers: Vec<Reader>,
     graph: Graph,
     ins: Vec<Edge>,
     outs: Vec<Edge>,
@@ -109,10 +53,24 @@ pub struct Scheduler {
 }
 
 impl Scheduler {
-    /// To be called once, behind the last site.
-    pub fn start(&mut self) {
-        self.logs = self.items.sites.iter().map(|_| Out::new(1024)).collect();
-        (self.changes, self.readers) = (vec![Change::default()], vec![Reader::default()]);
+    pub fn new(items: Items) -> Scheduler {
+        Scheduler {
+            versions: Versions::new(0, items.cells.iter().map(|cell| cell.first)),
+            logs: items.sites.iter().map(|_| Out::new(1024)).collect(),
+            items,
+            decisions: Decisions::default(),
+            second: false,
+            nodes: Vec::new(),
+            drafts: Vec::new(),
+            spare: Vec::new(),
+            graph: Graph::default(),
+            ins: Vec::new(),
+            outs: Vec::new(),
+            step: None,
+            past: Vec::new(),
+            before: 0,
+            windows: 0,
+        }
     }
 
     pub fn active(&self) -> usize {
@@ -170,80 +128,28 @@ impl Scheduler {
         let draft = self.draft(tx)?;
         let item = self.items.find(site, name).ok_or(4)?;
         let draft = &mut self.drafts[draft];
-        let added = match draft.wishes.iter().find(|w| w.item == item as u32) {
-            Some(wish) if !wish.adds => return Ok((wish.value, None)),
-            Some(wish) => wish.value,
-            None => 0,
+        let added = match draft.look(item) {
+            Ok(value) => return Ok((value, None)),
+            Err(added) => added,
         };
-        if let Some(seen) = draft.reads.iter().find(|r| r.item == item as u32) {
-            return Ok((seen.value.wrapping_add(added), None));
-        }
-        let cell = &self.items.cells[item];
-        draft.reads.push(Seen { value: cell.value, item: item as u32, last_change: cell.last_change });
+        let seen = self.versions.see(item);
+        draft.reads.push(seen);
         draft.sites |= 1 << site;
+        let log = &mut self.logs[site];
         if added == 0 {
-            return Ok((cell.value, Some(&mut self.logs[site])));
+            return Ok((seen.value, Some(log)));
         }
         // the log tells the value without the transaction's own increment
-        let log = &mut self.logs[site];
-        put_operation(log, b'r', tx, cell.name, cell.value);
-        Ok((cell.value.wrapping_add(added), None))
+        put_operation(log, b'r', tx, name, seen.value);
+        Ok((seen.value.wrapping_add(added), None))
     }
 
     #[inline(always)]
     pub fn change(&mut self, tx: u32, site: usize, name: Name, adds: bool, value: u64) -> Result<(), Refusal> {
         let draft = self.draft(tx)?;
-        let item = self.items.find(site, name).ok_or(4)? as u32;
-        let draft = &mut self.drafts[draft];
-        draft.sites |= 1 << site;
-        match draft.wishes.iter_mut().find(|w| w.item == item) {
-            Some(wish) if adds => wish.value = wish.value.wrapping_add(value),
-            Some(wish) => (wish.value, wish.adds) = (value, false),
-            None => draft.wishes.push(Wish { value, item, adds }),
-        }
+        let item = self.items.find(site, name).ok_or(4)?;
+        self.drafts[draft].change(Wish { value, item, adds }, site);
         Ok(())
-    }
-
-    /// The edges between a transaction and committed ones of the window, to `ins` and `outs`.
-    fn gather(&mut self, me: u32, draft: usize) {
-        let Scheduler { items, drafts, changes, readers, ins, outs, .. } = self;
-        ins.clear();
-        outs.clear();
-        for seen in &drafts[draft].reads {
-            let item = seen.item as usize;
-            let mut at = seen.last_change;
-            while at != 0 {
-                let change = changes[at as usize];
-                ins.push(Edge::new(change.node, me, item, Conflict::Wr));
-                at = if change.adds { change.before } else { 0 };
-            }
-            let cell = &items.cells[item];
-            if cell.last_change == seen.last_change {
-                continue;
-            }
-            at = if seen.last_change == 0 { cell.first_change } else { changes[seen.last_change as usize].behind };
-            while at != 0 {
-                let change = changes[at as usize];
-                outs.push(Edge::new(me, change.node, item, Conflict::Rw));
-                at = if change.adds { change.behind } else { 0 };
-            }
-        }
-        for wish in &drafts[draft].wishes {
-            let item = wish.item as usize;
-            let cell = &items.cells[item];
-            let mut at = if wish.adds { cell.last_write } else { cell.last_change };
-            while at != 0 {
-                let change = changes[at as usize];
-                ins.push(Edge::new(change.node, me, item, Conflict::Ww));
-                at = if change.adds { change.before } else { 0 };
-            }
-            at = cell.reader;
-            while at != 0 {
-                let reader = readers[at as usize];
-                ins.push(Edge::new(reader.node, me, item, Conflict::Rw));
-                at = reader.before;
-            }
-        }
     }
 
     /// Decides a transaction: whether it is committed, its draft, and the sites that it touches.
@@ -251,23 +157,24 @@ impl Scheduler {
     fn decide(&mut self, tx: u32) -> Result<(bool, usize, u64), Refusal> {
         let draft = self.draft_between_steps(tx)?;
         let me = tx - self.before - 1;
-        if self.drafts[draft].wishes.len() > 1 {
-            self.drafts[draft].wishes.sort_unstable_by_key(|w| w.item);
-        }
-        self.gather(me, draft);
-        let committed = match self.graph.decide(me, &self.ins, &self.outs) {
+        let Scheduler { versions, drafts, graph, ins, outs, decisions, .. } = self;
+        let one = &mut drafts[draft];
+        one.sort();
+        ins.clear();
+        outs.clear();
+        one.reads.iter().for_each(|seen| versions.gather_read(me, seen, ins, outs));
+        one.wishes.iter().for_each(|wish| versions.gather_wish(me, wish, ins));
+        let committed = match graph.decide(me, ins, outs) {
             Ok(()) => {
-                self.decisions.push(Decision::Commit(tx));
+                decisions.commit(tx);
                 true
             }
             Err(cycle) => {
-                let first = self.before + 1;
-                self.walks.extend(cycle.iter().map(|e| Link { item: e.item, conflict: e.conflict, to: first + e.to }));
-                self.decisions.push(Decision::Refuse(tx, self.walks.len() as u32));
+                decisions.refuse(tx, &cycle, self.before + 1);
                 false
             }
         };
-        Ok((committed, draft, self.drafts[draft].sites))
+        Ok((committed, draft, one.sites))
     }
 
     /// Decides a transaction and installs it everywhere; whether it is committed.
@@ -317,7 +224,7 @@ impl Scheduler {
         let wish = self.drafts[draft].wishes.partition_point(|w| w.item < begin);
         self.install_wishes(tx, draft, wish, site, step.committed);
         if step.committed {
-            self.install_reads(tx - self.before - 1, draft, Some(site as u8));
+            self.install_reads(tx - self.before - 1, draft, Some(site));
         }
         step.left &= !(1 << site);
         self.step = Some(step);
@@ -334,29 +241,16 @@ impl Scheduler {
         let end = self.items.sites[site].end;
         let log = &mut self.logs[site];
         while let Some(one) = self.drafts[draft].wishes.get(wish).filter(|w| w.item < end) {
-            let cell = &mut self.items.cells[one.item as usize];
             let letter = match (committed, one.adds) {
                 (true, false) => b'w',
                 (true, true) => b'd',
                 (false, false) => b'p',
                 (false, true) => b'q',
             };
-            put_operation(log, letter, tx, cell.name, one.value);
+            put_operation(log, letter, tx, self.items.cells[one.item as usize].name, one.value);
             self.second |= one.adds;
             if committed {
-                let new = self.changes.len() as u32;
-                let before = std::mem::replace(&mut cell.last_change, new);
-                if before == 0 {
-                    cell.first_change = new;
-                } else {
-                    self.changes[before as usize].behind = new;
-                }
-                self.changes.push(Change { node: tx - self.before - 1, adds: one.adds, before, behind: 0 });
-                if one.adds {
-                    cell.value = cell.value.wrapping_add(one.value);
-                } else {
-                    (cell.value, cell.last_write, cell.reader) = (one.value, new, 0);
-                }
+                self.versions.install_wish(tx - self.before - 1, one);
             }
             wish += 1;
         }
@@ -364,25 +258,19 @@ impl Scheduler {
         wish
     }
 
-    /// Notes reads of versions that no write has replaced: those of a site, or all.
+    /// Notes the reads of a site, or all.
     #[inline(always)]
-    fn install_reads(&mut self, me: u32, draft: usize, site: Option<u8>) {
-        for seen in &self.drafts[draft].reads {
-            let cell = &mut self.items.cells[seen.item as usize];
-            if seen.last_change >= cell.last_write && site.is_none_or(|it| it == cell.site) {
-                let before = std::mem::replace(&mut cell.reader, self.readers.len() as u32);
-                self.readers.push(Reader { node: me, before });
-            }
+    fn install_reads(&mut self, me: u32, draft: usize, site: Option<usize>) {
+        let items = site.map_or(0..u32::MAX, |it| self.items.sites[it].begin..self.items.sites[it].end);
+        for seen in self.drafts[draft].reads.iter().filter(|seen| items.contains(&seen.item)) {
+            self.versions.install_read(me, seen);
         }
     }
 
     #[inline(always)]
     fn end(&mut self, tx: u32, draft: usize) {
         self.nodes[(tx - self.before - 1) as usize].state = State::Ended;
-        let it = &mut self.drafts[draft];
-        it.reads.clear();
-        it.wishes.clear();
-        it.sites = 0;
+        self.drafts[draft].clear();
         self.spare.push(draft as u32);
     }
 
@@ -394,7 +282,7 @@ impl Scheduler {
             left &= left - 1;
         }
         self.end(tx, draft);
-        self.decisions.push(Decision::Withdraw(tx));
+        self.decisions.withdraw(tx);
         Ok(())
     }
 
@@ -414,11 +302,7 @@ impl Scheduler {
         self.before += self.nodes.len() as u32;
         self.nodes.clear();
         self.graph.clear();
-        self.changes.truncate(1);
-        self.readers.truncate(1);
-        for cell in &mut self.items.cells {
-            (cell.first_change, cell.last_change, cell.last_write, cell.reader) = (0, 0, 0, 0);
-        }
+        self.versions.close();
         Ok(self.past.len())
     }
 
