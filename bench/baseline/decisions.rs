@@ -1,4 +1,5 @@
 //! The decisions of a run, and the certificate that they make.
+#![allow(dead_code)]
 use crate::graph::{Conflict, Edge};
 use crate::items::Items;
 use crate::output::Out;

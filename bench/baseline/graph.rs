@@ -1,4 +1,5 @@
 //! The graph of a window: its committed transactions in an order that all edges follow.
+#![allow(dead_code)]
 
 const NONE: u32 = u32::MAX;
 
