@@ -1,12 +1,15 @@
 #!/usr/bin/env python3
-"""Times the service alone: a thousand scripts run by 1, 2 and 4 workers, beside the plain service.
+"""Times the service alone: many runs of a thousand scripts by 1, 2 and 4 workers, beside the plain service.
 
-usage: time_service.py SERVICE [RUNS]
+usage: time_service.py SERVICE [RUNS [PROGRAM]]
 
-SERVICE is a built bench/baseline/service.rs; RUNS is 20 where nothing is said. The inputs are those of time_run.py. The program
-below is built in a scratch workspace, over copies of the crates with what their checks kept. It times `run` of sgt_service from the
-start of its threads until they are joined, and then `settle`; the plain service times its threads alike. Printed are scripts a
-second by the least time of the runs, and the time of settling that run.
+SERVICE is a built bench/baseline/service.rs; RUNS is 100 where nothing is said, so that 100,000 scripts are run: an epoch, and so a
+run of four tries each, has room for a thousand. The inputs are those of time_run.py. The program below is built in a scratch
+workspace, over copies of the crates with what their checks kept; where PROGRAM is given that is run instead of it.
+
+A process reads its input once and runs it RUNS times, each time on a new service. Counted is the time from the start of the threads
+until they are joined, and by itself that of `settle`, which the plain service has none of. Each is the least of five processes, by
+turns. Printed are thousands of scripts a second, and how many times the plain service's time ours takes, without and with settling.
 """
 import os
 import re
@@ -18,10 +21,8 @@ import tempfile
 import time_run
 
 TOP = os.path.join(os.path.dirname(os.path.abspath(__file__)), "..")
-CRATES = [
-    "sgt_names", "sgt_notation", "sgt_arena", "sgt_site", "sgt_edges", "sgt_order", "sgt_cert", "sgt_audit_decisions", "sgt_audit_cells",
-    "sgt_audit", "sgt_certifier", "sgt_service_agreement", "sgt_workers", "sgt_service_locks", "sgt_service_settle", "sgt_service",
-]
+OWN = "sgt_names sgt_notation sgt_workers sgt_service_locks sgt_service anyhow"
+TURNS = 5
 
 PROGRAM = r"""//! Runs the scripts of standard input on a service again and again, and says how long that took and how long it took to settle.
 #![tactic(auto)]
@@ -134,9 +135,23 @@ ghosts-timed g a = record { name = a.blank.name; parts = a.blank.parts }
 """
 
 
-def built(scratch):
-    """Builds the program, and returns its file."""
-    for crate in CRATES:
+def needed():
+    """The lines of crates.txt for the crates that the program stands on."""
+    with open(f"{TOP}/crates.txt", encoding="utf-8") as file:
+        lines = {line.split(":")[0].split(" ")[0]: line for line in file if ":" in line and not line.startswith("#")}
+    todo, found = OWN.split(), {}
+    while todo:
+        crate = todo.pop()
+        if crate in lines and crate not in found:
+            found[crate] = lines[crate]
+            todo += lines[crate].split(":")[1].split()
+    return [line for crate, line in lines.items() if crate in found], found
+
+
+def written(scratch):
+    """Writes the program's crate, beside copies of those that it stands on."""
+    lines, crates = needed()
+    for crate in crates:
         shutil.copytree(f"{TOP}/crates/{crate}", f"{scratch}/crates/{crate}")
     shutil.copy(f"{TOP}/HANDLES", scratch)
     home = f"{scratch}/crates/run_load"
@@ -145,11 +160,15 @@ def built(scratch):
     for name, text in (("src/main.rt", PROGRAM), ("proofs/main/Invariants.antt", GHOSTS), ("proofs/Lib.antt", "")):
         with open(f"{home}/{name}", "w", encoding="utf-8") as file:
             file.write(text)
-    with open(f"{TOP}/crates.txt", encoding="utf-8") as file:
-        lines = [it for it in file if it.split(":")[0].split(" ")[0] in CRATES]
     with open(f"{scratch}/crates.txt", "w", encoding="utf-8") as file:
         file.writelines(lines)
-        file.write("run_load: sgt_names sgt_notation sgt_workers sgt_service_locks sgt_service anyhow\n")
+        file.write(f"run_load: {OWN}\n")
+    return home
+
+
+def built(scratch):
+    """Builds the program, and returns its file."""
+    home = written(scratch)
     ran = subprocess.run(["rt", "run", "run_load"], cwd=home, stdin=subprocess.DEVNULL, stdout=subprocess.PIPE,
                          stderr=subprocess.STDOUT, text=True)
     if ran.returncode:
@@ -157,25 +176,31 @@ def built(scratch):
     return f"{home}/out/run_load"
 
 
-def microseconds(words, text):
-    """The numbers that a run says of itself: microseconds of the run, and of settling it where it does that."""
+def nanoseconds(words, text):
+    """What a process says of itself: nanoseconds of the runs, of settling them (0 where it doesn't do that), and its tries."""
     done = subprocess.run(words, input=text, capture_output=True)
-    said = re.search(rb"run (\d+)(?: settle (\d+))?", done.stdout.split(b"\n")[0] + done.stderr)
-    return [int(it) for it in said.groups() if it is not None]
+    said = re.search(rb"run (\d+)(?: settle (\d+))? tries (\d+)", done.stdout.split(b"\n")[0] + done.stderr)
+    if not said:
+        sys.exit(f"{words} failed: {done.stdout[:100]} {done.stderr[:100]}")
+    return [int(it or 0) for it in said.groups()]
 
 
 def main():
     service = sys.argv[1]
-    runs = int(sys.argv[2]) if len(sys.argv) > 2 else 20
+    runs = sys.argv[2] if len(sys.argv) > 2 else "100"
+    scripts = int(runs) * time_run.SCRIPTS
     with tempfile.TemporaryDirectory(prefix="time-service-") as scratch:
-        program = built(scratch)
+        program = sys.argv[3] if len(sys.argv) > 3 else built(scratch)
         print("load", *os.getloadavg())
         for name, text in time_run.inputs().items():
-            for workers in (1, 2, 4):
-                run, settle = min(microseconds([program, str(workers)], text) for _ in range(runs))
-                plain = min(microseconds([service, str(workers), "4"], text) for _ in range(runs))[0]
-                rates = [time_run.SCRIPTS * 1_000_000 // max(it, 1) for it in (run, plain)]
-                print(f"{name:9} {workers} workers: {rates[0]:8} scripts a second, settled in {settle / 1000:.1f} ms   plain {rates[1]:8}")
+            for workers in ("1", "2", "4"):
+                turns = [(nanoseconds([program, workers, runs], text), nanoseconds([service, workers, "4", runs], text)) for _ in range(TURNS)]
+                ours, plain = min(turn[0][0] for turn in turns), min(turn[1][0] for turn in turns)
+                settled = min(turn[0][0] + turn[0][1] for turn in turns)
+                again = [min(turn[k][2] for turn in turns) - scripts for k in (0, 1)]
+                rates = [scripts * 1_000_000 / it for it in (ours, settled, plain)]
+                print(f"{name:9} {workers} workers: {rates[0]:6.0f}, settled {rates[1]:6.0f}, plain {rates[2]:6.0f} thousand scripts a second: "
+                      f"{ours / plain:5.2f} and {settled / plain:5.2f} times   refused tries {again[0]} and {again[1]}", flush=True)
 
 
 if __name__ == "__main__":

@@ -30,8 +30,9 @@ impl Edge {
 struct Node {
     /// its place in the order, once it is committed
     place: u32,
-    /// its first edge out
-    out: u32,
+    /// its first and its last edge out
+    first: u32,
+    last: u32,
     /// the search that came here last, and by which edge
     mark: u32,
     by: u32,
@@ -43,14 +44,12 @@ pub struct Graph {
     edges: Vec<Edge>,
     pub order: Vec<u32>,
     mark: u32,
-    /// nodes that a search came to
-    reached: Vec<u32>,
     moved: Vec<u32>,
 }
 
 impl Graph {
     pub fn add_node(&mut self) {
-        self.nodes.push(Node { place: NONE, out: NONE, mark: 0, by: NONE });
+        self.nodes.push(Node { place: NONE, first: NONE, last: NONE, mark: 0, by: NONE });
     }
 
     pub fn clear(&mut self) {
@@ -61,19 +60,13 @@ impl Graph {
     }
 
     fn link(&mut self, edge: Edge) {
-        let out = &mut self.nodes[edge.from as usize].out;
-        let next = std::mem::replace(out, self.edges.len() as u32);
-        self.edges.push(Edge { next, ..edge });
-    }
-
-    #[inline(always)]
-    fn reach(&mut self, edge: u32) {
-        let to = self.edges[edge as usize].to;
-        let node = &mut self.nodes[to as usize];
-        if node.mark != self.mark {
-            (node.mark, node.by) = (self.mark, edge);
-            self.reached.push(to);
+        let new = self.edges.len() as u32;
+        let node = &mut self.nodes[edge.from as usize];
+        match std::mem::replace(&mut node.last, new) {
+            NONE => node.first = new,
+            last => self.edges[last as usize].next = new,
         }
+        self.edges.push(edge);
     }
 
     /// Admits a node with its edges in and out, or answers a cycle of edges that it would close.
@@ -86,14 +79,14 @@ impl Graph {
             for edge in outs {
                 self.link(*edge);
             }
-            self.search(me);
+            let least = self.search(me);
             if let Some(back) = ins.iter().find(|e| self.nodes[e.from as usize].mark == self.mark) {
                 let cycle = self.cycle(me, *back);
                 self.edges.truncate(kept);
-                self.nodes[me as usize].out = NONE;
+                (self.nodes[me as usize].first, self.nodes[me as usize].last) = (NONE, NONE);
                 return Err(cycle);
             }
-            self.make_room(me);
+            self.make_room(me, least);
         }
         for edge in ins {
             self.link(*edge);
@@ -101,23 +94,34 @@ impl Graph {
         Ok(())
     }
 
-    /// Marks what the node leads to.
-    fn search(&mut self, me: u32) {
+    /// Marks what the node leads to, and answers the first place of those. Edges lead on in the order, so one pass is enough.
+    fn search(&mut self, me: u32) -> usize {
         self.mark += 1;
-        self.reached.clear();
-        let (mut looked, mut node) = (0, me);
-        loop {
-            let mut edge = self.nodes[node as usize].out;
-            while edge != NONE {
-                self.reach(edge);
-                edge = self.edges[edge as usize].next;
+        let least = self.spread(me);
+        for place in least..self.order.len() {
+            let node = self.order[place];
+            if self.nodes[node as usize].mark == self.mark {
+                self.spread(node);
             }
-            if looked == self.reached.len() {
-                return;
-            }
-            node = self.reached[looked];
-            looked += 1;
         }
+        least
+    }
+
+    /// Marks the targets of the node's edges, and answers the first place of those.
+    #[inline(always)]
+    fn spread(&mut self, from: u32) -> usize {
+        let mut least = NONE;
+        let mut edge = self.nodes[from as usize].first;
+        while edge != NONE {
+            let Edge { to, next, .. } = self.edges[edge as usize];
+            let node = &mut self.nodes[to as usize];
+            if node.mark != self.mark {
+                (node.mark, node.by) = (self.mark, edge);
+                least = least.min(node.place);
+            }
+            edge = next;
+        }
+        least as usize
     }
 
     fn cycle(&self, me: u32, back: Edge) -> Vec<Edge> {
@@ -133,12 +137,11 @@ impl Graph {
     }
 
     /// Puts the node behind all that it doesn't lead to, and what it leads to behind it.
-    fn make_room(&mut self, me: u32) {
-        let least = self.reached.iter().map(|n| self.nodes[*n as usize].place).min().unwrap_or(0);
+    fn make_room(&mut self, me: u32, least: usize) {
         self.moved.clear();
         self.moved.push(me);
-        let mut end = least as usize;
-        for n in least as usize..self.order.len() {
+        let mut end = least;
+        for n in least..self.order.len() {
             let it = self.order[n];
             let node = &mut self.nodes[it as usize];
             if node.mark == self.mark {

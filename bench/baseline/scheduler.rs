@@ -162,8 +162,7 @@ impl Scheduler {
         one.sort();
         ins.clear();
         outs.clear();
-        one.reads.iter().for_each(|seen| versions.gather_read(me, seen, ins, outs));
-        one.wishes.iter().for_each(|wish| versions.gather_wish(me, wish, ins));
+        versions.gather(me, one, ins, outs);
         let committed = match graph.decide(me, ins, outs) {
             Ok(()) => {
                 decisions.commit(tx);

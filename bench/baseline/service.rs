@@ -110,7 +110,7 @@ impl Service {
         ins.clear();
         outs.clear();
         for site in sites_of(draft) {
-            gather(&self.sites[site].lock().unwrap().versions, tx - 1, draft, ins, outs);
+            self.sites[site].lock().unwrap().versions.gather(tx - 1, draft, ins, outs);
         }
         let committed = match graph.decide(tx - 1, ins, outs) {
             Ok(()) => {
@@ -163,16 +163,6 @@ fn sites_of(draft: &Draft) -> impl Iterator<Item = usize> {
         left &= left.wrapping_sub(1);
         if site < 64 { Some(site) } else { None }
     })
-}
-
-fn gather(versions: &Versions, me: u32, draft: &Draft, ins: &mut Vec<Edge>, outs: &mut Vec<Edge>) {
-    let own = versions.numbers();
-    for seen in draft.reads.iter().filter(|seen| own.contains(&seen.item)) {
-        versions.gather_read(me, seen, ins, outs);
-    }
-    for wish in draft.wishes.iter().filter(|wish| own.contains(&wish.item)) {
-        versions.gather_wish(me, wish, ins);
-    }
 }
 
 fn install(site: &mut Site, tx: u32, draft: &Draft, committed: bool) {
