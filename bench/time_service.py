@@ -8,8 +8,10 @@ run of four tries each, has room for a thousand. The inputs are those of time_ru
 workspace, over copies of the crates with what their checks kept; where PROGRAM is given that is run instead of it.
 
 A process reads its input once and runs it RUNS times, each time on a new service. Counted is the time from the start of the threads
-until they are joined, and by itself that of `settle`, which the plain service has none of. Each is the least of five processes, by
-turns. Printed are thousands of scripts a second, and how many times the plain service's time ours takes, without and with settling.
+until they are joined, and by itself that of `settle`, which the plain service has none of. Printed are thousands of scripts a second,
+without and with settling, and how many times the plain service's time that is; the processor microseconds of a whole process for each
+script, with settling, which say what is work where the times also say what is waiting; and how many tries were refused. Each is the
+least of five processes, by turns.
 """
 import os
 import re
@@ -24,7 +26,7 @@ TOP = os.path.join(os.path.dirname(os.path.abspath(__file__)), "..")
 OWN = "sgt_names sgt_notation sgt_workers sgt_service_locks sgt_service anyhow"
 TURNS = 5
 
-PROGRAM = r"""//! Runs the scripts of standard input on a service again and again, and says how long that took and how long it took to settle.
+PROGRAM = r"""//! Runs the scripts of standard input on new services, and says how long that took and how long it took to settle them.
 #![tactic(auto)]
 
 ghost use Rattle.std.specs.Prelude.{◌≡◌, ◌≤◌};
@@ -94,7 +96,7 @@ fn main(rt: HostRuntime) -> Result<(), Error> {
     let words: Vec<String> = env::args(&rt)?.collect(alloc)?;
     let mut workers = 1u64;
     if let Some(word) = words.get(1) {
-        workers = word.parse::<u64>()?.clamp(1, 16);
+        workers = word.parse::<u64>()?;
     }
     let mut runs = 1u32;
     if let Some(word) = words.get(2) {
@@ -107,11 +109,12 @@ fn main(rt: HostRuntime) -> Result<(), Error> {
     let (items, scripts) = items_of(alloc, input)?;
     let mut all = Times { run: 0, settle: 0, tries: 0 };
     for _ in 0..runs {
+        let seats = workers.clamp(1, 16);
         let times = timed::<Brand, _>(
             &rt,
             alloc,
-            Blank::new(workers),
-            workers,
+            Blank::new(seats),
+            seats,
             items.as_slice(),
             scripts.as_slice(),
         );
@@ -176,13 +179,19 @@ def built(scratch):
     return f"{home}/out/run_load"
 
 
-def nanoseconds(words, text):
-    """What a process says of itself: nanoseconds of the runs, of settling them (0 where it doesn't do that), and its tries."""
-    done = subprocess.run(words, input=text, capture_output=True)
-    said = re.search(rb"run (\d+)(?: settle (\d+))? tries (\d+)", done.stdout.split(b"\n")[0] + done.stderr)
+def one(words, text):
+    """A process: nanoseconds of its runs and of settling them (0 where it doesn't), its tries, and its processor microseconds."""
+    with tempfile.TemporaryFile() as file:
+        file.write(text)
+        file.seek(0)
+        running = subprocess.Popen(words, stdin=file, stdout=subprocess.PIPE, stderr=subprocess.PIPE)
+        out, told = running.stdout.read(), running.stderr.read()
+        _, _, used = os.wait4(running.pid, 0)
+    said = re.search(rb"run (\d+)(?: settle (\d+))? tries (\d+)", out.split(b"\n")[0] + told)
     if not said:
-        sys.exit(f"{words} failed: {done.stdout[:100]} {done.stderr[:100]}")
-    return [int(it or 0) for it in said.groups()]
+        sys.exit(f"{words} failed: {out[:100]} {told[:100]}")
+    run, settle, tries = [int(it or 0) for it in said.groups()]
+    return run, run + settle, tries, (used.ru_utime + used.ru_stime) * 1_000_000
 
 
 def main():
@@ -192,15 +201,16 @@ def main():
     with tempfile.TemporaryDirectory(prefix="time-service-") as scratch:
         program = sys.argv[3] if len(sys.argv) > 3 else built(scratch)
         print("load", *os.getloadavg())
+        print("                    thousand scripts a second       times the plain time   processor us a script   refused tries")
+        print("items     workers   ours  settled   plain           ours  settled          ours    plain           ours   plain")
         for name, text in time_run.inputs().items():
             for workers in ("1", "2", "4"):
-                turns = [(nanoseconds([program, workers, runs], text), nanoseconds([service, workers, "4", runs], text)) for _ in range(TURNS)]
-                ours, plain = min(turn[0][0] for turn in turns), min(turn[1][0] for turn in turns)
-                settled = min(turn[0][0] + turn[0][1] for turn in turns)
-                again = [min(turn[k][2] for turn in turns) - scripts for k in (0, 1)]
-                rates = [scripts * 1_000_000 / it for it in (ours, settled, plain)]
-                print(f"{name:9} {workers} workers: {rates[0]:6.0f}, settled {rates[1]:6.0f}, plain {rates[2]:6.0f} thousand scripts a second: "
-                      f"{ours / plain:5.2f} and {settled / plain:5.2f} times   refused tries {again[0]} and {again[1]}", flush=True)
+                turns = [(one([program, workers, runs], text), one([service, workers, "4", runs], text)) for _ in range(TURNS)]
+                ours, plain = ([min(turn[k][n] for turn in turns) for n in range(4)] for k in (0, 1))
+                run, settled, base = (scripts * 1_000_000 / it for it in (ours[0], ours[1], plain[0]))
+                print(f"{name:9} {workers:>7} {run:6.0f} {settled:8.0f} {base:7.0f}         {base / run:6.1f} {base / settled:8.1f}"
+                      f"        {ours[3] / scripts:6.1f} {plain[3] / scripts:8.2f}         {ours[2] - scripts:6} {plain[2] - scripts:7}",
+                      flush=True)
 
 
 if __name__ == "__main__":
