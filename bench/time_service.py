@@ -83,7 +83,10 @@ fn timed<L: Ledger + Send + Sync, R: Threads + Wait + Clock + Sync>(
     Some(Times { run, settle, tries })
 }
 
-fn items_of(alloc: Global, input: Input) -> Result<(Vec<Listed<Holding>>, Vec<Script>), AllocError> {
+fn items_of(
+    alloc: Global,
+    input: Input,
+) -> Result<(Vec<Listed<Holding>>, Vec<Script>), AllocError> {
     let mut items = Vec::new(alloc);
     for site in input.sites.into_vec() {
         items.push(site.items)?;
@@ -107,7 +110,11 @@ fn main(rt: HostRuntime) -> Result<(), Error> {
         return Ok(());
     };
     let (items, scripts) = items_of(alloc, input)?;
-    let mut all = Times { run: 0, settle: 0, tries: 0 };
+    let mut all = Times {
+        run: 0,
+        settle: 0,
+        tries: 0,
+    };
     for _ in 0..runs {
         let seats = workers.clamp(1, 16);
         let times = timed::<Brand, _>(
