@@ -1,64 +1,99 @@
-//! A plain service of the same locks written for speed with std, without proofs and without a history of calls: what `sgt run` is
-//! measured against. It reads inputs in which no sum exceeds the greatest value (as time_run.py writes them), runs their scripts by
-//! threads, and prints what `sgt run` prints; the verdict it makes up from its own counts. Where RUNS is given it does that so often,
-//! each time on a new service, and prints the last one. How long the threads took in all goes to standard error, in nanoseconds.
-//!
-//! rustc --edition 2024 -O -C target-cpu=x86-64-v2 bench/baseline/service.rs -o plain_service
-//! plain_service WORKERS TRIES [RUNS] < SCRIPTS
-mod decisions;
-mod graph;
-mod input;
-mod items;
-mod output;
-mod versions;
-
-use decisions::Decisions;
-use graph::{Edge, Graph};
-use input::{Lines, Text};
-use items::Items;
-use output::Out;
+// A plain service of the same locks written with std, without proofs and without a history of calls: what `sgt run` is measured
+// against. It reads inputs in which no sum exceeds the greatest value (as time_run.py writes them), runs their scripts by threads,
+// and prints what `sgt run` prints; the verdict it makes up from its own counts. With RUNS it runs them so often, each time on a new
+// service, and prints the last. The nanoseconds of the threads and the tries go to standard error.
+//
+// rustc --edition 2024 -O -C target-cpu=x86-64-v2 bench/baseline/service.rs -o /tmp/service
+// /tmp/service WORKERS TRIES [RUNS] < SCRIPTS
+use std::collections::HashMap;
+use std::fmt::Write as _;
+use std::io::{Read, Write};
 use std::sync::Mutex;
 use std::sync::atomic::{AtomicUsize, Ordering};
 use std::time::{Duration, Instant};
-use versions::{Draft, Versions, Wish};
 
-/// An item and its site.
-#[derive(Clone, Copy)]
-struct Place {
-    item: u32,
-    site: usize,
-}
+type Place = (usize, usize);
 
 #[derive(Clone, Copy)]
-enum Operation {
+enum Op {
     Read(Place),
     Put(Place, u64),
     Add(Place, u64),
     Sum(Place, Place, u64),
 }
 
-type Script = Vec<Operation>;
-
 #[derive(Clone, Copy)]
 struct Entry {
-    value: u64,
-    tx: u32,
-    item: u32,
     letter: u8,
+    tx: u32,
+    item: usize,
+    value: u64,
+}
+
+// an item: its value, who changed it (whether by an increment), who read it (and which version), all committed
+#[derive(Clone, Default)]
+struct Cell {
+    value: u64,
+    writers: Vec<(u32, bool)>,
+    readers: Vec<(u32, usize)>,
 }
 
 struct Site {
-    versions: Versions,
+    cells: Vec<Cell>,
     log: Vec<Entry>,
+}
+
+#[derive(Clone, Copy)]
+struct Edge {
+    from: u32,
+    to: u32,
+    label: (usize, usize, &'static str),
+}
+
+enum Decision {
+    Commit(u32),
+    Refuse(u32, Vec<Edge>),
 }
 
 #[derive(Default)]
 struct Certifier {
     begun: u32,
-    graph: Graph,
-    decisions: Decisions,
-    ins: Vec<Edge>,
-    outs: Vec<Edge>,
+    order: Vec<u32>,
+    place: Vec<usize>, // by transaction; usize::MAX: not committed
+    edges: Vec<Vec<Edge>>, // by the transaction that they lead from
+    decisions: Vec<Decision>,
+}
+
+#[derive(Default)]
+struct Draft {
+    reads: Vec<(Place, u64, usize)>,
+    changes: Vec<(Place, bool, u64)>, // whether by an increment
+}
+
+impl Draft {
+    fn look(&self, place: Place) -> Option<u64> {
+        let seen = self.reads.iter().find(|r| r.0 == place).map(|r| r.1);
+        match self.changes.iter().find(|c| c.0 == place) {
+            Some(c) if !c.1 => Some(c.2),
+            Some(c) => seen.map(|v| v.wrapping_add(c.2)),
+            None => seen,
+        }
+    }
+
+    fn change(&mut self, place: Place, is_add: bool, value: u64) {
+        match self.changes.iter_mut().find(|c| c.0 == place) {
+            Some(c) if is_add => c.2 = c.2.wrapping_add(value),
+            Some(c) => (c.1, c.2) = (false, value),
+            None => self.changes.push((place, is_add, value)),
+        }
+    }
+
+    fn sites(&self) -> Vec<usize> {
+        let mut sites: Vec<usize> = self.reads.iter().map(|r| r.0.0).chain(self.changes.iter().map(|c| c.0.0)).collect();
+        sites.sort_unstable();
+        sites.dedup();
+        sites
+    }
 }
 
 struct Service {
@@ -66,270 +101,297 @@ struct Service {
     sites: Vec<Mutex<Site>>,
 }
 
-/// How a script has ended: the transaction of its last try, whether that is committed, and how many tries there were.
-#[derive(Clone, Copy, Default)]
-struct Ending {
-    tx: u32,
-    committed: bool,
-    tries: usize,
-}
-
 impl Service {
-    fn new(items: &Items) -> Service {
-        let site = |it: &items::Site| {
-            let values = items.cells[it.begin as usize..it.end as usize].iter().map(|cell| cell.first);
-            Mutex::new(Site { versions: Versions::new(it.begin, values), log: Vec::new() })
-        };
-        Service { certifier: Mutex::default(), sites: items.sites.iter().map(site).collect() }
-    }
-
     fn begin(&self) -> u32 {
         let mut certifier = self.certifier.lock().unwrap();
-        certifier.graph.add_node();
         certifier.begun += 1;
+        certifier.place.push(usize::MAX);
+        certifier.edges.push(Vec::new());
         certifier.begun
     }
 
     fn read(&self, tx: u32, draft: &mut Draft, place: Place) {
-        if draft.look(place.item).is_ok() {
-            return;
+        if draft.look(place).is_none() {
+            let mut site = self.sites[place.0].lock().unwrap();
+            let cell = &site.cells[place.1];
+            let (value, version) = (cell.value, cell.writers.len());
+            site.log.push(Entry { letter: b'r', tx, item: place.1, value });
+            draft.reads.push((place, value, version));
         }
-        let mut site = self.sites[place.site].lock().unwrap();
-        let seen = site.versions.see(place.item);
-        site.log.push(Entry { value: seen.value, tx, item: place.item, letter: b'r' });
-        drop(site);
-        draft.reads.push(seen);
-        draft.sites |= 1 << place.site;
     }
 
-    /// Decides a transaction and installs it; whether it is committed.
-    fn commit(&self, tx: u32, draft: &mut Draft) -> bool {
-        draft.sort();
+    fn commit(&self, tx: u32, draft: &Draft) -> bool {
+        let sites = draft.sites();
         let mut certifier = self.certifier.lock().unwrap();
-        let Certifier { graph, decisions, ins, outs, .. } = &mut *certifier;
-        ins.clear();
-        outs.clear();
-        for site in sites_of(draft) {
-            self.sites[site].lock().unwrap().versions.gather(tx - 1, draft, ins, outs);
+        let mut edges = Vec::new();
+        for &at in &sites {
+            gather(&self.sites[at].lock().unwrap(), at, tx, draft, &mut edges);
         }
-        let committed = match graph.decide(tx - 1, ins, outs) {
-            Ok(()) => {
-                decisions.commit(tx);
-                true
-            }
-            Err(cycle) => {
-                decisions.refuse(tx, &cycle, 1);
-                false
-            }
-        };
-        for site in sites_of(draft) {
-            install(&mut self.sites[site].lock().unwrap(), tx, draft, committed);
+        let is_committed = certifier.decide(tx, edges);
+        for &at in &sites {
+            install(&mut self.sites[at].lock().unwrap(), at, tx, draft, is_committed);
         }
-        committed
-    }
-
-    /// Tries a script until it is committed.
-    fn run(&self, script: &Script, tries: usize, draft: &mut Draft) -> Ending {
-        let mut ending = Ending::default();
-        while !ending.committed && ending.tries < tries {
-            draft.clear();
-            let tx = self.begin();
-            for operation in script {
-                self.operate(tx, draft, *operation);
-            }
-            ending = Ending { tx, committed: self.commit(tx, draft), tries: ending.tries + 1 };
-        }
-        ending
-    }
-
-    fn operate(&self, tx: u32, draft: &mut Draft, operation: Operation) {
-        let (place, value, adds) = match operation {
-            Operation::Read(place) => return self.read(tx, draft, place),
-            Operation::Put(place, value) => (place, value, false),
-            Operation::Add(place, value) => (place, value, true),
-            Operation::Sum(place, source, value) => {
-                let found = draft.look(source.item).expect("a source was read or written");
-                (place, found.checked_add(value).expect("no sum is too large"), false)
-            }
-        };
-        draft.change(Wish { value, item: place.item, adds }, place.site);
+        is_committed
     }
 }
 
-fn sites_of(draft: &Draft) -> impl Iterator<Item = usize> {
-    let mut left = draft.sites;
-    std::iter::from_fn(move || {
-        let site = left.trailing_zeros() as usize;
-        left &= left.wrapping_sub(1);
-        if site < 64 { Some(site) } else { None }
-    })
+// the conflicts with neighbours, as edges
+fn gather(site: &Site, at: usize, tx: u32, draft: &Draft, edges: &mut Vec<Edge>) {
+    let mut push = |from: u32, to: u32, item: usize, kind: &'static str| {
+        if from != to {
+            edges.push(Edge { from, to, label: (at, item, kind) });
+        }
+    };
+    for &(place, _, version) in draft.reads.iter().filter(|r| r.0.0 == at) {
+        let writers = &site.cells[place.1].writers;
+        for writer in writers[..version].iter().rev() {
+            push(writer.0, tx, place.1, "wr");
+            if !writer.1 {
+                break;
+            }
+        }
+        for writer in &writers[version..] {
+            push(tx, writer.0, place.1, "rw");
+            if !writer.1 {
+                break;
+            }
+        }
+    }
+    for &(place, is_add, _) in draft.changes.iter().filter(|c| c.0.0 == at) {
+        let cell = &site.cells[place.1];
+        let mut since = cell.writers.len();
+        if is_add {
+            if let Some(writer) = cell.writers.iter().rev().find(|w| !w.1) {
+                push(writer.0, tx, place.1, "ww");
+            }
+            while since > 0 && cell.writers[since - 1].1 {
+                since -= 1;
+            }
+        } else {
+            for writer in cell.writers.iter().rev() {
+                push(writer.0, tx, place.1, "ww");
+                if !writer.1 {
+                    break;
+                }
+            }
+        }
+        for &(reader, version) in cell.readers.iter().rev() {
+            if version < since {
+                break;
+            }
+            push(reader, tx, place.1, "rw");
+        }
+    }
 }
 
-fn install(site: &mut Site, tx: u32, draft: &Draft, committed: bool) {
-    let own = site.versions.numbers();
-    for wish in draft.wishes.iter().filter(|wish| own.contains(&wish.item)) {
-        let letter = match (committed, wish.adds) {
+fn install(site: &mut Site, at: usize, tx: u32, draft: &Draft, is_committed: bool) {
+    let mut changes: Vec<_> = draft.changes.iter().filter(|c| c.0.0 == at).copied().collect();
+    changes.sort_unstable_by_key(|c| c.0);
+    for (place, is_add, value) in changes {
+        let letter = match (is_committed, is_add) {
             (true, false) => b'w',
             (true, true) => b'd',
             (false, false) => b'p',
             (false, true) => b'q',
         };
-        site.log.push(Entry { value: wish.value, tx, item: wish.item, letter });
-        if committed {
-            site.versions.install_wish(tx - 1, wish);
+        site.log.push(Entry { letter, tx, item: place.1, value });
+        if is_committed {
+            let cell = &mut site.cells[place.1];
+            cell.value = if is_add { cell.value.wrapping_add(value) } else { value };
+            cell.writers.push((tx, is_add));
         }
     }
-    if committed {
-        for seen in draft.reads.iter().filter(|seen| own.contains(&seen.item)) {
-            site.versions.install_read(tx - 1, seen);
+    if is_committed {
+        for &(place, _, version) in draft.reads.iter().filter(|r| r.0.0 == at) {
+            let readers = &mut site.cells[place.1].readers;
+            let behind = readers.partition_point(|r| r.1 <= version);
+            readers.insert(behind, (tx, version));
         }
     }
-    site.log.push(Entry { value: 0, tx, item: 0, letter: if committed { b'c' } else { b'n' } });
+    site.log.push(Entry { letter: if is_committed { b'c' } else { b'n' }, tx, item: 0, value: 0 });
 }
 
-/// Runs all scripts by so many threads, and answers how they have ended and how long it took.
-fn run(service: &Service, scripts: &[Script], workers: usize, tries: usize) -> (Vec<Ending>, Duration) {
-    let start = Instant::now();
-    let next = AtomicUsize::new(0);
-    let worker = || {
-        let (mut draft, mut endings) = (Draft::default(), Vec::new());
-        loop {
-            let job = next.fetch_add(1, Ordering::Relaxed);
-            let Some(script) = scripts.get(job) else { return endings };
-            endings.push((job, service.run(script, tries, &mut draft)));
-        }
-    };
-    let mut endings = vec![Ending::default(); scripts.len()];
-    std::thread::scope(|scope| {
-        let threads: Vec<_> = (0..workers).map(|_| scope.spawn(worker)).collect();
-        for (job, ending) in threads.into_iter().flat_map(|thread| thread.join().unwrap()) {
-            endings[job] = ending;
-        }
-    });
-    (endings, start.elapsed())
-}
-
-/// The sites and scripts of an input.
-fn read(text: Text<'_>, whole: usize) -> Option<(Items, Vec<Script>)> {
-    let (mut items, mut scripts, mut at) = (Items::default(), Vec::new(), 0);
-    while at < whole && let Some(next) = items.read_site(text, at) {
-        at = next;
-    }
-    while at < whole {
-        let mut script = Script::new();
-        loop {
-            let (operation, next) = read_operation(&items, text, at)?;
-            script.push(operation);
-            at = next + 1;
-            match text.byte(next) {
-                b' ' => {}
-                b'\n' => break,
-                _ => return None,
+impl Certifier {
+    fn decide(&mut self, tx: u32, edges: Vec<Edge>) -> bool {
+        let mut came: HashMap<u32, Edge> = HashMap::new();
+        let mut stack = Vec::new();
+        for edge in edges.iter().filter(|e| e.from == tx) {
+            if came.insert(edge.to, *edge).is_none() {
+                stack.push(edge.to);
             }
         }
-        scripts.push(script);
-    }
-    Some((items, scripts))
-}
-
-fn read_place(items: &Items, text: Text<'_>, at: usize) -> Option<(Place, usize)> {
-    let (site, at) = text.number(at)?;
-    let (name, at) = text.name(text.word(at, b".")?)?;
-    Some((Place { item: items.find(site as usize, name)?, site: site as usize }, at))
-}
-
-fn read_operation(items: &Items, text: Text<'_>, at: usize) -> Option<(Operation, usize)> {
-    let (place, behind) = read_place(items, text, text.word(at + 1, b"[")?)?;
-    let behind = text.word(behind, b"]")?;
-    if text.byte(at) == b'r' {
-        return Some((Operation::Read(place), behind));
-    }
-    let from = text.word(behind, b"=")?;
-    if let Some((value, to)) = text.number(from).filter(|(_, to)| text.byte(*to) != b'.') {
-        let is_put = text.byte(at) == b'w';
-        return Some((if is_put { Operation::Put(place, value) } else { Operation::Add(place, value) }, to));
-    }
-    let (source, to) = read_place(items, text, from)?;
-    let (value, to) = text.number(text.word(to, b"+")?)?;
-    Some((Operation::Sum(place, source, value), to))
-}
-
-fn put_endings(endings: &[Ending], out: &mut Out) {
-    for (n, ending) in endings.iter().enumerate() {
-        out.room();
-        out.put(b"s");
-        out.number(n as u64 + 1);
-        if ending.committed {
-            out.put(b" committed ");
-        } else {
-            out.put(b" refused ");
+        while let Some(node) = stack.pop() {
+            for edge in &self.edges[node as usize - 1] {
+                if !came.contains_key(&edge.to) {
+                    came.insert(edge.to, *edge);
+                    stack.push(edge.to);
+                }
+            }
         }
-        out.number(ending.tx as u64);
-        out.put(b" tries ");
-        out.number(ending.tries as u64);
-        out.put(b"\n");
-    }
-}
-
-fn put_section(items: &Items, number: usize, site: &Site, out: &mut Out) {
-    items.put_head(number, out);
-    for entry in &site.log {
-        out.room();
-        out.put(&[entry.letter]);
-        out.number(entry.tx as u64);
-        if !matches!(entry.letter, b'c' | b'n') {
-            out.put(b"[");
-            out.name(items.cells[entry.item as usize].name);
-            out.put(b"]=");
-            out.number(entry.value);
+        if let Some(back) = edges.iter().find(|e| e.to == tx && came.contains_key(&e.from)) {
+            let mut walk = vec![*back];
+            while walk[walk.len() - 1].from != tx {
+                walk.push(came[&walk[walk.len() - 1].from]);
+            }
+            walk.reverse();
+            self.decisions.push(Decision::Refuse(tx, walk));
+            return false;
         }
-        out.put(b"\n");
+        let least = came.keys().map(|node| self.place[*node as usize - 1]).min().unwrap_or(self.order.len());
+        let tail = self.order.split_off(least);
+        let (moved, stay): (Vec<u32>, Vec<u32>) = tail.into_iter().partition(|node| came.contains_key(node));
+        self.order.extend(stay);
+        self.order.push(tx);
+        self.order.extend(moved);
+        for n in least..self.order.len() {
+            self.place[self.order[n] as usize - 1] = n;
+        }
+        for edge in edges {
+            self.edges[edge.from as usize - 1].push(edge);
+        }
+        self.decisions.push(Decision::Commit(tx));
+        true
     }
-    items.put_tail(number, |item| site.versions.value(item), out);
 }
 
-fn write_all(items: &Items, service: Service, endings: &[Ending]) {
-    let mut out = Out::new(1 << 16);
-    put_endings(endings, &mut out);
-    let certifier = service.certifier.into_inner().unwrap();
-    let sites: Vec<Site> = service.sites.into_iter().map(|s| s.into_inner().unwrap()).collect();
-    let mut ranks = vec![0; certifier.begun as usize + 1];
-    for (rank, node) in certifier.graph.order.iter().enumerate() {
-        ranks[*node as usize + 1] = rank as u32;
+// runs a script once; the transaction, and whether it is committed
+fn attempt(service: &Service, script: &[Op]) -> (u32, bool) {
+    let tx = service.begin();
+    let mut draft = Draft::default();
+    for op in script {
+        match *op {
+            Op::Read(place) => service.read(tx, &mut draft, place),
+            Op::Put(place, value) => draft.change(place, false, value),
+            Op::Add(place, value) => draft.change(place, true, value),
+            Op::Sum(place, source, value) => {
+                let sum = draft.look(source).unwrap().checked_add(value).expect("no sum is too large");
+                draft.change(place, false, sum);
+            }
+        }
     }
-    let committed = certifier.graph.order.len() as u64;
-    out.room();
-    out.put(b"yes ");
-    out.number(committed);
-    out.put(b" committed ");
-    out.number(certifier.begun as u64 - committed);
-    out.put(b" refused 0 withdrawn\n---\n");
-    let adds = |site: &Site| site.log.iter().any(|e| matches!(e.letter, b'd' | b'q'));
-    out.put(if sites.iter().any(adds) { b"sgt 2\n" } else { b"sgt 1\n" });
-    certifier.decisions.put(items, &ranks, &mut out);
-    for (number, site) in sites.iter().enumerate() {
-        put_section(items, number, site, &mut out);
+    (tx, service.commit(tx, &draft))
+}
+
+struct Named {
+    names: Vec<String>,
+    values: Vec<u64>,
+}
+
+fn place_of(named: &[Named], text: &str) -> Place {
+    let (site, name) = text.split_once('.').unwrap();
+    let site: usize = site.parse().unwrap();
+    (site, named[site].names.iter().position(|n| n == name).unwrap())
+}
+
+fn op_of(named: &[Named], word: &str) -> Op {
+    let (place, tail) = word[2..].split_once(']').unwrap();
+    let place = place_of(named, place);
+    let number = |text: &str| text.parse().unwrap();
+    match (&word[..1], tail.strip_prefix('=').and_then(|t| t.split_once('+'))) {
+        ("r", _) => Op::Read(place),
+        ("w", Some((source, value))) => Op::Sum(place, place_of(named, source), number(value)),
+        ("w", None) => Op::Put(place, number(&tail[1..])),
+        _ => Op::Add(place, number(&tail[1..])),
     }
-    out.write();
+}
+
+fn push_bundle(out: &mut String, named: &[Named], certifier: &Certifier, sites: &[Site]) {
+    let second = sites.iter().any(|s| s.log.iter().any(|e| e.letter == b'd' || e.letter == b'q'));
+    write!(out, "sgt {}\n{{\"decisions\":[", if second { 2 } else { 1 }).unwrap();
+    for (n, decision) in certifier.decisions.iter().enumerate() {
+        out.push_str(if n > 0 { "," } else { "" });
+        match decision {
+            Decision::Commit(tx) => write!(out, "{{\"commit\":{tx},\"rank\":{}}}", certifier.place[*tx as usize - 1]).unwrap(),
+            Decision::Refuse(tx, walk) => {
+                write!(out, "{{\"refuse\":{tx},\"walk\":[").unwrap();
+                for (k, edge) in walk.iter().enumerate() {
+                    let (site, item, kind) = edge.label;
+                    let (comma, name) = (if k > 0 { "," } else { "" }, &named[site].names[item]);
+                    write!(out, "{comma}{{\"item\":\"{name}\",\"kind\":\"{kind}\",\"site\":{site},\"to\":{}}}", edge.to).unwrap();
+                }
+                out.push_str("]}");
+            }
+        }
+    }
+    writeln!(out, "],\"sites\":{}}}", sites.len()).unwrap();
+    for (k, site) in sites.iter().enumerate() {
+        writeln!(out, "site {k}").unwrap();
+        for (name, value) in named[k].names.iter().zip(&named[k].values) {
+            writeln!(out, "item {name}={value}").unwrap();
+        }
+        for entry in &site.log {
+            match entry.letter {
+                b'c' | b'n' => writeln!(out, "{}{}", entry.letter as char, entry.tx).unwrap(),
+                letter => writeln!(out, "{}{}[{}]={}", letter as char, entry.tx, named[k].names[entry.item], entry.value).unwrap(),
+            }
+        }
+        for (name, cell) in named[k].names.iter().zip(&site.cells) {
+            writeln!(out, "final {name}={}", cell.value).unwrap();
+        }
+        out.push_str("end\n");
+    }
 }
 
 fn main() {
-    let words: Vec<usize> = std::env::args().skip(1).map(|w| w.parse().expect("words are numbers")).collect();
-    let (workers, tries, runs) = (words[0], words[1], words.get(2).map_or(1, |n| *n));
-    let mut lines = Lines::new(std::io::stdin().lock());
-    while lines.fill() {}
-    let (items, scripts) = read(Text(&lines.buffer), lines.end).expect("the input is sites and scripts");
-    let (mut spent, mut attempts, mut last) = (Duration::ZERO, 0, None);
-    for _ in 0..runs {
-        let service = Service::new(&items);
-        let (endings, time) = run(&service, &scripts, workers, tries);
-        spent += time;
-        attempts += endings.iter().map(|e| e.tries).sum::<usize>();
-        last = Some((service, endings));
+    let words: Vec<usize> = std::env::args().skip(1).map(|w| w.parse().unwrap()).collect();
+    let (workers, tries, runs) = (words[0], words[1], words.get(2).map_or(1, |runs| *runs));
+    let mut input = String::new();
+    std::io::stdin().read_to_string(&mut input).unwrap();
+    let mut named: Vec<Named> = Vec::new();
+    let mut scripts: Vec<Vec<Op>> = Vec::new();
+    for line in input.lines() {
+        if line.starts_with("site ") {
+            let pairs: Vec<_> = line.split(' ').skip(2).map(|w| w.split_once('=').unwrap()).collect();
+            named.push(Named {
+                names: pairs.iter().map(|p| p.0.to_string()).collect(),
+                values: pairs.iter().map(|p| p.1.parse().unwrap()).collect(),
+            });
+        } else {
+            scripts.push(line.split(' ').map(|word| op_of(&named, word)).collect());
+        }
     }
-    eprintln!("run {} tries {attempts}", spent.as_nanos());
-    let (service, endings) = last.expect("there is a run");
-    let is_all = endings.iter().all(|e| e.committed);
-    write_all(&items, service, &endings);
-    std::process::exit(if is_all { 0 } else { 1 });
+    let site_of = |n: &Named| Site { cells: n.values.iter().map(|&value| Cell { value, ..Cell::default() }).collect(), log: Vec::new() };
+    let (mut spent, mut attempts_of_all, mut last) = (Duration::ZERO, 0, None);
+    for _ in 0..runs {
+        let service = Service {
+            certifier: Mutex::new(Certifier::default()),
+            sites: named.iter().map(|n| Mutex::new(site_of(n))).collect(),
+        };
+        let next = AtomicUsize::new(0);
+        let start = Instant::now();
+        let ends: Vec<Mutex<(u32, bool, usize)>> = scripts.iter().map(|_| Mutex::new((0, false, 0))).collect();
+        std::thread::scope(|scope| {
+            for _ in 0..workers {
+                scope.spawn(|| {
+                    loop {
+                        let job = next.fetch_add(1, Ordering::SeqCst);
+                        let Some(script) = scripts.get(job) else { break };
+                        for attempts in 1..=tries {
+                            let (tx, is_committed) = attempt(&service, script);
+                            *ends[job].lock().unwrap() = (tx, is_committed, attempts);
+                            if is_committed {
+                                break;
+                            }
+                        }
+                    }
+                });
+            }
+        });
+        spent += start.elapsed();
+        attempts_of_all += ends.iter().map(|end| end.lock().unwrap().2).sum::<usize>();
+        last = Some((service, ends));
+    }
+    eprintln!("run {} tries {attempts_of_all}", spent.as_nanos());
+    let (service, ends) = last.unwrap();
+    let certifier = service.certifier.into_inner().unwrap();
+    let sites: Vec<Site> = service.sites.into_iter().map(|s| s.into_inner().unwrap()).collect();
+    let mut out = String::new();
+    for (n, end) in ends.iter().enumerate() {
+        let (tx, is_committed, attempts) = *end.lock().unwrap();
+        writeln!(out, "s{} {} {tx} tries {attempts}", n + 1, if is_committed { "committed" } else { "refused" }).unwrap();
+    }
+    let refused = certifier.decisions.iter().filter(|d| matches!(d, Decision::Refuse(..))).count();
+    writeln!(out, "yes {} committed {refused} refused 0 withdrawn\n---", certifier.order.len()).unwrap();
+    push_bundle(&mut out, &named, &certifier, &sites);
+    std::io::stdout().write_all(out.as_bytes()).unwrap();
 }
