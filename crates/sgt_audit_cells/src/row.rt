@@ -97,7 +97,7 @@ impl Row {
         let Some(node) = nodes.get(last - 1) else {
             return false;
         };
-        if self.upto != node.before {
+        if self.upto != node.before as usize {
             return false;
         }
         if self.add(&node.act) {
@@ -126,7 +126,7 @@ fn row_of(alloc: Global, nodes: &[Node], last: usize) -> Result<Option<Row>, All
         match nodes.get(at - 1) {
             Some(node) => {
                 if row.add(&node.act) {
-                    at = node.before;
+                    at = node.before as usize;
                 } else {
                     return Ok(None);
                 }
@@ -223,7 +223,7 @@ pub(crate) fn keep(
     rows: &mut Vec<Row>,
     nodes: &[Node],
     slot: &Slot,
-    section: usize,
+    stamp: u16,
     last: usize,
 ) -> Result<u32, AllocError>
     requires linked { AreLinked nodes.now }
@@ -231,7 +231,7 @@ pub(crate) fn keep(
     requires rows { AreRows nodes.now rows.old.items }
     ensures { AreRows nodes.now rows.new.items }
 {
-    if slot.is_long(section) {
+    if slot.is_long(stamp) {
         extend(rows, nodes, slot.row, last)
     } else {
         Ok(slot.row)

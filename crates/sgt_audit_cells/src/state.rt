@@ -38,7 +38,7 @@ pub struct SiteState {
     pub hints: Vec<u16>,
     pub records: RecordTable,
     /// How many entries there are.
-    pub count: usize,
+    pub count: u32,
     pub live: usize,
     pub last_end: Option<usize>,
 }
@@ -94,11 +94,11 @@ fn fresh_cell(holding: &Holding) -> Cell
 
 /// The entry at this place, on the item at that place, if it has one.
 #[inline(always)]
-fn act_at(at: usize, place: Option<usize>, entry: &Entry) -> Result<Option<Act>, AllocError>
+fn act_at(at: u32, place: Option<usize>, entry: &Entry) -> Result<Option<Act>, AllocError>
     ensures { IfOk result (λ found. found ≡ option_map (λ i. act at i entry.now) place) }
 {
     match place {
-        Some(place) => match u32::try_from(place) {
+        Some(place) => match u16::try_from(place) {
             Ok(short) => Ok(Some(act::act_of(at, short, entry))),
             Err(_) => Err(AllocError),
         },
@@ -108,7 +108,7 @@ fn act_at(at: usize, place: Option<usize>, entry: &Entry) -> Result<Option<Act>,
 
 /// One more, if there is a number for it.
 #[inline(always)]
-fn one_more(count: usize) -> Result<usize, AllocError>
+fn one_more(count: u32) -> Result<u32, AllocError>
     ensures { IfOk result (λ next. next ≡ count + 1) }
 {
     match count.checked_add(1) {
@@ -131,18 +131,25 @@ fn enter_cell(cells: &mut [Cell], place: Option<usize>, entry: &Entry, rank: Opt
     }
 }
 
-/// The greatest number of a decision that ended a transaction, after one more entry, decided by this number.
+/// The greatest number of a decision that ended a transaction, after one more end, decided by this number.
 #[inline(always)]
-fn later_end(last: Option<usize>, entry: &Entry, number: usize) -> Option<usize>
-    ensures end { IsEnd entry.now → result ≡ raised last (Some number) }
-    ensures other { (IsEnd entry.now → ⊥) → result ≡ last }
+fn later_end(last: Option<usize>, number: usize) -> Option<usize>
+    ensures { result ≡ raised last (Some number) }
 {
-    if !entry.is_end() {
-        return last;
-    }
     match last {
         Some(last) => Some(last.max(number)),
         None => Some(number),
+    }
+}
+
+/// Takes in one more entry, decided by this number, if it is an end.
+#[inline(always)]
+fn note_end(last: &mut Option<usize>, entry: &Entry, number: usize)
+    ensures end { IsEnd entry.now → last.new ≡ raised last.old (Some number) }
+    ensures other { (IsEnd entry.now → ⊥) → last.new ≡ last.old }
+{
+    if entry.is_end() {
+        *last = later_end(*last, number);
     }
 }
 
@@ -244,7 +251,7 @@ impl SiteState {
         let Some(number) = number else {
             return true;
         };
-        self.records.is_first(number, self.section, place, entry)
+        self.records.is_first(number, place, entry)
     }
 
     /// Whether the entry, on the item at this place, conflicts with no entry before it of a committed transaction of greater
@@ -267,7 +274,7 @@ impl SiteState {
         ensures { (ds : List Decision) (items : List Holding) (entries : List Entry) (tx : ℕ) → TracksOpen ds items entries self.now
             → Decides ds number tx → (IsTrue result ↔ All (λ f. IsEnd f → tx_of f ≢ tx) entries) }
     {
-        !self.records.has_ended(number, self.section)
+        !self.records.has_ended(number)
     }
 
     /// Whether no end before the entry, if it is one, was decided later. The entry is decided by this number.
@@ -299,9 +306,7 @@ impl SiteState {
             return false;
         };
         match self.place_of(item) {
-            Some(place) => self
-                .records
-                .have_clash(self.section, (first, second), kind, place),
+            Some(place) => self.records.have_clash((first, second), kind, place),
             None => false,
         }
     }
@@ -332,12 +337,10 @@ impl SiteState {
     {
         let next = one_more(self.count)?;
         let act = act_at(self.count, place, entry)?;
-        let turn = self
-            .records
-            .enter(number, self.section, act, entry.is_end())?;
-        self.live = live_after(self.live, self.records.len(), turn.was_live, turn.is_live);
+        let turn = self.records.enter(number, act, entry.is_end())?;
+        self.live = live_after(self.live, turn.comes, turn.leaves);
         enter_cell(self.cells.as_mut_slice(), place, entry, rank);
-        self.last_end = later_end(self.last_end, entry, number);
+        note_end(&mut self.last_end, entry, number);
         self.count = next;
         Ok(())
     }
