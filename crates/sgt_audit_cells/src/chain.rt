@@ -88,7 +88,7 @@ pub(crate) fn have_clash(
     false
 }
 
-/// Adds the node at the end. It is compiled where it is used, but for the growth.
+/// Adds the node at the end. Err: there is no room reserved for it.
 #[inline(always)]
 fn add(nodes: &mut Vec<Node>, node: Node) -> Result<(), AllocError>
     ensures ok { OnOk result (nodes.new.items ≡ nodes.old.items ++ node ∷ []) }
@@ -98,16 +98,7 @@ fn add(nodes: &mut Vec<Node>, node: Node) -> Result<(), AllocError>
         nodes.push_reserved(node);
         return Ok(());
     }
-    grow(nodes, node)
-}
-
-#[inline(never)]
-fn grow(nodes: &mut Vec<Node>, node: Node) -> Result<(), AllocError>
-    ensures ok { OnOk result (nodes.new.items ≡ nodes.old.items ++ node ∷ []) }
-    ensures err { OnErr result (nodes.new.items ≡ nodes.old.items) }
-{
-    nodes.push(node)?;
-    Ok(())
+    Err(AllocError)
 }
 
 /// Where a node behind so many stands, counted from 1.
@@ -124,7 +115,7 @@ fn next_place(len: usize) -> Result<u32, AllocError>
     }
 }
 
-/// Links one more act, if there is one, behind what stands at this place; and where it stands then.
+/// Links one more act, if there is one, behind what stands at this place; and where it stands then. Room has to be reserved.
 #[inline(always)]
 pub(crate) fn link(nodes: &mut Vec<Node>, last: u32, act: Option<Act>) -> Result<u32, AllocError>
     requires linked { AreLinked nodes.old.items }

@@ -11,7 +11,7 @@ use crate::act::Act;
 pub struct Slot {
     pub stamp: u16,
     pub ended: bool,
-    /// How many entries of it were counted, up to `MANY`.
+    /// How many entries of it were counted, as far as they are.
     pub count: u8,
     pub last: u32,
     /// The number of its row, if it has one. Nothing need be known of it.
@@ -49,33 +49,44 @@ impl Slot {
         }
     }
 
-    /// Whether it came in the section of this stamp.
+    /// What it is in the section of this stamp: as it stands, or without an entry there.
     #[inline(always)]
-    pub(crate) fn is_here(&self, stamp: u16) -> bool
-        ensures { result ≡ (self.now.stamp == stamp) }
+    pub(crate) fn here(&self, stamp: u16) -> Slot
+        ensures stamp { result.stamp ≡ stamp }
+        ensures ended { result.ended ≡ ((self.now.stamp == stamp) && self.now.ended) }
+        ensures last { result.last ≡ last_here stamp self.now }
     {
-        self.stamp == stamp
-    }
-
-    /// Whether it has many entries in the section.
-    #[inline(always)]
-    pub(crate) fn is_long(&self, stamp: u16) -> bool {
-        self.count >= MANY && self.stamp == stamp
-    }
-
-    /// How many of its entries are counted with one more in the section.
-    #[inline(always)]
-    pub(crate) fn count_after(&self, stamp: u16) -> u8 {
-        if self.count < MANY {
-            self.count + 1
-        } else if self.stamp == stamp {
-            self.count
-        } else {
-            1
+        if self.stamp == stamp {
+            return *self;
+        }
+        Slot {
+            stamp,
+            ended: false,
+            count: 0,
+            last: 0,
+            row: 0,
         }
     }
 
-    /// Whether it ended in the section.
+    /// Whether many entries of it were counted.
+    #[inline(always)]
+    pub(crate) fn is_long(&self) -> bool {
+        self.count >= MANY
+    }
+
+    /// What one more entry of it changes at the section of this stamp, where it ends it or not.
+    #[inline(always)]
+    pub(crate) fn turn(&self, stamp: u16, ends: bool) -> Turn
+        ensures comes { result.comes ≡ not (self.now.stamp == stamp) }
+        ensures leaves { result.leaves ≡ (ends && not ((self.now.stamp == stamp) && self.now.ended)) }
+    {
+        Turn {
+            comes: self.stamp != stamp,
+            leaves: ends && !(self.stamp == stamp && self.ended),
+        }
+    }
+
+    /// Whether it ended in the section of this stamp.
     #[inline(always)]
     pub(crate) fn has_ended(&self, stamp: u16) -> bool
         ensures { result ≡ ((self.now.stamp == stamp) && self.now.ended) }
@@ -83,27 +94,7 @@ impl Slot {
         self.stamp == stamp && self.ended
     }
 
-    /// Whether it ended in the section, after one more entry of it that ends it or not.
-    #[inline(always)]
-    pub(crate) fn has_ended_after(&self, stamp: u16, ends: bool) -> bool
-        ensures { result ≡ (((self.now.stamp == stamp) && self.now.ended) || ends) }
-    {
-        self.has_ended(stamp) || ends
-    }
-
-    /// What one more entry of it changes at the section, where it ends it or not.
-    #[inline(always)]
-    pub(crate) fn turn(&self, stamp: u16, ends: bool) -> Turn
-        ensures comes { result.comes ≡ not (self.now.stamp == stamp) }
-        ensures leaves { result.leaves ≡ (ends && not ((self.now.stamp == stamp) && self.now.ended)) }
-    {
-        Turn {
-            comes: !self.is_here(stamp),
-            leaves: ends && !self.has_ended(stamp),
-        }
-    }
-
-    /// Where the last that it did in the section stands, counted from 1. 0 is none.
+    /// Where the last that it did in the section of this stamp stands, counted from 1. 0 is none.
     #[inline(always)]
     pub(crate) fn last_in(&self, stamp: u16) -> u32
         ensures { result ≡ last_here stamp self.now }

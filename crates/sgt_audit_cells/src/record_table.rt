@@ -1,6 +1,6 @@
 //! The records of the transactions of decisions: what each did in the open section.
 
-ghost use Rattle.std.specs.Prelude.{◌≡◌, ◌+◌, ◌<◌, ◌^◌, ◌↔◌, ◌&&◌, false, not, length, IsTrue, IfOk, Some, All, Any, List, slice_get, slice_set};
+ghost use Rattle.std.specs.Prelude.{◌≡◌, ◌+◌, ◌<◌, ◌^◌, ◌↔◌, ◌&&◌, ◌||◌, false, not, length, IsTrue, IfOk, Some, All, Any, List, slice_get, slice_set};
 ghost use Rattle.std.specs.Option.{option_to_list};
 ghost use Rattle.sgt_names.specs.Name.{Name};
 ghost use Rattle.sgt_names.specs.Entry.{tx_of, item_of, Repeats};
@@ -12,7 +12,7 @@ ghost use Rattle.sgt_audit_cells.specs.private.Linked.{AreEarlier};
 use crate::act::{Act, deed_of};
 use crate::chain::{has_done, have_clash, link};
 use crate::record::{Node, Slot, Turn};
-use crate::row::{Row, keep, shown};
+use crate::row::{Row, extend, shown};
 use sgt_names::{Entry, Kind};
 use std::alloc::{AllocError, Global};
 use std::marker::Model;
@@ -57,6 +57,13 @@ fn fresh_slots(alloc: Global, count: usize) -> Result<Vec<Slot>, AllocError>
         }) slots.items) }
 {
     vec![in alloc; Slot::fresh(); count]
+}
+
+#[inline(always)]
+fn either(first: bool, second: bool) -> bool
+    ensures { result ≡ (first || second) }
+{
+    first || second
 }
 
 /// A stamp that no slot has, next to one that is no smaller than theirs. Where there is none, the slots are made fresh.
@@ -111,7 +118,7 @@ impl RecordTable {
         };
         let last = slot.last_in(self.stamp) as usize;
         let deed = deed_of(entry);
-        if slot.is_long(self.stamp) {
+        if slot.is_long() {
             if let Some(done) = shown(self.rows.as_slice(), slot.row, last, place, deed) {
                 return !done;
             }
@@ -153,7 +160,23 @@ impl RecordTable {
         )
     }
 
-    /// One more entry of the transaction of this number, and what it changes at the section.
+    /// Whether one more entry of the transaction of this number needs no memory, and no row of bits.
+    #[inline(always)]
+    pub(crate) fn has_room(&self, number: usize) -> bool {
+        match self.slots.get(number) {
+            Some(slot) => self.nodes.len() < self.nodes.capacity() && !slot.is_long(),
+            None => false,
+        }
+    }
+
+    /// Reserves room for one more entry.
+    pub(crate) fn reserve(&mut self) -> Result<(), AllocError>
+        ensures { self.new ≡ self.old }
+    {
+        self.nodes.reserve(1)
+    }
+
+    /// One more entry of the transaction of this number, and what it changes at the section. Room has to be reserved.
     #[inline(always)]
     pub(crate) fn enter(
         &mut self,
@@ -174,21 +197,33 @@ impl RecordTable {
             });
         }
         let slot = self.slots[number];
-        let last = link(&mut self.nodes, slot.last_in(self.stamp), act)?;
-        let row = keep(
-            &mut self.rows,
-            self.nodes.as_slice(),
-            &slot,
-            self.stamp,
-            last as usize,
-        )?;
+        let here = slot.here(self.stamp);
+        let last = link(&mut self.nodes, here.last, act)?;
+        let ended = either(here.ended, ends);
         self.slots[number] = Slot {
             stamp: self.stamp,
-            ended: slot.has_ended_after(self.stamp, ends),
-            count: slot.count_after(self.stamp),
+            ended,
+            count: here.count.saturating_add(1),
             last,
-            row,
+            row: here.row,
         };
         Ok(slot.turn(self.stamp, ends))
+    }
+
+    /// Brings the row of the transaction of this number up to its last entry, where many are counted.
+    pub(crate) fn keep_row(&mut self, number: usize) -> Result<(), AllocError>
+        ensures { self.new ≡ self.old }
+    {
+        if number >= self.slots.len() {
+            return Ok(());
+        }
+        let slot = self.slots[number];
+        if !slot.is_long() {
+            return Ok(());
+        }
+        let last = slot.last_in(self.stamp) as usize;
+        let row = extend(&mut self.rows, self.nodes.as_slice(), slot.row, last)?;
+        self.slots[number] = Slot { row, ..slot };
+        Ok(())
     }
 }

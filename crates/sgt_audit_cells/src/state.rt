@@ -319,10 +319,9 @@ impl SiteState {
         self.live == 0
     }
 
-    /// One more entry, on the item at this place or an end, decided by this number, of a transaction that is committed with this
-    /// rank or isn't.
+    /// One more entry, as `enter` takes it, where room for it is reserved and it needs no row of bits.
     #[inline(always)]
-    pub fn enter(
+    fn enter_reserved(
         &mut self,
         place: Option<usize>,
         entry: &Entry,
@@ -343,5 +342,48 @@ impl SiteState {
         note_end(&mut self.last_end, entry, number);
         self.count = next;
         Ok(())
+    }
+
+    /// One more entry, as `enter` takes it, where it needs memory or a row of bits.
+    #[inline(never)]
+    fn enter_slowly(
+        &mut self,
+        place: Option<usize>,
+        entry: Entry,
+        number: usize,
+        rank: Option<u32>,
+    ) -> Result<(), AllocError>
+        ensures section { self.new.section ≡ self.old.section }
+        ensures tracks { OnOk result ((ds : List Decision) (items : List Holding) (entries : List Entry) → IsDecidedOnce ds
+            → AllPairs (λ x y. x ≢ y) (names items) → ForSome (item_of entry) (Contains (names items))
+            → IsPlaceAmong (names items) entry place → IsDecided ds entry number → IsRankOf ds (tx_of entry) rank
+            → TracksOpen ds items entries self.old → TracksOpen ds items (entries ++ entry ∷ []) self.new) }
+    {
+        self.records.reserve()?;
+        self.enter_reserved(place, &entry, number, rank)?;
+        self.records.keep_row(number)
+    }
+
+    /// One more entry, on the item at this place or an end, decided by this number, of a transaction that is committed with this
+    /// rank or isn't.
+    #[inline(always)]
+    pub fn enter(
+        &mut self,
+        place: Option<usize>,
+        entry: &Entry,
+        number: usize,
+        rank: Option<u32>,
+    ) -> Result<(), AllocError>
+        ensures section { self.new.section ≡ self.old.section }
+        ensures tracks { OnOk result ((ds : List Decision) (items : List Holding) (entries : List Entry) → IsDecidedOnce ds
+            → AllPairs (λ x y. x ≢ y) (names items) → ForSome (item_of entry.now) (Contains (names items))
+            → IsPlaceAmong (names items) entry.now place → IsDecided ds entry.now number → IsRankOf ds (tx_of entry.now) rank
+            → TracksOpen ds items entries self.old → TracksOpen ds items (entries ++ entry.now ∷ []) self.new) }
+    {
+        if self.records.has_room(number) {
+            self.enter_reserved(place, entry, number, rank)
+        } else {
+            self.enter_slowly(place, *entry, number, rank)
+        }
     }
 }

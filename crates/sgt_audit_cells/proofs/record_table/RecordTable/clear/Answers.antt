@@ -17,7 +17,7 @@ returns-clause-length c =
     let stamped = c.next_stamp-self-inside in
     let items = with_items_is t.slots stamped.new.slots (stamped.ensures.len ∙ c.as_mut_slice.ensures.len) in
     length-map (with_items t.slots stamped.new.slots).items (record_of stamped.result c.clear.new.self.items) ∙ ap length items
-        ∙ stamped.ensures.len ∙ ap length c.as_mut_slice.ensures.value ∙ sym (length-map t.slots.items (record_of t.stamp t.nodes.items)) ∙ ap length c.self.view_is
+    ∙ stamped.ensures.len ∙ ap length c.as_mut_slice.ensures.value ∙ sym (length-map t.slots.items (record_of t.stamp t.nodes.items)) ∙ ap length c.self.view_is
 
 pub returns-clause-fresh : goal.returns-clause-fresh
 returns-clause-fresh c =

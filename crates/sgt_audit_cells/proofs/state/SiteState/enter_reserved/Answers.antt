@@ -7,7 +7,7 @@ use Rattle.sgt_audit_cells.specs.Cells.{AreCells}
 use Rattle.sgt_audit_cells.specs.private.Deeds.{IsTouched}
 use Rattle.sgt_audit_cells.proofs.Entering.{placed-listed}
 use Rattle.sgt_audit_cells.proofs.Tracking.{decides, record-of, order-next, tracks-next}
-use Rattle.sgt_audit_cells.proofs.state.SiteState.enter.Goals as goal
+use Rattle.sgt_audit_cells.proofs.state.SiteState.enter_reserved.Goals as goal
 
 pub returns-clause-tracks : goal.returns-clause-tracks
 returns-clause-tracks c ds items entries once apart listed among by ranked t =
