@@ -53,7 +53,7 @@ last-push entries e =
     ap (slice_get (entries ++ e ∷ [])) place ∙ middle_at entries e []
 
 -- what is kept of it shows whether there is one
-IsNoEntry : Last → Type 0
+abbrev IsNoEntry : Last → Type 0
 IsNoEntry last.NoEntry = Unit {0}
 IsNoEntry _ = ⊥
 
