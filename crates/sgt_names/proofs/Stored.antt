@@ -1,5 +1,5 @@
 -- A name as it is kept, in sixteen bytes with zeros behind it, and as a text.
-use Rattle.std.proofs.Common.{◌≡◌, ◌≤◌, ◌<◌, ℕ, zero, suc, add-one, ◌+◌, ◌-◌, List, [], ◌∷◌, ◌++◌, length, take, replicate, set, get_or, true, refl, sym, ap, ap₂, ◌∙◌, subst, arith, inl, inr, All}
+use Rattle.std.proofs.Common.{◌≡◌, ◌≤◌, ◌<◌, ℕ, zero, suc, add-one, ◌+◌, ◌-◌, List, [], ◌∷◌, ◌++◌, length, take, replicate, set, get_or, true, false, refl, sym, ap, ap₂, ◌∙◌, subst, arith, inl, inr, All, Bool, cond}
 use Rattle.std.specs.Prelude.{◌&&◌, ◌||◌, ◌==◌, nat_le}
 use Rattle.std.specs.List.{list_all, prefix_len, take_while, AllByRecursion}
 use Rattle.std.specs.Ordering.{nat_cmp, ordering_then}
@@ -8,16 +8,17 @@ use Rattle.std.specs.Cmp.{nat_cmp_is}
 use Rattle.std.specs.Cmp.Lexicographic.{slice_cmp}
 use Rattle.std.specs.Str.{IsUtf8}
 use Rattle.std.proofs.Math.Seq.{take-suc, set-append_seam}
-use Rattle.std.proofs.lemmas.Bool.{and_from, and_parts, or_left, or_cases, leb-true, eqb-true}
+use Rattle.std.proofs.lemmas.Bool.{and_from, and_parts, or_left, or_cases, leb-true, le-leb, eqb-true}
 use Rattle.std.proofs.lemmas.List.{append_assoc, length-take-le}
 use Rattle.std.proofs.lemmas.List.Sums.{take_while-cons}
 use Rattle.std.proofs.lemmas.List.Folds.{list_all-append}
 use Rattle.std.proofs.lemmas.List.Elements.{All-tail, All-from_recursion}
 use Rattle.std.proofs.lemmas.Str.{IsUtf8-from_ascii}
 use Rattle.std.proofs.lemmas.Str.Ascii.{IsAscii-from_all}
-use Rattle.sgt_names.specs.Name.{Name, IsName, is_name_byte, is_small_letter}
+use Rattle.sgt_names.specs.Name.{Name, IsName, SpellsFront, is_name_byte, is_small_letter}
 use Rattle.sgt_names.specs.Stored.{BeginsName, AreNameBytes, IsStored, is_positive, name_of, padded_name}
 use Rattle.sgt_names.specs.declared.item.Item.TheInside.{Inside}
+use Rattle.sgt_names.proofs.Lanes.{front_all}
 use Rattle.sgt_names.proofs.Places.{All_at}
 
 -- ---- bytes with zeros behind them
@@ -153,6 +154,55 @@ pub front-is_name : (bytes : List ℕ) (len : ℕ) → length bytes ≡ 16 → l
 front-is_name bytes len many few begins all =
     let long = length-take-le len bytes (omega (arith, many, few)) in
     name-from_parts (take len bytes) begins (omega (arith, long, few), all)
+
+-- ---- the longest name at the front
+
+leading-begins : (bytes : List ℕ) → BeginsName bytes → BeginsName (take (prefix_len is_name_byte bytes) bytes)
+leading-begins [] begins = absurd begins
+leading-begins (c ∷ cs) begins =
+    let first = or_left (is_small_letter c || (nat_le 48 c && nat_le c 57)) (c == 95) (or_left (is_small_letter c) (nat_le 48 c && nat_le c 57) begins) in
+    let step : prefix_len is_name_byte (c ∷ cs) ≡ 1 + prefix_len is_name_byte cs = ap (λ (t : Bool). cond t (1 + prefix_len is_name_byte cs) 0) first in
+    let more : prefix_len is_name_byte (c ∷ cs) ≡ suc (prefix_len is_name_byte cs) = omega (arith, step) in
+    subst (λ (n : ℕ). BeginsName (take n (c ∷ cs))) (sym more) begins
+
+some-letters : (b : Bool) (n : ℕ) → (cond b (1 + n) 0 ≡ 0 → ⊥) → b ≡ true
+some-letters true n some = refl
+some-letters false n some = absurd (some refl)
+
+no-letters : (b : Bool) (n : ℕ) → cond b (1 + n) 0 ≡ 0 → b ≡ true → ⊥
+no-letters true n none is = absurd (omega (arith, none))
+no-letters false n none is = cc is
+
+-- a name begins with some letters
+pub letters-begin : (bytes : List ℕ) (n : ℕ) → n ≡ prefix_len is_small_letter bytes → (n ≡ 0 → ⊥) → BeginsName bytes
+letters-begin [] n is some = absurd (some is)
+letters-begin (c ∷ cs) n is some = some-letters (is_small_letter c) (prefix_len is_small_letter cs) (λ none. some (is ∙ none))
+
+pub no-letters-front : (bytes : List ℕ) (n len : ℕ) → n ≡ prefix_len is_small_letter bytes → n ≡ 0 → SpellsFront bytes len → ⊥
+no-letters-front bytes n zero is none spells = spells.1
+no-letters-front [] n (suc len) is none spells = spells.1
+no-letters-front (c ∷ cs) n (suc len) is none spells = no-letters (is_small_letter c) (prefix_len is_small_letter cs) (sym is ∙ none) spells.1.0
+
+counted : (b : Bool) (m n : ℕ) → m ≤ n → cond b (1 + m) 0 ≤ suc n
+counted true m n le = omega (arith, le)
+counted false m n le = omega (arith, le)
+
+within-length : (bytes : List ℕ) → prefix_len is_name_byte bytes ≤ length bytes
+within-length [] = omega arith
+within-length (c ∷ cs) = counted (is_name_byte c) (prefix_len is_name_byte cs) (length cs) (within-length cs)
+
+-- how far it reaches
+pub leading-most : (bytes : List ℕ) (len : ℕ) → length bytes ≡ 16 → len ≡ prefix_len is_name_byte bytes → len ≤ 16
+leading-most bytes len many is = let within = within-length bytes in omega (arith, within, many, is)
+
+pub leading-is_name : (bytes : List ℕ) (len : ℕ) → length bytes ≡ 16 → BeginsName bytes → len ≡ prefix_len is_name_byte bytes → IsName (take len bytes)
+leading-is_name bytes len many begins is =
+    let few = leading-most bytes len many is in
+    let all = sym (front_all is_name_byte len bytes (omega (arith, few, many))) ∙ le-leb len (prefix_len is_name_byte bytes) (omega (arith, is)) in
+    front-is_name bytes len many few (subst (λ (n : ℕ). BeginsName (take n bytes)) (sym is) (leading-begins bytes begins)) all
+
+pub leading-spells : (bytes : List ℕ) (len : ℕ) → length bytes ≡ 16 → BeginsName bytes → len ≡ prefix_len is_name_byte bytes → SpellsFront bytes len
+leading-spells bytes len many begins is = let few = leading-most bytes len many is in (omega (arith, few, many), leading-is_name bytes len many begins is)
 
 -- stored names stand in the order of their bytes
 pub stored-order : (a b : Inside) → IsStored a → IsStored b → slice_cmp nat_cmp a.bytes b.bytes ≡ slice_cmp nat_cmp (name_of a) (name_of b)

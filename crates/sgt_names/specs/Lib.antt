@@ -1,5 +1,6 @@
 pub mod Limits
 pub mod Name
+pub mod Key
 pub mod Stored
 pub mod Entry
 pub mod Log

@@ -9,6 +9,7 @@ ghost use Rattle.std.proofs.Common.{rules};
 ghost use Rattle.std.specs.Hash as fed;
 ghost use Rattle.std.specs.Cmp.Rules.{hashing};
 ghost use Rattle.std.specs.Cmp.Lexicographic.{slice_cmp, nat_list_eq_equiv, nat_list_cmp_total, texts_ties, texts_po};
+ghost use Rattle.sgt_names.specs.Key.{bytes_key};
 ghost use Rattle.sgt_names.specs.Name.{is_name_byte, is_small_letter};
 ghost use Rattle.sgt_names.specs.Stored.{BeginsName, AreNameBytes, first_set, is_positive, padded_name};
 
@@ -52,9 +53,11 @@ impl Model for Item {
 }
 
 impl Item {
-    ghost use Rattle.std.specs.Prelude.{◌≡◌, ◌↔◌, take, IsSome, IfSome};
+    ghost use Rattle.std.specs.List.{prefix_len};
+    ghost use Rattle.std.specs.Prelude.{ℕ, ◌≡◌, ◌↔◌, take, IsSome, IfSome};
     ghost use Rattle.std.specs.Result.{OkIff};
-    ghost use Rattle.sgt_names.specs.Name.{IsName, SpellsFront};
+    ghost use Rattle.sgt_names.specs.Key.{name_key};
+    ghost use Rattle.sgt_names.specs.Name.{IsName, SpellsFront, is_name_byte};
 
     /// The name that these bytes spell. N1 for all other bytes; nothing is trimmed or cut off.
     pub fn new(bytes: &[u8]) -> Result<Item, BadName>
@@ -79,6 +82,32 @@ impl Item {
         Some(Item {
             bytes: kept_to(bytes, len),
         })
+    }
+
+    /// The longest name that stands at the front, and how many bytes it has. None where no name stands there.
+    #[inline(always)]
+    pub fn leading(bytes: &[u8; 16]) -> Option<(Item, usize)>
+        ensures is { IsSome result ↔ ((len : ℕ) × SpellsFront bytes.now len) }
+        ensures some { IfSome result (λ r. SpellsFront bytes.now r.1 × (r.0 ≡ take r.1 bytes.now)) }
+        ensures longest { IfSome result (λ r. r.1 ≡ prefix_len is_name_byte bytes.now) }
+    {
+        if letters_len(bytes) == 0 {
+            return None;
+        }
+        let len = name_bytes_len(bytes);
+        let item = Item {
+            bytes: kept_to(bytes, len),
+        };
+        Some((item, len))
+    }
+
+    /// A number made of the name, by which names can mostly be told apart at once. It is a hint: the same name always has
+    /// the same number, but other names may have it too.
+    #[inline(always)]
+    pub fn key(&self) -> u64
+        ensures { result ≡ name_key self.now }
+    {
+        bytes_key(&self.bytes)
     }
 
     /// The bytes of the name.
@@ -205,6 +234,16 @@ fn name_bytes_len(bytes: &[u8; 16]) -> usize
     first_set(stops.to_bitmask())
 }
 
+// How many small letters stand at the front.
+#[inline(always)]
+fn letters_len(bytes: &[u8; 16]) -> usize
+    ensures { result ≡ prefix_len is_small_letter bytes.now }
+{
+    let lanes = u8x16::from_array(*bytes);
+    let is_no_letter = lanes.simd_lt(u8x16::splat(b'a')) | lanes.simd_gt(u8x16::splat(b'z'));
+    first_set(is_no_letter.to_bitmask())
+}
+
 // Whether each of so many first bytes may stand in a name.
 #[inline(always)]
 fn are_name_bytes(bytes: &[u8; 16], len: usize) -> bool
@@ -230,6 +269,19 @@ fn keep_name(padded: &mut [u8; 16], bytes: &[u8]) -> bool
         padded[at] = bytes[at];
     }
     true
+}
+
+// A number made of the bytes.
+#[inline(always)]
+fn bytes_key(bytes: &[u8; 16]) -> u64
+    ensures { result ≡ bytes_key bytes.now }
+{
+    match (bytes.first_chunk::<8>(), bytes.last_chunk::<8>()) {
+        (Some(low), Some(high)) => {
+            u64::from_le_bytes(*low) ^ u64::from_le_bytes(*high).rotate_left(29)
+        }
+        _ => 0,
+    }
 }
 
 // How many bytes stand in front of the first zero.

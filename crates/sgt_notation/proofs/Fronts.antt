@@ -1,17 +1,16 @@
 -- What stands at the front of bytes, and what is behind it.
-use Rattle.std.proofs.Common.{◌≡◌, inl, inr, ℕ, zero, suc, ◌+◌, ◌-◌, ◌*◌, ◌%◌, ◌<◌, ◌≤◌, ◌^◌, List, [], ◌∷◌, ◌++◌, length, take, drop, get_or, Option, Some, None, Result, Ok, Err, refl, sym, ap, ◌∙◌, subst, decimal, append_assoc, append-nil, length-append, length-take, length-drop, arith}
+use Rattle.std.proofs.Common.{◌≡◌, inl, inr, ℕ, zero, suc, ◌+◌, ◌-◌, ◌*◌, ◌%◌, ◌<◌, ◌≤◌, ◌^◌, List, [], ◌∷◌, ◌++◌, length, take, drop, get_or, Option, Some, None, refl, sym, ap, ◌∙◌, subst, decimal, append_assoc, append-nil, length-append, length-take, length-drop, arith}
 use Rattle.std.proofs.Math.Seq.{drop-append_seam}
 use Rattle.std.proofs.lemmas.Fmt.{decimal-digits_value}
 use Rattle.core.proofs.dec2flt.Rows.{AllDigits-digits_len}
 use Rattle.std.specs.Array.{IsFirstChunk}
-use Rattle.std.specs.Prelude.{IsSome, IfSome}
-use Rattle.std.proofs.lemmas.List.{drop_all, length-take-le, drop-drop, take-append-drop, get_or-take}
+use Rattle.std.specs.Prelude.{IfSome}
+use Rattle.std.proofs.lemmas.List.{take_all, take-append-le, drop_all, length-take-le, drop-drop, take-append-drop, get_or-take}
 use Rattle.std.proofs.lemmas.Slice.{between_from_start}
 use Rattle.std.proofs.lemmas.Str.Parse.{digits_value_short}
 use Rattle.std.specs.Float.Numeral.{digits_len}
 use Rattle.std.specs.Prelude.{slice_range}
 use Rattle.std.specs.Str.Parse.{AllDigits, digits_value}
-use Rattle.std.specs.Result.{OkIff, result_ok}
 use Rattle.sgt_names.specs.Name.{IsName, SpellsFront}
 use Rattle.sgt_notation.specs.Lines.{Ahead, GaveNext, Spends, coming, passed, stream, Gives}
 use Rattle.sgt_notation.specs.Private.{Spans}
@@ -35,23 +34,44 @@ spans_later bytes from text n within s = record {
 }
 
 -- what stands at the front of the first bytes stands at the front of all
-take-front : (bytes : List ℕ) (n m : ℕ) → n ≤ m → take n (take m bytes) ≡ take n bytes
+pub take-front : (bytes : List ℕ) (n m : ℕ) → n ≤ m → take n (take m bytes) ≡ take n bytes
 take-front bytes zero m few = refl
 take-front [] (suc n) zero few = refl
 take-front [] (suc n) (suc m) few = refl
 take-front (b ∷ bs) (suc n) zero few = absurd (omega (arith, few))
 take-front (b ∷ bs) (suc n) (suc m) few = ap (λ (t : List ℕ). b ∷ t) (take-front bs n m (omega (arith, few)))
 
-pub front_found : (bytes chunk : List ℕ) (n : ℕ) (r : Option (List ℕ)) → IsFirstChunk bytes chunk 16 → (IsSome r → SpellsFront chunk n)
-    → IfSome r (λ item. item ≡ take n chunk) → IfSome r (λ item. IsName item × Spans bytes 0 item n)
-front_found bytes chunk n None first spells found = tt
-front_found bytes chunk n (Some item) first spells found =
-    let front = spells refl in
+pub leading_found : (bytes chunk : List ℕ) (r : Option (List ℕ × ℕ)) → IsFirstChunk bytes chunk 16 → IfSome r (λ r. SpellsFront chunk r.1 × (r.0 ≡ take r.1 chunk))
+    → IfSome r (λ r. IsName r.0 × Spans bytes 0 r.0 r.1)
+leading_found bytes chunk None first found = tt
+leading_found bytes chunk (Some (item, n)) first found =
+    let front = found.0 in
     let long : length chunk ≡ 16 = ap length first.same ∙ length-take-le 16 bytes first.enough in (
-      subst IsName (sym found) front.1,
+      subst IsName (sym found.1) front.1,
       spans_front bytes n item (omega (arith, front.0, long, first.enough))
-          (sym (take-front bytes n 16 (omega (arith, front.0, long))) ∙ ap (take n) (sym first.same) ∙ sym found),
+          (sym (take-front bytes n 16 (omega (arith, front.0, long))) ∙ ap (take n) (sym first.same) ∙ sym found.1),
     )
+
+taken : (bytes text : List ℕ) (n : ℕ) → Spans bytes 0 text n → take n bytes ≡ text
+taken bytes text n s =
+    let size : length bytes ≡ length text + length (drop n bytes) = ap length s.reads ∙ length-append text (drop n bytes) in
+    let left = length-drop n bytes in
+    let within = s.within in
+    let all : n ≡ length text = omega arith in
+    ap (take n) s.reads ∙ (take-append-le n text (drop n bytes) (omega (arith, all)) ∙ take_all n text (omega (arith, all)))
+
+-- what stands at the front of the first bytes, as a whole text, stands at the front of all
+spans_room : (bytes room text : List ℕ) (m n : ℕ) → IsFirstChunk bytes room m → Spans room 0 text n → Spans bytes 0 text n
+spans_room bytes room text m n first s =
+    let size : length room ≡ m = ap length first.same ∙ length-take-le m bytes first.enough in
+    let within = s.within in
+    let enough = first.enough in
+    spans_front bytes n text (omega arith) (sym (take-front bytes n m (omega arith)) ∙ (ap (take n) (sym first.same) ∙ taken room text n s))
+
+pub room_found : {A : Type 0} (Is : A → Type 0) (text : A → List ℕ) (bytes room : List ℕ) (m : ℕ) (r : Option (A × ℕ)) → IsFirstChunk bytes room m
+    → IfSome r (λ r. Is r.0 × Spans room 0 (text r.0) r.1) → IfSome r (λ r. Is r.0 × Spans bytes 0 (text r.0) r.1)
+room_found Is text bytes room m None first found = tt
+room_found Is text bytes room m (Some (a, n)) first found = (found.0, spans_room bytes room (text a) m n first found.1)
 
 pub spans_word : (bytes : List ℕ) (from : ℕ) (word rest last : List ℕ) → from ≤ length bytes → rest ≡ drop from bytes → rest ≡ word ++ last → Spans bytes from word (from + length word)
 spans_word bytes from word rest last within is starts =
@@ -63,6 +83,17 @@ spans_word bytes from word rest last within is starts =
 -- ---- numbers
 
 -- digits with no leading zero are the number that they write
+pub front_digits : (bytes : List ℕ) (n value : ℕ) → n ≤ digits_len bytes → value ≡ digits_value 10 (take n bytes) → 0 < n → n ≤ 19 → n ≤ length bytes → (get_or bytes 0 0 ≡ 48 → n ≤ 1)
+    → IsValue value × Spans bytes 0 (decimal value) n
+front_digits bytes n value end was some short within plain =
+    let front = take n bytes in
+    let digits : AllDigits 10 front = AllDigits-digits_len bytes n end in
+    let size : length front ≡ n = rw length-take (omega arith) in
+    let small : digits_value 10 front < 10 ^ 19 = digits_value_short own front 19 digits (omega arith) in
+    let first : get_or front 0 0 ≡ get_or bytes 0 0 = get_or-take n bytes 0 0 some in
+    let text : decimal (digits_value 10 front) ≡ front = decimal-digits_value own front digits (omega arith) (λ z. let one = plain (sym first ∙ z) in omega arith) (omega arith) in
+    (omega arith, spans_front bytes n (decimal value) within (sym text ∙ ap decimal (sym was)))
+
 pub front_number : (bytes : List ℕ) (n value k : ℕ) → n ≡ digits_len bytes → value ≡ (0 * k + digits_value 10 (slice_range bytes 0 n)) % 2 ^ 64 → 0 < n → n ≤ 19 → n ≤ length bytes → (get_or bytes 0 0 ≡ 48 → n ≤ 1)
     → IsValue value × Spans bytes 0 (decimal value) n
 front_number bytes n value k end wrapped some short within plain =
@@ -71,10 +102,7 @@ front_number bytes n value k end wrapped some short within plain =
     let size : length front ≡ n = rw length-take (omega arith) in
     let small : digits_value 10 front < 10 ^ 19 = digits_value_short own front 19 digits (omega arith) in
     let range : digits_value 10 (slice_range bytes 0 n) ≡ digits_value 10 front = ap (digits_value 10) (between_from_start bytes n) in
-    let was : value ≡ digits_value 10 front = omega arith in
-    let first : get_or front 0 0 ≡ get_or bytes 0 0 = get_or-take n bytes 0 0 some in
-    let text : decimal (digits_value 10 front) ≡ front = decimal-digits_value own front digits (omega arith) (λ z. let one = plain (sym first ∙ z) in omega arith) (omega arith) in
-    (omega arith, spans_front bytes n (decimal value) within (sym text ∙ ap decimal (sym was)))
+    front_digits bytes n value (omega arith) (omega arith) some short within plain
 
 -- ---- lines that are held
 

@@ -7,12 +7,18 @@ ghost use Rattle.sgt_notation.specs.PrivateEvents.{IsAccess, IsUpdate, access_te
 ghost use Rattle.sgt_notation.specs.Spelling.{IsHolding, IsLine, IsSite, IsTx, IsValue, assignment, line_text, operation};
 
 use crate::SectionLine;
+use crate::digits::up_to_seven;
 use crate::number::find_value;
 use crate::reading::behind;
 use crate::reading_events::Place;
 use core::dec2flt::read_digits;
 use sgt_names::{Entry, Holding, Item, SiteNo, Tx, Value};
-use std::simd::prelude::*;
+
+/// No number has more digits.
+const MOST_DIGITS: usize = 20;
+
+/// Within so many bytes an entry's line is read, wherever its parts end.
+const ROOM: usize = 64;
 
 /// The place behind this byte.
 #[inline(always)]
@@ -62,9 +68,9 @@ fn long_value(bytes: &[u8], n: usize) -> Option<(Value, usize)>
     Some((value, n))
 }
 
-/// The number at the front, and how many digits it has.
-#[inline(always)]
-fn front_value(bytes: &[u8]) -> Option<(Value, usize)>
+/// The number at the front, and how many digits it has, however many.
+#[inline(never)]
+fn other_value(bytes: &[u8]) -> Option<(Value, usize)>
     ensures { IfSome result (λ r. IsValue r.0 × Spans bytes.now 0 (decimal r.0) r.1) }
 {
     let (n, value) = read_digits(bytes, 0, 0);
@@ -72,6 +78,36 @@ fn front_value(bytes: &[u8]) -> Option<(Value, usize)>
         return long_value(bytes, n);
     }
     Some((value, n))
+}
+
+/// The same, by way of memory that only this way touches.
+#[inline(always)]
+fn far_value(bytes: &[u8]) -> Option<(Value, usize)>
+    ensures { IfSome result (λ r. IsValue r.0 × Spans bytes.now 0 (decimal r.0) r.1) }
+{
+    let (value, n) = other_value(bytes)?;
+    // never so, but told here, so that the places behind it are known to be near
+    if n > MOST_DIGITS {
+        return None;
+    }
+    Some((value, n))
+}
+
+/// The number at the front, and how many digits it has. One of up to seven digits, with no zero first, is read at once.
+#[inline(always)]
+fn front_value(bytes: &[u8]) -> Option<(Value, usize)>
+    ensures { IfSome result (λ r. IsValue r.0 × Spans bytes.now 0 (decimal r.0) r.1) }
+{
+    if let Some(chunk) = bytes.first_chunk::<8>() {
+        let (n, value) = up_to_seven(u64::from_le_bytes(*chunk));
+        if n == 0 {
+            return None;
+        }
+        if n < 8 && chunk[0] != b'0' {
+            return Some((value, n));
+        }
+    }
+    far_value(bytes)
 }
 
 /// A number, and the place behind it.
@@ -103,26 +139,24 @@ fn site_at(bytes: &[u8], from: usize) -> Option<(SiteNo, usize)>
     Some((site, to))
 }
 
-/// How many bytes of the first sixteen stand before the first such byte. Nothing rests on it: it is only tried.
-#[inline(always)]
-fn guess_end(bytes: &[u8], byte: u8) -> usize {
-    match bytes.first_chunk::<16>() {
-        Some(chunk) => {
-            let same = u8x16::from_array(*chunk).simd_eq(u8x16::splat(byte));
-            same.to_bitmask().trailing_zeros() as usize
-        }
-        None => bytes.iter().position(|other| *other == byte).unwrap_or(0),
-    }
+/// The name at the front of few bytes, and how many bytes it has, where it ends before this byte.
+#[inline(never)]
+fn short_name(bytes: &[u8], end: u8) -> Option<(Item, usize)>
+    ensures { IfSome result (λ r. IsName r.0 × Spans bytes.now 0 r.0 r.1) }
+{
+    let n = bytes.iter().position(|other| *other == end)?;
+    let item = Item::new(up_to_place(bytes, n)?).ok()?;
+    Some((item, n))
 }
 
-/// The name that so many of the first bytes spell.
+/// The name at the front, and how many bytes it has, where it ends before this byte.
 #[inline(always)]
-fn front_name(bytes: &[u8], n: usize) -> Option<Item>
-    ensures { IfSome result (λ item. IsName item × Spans bytes.now 0 item n) }
+fn front_name(bytes: &[u8], end: u8) -> Option<(Item, usize)>
+    ensures { IfSome result (λ r. IsName r.0 × Spans bytes.now 0 r.0 r.1) }
 {
     match bytes.first_chunk::<16>() {
-        Some(chunk) => Item::front(chunk, n),
-        None => Item::new(up_to_place(bytes, n)?).ok(),
+        Some(chunk) => Item::leading(chunk),
+        None => short_name(bytes, end),
     }
 }
 
@@ -131,9 +165,7 @@ fn front_name(bytes: &[u8], n: usize) -> Option<Item>
 fn name_at(bytes: &[u8], from: usize, end: u8) -> Option<(Item, usize)>
     ensures { IfSome result (λ r. IsName r.0 × Spans bytes.now from r.0 r.1) }
 {
-    let rest = from_place(bytes, from)?;
-    let n = guess_end(rest, end);
-    let item = front_name(rest, n)?;
+    let (item, n) = front_name(from_place(bytes, from)?, end)?;
     Some((item, from + n))
 }
 
@@ -234,6 +266,37 @@ fn front_entry(bytes: &[u8], wants_lf: bool) -> Option<(SectionLine, usize)>
     of_operation(letter, tx, item, value, line_end(bytes, to, wants_lf)?)
 }
 
+/// The same near the end of the bytes.
+#[inline(never)]
+fn last_entry(bytes: &[u8], wants_lf: bool) -> Option<(SectionLine, usize)>
+    ensures { IfSome result
+        (λ r. IsLine r.0 × Spans bytes.now 0 (line_text r.0 ++ ending wants_lf) r.1) }
+{
+    front_entry(bytes, wants_lf)
+}
+
+/// The same, by way of memory that only this way touches.
+#[inline(always)]
+fn far_entry(bytes: &[u8], wants_lf: bool) -> Option<(SectionLine, usize)>
+    ensures { IfSome result
+        (λ r. IsLine r.0 × Spans bytes.now 0 (line_text r.0 ++ ending wants_lf) r.1) }
+{
+    let (line, to) = last_entry(bytes, wants_lf)?;
+    Some((line, to))
+}
+
+/// The same. Where there is room for every entry, none of its places needs a test.
+#[inline(always)]
+fn roomy_entry(bytes: &[u8], wants_lf: bool) -> Option<(SectionLine, usize)>
+    ensures { IfSome result
+        (λ r. IsLine r.0 × Spans bytes.now 0 (line_text r.0 ++ ending wants_lf) r.1) }
+{
+    match bytes.first_chunk::<ROOM>() {
+        Some(room) => front_entry(room, wants_lf),
+        None => far_entry(bytes, wants_lf),
+    }
+}
+
 /// The line at the front that is no entry's, and the place behind it.
 fn word_line(bytes: &[u8]) -> Option<(SectionLine, usize)>
     ensures { IfSome result (λ r. IsLine r.0 × Spans bytes.now 0 (line_text r.0) r.1) }
@@ -265,19 +328,25 @@ fn front_word(bytes: &[u8], wants_lf: bool) -> Option<(SectionLine, usize)>
     Some((line, line_end(bytes, to, wants_lf)?))
 }
 
+/// The same, by way of memory that only this way touches.
+#[inline(always)]
+fn far_word(bytes: &[u8], wants_lf: bool) -> Option<(SectionLine, usize)>
+    ensures { IfSome result
+        (λ r. IsLine r.0 × Spans bytes.now 0 (line_text r.0 ++ ending wants_lf) r.1) }
+{
+    let (line, to) = front_word(bytes, wants_lf)?;
+    Some((line, to))
+}
+
 /// The line of a section at the front, and the place behind it, or behind its LF.
 #[inline(always)]
 pub(crate) fn front_section(bytes: &[u8], wants_lf: bool) -> Option<(SectionLine, usize)>
     ensures { IfSome result
         (λ r. IsLine r.0 × Spans bytes.now 0 (line_text r.0 ++ ending wants_lf) r.1) }
 {
-    match bytes.first() {
-        Some(b'e' | b'f' | b'i' | b's') => {
-            // taken apart, so that what `front_entry` finds need not go through the same memory
-            let (line, to) = front_word(bytes, wants_lf)?;
-            Some((line, to))
-        }
-        _ => front_entry(bytes, wants_lf),
+    match roomy_entry(bytes, wants_lf) {
+        Some(found) => Some(found),
+        None => far_word(bytes, wants_lf),
     }
 }
 

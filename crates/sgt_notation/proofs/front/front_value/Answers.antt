@@ -1,11 +1,9 @@
-use Rattle.std.proofs.Common.{sym, ◌∙◌, arith}
-use Rattle.std.proofs.lemmas.Bool.{eqb-false}
-use Rattle.sgt_notation.proofs.Fronts.{front_number}
+use Rattle.std.proofs.Common.{◌∙◌, arith}
+use Rattle.sgt_notation.proofs.ShortNumbers.{short_number}
 use Rattle.sgt_notation.proofs.front.front_value.Goals as goal
-use Rattle.sgt_notation.proofs.front.front_value.Goals.{then-n-gt1, else-n-gt1}
 
-pub returns : goal.returns
-returns c =
-    let read = c.read_digits-n.ensures in
-    front_number c.args.bytes.now _ _ _ (omega (arith, read.end)) read.value (omega arith) c.if-n-gt19.false read.within
-    (elim c.if-n-gt1.branch [ then-n-gt1 w ↦ λ z. absurd (eqb-false _ 48 (sym w.value-is ∙ c.if-bytes-eq48.false) z) | else-n-gt1 w ↦ λ _. w.if-n-gt1.false ])
+pub returns-then-chunk-ne48 : goal.returns-then-chunk-ne48
+returns-then-chunk-ne48 c =
+    short_number c.args.bytes.now c.in-Some.chunk.now _ _ (λ k. (c.type_inv.bytes k).fits) c.in-Some.ensures.cases
+    (λ xs eight is few. c.up_to_seven-n.ensures.read xs eight (c.from_le_bytes.ensures ∙ is) few)
+    (omega (arith, c.if-n-eq0.false)) c.if-n-lt8.true c.if-chunk-ne48.true
