@@ -106,12 +106,10 @@ fn add(nodes: &mut Vec<Node>, node: Node) -> Result<(), AllocError>
 fn next_place(len: usize) -> Result<u32, AllocError>
     ensures { IfOk result (λ place. place ≡ len + 1) }
 {
-    match u32::try_from(len) {
-        Ok(len) => match len.checked_add(1) {
-            Some(place) => Ok(place),
-            None => Err(AllocError),
-        },
-        Err(_) => Err(AllocError),
+    if len < u32::MAX as usize {
+        Ok(len as u32 + 1)
+    } else {
+        Err(AllocError)
     }
 }
 

@@ -196,18 +196,20 @@ impl RecordTable {
                 leaves: false,
             });
         }
+        let stamp = self.stamp;
         let slot = self.slots[number];
-        let here = slot.here(self.stamp);
+        let here = slot.here(stamp);
+        let turn = slot.turn(stamp, ends);
         let last = link(&mut self.nodes, here.last, act)?;
         let ended = either(here.ended, ends);
         self.slots[number] = Slot {
-            stamp: self.stamp,
+            stamp,
             ended,
             count: here.count.saturating_add(1),
             last,
             row: here.row,
         };
-        Ok(slot.turn(self.stamp, ends))
+        Ok(turn)
     }
 
     /// Brings the row of the transaction of this number up to its last entry, where many are counted.

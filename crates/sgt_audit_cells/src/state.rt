@@ -262,9 +262,10 @@ impl SiteState {
             → TracksOpen ds items entries self.now → slice_get (names items) place ≡ Some x → item_of entry.now ≡ Some x
             → IsRankOf ds (tx_of entry.now) rank → (IsTrue result ↔ All (λ f. RiseInRank ds f entry.now) entries) }
     {
-        match self.cells.get(place) {
-            Some(cell) => cell::is_in_rank(cell, entry, rank),
-            None => false,
+        if place < self.cells.len() {
+            cell::is_in_rank(&self.cells[place], entry, rank)
+        } else {
+            false
         }
     }
 

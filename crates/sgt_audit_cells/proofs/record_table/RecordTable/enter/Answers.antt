@@ -41,6 +41,6 @@ returns-clause-entered c r there =
         did = ap (λ (q : Record). q.acts) now ∙ c.in_ok-last.ensures.place.1
             ∙ ap (λ (acts : List Act). acts ++ option_to_list c.args.act) (ap (chain nodes) c.here-here.ensures.last ∙ ap (λ (q : Record). q.acts) r_is);
       },
-      c.turn.ensures.comes ∙ ap (λ (q : Record). not q.touched) r_is,
-      c.turn.ensures.leaves ∙ ap (λ (q : Record). c.args.ends && not q.ended) r_is,
+      c.turn-turn.ensures.comes ∙ ap (λ (q : Record). not q.touched) r_is,
+      c.turn-turn.ensures.leaves ∙ ap (λ (q : Record). c.args.ends && not q.ended) r_is,
     )
