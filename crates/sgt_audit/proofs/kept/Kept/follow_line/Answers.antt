@@ -12,6 +12,6 @@ pub returns-then-is_usual-clause-follows : goal.returns-then-is_usual-clause-fol
 returns-then-is_usual-clause-follows k f s at =
     k.take.ensures.follows (λ b begun place. refuted k.is_complete.result (k.is_complete.ensures b begun place) k.if-is_complete.false) k.look_up-known.ensures f s at
 
-pub returns-clause-follows : goal.returns-clause-follows
-returns-clause-follows k f s at =
+pub returns-else-is_usual-clause-follows : goal.returns-else-is_usual-clause-follows
+returns-else-is_usual-clause-follows k f s at =
     k.take_seldom.ensures.follows (λ b begun place. refuted k.is_complete.result (k.is_complete.ensures b begun place) k.if-is_complete.false) k.look_up-known.ensures f s at
