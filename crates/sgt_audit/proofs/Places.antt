@@ -1,14 +1,16 @@
 -- The place behind the lines of sections, against those sections.
-use Rattle.std.proofs.Common.{◌≡◌, ℕ, ◌+◌, ◌-◌, ◌^◌, ◌<◌, ◌≤◌, List, [], ◌∷◌, ◌++◌, length, Option, Some, None, Bool, false, IsTrue, IfSome, refl, sym, ap, ap₂, ◌∙◌, subst, subst₂, arith, inl, inr, All, AllPairs}
-use Rattle.std.specs.Prelude.{◌↔◌, IfNone, slice_get}
+use Rattle.std.proofs.Common.{◌≡◌, ℕ, ◌+◌, ◌-◌, ◌^◌, ◌<◌, ◌≤◌, List, [], ◌∷◌, ◌++◌, length, Option, Some, None, Bool, true, false, IsTrue, refl, sym, ap, ap₂, ◌∙◌, subst, subst₂, arith, inl, inr, All, AllPairs}
+use Rattle.std.specs.Prelude.{◌↔◌, slice_get}
 use Rattle.std.proofs.lemmas.Bool.{cases_order, false≢true}
 use Rattle.std.proofs.lemmas.Cmp.{nat_list_cmp_total}
 use Rattle.std.specs.Option.{ForSome}
 use Rattle.std.proofs.lemmas.List.{map-append, length-map, length_push}
-use Rattle.std.proofs.lemmas.Option.{none-some, slice_get_within}
+use Rattle.std.proofs.lemmas.Option.{none-some, same_Some, slice_get_within}
 use Rattle.sgt_names.specs.Limits.{max_items, max_sites}
+use Rattle.sgt_names.specs.Entry.{GoesOn, GoesOnAsking}
 use Rattle.sgt_names.specs.Log.{names}
 use Rattle.sgt_names.specs.declared.entry.Entry.{Entry}
+use Rattle.sgt_names.specs.declared.entry.Entry.TheVariants.{Read, Write, Add, Want, WantAdd, Commit, Refuse, Withdraw}
 use Rattle.sgt_names.specs.declared.entry.Holding.{Holding}
 use Rattle.sgt_names.proofs.Lists.{middle_at}
 use Rattle.sgt_names.proofs.Places.{All_at, All-from_at, AllPairs_at}
@@ -18,11 +20,14 @@ use Rattle.sgt_notation.specs.declared.SectionLine.TheVariants.{Site, Initial, L
 use Rattle.sgt_cert.specs.Parts.{ComesBefore}
 use Rattle.sgt_cert.specs.Text.{Begins, AreSections}
 use Rattle.sgt_cert.specs.declared.bundle.SiteLog.{SiteLog}
+use Rattle.sgt_audit.specs.declared.place.Last.{Last}
+use Rattle.sgt_audit.specs.declared.place.Last.TheVariants as last
 use Rattle.sgt_audit.specs.declared.place.OpenPlace.{OpenPlace}
 use Rattle.sgt_audit.specs.declared.place.Place.{Place}
-use Rattle.sgt_audit.specs.Kept.{IsOpenPlace, IsCurrentPlace, IsPlace}
+use Rattle.sgt_audit.specs.Kept.{IsOpenPlace, IsCurrentPlace, IsPlace, last_of}
 use Rattle.sgt_audit.specs.Reading.{Begun, HasRoomFor, IsBegun, IsOpenLog, lines_read}
 use Rattle.sgt_audit.specs.private.Following.{Fits, FitsAt, FitsBetween, MayFollow, no_log, with_line, with_next, next_current, next_whole}
+use Rattle.sgt_audit.specs.private.Judging.{ContinuesBlock, ContinuesLog, FollowsLast}
 use Rattle.sgt_audit.proofs.MayFollow.{are-sections, follow-decides, whole-sections}
 
 pub nil : {A : Type 0} (xs : List A) → length xs ≡ 0 → xs ≡ []
@@ -46,6 +51,25 @@ last-push : (entries : List Entry) (e : Entry) → slice_get (entries ++ e ∷ [
 last-push entries e =
     let place : length (entries ++ e ∷ []) - 1 ≡ length entries = omega (arith, length_push entries e) in
     ap (slice_get (entries ++ e ∷ [])) place ∙ middle_at entries e []
+
+-- what is kept of it shows whether there is one
+abbrev IsNoEntry : Last → Type 0
+IsNoEntry last.NoEntry = Unit {0}
+IsNoEntry _ = ⊥
+
+last-of-some : (e : Entry) → IsNoEntry (last_of (Some e)) → ⊥
+last-of-some (Read tx x v) h = h
+last-of-some (Write tx x v) h = h
+last-of-some (Add tx x v) h = h
+last-of-some (Want tx x v) h = h
+last-of-some (WantAdd tx x v) h = h
+last-of-some (Commit tx) h = h
+last-of-some (Refuse tx) h = h
+last-of-some (Withdraw tx) h = h
+
+last-of-none : (o : Option Entry) → last_of o ≡ last.NoEntry → o ≡ None
+last-of-none None h = refl
+last-of-none (Some e) h = absurd (last-of-some e (subst IsNoEntry (sym h) tt))
 
 -- ---- what may stand next
 
@@ -82,8 +106,8 @@ module _ (log : SiteLog) (p : OpenPlace) (o : IsOpenPlace log p) where
   pub fits-at : IsOpenLog log → (line : SectionLine) → FitsAt p line ↔ Fits log line
   fits-at rises (Site k) = (λ h. h, λ h. h)
   fits-at rises (Initial h) = (
-    λ f. (last-none log.entries (sym o.last ∙ f.0), no-finals f.1, subst (λ n. n < max_items) item-count f.2, (before-all log p o rises h.item).0 f.3),
-    λ f. (o.last ∙ ap (λ (es : List Entry). slice_get es (length es - 1)) f.0, some-finals f.1, subst (λ n. n < max_items) (sym item-count) f.2, (before-all log p o rises h.item).1 f.3),
+    λ f. (last-none log.entries (last-of-none _ (sym o.last ∙ f.0)), no-finals f.1, subst (λ n. n < max_items) item-count f.2, (before-all log p o rises h.item).0 f.3),
+    λ f. (o.last ∙ ap (λ (es : List Entry). last_of (slice_get es (length es - 1))) f.0, some-finals f.1, subst (λ n. n < max_items) (sym item-count) f.2, (before-all log p o rises h.item).1 f.3),
   )
   fits-at rises (Logged e) = (no-finals, some-finals)
   fits-at rises (Final h) = let same = ap₂ slice_get o.items o.finals in (λ f. sym same ∙ f, λ f. same ∙ f)
@@ -136,7 +160,7 @@ module _ (b : Begun) (p : Place) (is : IsBegun b) (at : IsPlace b p) where
 
 -- ---- one more line
 
-pub fresh-open : (p : OpenPlace) → p.items.items ≡ [] → p.last ≡ None → p.finals ≡ 0 → IsOpenPlace no_log p
+pub fresh-open : (p : OpenPlace) → p.items.items ≡ [] → p.last ≡ last.NoEntry → p.finals ≡ 0 → IsOpenPlace no_log p
 fresh-open p items last finals = record { items = items; last = last; finals = finals }
 
 module _ (log : SiteLog) (old new : OpenPlace) (o : IsOpenPlace log old) where
@@ -147,18 +171,56 @@ module _ (log : SiteLog) (old new : OpenPlace) (o : IsOpenPlace log old) where
     finals = finals ∙ o.finals;
   }
 
-  pub logged-entered : (e : Entry) → new.items.items ≡ old.items.items → new.last ≡ Some e → new.finals ≡ old.finals → IsOpenPlace (with_line log (Logged e)) new
-  logged-entered e items last finals = record { items = items ∙ o.items; last = last ∙ sym (last-push log.entries e); finals = finals ∙ o.finals }
+  pub logged-entered : (e : Entry) → new.items.items ≡ old.items.items → new.last ≡ last_of (Some e) → new.finals ≡ old.finals → IsOpenPlace (with_line log (Logged e)) new
+  logged-entered e items last finals = record { items = items ∙ o.items; last = last ∙ ap last_of (sym (last-push log.entries e)); finals = finals ∙ o.finals }
 
   pub final-entered : (h : Holding) → new.items.items ≡ old.items.items → new.last ≡ old.last → new.finals ≡ old.finals + 1 → IsOpenPlace (with_line log (Final h)) new
   final-entered h items last finals = record { items = items ∙ o.items; last = last ∙ o.last; finals = finals ∙ ap (λ n. n + 1) o.finals ∙ sym (length_push log.finals h) }
 
 -- ---- what the parts of the place answer
 
-pub last-found : (log : SiteLog) (p : OpenPlace) → IsOpenPlace log p → p.finals ≡ 0 → (found : Option Entry) → p.last ≡ found
-    → IfSome found (λ e. (log.finals ≡ []) × (slice_get log.entries (length log.entries - 1) ≡ Some e)) × IfNone found (log.finals ≡ [] → log.entries ≡ [])
-last-found log p o zero None here = (tt, λ _. last-none log.entries (sym o.last ∙ here))
-last-found log p o zero (Some e) here = ((no-finals log p o zero, sym o.last ∙ here), tt)
+changes-on : (tx : ℕ) (line : SectionLine) → FollowsLast (last.Changes tx) line → (e : Entry) × (line ≡ Logged e) × GoesOn tx e
+changes-on tx (Logged e) h = (e, refl, h)
+changes-on tx (Site k) h = absurd h
+changes-on tx (Initial x) h = absurd h
+changes-on tx (Final x) h = absurd h
+changes-on tx End h = absurd h
+
+wants-on : (tx : ℕ) (line : SectionLine) → FollowsLast (last.Wants tx) line → (e : Entry) × (line ≡ Logged e) × GoesOnAsking tx e
+wants-on tx (Logged e) h = (e, refl, h)
+wants-on tx (Site k) h = absurd h
+wants-on tx (Initial x) h = absurd h
+wants-on tx (Final x) h = absurd h
+wants-on tx End h = absurd h
+
+block-follows : (f : Entry) (line : SectionLine) → FollowsLast (last_of (Some f)) line ↔ ContinuesBlock f line
+block-follows (Read tx x v) line = (λ _ none. absurd none, λ _. tt)
+block-follows (Write tx x v) line = (λ h _. changes-on tx line h, λ h. let g = h tt in subst (FollowsLast (last.Changes tx)) (sym g.1) g.2)
+block-follows (Add tx x v) line = (λ h _. changes-on tx line h, λ h. let g = h tt in subst (FollowsLast (last.Changes tx)) (sym g.1) g.2)
+block-follows (Want tx x v) line = (λ h _. wants-on tx line h, λ h. let g = h tt in subst (FollowsLast (last.Wants tx)) (sym g.1) g.2)
+block-follows (WantAdd tx x v) line = (λ h _. wants-on tx line h, λ h. let g = h tt in subst (FollowsLast (last.Wants tx)) (sym g.1) g.2)
+block-follows (Commit tx) line = (λ _ none. absurd none, λ _. tt)
+block-follows (Refuse tx) line = (λ _ none. absurd none, λ _. tt)
+block-follows (Withdraw tx) line = (λ _ none. absurd none, λ _. tt)
+
+entry-follows : (o : Option Entry) (line : SectionLine) → FollowsLast (last_of o) line ↔ ((f : Entry) → o ≡ Some f → ContinuesBlock f line)
+entry-follows None line = (λ _ f none. absurd (none-some f none), λ _. tt)
+entry-follows (Some f) line =
+    let both = block-follows f line in (
+      λ h g same. subst (λ e. ContinuesBlock e line) (same_Some f g same) (both.0 h),
+      λ h. both.1 (h f refl),
+    )
+
+pub last-follows : (log : SiteLog) (p : OpenPlace) → IsOpenPlace log p → p.finals ≡ 0 → (line : SectionLine) (b : Bool) → IsTrue b ↔ FollowsLast p.last line → IsTrue b ↔ ContinuesLog log line
+last-follows log p o zero line b test =
+    let both = entry-follows (slice_get log.entries (length log.entries - 1)) line in
+    let told = subst (λ l. IsTrue b ↔ FollowsLast l line) o.last test in (
+      λ h f none at. both.0 (told.0 h) f at,
+      λ h. told.1 (both.1 (λ f at. h f (no-finals log p o zero) at)),
+    )
+
+pub finals-follow : (log : SiteLog) (p : OpenPlace) → IsOpenPlace log p → (p.finals ≡ 0 → ⊥) → (line : SectionLine) → IsTrue true ↔ ContinuesLog log line
+finals-follow log p o some line = (λ _ f none at. absurd (some (some-finals log p o none)), λ _. refl)
 
 pub not-between : (b : Begun) (line : SectionLine) → ((k : ℕ) → line ≡ Site k → ⊥) → IsTrue false ↔ FitsBetween b line
 not-between b (Site k) h = absurd (h k refl)

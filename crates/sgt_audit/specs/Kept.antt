@@ -3,6 +3,7 @@
 use Rattle.std.specs.Prelude.{◌≡◌, ◌↔◌, ◌⊎◌, ℕ, ◌+◌, ◌-◌, Bool, IsTrue, List, length, All, Option, Some, None, IfSome, slice_get}
 use Rattle.sgt_names.specs.Log.{Conflicts, names}
 use Rattle.sgt_names.specs.declared.entry.Entry.{Entry}
+use Rattle.sgt_names.specs.declared.entry.Entry.TheVariants.{Write, Add, Want, WantAdd}
 use Rattle.sgt_notation.specs.declared.SectionLine.{SectionLine}
 use Rattle.sgt_cert.specs.Text.{AreSections}
 use Rattle.sgt_cert.specs.declared.certificate.Certificate.{Certificate}
@@ -13,6 +14,8 @@ use Rattle.sgt_audit_decisions.specs.declared.steps.Edge.{Edge}
 use Rattle.sgt_audit_cells.specs.Tracks.{TracksOpen, IsReadyFor}
 use Rattle.sgt_audit_cells.specs.declared.state.SiteState.{SiteState}
 use Rattle.sgt_audit.specs.declared.kept.Kept.{Kept}
+use Rattle.sgt_audit.specs.declared.place.Last.{Last}
+use Rattle.sgt_audit.specs.declared.place.Last.TheVariants as last
 use Rattle.sgt_audit.specs.declared.place.OpenPlace.{OpenPlace}
 use Rattle.sgt_audit.specs.declared.place.Place.{Place}
 use Rattle.sgt_audit.specs.declared.tracked.Tracked.{Tracked}
@@ -32,11 +35,20 @@ abbrev pub IsStageOf : Bool → Certificate → List SectionLine → Stage → T
 IsStageOf second c before s = ((s ≡ within second c before) × (AreSections c.sites before → ⊥))
     ⊎ ((s ≡ complete second c before) × AreSections c.sites before)
 
--- what is kept of the lines of an open section: the names of its items, its last entry, and how
--- many finals it has
+-- what is kept of the last entry
+abbrev pub last_of : Option Entry → Last
+last_of None = last.NoEntry
+last_of (Some (Write tx x v)) = last.Changes tx
+last_of (Some (Add tx x v)) = last.Changes tx
+last_of (Some (Want tx x v)) = last.Wants tx
+last_of (Some (WantAdd tx x v)) = last.Wants tx
+last_of (Some _) = last.Shut
+
+-- what is kept of the lines of an open section: the names of its items, what its last entry asks of
+-- the next line, and how many finals it has
 pub record IsOpenPlace (log : SiteLog) (p : OpenPlace) : Type 0 where
   pub items : p.items.items ≡ names log.items
-  pub last : p.last ≡ slice_get log.entries (length log.entries - 1)
+  pub last : p.last ≡ last_of (slice_get log.entries (length log.entries - 1))
   pub finals : p.finals ≡ length log.finals
 
 abbrev pub IsCurrentPlace : Option SiteLog → Option OpenPlace → Type 0

@@ -17,7 +17,7 @@ ghost use Rattle.sgt_audit.specs.private.Known.{IsKnownOf, IsKnownLine};
 ghost use Rattle.sgt_audit.specs.Reading.{Begun, IsBegun, lines_read};
 ghost use Rattle.sgt_audit.specs.private.Following.{Fits};
 
-use crate::entries::{continues, is_open};
+use crate::entries::follows_last;
 use crate::faults::Fault;
 use crate::known::Known;
 use crate::place::OpenPlace;
@@ -37,13 +37,10 @@ pub fn continues_log(place: &OpenPlace, line: &SectionLine) -> bool
     ensures { (log : SiteLog) → IsOpenPlace log place.now
         → (IsTrue result ↔ ContinuesLog log line.now) }
 {
-    let Some(last) = place.last_entry() else {
+    if place.finals != 0 {
         return true;
-    };
-    match line {
-        SectionLine::Logged(entry) => !is_open(last) || continues(last, entry),
-        _ => !is_open(last),
     }
+    follows_last(place.last, line)
 }
 
 /// The least fault of a line that is this entry, of which this is known.

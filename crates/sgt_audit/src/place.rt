@@ -1,23 +1,49 @@
 //! Where the next line of the sections stands: what is kept of the lines before it, by which it is told whether it may stand there.
 
-ghost use Rattle.std.specs.Prelude.{◌≡◌, ◌-◌, ◌↔◌, [], ◌∷◌, ◌++◌, IsTrue, OnOk, IfSome, IfNone, Some, None, length, slice_get};
+ghost use Rattle.std.specs.Prelude.{◌≡◌, ◌-◌, ◌↔◌, [], ◌∷◌, ◌++◌, IsTrue, OnOk, Some, None, length, slice_get};
 ghost use Rattle.std.specs.Option.{ForSome};
 ghost use Rattle.sgt_cert.specs.Parts.{ComesBefore};
 ghost use Rattle.sgt_cert.specs.Text.{Begins, AreSections};
 ghost use Rattle.sgt_cert.specs.declared.bundle.SiteLog.{SiteLog};
-ghost use Rattle.sgt_audit.specs.Kept.{IsOpenPlace, IsPlace};
+ghost use Rattle.sgt_audit.specs.Kept.{IsOpenPlace, IsPlace, last_of};
 ghost use Rattle.sgt_audit.specs.Reading.{Begun, IsBegun, IsOpenLog, lines_read};
 ghost use Rattle.sgt_audit.specs.private.Following.{Fits, FitsAt, MayFollow, with_line, with_next};
 
-use sgt_names::{Entry, Item, MAX_ITEMS};
+use sgt_names::{Entry, Item, MAX_ITEMS, Tx};
 use sgt_notation::SectionLine;
 use std::alloc::{AllocError, Global};
 
-/// What is kept of the lines of the open section: its items, the entry that was read last, and how many finals there are.
+/// What is kept of the entry that was read last.
+#[derive(Clone, Copy)]
+pub enum Last {
+    /// There is none.
+    NoEntry,
+    /// It leaves no block open.
+    Shut,
+    /// This transaction's changes may go on behind it, or its commit follows.
+    Changes(Tx),
+    /// What this transaction asks for may go on behind it, or its refusal follows.
+    Wants(Tx),
+}
+
+/// What is kept of the entry.
+#[inline(always)]
+fn last_of(entry: &Entry) -> Last
+    ensures { result ≡ last_of (Some entry.now) }
+{
+    match *entry {
+        Entry::Write { tx, .. } | Entry::Add { tx, .. } => Last::Changes(tx),
+        Entry::Want { tx, .. } | Entry::WantAdd { tx, .. } => Last::Wants(tx),
+        _ => Last::Shut,
+    }
+}
+
+/// What is kept of the lines of the open section: its items, what the entry that was read last asks of the next, and how many
+/// finals there are.
 #[derive(Drop)]
 pub struct OpenPlace {
     pub items: Vec<Item>,
-    pub last: Option<Entry>,
+    pub last: Last,
     pub finals: usize,
 }
 
@@ -33,25 +59,6 @@ fn come_before(items: &[Item], item: &Item) -> bool
 }
 
 impl OpenPlace {
-    /// The entry that was read last, if no final stands behind it.
-    #[inline(always)]
-    pub(crate) fn last_entry(&self) -> Option<&Entry>
-        ensures some { (log : SiteLog) → IsOpenPlace log self.now
-            → IfSome result
-            (λ e. (log.finals ≡ [])
-            × (slice_get log.entries (length log.entries - 1) ≡ Some e.now)) }
-        ensures none { (log : SiteLog) → IsOpenPlace log self.now
-            → IfNone result (log.finals ≡ [] → log.entries ≡ []) }
-    {
-        if self.finals != 0 {
-            return None;
-        }
-        match &self.last {
-            Some(last) => Some(last),
-            None => None,
-        }
-    }
-
     /// Whether the line may stand next.
     #[inline(always)]
     fn has_room_for(&self, line: &SectionLine) -> bool
@@ -60,7 +67,7 @@ impl OpenPlace {
         match line {
             SectionLine::Site(_) => false,
             SectionLine::Initial(holding) => {
-                self.last.is_none()
+                matches!(self.last, Last::NoEntry)
                     && self.finals == 0
                     && self.items.len() < MAX_ITEMS
                     && come_before(self.items.as_slice(), &holding.item)
@@ -86,7 +93,7 @@ impl OpenPlace {
                 Ok(())
             }
             SectionLine::Logged(entry) => {
-                self.last = Some(*entry);
+                self.last = last_of(entry);
                 Ok(())
             }
             SectionLine::Final(_) => {
@@ -161,7 +168,7 @@ impl Place {
             None => {
                 self.current = Some(OpenPlace {
                     items: Vec::new(self.alloc),
-                    last: None,
+                    last: Last::NoEntry,
                     finals: 0,
                 });
                 Ok(())

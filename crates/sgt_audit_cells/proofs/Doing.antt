@@ -1,8 +1,8 @@
 -- What a transaction did, against the rule on pairs of entries, and after one more entry.
-use Rattle.std.proofs.Common.{◌≡◌, ◌≢◌, ℕ, zero, suc, List, [], ◌∷◌, ◌++◌, length, Option, Some, None, Bool, true, false, cond, IsTrue, refl, sym, ap, ◌∙◌, subst, arith, inl, inr, ◌⊎◌, All, AllPairs, Any, Contains, option_map}
-use Rattle.std.specs.Prelude.{◌↔◌, slice_get, not, ◌&&◌, ◌||◌}
+use Rattle.std.proofs.Common.{◌≡◌, ◌≢◌, ℕ, zero, suc, List, [], ◌∷◌, ◌++◌, length, Option, Some, None, Bool, true, false, IsTrue, refl, sym, ap, ◌∙◌, subst, arith, inl, inr, ◌⊎◌, All, AllPairs, Any, Contains, option_map}
+use Rattle.std.specs.Prelude.{◌↔◌, slice_get, not, ◌||◌}
 use Rattle.std.specs.Option.{option_to_list}
-use Rattle.std.proofs.lemmas.Bool.{cases_Bool, cases_order, false≢true, true≢false, eq-eqb, ne_eqb}
+use Rattle.std.proofs.lemmas.Bool.{cases_Bool, cases_order, false≢true, true≢false}
 use Rattle.std.proofs.lemmas.Option.{same_Some, none-some}
 use Rattle.std.proofs.lemmas.List.{append-nil}
 use Rattle.std.proofs.lemmas.List.Elements.{Contains-push, Contains-append_left, Contains-push_cases}
@@ -13,7 +13,7 @@ use Rattle.sgt_names.specs.Entry.{tx_of, item_of, is_increment, IsEnd, Reads, Wr
 use Rattle.sgt_names.specs.declared.entry.Entry.{Entry}
 use Rattle.sgt_names.specs.declared.entry.Entry.TheVariants.{Read, Write, Add, Want, WantAdd, Commit, Refuse, Withdraw}
 use Rattle.sgt_audit_cells.specs.private.Noted.{IsPlaceOf}
-use Rattle.sgt_audit_cells.specs.Records.{Record, Did, IsAct, AreActs, IsRecord, deed_of, acts_in, has_ended_in}
+use Rattle.sgt_audit_cells.specs.Records.{Record, no_record, Did, IsAct, AreActs, IsRecord, deed_of}
 use Rattle.sgt_audit_cells.specs.private.Deeds.{IsTouched, IsOf, act, changes, adds}
 use Rattle.sgt_audit_cells.specs.declared.act.Act.{Act}
 use Rattle.sgt_audit_cells.specs.declared.act.Deed.{Deed}
@@ -212,44 +212,43 @@ module _ (ns : List Name) (entries : List Entry) (tx : ℕ) (e : Entry) where
 
 -- ---- a record
 
-pub acts_in-same : (section : ℕ) (r : Record) → r.section ≡ section → acts_in section r ≡ r.acts
-acts_in-same section r same = ap (λ b. cond b r.acts []) (eq-eqb r.section section same)
-
-pub ended_in-same : (section : ℕ) (r : Record) → r.section ≡ section → has_ended_in section r ≡ r.ended
-ended_in-same section r same = ap (λ b. b && r.ended) (eq-eqb r.section section same)
-
 -- an entry of another transaction
-pub record-left : (section : ℕ) (ns : List Name) (entries : List Entry) (tx : ℕ) (r : Record) (e : Entry) → (tx_of e ≡ tx → ⊥) → IsRecord section ns entries tx r → IsRecord section ns (entries ++ e ∷ []) tx r
-record-left section ns entries tx r e other is = record {
+pub record-left : (ns : List Name) (entries : List Entry) (tx : ℕ) (r : Record) (e : Entry) → (tx_of e ≡ tx → ⊥) → IsRecord ns entries tx r → IsRecord ns (entries ++ e ∷ []) tx r
+record-left ns entries tx r e other is = record {
   touched = did-left entries tx e (λ f. Unit {0}) (λ of does. other of) is.touched;
   ended = did-left entries tx e IsEnd (λ of does. other of) is.ended;
-  acts = acts-left ns entries tx e (acts_in section r) other is.acts;
+  acts = acts-left ns entries tx e r.acts other is.acts;
 }
 
 -- its next entry
-pub record-entered : (section : ℕ) (ns : List Name) (entries : List Entry) (tx : ℕ) (old new : Record) (e : Entry) (place : Option ℕ) (ends : Bool) → AllPairs Apart ns → tx_of e ≡ tx → IsPlaceOf ns e place → IsTrue ends ↔ IsEnd e
-    → IsRecord section ns entries tx old → IsTouched section (option_to_list (option_map (λ i. act (length entries) i e) place)) ends old new → IsRecord section ns (entries ++ e ∷ []) tx new
-record-entered section ns entries tx old new e place ends apart of on ending is to = record {
-  touched = (λ _. (e, Contains-push entries e, of, tt), λ _. to.stamp);
-  ended = subst (λ b. IsTrue b ↔ Did (entries ++ e ∷ []) tx IsEnd) (sym (ended_in-same section new to.stamp ∙ to.end))
-      (or-decides (has_ended_in section old) ends (Did entries tx IsEnd) (IsEnd e) (Did (entries ++ e ∷ []) tx IsEnd) is.ended ending (did-more entries tx e IsEnd) (λ h. (e, Contains-push entries e, of, h))
+pub record-entered : (ns : List Name) (entries : List Entry) (tx : ℕ) (old new : Record) (e : Entry) (place : Option ℕ) (ends : Bool) → AllPairs Apart ns → tx_of e ≡ tx → IsPlaceOf ns e place → IsTrue ends ↔ IsEnd e
+    → IsRecord ns entries tx old → IsTouched (option_to_list (option_map (λ i. act (length entries) i e) place)) ends old new → IsRecord ns (entries ++ e ∷ []) tx new
+record-entered ns entries tx old new e place ends apart of on ending is to = record {
+  touched = (λ _. (e, Contains-push entries e, of, tt), λ _. to.touched);
+  ended = subst (λ b. IsTrue b ↔ Did (entries ++ e ∷ []) tx IsEnd) (sym to.end)
+      (or-decides old.ended ends (Did entries tx IsEnd) (IsEnd e) (Did (entries ++ e ∷ []) tx IsEnd) is.ended ending (did-more entries tx e IsEnd) (λ h. (e, Contains-push entries e, of, h))
       (λ d. elim (did-cases entries tx e IsEnd d) [ inl before ↦ inl before | inr now ↦ inr now.1 ]));
-  acts = subst (AreActs ns (entries ++ e ∷ []) tx) (sym (acts_in-same section new to.stamp ∙ to.did)) (acts-next ns entries tx e (acts_in section old) place apart is.acts of on);
+  acts = subst (AreActs ns (entries ++ e ∷ []) tx) (sym to.did) (acts-next ns entries tx e old.acts place apart is.acts of on);
 }
 
 no-entry : (f : Entry) → Contains [] f → ⊥
 no-entry f here = absurd (omega (arith, here.1))
 
 -- without an entry in the section
-pub record-none : (section : ℕ) (ns : List Name) (tx : ℕ) (r : Record) → (r.section ≡ section → ⊥) → IsRecord section ns [] tx r
-record-none section ns tx r apart = record {
-  touched = (λ same. absurd (apart same), λ d. absurd (no-entry d.0 d.1));
-  ended = (λ h. absurd (false≢true (sym (ap (λ b. b && r.ended) (ne_eqb r.section section apart)) ∙ h)), λ d. absurd (no-entry d.0 d.1));
-  acts = subst (AreActs ns [] tx) (sym (ap (λ b. cond b r.acts []) (ne_eqb r.section section apart))) (λ a. (λ h. absurd (no-act a h), λ w. absurd (none-some w.entry w.here)));
+pub record-none : (ns : List Name) (tx : ℕ) → IsRecord ns [] tx no_record
+record-none ns tx = record {
+  touched = (λ h. absurd (false≢true h), λ d. absurd (no-entry d.0 d.1));
+  ended = (λ h. absurd (false≢true h), λ d. absurd (no-entry d.0 d.1));
+  acts = λ a. (λ h. absurd (no-act a h), λ w. absurd (none-some w.entry w.here));
 }
   where
     no-act : (a : Act) → Contains [] a → ⊥
     no-act a here = absurd (omega (arith, here.1))
 
-pub record-apart : (section : ℕ) (ns : List Name) (tx : ℕ) (r : Record) → IsRecord section ns [] tx r → r.section ≡ section → ⊥
-record-apart section ns tx r is same = let d = is.touched.0 same in no-entry d.0 d.1
+-- it is the same whatever the names are
+pub record-renamed : (ns more : List Name) (tx : ℕ) (r : Record) → IsRecord ns [] tx r → IsRecord more [] tx r
+record-renamed ns more tx r is = record {
+  touched = is.touched;
+  ended = is.ended;
+  acts = λ a. (λ h. let w = (is.acts a).0 h in absurd (none-some w.entry w.here), λ w. absurd (none-some w.entry w.here));
+}

@@ -49,6 +49,10 @@ pub ok-both : {A E P : Type 0} {Q R : A → Type 0} (r : Result A E) → ((a : A
 ok-both (Ok a) f p q = f a p q
 ok-both (Err e) f p q = p
 
+pub ok-any : {A E P : Type 0} (r : Result A E) → P → OnOk r P
+ok-any (Ok a) p = p
+ok-any (Err e) p = tt
+
 pub placed-item : (ds : List Decision) (items : List Holding) (entries : List Entry) (s : SiteState) (e : Entry) (x : Name) (o : Option ℕ) → TracksOpen ds items entries s → item_of e ≡ Some x
     → IfSome o (λ place. (ds : List Decision) (items : List Holding) (entries : List Entry) → TracksOpen ds items entries s → slice_get (names items) place ≡ Some x)
     → IfNone o ((ds : List Decision) (items : List Holding) (entries : List Entry) → TracksOpen ds items entries s → Contains (names items) x → ⊥) → IsPlaceAmong (names items) e o

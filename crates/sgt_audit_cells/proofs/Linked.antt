@@ -1,15 +1,16 @@
 -- What transactions did in the open section, each linked to the one before it.
-use Rattle.std.proofs.Common.{◌≡◌, ℕ, zero, suc, ◌-◌, ◌<◌, ◌≤◌, Bool, true, false, cond, List, [], ◌∷◌, ◌++◌, Some, refl, sym, ap, ap₂, ◌∙◌, subst, arith, inl, inr, ◌⊎◌, length, Any, map, option_map}
-use Rattle.std.specs.Prelude.{◌↔◌, slice_get, ◌==◌, if◌then◌else◌}
+use Rattle.std.proofs.Common.{◌≡◌, ℕ, zero, suc, ◌-◌, ◌<◌, ◌≤◌, Bool, true, cond, List, [], ◌∷◌, ◌++◌, Some, refl, sym, ap, ap₂, ◌∙◌, subst, arith, inl, inr, ◌⊎◌, length, Any, map, option_map}
+use Rattle.std.specs.Prelude.{◌↔◌, slice_get, ◌==◌, ◌&&◌, if◌then◌else◌}
+use Rattle.std.proofs.lemmas.Bool.{eq-eqb, ne_eqb}
 use Rattle.std.proofs.lemmas.Option.{none-some, same_Some, slice_get-map, slice_get_within}
 use Rattle.std.proofs.lemmas.List.{length-map}
 use Rattle.sgt_names.proofs.Lists.{option_cases, Any_at, Any-from_at}
 use Rattle.sgt_names.proofs.Places.{All_at}
-use Rattle.sgt_audit_cells.specs.Records.{Record, acts_in}
+use Rattle.sgt_audit_cells.specs.Records.{Record, no_record}
 use Rattle.sgt_audit_cells.specs.declared.act.Act.{Act}
 use Rattle.sgt_audit_cells.specs.declared.record.Node.{Node}
 use Rattle.sgt_audit_cells.specs.declared.record.Slot.{Slot}
-use Rattle.sgt_audit_cells.specs.private.Linked.{behind, chain_by, chain, AreLinked, AreWithin, record_of, records_of}
+use Rattle.sgt_audit_cells.specs.private.Linked.{behind, chain_by, chain, AreLinked, AreWithin, last_here, record_of, records_of}
 use Rattle.sgt_audit_cells.proofs.Lists.{some-at}
 
 -- ---- a list with one more at its end
@@ -117,36 +118,42 @@ map-same : {A B : Type 0} (f g : A → B) (xs : List A) → ((i : ℕ) (a : A) �
 map-same f g [] same = refl
 map-same f g (x ∷ xs) same = ap₂ (λ y ys. y ∷ ys) (same 0 x refl) (map-same f g xs (λ i a at. same (suc i) a at))
 
-abbrev told : Slot → List Act → Record
-told s acts = record { section = s.section; ended = s.ended; acts = acts }
+abbrev told : Bool → Bool → List Act → Record
+told here ended acts = record { touched = here; ended = here && ended; acts = acts }
 
-module _ (base : ℕ) (nodes more : List Node) (slots : List Slot) (within : AreWithin base (length nodes) slots) (others : (k : ℕ) → k ≤ length nodes → chain more k ≡ chain nodes k) where
-  pub records-same : records_of base more slots ≡ records_of base nodes slots
-  records-same = map-same (record_of base more) (record_of base nodes) slots (λ i s at.
-      let le = All_at (λ (s : Slot). s.last - base ≤ length nodes) slots i s within at in
-      ap (told s) (others (s.last - base) le))
+module _ (stamp : ℕ) (nodes more : List Node) (slots : List Slot) (within : AreWithin stamp (length nodes) slots) (others : (k : ℕ) → k ≤ length nodes → chain more k ≡ chain nodes k) where
+  pub records-same : records_of stamp more slots ≡ records_of stamp nodes slots
+  records-same = map-same (record_of stamp more) (record_of stamp nodes) slots (λ i s at.
+      let le = All_at (λ (s : Slot). last_here stamp s ≤ length nodes) slots i s within at in
+      ap (told (s.stamp == stamp) s.ended) (others (last_here stamp s) le))
 
-module _ (base : ℕ) (nodes : List Node) (slots : List Slot) (now : List Record) (view : records_of base nodes slots ≡ now) (n : ℕ) where
+module _ (stamp : ℕ) (nodes : List Node) (slots : List Slot) (now : List Record) (view : records_of stamp nodes slots ≡ now) (n : ℕ) where
   -- the record of a slot
-  pub record-at : (s : Slot) → slice_get slots n ≡ Some s → slice_get now n ≡ Some (record_of base nodes s)
-  record-at s at = ap (λ rs. slice_get rs n) (sym view) ∙ slice_get-map (record_of base nodes) slots n ∙ ap (option_map (record_of base nodes)) at
+  pub record-at : (s : Slot) → slice_get slots n ≡ Some s → slice_get now n ≡ Some (record_of stamp nodes s)
+  record-at s at = ap (λ rs. slice_get rs n) (sym view) ∙ slice_get-map (record_of stamp nodes) slots n ∙ ap (option_map (record_of stamp nodes)) at
 
-  pub record-is : (s : Slot) (r : Record) → slice_get slots n ≡ Some s → slice_get now n ≡ Some r → record_of base nodes s ≡ r
-  record-is s r at there = same_Some (record_of base nodes s) r (sym (record-at s at) ∙ there)
+  pub record-is : (s : Slot) (r : Record) → slice_get slots n ≡ Some s → slice_get now n ≡ Some r → record_of stamp nodes s ≡ r
+  record-is s r at there = same_Some (record_of stamp nodes s) r (sym (record-at s at) ∙ there)
 
   pub record-within : (r : Record) → slice_get now n ≡ Some r → n < length slots
   record-within r there =
       let lt = slice_get_within now n r there in
-      let long = ap length (sym view) ∙ length-map slots (record_of base nodes) in
+      let long = ap length (sym view) ∙ length-map slots (record_of stamp nodes) in
       omega (arith, lt, long)
 
--- what it did in the section stands at its last place
-pub acts-last : (section base : ℕ) (nodes : List Node) (s : Slot) → acts_in section (record_of base nodes s) ≡ chain nodes ((if s.section == section then s.last else 0) - base)
-acts-last section base nodes s = by (s.section == section)
-  where
-    by : (b : Bool) → cond b (chain nodes (s.last - base)) [] ≡ chain nodes (cond b s.last 0 - base)
-    by true = refl
-    by false = sym (ap (chain nodes) (let none : 0 - base ≡ 0 = omega arith in none))
+-- of a transaction that came in no section of this stamp
+abbrev cleared : List Node → Slot → Bool → Record
+cleared nodes s here = record { touched = here; ended = here && s.ended; acts = chain nodes (cond here s.last 0) }
+
+pub record-fresh : (stamp : ℕ) (nodes : List Node) (s : Slot) → s.stamp < stamp → record_of stamp nodes s ≡ no_record
+record-fresh stamp nodes s early = ap (cleared nodes s) (ne_eqb s.stamp stamp (λ same. absurd (omega (arith, early, same))))
+
+-- where its slot has this stamp
+pub record-now : (stamp : ℕ) (nodes : List Node) (s : Slot) → s.stamp ≡ stamp → record_of stamp nodes s ≡ told true s.ended (chain nodes s.last)
+record-now stamp nodes s same = ap (cleared nodes s) (eq-eqb s.stamp stamp same)
+
+pub last-now : (stamp : ℕ) (s : Slot) → s.stamp ≡ stamp → last_here stamp s ≡ s.last
+last-now stamp s same = ap (λ b. cond b s.last 0) (eq-eqb s.stamp stamp same)
 
 -- ---- a loop that goes back
 
@@ -168,11 +175,3 @@ back-end nodes at P none any = none-of-none P (subst (λ k. Any P (chain nodes k
 
 pub both-ways : {P Q R : Type 0} → P ↔ Q → Q ↔ R → P ↔ R
 both-ways a b = (λ p. b.0 (a.0 p), λ r. a.1 (b.1 r))
-
--- so what it did in the section is linked from there
-pub acts-are : (section base : ℕ) (nodes : List Node) (s : Slot) (r : Record) (last : ℕ) → record_of base nodes s ≡ r → last ≡ (if s.section == section then s.last else 0) - base
-    → chain nodes last ≡ acts_in section r
-acts-are section base nodes s r last is at = ap (chain nodes) at ∙ sym (acts-last section base nodes s) ∙ ap (acts_in section) is
-
-pub back-there : (nodes : List Node) (at : ℕ) → at ≤ length nodes → 0 < at → ((n : Node) → slice_get nodes (at - 1) ≡ Some n → ⊥) → ⊥
-back-there nodes at within some none = let n = some-at nodes (at - 1) (omega (arith, within, some)) in none n.0 n.1

@@ -1,5 +1,5 @@
 -- What is kept, with one more item before any entry.
-use Rattle.std.proofs.Common.{◌≡◌, ◌≢◌, ℕ, ◌≤◌, List, [], ◌∷◌, ◌++◌, Some, None, cond, refl, sym, ap, ap₂, ◌∙◌, subst, arith, inl, inr, All, Contains, length, map}
+use Rattle.std.proofs.Common.{◌≡◌, ◌≢◌, ℕ, List, [], ◌∷◌, ◌++◌, Some, None, cond, refl, sym, ap, ◌∙◌, subst, arith, inl, inr, All, Contains, length, map}
 use Rattle.std.specs.Prelude.{slice_get}
 use Rattle.std.specs.List.{AllByRecursion}
 use Rattle.std.specs.Str.{bytes_eq}
@@ -19,7 +19,7 @@ use Rattle.sgt_audit_cells.specs.Records.{live_among}
 use Rattle.sgt_audit_cells.specs.Tracks.{EndsBy, TracksOpen}
 use Rattle.sgt_audit_cells.specs.declared.cell.Cell.{Cell}
 use Rattle.sgt_audit_cells.specs.declared.state.SiteState.{SiteState}
-use Rattle.sgt_audit_cells.proofs.Doing.{record-none, record-apart}
+use Rattle.sgt_audit_cells.proofs.Doing.{record-renamed}
 
 -- ---- values
 
@@ -70,16 +70,14 @@ module _ (ds : List Decision) (items : List Holding) (h : Holding) where
     ]);
   }
 
-  pub listed : (old new : SiteState) → All (λ x. x ≢ h.item) (names items) → TracksOpen ds items [] old → new.section ≡ old.section → new.cells.items ≡ old.cells.items ++ fresh h ∷ []
+  pub listed : (old new : SiteState) → All (λ x. x ≢ h.item) (names items) → TracksOpen ds items [] old → new.cells.items ≡ old.cells.items ++ fresh h ∷ []
       → new.records ≡ old.records → new.count ≡ old.count → new.live ≡ old.live → new.last_end ≡ old.last_end → TracksOpen ds (items ++ h ∷ []) [] new
-  listed old new apart t section cells records count live order = record {
+  listed old new apart t cells records count live order = record {
     cells = subst (AreCells ds (items ++ h ∷ []) []) (sym cells) (more-cells old.cells.items apart t.cells);
     many = ap length records ∙ t.many;
     records = λ k d r at_k at_r.
-        let before = t.records k d r at_k (ap (λ rs. slice_get rs k) (sym records) ∙ at_r) in
-        record-none new.section (names (items ++ h ∷ [])) (decided_tx d) r (λ same. record-apart old.section (names items) (decided_tx d) r before (same ∙ section));
-    stamps = subst (λ n. All (λ r. r.section ≤ n) new.records) (sym section) (subst (All (λ r. r.section ≤ old.section)) (sym records) t.stamps);
-    live = live ∙ t.live ∙ ap₂ (λ n rs. live_among n rs) (sym section) (sym records);
+        record-renamed (names items) (names (items ++ h ∷ [])) (decided_tx d) r (t.records k d r at_k (ap (λ rs. slice_get rs k) (sym records) ∙ at_r));
+    live = live ∙ t.live ∙ ap live_among (sym records);
     count = count ∙ t.count;
     order = subst (IsGreatest (EndsBy ds) []) (sym order) t.order;
     decided = t.decided;

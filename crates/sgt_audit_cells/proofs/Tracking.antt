@@ -1,8 +1,8 @@
 -- What is kept of an open section, against the rules of a line, and after one more entry.
-use Rattle.std.proofs.Common.{◌≡◌, ◌≢◌, ℕ, ◌+◌, ◌-◌, ◌<◌, ◌≤◌, List, [], ◌∷◌, ◌++◌, Option, Some, None, Bool, true, false, IsTrue, refl, sym, ap, ◌∙◌, subst, arith, inl, inr, All, AllPairs, Any, Contains, length, set, map, option_map, get_or}
+use Rattle.std.proofs.Common.{◌≡◌, ◌≢◌, ℕ, ◌+◌, ◌<◌, ◌≤◌, ◌^◌, List, [], ◌∷◌, ◌++◌, Option, Some, None, Bool, true, false, IsTrue, refl, sym, ap, ◌∙◌, subst, arith, inl, inr, All, AllPairs, Any, Contains, length, set, map, option_map, get_or}
 use Rattle.std.specs.Prelude.{◌↔◌, slice_get, ◌&&◌, ◌==◌, nat_lt, not}
 use Rattle.std.specs.Option.{option_to_list, ForSome}
-use Rattle.std.proofs.lemmas.Bool.{cases_Bool, cases_order, cases_eq, false≢true, true≢false, eq-eqb, eqb-true, ne_eqb, ltb-true, ltb-false}
+use Rattle.std.proofs.lemmas.Bool.{cases_Bool, cases_order, cases_eq, false≢true, true≢false, eq-eqb, eqb-true, ltb-true, ltb-false}
 use Rattle.std.proofs.lemmas.List.{length-set, length_push}
 use Rattle.std.proofs.lemmas.List.Elements.{Contains-push_cases}
 use Rattle.std.proofs.lemmas.Option.{same_Some, none-some, slice_get-map, slice_get_within}
@@ -18,7 +18,7 @@ use Rattle.sgt_cert.specs.Valid.{IsDecided, EndInOrder}
 use Rattle.sgt_cert.specs.declared.certificate.Decision.{Decision}
 use Rattle.sgt_audit_cells.specs.Cells.{IsGreatest, AreCells, IsCell}
 use Rattle.sgt_audit_cells.specs.private.Noted.{IsPlaceOf, IsUpTo, raised}
-use Rattle.sgt_audit_cells.specs.Records.{Record, Did, IsRecord, has_ended_in, is_live_in, live_among}
+use Rattle.sgt_audit_cells.specs.Records.{Record, no_record, Did, IsRecord, is_live, live_among}
 use Rattle.sgt_audit_cells.specs.private.Deeds.{IsTouched, act}
 use Rattle.sgt_audit_decisions.specs.Decided.{Decides}
 use Rattle.sgt_audit_cells.specs.Tracks.{IsNumberOf, EndsBy, TracksOpen, IsReadyFor}
@@ -27,7 +27,7 @@ use Rattle.sgt_audit_cells.specs.declared.state.SiteState.{SiteState}
 use Rattle.sgt_audit_cells.proofs.Ranked.{IsOnly, up_to-all, greatest-left, greatest-raised}
 use Rattle.sgt_audit_cells.proofs.Doing.{Apart, all-new, record-left, record-entered, record-none}
 use Rattle.sgt_audit_cells.proofs.Lists.{set-at, set-other, some-at}
-use Rattle.sgt_audit_cells.proofs.Live.{one_if, live-set, live-fewer, live-none, none-live, live-counted}
+use Rattle.sgt_audit_cells.proofs.Live.{one_if, live-set, live-few, live-fewer, live-none, none-live, turned}
 
 -- ---- lists
 
@@ -60,7 +60,7 @@ decides ds e number by = (by.0, by.1, by.2)
 
 -- ---- tests
 
-ended-by : (a b : Bool) → (a && not b) ≡ false → a ≡ true → (a && b) ≡ true
+ended-by : (a b : Bool) → (a && not b) ≡ false → a ≡ true → b ≡ true
 ended-by true true h same = refl
 ended-by true false h same = absurd (true≢false h)
 ended-by false b h same = absurd (false≢true same)
@@ -69,10 +69,14 @@ first-true : (a b : Bool) → (a && b) ≡ true → a ≡ true
 first-true true b h = refl
 first-true false b h = absurd (false≢true h)
 
-not-both : (a b : Bool) → (a && not b) ≡ true → (a && b) ≡ true → ⊥
+not-both : (a b : Bool) → (a && not b) ≡ true → b ≡ true → ⊥
 not-both true true h g = false≢true h
 not-both true false h g = false≢true g
 not-both false b h g = false≢true h
+
+not-come : (touched ended : Bool) → not touched ≡ true → (touched && not ended) ≡ false
+not-come true ended h = absurd (false≢true h)
+not-come false ended h = refl
 
 -- ---- what is kept
 
@@ -103,8 +107,8 @@ module _ (ds : List Decision) (items : List Holding) (entries : List Entry) (s :
   record-at number d at = some-at s.records number (let lt = slice_get_within ds number d at in let many = t.many in omega (arith, lt, many))
 
   -- the record of a transaction
-  pub record-of : (number tx : ℕ) → Decides ds number tx → (r : Record) × (slice_get s.records number ≡ Some r) × IsRecord s.section (names items) entries tx r
-  record-of number tx (d, at, of) = let r = record-at number d at in (r.0, r.1, subst (λ i. IsRecord s.section (names items) entries i r.0) of (t.records number d r.0 at r.1))
+  pub record-of : (number tx : ℕ) → Decides ds number tx → (r : Record) × (slice_get s.records number ≡ Some r) × IsRecord (names items) entries tx r
+  record-of number tx (d, at, of) = let r = record-at number d at in (r.0, r.1, subst (λ i. IsRecord (names items) entries i r.0) of (t.records number d r.0 at r.1))
 
   -- a transaction that is not decided has no entry
   pub undecided-new : (e : Entry) → IsNumberOf ds (tx_of e) None → All (λ f. (y : Name) → Repeats y f e → ⊥) entries
@@ -132,13 +136,10 @@ module _ (ds : List Decision) (items : List Holding) (entries : List Entry) (s :
   pub cell-named : (place : ℕ) (c : Cell) (x : Name) → slice_get s.cells.items place ≡ Some c → slice_get (names items) place ≡ Some x → (x ≡ c.name) × IsCell ds items entries c
   cell-named place c x at on = (same_Some x c.name (sym on ∙ cell-at place c at), All_at (IsCell ds items entries) s.cells.items place c t.cells.each at)
 
-  pub record-is : (number tx : ℕ) (r : Record) → Decides ds number tx → slice_get s.records number ≡ Some r → IsRecord s.section (names items) entries tx r
-  record-is number tx r (d, at, of) here = subst (λ i. IsRecord s.section (names items) entries i r) of (t.records number d r at here)
+  pub record-is : (number tx : ℕ) (r : Record) → Decides ds number tx → slice_get s.records number ≡ Some r → IsRecord (names items) entries tx r
+  record-is number tx r (d, at, of) here = subst (λ i. IsRecord (names items) entries i r) of (t.records number d r at here)
 
   -- ---- all ended
-
-  live-not : (r : Record) → is_live_in s.section r ≡ false → r.section ≡ s.section → IsTrue (has_ended_in s.section r)
-  live-not r not same = ended-by (r.section == s.section) r.ended not (eq-eqb r.section s.section same)
 
   ended-any : (tx : ℕ) → Did entries tx IsEnd → Any (λ f. IsEnd f × (tx_of f ≡ tx)) entries
   ended-any tx d = let at = Contains_at entries d.0 d.1 in Any-from_at (λ f. IsEnd f × (tx_of f ≡ tx)) entries at.0 d.0 at.1 (d.3, d.2)
@@ -146,18 +147,18 @@ module _ (ds : List Decision) (items : List Holding) (entries : List Entry) (s :
   any-ended : (tx : ℕ) → Any (λ f. IsEnd f × (tx_of f ≡ tx)) entries → Did entries tx IsEnd
   any-ended tx h = let a = Any_at (λ f. IsEnd f × (tx_of f ≡ tx)) entries h in (a.1, Contains-from_at entries a.0 a.1 a.2, a.3.1, a.3.0)
 
-  idle : AllEnded entries → (k : ℕ) (r : Record) → slice_get s.records k ≡ Some r → is_live_in s.section r ≡ false
+  idle : AllEnded entries → (k : ℕ) (r : Record) → slice_get s.records k ≡ Some r → is_live r ≡ false
   idle all k r at =
       let within = slice_get_within s.records k r at in
       let many = t.many in
       let d = some-at ds k (omega (arith, within, many)) in
       let is = t.records k d.0 r d.1 at in
-      elim (cases_Bool (is_live_in s.section r)) [
+      elim (cases_Bool (is_live r)) [
         | inl live ↦
-            let f = is.touched.0 (eqb-true r.section s.section (first-true (r.section == s.section) (not r.ended) live)) in
+            let f = is.touched.0 (first-true r.touched (not r.ended) live) in
             let place = Contains_at entries f.0 f.1 in
             let ended = All_at (λ e. Any (λ f. IsEnd f × (tx_of f ≡ tx_of e)) entries) entries place.0 f.0 all place.1 in
-            absurd (not-both (r.section == s.section) r.ended live (is.ended.1 (any-ended (decided_tx d.0) (subst (λ tx. Any (λ f. IsEnd f × (tx_of f ≡ tx)) entries) f.2 ended))))
+            absurd (not-both r.touched r.ended live (is.ended.1 (any-ended (decided_tx d.0) (subst (λ tx. Any (λ f. IsEnd f × (tx_of f ≡ tx)) entries) f.2 ended))))
         | inr quiet ↦ quiet
       ]
 
@@ -169,8 +170,8 @@ module _ (ds : List Decision) (items : List Holding) (entries : List Entry) (s :
         let r = record-of by.0 (tx_of e) (decides ds e by.0 by.1) in
         let none = sym t.live ∙ eqb-true s.live 0 (sym is ∙ h) in
         let same = r.2.touched.1 (e, here, refl, tt) in
-        ended-any (tx_of e) (r.2.ended.0 (live-not r.0 (live-none s.section s.records by.0 r.0 none r.1) same))),
-    λ all. is ∙ eq-eqb s.live 0 (t.live ∙ none-live s.section s.records (idle all)),
+        ended-any (tx_of e) (r.2.ended.0 (ended-by r.0.touched r.0.ended (live-none s.records by.0 r.0 none r.1) same))),
+    λ all. is ∙ eq-eqb s.live 0 (t.live ∙ none-live s.records (idle all)),
   )
 
 -- ---- one more entry
@@ -195,11 +196,11 @@ module _ (ds : List Decision) (items : List Holding) (entries : List Entry) (old
       subst (IsGreatest (EndsBy ds) (entries ++ e ∷ [])) (sym (other not)) (greatest-left (EndsBy ds) entries old.last_end e (λ r has. not has.0) t.order)
 
   module _ (place : Option ℕ) (on : IsPlaceOf (names items) e place) (apart : AllPairs Apart (names items)) (ends : Bool) (ending : IsTrue ends ↔ IsEnd e) (r v : Record) (at : slice_get old.records number ≡ Some r)
-      (records : new.records ≡ set old.records number v) (told : IsTouched old.section (option_to_list (option_map (λ i. act old.count i e) place)) ends r v) where
-    to : IsTouched old.section (option_to_list (option_map (λ i. act (length entries) i e) place)) ends r v
-    to = subst (λ n. IsTouched old.section (option_to_list (option_map (λ i. act n i e) place)) ends r v) t.count told
+      (records : new.records ≡ set old.records number v) (told : IsTouched (option_to_list (option_map (λ i. act old.count i e) place)) ends r v) where
+    to : IsTouched (option_to_list (option_map (λ i. act (length entries) i e) place)) ends r v
+    to = subst (λ n. IsTouched (option_to_list (option_map (λ i. act n i e) place)) ends r v) t.count told
 
-    new-at : (k : ℕ) (d : Decision) (q : Record) → slice_get ds k ≡ Some d → slice_get new.records k ≡ Some q → IsRecord old.section (names items) (entries ++ e ∷ []) (decided_tx d) q
+    new-at : (k : ℕ) (d : Decision) (q : Record) → slice_get ds k ≡ Some d → slice_get new.records k ≡ Some q → IsRecord (names items) (entries ++ e ∷ []) (decided_tx d) q
     new-at k d q at_k at_q =
         let there : slice_get (set old.records number v) k ≡ Some q = ap (λ rs. slice_get rs k) (sym records) ∙ at_q in
         elim (cases_eq k number) [
@@ -207,29 +208,37 @@ module _ (ds : List Decision) (items : List Holding) (entries : List Entry) (old
               let of : tx_of e ≡ decided_tx d = sym by.2 ∙ ap decided_tx (same_Some by.0 d (sym by.1 ∙ ap (slice_get ds) (sym same) ∙ at_k)) in
               let is_v : v ≡ q = same_Some v q (sym (set-at old.records number v r at) ∙ ap (slice_get (set old.records number v)) (sym same) ∙ there) in
               let before = t.records k d r at_k (ap (slice_get old.records) same ∙ at) in
-              subst (IsRecord old.section (names items) (entries ++ e ∷ []) (decided_tx d)) is_v (record-entered old.section (names items) entries (decided_tx d) r v e place ends apart of on ending before to)
+              subst (IsRecord (names items) (entries ++ e ∷ []) (decided_tx d)) is_v (record-entered (names items) entries (decided_tx d) r v e place ends apart of on ending before to)
           | inr other ↦
               let before = t.records k d q at_k (sym (set-other old.records number k v other) ∙ there) in
-              record-left old.section (names items) entries (decided_tx d) q e (λ of. other (one-number ds k number (decided_tx d) once (d, at_k, refl) (by.0, by.1, by.2 ∙ of))) before
+              record-left (names items) entries (decided_tx d) q e (λ of. other (one-number ds k number (decided_tx d) once (d, at_k, refl) (by.0, by.1, by.2 ∙ of))) before
         ]
 
-    new-stamps : All (λ q. q.section ≤ old.section) new.records
-    new-stamps = subst (All (λ q. q.section ≤ old.section)) (sym records) (All-from_at (λ q. q.section ≤ old.section) (set old.records number v) (λ k q there. elim (cases_eq k number) [
-      | inl same ↦
-          let is_v : v ≡ q = same_Some v q (sym (set-at old.records number v r at) ∙ ap (slice_get (set old.records number v)) (sym same) ∙ there) in
-          let stamp = to.stamp in let eq = ap (λ (z : Record). z.section) is_v in omega (arith, stamp, eq)
-      | inr other ↦ All_at (λ q. q.section ≤ old.section) old.records k q t.stamps (sym (set-other old.records number k v other) ∙ there)
-    ]))
+    -- who has an end there has an entry there
+    came : r.ended ≡ true → r.touched ≡ true
+    came ended =
+        let is = t.records number by.0 r by.1 at in
+        let d = is.ended.0 ended in
+        is.touched.1 (d.0, d.1, d.2, tt)
 
-    new-live : (was is : Bool) (live most : ℕ) → was ≡ is_live_in old.section r → is ≡ is_live_in old.section v → most ≡ length new.records
-        → (was ≡ is → live ≡ old.live) → (was ≡ false → is ≡ true → old.live < most → live ≡ old.live + 1) → (was ≡ true → is ≡ false → live ≡ old.live - 1) → live ≡ live_among old.section new.records
-    new-live was is live most was_is is_is many same more less =
-        let step : live_among old.section (set old.records number v) + one_if was ≡ old.live + one_if is =
-        ap (λ b. live_among old.section (set old.records number v) + one_if b) was_is ∙ live-set old.section old.records number r v at ∙ ap (λ n. n + one_if (is_live_in old.section v)) (sym t.live) ∙ ap (λ b. old.live + one_if b) (sym is_is) in
-        let long = many ∙ ap length records ∙ length-set old.records number v in
+    new-live : (comes leaves : Bool) (live : ℕ) → comes ≡ not r.touched → leaves ≡ (ends && not r.ended) → length new.records < 2 ^ 64
+        → (old.live + one_if comes < 2 ^ 64 → one_if leaves ≤ old.live + one_if comes → live + one_if leaves ≡ old.live + one_if comes) → live ≡ live_among new.records
+    new-live comes leaves live comes_is leaves_is few counts =
+        let is_live_v : is_live v ≡ not v.ended = ap (λ b. b && not v.ended) to.touched in
+        let one : one_if (is_live v) + one_if leaves ≡ one_if (is_live r) + one_if comes =
+        ap (λ b. one_if b + one_if leaves) is_live_v ∙ ap (λ b. one_if (not v.ended) + one_if b) leaves_is ∙ turned r.touched r.ended ends v.ended came to.end ∙ ap (λ b. one_if (is_live r) + one_if b) (sym comes_is) in
+        let step = live-set old.records number r v at in
+        let long = ap length records ∙ length-set old.records number v in
         let told = t.live in
-        let room : was ≡ false → old.live < most = λ idle. let fewer = live-fewer old.section old.records number r at (sym was_is ∙ idle) in omega (arith, fewer, long, told) in
-        live-counted old.live most live (live_among old.section (set old.records number v)) was is step room same more less ∙ ap (live_among old.section) (sym records)
+        let room : old.live + one_if comes < 2 ^ 64 = elim (cases_Bool comes) [
+          | inl come ↦
+              let fewer = live-fewer old.records number r at (not-come r.touched r.ended (sym comes_is ∙ come)) in
+              let eq = ap one_if come in omega (arith, fewer, long, told, few, eq)
+          | inr stay ↦ let all = live-few old.records in let eq = ap one_if stay in omega (arith, all, long, told, few, eq)
+        ] in
+        let next = counts room (omega (arith, one, step, told)) in
+        let same : live ≡ live_among (set old.records number v) = omega (arith, one, step, told, next) in
+        same ∙ ap live_among (sym records)
 
     listed-more : (f : Entry) → Contains (entries ++ e ∷ []) f → ForSome (item_of f) (Contains (names items))
     listed-more f here =
@@ -242,15 +251,14 @@ module _ (ds : List Decision) (items : List Holding) (entries : List Entry) (old
         placed None none x is = absurd (none-some x (sym none ∙ is))
         placed (Some i) is_at x is = subst (Contains (names items)) (same_Some is_at.0 x (sym is_at.2 ∙ is)) (Contains-from_at (names items) i is_at.0 is_at.1)
 
-    pub tracks-next : new.section ≡ old.section → new.count ≡ old.count + 1 → AreCells ds items (entries ++ e ∷ []) new.cells.items → IsGreatest (EndsBy ds) (entries ++ e ∷ []) new.last_end
-        → (was is : Bool) (most : ℕ) → was ≡ is_live_in old.section r → is ≡ is_live_in old.section v → most ≡ length new.records
-        → (was ≡ is → new.live ≡ old.live) → (was ≡ false → is ≡ true → old.live < most → new.live ≡ old.live + 1) → (was ≡ true → is ≡ false → new.live ≡ old.live - 1) → TracksOpen ds items (entries ++ e ∷ []) new
-    tracks-next section count cells order was is most was_is is_is many same more less = record {
+    pub tracks-next : new.count ≡ old.count + 1 → AreCells ds items (entries ++ e ∷ []) new.cells.items → IsGreatest (EndsBy ds) (entries ++ e ∷ []) new.last_end
+        → (comes leaves : Bool) → comes ≡ not r.touched → leaves ≡ (ends && not r.ended) → length new.records < 2 ^ 64
+        → (old.live + one_if comes < 2 ^ 64 → one_if leaves ≤ old.live + one_if comes → new.live + one_if leaves ≡ old.live + one_if comes) → TracksOpen ds items (entries ++ e ∷ []) new
+    tracks-next count cells order comes leaves comes_is leaves_is few counts = record {
       cells = cells;
       many = ap length records ∙ length-set old.records number v ∙ t.many;
-      records = λ k d q at_k at_q. subst (λ n. IsRecord n (names items) (entries ++ e ∷ []) (decided_tx d) q) (sym section) (new-at k d q at_k at_q);
-      stamps = subst (λ n. All (λ q. q.section ≤ n) new.records) (sym section) new-stamps;
-      live = new-live was is new.live most was_is is_is many same more less ∙ ap (λ n. live_among n new.records) (sym section);
+      records = new-at;
+      live = new-live comes leaves new.live comes_is leaves_is few counts;
       count = count ∙ ap (λ n. n + 1) t.count ∙ sym (length_push entries e);
       order = order;
       decided = decided-more;
@@ -259,31 +267,24 @@ module _ (ds : List Decision) (items : List Holding) (entries : List Entry) (old
 
 -- ---- a section begins
 
-pub begun : (ds : List Decision) (section : ℕ) (old new : SiteState) → IsReadyFor ds section old → new.section ≡ section → length new.records ≡ length old.records → All (λ r. r.section < section) new.records → new.cells.items ≡ [] → new.count ≡ 0 → new.live ≡ 0 → new.last_end ≡ None → TracksOpen ds [] [] new
-begun ds section old new ready same long fresh cells count live order = record {
+pub begun : (ds : List Decision) (section : ℕ) (old new : SiteState) → IsReadyFor ds section old → length new.records ≡ length old.records → All (λ r. r ≡ no_record) new.records → new.cells.items ≡ [] → new.count ≡ 0 → new.live ≡ 0 → new.last_end ≡ None → TracksOpen ds [] [] new
+begun ds section old new ready long fresh cells count live order = record {
   cells = record {
     names = ap (map (λ (c : Cell). c.name)) cells;
     each = subst (All (IsCell ds [] [])) (sym cells) (λ k d lt. absurd (omega (arith, lt)));
   };
   many = long ∙ ready.many;
-  records = λ k d r at_k at_r. record-none new.section [] (decided_tx d) r (earlier k r at_r);
-  stamps = All-from_at (λ r. r.section ≤ new.section) new.records (λ k r at. let lt = before k r at in omega (arith, lt, same));
+  records = λ k d r at_k at_r. subst (IsRecord [] [] (decided_tx d)) (sym (none k r at_r)) (record-none [] (decided_tx d));
   count = count;
-  live = live ∙ sym (none-live new.section new.records (λ k r at. ap (λ b. b && not r.ended) (ne_eqb r.section new.section (earlier k r at))));
+  live = live ∙ sym (none-live new.records (λ k r at. ap is_live (none k r at)));
   order = subst (IsGreatest (EndsBy ds) []) (sym order) (λ f r here has. absurd (omega (arith, here.1)));
   decided = λ f here. absurd (omega (arith, here.1));
   listed = λ f here. absurd (omega (arith, here.1));
 }
   where
-    before : (k : ℕ) (r : Record) → slice_get new.records k ≡ Some r → r.section < section
-    before k r at = All_at (λ r. r.section < section) new.records k r fresh at
-
-    earlier : (k : ℕ) (r : Record) → slice_get new.records k ≡ Some r → r.section ≡ new.section → ⊥
-    earlier k r at eq = let lt = before k r at in absurd (omega (arith, lt, eq, same))
+    none : (k : ℕ) (r : Record) → slice_get new.records k ≡ Some r → r ≡ no_record
+    none k r at = All_at (λ r. r ≡ no_record) new.records k r fresh at
 
 -- a section ends
 pub ready-next : (ds : List Decision) (items : List Holding) (entries : List Entry) (s : SiteState) → TracksOpen ds items entries s → IsReadyFor ds (s.section + 1) s
-ready-next ds items entries s t = record {
-  many = t.many;
-  stamps = All-from_at (λ r. r.section < s.section + 1) s.records (λ k r at. let le = All_at (λ r. r.section ≤ s.section) s.records k r t.stamps at in omega (arith, le));
-}
+ready-next ds items entries s t = record { many = t.many; before = omega arith }

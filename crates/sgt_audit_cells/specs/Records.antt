@@ -1,5 +1,5 @@
 -- What a transaction did at the site whose section is open.
-use Rattle.std.specs.Prelude.{◌≡◌, ◌↔◌, ◌==◌, ◌&&◌, ℕ, ◌+◌, Bool, not, IsTrue, List, [], ◌∷◌, Contains, Some, slice_get, if◌then◌else◌}
+use Rattle.std.specs.Prelude.{◌≡◌, ◌↔◌, ◌&&◌, ℕ, ◌+◌, Bool, false, not, IsTrue, List, [], ◌∷◌, Contains, Some, slice_get, if◌then◌else◌}
 use Rattle.sgt_names.specs.Name.{Name}
 use Rattle.sgt_names.specs.Entry.{tx_of, item_of, IsEnd}
 use Rattle.sgt_names.specs.declared.entry.Entry.{Entry}
@@ -8,11 +8,15 @@ use Rattle.sgt_audit_cells.specs.declared.act.Act.{Act}
 use Rattle.sgt_audit_cells.specs.declared.act.Deed.{Deed}
 use Rattle.sgt_audit_cells.specs.declared.act.Deed.TheVariants as deed
 
--- what a transaction did in the section in which it came last, by its number; and whether it ended there
+-- what a transaction did in the open section: whether it has an entry there, whether it ended there, and its operations
 pub record Record : Type 0 where
-  pub section : ℕ
+  pub touched : Bool
   pub ended : Bool
   pub acts : List Act
+
+-- of one without an entry there
+abbrev pub no_record : Record
+no_record = record { touched = false; ended = false; acts = [] }
 
 -- the transaction has an entry that does it
 abbrev pub Did : List Entry → ℕ → (Entry → Type 0) → Type 0
@@ -43,24 +47,17 @@ pub record IsAct (ns : List Name) (entries : List Entry) (tx : ℕ) (a : Act) : 
 abbrev pub AreActs : List Name → List Entry → ℕ → List Act → Type 0
 AreActs ns entries tx acts = (a : Act) → Contains acts a ↔ IsAct ns entries tx a
 
--- what a record says of a section: nothing, if it was last touched in another
-abbrev pub acts_in : ℕ → Record → List Act
-acts_in section r = if r.section == section then r.acts else []
-
-abbrev pub has_ended_in : ℕ → Record → Bool
-has_ended_in section r = (r.section == section) && r.ended
-
 -- the record of a transaction that has an entry in the section, and no end
-abbrev pub is_live_in : ℕ → Record → Bool
-is_live_in section r = (r.section == section) && not r.ended
+abbrev pub is_live : Record → Bool
+is_live r = r.touched && not r.ended
 
 -- the record is the transaction's
-pub record IsRecord (section : ℕ) (ns : List Name) (entries : List Entry) (tx : ℕ) (r : Record) : Type 0 where
-  pub touched : (r.section ≡ section) ↔ HasEntry entries tx
-  pub ended : IsTrue (has_ended_in section r) ↔ Did entries tx IsEnd
-  pub acts : AreActs ns entries tx (acts_in section r)
+pub record IsRecord (ns : List Name) (entries : List Entry) (tx : ℕ) (r : Record) : Type 0 where
+  pub touched : IsTrue r.touched ↔ HasEntry entries tx
+  pub ended : IsTrue r.ended ↔ Did entries tx IsEnd
+  pub acts : AreActs ns entries tx r.acts
 
 -- how many of the records are live
-abbrev pub live_among : ℕ → List Record → ℕ
-live_among section [] = 0
-live_among section (r ∷ rs) = (if is_live_in section r then 1 else 0) + live_among section rs
+abbrev pub live_among : List Record → ℕ
+live_among [] = 0
+live_among (r ∷ rs) = (if is_live r then 1 else 0) + live_among rs

@@ -1,5 +1,5 @@
 -- What is kept of the site whose section is open, in place of its entries.
-use Rattle.std.specs.Prelude.{◌≡◌, ℕ, ◌<◌, ◌≤◌, List, length, All, Contains, Option, Some, None, slice_get}
+use Rattle.std.specs.Prelude.{◌≡◌, ℕ, ◌<◌, List, length, Contains, Option, Some, None, slice_get}
 use Rattle.std.specs.Option.{ForSome}
 use Rattle.sgt_names.specs.Name.{Name}
 use Rattle.sgt_names.specs.Entry.{item_of, IsEnd}
@@ -32,10 +32,9 @@ pub record TracksOpen (ds : List Decision) (items : List Holding) (entries : Lis
   pub cells : AreCells ds items entries s.cells.items
   pub many : length s.records ≡ length ds
   pub records : (k : ℕ) (d : Decision) (r : Record) → slice_get ds k ≡ Some d → slice_get s.records k ≡ Some r
-      → IsRecord s.section (names items) entries (decided_tx d) r
-  pub stamps : All (λ r. r.section ≤ s.section) s.records
+      → IsRecord (names items) entries (decided_tx d) r
   pub count : s.count ≡ length entries
-  pub live : s.live ≡ live_among s.section s.records
+  pub live : s.live ≡ live_among s.records
   pub order : IsGreatest (EndsBy ds) entries s.last_end
   pub decided : (f : Entry) → Contains entries f → (number : ℕ) × IsDecided ds f number
   pub listed : (f : Entry) → Contains entries f → ForSome (item_of f) (Contains (names items))
@@ -43,4 +42,4 @@ pub record TracksOpen (ds : List Decision) (items : List Holding) (entries : Lis
 -- no section of this number or a later one was met
 pub record IsReadyFor (ds : List Decision) (section : ℕ) (s : SiteState) : Type 0 where
   pub many : length s.records ≡ length ds
-  pub stamps : All (λ r. r.section < section) s.records
+  pub before : s.section < section

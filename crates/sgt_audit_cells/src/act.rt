@@ -17,12 +17,12 @@ pub enum Deed {
     Add,
 }
 
-/// An operation: the place of its item among the items, what it does to it, and its own place among the entries.
+/// An operation: its own place among the entries, the place of its item among the items, and what it does to it.
 #[derive(Clone, Copy, Debug, Default, PartialEq, Eq)]
 pub struct Act {
-    pub place: u32,
+    pub at: u32,
+    pub place: u16,
     pub deed: Deed,
-    pub at: usize,
 }
 
 /// The item of an operation. An end has none. It is compiled where it is used, so that no copy of the item is made there.
@@ -53,13 +53,13 @@ pub(crate) fn deed_of(entry: &Entry) -> Deed
 
 /// The entry at this place, on the item at that place.
 #[inline(always)]
-pub(crate) fn act_of(at: usize, place: u32, entry: &Entry) -> Act
+pub(crate) fn act_of(at: u32, place: u16, entry: &Entry) -> Act
     ensures { result ≡ act at place entry.now }
 {
     Act {
+        at,
         place,
         deed: deed_of(entry),
-        at,
     }
 }
 

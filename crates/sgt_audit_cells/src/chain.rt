@@ -1,6 +1,6 @@
 //! What a transaction did, each linked to the one before it.
 
-ghost use Rattle.std.specs.Prelude.{◌≡◌, ◌<◌, ◌≤◌, ◌-◌, ◌+◌, ◌^◌, ◌∷◌, ◌++◌, ◌↔◌, [], ℕ, length, IsTrue, IfOk, OnOk, OnErr, Any, Some};
+ghost use Rattle.std.specs.Prelude.{◌≡◌, ◌<◌, ◌≤◌, ◌-◌, ◌+◌, ◌∷◌, ◌++◌, ◌↔◌, [], ℕ, Some, length, slice_get, IsTrue, IfOk, OnOk, OnErr, Any};
 ghost use Rattle.std.specs.Option.{option_to_list};
 ghost use Rattle.sgt_audit_cells.specs.private.Deeds.{IsOf, ClashesWith, changes};
 ghost use Rattle.sgt_audit_cells.specs.private.Linked.{AreLinked, chain};
@@ -9,6 +9,16 @@ use crate::act::{Act, Deed};
 use crate::record::Node;
 use sgt_names::Kind;
 use std::alloc::AllocError;
+
+/// The node at this place, counted from 1.
+#[inline(always)]
+fn node_at(nodes: &[Node], at: usize) -> Node
+    requires some { 0 < at }
+    requires within { at ≤ length nodes.now }
+    ensures { slice_get nodes.now (at - 1) ≡ Some result }
+{
+    nodes[at - 1]
+}
 
 /// Whether such a thing was done to the item at this place, at the node counted so or at one that is linked in front of it.
 #[inline(always)]
@@ -19,15 +29,11 @@ pub(crate) fn has_done(nodes: &[Node], last: usize, place: usize, deed: Deed) ->
 {
     let mut at = last;
     'nodes: while at > 0 {
-        match nodes.get(at - 1) {
-            Some(node) => {
-                if node.act.is_of(place, deed) {
-                    return true;
-                }
-                at = node.before;
-            }
-            None => return false,
+        let node = node_at(nodes, at);
+        if node.act.is_of(place, deed) {
+            return true;
         }
+        at = node.before as usize;
     }
     false
 }
@@ -40,15 +46,11 @@ fn clashes(nodes: &[Node], last: usize, kind: Kind, act: &Act) -> bool
 {
     let mut at = last;
     'nodes: while at > 0 {
-        match nodes.get(at - 1) {
-            Some(node) => {
-                if act.clashes_with(kind, &node.act) {
-                    return true;
-                }
-                at = node.before;
-            }
-            None => return false,
+        let node = node_at(nodes, at);
+        if act.clashes_with(kind, &node.act) {
+            return true;
         }
+        at = node.before as usize;
     }
     false
 }
@@ -77,20 +79,16 @@ pub(crate) fn have_clash(
 {
     let mut at = first;
     'nodes: while at > 0 {
-        match nodes.get(at - 1) {
-            Some(node) => {
-                if clashes_at(nodes, second, kind, place, &node.act) {
-                    return true;
-                }
-                at = node.before;
-            }
-            None => return false,
+        let node = node_at(nodes, at);
+        if clashes_at(nodes, second, kind, place, &node.act) {
+            return true;
         }
+        at = node.before as usize;
     }
     false
 }
 
-/// Adds the node at the end. It is compiled where it is used, but for the growth.
+/// Adds the node at the end. Err: there is no room reserved for it.
 #[inline(always)]
 fn add(nodes: &mut Vec<Node>, node: Node) -> Result<(), AllocError>
     ensures ok { OnOk result (nodes.new.items ≡ nodes.old.items ++ node ∷ []) }
@@ -100,59 +98,36 @@ fn add(nodes: &mut Vec<Node>, node: Node) -> Result<(), AllocError>
         nodes.push_reserved(node);
         return Ok(());
     }
-    grow(nodes, node)
+    Err(AllocError)
 }
 
-#[inline(never)]
-fn grow(nodes: &mut Vec<Node>, node: Node) -> Result<(), AllocError>
-    ensures ok { OnOk result (nodes.new.items ≡ nodes.old.items ++ node ∷ []) }
-    ensures err { OnErr result (nodes.new.items ≡ nodes.old.items) }
-{
-    nodes.push(node)?;
-    Ok(())
-}
-
-/// Where a node behind so many in the section stands, counted from 1 over all sections, of which those before have so many.
+/// Where a node behind so many stands, counted from 1.
 #[inline(always)]
-fn next_place(base: usize, len: usize) -> Result<usize, AllocError>
-    ensures { IfOk result (λ place. (place ≡ base + len + 1) × (place < 2 ^ 64)) }
+fn next_place(len: usize) -> Result<u32, AllocError>
+    ensures { IfOk result (λ place. place ≡ len + 1) }
 {
-    match base.checked_add(len) {
-        Some(behind) => match behind.checked_add(1) {
-            Some(place) => Ok(place),
-            None => Err(AllocError),
-        },
-        None => Err(AllocError),
+    if len < u32::MAX as usize {
+        Ok(len as u32 + 1)
+    } else {
+        Err(AllocError)
     }
 }
 
-/// Links one more act, if there is one, behind what stands at this place, counted over all sections; and where it stands then.
+/// Links one more act, if there is one, behind what stands at this place; and where it stands then. Room has to be reserved.
 #[inline(always)]
-pub(crate) fn link(
-    nodes: &mut Vec<Node>,
-    base: usize,
-    last: usize,
-    act: Option<Act>,
-) -> Result<usize, AllocError>
+pub(crate) fn link(nodes: &mut Vec<Node>, last: u32, act: Option<Act>) -> Result<u32, AllocError>
     requires linked { AreLinked nodes.old.items }
-    requires within { last - base ≤ length nodes.old.items }
+    requires within { last ≤ length nodes.old.items }
     ensures linked { AreLinked nodes.new.items }
     ensures long { length nodes.old.items ≤ length nodes.new.items }
-    ensures fits { base + length nodes.old.items < 2 ^ 64 → base + length nodes.new.items < 2 ^ 64 }
     ensures others { (k : ℕ) → k ≤ length nodes.old.items → chain nodes.new.items k ≡ chain nodes.old.items k }
-    ensures place { IfOk result (λ next. (next - base ≤ length nodes.new.items)
-        × (chain nodes.new.items (next - base) ≡ chain nodes.old.items (last - base) ++ option_to_list act)) }
+    ensures place { IfOk result (λ next. (next ≤ length nodes.new.items)
+        × (chain nodes.new.items next ≡ chain nodes.old.items last ++ option_to_list act)) }
 {
     let Some(act) = act else {
         return Ok(last);
     };
-    let place = next_place(base, nodes.len())?;
-    add(
-        nodes,
-        Node {
-            act,
-            before: last.saturating_sub(base),
-        },
-    )?;
+    let place = next_place(nodes.len())?;
+    add(nodes, Node { act, before: last })?;
     Ok(place)
 }

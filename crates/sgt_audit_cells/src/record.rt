@@ -1,18 +1,19 @@
 //! What a transaction did at the site whose section is open.
 
-ghost use Rattle.std.specs.Prelude.{◌≡◌, ◌==◌, ◌&&◌, ◌||◌, ◌-◌, ◌<◌, ◌+◌, true, false, not, if◌then◌else◌};
+ghost use Rattle.std.specs.Prelude.{◌≡◌, ◌==◌, ◌&&◌, ◌||◌, ◌+◌, ◌<◌, ◌≤◌, ◌^◌, false, not, if◌then◌else◌};
+ghost use Rattle.sgt_audit_cells.specs.private.Linked.{last_here};
 
 use crate::act::Act;
 
-/// What is kept of a transaction: the section in which it came last, by its number; where the last that it did there stands, counted
-/// from 1 over all sections, if it did anything; and whether it ended there.
+/// What is kept of a transaction: the stamp of the section in which it came last; whether it ended there; and where the last that it
+/// did there stands among the nodes, counted from 1, if it did anything.
 #[derive(Clone, Copy)]
 pub struct Slot {
-    pub section: usize,
-    pub last: usize,
+    pub stamp: u16,
     pub ended: bool,
-    /// How many entries of it were counted, up to `MANY`.
+    /// How many entries of it were counted, as far as they are.
     pub count: u8,
+    pub last: u32,
     /// The number of its row, if it has one. Nothing need be known of it.
     pub row: u32,
 }
@@ -24,99 +25,91 @@ const MANY: u8 = 32;
 #[derive(Clone, Copy)]
 pub struct Node {
     pub act: Act,
-    pub before: usize,
+    pub before: u32,
 }
 
-/// Whether a transaction came in a section and did not end there, before an entry of it and with the entry.
+/// What an entry of a transaction changes at the open section: whether it is its first there, and whether it is its first end.
 #[derive(Clone, Copy)]
 pub(crate) struct Turn {
-    pub was_live: bool,
-    pub is_live: bool,
+    pub comes: bool,
+    pub leaves: bool,
 }
 
 impl Slot {
     /// Of a transaction that no section has met.
     pub(crate) fn fresh() -> Slot
-        ensures { result ≡ record { section = 0; last = 0; ended = false; count = 0; row = 0 } }
+        ensures { result ≡ record { stamp = 0; ended = false; count = 0; last = 0; row = 0 } }
     {
         Slot {
-            section: 0,
-            last: 0,
+            stamp: 0,
             ended: false,
             count: 0,
+            last: 0,
             row: 0,
         }
     }
 
-    /// Whether it has many entries in the section.
+    /// What it is in the section of this stamp: as it stands, or without an entry there.
     #[inline(always)]
-    pub(crate) fn is_long(&self, section: usize) -> bool {
-        self.count >= MANY && self.section == section
-    }
-
-    /// How many of its entries are counted with one more in the section.
-    #[inline(always)]
-    pub(crate) fn count_after(&self, section: usize) -> u8 {
-        if self.count < MANY {
-            self.count + 1
-        } else if self.section == section {
-            self.count
-        } else {
-            1
+    pub(crate) fn here(&self, stamp: u16) -> Slot
+        ensures stamp { result.stamp ≡ stamp }
+        ensures ended { result.ended ≡ ((self.now.stamp == stamp) && self.now.ended) }
+        ensures last { result.last ≡ last_here stamp self.now }
+    {
+        if self.stamp == stamp {
+            return *self;
+        }
+        Slot {
+            stamp,
+            ended: false,
+            count: 0,
+            last: 0,
+            row: 0,
         }
     }
 
-    /// Whether it ended in the section.
+    /// Whether many entries of it were counted.
     #[inline(always)]
-    pub(crate) fn has_ended(&self, section: usize) -> bool
-        ensures { result ≡ ((self.now.section == section) && self.now.ended) }
-    {
-        self.section == section && self.ended
+    pub(crate) fn is_long(&self) -> bool {
+        self.count >= MANY
     }
 
-    /// Whether it ended in the section, after one more entry of it that ends it or not.
+    /// What one more entry of it changes at the section of this stamp, where it ends it or not.
     #[inline(always)]
-    pub(crate) fn has_ended_after(&self, section: usize, ends: bool) -> bool
-        ensures { result ≡ (((self.now.section == section) && self.now.ended) || ends) }
+    pub(crate) fn turn(&self, stamp: u16, ends: bool) -> Turn
+        ensures comes { result.comes ≡ not (self.now.stamp == stamp) }
+        ensures leaves { result.leaves ≡ (ends && not ((self.now.stamp == stamp) && self.now.ended)) }
     {
-        self.has_ended(section) || ends
-    }
-
-    /// Whether it came in the section and did not end.
-    #[inline(always)]
-    pub(crate) fn is_live(&self, section: usize) -> bool
-        ensures { result ≡ ((self.now.section == section) && not self.now.ended) }
-    {
-        self.section == section && !self.ended
-    }
-
-    /// Where the last that it did in the section stands, counted from 1 over all sections. 0 is none.
-    #[inline(always)]
-    pub(crate) fn last_in(&self, section: usize) -> usize
-        ensures { result ≡ (if self.now.section == section then self.now.last else 0) }
-    {
-        if self.section == section {
-            self.last
-        } else {
-            0
+        Turn {
+            comes: self.stamp != stamp,
+            leaves: ends && !(self.stamp == stamp && self.ended),
         }
+    }
+
+    /// Whether it ended in the section of this stamp.
+    #[inline(always)]
+    pub(crate) fn has_ended(&self, stamp: u16) -> bool
+        ensures { result ≡ ((self.now.stamp == stamp) && self.now.ended) }
+    {
+        self.stamp == stamp && self.ended
+    }
+
+    /// Where the last that it did in the section of this stamp stands, counted from 1. 0 is none.
+    #[inline(always)]
+    pub(crate) fn last_in(&self, stamp: u16) -> u32
+        ensures { result ≡ last_here stamp self.now }
+    {
+        if self.stamp == stamp { self.last } else { 0 }
     }
 }
 
-/// How many are live, where so many of at most so many were, and one of them was live or not and is live or not.
+/// How many are live, where so many were, and with an entry one comes or not, and one leaves or not.
 #[inline(always)]
-pub(crate) fn live_after(live: usize, most: usize, was: bool, is: bool) -> usize
-    ensures same { was ≡ is → result ≡ live }
-    ensures more { was ≡ false → is ≡ true → live < most → result ≡ live + 1 }
-    ensures less { was ≡ true → is ≡ false → result ≡ live - 1 }
+pub(crate) fn live_after(live: usize, comes: bool, leaves: bool) -> usize
+    ensures { let more = live + (if comes then 1 else 0) in
+        let less = if leaves then 1 else 0 in
+        more < 2 ^ 64 → less ≤ more → result + less ≡ more }
 {
-    if was == is {
-        live
-    } else if was {
-        live.saturating_sub(1)
-    } else if live < most {
-        live + 1
-    } else {
-        live
-    }
+    let more = if comes { live.wrapping_add(1) } else { live };
+    if leaves { more.wrapping_sub(1) } else { more }
 }

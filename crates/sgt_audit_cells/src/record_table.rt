@@ -1,17 +1,18 @@
 //! The records of the transactions of decisions: what each did in the open section.
 
-ghost use Rattle.std.specs.Prelude.{false, ◌≡◌, ◌<◌, ◌↔◌, ℕ, length, IsTrue, IfOk, Some, All, Any, List, slice_get, slice_set};
+ghost use Rattle.std.specs.Prelude.{◌≡◌, ◌+◌, ◌<◌, ◌^◌, ◌↔◌, ◌&&◌, ◌||◌, false, not, length, IsTrue, IfOk, Some, All, Any, List, slice_get, slice_set};
 ghost use Rattle.std.specs.Option.{option_to_list};
 ghost use Rattle.sgt_names.specs.Name.{Name};
 ghost use Rattle.sgt_names.specs.Entry.{tx_of, item_of, Repeats};
 ghost use Rattle.sgt_names.specs.declared.entry.Entry.{Entry};
-ghost use Rattle.sgt_audit_cells.specs.Records.{Record, AreActs, acts_in, has_ended_in, is_live_in};
+ghost use Rattle.sgt_audit_cells.specs.Records.{Record, no_record, AreActs};
 ghost use Rattle.sgt_audit_cells.specs.private.Deeds.{IsTouched, ClashesWith};
+ghost use Rattle.sgt_audit_cells.specs.private.Linked.{AreEarlier};
 
 use crate::act::{Act, deed_of};
 use crate::chain::{has_done, have_clash, link};
 use crate::record::{Node, Slot, Turn};
-use crate::row::{Row, keep, shown};
+use crate::row::{Row, extend, shown};
 use sgt_names::{Entry, Kind};
 use std::alloc::{AllocError, Global};
 use std::marker::Model;
@@ -24,22 +25,22 @@ pub struct RecordTable {
     nodes: Vec<Node>,
     /// What transactions with many operations did there, by bits.
     rows: Vec<Row>,
-    /// How many nodes the sections before had.
-    base: usize,
+    /// What the slots of transactions that came in the open section are stamped with.
+    stamp: u16,
 }
 
 impl Model for RecordTable {
-    ghost use Rattle.std.specs.Prelude.{List, length, ◌+◌, ◌<◌, ◌^◌};
+    ghost use Rattle.std.specs.Prelude.{List, length, ◌+◌};
     ghost use Rattle.sgt_audit_cells.specs.Records.{Record};
-    ghost use Rattle.sgt_audit_cells.specs.private.Linked.{AreLinked, AreWithin, records_of};
+    ghost use Rattle.sgt_audit_cells.specs.private.Linked.{AreLinked, AreWithin, AreEarlier, records_of};
     ghost use Rattle.sgt_audit_cells.specs.private.Rows.{AreRows};
 
     ghost Value = { List Record };
 
-    ghost view = { λ t. records_of t.base t.nodes.items t.slots.items };
+    ghost view = { λ t. records_of t.stamp t.nodes.items t.slots.items };
 
-    ghost invariant = { λ t. AreLinked t.nodes.items × AreWithin t.base (length t.nodes.items) t.slots.items
-        × (t.base + length t.nodes.items < 2 ^ 64) × AreRows t.nodes.items t.rows.items };
+    ghost invariant = { λ t. AreLinked t.nodes.items × AreWithin t.stamp (length t.nodes.items) t.slots.items
+        × AreEarlier (t.stamp + 1) t.slots.items × AreRows t.nodes.items t.rows.items };
 }
 
 /// Of so many transactions, that no section has met.
@@ -48,71 +49,76 @@ fn fresh_slots(alloc: Global, count: usize) -> Result<Vec<Slot>, AllocError>
     ensures fresh { IfOk result
         (λ slots. All
         (λ s. s ≡ record {
-          section = 0;
-          last = 0;
+          stamp = 0;
           ended = false;
           count = 0;
+          last = 0;
           row = 0;
         }) slots.items) }
 {
     vec![in alloc; Slot::fresh(); count]
 }
 
+#[inline(always)]
+fn either(first: bool, second: bool) -> bool
+    ensures { result ≡ (first || second) }
+{
+    first || second
+}
+
+/// A stamp that no slot has, next to one that is no smaller than theirs. Where there is none, the slots are made fresh.
+fn next_stamp(slots: &mut [Slot], stamp: u16) -> u16
+    requires { AreEarlier (stamp + 1) slots.old }
+    ensures len { length slots.new ≡ length slots.old }
+    ensures later { AreEarlier result slots.new }
+{
+    if stamp < u16::MAX {
+        return stamp + 1;
+    }
+    slots.fill(Slot::fresh());
+    1
+}
+
 impl RecordTable {
     /// Of so many transactions, that no section has met.
     pub(crate) fn new(alloc: Global, count: usize) -> Result<RecordTable, AllocError>
-        ensures { IfOk result (λ t. (length t ≡ count) × All (λ r. r.section < 1) t) }
+        ensures { IfOk result (λ t. length t ≡ count) }
     {
         let slots = fresh_slots(alloc, count)?;
         Ok(RecordTable {
             slots,
             nodes: Vec::new(alloc),
             rows: Vec::new(alloc),
-            base: 0,
+            stamp: 0,
         })
     }
 
     /// What was done is forgotten.
     pub(crate) fn clear(&mut self)
         ensures length { length self.new ≡ length self.old }
-        ensures stamps { (bound : ℕ) → All (λ r. r.section < bound) self.old
-            → All (λ r. r.section < bound) self.new }
+        ensures fresh { All (λ r. r ≡ no_record) self.new }
     {
-        self.base = self.base.saturating_add(self.nodes.len());
+        self.stamp = next_stamp(self.slots.as_mut_slice(), self.stamp);
         self.nodes.clear();
         self.rows.clear();
-    }
-
-    /// How many there are.
-    #[inline(always)]
-    pub(crate) fn len(&self) -> usize
-        ensures { result ≡ length self.now }
-    {
-        self.slots.len()
     }
 
     /// Whether the entry, on the item at this place, is not the second read of the item by the transaction of this number, nor its
     /// second change, made or asked for.
     #[inline(always)]
-    pub(crate) fn is_first(
-        &self,
-        number: usize,
-        section: usize,
-        place: usize,
-        entry: &Entry,
-    ) -> bool
+    pub(crate) fn is_first(&self, number: usize, place: usize, entry: &Entry) -> bool
         ensures { (r : Record) (ns : List Name) (entries : List Entry) (x : Name)
             → slice_get self.now number ≡ Some r
             → slice_get ns place ≡ Some x → item_of entry.now ≡ Some x
-            → AreActs ns entries (tx_of entry.now) (acts_in section r)
+            → AreActs ns entries (tx_of entry.now) r.acts
             → (IsTrue result ↔ All (λ f. (y : Name) → Repeats y f entry.now → ⊥) entries) }
     {
         let Some(slot) = self.slots.get(number) else {
             return false;
         };
-        let last = slot.last_in(section).saturating_sub(self.base);
+        let last = slot.last_in(self.stamp) as usize;
         let deed = deed_of(entry);
-        if slot.is_long(section) {
+        if slot.is_long() {
             if let Some(done) = shown(self.rows.as_slice(), slot.row, last, place, deed) {
                 return !done;
             }
@@ -122,30 +128,22 @@ impl RecordTable {
 
     /// Whether the transaction of this number ended in the section.
     #[inline(always)]
-    pub(crate) fn has_ended(&self, number: usize, section: usize) -> bool
-        ensures { (r : Record) → slice_get self.now number ≡ Some r
-            → result ≡ has_ended_in section r }
+    pub(crate) fn has_ended(&self, number: usize) -> bool
+        ensures { (r : Record) → slice_get self.now number ≡ Some r → result ≡ r.ended }
     {
         match self.slots.get(number) {
-            Some(slot) => slot.has_ended(section),
+            Some(slot) => slot.has_ended(self.stamp),
             None => true,
         }
     }
 
     /// Whether one of what the first of the two did, on the item at this place, precedes one of what the second did and conflicts
     /// with it.
-    pub(crate) fn have_clash(
-        &self,
-        section: usize,
-        numbers: (usize, usize),
-        kind: Kind,
-        place: usize,
-    ) -> bool
+    pub(crate) fn have_clash(&self, numbers: (usize, usize), kind: Kind, place: usize) -> bool
         ensures { (q r : Record) → slice_get self.now numbers.0 ≡ Some q
             → slice_get self.now numbers.1 ≡ Some r
             → (IsTrue result
-            ↔ Any (λ a. (a.place ≡ place) × Any (ClashesWith kind a) (acts_in section r))
-            (acts_in section q)) }
+            ↔ Any (λ a. (a.place ≡ place) × Any (ClashesWith kind a) r.acts) q.acts) }
     {
         let Some(first) = self.slots.get(numbers.0) else {
             return false;
@@ -155,48 +153,79 @@ impl RecordTable {
         };
         have_clash(
             self.nodes.as_slice(),
-            first.last_in(section).saturating_sub(self.base),
-            second.last_in(section).saturating_sub(self.base),
+            first.last_in(self.stamp) as usize,
+            second.last_in(self.stamp) as usize,
             kind,
             place,
         )
     }
 
-    /// One more entry of the transaction of this number, and whether it was live before and is with it.
+    /// Whether one more entry of the transaction of this number needs no memory, and no row of bits.
+    #[inline(always)]
+    pub(crate) fn has_room(&self, number: usize) -> bool {
+        match self.slots.get(number) {
+            Some(slot) => self.nodes.len() < self.nodes.capacity() && !slot.is_long(),
+            None => false,
+        }
+    }
+
+    /// Reserves room for one more entry.
+    pub(crate) fn reserve(&mut self) -> Result<(), AllocError>
+        ensures { self.new ≡ self.old }
+    {
+        self.nodes.reserve(1)
+    }
+
+    /// One more entry of the transaction of this number, and what it changes at the section. Room has to be reserved.
     #[inline(always)]
     pub(crate) fn enter(
         &mut self,
         number: usize,
-        section: usize,
         act: Option<Act>,
         ends: bool,
     ) -> Result<Turn, AllocError>
-        ensures { IfOk result (λ turn. (r : Record) → slice_get self.old number ≡ Some r
+        ensures few { length self.new < 2 ^ 64 }
+        ensures entered { IfOk result (λ turn. (r : Record) → slice_get self.old number ≡ Some r
             → (s : Record) × (self.new ≡ slice_set self.old number s)
-            × IsTouched section (option_to_list act) ends r s
-            × (turn.was_live ≡ is_live_in section r) × (turn.is_live ≡ is_live_in section s)) }
+            × IsTouched (option_to_list act) ends r s
+            × (turn.comes ≡ not r.touched) × (turn.leaves ≡ (ends && not r.ended))) }
     {
         if number >= self.slots.len() {
             return Ok(Turn {
-                was_live: false,
-                is_live: false,
+                comes: false,
+                leaves: false,
             });
         }
+        let stamp = self.stamp;
         let slot = self.slots[number];
-        let last = link(&mut self.nodes, self.base, slot.last_in(section), act)?;
-        let node = last.saturating_sub(self.base);
-        let row = keep(&mut self.rows, self.nodes.as_slice(), &slot, section, node)?;
-        let next = Slot {
-            section,
+        let here = slot.here(stamp);
+        let turn = slot.turn(stamp, ends);
+        let last = link(&mut self.nodes, here.last, act)?;
+        let ended = either(here.ended, ends);
+        self.slots[number] = Slot {
+            stamp,
+            ended,
+            count: here.count.saturating_add(1),
             last,
-            ended: slot.has_ended_after(section, ends),
-            count: slot.count_after(section),
-            row,
+            row: here.row,
         };
-        self.slots[number] = next;
-        Ok(Turn {
-            was_live: slot.is_live(section),
-            is_live: next.is_live(section),
-        })
+        Ok(turn)
+    }
+
+    /// Brings the row of the transaction of this number up to its last entry, where many are counted.
+    pub(crate) fn keep_row(&mut self, number: usize) -> Result<(), AllocError>
+        ensures { self.new ≡ self.old }
+    {
+        if number >= self.slots.len() {
+            return Ok(());
+        }
+        let slot = self.slots[number];
+        if !slot.is_long() {
+            return Ok(());
+        }
+        let last = slot.last_in(self.stamp) as usize;
+        let row = extend(&mut self.rows, self.nodes.as_slice(), slot.row, last)?;
+        self.slots[number] = Slot { row, ..slot };
+        Ok(())
     }
 }

@@ -7,7 +7,7 @@ ghost use Rattle.sgt_audit_cells.specs.private.Rows.{HasBit, HasMark, IsRowOf, A
 ghost use Rattle.sgt_audit_cells.specs.declared.record.Node.{Node as Linked};
 
 use crate::act::{Act, Deed};
-use crate::record::{Node, Slot};
+use crate::record::Node;
 use std::alloc::{AllocError, Global};
 
 /// How many words have a bit for each item of a site.
@@ -97,7 +97,7 @@ impl Row {
         let Some(node) = nodes.get(last - 1) else {
             return false;
         };
-        if self.upto != node.before {
+        if self.upto != node.before as usize {
             return false;
         }
         if self.add(&node.act) {
@@ -126,7 +126,7 @@ fn row_of(alloc: Global, nodes: &[Node], last: usize) -> Result<Option<Row>, All
         match nodes.get(at - 1) {
             Some(node) => {
                 if row.add(&node.act) {
-                    at = node.before;
+                    at = node.before as usize;
                 } else {
                     return Ok(None);
                 }
@@ -200,8 +200,12 @@ fn catch_up(rows: &mut Vec<Row>, number: u32, nodes: &[Node], last: usize) -> bo
 }
 
 /// Brings the row of this number up to this node, or makes one for it; and the number of the row.
-#[inline(never)]
-fn extend(rows: &mut Vec<Row>, nodes: &[Node], number: u32, last: usize) -> Result<u32, AllocError>
+pub(crate) fn extend(
+    rows: &mut Vec<Row>,
+    nodes: &[Node],
+    number: u32,
+    last: usize,
+) -> Result<u32, AllocError>
     requires linked { AreLinked nodes.now }
     requires within { last ≤ length nodes.now }
     requires rows { AreRows nodes.now rows.old.items }
@@ -215,25 +219,4 @@ fn extend(rows: &mut Vec<Row>, nodes: &[Node], number: u32, last: usize) -> Resu
     }
     let found = row_of(*rows.allocator(), nodes, last)?;
     put(rows, found, number)
-}
-
-/// Where the transaction of the slot has many entries in the section, its row is brought up to this node; and the number of its row.
-#[inline(always)]
-pub(crate) fn keep(
-    rows: &mut Vec<Row>,
-    nodes: &[Node],
-    slot: &Slot,
-    section: usize,
-    last: usize,
-) -> Result<u32, AllocError>
-    requires linked { AreLinked nodes.now }
-    requires within { last ≤ length nodes.now }
-    requires rows { AreRows nodes.now rows.old.items }
-    ensures { AreRows nodes.now rows.new.items }
-{
-    if slot.is_long(section) {
-        extend(rows, nodes, slot.row, last)
-    } else {
-        Ok(slot.row)
-    }
 }

@@ -38,26 +38,15 @@ pub struct SiteState {
     pub hints: Vec<u16>,
     pub records: RecordTable,
     /// How many entries there are.
-    pub count: usize,
+    pub count: u32,
     pub live: usize,
     pub last_end: Option<usize>,
-}
-
-/// A number made of the bytes of a name.
-#[inline(always)]
-fn key_of(name: &[u8]) -> u64 {
-    match (name.first_chunk::<4>(), name.last_chunk::<4>()) {
-        (Some(front), Some(back)) => {
-            (u32::from_le_bytes(*front) as u64) << 32 | u32::from_le_bytes(*back) as u64
-        }
-        _ => name.iter().fold(0u64, |key, byte| key << 8 | *byte as u64),
-    }
 }
 
 /// Where the hint for an item is.
 #[inline(always)]
 fn slot_of(item: &Item) -> usize {
-    let spread = key_of(item.as_bytes()).wrapping_mul(0x9e37_79b9_7f4a_7c15);
+    let spread = item.key().wrapping_mul(0x9e37_79b9_7f4a_7c15);
     (spread >> 52) as usize % HINTS
 }
 
@@ -94,11 +83,11 @@ fn fresh_cell(holding: &Holding) -> Cell
 
 /// The entry at this place, on the item at that place, if it has one.
 #[inline(always)]
-fn act_at(at: usize, place: Option<usize>, entry: &Entry) -> Result<Option<Act>, AllocError>
+fn act_at(at: u32, place: Option<usize>, entry: &Entry) -> Result<Option<Act>, AllocError>
     ensures { IfOk result (λ found. found ≡ option_map (λ i. act at i entry.now) place) }
 {
     match place {
-        Some(place) => match u32::try_from(place) {
+        Some(place) => match u16::try_from(place) {
             Ok(short) => Ok(Some(act::act_of(at, short, entry))),
             Err(_) => Err(AllocError),
         },
@@ -108,7 +97,7 @@ fn act_at(at: usize, place: Option<usize>, entry: &Entry) -> Result<Option<Act>,
 
 /// One more, if there is a number for it.
 #[inline(always)]
-fn one_more(count: usize) -> Result<usize, AllocError>
+fn one_more(count: u32) -> Result<u32, AllocError>
     ensures { IfOk result (λ next. next ≡ count + 1) }
 {
     match count.checked_add(1) {
@@ -131,18 +120,25 @@ fn enter_cell(cells: &mut [Cell], place: Option<usize>, entry: &Entry, rank: Opt
     }
 }
 
-/// The greatest number of a decision that ended a transaction, after one more entry, decided by this number.
+/// The greatest number of a decision that ended a transaction, after one more end, decided by this number.
 #[inline(always)]
-fn later_end(last: Option<usize>, entry: &Entry, number: usize) -> Option<usize>
-    ensures end { IsEnd entry.now → result ≡ raised last (Some number) }
-    ensures other { (IsEnd entry.now → ⊥) → result ≡ last }
+fn later_end(last: Option<usize>, number: usize) -> Option<usize>
+    ensures { result ≡ raised last (Some number) }
 {
-    if !entry.is_end() {
-        return last;
-    }
     match last {
         Some(last) => Some(last.max(number)),
         None => Some(number),
+    }
+}
+
+/// Takes in one more entry, decided by this number, if it is an end.
+#[inline(always)]
+fn note_end(last: &mut Option<usize>, entry: &Entry, number: usize)
+    ensures end { IsEnd entry.now → last.new ≡ raised last.old (Some number) }
+    ensures other { (IsEnd entry.now → ⊥) → last.new ≡ last.old }
+{
+    if entry.is_end() {
+        *last = later_end(*last, number);
     }
 }
 
@@ -244,7 +240,7 @@ impl SiteState {
         let Some(number) = number else {
             return true;
         };
-        self.records.is_first(number, self.section, place, entry)
+        self.records.is_first(number, place, entry)
     }
 
     /// Whether the entry, on the item at this place, conflicts with no entry before it of a committed transaction of greater
@@ -255,9 +251,10 @@ impl SiteState {
             → TracksOpen ds items entries self.now → slice_get (names items) place ≡ Some x → item_of entry.now ≡ Some x
             → IsRankOf ds (tx_of entry.now) rank → (IsTrue result ↔ All (λ f. RiseInRank ds f entry.now) entries) }
     {
-        match self.cells.get(place) {
-            Some(cell) => cell::is_in_rank(cell, entry, rank),
-            None => false,
+        if place < self.cells.len() {
+            cell::is_in_rank(&self.cells[place], entry, rank)
+        } else {
+            false
         }
     }
 
@@ -267,7 +264,7 @@ impl SiteState {
         ensures { (ds : List Decision) (items : List Holding) (entries : List Entry) (tx : ℕ) → TracksOpen ds items entries self.now
             → Decides ds number tx → (IsTrue result ↔ All (λ f. IsEnd f → tx_of f ≢ tx) entries) }
     {
-        !self.records.has_ended(number, self.section)
+        !self.records.has_ended(number)
     }
 
     /// Whether no end before the entry, if it is one, was decided later. The entry is decided by this number.
@@ -299,9 +296,7 @@ impl SiteState {
             return false;
         };
         match self.place_of(item) {
-            Some(place) => self
-                .records
-                .have_clash(self.section, (first, second), kind, place),
+            Some(place) => self.records.have_clash((first, second), kind, place),
             None => false,
         }
     }
@@ -312,6 +307,51 @@ impl SiteState {
             → (IsTrue result ↔ AllEnded entries) }
     {
         self.live == 0
+    }
+
+    /// One more entry, as `enter` takes it, where room for it is reserved and it needs no row of bits.
+    #[inline(always)]
+    fn enter_reserved(
+        &mut self,
+        place: Option<usize>,
+        entry: &Entry,
+        number: usize,
+        rank: Option<u32>,
+    ) -> Result<(), AllocError>
+        ensures section { self.new.section ≡ self.old.section }
+        ensures tracks { OnOk result ((ds : List Decision) (items : List Holding) (entries : List Entry) → IsDecidedOnce ds
+            → AllPairs (λ x y. x ≢ y) (names items) → ForSome (item_of entry.now) (Contains (names items))
+            → IsPlaceAmong (names items) entry.now place → IsDecided ds entry.now number → IsRankOf ds (tx_of entry.now) rank
+            → TracksOpen ds items entries self.old → TracksOpen ds items (entries ++ entry.now ∷ []) self.new) }
+    {
+        let next = one_more(self.count)?;
+        let act = act_at(self.count, place, entry)?;
+        let turn = self.records.enter(number, act, entry.is_end())?;
+        self.live = live_after(self.live, turn.comes, turn.leaves);
+        enter_cell(self.cells.as_mut_slice(), place, entry, rank);
+        note_end(&mut self.last_end, entry, number);
+        self.count = next;
+        Ok(())
+    }
+
+    /// One more entry, as `enter` takes it, where it needs memory or a row of bits.
+    #[inline(never)]
+    fn enter_slowly(
+        &mut self,
+        place: Option<usize>,
+        entry: Entry,
+        number: usize,
+        rank: Option<u32>,
+    ) -> Result<(), AllocError>
+        ensures section { self.new.section ≡ self.old.section }
+        ensures tracks { OnOk result ((ds : List Decision) (items : List Holding) (entries : List Entry) → IsDecidedOnce ds
+            → AllPairs (λ x y. x ≢ y) (names items) → ForSome (item_of entry) (Contains (names items))
+            → IsPlaceAmong (names items) entry place → IsDecided ds entry number → IsRankOf ds (tx_of entry) rank
+            → TracksOpen ds items entries self.old → TracksOpen ds items (entries ++ entry ∷ []) self.new) }
+    {
+        self.records.reserve()?;
+        self.enter_reserved(place, &entry, number, rank)?;
+        self.records.keep_row(number)
     }
 
     /// One more entry, on the item at this place or an end, decided by this number, of a transaction that is committed with this
@@ -330,15 +370,10 @@ impl SiteState {
             → IsPlaceAmong (names items) entry.now place → IsDecided ds entry.now number → IsRankOf ds (tx_of entry.now) rank
             → TracksOpen ds items entries self.old → TracksOpen ds items (entries ++ entry.now ∷ []) self.new) }
     {
-        let next = one_more(self.count)?;
-        let act = act_at(self.count, place, entry)?;
-        let turn = self
-            .records
-            .enter(number, self.section, act, entry.is_end())?;
-        self.live = live_after(self.live, self.records.len(), turn.was_live, turn.is_live);
-        enter_cell(self.cells.as_mut_slice(), place, entry, rank);
-        self.last_end = later_end(self.last_end, entry, number);
-        self.count = next;
-        Ok(())
+        if self.records.has_room(number) {
+            self.enter_reserved(place, entry, number, rank)
+        } else {
+            self.enter_slowly(place, *entry, number, rank)
+        }
     }
 }

@@ -7,6 +7,7 @@ use Rattle.sgt_notation.specs.declared.SectionLine.{SectionLine}
 use Rattle.sgt_notation.specs.declared.SectionLine.TheVariants.{Site, Initial, Logged, Final, End}
 use Rattle.sgt_cert.specs.Parts.{ComesBefore}
 use Rattle.sgt_cert.specs.declared.bundle.SiteLog.{SiteLog}
+use Rattle.sgt_audit.specs.declared.place.Last.TheVariants as last
 use Rattle.sgt_audit.specs.declared.place.OpenPlace.{OpenPlace}
 use Rattle.sgt_audit.specs.Reading.{Begun}
 
@@ -22,7 +23,7 @@ Fits log End = length log.finals ≡ length log.items
 -- the same of what is kept of those lines
 abbrev pub FitsAt : OpenPlace → SectionLine → Type 0
 FitsAt p (Site k) = ⊥
-FitsAt p (Initial h) = (p.last ≡ None) × (p.finals ≡ 0) × (length p.items.items < max_items)
+FitsAt p (Initial h) = (p.last ≡ last.NoEntry) × (p.finals ≡ 0) × (length p.items.items < max_items)
     × ForSome (slice_get p.items.items (length p.items.items - 1)) (λ x. ComesBefore x h.item)
 FitsAt p (Logged e) = p.finals ≡ 0
 FitsAt p (Final h) = slice_get p.items.items p.finals ≡ Some h.item

@@ -2,7 +2,7 @@
 use Rattle.std.specs.Prelude.{◌≡◌, ℕ, ◌-◌, ◌<◌, List, [], length, Contains, Option, Some, None, Result, Ok, Err, slice_get}
 use Rattle.std.specs.List.{last_or}
 use Rattle.std.specs.Option.{ForSome}
-use Rattle.sgt_names.specs.Entry.{item_of, IsOpen, Continues}
+use Rattle.sgt_names.specs.Entry.{item_of, IsOpen, Continues, GoesOn, GoesOnAsking}
 use Rattle.sgt_names.specs.Log.{names, value_at}
 use Rattle.sgt_names.specs.declared.entry.Entry.{Entry}
 use Rattle.sgt_names.specs.declared.entry.Entry.TheVariants.{Read}
@@ -15,6 +15,8 @@ use Rattle.sgt_cert.specs.declared.certificate.Certificate.{Certificate}
 use Rattle.sgt_cert.specs.declared.certificate.Decision.{Decision}
 use Rattle.sgt_audit.specs.Faults.{fault_number, items_in, entries_in, KeepsItself, Breaks}
 use Rattle.sgt_audit.specs.declared.faults.Fault.{Fault}
+use Rattle.sgt_audit.specs.declared.place.Last.{Last}
+use Rattle.sgt_audit.specs.declared.place.Last.TheVariants as last
 
 -- a read has the value of its item after these entries
 abbrev pub IsLegalRead : List Holding → List Entry → Entry → Type 0
@@ -29,6 +31,14 @@ ContinuesBlock f line = IsOpen f → (e : Entry) × (line ≡ Line.Logged e) × 
 abbrev pub ContinuesLog : SiteLog → SectionLine → Type 0
 ContinuesLog log line = (f : Entry) → log.finals ≡ []
     → slice_get log.entries (length log.entries - 1) ≡ Some f → ContinuesBlock f line
+
+-- the line may stand behind an entry of which this is kept
+abbrev pub FollowsLast : Last → SectionLine → Type 0
+FollowsLast (last.Changes tx) (Line.Logged e) = GoesOn tx e
+FollowsLast (last.Changes tx) _ = ⊥
+FollowsLast (last.Wants tx) (Line.Logged e) = GoesOnAsking tx e
+FollowsLast (last.Wants tx) _ = ⊥
+FollowsLast _ line = Unit {0}
 
 -- the log is the one that these lines have open
 pub record HasOpen (before : List SectionLine) (log : SiteLog) : Type 0 where

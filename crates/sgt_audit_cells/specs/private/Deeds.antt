@@ -3,7 +3,7 @@ use Rattle.std.specs.Prelude.{◌≡◌, ◌&&◌, ◌||◌, ◌++◌, ◌<◌, 
 use Rattle.sgt_names.specs.declared.entry.Entry.{Entry}
 use Rattle.sgt_names.specs.declared.entry.Kind.{Kind}
 use Rattle.sgt_names.specs.declared.entry.Kind.TheVariants.{Wr, Rw, Ww}
-use Rattle.sgt_audit_cells.specs.Records.{Record, deed_of, acts_in, has_ended_in}
+use Rattle.sgt_audit_cells.specs.Records.{Record, deed_of}
 use Rattle.sgt_audit_cells.specs.declared.act.Act.{Act}
 use Rattle.sgt_audit_cells.specs.declared.act.Deed.{Deed}
 use Rattle.sgt_audit_cells.specs.declared.act.Deed.TheVariants as deed
@@ -37,7 +37,7 @@ abbrev pub ClashesWith : Kind → Act → Act → Type 0
 ClashesWith kind a b = (b.place ≡ a.place) × (a.at < b.at) × IsTrue (deeds_clash kind a.deed b.deed)
 
 -- the record after one more entry in the section, which did this, and ended the transaction or not
-pub record IsTouched (section : ℕ) (acts : List Act) (ends : Bool) (old new : Record) : Type 0 where
-  pub stamp : new.section ≡ section
-  pub end : new.ended ≡ (has_ended_in section old || ends)
-  pub did : new.acts ≡ acts_in section old ++ acts
+pub record IsTouched (acts : List Act) (ends : Bool) (old new : Record) : Type 0 where
+  pub touched : IsTrue new.touched
+  pub end : new.ended ≡ (old.ended || ends)
+  pub did : new.acts ≡ old.acts ++ acts

@@ -1,5 +1,5 @@
 -- What transactions did in the open section, each linked to the one before it.
-use Rattle.std.specs.Prelude.{◌≡◌, ◌-◌, ◌≤◌, ℕ, zero, suc, List, [], ◌∷◌, ◌++◌, Option, Some, None, All, map, slice_get}
+use Rattle.std.specs.Prelude.{◌≡◌, ◌==◌, ◌&&◌, ◌<◌, ◌≤◌, ℕ, zero, suc, List, [], ◌∷◌, ◌++◌, Option, Some, None, All, map, slice_get, if◌then◌else◌}
 use Rattle.sgt_audit_cells.specs.Records.{Record}
 use Rattle.sgt_audit_cells.specs.declared.act.Act.{Act}
 use Rattle.sgt_audit_cells.specs.declared.record.Node.{Node}
@@ -23,13 +23,25 @@ chain nodes k = chain_by k nodes k
 abbrev pub AreLinked : List Node → Type 0
 AreLinked nodes = (i : ℕ) (n : Node) → slice_get nodes i ≡ Some n → n.before ≤ i
 
--- no transaction's last place is past so many in the open section
-abbrev pub AreWithin : ℕ → ℕ → List Slot → Type 0
-AreWithin base bound slots = All (λ s. s.last - base ≤ bound) slots
+-- where the last that a transaction did in the section of this stamp stands. 0 is none
+abbrev pub last_here : ℕ → Slot → ℕ
+last_here stamp s = if s.stamp == stamp then s.last else 0
 
--- what is kept of a transaction, where the sections before had so many nodes
+-- no transaction's last place in the section is past so many
+abbrev pub AreWithin : ℕ → ℕ → List Slot → Type 0
+AreWithin stamp bound slots = All (λ s. last_here stamp s ≤ bound) slots
+
+-- each was stamped before this stamp came
+abbrev pub AreEarlier : ℕ → List Slot → Type 0
+AreEarlier stamp slots = All (λ s. s.stamp < stamp) slots
+
+-- what is kept of a transaction in the section of this stamp
 abbrev pub record_of : ℕ → List Node → Slot → Record
-record_of base nodes s = record { section = s.section; ended = s.ended; acts = chain nodes (s.last - base) }
+record_of stamp nodes s = record {
+  touched = s.stamp == stamp;
+  ended = (s.stamp == stamp) && s.ended;
+  acts = chain nodes (last_here stamp s);
+}
 
 abbrev pub records_of : ℕ → List Node → List Slot → List Record
-records_of base nodes slots = map (record_of base nodes) slots
+records_of stamp nodes slots = map (record_of stamp nodes) slots

@@ -1,4 +1,4 @@
-use Rattle.std.proofs.Common.{Some, arith, refl, sym, subst}
+use Rattle.std.proofs.Common.{arith, refl, sym, subst}
 use Rattle.sgt_audit.specs.declared.place.OpenPlace.{OpenPlace}
 use Rattle.sgt_audit.specs.Kept.{IsOpenPlace}
 use Rattle.sgt_audit.specs.private.Following.{Fits, with_line}
@@ -14,8 +14,8 @@ returns-in_ok-push-in-Initial c log room fits o =
 pub returns-in-Logged : goal.returns-in-Logged
 returns-in-Logged c log room fits o =
     let old = c.args.self.now in
-    let new : OpenPlace = record old { last = Some c.in-Logged.entry } in
-    subst (λ l. IsOpenPlace (with_line log l) new) (sym c.in-Logged.is) (logged-entered log old new o c.in-Logged.entry refl refl refl)
+    let new : OpenPlace = record old { last = c.last_of-self.result } in
+    subst (λ l. IsOpenPlace (with_line log l) new) (sym c.in-Logged.is) (logged-entered log old new o c.in-Logged.entry refl c.last_of-self.ensures refl)
 
 pub returns-in-Final : goal.returns-in-Final
 returns-in-Final c log room fits o =

@@ -1,5 +1,6 @@
 use Rattle.std.proofs.Common.{◌≡◌, ◌+◌, None, arith, refl, sym, ap, ◌∙◌, subst}
 use Rattle.std.proofs.lemmas.Result.{on_ok_weaker}
+use Rattle.sgt_audit.specs.declared.place.Last.TheVariants as last
 use Rattle.sgt_audit.specs.declared.place.OpenPlace.{OpenPlace}
 use Rattle.sgt_audit.specs.declared.place.Place.{Place}
 use Rattle.sgt_audit.specs.Kept.{IsCurrentPlace, IsPlace}
@@ -9,7 +10,7 @@ use Rattle.sgt_audit.proofs.place.Place.enter.Goals as goal
 
 pub returns-in-None : goal.returns-in-None
 returns-in-None c b is follow at =
-    let o : OpenPlace = record { items = c.new.result; last = None; finals = 0 } in
+    let o : OpenPlace = record { items = c.new.result; last = last.NoEntry; finals = 0 } in
     opened b _ at.sites b.current c.args.line.now o at.whole refl (fresh-open o c.new.ensures.items refl refl) (subst (IsCurrentPlace b.current) c.in-None.is at.current)
 
 pub returns-in-End : goal.returns-in-End

@@ -1,10 +1,10 @@
-use Rattle.std.proofs.Common.{◌≡◌, ◌-◌, List, IsTrue, Any, ap, ◌∙◌, subst}
+use Rattle.std.proofs.Common.{◌≡◌, List, IsTrue, Any, ap, ◌∙◌, subst}
 use Rattle.std.specs.Prelude.{◌↔◌}
-use Rattle.sgt_audit_cells.specs.Records.{acts_in}
+use Rattle.sgt_audit_cells.specs.Records.{Record}
 use Rattle.sgt_audit_cells.specs.private.Deeds.{ClashesWith}
 use Rattle.sgt_audit_cells.specs.private.Linked.{chain}
 use Rattle.sgt_audit_cells.specs.declared.act.Act.{Act}
-use Rattle.sgt_audit_cells.proofs.Linked.{record-is, acts-are}
+use Rattle.sgt_audit_cells.proofs.Linked.{record-is}
 use Rattle.sgt_audit_cells.proofs.Tracking.{got}
 use Rattle.sgt_audit_cells.proofs.record_table.RecordTable.have_clash.Goals as goal
 
@@ -15,11 +15,9 @@ returns c q r at_q at_r =
     let u = c.in-Some-get.second.now in
     let at_s = got _ _ _ _ c.deref.ensures.value c.in-Some.ensures.lookup.0 c.in-Some.ensures.lookup.1 in
     let at_u = got _ _ _ _ c.deref-2.ensures.value c.in-Some-get.ensures.lookup.0 c.in-Some-get.ensures.lookup.1 in
-    let q_is = record-is t.base t.nodes.items t.slots.items c.args.self.now c.self.view_is c.args.numbers.0 s q at_s at_q in
-    let r_is = record-is t.base t.nodes.items t.slots.items c.args.self.now c.self.view_is c.args.numbers.1 u r at_u at_r in
-    let first = c.saturating_sub.ensures ∙ ap (λ n. n - t.base) c.last_in.ensures in
-    let second = c.saturating_sub-2.ensures ∙ ap (λ n. n - t.base) c.last_in-2.ensures in
-    let acts = ap (λ ns. chain ns c.saturating_sub.result) c.as_slice.ensures.value ∙ acts-are c.args.section t.base t.nodes.items s q c.saturating_sub.result q_is first in
-    let others = ap (λ ns. chain ns c.saturating_sub-2.result) c.as_slice.ensures.value ∙ acts-are c.args.section t.base t.nodes.items u r c.saturating_sub-2.result r_is second in
-    subst (λ (acts : List Act). IsTrue c.have_clash.result ↔ Any (λ (a : Act). (a.place ≡ c.args.place) × Any (ClashesWith c.args.kind a) (acts_in c.args.section r)) acts) acts
-    (subst (λ (os : List Act). IsTrue c.have_clash.result ↔ Any (λ (a : Act). (a.place ≡ c.args.place) × Any (ClashesWith c.args.kind a) os) (chain c.as_slice.result.now c.saturating_sub.result)) others c.have_clash.ensures)
+    let q_is = record-is t.stamp t.nodes.items t.slots.items c.args.self.now c.self.view_is c.args.numbers.0 s q at_s at_q in
+    let r_is = record-is t.stamp t.nodes.items t.slots.items c.args.self.now c.self.view_is c.args.numbers.1 u r at_u at_r in
+    let acts = ap (λ ns. chain ns c.last_in.result) c.as_slice.ensures.value ∙ ap (chain t.nodes.items) c.last_in.ensures ∙ ap (λ (k : Record). k.acts) q_is in
+    let others = ap (λ ns. chain ns c.last_in-2.result) c.as_slice.ensures.value ∙ ap (chain t.nodes.items) c.last_in-2.ensures ∙ ap (λ (k : Record). k.acts) r_is in
+    subst (λ (acts : List Act). IsTrue c.have_clash.result ↔ Any (λ (a : Act). (a.place ≡ c.args.place) × Any (ClashesWith c.args.kind a) r.acts) acts) acts
+    (subst (λ (os : List Act). IsTrue c.have_clash.result ↔ Any (λ (a : Act). (a.place ≡ c.args.place) × Any (ClashesWith c.args.kind a) os) (chain c.as_slice.result.now c.last_in.result)) others c.have_clash.ensures)

@@ -1,7 +1,6 @@
 use Rattle.std.proofs.Common.{subst}
 use Rattle.std.proofs.lemmas.Bool.{false≢true}
 use Rattle.sgt_names.specs.Log.{names}
-use Rattle.sgt_audit_cells.specs.Records.{acts_in}
 use Rattle.sgt_audit_cells.specs.Tracks.{IsNumberOf}
 use Rattle.sgt_audit_cells.proofs.Clashing.{clash-decides, conflict-listed, undecided-first, undecided-second}
 use Rattle.sgt_audit_cells.proofs.Entering.{not-some}
@@ -21,7 +20,7 @@ returns-in-Some-place_of c ds items entries a b t from to apart =
     let s = c.args.self.now in
     let first = record-of ds items entries s t c.in-Some.first a (subst (IsNumberOf ds a) c.in-Some.is from) in
     let second = record-of ds items entries s t c.in-Some-to.second b (subst (IsNumberOf ds b) c.in-Some-to.is to) in
-    let met = clash-decides (names items) entries a b (acts_in s.section first.0) (acts_in s.section second.0) first.2.acts second.2.acts c.in-Some-place_of.place c.args.item.now (c.in-Some-place_of.ensures.some ds items entries t) c.args.kind apart in
+    let met = clash-decides (names items) entries a b first.0.acts second.0.acts first.2.acts second.2.acts c.in-Some-place_of.place c.args.item.now (c.in-Some-place_of.ensures.some ds items entries t) c.args.kind apart in
     let told = c.have_clash.ensures first.0 second.0 first.1 second.1 in
     (λ h. met.0 (told.0 h), λ k. told.1 (met.1 k))
 
