@@ -149,23 +149,15 @@ fn versions_in(alloc: Global, cells: &[Cell]) -> Result<Vec<u64>, AllocError>
     cells.iter().map(Cell::version).collect(alloc)
 }
 
-// A number made of the bytes of a name.
-fn key_of(name: &[u8]) -> u64 {
-    match (name.first_chunk::<4>(), name.last_chunk::<4>()) {
-        (Some(front), Some(back)) => {
-            (u32::from_le_bytes(*front) as u64) << 32 | u32::from_le_bytes(*back) as u64
-        }
-        _ => name.iter().fold(0u64, |key, byte| key << 8 | *byte as u64),
-    }
-}
-
 // Which of so many hints is the item's.
+#[inline(always)]
 fn slot_of(item: &Item, slots: usize) -> usize {
-    let spread = key_of(item.as_bytes()).wrapping_mul(0x9e37_79b9_7f4a_7c15);
+    let spread = item.key().wrapping_mul(0x9e37_79b9_7f4a_7c15);
     ((spread >> 32).wrapping_mul(slots as u64) >> 32) as usize
 }
 
 // The place that is hinted for an item.
+#[inline(always)]
 fn hint_of(hints: &[u16], item: &Item) -> usize {
     match hints.get(slot_of(item, hints.len())) {
         Some(hint) => *hint as usize,
@@ -192,6 +184,7 @@ fn hints_of(alloc: Global, items: &[Holding]) -> Result<Vec<u16>, AllocError> {
     Ok(hints)
 }
 
+#[inline(always)]
 fn is_of(cell: &Cell, item: &Item) -> bool
     ensures { IsTrue result ↔ (cell.now.item ≡ item.now) }
 {
@@ -199,6 +192,7 @@ fn is_of(cell: &Cell, item: &Item) -> bool
 }
 
 // Whether the item is at this place.
+#[inline(always)]
 fn is_at(cells: &[Cell], place: usize, item: &Item) -> bool
     ensures { IsTrue result
         → (c : Contents) × (slice_get cells.now place ≡ Some c) × (c.item ≡ item.now) }
@@ -210,6 +204,7 @@ fn is_at(cells: &[Cell], place: usize, item: &Item) -> bool
 }
 
 // Where the item is. The hint is tried first.
+#[inline(always)]
 fn search(cells: &[Cell], hints: &[u16], item: Item) -> Option<usize>
     requires { CellsRise cells.now }
     ensures found { IfSome result (IsAt (λ c. c.item) cells.now item) }
@@ -226,6 +221,7 @@ fn search(cells: &[Cell], hints: &[u16], item: Item) -> Option<usize>
 }
 
 // Where the item is, or where it would go, by a binary search.
+#[inline(never)]
 fn search_all(cells: &[Cell], item: Item) -> Result<usize, usize>
     requires { CellsRise cells.now }
     ensures found { IfOk result (IsAt (λ c. c.item) cells.now item) }
