@@ -1,6 +1,7 @@
 //! The reads of an item.
 
 ghost use Rattle.std.specs.Prelude.{◌≡◌, ◌<◌, ◌≤◌, length, IsTrue, IfOk, IfErr, vec_len, vec_capacity};
+ghost use Rattle.std.specs.BTreeMap.{get};
 ghost use Rattle.std.specs.List.{insert as inserted};
 ghost use Rattle.std.specs.Ordering.{nat_cmp};
 ghost use Rattle.sgt_names.specs.Ordered.{IsRisingBy, IsAt, IsGapFor};
@@ -61,7 +62,7 @@ impl Readings {
     {
         match search(self.readings.as_slice(), tx) {
             Ok(at) => Some(self.readings[at].seen),
-            Err(_) => self.late.get(&tx).copied(),
+            Err(_) => late_by(&self.late, tx),
         }
     }
 
@@ -79,6 +80,17 @@ impl Readings {
         }
         Ok(())
     }
+}
+
+// What a late read of the transaction answered. Mostly there are none.
+#[inline(always)]
+fn late_by(late: &BTreeMap<Tx, Seen>, tx: Tx) -> Option<Seen>
+    ensures { result ≡ get nat_cmp late.now tx }
+{
+    if late.is_empty() {
+        return None;
+    }
+    late.get(&tx).copied()
 }
 
 // How many of the last reads are looked at first.
@@ -124,8 +136,25 @@ fn are_below(readings: &[Reading], place: usize, tx: Tx) -> bool
     place == 0 || readings[place - 1].tx.number() < tx.number()
 }
 
-// Where the transaction's read is, or where it would go, by a binary search.
+// Where the transaction's read is, or where it would go. Mostly it is the first of these, or there is none.
+#[inline(always)]
 fn search_all(readings: &[Reading], tx: Tx) -> Result<usize, usize>
+    requires { IsRisingBy (λ m. m.tx) nat_cmp readings.now }
+    ensures found { IfOk result (IsAt (λ m. m.tx) readings.now tx) }
+    ensures absent { IfErr result (IsGapFor (λ m. m.tx) nat_cmp readings.now tx) }
+{
+    if readings.is_empty() {
+        return Err(0);
+    }
+    if readings[0].tx.number() == tx.number() {
+        return Ok(0);
+    }
+    search_many(readings, tx)
+}
+
+// Where the transaction's read is, or where it would go, by a binary search.
+#[inline(never)]
+fn search_many(readings: &[Reading], tx: Tx) -> Result<usize, usize>
     requires { IsRisingBy (λ m. m.tx) nat_cmp readings.now }
     ensures found { IfOk result (IsAt (λ m. m.tx) readings.now tx) }
     ensures absent { IfErr result (IsGapFor (λ m. m.tx) nat_cmp readings.now tx) }
@@ -140,5 +169,9 @@ pub(crate) fn insert<T: Drop>(items: &mut Vec<T>, at: usize, item: T)
     ensures items { items.new.items ≡ inserted items.old.items at item }
     ensures capacity { vec_capacity items.new ≡ vec_capacity items.old }
 {
-    let _ = items.insert(at, item);
+    if at == items.len() {
+        items.push_reserved(item);
+    } else {
+        let _ = items.insert(at, item);
+    }
 }
