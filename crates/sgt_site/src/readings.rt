@@ -1,6 +1,6 @@
 //! The reads of an item.
 
-ghost use Rattle.std.specs.Prelude.{◌≡◌, ◌<◌, ◌≤◌, length, IsTrue, IfOk, IfErr, vec_len, vec_capacity};
+ghost use Rattle.std.specs.Prelude.{◌≡◌, ◌<◌, ◌≤◌, ◌∷◌, ◌++◌, [], length, is_ok, if◌then◌else◌, IsTrue, IfOk, IfErr, OnOk, vec_len, vec_capacity};
 ghost use Rattle.std.specs.BTreeMap.{get};
 ghost use Rattle.std.specs.List.{insert as inserted};
 ghost use Rattle.std.specs.Ordering.{nat_cmp};
@@ -74,7 +74,7 @@ impl Readings {
         ensures err { OnErr result (self.new ≡ self.old) }
     {
         if are_below(self.readings.as_slice(), self.readings.len(), tx) {
-            self.readings.push(Reading { tx, seen })?;
+            push(&mut self.readings, Reading { tx, seen })?;
         } else {
             self.late.insert(tx, seen)?;
         }
@@ -160,6 +160,33 @@ fn search_many(readings: &[Reading], tx: Tx) -> Result<usize, usize>
     ensures absent { IfErr result (IsGapFor (λ m. m.tx) nat_cmp readings.now tx) }
 {
     readings.binary_search_by(|m| m.tx.number().cmp(&tx.number()))
+}
+
+// So much room is made at once: lists are mostly short, and there are many.
+const FIRST: usize = 8;
+
+/// Makes room for one more element, if there is none.
+#[inline(always)]
+pub(crate) fn make_place<T>(items: &mut Vec<T>) -> Result<(), AllocError>
+    ensures same { (items.new.items ≡ items.old.items) × (vec_len items.new ≡ vec_len items.old) }
+    ensures ok { OnOk result (vec_len items.new < vec_capacity items.new) }
+    ensures more { vec_capacity items.old ≤ vec_capacity items.new }
+{
+    if items.len() < items.capacity() {
+        return Ok(());
+    }
+    items.reserve(FIRST)
+}
+
+// Adds an element at the end.
+#[inline(always)]
+fn push<T: Drop>(items: &mut Vec<T>, item: T) -> Result<(), AllocError>
+    ensures items { items.new.items
+        ≡ (if is_ok result then items.old.items ++ item ∷ [] else items.old.items) }
+{
+    make_place(items)?;
+    items.push_reserved(item);
+    Ok(())
 }
 
 /// Inserts an element where there is room for it.
