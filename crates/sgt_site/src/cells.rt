@@ -188,7 +188,7 @@ fn hints_of(alloc: Global, items: &[Holding]) -> Result<Vec<u16>, AllocError> {
     Ok(hints)
 }
 
-#[inline(always)]
+#[inline(never)]
 fn is_of(cell: &Cell, item: &Item) -> bool
     ensures { IsTrue result ↔ (cell.now.item ≡ item.now) }
 {
@@ -208,7 +208,7 @@ fn is_at(cells: &[Cell], place: usize, item: &Item) -> bool
 }
 
 // Where the item is. The hints are tried first.
-#[inline(never)]
+#[inline(always)]
 fn search(cells: &[Cell], hints: &[u16], item: &Item) -> Option<usize>
     requires { CellsRise cells.now }
     ensures found { IfSome result (IsAt (λ c. c.item) cells.now item.now) }

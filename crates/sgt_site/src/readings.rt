@@ -56,6 +56,7 @@ impl Readings {
     }
 
     /// What the transaction's read answered, if there is one.
+    #[inline(always)]
     pub(crate) fn seen_by(&self, tx: Tx) -> Option<Seen>
         ensures { (seen : Answer)
             → (result ≡ Some seen) ↔ Contains self.now (record { tx = tx; seen = seen }) }
@@ -90,6 +91,13 @@ fn late_by(late: &BTreeMap<Tx, Seen>, tx: Tx) -> Option<Seen>
     if late.is_empty() {
         return None;
     }
+    get_late(late, tx)
+}
+
+#[inline(never)]
+fn get_late(late: &BTreeMap<Tx, Seen>, tx: Tx) -> Option<Seen>
+    ensures { result ≡ get nat_cmp late.now tx }
+{
     late.get(&tx).copied()
 }
 
