@@ -62,6 +62,14 @@ impl EdgeList {
         Ok(())
     }
 
+    /// Adds edges at the end, in their order.
+    pub fn append(&mut self, more: &EdgeList) -> Result<(), AllocError>
+        ensures ok { OnOk result (self.new ≡ self.old ++ more.now) }
+        ensures err { OnErr result (self.new ≡ self.old) }
+    {
+        self.edges.extend_from_slice(more.edges.as_slice())
+    }
+
     /// The edges.
     pub fn as_slice(&self) -> &[Edge]
         ensures { result.now ≡ self.now }
