@@ -351,3 +351,21 @@ seen-known s t seen here some fine = elim (cases_lt (version_at s.entries t.item
 pub ok_then : {T E P Q : Type 0} (r : Result T E) → OnOk r P → (P → Q) → OnOk r Q
 ok_then (Ok x) p f = f p
 ok_then (Err e) p f = tt
+
+-- one more that was not read too new, and all of them
+pub not-new-next : (s : SiteState) (ts : List Touch) (i : ℕ) (t : Touch) → slice_get ts i ≡ Some t
+    → ((n : ℕ) (u : Touch) → n < i → slice_get ts n ≡ Some u → IsTooNew s u → ⊥) → (IsTooNew s t → ⊥)
+    → (n : ℕ) (u : Touch) → n < i + 1 → slice_get ts n ≡ Some u → IsTooNew s u → ⊥
+not-new-next s ts i t at before fine n u lt there new = elim (cases_lt n i) [
+  | inl front ↦ before n u front there new
+  | inr back ↦
+      let same : n ≡ i = omega (arith, lt, back) in
+      fine (subst (IsTooNew s) (same_Some u t (sym there ∙ ap (slice_get ts) same ∙ at)) new)
+]
+
+pub none-new : (s : SiteState) (ts : List Touch) (i : ℕ) → length ts ≤ i
+    → ((n : ℕ) (u : Touch) → n < i → slice_get ts n ≡ Some u → IsTooNew s u → ⊥) → Any (IsTooNew s) ts → ⊥
+none-new s ts i end none new =
+    let u = Any_at (IsTooNew s) ts new in
+    let lt = slice_get_within ts u.0 u.1 u.2 in
+    none u.0 u.1 (omega (arith, lt, end)) u.2 u.3

@@ -16,8 +16,8 @@ pub struct Edge {
     pub label: Label,
 }
 
-// How many edges the first one makes room for: most drafts have no more.
-const FIRST: usize = 8;
+// How many edges the first one makes room for: most transactions have no more.
+const FIRST: usize = 24;
 
 /// Edges in the order in which they were added.
 #[derive(Debug, Drop)]
@@ -51,7 +51,7 @@ impl EdgeList {
         EdgeList { edges }
     }
 
-    /// Adds an edge at the end. The first one makes room for seven more.
+    /// Adds an edge at the end. The first one makes room for more.
     pub fn push(&mut self, edge: Edge) -> Result<(), AllocError>
         ensures ok { OnOk result (self.new ≡ self.old ++ edge ∷ []) }
         ensures err { OnErr result (self.new ≡ self.old) }
@@ -60,6 +60,14 @@ impl EdgeList {
         self.edges.reserve(more)?;
         self.edges.push_reserved(edge);
         Ok(())
+    }
+
+    /// Adds edges at the end, in their order.
+    pub fn append(&mut self, more: &EdgeList) -> Result<(), AllocError>
+        ensures ok { OnOk result (self.new ≡ self.old ++ more.now) }
+        ensures err { OnErr result (self.new ≡ self.old) }
+    {
+        self.edges.extend_from_slice(more.edges.as_slice())
     }
 
     /// The edges.

@@ -1,8 +1,9 @@
 //! The edges of a draft at a site.
 
-ghost use Rattle.std.specs.Prelude.{◌≡◌, ◌↔◌, ◌∷◌, [], All, Any, Contains, IsTrue, IfOk, IfErr, OnOk};
+ghost use Rattle.std.specs.Prelude.{◌≡◌, ◌↔◌, ◌<◌, ◌∷◌, [], Some, All, Any, Contains, length, IsTrue, IfOk, IfErr, OnOk};
 ghost use Rattle.sgt_site.specs.State.{IsSite};
 ghost use Rattle.sgt_names.specs.Draft.{AreRising};
+ghost use Rattle.sgt_names.specs.declared.draft.Seen.{Seen as ASeen};
 ghost use Rattle.sgt_edges.specs.Edges.{IsGiven, StandsForAll, SeesTooNew, RefusesEdges, HaveOwnHandles, AreApart};
 ghost use Rattle.sgt_edges.specs.declared.edge.Edge.{Edge as AnEdge};
 ghost use Rattle.sgt_edges.specs.private.Gathered.{AreWriters, WritersApart, ReadersApart, IsTooNew, IsNear, IsBetween, AddsAll, AddsOnce, FromWriter, ToWriter, FromReader, IsOfRead, IsOfChange};
@@ -29,24 +30,23 @@ pub fn gather(alloc: Global, site: &Site, draft: &Draft, me: Handle) -> Result<E
     ensures refused { IfErr result (RefusesEdges site.now draft.now.touched) }
 {
     let here = draft.at(site.number());
-    if sees_too_new(site, here) {
-        return Err(EdgeFault::SeenTooNew);
-    }
     match to_neighbours(alloc, site, here, me) {
         Ok(edges) => Ok(edges),
+        Err(_) if sees_too_new(site, here) => Err(EdgeFault::SeenTooNew),
         Err(_) => Err(EdgeFault::Memory),
     }
 }
 
-// The draft's edges here to and from neighbours: all of them, and nothing else.
+// The draft's edges here to and from neighbours: all of them, and nothing else. None where a version in the draft exceeds the
+// site's.
 fn to_neighbours(
     alloc: Global,
     site: &Site,
     touched: &[Touch],
     me: Handle,
-) -> Result<EdgeList, AllocError>
-    requires seen { Any (IsTooNew site.now) touched.now → ⊥ }
+) -> Result<EdgeList, EdgeFault>
     requires rising { AreRising touched.now }
+    ensures seen { OnOk result (Any (IsTooNew site.now) touched.now → ⊥) }
     ensures near { IfOk result
         (λ edges. (e : AnEdge) → Contains edges e ↔ IsNear site.now touched.now me e) }
     ensures once { HaveOwnHandles site.now → IfOk result AreApart }
@@ -61,6 +61,7 @@ fn to_neighbours(
 }
 
 // Whether a version in the draft exceeds the site's.
+#[inline(never)]
 fn sees_too_new(site: &Site, touched: &[Touch]) -> bool
     ensures { IsTrue result ↔ Any (IsTooNew site.now) touched.now }
 {
@@ -78,16 +79,27 @@ fn is_too_new(site: &Site, touch: &Touch) -> bool
     }
 }
 
-// Adds the edges of one touched item, if it is at the site.
+// Whether the kept read, if there is one, is of a version that these writers didn't make.
+fn exceeds(touch: &Touch, writers: &[Writer]) -> bool
+    ensures { IsTrue result
+        ↔ ((seen : ASeen) × (touch.now.seen ≡ Some seen) × (length writers.now < seen.version)) }
+{
+    match touch.seen {
+        Some(seen) => seen.version > writers.len() as u64,
+        None => false,
+    }
+}
+
+// Adds the edges of one touched item, if it is at the site. Errs also where the version in the draft exceeds the site's.
 fn add_edges(
     edges: &mut EdgeList,
     site: &Site,
     here: SiteNo,
     touch: &Touch,
     me: Handle,
-) -> Result<(), AllocError>
+) -> Result<(), EdgeFault>
     requires number { here ≡ site.now.number }
-    requires seen { IsTooNew site.now touch.now → ⊥ }
+    ensures seen { OnOk result (IsTooNew site.now touch.now → ⊥) }
     ensures all { OnOk result (AddsAll (IsNear site.now (touch.now ∷ []) me) edges.old edges.new) }
     ensures once { OnOk result
         (HaveOwnHandles site.now
@@ -97,8 +109,16 @@ fn add_edges(
         return Ok(());
     }
     let writers = writers_at(site, touch.item);
-    add_of_read(edges, site, touch, writers, me)?;
-    add_of_change(edges, site, touch, writers, me)
+    if exceeds(touch, writers) {
+        return Err(EdgeFault::SeenTooNew);
+    }
+    let Ok(()) = add_of_read(edges, site, touch, writers, me) else {
+        return Err(EdgeFault::Memory);
+    };
+    let Ok(()) = add_of_change(edges, site, touch, writers, me) else {
+        return Err(EdgeFault::Memory);
+    };
+    Ok(())
 }
 
 // Adds the edges of a touched item's read, if there is one. The item has these writers.

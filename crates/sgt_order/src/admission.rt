@@ -17,7 +17,7 @@ use crate::hints::note_edges;
 use crate::offer::leads_to_older;
 use crate::region::Region;
 use crate::rows::{add_edges, open_rows};
-use crate::search::{closing, search, walk_back};
+use crate::search::{closing_if, search, walk_back};
 use sgt_arena::Handle;
 use sgt_edges::Edge;
 use std::alloc::Global;
@@ -68,7 +68,8 @@ pub(crate) fn admit_in(
         dag.order.as_slice(),
         first,
     );
-    if let Some(last) = closing(new, offered, region.marks.as_slice()) {
+    let any = region.first < dag.order.len();
+    if let Some(last) = closing_if(any, new, offered, region.marks.as_slice()) {
         let walk = walk_back(
             alloc,
             dag.order.as_slice(),

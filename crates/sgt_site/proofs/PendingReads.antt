@@ -1,12 +1,14 @@
 -- The reads of transactions that have no end yet.
-use Rattle.std.proofs.Common.{◌≡◌, ◌≢◌, ℕ, zero, suc, true, false, List, [], ◌∷◌, ◌++◌, length, take, Some, Result, Ok, Err, OnErr, refl, sym, ap, ◌∙◌, subst, arith, inl, inr, All, Contains}
+use Rattle.std.proofs.Common.{◌≡◌, ◌≢◌, ℕ, zero, suc, true, false, List, [], ◌∷◌, ◌++◌, length, take, set, Some, None, Result, Ok, Err, OnOk, OnErr, refl, sym, ap, ap₂, ◌∙◌, subst, arith, inl, inr, All, Contains}
 use Rattle.std.specs.Prelude.{slice_get, ◌↔◌, ◌==◌, Option, Vec}
-use Rattle.std.specs.BTreeMap.{Updates}
+use Rattle.std.specs.BTreeMap.{BTreeMap, Updates, get, is_at}
+use Rattle.std.specs.Map.{lookup}
 use Rattle.std.specs.Ordering.{nat_cmp, is_eq}
 use Rattle.std.specs.declared.alloc.Global.{Global}
 use Rattle.std.specs.declared.cmp.Ordering.{Ordering}
 use Rattle.std.specs.declared.cmp.Ordering.TheVariants.{Less, Equal, Greater}
-use Rattle.std.proofs.lemmas.Bool.{cases_Bool, eqb-true, eqb-false}
+use Rattle.std.proofs.lemmas.Bool.{cases_Bool, cases_eq, eqb-true, eqb-false, eq-eqb, ne_eqb}
+use Rattle.std.proofs.lemmas.Option.{slice_get_within}
 use Rattle.std.proofs.lemmas.Map.Lookups.{exact_unsigned}
 use Rattle.std.proofs.lemmas.List.Elements.{Contains-append_cases, Contains-append_left, Contains-append_right}
 use Rattle.sgt_names.specs.Name.{Name}
@@ -16,11 +18,13 @@ use Rattle.sgt_names.specs.declared.entry.Entry.TheVariants.{Read, Withdraw}
 use Rattle.sgt_names.proofs.Lists.{front_at, middle_at, Any_at, Any-from_at, All_in}
 use Rattle.sgt_names.proofs.Places.{Contains-from_at, All-from_at}
 use Rattle.sgt_site.specs.State.{HasRead, HasEnded, LogsRead, version_at}
-use Rattle.sgt_site.specs.private.Pending.{or_nothing, items_by, AddsRead, AreSame, ArePending}
+use Rattle.sgt_site.specs.private.Pending.{or_nothing, in_slot, place, or_else, MayHold, items_by, AddsRead, AreSame, ArePending}
 use Rattle.sgt_site.specs.declared.pending.Pending.{Pending}
+use Rattle.sgt_site.specs.declared.pending.Slot.{Slot}
 use Rattle.sgt_site.proofs.Appends.{get_cases, HasEnded-append, HasEnded-append_right, HasEnded-cases}
 use Rattle.sgt_site.proofs.Entries.{read_is}
 use Rattle.sgt_site.proofs.Basics.{is_single}
+use Rattle.sgt_site.proofs.Inserts.{get_set_same, get_set_other}
 
 -- ---- a change at one transaction
 
@@ -35,27 +39,91 @@ apart t u other = elim (cases_Bool (is_eq (nat_cmp t u))) [
     ties Equal e = refl
     ties Greater e = absurd cc
 
-module _ (old new : Pending) (tx : ℕ) (w : Option (Vec Name Global)) (updates : Updates nat_cmp old.reads new.reads tx w) where
-  changed-own : items_by new tx ≡ or_nothing w
-  changed-own = ap or_nothing updates.1
+-- the others of a list with a change at one transaction
+pub updated-others : (old new : BTreeMap ℕ (Vec Name Global)) (tx : ℕ) (w : Option (Vec Name Global)) → Updates nat_cmp old new tx w
+    → (t : ℕ) → t ≢ tx → or_nothing (get nat_cmp new t) ≡ or_nothing (get nat_cmp old t)
+updated-others old new tx w updates t other = ap or_nothing (updates.2 t (apart tx t other))
 
-  pub changed-others : (t : ℕ) → t ≢ tx → items_by new t ≡ items_by old t
-  changed-others t other = ap or_nothing (updates.2 t (apart tx t other))
+-- nothing is found where there are no entries
+none_in : {X : Type 0} (es : List (ℕ × X)) (compare : ℕ → Ordering) → length es ≡ 0 → lookup (is_at compare) es ≡ None
+none_in [] compare none = refl
+none_in (e ∷ es) compare none = absurd cc
 
-  pub added : (x : Name) → or_nothing w ≡ items_by old tx ++ x ∷ [] → AddsRead old new tx x
-  added x is = record { own = changed-own ∙ is; others = changed-others }
+pub none-get : {X : Type 0} (m : BTreeMap ℕ X) (tx : ℕ) → length m.entries ≡ 0 → get nat_cmp m tx ≡ None
+none-get m tx none = none_in m.entries (nat_cmp tx) none
 
-  same-still : items_by old tx ≡ or_nothing w → AreSame old new
-  same-still same t = elim (cases_Bool (t == tx)) [
-    | inl hit ↦ subst (λ u. items_by new u ≡ items_by old u) (sym (eqb-true t tx hit)) (changed-own ∙ sym same)
-    | inr miss ↦ changed-others t (eqb-false t tx miss)
+-- ---- slots
+
+pub own-slot : (s : Slot) (tx : ℕ) → s.tx ≡ tx → in_slot (Some s) tx ≡ s.items.items
+own-slot s tx same = rw (eq-eqb s.tx tx same) refl
+
+pub other-slot : (s : Slot) (tx : ℕ) → s.tx ≢ tx → in_slot (Some s) tx ≡ []
+other-slot s tx other = rw (ne_eqb s.tx tx other) refl
+
+pub free-slot : (s : Slot) (tx : ℕ) → s.items.items ≡ [] → in_slot (Some s) tx ≡ []
+free-slot s tx none = elim (cases_Bool (s.tx == tx)) [
+  | inl hit ↦ rw hit none
+  | inr miss ↦ rw miss refl
+]
+
+-- who may have the slot, and who hasn't it
+pub held-others : (s : Slot) (tx t : ℕ) → MayHold s tx → t ≢ tx → in_slot (Some s) t ≡ []
+held-others s tx t (inl none) other = free-slot s t none
+held-others s tx t (inr own) other = other-slot s t (λ same. other (sym same ∙ own))
+
+pub held-own : (s : Slot) (tx : ℕ) → MayHold s tx → in_slot (Some s) tx ≡ s.items.items
+held-own s tx (inl none) = free-slot s tx none ∙ sym none
+held-own s tx (inr own) = own-slot s tx own
+
+-- a slot is changed in its place
+pub slots-others : (old : List Slot) (n : ℕ) (s new : Slot) (tx : ℕ) → slice_get old n ≡ Some s
+    → ((t : ℕ) → t ≢ tx → in_slot (Some new) t ≡ in_slot (Some s) t)
+    → (k t : ℕ) → t ≢ tx → in_slot (slice_get (set old n new) k) t ≡ in_slot (slice_get old k) t
+slots-others old n s new tx at others k t other = elim (cases_eq k n) [
+  | inl same ↦ rw (same, get_set_same old n new (slice_get_within old n s at), at) (others t other)
+  | inr apart ↦ rw (get_set_other old n k new apart) refl
+]
+
+-- ---- both parts
+
+pub or_else-none : (own others : List Name) → own ≡ [] → or_else own others ≡ others
+or_else-none own others none = rw none refl
+
+pub or_else-some : (own others : List Name) → (own ≡ [] → ⊥) → or_else own others ≡ own
+or_else-some [] others some = absurd (some refl)
+or_else-some (x ∷ xs) others some = refl
+
+pub or_else-nothing : (own : List Name) → or_else own [] ≡ own
+or_else-nothing [] = refl
+or_else-nothing (x ∷ xs) = refl
+
+pub or_else-push : (own others : List Name) (x : Name) → (own ≡ [] → others ≡ []) → or_else (own ++ x ∷ []) others ≡ or_else own others ++ x ∷ []
+or_else-push [] others x none = rw (none refl) refl
+or_else-push (y ∷ ys) others x none = refl
+
+-- a change at one transaction, in both parts
+module _ (old new : Pending) (tx : ℕ)
+    (slots : (k t : ℕ) → t ≢ tx → in_slot (slice_get new.slots.items k) t ≡ in_slot (slice_get old.slots.items k) t)
+    (reads : (t : ℕ) → t ≢ tx → or_nothing (get nat_cmp new.reads t) ≡ or_nothing (get nat_cmp old.reads t)) where
+  pub parts-others : (t : ℕ) → t ≢ tx → items_by new t ≡ items_by old t
+  parts-others t other = ap₂ or_else (slots (place t) t other) (reads t other)
+
+  pub parts-added : (x : Name) → items_by new tx ≡ items_by old tx ++ x ∷ [] → AddsRead old new tx x
+  parts-added x is = record { own = is; others = parts-others }
+
+  pub parts-same : items_by new tx ≡ items_by old tx → AreSame old new
+  parts-same same t = elim (cases_Bool (t == tx)) [
+    | inl hit ↦ subst (λ u. items_by new u ≡ items_by old u) (sym (eqb-true t tx hit)) same
+    | inr miss ↦ parts-others t (eqb-false t tx miss)
   ]
 
--- a value that is written back as it was
-pub unchanged : {A E : Type 0} (r : Result A E) (old new : Pending) (tx : ℕ) (w : Option (Vec Name Global))
-    → Updates nat_cmp old.reads new.reads tx w → items_by old tx ≡ or_nothing w → OnErr r (AreSame old new)
-unchanged (Ok a) old new tx w updates same = tt
-unchanged (Err e) old new tx w updates same = same-still old new tx w updates same
+pub ok-then : {T E P Q : Type 0} (r : Result T E) → OnOk r P → (P → Q) → OnOk r Q
+ok-then (Ok x) p f = f p
+ok-then (Err e) p f = tt
+
+pub err-then : {T E P Q : Type 0} (r : Result T E) → OnErr r P → (P → Q) → OnErr r Q
+err-then (Ok x) p f = tt
+err-then (Err e) p f = f p
 
 -- ---- reads in a longer log
 

@@ -7,7 +7,7 @@ ghost use Rattle.sgt_site.specs.State.{IsVersionWritten};
 ghost use Rattle.sgt_site.specs.private.Cells.{adds};
 ghost use Rattle.sgt_site.specs.declared.cell.Reader.{Reader as CommittedReader};
 
-use crate::readings::{Readings, insert};
+use crate::readings::{Readings, insert, make_place};
 use sgt_arena::Handle;
 use sgt_names::{Change, Holding, Item, Seen, Touch, Tx, Value};
 use std::alloc::{AllocError, Global};
@@ -171,8 +171,8 @@ impl Cell {
         ensures ok { OnOk result (0 < self.new.has_room) }
         ensures more { self.old.has_room ≤ self.new.has_room }
     {
-        self.writers.reserve(1)?;
-        self.readers.reserve(1)
+        make_place(&mut self.writers)?;
+        make_place(&mut self.readers)
     }
 
     /// Notes a commit that touches the item.

@@ -25,6 +25,9 @@ pub(crate) struct Cells {
 // How many hints there are for each item.
 const HINTS_EACH: usize = 8;
 
+// A hint of no item.
+const NONE: u16 = u16::MAX;
+
 impl Model for Cells {
     ghost use Rattle.std.specs.Prelude.{List};
     ghost use Rattle.sgt_site.specs.private.Cells.{Contents, AreCells};
@@ -81,7 +84,7 @@ impl Cells {
         ensures found { IfSome result (IsAt (λ c. c.item) self.now item) }
         ensures absent { IfNone result (HasItem self.now item → ⊥) }
     {
-        search(self.cells.as_slice(), self.hints.as_slice(), item)
+        search(self.cells.as_slice(), self.hints.as_slice(), &item)
     }
 
     pub(crate) fn has(&self, item: Item) -> bool
@@ -149,34 +152,27 @@ fn versions_in(alloc: Global, cells: &[Cell]) -> Result<Vec<u64>, AllocError>
     cells.iter().map(Cell::version).collect(alloc)
 }
 
-// A number made of the bytes of a name.
-fn key_of(name: &[u8]) -> u64 {
-    match (name.first_chunk::<4>(), name.last_chunk::<4>()) {
-        (Some(front), Some(back)) => {
-            (u32::from_le_bytes(*front) as u64) << 32 | u32::from_le_bytes(*back) as u64
-        }
-        _ => name.iter().fold(0u64, |key, byte| key << 8 | *byte as u64),
-    }
-}
-
 // Which of so many hints is the item's.
+#[inline(always)]
 fn slot_of(item: &Item, slots: usize) -> usize {
-    let spread = key_of(item.as_bytes()).wrapping_mul(0x9e37_79b9_7f4a_7c15);
+    let spread = item.key().wrapping_mul(0x9e37_79b9_7f4a_7c15);
     ((spread >> 32).wrapping_mul(slots as u64) >> 32) as usize
 }
 
-// The place that is hinted for an item.
-fn hint_of(hints: &[u16], item: &Item) -> usize {
-    match hints.get(slot_of(item, hints.len())) {
+// The hint in this slot.
+#[inline(always)]
+fn hint_at(hints: &[u16], slot: usize) -> usize {
+    match hints.get(slot) {
         Some(hint) => *hint as usize,
-        None => 0,
+        None => NONE as usize,
     }
 }
 
-// Hints this place for an item.
+// Hints this place for an item: in the item's slot, or in the one beside it where that is taken.
 fn set_hint(hints: &mut [u16], item: &Item, place: usize) {
     let slot = slot_of(item, hints.len());
-    if let Some(hint) = hints.get_mut(slot) {
+    let own = hint_at(hints, slot) == NONE as usize;
+    if let Some(hint) = hints.get_mut(if own { slot } else { slot ^ 1 }) {
         if let Ok(short) = u16::try_from(place) {
             *hint = short;
         }
@@ -185,13 +181,14 @@ fn set_hint(hints: &mut [u16], item: &Item, place: usize) {
 
 // The hints for these items, each at its place. Nothing need be known of them.
 fn hints_of(alloc: Global, items: &[Holding]) -> Result<Vec<u16>, AllocError> {
-    let mut hints = vec![in alloc; 0u16; items.len().saturating_mul(HINTS_EACH)]?;
+    let mut hints = vec![in alloc; NONE; items.len().saturating_mul(HINTS_EACH)]?;
     for place in 0..items.len() {
         set_hint(hints.as_mut_slice(), &items[place].item, place);
     }
     Ok(hints)
 }
 
+#[inline(never)]
 fn is_of(cell: &Cell, item: &Item) -> bool
     ensures { IsTrue result ↔ (cell.now.item ≡ item.now) }
 {
@@ -199,6 +196,7 @@ fn is_of(cell: &Cell, item: &Item) -> bool
 }
 
 // Whether the item is at this place.
+#[inline(always)]
 fn is_at(cells: &[Cell], place: usize, item: &Item) -> bool
     ensures { IsTrue result
         → (c : Contents) × (slice_get cells.now place ≡ Some c) × (c.item ≡ item.now) }
@@ -209,23 +207,40 @@ fn is_at(cells: &[Cell], place: usize, item: &Item) -> bool
     }
 }
 
-// Where the item is. The hint is tried first.
-fn search(cells: &[Cell], hints: &[u16], item: Item) -> Option<usize>
+// Where the item is. The hints are tried first.
+#[inline(always)]
+fn search(cells: &[Cell], hints: &[u16], item: &Item) -> Option<usize>
     requires { CellsRise cells.now }
-    ensures found { IfSome result (IsAt (λ c. c.item) cells.now item) }
-    ensures absent { IfNone result (HasItem cells.now item → ⊥) }
+    ensures found { IfSome result (IsAt (λ c. c.item) cells.now item.now) }
+    ensures absent { IfNone result (HasItem cells.now item.now → ⊥) }
 {
-    let hint = hint_of(hints, &item);
-    if is_at(cells, hint, &item) {
+    let slot = slot_of(item, hints.len());
+    let hint = hint_at(hints, slot);
+    if is_at(cells, hint, item) {
         return Some(hint);
     }
-    match search_all(cells, item) {
+    search_on(cells, hints, slot ^ 1, item)
+}
+
+// Where the item is. The hint in this slot is tried first.
+#[inline(never)]
+fn search_on(cells: &[Cell], hints: &[u16], slot: usize, item: &Item) -> Option<usize>
+    requires { CellsRise cells.now }
+    ensures found { IfSome result (IsAt (λ c. c.item) cells.now item.now) }
+    ensures absent { IfNone result (HasItem cells.now item.now → ⊥) }
+{
+    let hint = hint_at(hints, slot);
+    if is_at(cells, hint, item) {
+        return Some(hint);
+    }
+    match search_all(cells, *item) {
         Ok(at) => Some(at),
         Err(_) => None,
     }
 }
 
 // Where the item is, or where it would go, by a binary search.
+#[inline(never)]
 fn search_all(cells: &[Cell], item: Item) -> Result<usize, usize>
     requires { CellsRise cells.now }
     ensures found { IfOk result (IsAt (λ c. c.item) cells.now item) }
@@ -261,7 +276,7 @@ fn reserve_for(cells: &mut Vec<Cell>, hints: &[u16], item: Item) -> bool
     ensures same { AreChanged SameButRoom cells.old.items cells.new.items }
     ensures room { IsTrue result → All (λ c. c.item ≡ item → 0 < c.has_room) cells.new.items }
 {
-    match search(cells.as_slice(), hints, item) {
+    match search(cells.as_slice(), hints, &item) {
         Some(at) => reserve_at(cells, at),
         None => true,
     }
@@ -311,7 +326,7 @@ fn note_in(cells: &mut Vec<Cell>, versions: &mut [u64], hints: &[u16], by: &Inst
     ensures noted { AreChanged (NotesItem by.now touch.now) cells.old.items cells.new.items }
     ensures versions { versions.new ≡ versions_of cells.new.items }
 {
-    match search(cells.as_slice(), hints, touch.item) {
+    match search(cells.as_slice(), hints, &touch.item) {
         Some(at) => note_at(cells, versions, at, by, touch),
         None => {}
     }

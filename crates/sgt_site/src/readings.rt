@@ -1,6 +1,7 @@
 //! The reads of an item.
 
-ghost use Rattle.std.specs.Prelude.{◌≡◌, ◌<◌, ◌≤◌, length, IsTrue, IfOk, IfErr, vec_len, vec_capacity};
+ghost use Rattle.std.specs.Prelude.{◌≡◌, ◌<◌, ◌≤◌, ◌∷◌, ◌++◌, [], length, is_ok, if◌then◌else◌, IsTrue, IfOk, IfErr, OnOk, vec_len, vec_capacity};
+ghost use Rattle.std.specs.BTreeMap.{get};
 ghost use Rattle.std.specs.List.{insert as inserted};
 ghost use Rattle.std.specs.Ordering.{nat_cmp};
 ghost use Rattle.sgt_names.specs.Ordered.{IsRisingBy, IsAt, IsGapFor};
@@ -55,13 +56,14 @@ impl Readings {
     }
 
     /// What the transaction's read answered, if there is one.
+    #[inline(always)]
     pub(crate) fn seen_by(&self, tx: Tx) -> Option<Seen>
         ensures { (seen : Answer)
             → (result ≡ Some seen) ↔ Contains self.now (record { tx = tx; seen = seen }) }
     {
         match search(self.readings.as_slice(), tx) {
             Ok(at) => Some(self.readings[at].seen),
-            Err(_) => self.late.get(&tx).copied(),
+            Err(_) => late_by(&self.late, tx),
         }
     }
 
@@ -73,12 +75,30 @@ impl Readings {
         ensures err { OnErr result (self.new ≡ self.old) }
     {
         if are_below(self.readings.as_slice(), self.readings.len(), tx) {
-            self.readings.push(Reading { tx, seen })?;
+            push(&mut self.readings, Reading { tx, seen })?;
         } else {
             self.late.insert(tx, seen)?;
         }
         Ok(())
     }
+}
+
+// What a late read of the transaction answered. Mostly there are none.
+#[inline(always)]
+fn late_by(late: &BTreeMap<Tx, Seen>, tx: Tx) -> Option<Seen>
+    ensures { result ≡ get nat_cmp late.now tx }
+{
+    if late.is_empty() {
+        return None;
+    }
+    get_late(late, tx)
+}
+
+#[inline(never)]
+fn get_late(late: &BTreeMap<Tx, Seen>, tx: Tx) -> Option<Seen>
+    ensures { result ≡ get nat_cmp late.now tx }
+{
+    late.get(&tx).copied()
 }
 
 // How many of the last reads are looked at first.
@@ -124,13 +144,57 @@ fn are_below(readings: &[Reading], place: usize, tx: Tx) -> bool
     place == 0 || readings[place - 1].tx.number() < tx.number()
 }
 
-// Where the transaction's read is, or where it would go, by a binary search.
+// Where the transaction's read is, or where it would go. Mostly it is the first of these, or there is none.
+#[inline(always)]
 fn search_all(readings: &[Reading], tx: Tx) -> Result<usize, usize>
     requires { IsRisingBy (λ m. m.tx) nat_cmp readings.now }
     ensures found { IfOk result (IsAt (λ m. m.tx) readings.now tx) }
     ensures absent { IfErr result (IsGapFor (λ m. m.tx) nat_cmp readings.now tx) }
 {
+    if readings.is_empty() {
+        return Err(0);
+    }
+    if readings[0].tx.number() == tx.number() {
+        return Ok(0);
+    }
+    search_many(readings, tx)
+}
+
+// Where the transaction's read is, or where it would go, by a binary search.
+#[inline(never)]
+fn search_many(readings: &[Reading], tx: Tx) -> Result<usize, usize>
+    requires { IsRisingBy (λ m. m.tx) nat_cmp readings.now }
+    ensures found { IfOk result (IsAt (λ m. m.tx) readings.now tx) }
+    ensures absent { IfErr result (IsGapFor (λ m. m.tx) nat_cmp readings.now tx) }
+{
     readings.binary_search_by(|m| m.tx.number().cmp(&tx.number()))
+}
+
+// So much room is made at once: lists are mostly short, and there are many.
+const FIRST: usize = 8;
+
+/// Makes room for one more element, if there is none.
+#[inline(always)]
+pub(crate) fn make_place<T>(items: &mut Vec<T>) -> Result<(), AllocError>
+    ensures same { (items.new.items ≡ items.old.items) × (vec_len items.new ≡ vec_len items.old) }
+    ensures ok { OnOk result (vec_len items.new < vec_capacity items.new) }
+    ensures more { vec_capacity items.old ≤ vec_capacity items.new }
+{
+    if items.len() < items.capacity() {
+        return Ok(());
+    }
+    items.reserve(FIRST)
+}
+
+// Adds an element at the end.
+#[inline(always)]
+fn push<T: Drop>(items: &mut Vec<T>, item: T) -> Result<(), AllocError>
+    ensures items { items.new.items
+        ≡ (if is_ok result then items.old.items ++ item ∷ [] else items.old.items) }
+{
+    make_place(items)?;
+    items.push_reserved(item);
+    Ok(())
 }
 
 /// Inserts an element where there is room for it.
@@ -140,5 +204,9 @@ pub(crate) fn insert<T: Drop>(items: &mut Vec<T>, at: usize, item: T)
     ensures items { items.new.items ≡ inserted items.old.items at item }
     ensures capacity { vec_capacity items.new ≡ vec_capacity items.old }
 {
-    let _ = items.insert(at, item);
+    if at == items.len() {
+        items.push_reserved(item);
+    } else {
+        let _ = items.insert(at, item);
+    }
 }

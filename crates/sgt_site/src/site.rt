@@ -367,7 +367,9 @@ fn comes_before(a: &Holding, b: &Holding) -> bool
     }
 }
 
-// How many of the last that have ended are looked at first.
+// How many of the last that have ended are looked at first, and how many then.
+const FEW: usize = 4;
+
 const NEAR: usize = 64;
 
 // Where the transaction is among those that have ended, or where it would go. It is mostly looked for among the last.
@@ -393,8 +395,12 @@ fn near_end(ended: &[Tx], tx: Tx) -> usize
     if are_below(ended, end, tx) {
         return end;
     }
-    let few = end.saturating_sub(NEAR);
-    if are_below(ended, few, tx) { few } else { 0 }
+    let few = end.saturating_sub(FEW);
+    if are_below(ended, few, tx) {
+        return few;
+    }
+    let near = end.saturating_sub(NEAR);
+    if are_below(ended, near, tx) { near } else { 0 }
 }
 
 // Whether all before this place are known to be smaller, by the last of them.
@@ -406,8 +412,22 @@ fn are_below(ended: &[Tx], place: usize, tx: Tx) -> bool
     place > 0 && ended[place - 1].number() < tx.number()
 }
 
-// Where the transaction is among these, or where it would go, by a binary search.
+// Where the transaction is among these, or where it would go. Mostly there are none.
+#[inline(always)]
 fn search_all(ended: &[Tx], tx: Tx) -> Result<usize, usize>
+    requires { IsRisingBy (λ t. t) nat_cmp ended.now }
+    ensures found { IfOk result (IsAt (λ t. t) ended.now tx) }
+    ensures absent { IfErr result (IsGapFor (λ t. t) nat_cmp ended.now tx) }
+{
+    if ended.is_empty() {
+        return Err(0);
+    }
+    search_many(ended, tx)
+}
+
+// Where the transaction is among these, or where it would go, by a binary search.
+#[inline(never)]
+fn search_many(ended: &[Tx], tx: Tx) -> Result<usize, usize>
     requires { IsRisingBy (λ t. t) nat_cmp ended.now }
     ensures found { IfOk result (IsAt (λ t. t) ended.now tx) }
     ensures absent { IfErr result (IsGapFor (λ t. t) nat_cmp ended.now tx) }

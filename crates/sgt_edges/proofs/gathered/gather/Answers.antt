@@ -5,8 +5,8 @@ use Rattle.sgt_edges.proofs.Gathers.{near-given, near-stands, item-new, draft-ne
 use Rattle.sgt_edges.proofs.Touching.{given-whole, stands-whole, new-whole, new-part}
 use Rattle.sgt_edges.proofs.gathered.gather.Goals as goal
 
-pub returns-then-sees_too_new-clause-refused : goal.returns-then-sees_too_new-clause-refused
-returns-then-sees_too_new-clause-refused c =
+pub returns-in-Err-clause-refused : goal.returns-in-Err-clause-refused
+returns-in-Err-clause-refused c =
     let ts = c.args.draft.now.touched in
     let is = c.at-here.ensures.part ∙ ap (λ n. at_site n ts) c.number.ensures.number in
     new-whole c.args.site.now ts c.args.me c.at-here.result.now is (item-new c.args.site.now _ c.args.me (c.if-sees_too_new.ensures.0 refl))
@@ -21,16 +21,16 @@ pub returns-in-Ok-clause-stands : goal.returns-in-Ok-clause-stands
 returns-in-Ok-clause-stands c =
     let ts = c.args.draft.now.touched in
     let is = c.at-here.ensures.part ∙ ap (λ n. at_site n ts) c.number.ensures.number in
-    stands-whole c.args.site.now ts c.args.me c.at-here.result.now is _ (near-stands _ _ _ _ c.to_neighbours.ensures.site (λ new. false≢true (c.if-sees_too_new.ensures.1 (draft-new c.args.site.now _ c.args.me new))) c.in-Ok.ensures.near)
+    stands-whole c.args.site.now ts c.args.me c.at-here.result.now is _ (near-stands _ _ _ _ c.to_neighbours.ensures.site (λ new. c.in-Ok.ensures.seen (draft-new c.args.site.now _ c.args.me new)) c.in-Ok.ensures.near)
 
 pub returns-in-Ok-clause-allowed : goal.returns-in-Ok-clause-allowed
 returns-in-Ok-clause-allowed c = λ new.
     let ts = c.args.draft.now.touched in
     let is = c.at-here.ensures.part ∙ ap (λ n. at_site n ts) c.number.ensures.number in
-    false≢true (c.if-sees_too_new.ensures.1 (draft-new c.args.site.now _ c.args.me (new-part c.args.site.now ts c.args.me c.at-here.result.now is new)))
+    c.in-Ok.ensures.seen (draft-new c.args.site.now _ c.args.me (new-part c.args.site.now ts c.args.me c.at-here.result.now is new))
 
-pub returns-in-Err-clause-refused : goal.returns-in-Err-clause-refused
-returns-in-Err-clause-refused c = λ new.
+pub returns-in-Err-2-clause-refused : goal.returns-in-Err-2-clause-refused
+returns-in-Err-2-clause-refused c = λ new.
     let ts = c.args.draft.now.touched in
     let is = c.at-here.ensures.part ∙ ap (λ n. at_site n ts) c.number.ensures.number in
     false≢true (c.if-sees_too_new.ensures.1 (draft-new c.args.site.now _ c.args.me (new-part c.args.site.now ts c.args.me c.at-here.result.now is new)))

@@ -1,4 +1,7 @@
-use Rattle.std.proofs.Common.{sym, ap, ◌∙◌, ◌++◌, subst, arith, length, drop}
+use Rattle.std.proofs.Common.{sym, ap, ◌∙◌, ◌++◌, ◌<◌, subst, arith, length, drop}
+use Rattle.std.specs.Prelude.{vec_len}
+use Rattle.std.proofs.lemmas.Bool.Decides.{nat_tests}
+use Rattle.std.proofs.lemmas.List.{length-drop}
 use Rattle.std.proofs.lemmas.Result.{err_from_is_err_and}
 use Rattle.sgt_order.specs.Graph.{IsAcyclic, IsPlaced}
 use Rattle.sgt_order.specs.SerializationGraph.{Joins}
@@ -9,6 +12,17 @@ use Rattle.sgt_order.proofs.Moving.{among_moved, length-placed}
 use Rattle.sgt_order.proofs.Nodes.{placed_within}
 use Rattle.sgt_order.proofs.Reaching.{closes_cycle, marks_among, searched_traced, walk_is_cycle}
 use Rattle.sgt_order.proofs.admission.admit_in.Goals as goal
+
+pub closing_if-requires-clause-any : goal.closing_if-requires-clause-any
+closing_if-requires-clause-any c k marked =
+    let order = c.args.dag.now.order in
+    let f = c.search.new.region.first in
+    let mark = subst (λ ms. IsMarked ms k) c.as_slice-3.ensures.value marked in
+    let member = marks_among _ _ _ _ _ _ c.search.ensures.searched _ c.search.ensures.begins k mark.0 mark.1 in
+    let has = member.1.1 in
+    let long = length-drop f order.items in
+    let lt : f < vec_len order = omega (arith, has, long, order.ok) in
+    grind (arith, nat_tests)
 
 pub walk_back-requires-clause-traced : goal.walk_back-requires-clause-traced
 walk_back-requires-clause-traced c =

@@ -1,27 +1,21 @@
-use Rattle.std.proofs.Common.{List, refl, sym, ap, subst, ◌∙◌, ◌++◌, ◌∷◌, [], Some}
-use Rattle.std.specs.Prelude.{IsSome}
-use Rattle.sgt_names.specs.Name.{Name}
-use Rattle.sgt_site.specs.private.Pending.{or_nothing}
-use Rattle.sgt_site.proofs.PendingReads.{added, unchanged}
+use Rattle.std.proofs.Common.{refl, ap, ◌∙◌}
+use Rattle.sgt_site.specs.private.Pending.{or_else, or_nothing, in_slot, place}
+use Rattle.std.specs.BTreeMap.{get}
+use Rattle.std.specs.Prelude.{slice_get}
+use Rattle.std.specs.Ordering.{nat_cmp}
+use Rattle.sgt_site.proofs.PendingReads.{parts-added, or_else-push, ok-then, none-get}
 use Rattle.sgt_site.proofs.pending.Pending.add.Goals as goal
 
-pub returns-in_err-push-in-Some-clause-err : goal.returns-in_err-push-in-Some-clause-err
-returns-in_err-push-in-Some-clause-err c =
-    let updates = (c.get_mut.follows.holds c.push.new.self).3 (subst IsSome c.in-Some.ensures.value refl) in
-    let was = sym {A = List Name} (ap or_nothing c.in-Some.ensures.value) in
-    unchanged c.from_residual.result c.args.self.now (record c.args.self.now { reads = c.get_mut.follows.lender c.push.new.self }) c.args.tx (Some c.push.new.self) updates
-    (was ∙ sym c.in_err-push-in-Some.ensures.items)
+pub add_at-requires : goal.add_at-requires
+add_at-requires c = rw c.as_slice.ensures.value at (c.if-may_add.ensures.may refl)
 
-pub returns-in_ok-push-in-Some-clause-ok : goal.returns-in_ok-push-in-Some-clause-ok
-returns-in_ok-push-in-Some-clause-ok c =
-    let updates = (c.get_mut.follows.holds c.push.new.self).3 (subst IsSome c.in-Some.ensures.value refl) in
-    let was = sym {A = List Name} (ap or_nothing c.in-Some.ensures.value) in
-    added c.args.self.now (record c.args.self.now { reads = c.get_mut.follows.lender c.push.new.self }) c.args.tx (Some c.push.new.self) updates c.args.item
-    (c.in_ok-push-in-Some.ensures.items ∙ ap (λ xs. xs ++ c.args.item ∷ []) (sym was))
-
-pub returns-in_ok-insert-in-None-clause-ok : goal.returns-in_ok-insert-in-None-clause-ok
-returns-in_ok-insert-in-None-clause-ok c =
-    let updates = rw c.get_mut.follows.holds-at-none at c.in_ok-insert-in-None.ensures.updates in
-    let was = sym {A = List Name} (ap or_nothing c.in-None.ensures.value) in
-    added c.args.self.now (record c.args.self.now { reads = c.insert.new.self }) c.args.tx (Some c.push-in-None.new.self) updates c.args.item
-    (c.in_ok-push-in-None.ensures.items ∙ ap (λ xs. xs ++ c.args.item ∷ []) (c.new-items.ensures.items ∙ sym was))
+pub returns-then-may_add-clause-ok : goal.returns-then-may_add-clause-ok
+returns-then-may_add-clause-ok c =
+    let self = c.args.self.now in
+    let own = in_slot (slice_get self.slots.items (place c.args.tx)) c.args.tx in
+    let others = or_nothing (get nat_cmp self.reads c.args.tx) in
+    let free = rw (c.as_slice.ensures.value, c.place_of-at.ensures) at (c.if-may_add.ensures.free refl) in
+    ok-then c.add_at.result c.add_at.ensures.ok (λ pushed.
+    let now = rw c.place_of-at.ensures at pushed in
+    parts-added self (record self { slots = c.add_at.new.slots }) c.args.tx c.add_at.ensures.others (λ t other. refl) c.args.item
+    (ap (λ xs. or_else xs others) now ∙ or_else-push own others c.args.item (λ none. ap or_nothing (none-get self.reads c.args.tx (c.is_empty.ensures.0 (free none))))))

@@ -1,4 +1,4 @@
-use Rattle.std.proofs.Common.{refl, ◌∙◌, length}
+use Rattle.std.proofs.Common.{refl, length}
 use Rattle.std.proofs.lemmas.Option.{slice_get_read}
 use Rattle.sgt_site.proofs.Found.{found_reading, seen-found, seen-nowhere}
 use Rattle.sgt_site.proofs.LateReads.{seen-front, seen-late}
@@ -14,5 +14,5 @@ returns-in-Ok c =
     (seen-found _ _ _ _ c.self.invariant.rising at (slice_get_read _ (length c.self.inside.readings.items) _ _ refl at.within c.index.ensures)))
 
 pub returns-in-Err : goal.returns-in-Err
-returns-in-Err c = rw (← c.self.view_is) (seen-late _ c.self.inside.late c.self.invariant _ _ (c.copied.ensures ∙ c.get.ensures.value)
+returns-in-Err c = rw (← c.self.view_is) (seen-late _ c.self.inside.late c.self.invariant _ _ c.late_by.ensures
     (seen-nowhere _ _ _ (rw c.as_slice.ensures.value at c.in-Err.ensures.absent)))

@@ -4,7 +4,7 @@ use Rattle.std.proofs.lemmas.Cmp.{nat_cmp_total}
 use Rattle.std.proofs.lemmas.Fn.{always_returns_same}
 use Rattle.std.proofs.lemmas.Map.Lookups.{exact_unsigned}
 use Rattle.sgt_names.proofs.Ranged.{searched}
-use Rattle.sgt_site.proofs.site.search_all.Goals as goal
+use Rattle.sgt_site.proofs.site.search_many.Goals as goal
 
 pub returns-clause-found : goal.returns-clause-found
 returns-clause-found c =

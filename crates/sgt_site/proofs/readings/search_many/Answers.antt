@@ -5,7 +5,7 @@ use Rattle.std.proofs.lemmas.Fn.{always_returns_same}
 use Rattle.std.proofs.lemmas.Map.Lookups.{exact_unsigned}
 use Rattle.sgt_site.specs.declared.readings.Reading.{Reading}
 use Rattle.sgt_names.proofs.Ranged.{searched}
-use Rattle.sgt_site.proofs.readings.search_all.Goals as goal
+use Rattle.sgt_site.proofs.readings.search_many.Goals as goal
 
 pub returns-clause-found : goal.returns-clause-found
 returns-clause-found c =

@@ -1,6 +1,0 @@
-use Rattle.std.proofs.Common.{None}
-use Rattle.sgt_site.proofs.PendingReads.{changed-others}
-use Rattle.sgt_site.proofs.pending.Pending.drop_reads.Goals as goal
-
-pub returns-clause-others : goal.returns-clause-others
-returns-clause-others c = changed-others c.args.self.now (record c.args.self.now { reads = c.remove.new.self }) c.args.tx None c.remove.ensures.updates
