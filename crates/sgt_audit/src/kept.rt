@@ -7,7 +7,7 @@ ghost use Rattle.sgt_notation.specs.Spelling.{IsLine, line_text};
 use crate::faults::{Fault, FirstFault};
 use crate::format::{is_allowed, read_line};
 use crate::judging::judge_line;
-use crate::known::{Known, is_usual, look_up};
+use crate::known::look_up;
 use crate::sections::{Sections, add_to};
 use crate::tracked::Tracked;
 use sgt_audit_decisions::Decided;
@@ -31,8 +31,7 @@ impl Kept {
     ghost use Rattle.sgt_audit.specs.Faults.{IsLineIn, Stage, Rule, Breaks, whole};
     ghost use Rattle.sgt_audit.specs.Kept.{IsAt};
     ghost use Rattle.sgt_audit.specs.private.NextLine.{Follows};
-    ghost use Rattle.sgt_audit.specs.private.Ending.{EndsWith, IsComplete, IsOpenYet, limit_of};
-    ghost use Rattle.sgt_audit.specs.private.Known.{IsKnownLine};
+    ghost use Rattle.sgt_audit.specs.private.Ending.{EndsWith, IsComplete, limit_of};
     ghost use Rattle.sgt_audit.specs.declared.machine.Progress.TheVariants.{Reading};
     ghost use Rattle.sgt_names.specs.declared.entry.Entry.TheVariants.{Read, Write, Commit};
     ghost use Rattle.sgt_notation.specs.declared.SectionLine.TheVariants.{Logged};
@@ -146,51 +145,15 @@ impl Kept {
             return Ok(Some(Fault::Trailing));
         }
         let known = look_up(&self.certificate, &self.tracked.state, line);
-        if is_usual(line, &known) {
-            self.take(line, &known)
-        } else {
-            self.take_seldom(*line, known)
-        }
-    }
-
-    /// The next line, where sections are still to come, of which this is known.
-    #[inline(always)]
-    fn take(
-        &mut self,
-        line: &SectionLine,
-        known: &Option<Known>,
-    ) -> Result<Option<Fault>, AllocError>
-        ensures sections { is_some self.new.sections ≡ is_some self.old.sections }
-        ensures follows { IsOpenYet self.old.tracked.place
-            → IsKnownLine self.old.certificate.decisions self.old.tracked.state line.now known.now
-            → IsLineIn self.old.second line.now → (s : Stage) → IsAt self.old s
-            → IfOk result (Follows s (line_text line.now) (Reading self.new)) }
-    {
-        if let Some(fault) = judge_line(&self.tracked, line, known) {
+        if let Some(fault) = judge_line(&self.tracked, line, &known) {
             return Ok(Some(fault));
         }
-        self.tracked.enter(&self.certificate, line, known)?;
+        self.tracked.enter(&self.certificate, line, &known)?;
         add_to(&mut self.sections, line)?;
         if self.tracked.place.is_complete() && !self.tracked.walks.met {
             return Ok(Some(Fault::WalkStep));
         }
         Ok(None)
-    }
-
-    /// The same, for lines that are less frequent.
-    #[inline(never)]
-    fn take_seldom(
-        &mut self,
-        line: SectionLine,
-        known: Option<Known>,
-    ) -> Result<Option<Fault>, AllocError>
-        ensures sections { is_some self.new.sections ≡ is_some self.old.sections }
-        ensures follows { IsOpenYet self.old.tracked.place
-            → IsKnownLine self.old.certificate.decisions self.old.tracked.state line known
-            → IsLineIn self.old.second line → (s : Stage) → IsAt self.old s
-            → IfOk result (Follows s (line_text line) (Reading self.new)) }
-    {
-        self.take(&line, &known)
     }
 
     /// The next line, without its LF.

@@ -2,7 +2,6 @@
 
 ghost use Rattle.sgt_audit.specs.private.Known.{IsKnownLine};
 
-use crate::tracked::is_listed;
 use sgt_audit_cells::SiteState;
 use sgt_audit_decisions::{Decided, Ruling};
 use sgt_notation::SectionLine;
@@ -27,17 +26,5 @@ pub fn look_up(certificate: &Decided, state: &SiteState, line: &SectionLine) -> 
             ruling: certificate.ruling_on(entry),
         }),
         _ => None,
-    }
-}
-
-/// Whether the line is an entry that has its item, if it has one, in the open section, and its transaction decided as it says.
-#[inline(always)]
-pub(crate) fn is_usual(line: &SectionLine, known: &Option<Known>) -> bool {
-    match line {
-        SectionLine::Logged(entry) => match known {
-            Some(known) => known.ruling.suiting.is_some() && is_listed(known, entry),
-            None => false,
-        },
-        _ => false,
     }
 }

@@ -224,7 +224,7 @@ impl Tracked {
             → IsTracked certificate.now.decisions (with_next b b.current line.now) self.new) }
     {
         self.walks.pass(certificate, &self.state, line);
-        enter_line(&mut self.state, line, known)?;
-        self.place.enter(line)
+        self.place.enter(line)?;
+        enter_line(&mut self.state, line, known)
     }
 }

@@ -7,19 +7,12 @@ use Rattle.sgt_audit.specs.declared.machine.Machine.{Machine}
 use Rattle.sgt_audit.specs.declared.machine.Progress.{Progress}
 use Rattle.sgt_audit.specs.declared.machine.Progress.TheVariants as at
 use Rattle.sgt_audit.specs.Faults.{Stage, headed, complete, last, Rule, Breaks}
-use Rattle.sgt_audit.specs.Kept.{IsAt, IsPlace}
-use Rattle.sgt_audit.specs.Reading.{Begun, IsBegun, lines_read}
-use Rattle.sgt_audit.specs.declared.place.Place.{Place}
-use Rattle.sgt_cert.specs.Text.{AreSections}
+use Rattle.sgt_audit.specs.Kept.{IsAt}
 
 -- all sections were read
 abbrev pub IsComplete : Stage → Type 0
 IsComplete (complete second c before) = Unit {0}
 IsComplete _ = ⊥
-
--- where the place is behind sections, more of them are to come
-abbrev pub IsOpenYet : Place → Type 0
-IsOpenYet p = (b : Begun) → IsBegun b → IsPlace b p → AreSections b.sites (lines_read b) → ⊥
 
 -- at the end of the input, in the line of this number, with these bytes behind the last LF: all was
 -- read, or the least fault
