@@ -338,9 +338,6 @@ module _ (s : SiteState) (ts : List Touch) (me : Handle) where
       let at = Contains_at ts t.0 t.1 in
       Any-from_at (IsTooNew s) ts at.0 t.0 at.1 (t.2, (record { value = k.1.1; version = k.1.2 }, t.4, subst (λ y. version_at s.entries y < k.1.2) (sym t.3) k.3))
 
-  pub not-new : (Any (IsTooNew s) ts → ⊥) → (i : ℕ) (t : Touch) → slice_get ts i ≡ Some t → IsTooNew s t → ⊥
-  not-new none i t at is = none (Any-from_at (IsTooNew s) ts i t at is)
-
 -- a version that is not too new is one that the item has had
 pub seen-known : (s : SiteState) (t : Touch) (seen : Seen) → t.site ≡ s.number → t.seen ≡ Some seen → (IsTooNew s t → ⊥) → seen.version ≤ version_at s.entries t.item
 seen-known s t seen here some fine = elim (cases_lt (version_at s.entries t.item) seen.version) [

@@ -1,5 +1,5 @@
 use mathlib.Core.Bool.{false≢true}
-use Rattle.std.proofs.Common.{◌≡◌, ◌<◌, refl, rules, sym, subst}
+use Rattle.std.proofs.Common.{◌≡◌, ◌<◌, rules, sym, subst}
 use Rattle.sgt_edges.proofs.Gathers.{adds-both, one-parts}
 use Rattle.sgt_edges.proofs.Once.{once-both, read-change-differ}
 use Rattle.sgt_edges.proofs.gathered.add_edges.Goals as goal
