@@ -43,21 +43,10 @@ pub struct SiteState {
     pub last_end: Option<usize>,
 }
 
-/// A number made of the bytes of a name.
-#[inline(always)]
-fn key_of(name: &[u8]) -> u64 {
-    match (name.first_chunk::<4>(), name.last_chunk::<4>()) {
-        (Some(front), Some(back)) => {
-            (u32::from_le_bytes(*front) as u64) << 32 | u32::from_le_bytes(*back) as u64
-        }
-        _ => name.iter().fold(0u64, |key, byte| key << 8 | *byte as u64),
-    }
-}
-
 /// Where the hint for an item is.
 #[inline(always)]
 fn slot_of(item: &Item) -> usize {
-    let spread = key_of(item.as_bytes()).wrapping_mul(0x9e37_79b9_7f4a_7c15);
+    let spread = item.key().wrapping_mul(0x9e37_79b9_7f4a_7c15);
     (spread >> 52) as usize % HINTS
 }
 

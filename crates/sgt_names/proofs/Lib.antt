@@ -4,6 +4,7 @@ pub mod Devices
 pub mod Chosen
 pub mod Increments
 pub mod Kept
+mod Halves
 pub mod Lanes
 pub mod Stored
 pub mod Ranged

@@ -1,6 +1,7 @@
 //! The names of items.
 
-ghost use Rattle.std.specs.Prelude.{◌≡◌, ◌≤◌, ◌-◌, ◌++◌, ◌↔◌, IsTrue, take, replicate};
+ghost use Rattle.std.specs.Prelude.{◌≡◌, ◌≤◌, ◌-◌, ◌++◌, ◌↔◌, IsTrue, take, drop, replicate};
+ghost use Rattle.std.specs.Int.{w64, from_le_bytes};
 ghost use Rattle.std.specs.List.{prefix_len};
 ghost use Rattle.std.specs.Prelude.{Some, refl, bytes_eq};
 ghost use Rattle.std.specs.Ordering.{nat_cmp};
@@ -248,17 +249,25 @@ fn keep_name(padded: &mut [u8; 16], bytes: &[u8]) -> bool
     true
 }
 
+// The number of the first eight bytes, and that of the others.
+#[inline(always)]
+fn halves(bytes: &[u8; 16]) -> (u64, u64)
+    ensures front { result.0 ≡ from_le_bytes w64 (take 8 bytes.now) }
+    ensures back { result.1 ≡ from_le_bytes w64 (drop 8 bytes.now) }
+{
+    match (bytes.first_chunk::<8>(), bytes.last_chunk::<8>()) {
+        (Some(front), Some(back)) => (u64::from_le_bytes(*front), u64::from_le_bytes(*back)),
+        _ => (0, 0),
+    }
+}
+
 // A number made of the bytes.
 #[inline(always)]
 fn bytes_key(bytes: &[u8; 16]) -> u64
     ensures { result ≡ bytes_key bytes.now }
 {
-    match (bytes.first_chunk::<8>(), bytes.last_chunk::<8>()) {
-        (Some(low), Some(high)) => {
-            u64::from_le_bytes(*low) ^ u64::from_le_bytes(*high).rotate_left(29)
-        }
-        _ => 0,
-    }
+    let (front, back) = halves(bytes);
+    front ^ back.rotate_left(29)
 }
 
 // How many bytes stand in front of the first zero.
@@ -275,8 +284,9 @@ fn name_len(bytes: &[u8; 16]) -> usize
 fn are_same(bytes: &[u8; 16], others: &[u8; 16]) -> bool
     ensures { result ≡ bytes_eq bytes.now others.now }
 {
-    let differ = u8x16::from_array(*bytes).simd_ne(u8x16::from_array(*others));
-    differ.to_bitmask() == 0
+    let (front, back) = halves(bytes);
+    let (other_front, other_back) = halves(others);
+    (front == other_front) & (back == other_back)
 }
 
 // These bytes up to a place, and zeros from there on.
