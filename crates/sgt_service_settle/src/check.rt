@@ -80,8 +80,9 @@ fn know_sites(sites: &[Site])
 /// - V10: a version at a site isn't so.
 ///
 /// Memory is linear in the history with its edges, in the logs and items of the sites and in the transactions. So is the time, but that
-/// the operations on an item are sorted, by transaction and by decision, and that each edge is looked up among them by binary search. At a site where an operation isn't joined to a neighbour on its item by an edge of its own,
-/// all edges are gone over, and each operation costs the site's log and the edges that it reaches.
+/// the operations on an item are sorted, by transaction and by decision, and that each edge is looked up among them by binary search.
+/// At a site where an operation isn't joined to a neighbour on its item by an edge of its own, all edges are gone over, and each
+/// operation costs the site's log and the edges that it reaches.
 pub fn check_settled(
     alloc: Global,
     certifier: &Certifier,
