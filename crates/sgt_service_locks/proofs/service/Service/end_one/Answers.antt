@@ -53,7 +53,7 @@ returns-then-not-end_at-clause-touched g c _ none =
     let is = block_here c.args.verdict c.args.here c.args.active.now.draft.touched _ _ c.block_at-entries.ensures c.at.ensures.part in
     c.if-entries-eq0.false (is ∙ block_none c.args.verdict (at_site c.args.here c.args.active.now.draft.touched) none)
 
-pub pass-requires-2-clause-untouched : goal.pass-requires-2-clause-untouched
-pass-requires-2-clause-untouched g c =
+pub pass-requires-then-entries-eq0-clause-untouched : goal.pass-requires-then-entries-eq0-clause-untouched
+pass-requires-then-entries-eq0-clause-untouched g c =
     let is = block_here c.args.verdict c.args.here c.args.active.now.draft.touched _ _ c.block_at-entries.ensures c.at.ensures.part in
     block_empty c.args.verdict (at_site c.args.here c.args.active.now.draft.touched) (sym is ∙ c.if-entries-eq0.true)
