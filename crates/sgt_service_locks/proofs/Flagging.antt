@@ -1,8 +1,8 @@
 -- The flags of the sites that a draft touches.
-use Rattle.std.proofs.Common.{◌≡◌, ◌∙◌, ◌<◌, ℕ, suc, true, false, ◌==◌, Bool, List, [], ◌∷◌, All, Some, length, refl, sym, ap, subst, arith, inl, inr}
+use Rattle.std.proofs.Common.{◌≡◌, ◌∙◌, ◌<◌, ℕ, suc, true, false, ◌==◌, Bool, List, [], ◌∷◌, Some, length, refl, sym, ap, subst, arith, inl, inr}
 use Rattle.std.specs.Prelude.{slice_get, slice_set}
 use Rattle.std.proofs.lemmas.Bool.{cases_eq, true≢false, ne_eqb}
-use Rattle.std.proofs.lemmas.Option.{same_Some, slice_get_within}
+use Rattle.std.proofs.lemmas.Option.{same_Some}
 use Rattle.sgt_site.proofs.Inserts.{get_set_same, get_set_other}
 use Rattle.sgt_names.specs.Draft.{at_site}
 use Rattle.sgt_names.specs.declared.draft.Touch.{Touch}

@@ -1,4 +1,4 @@
-use Rattle.std.proofs.Common.{◌≡◌, ◌<◌, subst, arith, length}
+use Rattle.std.proofs.Common.{arith}
 use Rattle.sgt_service_locks.proofs.Flagging.{flag_kept}
 use Rattle.sgt_service_locks.proofs.touched.mark.Goals as goal
 

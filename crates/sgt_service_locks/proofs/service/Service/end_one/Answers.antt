@@ -1,6 +1,6 @@
-use Rattle.std.proofs.Common.{◌∙◌, ap, sym, subst, arith, ◌+◌}
+use Rattle.std.proofs.Common.{◌∙◌, sym, subst, arith, ◌+◌}
 use Rattle.sgt_names.specs.Draft.{at_site}
-use Rattle.sgt_service_locks.specs.Counts.{AreCounted, only_at, with_others, block_length}
+use Rattle.sgt_service_locks.specs.Counts.{AreCounted, only_at, with_others}
 use Rattle.sgt_service_locks.proofs.Counting.{gains_zero, block_none, block_empty, block_here}
 use Rattle.sgt_service_locks.proofs.Decisions.{later}
 use Rattle.sgt_service_locks.proofs.Noting.{notes_untouched, noted}
