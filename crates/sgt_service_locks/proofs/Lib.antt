@@ -2,6 +2,7 @@ pub mod Adding
 pub mod Counting
 pub mod Decisions
 pub mod Faults
+pub mod Flagging
 pub mod Gathering
 pub mod Items
 pub mod Losing

@@ -1,4 +1,5 @@
 pub mod Counts
+pub mod Flags
 pub mod Guarded
 pub mod Opened
 pub mod Pledges

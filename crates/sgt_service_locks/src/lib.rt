@@ -11,6 +11,7 @@ mod pledging;
 mod read;
 mod seat;
 mod service;
+mod touched;
 
 pub use active::{Active, Back};
 pub use guarded::Guarded;

@@ -3,6 +3,7 @@
 ghost use Rattle.std.specs.Prelude.{◌≡◌, ◌≢◌, ◌↔◌, ◌<◌, [], false, None, All, IsTrue, count_by};
 ghost use Rattle.sgt_service_locks.specs.Counts.{block_length, is_at, is_changed_at};
 ghost use Rattle.sgt_names.specs.Draft.{at_site};
+ghost use Rattle.sgt_service_locks.specs.Flags.{AreFlagged};
 ghost use Rattle.sgt_site.specs.State.{IsPledged};
 
 use crate::active::Active;
@@ -10,6 +11,7 @@ use crate::guarded::Guarded;
 use crate::pledges::{Blocks, Pledges};
 use crate::seat::Seat;
 use crate::service::Service;
+use crate::touched::Flags;
 use sgt_edges::EdgeList;
 use sgt_names::{Draft, Part, SiteNo, Touch, Tx};
 use sgt_service_agreement::ServiceFault;
@@ -29,6 +31,7 @@ impl<L: Ledger> Service<L> {
     ghost use Rattle.std.specs.Prelude.{◌≡◌, ◌≢◌, ◌<◌, ◌≤◌, ◌+◌, ◌++◌, [], ℕ, List, false, Some, Err, IsTrue, IfOk, IfErr, IfSome, OnOk, OnErr, vec_len};
     ghost use Rattle.sgt_service_agreement.specs.declared.fault.ServiceFault.TheVariants.{NotPledged};
     ghost use Rattle.sgt_names.specs.Draft.{at_site};
+    ghost use Rattle.sgt_service_locks.specs.Flags.{AreFlagged};
     ghost use Rattle.sgt_workers.specs.declared.ticket.Ending.TheVariants.{Committed};
     ghost use Rattle.sgt_certifier.specs.History.{tx_under, Replays};
     ghost use Rattle.sgt_certifier.specs.Kept.{Adds, IsExpected, changed_at};
@@ -76,9 +79,10 @@ impl<L: Ledger> Service<L> {
         requires sites { pledges.below ≤ vec_len self.now.sites }
     {
         let mut pledges = pledges;
+        let flags = Flags::of(&active.draft);
         for place in 0..pledges.below() {
             let here = self.number_at(place);
-            if touches(active, here) {
+            if touches(active, &flags, here) {
                 let mut guard = self.lock_site(rt, here);
                 unpledge_held(&mut guard, active.tx);
                 pledges.free(guard, active.tx);
@@ -103,9 +107,10 @@ impl<L: Ledger> Service<L> {
         ensures refused { IfErr result (IsUnpledged (vec_len self.now.sites) active.now) }
     {
         let mut pledges = Pledges::none();
+        let flags = Flags::of(&active.draft);
         for place in 0..self.sites.len() {
             let here = self.number_at(place);
-            if touches(active, here) {
+            if touches(active, &flags, here) {
                 let pledged = self.pledge_at(rt, guarded, here, active, &mut pledges);
                 if let Err(fault) = pledged {
                     self.give_back(rt, active, pledges);
@@ -244,9 +249,10 @@ impl<L: Ledger> Service<L> {
             (IsUngathered (vec_len self.now.sites) guarded.old.certifier.history active.now) }
     {
         let mut pledges = Pledges::none();
+        let flags = Flags::of(&active.draft);
         for place in 0..self.sites.len() {
             let here = self.number_at(place);
-            if touches(active, here) {
+            if touches(active, &flags, here) {
                 let gathered = self.gather_at(
                     rt,
                     alloc,
@@ -332,6 +338,7 @@ impl<L: Ledger> Service<L> {
         ensures touched { IfErr result (λ e. at_site e.site active.now.draft.touched ≢ []) }
     {
         let mut blocks = blocks;
+        let flags = Flags::of(&active.draft);
         for place in 0..self.sites.len() {
             let here = self.number_at(place);
             if !self.end_one(
@@ -340,6 +347,7 @@ impl<L: Ledger> Service<L> {
                 seat,
                 here,
                 active,
+                &flags,
                 verdict,
                 &mut blocks,
                 worker,
@@ -361,11 +369,13 @@ impl<L: Ledger> Service<L> {
         seat: &mut Seat<L>,
         here: SiteNo,
         active: &Active,
+        flags: &Flags,
         verdict: Ending,
         blocks: &mut Blocks,
         worker: usize,
         gate: &G,
     ) -> bool
+        requires flagged { AreFlagged flags.now.flags active.now.draft.touched }
         requires place { here < vec_len self.now.sites }
         requires next { (here ≡ blocks.old.written) × (blocks.old.written < blocks.old.below) }
         requires awaits { verdict ≡ Committed
@@ -387,6 +397,10 @@ impl<L: Ledger> Service<L> {
         ensures stopped { result ≡ false → Stops blocks.old blocks.new }
         ensures same { result ≡ false → seat.new.counts.items ≡ seat.old.counts.items }
     {
+        if !touches(active, flags, here) {
+            blocks.pass(active, here);
+            return true;
+        }
         let entries = block_at(active.draft.at(here), here, verdict);
         if entries == 0 {
             blocks.pass(active, here);
@@ -452,10 +466,14 @@ fn unpledge_held(held: &mut Site, tx: Tx)
 
 // Whether the transaction touches an item at the site.
 #[tactic(auto, using(crate::proofs::Counting::some_at, crate::proofs::Counting::none_at))]
-fn touches(active: &Active, site: SiteNo) -> bool
+fn touches(active: &Active, flags: &Flags, site: SiteNo) -> bool
+    requires { AreFlagged flags.now.flags active.now.draft.touched }
     ensures some { IsTrue result → at_site site active.now.draft.touched ≢ [] }
     ensures none { result ≡ false → at_site site active.now.draft.touched ≡ [] }
 {
+    if !flags.has(site) {
+        return false;
+    }
     let items = items_at(active.draft.at(site), site);
     if items == 0 {
         return false;

@@ -1,5 +1,5 @@
 -- From marks to walks over the edges that count, and from places to conflicts.
-use Rattle.std.proofs.Common.{◌≡◌, ◌↔◌, ℕ, ◌<◌, List, [], ◌∷◌, Bool, Some, refl, sym, ap, ◌∙◌, subst, arith, inl, inr}
+use Rattle.std.proofs.Common.{◌≡◌, ◌↔◌, ℕ, ◌<◌, List, [], ◌∷◌, length, Bool, Some, refl, sym, ap, ◌∙◌, subst, arith, inl, inr}
 use Rattle.std.specs.Prelude.{slice_get, max}
 use Rattle.std.proofs.Math.Nat.{max-eq_left, max-eq_right}
 use Rattle.std.proofs.lemmas.Bool.{cases_eq, cases_lt}
@@ -14,9 +14,10 @@ use Rattle.sgt_names.specs.declared.entry.Kind.TheVariants.{Wr, Rw, Ww}
 use Rattle.sgt_order.specs.Graph.{Leads, Reaches}
 use Rattle.sgt_order.proofs.Placed.{reaches-on}
 use Rattle.sgt_service_settle.specs.declared.index.Index.{Index}
+use Rattle.sgt_service_settle.specs.declared.carried.Rows.{Rows}
 use Rattle.sgt_service_settle.specs.declared.link.Cut.{Cut}
-use Rattle.sgt_service_settle.specs.private.Search.{IsMarked, InRows, Told}
-use Rattle.sgt_service_settle.specs.private.Index.{IsIn, IsDue, IsSided, AllSided, IsPlaceCarried, AreCarried, IsPaired}
+use Rattle.sgt_service_settle.specs.private.Search.{IsMarked, InRows, LinksBy, AreEnds, Told}
+use Rattle.sgt_service_settle.specs.private.Index.{IsIn, IsDue, IsSided, AllSided, IsPlaceCarried, AreCarried, AreRows}
 
 leads_map : (R S : ℕ → ℕ → Type 0) → ((a b : ℕ) → R a b → S a b) → (a b : ℕ) (between : List ℕ) → Leads R a between b → Leads S a between b
 leads_map R S to a b [] h = to a b h
@@ -32,11 +33,24 @@ leads_turn R S to a b (c ∷ cs) h = reaches-on S b c a (leads_turn R S to c b c
 reaches_turn : (R S : ℕ → ℕ → Type 0) → ((a b : ℕ) → R a b → S b a) → (a b : ℕ) → Reaches R a b → Reaches S b a
 reaches_turn R S to a b r = leads_turn R S to a b r.0 r.1
 
--- the marks of the search backward tell who reaches the transaction
-told_back : (index : Index) (cut : Cut) (tx : ℕ) (marks : List Bool) → IsPaired index → Told index.back.items cut tx marks → (k : ℕ) → IsMarked marks k ↔ Reaches (InRows index.out.items cut) k tx
-told_back index cut tx marks paired told k = (
-  λ m. reaches_turn (InRows index.back.items cut) (InRows index.out.items cut) (λ a b. (paired.turned cut b a).0) tx k ((told k).0 m),
-  λ r. (told k).1 (reaches_turn (InRows index.out.items cut) (InRows index.back.items cut) (λ a b. (paired.turned cut a b).1) k tx r),
+-- the ends of a link are in the table
+pub link_within : (index : Index) (cut : Cut) (a b : ℕ) → AreEnds index.links.items (length index.commits.items) → LinksBy index.links.items cut a b → (a < length index.commits.items) × (b < length index.commits.items)
+link_within index cut a b ends e =
+    let low = ends e.0 e.1 e.2 in
+    (subst (λ k. k < length index.commits.items) e.3 low.0, subst (λ k. k < length index.commits.items) e.4 low.1)
+
+-- the marks of the search forward tell whom the transaction reaches
+told_out : (index : Index) (rows : Rows) (cut : Cut) (tx : ℕ) (marks : List Bool) → AreRows index rows → Told rows.out.items cut tx marks → (k : ℕ) → IsMarked marks k ↔ Reaches (LinksBy index.links.items cut) tx k
+told_out index rows cut tx marks are told k = (
+  λ m. reaches_map (InRows rows.out.items cut) (LinksBy index.links.items cut) (λ a b. (are.out cut a b).0) tx k ((told k).0 m),
+  λ r. (told k).1 (reaches_map (LinksBy index.links.items cut) (InRows rows.out.items cut) (λ a b. (are.out cut a b).1) tx k r),
+)
+
+-- those of the search backward tell who reaches it
+told_back : (index : Index) (rows : Rows) (cut : Cut) (tx : ℕ) (marks : List Bool) → AreRows index rows → Told rows.back.items cut tx marks → (k : ℕ) → IsMarked marks k ↔ Reaches (LinksBy index.links.items cut) k tx
+told_back index rows cut tx marks are told k = (
+  λ m. reaches_turn (InRows rows.back.items cut) (LinksBy index.links.items cut) (λ a b. (are.back cut a b).0) tx k ((told k).0 m),
+  λ r. (told k).1 (reaches_turn (LinksBy index.links.items cut) (InRows rows.back.items cut) (λ a b. (are.back cut b a).1) k tx r),
 )
 
 sided_map : (P Q P' Q' : Type 0) (x : Name) (p q : ℕ) (e f : Entry) → (P → P') → (Q → Q') → IsSided P Q x p q e f → IsSided P' Q' x p q e f
@@ -45,10 +59,10 @@ sided_map P Q P' Q' x p q e f first second s = record {
   after = λ le kind clash. second (s.after le kind clash);
 }
 
-pub place_carried : (index : Index) (cut : Cut) (log : List Entry) (p : ℕ) (e : Entry) (forward backward : List Bool) → IsPaired index → Told index.out.items cut (tx_of e) forward → Told index.back.items cut (tx_of e) backward → AllSided log index.commits.items cut p e forward backward ↔ IsPlaceCarried index log cut p e
-place_carried index cut log p e forward backward paired out back = (
-  λ sided q f at due. sided_map _ _ _ _ cut.item p q e f (told_back index cut (tx_of e) backward paired back (tx_of f)).0 (out (tx_of f)).0 (sided q f at due),
-  λ carried q f at due. sided_map _ _ _ _ cut.item p q e f (told_back index cut (tx_of e) backward paired back (tx_of f)).1 (out (tx_of f)).1 (carried q f at due),
+pub place_carried : (index : Index) (rows : Rows) (cut : Cut) (log : List Entry) (p : ℕ) (e : Entry) (forward backward : List Bool) → AreRows index rows → Told rows.out.items cut (tx_of e) forward → Told rows.back.items cut (tx_of e) backward → AllSided log index.commits.items cut p e forward backward ↔ IsPlaceCarried index log cut p e
+place_carried index rows cut log p e forward backward are out back = (
+  λ sided q f at due. sided_map _ _ _ _ cut.item p q e f (told_back index rows cut (tx_of e) backward are back (tx_of f)).0 (told_out index rows cut (tx_of e) forward are out (tx_of f)).0 (sided q f at due),
+  λ carried q f at due. sided_map _ _ _ _ cut.item p q e f (told_back index rows cut (tx_of e) backward are back (tx_of f)).1 (told_out index rows cut (tx_of e) forward are out (tx_of f)).1 (carried q f at due),
 )
 
 -- ---- places and conflicts
@@ -79,11 +93,11 @@ clash_items Rw x e f h = (reads_item x e h.0, writes_item x f h.1)
 clash_items Ww x e f h = (writes_item x e h.0, writes_item x f h.1)
 
 -- the walk under one cut is one under another that is the same
-recut : (index : Index) (cut : Cut) (site last a b : ℕ) → site ≡ cut.site → last ≡ cut.last → Reaches (InRows index.out.items (record { site = site; item = cut.item; last = last })) a b → Reaches (InRows index.out.items cut) a b
+recut : (index : Index) (cut : Cut) (site last a b : ℕ) → site ≡ cut.site → last ≡ cut.last → Reaches (LinksBy index.links.items (record { site = site; item = cut.item; last = last })) a b → Reaches (LinksBy index.links.items cut) a b
 recut index cut site last a b is_site is_last r =
-    let at_site : Reaches (InRows index.out.items (record { site = cut.site; item = cut.item; last = last })) a b =
-    subst (λ k. Reaches (InRows index.out.items (record { site = k; item = cut.item; last = last })) a b) is_site r in
-    subst (λ k. Reaches (InRows index.out.items (record { site = cut.site; item = cut.item; last = k })) a b) is_last at_site
+    let at_site : Reaches (LinksBy index.links.items (record { site = cut.site; item = cut.item; last = last })) a b =
+    subst (λ k. Reaches (LinksBy index.links.items (record { site = k; item = cut.item; last = last })) a b) is_site r in
+    subst (λ k. Reaches (LinksBy index.links.items (record { site = cut.site; item = cut.item; last = k })) a b) is_last at_site
 
 -- where all conflicts are carried, so are those of an entry
 pub carried_place : (index : Index) (site : ℕ) (log : List Entry) (cut : Cut) (p : ℕ) (e : Entry) → slice_get log p ≡ Some e → IsIn index.commits.items (tx_of e) cut.last → cut.site ≡ site → AreCarried index site log → IsPlaceCarried index log cut p e
@@ -129,18 +143,18 @@ places_carried index site log each kind x a b m n c first second =
     let mine : IsIn index.commits.items (tx_of c.e) m = subst (λ k. IsIn index.commits.items k m) (sym c.from) first in
     let yours : IsIn index.commits.items (tx_of c.f) n = subst (λ k. IsIn index.commits.items k n) (sym c.to) second in
     let apart : tx_of c.e ≡ tx_of c.f → ⊥ = λ same. c.apart (sym c.from ∙ (same ∙ c.to)) in
-    let walk : Reaches (InRows index.out.items (record { site = site; item = x; last = max m n })) (tx_of c.e) (tx_of c.f) =
+    let walk : Reaches (LinksBy index.links.items (record { site = site; item = x; last = max m n })) (tx_of c.e) (tx_of c.f) =
     elim (cases_lt m n) [
       | inl early ↦
           let due : IsDue index.commits.items c.f c.e n = record { apart = λ same. apart (sym same); number = m; commit = mine; early = omega (arith, early) } in
           let r = (each c.q n c.f x c.second items.1 yours c.p c.e c.first due).before c.before kind c.clash in
           let top : max m n ≡ n = max-eq_right (omega (arith, early)) in
-          subst (λ k. Reaches (InRows index.out.items (record { site = site; item = x; last = k })) (tx_of c.e) (tx_of c.f)) (sym top) r
+          subst (λ k. Reaches (LinksBy index.links.items (record { site = site; item = x; last = k })) (tx_of c.e) (tx_of c.f)) (sym top) r
       | inr late ↦
           let due : IsDue index.commits.items c.e c.f m = record { apart = apart; number = n; commit = yours; early = late } in
           let r = (each c.p m c.e x c.first items.0 mine c.q c.f c.second due).after (omega (arith, c.before)) kind c.clash in
           let top : max m n ≡ m = max-eq_left late in
-          subst (λ k. Reaches (InRows index.out.items (record { site = site; item = x; last = k })) (tx_of c.e) (tx_of c.f)) (sym top) r
+          subst (λ k. Reaches (LinksBy index.links.items (record { site = site; item = x; last = k })) (tx_of c.e) (tx_of c.f)) (sym top) r
     ] in
-    subst (λ k. Reaches (InRows index.out.items (record { site = site; item = x; last = max m n })) k b) c.from
-    (subst (λ k. Reaches (InRows index.out.items (record { site = site; item = x; last = max m n })) (tx_of c.e) k) c.to walk)
+    subst (λ k. Reaches (LinksBy index.links.items (record { site = site; item = x; last = max m n })) k b) c.from
+    (subst (λ k. Reaches (LinksBy index.links.items (record { site = site; item = x; last = max m n })) (tx_of c.e) k) c.to walk)

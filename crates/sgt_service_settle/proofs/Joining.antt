@@ -20,8 +20,8 @@ use Rattle.sgt_service_settle.specs.declared.deeds.Track.{Track}
 use Rattle.sgt_service_settle.specs.declared.index.Index.{Index}
 use Rattle.sgt_service_settle.specs.declared.link.Link.{Link}
 use Rattle.sgt_service_settle.specs.private.Words.{IsItemAt, Pushed}
-use Rattle.sgt_service_settle.specs.private.Search.{InRows}
-use Rattle.sgt_service_settle.specs.private.Index.{IsIn, IsPaired, AreCarried}
+use Rattle.sgt_service_settle.specs.private.Search.{LinksBy}
+use Rattle.sgt_service_settle.specs.private.Index.{IsIn, AreCarried}
 use Rattle.sgt_service_settle.specs.private.Acts.{AreKnown}
 use Rattle.sgt_service_settle.specs.private.Deeds.{deed_of, AreTracks}
 use Rattle.sgt_service_settle.specs.private.Course.{IsNoted, Follows}
@@ -119,32 +119,40 @@ front_contains order n e has = let at = Contains_at (take n order) e has in Cont
 
 -- ---- edges
 
-pub item_links_next : (links : List Link) (site : ℕ) (items : List Holding) (rows new : List (Vec Link Global)) (n at : ℕ) (l : Link) → slice_get links n ≡ Some l → l.label.site ≡ site → IsItemAt items l.label.item at → Pushed rows at l new → AreItemLinks links site items rows → AreItemLinks links site items new
-item_links_next links site items rows new n at l here is_site item pushed are k m other there =
+item_links_next : (links : List Link) (site : ℕ) (items : List Holding) (rows new : List (Vec Link Global)) (at : ℕ) (l : Link) → Contains links l → l.label.site ≡ site → IsItemAt items l.label.item at → Pushed rows at l new → AreItemLinks links site items rows → AreItemLinks links site items new
+item_links_next links site items rows new at l among is_site item pushed are k m other there =
     elim (at_pushed rows at l new pushed k m other there) [
       | inl old ↦ are k m other old
       | inr last ↦
           let is : l ≡ other = last.2 in
-          (subst (Contains links) is (Contains-from_at links n l here), ap (λ (x : Link). x.label.site) (sym is) ∙ is_site, subst (λ (x : Link). IsItemAt items x.label.item k) is (subst (IsItemAt items l.label.item) (sym last.0) item))
+          (subst (Contains links) is among, ap (λ (x : Link). x.label.site) (sym is) ∙ is_site, subst (λ (x : Link). IsItemAt items x.label.item k) is (subst (IsItemAt items l.label.item) (sym last.0) item))
     ]
 
-handed_in_rows : (index : Index) (site : ℕ) (items : List Holding) (rows : List (Vec Link Global)) (row : Vec Link Global) (at : ℕ) (x : Name) (last a b : ℕ) → IsPaired index → AreItemLinks index.links.items site items rows → slice_get rows at ≡ Some row → IsItemAt items x at
-    → IsHanded row.items last a b → InRows index.out.items (record { site = site; item = x; last = last }) a b
-handed_in_rows index site items rows row at x last a b paired are here item h =
+-- an edge at the site was added, or its item isn't there
+pub item_links_added : (links : List Link) (site : ℕ) (items : List Holding) (rows new : List (Vec Link Global)) (l : Link) → Contains links l → l.label.site ≡ site → (new ≡ rows) ⊎ ((at : ℕ) × IsItemAt items l.label.item at × Pushed rows at l new) → AreItemLinks links site items rows → AreItemLinks links site items new
+item_links_added links site items rows new l among is_site which are =
+    elim which [
+      | inl same ↦ subst (AreItemLinks links site items) (sym same) are
+      | inr added ↦ item_links_next links site items rows new added.0 l among is_site added.1 added.2 are
+    ]
+
+handed_by_links : (index : Index) (site : ℕ) (items : List Holding) (rows : List (Vec Link Global)) (row : Vec Link Global) (at : ℕ) (x : Name) (last a b : ℕ) → AreItemLinks index.links.items site items rows → slice_get rows at ≡ Some row → IsItemAt items x at
+    → IsHanded row.items last a b → LinksBy index.links.items (record { site = site; item = x; last = last }) a b
+handed_by_links index site items rows row at x last a b are here item h =
     let l : Link = h.0 in
     let place = Contains_at row.items l h.1 in
     let known = are at place.0 l (row, here, place.1) in
     let is_item : l.label.item ≡ x = one_item items l.label.item x at known.2 item in
     let among = Contains_at index.links.items l known.0 in
-    paired.links (record { site = site; item = x; last = last }) a b (among.0, l, among.1, h.2, h.3, record { site = known.1; item = is_item; early = h.4 })
+    (among.0, l, among.1, h.2, h.3, record { site = known.1; item = is_item; early = h.4 })
 
 get_row : {A : Type 0} (xs : List A) (k : ℕ) → k < length xs → (a : A) × (slice_get xs k ≡ Some a)
 get_row xs k low = elim (Rattle.std.proofs.lemmas.Option.slice_get_cases xs k).1 [ inl some ↦ (some.0, some.2) | inr none ↦ let past = none.0 in absurd (omega (arith, low, past)) ]
 
 -- where the conflicts of each item's deeds are carried, those of the log are
-pub all_carried : (index : Index) (site : ℕ) (items : List Holding) (log : List Entry) (tracks : List Track) (rows : List (Vec Link Global)) → IsPaired index → AreKnown items log → AreItemLinks index.links.items site items rows → length rows ≡ length items
+pub all_carried : (index : Index) (site : ℕ) (items : List Holding) (log : List Entry) (tracks : List Track) (rows : List (Vec Link Global)) → AreKnown items log → AreItemLinks index.links.items site items rows → length rows ≡ length items
     → AreTracks index.commits.items items log (length log) tracks → ((k : ℕ) (t : Track) (row : Vec Link Global) → slice_get tracks k ≡ Some t → slice_get rows k ≡ Some row → AreDeedsCarried row.items t.deeds.items) → AreCarried index site log
-all_carried index site items log tracks rows paired known links long are carried kind x a b m n c first second =
+all_carried index site items log tracks rows known links long are carried kind x a b m n c first second =
     let both = clash_items kind x c.e c.f c.clash in
     let place = known_place items log c.p c.e x known c.first both.0 in
     let within = place.1.within in
@@ -163,10 +171,10 @@ all_carried index site items log tracks rows paired known links long are carried
     } in
     let row = get_row rows place.0 (omega (arith, within, long)) in
     let top = max m n in
-    let R : ℕ → ℕ → Type 0 = InRows index.out.items (record { site = site; item = x; last = top }) in
+    let R : ℕ → ℕ → Type 0 = LinksBy index.links.items (record { site = site; item = x; last = top }) in
     elim (carried place.0 q.track row.0 q.at_track row.1 d e has q.deed precedes) [
       | inl same ↦ absurd (c.apart (sym c.from ∙ (same ∙ c.to)))
       | inr walk ↦
           subst (λ t. Reaches R t b) c.from
-          (subst (λ t. Reaches R (tx_of c.e) t) c.to (reaches_map (IsHanded row.0.items top) R (λ f g h. handed_in_rows index site items rows row.0 place.0 x top f g paired links row.1 place.1 h) (tx_of c.e) (tx_of c.f) walk))
+          (subst (λ t. Reaches R (tx_of c.e) t) c.to (reaches_map (IsHanded row.0.items top) R (λ f g h. handed_by_links index site items rows row.0 place.0 x top f g links row.1 place.1 h) (tx_of c.e) (tx_of c.f) walk))
     ]

@@ -1,6 +1,7 @@
 pub mod Marking
 pub mod Searching
 pub mod Rowing
+pub mod Siting
 pub mod Lists
 pub mod Naming
 pub mod Committing

@@ -1,5 +1,5 @@
 -- The edges between committed transactions, and what the history says of them.
-use Rattle.std.proofs.Common.{◌≡◌, ◌↔◌, ◌<◌, ◌+◌, ℕ, List, [], ◌∷◌, ◌++◌, take, length, Option, Some, refl, sym, ap, ◌∙◌, subst, inl, inr, Contains}
+use Rattle.std.proofs.Common.{◌≡◌, ◌↔◌, ◌+◌, ℕ, List, [], ◌∷◌, ◌++◌, take, length, Option, Some, refl, sym, ap, ◌∙◌, subst, inl, inr, Contains}
 use Rattle.std.specs.Prelude.{slice_get, Vec}
 use Rattle.std.specs.declared.alloc.Global.{Global}
 use Rattle.std.proofs.lemmas.Option.{same_Some, slice_get_within}
@@ -13,7 +13,8 @@ use Rattle.sgt_service_settle.specs.declared.handed.Handed.{Handed}
 use Rattle.sgt_service_settle.specs.declared.link.Cut.{Cut}
 use Rattle.sgt_service_settle.specs.declared.link.Link.{Link}
 use Rattle.sgt_service_settle.specs.declared.index.Index.{Index}
-use Rattle.sgt_service_settle.specs.private.Search.{Hold, LinksBy, AreEnds, Passes}
+use Rattle.sgt_service_settle.specs.private.Search.{LinksBy, AreEnds, Passes}
+use Rattle.sgt_service_settle.specs.private.Words.{AreBySite}
 use Rattle.sgt_service_settle.specs.private.Index.{Names, AreNamed, AreCommits, IsEnd, IsLinkOf, AreLinks, CarriesBy, IsIndex}
 use Rattle.sgt_service_settle.proofs.Lists.{take_on, push_contains, push_old, push_new}
 
@@ -62,7 +63,7 @@ links_miss windows commits handed n h links here none old m = (
 
 -- ---- the whole index
 
-pub are_ends : (windows : List (Vec ℕ Global)) (commits : List (Option ℕ)) (handed : List Handed) (links : List Link) → AreLinks windows commits handed links → AreEnds links (length commits)
+are_ends : (windows : List (Vec ℕ Global)) (commits : List (Option ℕ)) (handed : List Handed) (links : List Link) → AreLinks windows commits handed links → AreEnds links (length commits)
 are_ends windows commits handed links are n l at =
     let k = (are l).0 (Contains-from_at links n l at) in
     (slice_get_within commits l.from (Some k.2.from.1.0) k.2.from.1.1, slice_get_within commits l.to (Some k.2.to.1.0) k.2.to.1.1)
@@ -100,23 +101,17 @@ links_carry history rulings windows commits handed links names by is are cut a b
       (at.0, l, at.1, refl, refl, record { site = c.here; item = c.item; early = c.early }),
 )
 
-pub whole_index : (history : List Call) (rulings : List Ruling) (index : Index) (links : List Link) → index.links.items ≡ links → AreNamed history index.windows.items → AreCommits rulings index.commits.items → index.handed.items ≡ handed_in history → AreLinks index.windows.items index.commits.items index.handed.items links → length index.out.items ≡ length index.commits.items → length index.back.items ≡ length index.commits.items → Hold index.out.items (LinksBy links) → Hold index.back.items (λ cut a b. LinksBy links cut b a) → IsIndex history rulings index
-whole_index history rulings index links same names by is are out_long back_long out back =
+pub whole_index : (history : List Call) (rulings : List Ruling) (index : Index) (links : List Link) → index.links.items ≡ links → AreNamed history index.windows.items → AreCommits rulings index.commits.items → index.handed.items ≡ handed_in history → AreLinks index.windows.items index.commits.items index.handed.items links → AreBySite index.handed.items index.sited.items → IsIndex history rulings index
+whole_index history rulings index links same names by is are sited =
     let carry = links_carry history rulings index.windows.items index.commits.items index.handed.items links names by is are in
-    let ends = are_ends index.windows.items index.commits.items index.handed.items links are in
     record {
       names = names;
       commits = by;
       handed = is;
-      out = λ cut a b. (λ e. (carry cut a b).0 ((out cut a b).0 e), λ c. (out cut a b).1 ((carry cut a b).1 c));
+      links = λ cut a b. subst (λ ls. LinksBy ls cut a b ↔ CarriesBy history rulings cut a b) (sym same) (carry cut a b);
       paired = record {
-        out = out_long;
-        back = back_long;
-        within = λ cut a b e.
-            let l = (out cut a b).0 e in
-            let low = ends l.0 l.1 l.2 in
-            (subst (λ k. k < length index.commits.items) l.3 low.0, subst (λ k. k < length index.commits.items) l.4 low.1);
-        links = λ cut a b l. (out cut a b).1 (subst (λ ls. LinksBy ls cut a b) same l);
-        turned = λ cut a b. (λ e. (out cut a b).1 ((back cut b a).0 e), λ e. (back cut b a).1 ((out cut a b).0 e));
+        ends = subst (λ ls. AreEnds ls (length index.commits.items)) (sym same) (are_ends index.windows.items index.commits.items index.handed.items links are);
+        linked = subst (AreLinks index.windows.items index.commits.items index.handed.items) (sym same) are;
+        sited = sited;
       };
     }

@@ -1,14 +1,14 @@
 -- Where an item stands, and which acts are on it.
-use Rattle.std.proofs.Common.{◌≡◌, ℕ, zero, suc, ◌+◌, ◌-◌, ◌<◌, ◌≤◌, nat_lt, true, false, List, [], ◌∷◌, map, take, drop, Some, refl, sym, ap, ◌∙◌, subst, arith, inl, inr, Contains}
+use Rattle.std.proofs.Common.{◌≡◌, ℕ, zero, suc, ◌+◌, ◌-◌, ◌<◌, ◌≤◌, nat_lt, true, false, List, [], ◌∷◌, map, length, take, drop, get_or, Some, refl, sym, ap, ◌∙◌, subst, arith, inl, inr, Contains}
 use Rattle.std.specs.Prelude.{◌↔◌, slice_get}
 use Rattle.std.specs.Ordering.{nat_cmp}
-use Rattle.std.specs.List.Sorted.{IsPartitionPoint}
+use Rattle.std.specs.List.Sorted.{IsNonDecreasingBy, IsPartitionPoint}
 use Rattle.std.specs.Cmp.Lexicographic.{slice_cmp}
 use Rattle.std.specs.Option.{ForSome}
 use Rattle.std.specs.declared.cmp.Ordering.TheVariants.{Less, Equal, Greater}
-use Rattle.std.proofs.lemmas.Bool.{cases_lt, ltb-true, ltb-false}
+use Rattle.std.proofs.lemmas.Bool.{cases_lt, ltb-true, ltb-false, lt-ltb, le-ltb}
 use Rattle.std.proofs.lemmas.Cmp.{nat_list_cmp_total, tied_itself}
-use Rattle.std.proofs.lemmas.Option.{same_Some, slice_get_within, get_or_from_slice_get}
+use Rattle.std.proofs.lemmas.Option.{same_Some, slice_get_within, slice_get-get_or, get_or_from_slice_get}
 use Rattle.sgt_names.specs.Name.{Name}
 use Rattle.sgt_names.specs.Log.{names}
 use Rattle.sgt_names.specs.Entry.{item_of}
@@ -48,6 +48,20 @@ one_place items x m n rising first second =
           ]
     ]
 
+-- an item that was found
+pub item_here : (items : List Holding) (x : Name) (at : ℕ) (h : Holding) → slice_get items at ≡ Some h → h.item ≡ x → IsItemAt items x at
+item_here items x at h here is = record {
+  within = slice_get_within items at h here;
+  is = λ g there. ap (λ (k : Holding). k.item) (same_Some g h (sym there ∙ here)) ∙ is;
+}
+
+pub placed : (items : List Holding) (x : Name) (n at : ℕ) → IsRisingBy (λ (h : Holding). h.item) (slice_cmp nat_cmp) items
+    → IsItemAt items x n → (Some n ≡ Some at) ↔ IsItemAt items x at
+placed items x n at rising found = (
+  λ same. subst (IsItemAt items x) (same_Some n at same) found,
+  λ item. ap Some (one_place items x n at rising found item),
+)
+
 pub not_in_gap : (items : List Holding) (x : Name) (m n : ℕ) → IsGapFor (λ (h : Holding). h.item) (slice_cmp nat_cmp) items x n
     → IsItemAt items x m → ⊥
 not_in_gap items x m n gap is =
@@ -83,6 +97,21 @@ known_place items log n e x known here item =
         is = λ h at. ap (λ (g : Holding). g.item) (same_Some h held.0 (sym at ∙ held.1)) ∙ held.2;
       },
     )
+
+-- the elements below a number end at a place where that in front is below it, and that behind is not
+pub point_here : {A : Type 0} (n : A → ℕ) (xs : List A) (t at : ℕ) → IsNonDecreasingBy n xs → at ≤ length xs
+    → ((a : A) → 0 < at → slice_get xs (at - 1) ≡ Some a → n a < t) → ((a : A) → slice_get xs at ≡ Some a → t ≤ n a)
+    → IsPartitionPoint (λ y. nat_lt (n y) t ≡ true) (λ y. nat_lt (n y) t ≡ false) xs at
+point_here n xs t at sorted within before after = (
+  λ i d low lt.
+      let le = sorted i (at - 1) d (omega (arith, lt)) (omega (arith, lt, within)) in
+      let less = before (get_or xs (at - 1) d) (omega (arith, lt)) (slice_get-get_or xs (at - 1) d (omega (arith, lt, within))) in
+      lt-ltb (n (get_or xs i d)) t (omega (arith, le, less)),
+  λ i d low lt.
+      let le = sorted at i d low lt in
+      let more = after (get_or xs at d) (slice_get-get_or xs at d (omega (arith, low, lt))) in
+      le-ltb (n (get_or xs i d)) t (omega (arith, le, more)),
+)
 
 -- the elements of one number stand between those below it and those from the next one on
 pub of_number-between : {A : Type 0} (n : A → ℕ) (xs : List A) (t from to : ℕ)

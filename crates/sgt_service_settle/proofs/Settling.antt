@@ -13,7 +13,7 @@ use Rattle.sgt_service_agreement.specs.declared.counts.EntryCounts.{EntryCounts}
 use Rattle.sgt_service_settle.specs.declared.handed.Handed.{Handed}
 use Rattle.sgt_service_settle.specs.declared.index.Index.{Index}
 use Rattle.sgt_service_settle.specs.private.Words.{IsLeastOf}
-use Rattle.sgt_service_settle.specs.private.Search.{InRows}
+use Rattle.sgt_service_settle.specs.private.Search.{LinksBy}
 use Rattle.sgt_service_settle.specs.private.Index.{IsIndex}
 use Rattle.sgt_service_settle.specs.private.Sites.{IsLogFit, IsFitAt}
 use Rattle.sgt_service_settle.proofs.Carrying.{reaches_map}
@@ -25,8 +25,8 @@ log_settled history rulings index k c log is fit = record {
       let e = fit.edges h (subst (λ hs. Contains hs h) (sym is.handed) contains) site in
       (e.0, e.1, (is.names h.edge.from e.0).0 e.2, (is.names h.edge.to e.1).0 e.3, e.4);
   conflicts = λ kind x a b m n conflict first second.
-      reaches_map (InRows index.out.items (record { site = k; item = x; last = max m n })) (Carries history rulings k x (max m n))
-      (λ from to. (is.out (record { site = k; item = x; last = max m n }) from to).0) a b
+      reaches_map (LinksBy index.links.items (record { site = k; item = x; last = max m n })) (Carries history rulings k x (max m n))
+      (λ from to. (is.links (record { site = k; item = x; last = max m n }) from to).0) a b
       (fit.conflicts kind x a b m n conflict ((is.commits a m).1 first) ((is.commits b n).1 second));
 }
 
@@ -37,8 +37,8 @@ log_fit history rulings index k c log is settled = record {
       let e = settled.edges h (subst (λ hs. Contains hs h) is.handed contains) site in
       (e.0, e.1, (is.names h.edge.from e.0).1 e.2, (is.names h.edge.to e.1).1 e.3, e.4);
   conflicts = λ kind x a b m n conflict first second.
-      reaches_map (Carries history rulings k x (max m n)) (InRows index.out.items (record { site = k; item = x; last = max m n }))
-      (λ from to. (is.out (record { site = k; item = x; last = max m n }) from to).1) a b
+      reaches_map (Carries history rulings k x (max m n)) (LinksBy index.links.items (record { site = k; item = x; last = max m n }))
+      (λ from to. (is.links (record { site = k; item = x; last = max m n }) from to).1) a b
       (settled.conflicts kind x a b m n conflict ((is.commits a m).0 first) ((is.commits b n).0 second));
 }
 

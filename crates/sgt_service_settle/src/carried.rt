@@ -5,15 +5,35 @@ ghost use Rattle.sgt_names.specs.Entry.{tx_of, item_of, Clash};
 ghost use Rattle.sgt_service_settle.specs.declared.link.Cut.{Cut as ACut};
 ghost use Rattle.sgt_names.specs.declared.entry.Kind.{Kind as AKind};
 ghost use Rattle.sgt_service_settle.specs.private.Search.{IsMarked};
-ghost use Rattle.sgt_service_settle.specs.private.Index.{IsIn, IsDue, IsSided, AllSided, IsPlaceCarried, AreCarried, IsPaired};
+ghost use Rattle.sgt_service_settle.specs.private.Index.{IsIn, IsDue, IsSided, AllSided, IsPlaceCarried, AreCarried, IsPaired, AreRows};
 
 use crate::committed::number_of;
 use crate::index::Index;
-use crate::link::Cut;
+use crate::link::{Arc, Cut};
 use crate::logged::clash;
+use crate::rows::{entering, leaving};
 use crate::search::search;
 use sgt_names::{Entry, Item, Kind, SiteNo, Tx};
 use std::alloc::{AllocError, Global};
+
+/// The edges between committed transactions, by the transaction that they come from, and by the one that they lead to.
+#[derive(Drop)]
+pub struct Rows {
+    pub out: Vec<Vec<Arc>>,
+    pub back: Vec<Vec<Arc>>,
+}
+
+// The rows of the edges. Linear in the edges and the transactions, in time and memory.
+fn rows_of(alloc: Global, index: &Index) -> Result<Rows, AllocError>
+    requires { IsPaired index.now }
+    ensures { IfOk result (AreRows index.now) }
+{
+    let links = index.links.as_slice();
+    let all = index.commits.len();
+    let out = leaving(alloc, links, all)?;
+    let back = entering(alloc, links, all)?;
+    Ok(Rows { out, back })
+}
 
 fn is_marked(marks: &[bool], tx: Tx) -> bool
     ensures { IsTrue result ↔ IsMarked marks.now tx }
@@ -91,6 +111,7 @@ fn all_sided(
 fn is_place_carried(
     alloc: Global,
     index: &Index,
+    rows: &Rows,
     log: &[Entry],
     cut: &Cut,
     place: usize,
@@ -99,6 +120,7 @@ fn is_place_carried(
     backward: &mut [bool],
 ) -> Result<bool, AllocError>
     requires paired { IsPaired index.now }
+    requires rows { AreRows index.now rows.now }
     requires commit { tx_of entry.now < length index.now.commits.items }
     requires forward { length forward.old ≡ length index.now.commits.items }
     requires backward { length backward.old ≡ length index.now.commits.items }
@@ -106,8 +128,8 @@ fn is_place_carried(
         (λ yes. IsTrue yes ↔ IsPlaceCarried index.now log.now cut.now place entry.now) }
 {
     let start = entry.tx().number() as usize;
-    search(alloc, index.out.as_slice(), start, cut, forward)?;
-    search(alloc, index.back.as_slice(), start, cut, backward)?;
+    search(alloc, rows.out.as_slice(), start, cut, forward)?;
+    search(alloc, rows.back.as_slice(), start, cut, backward)?;
     let commits = index.commits.as_slice();
     Ok(all_sided(log, commits, cut, place, entry, forward, backward))
 }
@@ -137,6 +159,7 @@ pub(crate) fn are_carried(
     requires { IsPaired index.now }
     ensures { IfOk result (λ yes. IsTrue yes ↔ AreCarried index.now site log.now) }
 {
+    let rows = rows_of(alloc, index)?;
     let all = index.commits.len();
     let mut forward = Vec::from_elem(alloc, false, all)?;
     let mut backward = Vec::from_elem(alloc, false, all)?;
@@ -145,6 +168,7 @@ pub(crate) fn are_carried(
             let carried = is_place_carried(
                 alloc,
                 index,
+                &rows,
                 log,
                 &cut,
                 place,

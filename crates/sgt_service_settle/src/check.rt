@@ -8,6 +8,7 @@ ghost use Rattle.sgt_service_settle.specs.Fault.{IsUnsettled};
 
 use crate::counts::has_first_counts;
 use crate::index::index_of;
+use crate::joined::no_marks;
 use crate::sites::{first_beyond, first_unfit};
 use crate::tickets::check_tickets;
 use crate::versions::first_uncounted;
@@ -47,8 +48,9 @@ fn first_differing(
     if !has_first_counts(sites, counts) {
         return Ok(Some(first));
     }
-    let index = index_of(alloc, certifier)?;
-    let unfit = first_unfit(alloc, &index, sites, counts)?;
+    let index = index_of(alloc, certifier, sites.len())?;
+    let mut marks = no_marks(alloc, index.commits.len())?;
+    let unfit = first_unfit(alloc, &index, &mut marks, sites, counts)?;
     if let Some(site) = unfit {
         return Ok(Some(site));
     }
@@ -78,9 +80,9 @@ fn know_sites(sites: &[Site])
 /// - V10: a version at a site isn't so.
 ///
 /// Memory is linear in the history with its edges, in the logs and items of the sites and in the transactions. So is the time, but that
-/// the operations on an item are sorted, by transaction and by decision, that each edge is looked up among them by binary search, and
-/// that the edges are gone over for each site. At a site where an operation isn't joined to a neighbour on its item by an edge of its own,
-/// each operation costs the site's log and the edges that it reaches.
+/// the operations on an item are sorted, by transaction and by decision, and that each edge is looked up among them by binary search.
+/// At a site where an operation isn't joined to a neighbour on its item by an edge of its own, all edges are gone over, and each
+/// operation costs the site's log and the edges that it reaches.
 pub fn check_settled(
     alloc: Global,
     certifier: &Certifier,

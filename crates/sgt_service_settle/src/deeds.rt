@@ -9,9 +9,10 @@ ghost use Rattle.sgt_service_settle.specs.Settled.{is_read};
 ghost use Rattle.sgt_service_settle.specs.private.Deeds.{deed_of, AreBare, AreTracks};
 ghost use Rattle.sgt_service_settle.specs.declared.deeds.Deed.{Deed as ADeed};
 
-use crate::acts::place_of;
+use crate::acts::place_near;
 use crate::carried::cut_at;
 use crate::counts::is_read;
+use crate::rows::share;
 use sgt_names::{Entry, Holding, SiteNo, Tx};
 use std::alloc::{AllocError, Global};
 
@@ -60,17 +61,16 @@ fn add(track: &mut Track, entry: &Entry, number: u64, place: usize) -> Result<()
     Ok(())
 }
 
-// A track with nothing in it for each item.
-fn no_tracks(alloc: Global, all: usize) -> Result<Vec<Track>, AllocError>
+// A track with nothing in it for each item, with room for so many deeds each.
+fn no_tracks(alloc: Global, all: usize, each: usize) -> Result<Vec<Track>, AllocError>
     ensures long { IfOk result (λ tracks. length tracks.items ≡ all) }
     ensures bare { IfOk result (λ tracks. AreBare tracks.items) }
 {
     let mut tracks = Vec::new(alloc);
     for _at in 0..all {
-        tracks.push(Track {
-            deeds: Vec::new(alloc),
-            version: 0,
-        })?;
+        let mut deeds = Vec::new(alloc);
+        deeds.reserve(each)?;
+        tracks.push(Track { deeds, version: 0 })?;
     }
     Ok(tracks)
 }
@@ -88,10 +88,12 @@ pub(crate) fn tracks_of(
     ensures tracks { IfOk result
         (λ tracks. AreTracks commits.now items.now log.now (length log.now) tracks.items) }
 {
-    let mut tracks = no_tracks(alloc, items.len())?;
+    let mut tracks = no_tracks(alloc, items.len(), share(log.len(), items.len()))?;
+    let mut near = 0;
     for (place, entry) in log.iter().enumerate() {
         if let Some(cut) = cut_at(commits, site, entry) {
-            if let Some(at) = place_of(items, cut.item) {
+            if let Some(at) = place_near(items, near, cut.item) {
+                near = at;
                 add(&mut tracks[at], entry, cut.last, place)?;
             }
         }

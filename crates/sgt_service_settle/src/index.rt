@@ -1,20 +1,21 @@
 //! What is looked up in a history.
 
-ghost use Rattle.std.specs.Prelude.{◌≡◌, ◌↔◌, ℕ, Some, length, IfOk, IfSome, IfNone};
+ghost use Rattle.std.specs.Prelude.{◌≡◌, ◌↔◌, ◌<◌, ℕ, Some, Contains, length, IfOk, IfSome, IfNone};
 ghost use Rattle.sgt_service_settle.specs.declared.link.Link.{Link as ALink};
-ghost use Rattle.sgt_service_settle.specs.private.Index.{IsEnd, IsLinkOf, AreLinks, IsIndex};
+ghost use Rattle.sgt_service_settle.specs.declared.handed.Handed.{Handed as AHanded};
+ghost use Rattle.sgt_service_settle.specs.private.Index.{IsEnd, IsLinkOf, AreLinks, IsIndex, IsPaired};
 
 use crate::committed::{commits, number_of};
 use crate::handed::{Handed, all_handed};
-use crate::link::{Arc, Link};
+use crate::link::Link;
 use crate::names::{tx_under, windows};
-use crate::rows::{entering, leaving};
+use crate::rows::by_site;
 use sgt_arena::Handle;
 use sgt_certifier::Certifier;
-use sgt_names::Tx;
+use sgt_names::{SiteNo, Tx};
 use std::alloc::{AllocError, Global};
 
-/// What is looked up in a history. Rows and tables are by the numbers of transactions.
+/// What is looked up in a history. The table of commits is by the numbers of transactions.
 #[derive(Drop)]
 pub struct Index {
     /// The transactions of each window, in the order in which they began.
@@ -23,11 +24,10 @@ pub struct Index {
     pub commits: Vec<Option<u64>>,
     /// The edges that the decisions were handed.
     pub handed: Vec<Handed>,
-    /// Those between committed transactions, in the order of those decisions; and by the transaction that they come from, and by the one
-    /// that they lead to.
+    /// Those at each site.
+    pub sited: Vec<Vec<Handed>>,
+    /// Those between committed transactions, in the order of those decisions.
     pub links: Vec<Link>,
-    pub out: Vec<Vec<Arc>>,
-    pub back: Vec<Vec<Arc>>,
 }
 
 // The committed transaction under the handle.
@@ -43,8 +43,8 @@ fn end_of(windows: &[Vec<Tx>], commits: &[Option<u64>], handle: Handle) -> Optio
     Some(tx.number() as usize)
 }
 
-// The edge, where it is between committed transactions.
-fn link_of(windows: &[Vec<Tx>], commits: &[Option<u64>], handed: &Handed) -> Option<Link>
+/// The edge, where it is between committed transactions.
+pub(crate) fn link_of(windows: &[Vec<Tx>], commits: &[Option<u64>], handed: &Handed) -> Option<Link>
     ensures some { IfSome result (IsLinkOf windows.now commits.now handed.now) }
     ensures none { IfNone result ((l : ALink) → IsLinkOf windows.now commits.now handed.now l → ⊥) }
 {
@@ -80,9 +80,27 @@ fn links_of(
     Ok(links)
 }
 
-/// The index of a certifier's history. Linear in the history with its edges, in time and memory.
-pub(crate) fn index_of(alloc: Global, certifier: &Certifier) -> Result<Index, AllocError>
-    ensures { IfOk result (IsIndex certifier.now.history certifier.now.state.rulings) }
+/// The edges that were handed at the site.
+pub(crate) fn edges_at(index: &Index, site: SiteNo) -> &[Handed]
+    requires paired { IsPaired index.now }
+    requires there { site < length index.now.sited.items }
+    ensures { (h : AHanded) → Contains result.now h
+        ↔ (Contains index.now.handed.items h × (h.edge.label.site ≡ site)) }
+{
+    let place = site.number() as usize;
+    index.sited[place].as_slice()
+}
+
+/// The index of a certifier's history, with the edges at so many sites. Linear in the history with its edges, and in the sites, in time
+/// and memory.
+pub(crate) fn index_of(
+    alloc: Global,
+    certifier: &Certifier,
+    sites: usize,
+) -> Result<Index, AllocError>
+    ensures index { IfOk result
+        (IsIndex certifier.now.history certifier.now.state.rulings) }
+    ensures long { IfOk result (λ index. length index.sited.items ≡ sites) }
 {
     let history = certifier.history();
     let windows = windows(alloc, certifier)?;
@@ -94,14 +112,12 @@ pub(crate) fn index_of(alloc: Global, certifier: &Certifier) -> Result<Index, Al
         commits.as_slice(),
         handed.as_slice(),
     )?;
-    let out = leaving(alloc, links.as_slice(), commits.len())?;
-    let back = entering(alloc, links.as_slice(), commits.len())?;
+    let sited = by_site(alloc, handed.as_slice(), sites)?;
     Ok(Index {
         windows,
         commits,
         handed,
+        sited,
         links,
-        out,
-        back,
     })
 }

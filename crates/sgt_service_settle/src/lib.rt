@@ -17,6 +17,7 @@ mod least;
 mod link;
 mod logged;
 mod names;
+mod points;
 mod rows;
 mod search;
 mod sites;

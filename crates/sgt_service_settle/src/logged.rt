@@ -1,19 +1,19 @@
 //! Whether an edge is a conflict of a log.
 
-ghost use Rattle.std.specs.Prelude.{◌≡◌, ◌↔◌, ◌<◌, ◌≤◌, ℕ, true, false, nat_lt, List, IsTrue, Some, Contains, length, slice_get};
+ghost use Rattle.std.specs.Prelude.{◌≡◌, ◌↔◌, ◌<◌, ℕ, List, IsTrue, Some, length, slice_get};
 ghost use Rattle.std.specs.Ordering.{nat_cmp};
 ghost use Rattle.std.specs.Cmp.Lexicographic.{slice_cmp};
-ghost use Rattle.std.specs.List.Sorted.{IsNonDecreasingBy, IsPartitionPoint};
 ghost use Rattle.sgt_names.specs.Ordered.{IsRisingBy};
 ghost use Rattle.sgt_names.specs.Entry.{Clash};
 ghost use Rattle.sgt_names.specs.Log.{Conflicts};
 ghost use Rattle.sgt_names.specs.declared.entry.Entry.{Entry as AnEntry};
 ghost use Rattle.sgt_service_settle.specs.declared.acts.Act.{Act as AnAct};
 ghost use Rattle.sgt_service_settle.specs.private.Index.{IsLoggedBy};
-ghost use Rattle.sgt_service_settle.specs.private.Acts.{actor, AreKnown, AreActs, AreByActor, AreBetween};
+ghost use Rattle.sgt_service_settle.specs.private.Acts.{AreKnown, AreActs, AreByActor, AreBetween};
 
-use crate::acts::{Act, place_of};
+use crate::acts::{Act, place_near};
 use crate::names::tx_under;
+use crate::points::{Near, Nears, acts_from, start_of};
 use sgt_edges::Edge;
 use sgt_names::{Entry, Holding, Item, Kind, Label, Tx};
 
@@ -58,61 +58,61 @@ fn are_between(from: &[Act], to: &[Act], kind: Kind, item: &Item) -> bool
     false
 }
 
-// How many of the acts are of transactions of smaller numbers.
-fn count_below(acts: &[Act], number: u64) -> usize
-    requires { IsNonDecreasingBy actor acts.now }
-    ensures within { result ≤ length acts.now }
-    ensures point { IsPartitionPoint (λ a. nat_lt (actor a) number ≡ true)
-        (λ a. nat_lt (actor a) number ≡ false) acts.now result }
-{
-    acts.partition_point(|act| u64::from(act.entry.tx().number()) < number)
-}
-
-// Of these acts those of the transaction. Two binary searches.
-fn acts_by(acts: &[Act], tx: Tx) -> &[Act]
-    requires { IsNonDecreasingBy actor acts.now }
-    ensures { (a : AnAct) → Contains result.now a ↔ (Contains acts.now a × (actor a ≡ tx)) }
-{
-    let number = u64::from(tx.number());
-    let later = &acts[count_below(acts, number)..];
-    &later[..count_below(later, number + 1)]
-}
-
 // Whether an entry of one transaction precedes and conflicts with one of the other.
-fn is_between(items: &[Holding], acts: &[Vec<Act>], from: Tx, to: Tx, label: &Label) -> bool
+fn is_between(
+    items: &[Holding],
+    acts: &[Vec<Act>],
+    near: &mut Nears,
+    from: Tx,
+    to: Tx,
+    label: &Label,
+) -> bool
     requires rising { IsRisingBy (λ h. h.item) (slice_cmp nat_cmp) items.now }
     requires long { length acts.now ≡ length items.now }
+    requires near { length near.old.rows.items ≡ length items.now }
     requires sorted { AreByActor acts.now }
-    ensures { (log : List AnEntry) → AreKnown items.now log → AreActs items.now log acts.now
+    ensures near { length near.new.rows.items ≡ length near.old.rows.items }
+    ensures told { (log : List AnEntry) → AreKnown items.now log → AreActs items.now log acts.now
         → IsTrue result ↔ Conflicts log label.now.kind label.now.item from to }
 {
     if from == to {
         return false;
     }
-    let Some(at) = place_of(items, label.item) else {
+    let Some(at) = place_near(items, near.item, label.item) else {
         return false;
     };
     let row = acts[at].as_slice();
+    let last = near.rows[at];
+    let first = start_of(row, from, last.from);
+    let second = start_of(row, to, last.to);
+    near.item = at;
+    near.rows[at] = Near {
+        from: first,
+        to: second,
+    };
     are_between(
-        acts_by(row, from),
-        acts_by(row, to),
+        acts_from(row, from, first),
+        acts_from(row, to, second),
         label.kind,
         &label.item,
     )
 }
 
 /// Whether the edge is a conflict of the log with its label, and its ends have names. The cost is a search of the items, and of what
-/// was done to its item.
+/// was done to its item: a few steps where that stands near what the last edge on the item asked for, else a binary search.
 pub(crate) fn is_logged(
     windows: &[Vec<Tx>],
     items: &[Holding],
     acts: &[Vec<Act>],
+    near: &mut Nears,
     edge: &Edge,
 ) -> bool
     requires rising { IsRisingBy (λ h. h.item) (slice_cmp nat_cmp) items.now }
     requires long { length acts.now ≡ length items.now }
+    requires near { length near.old.rows.items ≡ length items.now }
     requires sorted { AreByActor acts.now }
-    ensures { (log : List AnEntry) → AreKnown items.now log → AreActs items.now log acts.now
+    ensures near { length near.new.rows.items ≡ length near.old.rows.items }
+    ensures told { (log : List AnEntry) → AreKnown items.now log → AreActs items.now log acts.now
         → IsTrue result ↔ IsLoggedBy windows.now log edge.now }
 {
     let Some(from) = tx_under(windows, edge.from) else {
@@ -121,5 +121,5 @@ pub(crate) fn is_logged(
     let Some(to) = tx_under(windows, edge.to) else {
         return false;
     };
-    is_between(items, acts, from, to, &edge.label)
+    is_between(items, acts, near, from, to, &edge.label)
 }

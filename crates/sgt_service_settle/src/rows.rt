@@ -1,9 +1,10 @@
-//! The edges between committed transactions, by the transaction at one end.
+//! The edges by their sites, and those between committed transactions by the transaction at one end.
 
 ghost use Rattle.std.specs.Prelude.{◌≡◌, ◌<◌, ℕ, length, OnOk, IfOk};
-ghost use Rattle.sgt_service_settle.specs.private.Words.{At, Pushed};
+ghost use Rattle.sgt_service_settle.specs.private.Words.{At, Pushed, AreBySite};
 ghost use Rattle.sgt_service_settle.specs.private.Search.{Hold, LinksBy, AreEnds};
 
+use crate::handed::Handed;
 use crate::link::{Arc, Link};
 use std::alloc::{AllocError, Global};
 
@@ -18,15 +19,48 @@ pub(crate) fn push_at<T: Copy>(rows: &mut [Vec<T>], at: usize, x: T) -> Result<(
     Ok(())
 }
 
-/// So many rows with nothing in them.
-pub(crate) fn no_rows<T: Copy>(alloc: Global, all: usize) -> Result<Vec<Vec<T>>, AllocError>
+/// What each has of a whole, where so many share it.
+pub(crate) fn share(whole: usize, all: usize) -> usize {
+    match whole.checked_div(all) {
+        Some(each) => each,
+        None => 0,
+    }
+}
+
+/// So many rows with nothing in them, with room for so many elements each.
+pub(crate) fn no_rows<T: Copy>(
+    alloc: Global,
+    all: usize,
+    each: usize,
+) -> Result<Vec<Vec<T>>, AllocError>
     ensures long { IfOk result (λ rows. length rows.items ≡ all) }
     ensures none { IfOk result (λ rows. (k n : ℕ) (x : T) → At rows.items k n x → ⊥) }
 {
     let mut rows = Vec::new(alloc);
     for _at in 0..all {
+        let mut row = Vec::new(alloc);
+        row.reserve(each)?;
         rows.reserve(1)?;
-        rows.push_reserved(Vec::new(alloc));
+        rows.push_reserved(row);
+    }
+    Ok(rows)
+}
+
+/// The edges at each of the first so many sites.
+pub(crate) fn by_site(
+    alloc: Global,
+    handed: &[Handed],
+    sites: usize,
+) -> Result<Vec<Vec<Handed>>, AllocError>
+    ensures long { IfOk result (λ rows. length rows.items ≡ sites) }
+    ensures sited { IfOk result (λ rows. AreBySite handed.now rows.items) }
+{
+    let mut rows = no_rows(alloc, sites, share(handed.len(), sites))?;
+    for one in handed {
+        let site = one.edge.label.site.number() as usize;
+        if site < sites {
+            push_at(rows.as_mut_slice(), site, *one)?;
+        }
     }
     Ok(rows)
 }
@@ -41,7 +75,7 @@ pub(crate) fn leaving(
     ensures long { IfOk result (λ rows. length rows.items ≡ all) }
     ensures hold { IfOk result (λ rows. Hold rows.items (LinksBy links.now)) }
 {
-    let mut rows = no_rows(alloc, all)?;
+    let mut rows = no_rows(alloc, all, 0)?;
     for link in links {
         let arc = Arc {
             to: link.to,
@@ -63,7 +97,7 @@ pub(crate) fn entering(
     ensures long { IfOk result (λ rows. length rows.items ≡ all) }
     ensures hold { IfOk result (λ rows. Hold rows.items (λ cut a b. LinksBy links.now cut b a)) }
 {
-    let mut rows = no_rows(alloc, all)?;
+    let mut rows = no_rows(alloc, all, 0)?;
     for link in links {
         let arc = Arc {
             to: link.from,

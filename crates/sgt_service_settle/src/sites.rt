@@ -1,6 +1,6 @@
 //! Whether the logs of the sites agree with the history.
 
-ghost use Rattle.std.specs.Prelude.{◌≡◌, ◌↔◌, ◌≤◌, ◌<◌, ◌++◌, ℕ, List, IsTrue, Contains, IfOk, OnErr, MatchOption, length, slice_get, Some};
+ghost use Rattle.std.specs.Prelude.{◌≡◌, ◌↔◌, ◌≤◌, ◌<◌, ◌+◌, ◌++◌, ℕ, List, IsTrue, Contains, IfOk, OnErr, MatchOption, length, slice_get, Some};
 ghost use Rattle.std.specs.Ordering.{nat_cmp};
 ghost use Rattle.std.specs.Cmp.Lexicographic.{slice_cmp};
 ghost use Rattle.sgt_names.specs.Limits.{max_sites};
@@ -10,37 +10,41 @@ ghost use Rattle.sgt_service_settle.specs.Settled.{AreEntriesCounted, AreCounted
 ghost use Rattle.sgt_service_settle.specs.declared.handed.Handed.{Handed as AHanded};
 ghost use Rattle.sgt_service_settle.specs.private.Words.{IsLeastOf, lesser};
 ghost use Rattle.sgt_service_settle.specs.private.Index.{IsPaired};
+ghost use Rattle.sgt_service_settle.specs.private.Joined.{AreUnder};
 ghost use Rattle.sgt_service_settle.specs.private.Acts.{AreKnown, AreActs, AreByActor};
 ghost use Rattle.sgt_service_settle.specs.private.Sites.{AreLogged, IsLogFit, IsSiteFit, IsFitAt};
 
 use crate::acts::{Act, acts_of};
 use crate::carried::are_carried;
 use crate::counts::has_counts;
+use crate::course::Marks;
 use crate::handed::Handed;
-use crate::index::Index;
+use crate::index::{Index, edges_at};
 use crate::joined::are_joined;
 use crate::logged::is_logged;
+use crate::points::{Nears, no_nears};
 use sgt_names::{Entry, Holding, SiteNo, Tx};
 use sgt_service_agreement::EntryCounts;
 use sgt_site::Site;
 use std::alloc::{AllocError, Global};
 
-// Whether each edge on the site is a conflict of its log.
+// Whether each of these edges is a conflict of the log.
 fn are_logged(
     windows: &[Vec<Tx>],
     items: &[Holding],
     acts: &[Vec<Act>],
-    handed: &[Handed],
-    site: SiteNo,
+    near: &mut Nears,
+    edges: &[Handed],
 ) -> bool
     requires rising { IsRisingBy (λ h. h.item) (slice_cmp nat_cmp) items.now }
     requires long { length acts.now ≡ length items.now }
+    requires near { length near.old.rows.items ≡ length items.now }
     requires sorted { AreByActor acts.now }
     ensures { (log : List AnEntry) → AreKnown items.now log → AreActs items.now log acts.now
-        → IsTrue result ↔ AreLogged windows.now handed.now site log }
+        → IsTrue result ↔ AreLogged windows.now edges.now log }
 {
-    for one in handed {
-        if one.edge.label.site == site && !is_logged(windows, items, acts, &one.edge) {
+    for one in edges {
+        if !is_logged(windows, items, acts, near, &one.edge) {
             return false;
         }
     }
@@ -51,27 +55,32 @@ fn are_logged(
 fn is_log_fit(
     alloc: Global,
     index: &Index,
+    marks: &mut Marks,
     site: SiteNo,
     counts: EntryCounts,
     items: &[Holding],
     log: &[Entry],
 ) -> Result<bool, AllocError>
     requires paired { IsPaired index.now }
+    requires there { site < length index.now.sited.items }
+    requires under { AreUnder marks.old (marks.old.step + 1) }
     requires rising { IsRisingBy (λ h. h.item) (slice_cmp nat_cmp) items.now }
     requires known { AreKnown items.now log.now }
     ensures ok { IfOk result (λ yes. IsTrue yes ↔ IsLogFit index.now site counts log.now) }
     ensures err { OnErr result (AreEntriesCounted counts log.now) }
+    ensures under { AreUnder marks.new (marks.new.step + 1) }
 {
     if !has_counts(log, counts) {
         return Ok(false);
     }
     let acts = acts_of(alloc, items, log)?;
+    let mut near = no_nears(alloc, items.len())?;
     let windows = index.windows.as_slice();
-    let handed = index.handed.as_slice();
-    if !are_logged(windows, items, acts.as_slice(), handed, site) {
+    let edges = edges_at(index, site);
+    if !are_logged(windows, items, acts.as_slice(), &mut near, edges) {
         return Ok(false);
     }
-    let joined = are_joined(alloc, index, site, items, log)?;
+    let joined = are_joined(alloc, index, marks, site, items, log)?;
     if joined {
         return Ok(true);
     }
@@ -83,28 +92,35 @@ fn is_log_fit(
 fn is_site_fit(
     alloc: Global,
     index: &Index,
+    marks: &mut Marks,
     site: SiteNo,
     counts: EntryCounts,
     held: &Site,
 ) -> Result<bool, AllocError>
-    requires { IsPaired index.now }
+    requires paired { IsPaired index.now }
+    requires there { site < length index.now.sited.items }
+    requires under { AreUnder marks.old (marks.old.step + 1) }
     ensures ok { IfOk result (λ yes. IsTrue yes ↔ IsSiteFit index.now site counts held.now) }
     ensures err { OnErr result (IsCounted site counts held.now) }
+    ensures under { AreUnder marks.new (marks.new.step + 1) }
 {
     if held.number() != site {
         return Ok(false);
     }
-    is_log_fit(alloc, index, site, counts, held.items(), held.log())
+    is_log_fit(alloc, index, marks, site, counts, held.items(), held.log())
 }
 
 /// The least of the places that there are at which isn't the site of that number, or whose log isn't fit.
 pub(crate) fn first_unfit(
     alloc: Global,
     index: &Index,
+    marks: &mut Marks,
     sites: &[Site],
     counts: &[EntryCounts],
 ) -> Result<Option<SiteNo>, AllocError>
     requires paired { IsPaired index.now }
+    requires there { length index.now.sited.items ≡ length sites.now }
+    requires under { AreUnder marks.old (marks.old.step + 1) }
     requires few { length sites.now ≤ max_sites }
     requires counts { length counts.now ≡ length sites.now }
     ensures ok { IfOk result (λ found. MatchOption found
@@ -119,7 +135,7 @@ pub(crate) fn first_unfit(
         let Ok(site) = SiteNo::new(k as u64) else {
             unreachable!();
         };
-        let fit = is_site_fit(alloc, index, site, counts[k], &sites[k])?;
+        let fit = is_site_fit(alloc, index, marks, site, counts[k], &sites[k])?;
         if !fit {
             return Ok(Some(site));
         }

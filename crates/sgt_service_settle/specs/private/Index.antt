@@ -17,8 +17,9 @@ use Rattle.sgt_service_settle.specs.declared.handed.Handed.{Handed}
 use Rattle.sgt_service_settle.specs.declared.link.Cut.{Cut}
 use Rattle.sgt_service_settle.specs.declared.link.Link.{Link}
 use Rattle.sgt_service_settle.specs.declared.index.Index.{Index}
-use Rattle.sgt_service_settle.specs.private.Words.{At}
-use Rattle.sgt_service_settle.specs.private.Search.{InRows, Hold, LinksBy, IsMarked}
+use Rattle.sgt_service_settle.specs.declared.carried.Rows.{Rows}
+use Rattle.sgt_service_settle.specs.private.Words.{At, AreBySite}
+use Rattle.sgt_service_settle.specs.private.Search.{Hold, LinksBy, AreEnds, IsMarked}
 
 -- the windows name the transaction under the handle
 abbrev pub Names : List (Vec ℕ Global) → Handle → ℕ → Type 0
@@ -55,23 +56,27 @@ AreLinks windows commits handed links =
 abbrev pub CarriesBy : List Call → List Ruling → Cut → ℕ → ℕ → Type 0
 CarriesBy history rulings cut a b = Carries history rulings cut.site cut.item cut.last a b
 
--- the rows fit the table, and those that enter are those that leave
+-- the links are those of the edges, and the edges at each site are those of the index
 pub record IsPaired (index : Index) : Type 0 where
-  pub out : length index.out.items ≡ length index.commits.items
-  pub back : length index.back.items ≡ length index.commits.items
-  pub within : (cut : Cut) (a b : ℕ) → InRows index.out.items cut a b
-      → (a < length index.commits.items) × (b < length index.commits.items)
-  pub links : (cut : Cut) (a b : ℕ) → LinksBy index.links.items cut a b
-      → InRows index.out.items cut a b
-  pub turned : (cut : Cut) (a b : ℕ)
-      → InRows index.back.items cut b a ↔ InRows index.out.items cut a b
+  pub ends : AreEnds index.links.items (length index.commits.items)
+  pub linked : AreLinks index.windows.items index.commits.items index.handed.items
+      index.links.items
+  pub sited : AreBySite index.handed.items index.sited.items
+
+-- the rows have the links, by the transaction that they come from and by the one that they lead to
+pub record AreRows (index : Index) (rows : Rows) : Type 0 where
+  pub out_long : length rows.out.items ≡ length index.commits.items
+  pub back_long : length rows.back.items ≡ length index.commits.items
+  pub out : Hold rows.out.items (LinksBy index.links.items)
+  pub back : Hold rows.back.items (λ cut a b. LinksBy index.links.items cut b a)
 
 -- the index is that of the history
 pub record IsIndex (history : List Call) (rulings : List Ruling) (index : Index) : Type 0 where
   pub names : AreNamed history index.windows.items
   pub commits : AreCommits rulings index.commits.items
   pub handed : index.handed.items ≡ handed_in history
-  pub out : Hold index.out.items (CarriesBy history rulings)
+  pub links : (cut : Cut) (a b : ℕ)
+      → LinksBy index.links.items cut a b ↔ CarriesBy history rulings cut a b
   pub paired : IsPaired index
 
 -- ---- a log
@@ -86,7 +91,7 @@ IsLoggedBy windows log e =
 abbrev pub AreCarried : Index → ℕ → List Entry → Type 0
 AreCarried index site log = (kind : Kind) (x : Name) (a b m n : ℕ) → Conflicts log kind x a b →
     IsIn index.commits.items a m → IsIn index.commits.items b n →
-    Reaches (InRows index.out.items (record { site = site; item = x; last = max m n })) a b
+    Reaches (LinksBy index.links.items (record { site = site; item = x; last = max m n })) a b
 
 -- the other entry is another transaction's, committed by a decision of at most this number
 pub record IsDue (commits : List (Option ℕ)) (e f : Entry) (last : ℕ) : Type 0 where
@@ -112,6 +117,6 @@ AllSided log commits cut p e forward backward = (q : ℕ) (f : Entry) → slice_
 abbrev pub IsPlaceCarried : Index → List Entry → Cut → ℕ → Entry → Type 0
 IsPlaceCarried index log cut p e = (q : ℕ) (f : Entry) → slice_get log q ≡ Some f
     → IsDue index.commits.items e f cut.last →
-    IsSided (Reaches (InRows index.out.items cut) (tx_of f) (tx_of e))
-    (Reaches (InRows index.out.items cut) (tx_of e) (tx_of f))
+    IsSided (Reaches (LinksBy index.links.items cut) (tx_of f) (tx_of e))
+    (Reaches (LinksBy index.links.items cut) (tx_of e) (tx_of f))
     cut.item p q e f

@@ -9,16 +9,16 @@ use Rattle.sgt_service_settle.specs.declared.handed.Handed.{Handed}
 use Rattle.sgt_service_settle.specs.declared.index.Index.{Index}
 use Rattle.sgt_service_settle.specs.private.Index.{IsLoggedBy, AreCarried}
 
--- each edge on the site is a conflict of its log
-abbrev pub AreLogged : List (Vec ℕ Global) → List Handed → ℕ → List Entry → Type 0
-AreLogged windows handed site log = (h : Handed) → Contains handed h → h.edge.label.site ≡ site
-    → IsLoggedBy windows log h.edge
+-- each of these edges is a conflict of the log
+abbrev pub AreLogged : List (Vec ℕ Global) → List Handed → List Entry → Type 0
+AreLogged windows edges log = (h : Handed) → Contains edges h → IsLoggedBy windows log h.edge
 
 -- the log of the site has the counted entries, and its conflicts are those that the decisions were
 -- handed
 pub record IsLogFit (index : Index) (site : ℕ) (counts : EntryCounts) (log : List Entry) : Type 0 where
   pub counted : AreEntriesCounted counts log
-  pub edges : AreLogged index.windows.items index.handed.items site log
+  pub edges : (h : Handed) → Contains index.handed.items h → h.edge.label.site ≡ site
+      → IsLoggedBy index.windows.items log h.edge
   pub conflicts : AreCarried index site log
 
 -- it is the site of this number, with such a log

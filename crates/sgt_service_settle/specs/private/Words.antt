@@ -1,5 +1,5 @@
 -- Rows, where an item stands, and the least of the elements that something holds of.
-use Rattle.std.specs.Prelude.{◌≡◌, ◌≤◌, ◌++◌, ◌∷◌, [], ℕ, min, List, Option, Some, None, Contains, Vec, slice_get}
+use Rattle.std.specs.Prelude.{◌≡◌, ◌≤◌, ◌<◌, ◌++◌, ◌∷◌, [], ℕ, min, List, length, Option, Some, None, Contains, Vec, slice_get}
 use Rattle.std.specs.declared.alloc.Global.{Global}
 use Rattle.sgt_names.specs.Name.{Name}
 use Rattle.sgt_names.specs.Ordered.{IsAt}
@@ -23,6 +23,13 @@ pub record Pushed {T : Type 0} (old : List (Vec T Global)) (k : ℕ) (x : T) (ne
   pub was : slice_get old k ≡ Some before
   pub now : slice_get new k ≡ Some after
   pub more : after.items ≡ before.items ++ x ∷ []
+
+-- at the place of each site stand those of these edges that are on it, and no others
+pub record AreBySite (handed : List Handed) (rows : List (Vec Handed Global)) : Type 0 where
+  pub these : (site n : ℕ) (h : Handed) → At rows site n h
+      → Contains handed h × (h.edge.label.site ≡ site)
+  pub all : (h : Handed) → Contains handed h → h.edge.label.site < length rows
+      → (n : ℕ) × At rows h.edge.label.site n h
 
 -- where an item stands
 abbrev pub IsItemAt : List Holding → Name → ℕ → Type 0

@@ -9,7 +9,13 @@ use Rattle.sgt_service_settle.proofs.Settling.{fit_settled, settled_counted, set
 use Rattle.sgt_service_settle.proofs.check.first_differing.Goals as goal
 
 pub first_unfit-requires-clause-paired : goal.first_unfit-requires-clause-paired
-first_unfit-requires-clause-paired c = c.in_ok-index.ensures.paired
+first_unfit-requires-clause-paired c = c.in_ok-index.ensures.index.paired
+
+pub first_unfit-requires-clause-there : goal.first_unfit-requires-clause-there
+first_unfit-requires-clause-there c = c.in_ok-index.ensures.long
+
+pub returns-in_err-marks-clause-err : goal.returns-in_err-marks-clause-err
+returns-in_err-marks-clause-err c = on_err c.from_residual-in_err-marks.result _ (0, c.has_first_counts.ensures.0 c.if-not-has_first_counts.false, λ k lt. absurd (omega (arith, lt)))
 
 pub returns-in-Some-clause-ok : goal.returns-in-Some-clause-ok
 returns-in-Some-clause-ok c =
@@ -19,8 +25,8 @@ returns-in-Some-clause-ok c =
     let counts = c.args.counts.now in
     let index = c.in_ok-index.index in
     let found = rw c.in-Some.is at c.in_ok-unfit.ensures.ok in (
-      λ settled. found.1 (settled_fit history rulings index sites counts c.in-Some.site c.in_ok-index.ensures settled),
-      λ k lt. fit_settled history rulings index sites counts k c.in_ok-index.ensures c.requires.counts (omega (arith, lt, found.0)) (found.2 k lt),
+      λ settled. found.1 (settled_fit history rulings index sites counts c.in-Some.site c.in_ok-index.ensures.index settled),
+      λ k lt. fit_settled history rulings index sites counts k c.in_ok-index.ensures.index c.requires.counts (omega (arith, lt, found.0)) (found.2 k lt),
     )
 
 pub returns-clause-ok : goal.returns-clause-ok
@@ -31,8 +37,8 @@ returns-clause-ok c =
     let counts = c.args.counts.now in
     let index = c.in_ok-index.index in
     let each = rw c.in_default-unfit.is at c.in_ok-unfit.ensures.ok in
-    beyond_found history rulings index sites counts c.first_beyond.result c.in_ok-index.ensures
-    (λ k low. fit_settled history rulings index sites counts k c.in_ok-index.ensures c.requires.counts low (each k low))
+    beyond_found history rulings index sites counts c.first_beyond.result c.in_ok-index.ensures.index
+    (λ k low. fit_settled history rulings index sites counts k c.in_ok-index.ensures.index c.requires.counts low (each k low))
     (subst (λ hs. IsLeastOf (λ (h : AHanded). h.edge.label.site) (λ (h : AHanded). length sites ≤ h.edge.label.site) hs c.first_beyond.result) c.as_slice.ensures.value c.first_beyond.ensures)
 
 pub returns-then-not-has_first_counts-clause-ok : goal.returns-then-not-has_first_counts-clause-ok
@@ -56,4 +62,4 @@ returns-in_err-unfit-clause-err c =
     let history = c.args.certifier.now.history in
     let rulings = c.args.certifier.now.state.rulings in
     let at = c.in_err-unfit.ensures.err in
-    on_err c.from_residual-in_err-unfit.result _ (at.0, at.2, λ k lt. fit_settled history rulings c.in_ok-index.index c.args.sites.now c.args.counts.now k c.in_ok-index.ensures c.requires.counts (omega (arith, lt, at.1)) (at.3 k lt))
+    on_err c.from_residual-in_err-unfit.result _ (at.0, at.2, λ k lt. fit_settled history rulings c.in_ok-index.index c.args.sites.now c.args.counts.now k c.in_ok-index.ensures.index c.requires.counts (omega (arith, lt, at.1)) (at.3 k lt))

@@ -19,7 +19,7 @@ is_item_joined-requires-clause-sound c d has =
 
 pub loop-at-preserved : goal.loop-at-preserved
 loop-at-preserved c = record {
-  under = c.in_ok-joined.ensures.under c.if-not-joined.false;
+  under = c.in_ok-joined.ensures.under;
   carried = λ k t row low at_t at_row. elim (cases_lt k c.loop-at.at) [
     | inl early ↦ c.loop-at.invariant.carried k t row early at_t at_row
     | inr late ↦
@@ -40,14 +40,14 @@ loop-at-preserved c = record {
   ];
 }
 
-pub returns : goal.returns
-returns c = λ yes.
+pub returns-clause-carried : goal.returns-clause-carried
+returns-clause-carried c = λ yes.
     let index = c.args.index.now in
     let items = c.args.items.now in
     let log = c.args.log.now in
     let tracks = c.in_ok-tracks.tracks.items in
     let rows = c.in_ok-links.links.items in
-    let links : AreItemLinks index.links.items c.args.site items rows = subst (λ ls. AreItemLinks ls c.args.site items rows) c.as_slice-2.ensures.value c.in_ok-links.ensures.links in
+    let links : AreItemLinks index.links.items c.args.site items rows = c.in_ok-links.ensures.links in
     let are : AreTracks index.commits.items items log (length log) tracks = subst (λ cs. AreTracks cs items log (length log) tracks) c.as_slice.ensures.value c.in_ok-tracks.ensures.tracks in
-    all_carried index c.args.site items log tracks rows c.requires.paired c.requires.known links c.in_ok-links.ensures.long are
+    all_carried index c.args.site items log tracks rows c.requires.known links c.in_ok-links.ensures.long are
     (λ k t row at_t at_row. c.loop-at.invariant.carried k t row (let low = slice_get_within tracks k t at_t in omega (arith, low, c.in_ok-tracks.ensures.long, c.loop-at-test.false)) at_t at_row)

@@ -33,7 +33,7 @@ loop-deed-preserved c =
     let follows : Follows (ComesTo (drop start links) d) (LeadsTo (drop start links) d) course d = subst (λ (ls : List ALink). Follows (ComesTo ls d) (LeadsTo ls d) course d) (take_rest links start) (c.in_ok-joined.ensures.follows c.if-not-joined.false) in
     let more = take_on order n d here in
     record {
-      under = c.in_ok-joined.ensures.under c.if-not-joined.false;
+      under = c.in_ok-joined.ensures.under;
       course = subst (λ xs. IsCourse xs c.join.new.course) (sym more) (c.in_ok-joined.ensures.course c.if-not-joined.false (take n order) inv.course);
       carried = subst (AreDeedsCarried links) (sym more) (deeds_next links (take n order) d course inv.course sound early (c.in_ok-joined.ensures.fits c.if-not-joined.false) (follows_all links start course d follows) inv.carried);
     }

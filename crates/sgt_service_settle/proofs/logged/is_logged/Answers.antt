@@ -5,18 +5,18 @@ use Rattle.sgt_names.specs.Log.{Conflicts}
 use Rattle.sgt_service_settle.proofs.Linking.{names_same}
 use Rattle.sgt_service_settle.proofs.logged.is_logged.Goals as goal
 
-pub returns-in_default : goal.returns-in_default
-returns-in_default c log known are = (λ told. absurd (true≢false (sym told)), λ k. absurd (none-some k.0 (sym c.in_default.is ∙ (c.tx_under.ensures k.0).1 k.2)))
+pub returns-in_default-clause-told : goal.returns-in_default-clause-told
+returns-in_default-clause-told c log known are = (λ told. absurd (true≢false (sym told)), λ k. absurd (none-some k.0 (sym c.in_default.is ∙ (c.tx_under.ensures k.0).1 k.2)))
 
-pub returns-in_default-tx_under : goal.returns-in_default-tx_under
-returns-in_default-tx_under c log known are = (λ told. absurd (true≢false (sym told)), λ k. absurd (none-some k.1 (sym c.in_default-tx_under.is ∙ (c.tx_under-2.ensures k.1).1 k.3)))
+pub returns-in_default-tx_under-clause-told : goal.returns-in_default-tx_under-clause-told
+returns-in_default-tx_under-clause-told c log known are = (λ told. absurd (true≢false (sym told)), λ k. absurd (none-some k.1 (sym c.in_default-tx_under.is ∙ (c.tx_under-2.ensures k.1).1 k.3)))
 
-pub returns : goal.returns
-returns c log known are =
+pub returns-clause-told : goal.returns-clause-told
+returns-clause-told c log known are =
     let from = (c.tx_under.ensures c.in-Some.from).0 c.in-Some.is in
     let to = (c.tx_under-2.ensures c.in-Some-tx_under.to).0 c.in-Some-tx_under.is in
     let e = c.args.edge.now in
-    let told_by = c.is_between.ensures log known are in (
+    let told_by = c.is_between.ensures.told log known are in (
       λ told. (c.in-Some.from, c.in-Some-tx_under.to, from, to, told_by.0 told),
       λ k.
           let a = names_same c.args.windows.now e.from k.0 c.in-Some.from k.2 from in

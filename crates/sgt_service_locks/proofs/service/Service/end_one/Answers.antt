@@ -1,10 +1,24 @@
-use Rattle.std.proofs.Common.{◌∙◌, ap, sym, subst, arith, ◌+◌}
+use Rattle.std.proofs.Common.{◌∙◌, sym, subst, arith, ◌+◌}
 use Rattle.sgt_names.specs.Draft.{at_site}
-use Rattle.sgt_service_locks.specs.Counts.{AreCounted, only_at, with_others, block_length}
+use Rattle.sgt_service_locks.specs.Counts.{AreCounted, only_at, with_others}
 use Rattle.sgt_service_locks.proofs.Counting.{gains_zero, block_none, block_empty, block_here}
 use Rattle.sgt_service_locks.proofs.Decisions.{later}
 use Rattle.sgt_service_locks.proofs.Noting.{notes_untouched, noted}
 use Rattle.sgt_service_locks.proofs.service.Service.end_one.Goals as goal
+
+pub returns-then-not-touches-clause-awaits : goal.returns-then-not-touches-clause-awaits
+returns-then-not-touches-clause-awaits g c _ verdict =
+    later c.args.guarded.now.certifier c.args.active.now.tx c.args.active.now.draft.touched c.args.here (c.args.here + 1) (omega arith) (c.requires.awaits verdict)
+
+pub returns-then-not-touches-clause-counted : goal.returns-then-not-touches-clause-counted
+returns-then-not-touches-clause-counted g c _ =
+    let none = c.touches.ensures.none c.if-not-touches.true in
+    gains_zero c.args.seat.now.counts.items c.args.here _ (block_none c.args.verdict (at_site c.args.here c.args.active.now.draft.touched) none)
+
+pub returns-then-not-touches-clause-history : goal.returns-then-not-touches-clause-history
+returns-then-not-touches-clause-history g c _ =
+    let none = c.touches.ensures.none c.if-not-touches.true in
+    notes_untouched c.args.verdict c.args.active.now c.args.here c.args.guarded.now.certifier.history (block_none c.args.verdict (at_site c.args.here c.args.active.now.draft.touched) none)
 
 pub returns-then-entries-eq0-clause-awaits : goal.returns-then-entries-eq0-clause-awaits
 returns-then-entries-eq0-clause-awaits g c _ verdict =
@@ -39,7 +53,7 @@ returns-then-not-end_at-clause-touched g c _ none =
     let is = block_here c.args.verdict c.args.here c.args.active.now.draft.touched _ _ c.block_at-entries.ensures c.at.ensures.part in
     c.if-entries-eq0.false (is ∙ block_none c.args.verdict (at_site c.args.here c.args.active.now.draft.touched) none)
 
-pub pass-requires-clause-untouched : goal.pass-requires-clause-untouched
-pass-requires-clause-untouched g c =
+pub pass-requires-then-entries-eq0-clause-untouched : goal.pass-requires-then-entries-eq0-clause-untouched
+pass-requires-then-entries-eq0-clause-untouched g c =
     let is = block_here c.args.verdict c.args.here c.args.active.now.draft.touched _ _ c.block_at-entries.ensures c.at.ensures.part in
     block_empty c.args.verdict (at_site c.args.here c.args.active.now.draft.touched) (sym is ∙ c.if-entries-eq0.true)

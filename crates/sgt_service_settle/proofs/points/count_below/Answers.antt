@@ -2,7 +2,7 @@ use Rattle.std.proofs.Common.{rules, nat_lt}
 use Rattle.std.proofs.lemmas.List.Sorted.{IsPartitionPoint-from_clause, IsPartitionedBy-ltb}
 use Rattle.sgt_service_settle.specs.declared.acts.Act.{Act as AnAct}
 use Rattle.sgt_service_settle.specs.private.Acts.{actor}
-use Rattle.sgt_service_settle.proofs.logged.count_below.Goals as goal
+use Rattle.sgt_service_settle.proofs.points.count_below.Goals as goal
 
 pub returns-clause-point : goal.returns-clause-point
 returns-clause-point c =

@@ -5,7 +5,7 @@ use Rattle.std.proofs.lemmas.List.{take_rest}
 use Rattle.sgt_service_settle.specs.declared.acts.Act.{Act as AnAct}
 use Rattle.sgt_service_settle.specs.private.Acts.{actor}
 use Rattle.sgt_service_settle.proofs.Placing.{of_number-between}
-use Rattle.sgt_service_settle.proofs.logged.acts_by.Goals as goal
+use Rattle.sgt_service_settle.proofs.points.acts_from.Goals as goal
 
 -- where the acts below a number end
 abbrev Splits : List AnAct → ℕ → ℕ → Type 0
@@ -15,10 +15,10 @@ pub returns : goal.returns
 returns c a =
     let tx = c.args.tx in
     let ys = c.args.acts.now in
-    let from = c.count_below.result in
-    let to = c.count_below-2.result in
+    let from = c.args.start in
+    let to = c.count_below.result in
     let number : c.from-number.result ≡ tx = c.from-number.ensures ∙ c.number.ensures.is in
     let later = take_rest ys from in
-    let low = subst (λ t. Splits ys t from) number c.count_below.ensures.point in
-    let high = subst (λ t. Splits (drop from ys) (t + 1) to) number (subst (λ (zs : List AnAct). Splits zs (c.from-number.result + 1) to) later c.count_below-2.ensures.point) in
+    let low : Splits ys tx from = c.requires.point in
+    let high = subst (λ t. Splits (drop from ys) (t + 1) to) number (subst (λ (zs : List AnAct). Splits zs (c.from-number.result + 1) to) later c.count_below.ensures.point) in
     subst (λ (zs : List AnAct). Contains (take to zs) a ↔ (Contains ys a × (actor a ≡ tx))) (sym later) (of_number-between actor ys tx from to low high a)
