@@ -24,6 +24,7 @@ pub mod WholeCommits
 pub mod WholeGoing
 pub mod TouchedSites
 pub mod Flags
+pub mod FirstFound
 pub mod Withdrawals
 pub mod Total
 pub mod Examples
