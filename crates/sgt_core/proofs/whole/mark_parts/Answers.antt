@@ -1,4 +1,4 @@
-use Rattle.std.proofs.Common.{◌≤◌, List, arith, length, subst}
+use Rattle.std.proofs.Common.{List, arith, subst}
 use Rattle.sgt_names.proofs.Lists.{element_at}
 use Rattle.sgt_names.specs.Draft.{Touches}
 use Rattle.sgt_names.specs.declared.draft.Touch.{Touch}

@@ -1,6 +1,5 @@
 use Rattle.std.proofs.Common.{◌++◌, ◌∷◌, ◌+◌, ◌∙◌, [], ℕ, List, Vec, Global, subst, sym, ap}
 use Rattle.std.proofs.lemmas.Bool.{true≢false}
-use Rattle.sgt_names.specs.Draft.{Touches}
 use Rattle.sgt_core.specs.private.Whole.{AreTouched}
 use Rattle.sgt_core.proofs.TouchedSites.{touched_hit, touched_miss}
 use Rattle.sgt_core.proofs.whole.touched_sites.Goals as goal
