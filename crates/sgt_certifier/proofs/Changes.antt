@@ -1,8 +1,8 @@
 -- The items that a draft changes at a site, in a walk over the draft.
-use Rattle.std.proofs.Common.{◌≡◌, ◌≢◌, ◌≤◌, ℕ, zero, suc, ◌+◌, Bool, true, false, List, [], ◌∷◌, ◌++◌, length, map, take, Any, Contains, ◌⊎◌, Some, refl, sym, ◌∙◌, ap, ap₂, append_assoc, subst, arith, inl, inr}
+use Rattle.std.proofs.Common.{◌≡◌, ◌≢◌, ◌≤◌, ℕ, zero, suc, ◌+◌, Bool, true, false, List, [], ◌∷◌, ◌++◌, length, map, take, Any, Contains, ◌⊎◌, Some, refl, sym, ◌∙◌, ap, ap₂, subst, arith, inl, inr}
 use Rattle.std.specs.Prelude.{slice_get, filter, is_some, ◌==◌, ◌&&◌}
 use Rattle.std.proofs.lemmas.Bool.{cases_Bool, eqb-true, and_parts}
-use Rattle.std.proofs.lemmas.List.{map-append, take_all}
+use Rattle.std.proofs.lemmas.List.{append-nil, map-append, take_all}
 use Rattle.std.proofs.lemmas.List.Elements.{filter-append}
 use Rattle.std.proofs.lemmas.Option.{same_Some, slice_get_within}
 use Rattle.sgt_names.specs.Name.{Name}
@@ -110,6 +110,11 @@ listed_all whole few ps n lists next most grows here before is s = elim (before 
 
 -- ---- at one site
 
+-- a draft that has no parts touches what is in its list
+pub few_all : (few : List Touch) (ps : List PartView) (ts : List Touch) → few ++ touched_in ps ≡ ts → length ps ≡ 0 → few ≡ ts
+few_all few [] ts is none = sym (append-nil few) ∙ is
+few_all few (p ∷ ps) ts is none = absurd cc
+
 pub changed_here : (s : ℕ) (ts here : List Touch) → here ≡ at_site s ts → changed_at here s ≡ changed_at ts s
 changed_here s ts here is = ap (λ (us : List Touch). changed_at us s) is ∙ ap (map item_of) (within s ts)
   where
@@ -123,5 +128,7 @@ changed_here s ts here is = ap (λ (us : List Touch). changed_at us s) is ∙ ap
       | inr miss ↦ rw miss (within s ts)
     ]
 
-pub expected_here : (s : ℕ) (ts here : List Touch) (lists : List Prepared) → here ≡ at_site s ts → IsExpected lists ts s → IsExpected lists here s
-expected_here s ts here lists is expected = subst (λ (items : List Name). (items ≡ []) ⊎ Contains lists (record { site = s; items = items })) (sym (changed_here s ts here is)) expected
+pub expected_same : (s : ℕ) (ts here : List Touch) (lists : List Prepared) → changed_at here s ≡ changed_at ts s → IsExpected lists ts s
+    → IsExpected lists here s
+expected_same s ts here lists same expected =
+    subst (λ (items : List Name). (items ≡ []) ⊎ Contains lists (record { site = s; items = items })) (sym same) expected

@@ -1,5 +1,5 @@
 -- The counts of one site: what is found in them, and what a change of them leaves.
-use Rattle.std.proofs.Common.{◌≡◌, ◌≢◌, ℕ, zero, suc, ◌<◌, ◌+◌, ◌++◌, true, false, List, [], ◌∷◌, set, length, Option, Some, None, IsSome, Result, Ok, Err, OnOk, OnErr, refl, sym, ◌∙◌, ap, subst, arith, inl, inr, AllPairs}
+use Rattle.std.proofs.Common.{◌≡◌, ◌≢◌, ℕ, zero, suc, ◌<◌, ◌+◌, ◌++◌, true, false, List, [], ◌∷◌, set, length, Some, None, IsSome, Result, Ok, Err, OnOk, OnErr, refl, sym, ◌∙◌, ap, subst, arith, inl, inr}
 use Rattle.std.specs.Prelude.{slice_get}
 use Rattle.std.specs.List.{insert}
 use Rattle.std.specs.Str.{bytes_eq}
@@ -8,7 +8,7 @@ use Rattle.std.specs.Cmp.Lexicographic.{slice_cmp}
 use Rattle.std.specs.declared.cmp.Ordering.TheVariants.{Less, Equal, Greater}
 use Rattle.std.proofs.lemmas.Bool.{cases_Bool, cases_lt, true≢false}
 use Rattle.std.proofs.lemmas.Cmp.{nat_list_cmp_total, tied_itself}
-use Rattle.std.proofs.lemmas.Option.{same_Some}
+use Rattle.std.proofs.lemmas.Option.{same_Some, slice_get_within}
 use Rattle.std.proofs.lemmas.Slice.Eq.{bytes_eq-Decides}
 use Rattle.sgt_names.specs.Name.{Name}
 use Rattle.sgt_names.specs.Ordered.{IsAt, IsGapFor}
@@ -17,6 +17,13 @@ use Rattle.sgt_names.proofs.Places.{AllPairs_at, AllPairs-tail}
 use Rattle.sgt_names.proofs.Ranged.{rising-insert, rising-set}
 use Rattle.sgt_certifier.specs.Row.{AreRising, count_in, found_in, or_zero}
 use Rattle.sgt_certifier.specs.declared.row.ItemCount.{ItemCount}
+
+-- a count of the item at a place is where the item is
+pub at_place : (cs : List ItemCount) (x : Name) (n : ℕ) → (c : ItemCount) × (slice_get cs n ≡ Some c) × (c.item ≡ x) → IsAt (λ c. c.item) cs x n
+at_place cs x n c = record {
+  within = slice_get_within cs n c.0 c.1;
+  is = λ d here. ap (λ (e : ItemCount). e.item) (same_Some d c.0 (sym here ∙ c.1)) ∙ c.2;
+}
 
 is_itself : (x : Name) → bytes_eq x x ≡ true
 is_itself x = (bytes_eq-Decides x x).1 refl

@@ -1,6 +1,6 @@
 -- The table of counts: what a change of it does to each count.
 use Rattle.std.proofs.Common.{◌≡◌, ◌≢◌, ℕ, suc, true, false, List, [], ◌∷◌, ◌++◌, Option, Some, None, IsSome, Result, Ok, Err, OnErr, refl, sym, ◌∙◌, ap, subst, arith, cond, inl, inr, ◌⊎◌, All, AllPairs, take, Contains, OnOk, IfErr, is_err, ap₂, set, zero}
-use Rattle.std.specs.Prelude.{is_some, slice_get, map, ◌==◌, ◌≤◌, ◌<◌, length}
+use Rattle.std.specs.Prelude.{slice_get, map, ◌==◌, ◌≤◌, ◌<◌, length}
 use Rattle.std.proofs.lemmas.Option.{same_Some, slice_get_within}
 use Rattle.std.specs.List.{list_any, remove, AllByRecursion}
 use Rattle.std.specs.Str.{bytes_eq}

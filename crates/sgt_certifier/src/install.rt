@@ -1,13 +1,14 @@
 //! The items that a draft changes at a site, listed for the history.
 
-ghost use Rattle.std.specs.Prelude.{◌≡◌, ◌≢◌, ◌↔◌, ◌⊎◌, ◌==◌, ◌&&◌, ◌<◌, ℕ, List, [], vec_len, vec_capacity, All, Contains, IsTrue, is_some, IfOk, OnOk, OnErr, IfSome, IfNone, Any, slice_get};
+ghost use Rattle.std.specs.Prelude.{◌≡◌, ◌≢◌, ◌↔◌, ◌⊎◌, ◌==◌, ◌&&◌, ◌<◌, ◌≤◌, ℕ, List, [], length, vec_len, vec_capacity, All, Contains, IsTrue, is_some, IfOk, OnOk, OnErr, IfSome, IfNone, Any, slice_get};
+ghost use Rattle.sgt_names.specs.Draft.{AreRising};
 ghost use Rattle.sgt_names.specs.declared.draft.Touch.{Touch as Touched};
 ghost use Rattle.sgt_certifier.specs.declared.install.Prepared.{Prepared as APrepared};
 ghost use Rattle.sgt_certifier.specs.Counted.{HasPlace, HavePlaces, Widens};
 ghost use Rattle.sgt_certifier.specs.Kept.{changed_at, IsExpected};
 
 use crate::counts::Counts;
-use sgt_names::{Draft, Item, Listed, SiteNo, Touch};
+use sgt_names::{Draft, Item, Listed, Part, SiteNo, Touch};
 use std::alloc::{AllocError, Global};
 
 /// The list of an install that is still to come, made in advance.
@@ -24,13 +25,47 @@ fn is_changed(touch: &Touch, site: SiteNo) -> bool
     touch.site == site && touch.change.is_some()
 }
 
-// Makes room for one more item: for the first one alone, since most drafts change one item of a site.
-fn make_place(items: &mut Vec<Item>) -> Result<(), AllocError>
+// Up to how many touched items are gone over, in place of a search for those of a site.
+const NEAR: usize = 16;
+
+// Touched items of the draft, all of those at the site among them: all that it touches, while they are few.
+pub fn touched_near(draft: &Draft, site: SiteNo) -> &[Touch]
+    ensures changed { changed_at result.now site ≡ changed_at draft.now.touched site }
+    ensures rising { AreRising result.now }
+{
+    let (few, parts) = draft.touched();
+    if are_near(few, parts) {
+        few
+    } else {
+        draft.at(site)
+    }
+}
+
+// Whether a draft with these has no parts, and few items.
+fn are_near(few: &[Touch], parts: &[Part]) -> bool
+    ensures { IsTrue result → length parts.now ≡ 0 }
+{
+    parts.is_empty() && few.len() <= NEAR
+}
+
+// How many items of these the draft changes at the site, and 1 where it changes none.
+fn count_changed(touched: &[Touch], site: SiteNo) -> usize
+    ensures { 1 ≤ result }
+{
+    let count = touched
+        .iter()
+        .filter(|touch| is_changed(touch, site))
+        .count();
+    if count == 0 { 1 } else { count }
+}
+
+// Makes room for one more item that the draft changes at the site: with the first one for all of them, and no more.
+fn make_place(items: &mut Vec<Item>, touched: &[Touch], site: SiteNo) -> Result<(), AllocError>
     ensures items { items.new.items ≡ items.old.items }
     ensures room { OnOk result (vec_len items.new < vec_capacity items.new) }
 {
     if items.is_empty() {
-        items.reserve_exact(1)
+        items.reserve_exact(count_changed(touched, site))
     } else {
         items.reserve(1)
     }
@@ -44,7 +79,7 @@ fn changed_items(alloc: Global, touched: &[Touch], site: SiteNo) -> Result<Liste
     let mut items = Vec::new(alloc);
     for touch in touched {
         if is_changed(touch, site) {
-            make_place(&mut items)?;
+            make_place(&mut items, touched, site)?;
             items.push_reserved(touch.item);
         }
     }
@@ -171,7 +206,7 @@ fn add_lists(
     for touch in touched {
         let site = touch.site;
         if is_changed(touch, site) && !has_site(lists.as_slice(), site) {
-            let items = changed_items(alloc, draft.at(site), site)?;
+            let items = changed_items(alloc, touched_near(draft, site), site)?;
             lists.push(Prepared { site, items })?;
         }
     }

@@ -23,6 +23,8 @@ pub mod Committing
 pub mod WholeCommits
 pub mod WholeGoing
 pub mod TouchedSites
+pub mod Flags
+pub mod FirstFound
 pub mod Withdrawals
 pub mod Total
 pub mod Examples

@@ -7,6 +7,7 @@ mod driver;
 mod gathering;
 mod installing;
 mod laws;
+mod looking;
 mod machine;
 mod reply;
 mod whole;

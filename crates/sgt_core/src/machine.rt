@@ -1,7 +1,7 @@
 //! The parts of the core: its sites, its certifier, the drafts of its active transactions, and the open step.
 
-ghost use Rattle.std.specs.Prelude.{◌≡◌, ◌↔◌, ◌++◌, ◌∷◌, [], ◌<◌, ◌≤◌, true, None, Some, length, slice_get, option_and_then, All, IsTrue, IfOk, IfErr, OnOk, OnErr};
-ghost use Rattle.sgt_names.specs.Draft.{added_to, look_of, seen_at, touched_at, Touches};
+ghost use Rattle.std.specs.Prelude.{◌≡◌, ◌↔◌, ◌++◌, ◌∷◌, [], ◌<◌, ◌≤◌, true, None, Some, length, slice_get, All, IsTrue, IfOk, IfErr, OnOk, OnErr};
+ghost use Rattle.sgt_names.specs.Draft.{added_to, seen_at, Touches};
 ghost use Rattle.sgt_names.specs.declared.entry.Change.TheVariants as change;
 ghost use Rattle.sgt_notation.specs.declared.event.Event.{Event as AnEvent};
 ghost use Rattle.sgt_notation.specs.declared.event.Event.TheVariants as event;
@@ -19,6 +19,7 @@ ghost use Rattle.sgt_core.specs.Machine.{parts_of, StandsFor, Stands, GoesOn, Is
 ghost use Rattle.sgt_core.specs.declared.machine.Running.{Running as ARunning};
 
 use crate::gathering::{add_edges, edges_at, is_gathered, pledge_at, release_all};
+use crate::looking::look_at;
 use crate::reply::{CoreFault, Reply};
 use sgt_arena::{Handle, MAX_PLACES};
 use sgt_certifier::{Certifier, CertifierFault};
@@ -431,18 +432,6 @@ fn add_at(
             kept
         }
         None => unreachable!(),
-    }
-}
-
-// What the transaction at a place of the table sees of an item without the site.
-fn look_at(table: &[Option<Running>], slot: usize, site: SiteNo, item: Item) -> Option<Value>
-    requires { slot < length table.now }
-    ensures { (r : ARunning) → slice_get table.now slot ≡ Some (Some r)
-        → result ≡ option_and_then look_of (touched_at r.draft.touched (site, item)) }
-{
-    match &table[slot] {
-        Some(running) => running.draft.look(site, item),
-        None => None,
     }
 }
 

@@ -5,7 +5,7 @@ use Rattle.sgt_names.proofs.Lists.{element_at}
 use Rattle.sgt_certifier.specs.declared.install.Prepared.{Prepared}
 use Rattle.sgt_certifier.specs.Kept.{changed_at}
 use Rattle.sgt_certifier.proofs.Members.{cons_cases, cons_here, nil_none}
-use Rattle.sgt_certifier.proofs.Changes.{listed, listed_next, listed_at, changed_here}
+use Rattle.sgt_certifier.proofs.Changes.{listed, listed_next, listed_at}
 use Rattle.sgt_certifier.proofs.install.add_lists.Goals as goal
 use Rattle.sgt_certifier.proofs.install.add_lists.Goals.{then-is_changed+then-not-has_site+in_ok-items+in_ok-push, else-is_changed, else-is_changed-via-then-is_changed+else-not-has_site, else-is_changed-via-else-is_changed}
 
@@ -20,7 +20,7 @@ loop-touch-preserved c =
     elim c.if-is_changed.branch [
       | then-is_changed+then-not-has_site+in_ok-items+in_ok-push w ↦
           let one : Prepared = listed whole t.site in
-          let is : c.if-is_changed.lists.items ≡ lists ++ one ∷ [] = (let made = w.lists-is in let pushed = w.in_ok-push.ensures.items in let items = w.in_ok-items.ensures.ok ∙ changed_here t.site whole _ w.at.ensures.part in cc) in
+          let is : c.if-is_changed.lists.items ≡ lists ++ one ∷ [] = (let made = w.lists-is in let pushed = w.in_ok-push.ensures.items in let items = w.in_ok-items.ensures.ok ∙ w.touched_near.ensures.changed in cc) in
           record {
             each = λ p m. elim (Contains-append_cases lists (one ∷ []) p (subst (λ xs. Contains xs p) is m)) [
               | inl was ↦ c.loop-touch.invariant.each p was

@@ -4,7 +4,7 @@ use Rattle.sgt_names.specs.Limits.{max_sites}
 use Rattle.sgt_certifier.specs.declared.call.Call.TheVariants as call
 use Rattle.sgt_certifier.specs.History.{IsInstalling, IsNoted}
 use Rattle.sgt_certifier.specs.Kept.{Kept, Adds, IsExpected, changed_at}
-use Rattle.sgt_certifier.proofs.Changes.{changed_here, expected_here}
+use Rattle.sgt_certifier.proofs.Changes.{expected_same}
 use Rattle.sgt_certifier.proofs.Extending.{parts_of, Parts, state_of}
 use Rattle.sgt_certifier.proofs.Installing.{installed_serves, installed_kept, installed_room}
 use Rattle.sgt_certifier.specs.Counted.{CountsEach}
@@ -34,7 +34,7 @@ invariant_of-self-2 c =
     let p = parts_of c.self.inside in
     let q : Parts = record p { calls = c.push_reserved-2.new.self.items } in
     let items = changed_at c.args.draft.now.touched c.args.site in
-    let items_is : c.in_ok-items.items ≡ items = c.in_ok-items.ensures.items ∙ changed_here c.args.site c.args.draft.now.touched _ c.at.ensures.part in
+    let items_is : c.in_ok-items.items ≡ items = c.in_ok-items.ensures.items ∙ c.touched_near.ensures.changed in
     let is_open : IsInstalling (state_of p) c.args.tx = subst (λ (v : Kept). IsInstalling v.state c.args.tx) (sym c.self.view_is) (c.is_installing.ensures.0 c.if-not-is_installing.false) in
     let new : IsNoted (state_of p) c.args.tx c.args.site → ⊥ = λ noted. true≢false (sym (c.is_noted.ensures.1 (subst (λ (v : Kept). IsNoted v.state c.args.tx c.args.site) c.self.view_is noted)) ∙ c.if-is_noted.false) in
     let below : c.args.site < max_sites = omega arith in
@@ -52,7 +52,7 @@ returns-clause-ok c =
     let p = parts_of c.self.inside in
     let q : Parts = record p { calls = c.push_reserved-2.new.self.items } in
     let items = changed_at c.args.draft.now.touched c.args.site in
-    let items_is : c.in_ok-items.items ≡ items = c.in_ok-items.ensures.items ∙ changed_here c.args.site c.args.draft.now.touched _ c.at.ensures.part in
+    let items_is : c.in_ok-items.items ≡ items = c.in_ok-items.ensures.items ∙ c.touched_near.ensures.changed in
     let is_open : IsInstalling (state_of p) c.args.tx = subst (λ (v : Kept). IsInstalling v.state c.args.tx) (sym c.self.view_is) (c.is_installing.ensures.0 c.if-not-is_installing.false) in
     let new : IsNoted (state_of p) c.args.tx c.args.site → ⊥ = λ noted. true≢false (sym (c.is_noted.ensures.1 (subst (λ (v : Kept). IsNoted v.state c.args.tx c.args.site) c.self.view_is noted)) ∙ c.if-is_noted.false) in
     let calls : q.calls ≡ p.calls ++ call.Installed c.args.tx c.args.site items ∷ [] = c.push_reserved-2.ensures.items ∙ ap (λ xs. c.self.inside.history.items ++ call.Installed c.args.tx c.args.site xs ∷ []) items_is in
@@ -63,7 +63,7 @@ pub returns-in_err-items-clause-takes_none : goal.returns-in_err-items-clause-ta
 returns-in_err-items-clause-takes_none c = λ e.
     let inside = subst (λ (v : Kept). IsExpected v.expected c.args.draft.now.touched c.args.site) (sym c.self.view_is) e in
     absurd (c.in_err-items.ensures.wants
-    (expected_here c.args.site c.args.draft.now.touched _ c.self.inside.expected.items c.at.ensures.part inside))
+    (expected_same c.args.site c.args.draft.now.touched _ c.self.inside.expected.items c.touched_near.ensures.changed inside))
 
 pub invariant_of-self : goal.invariant_of-self
 invariant_of-self c =
@@ -75,7 +75,7 @@ invariant_of-self c =
 pub add_each-requires-clause-once : goal.add_each-requires-clause-once
 add_each-requires-clause-once c =
     let items_is = c.as_slice.ensures ∙ c.in_ok-items.ensures.items in
-    subst (AllPairs (λ a b. a ≢ b)) (sym items_is) (changed-once c.args.site c.at.result.now c.at.ensures.rising)
+    subst (AllPairs (λ a b. a ≢ b)) (sym items_is) (changed-once c.args.site c.touched_near.result.now c.touched_near.ensures.rising)
 
 pub add_each-requires-clause-small : goal.add_each-requires-clause-small
 add_each-requires-clause-small c = λ s x.

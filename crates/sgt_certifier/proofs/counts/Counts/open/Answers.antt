@@ -1,4 +1,4 @@
-use Rattle.std.proofs.Common.{◌≡◌, ◌∙◌, ◌++◌, ◌∷◌, [], ap, arith, length, length-append}
+use Rattle.std.proofs.Common.{◌∙◌, ◌++◌, ◌∷◌, [], ap, arith, length, length-append}
 use Rattle.std.specs.Prelude.{slice_get}
 use Rattle.sgt_certifier.specs.Counted.{or_nothing}
 use Rattle.sgt_certifier.proofs.Counting.{row-pushed}
