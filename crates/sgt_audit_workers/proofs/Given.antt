@@ -4,9 +4,8 @@ use Rattle.std.specs.Prelude.{Result, Ok, Err, IfOk}
 use Rattle.std.specs.List.{AllZip}
 use Rattle.std.specs.Io.KnownBytes.{Consumes, IsAtEnd}
 use Rattle.std.proofs.KnownBytes.{Consumes-nil, Consumes-trans}
-use Rattle.std.proofs.lemmas.List.Elements.{All-nil, All-cons, All-head, All-tail, All-weaker}
+use Rattle.std.proofs.lemmas.List.Elements.{All-nil, All-cons, All-head, All-tail}
 use Rattle.sgt_notation.specs.Lines.{ReadFaultIsDue, coming}
-use Rattle.sgt_audit_cells.specs.Records.{Record}
 use Rattle.sgt_audit.specs.Alone.{IsReadyAlone}
 use Rattle.sgt_audit.specs.declared.alone.Alone.{Alone}
 use Rattle.sgt_audit_workers.specs.declared.batches.Job.{Job}
@@ -73,7 +72,7 @@ idle-later h k n job le idle = (
     sites = idle.0.sites;
     state = record {
       many = idle.0.state.many;
-      stamps = All-weaker (λ (r : Record). r.section < k + 1) (λ (r : Record). r.section < n + 1) (λ r lt. omega (arith, lt, le)) job.alone.state.records idle.0.state.stamps;
+      before = omega (arith, idle.0.state.before, le);
     };
   },
   idle.1,
