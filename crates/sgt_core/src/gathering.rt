@@ -65,23 +65,13 @@ pub(crate) fn pledge_at(
     }
 }
 
-// Adds edges behind others. After an Err there are some of them.
-fn extend(edges: &mut EdgeList, more: &EdgeList) -> Result<(), AllocError>
-    ensures { OnOk result (edges.new ≡ edges.old ++ more.now) }
-{
-    for edge in more.as_slice() {
-        edges.push(*edge)?;
-    }
-    Ok(())
-}
-
 // Adds edges to the step of the transaction, which is opened where none is.
 pub(crate) fn add_edges(step: &mut Option<Open>, tx: Tx, more: EdgeList) -> Result<(), AllocError>
     ensures { OnOk result (step.new ≡ step_with step.old tx more) }
 {
     match step {
         Some(open) => match &mut open.phase {
-            Phase::Gathering(edges) => extend(edges, &more),
+            Phase::Gathering(edges) => edges.append(&more),
             _ => Ok(()),
         },
         None => {
