@@ -158,6 +158,18 @@ const SIX: [Row<'static>; 7] = [
 ];
 
 #[test]
+fn lists_of_edges_are_appended(rt: HostRuntime) -> Result<(), Fail> {
+    let names = Names::at(0)?;
+    let ends = [(FIRST, SECOND), (SECOND, THIRD), (THIRD, FIRST)];
+    let mut front = edges(rt.alloc(), &names, &ends[..1])?;
+    let back = edges(rt.alloc(), &names, &ends[1..])?;
+    front.append(&back)?;
+    let whole = edges(rt.alloc(), &names, &ends)?;
+    assert!(rt; front.as_slice() == whole.as_slice());
+    Ok(())
+}
+
+#[test]
 fn order_of_six(rt: HostRuntime) -> Result<(), Fail> {
     let names = Names::at(0)?;
     let mut graph = Graph::new(rt.alloc());
