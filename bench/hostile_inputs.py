@@ -1,7 +1,5 @@
 """The inputs that hostile.py times: each is made for a number n, and grows as n does."""
-import itertools
 import json
-import struct
 
 NAMES = ["a%03x" % j for j in range(1024)]
 WINDOW = 4000
@@ -192,23 +190,17 @@ def refused_events(n):
     return sites(65536) + "b\n" + reads + "v1\n" + "v1\nc1\na1\n" * (n // 4) + installs
 
 
-def slot_of(name):
-    """Which of the 8,192 hints of a site with 1,024 items is the name's."""
-    key = struct.unpack("<I", name[:4])[0] << 32 | struct.unpack("<I", name[-4:])[0]
-    spread = key * 0x9E3779B97F4A7C15 % 2**64
-    return (spread >> 32) * 8192 >> 32
-
-
 def shared_names():
-    """1,024 names that share a hint."""
-    names, letters = [], "0123456789abcdefghijklmnopqrstuvwxyz_"
-    for middle in itertools.product(letters, repeat=5):
-        name = "a%szz" % "".join(middle)
-        if slot_of(name.encode()) == 77:
-            names.append(name)
-            if len(names) == 1024:
-                return sorted(names)
-    return names
+    """1,024 names with one key, and so one hint: what a bit changes in the second half, one in the first half takes back."""
+    names = []
+    for n in range(1024):
+        front, back = bytearray(b"dddddddd"), bytearray(b"aaaaaaaa")
+        for i in range(8):
+            bits = n >> 2 * i & 3
+            back[i] ^= bits << 3
+            front[(i + 4) % 8] ^= bits
+        names.append((front + back).decode())
+    return sorted(names)
 
 
 def shared_hints(n, made=[]):
