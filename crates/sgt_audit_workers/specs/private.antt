@@ -1,2 +1,7 @@
 -- Words that private clauses alone use.
-pub mod Batches
+pub mod Texts
+pub mod Begun
+pub mod Jobs
+pub mod Running
+pub mod Tallied
+pub mod Working

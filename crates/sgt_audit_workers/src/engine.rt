@@ -1,17 +1,20 @@
 //! The audit of all that a reader gives, with several sections judged at once.
 
-ghost use Rattle.std.specs.Prelude.{◌≡◌, ◌≢◌, ◌<◌, ℕ, [], false, List, Option, Err, IfOk, IfSome, OnErr, IsErrOf};
-ghost use Rattle.std.specs.Io.KnownBytes.{Appends, Consumes};
+ghost use Rattle.std.specs.Prelude.{◌≡◌, ◌≢◌, ◌<◌, ℕ, List, Option, None, Err, IfOk, IfSome, OnErr, IsErrOf};
+ghost use Rattle.std.specs.Arc.{arc_value};
+ghost use Rattle.std.specs.Io.KnownBytes.{Appends};
 ghost use Rattle.sgt_notation.specs.Lines.{ReadFaultIsDue, coming};
 ghost use Rattle.sgt_audit.specs.Verdict.{IsVerdict, SaysHeadline, WroteFront, text_of, yes_of};
-ghost use Rattle.sgt_audit_sections.specs.Sections.{front_text};
 ghost use Rattle.sgt_audit_workers.specs.Head.{IsHead};
-ghost use Rattle.sgt_audit_workers.specs.private.Batches.{FailsBehind, IsBehind, IsTallied};
+ghost use Rattle.sgt_audit_workers.specs.private.Tallied.{IsTallied};
+ghost use Rattle.sgt_audit_workers.specs.private.Texts.{FailsBehind, IsBehind, IsNextSection};
+ghost use Rattle.sgt_audit_workers.specs.private.Working.{Works, given};
 
-use crate::batches::{Text, give_all, run_all, take_all, workers};
 use crate::cutting::next_line;
 use crate::head::{Head, read_head};
+use crate::sections::{Section, Text, next_section};
 use crate::tally::Tally;
+use crate::workers::Workers;
 use sgt_audit::{Verdict, audit};
 use sgt_cert::Decision;
 use sgt_names::{EngineFail, Sink, Source, write_all};
@@ -71,20 +74,21 @@ fn at_end<R: Source>(
     }
 }
 
-/// The verdict on a text whose first two lines were read, with so many sections judged at once.
-fn judge_behind<H: Threads + Sync, R: Source>(
+/// The verdict on a text, with the workers before its first section, which was read.
+fn judge_each<H: Threads, R: Source>(
     rt: &H,
-    count: usize,
     reader: &mut R,
     text: &mut Text,
-    head: &Head,
+    workers: &mut Workers,
+    first: Section,
 ) -> Result<Verdict, EngineFail>
-    requires count { 0 < count }
-    requires head { IsHead head.now }
-    requires going { text.old.is_ended ≡ false }
-    ensures verdict { let left = coming text.old.lines (R.tells reader.old) in
-        (told : Option (List ℕ))
-        → Consumes told left (front_text head.now.second head.now.certificate [])
+    requires count { 0 < workers.old.count }
+    requires head { IsHead (arc_value workers.old.head) }
+    requires works { Works None None workers.old }
+    requires none { given workers.old ≡ 0 }
+    ensures verdict { (told left : Option (List ℕ)) → Works told left workers.old
+        → IsNextSection told left first (coming text.old.lines (R.tells reader.old))
+        → IsBehind told text.old (R.tells reader.old)
         → IfOk result (λ v. IfSome told (λ bytes. IsVerdict bytes v)) }
     ensures quiet { result ≢ Err EngineFail.ReadFault
         → R.failures reader.new ≡ R.failures reader.old }
@@ -93,23 +97,25 @@ fn judge_behind<H: Threads + Sync, R: Source>(
         (R.failures reader.old) (R.failures reader.new) (R.asked reader.old) (R.asked reader.new) }
     ensures write_fault { result ≢ Err EngineFail.WriteFault }
 {
-    let sites = head.sites as usize;
-    let mut jobs = workers(text.alloc, count.min(sites), head)?;
-    let mut tally = Tally::new();
-    'batches: while tally.whole < sites {
-        let end = sites.min(tally.whole.saturating_add(jobs.len()));
-        let given = give_all(reader, text, jobs, tally.whole, end)?;
-        let done = run_all(rt, head, given)?;
-        if let Some(verdict) = take_all(&mut tally, head, done.as_slice())? {
-            return Ok(verdict);
+    let sites = workers.head.sites as usize;
+    let mut section = first;
+    for _site in 1..sites {
+        match workers.judge(rt, section)? {
+            Ok(buffer) => section = next_section(reader, text, buffer)?,
+            Err(verdict) => return Ok(verdict),
         }
-        jobs = done;
     }
-    at_end(reader, text, head, &tally)
+    if let Err(verdict) = workers.judge(rt, section)? {
+        return Ok(verdict);
+    }
+    if let Some(verdict) = workers.wait(rt)? {
+        return Ok(verdict);
+    }
+    at_end(reader, text, &workers.head, &workers.tally)
 }
 
 /// The verdict on all that the reader gives, with so many sections judged at once.
-fn judge_sections<H: Threads + Sync, R: Source>(
+fn judge_sections<H: Threads, R: Source>(
     rt: &H,
     alloc: Global,
     count: usize,
@@ -129,10 +135,14 @@ fn judge_sections<H: Threads + Sync, R: Source>(
         line: Vec::new(alloc),
         is_ended: false,
     };
-    match read_head(alloc, reader, &mut text.lines, &mut text.line)? {
-        Ok(head) => judge_behind(rt, count, reader, &mut text, &head),
-        Err(verdict) => Ok(verdict),
-    }
+    let (head, first) = match read_head(rt, reader, &mut text)? {
+        Ok(begun) => begun,
+        Err(verdict) => return Ok(verdict),
+    };
+    let mut workers = Workers::new(alloc, count, head)?;
+    let found = judge_each(rt, reader, &mut text, &mut workers, first);
+    workers.stop(rt);
+    found
 }
 
 /// Audits all that the reader gives, with so many sections judged at once, and writes the line of the verdict and nothing else. The
