@@ -62,7 +62,7 @@ may-later h k n a le may = (
   may.1,
 )
 
-some-later : (h : Head) (k n : ℕ) (o : Option Alone) → k ≤ n → IfSome o (MayJudge h k) → IfSome o (MayJudge h n)
+pub some-later : (h : Head) (k n : ℕ) (o : Option Alone) → k ≤ n → IfSome o (MayJudge h k) → IfSome o (MayJudge h n)
 some-later h k n None le may = tt
 some-later h k n (Some a) le may = may-later h k n a le may
 

@@ -180,8 +180,9 @@ impl Workers {
         ensures err { IfErr result (λ e. e ≡ EngineFail.Memory) }
     {
         'judged: while let Some(running) = first(&mut self.running) {
-            if let Err(verdict) = take(rt, &mut self.tally, running)? {
-                return Ok(Some(verdict));
+            match take(rt, &mut self.tally, running)? {
+                Ok(job) => drop(job),
+                Err(verdict) => return Ok(Some(verdict)),
             }
         }
         Ok(None)

@@ -10,7 +10,7 @@ pub returns-in-Ok-clause-goes : goal.returns-in-Ok-clause-goes
 returns-in-Ok-clause-goes g c told left works =
     let h = arc_value c.args.self.now.head in
     let are = subst (λ (rs : List Running). AreRunning h told works.middle c.args.self.now.tally.whole rs left) c.in-Some.ensures.some works.running in
-    let took = rw c.in-Ok.is at (c.in_ok-take.ensures.takes h are.0 told works.middle are.1 works.tallied (omega (arith, c.requires.sites, ap length c.in-Some.ensures.some)) are.2 are.3) in
+    let took = rw c.in-Ok.is at (c.in_ok-job.ensures.takes h are.0 told works.middle are.1 works.tallied (omega (arith, c.requires.sites, ap length c.in-Some.ensures.some)) are.2 are.3) in
     record {
       middle = are.1;
       tallied = took.0;
@@ -21,14 +21,14 @@ pub returns-in-Err-clause-goes : goal.returns-in-Err-clause-goes
 returns-in-Err-clause-goes g c told left works =
     let h = arc_value c.args.self.now.head in
     let are = subst (λ (rs : List Running). AreRunning h told works.middle c.args.self.now.tally.whole rs left) c.in-Some.ensures.some works.running in
-    rw c.in-Err.is at (c.in_ok-take.ensures.takes h are.0 told works.middle are.1 works.tallied (omega (arith, c.requires.sites, ap length c.in-Some.ensures.some)) are.2 are.3)
+    rw c.in-Err.is at (c.in_ok-job.ensures.takes h are.0 told works.middle are.1 works.tallied (omega (arith, c.requires.sites, ap length c.in-Some.ensures.some)) are.2 are.3)
 
 pub returns-in-Ok-clause-idle : goal.returns-in-Ok-clause-idle
 returns-in-Ok-clause-idle g c =
     let h = arc_value c.args.self.now.head in
     let works = c.requires.works in
     let are = subst (λ (rs : List Running). AreRunning h None works.middle c.args.self.now.tally.whole rs None) c.in-Some.ensures.some works.running in
-    let took = rw c.in-Ok.is at (c.in_ok-take.ensures.takes h are.0 None works.middle are.1 works.tallied (omega (arith, c.requires.sites, ap length c.in-Some.ensures.some)) are.2 are.3) in
+    let took = rw c.in-Ok.is at (c.in_ok-job.ensures.takes h are.0 None works.middle are.1 works.tallied (omega (arith, c.requires.sites, ap length c.in-Some.ensures.some)) are.2 are.3) in
     some-later h c.take.new.tally.whole _ c.in-Ok.job.alone (omega arith) took.2
 
 pub returns-in-Ok-clause-given : goal.returns-in-Ok-clause-given
@@ -36,5 +36,5 @@ returns-in-Ok-clause-given g c =
     let h = arc_value c.args.self.now.head in
     let works = c.requires.works in
     let are = subst (λ (rs : List Running). AreRunning h None works.middle c.args.self.now.tally.whole rs None) c.in-Some.ensures.some works.running in
-    let took = rw c.in-Ok.is at (c.in_ok-take.ensures.takes h are.0 None works.middle are.1 works.tallied (omega (arith, c.requires.sites, ap length c.in-Some.ensures.some)) are.2 are.3) in
+    let took = rw c.in-Ok.is at (c.in_ok-job.ensures.takes h are.0 None works.middle are.1 works.tallied (omega (arith, c.requires.sites, ap length c.in-Some.ensures.some)) are.2 are.3) in
     omega (arith, took.1, ap length c.in-Some.ensures.some)
