@@ -3,18 +3,19 @@ use Rattle.std.proofs.Common.{◌≡◌, ◌≢◌, ℕ, ◌+◌, ◌≤◌, tru
 use Rattle.std.specs.Prelude.{Bool, Result, Ok, Err, IfOk, map}
 use Rattle.sgt_names.specs.declared.outcome.Outcome.{Outcome}
 use Rattle.sgt_names.specs.declared.outcome.Outcome.TheVariants as outcome
-use Rattle.sgt_notation.specs.Events.{IsSiteLine, site_text}
+use Rattle.sgt_notation.specs.Events.{IsSiteLine, event_text, site_text}
 use Rattle.sgt_notation.specs.declared.event.EventLine.{EventLine}
 use Rattle.sgt_notation.specs.declared.event.SiteLine.{SiteLine}
+use Rattle.sgt_notation.proofs.OneEvent.{event-no_lf, event-short}
 use Rattle.sgt_core.specs.Core.{fresh}
 use Rattle.sgt_core.specs.Machine.{Parts, StandsFor}
 use Rattle.sgt_input.specs.Stopping.{IsTaken}
-use Rattle.sgt_input.specs.Taking.{TakesLine}
+use Rattle.sgt_input.specs.Taking.{TakesFront, TakesLine}
 use Rattle.sgt_input.proofs.Keeping.{took-line}
 use Rattle.sgt_replay.specs.declared.input.Input.{Input}
 use Rattle.sgt_replay.specs.Input.{Begins, IsBegun, IsInput, Spells, input_lines}
 use Rattle.sgt_replay.specs.Replay.{IsAnswer, IsRunText}
-use Rattle.sgt_replay.specs.private.Playing.{AnswersEvent, HasPlayed, IsCoreAtEnd, IsOpening, IsPlayed, PlaysOn}
+use Rattle.sgt_replay.specs.private.Playing.{AnswersEvent, AnswersFront, HasPlayed, IsCoreAtEnd, IsOpening, IsPlayed, PlaysOn}
 use Rattle.sgt_replay.specs.private.Running.{WritesReplies}
 use Rattle.sgt_replay.specs.private.Taking.{HaveLines}
 use Rattle.sgt_replay.proofs.OneInput.{took-event, took-none}
@@ -74,6 +75,20 @@ line-played (Ok true) old sites core written line lines have (new, takes, played
     let on = took-line IsBegun input_lines {E = ℕ} (Ok true) old new lines line have takes in
     (on.0, (new, on.1, played))
 line-played (Ok false) old sites core written line lines have takes = took-line IsBegun input_lines {E = ℕ} (Ok false) old old lines line have takes
+
+-- the line at the front of bytes is answered, or none
+pub front-played : {E : Type 0} (r : Result (Option ℕ) E) (input : Input) (sites : List SiteLine) (old new : Parts) (held text written : List ℕ)
+    (lines : List (List ℕ)) → HaveLines input lines → IsPlayed input sites (Some old) text → IfOk r (AnswersFront old held new text written)
+    → IfOk r (TakesFront Begins (HasPlayed sites (Some new) written) lines held)
+front-played (Err e) input sites old new held text written lines have played answers = tt
+front-played (Ok None) input sites old new held text written lines have played (same, still) =
+    (input, have, subst (λ (m : Parts). IsPlayed input sites (Some m) written) (sym same) (subst (IsPlayed input sites (Some old)) (sym still) played))
+front-played (Ok (Some n)) input sites old new held text written lines have played (e, is, within, front, more) =
+    let line = event_text e in
+    let plays = event-played {E = ℕ} (Ok true) input sites old new line text written played (e, is, refl, more) in
+    let on = line-played {E = ℕ} (Ok true) input sites (Some new) written line lines have plays in
+    let short = event-short e is in
+    (line, within, front, event-no_lf e is, omega (arith, short), on.0, on.1)
 
 -- ---- the end
 

@@ -5,13 +5,13 @@ ghost use Rattle.sgt_core.specs.Core.{fresh};
 ghost use Rattle.sgt_core.specs.Machine.{StandsFor};
 ghost use Rattle.sgt_replay.specs.Input.{IsBegun};
 ghost use Rattle.sgt_replay.specs.private.Running.{AnswersLine};
-ghost use Rattle.sgt_replay.specs.private.Playing.{AnswersEvent, IsOpening, PlaysOn};
+ghost use Rattle.sgt_replay.specs.private.Playing.{AnswersEvent, AnswersFront, IsOpening, PlaysOn};
 
 use crate::reply::write_reply;
 use sgt_core::{Core, CoreFault, Reply};
 use sgt_input::{Taker, take_site};
 use sgt_names::{Holding, Listed};
-use sgt_notation::{EventLine, SiteLine, read_event};
+use sgt_notation::{EventLine, SiteLine, front_event, read_event};
 use sgt_site::SiteFault;
 use std::alloc::{AllocError, Global};
 use std::mem;
@@ -46,6 +46,13 @@ impl Taker for Player {
                 &mut self.text,
                 line,
             ),
+        }
+    }
+
+    fn take_front(&mut self, held: &[u8]) -> Result<Option<usize>, AllocError> {
+        match &mut self.core {
+            Some(core) => answer_front(core, held, &mut self.text),
+            None => Ok(None),
         }
     }
 }
@@ -92,11 +99,29 @@ fn answer_event(core: &mut Core, line: &[u8], text: &mut Vec<u8>) -> Result<bool
         Ok(event) => {
             let reply = answer_line(core, &event)?;
             write_reply(text, line, &reply)?;
-            text.extend_from_slice(b"\n")?;
+            text.push(b'\n')?;
             Ok(true)
         }
         Err(_) => Ok(false),
     }
+}
+
+/// Writes the core's reply to the event whose line is seen at the front of the bytes with its LF, and tells how many bytes both
+/// have. Err: memory ran out.
+fn answer_front(
+    core: &mut Core,
+    held: &[u8],
+    text: &mut Vec<u8>,
+) -> Result<Option<usize>, AllocError>
+    ensures { IfOk result (AnswersFront core.old held.now core.new text.old.items text.new.items) }
+{
+    let Some((event, n)) = front_event(held) else {
+        return Ok(None);
+    };
+    let reply = answer_line(core, &event)?;
+    write_reply(text, &held[..n - 1], &reply)?;
+    text.push(b'\n')?;
+    Ok(Some(n))
 }
 
 /// Takes a line where there was no event yet.

@@ -1,5 +1,5 @@
 -- The run of an input, as far as its lines were taken.
-use Rattle.std.specs.Prelude.{◌≡◌, ◌≢◌, ◌≤◌, ℕ, Bool, true, false, List, [], ◌∷◌, All, length, map, Option, Some, None}
+use Rattle.std.specs.Prelude.{◌≡◌, ◌≢◌, ◌≤◌, ℕ, Bool, true, false, List, [], ◌∷◌, ◌++◌, All, length, map, take, Option, Some, None}
 use Rattle.sgt_names.specs.Limits.{max_sites}
 use Rattle.sgt_notation.specs.Events.{IsEventLine, IsSiteLine, event_text}
 use Rattle.sgt_notation.specs.Reading.{SpellsNone}
@@ -35,6 +35,12 @@ AnswersEvent old line new text written true =
     (e : EventLine) × IsEventLine e × (line ≡ event_text e)
     × WritesReplies old (e ∷ []) new text written
 AnswersEvent old line new text written false = SpellsNone IsEventLine event_text line
+
+-- the line at the front of the bytes spells an event, with its LF, whose reply is written; or nothing is done
+abbrev pub AnswersFront : Parts → List ℕ → Parts → (text written : List ℕ) → Option ℕ → Type 0
+AnswersFront old held new text written (Some n) =
+    (e : EventLine) × IsEventLine e × (n ≤ length held) × (take n held ≡ event_text e ++ 10 ∷ []) × WritesReplies old (e ∷ []) new text written
+AnswersFront old held new text written None = (new ≡ old) × (written ≡ text)
 
 -- a core can be opened over these sites
 pub record IsOpening (sites : List SiteLine) : Type 0 where
