@@ -1,6 +1,6 @@
 -- What transactions did in the open section, each linked to the one before it.
 use Rattle.std.proofs.Common.{◌≡◌, ℕ, zero, suc, ◌-◌, ◌<◌, ◌≤◌, Bool, true, cond, List, [], ◌∷◌, ◌++◌, Some, refl, sym, ap, ap₂, ◌∙◌, subst, arith, inl, inr, ◌⊎◌, length, Any, map, option_map}
-use Rattle.std.specs.Prelude.{◌↔◌, slice_get, ◌==◌, ◌&&◌, if◌then◌else◌}
+use Rattle.std.specs.Prelude.{◌↔◌, slice_get, ◌==◌, ◌&&◌}
 use Rattle.std.proofs.lemmas.Bool.{eq-eqb, ne_eqb}
 use Rattle.std.proofs.lemmas.Option.{none-some, same_Some, slice_get-map, slice_get_within}
 use Rattle.std.proofs.lemmas.List.{length-map}
@@ -151,9 +151,6 @@ record-fresh stamp nodes s early = ap (cleared nodes s) (ne_eqb s.stamp stamp (�
 -- where its slot has this stamp
 pub record-now : (stamp : ℕ) (nodes : List Node) (s : Slot) → s.stamp ≡ stamp → record_of stamp nodes s ≡ told true s.ended (chain nodes s.last)
 record-now stamp nodes s same = ap (cleared nodes s) (eq-eqb s.stamp stamp same)
-
-pub last-now : (stamp : ℕ) (s : Slot) → s.stamp ≡ stamp → last_here stamp s ≡ s.last
-last-now stamp s same = ap (λ b. cond b s.last 0) (eq-eqb s.stamp stamp same)
 
 -- ---- a loop that goes back
 

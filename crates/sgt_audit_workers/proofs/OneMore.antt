@@ -3,7 +3,6 @@ use Rattle.std.proofs.Common.{◌≡◌, ◌≢◌, ℕ, ◌+◌, ◌<◌, Bool,
 use Rattle.std.specs.Prelude.{◌↔◌, ◌&&◌, IfOk, Result, Ok, Err}
 use Rattle.std.proofs.lemmas.Bool.{false≢true}
 use Rattle.std.proofs.lemmas.List.{append-nil, length-append}
-use Rattle.std.proofs.lemmas.Option.{none-some}
 use Rattle.sgt_names.proofs.Lists.{front_at, middle_at}
 use Rattle.sgt_notation.specs.declared.SectionLine.{SectionLine}
 use Rattle.sgt_cert.specs.Text.{section_lines, sections_from}
@@ -15,20 +14,11 @@ use Rattle.sgt_audit.specs.declared.faults.Fault.TheVariants as fault
 use Rattle.sgt_audit.specs.declared.verdict.Verdict.{Verdict}
 use Rattle.sgt_audit.specs.Faults.{FirstFault}
 use Rattle.sgt_audit.proofs.MayFollow.{sections-append}
-use Rattle.sgt_audit_sections.specs.Sections.{AllStepsAreFound, AreFaultlessSections, IsFaultlessCertificate, IsFaultlessSection, OwnFault, StepsAreFound, front_text, lines_in_front}
+use Rattle.sgt_audit_sections.specs.Sections.{AllStepsAreFound, AreFaultlessSections, IsFaultlessSection, OwnFault, StepsAreFound, front_text, lines_in_front}
 use Rattle.sgt_audit_sections.specs.Judged.{IsWholeSection}
 use Rattle.sgt_audit_sections.proofs.SectionFaults.{own-first, missed-first, trailing-first}
 use Rattle.sgt_audit_workers.specs.declared.tally.Tally.{Tally}
 use Rattle.sgt_audit_workers.specs.Tallies.{IsTally}
-
-pub none-yet : (second : Bool) (c : Certificate) (t : Tally) → IsFaultlessCertificate c → t.whole ≡ 0 → t.lines ≡ 2 → t.met ≡ true → IsTally second c [] t
-none-yet second c t good whole lines met = record {
-  certificate = good;
-  faultless = λ k log at. absurd (none-some log at);
-  whole = whole;
-  lines = lines;
-  met = (λ h k log at. absurd (none-some log at), λ h. met);
-}
 
 both : (a b : Bool) (P Q R : Type 0) → IsTrue a ↔ P → IsTrue b ↔ Q → (P → Q → R) → (R → P) → (R → Q) → IsTrue (a && b) ↔ R
 both true b P Q R is are join left right = (λ h. join (is.0 refl) (are.0 h), λ r. are.1 (right r))

@@ -47,11 +47,6 @@ clash-item Wr x e f clash = writes-item x e clash.0
 clash-item Rw x e f clash = reads-item x e clash.0
 clash-item Ww x e f clash = writes-item x e clash.0
 
-pub none-clashes : (x : Name) (e f : Entry) → (Clash Wr x e f → ⊥) → (Clash Rw x e f → ⊥) → (Clash Ww x e f → ⊥) → (kind : Kind) → Clash kind x e f → ⊥
-none-clashes x e f wr rw ww Wr clash = wr clash
-none-clashes x e f wr rw ww Rw clash = rw clash
-none-clashes x e f wr rw ww Ww clash = ww clash
-
 pub leads-kept : (old new : List Pair) (a b : ℕ) → Keeps old new → Leads old a b → Leads new a b
 leads-kept old new a b keeps (pair, has, from, to) = (pair, keeps pair has, from, to)
 

@@ -31,37 +31,6 @@ pub struct Pair {
     pub second: usize,
 }
 
-fn clashes(kind: Kind, item: &Item, first: &Entry, second: &Entry) -> bool
-    ensures { IsTrue result ↔ Clash kind item.now first.now second.now }
-{
-    match kind {
-        Kind::Wr => first.writes(item) && second.reads(item),
-        Kind::Rw => first.reads(item) && second.writes(item),
-        Kind::Ww => {
-            first.writes(item)
-                && second.writes(item)
-                && !(first.is_increment() && second.is_increment())
-        }
-    }
-}
-
-/// The kind of the conflict of two entries on an item.
-fn kind_of(item: &Item, first: &Entry, second: &Entry) -> Option<Kind>
-    ensures some { IfSome result (λ kind. Clash kind item.now first.now second.now) }
-    ensures none { IfNone result ((kind : AnyKind) → Clash kind item.now first.now second.now → ⊥) }
-{
-    if clashes(Kind::Wr, item, first, second) {
-        return Some(Kind::Wr);
-    }
-    if clashes(Kind::Rw, item, first, second) {
-        return Some(Kind::Rw);
-    }
-    if clashes(Kind::Ww, item, first, second) {
-        return Some(Kind::Ww);
-    }
-    None
-}
-
 /// A conflict: its kind and its item.
 #[derive(Clone, Copy)]
 pub struct Clashing {
@@ -76,7 +45,7 @@ pub fn conflict_of(first: &Entry, second: &Entry) -> Option<Clashing>
         ((kind : AnyKind) (x : Name) → Clash kind x first.now second.now → ⊥) }
 {
     let item = first.item()?;
-    let kind = kind_of(&item, first, second)?;
+    let kind = first.clash_on(&item, second)?;
     Some(Clashing { kind, item })
 }
 

@@ -99,20 +99,6 @@ fn has_entry(sites: &[SiteLog], spot: Spot, entry: &Entry) -> bool
     }
 }
 
-fn clashes(kind: Kind, item: &Item, first: &Entry, second: &Entry) -> bool
-    ensures { IsTrue result ↔ Clash kind item.now first.now second.now }
-{
-    match kind {
-        Kind::Wr => first.writes(item) && second.reads(item),
-        Kind::Rw => first.reads(item) && second.writes(item),
-        Kind::Ww => {
-            first.writes(item)
-                && second.writes(item)
-                && !(first.is_increment() && second.is_increment())
-        }
-    }
-}
-
 /// Whether the logs commit both transactions of the step.
 fn are_committed(sites: &[SiteLog], step: &ConflictStep) -> bool
     ensures { IsTrue result
@@ -138,7 +124,7 @@ fn are_in_conflict(step: &ConflictStep, first: &Entry, second: &Entry) -> bool
         × (step.now.from ≢ step.now.to))
         × Clash step.now.kind step.now.item first.now second.now }
 {
-    are_of(step, first, second) && clashes(step.kind, &step.item, first, second)
+    are_of(step, first, second) && first.clashes(step.kind, &step.item, second)
 }
 
 /// Whether the entries have the conflict of the step.

@@ -1,6 +1,6 @@
 //! The conflicts between neighbours: of the operations on an item, between each and those just before it.
 
-ghost use Rattle.std.specs.Prelude.{◌≡◌, ◌⊎◌, ◌↔◌, IsTrue, IfNone, IfSome};
+ghost use Rattle.std.specs.Prelude.{◌≡◌, ◌⊎◌, IfNone, IfSome};
 ghost use Rattle.sgt_names.specs.Entry.{Clash};
 ghost use Rattle.sgt_names.specs.declared.entry.Kind.{Kind};
 
@@ -31,38 +31,6 @@ struct Access {
     place: u32,
 }
 
-fn clashes(kind: Kind, item: &Item, first: &Entry, second: &Entry) -> bool
-    ensures { IsTrue result ↔ Clash kind item.now first.now second.now }
-{
-    match kind {
-        Kind::Wr => first.writes(item) && second.reads(item),
-        Kind::Rw => first.reads(item) && second.writes(item),
-        Kind::Ww => {
-            first.writes(item)
-                && second.writes(item)
-                && !(first.is_increment() && second.is_increment())
-        }
-    }
-}
-
-/// The kind of the conflict on this item that the second entry is in with the first, which is before it.
-fn kind_between(item: &Item, first: &Entry, second: &Entry) -> Option<Kind>
-    ensures some { IfSome result (λ kind. Clash kind item.now first.now second.now) }
-    ensures none { IfNone result
-        ((kind : Kind) → Clash kind item.now first.now second.now → ⊥) }
-{
-    if clashes(Kind::Wr, item, first, second) {
-        return Some(Kind::Wr);
-    }
-    if clashes(Kind::Rw, item, first, second) {
-        return Some(Kind::Rw);
-    }
-    if clashes(Kind::Ww, item, first, second) {
-        return Some(Kind::Ww);
-    }
-    None
-}
-
 /// The edge for two accesses, the first before the second, where they are of two transactions and in conflict.
 fn edge_between(site: u64, first: &Access, second: &Access) -> Option<Edge>
     ensures conflict { IfSome result
@@ -75,7 +43,7 @@ fn edge_between(site: u64, first: &Access, second: &Access) -> Option<Edge>
     if first.place == second.place {
         return None;
     }
-    let kind = kind_between(&first.item, &first.entry, &second.entry)?;
+    let kind = first.entry.clash_on(&first.item, &second.entry)?;
     Some(Edge {
         from: first.place,
         to: second.place,

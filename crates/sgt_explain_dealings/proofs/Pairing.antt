@@ -11,9 +11,6 @@ use Rattle.sgt_explain_dealings.specs.declared.dealings.Own.{Own}
 use Rattle.sgt_explain_dealings.specs.Dealings.{IsOwn, own_head, TellsDealings}
 use Rattle.sgt_explain_dealings.specs.Conflicts.{IsOwnConflict, pair_text, pairs_text, AddsConflicts}
 
-pub conflicts-none : (tx : ℕ) (old : List ℕ) → AddsConflicts tx old old
-conflicts-none tx old = ([], All-from_recursion (IsOwnConflict tx) [] tt, sym (append-nil old))
-
 pub conflicts-one : (tx : ℕ) (old new : List ℕ) (p : Pair) → IsOwnConflict tx p → new ≡ old ++ pair_text p → AddsConflicts tx old new
 conflicts-one tx old new p is e = (p ∷ [], All-from_recursion (IsOwnConflict tx) (p ∷ []) (is, tt), e ∙ ap (λ t. old ++ t) (sym (append-nil (pair_text p))))
 

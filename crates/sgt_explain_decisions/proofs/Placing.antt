@@ -9,7 +9,7 @@ use Rattle.std.proofs.lemmas.List.{length-take-le, map-append}
 use Rattle.std.proofs.lemmas.List.Sorted.{Contains-permutation, IsPermutation-sym}
 use Rattle.std.proofs.lemmas.Option.{same_Some, none-some, slice_get_within, get_or_from_slice_get}
 use Rattle.sgt_names.proofs.Lists.{take_next, within_at, All_in}
-use Rattle.sgt_names.proofs.Places.{All-from_at, All_at, AllPairs_at, Contains_at, Contains-from_at}
+use Rattle.sgt_names.proofs.Places.{All-from_at, AllPairs_at, Contains_at, Contains-from_at}
 use Rattle.sgt_cert.specs.Certificate.{decided_tx, IsCommitted, IsDecidedOnce, rank_in}
 use Rattle.sgt_cert.specs.declared.certificate.Decision.{Decision}
 use Rattle.sgt_cert.specs.declared.certificate.Decision.TheVariants.{Commit, Refuse, Withdraw}
@@ -121,9 +121,6 @@ one-decision ds m n d e once at at' same =
       | inr (inl less) ↦ absurd (AllPairs_at (λ (a b : Decision). decided_tx a ≢ decided_tx b) ds m n d e once less at at' same)
       | inr (inr more) ↦ absurd (AllPairs_at (λ (a b : Decision). decided_tx a ≢ decided_tx b) ds n m e d once more at' at (sym same))
     ]
-
-pub undecided-uncommitted : (ds : List Decision) (tx : ℕ) → IsUndecided ds tx → IsUncommitted ds tx
-undecided-uncommitted ds tx none n rank is = All_at (λ (d : Decision). decided_tx d ≢ tx) ds n (Commit tx rank) none is refl
 
 pub other-uncommitted : (ds : List Decision) (tx n : ℕ) (d : Decision) → IsDecidedOnce ds → IsDecisionOn ds tx n d → rank_in d ≡ None → IsUncommitted ds tx
 other-uncommitted ds tx n d once on none m rank is =

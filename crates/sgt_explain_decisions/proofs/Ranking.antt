@@ -10,16 +10,8 @@ use Rattle.sgt_cert.specs.declared.certificate.Decision.{Decision}
 use Rattle.std.specs.Prelude.{List}
 use Rattle.sgt_explain_lines.specs.declared.section.Logged.{Logged}
 use Rattle.sgt_explain_decisions.specs.Against.{StandAgainst}
-use Rattle.sgt_explain_decisions.specs.Placed.{IsUncommitted}
 use Rattle.sgt_explain_decisions.specs.declared.order.Ranked.{Ranked}
 use Rattle.sgt_explain_decisions.proofs.Placing.{one-rank}
-
--- an entry of a transaction that isn't committed stands against nothing, and nothing against it
-pub rise-first : (ds : List Decision) (one other : Logged) → IsUncommitted ds (tx_of one.entry) → RiseInRank ds one.entry other.entry
-rise-first ds one other none kind x m n r s clash apart is its = absurd (none m r is)
-
-pub rise-second : (ds : List Decision) (one other : Logged) → IsUncommitted ds (tx_of other.entry) → RiseInRank ds one.entry other.entry
-rise-second ds one other none kind x m n r s clash apart is its = absurd (none n s its)
 
 -- entries whose ranks don't stand against each other
 pub rise-ranked : (ds : List Decision) (one : Logged) (first second : Ranked) → first.logged ≡ one → IsDecidedOnce ds

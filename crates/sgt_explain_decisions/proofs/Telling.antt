@@ -8,7 +8,7 @@ use Rattle.sgt_cert.specs.declared.certificate.Step.{Step}
 use Rattle.sgt_cert.specs.declared.certificate.Decision.{Decision}
 use Rattle.sgt_explain_lines.specs.declared.section.Logged.{Logged}
 use Rattle.sgt_explain_decisions.specs.declared.sought.Sought.{Sought}
-use Rattle.sgt_explain_decisions.specs.Cycles.{IsShownStep, IsUnshown, Shows, step_text, last_stop, TellsCycle, TellsRefusal, TellsCycles, AreShown, IsFirstUnshown}
+use Rattle.sgt_explain_decisions.specs.Cycles.{IsShownStep, Shows, step_text, last_stop, TellsCycle, TellsRefusal, TellsCycles, AreShown}
 
 pub last_stop-next : (from : ℕ) (walk : List Step) (step : Step) → last_stop from (walk ++ step ∷ []) ≡ step.to
 last_stop-next from [] step = refl
@@ -60,8 +60,3 @@ shown-next sought tx from place walk step two at is shown before q s less at' =
       | inr (inl earlier) ↦ before q s earlier at'
       | inr (inr later) ↦ absurd (omega (arith, less, later))
     ]
-
-pub first-unshown : (sought : Sought) (tx from place : ℕ) (walk : List Step) (step : Step) → slice_get walk place ≡ Some step → from ≡ last_stop tx (take place walk)
-    → IsUnshown sought from step → AreShown sought tx walk place → IsFirstUnshown sought tx walk place
-first-unshown sought tx from place walk step at is none before =
-    record { step = step; there = at; unshown = subst (λ k. IsUnshown sought k step) is none; before = before }

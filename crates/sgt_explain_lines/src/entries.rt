@@ -1,6 +1,6 @@
 //! Two entries of a log in conflict, in words.
 
-ghost use Rattle.std.specs.Prelude.{◌≡◌, ◌≢◌, ◌↔◌, ◌++◌, IfSome, IfNone, IsTrue, OnOk, string_bytes};
+ghost use Rattle.std.specs.Prelude.{◌≡◌, ◌≢◌, ◌++◌, IfSome, IfNone, OnOk, string_bytes};
 ghost use Rattle.sgt_names.specs.Name.{Name};
 ghost use Rattle.sgt_names.specs.Entry.{Clash, tx_of};
 ghost use Rattle.sgt_explain_lines.specs.Clashing.{InNoConflict};
@@ -10,36 +10,6 @@ use crate::section::Logged;
 use sgt_names::{Entry, Item, Kind};
 use std::alloc::AllocError;
 use std::fmt::Write;
-
-/// Whether the second entry is in conflict with the first, on the item, as operations of this kind.
-pub fn is_clash(kind: Kind, item: &Item, first: &Entry, second: &Entry) -> bool
-    ensures { IsTrue result ↔ Clash kind item.now first.now second.now }
-{
-    match kind {
-        Kind::Wr => first.writes(item) && second.reads(item),
-        Kind::Rw => first.reads(item) && second.writes(item),
-        Kind::Ww => {
-            let are_increments = first.is_increment() && second.is_increment();
-            first.writes(item) && second.writes(item) && !are_increments
-        }
-    }
-}
-
-/// The kind of the conflict that the second entry is in with the first, on the item.
-pub fn clash_on(item: &Item, first: &Entry, second: &Entry) -> Option<Kind>
-    ensures some { IfSome result (λ kind. Clash kind item.now first.now second.now) }
-    ensures none { IfNone result (InNoConflict item.now first.now second.now) }
-{
-    if is_clash(Kind::Rw, item, first, second) {
-        Some(Kind::Rw)
-    } else if is_clash(Kind::Wr, item, first, second) {
-        Some(Kind::Wr)
-    } else if is_clash(Kind::Ww, item, first, second) {
-        Some(Kind::Ww)
-    } else {
-        None
-    }
-}
 
 /// The item and the kind of the conflict that the second entry is in with the first, which stands before it and is another
 /// transaction's.
@@ -55,7 +25,7 @@ pub fn clash(first: &Entry, second: &Entry) -> Option<(Item, Kind)>
     if first.tx() == second.tx() {
         return None;
     }
-    match clash_on(&item, first, second) {
+    match first.clash_on(&item, second) {
         Some(kind) => Some((item, kind)),
         None => None,
     }

@@ -11,7 +11,7 @@ mod shown;
 mod slips;
 mod values;
 
-pub use entries::{clash, clash_on, is_clash, kind_name, push_conflict, verb};
+pub use entries::{clash, kind_name, push_conflict, verb};
 pub use forms::{push_format, push_notation, push_section, push_trailing, push_truncated};
 pub use input::{after_line, cut_line, text_at};
 pub use items::{push_block, push_final, push_if_there, push_item, push_read, push_twice};

@@ -13,14 +13,13 @@ use Rattle.sgt_names.specs.Log.{Conflicts}
 use Rattle.sgt_names.specs.declared.entry.Entry.{Entry}
 use Rattle.sgt_names.specs.declared.entry.Kind.{Kind}
 use Rattle.sgt_names.specs.declared.entry.Kind.TheVariants.{Wr, Rw, Ww}
-use Rattle.sgt_cert.specs.Certificate.{stops, walk_of, IsCycle}
+use Rattle.sgt_cert.specs.Certificate.{stops, IsCycle}
 use Rattle.sgt_cert.specs.declared.certificate.Decision.{Decision}
-use Rattle.sgt_cert.specs.declared.certificate.Decision.TheVariants.{Refuse}
 use Rattle.sgt_cert.specs.declared.certificate.Step.{Step}
 use Rattle.sgt_explain_lines.specs.Values.{entries_of}
 use Rattle.sgt_explain_lines.specs.declared.section.Logged.{Logged as LoggedEntry}
 use Rattle.sgt_explain_steps.specs.Told.{begins_with_read, ends_with_read}
-use Rattle.sgt_explain_steps.specs.Unmet.{Does, ShowsOwn, StandsBefore, AreMisfit, StepsTo, NoStepAt}
+use Rattle.sgt_explain_steps.specs.Unmet.{Does, ShowsOwn, StandsBefore, AreMisfit, StepsTo}
 
 -- ---- no conflict among entries
 
@@ -176,23 +175,12 @@ clash-second Wr x e f clash = clash.1
 clash-second Rw x e f clash = clash.1
 clash-second Ww x e f clash = clash.1
 
--- no entry steps to one that is no second entry of the step
-pub no-step : (from : ℕ) (step : Step) (second : Entry) (ls : List LoggedEntry) → (Does (ends_with_read step.label.kind) step.label.item second → ⊥)
-    → All (λ (l : LoggedEntry). StepsTo from step l.entry second → ⊥) ls
-no-step from step second ls none k d within = λ own. none (clash-second step.label.kind step.label.item _ second own.1)
-
 -- the transaction that a later step starts from
 pub start_later : (tx : ℕ) (walk : List Step) (place : ℕ) (s : Step) → 0 < place → slice_get walk (place - 1) ≡ Some s → slice_get (tx ∷ stops walk) place ≡ Some s.to
 start_later tx walk zero s later at = absurd (omega (arith, later))
 start_later tx walk (suc n) s later at =
     let e : suc n - 1 ≡ n = omega arith in
     slice_get-map (λ (t : Step). t.to) walk n ∙ ap (option_map (λ (t : Step). t.to)) (ap (slice_get walk) (sym e) ∙ at)
-
--- no step stands at a place from which the walk has none
-pub no-step-at : (decisions : List Decision) (number place tx : ℕ) (walk : List Step) → slice_get decisions number ≡ Some (Refuse tx walk) → length walk ≤ place → NoStepAt decisions number place
-no-step-at decisions number place tx walk at short other steps is =
-    let same : Refuse tx walk ≡ Refuse other steps = same_Some (Refuse tx walk) (Refuse other steps) (sym at ∙ is) in
-    subst (λ (ss : List Step). length ss ≤ place) (same_Some walk steps (ap walk_of same)) short
 
 -- behind the steps of a walk no step starts
 pub start_beyond : (tx : ℕ) (walk : List Step) (place : ℕ) → 0 < place → length walk ≤ place - 1 → None ≡ slice_get (tx ∷ stops walk) place

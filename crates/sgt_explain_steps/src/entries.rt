@@ -10,7 +10,7 @@ ghost use Rattle.sgt_explain_steps.specs.Unmet.{Does, ShowsOwn, StepsTo, MeetsTh
 use crate::told::ends_with_read;
 use crate::unmet::Met;
 use sgt_cert::Step;
-use sgt_explain_lines::{Logged, clash_on, is_clash};
+use sgt_explain_lines::Logged;
 use sgt_names::{Entry, Item, Tx};
 
 /// Whether the entry reads the item, or else changes it or asks to.
@@ -47,7 +47,7 @@ pub fn own_in(entries: &[Logged], tx: Tx, item: &Item, reads: bool) -> Option<Lo
 fn clashes(step: &Step, from: Tx, first: &Entry, second: &Entry) -> bool
     ensures { IsTrue result ↔ StepsTo from step.now first.now second.now }
 {
-    first.tx() == from && is_clash(step.label.kind, &step.label.item, first, second)
+    first.tx() == from && first.clashes(step.label.kind, &step.label.item, second)
 }
 
 /// Whether the second entry is of the transaction that the step leads to, and one of these is in conflict with it as the step says.
@@ -96,7 +96,7 @@ fn met_by(from: Tx, step: &Step, first: &Logged, second: &Logged) -> Option<Met>
     if first.entry.tx() != from {
         return None;
     }
-    match clash_on(&step.label.item, &first.entry, &second.entry) {
+    match first.entry.clash_on(&step.label.item, &second.entry) {
         Some(kind) => Some(Met {
             kind,
             first: *first,

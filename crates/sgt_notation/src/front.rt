@@ -22,7 +22,7 @@ const ROOM: usize = 64;
 
 /// The place behind this byte.
 #[inline(always)]
-fn byte_at(bytes: &[u8], from: usize, byte: u8) -> Option<usize>
+pub(crate) fn byte_at(bytes: &[u8], from: usize, byte: u8) -> Option<usize>
     ensures { IfSome result (Spans bytes.now from (byte ∷ [])) }
 {
     if *bytes.get(from)? == byte {
@@ -121,7 +121,7 @@ fn value_at(bytes: &[u8], from: usize) -> Option<(Value, usize)>
 
 /// The number of a transaction, and the place behind it.
 #[inline(always)]
-fn tx_at(bytes: &[u8], from: usize) -> Option<(Tx, usize)>
+pub(crate) fn tx_at(bytes: &[u8], from: usize) -> Option<(Tx, usize)>
     ensures { IfSome result (λ r. IsTx r.0 × Spans bytes.now from (decimal r.0) r.1) }
 {
     let (number, to) = value_at(bytes, from)?;
@@ -131,7 +131,7 @@ fn tx_at(bytes: &[u8], from: usize) -> Option<(Tx, usize)>
 
 /// The number of a site, and the place behind it.
 #[inline(always)]
-fn site_at(bytes: &[u8], from: usize) -> Option<(SiteNo, usize)>
+pub(crate) fn site_at(bytes: &[u8], from: usize) -> Option<(SiteNo, usize)>
     ensures { IfSome result (λ r. IsSite r.0 × Spans bytes.now from (decimal r.0) r.1) }
 {
     let (number, to) = value_at(bytes, from)?;
@@ -179,24 +179,24 @@ fn holding_at(bytes: &[u8], from: usize) -> Option<(Holding, usize)>
     Some((Holding { item, value }, to))
 }
 
-/// `TX[SITE.NAME]` at the front, and the place behind it.
+/// `TX[SITE.NAME]`, and the place behind it.
 #[inline(always)]
-pub(crate) fn front_access(bytes: &[u8]) -> Option<((Tx, Place), usize)>
-    ensures { IfSome result (λ r. IsAccess r.0 × Spans bytes.now 0 (access_text r.0) r.1) }
+pub(crate) fn access_at(bytes: &[u8], from: usize) -> Option<((Tx, Place), usize)>
+    ensures { IfSome result (λ r. IsAccess r.0 × Spans bytes.now from (access_text r.0) r.1) }
 {
-    let (tx, to) = tx_at(bytes, 0)?;
+    let (tx, to) = tx_at(bytes, from)?;
     let (site, to) = site_at(bytes, byte_at(bytes, to, b'[')?)?;
     let (item, to) = name_at(bytes, byte_at(bytes, to, b'.')?, b']')?;
     let to = byte_at(bytes, to, b']')?;
     Some(((tx, (site, item)), to))
 }
 
-/// `TX[SITE.NAME]=NUM` at the front, and the place behind it.
+/// `TX[SITE.NAME]=NUM`, and the place behind it.
 #[inline(always)]
-pub(crate) fn front_update(bytes: &[u8]) -> Option<(((Tx, Place), Value), usize)>
-    ensures { IfSome result (λ r. IsUpdate r.0 × Spans bytes.now 0 (update_text r.0) r.1) }
+pub(crate) fn update_at(bytes: &[u8], from: usize) -> Option<(((Tx, Place), Value), usize)>
+    ensures { IfSome result (λ r. IsUpdate r.0 × Spans bytes.now from (update_text r.0) r.1) }
 {
-    let (access, to) = front_access(bytes)?;
+    let (access, to) = access_at(bytes, from)?;
     let (value, to) = value_at(bytes, byte_at(bytes, to, b'=')?)?;
     Some(((access, value), to))
 }

@@ -7,7 +7,7 @@ ghost use Rattle.sgt_notation.specs.Reading.{Finds, Reads};
 
 use crate::event::{Event, EventLine};
 use crate::fault::NotationFault;
-use crate::front::{front_access, front_update};
+use crate::front::{access_at, update_at};
 use crate::number::{find_site, find_tx, find_value};
 use crate::reading::{cut, refusal};
 use sgt_names::{Item, SiteNo, Tx, Value};
@@ -30,7 +30,7 @@ pub(crate) fn find_place(bytes: &[u8]) -> Option<Place>
 fn seen_access(bytes: &[u8]) -> Option<(Tx, Place)>
     ensures { IfSome result (λ found. IsAccess found × (bytes.now ≡ access_text found)) }
 {
-    let (access, to) = front_access(bytes)?;
+    let (access, to) = access_at(bytes, 0)?;
     if to == bytes.len() {
         Some(access)
     } else {
@@ -68,7 +68,7 @@ fn find_access(bytes: &[u8]) -> Option<(Tx, Place)>
 fn seen_update(bytes: &[u8]) -> Option<((Tx, Place), Value)>
     ensures { IfSome result (λ found. IsUpdate found × (bytes.now ≡ update_text found)) }
 {
-    let (update, to) = front_update(bytes)?;
+    let (update, to) = update_at(bytes, 0)?;
     if to == bytes.len() {
         Some(update)
     } else {

@@ -1,6 +1,6 @@
 //! Whether each conflict of a log between committed transactions is carried by the edges that decisions were handed.
 
-ghost use Rattle.std.specs.Prelude.{◌≡◌, ◌↔◌, ◌<◌, ℕ, IsTrue, length, IfOk, Some};
+ghost use Rattle.std.specs.Prelude.{◌≡◌, ◌↔◌, ◌<◌, IsTrue, length, IfOk, Some};
 ghost use Rattle.sgt_names.specs.Entry.{tx_of, item_of, Clash};
 ghost use Rattle.sgt_service_settle.specs.declared.link.Cut.{Cut as ACut};
 ghost use Rattle.sgt_names.specs.declared.entry.Kind.{Kind as AKind};
@@ -10,10 +10,9 @@ ghost use Rattle.sgt_service_settle.specs.private.Index.{IsIn, IsDue, IsSided, A
 use crate::committed::number_of;
 use crate::index::Index;
 use crate::link::{Arc, Cut};
-use crate::logged::clash;
 use crate::rows::{entering, leaving};
 use crate::search::search;
-use sgt_names::{Entry, Item, Kind, SiteNo, Tx};
+use sgt_names::{Entry, Item, SiteNo, Tx};
 use std::alloc::{AllocError, Global};
 
 /// The edges between committed transactions, by the transaction that they come from, and by the one that they lead to.
@@ -48,9 +47,7 @@ fn is_marked(marks: &[bool], tx: Tx) -> bool
 fn conflict(item: &Item, first: &Entry, second: &Entry) -> bool
     ensures { IsTrue result ↔ ((kind : AKind) × Clash kind item.now first.now second.now) }
 {
-    clash(Kind::Wr, item, first, second)
-        || clash(Kind::Rw, item, first, second)
-        || clash(Kind::Ww, item, first, second)
+    first.clash_on(item, second).is_some()
 }
 
 // Whether the other entry is another transaction's, committed by a decision of at most this number.

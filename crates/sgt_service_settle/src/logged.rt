@@ -15,22 +15,7 @@ use crate::acts::{Act, place_near};
 use crate::names::tx_under;
 use crate::points::{Near, Nears, acts_from, start_of};
 use sgt_edges::Edge;
-use sgt_names::{Entry, Holding, Item, Kind, Label, Tx};
-
-/// Whether the two are in a conflict of this kind on the item.
-pub(crate) fn clash(kind: Kind, item: &Item, first: &Entry, second: &Entry) -> bool
-    ensures { IsTrue result ↔ Clash kind item.now first.now second.now }
-{
-    match kind {
-        Kind::Wr => first.writes(item) && second.reads(item),
-        Kind::Rw => first.reads(item) && second.writes(item),
-        Kind::Ww => {
-            first.writes(item)
-                && second.writes(item)
-                && !(first.is_increment() && second.is_increment())
-        }
-    }
-}
+use sgt_names::{Holding, Item, Kind, Label, Tx};
 
 // Whether one of these acts, behind the first, is in such a conflict with it.
 fn is_followed(first: &Act, acts: &[Act], kind: Kind, item: &Item) -> bool
@@ -39,7 +24,7 @@ fn is_followed(first: &Act, acts: &[Act], kind: Kind, item: &Item) -> bool
         × Clash kind item.now first.now.entry b.entry) }
 {
     for second in acts {
-        if first.place < second.place && clash(kind, item, &first.entry, &second.entry) {
+        if first.place < second.place && first.entry.clashes(kind, item, &second.entry) {
             return true;
         }
     }

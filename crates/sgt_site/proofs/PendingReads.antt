@@ -1,5 +1,5 @@
 -- The reads of transactions that have no end yet.
-use Rattle.std.proofs.Common.{◌≡◌, ◌≢◌, ℕ, zero, suc, true, false, List, [], ◌∷◌, ◌++◌, length, take, set, Some, None, Result, Ok, Err, OnOk, OnErr, refl, sym, ap, ap₂, ◌∙◌, subst, arith, inl, inr, All, Contains}
+use Rattle.std.proofs.Common.{◌≡◌, ◌≢◌, ℕ, zero, suc, true, false, List, [], ◌∷◌, ◌++◌, length, take, Some, None, Result, Ok, Err, OnOk, OnErr, refl, sym, ap, ap₂, ◌∙◌, subst, arith, inl, inr, All, Contains}
 use Rattle.std.specs.Prelude.{slice_get, ◌↔◌, ◌==◌, Option, Vec}
 use Rattle.std.specs.BTreeMap.{BTreeMap, Updates, get, is_at}
 use Rattle.std.specs.Map.{lookup}
@@ -7,8 +7,7 @@ use Rattle.std.specs.Ordering.{nat_cmp, is_eq}
 use Rattle.std.specs.declared.alloc.Global.{Global}
 use Rattle.std.specs.declared.cmp.Ordering.{Ordering}
 use Rattle.std.specs.declared.cmp.Ordering.TheVariants.{Less, Equal, Greater}
-use Rattle.std.proofs.lemmas.Bool.{cases_Bool, cases_eq, eqb-true, eqb-false, eq-eqb, ne_eqb}
-use Rattle.std.proofs.lemmas.Option.{slice_get_within}
+use Rattle.std.proofs.lemmas.Bool.{cases_Bool, eqb-true, eqb-false, eq-eqb, ne_eqb}
 use Rattle.std.proofs.lemmas.Map.Lookups.{exact_unsigned}
 use Rattle.std.proofs.lemmas.List.Elements.{Contains-append_cases, Contains-append_left, Contains-append_right}
 use Rattle.sgt_names.specs.Name.{Name}
@@ -24,7 +23,6 @@ use Rattle.sgt_site.specs.declared.pending.Slot.{Slot}
 use Rattle.sgt_site.proofs.Appends.{get_cases, HasEnded-append, HasEnded-append_right, HasEnded-cases}
 use Rattle.sgt_site.proofs.Entries.{read_is}
 use Rattle.sgt_site.proofs.Basics.{is_single}
-use Rattle.sgt_site.proofs.Inserts.{get_set_same, get_set_other}
 
 -- ---- a change at one transaction
 
@@ -75,19 +73,7 @@ pub held-own : (s : Slot) (tx : ℕ) → MayHold s tx → in_slot (Some s) tx �
 held-own s tx (inl none) = free-slot s tx none ∙ sym none
 held-own s tx (inr own) = own-slot s tx own
 
--- a slot is changed in its place
-pub slots-others : (old : List Slot) (n : ℕ) (s new : Slot) (tx : ℕ) → slice_get old n ≡ Some s
-    → ((t : ℕ) → t ≢ tx → in_slot (Some new) t ≡ in_slot (Some s) t)
-    → (k t : ℕ) → t ≢ tx → in_slot (slice_get (set old n new) k) t ≡ in_slot (slice_get old k) t
-slots-others old n s new tx at others k t other = elim (cases_eq k n) [
-  | inl same ↦ rw (same, get_set_same old n new (slice_get_within old n s at), at) (others t other)
-  | inr apart ↦ rw (get_set_other old n k new apart) refl
-]
-
 -- ---- both parts
-
-pub or_else-none : (own others : List Name) → own ≡ [] → or_else own others ≡ others
-or_else-none own others none = rw none refl
 
 pub or_else-some : (own others : List Name) → (own ≡ [] → ⊥) → or_else own others ≡ own
 or_else-some [] others some = absurd (some refl)
