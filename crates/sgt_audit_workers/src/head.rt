@@ -2,7 +2,7 @@
 
 ghost use Rattle.std.specs.Prelude.{◌≡◌, ◌≢◌, ◌+◌, ◌-◌, ◌^◌, ◌∷◌, ◌++◌, ℕ, Bool, [], List, Err, IfOk, IfErr, IfSome, IfNone, IsErrOf};
 ghost use Rattle.std.specs.Io.KnownBytes.{Consumes};
-ghost use Rattle.sgt_notation.specs.Limits.{max_line};
+ghost use Rattle.sgt_names.specs.Limits.{max_line};
 ghost use Rattle.sgt_notation.specs.Lines.{IsNext, Spends, coming};
 ghost use Rattle.sgt_notation.specs.Spelling.{text_of_lines};
 ghost use Rattle.sgt_cert.specs.Text.{certificate_text, format_line};
@@ -17,8 +17,8 @@ use crate::cutting::next_line;
 use sgt_audit::{Fault, Verdict};
 use sgt_audit_decisions::{Decided, Steps, are_cycles, are_ranks};
 use sgt_cert::{CertFault, Certificate, from_line};
-use sgt_names::{EngineFail, Source};
-use sgt_notation::{Lines, MAX_LINE, Next};
+use sgt_names::{EngineFail, MAX_LINE, Source};
+use sgt_notation::{Lines, Next};
 use std::alloc::{AllocError, Global};
 
 /// What the first two lines of a text say, which have no fault.

@@ -2,7 +2,7 @@
 -- judge it, or has.
 use Rattle.std.specs.Prelude.{◌≡◌, ℕ, ◌+◌, false, IsTrue, List, [], ◌∷◌, All, Option, Some, None, IfOk, IfSome}
 use Rattle.std.specs.Io.KnownBytes.{Consumes, IsAtEnd}
-use Rattle.sgt_notation.specs.Limits.{most_reads}
+use Rattle.sgt_names.specs.Limits.{most_reads}
 use Rattle.sgt_notation.specs.Lines.{ReadFaultIsDue, Spends, coming}
 use Rattle.sgt_cert.specs.declared.bundle.SiteLog.{SiteLog}
 use Rattle.sgt_audit.specs.Alone.{IsReadyAlone}
