@@ -1,7 +1,9 @@
 //! Lines at the front of bytes that hold more.
 
 use sgt_names::{Entry, Holding, Item, MemSource, SiteNo, Tx};
-use sgt_notation::{Lines, Next, SectionLine, front_line, held_lines_come_next};
+use sgt_notation::{
+    Event, EventLine, Lines, Next, SectionLine, front_event, front_line, held_lines_come_next,
+};
 use std::test::Fail;
 
 #[test]
@@ -52,5 +54,16 @@ fn held_lines_are_passed_over(rt: HostRuntime) -> Result<(), Fail> {
     assert!(rt; lines.next(&mut source, &mut line, 50) == Ok(Next::Cut));
     assert!(rt; line.as_slice() == b"la".as_slice());
     held_lines_come_next();
+    Ok(())
+}
+
+#[test]
+fn an_event_is_found(rt: HostRuntime) -> Result<(), Fail> {
+    let tx = Tx::new(12)?;
+    let site = SiteNo::new(3)?;
+    let item = Item::new(b"x_1")?;
+    let read = EventLine::One(Event::Read { tx, site, item });
+    assert!(rt; front_event(b"r12[3.x_1]\nb\n") == Some((read, 11)));
+    assert!(rt; front_event(b"r12[3.x_1]") == None);
     Ok(())
 }

@@ -1,8 +1,8 @@
 //! Names, numbers, lists and messages: that the calls succeed, on values from outside, and what is printed.
 
 use sgt_names::{
-    BadName, BadNumber, Change, EngineFail, Item, Listed, MAX_ITEMS, MAX_SITES, SiteNo, Tx,
-    additions_sum_up, changes_show_at_their_place, increments_commute,
+    BadName, BadNumber, Change, EngineFail, Entry, Item, Kind, Listed, MAX_ITEMS, MAX_SITES,
+    SiteNo, Tx, additions_sum_up, changes_show_at_their_place, increments_commute,
     increments_conflict_with_others, increments_do_not_conflict, value_is_of_the_last_write,
 };
 use std::alloc::AllocError;
@@ -107,5 +107,30 @@ fn laws_and_lists(rt: HostRuntime) -> Result<(), Fail> {
     let list = Listed::new(vec![in rt.alloc(); Change::Put(1), Change::Add(2)]?);
     assert!(rt; list.as_slice() == [Change::Put(1), Change::Add(2)].as_slice());
     assert!(rt; list.into_vec().len() == 2);
+    Ok(())
+}
+
+#[test]
+fn conflicts_have_a_kind(rt: HostRuntime) -> Result<(), Fail> {
+    let (one, two, item) = (Tx::new(1)?, Tx::new(2)?, Item::new(b"x")?);
+    let read = Entry::Read {
+        tx: one,
+        item,
+        value: 5,
+    };
+    let write = Entry::Write {
+        tx: two,
+        item,
+        value: 7,
+    };
+    let add = Entry::Add {
+        tx: two,
+        item,
+        value: 7,
+    };
+    assert!(rt; read.clash_on(&item, &write) == Some(Kind::Rw));
+    assert!(rt; write.clash_on(&item, &read) == Some(Kind::Wr));
+    assert!(rt; write.clash_on(&item, &add) == Some(Kind::Ww) && add.clash_on(&item, &add) == None);
+    assert!(rt; add.clashes(Kind::Wr, &item, &read) && !add.clashes(Kind::Rw, &item, &read));
     Ok(())
 }
