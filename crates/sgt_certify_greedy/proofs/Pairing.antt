@@ -5,13 +5,14 @@ use Rattle.std.proofs.lemmas.Bool.{cases_eq}
 use Rattle.std.proofs.lemmas.Option.{get_or_from_slice_get, slice_get-get_or}
 use Rattle.sgt_names.proofs.Places.{Contains_at, Contains-from_at}
 use Rattle.sgt_names.specs.Name.{Name}
-use Rattle.sgt_names.specs.Entry.{tx_of, item_of, Clash, Reads, Writes}
+use Rattle.sgt_names.specs.Entry.{tx_of, item_of, Clash}
 use Rattle.sgt_names.specs.declared.entry.Entry.{Entry}
-use Rattle.sgt_names.specs.declared.entry.Entry.TheVariants.{Read, Write, Add, Want, WantAdd, Commit, Refuse, Withdraw}
+use Rattle.sgt_names.specs.declared.entry.Entry.TheVariants.{Commit}
 use Rattle.sgt_names.specs.declared.entry.Kind.{Kind}
 use Rattle.sgt_names.specs.declared.entry.Kind.TheVariants.{Wr, Rw, Ww}
 use Rattle.sgt_cert.specs.declared.bundle.SiteLog.{SiteLog}
 use Rattle.sgt_certify_greedy.specs.declared.pairs.Pair.{Pair}
+use Rattle.sgt_certify_logs.proofs.Operations.{reads-item, writes-item}
 use Rattle.sgt_certify_logs.specs.Witness.{EndsBefore, IsIn, PrecedesCommitted}
 use Rattle.sgt_certify_greedy.specs.declared.pairs.Rule.{Rule}
 use Rattle.sgt_certify_greedy.specs.declared.pairs.Rule.TheVariants.{Conflicts, Ends}
@@ -20,26 +21,6 @@ use Rattle.sgt_certify_greedy.specs.Pairs.{ArePaired, HasPairsTo, IsFollowed, Is
 -- the second list has what the first has
 abbrev pub Keeps : List Pair → List Pair → Type 0
 Keeps old new = (pair : Pair) → Contains old pair → Contains new pair
-
-reads-item : (x : Name) (e : Entry) → Reads x e → item_of e ≡ Some x
-reads-item x (Read t y v) h = ap Some h
-reads-item x (Write t y v) h = absurd h
-reads-item x (Add t y v) h = absurd h
-reads-item x (Want t y v) h = absurd h
-reads-item x (WantAdd t y v) h = absurd h
-reads-item x (Commit t) h = absurd h
-reads-item x (Refuse t) h = absurd h
-reads-item x (Withdraw t) h = absurd h
-
-writes-item : (x : Name) (e : Entry) → Writes x e → item_of e ≡ Some x
-writes-item x (Read t y v) h = absurd h
-writes-item x (Write t y v) h = ap Some h
-writes-item x (Add t y v) h = ap Some h
-writes-item x (Want t y v) h = ap Some h
-writes-item x (WantAdd t y v) h = ap Some h
-writes-item x (Commit t) h = absurd h
-writes-item x (Refuse t) h = absurd h
-writes-item x (Withdraw t) h = absurd h
 
 -- an entry in conflict is an operation on the item
 pub clash-item : (kind : Kind) (x : Name) (e f : Entry) → Clash kind x e f → item_of e ≡ Some x

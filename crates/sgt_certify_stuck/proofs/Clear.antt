@@ -4,10 +4,11 @@ use Rattle.std.specs.Prelude.{slice_get}
 use Rattle.std.proofs.lemmas.Bool.{cases_eq, true≢false}
 use Rattle.std.proofs.lemmas.Option.{same_Some}
 use Rattle.sgt_names.specs.Name.{Name}
-use Rattle.sgt_names.specs.Entry.{tx_of, item_of, is_increment, Reads, Writes}
+use Rattle.sgt_names.specs.Entry.{tx_of, item_of, is_increment}
 use Rattle.sgt_names.specs.declared.entry.Entry.{Entry}
-use Rattle.sgt_names.specs.declared.entry.Entry.TheVariants.{Read, Write, Add, Want, WantAdd, Commit, Refuse, Withdraw}
+use Rattle.sgt_names.specs.declared.entry.Entry.TheVariants.{Read}
 use Rattle.sgt_names.specs.declared.entry.Kind.TheVariants.{Wr, Rw, Ww}
+use Rattle.sgt_certify_logs.proofs.Operations.{reads-item, writes-item}
 use Rattle.sgt_certify_stuck.specs.Apart.{AreApart, Does, HasItem, HasTx, IsClear}
 use Rattle.sgt_certify_stuck.specs.declared.apart.Class.{Class}
 use Rattle.sgt_certify_stuck.specs.declared.apart.Class.TheVariants as class
@@ -15,26 +16,6 @@ use Rattle.sgt_certify_stuck.specs.declared.apart.Class.TheVariants as class
 bool_cases : (b : Bool) → (b ≡ true) ⊎ (b ≡ false)
 bool_cases true = inl refl
 bool_cases false = inr refl
-
-reads-item : (x : Name) (e : Entry) → Reads x e → item_of e ≡ Some x
-reads-item x (Read t y v) h = ap Some h
-reads-item x (Write t y v) h = absurd h
-reads-item x (Add t y v) h = absurd h
-reads-item x (Want t y v) h = absurd h
-reads-item x (WantAdd t y v) h = absurd h
-reads-item x (Commit t) h = absurd h
-reads-item x (Refuse t) h = absurd h
-reads-item x (Withdraw t) h = absurd h
-
-writes-item : (x : Name) (e : Entry) → Writes x e → item_of e ≡ Some x
-writes-item x (Read t y v) h = absurd h
-writes-item x (Write t y v) h = ap Some h
-writes-item x (Add t y v) h = ap Some h
-writes-item x (Want t y v) h = ap Some h
-writes-item x (WantAdd t y v) h = ap Some h
-writes-item x (Commit t) h = absurd h
-writes-item x (Refuse t) h = absurd h
-writes-item x (Withdraw t) h = absurd h
 
 -- whoever does something to an item is an operation on it
 pub does-item : (k : Class) (x : Name) (e : Entry) → Does k x e → item_of e ≡ Some x
