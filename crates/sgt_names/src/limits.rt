@@ -1,4 +1,4 @@
-//! The limits, each of which stands here alone. (How many transactions may be active at once is the arena's.)
+//! The limits. (How many transactions may be begun in a window is the arena's.)
 
 /// How many sites there may be.
 pub const MAX_SITES: u8 = 64;
