@@ -7,7 +7,7 @@ ghost use Rattle.std.specs.Ordering.{nat_cmp};
 ghost use Rattle.sgt_names.specs.Ordered.{IsRisingBy, IsAt, IsGapFor};
 ghost use Rattle.sgt_site.specs.private.Tails.{IsBelow};
 
-use sgt_names::{Seen, Tx};
+use sgt_names::{Seen, Tx, Value};
 use std::alloc::{AllocError, Global};
 use std::collections::BTreeMap;
 use std::marker::Model;
@@ -19,12 +19,64 @@ pub(crate) struct Reading {
     pub(crate) seen: Seen,
 }
 
+/// A read whose version has 32 bits at most, in two thirds of the room.
+#[derive(Drop)]
+pub(crate) struct Short {
+    tx: Tx,
+    version: u32,
+    value: Value,
+}
+
+impl Model for Short {
+    ghost use Rattle.sgt_site.specs.declared.readings.Reading.{Reading as Member};
+
+    ghost Value = { Member };
+
+    ghost view = { λ s. record { tx = s.tx; seen = record { value = s.value; version = s.version } } };
+}
+
+impl Short {
+    ghost use Rattle.std.specs.Prelude.{◌≡◌, IfSome};
+
+    // The read, if it is one.
+    #[inline(always)]
+    fn new(reading: Reading) -> Option<Short>
+        ensures { IfSome result (λ s. s ≡ reading) }
+    {
+        match u32::try_from(reading.seen.version) {
+            Ok(version) => Some(Short {
+                tx: reading.tx,
+                version,
+                value: reading.seen.value,
+            }),
+            Err(_) => None,
+        }
+    }
+
+    #[inline(always)]
+    fn tx(&self) -> Tx
+        ensures { result ≡ self.now.tx }
+    {
+        self.tx
+    }
+
+    #[inline(always)]
+    fn seen(&self) -> Seen
+        ensures { result ≡ self.now.seen }
+    {
+        Seen {
+            value: self.value,
+            version: u64::from(self.version),
+        }
+    }
+}
+
 /// The reads of an item.
 #[derive(Drop)]
 pub(crate) struct Readings {
     // by rising transaction
-    readings: Vec<Reading>,
-    // those that came behind one of a greater transaction, so that no other is moved for them
+    readings: Vec<Short>,
+    // those that came behind one of a greater transaction, so that no other is moved for them, and those that aren't short
     late: BTreeMap<Tx, Seen>,
 }
 
@@ -62,7 +114,7 @@ impl Readings {
             → (result ≡ Some seen) ↔ Contains self.now (record { tx = tx; seen = seen }) }
     {
         match search(self.readings.as_slice(), tx) {
-            Ok(at) => Some(self.readings[at].seen),
+            Ok(at) => Some(self.readings[at].seen()),
             Err(_) => late_by(&self.late, tx),
         }
     }
@@ -74,10 +126,13 @@ impl Readings {
         ensures ok { OnOk result (ReadsAlso self.old self.new (record { tx = tx; seen = seen })) }
         ensures err { OnErr result (self.new ≡ self.old) }
     {
-        if are_below(self.readings.as_slice(), self.readings.len(), tx) {
-            push(&mut self.readings, Reading { tx, seen })?;
-        } else {
-            self.late.insert(tx, seen)?;
+        match Short::new(Reading { tx, seen }) {
+            Some(short) if are_below(self.readings.as_slice(), self.readings.len(), tx) => {
+                push(&mut self.readings, short)?;
+            }
+            _ => {
+                self.late.insert(tx, seen)?;
+            }
         }
         Ok(())
     }
@@ -105,7 +160,7 @@ fn get_late(late: &BTreeMap<Tx, Seen>, tx: Tx) -> Option<Seen>
 const NEAR: usize = 8;
 
 // Where the transaction's read is, or where it would go. Transactions that read are mostly among the last.
-fn search(readings: &[Reading], tx: Tx) -> Result<usize, usize>
+fn search(readings: &[Short], tx: Tx) -> Result<usize, usize>
     requires { IsRisingBy (λ m. m.tx) nat_cmp readings.now }
     ensures found { IfOk result (IsAt (λ m. m.tx) readings.now tx) }
     ensures absent { IfErr result (IsGapFor (λ m. m.tx) nat_cmp readings.now tx) }
@@ -118,7 +173,7 @@ fn search(readings: &[Reading], tx: Tx) -> Result<usize, usize>
 }
 
 // Where the last reads begin, if all before them are of smaller transactions, and else the beginning.
-fn near_end(readings: &[Reading], tx: Tx) -> usize
+fn near_end(readings: &[Short], tx: Tx) -> usize
     requires { IsRisingBy (λ m. m.tx) nat_cmp readings.now }
     ensures within { result ≤ length readings.now }
     ensures before { IsBelow (λ m. m.tx) nat_cmp readings.now tx result }
@@ -136,17 +191,17 @@ fn near_end(readings: &[Reading], tx: Tx) -> usize
 }
 
 // Whether all reads before this place are known to be of smaller transactions, by the last of them.
-fn are_below(readings: &[Reading], place: usize, tx: Tx) -> bool
+fn are_below(readings: &[Short], place: usize, tx: Tx) -> bool
     requires rising { IsRisingBy (λ m. m.tx) nat_cmp readings.now }
     requires within { place ≤ length readings.now }
     ensures { IsTrue result → IsBelow (λ m. m.tx) nat_cmp readings.now tx place }
 {
-    place == 0 || readings[place - 1].tx.number() < tx.number()
+    place == 0 || readings[place - 1].tx().number() < tx.number()
 }
 
 // Where the transaction's read is, or where it would go. Mostly it is the first of these, or there is none.
 #[inline(always)]
-fn search_all(readings: &[Reading], tx: Tx) -> Result<usize, usize>
+fn search_all(readings: &[Short], tx: Tx) -> Result<usize, usize>
     requires { IsRisingBy (λ m. m.tx) nat_cmp readings.now }
     ensures found { IfOk result (IsAt (λ m. m.tx) readings.now tx) }
     ensures absent { IfErr result (IsGapFor (λ m. m.tx) nat_cmp readings.now tx) }
@@ -154,7 +209,7 @@ fn search_all(readings: &[Reading], tx: Tx) -> Result<usize, usize>
     if readings.is_empty() {
         return Err(0);
     }
-    if readings[0].tx.number() == tx.number() {
+    if readings[0].tx().number() == tx.number() {
         return Ok(0);
     }
     search_many(readings, tx)
@@ -162,12 +217,12 @@ fn search_all(readings: &[Reading], tx: Tx) -> Result<usize, usize>
 
 // Where the transaction's read is, or where it would go, by a binary search.
 #[inline(never)]
-fn search_many(readings: &[Reading], tx: Tx) -> Result<usize, usize>
+fn search_many(readings: &[Short], tx: Tx) -> Result<usize, usize>
     requires { IsRisingBy (λ m. m.tx) nat_cmp readings.now }
     ensures found { IfOk result (IsAt (λ m. m.tx) readings.now tx) }
     ensures absent { IfErr result (IsGapFor (λ m. m.tx) nat_cmp readings.now tx) }
 {
-    readings.binary_search_by(|m| m.tx.number().cmp(&tx.number()))
+    readings.binary_search_by(|m| m.tx().number().cmp(&tx.number()))
 }
 
 // So much room is made at once: lists are mostly short, and there are many.

@@ -10,7 +10,7 @@ search-requires c = rw c.as_slice.ensures.value c.self.invariant.rising
 pub returns-in-Ok : goal.returns-in-Ok
 returns-in-Ok c =
     let at = rw c.as_slice.ensures.value at c.in-Ok.ensures.found in
-    rw (← c.self.view_is) (seen-front _ c.self.inside.late c.self.invariant _ _ (found_reading _ _ _ at)
+    rw (← c.self.view_is, c.seen.ensures) (seen-front _ c.self.inside.late c.self.invariant _ _ (found_reading _ _ _ at)
     (seen-found _ _ _ _ c.self.invariant.rising at (slice_get_read _ (length c.self.inside.readings.items) _ _ refl at.within c.index.ensures)))
 
 pub returns-in-Err : goal.returns-in-Err
