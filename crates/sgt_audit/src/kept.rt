@@ -272,9 +272,25 @@ impl Kept {
             → IfOk result (Follows s (line_text line) (Reading self.new)) }
     {
         if is_allowed(self.second, &SectionLine::Logged(*entry)) {
-            self.follow_entry(*entry)
+            self.follow_rare(entry)
         } else {
             Ok(Some(self.unread()))
+        }
+    }
+
+    /// An entry of a kind that is less frequent. Some kinds go ways of their own here too.
+    #[inline(always)]
+    fn follow_rare(&mut self, entry: &Entry) -> Result<Option<Fault>, AllocError>
+        ensures sections { is_some self.new.sections ≡ is_some self.old.sections }
+        ensures follows { let line = Logged entry.now in
+            IsLineIn self.old.second line → (s : Stage) → IsAt self.old s
+            → IfOk result (Follows s (line_text line) (Reading self.new)) }
+    {
+        match *entry {
+            Entry::Want { tx, item, value } => self.follow_entry(Entry::Want { tx, item, value }),
+            Entry::Add { tx, item, value } => self.follow_entry(Entry::Add { tx, item, value }),
+            Entry::Refuse { tx } => self.follow_entry(Entry::Refuse { tx }),
+            _ => self.follow_entry(*entry),
         }
     }
 

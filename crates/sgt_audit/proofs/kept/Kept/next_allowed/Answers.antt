@@ -7,7 +7,7 @@ use Rattle.sgt_audit_decisions.proofs.Loops.{refuted}
 use Rattle.sgt_audit.proofs.kept.Kept.next_allowed.Goals as goal
 
 pub returns-then-is_allowed-clause-follows : goal.returns-then-is_allowed-clause-follows
-returns-then-is_allowed-clause-follows c is s here = c.follow_entry.ensures.follows (is, c.is_allowed.ensures.0 c.if-is_allowed.true) s here
+returns-then-is_allowed-clause-follows c is s here = c.follow_rare.ensures.follows (is, c.is_allowed.ensures.0 c.if-is_allowed.true) s here
 
 pub returns-else-is_allowed-clause-follows : goal.returns-else-is_allowed-clause-follows
 returns-else-is_allowed-clause-follows c is s here =
