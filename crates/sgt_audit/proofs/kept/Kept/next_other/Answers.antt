@@ -1,4 +1,4 @@
-use Rattle.std.proofs.Common.{◌≡◌, IfOk, sym, subst}
+use Rattle.std.proofs.Common.{IfOk, sym, subst}
 use Rattle.sgt_notation.specs.Spelling.{IsLine, line_text}
 use Rattle.sgt_audit.specs.Faults.{Allows, Stage}
 use Rattle.sgt_audit.specs.Kept.{IsAt}
