@@ -10,17 +10,16 @@ use Rattle.sgt_notation.proofs.OneSpelling.{cut_at_byte, line-one, line-one_line
 use Rattle.sgt_cert.specs.Parts.{Parts}
 use Rattle.sgt_cert.specs.Text.{certificate_text, format_line, sections_from, Begins, AreSections, IsCertificate, Spells}
 use Rattle.sgt_cert.specs.declared.certificate.Certificate.{Certificate}
-use Rattle.sgt_cert.specs.declared.bundle.SiteLog.{SiteLog}
 use Rattle.sgt_cert.proofs.Reading.{certificate-one}
 use Rattle.sgt_cert.proofs.OneLine.{certificate-one_line}
 use Rattle.sgt_cert.proofs.OneText.{first_line, format-one_line, line_front, lines_front, logs-from_lines, sections-lines, sections-one}
 use Rattle.sgt_audit.specs.declared.faults.Fault.{Fault}
 use Rattle.sgt_audit.specs.declared.faults.Fault.TheVariants as fault
-use Rattle.sgt_audit.specs.Faults.{fault_number, IsLineIn, Keeps, Stage, start, headed, within, complete, lines_so_far, Piece, whole, last, ComesNext, Rule}
+use Rattle.sgt_audit.specs.Faults.{IsLineIn, Keeps, Stage, start, headed, within, complete, lines_so_far, Piece, whole, last, ComesNext, Rule}
 use Rattle.sgt_audit.specs.Misspelled.{AreLinesOf, IsOfSpelling, IsSpelled, Misspells}
 use Rattle.sgt_audit.proofs.Formats.{format-one, lines-of, lines-allowed, logs-allowed}
 use Rattle.sgt_audit.proofs.MayFollow.{begun-begins}
-use Rattle.sgt_audit.proofs.OneFault.{comes_line, has_lf, one_piece}
+use Rattle.sgt_audit.proofs.OneFault.{comes_line, one_piece}
 use Rattle.sgt_audit.proofs.ReaderAtStage.{one-line, piece}
 use Rattle.sgt_audit.proofs.decidable.Sections.{HasBegun, none-begun, more-begun, decidable-sections}
 use Rattle.sgt_audit.proofs.decidable.Pieces.{HoldsBegun, decidable-within, decidable-certified, decidable-first, decidable-trailing, decidable-last}

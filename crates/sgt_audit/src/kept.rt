@@ -7,11 +7,11 @@ ghost use Rattle.sgt_notation.specs.Spelling.{IsLine, line_text};
 use crate::faults::{Fault, FirstFault};
 use crate::format::{is_allowed, read_line};
 use crate::judging::judge_line;
-use crate::known::look_up;
+use crate::known::{Known, look_up, look_up_at_hand};
 use crate::sections::{Sections, add_to};
 use crate::tracked::Tracked;
 use sgt_audit_decisions::Decided;
-use sgt_names::{Entry, Item, Tx, Value};
+use sgt_names::{Entry, Holding, Item, Tx, Value};
 use sgt_notation::SectionLine;
 use std::alloc::AllocError;
 
@@ -31,10 +31,11 @@ impl Kept {
     ghost use Rattle.sgt_audit.specs.Faults.{IsLineIn, Stage, Rule, Breaks, whole};
     ghost use Rattle.sgt_audit.specs.Kept.{IsAt};
     ghost use Rattle.sgt_audit.specs.private.NextLine.{Follows};
+    ghost use Rattle.sgt_audit.specs.private.Known.{IsKnownLine};
     ghost use Rattle.sgt_audit.specs.private.Ending.{EndsWith, IsComplete, limit_of};
     ghost use Rattle.sgt_audit.specs.declared.machine.Progress.TheVariants.{Reading};
     ghost use Rattle.sgt_names.specs.declared.entry.Entry.TheVariants.{Read, Write, Commit};
-    ghost use Rattle.sgt_notation.specs.declared.SectionLine.TheVariants.{Logged};
+    ghost use Rattle.sgt_notation.specs.declared.SectionLine.TheVariants.{Initial, Logged, Final};
 
     /// Whether all sections were read.
     pub(crate) fn is_complete(&self) -> bool
@@ -56,49 +57,48 @@ impl Kept {
         }
     }
 
-    /// The next line, which is one of the format.
+    /// Whether the entry of which this is known can be taken in at once: without memory, and where the sections aren't kept. Nothing
+    /// need be known of it: where it says so, what comes next needs no other way.
     #[inline(always)]
-    fn follow(&mut self, line: SectionLine) -> Result<Option<Fault>, AllocError>
-        ensures sections { is_some self.new.sections ≡ is_some self.old.sections }
-        ensures follows { IsLineIn self.old.second line → (s : Stage) → IsAt self.old s
-            → IfOk result (Follows s (line_text line) (Reading self.new)) }
-    {
-        match &line {
-            SectionLine::Logged(entry) => self.follow_entry(entry),
-            _ => self.follow_other(line),
+    fn is_plain(&self, known: &Known) -> bool {
+        match known.ruling.number {
+            Some(number) => {
+                self.tracked.place.current.is_some()
+                    && self.tracked.state.has_room(number)
+                    && self.sections.is_none()
+            }
+            None => false,
         }
     }
 
-    /// The next line, which is this entry. The kinds that are most frequent go ways of their own, on which the kind is known and not
-    /// asked for again.
+    /// The next line, which is this entry: at once, if that can be.
     #[inline(always)]
-    fn follow_entry(&mut self, entry: &Entry) -> Result<Option<Fault>, AllocError>
+    fn follow_entry(&mut self, entry: Entry) -> Result<Option<Fault>, AllocError>
         ensures sections { is_some self.new.sections ≡ is_some self.old.sections }
-        ensures follows { let line = Logged entry.now in
+        ensures follows { let line = Logged entry in
             IsLineIn self.old.second line → (s : Stage) → IsAt self.old s
             → IfOk result (Follows s (line_text line) (Reading self.new)) }
     {
-        match *entry {
-            Entry::Read { tx, item, value } => self.follow_read(tx, item, value),
-            Entry::Write { tx, item, value } => self.follow_write(tx, item, value),
-            Entry::Commit { tx } => self.follow_commit(tx),
-            _ => self.follow_other(SectionLine::Logged(*entry)),
+        let line = SectionLine::Logged(entry);
+        match look_up_at_hand(&self.certificate, &self.tracked.state, &entry) {
+            Some(known) if self.is_plain(&known) => self.follow_known(&line, &Some(known)),
+            _ => self.follow_other(&line),
         }
     }
 
     /// A read.
-    #[inline(never)]
+    #[inline(always)]
     fn follow_read(&mut self, tx: Tx, item: Item, value: Value) -> Result<Option<Fault>, AllocError>
         ensures sections { is_some self.new.sections ≡ is_some self.old.sections }
         ensures follows { let line = Logged (Read tx item value) in
             IsLineIn self.old.second line → (s : Stage) → IsAt self.old s
             → IfOk result (Follows s (line_text line) (Reading self.new)) }
     {
-        self.follow_line(&SectionLine::Logged(Entry::Read { tx, item, value }))
+        self.follow_entry(Entry::Read { tx, item, value })
     }
 
     /// A write.
-    #[inline(never)]
+    #[inline(always)]
     fn follow_write(
         &mut self,
         tx: Tx,
@@ -110,45 +110,72 @@ impl Kept {
             IsLineIn self.old.second line → (s : Stage) → IsAt self.old s
             → IfOk result (Follows s (line_text line) (Reading self.new)) }
     {
-        self.follow_line(&SectionLine::Logged(Entry::Write { tx, item, value }))
+        self.follow_entry(Entry::Write { tx, item, value })
     }
 
     /// A commit.
-    #[inline(never)]
+    #[inline(always)]
     fn follow_commit(&mut self, tx: Tx) -> Result<Option<Fault>, AllocError>
         ensures sections { is_some self.new.sections ≡ is_some self.old.sections }
         ensures follows { let line = Logged (Commit tx) in
             IsLineIn self.old.second line → (s : Stage) → IsAt self.old s
             → IfOk result (Follows s (line_text line) (Reading self.new)) }
     {
-        self.follow_line(&SectionLine::Logged(Entry::Commit { tx }))
+        self.follow_entry(Entry::Commit { tx })
+    }
+
+    /// An item.
+    #[inline(always)]
+    fn follow_initial(&mut self, holding: &Holding) -> Result<Option<Fault>, AllocError>
+        ensures sections { is_some self.new.sections ≡ is_some self.old.sections }
+        ensures follows { let line = Initial holding.now in
+            IsLineIn self.old.second line → (s : Stage) → IsAt self.old s
+            → IfOk result (Follows s (line_text line) (Reading self.new)) }
+    {
+        self.follow_known(&SectionLine::Initial(*holding), &None)
+    }
+
+    /// A final value.
+    #[inline(always)]
+    fn follow_final(&mut self, holding: &Holding) -> Result<Option<Fault>, AllocError>
+        ensures sections { is_some self.new.sections ≡ is_some self.old.sections }
+        ensures follows { let line = Final holding.now in
+            IsLineIn self.old.second line → (s : Stage) → IsAt self.old s
+            → IfOk result (Follows s (line_text line) (Reading self.new)) }
+    {
+        self.follow_known(&SectionLine::Final(*holding), &None)
     }
 
     /// The next line, of a kind that is less frequent.
     #[inline(never)]
-    fn follow_other(&mut self, line: SectionLine) -> Result<Option<Fault>, AllocError>
-        ensures sections { is_some self.new.sections ≡ is_some self.old.sections }
-        ensures follows { IsLineIn self.old.second line → (s : Stage) → IsAt self.old s
-            → IfOk result (Follows s (line_text line) (Reading self.new)) }
-    {
-        self.follow_line(&line)
-    }
-
-    /// The next line, of whatever kind.
-    #[inline(always)]
-    fn follow_line(&mut self, line: &SectionLine) -> Result<Option<Fault>, AllocError>
+    fn follow_other(&mut self, line: &SectionLine) -> Result<Option<Fault>, AllocError>
         ensures sections { is_some self.new.sections ≡ is_some self.old.sections }
         ensures follows { IsLineIn self.old.second line.now → (s : Stage) → IsAt self.old s
+            → IfOk result (Follows s (line_text line.now) (Reading self.new)) }
+    {
+        let known = look_up(&self.certificate, &self.tracked.state, line);
+        self.follow_known(line, &known)
+    }
+
+    /// The next line, of which this is known.
+    #[inline(always)]
+    fn follow_known(
+        &mut self,
+        line: &SectionLine,
+        known: &Option<Known>,
+    ) -> Result<Option<Fault>, AllocError>
+        ensures sections { is_some self.new.sections ≡ is_some self.old.sections }
+        ensures follows { IsKnownLine self.old.certificate.decisions self.old.tracked.state line.now known.now
+            → IsLineIn self.old.second line.now → (s : Stage) → IsAt self.old s
             → IfOk result (Follows s (line_text line.now) (Reading self.new)) }
     {
         if self.tracked.place.is_complete() {
             return Ok(Some(Fault::Trailing));
         }
-        let known = look_up(&self.certificate, &self.tracked.state, line);
-        if let Some(fault) = judge_line(&self.tracked, line, &known) {
+        if let Some(fault) = judge_line(&self.tracked, line, known) {
             return Ok(Some(fault));
         }
-        self.tracked.enter(&self.certificate, line, &known)?;
+        self.tracked.enter(&self.certificate, line, known)?;
         add_to(&mut self.sections, line)?;
         if self.tracked.place.is_complete() && !self.tracked.walks.met {
             return Ok(Some(Fault::WalkStep));
@@ -163,7 +190,7 @@ impl Kept {
             → IfOk result (Follows s line.now (Reading self.new)) }
     {
         match read_line(self.second, line) {
-            Some(read) => self.follow(read),
+            Some(read) => self.follow_other(&read),
             None => Ok(Some(self.unread())),
         }
     }
@@ -175,10 +202,95 @@ impl Kept {
         ensures follows { IsLine line → (s : Stage) → IsAt self.old s
             → IfOk result (Follows s (line_text line) (Reading self.new)) }
     {
-        if is_allowed(self.second, &line) {
-            self.follow(line)
+        match &line {
+            SectionLine::Logged(entry) => self.next_entry(entry),
+            _ => self.next_far(&line),
+        }
+    }
+
+    /// The same, where the line is this entry. The kinds that are most frequent go ways of their own, on which the kind is known and
+    /// not asked for again.
+    #[inline(always)]
+    fn next_entry(&mut self, entry: &Entry) -> Result<Option<Fault>, AllocError>
+        ensures sections { is_some self.new.sections ≡ is_some self.old.sections }
+        ensures follows { let line = Logged entry.now in
+            IsLine line → (s : Stage) → IsAt self.old s
+            → IfOk result (Follows s (line_text line) (Reading self.new)) }
+    {
+        match *entry {
+            Entry::Read { tx, item, value } => self.follow_read(tx, item, value),
+            Entry::Write { tx, item, value } => self.follow_write(tx, item, value),
+            Entry::Commit { tx } => self.follow_commit(tx),
+            _ => self.next_far_entry(entry),
+        }
+    }
+
+    /// The same, of a kind that is less frequent, by way of memory that only this way touches.
+    #[inline(always)]
+    fn next_far_entry(&mut self, entry: &Entry) -> Result<Option<Fault>, AllocError>
+        ensures sections { is_some self.new.sections ≡ is_some self.old.sections }
+        ensures follows { let line = Logged entry.now in
+            IsLine line → (s : Stage) → IsAt self.old s
+            → IfOk result (Follows s (line_text line) (Reading self.new)) }
+    {
+        self.next_other(&SectionLine::Logged(*entry))
+    }
+
+    /// The same, of a kind that is less frequent, by way of memory that only this way touches.
+    #[inline(always)]
+    fn next_far(&mut self, line: &SectionLine) -> Result<Option<Fault>, AllocError>
+        ensures sections { is_some self.new.sections ≡ is_some self.old.sections }
+        ensures follows { IsLine line.now → (s : Stage) → IsAt self.old s
+            → IfOk result (Follows s (line_text line.now) (Reading self.new)) }
+    {
+        let copy = *line;
+        self.next_other(&copy)
+    }
+
+    /// The same, of a kind that is less frequent.
+    #[inline(never)]
+    fn next_other(&mut self, line: &SectionLine) -> Result<Option<Fault>, AllocError>
+        ensures sections { is_some self.new.sections ≡ is_some self.old.sections }
+        ensures follows { IsLine line.now → (s : Stage) → IsAt self.old s
+            → IfOk result (Follows s (line_text line.now) (Reading self.new)) }
+    {
+        match line {
+            SectionLine::Initial(holding) => self.follow_initial(holding),
+            SectionLine::Final(holding) => self.follow_final(holding),
+            SectionLine::Logged(entry) => self.next_allowed(entry),
+            SectionLine::Site(_) => self.follow_other(line),
+            SectionLine::End => self.follow_other(line),
+        }
+    }
+
+    /// The same, where the line is this entry, which may be none of the format.
+    #[inline(always)]
+    fn next_allowed(&mut self, entry: &Entry) -> Result<Option<Fault>, AllocError>
+        ensures sections { is_some self.new.sections ≡ is_some self.old.sections }
+        ensures follows { let line = Logged entry.now in
+            IsLine line → (s : Stage) → IsAt self.old s
+            → IfOk result (Follows s (line_text line) (Reading self.new)) }
+    {
+        if is_allowed(self.second, &SectionLine::Logged(*entry)) {
+            self.follow_rare(entry)
         } else {
             Ok(Some(self.unread()))
+        }
+    }
+
+    /// An entry of a kind that is less frequent. Some kinds go ways of their own here too.
+    #[inline(always)]
+    fn follow_rare(&mut self, entry: &Entry) -> Result<Option<Fault>, AllocError>
+        ensures sections { is_some self.new.sections ≡ is_some self.old.sections }
+        ensures follows { let line = Logged entry.now in
+            IsLineIn self.old.second line → (s : Stage) → IsAt self.old s
+            → IfOk result (Follows s (line_text line) (Reading self.new)) }
+    {
+        match *entry {
+            Entry::Want { tx, item, value } => self.follow_entry(Entry::Want { tx, item, value }),
+            Entry::Add { tx, item, value } => self.follow_entry(Entry::Add { tx, item, value }),
+            Entry::Refuse { tx } => self.follow_entry(Entry::Refuse { tx }),
+            _ => self.follow_entry(*entry),
         }
     }
 

@@ -1,9 +1,11 @@
 //! What is looked up of a line, once for all that judges it and takes it in.
 
-ghost use Rattle.sgt_audit.specs.private.Known.{IsKnownLine};
+ghost use Rattle.std.specs.Prelude.{IfSome};
+ghost use Rattle.sgt_audit.specs.private.Known.{IsKnownOf, IsKnownLine};
 
 use sgt_audit_cells::SiteState;
 use sgt_audit_decisions::{Decided, Ruling};
+use sgt_names::Entry;
 use sgt_notation::SectionLine;
 
 /// What is known of an entry.
@@ -27,4 +29,18 @@ pub fn look_up(certificate: &Decided, state: &SiteState, line: &SectionLine) -> 
         }),
         _ => None,
     }
+}
+
+/// What is known of the entry, where no search is needed for it.
+#[inline(always)]
+pub(crate) fn look_up_at_hand(
+    certificate: &Decided,
+    state: &SiteState,
+    entry: &Entry,
+) -> Option<Known>
+    ensures { IfSome result (IsKnownOf certificate.now.decisions state.now entry.now) }
+{
+    let ruling = certificate.ruling_at_hand(entry)?;
+    let place = state.place_at_hand(entry)?;
+    Some(Known { place, ruling })
 }

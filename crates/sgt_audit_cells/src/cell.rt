@@ -128,7 +128,7 @@ fn is_of(cell: &Cell, item: &Item) -> bool
 
 /// The place, where it is that of the item's cell.
 #[inline(always)]
-fn checked(cells: &[Cell], place: usize, item: &Item) -> Option<usize>
+pub(crate) fn checked(cells: &[Cell], place: usize, item: &Item) -> Option<usize>
     ensures { IfSome result (λ n. (c : Cell) × (slice_get cells.now n ≡ Some c) × (c.name ≡ item.now)) }
 {
     let cell = cells.get(place)?;

@@ -25,7 +25,7 @@ use sgt_names::{Entry, Holding, Item, Kind, Value};
 use std::alloc::{AllocError, Global};
 
 /// How many hints there are.
-const HINTS: usize = 4096;
+const HINTS: usize = 8192;
 
 /// What is kept of the site whose section is open: a cell for each item, a record for each decision's transaction, how many
 /// entries there are, how many transactions have an entry there and no end, and the greatest number of a decision that ended one there.
@@ -47,7 +47,7 @@ pub struct SiteState {
 #[inline(always)]
 fn slot_of(item: &Item) -> usize {
     let spread = item.key().wrapping_mul(0x9e37_79b9_7f4a_7c15);
-    (spread >> 52) as usize % HINTS
+    (spread >> 51) as usize % HINTS
 }
 
 /// The place that is hinted for an item.
@@ -215,6 +215,26 @@ impl SiteState {
             Some(item) => self.place_of(&item),
             None => None,
         }
+    }
+
+    /// The same, where the hint of its item leads there or it has none.
+    #[inline(always)]
+    pub fn place_at_hand(&self, entry: &Entry) -> Option<Option<usize>>
+        ensures { IfSome result (λ place. (ds : List Decision) (items : List Holding) (entries : List Entry)
+            → TracksOpen ds items entries self.now → IsPlaceAmong (names items) entry.now place) }
+    {
+        let Some(item) = act::item_in(entry) else {
+            return Some(None);
+        };
+        let hint = *self.hints.get(slot_of(&item))?;
+        let place = cell::checked(self.cells.as_slice(), hint as usize, &item)?;
+        Some(Some(place))
+    }
+
+    /// Whether one more entry, decided by this number, needs no memory. Nothing need be known of it.
+    #[inline(always)]
+    pub fn has_room(&self, number: usize) -> bool {
+        self.records.has_room(number)
     }
 
     /// Whether the item at this place has this value.

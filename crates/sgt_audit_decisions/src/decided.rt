@@ -143,6 +143,18 @@ impl Decided {
         }
     }
 
+    /// The same, where it is found without a search.
+    #[inline(always)]
+    pub fn ruling_at_hand(&self, entry: &Entry) -> Option<Ruling>
+        ensures { IfSome result (IsRulingOn self.now.decisions entry.now) }
+    {
+        if self.table.is_dense() {
+            Some(self.ruling_on(entry))
+        } else {
+            None
+        }
+    }
+
     /// Whether the transaction is committed by a decision of smaller number.
     pub(crate) fn is_committed_before(&self, number: usize, tx: Tx) -> bool
         ensures { IsTrue result

@@ -127,6 +127,15 @@ impl Table {
         }
     }
 
+    /// Whether what stands there is found without a search. Nothing need be known of it.
+    #[inline(always)]
+    pub(crate) fn is_dense(&self) -> bool {
+        match self {
+            Table::Dense(_) => true,
+            Table::Sparse(_) => false,
+        }
+    }
+
     /// What stands there for the transaction.
     #[inline(always)]
     pub(crate) fn get(&self, tx: Tx) -> Option<Placed<usize>>

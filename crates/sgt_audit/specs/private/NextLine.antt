@@ -4,7 +4,7 @@ use Rattle.sgt_audit.specs.declared.faults.Fault.{Fault}
 use Rattle.sgt_audit.specs.declared.kept.Kept.{Kept}
 use Rattle.sgt_audit.specs.declared.machine.Progress.{Progress}
 use Rattle.sgt_audit.specs.declared.machine.Progress.TheVariants.{Reading}
-use Rattle.sgt_audit.specs.Faults.{Stage, headed, lines_so_far, Piece, whole, last, Rule, Breaks}
+use Rattle.sgt_audit.specs.Faults.{Stage, headed, lines_so_far, whole, Rule, Breaks}
 use Rattle.sgt_audit.specs.Progress.{Stands}
 
 -- after a line with its LF: the next stage, or the least fault of this one

@@ -1,14 +1,12 @@
-use Rattle.std.proofs.Common.{sym, subst}
-use Rattle.sgt_notation.specs.Spelling.{line_text}
-use Rattle.sgt_notation.proofs.OneSpelling.{line-one}
-use Rattle.sgt_audit.specs.Faults.{Allows}
-use Rattle.sgt_audit_decisions.proofs.Loops.{refuted}
+use Rattle.std.proofs.Common.{IfOk, sym, subst}
+use Rattle.sgt_notation.specs.Spelling.{IsLine, line_text}
+use Rattle.sgt_audit.specs.Faults.{Stage}
+use Rattle.sgt_audit.specs.Kept.{IsAt}
+use Rattle.sgt_audit.specs.private.NextLine.{Follows}
+use Rattle.sgt_audit.specs.declared.machine.Progress.TheVariants.{Reading}
 use Rattle.sgt_audit.proofs.kept.Kept.next_read.Goals as goal
 
-pub returns-then-is_allowed-clause-follows : goal.returns-then-is_allowed-clause-follows
-returns-then-is_allowed-clause-follows c is s here = c.follow.ensures.follows (is, c.is_allowed.ensures.0 c.if-is_allowed.true) s here
-
-pub returns-else-is_allowed-clause-follows : goal.returns-else-is_allowed-clause-follows
-returns-else-is_allowed-clause-follows c is s here =
-    c.unread.ensures (line_text c.args.line) s
-    (λ l is_l same. refuted c.is_allowed.result c.is_allowed.ensures c.if-is_allowed.false (subst (Allows c.args.self.now.second) (sym (line-one c.args.line l is is_l.0 same)) is_l.1)) here
+pub returns-in-Logged-clause-follows : goal.returns-in-Logged-clause-follows
+returns-in-Logged-clause-follows c =
+    subst (λ l. IsLine l → (s : Stage) → IsAt c.args.self.now s → IfOk c.next_entry.result (Follows s (line_text l) (Reading c.next_entry.new.self))) (sym c.in-Logged.is)
+    (c.next_entry.ensures.follows)
