@@ -1,5 +1,5 @@
 -- What the core asks of its sites and of its certifier they don't refuse, but for want of memory.
-use Rattle.std.proofs.Common.{◌≡◌, ◌<◌, ◌+◌, ◌^◌, ◌++◌, ℕ, suc, List, length, take, refl, sym, ◌∙◌, arith, inl, inr, Contains, Option, Some, None, subst, ap, ap₂}
+use Rattle.std.proofs.Common.{◌≡◌, ◌<◌, ◌+◌, ◌^◌, ◌++◌, ℕ, suc, List, length, take, refl, sym, ◌∙◌, arith, Contains, Option, Some, None, subst, ap, ap₂}
 use Rattle.std.specs.Prelude.{slice_get, Result, Ok, Err, IfErr, All, option_and_then}
 use Rattle.std.proofs.lemmas.List.Elements.{Contains-append_left}
 use Rattle.std.proofs.lemmas.Option.{same_Some, slice_get_within}

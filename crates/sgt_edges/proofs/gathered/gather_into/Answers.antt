@@ -1,5 +1,5 @@
 use mathlib.Core.Bool.{false≢true}
-use Rattle.std.proofs.Common.{◌≡◌, refl, subst, sym}
+use Rattle.std.proofs.Common.{◌≡◌, refl, subst}
 use Rattle.sgt_names.specs.Draft.{at_site}
 use Rattle.sgt_edges.proofs.Gathers.{near-given, near-stands, item-new, draft-new}
 use Rattle.sgt_edges.proofs.Touching.{given-whole, stands-whole, new-whole, new-part}

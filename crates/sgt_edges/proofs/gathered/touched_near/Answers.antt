@@ -1,4 +1,4 @@
-use Rattle.std.proofs.Common.{List, ap, subst, sym, ◌∙◌}
+use Rattle.std.proofs.Common.{ap, subst, sym, ◌∙◌}
 use Rattle.std.specs.Prelude.{◌==◌}
 use Rattle.sgt_names.specs.Draft.{AreRising, at_site}
 use Rattle.sgt_names.specs.declared.draft.Touch.{Touch}
