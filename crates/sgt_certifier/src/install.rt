@@ -174,11 +174,17 @@ fn has_site(expected: &[Prepared], site: SiteNo) -> bool
     expected.iter().any(|prepared| prepared.site == site)
 }
 
-// The lists of the items that the draft changes, one for each site where it changes any.
-pub fn prepared_lists(alloc: Global, draft: &Draft) -> Result<Vec<Prepared>, AllocError>
+// The lists of the items that the draft changes, one for each site where it changes any. They stand in the room of those that
+// are given.
+pub fn prepared_lists(
+    alloc: Global,
+    spare: Vec<Prepared>,
+    draft: &Draft,
+) -> Result<Vec<Prepared>, AllocError>
     ensures { IfOk result (λ lists. (site : ℕ) → IsExpected lists.items draft.now.touched site) }
 {
-    let mut lists = Vec::new(alloc);
+    let mut lists = spare;
+    lists.clear();
     let (few, parts) = draft.touched();
     for part in parts {
         add_lists(alloc, &mut lists, part.touched(), draft)?;

@@ -1,5 +1,5 @@
 -- What the core asks of its sites and of its certifier they don't refuse, but for want of memory.
-use Rattle.std.proofs.Common.{◌≡◌, ◌<◌, ◌+◌, ◌^◌, ◌++◌, ℕ, suc, List, length, take, refl, sym, ◌∙◌, arith, inl, inr, Contains, Option, Some, None, subst, ap, ap₂}
+use Rattle.std.proofs.Common.{◌≡◌, ◌<◌, ◌+◌, ◌^◌, ◌++◌, ℕ, suc, List, length, take, refl, sym, ◌∙◌, arith, Contains, Option, Some, None, subst, ap, ap₂}
 use Rattle.std.specs.Prelude.{slice_get, Result, Ok, Err, IfErr, All, option_and_then}
 use Rattle.std.proofs.lemmas.List.Elements.{Contains-append_left}
 use Rattle.std.proofs.lemmas.Option.{same_Some, slice_get_within}
@@ -20,8 +20,8 @@ use Rattle.sgt_site.specs.declared.fault.SiteFault.{SiteFault}
 use Rattle.sgt_site.specs.declared.fault.SiteFault.TheVariants as site_fault
 use Rattle.sgt_edges.specs.declared.edge.Edge.{Edge}
 use Rattle.sgt_certifier.specs.Certifier.{State}
-use Rattle.sgt_certifier.specs.History.{Request, begin, decide, close, expect, tx_under, IsActive, IsOlder, Fits, IsAllowed as IsServed}
-use Rattle.sgt_certifier.specs.Kept.{Kept, IsTold, Declines}
+use Rattle.sgt_certifier.specs.History.{Request, begin, close, expect, tx_under, IsActive, IsOlder, Fits, IsAllowed as IsServed}
+use Rattle.sgt_certifier.specs.Kept.{IsTold, MayDecide}
 use Rattle.sgt_certifier.specs.declared.call.CertifierFault.{CertifierFault}
 use Rattle.sgt_certifier.specs.declared.call.CertifierFault.TheVariants as told
 use Rattle.sgt_notation.specs.declared.event.Event.TheVariants.{Decide}
@@ -50,11 +50,6 @@ use Rattle.sgt_core.proofs.Standing.{reached_kept, certifier_closed}
 pub told_memory : (s : State) (request : Request) → IsServed s request → (f : CertifierFault) → IsTold s request f → f ≡ told.Memory
 told_memory s request may told.Memory t = refl
 told_memory s request may f t = absurd (may f t.0)
-
-pub ask_memory : {A : Type 0} (old new : Kept) (request : Request) (r : Result A CertifierFault) → IsServed old.state request → IfErr r (λ f. Declines old request f new)
-    → IfErr r (λ f. f ≡ told.Memory)
-ask_memory old new request (Ok a) may d = tt
-ask_memory old new request (Err f) may d = told_memory old.state request may f d.told
 
 pub pledge_memory : {A : Type 0} (s : SiteState) (tx : ℕ) (touched : List Touch) (r : Result A SiteFault) → MayPledge s tx touched → IfErr r (RefusesPledge s tx touched)
     → IfErr r (λ f. f ≡ site_fault.Memory)
@@ -209,9 +204,9 @@ may_withdraw_at m c s none slot r runs told.Unknown f = f (is_active m c s slot 
 may_withdraw_at m c s none slot r runs (told.StepOpen t) f = no_step m c s (certifier_closed m c s none) t f
 may_withdraw_at m c s none slot r runs _ f = f
 
-pub may_expect : (s : State) (h : Handle) (edges : List Edge) → IsServed s (decide h edges) → IsServed s (expect h)
-may_expect s h edges may told.Unknown f = may told.Unknown (inl f)
-may_expect s h edges may (told.StepOpen t) f = may (told.StepOpen t) f
+pub may_expect : (s : State) (h : Handle) (edges : List Edge) → MayDecide s h edges → IsServed s (expect h)
+may_expect s h edges may told.Unknown f = f may.active
+may_expect s h edges may (told.StepOpen t) f = let e : Some t ≡ None = sym f ∙ may.idle in absurd cc
 may_expect s h edges may _ f = f
 
 module _ (m : Parts) (c : CoreState) (s : StandsFor m c) (tx slot : ℕ) (number : tx ≡ suc (m.before + slot)) (allowed : IsAllowed c (Decide tx)) where
@@ -230,17 +225,16 @@ module _ (m : Parts) (c : CoreState) (s : StandsFor m c) (tx slot : ℕ) (number
         = ap₂ (λ (a b : ℕ). record { index = a; generation = b }) index (sym (ap (λ (st : State). st.generation) s.certifier.same)) ∙ sym running.handle in
         (subst (λ (h : Handle). Fits m.certifier.state h e) same (g.fit e member), λ from. g.forward e member (from ∙ sym same))
 
-    may_rule : IsServed m.certifier.state (decide r.handle edges)
-    may_rule told.Unknown (inl out) = out (is_active m c s slot r runs)
-    may_rule told.Unknown (inr unfit) =
-        let a = Any_at (λ (e : Edge). Fits m.certifier.state r.handle e → ⊥) edges unfit in
-        a.3 (fits a.1 (Contains-from_at edges a.0 a.1 a.2)).0
-    may_rule (told.StepOpen t) f = no_step m c s (undecided m c s tx slot number allowed) t f
-    may_rule told.Stale f =
-        let a = Any_at (λ (e : Edge). (e.from ≡ r.handle) × IsOlder m.certifier.state e.to) edges f in
-        let here = (fits a.1 (Contains-from_at edges a.0 a.1 a.2)).1 a.3.0 in
-        omega (arith, here, a.3.1)
-    may_rule _ f = f
+    may_rule : MayDecide m.certifier.state r.handle edges
+    may_rule = record {
+      active = is_active m c s slot r runs;
+      fit = λ n e at. (fits e (Contains-from_at edges n e at)).0;
+      idle = sym (ap (λ (st : State). st.step) s.certifier.same) ∙ undecided m c s tx slot number allowed;
+      forward = λ any.
+          let a = Any_at (λ (e : Edge). (e.from ≡ r.handle) × IsOlder m.certifier.state e.to) edges any in
+          let here = (fits a.1 (Contains-from_at edges a.0 a.1 a.2)).1 a.3.0 in
+          omega (arith, here, a.3.1);
+    }
 
   pub may_rule_at : MayRuleAt m.certifier.state m.table slot (edges_in m.step)
   may_rule_at r runs = may_rule r runs

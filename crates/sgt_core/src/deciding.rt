@@ -50,8 +50,9 @@ impl Machine {
             (parts_of self.new) }
     {
         let edges = edges_of(self.alloc, self.step.take());
-        match rule(&mut self.certifier, self.running.as_slice(), slot, edges) {
+        match rule(&mut self.certifier, self.running.as_slice(), slot, &edges) {
             Ok(decided) => {
+                self.spare = edges;
                 if is_due(self.places.as_slice()) {
                     self.step = Some(Open {
                         tx,
@@ -115,12 +116,12 @@ fn rule(
     certifier: &mut Certifier,
     table: &[Option<Running>],
     slot: usize,
-    edges: EdgeList,
+    edges: &EdgeList,
 ) -> Result<Decided, CertifierFault>
     requires slot { (r : ARunning) × (slice_get table.now slot ≡ Some (Some r)) }
-    requires may { MayRuleAt certifier.old.state table.now slot edges }
+    requires may { MayRuleAt certifier.old.state table.now slot edges.now }
     ensures ok { IfOk result
-        (λ decided. RulesAt certifier.old certifier.new table.now slot edges decided) }
+        (λ decided. RulesAt certifier.old certifier.new table.now slot edges.now decided) }
     ensures err { OnErr result (certifier.new.state ≡ certifier.old.state) }
     ensures memory { IfErr result (λ f. f ≡ CertifierFault.Memory) }
 {
@@ -130,7 +131,7 @@ fn rule(
                 return Err(fault);
             }
             let _history = certifier.history();
-            certifier.decide(running.handle, edges)
+            certifier.decide_allowed(running.handle, edges)
         }
         None => unreachable!(),
     }

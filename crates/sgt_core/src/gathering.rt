@@ -8,31 +8,32 @@ ghost use Rattle.sgt_core.specs.declared.machine.Part.TheVariants.{Idle};
 ghost use Rattle.sgt_core.specs.declared.machine.Running.{Running as ARunning};
 
 use crate::machine::{Open, Part, Phase, Place, Running};
-use sgt_edges::{EdgeFault, EdgeList, gather};
+use sgt_edges::{EdgeFault, EdgeList, gather_into};
 use sgt_names::{Draft, Part as DraftPart, Touch, Tx};
 use sgt_site::SiteFault;
 use std::alloc::{AllocError, Global};
+use std::mem;
 
-// The edges of the transaction at a place of the table, at a site. It errs for want of memory alone.
+// Puts the edges of the transaction at a place of the table, at a site, into a list. It errs for want of memory alone.
 pub(crate) fn edges_at(
-    alloc: Global,
+    edges: &mut EdgeList,
     places: &[Place],
     table: &[Option<Running>],
     at: usize,
     slot: usize,
-) -> Result<EdgeList, EdgeFault>
+) -> Result<(), EdgeFault>
     requires site { at < length places.now }
     requires slot { (r : ARunning) × (slice_get table.now slot ≡ Some (Some r)) }
     requires seen { (p : APlace) (r : ARunning) → slice_get places.now at ≡ Some p
         → slice_get table.now slot ≡ Some (Some r)
         → SeesTooNew p.site r.draft.touched → ⊥ }
-    ensures ok { IfOk result (λ edges. AreGiven places.now table.now at slot edges) }
+    ensures ok { OnOk result (AreGiven places.now table.now at slot edges.new) }
     ensures memory { IfErr result (λ f. f ≡ EdgeFault.Memory) }
 {
     let place = &places[at];
     let _items = place.site.items();
     match &table[slot] {
-        Some(running) => gather(alloc, &place.site, &running.draft, running.handle),
+        Some(running) => gather_into(edges, &place.site, &running.draft, running.handle),
         None => unreachable!(),
     }
 }
@@ -65,17 +66,25 @@ pub(crate) fn pledge_at(
     }
 }
 
-// Adds edges to the step of the transaction, which is opened where none is.
-pub(crate) fn add_edges(step: &mut Option<Open>, tx: Tx, more: EdgeList) -> Result<(), AllocError>
-    ensures { OnOk result (step.new ≡ step_with step.old tx more) }
+// Adds edges to the step of the transaction. Where none is open it is opened with their list, and the spare one is left there.
+pub(crate) fn add_edges(
+    alloc: Global,
+    step: &mut Option<Open>,
+    tx: Tx,
+    more: &mut EdgeList,
+    spare: &mut EdgeList,
+) -> Result<(), AllocError>
+    ensures { OnOk result (step.new ≡ step_with step.old tx more.old) }
 {
     match step {
         Some(open) => match &mut open.phase {
-            Phase::Gathering(edges) => edges.append(&more),
+            Phase::Gathering(edges) => edges.append(more),
             _ => Ok(()),
         },
         None => {
-            let phase = Phase::Gathering(more);
+            let next = mem::replace(spare, EdgeList::new(alloc));
+            let edges = mem::replace(more, next);
+            let phase = Phase::Gathering(edges);
             *step = Some(Open { tx, phase });
             Ok(())
         }

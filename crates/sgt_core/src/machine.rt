@@ -84,6 +84,10 @@ pub struct Machine {
     /// The transactions of this window, by number. `None` for those that have ended.
     pub running: Vec<Option<Running>>,
     pub step: Option<Open>,
+    /// Lists whose room is used again: for the edges at a site, for those of a step, and for the sites of a commit.
+    pub more: EdgeList,
+    pub spare: EdgeList,
+    pub sites: Vec<SiteNo>,
 }
 
 impl Machine {
@@ -104,6 +108,9 @@ impl Machine {
             before: 0,
             running: Vec::new(alloc),
             step: None,
+            more: EdgeList::new(alloc),
+            spare: EdgeList::new(alloc),
+            sites: Vec::new(alloc),
         })
     }
 
@@ -297,12 +304,18 @@ impl Machine {
             (parts_of self.new ≡ record (parts_of self.old) { step = self.new.step }) }
     {
         let table = self.running.as_slice();
-        let more = match edges_at(self.alloc, self.places.as_slice(), table, at, slot) {
-            Ok(more) => more,
+        match edges_at(&mut self.more, self.places.as_slice(), table, at, slot) {
+            Ok(()) => {}
             Err(EdgeFault::Memory) => return Err(AllocError),
             Err(EdgeFault::SeenTooNew) => unreachable!(),
-        };
-        add_edges(&mut self.step, tx, more)?;
+        }
+        add_edges(
+            self.alloc,
+            &mut self.step,
+            tx,
+            &mut self.more,
+            &mut self.spare,
+        )?;
         match pledge_at(&mut self.places, table, at, slot, tx) {
             Ok(()) => Ok(()),
             Err(SiteFault::Memory) => Err(AllocError),

@@ -13,7 +13,8 @@ ghost use Rattle.sgt_core.specs.declared.machine.Running.{Running as ARunning};
 use crate::machine::{Machine, Running, refused};
 use crate::reply::{CoreFault, Reply};
 use sgt_names::{Draft, Part, SiteNo, Touch, Tx};
-use std::alloc::{AllocError, Global};
+use std::alloc::AllocError;
+use std::mem;
 
 impl Machine {
     /// The transaction is committed or refused, as a whole.
@@ -22,14 +23,16 @@ impl Machine {
         ensures { GoesOn (λ c d. MayStep c (event.Commit tx) result d) (parts_of self.old)
             (parts_of self.new) }
     {
-        let sites = match self.whole_sites(tx) {
-            Ok(sites) => sites,
+        let mut sites = mem::replace(&mut self.sites, Vec::new(self.alloc));
+        match self.whole_sites(tx, &mut sites) {
+            Ok(()) => {}
             Err(fault) => return refused(fault),
-        };
+        }
         match self.decide_whole(tx, sites.as_slice()) {
             Reply::Fault { fault } => refused(fault),
             verdict => {
                 self.install_all(tx, sites.as_slice());
+                self.sites = sites;
                 verdict
             }
         }
@@ -40,18 +43,19 @@ impl Machine {
         requires { Stands (parts_of self.old) }
         ensures { GoesOn (λ c d. MayDecide c tx result d) (parts_of self.old) (parts_of self.new) }
     {
-        match self.whole_sites(tx) {
-            Ok(sites) => self.decide_whole(tx, sites.as_slice()),
+        let mut sites = Vec::new(self.alloc);
+        match self.whole_sites(tx, &mut sites) {
+            Ok(()) => self.decide_whole(tx, sites.as_slice()),
             Err(fault) => refused(fault),
         }
     }
 
-    // The sites that a transaction touches that may be committed.
-    fn whole_sites(&self, tx: Tx) -> Result<Vec<SiteNo>, CoreFault>
+    // Lists the sites that a transaction touches that may be committed.
+    fn whole_sites(&self, tx: Tx, sites: &mut Vec<SiteNo>) -> Result<(), CoreFault>
         requires { Stands (parts_of self.now) }
-        ensures ok { IfOk result
-            (λ sites. (c : CoreState) → StandsFor (parts_of self.now) c
-            → IsWhole c tx sites.items) }
+        ensures ok { OnOk result
+            ((c : CoreState) → StandsFor (parts_of self.now) c
+            → IsWhole c tx sites.new.items) }
         ensures err { IfErr result
             (λ f. (c : CoreState) → StandsFor (parts_of self.now) c → RefusesWhole c tx f) }
     {
@@ -62,8 +66,8 @@ impl Machine {
         if self.step.is_some() {
             return Err(CoreFault::StepOpen);
         }
-        match touched_sites(self.alloc, self.running.as_slice(), slot, self.places.len()) {
-            Ok(sites) => Ok(sites),
+        match touched_sites(sites, self.running.as_slice(), slot, self.places.len()) {
+            Ok(()) => Ok(()),
             Err(_) => Err(CoreFault::Memory),
         }
     }
@@ -113,20 +117,20 @@ impl Machine {
     }
 }
 
-// The sites below this number that the transaction at a place of the table touches, rising.
+// Lists the sites below this number that the transaction at a place of the table touches, rising.
 fn touched_sites(
-    alloc: Global,
+    sites: &mut Vec<SiteNo>,
     table: &[Option<Running>],
     slot: usize,
     count: usize,
-) -> Result<Vec<SiteNo>, AllocError>
+) -> Result<(), AllocError>
     requires slot { slot < length table.now }
     requires few { count ≤ max_sites }
     ensures { (r : ARunning) → slice_get table.now slot ≡ Some (Some r)
-        → IfOk result (λ sites. AreTouched r.draft.touched count sites.items) }
+        → OnOk result (AreTouched r.draft.touched count sites.new.items) }
 {
     let flags = flags_at(table, slot);
-    let mut sites = Vec::new(alloc);
+    sites.clear();
     for number in 0..count {
         if is_set(&flags, number) {
             let Ok(site) = SiteNo::new(number as u64) else {
@@ -135,7 +139,7 @@ fn touched_sites(
             sites.push(site)?;
         }
     }
-    Ok(sites)
+    Ok(())
 }
 
 // Whether the flag of the site of this number is set.

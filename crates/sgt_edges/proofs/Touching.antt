@@ -1,21 +1,23 @@
 -- The edges of a draft are those of what it touches at the site.
-use Rattle.std.proofs.Common.{◌≡◌, ◌∙◌, ap, ℕ, List, sym, subst, All, Any}
-use Rattle.std.specs.Prelude.{◌<◌, ◌==◌, Contains}
+use Rattle.std.proofs.Common.{◌≡◌, ◌∙◌, ℕ, List, [], ◌∷◌, ◌++◌, append-nil, length, sym, subst, All, Any}
+use Rattle.std.specs.Prelude.{◌<◌, Contains}
 use Rattle.sgt_names.specs.Name.{Name}
 use Rattle.sgt_names.specs.Draft.{at_site, kept_in, writing_in}
+use Rattle.sgt_names.specs.DraftParts.{PartView, touched_in}
 use Rattle.sgt_names.specs.declared.draft.Touch.{Touch}
 use Rattle.sgt_names.specs.declared.entry.Kind.{Kind}
 use Rattle.sgt_names.proofs.Lists.{All-weaken}
 use Rattle.sgt_arena.specs.declared.handle.Handle.{Handle}
 use Rattle.sgt_site.specs.State.{SiteState, version_at}
-use Rattle.sgt_site.proofs.SitePart.{filter-again}
 use Rattle.sgt_edges.specs.Edges.{Precedes, wrote_before, wrote_after, wrote_too, read_it, IsGiven, StandsForAll, SeesTooNew}
 use Rattle.sgt_edges.specs.declared.edge.Edge.{Edge}
 
-module _ (s : SiteState) (ts : List Touch) (me : Handle) (part : List Touch) (is_part : part ≡ at_site s.number ts) where
-  again : at_site s.number part ≡ at_site s.number ts
-  again = ap (at_site s.number) is_part ∙ filter-again (λ (t : Touch). t.site == s.number) ts
+-- a draft that has no parts touches what is in its list
+pub few-all : (few : List Touch) (ps : List PartView) (ts : List Touch) → few ++ touched_in ps ≡ ts → length ps ≡ 0 → few ≡ ts
+few-all few [] ts is none = sym (append-nil few) ∙ is
+few-all few (p ∷ ps) ts is none = absurd cc
 
+module _ (s : SiteState) (ts : List Touch) (me : Handle) (part : List Touch) (again : at_site s.number part ≡ at_site s.number ts) where
   from-part : (x : Name) (f h : Handle) (k : Kind) → Precedes s part me x f h k → Precedes s ts me x f h k
   from-part x _ _ _ (wrote_before n k w saw lt is) = wrote_before n k w (saw.0, subst (λ (us : List Touch). Contains (kept_in us) (x, saw.0, n)) again saw.1) lt is
   from-part x _ _ _ (wrote_after n k w saw le is) = wrote_after n k w (saw.0, subst (λ (us : List Touch). Contains (kept_in us) (x, saw.0, n)) again saw.1) le is

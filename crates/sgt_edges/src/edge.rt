@@ -70,6 +70,13 @@ impl EdgeList {
         self.edges.extend_from_slice(more.edges.as_slice())
     }
 
+    /// Takes all edges out. The room stays.
+    pub fn clear(&mut self)
+        ensures { self.new ≡ [] }
+    {
+        self.edges.clear();
+    }
+
     /// The edges.
     pub fn as_slice(&self) -> &[Edge]
         ensures { result.now ≡ self.now }

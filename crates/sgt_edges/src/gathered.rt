@@ -2,7 +2,7 @@
 
 ghost use Rattle.std.specs.Prelude.{◌≡◌, ◌↔◌, ◌<◌, ◌∷◌, [], Some, All, Any, Contains, length, IsTrue, IfOk, IfErr, OnOk};
 ghost use Rattle.sgt_site.specs.State.{IsSite};
-ghost use Rattle.sgt_names.specs.Draft.{AreRising};
+ghost use Rattle.sgt_names.specs.Draft.{AreRising, at_site};
 ghost use Rattle.sgt_names.specs.declared.draft.Seen.{Seen as ASeen};
 ghost use Rattle.sgt_edges.specs.Edges.{IsGiven, StandsForAll, SeesTooNew, RefusesEdges, HaveOwnHandles, AreApart};
 ghost use Rattle.sgt_edges.specs.declared.edge.Edge.{Edge as AnEdge};
@@ -12,7 +12,7 @@ use crate::edge::{Edge, EdgeList};
 use crate::fault::EdgeFault;
 use crate::runs::{behind, changes_before, in_front, reads_before, writers_at};
 use sgt_arena::Handle;
-use sgt_names::{Draft, Kind, Label, SiteNo, Touch};
+use sgt_names::{Draft, Kind, Label, Part, SiteNo, Touch};
 use sgt_site::{Reader, Site, Writer};
 use std::alloc::{AllocError, Global};
 
@@ -29,35 +29,78 @@ pub fn gather(alloc: Global, site: &Site, draft: &Draft, me: Handle) -> Result<E
     ensures allowed { OnOk result (SeesTooNew site.now draft.now.touched → ⊥) }
     ensures refused { IfErr result (RefusesEdges site.now draft.now.touched) }
 {
-    let here = draft.at(site.number());
-    match to_neighbours(alloc, site, here, me) {
-        Ok(edges) => Ok(edges),
+    let mut edges = EdgeList::new(alloc);
+    match gather_into(&mut edges, site, draft, me) {
+        Ok(()) => Ok(edges),
+        Err(fault) => Err(fault),
+    }
+}
+
+/// As `gather`, into a list whose room is used again. What was there is taken out, also where it errs.
+pub fn gather_into(
+    edges: &mut EdgeList,
+    site: &Site,
+    draft: &Draft,
+    me: Handle,
+) -> Result<(), EdgeFault>
+    ensures given { OnOk result (All (IsGiven site.now draft.now.touched me) edges.new) }
+    ensures stands { OnOk result (StandsForAll site.now draft.now.touched me edges.new) }
+    ensures once { HaveOwnHandles site.now → OnOk result (AreApart edges.new) }
+    ensures allowed { OnOk result (SeesTooNew site.now draft.now.touched → ⊥) }
+    ensures refused { IfErr result (RefusesEdges site.now draft.now.touched) }
+{
+    let here = touched_near(draft, site.number());
+    match to_neighbours(edges, site, here, me) {
+        Ok(()) => Ok(()),
         Err(_) if sees_too_new(site, here) => Err(EdgeFault::SeenTooNew),
         Err(_) => Err(EdgeFault::Memory),
     }
 }
 
+// Up to how many touched items are gone over, in place of a search for those of a site.
+const NEAR: usize = 16;
+
+// Touched items of the draft, all of those at the site among them: all that it touches, while they are few.
+fn touched_near(draft: &Draft, site: SiteNo) -> &[Touch]
+    ensures here { at_site site result.now ≡ at_site site draft.now.touched }
+    ensures rising { AreRising result.now }
+{
+    let (few, parts) = draft.touched();
+    if are_near(few, parts) {
+        few
+    } else {
+        draft.at(site)
+    }
+}
+
+// Whether a draft with these has no parts, and few items.
+fn are_near(few: &[Touch], parts: &[Part]) -> bool
+    ensures { IsTrue result → length parts.now ≡ 0 }
+{
+    parts.is_empty() && few.len() <= NEAR
+}
+
 // The draft's edges here to and from neighbours: all of them, and nothing else. None where a version in the draft exceeds the
 // site's.
 fn to_neighbours(
-    alloc: Global,
+    edges: &mut EdgeList,
     site: &Site,
     touched: &[Touch],
     me: Handle,
-) -> Result<EdgeList, EdgeFault>
+) -> Result<(), EdgeFault>
     requires rising { AreRising touched.now }
     ensures seen { OnOk result (Any (IsTooNew site.now) touched.now → ⊥) }
-    ensures near { IfOk result
-        (λ edges. (e : AnEdge) → Contains edges e ↔ IsNear site.now touched.now me e) }
-    ensures once { HaveOwnHandles site.now → IfOk result AreApart }
+    ensures near { OnOk result
+        ((e : AnEdge) → Contains edges.new e ↔ IsNear site.now touched.now me e) }
+    ensures once { HaveOwnHandles site.now → OnOk result (AreApart edges.new) }
     ensures site { IsSite site.now }
 {
     let here = site.number();
-    let mut edges = EdgeList::new(alloc);
+    edges.clear();
     for t in touched {
-        add_edges(&mut edges, site, here, t, me)?;
+        add_edges(edges, site, here, t, me)?;
     }
-    Ok(edges)
+    Ok(())
 }
 
 // Whether a version in the draft exceeds the site's.

@@ -3,8 +3,8 @@
 use Rattle.std.specs.Prelude.{◌≡◌, ◌⊎◌, ℕ, List, [], Option, Some, None, slice_get, slice_set}
 use Rattle.sgt_edges.specs.declared.edge.Edge.{Edge}
 use Rattle.sgt_certifier.specs.Certifier.{State}
-use Rattle.sgt_certifier.specs.History.{Serves, IsAllowed, decide, tx_under}
-use Rattle.sgt_certifier.specs.Kept.{Kept}
+use Rattle.sgt_certifier.specs.History.{Serves, tx_under}
+use Rattle.sgt_certifier.specs.Kept.{Kept, MayDecide}
 use Rattle.sgt_certifier.specs.declared.call.Call.TheVariants as call
 use Rattle.sgt_certifier.specs.declared.call.Decided.{Decided}
 use Rattle.sgt_certifier.specs.declared.call.Decided.TheVariants as verdict
@@ -42,7 +42,7 @@ reply_after (verdict.Refused number walk) = No
 -- the certifier refuses no decision of the transaction at this place of the table with these edges
 abbrev pub MayRuleAt : State → List (Option Running) → ℕ → List Edge → Type 0
 MayRuleAt s table slot edges = (r : Running) → slice_get table slot ≡ Some (Some r)
-    → IsAllowed s (decide r.handle edges)
+    → MayDecide s r.handle edges
 
 -- the transaction at this place of the table is decided with these edges, and each of its installs
 -- can be noted

@@ -1,11 +1,12 @@
-use Rattle.std.proofs.Common.{◌∙◌, Some, Result, Ok, Err, IfOk, ap}
+use Rattle.std.proofs.Common.{◌∙◌, Some, Result, Ok, Err, ap}
+use Rattle.std.specs.Prelude.{OnOk}
 use Rattle.std.proofs.lemmas.Option.{slice_get_within}
 use Rattle.sgt_names.proofs.Lists.{element_at}
 use Rattle.sgt_core.proofs.Versions.{memory_alone}
 use Rattle.sgt_core.proofs.gathering.edges_at.Goals as goal
 
-both_ok : {A E : Type 0} {P Q R : A → Type 0} → ((a : A) → P a → Q a → R a) → (r : Result A E) → IfOk r P → IfOk r Q → IfOk r R
-both_ok f (Ok a) p q = f a p q
+both_ok : {A E P Q R : Type 0} → (P → Q → R) → (r : Result A E) → OnOk r P → OnOk r Q → OnOk r R
+both_ok f (Ok a) p q = f p q
 both_ok f (Err e) p q = tt
 
 pub returns-clause-ok : goal.returns-clause-ok
@@ -13,7 +14,7 @@ returns-clause-ok c =
     let here = element_at c.args.places.now c.args.at c.index-places-at.result c.requires.site c.index-places-at.is in
     let within = slice_get_within c.args.table.now c.args.slot _ c.requires.slot.1 in
     let runs = element_at c.args.table.now c.args.slot c.index-table-slot.result within c.index-table-slot.is ∙ ap Some c.in-Some.is in
-    both_ok (λ edges given stand. record {
+    both_ok (λ given stand. record {
       place = c.index-places-at.result;
       running = c.in-Some.running;
       there = here;
@@ -21,11 +22,11 @@ returns-clause-ok c =
       legal = c.items-items.ensures.site;
       given = given;
       stand = stand;
-    }) c.gather.result c.gather.ensures.given c.gather.ensures.stands
+    }) c.gather_into.result c.gather_into.ensures.given c.gather_into.ensures.stands
 
 pub returns-clause-memory : goal.returns-clause-memory
 returns-clause-memory c =
     let here = element_at c.args.places.now c.args.at c.index-places-at.result c.requires.site c.index-places-at.is in
     let within = slice_get_within c.args.table.now c.args.slot _ c.requires.slot.1 in
     let runs = element_at c.args.table.now c.args.slot c.index-table-slot.result within c.index-table-slot.is ∙ ap Some c.in-Some.is in
-    memory_alone c.index-places-at.result.site c.in-Some.running.draft.touched c.gather.result (c.requires.seen c.index-places-at.result c.in-Some.running here runs) c.gather.ensures.refused
+    memory_alone c.index-places-at.result.site c.in-Some.running.draft.touched c.gather_into.result (c.requires.seen c.index-places-at.result c.in-Some.running here runs) c.gather_into.ensures.refused

@@ -6,7 +6,7 @@ use Rattle.sgt_core.proofs.whole.touched_sites.Goals as goal
 use Rattle.sgt_core.proofs.whole.touched_sites.Goals.{then-is_set+in-Ok+in_ok-push, else-is_set}
 
 pub loop-number-init : goal.loop-number-init
-loop-number-init c = λ r at p each. c.new-sites.ensures.items
+loop-number-init c = λ r at p each. c.clear.ensures.items
 
 pub loop-number-preserved : goal.loop-number-preserved
 loop-number-preserved c = λ r at.

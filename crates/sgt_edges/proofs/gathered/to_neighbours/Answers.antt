@@ -6,7 +6,7 @@ use Rattle.sgt_edges.proofs.Once.{no-edges, once-next, once-all, touches-differ}
 use Rattle.sgt_edges.proofs.gathered.to_neighbours.Goals as goal
 
 pub loop-t-init : goal.loop-t-init
-loop-t-init c = (rw c.new-edges.ensures (each-none (λ t e. IsNear c.args.site.now (t ∷ []) c.args.me e) c.args.touched.now []), λ own apart none. no-edges _ c.new-edges.ensures, λ n t lt. absurd (omega (arith, lt)))
+loop-t-init c = (rw c.clear.ensures (each-none (λ t e. IsNear c.args.site.now (t ∷ []) c.args.me e) c.args.touched.now []), λ own apart none. no-edges _ c.clear.ensures, λ n t lt. absurd (omega (arith, lt)))
 
 pub loop-t-preserved : goal.loop-t-preserved
 loop-t-preserved c =

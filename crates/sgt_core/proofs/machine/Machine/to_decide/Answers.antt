@@ -9,5 +9,5 @@ decide_whole-requires-clause-whole c = subst (λ (xs : List ℕ). AreWhole (part
 pub returns-in-Ok : goal.returns-in-Ok
 returns-in-Ok c = decision_made (parts_of c.args.self.now) (parts_of c.decide_whole.new.self) c.args.tx c.as_slice.result.now c.decide_whole.result c.decide_whole.ensures
 
-pub returns-in-Err : goal.returns-in-Err
-returns-in-Err c = decision_refused (parts_of c.args.self.now) c.args.tx c.in-Err.fault c.refused.result c.refused.ensures c.in-Err.ensures.err
+pub returns : goal.returns
+returns c = decision_refused (parts_of c.args.self.now) c.args.tx c.in-Err.fault c.refused.result c.refused.ensures c.in-Err.ensures.err

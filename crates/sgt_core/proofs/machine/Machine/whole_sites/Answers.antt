@@ -40,7 +40,7 @@ returns-in-Ok-touched_sites-clause-ok c = λ d s.
     let runs = ap (λ t. slice_get t c.in-Ok.slot) c.as_slice.ensures.value ∙ slot.1.1 in
     let none = none_of m.step (sym c.is_some.ensures ∙ c.if-is_some.false) in
     let long : c.len.result ≡ length c.args.self.now.places.items = omega (arith, c.len.ensures, c.args.self.now.places.ok.0) in
-    whole_sites m d s c.args.tx _ slot none c.in-Ok-touched_sites.sites.items (subst (λ n. AreTouched slot.1.0.draft.touched n c.in-Ok-touched_sites.sites.items) long (c.in-Ok-touched_sites.ensures _ runs))
+    whole_sites m d s c.args.tx _ slot none c.touched_sites.new.sites.items (subst (λ n. AreTouched slot.1.0.draft.touched n c.touched_sites.new.sites.items) long (c.in-Ok-touched_sites.ensures _ runs))
 
 pub returns-in-Err-touched_sites-clause-err : goal.returns-in-Err-touched_sites-clause-err
 returns-in-Err-touched_sites-clause-err c = λ d s.
