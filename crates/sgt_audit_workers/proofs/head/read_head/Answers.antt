@@ -1,42 +1,35 @@
-use Rattle.std.proofs.Common.{rules, ◌∷◌, ◌++◌, [], ◌∙◌, ap, arith, refl, subst, sym, List, ℕ}
+use Rattle.std.proofs.Common.{rules, ◌≡◌, ◌∷◌, ◌++◌, [], ◌∙◌, ap, arith, refl, subst, sym, List, ℕ, Option}
 use Rattle.std.specs.Prelude.{IsErrOf}
+use Rattle.std.specs.Io.KnownBytes.{Consumes}
+use Rattle.std.proofs.lemmas.Bool.{false≢true}
 use Rattle.sgt_names.specs.declared.outcome.EngineFail.TheVariants.{ReadFault}
-use Rattle.sgt_notation.specs.Limits.{max_line}
-use Rattle.sgt_notation.specs.Lines.{IsNext, coming}
+use Rattle.sgt_notation.specs.Limits.{max_line, most_reads}
+use Rattle.sgt_notation.specs.Lines.{IsNext, Spends, coming}
 use Rattle.sgt_notation.specs.Spelling.{text_of_lines}
 use Rattle.sgt_cert.specs.Text.{certificate_text, format_line}
 use Rattle.sgt_audit.specs.Faults.{FirstFault}
+use Rattle.sgt_audit.proofs.ReaderAtStage.{spends_on}
 use Rattle.sgt_audit_workers.proofs.Heads.{behind-first, front-told, line-told, next-told}
 use Rattle.sgt_audit_workers.proofs.Reading.{fails-on}
 use Rattle.sgt_audit_workers.proofs.head.read_head.Goals as goal
 
 pub returns-in_err-first-clause-read_fault : goal.returns-in_err-first-clause-read_fault
-returns-in_err-first-clause-read_fault g c same =
+returns-in_err-first-clause-read_fault g c same first from spent counts =
     let was : IsErrOf c.next_line.result ReadFault = search rules in
-    c.next_line.ensures.read_fault was
+    c.next_line.ensures.read_fault was first from (spent c.requires) counts
 
 pub returns-in_err-next-clause-read_fault : goal.returns-in_err-next-clause-read_fault
-returns-in_err-next-clause-read_fault g c same =
+returns-in_err-next-clause-read_fault g c same told from spent counts =
     let was : IsErrOf c.next_line-2.result ReadFault = search rules in
     let first = rw c.in-Ok.ensures.format.0 at c.in_ok-first.ensures.gave in
-    fails-on _ _ _ _ _ _ _ _ _ _ (c.next_line-2.ensures.read_fault was) first.spends (omega (arith, c.in_ok-first.ensures.asks)) first.quiet
+    fails-on _ _ _ _ _ _ _ _ _ _ (c.next_line-2.ensures.read_fault was) first.spends (omega (arith, c.in_ok-first.ensures.asks)) first.quiet told from (spent c.requires) counts
 
-pub returns-in-Ok-2-clause-front : goal.returns-in-Ok-2-clause-front
-returns-in-Ok-2-clause-front g c =
-    let first = rw c.in-Ok.ensures.format.0 at c.in_ok-first.ensures.gave in
-    let spelled = rw c.in-Ok-2.is at c.in_ok-head.ensures.head in
-    let next = rw spelled.2 at c.in_ok-next.ensures.gave in
-    front-told (coming c.args.lines.now (g.R.Source.tells c.args.reader.now)) (coming c.next_line.new.lines (g.R.Source.tells c.next_line.new.reader)) (coming c.next_line-2.new.lines (g.R.Source.tells c.next_line-2.new.reader)) c.in-Ok-2.head.second c.in-Ok-2.head.certificate
-    (line-told max_line _ _ c.next_line.new.line.items (format_line c.in-Ok-2.head.second) (sym c.as_slice.ensures.value ∙ c.in-Ok.ensures.format.1 ∙ ap format_line (sym spelled.1)) first.gives)
-    (line-told 18446744073709551615 _ _ c.next_line-2.new.line.items (certificate_text c.in-Ok-2.head.certificate) (sym c.as_slice-2.ensures.value ∙ spelled.3) next.gives)
-
-pub returns-in-Err-2-clause-verdict : goal.returns-in-Err-2-clause-verdict
-returns-in-Err-2-clause-verdict g c =
+pub returns-in-Some-clause-verdict : goal.returns-in-Some-clause-verdict
+returns-in-Some-clause-verdict g c =
     let first = rw c.in-Ok.ensures.format.0 at c.in_ok-first.ensures.gave in
     let second = c.in-Ok.second in
-    let fault = c.in-Err-2.fault in
+    let fault = c.in-Some.fault in
     let front = line-told max_line _ _ c.next_line.new.line.items (format_line second) (sym c.as_slice.ensures.value ∙ c.in-Ok.ensures.format.1) first.gives in
-    behind-first (coming c.args.lines.now (g.R.Source.tells c.args.reader.now)) (coming c.next_line.new.lines (g.R.Source.tells c.next_line.new.reader)) second (λ bytes. FirstFault bytes 2 fault) front
+    behind-first (coming c.args.text.now.lines (g.R.Source.tells c.args.reader.now)) (coming c.next_line.new.lines (g.R.Source.tells c.next_line.new.reader)) second (λ bytes. FirstFault bytes 2 fault) front
     (next-told 18446744073709551615 (coming c.next_line.new.lines (g.R.Source.tells c.next_line.new.reader)) (coming c.next_line-2.new.lines (g.R.Source.tells c.next_line-2.new.reader)) c.in_ok-next.next c.next_line-2.new.line.items (λ bytes. FirstFault (text_of_lines (format_line second ∷ []) ++ bytes) 2 fault) c.in_ok-next.ensures.gave.gives
-    (λ bytes rest is. rw c.in-Err-2.is at (c.in_ok-head.ensures.fault bytes rest (c.in_ok-next.ensures.gave.unlimited refl)
-    (subst (λ (l : List ℕ). IsNext 18446744073709551615 bytes c.in_ok-next.next l rest) (sym c.as_slice-2.ensures.value) is))))
+    (λ bytes rest is. c.in-Some.ensures.some second bytes c.next_line-2.new.line.items rest (c.in_ok-next.ensures.gave.unlimited refl) is))

@@ -6,21 +6,19 @@ use Rattle.std.specs.Io.KnownBytes.{Consumes}
 use Rattle.sgt_notation.specs.Lines.{coming}
 use Rattle.sgt_audit_workers.proofs.Given.{behind-more, cut-ends, cut-reads}
 use Rattle.std.proofs.KnownBytes.{Consumes-nil}
-use Rattle.sgt_audit_workers.proofs.batches.give.Goals as goal
+use Rattle.sgt_audit_workers.proofs.sections.next_section.Goals as goal
 
-pub returns-then-text-clause-given : goal.returns-then-text-clause-given
-returns-then-text-clause-given g c told behind =
+pub returns-then-text-clause-section : goal.returns-then-text-clause-section
+returns-then-text-clause-section g c told behind =
     let now = coming c.args.text.now.lines (g.R.Source.tells c.args.reader.now) in
     record {
-      site = refl;
-      section = subst (λ (s : List ℕ). Consumes now now s) (sym c.clear.ensures.items) (Consumes-nil now);
+      bytes = subst (λ (s : List ℕ). Consumes now now s) (sym c.clear.ensures.items) (Consumes-nil now);
       last = λ last. behind.ended c.if-text.true;
     }
 
-pub returns-then-branch-clause-given : goal.returns-then-branch-clause-given
-returns-then-branch-clause-given g c told behind = record {
-  site = refl;
-  section = cut-reads _ _ _ _ c.in_ok-read_section.ensures.cut;
+pub returns-then-branch-clause-section : goal.returns-then-branch-clause-section
+returns-then-branch-clause-section g c told behind = record {
+  bytes = cut-reads _ _ _ _ c.in_ok-read_section.ensures.cut;
   last = λ last. absurd (false≢true last);
 }
 
@@ -28,10 +26,9 @@ pub returns-then-branch-clause-behind : goal.returns-then-branch-clause-behind
 returns-then-branch-clause-behind g c told behind =
     behind-more told _ _ _ _ _ behind (cut-reads _ _ _ _ c.in_ok-read_section.ensures.cut) (λ ends. absurd (false≢true (sym c.if-text.false ∙ ends)))
 
-pub returns-clause-given : goal.returns-clause-given
-returns-clause-given g c told behind = record {
-  site = refl;
-  section = cut-reads _ _ _ _ c.in_ok-read_section.ensures.cut;
+pub returns-clause-section : goal.returns-clause-section
+returns-clause-section g c told behind = record {
+  bytes = cut-reads _ _ _ _ c.in_ok-read_section.ensures.cut;
   last = λ last. cut-ends told _ _ _ _ behind.read (rw c.if-branch.false at c.in_ok-read_section.ensures.cut);
 }
 
