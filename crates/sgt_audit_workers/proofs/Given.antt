@@ -1,6 +1,6 @@
 -- Sections that were read, and those that are judged.
 use Rattle.std.proofs.Common.{◌≡◌, ℕ, Bool, true, false, IfSome, ◌+◌, ◌<◌, ◌≤◌, List, [], ◌∷◌, ◌++◌, length, Option, Some, None, IsTrue, sym, ◌∙◌, ap, subst, arith, slice_index_or}
-use Rattle.std.specs.Prelude.{Result, Ok, Err, IfOk, remove}
+use Rattle.std.specs.Prelude.{◌≢◌, Result, Ok, Err, IfOk, IfErr, remove}
 use Rattle.std.specs.Io.KnownBytes.{Consumes, IsAtEnd}
 use Rattle.std.proofs.KnownBytes.{Consumes-nil, Consumes-trans}
 use Rattle.sgt_notation.specs.Lines.{ReadFaultIsDue, coming}
@@ -13,7 +13,7 @@ use Rattle.sgt_audit_workers.specs.declared.sections.Text.{Text}
 use Rattle.sgt_audit_workers.specs.Cut.{IsCut}
 use Rattle.sgt_audit_workers.specs.private.Jobs.{HasRun, IsGiven, IsIdle, MayJudge}
 use Rattle.sgt_audit_workers.specs.private.Running.{AreRunning, Will}
-use Rattle.sgt_audit_workers.specs.private.Texts.{FailsBehind, HasSpent, IsBehind, IsNextSection}
+use Rattle.sgt_audit_workers.specs.private.Texts.{AreAhead, FailsBehind, HasSpent, IsBehind, IsFirstAhead, IsNextSection}
 
 -- ---- one section
 
@@ -46,6 +46,26 @@ pub fails-from : (text now : Text) (left later : Option (List ℕ)) (f f1 f2 a a
     → a1 + now.lines.reads ≡ a + text.lines.reads → f1 ≡ f → FailsBehind text left f f2 a a2
 fails-from text now left later f f1 f2 a a1 a2 fails spends asks quiet first from spent counts =
     subst (λ g. ReadFaultIsDue first g f2 from a2) quiet (fails first from (spends first spent) (omega (arith, asks, counts)))
+
+-- ---- sections that were read ahead
+
+-- told nothing, a section came
+pub next-none : (section : Section) → IsNextSection None None section None
+next-none section = record { bytes = tt; last = λ last. tt }
+
+-- one more
+pub ahead-more : (told old new later : Option (List ℕ)) (ahead : List Section) (s : Section) → AreAhead told old ahead new → IsNextSection told new s later → s.bytes.items ≢ [] → AreAhead told old (ahead ++ s ∷ []) later
+ahead-more told old new later [] s none next some = (later, record { bytes = Consumes-trans old new later [] s.bytes.items none next.bytes; last = next.last }, some, Consumes-nil later)
+ahead-more told old new later (first ∷ ahead) s are next some = (are.0, are.1, are.2, ahead-more told are.0 new later ahead s are.3 next some)
+
+-- a section with no bytes came behind them
+pub ahead-on : (told old new later : Option (List ℕ)) (ahead : List Section) → AreAhead told old ahead new → Consumes new later [] → AreAhead told old ahead later
+ahead-on told old new later [] none more = Consumes-trans old new later [] [] none more
+ahead-on told old new later (first ∷ ahead) are more = (are.0, are.1, are.2, ahead-on told are.0 new later ahead are.3 more)
+
+-- none was read ahead, and one is read now
+pub first-read : (told old new later : Option (List ℕ)) (s : Section) → AreAhead told old [] new → IsNextSection told new s later → IsFirstAhead told old s [] later
+first-read told old new later s none next = (later, record { bytes = Consumes-trans old new later [] s.bytes.items none next.bytes; last = next.last }, Consumes-nil later)
 
 -- ---- who may judge the section of a site may judge those behind it
 pub may-later : (h : Head) (k n : ℕ) (a : Alone) → k ≤ n → MayJudge h k a → MayJudge h n a

@@ -1,5 +1,5 @@
 -- What the workers found, one after another.
-use Rattle.std.proofs.Common.{◌≡◌, ℕ, ◌+◌, Bool, IsTrue, List, [], ◌∷◌, ◌++◌, length, map, Option, Some, None, IfSome, refl, sym, ap, ◌∙◌, subst, arith, zero-add}
+use Rattle.std.proofs.Common.{◌≡◌, ℕ, ◌+◌, ◌≤◌, Bool, IsTrue, List, [], ◌∷◌, ◌++◌, length, map, Option, Some, None, IfSome, refl, sym, ap, ◌∙◌, subst, arith, zero-add}
 use Rattle.std.specs.Prelude.{Result, Ok, Err, IfOk, ◌≢◌}
 use Rattle.std.specs.Io.KnownBytes.{Consumes, IsAtEnd}
 use Rattle.std.proofs.KnownBytes.{Consumes-trans}
@@ -24,9 +24,11 @@ use Rattle.sgt_audit_workers.specs.Tallies.{Adds, IsTally}
 use Rattle.sgt_audit_workers.specs.declared.job.Job.{Job}
 use Rattle.sgt_audit_workers.specs.Head.{IsHead}
 use Rattle.sgt_audit_workers.specs.declared.head.Head.{Head}
+use Rattle.sgt_audit_workers.specs.declared.sections.Section.{Section}
 use Rattle.sgt_audit_workers.specs.declared.tally.Tally.{Tally}
 use Rattle.sgt_audit_workers.specs.private.Jobs.{HasJudged, IsGiven, IsIdle}
 use Rattle.sgt_audit_workers.specs.private.Tallied.{IsTallied}
+use Rattle.sgt_audit_workers.specs.private.Texts.{AreAhead}
 use Rattle.sgt_audit_workers.proofs.Whole.{yes}
 
 -- ---- one more section
@@ -97,6 +99,25 @@ pub tallied-on : (h : Head) (told next new : Option (List ℕ)) (t : Tally) → 
 tallied-on h told next new t is none =
     let front = front_text h.second h.certificate is.logs in
     record { logs = is.logs; tally = is.tally; front = subst (λ (f : List ℕ). Consumes told new f) (append-nil front) (Consumes-trans told next new front [] is.front none) }
+
+-- no section was read ahead
+pub tallied-ahead : (h : Head) (told from left : Option (List ℕ)) (t : Tally) (ahead : List Section) → IsTallied h told from t → AreAhead told from ahead left → length ahead ≡ 0 → IsTallied h told left t
+tallied-ahead h told from left t [] is none empty = tallied-on h told from left t is none
+tallied-ahead h told from left t (s ∷ ahead) is are empty = absurd (omega (arith, empty))
+
+-- one was
+front-nil : (xs rest : List ℕ) → xs ++ rest ≡ [] → xs ≡ []
+front-nil [] rest none = refl
+front-nil (x ∷ xs) rest none = absurd (omega (arith, ap length none))
+
+some-comes : (bytes : List ℕ) (next : Option (List ℕ)) (section : List ℕ) → Consumes (Some bytes) next section → section ≢ [] → bytes ≢ []
+some-comes bytes None section is some none = absurd is
+some-comes bytes (Some rest) section is some none = some (front-nil section rest (sym is ∙ none))
+
+pub ahead-comes : (told from left : Option (List ℕ)) (ahead : List Section) → AreAhead told from ahead left → 1 ≤ length ahead → IfSome from (λ more. more ≢ [])
+ahead-comes told None left ahead are some = tt
+ahead-comes told (Some bytes) left [] are some = absurd (omega (arith, some))
+ahead-comes told (Some bytes) left (s ∷ ahead) are some = some-comes bytes are.0 s.bytes.items are.1.bytes are.2
 
 -- ---- the first section's tally
 

@@ -155,7 +155,7 @@ fn judge_sections<H: Threads, R: Source>(
 }
 
 /// Audits all that the reader gives, with so many sections judged at once, and writes the line of the verdict and nothing else. The
-/// verdict is that of `audit` of sgt_audit; but behind a fault more may be read, up to the last section that is judged with it.
+/// verdict is that of `audit` of sgt_audit; but behind a fault more may be read, as many sections as there are workers.
 /// With fewer than two workers it is `audit` itself.
 ///
 /// An Err is ReadFault, where a read failed or too many were needed (`MOST_READS` of sgt_notation), or Memory: nothing was

@@ -10,10 +10,11 @@ ghost use Rattle.sgt_audit.specs.Verdict.{IsVerdict};
 ghost use Rattle.sgt_audit.specs.private.Judging.{AnswersItself};
 ghost use Rattle.sgt_audit_workers.specs.Head.{IsHead};
 ghost use Rattle.sgt_audit_workers.specs.private.Begun.{IsBegun};
+ghost use Rattle.sgt_audit_workers.specs.private.Judging.{WillSay};
 ghost use Rattle.sgt_audit_workers.specs.private.Texts.{AreAhead, FailsBehind, HasSpent, IsBehind};
 
 use crate::cutting::next_line;
-use crate::judging::{finish, start};
+use crate::judging::{Judging, finish, start};
 use crate::sections::{Section, Text, read_ahead};
 use sgt_audit::{Fault, Verdict};
 use sgt_audit_decisions::{Decided, Steps, are_cycles, are_ranks};
@@ -21,7 +22,6 @@ use sgt_cert::{CertFault, Certificate, from_line};
 use sgt_names::{EngineFail, Source};
 use sgt_notation::{MAX_LINE, Next};
 use std::alloc::{AllocError, Global};
-use std::mem;
 use std::thread::Threads;
 
 /// What the first two lines of a text say, which have no fault.
@@ -130,18 +130,19 @@ fn second_fault(next: Next) -> Option<Fault>
     }
 }
 
-/// What the two lines say, by the second of them, which was read; or its fault. So many sections are read meanwhile.
-fn judge_beside<H: Threads, R: Source>(
+/// What the two lines say, once the second is judged; or its fault. So many sections are read meanwhile.
+fn read_beside<H: Threads, R: Source>(
     rt: &H,
     count: usize,
-    second: bool,
     reader: &mut R,
     text: &mut Text,
+    judging: Judging,
 ) -> Result<Result<(Head, Vec<Section>), Fault>, EngineFail>
-    ensures head { IfOk result (λ r. IfOk r (λ p. IsHead p.0 × (p.0.second ≡ second)
-        × (text.old.line.items ≡ certificate_text p.0.certificate))) }
-    ensures fault { IfOk result
-        (λ r. IfErr r (Breaks (Rule (headed second) (whole text.old.line.items)))) }
+    ensures head { (second : Bool) (line : List ℕ) → WillSay second line judging
+        → IfOk result (λ r. IfOk r (λ p. IsHead p.0 × (p.0.second ≡ second)
+        × (line ≡ certificate_text p.0.certificate))) }
+    ensures fault { (second : Bool) (line : List ℕ) → WillSay second line judging
+        → IfOk result (λ r. IfErr r (Breaks (Rule (headed second) (whole line)))) }
     ensures ahead { let old = coming text.old.lines (R.tells reader.old) in
         let now = coming text.new.lines (R.tells reader.new) in
         (told : Option (List ℕ)) → IsBehind told text.old (R.tells reader.old)
@@ -159,14 +160,13 @@ fn judge_beside<H: Threads, R: Source>(
         (R.failures reader.old) (R.failures reader.new) (R.asked reader.old) (R.asked reader.new) }
     ensures write_fault { result ≢ Err EngineFail.WriteFault }
 {
-    let line = mem::replace(&mut text.line, Vec::new(text.alloc));
-    let judging = start(rt, text.alloc, second, line);
     let ahead = read_ahead(reader, text, count);
     let found = finish(rt, judging);
     let ahead = ahead?;
-    match found? {
-        Ok(head) => Ok(Ok((head, ahead))),
-        Err(fault) => Ok(Err(fault)),
+    match found {
+        Ok(Ok(head)) => Ok(Ok((head, ahead))),
+        Ok(Err(fault)) => Ok(Err(fault)),
+        Err(_) => Err(EngineFail::Memory),
     }
 }
 
@@ -198,16 +198,18 @@ pub fn read_head<H: Threads, R: Source>(
         (R.failures reader.old) (R.failures reader.new) (R.asked reader.old) (R.asked reader.new) }
     ensures write_fault { result ≢ Err EngineFail.WriteFault }
 {
-    let first = next_line(reader, &mut text.lines, &mut text.line, MAX_LINE)?;
-    let second = match first_line(first, text.line.as_slice()) {
+    let mut line = Vec::new(text.alloc);
+    let first = next_line(reader, &mut text.lines, &mut line, MAX_LINE)?;
+    let second = match first_line(first, line.as_slice()) {
         Ok(second) => second,
         Err(fault) => return Ok(Err(Verdict::No { line: 1, fault })),
     };
-    let next = next_line(reader, &mut text.lines, &mut text.line, usize::MAX)?;
+    let next = next_line(reader, &mut text.lines, &mut line, usize::MAX)?;
     if let Some(fault) = second_fault(next) {
         return Ok(Err(Verdict::No { line: 2, fault }));
     }
-    match judge_beside(rt, count, second, reader, text)? {
+    let judging = start(rt, text.alloc, second, line);
+    match read_beside(rt, count, reader, text, judging)? {
         Ok(begun) => Ok(Ok(begun)),
         Err(fault) => Ok(Err(Verdict::No { line: 2, fault })),
     }

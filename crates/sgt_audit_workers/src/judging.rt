@@ -1,7 +1,8 @@
 //! Line 2, judged in a thread of its own.
 
 ghost use Rattle.std.specs.Prelude.{Bool, List, ℕ};
-ghost use Rattle.sgt_audit_workers.specs.private.Judging.{IsHeadOf, WillSay};
+ghost use Rattle.sgt_audit_workers.specs.Head.{IsHeadOf};
+ghost use Rattle.sgt_audit_workers.specs.private.Judging.{WillSay};
 
 use crate::head::{Head, head_of};
 use sgt_audit::Fault;

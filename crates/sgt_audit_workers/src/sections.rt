@@ -71,8 +71,10 @@ fn add(ahead: &mut Vec<Section>, section: Section) -> Result<(), EngineFail>
     ensures ok { OnOk result (ahead.new.items ≡ ahead.old.items ++ section ∷ []) }
     ensures err { IfErr result (λ e. e ≡ EngineFail.Memory) }
 {
-    ahead.push(section)?;
-    Ok(())
+    match ahead.push(section) {
+        Ok(()) => Ok(()),
+        Err(_) => Err(EngineFail::Memory),
+    }
 }
 
 /// Reads the next section, if there is one, behind those that were read.
@@ -107,7 +109,8 @@ fn read_more<R: Source>(
     if section.bytes.is_empty() {
         return Ok(());
     }
-    add(ahead, section)
+    add(ahead, section)?;
+    Ok(())
 }
 
 /// The next sections: so many, or all that there are, if they are fewer.

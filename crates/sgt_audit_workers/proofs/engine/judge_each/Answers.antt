@@ -4,12 +4,13 @@ use Rattle.std.specs.Prelude.{IsErrOf}
 use Rattle.sgt_names.specs.declared.outcome.EngineFail.TheVariants.{ReadFault}
 use Rattle.sgt_notation.specs.Lines.{coming}
 use Rattle.sgt_audit_workers.specs.Head.{IsHead}
-use Rattle.sgt_audit_workers.proofs.Given.{fails-from}
+use Rattle.sgt_audit_workers.specs.declared.head.Head.{Head}
+use Rattle.sgt_audit_workers.proofs.Given.{fails-from, next-none}
 use Rattle.sgt_audit_workers.proofs.engine.judge_each.Goals as goal
 
 pub loop-_site-init : goal.loop-_site-init
 loop-_site-init g c = record {
-  goes = λ told left works section behind. (left, works, section, behind);
+  goes = λ told left works ahead behind. (left, works, ahead, behind);
   works = c.requires.works;
   counted = omega (arith, c.requires.none);
   same = record { head = refl; count = refl };
@@ -21,7 +22,35 @@ loop-_site-init g c = record {
 pub judge-requires-clause-head : goal.judge-requires-clause-head
 judge-requires-clause-head g c = subst (λ a. IsHead (arc_value a)) (sym c.loop-_site.invariant.same.head) c.requires.head
 
+pub loop-_site-preserved : goal.loop-_site-preserved
+loop-_site-preserved g c =
+    let inv = c.loop-_site.invariant in
+    record {
+      goes = λ told left works ahead behind.
+          let now = inv.goes told left works ahead behind in
+          let first = c.in_ok-section.ensures.section told now.0 now.3 now.2 in
+          (first.0, rw c.in-Ok.is at (c.in_ok-judge.ensures.goes told now.0 first.0 now.1 first.1), first.2, c.in_ok-section.ensures.behind told now.3);
+      works = rw c.in-Ok.is at (c.in_ok-judge.ensures.goes None None None inv.works (next-none c.in_ok-section.section));
+      counted = omega (arith, rw c.in-Ok.is at c.in_ok-judge.ensures.given, inv.counted);
+      same = record { head = c.in_ok-judge.ensures.same.head ∙ inv.same.head; count = c.in_ok-judge.ensures.same.count ∙ inv.same.count };
+      spends = λ first spent. c.in_ok-section.ensures.spends first (inv.spends first spent);
+      asks = omega (arith, c.in_ok-section.ensures.asks, inv.asks);
+      quiet = c.in_ok-section.ensures.quiet (λ same. cc) ∙ inv.quiet;
+    }
+
 pub returns-in-Err-clause-verdict : goal.returns-in-Err-clause-verdict
-returns-in-Err-clause-verdict g c told left works section behind =
-    let now = c.loop-_site.invariant.goes told left works section behind in
-    rw c.in-Err.is at (c.in_ok-buffer.ensures.goes told now.0 (coming c.loop-_site.text.lines (g.R.Source.tells c.loop-_site.reader)) now.1 now.2)
+returns-in-Err-clause-verdict g c told left works ahead behind =
+    let now = c.loop-_site.invariant.goes told left works ahead behind in
+    let first = c.in_ok-section.ensures.section told now.0 now.3 now.2 in
+    rw c.in-Err.is at (c.in_ok-judge.ensures.goes told now.0 first.0 now.1 first.1)
+
+pub returns-in_err-section-clause-read_fault : goal.returns-in_err-section-clause-read_fault
+returns-in_err-section-clause-read_fault g c same =
+    let was : IsErrOf c.take_section.result ReadFault = search rules in
+    let inv = c.loop-_site.invariant in
+    fails-from c.args.text.now c.loop-_site.text _ _ _ _ _ _ _ _ (c.take_section.ensures.read_fault was) inv.spends inv.asks inv.quiet
+
+pub returns-in-Some-clause-verdict : goal.returns-in-Some-clause-verdict
+returns-in-Some-clause-verdict g c told left works ahead behind =
+    let now = c.loop-_site.invariant.goes told left works ahead behind in
+    rw c.in-Some.is at (c.in_ok-wait.ensures.ends told now.0 now.1)

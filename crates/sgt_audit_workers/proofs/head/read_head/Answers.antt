@@ -33,3 +33,23 @@ returns-in-Some-clause-verdict g c =
     behind-first (coming c.args.text.now.lines (g.R.Source.tells c.args.reader.now)) (coming c.next_line.new.lines (g.R.Source.tells c.next_line.new.reader)) second (λ bytes. FirstFault bytes 2 fault) front
     (next-told 18446744073709551615 (coming c.next_line.new.lines (g.R.Source.tells c.next_line.new.reader)) (coming c.next_line-2.new.lines (g.R.Source.tells c.next_line-2.new.reader)) c.in_ok-next.next c.next_line-2.new.line.items (λ bytes. FirstFault (text_of_lines (format_line second ∷ []) ++ bytes) 2 fault) c.in_ok-next.ensures.gave.gives
     (λ bytes rest is. c.in-Some.ensures.some second bytes c.next_line-2.new.line.items rest (c.in_ok-next.ensures.gave.unlimited refl) is))
+
+pub returns-in-Ok-2-clause-begun : goal.returns-in-Ok-2-clause-begun
+returns-in-Ok-2-clause-begun g c =
+    let first = rw c.in-Ok.ensures.format.0 at c.in_ok-first.ensures.gave in
+    let next = rw c.in_default.ensures.none at c.in_ok-next.ensures.gave in
+    let old = coming c.args.text.now.lines (g.R.Source.tells c.args.reader.now) in
+    let mid = coming c.next_line.new.lines (g.R.Source.tells c.next_line.new.reader) in
+    let left = coming c.next_line-2.new.lines (g.R.Source.tells c.next_line-2.new.reader) in
+    let said = rw c.in-Ok-2.is at (c.in_ok-read_beside.ensures.head c.in-Ok.second c.next_line-2.new.line.items c.start.ensures) in
+    let h = c.in-Ok-2.begun.0 in
+    let front = front-told old mid left h.second h.certificate
+        (line-told max_line _ _ c.next_line.new.line.items (format_line h.second) (sym c.as_slice.ensures.value ∙ c.in-Ok.ensures.format.1 ∙ ap format_line (sym said.1)) first.gives)
+        (line-told 18446744073709551615 _ _ c.next_line-2.new.line.items (certificate_text h.certificate) said.2 next.gives) in
+    let behind : IsBehind old _ (g.R.Source.tells c.next_line-2.new.reader) = record { front = front_text h.second h.certificate []; read = front; ended = λ ends. absurd (false≢true (sym c.requires ∙ ends)) } in
+    record {
+      middle = left;
+      front = front;
+      ahead = rw c.in-Ok-2.is at (c.in_ok-read_beside.ensures.ahead old behind);
+      behind = rw c.in-Ok-2.is at (c.in_ok-read_beside.ensures.behind old behind);
+    }
