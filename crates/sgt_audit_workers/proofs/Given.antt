@@ -53,6 +53,9 @@ fails-from text now left later f f1 f2 a a1 a2 fails spends asks quiet first fro
 pub next-none : (section : Section) → IsNextSection None None section None
 next-none section = record { bytes = tt; last = λ last. tt }
 
+pub some-bytes : (bytes : List ℕ) → 1 ≤ length bytes → bytes ≢ []
+some-bytes bytes some none = absurd (omega (arith, some, ap length none))
+
 -- one more
 pub ahead-more : (told old new later : Option (List ℕ)) (ahead : List Section) (s : Section) → AreAhead told old ahead new → IsNextSection told new s later → s.bytes.items ≢ [] → AreAhead told old (ahead ++ s ∷ []) later
 ahead-more told old new later [] s none next some = (later, record { bytes = Consumes-trans old new later [] s.bytes.items none next.bytes; last = next.last }, some, Consumes-nil later)

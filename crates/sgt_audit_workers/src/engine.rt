@@ -6,12 +6,13 @@ ghost use Rattle.std.specs.Io.KnownBytes.{Appends};
 ghost use Rattle.sgt_notation.specs.Lines.{ReadFaultIsDue, coming};
 ghost use Rattle.sgt_audit.specs.Verdict.{IsVerdict, SaysHeadline, WroteFront, text_of, yes_of};
 ghost use Rattle.sgt_audit_workers.specs.Head.{IsHead};
+ghost use Rattle.sgt_audit_workers.specs.declared.head.Head.{Head};
 ghost use Rattle.sgt_audit_workers.specs.private.Tallied.{IsTallied};
 ghost use Rattle.sgt_audit_workers.specs.private.Texts.{AreAhead, FailsBehind, IsBehind};
 ghost use Rattle.sgt_audit_workers.specs.private.Working.{Works, given};
 
 use crate::cutting::next_line;
-use crate::head::{Head, read_head};
+use crate::head::read_head;
 use crate::sections::{Section, Text, take_section};
 use crate::tally::Tally;
 use crate::workers::Workers;
@@ -41,18 +42,18 @@ fn yes_to(decisions: &[Decision]) -> Verdict
     }
 }
 
-/// The verdict, once all sections have no fault but perhaps one of a walk, where these were read behind them.
+/// The verdict, once all sections have no fault but perhaps one of a walk, where these were read behind them; or this yes.
 fn at_end<R: Source>(
     reader: &mut R,
     text: &mut Text,
     ahead: &[Section],
-    head: &Head,
     tally: &Tally,
+    yes: Verdict,
 ) -> Result<Verdict, EngineFail>
-    requires all { tally.now.whole ≡ head.now.certificate.sites }
     ensures verdict { let left = coming text.old.lines (R.tells reader.old) in
-        (told from : Option (List ℕ)) → IsBehind told text.old (R.tells reader.old)
-        → AreAhead told from ahead.now left → IsTallied head.now told from tally.now
+        (h : Head) (told from : Option (List ℕ)) → IsBehind told text.old (R.tells reader.old)
+        → AreAhead told from ahead.now left → IsTallied h told from tally.now
+        → tally.now.whole ≡ h.certificate.sites → yes ≡ yes_of h.certificate.decisions
         → IfOk result (λ v. IfSome told (λ bytes. IsVerdict bytes v)) }
     ensures quiet { result ≢ Err EngineFail.ReadFault
         → R.failures reader.new ≡ R.failures reader.old }
@@ -68,10 +69,10 @@ fn at_end<R: Source>(
         return tally.trailing();
     }
     if text.is_ended {
-        return Ok(yes_to(head.certificate.decisions()));
+        return Ok(yes);
     }
     match next_line(reader, &mut text.lines, &mut text.line, MAX_LINE)? {
-        Next::End => Ok(yes_to(head.certificate.decisions())),
+        Next::End => Ok(yes),
         Next::Line => tally.trailing(),
         Next::Cut => tally.trailing(),
         Next::TooLong => tally.trailing(),
@@ -111,16 +112,11 @@ fn judge_each<H: Threads, R: Source>(
             Err(verdict) => return Ok(verdict),
         }
     }
+    let yes = yes_to(workers.head.certificate.decisions());
     if let Some(verdict) = workers.wait(rt)? {
         return Ok(verdict);
     }
-    at_end(
-        reader,
-        text,
-        ahead.as_slice(),
-        &workers.head,
-        &workers.tally,
-    )
+    at_end(reader, text, ahead.as_slice(), &workers.tally, yes)
 }
 
 /// The verdict on all that the reader gives, with so many sections judged at once.

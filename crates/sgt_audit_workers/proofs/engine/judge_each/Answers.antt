@@ -3,8 +3,10 @@ use Rattle.std.specs.Arc.{arc_value}
 use Rattle.std.specs.Prelude.{IsErrOf}
 use Rattle.sgt_names.specs.declared.outcome.EngineFail.TheVariants.{ReadFault}
 use Rattle.sgt_notation.specs.Lines.{coming}
+use Rattle.sgt_audit.specs.Verdict.{yes_of}
 use Rattle.sgt_audit_workers.specs.Head.{IsHead}
-use Rattle.sgt_audit_workers.specs.declared.head.Head.{Head}
+use Rattle.sgt_audit_workers.specs.declared.sections.Section.{Section}
+use Rattle.sgt_audit_workers.specs.private.Texts.{AreAhead}
 use Rattle.sgt_audit_workers.proofs.Given.{fails-from, next-none}
 use Rattle.sgt_audit_workers.proofs.engine.judge_each.Goals as goal
 
@@ -54,3 +56,19 @@ pub returns-in-Some-clause-verdict : goal.returns-in-Some-clause-verdict
 returns-in-Some-clause-verdict g c told left works ahead behind =
     let now = c.loop-_site.invariant.goes told left works ahead behind in
     rw c.in-Some.is at (c.in_ok-wait.ensures.ends told now.0 now.1)
+
+pub returns-clause-verdict : goal.returns-clause-verdict
+returns-clause-verdict g c told left works ahead behind =
+    let inv = c.loop-_site.invariant in
+    let now = inv.goes told left works ahead behind in
+    let h = arc_value c.wait.new.workers.head in
+    let rest = coming c.loop-_site.text.lines (g.R.Source.tells c.loop-_site.reader) in
+    let are = subst (λ (ss : List Section). AreAhead told now.0 ss rest) (sym c.as_slice.ensures.value) now.2 in
+    let tallied = rw c.in_default.is at (c.in_ok-wait.ensures.ends told now.0 now.1) in
+    let all = rw c.in_default.is at c.in_ok-wait.ensures.all in
+    c.at_end.ensures.verdict h told now.0 now.3 are tallied (omega (arith, all, inv.counted, c.loop-_site-test.false)) (c.yes_to.ensures ∙ ap yes_of c.decisions.ensures.same)
+
+pub returns-clause-read_fault : goal.returns-clause-read_fault
+returns-clause-read_fault g c same =
+    let inv = c.loop-_site.invariant in
+    fails-from c.args.text.now c.loop-_site.text _ _ _ _ _ _ _ _ (c.at_end.ensures.read_fault same) inv.spends inv.asks inv.quiet

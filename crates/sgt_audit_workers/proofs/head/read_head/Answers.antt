@@ -9,6 +9,8 @@ use Rattle.sgt_notation.specs.Spelling.{text_of_lines}
 use Rattle.sgt_cert.specs.Text.{certificate_text, format_line}
 use Rattle.sgt_audit.specs.Faults.{FirstFault}
 use Rattle.sgt_audit.proofs.ReaderAtStage.{spends_on}
+use Rattle.sgt_audit_sections.specs.Sections.{front_text}
+use Rattle.sgt_audit_workers.specs.private.Texts.{IsBehind}
 use Rattle.sgt_audit_workers.proofs.Heads.{behind-first, front-told, line-told, next-told}
 use Rattle.sgt_audit_workers.proofs.Reading.{fails-on}
 use Rattle.sgt_audit_workers.proofs.head.read_head.Goals as goal
@@ -44,8 +46,8 @@ returns-in-Ok-2-clause-begun g c =
     let said = rw c.in-Ok-2.is at (c.in_ok-read_beside.ensures.head c.in-Ok.second c.next_line-2.new.line.items c.start.ensures) in
     let h = c.in-Ok-2.begun.0 in
     let front = front-told old mid left h.second h.certificate
-        (line-told max_line _ _ c.next_line.new.line.items (format_line h.second) (sym c.as_slice.ensures.value ∙ c.in-Ok.ensures.format.1 ∙ ap format_line (sym said.1)) first.gives)
-        (line-told 18446744073709551615 _ _ c.next_line-2.new.line.items (certificate_text h.certificate) said.2 next.gives) in
+    (line-told max_line _ _ c.next_line.new.line.items (format_line h.second) (sym c.as_slice.ensures.value ∙ c.in-Ok.ensures.format.1 ∙ ap format_line (sym said.1)) first.gives)
+    (line-told 18446744073709551615 _ _ c.next_line-2.new.line.items (certificate_text h.certificate) said.2 next.gives) in
     let behind : IsBehind old _ (g.R.Source.tells c.next_line-2.new.reader) = record { front = front_text h.second h.certificate []; read = front; ended = λ ends. absurd (false≢true (sym c.requires ∙ ends)) } in
     record {
       middle = left;
