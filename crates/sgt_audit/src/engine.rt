@@ -26,7 +26,7 @@ pub enum Audited {
 /// Audits all that the reader gives, and hands out the bundle itself. The reader is read once, and no further than the
 /// first line with a fault.
 ///
-/// An Err is ReadFault, where a read failed or too many were needed (`MOST_READS` of sgt_notation), or Memory. How far was
+/// An Err is ReadFault, where a read failed or too many were needed (`MOST_READS` of sgt_names), or Memory. How far was
 /// read then is not promised.
 pub fn audit_bundle<R: Source>(alloc: Global, reader: &mut R) -> Result<Audited, EngineFail>
     ensures audited { IfOk result (λ a. IfSome (R.tells reader.old) (λ bytes. IsAudited bytes a)) }
@@ -72,7 +72,7 @@ pub fn audit_bundle<R: Source>(alloc: Global, reader: &mut R) -> Result<Audited,
 /// operations stand in rank order at every site, and each refused transaction lies on a cycle of logged conflicts with
 /// transactions certified before it.
 ///
-/// An Err is ReadFault, where a read failed or too many were needed (`MOST_READS` of sgt_notation), or Memory: nothing was
+/// An Err is ReadFault, where a read failed or too many were needed (`MOST_READS` of sgt_names), or Memory: nothing was
 /// written then. Or it is WriteFault, where a write failed: at most a front of the line was written, and not the whole of it.
 pub fn audit<R: Source, W: Sink>(
     alloc: Global,

@@ -9,8 +9,7 @@ use crate::kept::Kept;
 use crate::sections::sections_of;
 use crate::tracked::Tracked;
 use sgt_cert::{CertFault, from_line};
-use sgt_names::EngineFail;
-use sgt_notation::MAX_LINE;
+use sgt_names::{EngineFail, MAX_LINE};
 use std::alloc::Global;
 
 /// How far the text was read, with no fault.

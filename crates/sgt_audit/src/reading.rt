@@ -1,7 +1,7 @@
 //! A text judged as its lines come from a reader.
 
 ghost use Rattle.std.specs.Prelude.{◌≡◌, ◌≢◌, ℕ, ◌+◌, ◌-◌, ◌^◌, ◌<◌, ◌≤◌, ◌⊎◌, List, [], Option, Err, length, Bool, IsTrue, IfOk, IfSome, IfNone, IsErrOf, IsSome, is_some};
-ghost use Rattle.sgt_notation.specs.Limits.{most_reads};
+ghost use Rattle.sgt_names.specs.Limits.{most_reads};
 ghost use Rattle.sgt_notation.specs.Lines.{ReadFaultIsDue, coming, most_left};
 ghost use Rattle.sgt_audit.specs.Faults.{ReadsNoFurther, start};
 ghost use Rattle.sgt_audit.specs.private.Ending.{IsKeeping};

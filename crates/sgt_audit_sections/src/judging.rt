@@ -13,7 +13,8 @@ ghost use Rattle.sgt_audit_sections.specs.private.Feeding.{FedAlone};
 
 use sgt_audit::{Alone, Fault};
 use sgt_audit_decisions::{Decided, Edge};
-use sgt_notation::{MAX_LINE, find_lf, front_line};
+use sgt_names::MAX_LINE;
+use sgt_notation::{find_lf, front_line};
 use std::alloc::AllocError;
 
 /// What the bytes of a section were found to be.

@@ -6,7 +6,7 @@ use Rattle.std.proofs.KnownBytes.{Consumes-trans}
 use Rattle.std.proofs.lemmas.List.{append-nil}
 use Rattle.sgt_names.specs.declared.outcome.EngineFail.{EngineFail}
 use Rattle.sgt_names.specs.declared.outcome.EngineFail.TheVariants.{Memory}
-use Rattle.sgt_notation.specs.Limits.{max_line, most_reads}
+use Rattle.sgt_names.specs.Limits.{max_line, most_reads}
 use Rattle.sgt_notation.specs.Lines.{Ahead, Gives, IsNext, Spends, coming}
 use Rattle.sgt_notation.specs.Spelling.{HasNoLf, text_of_lines}
 use Rattle.sgt_notation.specs.declared.lines.Next.{Next}

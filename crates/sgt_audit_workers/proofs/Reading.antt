@@ -4,7 +4,7 @@ use Rattle.std.specs.Io.KnownBytes.{Consumes}
 use Rattle.std.proofs.KnownBytes.{Consumes-trans}
 use Rattle.std.proofs.lemmas.List.{append-nil, take-append-drop}
 use Rattle.sgt_notation.specs.Lines.{Ahead, Gives, ReadFaultIsDue, Spends, coming, passed}
-use Rattle.sgt_notation.specs.Limits.{most_reads}
+use Rattle.sgt_names.specs.Limits.{most_reads}
 use Rattle.sgt_notation.specs.declared.lines.Next.TheVariants.{Line, Cut, End}
 use Rattle.sgt_audit.proofs.ReaderAtStage.{spends_on}
 use Rattle.sgt_audit_workers.specs.Cut.{FailsDuly, IsCut, Takes}

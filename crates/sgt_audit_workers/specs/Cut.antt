@@ -1,7 +1,7 @@
 -- What was read of a text.
 use Rattle.std.specs.Prelude.{◌≡◌, ◌≤◌, ◌+◌, ℕ, Bool, true, false, List, ◌++◌, length, take, Option, None, Some, ⊤}
 use Rattle.std.specs.Io.KnownBytes.{Consumes, IsAtEnd}
-use Rattle.sgt_notation.specs.Limits.{most_reads}
+use Rattle.sgt_names.specs.Limits.{most_reads}
 use Rattle.sgt_notation.specs.Lines.{Ahead, ReadFaultIsDue, Spends, passed}
 
 -- these bytes came next; where no line `end` was found they are all that came

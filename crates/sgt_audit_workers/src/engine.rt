@@ -18,8 +18,8 @@ use crate::tally::Tally;
 use crate::workers::Workers;
 use sgt_audit::{Verdict, audit};
 use sgt_cert::Decision;
-use sgt_names::{EngineFail, Sink, Source, write_all};
-use sgt_notation::{Lines, MAX_LINE, Next};
+use sgt_names::{EngineFail, MAX_LINE, Sink, Source, write_all};
+use sgt_notation::{Lines, Next};
 use std::alloc::Global;
 use std::thread::Threads;
 
@@ -154,7 +154,7 @@ fn judge_sections<H: Threads, R: Source>(
 /// verdict is that of `audit` of sgt_audit; but behind a fault more may be read, as many sections as there are workers.
 /// With fewer than two workers it is `audit` itself.
 ///
-/// An Err is ReadFault, where a read failed or too many were needed (`MOST_READS` of sgt_notation), or Memory: nothing was
+/// An Err is ReadFault, where a read failed or too many were needed (`MOST_READS` of sgt_names), or Memory: nothing was
 /// written then. Or it is WriteFault, where a write failed: at most a front of the line was written, and not the whole of it.
 pub fn audit_with<H: Threads + Sync, R: Source, W: Sink>(
     rt: &H,

@@ -1,7 +1,7 @@
 //! The first two lines of a text.
 
 ghost use Rattle.std.specs.Prelude.{◌≡◌, ◌≢◌, ◌+◌, ◌-◌, ◌^◌, ◌∷◌, ◌++◌, ℕ, Bool, [], List, Option, Err, false, IfOk, IfErr, IfSome, IfNone, IsErrOf};
-ghost use Rattle.sgt_notation.specs.Limits.{max_line};
+ghost use Rattle.sgt_names.specs.Limits.{max_line};
 ghost use Rattle.sgt_notation.specs.Lines.{IsNext, coming};
 ghost use Rattle.sgt_notation.specs.Spelling.{text_of_lines};
 ghost use Rattle.sgt_cert.specs.Text.{certificate_text, format_line};
@@ -19,8 +19,8 @@ use crate::sections::{Section, Text, read_ahead};
 use sgt_audit::{Fault, Verdict};
 use sgt_audit_decisions::{Decided, Steps, are_cycles, are_ranks};
 use sgt_cert::{CertFault, Certificate, from_line};
-use sgt_names::{EngineFail, Source};
-use sgt_notation::{MAX_LINE, Next};
+use sgt_names::{EngineFail, MAX_LINE, Source};
+use sgt_notation::Next;
 use std::alloc::{AllocError, Global};
 use std::thread::Threads;
 

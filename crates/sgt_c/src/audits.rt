@@ -1,7 +1,7 @@
 //! The export of the audit.
 
 ghost use Rattle.std.specs.Prelude.{◌≡◌, ◌≤◌, Err, IfOk, length};
-ghost use Rattle.sgt_notation.specs.Limits.{most_reads};
+ghost use Rattle.sgt_names.specs.Limits.{most_reads};
 ghost use Rattle.sgt_audit.specs.Verdict.{IsVerdict, SaysHeadline, HoldsHeadline};
 ghost use Rattle.sgt_audit.specs.declared.verdict.Verdict.{Verdict};
 ghost use Rattle.sgt_c.specs.declared.answers.NoAnswer.{NoAnswer};

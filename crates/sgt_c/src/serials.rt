@@ -1,7 +1,7 @@
 //! The exports of the serial run.
 
 ghost use Rattle.std.specs.Prelude.{◌≡◌, ◌≤◌, ◌<◌, ◌⊎◌, ◌++◌, ℕ, List, Err, IfOk, length, drop};
-ghost use Rattle.sgt_notation.specs.Limits.{most_reads};
+ghost use Rattle.sgt_names.specs.Limits.{most_reads};
 ghost use Rattle.sgt_c.specs.Answers.{IsAnswered, IsNumber, IsSerialText};
 
 use crate::answers::{NoAnswer, SGT_LONG, SGT_ROOM};

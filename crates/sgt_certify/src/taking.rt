@@ -1,13 +1,13 @@
 //! All that a reader gives.
 
 ghost use Rattle.std.specs.Prelude.{◌≡◌, ◌≢◌, ◌≤◌, ◌∷◌, ◌++◌, ℕ, [], length, take, Err, IfOk, IsErrOf, OnOk};
-ghost use Rattle.sgt_notation.specs.Limits.{most_reads};
+ghost use Rattle.sgt_names.specs.Limits.{most_reads};
 ghost use Rattle.sgt_notation.specs.Lines.{ReadFaultIsDue, passed};
 ghost use Rattle.sgt_certify.specs.Answer.{IsTaken};
 
 use memchr::memrchr;
-use sgt_names::{EngineFail, Source};
-use sgt_notation::{Lines, LinesFault, MAX_LINE, Next};
+use sgt_names::{EngineFail, MAX_LINE, Source};
+use sgt_notation::{Lines, LinesFault, Next};
 use std::alloc::{AllocError, Global};
 
 /// One more line, with its LF.

@@ -1,9 +1,8 @@
 -- What is broken behind lines that were read, and what is kept.
 use Rattle.std.proofs.Common.{◌≡◌, ◌≢◌, ℕ, ◌+◌, ◌<◌, ◌≤◌, Bool, true, List, [], ◌∷◌, ◌++◌, length, map, Option, Some, None, refl, sym, ap, ◌∙◌, subst, arith}
-use Rattle.sgt_names.specs.Limits.{max_sites}
+use Rattle.sgt_names.specs.Limits.{max_line, max_sites}
 use Rattle.sgt_names.specs.declared.entry.Entry.{Entry}
 use Rattle.sgt_names.specs.declared.entry.Holding.{Holding}
-use Rattle.sgt_notation.specs.Limits.{max_line}
 use Rattle.sgt_notation.specs.Spelling.{line_text}
 use Rattle.sgt_notation.proofs.OneSpelling.{line-one}
 use Rattle.sgt_notation.proofs.Short.{line-short}

@@ -8,12 +8,11 @@ use Rattle.std.proofs.lemmas.List.{append-nil, length-append, length-map}
 use Rattle.std.proofs.lemmas.List.Elements.{All-append, All-cons, All-nil, All-push, filter_map-append}
 use Rattle.std.proofs.lemmas.Option.{same_Some}
 use Rattle.sgt_names.specs.Entry.{item_of}
-use Rattle.sgt_names.specs.Limits.{max_sites}
+use Rattle.sgt_names.specs.Limits.{max_line, max_sites}
 use Rattle.sgt_names.specs.Log.{names}
 use Rattle.sgt_names.specs.declared.entry.Entry.{Entry}
 use Rattle.sgt_names.proofs.Lists.{back_at, front_at, middle_at, within_at}
 use Rattle.sgt_names.proofs.Places.{All_at, All-from_at, slice_get-take_at, split_at}
-use Rattle.sgt_notation.specs.Limits.{max_line}
 use Rattle.sgt_notation.specs.Lines.{IsLongerThan}
 use Rattle.sgt_notation.specs.Spelling.{HasNoLf, line_text, text_of_lines}
 use Rattle.sgt_notation.specs.declared.SectionLine.{SectionLine}

@@ -2,10 +2,9 @@
 -- of the certificate.
 use Rattle.std.specs.Prelude.{◌≡◌, ◌≢◌, ℕ, ◌+◌, ◌≤◌, Bool, true, false, List, [], ◌∷◌, ◌++◌, length, map, All}
 use Rattle.std.specs.List.{filter_map}
-use Rattle.sgt_names.specs.Limits.{max_sites}
+use Rattle.sgt_names.specs.Limits.{max_line, max_sites}
 use Rattle.sgt_names.specs.Entry.{tx_of, IsEnd}
 use Rattle.sgt_names.specs.declared.entry.Entry.{Entry}
-use Rattle.sgt_notation.specs.Limits.{max_line}
 use Rattle.sgt_notation.specs.Lines.{IsLongerThan}
 use Rattle.sgt_notation.specs.Spelling.{line_text, text_of_lines}
 use Rattle.sgt_notation.specs.declared.SectionLine.{SectionLine}

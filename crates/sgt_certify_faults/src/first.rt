@@ -12,7 +12,7 @@ use crate::lines::{read_format, split_line};
 use crate::reading::Reading;
 use sgt_audit::Fault;
 use sgt_audit_decisions::Decided;
-use sgt_notation::MAX_LINE;
+use sgt_names::MAX_LINE;
 use std::alloc::{AllocError, Global};
 
 /// The first line of a text with a fault that no certificate mends, and the least of its faults.

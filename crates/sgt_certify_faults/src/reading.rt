@@ -1,8 +1,7 @@
 //! The lines of a text of logs, one by one.
 
 ghost use Rattle.std.specs.Prelude.{◌≡◌, ◌<◌, ◌∷◌, ◌++◌, [], ℕ, List, Bool, IfOk, IfSome, IfNone, length};
-ghost use Rattle.sgt_names.specs.Limits.{max_sites};
-ghost use Rattle.sgt_notation.specs.Limits.{max_line};
+ghost use Rattle.sgt_names.specs.Limits.{max_line, max_sites};
 ghost use Rattle.sgt_notation.specs.Spelling.{line_text};
 ghost use Rattle.sgt_cert.specs.Text.{AreSections};
 ghost use Rattle.sgt_cert.specs.declared.certificate.Decision.{Decision};
@@ -20,8 +19,8 @@ use crate::lines::read_line;
 use sgt_audit::{Fault, Known, Place, enter_line, look_up};
 use sgt_audit_cells::SiteState;
 use sgt_audit_decisions::Decided;
-use sgt_names::MAX_SITES;
-use sgt_notation::{MAX_LINE, SectionLine};
+use sgt_names::{MAX_LINE, MAX_SITES};
+use sgt_notation::SectionLine;
 use std::alloc::{AllocError, Global};
 
 /// What is kept of the lines that were read, none of which has a fault.

@@ -3,7 +3,7 @@
 ghost use Rattle.std.specs.Prelude.{◌≡◌, ◌≢◌, ◌⊎◌, ◌<◌, ◌≤◌, ◌++◌, [], ℕ, List, Some, None, Err, length, string_bytes, IfOk, OnOk, OnErr, IfSome, IsErrOf};
 ghost use Rattle.std.specs.Io.KnownBytes.{Appends};
 ghost use Rattle.sgt_names.specs.Device.{CountsFailures, WritesFront};
-ghost use Rattle.sgt_notation.specs.Limits.{most_reads};
+ghost use Rattle.sgt_names.specs.Limits.{most_reads};
 ghost use Rattle.sgt_explain.specs.Explained.{IsExplainedOf, WroteExplained, WroteExplainedOf, WroteExplainedFront};
 ghost use Rattle.sgt_explain.specs.Topics.{topic_name, IsRuleOf};
 
@@ -84,7 +84,7 @@ fn explain_asked<R: Source, W: Sink>(
 /// transaction with its cycle, every step with its site, its item, its kind in words and its two lines. The input is read whole
 /// and kept in memory, also behind a fault.
 ///
-/// ReadFault where the reader failed, or too many reads were needed (`MOST_READS` of sgt_notation), and Memory where a growth
+/// ReadFault where the reader failed, or too many reads were needed (`MOST_READS` of sgt_names), and Memory where a growth
 /// was refused: nothing was written. WriteFault where the writer failed: a front of the answer may have been written.
 pub fn explain<R: Source, W: Sink>(
     alloc: Global,

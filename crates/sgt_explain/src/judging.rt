@@ -1,7 +1,7 @@
 //! The verdict on bytes that are held.
 
 ghost use Rattle.std.specs.Prelude.{◌≡◌, ◌≢◌, ◌≤◌, Err, IfOk, IsErrOf, length};
-ghost use Rattle.sgt_notation.specs.Limits.{most_reads};
+ghost use Rattle.sgt_names.specs.Limits.{most_reads};
 ghost use Rattle.sgt_audit.specs.Verdict.{IsVerdict};
 
 use sgt_audit::{Verdict, audit};

@@ -2,10 +2,9 @@
 
 ghost use Rattle.std.specs.Prelude.{◌≡◌, ◌≢◌, ◌++◌, ◌<◌, ◌≤◌, ◌⊎◌, Err, length, take, IfOk, IfSome, IsErrOf};
 ghost use Rattle.std.specs.Io.KnownBytes.{Consumes, IsAtEnd};
-ghost use Rattle.sgt_notation.specs.Limits.{most_reads};
+ghost use Rattle.sgt_names.specs.Limits.{most_reads};
 
-use sgt_names::{EngineFail, Source};
-use sgt_notation::{BUFFER, MOST_READS};
+use sgt_names::{BUFFER, EngineFail, MOST_READS, Source};
 use std::alloc::{AllocError, Global};
 
 fn empty_buffer(alloc: Global) -> Result<Vec<u8>, AllocError>
@@ -41,7 +40,7 @@ fn take_some<R: Source>(
     }
 }
 
-/// All that the reader gives. ReadFault where a read failed or too many were needed (`MOST_READS` of sgt_notation); Memory where
+/// All that the reader gives. ReadFault where a read failed or too many were needed (`MOST_READS` of sgt_names); Memory where
 /// a growth was refused.
 pub fn read_all<R: Source>(alloc: Global, reader: &mut R) -> Result<Vec<u8>, EngineFail>
     ensures all { IfOk result (λ text. IfSome (R.tells reader.old) (λ bytes. text.items ≡ bytes)) }

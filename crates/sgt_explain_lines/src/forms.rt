@@ -8,8 +8,8 @@ use crate::input::{line_at, text_at};
 use crate::section::Section;
 use crate::shown::push_numbered;
 use crate::slips::push_slip;
-use sgt_names::{Item, MAX_ITEMS};
-use sgt_notation::{MAX_LINE, SectionLine, read_section};
+use sgt_names::{Item, MAX_ITEMS, MAX_LINE};
+use sgt_notation::{SectionLine, read_section};
 use std::alloc::AllocError;
 use std::fmt::Write;
 

@@ -3,8 +3,7 @@
 ghost use Rattle.std.specs.Prelude.{OnOk, string_bytes};
 ghost use Rattle.sgt_explain_lines.specs.Told.{Adds};
 
-use sgt_names::Item;
-use sgt_notation::MAX_LINE;
+use sgt_names::{Item, MAX_LINE};
 use std::alloc::AllocError;
 use std::fmt::Write;
 

@@ -2,7 +2,7 @@
 use Rattle.std.proofs.Common.{◌≡◌, ℕ, ◌+◌, ◌<◌, ◌≤◌, List, [], ◌∷◌, ◌++◌, length, Option, Some, None, IfSome, refl, sym, ap, ◌∙◌, subst, arith, inl, inr}
 use Rattle.std.specs.Prelude.{⊤}
 use Rattle.std.proofs.lemmas.List.{append-nil, length-append}
-use Rattle.sgt_notation.specs.Limits.{max_line, most_reads}
+use Rattle.sgt_names.specs.Limits.{max_line, most_reads}
 use Rattle.sgt_notation.specs.Spelling.{text_of_lines}
 use Rattle.sgt_notation.specs.Lines.{Ahead, Gives, MetReadFault, ReadFaultIsDue, Spends, Stream, coming}
 use Rattle.sgt_notation.specs.declared.fault.NotationFault.{NotationFault}

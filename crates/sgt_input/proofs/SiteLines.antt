@@ -9,7 +9,7 @@ use Rattle.std.proofs.lemmas.List.Elements.{recursion_from_All}
 use Rattle.sgt_names.specs.declared.entry.Holding.{Holding}
 use Rattle.sgt_names.proofs.Lists.{heads, tails}
 use Rattle.sgt_notation.specs.Events.{IsSiteLine, site_text}
-use Rattle.sgt_notation.specs.Limits.{max_line}
+use Rattle.sgt_names.specs.Limits.{max_line}
 use Rattle.sgt_notation.specs.Spelling.{IsHolding, assignment}
 use Rattle.sgt_notation.specs.declared.event.SiteLine.{SiteLine}
 use Rattle.sgt_notation.proofs.OneSite.{site-no_lf, site-one}

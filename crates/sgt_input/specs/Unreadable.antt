@@ -1,7 +1,7 @@
 -- The first line of an input that can't be read, where it is known which lines an input may begin
 -- with.
 use Rattle.std.specs.Prelude.{◌≡◌, ◌≤◌, ◌⊎◌, ℕ, ◌+◌, List, [], ◌∷◌, ◌++◌, length}
-use Rattle.sgt_notation.specs.Limits.{max_line}
+use Rattle.sgt_names.specs.Limits.{max_line}
 use Rattle.sgt_notation.specs.Lines.{IsLongerThan}
 use Rattle.sgt_notation.specs.Spelling.{HasNoLf, text_of_lines}
 use Rattle.sgt_notation.specs.declared.fault.NotationFault.{NotationFault}

@@ -5,8 +5,8 @@ ghost use Rattle.sgt_notation.specs.Lines.{ReadFaultIsDue};
 ghost use Rattle.sgt_input.specs.Stopping.{IsStop};
 
 use crate::taker::Taker;
-use sgt_names::{EngineFail, Source};
-use sgt_notation::{Lines, LinesFault, MAX_LINE, Next, NotationFault, find_lf};
+use sgt_names::{EngineFail, MAX_LINE, Source};
+use sgt_notation::{Lines, LinesFault, Next, NotationFault, find_lf};
 use std::alloc::Global;
 
 /// Where the reading of an input stopped.
@@ -31,7 +31,7 @@ fn not_a_line(line: u64) -> Stop
 /// where it is longer than `MAX_LINE`, whatever it holds, with its LF or without; it is L1 where it isn't taken, where it has
 /// no LF, and where there is no line at all. No further read is made once it was read.
 ///
-/// An Err is ReadFault, where a read failed or too many were needed (`MOST_READS` of sgt_notation), or Memory. How far was
+/// An Err is ReadFault, where a read failed or too many were needed (`MOST_READS` of sgt_names), or Memory. How far was
 /// read then is not promised.
 pub fn read_lines<R: Source, T: Taker>(
     alloc: Global,

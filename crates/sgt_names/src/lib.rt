@@ -28,7 +28,9 @@ pub use laws::{
     additions_sum_up, changes_show_at_their_place, increments_commute,
     increments_conflict_with_others, increments_do_not_conflict, value_is_of_the_last_write,
 };
-pub use limits::{MAX_ITEMS, MAX_SITES};
+pub use limits::{
+    BUFFER, MAX_ITEMS, MAX_LINE, MAX_SCRIPTS, MAX_SITES, MAX_TRIES, MAX_WORKERS, MOST_READS,
+};
 pub use listed::Listed;
 pub use memory::{MemSink, MemSource};
 pub use number::{BadNumber, Tx};

@@ -4,7 +4,7 @@ use Rattle.std.specs.List.{AllByRecursion, join_with_byte}
 use Rattle.std.proofs.lemmas.List.{append-nil}
 use Rattle.std.proofs.lemmas.List.Elements.{All-from_recursion, recursion_from_All}
 use Rattle.sgt_names.proofs.Lists.{heads, tails}
-use Rattle.sgt_notation.specs.Limits.{max_line}
+use Rattle.sgt_names.specs.Limits.{max_line}
 use Rattle.sgt_notation.specs.PrivateEvents.{words}
 use Rattle.sgt_notation.specs.PrivateScripts.{KeepsAll, KeepsScript}
 use Rattle.sgt_notation.specs.Reading.{SpellsNone}

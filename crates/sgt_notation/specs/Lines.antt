@@ -3,7 +3,7 @@
 use Rattle.std.specs.Prelude.{◌≡◌, ◌≢◌, ◌<◌, ◌≤◌, ℕ, ◌+◌, ◌-◌, ◌*◌, ◌^◌, ◌⊎◌, ⊤}
 use Rattle.std.specs.Prelude.{List, [], ◌∷◌, ◌++◌, length, take, drop, Option, Some, None, IfSome}
 use Rattle.std.specs.Io.KnownBytes.{prepend_known, Consumes}
-use Rattle.sgt_notation.specs.Limits.{buffer_size, most_reads}
+use Rattle.sgt_names.specs.Limits.{buffer_size, most_reads}
 use Rattle.sgt_notation.specs.Spelling.{HasNoLf}
 use Rattle.sgt_notation.specs.declared.lines.Next.{Next}
 use Rattle.sgt_notation.specs.declared.lines.Next.TheVariants.{Line, Cut, TooLong, End}

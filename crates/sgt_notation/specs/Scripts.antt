@@ -3,7 +3,7 @@ use Rattle.std.specs.Prelude.{◌≡◌, ℕ, ◌≤◌, List, ◌++◌, length,
 use Rattle.std.specs.List.{join_with_byte}
 use Rattle.sgt_names.specs.Name.{Name, IsName}
 use Rattle.sgt_notation.specs.Events.{place}
-use Rattle.sgt_notation.specs.Limits.{max_line}
+use Rattle.sgt_names.specs.Limits.{max_line}
 use Rattle.sgt_notation.specs.Reading.{Refuses, SpellsNone}
 use Rattle.sgt_notation.specs.Spelling.{IsSite, IsValue}
 use Rattle.sgt_notation.specs.declared.script.Op.{Op}

@@ -2,9 +2,6 @@
 
 use thiserror::Error;
 
-/// The bytes that a line has at most, its LF left out.
-pub const MAX_LINE: usize = 1_048_576;
-
 /// Why bytes are not read as a line.
 #[derive(Clone, Copy, Debug, PartialEq, Eq, Error)]
 pub enum NotationFault {

@@ -3,7 +3,7 @@
 ghost use Rattle.std.specs.Prelude.{ℕ, List, Option, ◌≡◌, ◌≢◌, ◌+◌, ◌-◌, ◌<◌, ◌≤◌, ◌⊎◌, ◌^◌, [], ◌∷◌, ◌++◌, length, take, drop, vec_len, vec_capacity};
 ghost use Rattle.std.specs.Prelude.{Some, Ok, IfSome, IfNone, IfErr, IfOk, OnOk, OnErr, IsErrOf};
 ghost use Rattle.std.specs.Io.KnownBytes.{Consumes, IsAtEnd};
-ghost use Rattle.sgt_notation.specs.Limits.{buffer_size, most_reads};
+ghost use Rattle.sgt_names.specs.Limits.{buffer_size, most_reads};
 ghost use Rattle.sgt_notation.specs.Lines.{Ahead, GaveNext, Leaves, MetReadFault, WantedMemory, most_left, passed, stream};
 ghost use Rattle.sgt_notation.specs.Private.{IsLeft, Looks, Moves, Outgrows};
 ghost use Rattle.sgt_notation.specs.Spelling.{HasNoLf, IsLine, line_text};
@@ -11,7 +11,7 @@ ghost use Rattle.sgt_notation.specs.Spelling.{HasNoLf, IsLine, line_text};
 use crate::SectionLine;
 use crate::front::front_line;
 use memchr::memchr;
-use sgt_names::Source;
+use sgt_names::{BUFFER, MOST_READS, Source};
 use std::alloc::{AllocError, Global};
 use std::marker::Model;
 use thiserror::Error;
@@ -49,12 +49,6 @@ impl From<AllocError> for LinesFault {
         LinesFault::Memory
     }
 }
-
-/// The reads that a `Lines` makes at most, over all its calls.
-pub const MOST_READS: u32 = u32::MAX;
-
-/// The bytes that a read asks for at most.
-pub const BUFFER: usize = 65_536;
 
 /// Cuts a reader into lines. It holds the bytes that were read and not yet given out, and no reader: each call is passed
 /// the same one. Contracts see those bytes, and how many more reads there may be.

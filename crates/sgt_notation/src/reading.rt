@@ -6,10 +6,10 @@ ghost use Rattle.sgt_notation.specs.Reading.{Finds, Reads, Refuses};
 ghost use Rattle.sgt_notation.specs.Spelling.{IsEntry, IsHolding, IsLine, assignment, entry_text, line_text};
 
 use crate::SectionLine;
-use crate::fault::{MAX_LINE, NotationFault};
+use crate::fault::NotationFault;
 use crate::front::front_section;
 use crate::number::{find_site, find_tx, find_value};
-use sgt_names::{Entry, Holding, Item, Tx, Value};
+use sgt_names::{Entry, Holding, Item, MAX_LINE, Tx, Value};
 
 /// What stands before the first such byte, and what after it.
 pub(crate) fn cut(bytes: &[u8], at: u8) -> Option<(&[u8], &[u8])>

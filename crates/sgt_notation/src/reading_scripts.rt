@@ -7,13 +7,13 @@ ghost use Rattle.sgt_notation.specs.Reading.{Finds};
 ghost use Rattle.sgt_notation.specs.Scripts.{AreSourcesNamed, HasSource, IsOp, Names, ReadsScript, op_text};
 ghost use Rattle.sgt_notation.specs.declared.script.Op.{Op as AnOp};
 
-use crate::fault::{MAX_LINE, NotationFault};
+use crate::fault::NotationFault;
 use crate::number::find_value;
 use crate::reading::cut;
 use crate::reading_events::{Place, find_place};
 use crate::reading_sites::first_word;
 use crate::script::{Op, Script};
-use sgt_names::{Item, Listed, SiteNo, Value};
+use sgt_names::{Item, Listed, MAX_LINE, SiteNo, Value};
 use std::alloc::Global;
 use std::collections::BTreeMap;
 

@@ -5,7 +5,7 @@ use Rattle.sgt_names.specs.Device.{WritesFront}
 use Rattle.sgt_names.specs.declared.outcome.EngineFail.{EngineFail}
 use Rattle.sgt_names.specs.declared.outcome.EngineFail.TheVariants.{Memory, ReadFault, WriteFault}
 use Rattle.sgt_names.specs.declared.outcome.Outcome.TheVariants.{Yes, No, Unreadable}
-use Rattle.sgt_notation.specs.Limits.{most_reads}
+use Rattle.sgt_names.specs.Limits.{most_reads}
 use Rattle.sgt_program.specs.declared.ending.Ending.{Ending}
 use Rattle.sgt_program.specs.declared.ending.Ending.TheVariants.{Ran, NoCommand}
 

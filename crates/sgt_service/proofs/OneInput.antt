@@ -17,7 +17,8 @@ use Rattle.sgt_notation.proofs.OneScript.{script-one}
 use Rattle.sgt_notation.proofs.OneSite.{site-one}
 use Rattle.sgt_notation.proofs.OneSpelling.{apart}
 use Rattle.sgt_service.specs.declared.input.Input.{Input}
-use Rattle.sgt_service.specs.Input.{Begins, IsBegun, IsPlaced, IsScriptOver, input_lines, max_scripts}
+use Rattle.sgt_names.specs.Limits.{max_scripts}
+use Rattle.sgt_service.specs.Input.{Begins, IsBegun, IsPlaced, IsScriptOver, input_lines}
 use Rattle.sgt_input.specs.Sites.{TakesSite}
 use Rattle.sgt_input.proofs.SiteLines.{last-number, map-push, more-numbers}
 use Rattle.sgt_service.specs.private.Taking.{Takes, TakesScript}

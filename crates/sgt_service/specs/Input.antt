@@ -3,7 +3,7 @@
 use Rattle.std.specs.Prelude.{◌≡◌, ◌≢◌, ◌≤◌, ℕ, List, [], ◌++◌, length, map, All, Any, Some, slice_get}
 use Rattle.std.specs.List.{range_with_len}
 use Rattle.sgt_names.specs.Name.{Name}
-use Rattle.sgt_names.specs.Limits.{max_sites}
+use Rattle.sgt_names.specs.Limits.{max_scripts, max_sites}
 use Rattle.sgt_notation.specs.Events.{IsSiteLine, site_text}
 use Rattle.sgt_notation.specs.Scripts.{IsScript, script_text}
 use Rattle.sgt_notation.specs.Spelling.{text_of_lines}
@@ -17,10 +17,6 @@ use Rattle.sgt_input.specs.Unreadable.{IsFirstUnreadable}
 use Rattle.sgt_service.specs.declared.input.Input.{Input}
 use Rattle.sgt_service.specs.declared.input.Reading.{Reading}
 use Rattle.sgt_service.specs.declared.input.Reading.TheVariants.{Readable, Unreadable}
-
--- how many scripts there may be
-abbrev pub max_scripts : ℕ
-max_scripts = 1000
 
 -- the site is there, and has the item
 abbrev pub HasPlace : List SiteLine → ℕ → Name → Type 0

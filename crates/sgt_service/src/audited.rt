@@ -4,8 +4,7 @@ ghost use Rattle.std.specs.Prelude.{IfOk};
 ghost use Rattle.sgt_audit.specs.Verdict.{IsVerdict, SaysHeadline};
 
 use sgt_audit::{Verdict, audit};
-use sgt_names::{Asks, EngineFail, Failed, Sink, Source};
-use sgt_notation::MOST_READS;
+use sgt_names::{Asks, EngineFail, Failed, MOST_READS, Sink, Source};
 use std::alloc::{AllocError, Global};
 
 /// Bytes in memory. Reading them never fails.

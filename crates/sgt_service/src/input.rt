@@ -3,9 +3,6 @@
 use sgt_names::Listed;
 use sgt_notation::{NotationFault, Script, SiteLine};
 
-/// The scripts that an input has at most.
-pub const MAX_SCRIPTS: usize = 1_000;
-
 /// What an input says.
 #[derive(Drop)]
 pub struct Input {

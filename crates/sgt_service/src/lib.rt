@@ -14,7 +14,7 @@ mod settled;
 mod taking;
 
 pub use engine::run_scripts;
-pub use input::{Input, MAX_SCRIPTS, Reading};
+pub use input::{Input, Reading};
 pub use laws::{inputs_have_one_reading, unreadable_lines_are_determined};
 pub use reading::read_input;
 pub use running::run;

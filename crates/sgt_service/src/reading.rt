@@ -38,7 +38,7 @@ impl Taker for Keeper {
 /// site out of its order or behind a script, a script before the first site or over items that aren't there; where it has no LF;
 /// and, behind the last line, where there is no site. No further read is made once that line was read.
 ///
-/// An Err is ReadFault, where a read failed or too many were needed (`MOST_READS` of sgt_notation), or Memory. How far was
+/// An Err is ReadFault, where a read failed or too many were needed (`MOST_READS` of sgt_names), or Memory. How far was
 /// read then is not promised.
 pub fn read_input<R: Source>(alloc: Global, reader: &mut R) -> Result<Reading, EngineFail>
     ensures read { IfOk result

@@ -4,9 +4,8 @@ ghost use Rattle.std.specs.Prelude.{◌≡◌, ◌↔◌, Any, All, IsTrue, IfOk
 ghost use Rattle.sgt_service.specs.Input.{HasPlace, IsPlaced};
 ghost use Rattle.sgt_service.specs.private.Taking.{Takes, TakesScript};
 
-use crate::input::MAX_SCRIPTS;
 use sgt_input::take_site;
-use sgt_names::{Holding, Item, SiteNo};
+use sgt_names::{Holding, Item, MAX_SCRIPTS, SiteNo};
 use sgt_notation::{NotationFault, Op, Script, SiteLine, read_script};
 use std::alloc::{AllocError, Global};
 use std::cmp::Ordering;

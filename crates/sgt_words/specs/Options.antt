@@ -2,14 +2,8 @@
 use Rattle.std.specs.Prelude.{◌≡◌, ◌≤◌, ℕ, List, [], ◌∷◌, Option, Some, codes}
 use Rattle.std.specs.Str.Parse.{IsNumeral, digits_value, without_leading_plus}
 use Rattle.clap.specs.Words.{App, Rule, Text, fault_of, matches_of, new_app, new_rule, one_of, with_rule}
+use Rattle.sgt_names.specs.Limits.{max_tries, max_workers}
 use Rattle.clap.specs.declared.builder.value_parser.ValueParser.TheVariants as parser
-
--- how many workers there may be, and how many tries for each script
-abbrev pub max_workers : ℕ
-max_workers = 16
-
-abbrev pub max_tries : ℕ
-max_tries = 4
 
 -- an option with a number from 1 to `most`, and the text that stands for it where it isn't there
 abbrev pub number_rule : Text → ℕ → Text → Rule

@@ -3,7 +3,8 @@ use Rattle.std.specs.Prelude.{◌≡◌, ◌≢◌, ◌<◌, ◌≤◌, ℕ, ◌
 use Rattle.clap.specs.declared.error.kind.ErrorKind.{ErrorKind}
 use Rattle.clap.specs.declared.error.kind.ErrorKind.TheVariants.{DisplayHelp, DisplayVersion}
 use Rattle.sgt_explain.specs.Topics.{topic_name}
-use Rattle.sgt_words.specs.Options.{ReadsNumber, SaysRun, max_workers}
+use Rattle.sgt_names.specs.Limits.{max_workers}
+use Rattle.sgt_words.specs.Options.{ReadsNumber, SaysRun}
 use Rattle.sgt_words.specs.declared.choice.Choice.{Choice}
 use Rattle.sgt_words.specs.declared.choice.Choice.TheVariants.{Audit, AuditWith, Certify, Draw, DrawWith, Explain, Replay, Rule, Run, Serial, Transaction}
 use Rattle.sgt_words.specs.declared.choice.NoChoice.{NoChoice}

@@ -1,7 +1,8 @@
 //! The commands with their words, and the texts of their help.
 
-use crate::options::{MAX_WORKERS, number_option, run_line};
+use crate::options::{number_option, run_line};
 use clap::{Arg, ArgAction, Command};
+use sgt_names::MAX_WORKERS;
 use std::alloc::{AllocError, Global};
 
 const VERSION: &str = "0.5.0 (bundles: sgt 1, sgt 2)";

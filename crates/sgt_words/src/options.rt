@@ -11,12 +11,8 @@ use crate::commands::MORE;
 use crate::line::{no_command, told_of};
 use clap::builder::ValueParser;
 use clap::{Arg, ArgMatches, Command};
+use sgt_names::{MAX_TRIES, MAX_WORKERS};
 use std::alloc::{AllocError, Global};
-
-/// The most workers of an audit or a run.
-pub const MAX_WORKERS: u64 = 16;
-
-const MAX_TRIES: u64 = 4;
 
 const RUN: &str =
     "Runs scripts by threads, and writes a line for each, audit's line on the run's own bundle, then `---` and the bundle";

@@ -3,7 +3,7 @@
 ghost use Rattle.std.specs.Prelude.{◌≡◌, ℕ, Some, IfSome, map, string_bytes};
 ghost use Rattle.sgt_words.specs.Words.{AsksWorkers, SaysWorkers};
 
-use crate::options::MAX_WORKERS;
+use sgt_names::MAX_WORKERS;
 
 // The number of workers that the word is.
 fn number_of(word: &str) -> Option<u64>

@@ -1,6 +1,6 @@
 -- The next piece of a text keeps a rule or it doesn't, where every rule of smaller number is kept.
 use Rattle.std.proofs.Common.{◌≡◌, ℕ, ◌<◌, Bool, true, false, List, [], length, sym, ◌∙◌, subst, inl, inr}
-use Rattle.sgt_notation.specs.Limits.{max_line}
+use Rattle.sgt_names.specs.Limits.{max_line}
 use Rattle.sgt_notation.specs.Spelling.{line_text}
 use Rattle.sgt_notation.specs.declared.SectionLine.{SectionLine}
 use Rattle.sgt_notation.proofs.Decidable.{Decidable, decidable-as, decidable-most, decidable-text, or_else}

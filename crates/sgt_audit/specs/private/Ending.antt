@@ -1,6 +1,6 @@
 -- The end of the input, and how long a line may be.
 use Rattle.std.specs.Prelude.{◌≡◌, ℕ, ◌-◌, ◌^◌, Bool, IsTrue, IsSome, List, [], Result, Ok, Err}
-use Rattle.sgt_notation.specs.Limits.{max_line}
+use Rattle.sgt_names.specs.Limits.{max_line}
 use Rattle.sgt_audit.specs.declared.faults.FirstFault.{FirstFault}
 use Rattle.sgt_audit.specs.declared.kept.Kept.{Kept}
 use Rattle.sgt_audit.specs.declared.machine.Machine.{Machine}

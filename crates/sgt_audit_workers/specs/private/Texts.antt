@@ -1,7 +1,7 @@
 -- A text as far as its sections were read.
 use Rattle.std.specs.Prelude.{◌≡◌, ◌≢◌, ℕ, ◌+◌, false, IsTrue, List, [], ◌∷◌, Option, IfSome}
 use Rattle.std.specs.Io.KnownBytes.{Consumes, IsAtEnd}
-use Rattle.sgt_notation.specs.Limits.{most_reads}
+use Rattle.sgt_names.specs.Limits.{most_reads}
 use Rattle.sgt_notation.specs.Lines.{ReadFaultIsDue, Spends, coming}
 use Rattle.sgt_audit_workers.specs.declared.sections.Section.{Section}
 use Rattle.sgt_audit_workers.specs.declared.sections.Text.{Text}

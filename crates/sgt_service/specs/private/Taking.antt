@@ -6,7 +6,8 @@ use Rattle.sgt_notation.specs.declared.event.SiteLine.{SiteLine}
 use Rattle.sgt_notation.specs.declared.script.Script.{Script}
 use Rattle.sgt_input.specs.Taking.{Continues, HasLines}
 use Rattle.sgt_service.specs.declared.input.Input.{Input}
-use Rattle.sgt_service.specs.Input.{IsBegun, IsScriptOver, input_lines, max_scripts}
+use Rattle.sgt_names.specs.Limits.{max_scripts}
+use Rattle.sgt_service.specs.Input.{IsBegun, IsScriptOver, input_lines}
 
 -- an input that begins so has these lines
 abbrev pub HaveLines : Input → List (List ℕ) → Type 0

@@ -2,7 +2,8 @@
 use Rattle.std.specs.Prelude.{◌≤◌, ℕ, codes}
 use Rattle.clap.specs.Words.{found_of, one_text}
 use Rattle.clap.specs.declared.parser.matches.ArgMatches.{ArgMatches}
-use Rattle.sgt_words.specs.Options.{ReadsNumber, max_tries, max_workers}
+use Rattle.sgt_names.specs.Limits.{max_tries, max_workers}
+use Rattle.sgt_words.specs.Options.{ReadsNumber}
 
 -- the getters read these numbers, which are in their ranges
 pub record FindsRun (m : ArgMatches) (workers tries : ℕ) : Type 0 where

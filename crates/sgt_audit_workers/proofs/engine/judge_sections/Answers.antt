@@ -1,7 +1,7 @@
 use Rattle.std.proofs.Common.{rules, Option, None, List, ℕ, IfSome, ap, subst, sym, arith}
 use Rattle.std.specs.Prelude.{IfOk, IsErrOf}
 use Rattle.sgt_names.specs.declared.outcome.EngineFail.TheVariants.{ReadFault}
-use Rattle.sgt_notation.specs.Limits.{most_reads}
+use Rattle.sgt_names.specs.Limits.{most_reads}
 use Rattle.sgt_notation.specs.Lines.{Ahead, ReadFaultIsDue, Spends, coming}
 use Rattle.sgt_audit.specs.Verdict.{IsVerdict}
 use Rattle.sgt_audit_workers.specs.Head.{IsHead}

@@ -1,5 +1,5 @@
 use Rattle.std.proofs.Common.{subst}
-use Rattle.sgt_notation.specs.Limits.{max_line}
+use Rattle.sgt_names.specs.Limits.{max_line}
 use Rattle.sgt_notation.specs.Lines.{IsNext}
 use Rattle.sgt_audit_workers.proofs.Heads.{first-cut, first-end, first-long, first-unspelled}
 use Rattle.sgt_audit_workers.proofs.head.first_line.Goals as goal

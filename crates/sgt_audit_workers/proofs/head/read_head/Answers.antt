@@ -3,7 +3,7 @@ use Rattle.std.specs.Prelude.{IsErrOf}
 use Rattle.std.specs.Io.KnownBytes.{Consumes}
 use Rattle.std.proofs.lemmas.Bool.{false≢true}
 use Rattle.sgt_names.specs.declared.outcome.EngineFail.TheVariants.{ReadFault}
-use Rattle.sgt_notation.specs.Limits.{max_line, most_reads}
+use Rattle.sgt_names.specs.Limits.{max_line, most_reads}
 use Rattle.sgt_notation.specs.Lines.{IsNext, Spends, coming}
 use Rattle.sgt_notation.specs.Spelling.{text_of_lines}
 use Rattle.sgt_cert.specs.Text.{certificate_text, format_line}
