@@ -1,5 +1,5 @@
 -- Sections that were read, and those that are judged.
-use Rattle.std.proofs.Common.{◌≡◌, ℕ, Bool, true, false, IfSome, ◌+◌, ◌<◌, ◌≤◌, List, [], ◌∷◌, ◌++◌, length, Option, Some, None, IsTrue, sym, ◌∙◌, ap, subst, arith, slice_index_or}
+use Rattle.std.proofs.Common.{◌≡◌, ℕ, Bool, true, false, IfSome, ◌+◌, ◌<◌, ◌≤◌, List, [], ◌∷◌, ◌++◌, length, Option, Some, None, IsTrue, inl, inr, sym, ◌∙◌, ap, subst, arith, slice_index_or}
 use Rattle.std.specs.Prelude.{◌≢◌, Result, Ok, Err, IfOk, IfErr, remove}
 use Rattle.std.specs.Io.KnownBytes.{Consumes, IsAtEnd}
 use Rattle.std.proofs.KnownBytes.{Consumes-nil, Consumes-trans}
@@ -13,7 +13,7 @@ use Rattle.sgt_audit_workers.specs.declared.sections.Text.{Text}
 use Rattle.sgt_audit_workers.specs.Cut.{IsCut}
 use Rattle.sgt_audit_workers.specs.private.Jobs.{HasRun, IsGiven, IsIdle, MayJudge}
 use Rattle.sgt_audit_workers.specs.private.Running.{AreRunning, Will}
-use Rattle.sgt_audit_workers.specs.private.Texts.{AreAhead, FailsBehind, HasSpent, IsBehind, IsFirstAhead, IsNextSection}
+use Rattle.sgt_audit_workers.specs.private.Texts.{AreAhead, FailsBehind, HasSpent, IsBehind, IsFirstAhead, IsKept, IsNextSection}
 
 -- ---- one section
 
@@ -57,14 +57,21 @@ pub some-bytes : (bytes : List ℕ) → 1 ≤ length bytes → bytes ≢ []
 some-bytes bytes some none = absurd (omega (arith, some, ap length none))
 
 -- one more
-pub ahead-more : (told old new later : Option (List ℕ)) (ahead : List Section) (s : Section) → AreAhead told old ahead new → IsNextSection told new s later → s.bytes.items ≢ [] → AreAhead told old (ahead ++ s ∷ []) later
+ahead-more : (told old new later : Option (List ℕ)) (ahead : List Section) (s : Section) → AreAhead told old ahead new → IsNextSection told new s later → s.bytes.items ≢ [] → AreAhead told old (ahead ++ s ∷ []) later
 ahead-more told old new later [] s none next some = (later, record { bytes = Consumes-trans old new later [] s.bytes.items none next.bytes; last = next.last }, some, Consumes-nil later)
 ahead-more told old new later (first ∷ ahead) s are next some = (are.0, are.1, are.2, ahead-more told are.0 new later ahead s are.3 next some)
 
 -- a section with no bytes came behind them
-pub ahead-on : (told old new later : Option (List ℕ)) (ahead : List Section) → AreAhead told old ahead new → Consumes new later [] → AreAhead told old ahead later
+ahead-on : (told old new later : Option (List ℕ)) (ahead : List Section) → AreAhead told old ahead new → Consumes new later [] → AreAhead told old ahead later
 ahead-on told old new later [] none more = Consumes-trans old new later [] [] none more
 ahead-on told old new later (first ∷ ahead) are more = (are.0, are.1, are.2, ahead-on told are.0 new later ahead are.3 more)
+
+pub ahead-kept : (told from left now : Option (List ℕ)) (old new : List Section) (s : Section) → AreAhead told from old left → IsNextSection told left s now → IsKept old s new → AreAhead told from new now
+ahead-kept told from left now old new s are next kept =
+    elim kept [
+      | inl some ↦ subst (λ (ahead : List Section). AreAhead told from ahead now) (sym some.1) (ahead-more told from left now old s are next some.0)
+      | inr none ↦ subst (λ (ahead : List Section). AreAhead told from ahead now) (sym none.1) (ahead-on told from left now old are (subst (λ (bytes : List ℕ). Consumes left now bytes) none.0 next.bytes))
+    ]
 
 -- none was read ahead, and one is read now
 pub first-read : (told old new later : Option (List ℕ)) (s : Section) → AreAhead told old [] new → IsNextSection told new s later → IsFirstAhead told old s [] later

@@ -2,7 +2,7 @@
 
 ghost use Rattle.std.specs.Prelude.{◌≡◌, ◌≢◌, ◌+◌, ◌∷◌, ◌++◌, [], ℕ, List, Option, Err, IfOk, IfErr, IfSome, IfNone, OnOk, IsErrOf};
 ghost use Rattle.sgt_notation.specs.Lines.{coming};
-ghost use Rattle.sgt_audit_workers.specs.private.Texts.{AreAhead, FailsBehind, HasSpent, IsBehind, IsFirstAhead, IsNextSection};
+ghost use Rattle.sgt_audit_workers.specs.private.Texts.{AreAhead, FailsBehind, HasSpent, IsBehind, IsFirstAhead, IsKept, IsNextSection};
 
 use crate::cutting::read_section;
 use sgt_names::{EngineFail, Source};
@@ -77,6 +77,18 @@ fn add(ahead: &mut Vec<Section>, section: Section) -> Result<(), EngineFail>
     }
 }
 
+/// One more section behind these, unless it has no bytes.
+fn keep(ahead: &mut Vec<Section>, section: Section) -> Result<(), EngineFail>
+    ensures kept { OnOk result (IsKept ahead.old.items section ahead.new.items) }
+    ensures err { IfErr result (λ e. e ≡ EngineFail.Memory) }
+{
+    if section.bytes.is_empty() {
+        return Ok(());
+    }
+    add(ahead, section)?;
+    Ok(())
+}
+
 /// Reads the next section, if there is one, behind those that were read.
 fn read_more<R: Source>(
     reader: &mut R,
@@ -106,10 +118,7 @@ fn read_more<R: Source>(
     }
     let buffer = Vec::new(text.alloc);
     let section = next_section(reader, text, buffer)?;
-    if section.bytes.is_empty() {
-        return Ok(());
-    }
-    add(ahead, section)?;
+    keep(ahead, section)?;
     Ok(())
 }
 

@@ -12,5 +12,5 @@ use Rattle.sgt_audit_workers.specs.private.Texts.{AreAhead, IsBehind}
 pub record IsBegun (told : Option (List ℕ)) (h : Head) (ahead : List Section) (text : Text) (left : Option (List ℕ)) : Type 0 where
   pub middle : Option (List ℕ)
   pub front : Consumes told middle (front_text h.second h.certificate [])
-  pub ahead : AreAhead told middle ahead (coming text.lines left)
+  pub sections : AreAhead told middle ahead (coming text.lines left)
   pub behind : IsBehind told text left

@@ -1,5 +1,5 @@
 -- A text as far as its sections were read.
-use Rattle.std.specs.Prelude.{◌≡◌, ◌≢◌, ℕ, ◌+◌, false, IsTrue, List, [], ◌∷◌, Option, IfSome}
+use Rattle.std.specs.Prelude.{◌≡◌, ◌≢◌, ◌⊎◌, ℕ, ◌+◌, false, IsTrue, List, [], ◌∷◌, ◌++◌, Option, IfSome}
 use Rattle.std.specs.Io.KnownBytes.{Consumes, IsAtEnd}
 use Rattle.sgt_names.specs.Limits.{most_reads}
 use Rattle.sgt_notation.specs.Lines.{ReadFaultIsDue, Spends, coming}
@@ -31,10 +31,16 @@ pub record IsNextSection (told old : Option (List ℕ)) (section : Section) (new
 -- the sections came one after another, and each has bytes
 abbrev pub AreAhead : (told old : Option (List ℕ)) → List Section → Option (List ℕ) → Type 0
 AreAhead told old [] new = Consumes old new []
-AreAhead told old (section ∷ ahead) new = (next : Option (List ℕ)) × IsNextSection told old section next
-    × (section.bytes.items ≢ []) × AreAhead told next ahead new
+AreAhead told old (section ∷ ahead) new = (next : Option (List ℕ))
+    × IsNextSection told old section next × (section.bytes.items ≢ []) × AreAhead told next ahead new
 
 -- the section came next, and behind it these
-abbrev pub IsFirstAhead : (told old : Option (List ℕ)) → Section → List Section → Option (List ℕ) → Type 0
-IsFirstAhead told old section ahead new = (next : Option (List ℕ)) × IsNextSection told old section next
-    × AreAhead told next ahead new
+abbrev pub IsFirstAhead : (told old : Option (List ℕ)) → Section → List Section
+    → Option (List ℕ) → Type 0
+IsFirstAhead told old section ahead new = (next : Option (List ℕ))
+    × IsNextSection told old section next × AreAhead told next ahead new
+
+-- the section stands behind the others now, if it has bytes
+abbrev pub IsKept : (old : List Section) → Section → (new : List Section) → Type 0
+IsKept old section new = ((section.bytes.items ≢ []) × (new ≡ old ++ section ∷ []))
+    ⊎ ((section.bytes.items ≡ []) × (new ≡ old))

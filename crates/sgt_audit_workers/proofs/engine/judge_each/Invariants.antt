@@ -4,8 +4,8 @@ use Rattle.sgt_audit_workers.specs.private.Texts.{AreAhead, HasSpent, IsBehind}
 use Rattle.sgt_audit_workers.specs.private.Working.{SameWorkers, Works, given}
 use Rattle.sgt_audit_workers.proofs.engine.judge_each.Given as goal
 
-abbrev pub invariant-loop-_site : goal.invariant-loop-_site
-invariant-loop-_site g l = record {
+abbrev pub invariant-loop-site : goal.invariant-loop-site
+invariant-loop-site g l = record {
   goes : (told left : Option (List ℕ)) → Works told left l.fn.workers → AreAhead told left l.initial.ahead.items (coming l.fn.text.lines (g.R.Source.tells l.fn.reader))
       → IsBehind told l.fn.text (g.R.Source.tells l.fn.reader)
       → (now : Option (List ℕ)) × Works told now l.workers × AreAhead told now l.ahead.items (coming l.text.lines (g.R.Source.tells l.reader)) × IsBehind told l.text (g.R.Source.tells l.reader);

@@ -8,8 +8,8 @@ use Rattle.sgt_audit_workers.specs.private.Texts.{AreAhead}
 use Rattle.sgt_audit_workers.proofs.Given.{fails-from}
 use Rattle.sgt_audit_workers.proofs.sections.read_ahead.Goals as goal
 
-pub loop-_section-init : goal.loop-_section-init
-loop-_section-init g c =
+pub loop-section-init : goal.loop-section-init
+loop-section-init g c =
     let old = coming c.args.text.now.lines (g.R.Source.tells c.args.reader.now) in
     record {
       ahead = λ told behind. subst (λ (ahead : List Section). AreAhead told old ahead old) (sym c.new-ahead.ensures.items) (Consumes-nil old);
@@ -19,9 +19,9 @@ loop-_section-init g c =
       quiet = refl;
     }
 
-pub loop-_section-preserved : goal.loop-_section-preserved
-loop-_section-preserved g c =
-    let inv = c.loop-_section.invariant in
+pub loop-section-preserved : goal.loop-section-preserved
+loop-section-preserved g c =
+    let inv = c.loop-section.invariant in
     let old = coming c.args.text.now.lines (g.R.Source.tells c.args.reader.now) in
     record {
       ahead = λ told behind. c.in_ok-read_more.ensures.ahead told old (inv.behind told behind) (inv.ahead told behind);
@@ -34,5 +34,5 @@ loop-_section-preserved g c =
 pub returns-in_err-read_more-clause-read_fault : goal.returns-in_err-read_more-clause-read_fault
 returns-in_err-read_more-clause-read_fault g c same =
     let was : IsErrOf c.read_more.result ReadFault = search rules in
-    let inv = c.loop-_section.invariant in
-    fails-from c.args.text.now c.loop-_section.text _ _ _ _ _ _ _ _ (c.read_more.ensures.read_fault was) inv.spends inv.asks inv.quiet
+    let inv = c.loop-section.invariant in
+    fails-from c.args.text.now c.loop-section.text _ _ _ _ _ _ _ _ (c.read_more.ensures.read_fault was) inv.spends inv.asks inv.quiet

@@ -3,8 +3,8 @@ use Rattle.sgt_notation.specs.Lines.{coming}
 use Rattle.sgt_audit_workers.specs.private.Texts.{AreAhead, HasSpent, IsBehind}
 use Rattle.sgt_audit_workers.proofs.sections.read_ahead.Given as goal
 
-abbrev pub invariant-loop-_section : goal.invariant-loop-_section
-invariant-loop-_section g l = record {
+abbrev pub invariant-loop-section : goal.invariant-loop-section
+invariant-loop-section g l = record {
   ahead : (told : Option (List ℕ)) → IsBehind told l.fn.text (g.R.Source.tells l.fn.reader)
       → AreAhead told (coming l.fn.text.lines (g.R.Source.tells l.fn.reader)) l.ahead.items (coming l.text.lines (g.R.Source.tells l.reader));
   behind : (told : Option (List ℕ)) → IsBehind told l.fn.text (g.R.Source.tells l.fn.reader) → IsBehind told l.text (g.R.Source.tells l.reader);

@@ -11,8 +11,8 @@ returns-in-Some-clause-section g c told from behind are =
     let here = subst (λ (ahead : List Section). AreAhead told from ahead left) c.in-Some.ensures.some are in
     (here.0, here.1, here.3)
 
-pub returns-clause-section : goal.returns-clause-section
-returns-clause-section g c told from behind are =
+pub returns-in-None-clause-section : goal.returns-in-None-clause-section
+returns-in-None-clause-section g c told from behind are =
     let left = coming c.args.text.now.lines (g.R.Source.tells c.args.reader.now) in
     let now = coming c.next_section.new.text.lines (g.R.Source.tells c.next_section.new.reader) in
     let none = subst (λ (ahead : List Section). AreAhead told from ahead left) c.in-None.ensures.none are in
