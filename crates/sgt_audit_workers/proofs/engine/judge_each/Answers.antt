@@ -68,8 +68,8 @@ returns-clause-verdict g c told left works ahead behind =
     let tallied = rw c.in_default.is at (c.in_ok-verdict.ensures.ends told now.0 now.1) in
     let all = rw c.in_default.is at c.in_ok-verdict.ensures.all in
     let same : h ≡ arc_value c.args.workers.now.head = ap (λ a. arc_value a) (c.in_ok-verdict.ensures.same.head ∙ inv.same.head) in
-    let each = subst (λ (k : Head). c.wait.new.self.tally.whole ≡ k.certificate.sites) (sym same) (omega (arith, all, inv.counted, c.loop-site-test.false, c.requires.head.sites)) in
-    c.at_end.ensures.verdict h told now.0 now.3 are tallied each (c.yes_to.ensures ∙ ap yes_of c.decisions.ensures.same)
+    let each = subst (λ (k : Head). c.wait.new.self.tally.whole ≡ k.certificate.sites) (sym same) (omega (arith, all, inv.counted, c.loop-site-test.false, c.requires.head.sites, ap (λ (k : Head). k.sites) c.deref.ensures)) in
+    c.at_end.ensures.verdict h told now.0 now.3 are tallied each (c.yes_to-yes.ensures ∙ ap yes_of (c.decisions.ensures.same ∙ ap (λ (k : Head). k.certificate.decisions) (c.deref-2.ensures ∙ sym (ap (λ a. arc_value a) c.in_ok-verdict.ensures.same.head))))
 
 pub returns-clause-read_fault : goal.returns-clause-read_fault
 returns-clause-read_fault g c same =
