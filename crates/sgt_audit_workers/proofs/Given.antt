@@ -1,18 +1,19 @@
--- Workers that have sections, one after another.
-use Rattle.std.proofs.Common.{◌≡◌, ℕ, Bool, true, false, IfSome, suc, ◌+◌, ◌<◌, ◌≤◌, List, [], ◌∷◌, ◌++◌, length, Option, Some, None, IsTrue, All, refl, sym, ap, ◌∙◌, subst, arith, slice_index_or}
-use Rattle.std.specs.Prelude.{Result, Ok, Err, IfOk}
-use Rattle.std.specs.List.{AllZip}
+-- Sections that were read, and those that are judged.
+use Rattle.std.proofs.Common.{◌≡◌, ℕ, Bool, true, false, IfSome, ◌+◌, ◌<◌, ◌≤◌, List, [], ◌∷◌, ◌++◌, length, Option, Some, None, IsTrue, inl, inr, sym, ◌∙◌, ap, subst, arith, slice_index_or}
+use Rattle.std.specs.Prelude.{◌≢◌, Result, Ok, Err, IfOk, IfErr, remove}
 use Rattle.std.specs.Io.KnownBytes.{Consumes, IsAtEnd}
 use Rattle.std.proofs.KnownBytes.{Consumes-nil, Consumes-trans}
-use Rattle.std.proofs.lemmas.List.Elements.{All-nil, All-cons, All-head, All-tail}
 use Rattle.sgt_notation.specs.Lines.{ReadFaultIsDue, coming}
-use Rattle.sgt_audit.specs.Alone.{IsReadyAlone}
 use Rattle.sgt_audit.specs.declared.alone.Alone.{Alone}
-use Rattle.sgt_audit_workers.specs.declared.batches.Job.{Job}
-use Rattle.sgt_audit_workers.specs.declared.batches.Text.{Text}
 use Rattle.sgt_audit_workers.specs.declared.head.Head.{Head}
+use Rattle.sgt_audit_workers.specs.declared.job.Job.{Job}
+use Rattle.sgt_audit_workers.specs.declared.running.Running.{Running}
+use Rattle.sgt_audit_workers.specs.declared.sections.Section.{Section}
+use Rattle.sgt_audit_workers.specs.declared.sections.Text.{Text}
 use Rattle.sgt_audit_workers.specs.Cut.{IsCut}
-use Rattle.sgt_audit_workers.specs.private.Batches.{AreGiven, FailsBehind, HasJudged, HasRun, HasSpent, IsBehind, IsGiven, IsIdle}
+use Rattle.sgt_audit_workers.specs.private.Jobs.{HasRun, IsGiven, IsIdle, MayJudge}
+use Rattle.sgt_audit_workers.specs.private.Running.{AreRunning, Will}
+use Rattle.sgt_audit_workers.specs.private.Texts.{AreAhead, FailsBehind, HasSpent, IsBehind, IsFirstAhead, IsKept, IsNextSection}
 
 -- ---- one section
 
@@ -46,81 +47,85 @@ pub fails-from : (text now : Text) (left later : Option (List ℕ)) (f f1 f2 a a
 fails-from text now left later f f1 f2 a a1 a2 fails spends asks quiet first from spent counts =
     subst (λ g. ReadFaultIsDue first g f2 from a2) quiet (fails first from (spends first spent) (omega (arith, asks, counts)))
 
--- ---- one more
-pub given-more : (told old mid new : Option (List ℕ)) (k n : ℕ) (jobs : List Job) (job : Job) → AreGiven told old k jobs mid → k + length jobs ≡ n → IsGiven told mid n job new → AreGiven told old k (jobs ++ job ∷ []) new
-given-more told old mid new k n [] job none same is = (
-  new,
-  record { site = omega (arith, is.site, same); section = Consumes-trans old mid new [] job.section.items none is.section; last = is.last },
-  Consumes-nil new,
-)
-given-more told old mid new k n (first ∷ jobs) job given same is = (given.0, given.1, given-more told given.0 mid new (k + 1) n jobs job given.2 (omega (arith, same)) is)
+-- ---- sections that were read ahead
 
--- the sites of the sections
-pub sites-below : (told old new : Option (List ℕ)) (k n : ℕ) (jobs : List Job) → AreGiven told old k jobs new → k + length jobs ≤ n → All (λ (job : Job). job.site < n) jobs
-sites-below told old new k n [] given few = All-nil (λ (job : Job). job.site < n)
-sites-below told old new k n (job ∷ jobs) given few =
-    All-cons (λ (job : Job). job.site < n) job jobs (omega (arith, given.1.site, few)) (sites-below told given.0 new (k + 1) n jobs given.2 (omega (arith, few)))
+-- told nothing, a section came
+pub next-none : (section : Section) → IsNextSection None None section None
+next-none section = record { bytes = tt; last = λ last. tt }
 
--- the same worker, with something else to judge
-pub idle-same : (h : Head) (k : ℕ) (old new : Job) → new.alone ≡ old.alone → IsIdle h k old → IsIdle h k new
-idle-same h k old new same idle = subst (λ (a : Alone). IsReadyAlone h.certificate k a × (a.second ≡ h.second)) (sym same) idle
+pub some-bytes : (bytes : List ℕ) → 1 ≤ length bytes → bytes ≢ []
+some-bytes bytes some none = absurd (omega (arith, some, ap length none))
 
--- who may judge the section of a site may judge those behind it
-pub idle-later : (h : Head) (k n : ℕ) (job : Job) → k ≤ n → IsIdle h k job → IsIdle h n job
-idle-later h k n job le idle = (
+-- one more
+ahead-more : (told old new later : Option (List ℕ)) (ahead : List Section) (s : Section) → AreAhead told old ahead new → IsNextSection told new s later → s.bytes.items ≢ [] → AreAhead told old (ahead ++ s ∷ []) later
+ahead-more told old new later [] s none next some = (later, record { bytes = Consumes-trans old new later [] s.bytes.items none next.bytes; last = next.last }, some, Consumes-nil later)
+ahead-more told old new later (first ∷ ahead) s are next some = (are.0, are.1, are.2, ahead-more told are.0 new later ahead s are.3 next some)
+
+-- a section with no bytes came behind them
+ahead-on : (told old new later : Option (List ℕ)) (ahead : List Section) → AreAhead told old ahead new → Consumes new later [] → AreAhead told old ahead later
+ahead-on told old new later [] none more = Consumes-trans old new later [] [] none more
+ahead-on told old new later (first ∷ ahead) are more = (are.0, are.1, are.2, ahead-on told are.0 new later ahead are.3 more)
+
+pub ahead-kept : (told from left now : Option (List ℕ)) (old new : List Section) (s : Section) → AreAhead told from old left → IsNextSection told left s now → IsKept old s new → AreAhead told from new now
+ahead-kept told from left now old new s are next kept =
+    elim kept [
+      | inl some ↦ subst (λ (ahead : List Section). AreAhead told from ahead now) (sym some.1) (ahead-more told from left now old s are next some.0)
+      | inr none ↦ subst (λ (ahead : List Section). AreAhead told from ahead now) (sym none.1) (ahead-on told from left now old are (subst (λ (bytes : List ℕ). Consumes left now bytes) none.0 next.bytes))
+    ]
+
+-- none was read ahead, and one is read now
+pub first-read : (told old new later : Option (List ℕ)) (s : Section) → AreAhead told old [] new → IsNextSection told new s later → IsFirstAhead told old s [] later
+first-read told old new later s none next = (later, record { bytes = Consumes-trans old new later [] s.bytes.items none next.bytes; last = next.last }, Consumes-nil later)
+
+-- ---- who may judge the section of a site may judge those behind it
+pub may-later : (h : Head) (k n : ℕ) (a : Alone) → k ≤ n → MayJudge h k a → MayJudge h n a
+may-later h k n a le may = (
   record {
-    sites = idle.0.sites;
+    sites = may.0.sites;
     state = record {
-      many = idle.0.state.many;
-      before = omega (arith, idle.0.state.before, le);
+      many = may.0.state.many;
+      before = omega (arith, may.0.state.before, le);
     };
   },
-  idle.1,
+  may.1,
 )
 
-pub idle-at-sites : (h : Head) (told old new : Option (List ℕ)) (first k : ℕ) (jobs : List Job) → first ≤ k → AreGiven told old k jobs new → All (IsIdle h first) jobs → All (λ (job : Job). IsIdle h job.site job) jobs
-idle-at-sites h told old new first k [] le given idle = All-nil (λ (job : Job). IsIdle h job.site job)
-idle-at-sites h told old new first k (job ∷ jobs) le given idle =
-    All-cons (λ (job : Job). IsIdle h job.site job) job jobs
-    (idle-later h first job.site job (omega (arith, given.1.site, le)) (All-head (IsIdle h first) job jobs idle))
-    (idle-at-sites h told given.0 new first (k + 1) jobs (omega (arith, le)) given.2 (All-tail (IsIdle h first) job jobs idle))
+pub some-later : (h : Head) (k n : ℕ) (o : Option Alone) → k ≤ n → IfSome o (MayJudge h k) → IfSome o (MayJudge h n)
+some-later h k n None le may = tt
+some-later h k n (Some a) le may = may-later h k n a le may
 
--- ---- behind the run
+pub idle-later : (h : Head) (k n : ℕ) (job : Job) → k ≤ n → IsIdle h k job → IsIdle h n job
+idle-later h k n job le idle = some-later h k n job.alone le idle
 
-pub given-run : (h : Head) (told old new : Option (List ℕ)) (k : ℕ) (jobs done : List Job) → AreGiven told old k jobs new → AllZip (HasRun h) jobs done → AreGiven told old k done new
-given-run h told old new k [] [] given ran = given
-given-run h told old new k [] (d ∷ done) given ran = absurd ran
-given-run h told old new k (job ∷ jobs) [] given ran = absurd ran
-given-run h told old new k (job ∷ jobs) (d ∷ done) given ran = (
-  given.0,
+-- ---- one more that is judged
+pub running-more : (h : Head) (told old mid new : Option (List ℕ)) (k n : ℕ) (running : List Running) (r : Running) (job : Job) → AreRunning h told old k running mid → k + length running ≡ n → IsGiven told mid n job new → Will h job r → AreRunning h told old k (running ++ r ∷ []) new
+running-more h told old mid new k n [] r job none same is will = (
+  job,
+  new,
   record {
-    site = ran.0.site ∙ given.1.site;
-    section = subst (λ (s : List ℕ). Consumes old given.0 s) (sym ran.0.section) given.1.section;
-    last = λ ends. given.1.last (subst IsTrue ran.0.last ends);
+    site = omega (arith, is.site, same);
+    section = record { bytes = Consumes-trans old mid new [] job.section.bytes.items none is.section.bytes; last = is.section.last };
   },
-  given-run h told given.0 new (k + 1) jobs done given.2 ran.1,
+  will,
+  Consumes-nil new,
 )
+running-more h told old mid new k n (first ∷ running) r job are same is will = (are.0, are.1, are.2, are.3, running-more h told are.1 mid new (k + 1) n running r job are.4 (omega (arith, same)) is will)
 
-pub judged-run : (h : Head) (jobs done : List Job) → AllZip (HasRun h) jobs done → All (HasJudged h) done
-judged-run h [] [] ran = All-nil (HasJudged h)
-judged-run h [] (d ∷ done) ran = absurd ran
-judged-run h (job ∷ jobs) [] ran = absurd ran
-judged-run h (job ∷ jobs) (d ∷ done) ran = All-cons (HasJudged h) d done ran.0.done (judged-run h jobs done ran.1)
+-- the job, when it is judged
+pub given-run : (h : Head) (told old new : Option (List ℕ)) (k : ℕ) (job done : Job) → HasRun h job done → IsGiven told old k job new → IsGiven told old k done new
+given-run h told old new k job done ran given =
+    record { site = ran.site ∙ given.site; section = subst (λ (s : Section). IsNextSection told old s new) (sym ran.section) given.section }
 
-pub length-run : (h : Head) (jobs done : List Job) → AllZip (HasRun h) jobs done → length jobs ≡ length done
-length-run h [] [] ran = refl
-length-run h [] (d ∷ done) ran = absurd ran
-length-run h (job ∷ jobs) [] ran = absurd ran
-length-run h (job ∷ jobs) (d ∷ done) ran = ap suc (length-run h jobs done ran.1)
-
--- pairs, place by place
-pub zip_by : {A B : Type 0} (R : A → B → Type 0) (xs : List A) (ys : List B) → length ys ≡ length xs → ((i : ℕ) (a : A) (b : B) → i < length xs → R (slice_index_or xs i a) (slice_index_or ys i b)) → AllZip R xs ys
-zip_by R [] [] e f = tt
-zip_by R [] (y ∷ ys) e f = absurd (omega (arith, e))
-zip_by R (x ∷ xs) [] e f = absurd (omega (arith, e))
-zip_by R (x ∷ xs) (y ∷ ys) e f =
-    (f 0 x y (omega arith), zip_by R xs ys (omega (arith, e)) (λ i a b h. f (suc i) a b (omega (arith, h))))
+-- ---- lists and results
 
 pub if_ok_both : {X E : Type 0} (r : Result X E) (P Q R : X → Type 0) → IfOk r P → IfOk r Q → ((x : X) → P x → Q x → R x) → IfOk r R
 if_ok_both (Ok x) P Q R p q f = f x p q
 if_ok_both (Err e) P Q R p q f = tt
+
+pub if_ok_map : {X E : Type 0} (r : Result X E) (P Q : X → Type 0) → IfOk r P → ((x : X) → P x → Q x) → IfOk r Q
+if_ok_map (Ok x) P Q p f = f x p
+if_ok_map (Err e) P Q p f = tt
+
+pub first-out : {A : Type 0} (xs : List A) (x : A) → 0 < length xs → x ≡ slice_index_or xs 0 x → xs ≡ x ∷ remove xs 0
+first-out [] x some is = absurd (omega (arith, some))
+first-out (y ∷ ys) x some is = ap (λ (z : _). z ∷ ys) (sym is)

@@ -1,8 +1,11 @@
 -- The first two lines of a text.
 use Rattle.std.proofs.Common.{◌≡◌, ℕ, ◌+◌, ◌<◌, ◌≤◌, Bool, true, false, List, [], ◌∷◌, ◌++◌, length, Option, Some, None, IfSome, refl, sym, ap, ◌∙◌, subst, arith}
+use Rattle.std.specs.Prelude.{Result, Ok, Err, IfOk, IfErr}
 use Rattle.std.specs.Io.KnownBytes.{Consumes}
 use Rattle.std.proofs.KnownBytes.{Consumes-trans}
 use Rattle.std.proofs.lemmas.List.{append-nil}
+use Rattle.sgt_names.specs.declared.outcome.EngineFail.{EngineFail}
+use Rattle.sgt_names.specs.declared.outcome.EngineFail.TheVariants.{Memory}
 use Rattle.sgt_names.specs.Limits.{max_line, most_reads}
 use Rattle.sgt_notation.specs.Lines.{Ahead, Gives, IsNext, Spends, coming}
 use Rattle.sgt_notation.specs.Spelling.{HasNoLf, text_of_lines}
@@ -16,6 +19,8 @@ use Rattle.sgt_audit.specs.declared.machine.Progress.TheVariants as at
 use Rattle.sgt_audit.specs.Faults.{fault_number, Stage, start, headed, lines_so_far, IsFaultless, Piece, whole, last, ComesNext, Rule, Breaks, FirstFault, bytes_of}
 use Rattle.sgt_audit.proofs.ReaderAtStage.{at-long}
 use Rattle.sgt_audit_sections.specs.Sections.{front_text}
+use Rattle.sgt_audit_workers.specs.Head.{IsHead, IsHeadOf}
+use Rattle.sgt_audit_workers.specs.declared.head.Head.{Head}
 use Rattle.sgt_audit_workers.proofs.Reading.{line-more}
 
 -- ---- what comes next has the first fault
@@ -135,3 +140,11 @@ all-comes ahead (Some bytes) fresh = ap (λ (a : Ahead). Some (a.held ++ bytes))
 pub spends-none : (reads : ℕ) (told : Option (List ℕ)) → Spends reads told reads told
 spends-none reads None = tt
 spends-none reads (Some bytes) = omega arith
+
+-- what line 2 was found to say
+pub head-of : (second : Bool) (line : List ℕ) (r : Result (Result Head Fault) EngineFail)
+    → IfOk r (λ r. IfOk r (λ h. IsHead h × (h.second ≡ second) × (line ≡ certificate_text h.certificate)))
+    → IfOk r (λ r. IfErr r (Breaks (Rule (headed second) (whole line)))) → IfErr r (λ e. e ≡ Memory) → IsHeadOf second line r
+head-of second line (Ok (Ok h)) head fault err = head
+head-of second line (Ok (Err f)) head fault err = fault
+head-of second line (Err e) head fault err = err

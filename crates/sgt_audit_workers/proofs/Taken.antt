@@ -1,5 +1,5 @@
 -- What the workers found, one after another.
-use Rattle.std.proofs.Common.{◌≡◌, ℕ, ◌+◌, Bool, IsTrue, List, [], ◌∷◌, ◌++◌, length, map, Option, Some, None, IfSome, refl, sym, ap, ◌∙◌, subst, arith, zero-add}
+use Rattle.std.proofs.Common.{◌≡◌, ℕ, ◌+◌, ◌≤◌, Bool, IsTrue, List, [], ◌∷◌, ◌++◌, length, map, Option, Some, None, IfSome, refl, sym, ap, ◌∙◌, subst, arith, zero-add}
 use Rattle.std.specs.Prelude.{Result, Ok, Err, IfOk, ◌≢◌}
 use Rattle.std.specs.Io.KnownBytes.{Consumes, IsAtEnd}
 use Rattle.std.proofs.KnownBytes.{Consumes-trans}
@@ -21,11 +21,14 @@ use Rattle.sgt_audit_sections.specs.Sections.{AllStepsAreFound, IsFaultlessCerti
 use Rattle.sgt_audit_sections.specs.declared.judging.Judged.{Judged}
 use Rattle.sgt_audit_sections.proofs.SectionFaults.{text-split}
 use Rattle.sgt_audit_workers.specs.Tallies.{Adds, IsTally}
-use Rattle.sgt_audit_workers.specs.declared.batches.Job.{Job}
+use Rattle.sgt_audit_workers.specs.declared.job.Job.{Job}
 use Rattle.sgt_audit_workers.specs.Head.{IsHead}
 use Rattle.sgt_audit_workers.specs.declared.head.Head.{Head}
+use Rattle.sgt_audit_workers.specs.declared.sections.Section.{Section}
 use Rattle.sgt_audit_workers.specs.declared.tally.Tally.{Tally}
-use Rattle.sgt_audit_workers.specs.private.Batches.{HasJudged, IsGiven, IsIdle, IsTallied}
+use Rattle.sgt_audit_workers.specs.private.Jobs.{HasJudged, IsGiven, IsIdle}
+use Rattle.sgt_audit_workers.specs.private.Tallied.{IsTallied}
+use Rattle.sgt_audit_workers.specs.private.Texts.{AreAhead}
 use Rattle.sgt_audit_workers.proofs.Whole.{yes}
 
 -- ---- one more section
@@ -69,33 +72,52 @@ module _ (h : Head) (told old new : Option (List ℕ)) (job : Job) (t : Tally) (
   pub at-logs : job.site ≡ length is.logs
   at-logs = given.site ∙ is.tally.whole
 
-  pub ends-last : IsTrue job.is_last → rest_of told new ≡ []
-  ends-last last = rest-last told new (given.last last)
+  pub ends-last : IsTrue job.section.is_last → rest_of told new ≡ []
+  ends-last last = rest-last told new (given.section.last last)
 
-  pub taken : (now : Tally) → Adds h.second h.certificate is.logs job.section.items (rest_of told new) now None → IsTallied h told new now × (now.whole ≡ t.whole + 1)
+  pub taken : (now : Tally) → Adds h.second h.certificate is.logs job.section.bytes.items (rest_of told new) now None → IsTallied h told new now × (now.whole ≡ t.whole + 1)
   taken now added = (
     record {
       logs = is.logs ++ added.0 ∷ [];
       tally = added.1;
-      front = front-more h.second h.certificate is.logs added.0 told old new job.section.items is.front given.section added.2;
+      front = front-more h.second h.certificate is.logs added.0 told old new job.section.bytes.items is.front given.section.bytes added.2;
     },
     omega (arith, added.1.whole, is.tally.whole, length-append is.logs (added.0 ∷ [])),
   )
 
-  pub found : (now : Tally) (v : Verdict) → Adds h.second h.certificate is.logs job.section.items (rest_of told new) now (Some v) → IfSome told (λ bytes. IsVerdict bytes v)
-  found now v added = told-verdict told old new (front_text h.second h.certificate is.logs) job.section.items v is.front given.section added
+  pub found : (now : Tally) (v : Verdict) → Adds h.second h.certificate is.logs job.section.bytes.items (rest_of told new) now (Some v) → IfSome told (λ bytes. IsVerdict bytes v)
+  found now v added = told-verdict told old new (front_text h.second h.certificate is.logs) job.section.bytes.items v is.front given.section.bytes added
 
-  pub judged-at : (j : Judged) → HasJudged h job → job.judged ≡ Ok j → IsJudgedSection h.second h.certificate (length is.logs) job.section.items j
-  judged-at j done same = subst (λ k. IsJudgedSection h.second h.certificate k job.section.items j) at-logs (subst (λ r. IfOk r (IsJudgedSection h.second h.certificate job.site job.section.items)) same done.judged)
+  pub judged-at : (j : Judged) → HasJudged h job → job.judged ≡ Ok j → IsJudgedSection h.second h.certificate (length is.logs) job.section.bytes.items j
+  judged-at j done same = subst (λ k. IsJudgedSection h.second h.certificate k job.section.bytes.items j) at-logs (subst (λ r. IfOk r (IsJudgedSection h.second h.certificate job.site job.section.bytes.items)) same done.judged)
 
 pub idle-behind : (h : Head) (job : Job) (j : Judged) → HasJudged h job → job.judged ≡ Ok j → IsWhole j → IsIdle h (job.site + 1) job
-idle-behind h job j done same whole = (subst (λ r. IfOk r (λ j. IsWhole j → IsReadyAlone h.certificate (job.site + 1) job.alone)) same done.ready whole, done.second)
+idle-behind h job j done same whole = subst (λ r. IfOk r (λ j. IsWhole j → IsIdle h (job.site + 1) job)) same done.ready whole
 
 -- nothing more was read
 pub tallied-on : (h : Head) (told next new : Option (List ℕ)) (t : Tally) → IsTallied h told next t → Consumes next new [] → IsTallied h told new t
 tallied-on h told next new t is none =
     let front = front_text h.second h.certificate is.logs in
     record { logs = is.logs; tally = is.tally; front = subst (λ (f : List ℕ). Consumes told new f) (append-nil front) (Consumes-trans told next new front [] is.front none) }
+
+-- no section was read ahead
+pub tallied-ahead : (h : Head) (told from left : Option (List ℕ)) (t : Tally) (ahead : List Section) → IsTallied h told from t → AreAhead told from ahead left → length ahead ≡ 0 → IsTallied h told left t
+tallied-ahead h told from left t [] is none empty = tallied-on h told from left t is none
+tallied-ahead h told from left t (s ∷ ahead) is are empty = absurd (omega (arith, empty))
+
+-- one was
+front-nil : (xs rest : List ℕ) → xs ++ rest ≡ [] → xs ≡ []
+front-nil [] rest none = refl
+front-nil (x ∷ xs) rest none = absurd (omega (arith, ap length none))
+
+some-comes : (bytes : List ℕ) (next : Option (List ℕ)) (section : List ℕ) → Consumes (Some bytes) next section → section ≢ [] → bytes ≢ []
+some-comes bytes None section is some none = absurd is
+some-comes bytes (Some rest) section is some none = some (front-nil section rest (sym is ∙ none))
+
+pub ahead-comes : (told from left : Option (List ℕ)) (ahead : List Section) → AreAhead told from ahead left → 1 ≤ length ahead → IfSome from (λ more. more ≢ [])
+ahead-comes told None left ahead are some = tt
+ahead-comes told (Some bytes) left [] are some = absurd (omega (arith, some))
+ahead-comes told (Some bytes) left (s ∷ ahead) are some = some-comes bytes are.0 s.bytes.items are.1.bytes are.2
 
 -- ---- the first section's tally
 

@@ -1,17 +1,21 @@
 //! The audit of all that a reader gives, with several sections judged at once.
 
-ghost use Rattle.std.specs.Prelude.{◌≡◌, ◌≢◌, ◌<◌, ℕ, [], false, List, Option, Err, IfOk, IfSome, OnErr, IsErrOf};
-ghost use Rattle.std.specs.Io.KnownBytes.{Appends, Consumes};
+ghost use Rattle.std.specs.Prelude.{◌≡◌, ◌≢◌, ◌<◌, ℕ, List, Option, None, Err, IfOk, IfSome, OnErr, IsErrOf};
+ghost use Rattle.std.specs.Arc.{arc_value};
+ghost use Rattle.std.specs.Io.KnownBytes.{Appends};
 ghost use Rattle.sgt_notation.specs.Lines.{ReadFaultIsDue, coming};
 ghost use Rattle.sgt_audit.specs.Verdict.{IsVerdict, SaysHeadline, WroteFront, text_of, yes_of};
-ghost use Rattle.sgt_audit_sections.specs.Sections.{front_text};
 ghost use Rattle.sgt_audit_workers.specs.Head.{IsHead};
-ghost use Rattle.sgt_audit_workers.specs.private.Batches.{FailsBehind, IsBehind, IsTallied};
+ghost use Rattle.sgt_audit_workers.specs.declared.head.Head.{Head};
+ghost use Rattle.sgt_audit_workers.specs.private.Tallied.{IsTallied};
+ghost use Rattle.sgt_audit_workers.specs.private.Texts.{AreAhead, FailsBehind, IsBehind};
+ghost use Rattle.sgt_audit_workers.specs.private.Working.{Works, given};
 
-use crate::batches::{Text, give_all, run_all, take_all, workers};
 use crate::cutting::next_line;
-use crate::head::{Head, read_head};
+use crate::head::read_head;
+use crate::sections::{Section, Text, take_section};
 use crate::tally::Tally;
+use crate::workers::Workers;
 use sgt_audit::{Verdict, audit};
 use sgt_cert::Decision;
 use sgt_names::{EngineFail, MAX_LINE, Sink, Source, write_all};
@@ -38,17 +42,18 @@ fn yes_to(decisions: &[Decision]) -> Verdict
     }
 }
 
-/// The verdict, once all sections have no fault but perhaps one of a walk.
+/// The verdict, once all sections have no fault but perhaps one of a walk, where these were read behind them; or this yes.
 fn at_end<R: Source>(
     reader: &mut R,
     text: &mut Text,
-    head: &Head,
+    ahead: &[Section],
     tally: &Tally,
+    yes: Verdict,
 ) -> Result<Verdict, EngineFail>
-    requires all { tally.now.whole ≡ head.now.certificate.sites }
     ensures verdict { let left = coming text.old.lines (R.tells reader.old) in
-        (told : Option (List ℕ)) → IsBehind told text.old (R.tells reader.old)
-        → IsTallied head.now told left tally.now
+        (h : Head) (told from : Option (List ℕ)) → IsBehind told text.old (R.tells reader.old)
+        → AreAhead told from ahead.now left → IsTallied h told from tally.now
+        → tally.now.whole ≡ h.certificate.sites → yes ≡ yes_of h.certificate.decisions
         → IfOk result (λ v. IfSome told (λ bytes. IsVerdict bytes v)) }
     ensures quiet { result ≢ Err EngineFail.ReadFault
         → R.failures reader.new ≡ R.failures reader.old }
@@ -60,31 +65,35 @@ fn at_end<R: Source>(
     if let Some(verdict) = tally.walk_fault() {
         return Ok(verdict);
     }
+    if !ahead.is_empty() {
+        return tally.trailing();
+    }
     if text.is_ended {
-        return Ok(yes_to(head.certificate.decisions()));
+        return Ok(yes);
     }
     match next_line(reader, &mut text.lines, &mut text.line, MAX_LINE)? {
-        Next::End => Ok(yes_to(head.certificate.decisions())),
+        Next::End => Ok(yes),
         Next::Line => tally.trailing(),
         Next::Cut => tally.trailing(),
         Next::TooLong => tally.trailing(),
     }
 }
 
-/// The verdict on a text whose first two lines were read, with so many sections judged at once.
-fn judge_behind<H: Threads + Sync, R: Source>(
+/// The verdict on a text, with the workers before its first section, where these sections were read.
+fn judge_each<H: Threads, R: Source>(
     rt: &H,
-    count: usize,
     reader: &mut R,
     text: &mut Text,
-    head: &Head,
+    workers: &mut Workers,
+    ahead: Vec<Section>,
 ) -> Result<Verdict, EngineFail>
-    requires count { 0 < count }
-    requires head { IsHead head.now }
-    requires going { text.old.is_ended ≡ false }
-    ensures verdict { let left = coming text.old.lines (R.tells reader.old) in
-        (told : Option (List ℕ))
-        → Consumes told left (front_text head.now.second head.now.certificate [])
+    requires count { 0 < workers.old.count }
+    requires head { IsHead (arc_value workers.old.head) }
+    requires works { Works None None workers.old }
+    requires none { given workers.old ≡ 0 }
+    ensures verdict { (told left : Option (List ℕ)) → Works told left workers.old
+        → AreAhead told left ahead.items (coming text.old.lines (R.tells reader.old))
+        → IsBehind told text.old (R.tells reader.old)
         → IfOk result (λ v. IfSome told (λ bytes. IsVerdict bytes v)) }
     ensures quiet { result ≢ Err EngineFail.ReadFault
         → R.failures reader.new ≡ R.failures reader.old }
@@ -93,23 +102,25 @@ fn judge_behind<H: Threads + Sync, R: Source>(
         (R.failures reader.old) (R.failures reader.new) (R.asked reader.old) (R.asked reader.new) }
     ensures write_fault { result ≢ Err EngineFail.WriteFault }
 {
-    let sites = head.sites as usize;
-    let mut jobs = workers(text.alloc, count.min(sites), head)?;
-    let mut tally = Tally::new();
-    'batches: while tally.whole < sites {
-        let end = sites.min(tally.whole.saturating_add(jobs.len()));
-        let given = give_all(reader, text, jobs, tally.whole, end)?;
-        let done = run_all(rt, head, given)?;
-        if let Some(verdict) = take_all(&mut tally, head, done.as_slice())? {
-            return Ok(verdict);
+    let sites = workers.head.sites as usize;
+    let mut ahead = ahead;
+    let mut buffer = Vec::new(text.alloc);
+    for _site in 0..sites {
+        let section = take_section(reader, text, &mut ahead, buffer)?;
+        match workers.judge(rt, section)? {
+            Ok(free) => buffer = free,
+            Err(verdict) => return Ok(verdict),
         }
-        jobs = done;
     }
-    at_end(reader, text, head, &tally)
+    let yes = yes_to(workers.head.certificate.decisions());
+    if let Some(verdict) = workers.wait(rt)? {
+        return Ok(verdict);
+    }
+    at_end(reader, text, ahead.as_slice(), &workers.tally, yes)
 }
 
 /// The verdict on all that the reader gives, with so many sections judged at once.
-fn judge_sections<H: Threads + Sync, R: Source>(
+fn judge_sections<H: Threads, R: Source>(
     rt: &H,
     alloc: Global,
     count: usize,
@@ -129,14 +140,18 @@ fn judge_sections<H: Threads + Sync, R: Source>(
         line: Vec::new(alloc),
         is_ended: false,
     };
-    match read_head(alloc, reader, &mut text.lines, &mut text.line)? {
-        Ok(head) => judge_behind(rt, count, reader, &mut text, &head),
-        Err(verdict) => Ok(verdict),
-    }
+    let (head, ahead) = match read_head(rt, count, reader, &mut text)? {
+        Ok(begun) => begun,
+        Err(verdict) => return Ok(verdict),
+    };
+    let mut workers = Workers::new(alloc, count, head)?;
+    let found = judge_each(rt, reader, &mut text, &mut workers, ahead);
+    workers.stop(rt);
+    found
 }
 
 /// Audits all that the reader gives, with so many sections judged at once, and writes the line of the verdict and nothing else. The
-/// verdict is that of `audit` of sgt_audit; but behind a fault more may be read, up to the last section that is judged with it.
+/// verdict is that of `audit` of sgt_audit; but behind a fault more may be read, as many sections as there are workers.
 /// With fewer than two workers it is `audit` itself.
 ///
 /// An Err is ReadFault, where a read failed or too many were needed (`MOST_READS` of sgt_names), or Memory: nothing was

@@ -1,25 +1,28 @@
 //! The first two lines of a text.
 
-ghost use Rattle.std.specs.Prelude.{◌≡◌, ◌≢◌, ◌+◌, ◌-◌, ◌^◌, ◌∷◌, ◌++◌, ℕ, Bool, [], List, Err, IfOk, IfErr, IfSome, IfNone, IsErrOf};
-ghost use Rattle.std.specs.Io.KnownBytes.{Consumes};
+ghost use Rattle.std.specs.Prelude.{◌≡◌, ◌≢◌, ◌+◌, ◌-◌, ◌^◌, ◌∷◌, ◌++◌, ℕ, Bool, [], List, Option, Err, false, IfOk, IfErr, IfSome, IfNone, IsErrOf};
 ghost use Rattle.sgt_names.specs.Limits.{max_line};
-ghost use Rattle.sgt_notation.specs.Lines.{IsNext, Spends, coming};
+ghost use Rattle.sgt_notation.specs.Lines.{IsNext, coming};
 ghost use Rattle.sgt_notation.specs.Spelling.{text_of_lines};
 ghost use Rattle.sgt_cert.specs.Text.{certificate_text, format_line};
 ghost use Rattle.sgt_audit.specs.Faults.{Breaks, FirstFault, Rule, headed, whole};
 ghost use Rattle.sgt_audit.specs.Verdict.{IsVerdict};
 ghost use Rattle.sgt_audit.specs.private.Judging.{AnswersItself};
-ghost use Rattle.sgt_audit_sections.specs.Sections.{front_text};
-ghost use Rattle.sgt_audit_workers.specs.Cut.{FailsDuly};
 ghost use Rattle.sgt_audit_workers.specs.Head.{IsHead};
+ghost use Rattle.sgt_audit_workers.specs.private.Begun.{IsBegun};
+ghost use Rattle.sgt_audit_workers.specs.private.Judging.{WillSay};
+ghost use Rattle.sgt_audit_workers.specs.private.Texts.{AreAhead, FailsBehind, HasSpent, IsBehind};
 
 use crate::cutting::next_line;
+use crate::judging::{Judging, finish, start};
+use crate::sections::{Section, Text, read_ahead};
 use sgt_audit::{Fault, Verdict};
 use sgt_audit_decisions::{Decided, Steps, are_cycles, are_ranks};
 use sgt_cert::{CertFault, Certificate, from_line};
 use sgt_names::{EngineFail, MAX_LINE, Source};
-use sgt_notation::{Lines, Next};
+use sgt_notation::Next;
 use std::alloc::{AllocError, Global};
+use std::thread::Threads;
 
 /// What the first two lines of a text say, which have no fault.
 #[derive(Drop)]
@@ -85,7 +88,7 @@ fn judge_certificate(
 }
 
 /// What the two lines say, by the second of them, which is this; or its fault.
-fn head_of(alloc: Global, second: bool, line: &[u8]) -> Result<Result<Head, Fault>, EngineFail>
+pub fn head_of(alloc: Global, second: bool, line: &[u8]) -> Result<Result<Head, Fault>, EngineFail>
     ensures head { IfOk result (λ r. IfOk r (λ h. IsHead h × (h.second ≡ second)
         × (line.now ≡ certificate_text h.certificate))) }
     ensures fault { IfOk result
@@ -112,62 +115,102 @@ fn head_of(alloc: Global, second: bool, line: &[u8]) -> Result<Result<Head, Faul
     }
 }
 
-/// What the two lines say, by what comes behind the first; or the fault there.
-fn second_line(
-    alloc: Global,
-    second: bool,
-    next: Next,
-    line: &[u8],
-) -> Result<Result<Head, Fault>, EngineFail>
-    ensures head { IfOk result (λ r. IfOk r (λ h. IsHead h × (h.second ≡ second)
-        × (next ≡ Next.Line) × (line.now ≡ certificate_text h.certificate))) }
-    ensures fault { (bytes rest : List ℕ) → next ≢ Next.TooLong
-        → IsNext (2 ^ 64 - 1) bytes next line.now rest → IfOk result (λ r. IfErr r
-        (FirstFault (text_of_lines (format_line second ∷ []) ++ bytes) 2)) }
-    ensures err { IfErr result (λ e. e ≡ EngineFail.Memory) }
+/// The fault of what comes behind the first line, if that is no whole line.
+fn second_fault(next: Next) -> Option<Fault>
+    ensures none { IfNone result (next ≡ Next.Line) }
+    ensures some { (second : Bool) (bytes line rest : List ℕ) → next ≢ Next.TooLong
+        → IsNext (2 ^ 64 - 1) bytes next line rest → IfSome result
+        (FirstFault (text_of_lines (format_line second ∷ []) ++ bytes) 2) }
 {
     match next {
-        Next::Line => head_of(alloc, second, line),
-        Next::TooLong => Ok(Err(Fault::Certificate)),
-        Next::Cut => Ok(Err(Fault::Truncated)),
-        Next::End => Ok(Err(Fault::Truncated)),
+        Next::Line => None,
+        Next::TooLong => Some(Fault::Certificate),
+        Next::Cut => Some(Fault::Truncated),
+        Next::End => Some(Fault::Truncated),
     }
 }
 
-/// Reads the first two lines of a text: what they say, or the verdict on it, where its first fault is there.
-///
-/// An Err is ReadFault, where a read failed or too many were needed, or Memory.
-pub fn read_head<R: Source>(
-    alloc: Global,
+/// What the two lines say, once the second is judged; or its fault. So many sections are read meanwhile.
+fn read_beside<H: Threads, R: Source>(
+    rt: &H,
+    count: usize,
     reader: &mut R,
-    lines: &mut Lines,
-    line: &mut Vec<u8>,
-) -> Result<Result<Head, Verdict>, EngineFail>
-    ensures head { IfOk result (λ r. IfOk r IsHead) }
-    ensures front { let old = coming lines.old (R.tells reader.old) in
-        let new = coming lines.new (R.tells reader.new) in
-        IfOk result (λ r. IfOk r
-        (λ h. Consumes old new (front_text h.second h.certificate []))) }
-    ensures verdict { IfOk result (λ r. IfErr r
-        (λ v. IfSome (coming lines.old (R.tells reader.old)) (λ bytes. IsVerdict bytes v))) }
-    ensures spends { IfOk result (λ r. IfOk r (λ _.
-        Spends lines.old.reads (R.tells reader.old) lines.new.reads (R.tells reader.new))) }
-    ensures asks { R.asked reader.new + lines.new.reads ≡ R.asked reader.old + lines.old.reads }
+    text: &mut Text,
+    judging: Judging,
+) -> Result<Result<(Head, Vec<Section>), Fault>, EngineFail>
+    ensures head { (second : Bool) (line : List ℕ) → WillSay second line judging
+        → IfOk result (λ r. IfOk r (λ p. IsHead p.0 × (p.0.second ≡ second)
+        × (line ≡ certificate_text p.0.certificate))) }
+    ensures fault { (second : Bool) (line : List ℕ) → WillSay second line judging
+        → IfOk result (λ r. IfErr r (Breaks (Rule (headed second) (whole line)))) }
+    ensures ahead { let old = coming text.old.lines (R.tells reader.old) in
+        let now = coming text.new.lines (R.tells reader.new) in
+        (told : Option (List ℕ)) → IsBehind told text.old (R.tells reader.old)
+        → IfOk result (λ r. IfOk r (λ p. AreAhead told old p.1.items now)) }
+    ensures behind { (told : Option (List ℕ)) → IsBehind told text.old (R.tells reader.old)
+        → IfOk result (λ _. IsBehind told text.new (R.tells reader.new)) }
+    ensures spends { (first : Option (List ℕ)) → HasSpent first text.old (R.tells reader.old)
+        → IfOk result (λ _. HasSpent first text.new (R.tells reader.new)) }
+    ensures asks { R.asked reader.new + text.new.lines.reads
+        ≡ R.asked reader.old + text.old.lines.reads }
     ensures quiet { result ≢ Err EngineFail.ReadFault
         → R.failures reader.new ≡ R.failures reader.old }
     ensures read_fault { IsErrOf result EngineFail.ReadFault
-        → FailsDuly lines.old.reads (R.tells reader.old)
+        → FailsBehind text.old (R.tells reader.old)
         (R.failures reader.old) (R.failures reader.new) (R.asked reader.old) (R.asked reader.new) }
     ensures write_fault { result ≢ Err EngineFail.WriteFault }
 {
-    let first = next_line(reader, lines, line, MAX_LINE)?;
+    let ahead = read_ahead(reader, text, count);
+    let found = finish(rt, judging);
+    let ahead = ahead?;
+    match found {
+        Ok(Ok(head)) => Ok(Ok((head, ahead))),
+        Ok(Err(fault)) => Ok(Err(fault)),
+        Err(_) => Err(EngineFail::Memory),
+    }
+}
+
+/// Reads the first two lines of a text, and so many sections behind them: what the lines say, with those sections; or the verdict on
+/// the text, where its first fault is in one of the two.
+///
+/// An Err is ReadFault, where a read failed or too many were needed, or Memory.
+pub fn read_head<H: Threads, R: Source>(
+    rt: &H,
+    count: usize,
+    reader: &mut R,
+    text: &mut Text,
+) -> Result<Result<(Head, Vec<Section>), Verdict>, EngineFail>
+    requires going { text.old.is_ended ≡ false }
+    ensures head { IfOk result (λ r. IfOk r (λ p. IsHead p.0)) }
+    ensures begun { let told = coming text.old.lines (R.tells reader.old) in
+        IfOk result (λ r. IfOk r
+        (λ p. IsBegun told p.0 p.1.items text.new (R.tells reader.new))) }
+    ensures verdict { IfOk result (λ r. IfErr r
+        (λ v. IfSome (coming text.old.lines (R.tells reader.old)) (λ bytes. IsVerdict bytes v))) }
+    ensures spends { (first : Option (List ℕ)) → HasSpent first text.old (R.tells reader.old)
+        → IfOk result (λ r. IfOk r (λ _. HasSpent first text.new (R.tells reader.new))) }
+    ensures asks { R.asked reader.new + text.new.lines.reads
+        ≡ R.asked reader.old + text.old.lines.reads }
+    ensures quiet { result ≢ Err EngineFail.ReadFault
+        → R.failures reader.new ≡ R.failures reader.old }
+    ensures read_fault { IsErrOf result EngineFail.ReadFault
+        → FailsBehind text.old (R.tells reader.old)
+        (R.failures reader.old) (R.failures reader.new) (R.asked reader.old) (R.asked reader.new) }
+    ensures write_fault { result ≢ Err EngineFail.WriteFault }
+{
+    let mut line = Vec::new(text.alloc);
+    let first = next_line(reader, &mut text.lines, &mut line, MAX_LINE)?;
     let second = match first_line(first, line.as_slice()) {
         Ok(second) => second,
         Err(fault) => return Ok(Err(Verdict::No { line: 1, fault })),
     };
-    let next = next_line(reader, lines, line, usize::MAX)?;
-    match second_line(alloc, second, next, line.as_slice())? {
-        Ok(head) => Ok(Ok(head)),
+    let next = next_line(reader, &mut text.lines, &mut line, usize::MAX)?;
+    if let Some(fault) = second_fault(next) {
+        return Ok(Err(Verdict::No { line: 2, fault }));
+    }
+    let judging = start(rt, text.alloc, second, line);
+    match read_beside(rt, count, reader, text, judging)? {
+        Ok(begun) => Ok(Ok(begun)),
         Err(fault) => Ok(Err(Verdict::No { line: 2, fault })),
     }
 }

@@ -1,12 +1,16 @@
 //! The audit of a bundle with several sections judged at once.
 #![tactic(auto)]
 
-mod batches;
 mod cutting;
 mod engine;
 mod head;
+mod job;
+mod judging;
+mod running;
+mod sections;
 mod tally;
 #[cfg(test)]
 mod tests;
+mod workers;
 
 pub use engine::audit_with;

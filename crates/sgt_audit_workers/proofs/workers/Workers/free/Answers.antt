@@ -1,0 +1,40 @@
+use Rattle.std.proofs.Common.{◌≡◌, ℕ, List, Option, None, ◌∷◌, arith, ap, length, refl, subst, sym}
+use Rattle.std.specs.Arc.{arc_value}
+use Rattle.sgt_audit_workers.specs.declared.running.Running.{Running}
+use Rattle.sgt_audit_workers.specs.private.Running.{AreRunning}
+use Rattle.sgt_audit_workers.specs.private.Working.{Works}
+use Rattle.sgt_audit_workers.proofs.Given.{some-later}
+use Rattle.sgt_audit_workers.proofs.workers.Workers.free.Goals as goal
+
+pub returns-in-Ok-clause-goes : goal.returns-in-Ok-clause-goes
+returns-in-Ok-clause-goes g c told left works =
+    let h = arc_value c.args.self.now.head in
+    let are = subst (λ (rs : List Running). AreRunning h told works.middle c.args.self.now.tally.whole rs left) c.in-Some.ensures.some works.running in
+    let took = rw c.in-Ok.is at (c.in_ok-job.ensures.takes h are.0 told works.middle are.1 works.tallied (omega (arith, c.requires.sites, ap length c.in-Some.ensures.some)) are.2 are.3) in
+    record {
+      middle = are.1;
+      tallied = took.0;
+      running = subst (λ (k : ℕ). AreRunning h told are.1 k c.first.new.running.items left) (sym took.1) are.4;
+    }
+
+pub returns-in-Err-clause-goes : goal.returns-in-Err-clause-goes
+returns-in-Err-clause-goes g c told left works =
+    let h = arc_value c.args.self.now.head in
+    let are = subst (λ (rs : List Running). AreRunning h told works.middle c.args.self.now.tally.whole rs left) c.in-Some.ensures.some works.running in
+    rw c.in-Err.is at (c.in_ok-job.ensures.takes h are.0 told works.middle are.1 works.tallied (omega (arith, c.requires.sites, ap length c.in-Some.ensures.some)) are.2 are.3)
+
+pub returns-in-Ok-clause-idle : goal.returns-in-Ok-clause-idle
+returns-in-Ok-clause-idle g c =
+    let h = arc_value c.args.self.now.head in
+    let works = c.requires.works in
+    let are = subst (λ (rs : List Running). AreRunning h None works.middle c.args.self.now.tally.whole rs None) c.in-Some.ensures.some works.running in
+    let took = rw c.in-Ok.is at (c.in_ok-job.ensures.takes h are.0 None works.middle are.1 works.tallied (omega (arith, c.requires.sites, ap length c.in-Some.ensures.some)) are.2 are.3) in
+    some-later h c.take.new.tally.whole _ c.in-Ok.job.alone (omega arith) took.2
+
+pub returns-in-Ok-clause-given : goal.returns-in-Ok-clause-given
+returns-in-Ok-clause-given g c =
+    let h = arc_value c.args.self.now.head in
+    let works = c.requires.works in
+    let are = subst (λ (rs : List Running). AreRunning h None works.middle c.args.self.now.tally.whole rs None) c.in-Some.ensures.some works.running in
+    let took = rw c.in-Ok.is at (c.in_ok-job.ensures.takes h are.0 None works.middle are.1 works.tallied (omega (arith, c.requires.sites, ap length c.in-Some.ensures.some)) are.2 are.3) in
+    omega (arith, took.1, ap length c.in-Some.ensures.some)

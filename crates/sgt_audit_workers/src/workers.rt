@@ -1,0 +1,197 @@
+//! Workers, each with a section that it judges in a thread of its own.
+
+ghost use Rattle.std.specs.Prelude.{◌≡◌, ◌<◌, ◌≤◌, ◌+◌, ◌∷◌, ◌++◌, [], ℕ, List, Option, None, IfOk, IfErr, IfSome, IfNone, OnOk, vec_len};
+ghost use Rattle.std.specs.Arc.{arc_value};
+ghost use Rattle.std.specs.Io.KnownBytes.{Consumes};
+ghost use Rattle.sgt_audit_sections.specs.Sections.{front_text};
+ghost use Rattle.sgt_audit_workers.specs.Head.{IsHead};
+ghost use Rattle.sgt_audit_workers.specs.declared.head.Head.{Head};
+ghost use Rattle.sgt_audit_workers.specs.declared.job.Job.{Job};
+ghost use Rattle.sgt_audit_workers.specs.private.Jobs.{IsGiven, MayJudge};
+ghost use Rattle.sgt_audit_workers.specs.private.Running.{Will};
+ghost use Rattle.sgt_audit_workers.specs.private.Tallied.{IsTallied, Takes};
+ghost use Rattle.sgt_audit_workers.specs.private.Texts.{IsNextSection};
+ghost use Rattle.sgt_audit_workers.specs.private.Working.{Ends, GoesOn, SameWorkers, Works, given};
+
+use crate::head::Head;
+use crate::job::Job;
+use crate::running::{Running, finish, start};
+use crate::sections::Section;
+use crate::tally::Tally;
+use sgt_audit::{Alone, Verdict};
+use sgt_audit_sections::Judged;
+use sgt_names::EngineFail;
+use std::alloc::{AllocError, Global};
+use std::sync::Arc;
+use std::thread::Threads;
+
+/// Workers that judge sections, one after another of a text, and what those before these came to.
+#[derive(Drop)]
+pub struct Workers {
+    pub alloc: Global,
+    /// How many there may be.
+    pub count: usize,
+    pub head: Arc<Head>,
+    /// The sections that are judged now.
+    pub running: Vec<Running>,
+    pub tally: Tally,
+}
+
+/// A worker that has nothing to judge, if it was made, and a buffer for a section.
+#[derive(Drop)]
+struct Free {
+    alone: Option<Alone>,
+    buffer: Vec<u8>,
+}
+
+/// The first of the sections that are judged now.
+fn first(running: &mut Vec<Running>) -> Option<Running>
+    ensures some { IfSome result (λ r. running.old.items ≡ r ∷ running.new.items) }
+    ensures none { IfNone result (running.old.items ≡ []) }
+{
+    if running.is_empty() {
+        return None;
+    }
+    Some(running.remove(0))
+}
+
+/// One more section that is judged now.
+fn add(running: &mut Vec<Running>, one: Running) -> Result<(), AllocError>
+    ensures { OnOk result (running.new.items ≡ running.old.items ++ one ∷ []) }
+{
+    running.push(one)?;
+    Ok(())
+}
+
+/// Waits until the next section is judged, and adds what was found: its worker, or the verdict on the text.
+fn take<H: Threads>(
+    rt: &H,
+    tally: &mut Tally,
+    running: Running,
+) -> Result<Result<Job, Verdict>, EngineFail>
+    ensures takes { (h : Head) (job : Job) (told old new : Option (List ℕ))
+        → IsTallied h told old tally.old → tally.old.whole < h.certificate.sites
+        → IsGiven told old tally.old.whole job new → Will h job running
+        → IfOk result (Takes h told new tally.old tally.new) }
+    ensures err { IfErr result (λ e. e ≡ EngineFail.Memory) }
+{
+    let job = finish(rt, running);
+    let judged = match &job.judged {
+        Ok(judged) => *judged,
+        Err(_) => return Err(EngineFail::Memory),
+    };
+    match tally.add(judged, job.section.is_last)? {
+        Some(verdict) => Ok(Err(verdict)),
+        None => Ok(Ok(job)),
+    }
+}
+
+impl Workers {
+    /// So many workers, before the first section.
+    pub fn new(alloc: Global, count: usize, head: Head) -> Result<Workers, AllocError>
+        requires { IsHead head }
+        ensures head { IfOk result (λ w. arc_value w.head ≡ head) }
+        ensures count { IfOk result (λ w. w.count ≡ count) }
+        ensures given { IfOk result (λ w. given w ≡ 0) }
+        ensures works { IfOk result (λ w. (told left : Option (List ℕ))
+            → Consumes told left (front_text head.second head.certificate [])
+            → Works told left w) }
+    {
+        Ok(Workers {
+            alloc,
+            count,
+            head: Arc::new(alloc, head)?,
+            running: Vec::new(alloc),
+            tally: Tally::new(),
+        })
+    }
+
+    /// A worker that may judge the next section, or none where a new one is made there, and a buffer; or the verdict on the text.
+    fn free<H: Threads>(&mut self, rt: &H) -> Result<Result<Free, Verdict>, EngineFail>
+        requires count { 0 < self.old.count }
+        requires works { Works None None self.old }
+        requires sites { given self.old ≤ (arc_value self.old.head).certificate.sites }
+        ensures goes { (told left : Option (List ℕ)) → Works told left self.old
+            → IfOk result (GoesOn told left self.new) }
+        ensures idle { IfOk result (λ r. IfOk r (λ free. IfSome free.alone
+            (MayJudge (arc_value self.new.head) (given self.new)))) }
+        ensures given { IfOk result (λ r. IfOk r (λ _. given self.new ≡ given self.old)) }
+        ensures same { SameWorkers self.old self.new }
+        ensures err { IfErr result (λ e. e ≡ EngineFail.Memory) }
+    {
+        if self.running.len() < self.count {
+            return Ok(Ok(Free {
+                alone: None,
+                buffer: Vec::new(self.alloc),
+            }));
+        }
+        let Some(running) = first(&mut self.running) else {
+            unreachable!()
+        };
+        match take(rt, &mut self.tally, running)? {
+            Ok(job) => Ok(Ok(Free {
+                alone: job.alone,
+                buffer: job.section.bytes,
+            })),
+            Err(verdict) => Ok(Err(verdict)),
+        }
+    }
+
+    /// Has the next section judged, and waits for a worker if need be: a buffer for the section behind it, or the verdict on the text.
+    pub fn judge<H: Threads>(
+        &mut self,
+        rt: &H,
+        section: Section,
+    ) -> Result<Result<Vec<u8>, Verdict>, EngineFail>
+        requires count { 0 < self.old.count }
+        requires head { IsHead (arc_value self.old.head) }
+        requires works { Works None None self.old }
+        requires sites { given self.old < (arc_value self.old.head).certificate.sites }
+        ensures goes { (told left next : Option (List ℕ)) → Works told left self.old
+            → IsNextSection told left section next → IfOk result (GoesOn told next self.new) }
+        ensures given { IfOk result (λ r. IfOk r (λ _. given self.new ≡ given self.old + 1)) }
+        ensures same { SameWorkers self.old self.new }
+        ensures err { IfErr result (λ e. e ≡ EngineFail.Memory) }
+    {
+        let free = match self.free(rt)? {
+            Ok(free) => free,
+            Err(verdict) => return Ok(Err(verdict)),
+        };
+        let job = Job {
+            alone: free.alone,
+            site: self.tally.whole + self.running.len(),
+            section,
+            judged: Ok(Judged::Unfit),
+        };
+        let running = start(rt, self.alloc, &self.head, job)?;
+        add(&mut self.running, running)?;
+        Ok(Ok(free.buffer))
+    }
+
+    /// Waits until all sections are judged: the verdict on the text, if one has a fault.
+    pub fn wait<H: Threads>(&mut self, rt: &H) -> Result<Option<Verdict>, EngineFail>
+        requires works { Works None None self.old }
+        requires sites { given self.old ≤ (arc_value self.old.head).certificate.sites }
+        ensures ends { (told left : Option (List ℕ)) → Works told left self.old
+            → IfOk result (Ends told left self.new) }
+        ensures all { IfOk result (λ found. IfNone found
+            (self.new.tally.whole ≡ given self.old)) }
+        ensures same { SameWorkers self.old self.new }
+        ensures err { IfErr result (λ e. e ≡ EngineFail.Memory) }
+    {
+        'judged: while let Some(running) = first(&mut self.running) {
+            match take(rt, &mut self.tally, running)? {
+                Ok(job) => drop(job),
+                Err(verdict) => return Ok(Some(verdict)),
+            }
+        }
+        Ok(None)
+    }
+
+    /// Waits for the sections that are judged still, whatever is found.
+    pub fn stop<H: Threads>(self, rt: &H) {
+        for running in self.running {
+            finish(rt, running);
+        }
+    }
+}
