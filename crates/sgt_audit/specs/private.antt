@@ -6,3 +6,4 @@ pub mod Ending
 pub mod Stops
 pub mod SpelledSections
 pub mod Known
+pub mod Certified

@@ -1,6 +1,6 @@
 //! The auditor's machine, which is fed a text line by line.
 
-ghost use Rattle.std.specs.Prelude.{◌≡◌, ◌≢◌, ◌<◌, ◌≤◌, [], List, length, Bool, true, IsTrue, IfOk, IfErr, IsSome};
+ghost use Rattle.std.specs.Prelude.{◌≡◌, ◌≢◌, ◌<◌, ◌≤◌, ℕ, [], List, length, Bool, true, IsTrue, IfOk, IfErr, IsSome};
 
 use crate::faults::{Fault, FirstFault};
 use crate::format::read_format;
@@ -8,7 +8,7 @@ use crate::judging::judge_certificate;
 use crate::kept::Kept;
 use crate::sections::sections_of;
 use crate::tracked::Tracked;
-use sgt_cert::{CertFault, from_line};
+use sgt_cert::{CertFault, Certificate, from_line};
 use sgt_names::{EngineFail, MAX_LINE};
 use std::alloc::Global;
 
@@ -36,6 +36,7 @@ impl Machine {
     ghost use Rattle.sgt_audit.specs.Faults.{Stage, Piece, start, headed, Rule, Breaks, bytes_of};
     ghost use Rattle.sgt_audit.specs.private.Ending.{EndsWith, IsKeeping, limit_of};
     ghost use Rattle.sgt_audit.specs.Progress.{Stands};
+    ghost use Rattle.sgt_audit.specs.private.Certified.{IsReadingOf};
     ghost use Rattle.sgt_audit.specs.private.NextLine.{AnswersCertificate, Follows};
 
     /// Before the first line. The sections are to be handed out, or only judged.
@@ -60,18 +61,19 @@ impl Machine {
         }
     }
 
-    /// The certificate's line.
+    /// The certificate's line, of which this was read.
     fn begin(
         alloc: Global,
         keeps: bool,
         second: bool,
-        line: &[u8],
+        read: Result<Certificate, CertFault>,
     ) -> Result<Result<Kept, Fault>, EngineFail>
-        ensures begins { IfOk result (AnswersCertificate second line.now) }
+        ensures begins { (line : List ℕ) → IsReadingOf line read
+            → IfOk result (AnswersCertificate second line) }
         ensures keeps { IsTrue keeps → IfOk result (λ r. IfOk r (λ k. IsSome k.sections)) }
         ensures err { IfErr result (λ e. e ≡ EngineFail.Memory) }
     {
-        let certificate = match from_line(alloc, line) {
+        let certificate = match read {
             Ok(certificate) => certificate,
             Err(CertFault::Memory) => return Err(EngineFail::Memory),
             Err(_) => return Ok(Err(Fault::Certificate)),
@@ -110,20 +112,46 @@ impl Machine {
                 }
                 None => Ok(Some(Fault::Format)),
             },
-            Progress::Headed(second) => match Machine::begin(
-                self.alloc, self.keeps, *second, line,
-            ) {
-                Ok(Ok(kept)) => {
-                    self.progress = Progress::Reading(kept);
-                    Ok(None)
+            Progress::Headed(second) => {
+                let read = from_line(self.alloc, line);
+                match Machine::begin(self.alloc, self.keeps, *second, read) {
+                    Ok(Ok(kept)) => {
+                        self.progress = Progress::Reading(kept);
+                        Ok(None)
+                    }
+                    Ok(Err(fault)) => Ok(Some(fault)),
+                    Err(e) => Err(e),
                 }
-                Ok(Err(fault)) => Ok(Some(fault)),
-                Err(e) => Err(e),
-            },
+            }
             Progress::Reading(kept) => match kept.next(line) {
                 Ok(fault) => Ok(fault),
                 Err(_) => Err(EngineFail::Memory),
             },
+        }
+    }
+
+    /// The same. The bytes of the certificate's line are let go before room is made for what is kept of the sections.
+    pub(crate) fn line_of(&mut self, line: &mut Vec<u8>) -> Result<Option<Fault>, EngineFail>
+        ensures follows { (s : Stage) → Stands self.old.progress s
+            → IfOk result (Follows s line.old.items self.new.progress) }
+        ensures err { IfErr result (λ e. e ≡ EngineFail.Memory) }
+        ensures kept { (keeps : Bool) → IsKeeping keeps self.old → IsKeeping keeps self.new }
+    {
+        match &mut self.progress {
+            Progress::Headed(second) => {
+                let read = from_line(self.alloc, line.as_slice());
+                *line = Vec::new(self.alloc);
+                match Machine::begin(self.alloc, self.keeps, *second, read) {
+                    Ok(Ok(kept)) => {
+                        self.progress = Progress::Reading(kept);
+                        Ok(None)
+                    }
+                    Ok(Err(fault)) => Ok(Some(fault)),
+                    Err(e) => Err(e),
+                }
+            }
+            Progress::Start => self.line(line.as_slice()),
+            Progress::Reading(_) => self.line(line.as_slice()),
         }
     }
 

@@ -109,7 +109,7 @@ fn feed_lines<R: Source>(
             }));
         }
         match lines.next(reader, line, machine.limit()) {
-            Ok(Next::Line) => match machine.line(line.as_slice()) {
+            Ok(Next::Line) => match machine.line_of(line) {
                 Ok(None) => number += 1,
                 Ok(Some(fault)) => {
                     return Ok(Err(FirstFault {

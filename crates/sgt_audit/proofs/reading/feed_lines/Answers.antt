@@ -1,8 +1,7 @@
-use Rattle.std.proofs.Common.{◌∙◌, ◌<◌, ◌≤◌, List, Some, None, Err, ℕ, length, ap, subst, arith, refl}
+use Rattle.std.proofs.Common.{◌∙◌, ◌<◌, ◌≤◌, Err, length, ap, subst, arith, refl}
 use Rattle.sgt_notation.specs.Lines.{most_left}
 use Rattle.sgt_audit.specs.private.Ending.{limit_of}
 use Rattle.sgt_audit.specs.Faults.{bytes_of}
-use Rattle.sgt_audit.specs.private.NextLine.{Follows}
 use Rattle.sgt_audit.proofs.ReaderAtStage.{after-line, fault-line, stops-cut, stops-end, at-long, fault-met, spends_on}
 use Rattle.sgt_audit.proofs.reading.feed_lines.Goals as goal
 
@@ -11,7 +10,7 @@ lines-preserved g c =
     let held = rw c.in_default.is at (c.in_ok-fault.ensures.goes _ _ _ c.lines.invariant.0) in
     let gave = rw c.in-Ok-Line.field-0-is at c.in-Ok-Line.ensures.ok in (
       after-line _ _ _ _ _ _ _ _ _ _ held (omega (arith, c.in_ok-fault.ensures.unread, c.in-Ok-Line.ensures.asks, c.in-Ok-Line.ensures.few)) gave.gives
-          (λ s stands. subst (λ (l : List ℕ). Follows s l c.line.new.self.progress None) c.as_slice.ensures.value (rw c.in-Ok-None.field-0-is at (c.in-Ok-None.ensures.follows s stands))),
+          (λ s stands. rw c.in-Ok-None.field-0-is at (c.in-Ok-None.ensures.follows s stands)),
       gave.quiet ∙ c.lines.invariant.1,
       spends_on _ _ _ _ _ _ _ c.lines.invariant.2 c.in_ok-fault.ensures.unread gave.spends,
       omega (arith, gave.falls refl, c.in_ok-fault.ensures.few, c.lines.invariant.3),
@@ -23,8 +22,8 @@ pub returns-in-Ok-Some-clause-stops : goal.returns-in-Ok-Some-clause-stops
 returns-in-Ok-Some-clause-stops g c =
     let held = rw c.in_default.is at (c.in_ok-fault.ensures.goes _ _ _ c.lines.invariant.0) in
     let gave = rw c.in-Ok-Line.field-0-is at c.in-Ok-Line.ensures.ok in
-    fault-line _ _ c.line.new.self.progress _ _ _ _ _ _ _ _ held (omega (arith, c.in_ok-fault.ensures.unread, c.in-Ok-Line.ensures.asks, c.in-Ok-Line.ensures.few)) gave.gives
-    (λ s stands. subst (λ (l : List ℕ). Follows s l c.line.new.self.progress (Some c.in-Ok-Some.fault)) c.as_slice.ensures.value (rw c.in-Ok-Some.field-0-is at (c.in-Ok-Some.ensures.follows s stands)))
+    fault-line _ _ c.line_of.new.self.progress _ _ _ _ _ _ _ _ held (omega (arith, c.in_ok-fault.ensures.unread, c.in-Ok-Line.ensures.asks, c.in-Ok-Line.ensures.few)) gave.gives
+    (λ s stands. rw c.in-Ok-Some.field-0-is at (c.in-Ok-Some.ensures.follows s stands))
 
 pub returns-in-Ok-Cut-clause-stops : goal.returns-in-Ok-Cut-clause-stops
 returns-in-Ok-Cut-clause-stops g c =

@@ -11,13 +11,14 @@ use Rattle.sgt_audit.proofs.Places.{fresh-begun}
 use Rattle.sgt_audit.proofs.machine.Machine.begin.Goals as goal
 
 pub returns-in-Ok-new-clause-begins : goal.returns-in-Ok-new-clause-begins
-returns-in-Ok-new-clause-begins k =
+returns-in-Ok-new-clause-begins k line reading =
+    let read = rw k.in-Ok.is at reading in
     let answered = rw k.in-Ok-Ok.field-0-is at k.in-Ok-Ok.ensures in
     let itself = subst (λ (c : Certificate). (f : Fault) → KeepsItself c.decisions f) answered.0 answered.1 in
-    let spelled = k.in-Ok.ensures.ok.0 in
+    let spelled = read.0 in
     let b : Begun = record { sites = k.in-Ok.certificate.sites; whole = []; current = None } in
     let new : Kept = record { second = k.args.second; certificate = k.in-Ok-Ok.certificate; tracked = k.in-Ok-new.tracked; sections = k.sections_of-sections.result } in
-    headed-follows new k.args.line.now b (k.in-Ok.ensures.ok.1 ∙ ap certificate_text (sym answered.0))
+    headed-follows new line b (read.1 ∙ ap certificate_text (sym answered.0))
     (record {
       means = subst (λ (c : Certificate). Means k.args.second c b []) (sym answered.0) (certificate-means k.args.second k.in-Ok.certificate b spelled itself (fresh-begun k.in-Ok.certificate.sites b spelled.0 spelled.1 refl) refl);
       tracks = k.in-Ok-new.ensures b (subst IsCertificate (sym answered.0) spelled) refl;
@@ -25,6 +26,7 @@ returns-in-Ok-new-clause-begins k =
     })
 
 pub returns-in-Ok-Err-clause-begins : goal.returns-in-Ok-Err-clause-begins
-returns-in-Ok-Err-clause-begins k =
+returns-in-Ok-Err-clause-begins k line reading =
+    let read = rw k.in-Ok.is at reading in
     let breaks = rw k.in-Ok-Err.field-0-is at k.in-Ok-Err.ensures in
-    certificate-breaks k.args.second k.in-Ok.certificate k.args.line.now k.in-Ok-Err.fault k.in-Ok.ensures.ok.0 k.in-Ok.ensures.ok.1 breaks
+    certificate-breaks k.args.second k.in-Ok.certificate line k.in-Ok-Err.fault read.0 read.1 breaks
