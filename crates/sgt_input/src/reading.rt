@@ -51,6 +51,11 @@ pub fn read_lines<R: Source, T: Taker>(
     let mut line = Vec::new(alloc);
     let mut number = 1u64;
     'lines: loop {
+        if let Some(n) = taker.take_front(lines.held())? {
+            lines.pass(n);
+            number += 1;
+            continue;
+        }
         match find_lf(lines.held()) {
             Some(n) if n <= MAX_LINE => {
                 if !taker.take(&lines.held()[..n])? {

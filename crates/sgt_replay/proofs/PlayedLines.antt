@@ -1,15 +1,17 @@
 -- The run of an input, line by line.
-use Rattle.std.proofs.Common.{◌≡◌, ◌≢◌, ℕ, ◌+◌, ◌≤◌, true, false, List, [], ◌∷◌, ◌++◌, length, Option, Some, None, IfSome, refl, sym, subst, arith}
+use Rattle.std.proofs.Common.{◌≡◌, ◌≢◌, ℕ, ◌-◌, ◌≤◌, true, false, List, [], ◌∷◌, ◌++◌, length, take, drop, Option, Some, None, IfSome, append_assoc, refl, sym, ap, ◌∙◌, subst, arith}
+use Rattle.std.proofs.lemmas.List.{length-append, length-take-le, take-append-drop, take_at}
 use Rattle.std.specs.Prelude.{Bool, Result, Ok, Err, IfOk, map}
 use Rattle.sgt_names.specs.declared.outcome.Outcome.{Outcome}
 use Rattle.sgt_names.specs.declared.outcome.Outcome.TheVariants as outcome
-use Rattle.sgt_notation.specs.Events.{IsSiteLine, site_text}
+use Rattle.sgt_notation.specs.Events.{IsEventLine, IsSiteLine, event_text, site_text}
 use Rattle.sgt_notation.specs.declared.event.EventLine.{EventLine}
 use Rattle.sgt_notation.specs.declared.event.SiteLine.{SiteLine}
+use Rattle.sgt_notation.proofs.OneEvent.{event-no_lf, event-short}
 use Rattle.sgt_core.specs.Core.{fresh}
 use Rattle.sgt_core.specs.Machine.{Parts, StandsFor}
 use Rattle.sgt_input.specs.Stopping.{IsTaken}
-use Rattle.sgt_input.specs.Taking.{TakesLine}
+use Rattle.sgt_input.specs.Taking.{TakesFront, TakesLine}
 use Rattle.sgt_input.proofs.Keeping.{took-line}
 use Rattle.sgt_replay.specs.declared.input.Input.{Input}
 use Rattle.sgt_replay.specs.Input.{Begins, IsBegun, IsInput, Spells, input_lines}
@@ -74,6 +76,25 @@ line-played (Ok true) old sites core written line lines have (new, takes, played
     let on = took-line IsBegun input_lines {E = ℕ} (Ok true) old new lines line have takes in
     (on.0, (new, on.1, played))
 line-played (Ok false) old sites core written line lines have takes = took-line IsBegun input_lines {E = ℕ} (Ok false) old old lines line have takes
+
+-- the line in front of the LF at the end of these bytes
+pub front-line : (line held : List ℕ) (n : ℕ) → n ≤ length held → take n held ≡ line ++ 10 ∷ [] → take (n - 1) held ≡ line
+front-line line held n within front =
+    let size : length line ≡ n - 1 = omega (arith, ap length front, length-take-le n held within, length-append line (10 ∷ [])) in
+    let text : held ≡ line ++ 10 ∷ drop n held =
+    sym (take-append-drop n held) ∙ ap (λ (t : List ℕ). t ++ drop n held) front ∙ append_assoc line (10 ∷ []) (drop n held) in
+    ap (λ (t : List ℕ). take (n - 1) t) text ∙ take_at line (10 ∷ drop n held) (n - 1) size
+
+-- the event whose line stands at the front is answered
+pub front-played : (e : EventLine) (input : Input) (sites : List SiteLine) (old new : Parts) (held text written : List ℕ) (lines : List (List ℕ)) (n : ℕ)
+    → HaveLines input lines → IsPlayed input sites (Some old) text → IsEventLine e → n ≤ length held → take n held ≡ event_text e ++ 10 ∷ []
+    → WritesReplies old (e ∷ []) new text written → TakesFront Begins (HasPlayed sites (Some new) written) lines held (Some n)
+front-played e input sites old new held text written lines n have played is within front more =
+    let line = event_text e in
+    let plays = event-played {E = ℕ} (Ok true) input sites old new line text written played (e, is, refl, more) in
+    let on = line-played {E = ℕ} (Ok true) input sites (Some new) written line lines have plays in
+    let short = event-short e is in
+    (line, within, front, event-no_lf e is, omega (arith, short), on.0, on.1)
 
 -- ---- the end
 

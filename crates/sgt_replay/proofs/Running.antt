@@ -15,12 +15,15 @@ use Rattle.sgt_cert.specs.Text.{text_of}
 use Rattle.sgt_cert.specs.Valid.{IsValid}
 use Rattle.sgt_notation.specs.Events.{IsSiteLine}
 use Rattle.sgt_notation.specs.Spelling.{text_of_lines}
+use Rattle.sgt_notation.specs.declared.event.Event.{Event}
 use Rattle.sgt_notation.specs.declared.event.EventLine.{EventLine}
+use Rattle.sgt_notation.specs.declared.event.EventLine.TheVariants.{One, ToDecide}
 use Rattle.sgt_core.specs.Core.{CoreState, bundle_of, fresh}
-use Rattle.sgt_core.specs.Machine.{Parts, RefusesSites, StandsFor}
+use Rattle.sgt_core.specs.Machine.{GoesOn, Parts, RefusesSites, StandsFor}
+use Rattle.sgt_core.specs.Step.{MayDecide, MayStep}
 use Rattle.sgt_core.specs.declared.reply.Reply.{Reply}
 use Rattle.sgt_replay.specs.declared.input.Input.{Input}
-use Rattle.sgt_replay.specs.Replay.{EndsWith, IsRunText, Replies}
+use Rattle.sgt_replay.specs.Replay.{EndsWith, IsRunText, MayAnswer, Replies}
 use Rattle.sgt_replay.specs.Reply.{reply_lines, reply_text}
 use Rattle.sgt_replay.specs.private.Running.{AnswersLine, WritesReplies}
 use Rattle.sgt_input.proofs.Lines.{text-append}
@@ -55,6 +58,19 @@ replies-then m n o xs ys text out out' first later c stands =
       },
       then,
     )
+
+-- the core answers what is asked of it
+pub answers-step : (m n o : Parts) (line : EventLine) (e : Event) (reply told : Reply) → line ≡ One e → o ≡ n → told ≡ reply
+    → GoesOn (λ c d. MayStep c e reply d) m n → GoesOn (λ c d. MayAnswer c line told d) m o
+answers-step m n o line e reply told is same tells goes =
+    subst (λ l. GoesOn (λ c d. MayAnswer c l told d) m o) (sym is)
+    (subst (λ (p : Parts). GoesOn (λ c d. MayAnswer c (One e) told d) m p) (sym same) (subst (λ r. GoesOn (λ c d. MayAnswer c (One e) r d) m n) (sym tells) goes))
+
+pub answers-to_decide : (m n o : Parts) (line : EventLine) (tx : ℕ) (reply told : Reply) → line ≡ ToDecide tx → o ≡ n → told ≡ reply
+    → GoesOn (λ c d. MayDecide c tx reply d) m n → GoesOn (λ c d. MayAnswer c line told d) m o
+answers-to_decide m n o line tx reply told is same tells goes =
+    subst (λ l. GoesOn (λ c d. MayAnswer c l told d) m o) (sym is)
+    (subst (λ (p : Parts). GoesOn (λ c d. MayAnswer c (ToDecide tx) told d) m p) (sym same) (subst (λ r. GoesOn (λ c d. MayAnswer c (ToDecide tx) r d) m n) (sym tells) goes))
 
 pub replies-one : (m n : Parts) (line : EventLine) (reply : Reply) (out out' : List ℕ) → AnswersLine m line reply n → out' ≡ (out ++ reply_text line reply) ++ 10 ∷ [] → WritesReplies m (line ∷ []) n out out'
 replies-one m n line reply out out' answers after c stands =

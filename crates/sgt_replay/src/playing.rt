@@ -1,17 +1,19 @@
 //! The run of an input's events, line by line.
 
-ghost use Rattle.std.specs.Prelude.{◌≡◌, [], None, map, IfOk};
+ghost use Rattle.std.specs.Prelude.{◌≡◌, ◌∷◌, [], None, map, IfOk, OnOk};
+ghost use Rattle.sgt_notation.specs.Events.{event_text};
 ghost use Rattle.sgt_core.specs.Core.{fresh};
 ghost use Rattle.sgt_core.specs.Machine.{StandsFor};
+ghost use Rattle.sgt_core.specs.Runs.{IsMemory};
 ghost use Rattle.sgt_replay.specs.Input.{IsBegun};
-ghost use Rattle.sgt_replay.specs.private.Running.{AnswersLine};
+ghost use Rattle.sgt_replay.specs.private.Running.{WritesReplies};
 ghost use Rattle.sgt_replay.specs.private.Playing.{AnswersEvent, IsOpening, PlaysOn};
 
 use crate::reply::write_reply;
 use sgt_core::{Core, CoreFault, Reply};
 use sgt_input::{Taker, take_site};
 use sgt_names::{Holding, Listed};
-use sgt_notation::{EventLine, SiteLine, read_event};
+use sgt_notation::{EventLine, SiteLine, front_event, read_event};
 use sgt_site::SiteFault;
 use std::alloc::{AllocError, Global};
 use std::mem;
@@ -38,7 +40,7 @@ impl Taker for Player {
 
     fn take(&mut self, line: &[u8]) -> Result<bool, AllocError> {
         match &mut self.core {
-            Some(core) => answer_event(core, line, &mut self.text),
+            Some(core) => answer_line(core, line, &mut self.text),
             None => take_first(
                 self.alloc,
                 &mut self.sites,
@@ -47,6 +49,17 @@ impl Taker for Player {
                 line,
             ),
         }
+    }
+
+    fn take_front(&mut self, held: &[u8]) -> Result<Option<usize>, AllocError> {
+        let Some(core) = &mut self.core else {
+            return Ok(None);
+        };
+        let Some((event, n)) = front_event(held) else {
+            return Ok(None);
+        };
+        answer_event(core, &event, &held[..n - 1], &mut self.text)?;
+        Ok(Some(n))
     }
 }
 
@@ -68,31 +81,46 @@ impl Player {
     }
 }
 
-/// What the core replies to a line. Err: memory ran out.
-fn answer_line(core: &mut Core, line: &EventLine) -> Result<Reply, AllocError>
-    ensures { IfOk result (λ reply. AnswersLine core.old line.now reply core.new) }
+/// Err: the reply is that memory ran out.
+fn check_memory(reply: &Reply) -> Result<(), AllocError>
+    ensures { OnOk result (IsMemory reply.now → ⊥) }
 {
-    let reply = match line {
-        EventLine::One(event) => core.step(*event),
-        EventLine::ToDecide(tx) => core.to_decide(*tx),
-    };
     match reply {
         Reply::Fault {
             fault: CoreFault::Memory,
         } => Err(AllocError),
-        _ => Ok(reply),
+        _ => Ok(()),
     }
 }
 
-/// Writes the core's reply to the event, if the line spells one. Err: memory ran out.
-fn answer_event(core: &mut Core, line: &[u8], text: &mut Vec<u8>) -> Result<bool, AllocError>
+/// Writes what the core replies to the event, whose line is given without its LF. Err: memory ran out.
+fn answer_event(
+    core: &mut Core,
+    event: &EventLine,
+    line: &[u8],
+    text: &mut Vec<u8>,
+) -> Result<(), AllocError>
+    requires { line.now ≡ event_text event.now }
+    ensures { OnOk result
+        (WritesReplies core.old (event.now ∷ []) core.new text.old.items text.new.items) }
+{
+    let reply = match event {
+        EventLine::One(event) => core.step(*event),
+        EventLine::ToDecide(tx) => core.to_decide(*tx),
+    };
+    check_memory(&reply)?;
+    write_reply(text, line, &reply)?;
+    text.push(b'\n')?;
+    Ok(())
+}
+
+/// Answers the event, if the line spells one. Err: memory ran out.
+fn answer_line(core: &mut Core, line: &[u8], text: &mut Vec<u8>) -> Result<bool, AllocError>
     ensures { IfOk result (AnswersEvent core.old line.now core.new text.old.items text.new.items) }
 {
     match read_event(line) {
         Ok(event) => {
-            let reply = answer_line(core, &event)?;
-            write_reply(text, line, &reply)?;
-            text.extend_from_slice(b"\n")?;
+            answer_event(core, &event, line, text)?;
             Ok(true)
         }
         Err(_) => Ok(false),
@@ -120,7 +148,7 @@ fn take_first(
         return Ok(false);
     }
     let mut opened = core_of(alloc, mem::replace(sites, Vec::new(alloc)))?;
-    let answered = answer_event(&mut opened, line, text)?;
+    let answered = answer_line(&mut opened, line, text)?;
     *core = Some(opened);
     Ok(answered)
 }

@@ -40,5 +40,5 @@ returns c =
     let some : c.args.sites.now.items ≢ [] = λ none. filled_when _ _ (sym c.take_site.new.sites.ok.0) c.if-is_empty.ensures (site.1 ∙ none) in
     let same = ap (λ v. v.items) c.replace.ensures.value ∙ site.1 in
     let stands = subst (λ (ss : List SiteLine). StandsFor c.in_ok-opened.opened (fresh (map (λ l. l.items) ss))) same c.in_ok-opened.ensures in
-    let answers = subst (λ (t : List ℕ). AnswersEvent c.in_ok-opened.opened c.args.line.now c.answer_event.new.core t c.answer_event.new.text.items c.in_ok-answered.answered) c.requires.empty c.in_ok-answered.ensures in
+    let answers = subst (λ (t : List ℕ). AnswersEvent c.in_ok-opened.opened c.args.line.now c.answer_line.new.core t c.answer_line.new.text.items c.in_ok-answered.answered) c.requires.empty c.in_ok-answered.ensures in
     first-played {E = ℕ} (Ok c.in_ok-answered.answered) c.args.sites.now.items [] _ _ c.args.line.now _ some site.0 stands answers

@@ -8,8 +8,8 @@ pub returns-in-Some : goal.returns-in-Some
 returns-in-Some c lines begun took =
     let p = c.args.self.now in
     let (input, have, played) = subst (λ (core : Option Parts). HasPlayed p.sites.items core p.text.items lines) c.in-Some.is took in
-    line-played c.answer_event.result input p.sites.items (Some c.answer_event.new.core) c.answer_event.new.text.items c.args.line.now lines have
-    (event-played c.answer_event.result input p.sites.items c.in-Some.core c.answer_event.new.core c.args.line.now p.text.items c.answer_event.new.text.items played c.answer_event.ensures)
+    line-played c.answer_line.result input p.sites.items (Some c.answer_line.new.core) c.answer_line.new.text.items c.args.line.now lines have
+    (event-played c.answer_line.result input p.sites.items c.in-Some.core c.answer_line.new.core c.args.line.now p.text.items c.answer_line.new.text.items played c.answer_line.ensures)
 
 pub returns-in-None : goal.returns-in-None
 returns-in-None c lines begun took =
