@@ -68,9 +68,9 @@ fn timed<L: Ledger + Send + Sync, R: Threads + Wait + Clock + Sync>(
     if sites.len() > 64 {
         return None;
     }
-    let (service, seats) = Service::<L>::new(alloc, blank, sites, workers).ok()?;
+    let (service, seats) = Service::<L, _>::new(alloc, blank, sites, workers, NoGate).ok()?;
     let start = Instant::now(rt).ok()?;
-    let (dones, seats) = run(rt, alloc, &service, seats, scripts, 4, &NoGate).ok()?;
+    let (dones, seats) = run(rt, alloc, &service, seats, scripts, 4).ok()?;
     let run = start.elapsed(rt).ok()?.as_nanos();
     let mut tries = 0usize;
     for done in &dones {

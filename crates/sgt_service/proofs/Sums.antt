@@ -1,13 +1,12 @@
 -- What the seats of a pool have together.
-use Rattle.std.proofs.Common.{◌≡◌, ℕ, ◌+◌, ◌-◌, ◌^◌, ◌≤◌, ◌⊎◌, inl, inr, List, [], ◌∷◌, ◌++◌, length, map, refl, sym, ◌∙◌, ap, ap₂, arith}
+use Rattle.std.proofs.Common.{◌≡◌, ℕ, ◌+◌, ◌-◌, ◌^◌, ◌≤◌, ◌⊎◌, inl, inr, List, [], ◌∷◌, length, map, refl, sym, ◌∙◌, ap, arith}
 use Rattle.std.specs.Prelude.{sum_by}
 use Rattle.std.proofs.lemmas.Bool.{cases_lt}
 use Rattle.std.proofs.Math.Nat.{min-eq_left, min-eq_right}
-use Rattle.std.specs.List.{AllZip, flat_map, range_with_len}
+use Rattle.std.specs.List.{AllZip, flat_map}
 use Rattle.std.proofs.lemmas.List.Concat.{length-flat_map}
 use Rattle.std.proofs.lemmas.List.Sums.{sum_by-append, sum_by-cons}
 use Rattle.std.proofs.lemmas.List.Sorted.{sum_by-IsPermutation}
-use Rattle.sgt_names.proofs.Lists.{heads, tails}
 use Rattle.sgt_workers.specs.Answers.{AreShared, IsShare, Runs}
 use Rattle.sgt_workers.specs.declared.ticket.Done.{Done}
 use Rattle.sgt_workers.specs.declared.ticket.Ticket.{Ticket}
@@ -18,19 +17,13 @@ use Rattle.sgt_service_locks.specs.Together.{amount_of, begun_of, parts_of}
 use Rattle.sgt_service_locks.specs.declared.seat.Seat.{Seat}
 use Rattle.sgt_service_settle.specs.Settled.{tickets_of}
 use Rattle.sgt_service.specs.Tries.{AreTried, TriesJob}
-use Rattle.sgt_service.proofs.Shares.{shared_seen}
-use Rattle.sgt_service.specs.declared.runner.Worker.{Worker}
 
-pub sum_zip : {A B : Type 0} (f : A → ℕ) (h : B → ℕ) (xs : List A) (ys : List B) → AllZip (λ x y. h y ≡ f x) xs ys → sum_by h ys ≡ sum_by f xs
+sum_zip : {A B : Type 0} (f : A → ℕ) (h : B → ℕ) (xs : List A) (ys : List B) → AllZip (λ x y. h y ≡ f x) xs ys → sum_by h ys ≡ sum_by f xs
 sum_zip f h [] [] z = refl
 sum_zip f h [] (y ∷ ys) z = absurd z
 sum_zip f h (x ∷ xs) [] z = absurd z
 sum_zip f h (x ∷ xs) (y ∷ ys) z =
     sum_by-cons h y ys ∙ omega (arith, z.0, sum_zip f h xs ys z.1) ∙ sym (sum_by-cons f x xs)
-
-pub sum_map : {A B : Type 0} (f : B → ℕ) (g : A → B) (xs : List A) → sum_by f (map g xs) ≡ sum_by (λ x. f (g x)) xs
-sum_map f g [] = refl
-sum_map f g (x ∷ xs) = sum_by-cons f (g x) (map g xs) ∙ omega (arith, sum_map f g xs) ∙ sym (sum_by-cons (λ y. f (g y)) x xs)
 
 -- how many tickets a Done has
 abbrev pub told : Done → ℕ
@@ -109,25 +102,8 @@ capped_sums a b c d ab cd = elim (alike a b ab) [
 ]
 
 module _ {L : Type 0} where
-  abbrev seat_of : Worker L → Seat L
-  seat_of w = w.seat
-
-  numbers_from : (n : ℕ) (ws : List (Worker L)) (w : Worker L) → map (λ (v : Worker L). v.number) ws ≡ range_with_len n (length ws) → w.number ≡ n + length ws
-      → map (λ (v : Worker L). v.number) (ws ++ w ∷ []) ≡ range_with_len n (length (ws ++ w ∷ []))
-  numbers_from n [] w e is = let number : w.number ≡ n = omega arith in ap (λ k. k ∷ []) number
-  numbers_from n (v ∷ ws) w e is = ap₂ (λ k ks. k ∷ ks) (heads _ _ _ _ e) (numbers_from (n + 1) ws w (tails _ _ _ _ e) (omega arith))
-
-  -- one worker more has the next number
-  pub numbers_more : (ws : List (Worker L)) (w : Worker L) → map (λ (v : Worker L). v.number) ws ≡ range_with_len 0 (length ws) → w.number ≡ length ws
-      → map (λ (v : Worker L). v.number) (ws ++ w ∷ []) ≡ range_with_len 0 (length (ws ++ w ∷ []))
-  numbers_more ws w e is = numbers_from 0 ws w e (omega arith)
-
-  pub parts_stay : (ws vs : List (Worker L)) (old new : List (Seat L)) → map seat_of ws ≡ old → AllZip (λ (s t : Worker L). t.seat.share.parts ≡ s.seat.share.parts) ws vs
-      → new ≡ map seat_of vs → parts_of new ≡ parts_of old
-  parts_stay ws vs old new before stay after =
-      let parts : Seat L → ℕ = λ s. s.share.parts in
-      ap parts_of after ∙ sum_map parts seat_of vs ∙ sum_zip (λ (w : Worker L). w.seat.share.parts) (λ (w : Worker L). w.seat.share.parts) ws vs stay
-      ∙ sym (sum_map parts seat_of ws) ∙ ap parts_of before
+  pub parts_stay : (old new : List (Seat L)) → AllZip (λ (s t : Seat L). t.share.parts ≡ s.share.parts) old new → parts_of new ≡ parts_of old
+  parts_stay old new stay = sum_zip (λ (s : Seat L). s.share.parts) (λ (s : Seat L). s.share.parts) old new stay
 
   -- as many decisions as tickets, and as many begins
   tried_amount : (ops : List Op) (tickets : List Ticket) (old new : Seat L) → AreTried ops tickets old new
@@ -143,36 +119,17 @@ module _ {L : Type 0} where
       let once = capped_sums tried.0.begun (old.begun + 1) many many (ap capped tried.1.1.2.0 ∙ capped_twice (old.begun + 1)) refl in
       tried_begun ops tickets tried.0 new tried.2 ∙ (once ∙ ap capped (omega arith))
 
-  abbrev works : Worker L → ℕ → Script → Done → Worker L → Type 0
-  works w number script d v = TriesJob w.seat number script d v.seat
+  pub amounts_grow : (scripts : List Script) (old new : List (Seat L)) (dones : List Done) → AreShared TriesJob scripts old dones new
+      → amount_of new ≡ amount_of old + length (tickets_of dones)
+  amounts_grow scripts old new dones shared =
+      shared_amount TriesJob scripts (λ (s : Seat L). s.share.amount) (λ n. n) (λ a b c d ab cd. omega (arith, ab, cd))
+      (λ s n c d t does. tried_amount c.operations d.tickets.items s t does) old new dones shared
 
-  pub amounts_grow : (scripts : List Script) (ws vs : List (Worker L)) (dones : List Done) (old new : List (Seat L)) → map seat_of ws ≡ old
-      → AreShared works scripts ws dones vs → new ≡ map seat_of vs → amount_of new ≡ amount_of old + length (tickets_of dones)
-  amounts_grow scripts ws vs dones old new before shared after =
-      let amount : Seat L → ℕ = λ s. s.share.amount in
-      let grown = shared_amount works scripts (λ (w : Worker L). w.seat.share.amount) (λ n. n) (λ a b c d ab cd. omega (arith, ab, cd))
-      (λ s n c d t does. tried_amount c.operations d.tickets.items s.seat t.seat does) ws vs dones shared in
-      let here : amount_of new ≡ sum_by (λ (w : Worker L). w.seat.share.amount) vs = ap amount_of after ∙ sum_map amount seat_of vs in
-      let there : sum_by (λ (w : Worker L). w.seat.share.amount) ws ≡ amount_of old = sym (sum_map amount seat_of ws) ∙ ap amount_of before in
-      omega (arith, here, grown, there)
-
-  pub begins_grow : (scripts : List Script) (ws vs : List (Worker L)) (dones : List Done) (old new : List (Seat L)) → map seat_of ws ≡ old
-      → AreShared works scripts ws dones vs → new ≡ map seat_of vs → begun_of new ≡ capped (begun_of old + length (tickets_of dones))
-  begins_grow scripts ws vs dones old new before shared after =
+  pub begins_grow : (scripts : List Script) (old new : List (Seat L)) (dones : List Done) → AreShared TriesJob scripts old dones new
+      → begun_of new ≡ capped (begun_of old + length (tickets_of dones))
+  begins_grow scripts old new dones shared =
       let begun : Seat L → ℕ = λ s. s.begun in
-      let grown = shared_amount works scripts (λ (w : Worker L). w.seat.begun) capped capped_sums
-      (λ s n c d t does. tried_begun c.operations d.tickets.items s.seat t.seat does) ws vs dones shared in
+      let grown = shared_amount TriesJob scripts begun capped capped_sums
+      (λ s n c d t does. tried_begun c.operations d.tickets.items s t does) old new dones shared in
       let many = length (tickets_of dones) in
-      let here : sum_by begun new ≡ sum_by (λ (w : Worker L). w.seat.begun) vs = ap (sum_by begun) after ∙ sum_map begun seat_of vs in
-      let there : sum_by (λ (w : Worker L). w.seat.begun) ws ≡ sum_by begun old = sym (sum_map begun seat_of ws) ∙ ap (sum_by begun) before in
-      ap capped here ∙ (grown ∙ (ap (λ n. capped (n + many)) there
-      ∙ capped_sums (sum_by begun old) (capped (sum_by begun old)) many many (sym (capped_twice (sum_by begun old))) refl))
-
-  -- the shares of workers are those of their seats
-  module _ {C : Type 0} (does : Seat L → ℕ → C → Done → Seat L → Type 0) (scripts : List C) where
-    abbrev by_seat : Worker L → ℕ → C → Done → Worker L → Type 0
-    by_seat w number c d v = does w.seat number c d v.seat
-
-    pub shared_by_seat : (ws vs : List (Worker L)) (dones : List Done) (old new : List (Seat L)) → map seat_of ws ≡ old
-        → AreShared by_seat scripts ws dones vs → new ≡ map seat_of vs → AreShared does scripts old dones new
-    shared_by_seat ws vs dones old new before shared after = shared_seen seat_of by_seat does (λ w n c d v h. h) scripts ws vs dones old new before shared after
+      grown ∙ capped_sums (sum_by begun old) (capped (sum_by begun old)) many many (sym (capped_twice (sum_by begun old))) refl

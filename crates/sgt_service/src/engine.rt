@@ -168,11 +168,11 @@ fn run_and_settle<L: Ledger + Send + Sync, G: Gate + Sync, R: Threads + Wait + S
     ensures run { IfOk result (IsRunOf scripts.now (length sites.now) tries) }
     ensures fault { IfErr result (λ f. IsWant f ⊎ EndsRun scripts.now sites.now tries f) }
 {
-    let (service, seats) = match Service::<L>::new(alloc, blank, sites, workers) {
+    let (service, seats) = match Service::<L, &G>::new(alloc, blank, sites, workers, gate) {
         Ok(opened) => opened,
         Err(fault) => return Err(PoolFail::Work(fault)),
     };
-    let (dones, seats) = run(rt, alloc, &service, seats, scripts, tries, gate)?;
+    let (dones, seats) = run(rt, alloc, &service, seats, scripts, tries)?;
     match settle(alloc, service, dones, seats) {
         Ok(settled) => Ok(settled),
         Err(fault) => Err(PoolFail::Work(fault)),

@@ -12,21 +12,13 @@ use std::alloc::Global;
 use std::sync::Wait;
 use std::sync::ledger::Ledger;
 
-/// A worker: its number, from 0, and its seat.
-#[derive(Drop)]
-pub struct Worker<L: Ledger> {
-    pub number: usize,
-    pub seat: Seat<L>,
-}
-
 /// What the workers of a run share.
 #[derive(Drop)]
 pub struct Runner<'a, L: Ledger, G: Gate> {
     pub alloc: Global,
-    pub service: &'a Service<L>,
+    pub service: &'a Service<L, G>,
     /// How often a script is tried at most.
     pub tries: u64,
-    pub gate: &'a G,
     pub ghost some: { 1 ≤ tries },
 }
 
@@ -74,7 +66,7 @@ impl<'a, L: Ledger, G: Gate> Runner<'a, L, G> {
     fn apply<R: Wait>(
         &self,
         rt: &R,
-        worker: &mut Worker<L>,
+        seat: &mut Seat<L>,
         active: &mut Active,
         op: &Op,
         reads: &mut Vec<Value>,
@@ -86,21 +78,18 @@ impl<'a, L: Ledger, G: Gate> Runner<'a, L, G> {
             → (active.new.draft.touched ≡ active.old.draft.touched)
             × (reads.new.items ≡ reads.old.items) }
         ensures named { IsOfActive active.old active.new }
-        ensures share { (worker.new.seat.share ≡ worker.old.seat.share)
-            × (worker.new.seat.begun ≡ worker.old.seat.begun) }
+        ensures share { (seat.new.share ≡ seat.old.share)
+            × (seat.new.begun ≡ seat.old.begun) }
         ensures counts { OnOk result
-            (CountsOp op.now active.old.draft.touched worker.old.seat.counts.items worker.new.seat.counts.items) }
+            (CountsOp op.now active.old.draft.touched seat.old.counts.items seat.new.counts.items) }
         ensures err { OnErr result ((active.new.draft.touched ≡ active.old.draft.touched)
-            × (worker.new.seat.counts.items ≡ worker.old.seat.counts.items)) }
+            × (seat.new.counts.items ≡ seat.old.counts.items)) }
         ensures fault { IfErr result IsOfOperation }
     {
         match *op {
             Op::Read { site, item } => {
                 reads.reserve(1)?;
-                let Worker { number, seat } = worker;
-                let value = self
-                    .service
-                    .read_at(rt, seat, active, site, item, *number, self.gate)?;
+                let value = self.service.read(rt, seat, active, site, item)?;
                 reads.push_reserved(value);
                 Ok(true)
             }
@@ -129,7 +118,7 @@ impl<'a, L: Ledger, G: Gate> Runner<'a, L, G> {
     fn apply_all<R: Wait>(
         &self,
         rt: &R,
-        worker: &mut Worker<L>,
+        seat: &mut Seat<L>,
         active: &mut Active,
         script: &Script,
         reads: &mut Vec<Value>,
@@ -137,15 +126,15 @@ impl<'a, L: Ledger, G: Gate> Runner<'a, L, G> {
         ensures does { IfOk result (λ all. DoesAll script.now.operations all
             active.old.draft.touched active.new.draft.touched reads.old.items reads.new.items) }
         ensures named { IsOfActive active.old active.new }
-        ensures share { (worker.new.seat.share ≡ worker.old.seat.share)
-            × (worker.new.seat.begun ≡ worker.old.seat.begun) }
+        ensures share { (seat.new.share ≡ seat.old.share)
+            × (seat.new.begun ≡ seat.old.begun) }
         ensures counts { CountsReads active.old.draft.touched active.new.draft.touched
-            worker.old.seat.counts.items worker.new.seat.counts.items }
+            seat.old.counts.items seat.new.counts.items }
         ensures fault { IfErr result IsOfOperation }
     {
         let operations = script.operations.as_slice();
         for op in operations {
-            if !self.apply(rt, worker, active, op, reads)? {
+            if !self.apply(rt, seat, active, op, reads)? {
                 return Ok(false);
             }
             // That its items rise shows that a read is counted exactly where one more is kept.
@@ -159,23 +148,19 @@ impl<'a, L: Ledger, G: Gate> Runner<'a, L, G> {
     fn commit<R: Wait>(
         &self,
         rt: &R,
-        worker: &mut Worker<L>,
+        seat: &mut Seat<L>,
         active: Active,
     ) -> Result<Ticket, ServiceFault>
         ensures decided { IfOk result (λ t. t.verdict ≢ Withdrawn) }
         ensures told { IfOk result (IsTicketOf (vec_len self.now.service.now.sites) active) }
-        ensures parts { worker.new.seat.share.parts ≡ worker.old.seat.share.parts }
+        ensures parts { seat.new.share.parts ≡ seat.old.share.parts }
         ensures ends { IfOk result
-            (λ t. CountsEnd t.verdict active worker.old.seat worker.new.seat) }
+            (λ t. CountsEnd t.verdict active seat.old seat.new) }
         ensures halt { IfErr result
-            (IsHalt (λ verdict. verdict ≢ Withdrawn) active worker.old.seat worker.new.seat) }
+            (IsHalt (λ verdict. verdict ≢ Withdrawn) active seat.old seat.new) }
         ensures fault { IfErr result IsOfCommit }
     {
-        let Worker { number, seat } = worker;
-        match self
-            .service
-            .commit_at(rt, self.alloc, seat, active, *number, self.gate)
-        {
+        match self.service.commit(rt, self.alloc, seat, active) {
             Ok(ticket) => Ok(ticket),
             Err(back) => Err(back.fault),
         }
@@ -186,19 +171,18 @@ impl<'a, L: Ledger, G: Gate> Runner<'a, L, G> {
     fn withdraw<R: Wait>(
         &self,
         rt: &R,
-        worker: &mut Worker<L>,
+        seat: &mut Seat<L>,
         active: Active,
     ) -> Result<Ticket, ServiceFault>
         ensures decided { IfOk result (λ t. t.verdict ≡ Withdrawn) }
         ensures told { IfOk result (IsTicketOf (vec_len self.now.service.now.sites) active) }
-        ensures parts { worker.new.seat.share.parts ≡ worker.old.seat.share.parts }
+        ensures parts { seat.new.share.parts ≡ seat.old.share.parts }
         ensures ends { IfOk result
-            (λ t. CountsEnd t.verdict active worker.old.seat worker.new.seat) }
+            (λ t. CountsEnd t.verdict active seat.old seat.new) }
         ensures halt { IfErr result
-            (IsHalt (λ verdict. verdict ≡ Withdrawn) active worker.old.seat worker.new.seat) }
+            (IsHalt (λ verdict. verdict ≡ Withdrawn) active seat.old seat.new) }
         ensures fault { IfErr result IsOfWithdraw }
     {
-        let Worker { number: _, seat } = worker;
         match self.service.withdraw(rt, seat, active) {
             Ok(ticket) => Ok(ticket),
             Err(back) => Err(back.fault),
@@ -210,25 +194,25 @@ impl<'a, L: Ledger, G: Gate> Runner<'a, L, G> {
     fn end<R: Wait>(
         &self,
         rt: &R,
-        worker: &mut Worker<L>,
+        seat: &mut Seat<L>,
         active: Active,
         fits: bool,
     ) -> Result<Ticket, ServiceFault>
         ensures withdrawn { IfOk result (λ t. (t.verdict ≡ Withdrawn) ↔ (fits ≡ false)) }
         ensures told { IfOk result (IsTicketOf (vec_len self.now.service.now.sites) active) }
-        ensures parts { worker.new.seat.share.parts ≡ worker.old.seat.share.parts }
+        ensures parts { seat.new.share.parts ≡ seat.old.share.parts }
         ensures ends { IfOk result
-            (λ t. CountsEnd t.verdict active worker.old.seat worker.new.seat) }
+            (λ t. CountsEnd t.verdict active seat.old seat.new) }
         ensures halt { IfErr result
             (IsHalt (λ verdict. (verdict ≡ Withdrawn)
-            ↔ (fits ≡ false)) active worker.old.seat worker.new.seat) }
+            ↔ (fits ≡ false)) active seat.old seat.new) }
         ensures fault { IfErr result IsOfCommit }
         ensures unfit { fits ≡ false → IfErr result IsOfWithdraw }
     {
         if !fits {
-            return self.withdraw(rt, worker, active);
+            return self.withdraw(rt, seat, active);
         }
-        self.commit(rt, worker, active)
+        self.commit(rt, seat, active)
     }
 
     #[tactic(auto, using(crate::proofs::Faults::begin_of_call, crate::proofs::Faults::operation_of_call, crate::proofs::Faults::commit_of_call))]
@@ -236,20 +220,20 @@ impl<'a, L: Ledger, G: Gate> Runner<'a, L, G> {
     fn try_once<R: Wait>(
         &self,
         rt: &R,
-        worker: &mut Worker<L>,
+        seat: &mut Seat<L>,
         script: &Script,
         reads: &mut Vec<Value>,
     ) -> Result<Ticket, ServiceFault>
         ensures tries { IfOk result
-            (λ t. TriesAt script.now.operations t reads.new.items worker.old.seat worker.new.seat) }
-        ensures parts { worker.new.seat.share.parts ≡ worker.old.seat.share.parts }
-        ensures halt { IfErr result (IsStopped worker.old.seat worker.new.seat) }
+            (λ t. TriesAt script.now.operations t reads.new.items seat.old seat.new) }
+        ensures parts { seat.new.share.parts ≡ seat.old.share.parts }
+        ensures halt { IfErr result (IsStopped seat.old seat.new) }
         ensures fault { IfErr result IsOfCall }
     {
         reads.clear();
-        let mut active = self.service.begin(rt, self.alloc, &mut worker.seat)?;
-        let fits = self.apply_all(rt, worker, &mut active, script, reads)?;
-        let ticket = self.end(rt, worker, active, fits)?;
+        let mut active = self.service.begin(rt, self.alloc, seat)?;
+        let fits = self.apply_all(rt, seat, &mut active, script, reads)?;
+        let ticket = self.end(rt, seat, active, fits)?;
         Ok(ticket)
     }
 
@@ -258,7 +242,7 @@ impl<'a, L: Ledger, G: Gate> Runner<'a, L, G> {
     fn try_all<R: Wait>(
         &self,
         rt: &R,
-        worker: &mut Worker<L>,
+        seat: &mut Seat<L>,
         script: &Script,
         tickets: &mut Vec<Ticket>,
         reads: &mut Vec<Value>,
@@ -266,16 +250,16 @@ impl<'a, L: Ledger, G: Gate> Runner<'a, L, G> {
         requires { tickets.old.items ≡ [] }
         ensures tries { OnOk result
             (AreTriesOf self.now.tries script.now.operations tickets.new.items reads.new.items) }
-        ensures parts { worker.new.seat.share.parts ≡ worker.old.seat.share.parts }
+        ensures parts { seat.new.share.parts ≡ seat.old.share.parts }
         ensures tried { OnOk result
-            (AreTried script.now.operations tickets.new.items worker.old.seat worker.new.seat) }
+            (AreTried script.now.operations tickets.new.items seat.old seat.new) }
         ensures halt { IfErr result
-            (AreStopped script.now.operations tickets.new.items worker.old.seat worker.new.seat) }
+            (AreStopped script.now.operations tickets.new.items seat.old seat.new) }
         ensures fault { IfErr result IsOfCall }
     {
         for _ in 0..self.tries {
             tickets.reserve(1)?;
-            let ticket = self.try_once(rt, worker, script, reads)?;
+            let ticket = self.try_once(rt, seat, script, reads)?;
             tickets.push_reserved(ticket);
             if ticket.verdict != Ending::Refused {
                 return Ok(());
@@ -285,7 +269,7 @@ impl<'a, L: Ledger, G: Gate> Runner<'a, L, G> {
     }
 }
 
-impl<'a, L: Ledger, G: Gate> Work<Worker<L>, Script, ServiceFault> for Runner<'a, L, G> {
+impl<'a, L: Ledger, G: Gate> Work<Seat<L>, Script, ServiceFault> for Runner<'a, L, G> {
     ghost use Rattle.std.specs.Prelude.{◌≡◌, refl};
     ghost use Rattle.std.proofs.Common.{◌∙◌};
     ghost use Rattle.sgt_service_locks.specs.Refused.{IsOfCall};
@@ -295,20 +279,20 @@ impl<'a, L: Ledger, G: Gate> Work<Worker<L>, Script, ServiceFault> for Runner<'a
 
     ghost faults = { λ w fault. IsOfCall fault };
 
-    ghost keeps = { λ s t. t.seat.share.parts ≡ s.seat.share.parts };
+    ghost keeps = { λ s t. t.share.parts ≡ s.share.parts };
 
-    ghost does = { λ w s number script done t. TriesJob s.seat number script done t.seat };
+    ghost does = { λ w s number script done t. TriesJob s number script done t };
 
     fn work<R: Wait>(
         &self,
         rt: &R,
-        worker: &mut Worker<L>,
+        seat: &mut Seat<L>,
         job: Job<&Script>,
     ) -> Result<Done, ServiceFault> {
-        self.gate.arrive(worker.number, Place::Taken);
+        self.service.gate.arrive(seat.number(), Place::Taken);
         let mut tickets = Vec::new(self.alloc);
         let mut reads = Vec::new(self.alloc);
-        self.try_all(rt, worker, job.script, &mut tickets, &mut reads)?;
+        self.try_all(rt, seat, job.script, &mut tickets, &mut reads)?;
         Ok(Done {
             job: job.number,
             tickets,

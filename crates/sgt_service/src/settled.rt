@@ -20,7 +20,7 @@ use sgt_service_agreement::{EntryCounts, ServiceFault};
 use sgt_service_locks::{Opened, Seat, Service};
 use sgt_service_settle::{check_settled, check_told};
 use sgt_site::Site;
-use sgt_workers::Done;
+use sgt_workers::{Done, Gate};
 use std::alloc::{AllocError, Global};
 use std::marker::Model;
 use std::sync::ledger::Ledger;
@@ -127,9 +127,9 @@ impl Settled {
 /// least number of its kind. V3: there was no memory, and the tickets are the decisions. Where there is none for the sites, the
 /// certifier and the tickets alone are looked at.
 #[tactic(auto, using(crate::proofs::Counts::counts_many))]
-pub fn settle<L: Ledger>(
+pub fn settle<L: Ledger, G: Gate>(
     alloc: Global,
-    service: Service<L>,
+    service: Service<L, G>,
     dones: Vec<Done>,
     seats: Vec<Seat<L>>,
 ) -> Result<Settled, ServiceFault>

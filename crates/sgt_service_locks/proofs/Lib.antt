@@ -7,5 +7,6 @@ pub mod Gathering
 pub mod Items
 pub mod Losing
 pub mod Noting
+pub mod Numbering
 pub mod Reading
 pub mod Stopping

@@ -24,20 +24,20 @@ module _ {L : Type 0} where
   -- nothing of it changed
   abbrev pub SameSeat : Seat L → Seat L → Type 0
   SameSeat old new = (new.share ≡ old.share) × (new.counts.items ≡ old.counts.items)
-      × (new.begun ≡ old.begun)
+      × (new.begun ≡ old.begun) × (new.number ≡ old.number)
 
   -- it began one more transaction
   abbrev pub CountsBegin : Seat L → Seat L → Type 0
   CountsBegin old new =
       (new.share ≡ old.share) × (new.counts.items ≡ old.counts.items)
-      × (new.begun ≡ capped (old.begun + 1))
+      × (new.begun ≡ capped (old.begun + 1)) × (new.number ≡ old.number)
 
   -- it took one more decision, and wrote so many more other entries at each site
   abbrev pub CountsDecision : (ℕ → ℕ) → Seat L → Seat L → Type 0
   CountsDecision more old new =
       (new.share.parts ≡ old.share.parts) × (new.share.amount ≡ old.share.amount + 1)
       × AreCounted (λ site. with_others (more site)) old.counts.items new.counts.items
-      × (new.begun ≡ old.begun)
+      × (new.begun ≡ old.begun) × (new.number ≡ old.number)
 
   -- a transaction was ended so: its decision counts, and its block at each site
   abbrev pub CountsEnd : Ending → Active → Seat L → Seat L → Type 0

@@ -11,7 +11,7 @@ use crate::service::Service;
 use sgt_edges::EdgeList;
 use sgt_names::SiteNo;
 use sgt_service_agreement::ServiceFault;
-use sgt_workers::{Ending, Gate, NoGate, Place, Ticket};
+use sgt_workers::{Ending, Gate, Place, Ticket};
 use std::alloc::Global;
 use std::sync::Wait;
 use std::sync::ledger::Ledger;
@@ -41,7 +41,7 @@ fn back_of(active: Active, stop: Stop) -> Back
     }
 }
 
-impl<L: Ledger> Service<L> {
+impl<L: Ledger, G: Gate> Service<L, G> {
     ghost use Rattle.std.specs.Prelude.{◌≡◌, ◌≢◌, Err, IfOk, IfErr, IfSome, OnOk, vec_len};
     ghost use Rattle.sgt_service_agreement.specs.declared.fault.ServiceFault.TheVariants.{NotPledged};
     ghost use Rattle.sgt_workers.specs.declared.ticket.Ending.TheVariants.{Withdrawn};
@@ -53,7 +53,20 @@ impl<L: Ledger> Service<L> {
     ghost use Rattle.sgt_service_locks.specs.declared.ending.Stop.TheVariants.{Undecided};
     ghost use Rattle.sgt_service_locks.specs.Seats.{CountsEnd, IsBack};
 
-    /// `commit_at`, with a gate that holds nobody.
+    /// Commits or refuses a transaction, in one step under the certifier's lock: at each site that it touches the versions are
+    /// asked for, its pledge is taken and its edges are gathered; it is decided on these; and its block is written at each of
+    /// these sites, which are locked one after another.
+    ///
+    /// The transaction comes back, with its pledges given back and nothing changed:
+    /// - V7: a site was found to have lost its pledge; or at the place of the site named stands another one, or one that has not the
+    ///   versions that the certifier's history counts.
+    /// - V4 with C2, C3 or C6, as the certifier refuses; with S1, where a site isn't there, or with S1, S3, S7 or S8, as a site refuses.
+    /// - V3: there was no memory.
+    ///
+    /// Where a site has lost the pledge that was taken, the decision stands without a ticket, and V7 comes back alone; every later
+    /// `begin`, `commit`, `withdraw` and `close` answers V7 with that site, as after the other V7.
+    ///
+    /// The gate is told of `InStep`, and of `InInstall` at each site.
     pub fn commit<R: Wait>(
         &self,
         rt: &R,
@@ -71,43 +84,9 @@ impl<L: Ledger> Service<L> {
         ensures refused { IfErr result
             (ComesBackBy (IsToldOfCommit (vec_len self.now.sites) active)) }
     {
-        self.commit_at(rt, alloc, seat, active, 0, &NoGate)
-    }
-
-    /// Commits or refuses a transaction, in one step under the certifier's lock: at each site that it touches the versions are
-    /// asked for, its pledge is taken and its edges are gathered; it is decided on these; and its block is written at each of
-    /// these sites, which are locked one after another.
-    ///
-    /// The transaction comes back, with its pledges given back and nothing changed:
-    /// - V7: a site was found to have lost its pledge; or at the place of the site named stands another one, or one that has not the
-    ///   versions that the certifier's history counts.
-    /// - V4 with C2, C3 or C6, as the certifier refuses; with S1, where a site isn't there, or with S1, S3, S7 or S8, as a site refuses.
-    /// - V3: there was no memory.
-    ///
-    /// Where a site has lost the pledge that was taken, the decision stands without a ticket, and V7 comes back alone; every later
-    /// `begin`, `commit`, `withdraw` and `close` answers V7 with that site, as after the other V7.
-    ///
-    /// The gate is told of `InStep`, and of `InInstall` at each site.
-    pub fn commit_at<R: Wait, G: Gate>(
-        &self,
-        rt: &R,
-        alloc: Global,
-        seat: &mut Seat<L>,
-        active: Active,
-        worker: usize,
-        gate: &G,
-    ) -> Result<Ticket, Back>
-        ensures ok { IfOk result
-            (λ t. (t.tx ≡ active.tx) × (t.verdict ≢ Withdrawn)
-            × CountsEnd t.verdict active seat.old seat.new) }
-        ensures step { IfOk result (IsDecidedBy (vec_len self.now.sites) active) }
-        ensures back { IfErr result
-            (IsBack (λ verdict. verdict ≢ Withdrawn) active seat.old seat.new) }
-        ensures fault { IfErr result (λ back. IsOfCommit back.fault) }
-        ensures refused { IfErr result
-            (ComesBackBy (IsToldOfCommit (vec_len self.now.sites) active)) }
-    {
-        match self.certify(rt, alloc, seat, &active, worker, gate) {
+        let mut guard = self.certifier.lock(rt);
+        let guarded = &mut *guard;
+        match self.take_step(rt, alloc, guarded, seat, &active) {
             Ok(ticket) => Ok(ticket),
             Err(stop) => Err(back_of(active, stop)),
         }
@@ -121,6 +100,8 @@ impl<L: Ledger> Service<L> {
     /// - V3: there was no memory.
     ///
     /// Where a site has lost the pledge that was taken it is as for `commit`; and so where another stands in its place.
+    ///
+    /// The gate is told of `InInstall` at each site.
     pub fn withdraw<R: Wait>(
         &self,
         rt: &R,
@@ -137,45 +118,22 @@ impl<L: Ledger> Service<L> {
         ensures refused { IfErr result
             (ComesBackBy (IsToldOfWithdraw (vec_len self.now.sites) active)) }
     {
-        match self.take_back(rt, seat, &active) {
+        let mut guard = self.certifier.lock(rt);
+        let guarded = &mut *guard;
+        match self.end_withdrawn(rt, guarded, seat, &active) {
             Ok(ticket) => Ok(ticket),
             Err(stop) => Err(back_of(active, stop)),
         }
     }
 
-    // Takes the step of a commit under the certifier's lock.
-    fn certify<R: Wait, G: Gate>(
-        &self,
-        rt: &R,
-        alloc: Global,
-        seat: &mut Seat<L>,
-        active: &Active,
-        worker: usize,
-        gate: &G,
-    ) -> Result<Ticket, Stop>
-        ensures ok { IfOk result (λ t. (t.tx ≡ active.now.tx) × (t.verdict ≢ Withdrawn)
-            × CountsEnd t.verdict active.now seat.old seat.new) }
-        ensures step { IfOk result (IsDecidedBy (vec_len self.now.sites) active.now) }
-        ensures stop { IfErr result
-            (IsStop (λ verdict. verdict ≢ Withdrawn) active.now seat.old seat.new) }
-        ensures why { IfErr result
-            (IsUndecidedBy (IsToldOfCommit (vec_len self.now.sites) active.now)) }
-    {
-        let mut guard = self.certifier.lock(rt);
-        let guarded = &mut *guard;
-        self.take_step(rt, alloc, guarded, seat, active, worker, gate)
-    }
-
     // The step of a commit: gathered and decided, its blocks written, and closed.
-    fn take_step<R: Wait, G: Gate>(
+    fn take_step<R: Wait>(
         &self,
         rt: &R,
         alloc: Global,
         guarded: &mut Guarded<L>,
         seat: &mut Seat<L>,
         active: &Active,
-        worker: usize,
-        gate: &G,
     ) -> Result<Ticket, Stop>
         ensures ok { IfOk result (λ t. (t.tx ≡ active.now.tx) × (t.verdict ≢ Withdrawn)
             × CountsEnd t.verdict active.now seat.old seat.new) }
@@ -206,41 +164,13 @@ impl<L: Ledger> Service<L> {
             }
         };
         let blocks = pledges.spend(guarded.certifier(), active.tx);
-        gate.arrive(worker, Place::InStep);
-        if let Err(Lost { site }) = self.end_all(
-            rt,
-            guarded,
-            seat,
-            active,
-            ticket.verdict,
-            blocks,
-            worker,
-            gate,
-        ) {
+        self.gate.arrive(seat.number, Place::InStep);
+        let ended = self.end_all(rt, guarded, seat, active, ticket.verdict, blocks);
+        if let Err(Lost { site }) = ended {
             return Err(Stop::Lost(ticket.verdict, site));
         }
         guarded.finish(active.tx);
         Ok(ticket)
-    }
-
-    // Takes the step of a withdrawal under the certifier's lock.
-    fn take_back<R: Wait>(
-        &self,
-        rt: &R,
-        seat: &mut Seat<L>,
-        active: &Active,
-    ) -> Result<Ticket, Stop>
-        ensures ok { IfOk result (λ t. (t.tx ≡ active.now.tx) × (t.verdict ≡ Withdrawn)
-            × CountsEnd Withdrawn active.now seat.old seat.new) }
-        ensures step { IfOk result (IsWithdrawnBy active.now) }
-        ensures stop { IfErr result
-            (IsStop (λ verdict. verdict ≡ Withdrawn) active.now seat.old seat.new) }
-        ensures why { IfErr result
-            (IsUndecidedBy (IsToldOfWithdraw (vec_len self.now.sites) active.now)) }
-    {
-        let mut guard = self.certifier.lock(rt);
-        let guarded = &mut *guard;
-        self.end_withdrawn(rt, guarded, seat, active)
     }
 
     // The step of a withdrawal: pledged and decided, and its ends written.
@@ -279,16 +209,8 @@ impl<L: Ledger> Service<L> {
             }
         };
         let blocks = pledges.spend(guarded.certifier(), active.tx);
-        if let Err(Lost { site }) = self.end_all(
-            rt,
-            guarded,
-            seat,
-            active,
-            Ending::Withdrawn,
-            blocks,
-            0,
-            &NoGate,
-        ) {
+        let ended = self.end_all(rt, guarded, seat, active, Ending::Withdrawn, blocks);
+        if let Err(Lost { site }) = ended {
             return Err(Stop::Lost(Ending::Withdrawn, site));
         }
         Ok(Ticket {

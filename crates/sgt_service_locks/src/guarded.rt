@@ -46,7 +46,6 @@ impl<L: Ledger> Guarded<L> {
     ghost use Rattle.sgt_service_locks.specs.Guarded.{decision_count, ticket_of, AwaitsInstalls, IsDecided, IsEnded, IsGathered};
     ghost use Rattle.sgt_service_locks.specs.Refused.{HandsOn, IsRefusedBy};
     ghost use Rattle.sgt_service_locks.specs.Stops.{NotesLoss};
-    ghost use Rattle.sgt_service_locks.specs.Pledges.{HasLostPledge};
     ghost use Rattle.sgt_service_locks.specs.Undecided.{RefusesActive, RefusesGather, RefusesPledgeAt, IsHeld};
 
     /// A certifier to which nothing has happened, with its empty book.
@@ -217,8 +216,8 @@ impl<L: Ledger> Guarded<L> {
         }
     }
 
-    // Notes that a site was found to have lost its pledge.
-    fn lose(&mut self, site: SiteNo)
+    /// Notes that a site was found to have lost its pledge.
+    pub(crate) fn lose(&mut self, site: SiteNo)
         ensures certifier { self.new.certifier ≡ self.old.certifier }
         ensures lost { self.new.lost ≡ Some site }
     {
@@ -392,7 +391,7 @@ impl<L: Ledger> Guarded<L> {
     }
 
     /// Writes the block of a transaction that is decided so at the site of this number, under both locks; an install is noted in the
-    /// history. False where the pledge is lost or another site stands in its place, which is noted, and then nothing else changes.
+    /// history. False where the pledge is lost or another site stands in its place, and then nothing changes.
     pub(crate) fn end(
         &mut self,
         site: &mut Site,
@@ -400,32 +399,6 @@ impl<L: Ledger> Guarded<L> {
         active: &Active,
         verdict: Ending,
     ) -> bool
-        requires { verdict ≡ Committed
-            → AwaitsInstalls self.old.certifier active.now.tx active.now.draft.touched here }
-        ensures awaits { IsTrue result → verdict ≡ Committed
-            → AwaitsInstalls self.new.certifier active.now.tx active.now.draft.touched (here + 1) }
-        ensures noted { IsTrue result → verdict ≡ Committed → Adds self.old.certifier
-            (call.Installed active.now.tx here
-            (changed_at active.now.draft.touched here)) self.new.certifier }
-        ensures number { IsTrue result → site.old.number ≡ here }
-        ensures ended { IsTrue result → IsEnded verdict active.now site.old site.new }
-        ensures quiet { (verdict ≡ Committed → ⊥) → self.new.certifier ≡ self.old.certifier }
-        ensures unchanged { result ≡ false
-            → (site.new ≡ site.old) × (self.new.certifier ≡ self.old.certifier) }
-        ensures lost { result ≡ false → HasLostPledge verdict active.now here site.new }
-        ensures step { self.new.certifier.state.step ≡ self.old.certifier.state.step }
-        ensures kept { IsTrue result → self.new.lost ≡ self.old.lost }
-        ensures found { result ≡ false → self.new.lost ≡ Some here }
-    {
-        if !self.end_held(site, here, active, verdict) {
-            self.lose(here);
-            return false;
-        }
-        true
-    }
-
-    // The same, of which no loss is noted.
-    fn end_held(&mut self, site: &mut Site, here: SiteNo, active: &Active, verdict: Ending) -> bool
         requires { verdict ≡ Committed
             → AwaitsInstalls self.old.certifier active.now.tx active.now.draft.touched here }
         ensures awaits { IsTrue result → verdict ≡ Committed

@@ -1,13 +1,14 @@
 //! A service taken apart, once all its callers are done.
 
-ghost use Rattle.std.specs.Prelude.{◌≡◌, IfOk, vec_len};
-ghost use Rattle.sgt_service_locks.specs.Together.{added, both};
+ghost use Rattle.std.specs.Prelude.{◌≡◌, ◌+◌, IfOk, vec_len};
+ghost use Rattle.sgt_service_locks.specs.Together.{added, both, parts_of, amount_of, counts_of};
 
 use crate::seat::Seat;
 use crate::service::Service;
 use sgt_certifier::Certifier;
 use sgt_service_agreement::EntryCounts;
 use sgt_site::Site;
+use sgt_workers::Gate;
 use std::alloc::{AllocError, Global};
 use std::sync::Mutex;
 use std::sync::ledger::{Ledger, Share};
@@ -20,8 +21,8 @@ pub struct Opened {
     pub counts: Vec<EntryCounts>,
 }
 
-impl<L: Ledger> Service<L> {
-    ghost use Rattle.std.specs.Prelude.{◌≡◌, ◌+◌, IfOk, IfErr, vec_len};
+impl<L: Ledger, G: Gate> Service<L, G> {
+    ghost use Rattle.std.specs.Prelude.{◌≡◌, IfOk, IfErr, vec_len};
     ghost use Rattle.sgt_service_locks.specs.Guarded.{decision_count};
     ghost use Rattle.sgt_service_locks.specs.Together.{parts_of, amount_of, counts_of};
 
@@ -39,11 +40,12 @@ impl<L: Ledger> Service<L> {
         let Service {
             certifier,
             sites,
+            gate: _,
             names: _,
         } = self;
         let (certifier, mut book, none) = certifier.into_inner().into_parts();
-        let counts = Service::counted(alloc, seats.as_slice(), sites.len());
-        let mut all = Service::merged(none, seats);
+        let counts = counted(alloc, seats.as_slice(), sites.len());
+        let mut all = merged(none, seats);
         book.audit(&mut all);
         let Ok(sites) = unlocked(alloc, sites) else {
             return Err(certifier);
@@ -57,37 +59,37 @@ impl<L: Ledger> Service<L> {
             counts,
         })
     }
+}
 
-    // All shares as one.
-    fn merged(mut all: Share<L>, seats: Vec<Seat<L>>) -> Share<L>
-        ensures parts { result.parts ≡ all.parts + parts_of seats.items }
-        ensures amount { result.amount ≡ all.amount + amount_of seats.items }
-    {
-        for seat in seats {
-            let Seat { share, .. } = seat;
-            all.merge(share);
-        }
-        all
+// All shares as one.
+fn merged<L: Ledger>(mut all: Share<L>, seats: Vec<Seat<L>>) -> Share<L>
+    ensures parts { result.parts ≡ all.parts + parts_of seats.items }
+    ensures amount { result.amount ≡ all.amount + amount_of seats.items }
+{
+    for seat in seats {
+        let Seat { share, .. } = seat;
+        all.merge(share);
     }
+    all
+}
 
-    // What the seats counted together at each site.
-    fn counted(
-        alloc: Global,
-        seats: &[Seat<L>],
-        sites: usize,
-    ) -> Result<Vec<EntryCounts>, AllocError>
-        ensures { IfOk result (λ counts. counts.items ≡ counts_of sites seats.now) }
-    {
-        let nothing = EntryCounts {
-            reads: 0,
-            others: 0,
-        };
-        let mut counts = Vec::from_elem(alloc, nothing, sites)?;
-        for seat in seats {
-            add_counts(&mut counts, seat.counts());
-        }
-        Ok(counts)
+// What the seats counted together at each site.
+fn counted<L: Ledger>(
+    alloc: Global,
+    seats: &[Seat<L>],
+    sites: usize,
+) -> Result<Vec<EntryCounts>, AllocError>
+    ensures { IfOk result (λ counts. counts.items ≡ counts_of sites seats.now) }
+{
+    let nothing = EntryCounts {
+        reads: 0,
+        others: 0,
+    };
+    let mut counts = Vec::from_elem(alloc, nothing, sites)?;
+    for seat in seats {
+        add_counts(&mut counts, seat.counts());
     }
+    Ok(counts)
 }
 
 // The sites, without their locks.

@@ -27,7 +27,7 @@ pub struct Lost {
     pub site: SiteNo,
 }
 
-impl<L: Ledger> Service<L> {
+impl<L: Ledger, G: Gate> Service<L, G> {
     ghost use Rattle.std.specs.Prelude.{◌≡◌, ◌≢◌, ◌<◌, ◌≤◌, ◌+◌, ◌++◌, [], ℕ, List, false, Some, Err, IsTrue, IfOk, IfErr, IfSome, OnOk, OnErr, vec_len};
     ghost use Rattle.sgt_service_agreement.specs.declared.fault.ServiceFault.TheVariants.{NotPledged};
     ghost use Rattle.sgt_names.specs.Draft.{at_site};
@@ -306,7 +306,7 @@ impl<L: Ledger> Service<L> {
     }
 
     // Writes the block of a transaction that is decided so at each site that its draft touches, and counts it. A site that has lost its pledge is noted, and no further block is written.
-    pub(crate) fn end_all<R: Wait, G: Gate>(
+    pub(crate) fn end_all<R: Wait>(
         &self,
         rt: &R,
         guarded: &mut Guarded<L>,
@@ -314,8 +314,6 @@ impl<L: Ledger> Service<L> {
         active: &Active,
         verdict: Ending,
         blocks: Blocks,
-        worker: usize,
-        gate: &G,
     ) -> Result<(), Lost>
         requires awaits { verdict ≡ Committed
             → AwaitsInstalls guarded.old.certifier active.now.tx active.now.draft.touched 0 }
@@ -323,7 +321,8 @@ impl<L: Ledger> Service<L> {
             → at_site site active.now.draft.touched ≡ [] }
         requires owed { (blocks.written ≡ 0) × (blocks.below ≡ vec_len self.now.sites) }
         ensures step { guarded.new.certifier.state.step ≡ guarded.old.certifier.state.step }
-        ensures share { (seat.new.share ≡ seat.old.share) × (seat.new.begun ≡ seat.old.begun) }
+        ensures share { (seat.new.share ≡ seat.old.share) × (seat.new.begun ≡ seat.old.begun)
+            × (seat.new.number ≡ seat.old.number) }
         ensures ok { OnOk result
             (AreCounted (λ site. with_others (blocks_of verdict active.now.draft.touched site))
             seat.old.counts.items seat.new.counts.items) }
@@ -350,8 +349,6 @@ impl<L: Ledger> Service<L> {
                 &flags,
                 verdict,
                 &mut blocks,
-                worker,
-                gate,
             ) {
                 blocks.give_up(guarded, here);
                 return Err(Lost { site: here });
@@ -361,8 +358,9 @@ impl<L: Ledger> Service<L> {
         Ok(())
     }
 
-    // Writes the block at one site, if the draft touches it, and counts it. False where it has lost the pledge, which is noted.
-    fn end_one<R: Wait, G: Gate>(
+    // Writes the block at one site, under its lock, if the draft touches it, and counts it. False where it has lost the pledge, or
+    // another site stands in its place, which is noted.
+    fn end_one<R: Wait>(
         &self,
         rt: &R,
         guarded: &mut Guarded<L>,
@@ -372,8 +370,6 @@ impl<L: Ledger> Service<L> {
         flags: &Flags,
         verdict: Ending,
         blocks: &mut Blocks,
-        worker: usize,
-        gate: &G,
     ) -> bool
         requires flagged { AreFlagged flags.now.flags active.now.draft.touched }
         requires place { here < vec_len self.now.sites }
@@ -384,7 +380,8 @@ impl<L: Ledger> Service<L> {
             → AwaitsInstalls guarded.new.certifier active.now.tx active.now.draft.touched
             (here + 1) }
         ensures step { guarded.new.certifier.state.step ≡ guarded.old.certifier.state.step }
-        ensures share { (seat.new.share ≡ seat.old.share) × (seat.new.begun ≡ seat.old.begun) }
+        ensures share { (seat.new.share ≡ seat.old.share) × (seat.new.begun ≡ seat.old.begun)
+            × (seat.new.number ≡ seat.old.number) }
         ensures counted { IsTrue result → AreCounted
             (only_at here (with_others (blocks_of verdict active.now.draft.touched here)))
             seat.old.counts.items seat.new.counts.items }
@@ -406,51 +403,15 @@ impl<L: Ledger> Service<L> {
             blocks.pass(active, here);
             return true;
         }
-        if !self.end_at(rt, guarded, here, active, verdict, blocks, worker, gate) {
-            return false;
-        }
-        seat.count_others(here, entries);
-        true
-    }
-
-    // Writes the block at a site, under its lock. False where it has lost the pledge, or another site stands in its place, which is noted.
-    fn end_at<R: Wait, G: Gate>(
-        &self,
-        rt: &R,
-        guarded: &mut Guarded<L>,
-        here: SiteNo,
-        active: &Active,
-        verdict: Ending,
-        blocks: &mut Blocks,
-        worker: usize,
-        gate: &G,
-    ) -> bool
-        requires place { here < vec_len self.now.sites }
-        requires next { (here ≡ blocks.old.written) × (blocks.old.written < blocks.old.below) }
-        requires awaits { verdict ≡ Committed
-            → AwaitsInstalls guarded.old.certifier active.now.tx active.now.draft.touched here }
-        requires touched { at_site here active.now.draft.touched ≢ [] }
-        ensures written { IsTrue result → WritesNext blocks.old blocks.new }
-        ensures stopped { result ≡ false → Stops blocks.old blocks.new }
-        ensures awaits { IsTrue result → verdict ≡ Committed
-            → AwaitsInstalls guarded.new.certifier active.now.tx active.now.draft.touched
-            (here + 1) }
-        ensures noted { IsTrue result → verdict ≡ Committed → Adds guarded.old.certifier
-            (call.Installed active.now.tx here
-            (changed_at active.now.draft.touched here)) guarded.new.certifier }
-        ensures quiet { (verdict ≡ Committed → ⊥) → guarded.new.certifier ≡ guarded.old.certifier }
-        ensures lost { result ≡ false → guarded.new.certifier ≡ guarded.old.certifier }
-        ensures step { guarded.new.certifier.state.step ≡ guarded.old.certifier.state.step }
-        ensures kept { IsTrue result → guarded.new.lost ≡ guarded.old.lost }
-        ensures found { result ≡ false → guarded.new.lost ≡ Some here }
-    {
         let mut guard = self.lock_site(rt, here);
-        gate.arrive(worker, Place::InInstall(here));
+        self.gate.arrive(seat.number, Place::InInstall(here));
         if !guarded.end(&mut guard, here, active, verdict) {
+            guarded.lose(here);
             blocks.stop(guard, active, verdict, here);
             return false;
         }
         blocks.write(guard, active, verdict, here);
+        seat.count_others(here, entries);
         true
     }
 }

@@ -12,11 +12,11 @@ use crate::service::Service;
 use sgt_names::{Draft, Item, Seen, SiteNo, Value, changes_show_at_their_place};
 use sgt_service_agreement::ServiceFault;
 use sgt_site::{Site, SiteFault};
-use sgt_workers::{Gate, NoGate, Place};
+use sgt_workers::{Gate, Place};
 use std::sync::Wait;
 use std::sync::ledger::Ledger;
 
-impl<L: Ledger> Service<L> {
+impl<L: Ledger, G: Gate> Service<L, G> {
     ghost use Rattle.sgt_service_agreement.specs.declared.fault.ServiceFault.TheVariants.{Site as AtSite};
     ghost use Rattle.sgt_site.specs.declared.fault.SiteFault.TheVariants.{UnknownItem};
     ghost use Rattle.std.specs.Prelude.{◌≡◌, None, Some, Err, IsTrue, IsSome, IsOk, IfOk, IfErr, OnOk, OnErr, vec_len};
@@ -25,7 +25,14 @@ impl<L: Ledger> Service<L> {
     ghost use Rattle.sgt_service_locks.specs.Refused.{HasItem, IsOfRead};
     ghost use Rattle.sgt_service_locks.specs.Seats.{SameSeat};
 
-    /// `read_at`, with a gate that holds nobody.
+    /// Reads an item. What the transaction wrote or read before is answered from its draft. Else the item is read and logged at
+    /// its site, under the site's lock, and kept in the draft, for which there is room before the lock is taken.
+    ///
+    /// - V4 with S1: the site or the item isn't there, or another site stands in its place.
+    /// - V3: there was no memory.
+    /// - V4 with S2, S3 or S7, as the site refuses.
+    ///
+    /// The gate is told of `InRead` and `AfterRead`, of a read at the site alone.
     pub fn read<R: Wait>(
         &self,
         rt: &R,
@@ -41,45 +48,7 @@ impl<L: Ledger> Service<L> {
             → GainsRead site item active.old.draft.touched active.new.draft.touched
             × AreCounted (only_at site with_read) seat.old.counts.items seat.new.counts.items) }
         ensures named { IsOfActive active.old active.new × (seat.new.share ≡ seat.old.share)
-            × (seat.new.begun ≡ seat.old.begun) }
-        ensures err { OnErr result (SameActive active.old active.new × SameSeat seat.old seat.new) }
-        ensures allowed { OnOk result
-            (look_in active.old.draft.touched site item ≡ None
-            → HasItem self.now.names.items site item) }
-        ensures unknown { (HasItem self.now.names.items site item → ⊥)
-            → look_in active.old.draft.touched site item ≡ None
-            → result ≡ Err (AtSite UnknownItem) }
-        ensures fault { IfErr result IsOfRead }
-    {
-        self.read_at(rt, seat, active, site, item, 0, &NoGate)
-    }
-
-    /// Reads an item. What the transaction wrote or read before is answered from its draft. Else the item is read and logged at
-    /// its site, under the site's lock, and kept in the draft, for which there is room before the lock is taken.
-    ///
-    /// - V4 with S1: the site or the item isn't there, or another site stands in its place.
-    /// - V3: there was no memory.
-    /// - V4 with S2, S3 or S7, as the site refuses.
-    ///
-    /// The gate is told of `InRead` and `AfterRead`, of a read at the site alone.
-    pub fn read_at<R: Wait, G: Gate>(
-        &self,
-        rt: &R,
-        seat: &mut Seat<L>,
-        active: &mut Active,
-        site: SiteNo,
-        item: Item,
-        worker: usize,
-        gate: &G,
-    ) -> Result<Value, ServiceFault>
-        ensures value { IfOk result (λ v. look_in active.new.draft.touched site item ≡ Some v) }
-        ensures kept { IsSome (look_in active.old.draft.touched site item)
-            → IsOk result × SameActive active.old active.new × SameSeat seat.old seat.new }
-        ensures gained { OnOk result (look_in active.old.draft.touched site item ≡ None
-            → GainsRead site item active.old.draft.touched active.new.draft.touched
-            × AreCounted (only_at site with_read) seat.old.counts.items seat.new.counts.items) }
-        ensures named { IsOfActive active.old active.new × (seat.new.share ≡ seat.old.share)
-            × (seat.new.begun ≡ seat.old.begun) }
+            × (seat.new.begun ≡ seat.old.begun) × (seat.new.number ≡ seat.old.number) }
         ensures err { OnErr result (SameActive active.old active.new × SameSeat seat.old seat.new) }
         ensures allowed { OnOk result
             (look_in active.old.draft.touched site item ≡ None
@@ -96,22 +65,21 @@ impl<L: Ledger> Service<L> {
             return Err(ServiceFault::Site(SiteFault::UnknownItem));
         }
         active.draft.room()?;
-        let value = self.read_site(rt, active, site, item, worker, gate)?;
-        gate.arrive(worker, Place::AfterRead(site));
+        let value = self.read_site(rt, seat, active, site, item)?;
+        self.gate.arrive(seat.number, Place::AfterRead(site));
         seat.count_read(site);
         Ok(value)
     }
 
     // Reads at the site, under its lock, for a draft that has room for what is read, and keeps it there.
     #[tactic(auto, using(crate::proofs::Faults::read_of))]
-    fn read_site<R: Wait, G: Gate>(
+    fn read_site<R: Wait>(
         &self,
         rt: &R,
+        seat: &Seat<L>,
         active: &mut Active,
         site: SiteNo,
         item: Item,
-        worker: usize,
-        gate: &G,
     ) -> Result<Value, ServiceFault>
         requires item { HasItem self.now.names.items site item }
         requires room { IsTrue active.old.draft.has_room }
@@ -125,7 +93,7 @@ impl<L: Ledger> Service<L> {
     {
         let mut guard = self.lock_site(rt, site);
         let held = &mut *guard;
-        gate.arrive(worker, Place::InRead(site));
+        self.gate.arrive(seat.number, Place::InRead(site));
         read_held(held, active, site, item)
     }
 }

@@ -7,9 +7,10 @@ use sgt_names::SiteNo;
 use sgt_service_agreement::EntryCounts;
 use std::sync::ledger::{Ledger, Share};
 
-/// One worker's part of the ledger of decisions, with its counts at each site and of the transactions that it began.
+/// One worker's number and its part of the ledger of decisions, with its counts at each site and of the transactions that it began.
 #[derive(Drop)]
 pub struct Seat<L: Ledger> {
+    pub(crate) number: usize,
     pub(crate) share: Share<L>,
     pub(crate) counts: Vec<EntryCounts>,
     pub(crate) begun: u64,
@@ -20,6 +21,13 @@ impl<L: Ledger> Seat<L> {
     ghost use Rattle.std.specs.Prelude.{◌≡◌};
     ghost use Rattle.sgt_service_locks.specs.Counts.{AreCounted, only_at, with_read, with_others};
     ghost use Rattle.sgt_service_locks.specs.Seats.{CountsBegin};
+
+    /// The worker's number, of which the gate is told.
+    pub fn number(&self) -> usize
+        ensures { result ≡ self.now.number }
+    {
+        self.number
+    }
 
     /// The counts, by the sites' numbers.
     pub fn counts(&self) -> &[EntryCounts]
@@ -45,7 +53,8 @@ impl<L: Ledger> Seat<L> {
     // Counts a logged read.
     #[tactic(auto, using(crate::proofs::Counting::counted_set, crate::proofs::Counting::counted_past))]
     pub(crate) fn count_read(&mut self, site: SiteNo)
-        ensures share { (self.new.share ≡ self.old.share) × (self.new.begun ≡ self.old.begun) }
+        ensures share { (self.new.share ≡ self.old.share) × (self.new.begun ≡ self.old.begun)
+            × (self.new.number ≡ self.old.number) }
         ensures counts { AreCounted
             (only_at site with_read) self.old.counts.items self.new.counts.items }
     {
@@ -58,7 +67,8 @@ impl<L: Ledger> Seat<L> {
     // Counts so many other entries.
     #[tactic(auto, using(crate::proofs::Counting::counted_set, crate::proofs::Counting::counted_past))]
     pub(crate) fn count_others(&mut self, site: SiteNo, more: u64)
-        ensures share { (self.new.share ≡ self.old.share) × (self.new.begun ≡ self.old.begun) }
+        ensures share { (self.new.share ≡ self.old.share) × (self.new.begun ≡ self.old.begun)
+            × (self.new.number ≡ self.old.number) }
         ensures counts { AreCounted
             (only_at site (with_others more)) self.old.counts.items self.new.counts.items }
     {

@@ -1,6 +1,7 @@
 //! The locks of a certifier and its sites, and the calls that take one of them.
 
 ghost use Rattle.std.specs.Prelude.{◌≡◌, ◌↔◌, ◌≤◌, ◌++◌, [], ◌∷◌, Some, length, map, All, Contains, IsTrue, IfOk, IfErr, IfSome, OnOk, vec_len};
+ghost use Rattle.std.specs.List.{range_with_len};
 ghost use Rattle.sgt_names.specs.Limits.{max_sites};
 ghost use Rattle.sgt_names.specs.Log.{names};
 ghost use Rattle.sgt_site.specs.State.{SiteState, AreItems, opened};
@@ -8,6 +9,7 @@ ghost use Rattle.sgt_site.specs.declared.fault.SiteFault.TheVariants.{BadItems};
 ghost use Rattle.sgt_service_agreement.specs.declared.fault.ServiceFault.TheVariants.{Site as AtSite};
 ghost use Rattle.sgt_service_locks.specs.Opened.{sites_from};
 ghost use Rattle.sgt_service_locks.specs.Refused.{NamesRise, RefusesSites};
+ghost use Rattle.sgt_service_locks.specs.Seats.{IsNew};
 
 use crate::active::Active;
 use crate::guarded::Guarded;
@@ -15,6 +17,7 @@ use crate::seat::Seat;
 use sgt_names::{Draft, Holding, Item, Listed, SiteNo, Value};
 use sgt_service_agreement::{EntryCounts, ServiceFault};
 use sgt_site::{Site, SiteFault};
+use sgt_workers::Gate;
 use std::alloc::{AllocError, Global};
 use std::sync::ledger::{Blank, Ledger, Share};
 use std::sync::{Mutex, Wait};
@@ -22,12 +25,14 @@ use std::sync::{Mutex, Wait};
 /// A certifier and its sites, each under a lock of its own. A thread that holds the certifier's lock may take a site's, one
 /// after another; one that holds a site's takes none.
 #[derive(Drop)]
-pub struct Service<L: Ledger> {
+pub struct Service<L: Ledger, G: Gate> {
     /// The certifier with its book, under its lock.
     pub certifier: Mutex<Guarded<L>>,
     /// The sites, by number, each under its lock. Of what somebody does to one behind the service's back V7, V9 and V10 tell as far as
     /// it shows in a pledge, a count, an edge or a version.
     pub sites: Vec<Mutex<Site>>,
+    /// Is told where each worker stands, by its seat's number.
+    pub gate: G,
     /// The names of the sites' items, which never change.
     pub(crate) names: Vec<Listed<Item>>,
     pub ghost named: { vec_len names ≡ vec_len sites },
@@ -36,8 +41,9 @@ pub struct Service<L: Ledger> {
     pub ghost rising: { All NamesRise names.items },
 }
 
-impl<L: Ledger> Service<L> {
+impl<L: Ledger, G: Gate> Service<L, G> {
     ghost use Rattle.std.specs.Prelude.{◌≡◌, ◌↔◌, ◌≤◌, [], Some, length, map, replicate, All, IsTrue, IfOk, IfErr, OnOk, OnErr, vec_len};
+    ghost use Rattle.std.specs.List.{range_with_len};
     ghost use Rattle.sgt_names.specs.Limits.{max_sites};
     ghost use Rattle.sgt_names.specs.Log.{names};
     ghost use Rattle.sgt_names.specs.Draft.{seen_at, change_at, added_to, ChangesOnly};
@@ -49,8 +55,8 @@ impl<L: Ledger> Service<L> {
     ghost use Rattle.sgt_service_locks.specs.Guarded.{HasAdded};
     ghost use Rattle.sgt_service_locks.specs.Refused.{HasItem, RefusesItem, RefusesSites, IsOfBegin, IsToldOf};
 
-    /// A service of these sites, at least one, none of which has an entry yet, and all its seats. The blank of the ledger has a part for each
-    /// seat. A site is named by its place.
+    /// A service of these sites, at least one, none of which has an entry yet, and all its seats, numbered from 0. The blank of the
+    /// ledger has a part for each seat. A site is named by its place.
     ///
     /// - V4 with S6: the names of a site's items don't rise, or there are more than 1,024.
     /// - V3: there was no memory.
@@ -59,12 +65,16 @@ impl<L: Ledger> Service<L> {
         blank: Blank,
         sites: &[Listed<Holding>],
         seats: u64,
-    ) -> Result<(Service<L>, Vec<Seat<L>>), ServiceFault>
+        gate: G,
+    ) -> Result<(Service<L, G>, Vec<Seat<L>>), ServiceFault>
         requires ledger { (blank.name ≡ L.name) × (blank.parts ≡ L.parts) × (blank.parts ≡ seats) }
         requires sites { (1 ≤ length sites.now) × (length sites.now ≤ max_sites) }
         ensures seats { IfOk result
             (λ r. (vec_len r.1 ≡ seats) × All (IsNew (length sites.now)) r.1.items) }
+        ensures numbers { IfOk result
+            (λ r. map (λ s. s.number) r.1.items ≡ range_with_len 0 seats) }
         ensures names { IfOk result (λ r. r.0.names.items ≡ map names sites.now) }
+        ensures gate { IfOk result (λ r. r.0.gate ≡ gate) }
         ensures allowed { OnOk result (All AreItems sites.now) }
         ensures refused { IfErr result (RefusesSites sites.now) }
     {
@@ -73,40 +83,14 @@ impl<L: Ledger> Service<L> {
         let opened = open_sites(alloc, sites)?;
         let locks = locked(alloc, opened)?;
         let names = rising_names(alloc, sites)?;
-        let seats = Service::new_seats(alloc, share, seats, sites.len())?;
+        let seats = new_seats(alloc, share, seats, sites.len())?;
         let service = Service {
             certifier: Mutex::new(Guarded::new(alloc, book, none)),
             sites: locks,
+            gate,
             names,
         };
         Ok((service, seats))
-    }
-
-    // Seats with nothing counted, one for each part of the share.
-    fn new_seats(
-        alloc: Global,
-        mut rest: Share<L>,
-        count: u64,
-        sites: usize,
-    ) -> Result<Vec<Seat<L>>, AllocError>
-        requires { (rest.parts ≡ count) × (rest.amount ≡ 0) }
-        ensures { IfOk result (λ seats. (vec_len seats ≡ count) × All (IsNew sites) seats.items) }
-    {
-        let nothing = EntryCounts {
-            reads: 0,
-            others: 0,
-        };
-        let mut seats = Vec::new(alloc);
-        for _ in 0..count {
-            let counts = Vec::from_elem(alloc, nothing, sites)?;
-            let share = rest.split_off(1, 0);
-            seats.push(Seat {
-                share,
-                counts,
-                begun: 0,
-            })?;
-        }
-        Ok(seats)
     }
 
     /// How many sites there are.
@@ -227,6 +211,37 @@ impl<L: Ledger> Service<L> {
     {
         self.certifier.lock(rt).close()
     }
+}
+
+// Seats with nothing counted, numbered from 0, one for each part of the share.
+fn new_seats<L: Ledger>(
+    alloc: Global,
+    mut rest: Share<L>,
+    count: u64,
+    sites: usize,
+) -> Result<Vec<Seat<L>>, AllocError>
+    requires { (rest.parts ≡ count) × (rest.amount ≡ 0) }
+    ensures seats { IfOk result
+        (λ seats. (vec_len seats ≡ count) × All (IsNew sites) seats.items) }
+    ensures numbers { IfOk result
+        (λ seats. map (λ s. s.number) seats.items ≡ range_with_len 0 count) }
+{
+    let nothing = EntryCounts {
+        reads: 0,
+        others: 0,
+    };
+    let mut seats = Vec::new(alloc);
+    for number in 0..count {
+        let counts = Vec::from_elem(alloc, nothing, sites)?;
+        let share = rest.split_off(1, 0);
+        seats.push(Seat {
+            number: number as usize,
+            share,
+            counts,
+            begun: 0,
+        })?;
+    }
+    Ok(seats)
 }
 
 // The sites with these items, by their numbers, none with an entry.

@@ -48,6 +48,13 @@ one_place items x m n rising first second =
           ]
     ]
 
+-- an item that was found
+pub item_here : (items : List Holding) (x : Name) (at : ℕ) (h : Holding) → slice_get items at ≡ Some h → h.item ≡ x → IsItemAt items x at
+item_here items x at h here is = record {
+  within = slice_get_within items at h here;
+  is = λ g there. ap (λ (k : Holding). k.item) (same_Some g h (sym there ∙ here)) ∙ is;
+}
+
 pub placed : (items : List Holding) (x : Name) (n at : ℕ) → IsRisingBy (λ (h : Holding). h.item) (slice_cmp nat_cmp) items
     → IsItemAt items x n → (Some n ≡ Some at) ↔ IsItemAt items x at
 placed items x n at rising found = (

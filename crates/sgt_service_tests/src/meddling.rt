@@ -2,6 +2,7 @@
 
 ghost use Rattle.std.specs.Prelude.{◌≡◌};
 
+use crate::gates::{HoldThree, HoldUntil};
 use crate::given::{other_certifier, other_site, scripts_of, sites_of};
 use sgt_certifier::Certifier;
 use sgt_names::{Holding, Item, Listed, SiteNo, Tx};
@@ -16,7 +17,7 @@ use std::marker::Brand;
 use std::sync::Wait;
 use std::sync::ledger::{Blank, Ledger};
 use std::test::Fail;
-use std::thread::Threads;
+use std::thread::{Threads, join};
 
 // What is done at site 0, under its lock, once a transaction is decided.
 #[derive(Clone, Copy)]
@@ -27,31 +28,28 @@ enum Meddling {
     Read(Tx, Item),
 }
 
-#[derive(Drop)]
-struct Meddler<'a, L: Ledger, R: Wait> {
-    rt: &'a R,
-    service: &'a Service<L>,
+// Does this, where it does something while the gate holds whoever has decided; and then nobody is held any more.
+fn meddle<L: Ledger, R: Wait>(
+    rt: &R,
+    service: &Service<L, &HoldThree>,
     does: Meddling,
-}
-
-impl<'a, L: Ledger, R: Wait> Gate for Meddler<'a, L, R> {
-    fn arrive(&self, _worker: usize, place: Place) {
-        if place != Place::InStep {
-            return;
+    nowhere: SiteNo,
+) {
+    let Some(site) = service.sites.first() else {
+        return;
+    };
+    match does {
+        Meddling::Nothing => {}
+        Meddling::Unpledge(tx) => {
+            service.gate.arrive(0, Place::InRead(nowhere));
+            let _ = site.lock(rt).unpledge(tx);
         }
-        let Some(site) = self.service.sites.first() else {
-            return;
-        };
-        match self.does {
-            Meddling::Nothing => {}
-            Meddling::Unpledge(tx) => {
-                let _ = site.lock(self.rt).unpledge(tx);
-            }
-            Meddling::Read(tx, item) => {
-                let _ = site.lock(self.rt).read(tx, item);
-            }
+        Meddling::Read(tx, item) => {
+            service.gate.arrive(0, Place::InRead(nowhere));
+            let _ = site.lock(rt).read(tx, item);
         }
     }
+    service.gate.arrive(0, Place::AfterRead(nowhere));
 }
 
 // What is put in its place once the run is over.
@@ -72,11 +70,19 @@ enum End {
 }
 
 /// Puts another certifier with as many decisions behind the lock.
-pub fn replace<L: Ledger, R: Wait>(rt: &R, service: &Service<L>, other: Certifier) -> bool {
+pub fn replace<L: Ledger, G: Gate, R: Wait>(
+    rt: &R,
+    service: &Service<L, G>,
+    other: Certifier,
+) -> bool {
     service.certifier.lock(rt).exchange_in_a_test(other)
 }
 
-fn exchange<L: Ledger, R: Wait>(rt: &R, service: &Service<L>, exchanged: Exchanged) -> bool {
+fn exchange<L: Ledger, G: Gate, R: Wait>(
+    rt: &R,
+    service: &Service<L, G>,
+    exchanged: Exchanged,
+) -> bool {
     match exchanged {
         Exchanged::Nothing => true,
         Exchanged::Certifier(other) => replace(rt, service, other),
@@ -107,17 +113,25 @@ fn ended<L: Ledger + Send + Sync, R: Threads + Wait + Sync>(
     if sites.is_empty() || sites.len() > 64 {
         return None;
     }
-    let (service, mut seats) = Service::<L>::new(alloc, blank, sites, 2).ok()?;
+    // Who has decided is held until somebody arrives after a read there, and who is about to read there until then.
+    let nowhere = SiteNo::new(63).ok()?;
+    let gate = HoldThree::new(
+        HoldUntil::new(Place::InStep, Place::AfterRead(nowhere)),
+        HoldUntil::new(Place::InRead(nowhere), Place::InStep),
+        HoldUntil::new(Place::InRead(nowhere), Place::InStep),
+    );
+    let (service, mut seats) = Service::<L, _>::new(alloc, blank, sites, 2, &gate).ok()?;
     let second = seats.pop()?;
     if seats.is_empty() {
         return None;
     }
-    let gate = Meddler {
+    let ours = &service;
+    let (ran, ()) = join(
         rt,
-        service: &service,
-        does,
-    };
-    match run(rt, alloc, &service, seats, scripts, 1, &gate) {
+        move || run(rt, alloc, ours, seats, scripts, 1),
+        || meddle(rt, ours, does, nowhere),
+    );
+    match ran {
         Ok((dones, mut seats)) => {
             let is_exchanged = exchange(rt, &service, exchanged);
             if seats.push(second).is_err() || !is_exchanged {
@@ -133,10 +147,10 @@ fn ended<L: Ledger + Send + Sync, R: Threads + Wait + Sync>(
     }
 }
 
-fn later<L: Ledger, R: Wait>(
+fn later<L: Ledger, G: Gate, R: Wait>(
     rt: &R,
     alloc: Global,
-    service: &Service<L>,
+    service: &Service<L, G>,
     seat: Seat<L>,
     first: ServiceFault,
 ) -> Option<End> {

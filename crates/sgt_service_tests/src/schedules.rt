@@ -30,8 +30,8 @@ fn ran<L: Ledger + Send + Sync, R: Threads + Wait + Sync>(
     if sites.is_empty() || sites.len() > 64 {
         return None;
     }
-    let (service, seats) = Service::<L>::new(alloc, blank, sites, 2).ok()?;
-    let (dones, seats) = run(rt, alloc, &service, seats, scripts, 1, gate).ok()?;
+    let (service, seats) = Service::<L, _>::new(alloc, blank, sites, 2, gate).ok()?;
+    let (dones, seats) = run(rt, alloc, &service, seats, scripts, 1).ok()?;
     settle(alloc, service, dones, seats).ok()
 }
 

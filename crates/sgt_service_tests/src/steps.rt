@@ -8,7 +8,7 @@ use sgt_names::{Holding, Item, Listed, SiteNo, Value};
 use sgt_service::{Settled, settle};
 use sgt_service_agreement::ServiceFault;
 use sgt_service_locks::{Active, Back, Seat, Service};
-use sgt_workers::{Done, Ticket};
+use sgt_workers::{Done, NoGate, Ticket};
 use std::alloc::Global;
 use std::sync::Wait;
 use std::sync::ledger::{Blank, Ledger};
@@ -43,7 +43,7 @@ pub enum Answer {
 // Reads, or keeps a change.
 fn touch<L: Ledger, R: Wait>(
     rt: &R,
-    service: &Service<L>,
+    service: &Service<L, NoGate>,
     seat: &mut Seat<L>,
     active: &mut Active,
     site: SiteNo,
@@ -70,7 +70,7 @@ fn touch<L: Ledger, R: Wait>(
 fn end<L: Ledger, R: Wait>(
     rt: &R,
     alloc: Global,
-    service: &Service<L>,
+    service: &Service<L, NoGate>,
     seat: &mut Seat<L>,
     active: Active,
     step: &Step,
@@ -94,7 +94,7 @@ fn end<L: Ledger, R: Wait>(
 fn call<L: Ledger, R: Wait>(
     rt: &R,
     alloc: Global,
-    service: &Service<L>,
+    service: &Service<L, NoGate>,
     seat: &mut Seat<L>,
     active: &mut Option<Active>,
     site: SiteNo,
@@ -138,7 +138,7 @@ fn is_want(answer: Answer) -> bool {
 fn first_wrong<L: Ledger, R: Wait>(
     rt: &R,
     alloc: Global,
-    service: &Service<L>,
+    service: &Service<L, NoGate>,
     seat: &mut Seat<L>,
     active: &mut Option<Active>,
     site: SiteNo,
@@ -183,7 +183,7 @@ pub fn stepped<L: Ledger, R: Wait>(
     let site = SiteNo::new(0).ok()?;
     let mut tickets = Vec::with_capacity(alloc, 8).ok()?;
     let mut dones = Vec::with_capacity(alloc, 1).ok()?;
-    let (service, mut seats) = Service::<L>::new(alloc, blank, sites, 1).ok()?;
+    let (service, mut seats) = Service::<L, _>::new(alloc, blank, sites, 1, NoGate).ok()?;
     let mut wrong = None;
     if let Some(seat) = seats.as_mut_slice().first_mut() {
         let mut active = None;

@@ -13,13 +13,13 @@ pub enum Place {
     AfterRead(SiteNo),
     /// Its transaction is decided, and it holds the certifier's lock.
     InStep,
-    /// It is about to install at this site, under the locks of the certifier and the site.
+    /// It is about to write its block at this site, under the locks of the certifier and the site.
     InInstall(SiteNo),
 }
 
 /// Is told where each worker stands, and may hold it there for a while. A read that is answered from the draft arrives
 /// nowhere.
-pub trait Gate {
+pub trait Gate: Drop {
     /// The worker of this number stands at this place. It goes on once this returns.
     fn arrive(&self, worker: usize, place: Place);
 }
@@ -30,4 +30,10 @@ pub struct NoGate;
 
 impl Gate for NoGate {
     fn arrive(&self, _worker: usize, _place: Place) {}
+}
+
+impl<G: Gate> Gate for &G {
+    fn arrive(&self, worker: usize, place: Place) {
+        (**self).arrive(worker, place);
+    }
 }

@@ -1,9 +1,9 @@
 //! One worker: it takes jobs and runs them until its stop.
 
-ghost use Rattle.std.specs.Prelude.{◌≡◌, [], IfOk, IfErr, OnOk, length};
+ghost use Rattle.std.specs.Prelude.{IfOk, IfErr, length};
 ghost use Rattle.std.specs.List.{All};
 ghost use Rattle.crossbeam_channel.specs.Ends.{receives_on};
-ghost use Rattle.sgt_workers.specs.Answers.{jobs_of, IsAnswer, IsFault, IsOwn, JobsRise, Runs};
+ghost use Rattle.sgt_workers.specs.Answers.{jobs_of, IsAnswer, IsFault, JobsRise, Runs};
 ghost use Rattle.sgt_workers.specs.Queue.{IsBegun, IsEnded};
 
 use crate::fault::PoolFail;
@@ -53,41 +53,12 @@ pub fn run_worker<S: Drop, C, E: Drop, W: Work<S, C, E>, R: Wait>(
         mut pass,
     } = kit;
     let mut dones = Vec::new(alloc);
-    run_jobs(
-        rt, receiver, &mut pass, scripts, work, &mut state, &mut dones,
-    )?;
-    Ok(Report { state, pass, dones })
-}
-
-// The same, with what the worker leaves in `pass`, `state` and `dones`.
-fn run_jobs<S, C, E: Drop, W: Work<S, C, E>, R: Wait>(
-    rt: &R,
-    receiver: &Receiver,
-    pass: &mut QueuePass,
-    scripts: &[C],
-    work: &W,
-    state: &mut S,
-    dones: &mut Vec<Done>,
-) -> Result<(), PoolFail<E>>
-    requires pass { IsBegun (receives_on receiver.now) (length scripts.now) pass.old }
-    requires dones { dones.old.items ≡ [] }
-    ensures taken { OnOk result
-        (IsEnded (receives_on receiver.now) pass.new (jobs_of dones.new.items)) }
-    ensures keeps { W.keeps state.old state.new }
-    ensures answers { All (IsAnswer (W.answers work.now) scripts.now) dones.new.items }
-    ensures rising { JobsRise dones.new.items }
-    ensures runs { OnOk result
-        (Runs (W.does work.now) scripts.now state.old dones.new.items state.new) }
-    ensures own { IfErr result
-        (λ f. IsOwn f → Runs (W.does work.now) scripts.now state.old dones.new.items state.new) }
-    ensures fault { IfErr result (IsFault (W.faults work.now) (length scripts.now)) }
-{
     for _ in rt.forever() {
         dones.reserve(1)?;
-        let Some(job) = take_job(rt, receiver, pass, scripts) else {
-            return Ok(());
+        let Some(job) = take_job(rt, receiver, &mut pass, scripts) else {
+            return Ok(Report { state, pass, dones });
         };
-        match work.work(rt, state, job) {
+        match work.work(rt, &mut state, job) {
             Ok(done) => dones.push_reserved(done),
             Err(fault) => return Err(PoolFail::Work(fault)),
         }

@@ -10,7 +10,7 @@ pub loop-op-init : goal.loop-op-init
 loop-op-init g c = record {
   named = search rules;
   share = search rules;
-  counts = counted_same c.args.active.now.draft.touched c.args.active.now.draft.touched c.args.worker.now.seat.counts.items c.args.worker.now.seat.counts.items refl refl;
+  counts = counted_same c.args.active.now.draft.touched c.args.active.now.draft.touched c.args.seat.now.counts.items c.args.seat.now.counts.items refl refl;
   done = search rules;
 }
 

@@ -7,7 +7,7 @@ use Rattle.sgt_service.proofs.runner.Runner.apply_all.Given as goal
 abbrev pub invariant-loop-op : goal.invariant-loop-op
 invariant-loop-op g l = record {
   named : IsOfActive l.fn.active l.active;
-  share : (l.worker.seat.share ≡ l.fn.worker.seat.share) × (l.worker.seat.begun ≡ l.fn.worker.seat.begun);
-  counts : CountsReads l.fn.active.draft.touched l.active.draft.touched l.fn.worker.seat.counts.items l.worker.seat.counts.items;
+  share : (l.seat.share ≡ l.fn.seat.share) × (l.seat.begun ≡ l.fn.seat.begun);
+  counts : CountsReads l.fn.active.draft.touched l.active.draft.touched l.fn.seat.counts.items l.seat.counts.items;
   done : DoesAll (take l.op-index l.operations) true l.fn.active.draft.touched l.active.draft.touched l.fn.reads.items l.reads.items;
 }

@@ -13,7 +13,7 @@ returns-then-ne-clause-tries g c =
     let pushed : c.push_reserved.new.self.items ≡ c.loop.tickets.items ++ t ∷ [] =
     c.push_reserved.ensures.items ∙ ap (λ (ts : List Ticket). ts ++ t ∷ []) c.in_ok-reserve.ensures.items in
     let at = c.in_ok-ticket.ensures.tries in
-    let tried = try_of ops t c.try_once.new.reads.items c.loop.worker.seat c.try_once.new.worker.seat at in
+    let tried = try_of ops t c.try_once.new.reads.items c.loop.seat c.try_once.new.seat at in
     subst (λ (ts : List Ticket). AreTriesOf c.args.self.now.tries ops ts c.try_once.new.reads.items) (sym pushed) (record {
       whole = search (rules, tries_end);
       each = tries_more ops c.loop.tickets.items t c.try_once.new.reads.items c.loop.invariant.each tried;
@@ -27,10 +27,10 @@ loop-preserved g c =
     let pushed : c.push_reserved.new.self.items ≡ c.loop.tickets.items ++ t ∷ [] =
     c.push_reserved.ensures.items ∙ ap (λ (ts : List Ticket). ts ++ t ∷ []) c.in_ok-reserve.ensures.items in
     let at = c.in_ok-ticket.ensures.tries in
-    let tried = try_of ops t c.try_once.new.reads.items c.loop.worker.seat c.try_once.new.worker.seat at in
+    let tried = try_of ops t c.try_once.new.reads.items c.loop.seat c.try_once.new.seat at in
     record {
       parts = search rules;
-      tried = rw pushed (tried_more ops c.loop.tickets.items t c.try_once.new.reads.items c.args.worker.now.seat c.loop.worker.seat c.try_once.new.worker.seat c.loop.invariant.tried at);
+      tried = rw pushed (tried_more ops c.loop.tickets.items t c.try_once.new.reads.items c.args.seat.now c.loop.seat c.try_once.new.seat c.loop.invariant.tried at);
       refused = rw pushed (All-push IsRefused c.loop.tickets.items t c.loop.invariant.refused (search rules));
       each = rw pushed (tries_more ops c.loop.tickets.items t c.try_once.new.reads.items c.loop.invariant.each tried);
       last = rw pushed (last_more ops c.loop.tickets.items t c.try_once.new.reads.items tried);
@@ -46,19 +46,19 @@ returns-then-ne-clause-tried g c =
     let t = c.in_ok-ticket.ticket in
     let pushed : c.push_reserved.new.self.items ≡ c.loop.tickets.items ++ t ∷ [] =
     c.push_reserved.ensures.items ∙ ap (λ (ts : List Ticket). ts ++ t ∷ []) c.in_ok-reserve.ensures.items in
-    rw pushed (tried_more ops c.loop.tickets.items t c.try_once.new.reads.items c.args.worker.now.seat c.loop.worker.seat c.try_once.new.worker.seat
+    rw pushed (tried_more ops c.loop.tickets.items t c.try_once.new.reads.items c.args.seat.now c.loop.seat c.try_once.new.seat
     c.loop.invariant.tried c.in_ok-ticket.ensures.tries)
 
 pub returns-in_err-reserve-clause-halt : goal.returns-in_err-reserve-clause-halt
 returns-in_err-reserve-clause-halt g c =
     let p = err_from_is_err_and c.from_residual.result c.from_residual.ensures.1 in
     rw (p.1, c.in_err-reserve.ensures.items)
-    (stopped_behind c.args.script.now.operations c.loop.tickets.items c.args.worker.now.seat c.loop.worker.seat c.loop.worker.seat p.0
+    (stopped_behind c.args.script.now.operations c.loop.tickets.items c.args.seat.now c.loop.seat c.loop.seat p.0
     c.loop.invariant.refused c.loop.invariant.tried (inl refl))
 
 pub returns-in_err-ticket-clause-halt : goal.returns-in_err-ticket-clause-halt
 returns-in_err-ticket-clause-halt g c =
     let p = err_from_is_err_and c.from_residual-in_err-ticket.result c.from_residual-in_err-ticket.ensures.1 in
     rw (p.1, p.2, c.in_ok-reserve.ensures.items)
-    (stopped_behind c.args.script.now.operations c.loop.tickets.items c.args.worker.now.seat c.loop.worker.seat c.try_once.new.worker.seat c.in_err-ticket.field-0.0
+    (stopped_behind c.args.script.now.operations c.loop.tickets.items c.args.seat.now c.loop.seat c.try_once.new.seat c.in_err-ticket.field-0.0
     c.loop.invariant.refused c.loop.invariant.tried c.in_err-ticket.ensures.halt)

@@ -7,8 +7,8 @@ use Rattle.sgt_service.proofs.runner.Runner.try_all.Given as goal
 
 abbrev pub invariant-loop : goal.invariant-loop
 invariant-loop g l = record {
-  parts : l.worker.seat.share.parts ≡ l.fn.worker.seat.share.parts;
-  tried : AreTried l.script.operations l.tickets.items l.fn.worker.seat l.worker.seat;
+  parts : l.seat.share.parts ≡ l.fn.seat.share.parts;
+  tried : AreTried l.script.operations l.tickets.items l.fn.seat l.seat;
   refused : All IsRefused l.tickets.items;
   each : All (IsTryOf l.script.operations) l.tickets.items;
   last : IfSome (last_or None l.tickets.items) (λ t. Tries l.script.operations t l.reads.items);

@@ -8,6 +8,6 @@ returns-clause-tries g c = (
   tries_once c.args.script.now.operations c.in_ok-active.active c.apply_all.new.active c.in_ok-fits.fits c.in_ok-ticket.ticket
       (vec_len c.args.self.now.service.now.sites) c.clear.new.self.items c.apply_all.new.reads.items c.in_ok-active.ensures.begun
       c.in_ok-active.ensures.draft c.clear.ensures.items c.apply_all.ensures.named c.in_ok-fits.ensures.does c.in_ok-ticket.ensures.withdrawn c.in_ok-ticket.ensures.told,
-  try_counts c.in_ok-ticket.ticket c.in_ok-active.active c.apply_all.new.active c.args.worker.now.seat c.begin.new.seat c.apply_all.new.worker.seat
-      c.end.new.worker.seat c.in_ok-active.ensures.seat c.in_ok-active.ensures.draft c.apply_all.ensures.share c.apply_all.ensures.counts c.in_ok-ticket.ensures.ends,
+  try_counts c.in_ok-ticket.ticket c.in_ok-active.active c.apply_all.new.active c.args.seat.now c.begin.new.seat c.apply_all.new.seat
+      c.end.new.seat c.in_ok-active.ensures.seat c.in_ok-active.ensures.draft c.apply_all.ensures.share c.apply_all.ensures.counts c.in_ok-ticket.ensures.ends,
 )

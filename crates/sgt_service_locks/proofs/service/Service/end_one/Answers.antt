@@ -2,7 +2,9 @@ use Rattle.std.proofs.Common.{◌∙◌, sym, subst, arith, ◌+◌}
 use Rattle.sgt_names.specs.Draft.{at_site}
 use Rattle.sgt_service_locks.specs.Counts.{AreCounted, only_at, with_others}
 use Rattle.sgt_service_locks.proofs.Counting.{gains_zero, block_none, block_empty, block_here}
+use Rattle.sgt_service_locks.specs.Pledges.{HasLostPledge}
 use Rattle.sgt_service_locks.proofs.Decisions.{later}
+use Rattle.sgt_service_locks.proofs.Losing.{lost_pledge}
 use Rattle.sgt_service_locks.proofs.Noting.{notes_untouched, noted}
 use Rattle.sgt_service_locks.proofs.service.Service.end_one.Goals as goal
 
@@ -42,14 +44,14 @@ returns-then-entries-eq0-clause-history g c _ =
 pub returns-clause-history : goal.returns-clause-history
 returns-clause-history g c _ =
     let is = block_here c.args.verdict c.args.here c.args.active.now.draft.touched _ _ c.block_at-entries.ensures c.at.ensures.part in
-    let ended = c.end_at.ensures in
-    noted c.args.verdict c.args.active.now c.args.here c.args.guarded.now.certifier c.end_at.new.guarded.certifier
+    let ended = c.end.ensures in
+    noted c.args.verdict c.args.active.now c.args.here c.args.guarded.now.certifier c.end.new.self.certifier
     (λ none. c.if-entries-eq0.false (is ∙ none))
-    (ended.noted c.if-not-end_at.false)
+    (ended.noted c.if-not-end.false)
     ended.quiet
 
-pub returns-then-not-end_at-clause-touched : goal.returns-then-not-end_at-clause-touched
-returns-then-not-end_at-clause-touched g c _ none =
+pub returns-then-not-end-clause-touched : goal.returns-then-not-end-clause-touched
+returns-then-not-end-clause-touched g c _ none =
     let is = block_here c.args.verdict c.args.here c.args.active.now.draft.touched _ _ c.block_at-entries.ensures c.at.ensures.part in
     c.if-entries-eq0.false (is ∙ block_none c.args.verdict (at_site c.args.here c.args.active.now.draft.touched) none)
 
@@ -57,3 +59,10 @@ pub pass-requires-then-entries-eq0-clause-untouched : goal.pass-requires-then-en
 pass-requires-then-entries-eq0-clause-untouched g c =
     let is = block_here c.args.verdict c.args.here c.args.active.now.draft.touched _ _ c.block_at-entries.ensures c.at.ensures.part in
     block_empty c.args.verdict (at_site c.args.here c.args.active.now.draft.touched) (sym is ∙ c.if-entries-eq0.true)
+
+pub stop-requires-clause-lost : goal.stop-requires-clause-lost
+stop-requires-clause-lost g c =
+    let e = c.end.ensures in
+    let none = c.if-not-end.true in
+    subst (HasLostPledge c.args.verdict c.args.active.now c.args.here) (sym (e.unchanged none).0)
+    (lost_pledge c.args.verdict c.args.active.now c.args.here _ c.end.result none e.stands e.stands_withdrawn)

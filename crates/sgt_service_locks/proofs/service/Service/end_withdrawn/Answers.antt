@@ -15,7 +15,7 @@ returns-clause-step g c =
     let after = c.withdraw.new.self.certifier in
     let same = c.pledged.ensures.same in
     takes_back c.args.active.now (vec_len c.args.self.now.sites) number c.args.guarded.now.certifier after
-    c.end_all.new.guarded.certifier c.pledged.ensures.replays c.in-Ok.ensures.held.1
+    c.end_all-ended.new.guarded.certifier c.pledged.ensures.replays c.in-Ok.ensures.held.1
     (subst (λ (k : Kept). Adds k (call.Withdraw c.args.active.now.handle number) after) same c.in-Ok-withdraw.ensures.ok)
     (subst (λ (k : Kept). number ≡ decision_count k) same c.in-Ok-withdraw.ensures.number) c.in_default.ensures.history
 

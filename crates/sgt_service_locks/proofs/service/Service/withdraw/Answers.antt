@@ -3,16 +3,25 @@ use Rattle.std.specs.Prelude.{vec_len}
 use Rattle.sgt_workers.specs.declared.ticket.Ending.{Ending}
 use Rattle.sgt_workers.specs.declared.ticket.Ending.TheVariants.{Withdrawn}
 use Rattle.sgt_service_locks.specs.Undecided.{IsToldOfWithdraw}
-use Rattle.sgt_service_locks.proofs.Stopping.{stop_back, stop_told, withdraw_call, withdraw_fault}
+use Rattle.sgt_service_locks.proofs.Stopping.{stop_back, stop_told, withdraw_stop, withdraw_call, withdraw_fault}
 use Rattle.sgt_service_locks.proofs.service.Service.withdraw.Goals as goal
 
 pub returns-in-Err-clause-back : goal.returns-in-Err-clause-back
 returns-in-Err-clause-back g c =
-    rw c.back_of.ensures (stop_back (λ (v : Ending). v ≡ Withdrawn) c.args.active c.args.seat.now c.take_back.new.seat c.in-Err.stop c.in-Err.ensures.stop (withdraw_call (vec_len c.args.self.now.sites) c.args.active c.in-Err.stop c.in-Err.ensures.why))
+    let sites = vec_len c.args.self.now.sites in
+    let stop = c.in-Err.stop in
+    let why = withdraw_stop _ _ _ _ stop c.end_withdrawn.ensures.replays c.in-Err.ensures.why in
+    rw c.back_of.ensures (stop_back (λ (v : Ending). v ≡ Withdrawn) c.args.active c.args.seat.now c.end_withdrawn.new.seat stop c.in-Err.ensures.stop
+    (withdraw_call sites c.args.active stop why))
 
 pub returns-in-Err-clause-fault : goal.returns-in-Err-clause-fault
-returns-in-Err-clause-fault g c = rw c.back_of.ensures (withdraw_fault (vec_len c.args.self.now.sites) c.args.active c.in-Err.stop c.in-Err.ensures.why)
+returns-in-Err-clause-fault g c =
+    let stop = c.in-Err.stop in
+    let why = withdraw_stop _ _ _ _ stop c.end_withdrawn.ensures.replays c.in-Err.ensures.why in
+    rw c.back_of.ensures (withdraw_fault (vec_len c.args.self.now.sites) c.args.active stop why)
 
 pub returns-in-Err-clause-refused : goal.returns-in-Err-clause-refused
 returns-in-Err-clause-refused g c =
-    rw c.back_of.ensures (stop_told (IsToldOfWithdraw (vec_len c.args.self.now.sites) c.args.active) c.args.active c.in-Err.stop c.in-Err.ensures.why)
+    let stop = c.in-Err.stop in
+    let why = withdraw_stop _ _ _ _ stop c.end_withdrawn.ensures.replays c.in-Err.ensures.why in
+    rw c.back_of.ensures (stop_told (IsToldOfWithdraw (vec_len c.args.self.now.sites) c.args.active) c.args.active stop why)

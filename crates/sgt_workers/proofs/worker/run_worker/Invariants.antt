@@ -3,7 +3,7 @@ use Rattle.crossbeam_channel.specs.Claims.{view, IsSeatAt}
 use Rattle.crossbeam_channel.specs.Ends.{receives_on}
 use Rattle.sgt_workers.specs.Answers.{jobs_of, IsAnswer, JobsRise, Runs}
 use Rattle.sgt_workers.specs.Queue.{IsFilled}
-use Rattle.sgt_workers.proofs.worker.run_jobs.Given as goal
+use Rattle.sgt_workers.proofs.worker.run_worker.Given as goal
 
 abbrev pub invariant-loop : goal.invariant-loop
 invariant-loop g l = record {
@@ -12,8 +12,8 @@ invariant-loop g l = record {
   seat : IsSeatAt (receives_on l.receiver) l.pass;
   filled : IsFilled (length l.scripts) (view l.pass);
   taken : jobs_of l.dones.items ≡ (view l.pass).taken;
-  keeps : g.W.Work.keeps l.fn.state l.state;
+  keeps : g.W.Work.keeps l.fn.kit.state l.state;
   answers : All (IsAnswer (g.W.Work.answers l.work) l.scripts) l.dones.items;
   rising : JobsRise l.dones.items;
-  runs : Runs (g.W.Work.does l.work) l.scripts l.fn.state l.dones.items l.state;
+  runs : Runs (g.W.Work.does l.work) l.scripts l.fn.kit.state l.dones.items l.state;
 }

@@ -1,26 +1,16 @@
-use Rattle.std.proofs.Common.{◌≡◌, ◌<◌, ◌-◌, Some, All, [], ◌∷◌, ◌++◌, length, refl, sym, ap, ◌∙◌, subst, arith, Result, Ok, Err}
-use Rattle.std.specs.Prelude.{slice_get, OnOk, IfErr}
-use Rattle.std.specs.Result.{IsErr, IsErrAnd}
+use Rattle.std.proofs.Common.{◌≡◌, ◌<◌, ◌-◌, Some, All, [], ◌∷◌, ◌++◌, length, refl, sym, ap, ◌∙◌, subst, arith}
+use Rattle.std.specs.Prelude.{slice_get}
 use Rattle.std.proofs.lemmas.List.{map-append}
 use Rattle.std.proofs.lemmas.List.Elements.{All-push}
 use Rattle.std.proofs.lemmas.List.Quantifiers.{all_pairs_push}
 use Rattle.crossbeam_channel.specs.Claims.{view}
-use Rattle.sgt_workers.specs.Answers.{jobs_of, IsAnswer, IsFault, Runs}
+use Rattle.sgt_workers.specs.Answers.{jobs_of, IsAnswer}
 use Rattle.sgt_workers.specs.Queue.{IsFilled}
 use Rattle.sgt_workers.specs.declared.ticket.Done.{Done}
 use Rattle.sgt_workers.specs.declared.queue.Hold.{Hold}
 use Rattle.sgt_workers.proofs.Told.{below_jobs}
 use Rattle.sgt_workers.proofs.Runs.{runs_push}
-use Rattle.sgt_workers.proofs.worker.run_jobs.Goals as goal
-
--- where memory was wanted
-none_ok : {A E : Type 0} (r : Result A E) (P : Type 0) → IsErr r → OnOk r P
-none_ok (Ok a) P err = absurd cc
-none_ok (Err e) P err = tt
-
-each_err : {A E : Type 0} (r : Result A E) (P Q : E → Type 0) → ((e : E) → P e → Q e) → IsErrAnd r P → IfErr r Q
-each_err (Ok a) P Q weaker err = absurd err
-each_err (Err e) P Q weaker err = weaker e err
+use Rattle.sgt_workers.proofs.worker.run_worker.Goals as goal
 
 pub loop-preserved : goal.loop-preserved
 loop-preserved g c =
@@ -65,36 +55,5 @@ returns-in_default g c =
       answers = rw same i.answers;
       rising = rw same i.rising;
       runs = rw same i.runs;
-      own = tt;
       fault = tt;
-    }
-
-pub returns-in-Err : goal.returns-in-Err
-returns-in-Err g c =
-    let same : c.reserve.new.self.items ≡ c.loop.dones.items = c.in_ok-reserve.ensures.items in
-    let i = c.loop.invariant in
-    record {
-      taken = tt;
-      keeps = g.met.W.Work.keeps_on _ _ _ i.keeps c.in-Err.ensures.keeps;
-      answers = rw same i.answers;
-      rising = rw same i.rising;
-      runs = tt;
-      own = λ own. absurd own;
-      fault = c.in-Err.ensures.fault;
-    }
-
-pub returns-in_err-reserve : goal.returns-in_err-reserve
-returns-in_err-reserve g c =
-    let same : c.reserve.new.self.items ≡ c.loop.dones.items = c.in_err-reserve.ensures.items in
-    let i = c.loop.invariant in
-    let runs : Runs (g.W.Work.does c.args.work.now) c.args.scripts.now c.args.state.now c.reserve.new.self.items c.loop.state = rw same i.runs in
-    let err = c.from_residual.ensures in
-    record {
-      taken = none_ok c.from_residual.result _ err.0;
-      keeps = i.keeps;
-      answers = rw same i.answers;
-      rising = rw same i.rising;
-      runs = none_ok c.from_residual.result _ err.0;
-      own = each_err c.from_residual.result _ _ (λ e is own. runs) err.1;
-      fault = each_err c.from_residual.result _ _ (λ e is. subst (λ f. IsFault (g.W.Work.faults c.args.work.now) (length c.args.scripts.now) f) (sym is) tt) err.1;
     }

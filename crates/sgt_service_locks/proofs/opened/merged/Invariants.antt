@@ -1,6 +1,6 @@
 use Rattle.std.proofs.Common.{◌≡◌, ◌+◌}
 use Rattle.sgt_service_locks.specs.Together.{parts_of, amount_of}
-use Rattle.sgt_service_locks.proofs.service.Service.merged.Given as goal
+use Rattle.sgt_service_locks.proofs.opened.merged.Given as goal
 
 abbrev pub invariant-loop-seat : goal.invariant-loop-seat
 invariant-loop-seat g l = record {
