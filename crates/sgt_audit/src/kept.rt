@@ -63,9 +63,7 @@ impl Kept {
     fn is_plain(&self, known: &Known) -> bool {
         match known.ruling.number {
             Some(number) => {
-                self.tracked.place.current.is_some()
-                    && self.tracked.state.has_room(number)
-                    && self.sections.is_none()
+                self.tracked.place.current.is_some() && self.tracked.state.has_room(number)
             }
             None => false,
         }
