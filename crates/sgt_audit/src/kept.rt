@@ -163,7 +163,8 @@ impl Kept {
         known: &Option<Known>,
     ) -> Result<Option<Fault>, AllocError>
         ensures sections { is_some self.new.sections ≡ is_some self.old.sections }
-        ensures follows { IsKnownLine self.old.certificate.decisions self.old.tracked.state line.now known.now
+        ensures follows { let ds = self.old.certificate.decisions in
+            IsKnownLine ds self.old.tracked.state line.now known.now
             → IsLineIn self.old.second line.now → (s : Stage) → IsAt self.old s
             → IfOk result (Follows s (line_text line.now) (Reading self.new)) }
     {
