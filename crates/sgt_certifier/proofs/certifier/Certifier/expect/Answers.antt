@@ -1,4 +1,4 @@
-use Rattle.std.proofs.Common.{All, Vec, Global, ap, sym, subst, List}
+use Rattle.std.proofs.Common.{All, Vec, Global, ap, sym, subst}
 use Rattle.sgt_certifier.specs.declared.install.Prepared.{Prepared}
 use Rattle.sgt_certifier.specs.Counted.{AreCounted, HavePlaces}
 use Rattle.sgt_certifier.proofs.Counting.{counted-lists, counted-wider}
