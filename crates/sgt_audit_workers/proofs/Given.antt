@@ -1,6 +1,6 @@
 -- Sections that were read, and those that are judged.
 use Rattle.std.proofs.Common.{◌≡◌, ℕ, Bool, true, false, IfSome, ◌+◌, ◌<◌, ◌≤◌, List, [], ◌∷◌, ◌++◌, length, Option, Some, None, IsTrue, inl, inr, sym, ◌∙◌, ap, subst, arith, slice_index_or}
-use Rattle.std.specs.Prelude.{◌≢◌, Result, Ok, Err, IfOk, IfErr, remove}
+use Rattle.std.specs.Prelude.{◌≢◌, Result, Ok, Err, IfOk, remove}
 use Rattle.std.specs.Io.KnownBytes.{Consumes, IsAtEnd}
 use Rattle.std.proofs.KnownBytes.{Consumes-nil, Consumes-trans}
 use Rattle.sgt_notation.specs.Lines.{ReadFaultIsDue, coming}

@@ -12,7 +12,6 @@ use Rattle.sgt_cert.specs.Text.{section_lines, sections_from}
 use Rattle.sgt_cert.specs.declared.bundle.SiteLog.{SiteLog}
 use Rattle.sgt_cert.specs.declared.certificate.Certificate.{Certificate}
 use Rattle.sgt_audit.specs.Faults.{lines_so_far, within}
-use Rattle.sgt_audit.specs.Alone.{IsReadyAlone}
 use Rattle.sgt_audit.specs.Verdict.{IsVerdict, yes_of}
 use Rattle.sgt_audit.specs.declared.verdict.Verdict.{Verdict}
 use Rattle.sgt_audit.proofs.MayFollow.{sections-append}

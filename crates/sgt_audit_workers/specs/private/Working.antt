@@ -3,10 +3,7 @@ use Rattle.std.specs.Prelude.{◌≡◌, ℕ, ◌+◌, List, length, Option, Som
 use Rattle.std.specs.Arc.{arc_value}
 use Rattle.sgt_audit.specs.Verdict.{IsVerdict}
 use Rattle.sgt_audit.specs.declared.verdict.Verdict.{Verdict}
-use Rattle.sgt_audit_workers.specs.declared.head.Head.{Head}
-use Rattle.sgt_audit_workers.specs.declared.job.Job.{Job}
 use Rattle.sgt_audit_workers.specs.declared.workers.Workers.{Workers}
-use Rattle.sgt_audit_workers.specs.private.Jobs.{IsIdle}
 use Rattle.sgt_audit_workers.specs.private.Running.{AreRunning}
 use Rattle.sgt_audit_workers.specs.private.Tallied.{IsTallied}
 

@@ -1,4 +1,4 @@
-use Rattle.std.proofs.Common.{rules, ◌≡◌, ◌+◌, ◌∙◌, ℕ, List, Option, None, ap, arith, refl, subst, sym}
+use Rattle.std.proofs.Common.{rules, ◌≡◌, ◌∙◌, List, None, ap, arith, refl, subst, sym}
 use Rattle.std.specs.Arc.{arc_value}
 use Rattle.std.specs.Prelude.{IsErrOf}
 use Rattle.sgt_names.specs.declared.outcome.EngineFail.TheVariants.{ReadFault}

@@ -1,6 +1,5 @@
-use Rattle.std.proofs.Common.{rules, ◌≡◌, ◌∷◌, ◌++◌, [], ◌∙◌, ap, arith, refl, subst, sym, List, ℕ, Option}
+use Rattle.std.proofs.Common.{rules, ◌∷◌, ◌++◌, [], ◌∙◌, ap, arith, refl, subst, sym}
 use Rattle.std.specs.Prelude.{IsErrOf}
-use Rattle.std.specs.Io.KnownBytes.{Consumes}
 use Rattle.std.proofs.lemmas.Bool.{false≢true}
 use Rattle.sgt_names.specs.declared.outcome.EngineFail.TheVariants.{ReadFault}
 use Rattle.sgt_names.specs.Limits.{max_line, most_reads}

@@ -1,4 +1,4 @@
-use Rattle.std.proofs.Common.{rules, List, ℕ, refl, sym, subst, ◌∙◌}
+use Rattle.std.proofs.Common.{rules, List, ℕ, sym, subst, ◌∙◌}
 use Rattle.std.specs.Prelude.{IsErrOf}
 use Rattle.std.proofs.lemmas.Bool.{false≢true}
 use Rattle.sgt_names.specs.declared.outcome.EngineFail.TheVariants.{ReadFault}

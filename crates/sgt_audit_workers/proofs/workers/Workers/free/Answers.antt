@@ -1,8 +1,7 @@
-use Rattle.std.proofs.Common.{◌≡◌, ℕ, List, Option, None, ◌∷◌, arith, ap, length, refl, subst, sym}
+use Rattle.std.proofs.Common.{ℕ, List, None, arith, ap, length, subst, sym}
 use Rattle.std.specs.Arc.{arc_value}
 use Rattle.sgt_audit_workers.specs.declared.running.Running.{Running}
 use Rattle.sgt_audit_workers.specs.private.Running.{AreRunning}
-use Rattle.sgt_audit_workers.specs.private.Working.{Works}
 use Rattle.sgt_audit_workers.proofs.Given.{some-later}
 use Rattle.sgt_audit_workers.proofs.workers.Workers.free.Goals as goal
 

@@ -1,4 +1,4 @@
-use Rattle.std.proofs.Common.{◌≡◌, ◌+◌, ℕ, List, Option, None, ◌∷◌, [], arith, ap, length, refl, subst, sym}
+use Rattle.std.proofs.Common.{◌+◌, List, ◌∷◌, [], arith, ap, length, refl, subst, sym}
 use Rattle.std.specs.Arc.{arc_value}
 use Rattle.std.proofs.lemmas.List.{length-append}
 use Rattle.std.specs.Prelude.{Ok}

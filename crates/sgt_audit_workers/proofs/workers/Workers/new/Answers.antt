@@ -1,4 +1,4 @@
-use Rattle.std.proofs.Common.{◌≡◌, ℕ, List, arith, ap, length, refl, subst, sym}
+use Rattle.std.proofs.Common.{List, subst, sym}
 use Rattle.std.specs.Arc.{arc_value}
 use Rattle.std.proofs.KnownBytes.{Consumes-nil}
 use Rattle.sgt_audit_workers.specs.declared.head.Head.{Head}

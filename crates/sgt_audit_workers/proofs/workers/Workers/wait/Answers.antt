@@ -1,4 +1,4 @@
-use Rattle.std.proofs.Common.{◌≡◌, ◌+◌, ◌<◌, ℕ, List, Option, None, ◌∷◌, arith, ap, length, refl, subst, sym}
+use Rattle.std.proofs.Common.{ℕ, List, Option, None, arith, ap, length, refl, subst, sym}
 use Rattle.std.specs.Arc.{arc_value}
 use Rattle.sgt_audit_workers.specs.declared.running.Running.{Running}
 use Rattle.sgt_audit_workers.specs.private.Running.{AreRunning}

@@ -1,4 +1,4 @@
-use Rattle.std.proofs.Common.{◌≡◌, ◌≤◌, ℕ, List, Option, None, length}
+use Rattle.std.proofs.Common.{◌≡◌, ◌≤◌, ℕ, List, Option, length}
 use Rattle.std.specs.Arc.{arc_value}
 use Rattle.sgt_audit_workers.specs.private.Working.{SameWorkers, Works, given}
 use Rattle.sgt_audit_workers.proofs.workers.Workers.wait.Given as goal
