@@ -1,6 +1,4 @@
-pub mod Core
-pub mod Step
-pub mod Runs
-pub mod Machine
-pub mod Gathered
+pub mod Input
+pub mod Replay
+pub mod Reply
 pub mod private

@@ -1,5 +1,4 @@
--- Words of private clauses.
-pub mod Decided
-pub mod Whole
-pub mod Withdrawing
-pub mod Installing
+pub mod Playing
+pub mod Running
+pub mod Stopping
+pub mod Taking

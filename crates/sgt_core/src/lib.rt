@@ -1,22 +1,21 @@
-//! The certifier and its sites, driven by one thread: the model, and laws of all its runs.
+//! The core: the certifier and its sites, driven by one thread over events; the laws of its runs; the replay of a file of events.
 #![tactic(auto)]
 
-mod bundling;
-mod deciding;
-mod driver;
-mod gathering;
-mod installing;
+mod engine;
+mod input;
 mod laws;
-mod looking;
-mod machine;
+mod playing;
+mod reading;
 mod reply;
-mod whole;
-mod withdrawing;
 
-pub use driver::Core;
-pub use laws::{
-    decisions_are_runs, installs_are_versions, refusals_are_determined, replies_are_determined,
-    runs_are_serializable, runs_go_on, states_are_determined,
+pub use engine::replay;
+pub use input::{Input, Reading};
+pub use laws::{inputs_have_one_reading, unreadable_lines_are_determined};
+pub use reading::read_input;
+pub use reply::{number_of, write_reply};
+pub use sgt_core_machine::Core;
+pub use sgt_core_model::{
+    CoreFault, Reply, decisions_are_runs, installs_are_versions, refusals_are_determined,
+    replies_are_determined, runs_are_serializable, runs_go_on, states_are_determined,
 };
-pub use reply::{CoreFault, Reply};
 pub use sgt_notation::Event;

@@ -1,72 +1,79 @@
-//! What the core answers to an event.
+//! Replies, written.
 
-use sgt_names::{Tx, Value};
-use thiserror::Error;
+ghost use Rattle.std.specs.Prelude.{◌≡◌, ◌++◌, take, vec_len, OnOk, OnErr};
+ghost use Rattle.sgt_core.specs.Reply.{answer_text, fault_number};
 
-/// The answer to an event.
-#[derive(Clone, Copy, Debug, PartialEq, Eq)]
-pub enum Reply {
-    /// This transaction began.
-    Begun { tx: Tx },
-    /// What it reads: the logged value, with its private change behind it.
-    Value { value: Value },
-    /// The private change is kept.
-    Kept,
-    /// It is gathered there.
-    Gathered,
-    /// It is committed.
-    Yes,
-    /// It is refused.
-    No,
-    /// Its block is written there.
-    Installed,
-    /// It is withdrawn.
-    Withdrawn,
-    /// So many ranks were given until now.
-    Closed { ranks: u64 },
-    /// The event is refused, with this fault.
-    Fault { fault: CoreFault },
+use sgt_core_model::{CoreFault, Reply};
+use sgt_notation::push_number;
+use std::alloc::AllocError;
+
+/// The number that a refusal is written with.
+pub fn number_of(fault: CoreFault) -> u64
+    ensures { result ≡ fault_number fault }
+{
+    match fault {
+        CoreFault::Unknown => 1,
+        CoreFault::Ended => 2,
+        CoreFault::StepOpen => 3,
+        CoreFault::UnknownItem => 4,
+        CoreFault::NotGathered => 5,
+        CoreFault::AlreadyDone => 6,
+        CoreFault::WindowFull => 7,
+        CoreFault::ActiveLeft => 8,
+        CoreFault::Memory => 9,
+        CoreFault::GenerationsSpent => 10,
+        CoreFault::NumbersSpent => 11,
+        CoreFault::NotTouched => 12,
+    }
 }
 
-/// Why the core refuses an event. The least number is told, but want of memory last. The state is then as it was; after want
-/// of memory at a gather, a decision or a commit the step is closed, as if it had never been opened.
-#[derive(Clone, Copy, Debug, PartialEq, Eq, Error)]
-pub enum CoreFault {
-    /// The transaction was never begun.
-    #[error("E1: the transaction was never begun")]
-    Unknown,
-    /// It has ended.
-    #[error("E2: the transaction has ended")]
-    Ended,
-    /// A step is open that has to be closed before: its own before it reads or changes items, another's before a part of its
-    /// own, and any before the other events.
-    #[error("E3: a step is open")]
-    StepOpen,
-    /// There is no such site, or no such item there.
-    #[error("E4: there is no such site, or no such item there")]
-    UnknownItem,
-    /// It isn't gathered at each site that it touches (a decision), or isn't decided (an install).
-    #[error("E5: the transaction is not gathered, or not decided")]
-    NotGathered,
-    /// That part of its step was done.
-    #[error("E6: this part of the step was done")]
-    AlreadyDone,
-    /// As many transactions as there may be were begun in this window.
-    #[error("E7: the window is full")]
-    WindowFull,
-    /// A transaction is active.
-    #[error("E8: a transaction is active")]
-    ActiveLeft,
-    /// A growth was refused.
-    #[error("E9: out of memory")]
-    Memory,
-    /// No further window can be opened.
-    #[error("E10: the generations are spent")]
-    GenerationsSpent,
-    /// No further transaction can be numbered.
-    #[error("E11: the numbers of transactions are spent")]
-    NumbersSpent,
-    /// The transaction doesn't touch the site.
-    #[error("E12: the transaction does not touch the site")]
-    NotTouched,
+fn push_answer(out: &mut Vec<u8>, asked: &[u8], reply: &Reply) -> Result<(), AllocError>
+    ensures ok { OnOk result (out.new.items ≡ out.old.items ++ answer_text asked.now reply.now) }
+    ensures err { OnErr result (take (vec_len out.old) out.new.items ≡ out.old.items) }
+{
+    match reply {
+        Reply::Fault { fault } => {
+            out.extend_from_slice(b"! E")?;
+            push_number(out, number_of(*fault))
+        }
+        Reply::Begun { tx } => {
+            out.extend_from_slice(asked)?;
+            push_number(out, u64::from(tx.number()))
+        }
+        Reply::Value { value } => {
+            out.extend_from_slice(asked)?;
+            out.extend_from_slice(b"=")?;
+            push_number(out, *value)
+        }
+        Reply::Yes => {
+            out.extend_from_slice(asked)?;
+            out.extend_from_slice(b" yes")
+        }
+        Reply::No => {
+            out.extend_from_slice(asked)?;
+            out.extend_from_slice(b" no")
+        }
+        Reply::Closed { ranks } => {
+            out.extend_from_slice(asked)?;
+            out.extend_from_slice(b" ")?;
+            push_number(out, *ranks)
+        }
+        Reply::Kept | Reply::Gathered | Reply::Installed | Reply::Withdrawn => {
+            out.extend_from_slice(asked)
+        }
+    }
+}
+
+/// Writes the line of the reply, without an LF, behind what is there: `! EN` of a refusal, and else the line of the event that
+/// was asked, which is given without its LF, with what the answer tells behind it. Where a growth is refused nothing is written.
+pub fn write_reply(out: &mut Vec<u8>, asked: &[u8], reply: &Reply) -> Result<(), AllocError>
+    ensures ok { OnOk result (out.new.items ≡ out.old.items ++ answer_text asked.now reply.now) }
+    ensures err { OnErr result (out.new.items ≡ out.old.items) }
+{
+    let before = out.len();
+    let written = push_answer(out, asked, reply);
+    if written.is_err() {
+        out.truncate(before);
+    }
+    written
 }

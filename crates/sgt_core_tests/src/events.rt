@@ -5,7 +5,7 @@ use crate::rows::opened;
 use sgt_core::{Core, CoreFault, Event, Reply};
 use sgt_names::{Item, SiteNo, Tx};
 use sgt_notation::{EventLine, read_event};
-use sgt_replay::{number_of, write_reply};
+use sgt_core::{number_of, write_reply};
 use std::alloc::{AllocError, Global};
 use std::test::Fail;
 

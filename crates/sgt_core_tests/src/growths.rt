@@ -6,7 +6,7 @@ use sgt_cert::Bundle;
 use sgt_core::{Core, CoreFault, Event, Reply};
 use sgt_names::{Item, SiteNo, Tx};
 use sgt_notation::{EventLine, read_event};
-use sgt_replay::write_reply;
+use sgt_core::write_reply;
 use std::alloc::Global;
 use std::test::Fail;
 

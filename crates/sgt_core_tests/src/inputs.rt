@@ -4,7 +4,7 @@ ghost use Rattle.std.specs.Prelude.{◌<◌};
 
 use sgt_names::MemSource;
 use sgt_notation::NotationFault;
-use sgt_replay::{Reading, read_input};
+use sgt_core::{Reading, read_input};
 use std::alloc::{AllocError, Global};
 use std::test::Fail;
 

@@ -12,7 +12,7 @@ use Rattle.sgt_audit.specs.declared.verdict.Verdict.TheVariants.{Yes, No}
 use Rattle.sgt_certify.specs.Answer as certify
 use Rattle.sgt_draw.specs.Drawn as draw
 use Rattle.sgt_explain.specs.Explained as explain
-use Rattle.sgt_replay.specs.Replay as replay
+use Rattle.sgt_core.specs.Replay as replay
 use Rattle.sgt_service.specs.Report as run
 use Rattle.sgt_serial.specs.Answer as serial
 use Rattle.sgt_serial.specs.Answer.{IsAnswer}

@@ -14,7 +14,7 @@ use sgt_certify::certify;
 use sgt_draw::{Wanted, draw};
 use sgt_explain::{explain, explain_topic, explain_transaction};
 use sgt_names::{EngineFail, Outcome, Sink, Source, write_all};
-use sgt_replay::replay;
+use sgt_core::replay;
 use sgt_serial::serial;
 use sgt_service::run_scripts;
 use sgt_words::Choice;

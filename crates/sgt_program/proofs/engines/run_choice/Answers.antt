@@ -1,7 +1,7 @@
 use Rattle.sgt_certify.specs.Answer as certify
 use Rattle.sgt_draw.specs.Drawn as draw
 use Rattle.sgt_explain.specs.Explained as explain
-use Rattle.sgt_replay.specs.Replay as replay
+use Rattle.sgt_core.specs.Replay as replay
 use Rattle.sgt_service.specs.Report as run
 use Rattle.sgt_program.proofs.Answered.{audit-fails, rule-answers, serial-answers, status-answers, verdict-answers}
 use Rattle.sgt_program.proofs.engines.run_choice.Goals as goal

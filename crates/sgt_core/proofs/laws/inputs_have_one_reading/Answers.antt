@@ -1,0 +1,5 @@
+use Rattle.sgt_core.proofs.OneText.{inputs-one}
+use Rattle.sgt_core.proofs.laws.inputs_have_one_reading.Goals as goal
+
+pub returns : goal.returns
+returns c = inputs-one

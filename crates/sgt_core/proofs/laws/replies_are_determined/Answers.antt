@@ -1,5 +1,0 @@
-use Rattle.sgt_core.proofs.Determined.{one_reply}
-use Rattle.sgt_core.proofs.laws.replies_are_determined.Goals as goal
-
-pub returns : goal.returns
-returns c state event r q new other a b not_r not_q = one_reply state event r q new other a b not_r not_q

@@ -1,5 +1,0 @@
-use Rattle.sgt_core.proofs.Alike.{runs_alike}
-use Rattle.sgt_core.proofs.laws.states_are_determined.Goals as goal
-
-pub returns : goal.returns
-returns c items events replies new other p q = runs_alike items events replies new other p q

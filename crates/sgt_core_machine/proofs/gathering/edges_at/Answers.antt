@@ -1,0 +1,32 @@
+use Rattle.std.proofs.Common.{◌∙◌, Some, Result, Ok, Err, ap}
+use Rattle.std.specs.Prelude.{OnOk}
+use Rattle.std.proofs.lemmas.Option.{slice_get_within}
+use Rattle.sgt_names.proofs.Lists.{element_at}
+use Rattle.sgt_core_machine.proofs.Versions.{memory_alone}
+use Rattle.sgt_core_machine.proofs.gathering.edges_at.Goals as goal
+
+both_ok : {A E P Q R : Type 0} → (P → Q → R) → (r : Result A E) → OnOk r P → OnOk r Q → OnOk r R
+both_ok f (Ok a) p q = f p q
+both_ok f (Err e) p q = tt
+
+pub returns-clause-ok : goal.returns-clause-ok
+returns-clause-ok c =
+    let here = element_at c.args.places.now c.args.at c.index-places-at.result c.requires.site c.index-places-at.is in
+    let within = slice_get_within c.args.table.now c.args.slot _ c.requires.slot.1 in
+    let runs = element_at c.args.table.now c.args.slot c.index-table-slot.result within c.index-table-slot.is ∙ ap Some c.in-Some.is in
+    both_ok (λ given stand. record {
+      place = c.index-places-at.result;
+      running = c.in-Some.running;
+      there = here;
+      runs = runs;
+      legal = c.items-items.ensures.site;
+      given = given;
+      stand = stand;
+    }) c.gather_into.result c.gather_into.ensures.given c.gather_into.ensures.stands
+
+pub returns-clause-memory : goal.returns-clause-memory
+returns-clause-memory c =
+    let here = element_at c.args.places.now c.args.at c.index-places-at.result c.requires.site c.index-places-at.is in
+    let within = slice_get_within c.args.table.now c.args.slot _ c.requires.slot.1 in
+    let runs = element_at c.args.table.now c.args.slot c.index-table-slot.result within c.index-table-slot.is ∙ ap Some c.in-Some.is in
+    memory_alone c.index-places-at.result.site c.in-Some.running.draft.touched c.gather_into.result (c.requires.seen c.index-places-at.result c.in-Some.running here runs) c.gather_into.ensures.refused

@@ -1,0 +1,5 @@
+-- Words of private clauses.
+pub mod Decided
+pub mod Whole
+pub mod Withdrawing
+pub mod Installing

@@ -1,0 +1,172 @@
+//! A gathered transaction is decided.
+
+ghost use Rattle.std.specs.Prelude.{◌≡◌, ◌↔◌, ◌<◌, Some, Any, length, slice_get, IsTrue, IfOk, IfErr, OnErr};
+ghost use Rattle.sgt_notation.specs.declared.event.Event.TheVariants as event;
+ghost use Rattle.sgt_core_model.specs.Core.{CoreState};
+ghost use Rattle.sgt_core_model.specs.Step.{IsAllowed, MayStep};
+ghost use Rattle.sgt_core_machine.specs.Machine.{parts_of, StandsFor, Stands, GoesOn, IsSlotOf};
+ghost use Rattle.sgt_core_machine.specs.private.Decided.{edges_in, IsRuled, MayRuleAt, phase_after, reply_after, RulesAt, EndsAt};
+ghost use Rattle.sgt_core_machine.specs.declared.machine.Part.TheVariants.{Due};
+ghost use Rattle.sgt_core_machine.specs.declared.machine.Running.{Running as ARunning};
+
+use crate::gathering::misses;
+use crate::machine::{Machine, Open, Part, Phase, Place, Running, refused};
+use sgt_core_model::{CoreFault, Reply};
+use sgt_certifier::{Certifier, CertifierFault, Decided};
+use sgt_edges::EdgeList;
+use sgt_names::Tx;
+use std::alloc::Global;
+
+impl Machine {
+    /// The transaction is decided, where it is gathered wherever it touches. Where it touches nothing, its step ends at once.
+    pub(crate) fn decide(&mut self, tx: Tx) -> Reply
+        requires { Stands (parts_of self.old) }
+        ensures { GoesOn (λ c d. MayStep c (event.Decide tx) result d) (parts_of self.old)
+            (parts_of self.new) }
+    {
+        let slot = match self.slot_of(tx) {
+            Ok(slot) => slot,
+            Err(fault) => return refused(fault),
+        };
+        if self.other_step(tx) {
+            return refused(CoreFault::StepOpen);
+        }
+        if misses(self.places.as_slice(), self.running.as_slice(), slot) {
+            return refused(CoreFault::NotGathered);
+        }
+        if is_ruled(&self.step) {
+            return refused(CoreFault::AlreadyDone);
+        }
+        self.decide_gathered(tx, slot)
+    }
+
+    // Decides a transaction that may be decided.
+    fn decide_gathered(&mut self, tx: Tx, slot: usize) -> Reply
+        requires stands { Stands (parts_of self.old) }
+        requires slot { IsSlotOf (parts_of self.old) tx slot }
+        requires allowed { (c : CoreState) → StandsFor (parts_of self.old) c
+            → IsAllowed c (event.Decide tx) }
+        ensures { GoesOn (λ c d. MayStep c (event.Decide tx) result d) (parts_of self.old)
+            (parts_of self.new) }
+    {
+        let edges = edges_of(self.alloc, self.step.take());
+        match rule(&mut self.certifier, self.running.as_slice(), slot, &edges) {
+            Ok(decided) => {
+                self.spare = edges;
+                if is_due(self.places.as_slice()) {
+                    self.step = Some(Open {
+                        tx,
+                        phase: phase_of(&decided),
+                    });
+                } else {
+                    self.end(tx, slot);
+                }
+                reply_of(&decided)
+            }
+            Err(CertifierFault::Memory) => {
+                self.give_up(tx);
+                refused(CoreFault::Memory)
+            }
+            Err(_) => unreachable!(),
+        }
+    }
+
+    // Ends the transaction at a place of the table, of which no block is due.
+    pub(crate) fn end(&mut self, tx: Tx, slot: usize)
+        requires step { self.old.certifier.state.step ≡ Some tx }
+        requires slot { slot < length self.old.running.items }
+        ensures { EndsAt (parts_of self.old) (parts_of self.new) tx slot }
+    {
+        match self.certifier.finish_step(tx) {
+            Ok(()) => {}
+            Err(_) => unreachable!(),
+        }
+        self.running[slot] = None;
+    }
+}
+
+// Whether the open step's transaction is decided.
+fn is_ruled(step: &Option<Open>) -> bool
+    ensures { IsTrue result ↔ IsRuled step.now }
+{
+    match step {
+        Some(open) => match open.phase {
+            Phase::Gathering(_) => false,
+            _ => true,
+        },
+        None => false,
+    }
+}
+
+// The edges that are gathered.
+fn edges_of(alloc: Global, step: Option<Open>) -> EdgeList
+    ensures { result ≡ edges_in step }
+{
+    match step {
+        Some(open) => match open.phase {
+            Phase::Gathering(edges) => edges,
+            _ => EdgeList::new(alloc),
+        },
+        None => EdgeList::new(alloc),
+    }
+}
+
+// Decides the transaction at a place of the table, with room for its installs. It errs for want of memory alone.
+fn rule(
+    certifier: &mut Certifier,
+    table: &[Option<Running>],
+    slot: usize,
+    edges: &EdgeList,
+) -> Result<Decided, CertifierFault>
+    requires slot { (r : ARunning) × (slice_get table.now slot ≡ Some (Some r)) }
+    requires may { MayRuleAt certifier.old.state table.now slot edges.now }
+    ensures ok { IfOk result
+        (λ decided. RulesAt certifier.old certifier.new table.now slot edges.now decided) }
+    ensures err { OnErr result (certifier.new.state ≡ certifier.old.state) }
+    ensures memory { IfErr result (λ f. f ≡ CertifierFault.Memory) }
+{
+    match &table[slot] {
+        Some(running) => {
+            if let Err(fault) = certifier.expect(running.handle, &running.draft) {
+                return Err(fault);
+            }
+            let _history = certifier.history();
+            certifier.decide_allowed(running.handle, edges)
+        }
+        None => unreachable!(),
+    }
+}
+
+fn phase_of(decided: &Decided) -> Phase
+    ensures { result ≡ phase_after decided.now }
+{
+    match decided {
+        Decided::Committed { .. } => Phase::Committed,
+        Decided::Refused { .. } => Phase::Refused,
+    }
+}
+
+fn reply_of(decided: &Decided) -> Reply
+    ensures { result ≡ reply_after decided.now }
+{
+    match decided {
+        Decided::Committed { .. } => Reply::Yes,
+        Decided::Refused { .. } => Reply::No,
+    }
+}
+
+// Whether a block of the open step is still due.
+pub(crate) fn is_due(places: &[Place]) -> bool
+    ensures { IsTrue result ↔ Any (λ p. p.part ≡ Due) places.now }
+{
+    places.iter().any(|place| is_due_at(place))
+}
+
+fn is_due_at(place: &Place) -> bool
+    ensures { IsTrue result ↔ (place.now.part ≡ Due) }
+{
+    match place.part {
+        Part::Due => true,
+        _ => false,
+    }
+}

@@ -1,0 +1,144 @@
+//! The core: a machine of one thread that serves events.
+
+ghost use Rattle.std.specs.Prelude.{◌≡◌, ◌≢◌, ◌≤◌, [], length, IfOk, IfErr, OnOk, OnErr};
+ghost use Rattle.sgt_names.specs.Limits.{max_sites};
+ghost use Rattle.sgt_cert.specs.Valid.{IsValid};
+ghost use Rattle.sgt_core_model.specs.Core.{CoreState, fresh, bundle_of};
+ghost use Rattle.sgt_core_model.specs.Step.{MayStep, MayDecide, Run};
+ghost use Rattle.sgt_core_model.specs.Runs.{AreSites};
+ghost use Rattle.sgt_core_machine.specs.Machine.{StandsFor, Stands, GoesOn, RefusesSites, RefusesBundle};
+
+use crate::machine::Machine;
+use sgt_core_model::{CoreFault, Reply};
+use sgt_cert::Bundle;
+use sgt_names::{Holding, Listed, Tx};
+use sgt_notation::Event;
+use sgt_site::SiteFault;
+use std::alloc::{AllocError, Global};
+use std::marker::Model;
+
+/// Runs transactions over sites, event after event. What it does is what some run of the model does (`StandsFor`): the model
+/// may have edges that the certifier wasn't handed, since neighbours carry them.
+#[derive(Drop)]
+pub struct Core {
+    machine: Machine,
+}
+
+impl Model for Core {
+    ghost use Rattle.sgt_core_machine.specs.Machine.{Parts, parts_of, Stands};
+
+    ghost Value = { Parts };
+
+    ghost view = { λ c. parts_of c.machine };
+
+    ghost invariant = { λ c. Stands (parts_of c.machine) };
+}
+
+impl Core {
+    /// A core over sites with these items, from site 0 on, to which nothing has happened.
+    ///
+    /// - S6: the names of a site's items don't rise, or there are more than 1,024.
+    /// - S4: there was no memory.
+    pub fn new(alloc: Global, sites: &[Listed<Holding>]) -> Result<Core, SiteFault>
+        requires some { 1 ≤ length sites.now }
+        requires few { length sites.now ≤ max_sites }
+        ensures ok { IfOk result (λ core. StandsFor core (fresh sites.now)) }
+        ensures allowed { OnOk result (AreSites sites.now) }
+        ensures refused { IfErr result (RefusesSites sites.now) }
+    {
+        let machine = Machine::new(alloc, sites)?;
+        Ok(Core { machine })
+    }
+
+    /// Serves an event, or refuses it: E1 to E12, the least number first, and E9 last. What is refused leaves the core as it
+    /// was; after E9 of a gather, a decision or a commit the step is closed as if it had never been opened.
+    pub fn step(&mut self, event: Event) -> Reply
+        ensures { GoesOn (λ c d. MayStep c event result d) self.old self.new }
+    {
+        match event {
+            Event::Begin => self.machine.begin(),
+            Event::Read { tx, site, item } => self.machine.read(tx, site, item),
+            Event::Put {
+                tx,
+                site,
+                item,
+                value,
+            } => self.machine.put(tx, site, item, value),
+            Event::Add {
+                tx,
+                site,
+                item,
+                value,
+            } => self.machine.add(tx, site, item, value),
+            Event::Gather { tx, site } => self.machine.gather(tx, site),
+            Event::Decide { tx } => self.machine.decide(tx),
+            Event::Install { tx, site } => self.machine.install(tx, site),
+            Event::Commit { tx } => self.machine.commit(tx),
+            Event::Withdraw { tx } => self.machine.withdraw(tx),
+            Event::Close => self.machine.close(),
+        }
+    }
+
+    /// Gathers a transaction at each site that it touches, and decides it. It is refused as its commit is.
+    pub fn to_decide(&mut self, tx: Tx) -> Reply
+        ensures { GoesOn (λ c d. MayDecide c tx result d) self.old self.new }
+    {
+        self.machine.to_decide(tx)
+    }
+
+    /// Serves the events, one after another. It errs where there is no memory for the replies, and then nothing was served.
+    pub fn run(&mut self, alloc: Global, events: &[Event]) -> Result<Vec<Reply>, AllocError>
+        ensures run { IfOk result
+            (λ replies. GoesOn (λ c d. Run c events.now replies.items d) self.old self.new) }
+        ensures err { OnErr result (self.new ≡ self.old) }
+    {
+        let mut replies = Vec::new(alloc);
+        replies.reserve(events.len())?;
+        for event in events {
+            replies.push_reserved(self.step(*event));
+        }
+        Ok(replies)
+    }
+
+    /// How many transactions are active. Constant time.
+    pub fn active(&self) -> u64
+        ensures active { (c : CoreState) → StandsFor self.now c
+            → result ≡ length c.certifier.active }
+        ensures stands { Stands self.now }
+    {
+        self.machine.certifier.active()
+    }
+
+    /// The logs with the certificate. It errs with E8 where a transaction is active, and else with E9 where there is no memory.
+    /// Linear in the history and the logs.
+    pub fn bundle(&self, alloc: Global) -> Result<Bundle, CoreFault>
+        ensures ok { IfOk result (λ b. (c : CoreState) → StandsFor self.now c → b ≡ bundle_of c) }
+        ensures valid { IfOk result IsValid }
+        ensures idle { OnOk result
+            ((c : CoreState) → StandsFor self.now c → c.certifier.active ≡ []) }
+        ensures refused { IfErr result
+            (λ f. (c : CoreState) → StandsFor self.now c → RefusesBundle c f) }
+    {
+        let certifier = &self.machine.certifier;
+        if certifier.active() > 0 {
+            return Err(CoreFault::ActiveLeft);
+        }
+        self.machine.bundle(alloc)
+    }
+
+    /// As `bundle`, of a core that is given up, also where it errs: the bundle's logs are the sites' own, and the history is gone
+    /// once there is a certificate.
+    pub fn into_bundle(self, alloc: Global) -> Result<Bundle, CoreFault>
+        ensures ok { IfOk result (λ b. (c : CoreState) → StandsFor self c → b ≡ bundle_of c) }
+        ensures valid { IfOk result IsValid }
+        ensures idle { OnOk result ((c : CoreState) → StandsFor self c → c.certifier.active ≡ []) }
+        ensures refused { IfErr result
+            (λ f. (c : CoreState) → StandsFor self c → RefusesBundle c f) }
+    {
+        let Core { machine } = self;
+        if machine.certifier.active() > 0 {
+            return Err(CoreFault::ActiveLeft);
+        }
+        machine.into_bundle(alloc)
+    }
+}

@@ -1,0 +1,14 @@
+//! The certifier and its sites, driven by one thread.
+#![tactic(auto)]
+
+mod bundling;
+mod deciding;
+mod driver;
+mod gathering;
+mod installing;
+mod looking;
+mod machine;
+mod whole;
+mod withdrawing;
+
+pub use driver::Core;

@@ -1,0 +1,196 @@
+//! A transaction is committed or refused as a whole: gathered at each site that it touches, decided, and its block written there.
+
+ghost use Rattle.std.specs.Prelude.{◌≡◌, ◌<◌, ◌≤◌, false, Some, None, length, get_or, slice_get, All, Any, IfOk, IfErr, OnOk, OnErr};
+ghost use Rattle.sgt_names.specs.Draft.{IsUsed, Touches};
+ghost use Rattle.sgt_names.specs.Limits.{max_sites};
+ghost use Rattle.sgt_notation.specs.declared.event.Event.TheVariants as event;
+ghost use Rattle.sgt_core_model.specs.Core.{CoreState};
+ghost use Rattle.sgt_core_model.specs.Step.{MayStep, MayDecide};
+ghost use Rattle.sgt_core_machine.specs.Machine.{parts_of, StandsFor, Stands, GoesOn};
+ghost use Rattle.sgt_core_machine.specs.private.Whole.{AreFlags, AreTouched, Marks, IsWhole, RefusesWhole, GathersAll, AwaitsBlocks, DecidesWhole, InstallsAll};
+ghost use Rattle.sgt_core_machine.specs.declared.machine.Running.{Running as ARunning};
+
+use crate::machine::{Machine, Running, refused};
+use sgt_core_model::{CoreFault, Reply};
+use sgt_names::{Draft, Part, SiteNo, Touch, Tx};
+use std::alloc::AllocError;
+use std::mem;
+
+impl Machine {
+    /// The transaction is committed or refused, as a whole.
+    pub(crate) fn commit(&mut self, tx: Tx) -> Reply
+        requires { Stands (parts_of self.old) }
+        ensures { GoesOn (λ c d. MayStep c (event.Commit tx) result d) (parts_of self.old)
+            (parts_of self.new) }
+    {
+        let mut sites = mem::replace(&mut self.sites, Vec::new(self.alloc));
+        match self.whole_sites(tx, &mut sites) {
+            Ok(()) => {}
+            Err(fault) => return refused(fault),
+        }
+        match self.decide_whole(tx, sites.as_slice()) {
+            Reply::Fault { fault } => refused(fault),
+            verdict => {
+                self.install_all(tx, sites.as_slice());
+                self.sites = sites;
+                verdict
+            }
+        }
+    }
+
+    /// The transaction is gathered wherever it touches, and decided.
+    pub(crate) fn to_decide(&mut self, tx: Tx) -> Reply
+        requires { Stands (parts_of self.old) }
+        ensures { GoesOn (λ c d. MayDecide c tx result d) (parts_of self.old) (parts_of self.new) }
+    {
+        let mut sites = Vec::new(self.alloc);
+        match self.whole_sites(tx, &mut sites) {
+            Ok(()) => self.decide_whole(tx, sites.as_slice()),
+            Err(fault) => refused(fault),
+        }
+    }
+
+    // Lists the sites that a transaction touches that may be committed.
+    fn whole_sites(&self, tx: Tx, sites: &mut Vec<SiteNo>) -> Result<(), CoreFault>
+        requires { Stands (parts_of self.now) }
+        ensures ok { OnOk result
+            ((c : CoreState) → StandsFor (parts_of self.now) c
+            → IsWhole c tx sites.new.items) }
+        ensures err { IfErr result
+            (λ f. (c : CoreState) → StandsFor (parts_of self.now) c → RefusesWhole c tx f) }
+    {
+        let slot = match self.slot_of(tx) {
+            Ok(slot) => slot,
+            Err(fault) => return Err(fault),
+        };
+        if self.step.is_some() {
+            return Err(CoreFault::StepOpen);
+        }
+        match touched_sites(sites, self.running.as_slice(), slot, self.places.len()) {
+            Ok(()) => Ok(()),
+            Err(_) => Err(CoreFault::Memory),
+        }
+    }
+
+    // Gathers the transaction at each of its sites, and decides it.
+    fn decide_whole(&mut self, tx: Tx, sites: &[SiteNo]) -> Reply
+        requires stands { Stands (parts_of self.old) }
+        requires whole { (c : CoreState) → StandsFor (parts_of self.old) c
+            → IsWhole c tx sites.now }
+        ensures { GoesOn (λ c d. DecidesWhole c tx sites.now result d) (parts_of self.old)
+            (parts_of self.new) }
+    {
+        match self.gather_all(tx, sites) {
+            Ok(()) => self.decide(tx),
+            Err(_) => refused(CoreFault::Memory),
+        }
+    }
+
+    // Gathers the transaction at each of its sites. It errs for want of memory alone, and the step is closed then.
+    fn gather_all(&mut self, tx: Tx, sites: &[SiteNo]) -> Result<(), AllocError>
+        requires stands { Stands (parts_of self.old) }
+        requires whole { (c : CoreState) → StandsFor (parts_of self.old) c
+            → IsWhole c tx sites.now }
+        ensures ok { OnOk result
+            (GoesOn (λ c d. GathersAll c tx sites.now d) (parts_of self.old) (parts_of self.new)) }
+        ensures err { OnErr result
+            (GoesOn (λ c d. d ≡ record c { step = None }) (parts_of self.old) (parts_of self.new)) }
+    {
+        for site in sites {
+            match self.gather(tx, *site) {
+                Reply::Gathered => {}
+                _ => return Err(AllocError),
+            }
+        }
+        Ok(())
+    }
+
+    // Writes the blocks that are due of the transaction at these sites.
+    fn install_all(&mut self, tx: Tx, sites: &[SiteNo])
+        requires { Stands (parts_of self.old) }
+        ensures { (c : CoreState) → StandsFor (parts_of self.old) c → AwaitsBlocks c tx sites.now
+            → (d : CoreState) × InstallsAll c tx sites.now d × StandsFor (parts_of self.new) d }
+    {
+        for site in sites {
+            let _installed = self.install(tx, *site);
+        }
+    }
+}
+
+// Lists the sites below this number that the transaction at a place of the table touches, rising.
+fn touched_sites(
+    sites: &mut Vec<SiteNo>,
+    table: &[Option<Running>],
+    slot: usize,
+    count: usize,
+) -> Result<(), AllocError>
+    requires slot { slot < length table.now }
+    requires few { count ≤ max_sites }
+    ensures { (r : ARunning) → slice_get table.now slot ≡ Some (Some r)
+        → OnOk result (AreTouched r.draft.touched count sites.new.items) }
+{
+    let flags = flags_at(table, slot);
+    sites.clear();
+    for number in 0..count {
+        if is_set(&flags, number) {
+            let Ok(site) = SiteNo::new(number as u64) else {
+                unreachable!();
+            };
+            sites.push(site)?;
+        }
+    }
+    Ok(())
+}
+
+// Whether the flag of the site of this number is set.
+fn is_set(flags: &[bool; 64], number: usize) -> bool
+    requires { number < 64 }
+    ensures { result ≡ get_or flags.now number false }
+{
+    flags[number]
+}
+
+// Which sites the transaction at a place of the table touches.
+fn flags_at(table: &[Option<Running>], slot: usize) -> [bool; 64]
+    requires { slot < length table.now }
+    ensures { (r : ARunning) → slice_get table.now slot ≡ Some (Some r)
+        → AreFlags result r.draft.touched }
+{
+    match &table[slot] {
+        Some(running) => flags_of(&running.draft),
+        None => [false; 64],
+    }
+}
+
+// Which sites the draft touches.
+fn flags_of(draft: &Draft) -> [bool; 64]
+    ensures { AreFlags result draft.now.touched }
+{
+    let mut flags = [false; 64];
+    let (few, parts) = draft.touched();
+    mark_all(&mut flags, few);
+    mark_parts(&mut flags, parts);
+    flags
+}
+
+// Sets the flags of the sites of these parts.
+fn mark_parts(flags: &mut [bool; 64], parts: &[Part])
+    requires long { length flags.old ≡ 64 }
+    ensures { Marks flags.old flags.new (λ s. Any (λ p. Touches p.touched s) parts.now) }
+{
+    for part in parts {
+        mark_all(flags, part.touched());
+    }
+}
+
+// Sets the flags of the sites of these items.
+fn mark_all(flags: &mut [bool; 64], touched: &[Touch])
+    requires long { length flags.old ≡ 64 }
+    requires used { All IsUsed touched.now }
+    ensures marks { Marks flags.old flags.new (Touches touched.now) }
+    ensures long { length flags.new ≡ 64 }
+{
+    for touch in touched {
+        flags[touch.site.number() as usize] = true;
+    }
+}

@@ -1,4 +1,0 @@
-pub mod Input
-pub mod Replay
-pub mod Reply
-pub mod private

@@ -1,4 +1,0 @@
-pub mod Playing
-pub mod Running
-pub mod Stopping
-pub mod Taking
