@@ -11,8 +11,8 @@ ghost use Rattle.sgt_core_machine.specs.declared.machine.Running.{Running as ARu
 
 use crate::gathering::misses;
 use crate::machine::{Machine, Open, Part, Phase, Place, Running, refused};
-use sgt_core_model::{CoreFault, Reply};
 use sgt_certifier::{Certifier, CertifierFault, Decided};
+use sgt_core_model::{CoreFault, Reply};
 use sgt_edges::EdgeList;
 use sgt_names::Tx;
 use std::alloc::Global;

@@ -9,8 +9,8 @@ ghost use Rattle.sgt_core_model.specs.Runs.{AreSites};
 ghost use Rattle.sgt_core_machine.specs.Machine.{StandsFor, Stands, GoesOn, RefusesSites, RefusesBundle};
 
 use crate::machine::Machine;
-use sgt_core_model::{CoreFault, Reply};
 use sgt_cert::Bundle;
+use sgt_core_model::{CoreFault, Reply};
 use sgt_names::{Holding, Listed, Tx};
 use sgt_notation::Event;
 use sgt_site::SiteFault;

@@ -6,8 +6,8 @@ ghost use Rattle.sgt_core_machine.specs.private.Installing.{IsPledgedAt, WritesA
 
 use crate::deciding::is_due;
 use crate::machine::{Machine, Part, Phase, Place, Running, refused};
-use sgt_core_model::{CoreFault, Reply};
 use sgt_certifier::Certifier;
+use sgt_core_model::{CoreFault, Reply};
 use sgt_names::{SiteNo, Tx};
 
 /// What was decided of the open step's transaction.

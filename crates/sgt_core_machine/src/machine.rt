@@ -20,9 +20,9 @@ ghost use Rattle.sgt_core_machine.specs.declared.machine.Running.{Running as ARu
 
 use crate::gathering::{add_edges, edges_at, is_gathered, pledge_at, release_all};
 use crate::looking::look_at;
-use sgt_core_model::{CoreFault, Reply};
 use sgt_arena::{Handle, MAX_PLACES};
 use sgt_certifier::{Certifier, CertifierFault};
+use sgt_core_model::{CoreFault, Reply};
 use sgt_edges::{EdgeFault, EdgeList};
 use sgt_names::{Draft, Holding, Item, Listed, Seen, SiteNo, Tx, Value};
 use sgt_site::{Site, SiteFault};

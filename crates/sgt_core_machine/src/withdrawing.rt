@@ -12,9 +12,9 @@ ghost use Rattle.sgt_core_machine.specs.declared.machine.Running.{Running as ARu
 
 use crate::gathering::release_all;
 use crate::machine::{Machine, Place, Running, refused};
-use sgt_core_model::{CoreFault, Reply};
 use sgt_arena::Handle;
 use sgt_certifier::CertifierFault;
+use sgt_core_model::{CoreFault, Reply};
 use sgt_names::{Draft, Tx};
 use sgt_site::SiteFault;
 use std::alloc::AllocError;

@@ -1,7 +1,7 @@
 //! Readers that fail behind a fault. Readers and writers that fail elsewhere stand in `sgt_rows`.
 
-use sgt_names::{MemSink, MemSource, Outcome};
 use sgt_core::replay;
+use sgt_names::{MemSink, MemSource, Outcome};
 use std::alloc::Global;
 use std::test::Fail;
 

@@ -2,10 +2,9 @@
 //! is there too, and the events behind it go on. Expected answers are those of the table of events and refusals.
 
 use crate::rows::opened;
-use sgt_core::{Core, CoreFault, Event, Reply};
+use sgt_core::{Core, CoreFault, Event, Reply, number_of, write_reply};
 use sgt_names::{Item, SiteNo, Tx};
 use sgt_notation::{EventLine, read_event};
-use sgt_core::{number_of, write_reply};
 use std::alloc::{AllocError, Global};
 use std::test::Fail;
 

@@ -3,10 +3,9 @@
 
 use crate::rows::{ROWS, Row, opened};
 use sgt_cert::Bundle;
-use sgt_core::{Core, CoreFault, Event, Reply};
+use sgt_core::{Core, CoreFault, Event, Reply, write_reply};
 use sgt_names::{Item, SiteNo, Tx};
 use sgt_notation::{EventLine, read_event};
-use sgt_core::write_reply;
 use std::alloc::Global;
 use std::test::Fail;
 

@@ -2,9 +2,9 @@
 
 ghost use Rattle.std.specs.Prelude.{◌<◌};
 
+use sgt_core::{Reading, read_input};
 use sgt_names::MemSource;
 use sgt_notation::NotationFault;
-use sgt_core::{Reading, read_input};
 use std::alloc::{AllocError, Global};
 use std::test::Fail;
 

@@ -3,10 +3,9 @@
 ghost use Rattle.std.specs.Prelude.{◌≤◌};
 ghost use Rattle.sgt_names.specs.Limits.{max_sites};
 
-use sgt_core::Core;
+use sgt_core::{Core, Reading, read_input};
 use sgt_names::{Holding, Listed, MemSource};
 use sgt_notation::SiteLine;
-use sgt_core::{Reading, read_input};
 use std::alloc::{AllocError, Global};
 
 /// A worked row: sites and events, and what is written of them.
