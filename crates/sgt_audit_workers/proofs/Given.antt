@@ -17,10 +17,6 @@ use Rattle.sgt_audit_workers.specs.private.Texts.{AreAhead, FailsBehind, HasSpen
 
 -- ---- one section
 
--- told nothing, and so far
-pub behind-none : (text : Text) (left : Option (List ℕ)) → IsBehind None text left
-behind-none text left = record { front = []; read = tt; ended = λ ends. tt }
-
 pub cut-reads : (old new : Option (List ℕ)) (ends : Bool) (section : List ℕ) → IsCut old ends section new → Consumes old new section
 cut-reads None new ends section cut = tt
 cut-reads (Some bytes) new true section cut = cut

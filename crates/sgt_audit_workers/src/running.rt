@@ -1,6 +1,6 @@
 //! A section that is judged in a thread of its own.
 
-ghost use Rattle.std.specs.Prelude.{◌≡◌, ◌<◌, IfOk};
+ghost use Rattle.std.specs.Prelude.{◌<◌, IfOk};
 ghost use Rattle.std.specs.Arc.{arc_value};
 ghost use Rattle.sgt_audit_workers.specs.Head.{IsHead};
 ghost use Rattle.sgt_audit_workers.specs.declared.head.Head.{Head};
