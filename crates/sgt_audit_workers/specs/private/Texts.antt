@@ -32,7 +32,8 @@ pub record IsNextSection (told old : Option (List ℕ)) (section : Section) (new
 abbrev pub AreAhead : (told old : Option (List ℕ)) → List Section → Option (List ℕ) → Type 0
 AreAhead told old [] new = Consumes old new []
 AreAhead told old (section ∷ ahead) new = (next : Option (List ℕ))
-    × IsNextSection told old section next × (section.bytes.items ≢ []) × AreAhead told next ahead new
+    × IsNextSection told old section next × (section.bytes.items ≢ [])
+    × AreAhead told next ahead new
 
 -- the section came next, and behind it these
 abbrev pub IsFirstAhead : (told old : Option (List ℕ)) → Section → List Section

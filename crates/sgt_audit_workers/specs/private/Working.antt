@@ -23,7 +23,8 @@ pub record SameWorkers (old new : Workers) : Type 0 where
   pub count : new.count ≡ old.count
 
 -- so far the text has no fault; or this is the verdict on it
-abbrev pub GoesOn : {X : Type 0} → (told left : Option (List ℕ)) → Workers → Result X Verdict → Type 0
+abbrev pub GoesOn : {X : Type 0} → (told left : Option (List ℕ)) → Workers → Result X Verdict
+    → Type 0
 GoesOn told left w (Ok x) = Works told left w
 GoesOn told left w (Err v) = IfSome told (λ bytes. IsVerdict bytes v)
 
