@@ -53,5 +53,6 @@ pub fn run<L: Ledger + Send + Sync, G: Gate + Sync, R: Threads + Wait + Sync>(
         service,
         tries,
     };
-    pool(rt, alloc, scripts, seats, &runner)
+    let (dones, seats) = pool(rt, alloc, scripts, seats, &runner)?;
+    Ok((dones, seats))
 }
