@@ -6,8 +6,9 @@ use crate::progress::Progress;
 use sgt_names::{Failed, Sink};
 use std::alloc::Global;
 use std::cell::Cell;
+use std::fs::File;
 use std::io;
-use std::io::{Read, Write};
+use std::io::{Read, Stdin, Write};
 
 // How often a read or a write that a signal interrupts is begun: so often that it never gives up.
 const TRIES: u64 = u64::MAX;
@@ -36,6 +37,32 @@ impl Hush {
     pub(crate) fn note(&self, why: &io::Error) {
         if why.kind() == io::ErrorKind::BrokenPipe {
             self.is_set.set(true);
+        }
+    }
+}
+
+/// What is read.
+#[derive(Drop)]
+pub enum Input {
+    Standard(Stdin),
+    File(File),
+}
+
+impl Input {
+    /// What it is called, which has this name if it is a file.
+    pub(crate) fn name<'a>(&self, file: &'a str) -> &'a str {
+        match self {
+            Input::Standard(_) => "standard input",
+            Input::File(_) => file,
+        }
+    }
+}
+
+impl Read for Input {
+    fn read(&mut self, buffer: &mut [u8]) -> io::Result<usize> {
+        match self {
+            Input::Standard(input) => input.read(buffer),
+            Input::File(file) => file.read(buffer),
         }
     }
 }

@@ -7,14 +7,14 @@ mod line;
 mod progress;
 
 use crate::answers::{cut, has_refusal};
-use crate::devices::{Held, Hush, LastWords, Retrying, Steady};
+use crate::devices::{Held, Hush, Input, LastWords, Retrying, Steady};
 use crate::line::Line;
 use crate::progress::Progress;
 use sgt_names::{EngineFail, FromRead, MemSink, Sink, ToWrite, write_all};
 use sgt_program::{give_up, program, refuse_words};
 use sgt_words::choose;
 use std::fs::File;
-use std::io::{IsTerminal, Read, Write};
+use std::io::{IsTerminal, Write};
 use std::process::ExitCode;
 use std::sync::Wait;
 use std::thread::Threads;
@@ -42,22 +42,44 @@ fn refuse_file(rt: &HostRuntime, name: &str, why: &io::Error) -> u8 {
     4
 }
 
-// Runs the program over a reader and a writer, and gives the status.
-fn over<H: Threads + Wait + Sync, R: Read + Drop, W: Sink>(
+// Standard input or a file; the words are judged before the file is opened.
+fn open<H>(host: &Host<'_, H>, words: &[String], name: &str) -> io::Result<Input> {
+    let rt = host.rt;
+    let is_command = choose(rt.alloc(), words).is_ok();
+    if name != "-" && is_command {
+        return Ok(Input::File(File::open(rt, name)?));
+    }
+    let input = rt.stdin();
+    if let Some(text) = host.awaits {
+        if is_command && input.is_terminal() {
+            let _ = eprintln!(rt;
+                "sgt: waiting for {text} from the terminal, which Ctrl-D ends; sgt --help says more"
+            );
+        }
+    }
+    Ok(Input::Standard(input))
+}
+
+// Runs the program over standard input or a file and a writer, and gives the status.
+fn over<H: Threads + Wait + Sync, W: Sink>(
     host: &Host<'_, H>,
     words: &[String],
     name: &str,
-    inner: R,
     writer: &mut W,
 ) -> u8 {
     let rt = host.rt;
+    let input = match open(host, words, name) {
+        Ok(input) => input,
+        Err(why) => return refuse_file(rt, name, &why),
+    };
     let progress = if host.tells_lines {
         Some(Progress::new(rt))
     } else {
         None
     };
     host.hush.lift();
-    let mut steady = Steady::new(inner, progress, host.hush);
+    let name = input.name(name);
+    let mut steady = Steady::new(input, progress, host.hush);
     let mut errors = ToWrite::new(LastWords::new(rt.stderr(), host.hush));
     let status = {
         let mut reader = FromRead::new(&mut steady);
@@ -76,32 +98,6 @@ fn over<H: Threads + Wait + Sync, R: Read + Drop, W: Sink>(
     }
 }
 
-// The same over standard input or a file; the words are judged before the file is opened.
-fn over_file<H: Threads + Wait + Sync, W: Sink>(
-    host: &Host<'_, H>,
-    words: &[String],
-    name: &str,
-    writer: &mut W,
-) -> u8 {
-    let rt = host.rt;
-    let is_command = choose(rt.alloc(), words).is_ok();
-    if name == "-" || !is_command {
-        let input = rt.stdin();
-        if let Some(text) = host.awaits {
-            if is_command && input.is_terminal() {
-                let _ = eprintln!(rt;
-                    "sgt: waiting for {text} from the terminal, which Ctrl-D ends; sgt --help says more"
-                );
-            }
-        }
-        return over(host, words, "standard input", input, writer);
-    }
-    match File::open(rt, name) {
-        Ok(file) => over(host, words, name, file, writer),
-        Err(why) => refuse_file(rt, name, &why),
-    }
-}
-
 // A line for each file, its name in front. The status is the greatest.
 fn audit_each<H: Threads + Wait + Sync>(host: &Host<'_, H>, line: &Line) -> Result<u8, EngineFail> {
     let rt = host.rt;
@@ -109,7 +105,7 @@ fn audit_each<H: Threads + Wait + Sync>(host: &Host<'_, H>, line: &Line) -> Resu
     let mut output = ToWrite::new(Retrying::new(rt.stdout(), host.hush));
     for name in &line.files {
         let mut verdict = MemSink::new(rt.alloc(), LINE)?;
-        let found = over_file(host, line.words.as_slice(), name.as_str(), &mut verdict);
+        let found = over(host, line.words.as_slice(), name.as_str(), &mut verdict);
         status = status.max(found);
         if found <= 1 && !line.is_quiet {
             let head = format!(in rt.alloc(); "{name}: ")?;
@@ -154,7 +150,7 @@ fn run_held<H: Threads + Wait + Sync>(
 ) -> Result<u8, EngineFail> {
     let rt = host.rt;
     let mut held = Held::new(rt.alloc());
-    let status = over_file(host, line.words.as_slice(), name, &mut held);
+    let status = over(host, line.words.as_slice(), name, &mut held);
     if held.refused > 0 {
         return Err(EngineFail::Memory);
     }
@@ -181,10 +177,10 @@ fn run_line<H: Threads + Wait + Sync>(host: &Host<'_, H>, line: &Line) -> Result
     }
     if line.is_quiet && choose(rt.alloc(), line.words.as_slice()).is_ok() {
         let mut verdict = MemSink::new(rt.alloc(), LINE)?;
-        return Ok(over_file(host, line.words.as_slice(), name, &mut verdict));
+        return Ok(over(host, line.words.as_slice(), name, &mut verdict));
     }
     let mut output = ToWrite::new(Retrying::new(rt.stdout(), host.hush));
-    Ok(over_file(host, line.words.as_slice(), name, &mut output))
+    Ok(over(host, line.words.as_slice(), name, &mut output))
 }
 
 // The words of the command line, or the status where they can't be had.
