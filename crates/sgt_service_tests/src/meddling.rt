@@ -96,6 +96,20 @@ fn exchange<L: Ledger, G: Gate, R: Wait>(
     }
 }
 
+// What became of the scripts, where there is a seat to run them by.
+fn run_by<L: Ledger + Send + Sync, G: Gate + Sync, R: Threads + Wait + Sync>(
+    rt: &R,
+    alloc: Global,
+    service: &Service<L, G>,
+    seats: Vec<Seat<L>>,
+    scripts: &[Script],
+) -> Option<Result<(Vec<Done>, Vec<Seat<L>>), PoolFail<ServiceFault>>> {
+    if seats.is_empty() {
+        return None;
+    }
+    Some(run(rt, alloc, service, seats, scripts, 1))
+}
+
 // How a run with the first of two seats ends, settled with both; its callers were told what they were told, or this. None: it came to
 // no end.
 fn ended<L: Ledger + Send + Sync, R: Threads + Wait + Sync>(
@@ -122,16 +136,13 @@ fn ended<L: Ledger + Send + Sync, R: Threads + Wait + Sync>(
     );
     let (service, mut seats) = Service::<L, _>::new(alloc, blank, sites, 2, &gate).ok()?;
     let second = seats.pop()?;
-    if seats.is_empty() {
-        return None;
-    }
     let ours = &service;
     let (ran, ()) = join(
         rt,
-        move || run(rt, alloc, ours, seats, scripts, 1),
+        move || run_by(rt, alloc, ours, seats, scripts),
         || meddle(rt, ours, does, nowhere),
     );
-    match ran {
+    match ran? {
         Ok((dones, mut seats)) => {
             let is_exchanged = exchange(rt, &service, exchanged);
             if seats.push(second).is_err() || !is_exchanged {
