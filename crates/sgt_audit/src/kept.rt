@@ -57,8 +57,8 @@ impl Kept {
         }
     }
 
-    /// Whether the entry of which this is known can be taken in at once: without memory, and where the sections aren't kept. Nothing
-    /// need be known of it: where it says so, what comes next needs no other way.
+    /// Whether the entry of which this is known is taken in without room being made for what is kept of it. Nothing need be known of
+    /// it: it chooses between two ways that answer the same.
     #[inline(always)]
     fn is_plain(&self, known: &Known) -> bool {
         match known.ruling.number {
