@@ -1,51 +1,32 @@
--- The decisions of a history, call by call, and their ranks.
-use Rattle.std.proofs.Common.{◌≡◌, ◌≢◌, ◌<◌, ◌≤◌, ◌+◌, ℕ, suc, List, [], ◌∷◌, ◌++◌, length, map, refl, sym, ◌∙◌, ap, subst, arith, add-one, append_assoc, inl, inr, All, AllPairs, Contains, Some}
+-- Decisions and their ranks.
+use Rattle.std.proofs.Common.{◌≡◌, ◌≢◌, ◌<◌, ◌≤◌, ℕ, suc, List, [], ◌∷◌, ◌++◌, length, map, refl, sym, ◌∙◌, ap, subst, arith, inl, inr, All, AllPairs, Contains, Some}
 use Rattle.std.specs.Prelude.{slice_get, slice_index}
-use Rattle.std.proofs.lemmas.List.{map-append}
 use Rattle.std.proofs.lemmas.Option.{get_or_from_slice_get}
 use Rattle.std.proofs.lemmas.List.Elements.{Contains-append_cases}
 use Rattle.sgt_names.proofs.Places.{All-from_at, All_at, Contains_at, Contains-from_at}
 use Rattle.sgt_cert.specs.declared.certificate.Decision.{Decision}
 use Rattle.sgt_cert.specs.declared.certificate.Decision.TheVariants as decision
-use Rattle.sgt_certifier.specs.declared.call.Call.{Call}
-use Rattle.sgt_certifier.specs.declared.call.Call.TheVariants as call
 use Rattle.sgt_certifier.specs.Certifier.{State, Ruling, committed, refused, withdrawn, ruled, serial, ranked, place_in}
 use Rattle.sgt_certifier.specs.Sound.{IsSoundCertifier, IsRuled}
-use Rattle.sgt_certifier.specs.Kept.{rulings_from, windows_after, with_rank_in}
-use Rattle.sgt_certifier.proofs.Members.{place_left, place_right, cons_here, cons_later}
+use Rattle.sgt_certifier.specs.declared.ranking.Ruled.{Ruled}
+use Rattle.sgt_certifier.specs.Judged.{ruling_from}
+use Rattle.sgt_certifier.specs.Kept.{with_rank_in}
+use Rattle.sgt_certifier.proofs.Members.{cons_here, cons_later}
 use Rattle.sgt_certifier.proofs.Keeping.{distinct-append}
 use Rattle.sgt_certifier.proofs.Installs.{distinct_few}
-use Rattle.sgt_certifier.proofs.Ruling.{place_in_at}
-
--- the decisions of a call and of those after it
-pub rulings_split : (begun before : ℕ) (c : Call) (cs : List Call) → rulings_from begun before (c ∷ cs) ≡ rulings_from 0 before (c ∷ []) ++ rulings_from (windows_after begun before c).0 (windows_after begun before c).1 cs
-rulings_split begun before (call.Begin tx h) cs = ap (λ k. rulings_from k before cs) (sym (add-one begun))
-rulings_split begun before (call.Decide h edges reply) cs = refl
-rulings_split begun before (call.Finish tx) cs = refl
-rulings_split begun before (call.Withdraw h number) cs = refl
-rulings_split begun before (call.Close ranks) cs = refl
-rulings_split begun before (call.Installed tx site items) cs = refl
-
-pub windows_few : (begun before : ℕ) (c : Call) → (windows_after begun before c).0 ≤ begun + 1
-windows_few begun before (call.Begin tx h) = omega arith
-windows_few begun before (call.Decide h edges reply) = omega arith
-windows_few begun before (call.Finish tx) = omega arith
-windows_few begun before (call.Withdraw h number) = omega arith
-windows_few begun before (call.Close ranks) = omega arith
-windows_few begun before (call.Installed tx site items) = omega arith
-
-pub made_next : (f : Ruling → Decision) (old new : List Decision) (first rest whole : List Ruling) (all : List Decision) → whole ≡ first ++ rest → new ≡ old ++ map f first → old ++ map f whole ≡ all → new ++ map f rest ≡ all
-made_next f old new first rest whole all split pushed made =
-    ap (λ z. z ++ map f rest) pushed ∙ (append_assoc old (map f first) (map f rest) ∙ (ap (λ z. old ++ z) (sym (map-append f first rest)) ∙ (ap (λ z. old ++ map f z) (sym split) ∙ made)))
+use Rattle.sgt_certifier.proofs.Ruling.{place_in_at, place_map}
 
 abbrev IsBelow : ℕ → Ruling → Type 0
 IsBelow n r = ruled r < n
 
-pub below_first : (n : ℕ) (first rest whole : List Ruling) → whole ≡ first ++ rest → All (λ r. ruled r < n) whole → All (λ r. ruled r < n) first
-below_first n first rest whole split all = All-from_at (IsBelow n) first (λ k r at. All_at (IsBelow n) (first ++ rest) k r (subst (All (IsBelow n)) split all) (place_left first rest k r at))
+-- ---- the rulings as they are kept
 
-pub below_rest : (n : ℕ) (first rest whole : List Ruling) → whole ≡ first ++ rest → All (λ r. ruled r < n) whole → All (λ r. ruled r < n) rest
-below_rest n first rest whole split all = All-from_at (IsBelow n) rest (λ k r at. All_at (IsBelow n) (first ++ rest) (length first + k) r (subst (All (IsBelow n)) split all) (place_right first rest k r at))
+pub map_from : (f : Ruling → Decision) (xs : List Ruled) → map (λ r. f (ruling_from r)) xs ≡ map f (map ruling_from xs)
+map_from f [] = refl
+map_from f (x ∷ xs) = ap (λ ys. f (ruling_from x) ∷ ys) (map_from f xs)
+
+pub below_from : (n : ℕ) (xs : List Ruled) → All (λ r. ruled r < n) (map ruling_from xs) → All (λ r. ruled (ruling_from r) < n) xs
+below_from n xs all = All-from_at (λ r. ruled (ruling_from r) < n) xs (λ k r at. All_at (λ r. ruled r < n) (map ruling_from xs) k (ruling_from r) all (place_map ruling_from xs k r at))
 
 -- ---- the table of the ranks
 

@@ -1,4 +1,4 @@
--- The installs of a history, and the sites that are noted in the open step.
+-- The installs of a history.
 use Rattle.std.proofs.Common.{◌≡◌, ◌≢◌, ◌<◌, ◌≤◌, ◌+◌, ℕ, suc, true, false, eqb, List, [], ◌∷◌, ◌++◌, length, get_or, refl, sym, ◌∙◌, ap, subst, arith, inl, inr, All, AllPairs, Any, Contains, Some, None}
 use Rattle.std.specs.Prelude.{filter, ◌↔◌}
 use Rattle.std.specs.List.{list_any, filter_map}
@@ -12,13 +12,11 @@ use Rattle.std.proofs.lemmas.Map.Keys.{IsDistinct-from_apart}
 use Rattle.std.proofs.lemmas.Map.Steps.{length-le_from_distinct_below}
 use Rattle.std.proofs.lemmas.List.Elements.{Contains-append_cases, Contains-append_left, Contains-append_right, filter_map-append, filter-append}
 use Rattle.sgt_names.proofs.Places.{All-from_at, All_at}
-use Rattle.sgt_names.specs.Limits.{max_sites}
 use Rattle.sgt_names.specs.Name.{Name}
 use Rattle.sgt_certifier.specs.Certifier.{State, Arc, Install, committed, Commits, opening, serial, with_install}
 use Rattle.sgt_certifier.specs.History.{IsNoted, install_in, installs_in, changes_item, counted}
 use Rattle.sgt_certifier.specs.declared.call.Call.{Call}
 use Rattle.sgt_certifier.specs.declared.call.Call.TheVariants as call
-use Rattle.sgt_certifier.specs.Kept.{AreNoted}
 use Rattle.sgt_certifier.specs.Sound.{IsRuled, IsInstalled, AreTwice}
 use Rattle.sgt_certifier.proofs.Members.{cons_cases, cons_here, cons_later, nil_none, placed_old}
 use Rattle.sgt_certifier.proofs.Ruling.{AllPairs-push, push_cases}
@@ -69,79 +67,7 @@ none_noted s i site ruled h idle active noted =
     let open_i = ruled.ended r.0 (committed i) r.1 active in
     absurd (let f : None ≡ Some i = sym idle ∙ open_i in cc)
 
--- ---- the sites that are noted in the open step
-
-pub same_noted : (s t : State) (sites : List ℕ) → t.step ≡ s.step → t.installs ≡ s.installs → AreNoted s sites → AreNoted t sites
-same_noted s t sites step installs h = record {
-  sites = λ u open_u site. subst (λ xs. Contains sites site ↔ Any (λ (x : Install). (x.tx ≡ u) × (x.site ≡ site)) xs) (sym installs) (h.sites u (sym step ∙ open_u) site);
-  closed = λ none. h.closed (sym step ∙ none);
-  below = h.below;
-  once = h.once;
-}
-
-pub opened_noted : (s t : State) (i : ℕ) (sites : List ℕ) → IsRuled s → IsInstalled s → s.step ≡ None → Contains s.active i → t.step ≡ Some i → t.installs ≡ s.installs → AreNoted s sites → AreNoted t sites
-opened_noted s t i sites ruled installed idle active step installs h = record {
-  sites = λ u open_u site. (
-    λ c. absurd (nil_none site (subst (λ xs. Contains xs site) (h.closed idle) c)),
-    λ noted.
-        let same : u ≡ i = same_Some u i (sym open_u ∙ step) in
-        let was : IsNoted s i site = subst (λ v. IsNoted s v site) same (subst (Any (λ (x : Install). (x.tx ≡ u) × (x.site ≡ site))) installs noted) in
-        absurd (none_noted s i site ruled installed idle active was),
-  );
-  closed = λ none. absurd (let f : Some i ≡ None = sym step ∙ none in cc);
-  below = h.below;
-  once = h.once;
-}
-
-pub ended_noted : (t : State) → t.step ≡ None → AreNoted t []
-ended_noted t idle = record {
-  sites = λ u open_u site. absurd (let f : None ≡ Some u = sym idle ∙ open_u in cc);
-  closed = λ none. refl;
-  below = λ k d lt. absurd (omega (arith, lt));
-  once = λ i j d lt within. absurd (omega (arith, within));
-}
-
-abbrev IsOf : ℕ → ℕ → Install → Type 0
-IsOf i site x = (x.tx ≡ i) × (x.site ≡ site)
-
-pub added_noted : (s t : State) (i site : ℕ) (items : List Name) (sites : List ℕ) → s.step ≡ Some i → t ≡ with_install s i site items → site < max_sites → (IsNoted s i site → ⊥) → AreNoted s sites → AreNoted t (sites ++ site ∷ [])
-added_noted s t i site items sites step after below new h =
-    let one : Install = record { tx = i; site = site; items = items } in
-    subst (λ v. AreNoted v (sites ++ site ∷ [])) (sym after) (record {
-      sites = λ u open_u k.
-          let same : i ≡ u = same_Some i u (sym step ∙ open_u) in
-          let old = h.sites u open_u k in (
-            λ c. elim (Contains-append_cases sites (site ∷ []) k c) [
-              | inl was ↦
-                  let m = old.0 was in
-                  let left = Contains-append_left s.installs (one ∷ []) m.1 (m.0, m.2, m.3) in
-                  (left.0, m.1, left.1, left.2, m.4)
-              | inr last ↦ elim (cons_cases site [] k last) [
-                | inl e ↦
-                    let right = Contains-append_right s.installs (one ∷ []) one (cons_here one []) in
-                    (right.0, one, right.1, right.2, (same, e))
-                | inr none ↦ absurd (nil_none k none)
-              ]
-            ],
-            λ m. elim (Contains-append_cases s.installs (one ∷ []) m.1 (m.0, m.2, m.3)) [
-              | inl was ↦ Contains-append_left sites (site ∷ []) k (old.1 (was.0, m.1, was.1, was.2, m.4))
-              | inr last ↦ elim (cons_cases one [] m.1 last) [
-                | inl e ↦
-                    let at : site ≡ k = ap (λ (x : Install). x.site) e ∙ m.4.1 in
-                    Contains-append_right sites (site ∷ []) k (subst (Contains (site ∷ [])) at (cons_here site []))
-                | inr none ↦ absurd (nil_none m.1 none)
-              ]
-            ],
-          );
-      closed = λ none. absurd (let f : Some i ≡ None = sym step ∙ none in cc);
-      below = All-from_at (λ k. k < max_sites) (sites ++ site ∷ []) (λ n k at_n. elim (push_cases sites site n k at_n) [
-        | inl was ↦ All_at (λ k. k < max_sites) sites n k h.below was
-        | inr last ↦ omega (arith, below, last.1)
-      ]);
-      once = AllPairs-push (λ a b. a ≢ b) sites site h.once (λ k c same. new ((h.sites i step site).0 (subst (Contains sites) same c)));
-    })
-
--- ---- there are no more noted sites than there are sites
+-- ---- how many numbers there are
 
 below_any : (n q : ℕ) (xs : List ℕ) → All (λ k. k < n) xs → list_any (eqb q) xs ≡ true → q < n
 below_any n q [] all hit = absurd (true≢false (sym hit))
@@ -160,9 +86,6 @@ pub distinct_few : (n : ℕ) (xs : List ℕ) → AllPairs (λ a b. a ≢ b) xs �
 distinct_few n xs once below =
     length-le_from_distinct_below xs n (IsDistinct-from_apart eqb xs (λ i j d lt within. ne_eqb (get_or xs i d) (get_or xs j d) (once i j d lt within)))
     (λ q hit. below_any n q xs below hit)
-
-pub noted_few : (s : State) (sites : List ℕ) → AreNoted s sites → length sites ≤ max_sites
-noted_few s sites h = distinct_few max_sites sites h.once h.below
 
 -- ---- counts
 

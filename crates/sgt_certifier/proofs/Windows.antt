@@ -10,6 +10,7 @@ use Rattle.sgt_arena.specs.declared.handle.Handle.{Handle}
 use Rattle.sgt_edges.specs.declared.edge.Edge.{Edge}
 use Rattle.sgt_order.specs.Graph.{IsTopological, IsAcyclic}
 use Rattle.sgt_order.proofs.Handles.{same_handle}
+use Rattle.sgt_certifier.specs.Sound.{IsGoodState}
 use Rattle.sgt_certifier.specs.declared.call.Decided.TheVariants.{Committed, Refused}
 use Rattle.sgt_certifier.specs.declared.call.Call.{Call}
 use Rattle.sgt_certifier.specs.declared.call.Call.TheVariants as call
@@ -20,7 +21,7 @@ use Rattle.sgt_certifier.specs.Handed.{HandsAt, HandsFrom, Hands, HandsCommitted
 use Rattle.sgt_certifier.proofs.Members.{AllPairs-append, cons_cases, nil_none, filter_member, member_filter, placed_member, topological_is_acyclic}
 use Rattle.sgt_certifier.proofs.Keeping.{uncommitted}
 use Rattle.sgt_certifier.proofs.Transfer.{contains_map}
-use Rattle.sgt_certifier.proofs.Replaying.{IsGoodState, contains_cases, no_step, open_step, no_active, active_under, serves-good, replays-good}
+use Rattle.sgt_certifier.proofs.Replaying.{contains_cases, no_step, open_step, no_active, active_under, serves-good, replays-good}
 
 -- ---- what begins under a handle
 

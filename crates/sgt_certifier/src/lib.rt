@@ -6,6 +6,7 @@ mod certifier;
 mod counts;
 mod handed;
 mod install;
+mod judge;
 mod laws;
 mod ranking;
 mod row;
@@ -13,6 +14,7 @@ mod row;
 pub use call::{Call, CertifierFault, Decided, Walk};
 pub use certifier::Certifier;
 pub use handed::{HandedEdges, Incident};
+pub use judge::Judge;
 pub use laws::{
     histories_are_sound, installs_are_counted, installs_are_noted_once,
     serial_orders_are_topological,

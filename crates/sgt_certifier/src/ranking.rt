@@ -1,15 +1,23 @@
-//! The decisions of a history, with the ranks of the committed transactions.
+//! Decisions, as they are kept and with the ranks of the committed transactions.
 
 ghost use Rattle.std.specs.Prelude.{◌≡◌, ◌≢◌, ◌<◌, ◌≤◌, ◌+◌, ◌^◌, ℕ, [], ◌∷◌, All, AllPairs, IfOk, Some, length, map, slice_get, vec_len};
-ghost use Rattle.std.specs.Option.{option_to_list};
 ghost use Rattle.sgt_certifier.specs.Certifier.{ruled};
-ghost use Rattle.sgt_certifier.specs.Kept.{ruling_of, rulings_from, windows_after, with_rank_in, tx_at};
+ghost use Rattle.sgt_certifier.specs.Judged.{ruling_from};
+ghost use Rattle.sgt_certifier.specs.Kept.{with_rank_in, tx_at};
 
-use crate::call::{Call, Decided};
+use crate::call::Walk;
 use sgt_arena::Handle;
 use sgt_cert::Decision;
 use sgt_names::{Listed, Tx};
 use std::alloc::{AllocError, Global};
+
+/// A decision, without the rank, which may still move.
+#[derive(Drop)]
+pub enum Ruled {
+    Committed(Tx),
+    Refused(Tx, Walk),
+    Withdrawn(Tx),
+}
 
 // The transaction under a handle of the window, before which so many were begun.
 pub fn tx_of(before: u64, handle: Handle) -> Tx
@@ -37,82 +45,40 @@ pub fn rank_all(ranks: &mut Vec<u32>, serial: &[Tx])
     }
 }
 
-// The decision that a reply tells of a transaction, with its rank in the table.
-fn told(alloc: Global, tx: Tx, reply: &Decided, ranks: &[u32]) -> Result<Decision, AllocError>
-    requires { tx < length ranks.now }
-    ensures { IfOk result (λ d. d ≡ with_rank_in ranks.now (ruling_of tx reply.now)) }
+// A ruling as a decision, with its rank in the table.
+fn decision_of(alloc: Global, ruling: &Ruled, ranks: &[u32]) -> Result<Decision, AllocError>
+    requires { ruled (ruling_from ruling.now) < length ranks.now }
+    ensures { IfOk result (λ d. d ≡ with_rank_in ranks.now (ruling_from ruling.now)) }
 {
-    match reply {
-        Decided::Committed { .. } => Ok(Decision::Commit {
-            tx,
+    match ruling {
+        Ruled::Committed(tx) => Ok(Decision::Commit {
+            tx: *tx,
             rank: ranks[tx.number() as usize],
         }),
-        Decided::Refused { walk, .. } => {
+        Ruled::Refused(tx, walk) => {
             let steps = Vec::from_slice(alloc, walk.as_slice())?;
             Ok(Decision::Refuse {
-                tx,
+                tx: *tx,
                 walk: Listed::new(steps),
             })
         }
+        Ruled::Withdrawn(tx) => Ok(Decision::Withdraw { tx: *tx }),
     }
 }
 
-// The decision of a call, if it is one.
-fn decision_of(
-    alloc: Global,
-    before: u64,
-    call: &Call,
-    ranks: &[u32],
-) -> Result<Option<Decision>, AllocError>
-    requires table { length ranks.now ≤ 2 ^ 32 }
-    requires ranked { All (λ r. ruled r < length ranks.now)
-        (rulings_from 0 before (call.now ∷ [])) }
-    ensures { IfOk result
-        (λ d. option_to_list d
-        ≡ map (with_rank_in ranks.now) (rulings_from 0 before (call.now ∷ []))) }
-{
-    match call {
-        Call::Decide { handle, reply, .. } => {
-            Ok(Some(told(alloc, tx_of(before, *handle), reply, ranks)?))
-        }
-        Call::Withdraw { handle, .. } => Ok(Some(Decision::Withdraw {
-            tx: tx_of(before, *handle),
-        })),
-        _ => Ok(None),
-    }
-}
-
-// How many transactions were begun after a call, and how many of them before its window.
-fn windows_after(begun: u64, before: u64, call: &Call) -> (u64, u64)
-    requires { begun + 1 < 2 ^ 64 }
-    ensures { result ≡ windows_after begun before call.now }
-{
-    match call {
-        Call::Begin { .. } => (begun + 1, before),
-        Call::Close { .. } => (begun, begun),
-        _ => (begun, before),
-    }
-}
-
-// The decisions of a history, in its order.
+// The rulings as decisions, in their order.
 pub fn decisions_of(
     alloc: Global,
-    history: &[Call],
+    rulings: &[Ruled],
     ranks: &[u32],
 ) -> Result<Vec<Decision>, AllocError>
-    requires table { length ranks.now ≤ 2 ^ 32 }
-    requires ranked { All (λ r. ruled r < length ranks.now) (rulings_from 0 0 history.now) }
+    requires { All (λ r. ruled (ruling_from r) < length ranks.now) rulings.now }
     ensures { IfOk result
-        (λ ds. ds.items ≡ map (with_rank_in ranks.now) (rulings_from 0 0 history.now)) }
+        (λ ds. ds.items ≡ map (λ r. with_rank_in ranks.now (ruling_from r)) rulings.now) }
 {
-    let mut decisions = Vec::new(alloc);
-    let mut begun = 0;
-    let mut before = 0;
-    for call in history {
-        if let Some(decision) = decision_of(alloc, before, call, ranks)? {
-            decisions.push(decision)?;
-        }
-        (begun, before) = windows_after(begun, before, call);
+    let mut decisions = Vec::with_capacity(alloc, rulings.len())?;
+    for ruling in rulings {
+        decisions.push(decision_of(alloc, ruling, ranks)?)?;
     }
     Ok(decisions)
 }

@@ -95,7 +95,7 @@ module _ (u : State) (c : CoreState) (k : IsKept c) (carries : Carries u c.certi
     committed_carries = record {
       same =
           ap (λ (st : State). record st { order = d.places; arcs = c.certifier.arcs ++ edges_of c tx; step = Some tx; rulings = st.rulings ++ committed tx ∷ [] }) carries.same
-          ∙ sym (ap (λ (st : State). record st { arcs = c.certifier.arcs ++ edges_of c tx }) d.after);
+          ∙ sym (ap (λ (st : State). record st { arcs = c.certifier.arcs ++ edges_of c tx; installs = c.certifier.installs }) d.after);
       fewer = λ arc m. given_arc arc (subst (λ (st : State). Contains st.arcs arc) d.after m);
       lead = λ a b j. subst (λ (st : State). Reaches (Joins st.arcs) a b) (sym d.after) (own_lead a b j);
     }
@@ -118,7 +118,7 @@ module _ (u : State) (c : CoreState) (k : IsKept c) (carries : Carries u c.certi
     refused_carries = record {
       same =
           ap (λ (st : State). record st { step = Some tx; rulings = st.rulings ++ refused tx walk ∷ [] }) carries.same
-          ∙ sym (ap (λ (st : State). record st { arcs = c.certifier.arcs }) d.after);
+          ∙ sym (ap (λ (st : State). record st { arcs = c.certifier.arcs; installs = c.certifier.installs }) d.after);
       fewer = λ arc m. carries.fewer arc (subst (λ (st : State). Contains st.arcs arc) d.after m);
       lead = λ a b j. subst (λ (st : State). Reaches (Joins st.arcs) a b) (sym d.after) (carries.lead a b j);
     }

@@ -59,11 +59,11 @@ logs_are m c s =
     zero_on : (k : ℕ) → 0 + k ≡ k
     zero_on k = omega arith
 
-pub bundle_is : (m : Parts) (c : CoreState) (certificate : Certificate) (logs : List SiteLog) (count : ℕ) → StandsFor m c → certificate ≡ certificate_of m.certifier.state count → count ≡ length m.places
+pub bundle_is : (m : Parts) (c : CoreState) (certificate : Certificate) (logs : List SiteLog) (count : ℕ) → StandsFor m c → certificate ≡ certificate_of m.certifier count → count ≡ length m.places
     → logs ≡ map (λ (p : Place). site_log p.site.items p.site.entries) m.places → ◌≡◌ {A = BundleParts} (record { certificate = certificate; sites = logs }) (bundle_of c)
 bundle_is m c certificate logs count s is many are =
     let same : certificate ≡ certificate_of c.certifier (length c.items) =
-    is ∙ (ap (certificate_of m.certifier.state) (many ∙ sym (site_count m c s)) ∙ sym (ap (λ (st : State). certificate_of st (length c.items)) s.certifier.same)) in
+    is ∙ (ap (certificate_of m.certifier) (many ∙ sym (site_count m c s)) ∙ sym (ap (λ (st : State). certificate_of st (length c.items)) s.certifier.same)) in
     ap₂ (λ (a : Certificate) (b : List SiteLog). record { certificate = a; sites = b }) same (are ∙ logs_are m c s)
 
 pub bundle_fits_there : (m : Parts) (c : CoreState) → StandsFor m c → FitTogether (bundle_of c)

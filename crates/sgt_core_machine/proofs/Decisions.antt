@@ -12,7 +12,6 @@ use Rattle.sgt_names.proofs.Lists.{within_at}
 use Rattle.sgt_order.proofs.Lists.{get_set_same, get_set_other}
 use Rattle.sgt_site.specs.declared.cell.Install.{Install}
 use Rattle.sgt_certifier.specs.Certifier.{State, with_finished}
-use Rattle.sgt_certifier.specs.Kept.{Kept}
 use Rattle.sgt_certifier.specs.declared.call.Decided.{Decided}
 use Rattle.sgt_certifier.proofs.Members.{nil_none, filter_member, member_filter}
 use Rattle.sgt_notation.specs.declared.event.Event.TheVariants.{Decide}
@@ -35,20 +34,20 @@ use Rattle.sgt_core_machine.proofs.Refusing.{site_count}
 use Rattle.sgt_core_machine.proofs.Stepping.{step_own}
 
 -- what the model's decision leaves, where the machine's certifier was left so
-pub record IsDecision (c : CoreState) (tx : ℕ) (new : Kept) (reply : Decided) : Type 0 where
+pub record IsDecision (c : CoreState) (tx : ℕ) (new : State) (reply : Decided) : Type 0 where
   pub certifier : State
   pub due : ℕ → List Entry
-  pub carries : Carries new.state certifier
+  pub carries : Carries new certifier
   pub same : certifier ≡ record c.certifier { order = certifier.order; arcs = certifier.arcs; step = Some tx; rulings = certifier.rulings }
   pub order : (i : ℕ) → Contains c.certifier.order i → Contains certifier.order i
   pub phase : (n : Parts) (d : CoreState) (o : Open) → d.certifier ≡ certifier → o.tx ≡ tx → IsPhase n d o (phase_after reply)
   pub some : (s : ℕ) → touches c tx s ≡ true → due s ≡ [] → ⊥
   pub none : (s : ℕ) → touches c tx s ≡ false → due s ≡ []
   pub due_by : (n : Parts) (d : CoreState) (touched : List Touch) (s : ℕ) → d.due ≡ due → d.changes ≡ c.changes → touches c tx s ≡ true
-      → (phase_after reply ≡ Committed → AwaitsInstall n.certifier tx touched s) → IsDueBy n d tx touched (phase_after reply) s
+      → (phase_after reply ≡ Committed → AwaitsInstall n.certifier tx s) → IsDueBy n d tx touched (phase_after reply) s
   pub may : MayStep c (Decide tx) (reply_after reply) (decided c tx certifier due)
 
-abbrev pub decided_parts : Parts → ℕ → Kept → Decided → Parts
+abbrev pub decided_parts : Parts → ℕ → State → Decided → Parts
 decided_parts m tx new reply = record m { certifier = new; step = Some (record { tx = tx; phase = phase_after reply }) }
 
 abbrev pub decided_state : CoreState → State → (ℕ → List Entry) → CoreState
@@ -66,7 +65,7 @@ closes c i none = rw (all_empty c.due (sites_of c) none) refl
     all_empty due (x ∷ xs) e = ap (λ es. is_empty es && list_all (λ s. is_empty (due s)) xs) (e x) ∙ all_empty due xs e
 
 module _ (m : Parts) (c : CoreState) (s : StandsFor m c) (tx slot : ℕ) (h : IsSlotOf m tx slot) (no_other : IsOtherOpen c tx → ⊥) (undecided : c.certifier.step ≡ None)
-    (everywhere : (t : ℕ) → touches c tx t ≡ true → Contains (gathered_in c.step) t) (new : Kept) (reply : Decided) (v : IsDecision c tx new reply) where
+    (everywhere : (t : ℕ) → touches c tx t ≡ true → Contains (gathered_in c.step) t) (new : State) (reply : Decided) (v : IsDecision c tx new reply) where
   abbrev k : IsKept c
   k = reached_kept c s.reached
 
@@ -103,7 +102,7 @@ module _ (m : Parts) (c : CoreState) (s : StandsFor m c) (tx slot : ℕ) (h : Is
 
   -- ---- where a block is due
 
-  module _ (r : Running) (runs : slice_get m.table slot ≡ Some (Some r)) (awaits : phase_after reply ≡ Committed → (t : ℕ) → AwaitsInstall new tx r.draft.touched t) where
+  module _ (r : Running) (runs : slice_get m.table slot ≡ Some (Some r)) (awaits : phase_after reply ≡ Committed → (t : ℕ) → AwaitsInstall new tx t) where
     abbrev n : Parts
     n = decided_parts m tx new reply
 
@@ -140,7 +139,7 @@ module _ (m : Parts) (c : CoreState) (s : StandsFor m c) (tx slot : ℕ) (h : Is
             gathered = a.gathered;
             touched = a.touched;
             pledge = a.pledge ∙ ap (λ i. Some (record { tx = i; part = at_site t a.running.draft.touched })) own;
-            due = v.due_by n d a.running.draft.touched t refl refl (due_touched t p o a) (λ is. subst (λ (w : Running). AwaitsInstall new tx w.draft.touched t) same (awaits is t));
+            due = v.due_by n d a.running.draft.touched t refl refl (due_touched t p o a) (λ is. subst (λ (w : Running). AwaitsInstall new tx t) same (awaits is t));
           },
         )
 
@@ -182,7 +181,7 @@ module _ (m : Parts) (c : CoreState) (s : StandsFor m c) (tx slot : ℕ) (h : Is
 
   -- ---- where none is
 
-  module _ (last : Kept) (finishes : last.state ≡ with_finished new.state tx) (none : (t : ℕ) (p : Place) → slice_get m.places t ≡ Some p → p.part ≡ Due → ⊥) where
+  module _ (last : State) (finishes : last ≡ record (with_finished new tx) { installs = [] }) (none : (t : ℕ) (p : Place) → slice_get m.places t ≡ Some p → p.part ≡ Due → ⊥) where
     abbrev b : Parts
     b = record m { certifier = last; table = slice_set m.table slot None; step = None }
 

@@ -21,7 +21,7 @@ use Rattle.sgt_site.proofs.Appends.{LogsRead-append, LogsRead-cases}
 use Rattle.sgt_certifier.specs.Certifier.{State, with_install}
 use Rattle.sgt_certifier.specs.Certifier.{Install as Noted}
 use Rattle.sgt_certifier.specs.History.{IsNoted}
-use Rattle.sgt_certifier.specs.Kept.{Kept, changed_at as changed_names}
+use Rattle.sgt_certifier.specs.Kept.{changed_at as changed_names}
 use Rattle.sgt_certifier.proofs.Members.{cons_cases, nil_none}
 use Rattle.sgt_core_machine.specs.declared.machine.Place.{Place}
 use Rattle.sgt_core_machine.specs.declared.machine.Part.{Part}
@@ -70,7 +70,7 @@ due_phase m c tx touched s verdict phase.Refused e h = h ∙ ap (λ v. block_by 
 
 -- and what the certifier awaits of a commit
 pub awaits_phase : (m : Parts) (c : CoreState) (tx : ℕ) (touched : List Touch) (s : ℕ) (x : Phase) → verdict_in x ≡ Some Committed
-    → IsDueBy m c tx touched x s → AwaitsInstall m.certifier tx touched s
+    → IsDueBy m c tx touched x s → AwaitsInstall m.certifier tx s
 awaits_phase m c tx touched s (phase.Gathering edges) e h = absurd cc
 awaits_phase m c tx touched s phase.Committed e h = h.1
 awaits_phase m c tx touched s phase.Refused e h = absurd (committed-apart (sym (same_Some Refused Committed e)))
@@ -92,7 +92,7 @@ changed-written n (t ∷ ts) = elim (cases_Bool (t.site == n)) [
 pub noted-same : (c : CoreState) (tx s : ℕ) → noted c tx s ≡ record c.certifier { installs = (noted c tx s).installs }
 noted-same c tx s = elim (cases_Bool (is_committed c tx)) [ inl hit ↦ rw hit refl | inr miss ↦ rw miss refl ]
 
-carries_install : (s t : State) (tx site : ℕ) (items : List Name) → Carries s t → Carries (with_install s tx site items) (with_install t tx site items)
+carries_install : (s t : State) (tx site : ℕ) (items : List Name) → Carries s t → Carries (with_install s tx site []) (with_install t tx site items)
 carries_install s t tx site items h = record { same = ap (λ st. with_install st tx site items) h.same; fewer = h.fewer; lead = h.lead }
 
 -- what is awaited at another site stays so
@@ -107,32 +107,23 @@ still_unnoted s tx site u items ne out m =
       ]
     ]
 
-pub awaits_stays : (verdict : Verdict) (old new : Kept) (table : List (Option Running)) (s slot tx u : ℕ) (touched : List Touch) → IsNotedBy verdict old new table s slot tx → (u ≡ s → ⊥)
-    → AwaitsInstall old tx touched u → AwaitsInstall new tx touched u
-awaits_stays Refused old new table s slot tx u touched is ne h = subst (λ (k : Kept). AwaitsInstall k tx touched u) (sym is) h
-awaits_stays Committed old new table s slot tx u touched is ne h = record {
-  unnoted = λ n. still_unnoted old.state tx s u _ ne h.unnoted (subst (λ (st : State). IsNoted st tx u) is.2.serves.1 n);
-  expected = is.2.expected touched u ne h.expected;
-}
+pub awaits_stays : (verdict : Verdict) (old new : State) (s tx u : ℕ) → IsNotedBy verdict old new s tx → (u ≡ s → ⊥) → AwaitsInstall old tx u → AwaitsInstall new tx u
+awaits_stays Refused old new s tx u is ne h = subst (λ (k : State). AwaitsInstall k tx u) (sym is) h
+awaits_stays Committed old new s tx u is ne h n = still_unnoted old tx s u [] ne h (subst (λ (st : State). IsNoted st tx u) is.after n)
 
 -- the certifier carries what the model notes
-pub carries_noted : (verdict : Verdict) (m : Parts) (c : CoreState) (new : Kept) (s slot tx : ℕ) (r : Running) → slice_get m.table slot ≡ Some (Some r)
-    → c.changes tx s ≡ writing_in (at_site s r.draft.touched) → IsVerdict c verdict tx → IsNotedBy verdict m.certifier new m.table s slot tx → Carries m.certifier.state c.certifier
-    → Carries new.state (noted c tx s)
-carries_noted Committed m c new s slot tx r runs changes v is h =
+pub carries_noted : (verdict : Verdict) (m : Parts) (c : CoreState) (new : State) (s tx : ℕ) → IsVerdict c verdict tx → IsNotedBy verdict m.certifier new s tx → Carries m.certifier c.certifier
+    → Carries new (noted c tx s)
+carries_noted Committed m c new s tx v is h =
     let hit : is_committed c tx ≡ true = (is_in-Decides c.certifier.order tx).1 (v.committed refl) in
-    let same : is.0 ≡ r = same_Some is.0 r (same_Some (Some is.0) (Some r) (sym is.1 ∙ runs)) in
-    let items : changed_names is.0.draft.touched s ≡ map (λ (d : Name × Change). d.0) (c.changes tx s)
-    = ap (λ (w : Running). changed_names w.draft.touched s) same ∙ (changed-written s r.draft.touched ∙ ap (map (λ (d : Name × Change). d.0)) (sym changes)) in
-    let state : new.state ≡ with_install m.certifier.state tx s (map (λ (d : Name × Change). d.0) (c.changes tx s)) = is.2.serves.1 ∙ ap (with_install m.certifier.state tx s) items in
-    rw hit (subst (λ (st : State). Carries st (with_install c.certifier tx s (map (λ (d : Name × Change). d.0) (c.changes tx s)))) (sym state)
-    (carries_install m.certifier.state c.certifier tx s (map (λ (d : Name × Change). d.0) (c.changes tx s)) h))
-carries_noted Refused m c new s slot tx r runs changes v is h =
+    let items = map (λ (d : Name × Change). d.0) (c.changes tx s) in
+    rw hit (subst (λ (st : State). Carries st (with_install c.certifier tx s items)) (sym is.after) (carries_install m.certifier c.certifier tx s items h))
+carries_noted Refused m c new s tx v is h =
     let miss : is_committed c tx ≡ false = elim (cases_Bool (is_committed c tx)) [
       | inl hit ↦ absurd (v.refused refl ((is_in-Decides c.certifier.order tx).0 hit))
       | inr miss ↦ miss
     ] in
-    rw miss (subst (λ (k : Kept). Carries k.state c.certifier) (sym is) h)
+    rw miss (subst (λ (k : State). Carries k c.certifier) (sym is) h)
 
 -- ---- the handles
 
@@ -320,7 +311,7 @@ module _ (m : Parts) (c : CoreState) (s : StandsFor m c) (verdict : Verdict) (tx
     due_elsewhere u ne i touched (phase.Gathering edges) is g = cleared_there t c.due u ne ∙ g
     due_elsewhere u ne i touched phase.Committed is g = (
       cleared_there t c.due u ne ∙ g.0,
-      subst (λ j. AwaitsInstall n.certifier j touched u) (sym is) (awaits_stays verdict m.certifier n.certifier m.table t slot tx u touched h.noted ne (subst (λ j. AwaitsInstall m.certifier j touched u) is g.1)),
+      subst (λ j. AwaitsInstall n.certifier j u) (sym is) (awaits_stays verdict m.certifier n.certifier t tx u h.noted ne (subst (λ j. AwaitsInstall m.certifier j u) is g.1)),
     )
     due_elsewhere u ne i touched phase.Refused is g = cleared_there t c.due u ne ∙ g
 
@@ -400,8 +391,8 @@ module _ (m : Parts) (c : CoreState) (s : StandsFor m c) (verdict : Verdict) (tx
         set_map (v ∷ ps) zero a b at is = ap (λ i. i ∷ map (λ (x : Place). x.site.items) ps) (is ∙ ap (λ (x : Place). x.site.items) (sym (same_Some v b at)))
         set_map (v ∷ ps) (suc j) a b at is = ap (λ is. v.site.items ∷ is) (set_map ps j a b at is)
 
-    pub written_carries : Carries n.certifier.state (noted c tx t)
-    written_carries = carries_noted verdict m c n.certifier t slot tx r w.runs (changes t) decided_so h.noted s.certifier
+    pub written_carries : Carries n.certifier (noted c tx t)
+    written_carries = carries_noted verdict m c n.certifier t tx decided_so h.noted s.certifier
 
     phase_stays : (x : Phase) → verdict_in x ≡ Some verdict → IsPhase m c o x → IsPhase n d o x
     phase_stays (phase.Gathering edges) e g = absurd cc

@@ -174,8 +174,8 @@ module _ (m : Parts) (c : CoreState) (s : StandsFor m c) (verdict : Verdict) (tx
               reached = reached_more c (Write tx t) Installed f s.reached may;
               sites = s.sites;
               items = written_items m c s verdict tx slot t w n h ∙ sym same_items;
-              certifier = subst (λ (st : State). Carries st (with_finished (noted c tx t) tx)) (sym ends.serves.1)
-                  (carries_finished n.certifier.state (noted c tx t) tx (written_carries m c s verdict tx slot t w n h));
+              certifier = subst (λ (st : State). Carries st (with_finished (noted c tx t) tx)) (sym ends.ends.after)
+                  (carries_finished n.certifier (noted c tx t) tx (written_carries m c s verdict tx slot t w n h));
               before = ap (λ (st : State). st.before) state ∙ (s.before ∙ sym before);
               begun = ap (λ (st : State). st.begun) state ∙ (s.begun ∙ sym begun);
               window = omega (arith, window, begun, before, long);

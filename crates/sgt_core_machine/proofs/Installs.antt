@@ -168,21 +168,19 @@ module _ (m : Parts) (c : CoreState) (s : StandsFor m c) (tx slot : ℕ) (h : Is
         pledge = pledged_there m c s verdict tx slot t to_write ∙ ap (λ n. Some (record { tx = tx; part = at_site n h.1.0.draft.touched })) (sym (s.places t p at).number);
       }
 
-      pub awaited : verdict ≡ Committed → AwaitsAt m.certifier m.table t slot tx
+      pub awaited : verdict ≡ Committed → AwaitsAt m.certifier t tx
       unfolding decided_step to_write
       awaited committed =
           let step = ap (λ (st : State). st.step) s.certifier.same in
           let order = ap (λ (st : State). st.order) s.certifier.same in
           record {
-            running = h.1.0;
-            runs = h.1.1;
             installing = (sym step ∙ decided.decided, subst (λ ts. Contains ts tx) order (decided.committed committed));
             awaits = awaits_phase m c tx h.1.0.draft.touched t o.phase (verdict_is ∙ ap Some committed) (due_of m c s verdict tx slot t to_write);
           }
 
       module _ (n : Parts) (wrote : Writes verdict m n t slot tx) where
         -- the certifier's step is still open
-        pub open_certifier : n.certifier.state.step ≡ Some tx
+        pub open_certifier : n.certifier.step ≡ Some tx
         open_certifier = ap (λ (st : State). st.step) (sym (Rattle.sgt_core_machine.proofs.InstallBlocks.written_carries m c s verdict tx slot t to_write n wrote).same)
             ∙ (Rattle.sgt_core_model.proofs.Runs.noted-step c tx t ∙ decided.decided)
 

@@ -156,7 +156,7 @@ followed_older before tx es cs late w = record {
 
 -- ---- one site
 
-module _ (m : Parts) (c : CoreState) (k : IsKept c) (carries : Carries m.certifier.state c.certifier) (same_before : c.certifier.before ≡ m.before)
+module _ (m : Parts) (c : CoreState) (k : IsKept c) (carries : Carries m.certifier c.certifier) (same_before : c.certifier.before ≡ m.before)
     (undecided : c.certifier.step ≡ None) (tx slot : ℕ) (number : tx ≡ suc (m.before + slot)) (r : Running) (own : IsRunning c m.before slot r)
     (t : ℕ) (p : Place) (place : IsPlace m c t p) (site : IsSite p.site) (may : MayPledge p.site tx r.draft.touched)
     (more : List Edge) (gave : All (IsGiven p.site r.draft.touched r.handle) more) (stand : StandsForAll p.site r.draft.touched r.handle more) where
@@ -164,7 +164,7 @@ module _ (m : Parts) (c : CoreState) (k : IsKept c) (carries : Carries m.certifi
   s = c.certifier
 
   abbrev given_arcs : List Arc
-  given_arcs = m.certifier.state.arcs
+  given_arcs = m.certifier.arcs
 
   abbrev me : Handle
   me = r.handle
@@ -411,9 +411,9 @@ module _ (m : Parts) (c : CoreState) (k : IsKept c) (carries : Carries m.certifi
   back arc is = record { ends = is.ends; conflict = is.conflict }
 
   -- the certifier's own state is that of the model but for its arcs
-  module _ (before_edges : List Edge) (h : AreGathered m.certifier.state c tx before_edges) where
+  module _ (before_edges : List Edge) (h : AreGathered m.certifier c tx before_edges) where
     abbrev u : State
-    u = m.certifier.state
+    u = m.certifier
 
     same_place : h.place ≡ slot
     same_place =
@@ -447,7 +447,7 @@ module _ (m : Parts) (c : CoreState) (k : IsKept c) (carries : Carries m.certifi
         let e = arc_from u more arc member in
         subst (Contains (arcs_of u (before_edges ++ more))) e.3 (arc_of_edge u (before_edges ++ more) e.0 (Contains-append_right before_edges more e.0 e.1) e.2)
 
-    pub gathered_more : AreGathered m.certifier.state (record c { step = Some (record { tx = tx; gathered = t ∷ gathered_in c.step }) }) tx (before_edges ++ more)
+    pub gathered_more : AreGathered m.certifier (record c { step = Some (record { tx = tx; gathered = t ∷ gathered_in c.step }) }) tx (before_edges ++ more)
     gathered_more = record {
       place = h.place;
       window = h.window;

@@ -10,7 +10,6 @@ use Rattle.sgt_names.proofs.Lists.{front_at, take_next, middle_at, within_at, ma
 use Rattle.sgt_names.proofs.Places.{All-from_at}
 use Rattle.sgt_site.specs.State.{AreItems, opened}
 use Rattle.sgt_certifier.specs.Certifier.{State, opening}
-use Rattle.sgt_certifier.specs.Kept.{Kept}
 use Rattle.sgt_certifier.proofs.Members.{nil_none, place_cases}
 use Rattle.sgt_notation.specs.declared.event.Event.{Event}
 use Rattle.sgt_core_model.specs.declared.reply.Reply.{Reply}
@@ -68,10 +67,10 @@ same_lists (x ∷ xs) (y ∷ ys) long h =
     let first : x ≡ y = same_Some x y (h 0 y refl) in
     ap (λ z. z ∷ xs) first ∙ ap (λ zs. y ∷ zs) (same_lists xs ys (omega (arith, long)) (λ k z at. h (suc k) z at))
 
-abbrev start : List Place → Kept → Parts
+abbrev start : List Place → State → Parts
 start places certifier = record { places = places; certifier = certifier; begun = 0; before = 0; table = []; step = None }
 
-pub new_stands : (sites : List (List Holding)) (places : List Place) (certifier : Kept) → AreOpened sites places → certifier.state ≡ opening → 1 ≤ length sites → length sites ≤ max_sites
+pub new_stands : (sites : List (List Holding)) (places : List Place) (certifier : State) → AreOpened sites places → certifier ≡ opening → 1 ≤ length sites → length sites ≤ max_sites
     → StandsFor (record { places = places; certifier = certifier; begun = 0; before = 0; table = []; step = None }) (fresh sites)
 new_stands sites places certifier h is some few = record {
   reached = (sites, ([], ([], refl)));

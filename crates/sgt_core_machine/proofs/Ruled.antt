@@ -9,7 +9,6 @@ use Rattle.sgt_site.specs.State.{commit_block, refuse_block}
 use Rattle.sgt_edges.specs.declared.edge.Edge.{Edge}
 use Rattle.sgt_certifier.specs.Certifier.{State, Commits, Refuses, with_finished}
 use Rattle.sgt_certifier.specs.History.{Serves as CertifierServes, tx_under, arcs_of}
-use Rattle.sgt_certifier.specs.Kept.{Kept}
 use Rattle.sgt_certifier.specs.declared.call.Call.TheVariants as call
 use Rattle.sgt_certifier.specs.declared.call.Decided.{Decided}
 use Rattle.sgt_certifier.specs.declared.call.Decided.TheVariants as verdict
@@ -72,30 +71,30 @@ module _ (m : Parts) (c : CoreState) (s : StandsFor m c) (tx slot : ℕ) (number
   no_other : IsOtherOpen c tx → ⊥
   no_other other = allowed fault.StepOpen other
 
-  gathered_by : (o : Open) → o.tx ≡ tx → (phase : Phase) → IsPhase m c o phase → AreGathered m.certifier.state c tx (edges_by phase)
-  gathered_by o own (Gathering edges) h = subst (λ i. AreGathered m.certifier.state c i edges) own h.1
+  gathered_by : (o : Open) → o.tx ≡ tx → (phase : Phase) → IsPhase m c o phase → AreGathered m.certifier c tx (edges_by phase)
+  gathered_by o own (Gathering edges) h = subst (λ i. AreGathered m.certifier c i edges) own h.1
   gathered_by o own Committed h = absurd (let f : Some o.tx ≡ None = sym h.0 ∙ undecided in cc)
   gathered_by o own Refused h = absurd (let f : Some o.tx ≡ None = sym h.0 ∙ undecided in cc)
 
-  pub gathered_in_step : (o : Option Open) → IsStep m c o → AreGathered m.certifier.state c tx (edges_in o)
+  pub gathered_in_step : (o : Option Open) → IsStep m c o → AreGathered m.certifier c tx (edges_in o)
   gathered_in_step None h =
-      none_gathered m.certifier.state c tx slot (number ∙ ap (λ b. suc (b + slot)) (sym s.before ∙ ap (λ (st : State). st.before) s.certifier.same)) (ap gathered_in h.0)
+      none_gathered m.certifier c tx slot (number ∙ ap (λ b. suc (b + slot)) (sym s.before ∙ ap (λ (st : State). st.before) s.certifier.same)) (ap gathered_in h.0)
   gathered_in_step (Some o) h = gathered_by o (step_own m c tx no_other (Some o) h o refl) o.phase h.2
 
-  module _ (new : Kept) (handle : Handle) (named : tx_under m.certifier.state handle ≡ tx) (edges : List Edge) (gathered : AreGathered m.certifier.state c tx edges) where
-    committed_one : Commits m.certifier.state tx (arcs_of m.certifier.state edges) new.state → (number : ℕ) → IsDecision c tx new (verdict.Committed number)
+  module _ (new : State) (handle : Handle) (named : tx_under m.certifier handle ≡ tx) (edges : List Edge) (gathered : AreGathered m.certifier c tx edges) where
+    committed_one : Commits m.certifier tx (arcs_of m.certifier edges) new → (number : ℕ) → IsDecision c tx new (verdict.Committed number)
     committed_one d number = record {
       certifier = all_committed c tx d.places;
       due = committed_block c tx;
-      carries = committed_carries m.certifier.state c k s.certifier tx edges gathered everywhere new.state d;
+      carries = committed_carries m.certifier c k s.certifier tx edges gathered everywhere new d;
       same = refl;
       order = λ i member.
-          let there = placed_old d.placed.0 m.certifier.state.order tx i (subst (λ o. Contains o i) (ap (λ (st : State). st.order) s.certifier.same) member) in
+          let there = placed_old d.placed.0 m.certifier.order tx i (subst (λ o. Contains o i) (ap (λ (st : State). st.order) s.certifier.same) member) in
           subst (λ o. Contains o i) (sym d.placed.2) there;
       phase = λ n e o is mine. (
         ap (λ (st : State). st.step) is ∙ ap Some (sym mine),
         subst (λ (st : State). Contains st.order o.tx) (sym is)
-            (subst (Contains d.places) (sym mine) (subst (λ ps. Contains ps tx) (sym d.placed.2) (placed_self d.placed.0 m.certifier.state.order tx))),
+            (subst (Contains d.places) (sym mine) (subst (λ ps. Contains ps tx) (sym d.placed.2) (placed_self d.placed.0 m.certifier.order tx))),
       );
       some = λ t hit none. not_empty _ _ (sym (ap (λ b. cond b (commit_block tx (c.changes tx t)) []) hit) ∙ none);
       none = λ t miss. ap (λ b. cond b (commit_block tx (c.changes tx t)) []) miss;
@@ -109,17 +108,17 @@ module _ (m : Parts) (c : CoreState) (s : StandsFor m c) (tx slot : ℕ) (number
           arcs = edges_of c tx;
           certifier = all_committed c tx d.places;
           edges = edges_are c tx k.sound;
-          commits = commits_all m.certifier.state c k s.certifier tx edges gathered everywhere new.state d;
+          commits = commits_all m.certifier c k s.certifier tx edges gathered everywhere new d;
           after = refl;
         },
       );
     }
 
-    refused_one : (walk : List Step) → Refuses m.certifier.state tx (arcs_of m.certifier.state edges) walk new.state → (number : ℕ) → IsDecision c tx new (verdict.Refused number walk)
+    refused_one : (walk : List Step) → Refuses m.certifier tx (arcs_of m.certifier edges) walk new → (number : ℕ) → IsDecision c tx new (verdict.Refused number walk)
     refused_one walk d number = record {
       certifier = all_refused c tx walk;
       due = refused_block c tx;
-      carries = refused_carries m.certifier.state c k s.certifier tx edges gathered everywhere walk new.state d;
+      carries = refused_carries m.certifier c k s.certifier tx edges gathered everywhere walk new d;
       same = refl;
       order = λ i member. member;
       phase = λ n e o is mine. (
@@ -141,23 +140,23 @@ module _ (m : Parts) (c : CoreState) (s : StandsFor m c) (tx slot : ℕ) (number
           walk = walk;
           certifier = all_refused c tx walk;
           edges = edges_are c tx k.sound;
-          refuses = refuses_all m.certifier.state c k s.certifier tx edges gathered everywhere walk new.state d;
+          refuses = refuses_all m.certifier c k s.certifier tx edges gathered everywhere walk new d;
           after = refl;
         },
       );
     }
 
-    by_verdict : (reply : Decided) → CertifierServes m.certifier.state (call.Decide handle edges reply) new.state → IsDecision c tx new reply
-    by_verdict (verdict.Committed number) serves = committed_one (subst (λ i. Commits m.certifier.state i (arcs_of m.certifier.state edges) new.state) named serves.1.1) number
-    by_verdict (verdict.Refused number walk) serves = refused_one walk (subst (λ i. Refuses m.certifier.state i (arcs_of m.certifier.state edges) walk new.state) named serves.1.1) number
+    by_verdict : (reply : Decided) → CertifierServes m.certifier (call.Decide handle edges reply) new → IsDecision c tx new reply
+    by_verdict (verdict.Committed number) serves = committed_one (subst (λ i. Commits m.certifier i (arcs_of m.certifier edges) new) named serves.1.1) number
+    by_verdict (verdict.Refused number walk) serves = refused_one walk (subst (λ i. Refuses m.certifier i (arcs_of m.certifier edges) walk new) named serves.1.1) number
 
-  pub ruled_one : (new : Kept) (handle : Handle) → tx_under m.certifier.state handle ≡ tx → (reply : Decided)
-      → CertifierServes m.certifier.state (call.Decide handle (edges_in m.step) reply) new.state → IsDecision c tx new reply
+  pub ruled_one : (new : State) (handle : Handle) → tx_under m.certifier handle ≡ tx → (reply : Decided)
+      → CertifierServes m.certifier (call.Decide handle (edges_in m.step) reply) new → IsDecision c tx new reply
   ruled_one new handle named reply serves = by_verdict new handle named (edges_in m.step) (gathered_in_step m.step s.step) reply serves
 
-module _ (m : Parts) (c : CoreState) (s : StandsFor m c) (tx slot : ℕ) (h : IsSlotOf m tx slot) (allowed : IsAllowed c (Decide tx)) (new : Kept) (reply : Decided)
+module _ (m : Parts) (c : CoreState) (s : StandsFor m c) (tx slot : ℕ) (h : IsSlotOf m tx slot) (allowed : IsAllowed c (Decide tx)) (new : State) (reply : Decided)
     (r : RulesAt m.certifier new m.table slot (edges_in m.step) reply) where
-  named : tx_under m.certifier.state r.running.handle ≡ tx
+  named : tx_under m.certifier r.running.handle ≡ tx
   named =
       let own = s.running slot (Some r.running) r.runs in
       let index = ap (λ (i : Handle). i.index) own.handle in
@@ -168,7 +167,7 @@ module _ (m : Parts) (c : CoreState) (s : StandsFor m c) (tx slot : ℕ) (h : Is
   v : IsDecision c tx new reply
   v = ruled_one m c s tx slot h.0 allowed new r.running.handle named reply r.serves
 
-  pub ruled_open : new.state.step ≡ Some tx
+  pub ruled_open : new.step ≡ Some tx
   ruled_open = sym (ap (λ (st : State). st.step) v.carries.same) ∙ ap (λ (st : State). st.step) v.same
 
   out : IsOtherOpen c tx → ⊥
@@ -179,13 +178,13 @@ module _ (m : Parts) (c : CoreState) (s : StandsFor m c) (tx slot : ℕ) (h : Is
   rules_due some after is answer same =
       let p = Any_at (λ (p : Place). p.part ≡ Due) m.places some in
       let goes = decision_due m c s tx slot h out (undecided m c s tx slot h.0 allowed) (everywhere m c s tx slot h.0 allowed) new reply v r.running r.runs
-      (λ e t. subst (λ i. AwaitsInstall new i r.running.draft.touched t) named (r.awaits e t)) p.0 p.1 p.2 p.3 in
+      (λ e t. subst (λ i. AwaitsInstall new i t) named (r.awaits e t)) p.0 p.1 p.2 p.3 in
       (goes.0, subst (λ q. MayStep c (Decide tx) q goes.0) (sym same) goes.1, subst (λ w. StandsFor w goes.0) (sym is) goes.2)
 
   pub rules_end : (Any (λ (p : Place). p.part ≡ Due) m.places → ⊥) → (mid after : Parts) → mid ≡ record m { certifier = new; step = None } → EndsAt mid after tx slot
       → (answer : Reply) → answer ≡ reply_after reply → (e : CoreState) × MayStep c (Decide tx) answer e × StandsFor after e
   rules_end none mid after is ends answer same =
-      let finishes : after.certifier.state ≡ with_finished new.state tx = ends.serves.1 ∙ ap (λ (w : Parts). with_finished w.certifier.state tx) is in
+      let finishes : after.certifier ≡ record (with_finished new tx) { installs = [] } = ends.ends.after ∙ ap (λ (w : Parts). record (with_finished w.certifier tx) { installs = [] }) is in
       let goes = decision_ends m c s tx slot h out (undecided m c s tx slot h.0 allowed) (everywhere m c s tx slot h.0 allowed) new reply v after.certifier finishes
       (λ t p at due. none (Any-from_at (λ (q : Place). q.part ≡ Due) m.places t p at due)) in
       let all : after ≡ record m { certifier = after.certifier; table = slice_set m.table slot None; step = None } =

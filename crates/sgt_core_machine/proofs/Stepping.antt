@@ -12,7 +12,6 @@ use Rattle.sgt_order.proofs.Lists.{get_set_same, get_set_other}
 use Rattle.sgt_site.specs.State.{Pledge, SiteState, IsPledged}
 use Rattle.sgt_edges.specs.declared.edge.Edge.{Edge}
 use Rattle.sgt_certifier.specs.Certifier.{State}
-use Rattle.sgt_certifier.specs.Kept.{Kept}
 use Rattle.sgt_certifier.proofs.Members.{cons_cases, cons_here, cons_later, nil_none}
 use Rattle.sgt_notation.specs.declared.event.Event.{Event}
 use Rattle.sgt_notation.specs.declared.event.Event.TheVariants.{Gather}
@@ -101,7 +100,7 @@ same_draft table slot r q t first second any =
 -- ---- the step is closed
 
 module _ (m : Parts) (c : CoreState) (s : StandsFor m c) (tx : ℕ) (no_other : IsOtherOpen c tx → ⊥) (undecided : c.certifier.step ≡ None)
-    (places : List Place) (h : AreReleased tx m.places places) (kept : Kept) (same_state : kept.state ≡ m.certifier.state) where
+    (places : List Place) (h : AreReleased tx m.places places) (kept : State) (same_state : kept ≡ m.certifier) where
   abbrev closed_parts : Parts
   closed_parts = record m { places = places; certifier = kept; step = None }
 
@@ -169,7 +168,7 @@ module _ (m : Parts) (c : CoreState) (s : StandsFor m c) (tx : ℕ) (no_other : 
   )
 
 pub gives_up : (m : Parts) (c : CoreState) → StandsFor m c → (tx : ℕ) → (IsOtherOpen c tx → ⊥) → c.certifier.step ≡ None → (mid new : Parts)
-    → mid ≡ record m { step = mid.step; certifier = mid.certifier } → mid.certifier.state ≡ m.certifier.state → AreReleased tx mid.places new.places
+    → mid ≡ record m { step = mid.step; certifier = mid.certifier } → mid.certifier ≡ m.certifier → AreReleased tx mid.places new.places
     → new ≡ record mid { places = new.places; step = None } → (event : Event) (reply : Reply) → reply ≡ Fault fault.Memory
     → MayStep c event (Fault fault.Memory) (record c { step = None }) → (e : CoreState) × MayStep c event reply e × StandsFor new e
 gives_up m c s tx no_other undecided mid new same state h is event reply e may =
@@ -179,10 +178,10 @@ gives_up m c s tx no_other undecided mid new same state h is event reply e may =
     (goes.0, goes.1, subst (λ w. StandsFor w goes.0) (sym all) goes.2)
 
 -- nothing but the step was changed before
-pub only_step : (m mid : Parts) → mid ≡ record m { step = mid.step } → (mid ≡ record m { step = mid.step; certifier = mid.certifier }) × (mid.certifier.state ≡ m.certifier.state)
+pub only_step : (m mid : Parts) → mid ≡ record m { step = mid.step } → (mid ≡ record m { step = mid.step; certifier = mid.certifier }) × (mid.certifier ≡ m.certifier)
 only_step m mid is =
     let same : mid.certifier ≡ m.certifier = ap (λ (w : Parts). w.certifier) is in
-    (is ∙ ap (λ k. record m { step = mid.step; certifier = k }) (sym same), ap (λ (k : Kept). k.state) same)
+    (is ∙ ap (λ k. record m { step = mid.step; certifier = k }) (sym same), same)
 
 -- ---- one more site is gathered
 
@@ -193,7 +192,7 @@ record IsGrown (m : Parts) (d : CoreState) (tx : ℕ) (step : Option Open) : Typ
   pub own : open_step.tx ≡ tx
   pub edges : List Edge
   pub phase : open_step.phase ≡ Gathering edges
-  pub gathered : AreGathered m.certifier.state d tx edges
+  pub gathered : AreGathered m.certifier d tx edges
 
 module _ (m : Parts) (c : CoreState) (s : StandsFor m c) (tx slot : ℕ) (number : tx ≡ suc (m.before + slot)) (no_other : IsOtherOpen c tx → ⊥) (t : ℕ)
     (new : Parts) (g : GathersAt m new tx slot t) (allowed : IsAllowed c (Gather tx t)) (touched : Touches g.pledge.running.draft.touched t) where
@@ -228,7 +227,7 @@ module _ (m : Parts) (c : CoreState) (s : StandsFor m c) (tx slot : ℕ) (number
   same_running : g.given.running ≡ r
   same_running = same_Some g.given.running r (same_Some (Some g.given.running) (Some r) (sym g.given.runs ∙ g.pledge.runs))
 
-  grows : (edges : List Edge) → AreGathered m.certifier.state c tx edges → AreGathered m.certifier.state d tx (edges ++ g.edges)
+  grows : (edges : List Edge) → AreGathered m.certifier c tx edges → AreGathered m.certifier d tx (edges ++ g.edges)
   grows edges h = gathered_more m c k s.certifier s.before undecided tx slot number r own t p at_t
       (subst (λ (q : Place). Rattle.sgt_site.specs.State.IsSite q.site) same_place g.given.legal) g.pledge.may g.edges
       (subst (λ (q : Place). Rattle.std.specs.Prelude.All (Rattle.sgt_edges.specs.Edges.IsGiven q.site r.draft.touched r.handle) g.edges) same_place
@@ -244,7 +243,7 @@ module _ (m : Parts) (c : CoreState) (s : StandsFor m c) (tx slot : ℕ) (number
     own = refl;
     edges = g.edges;
     phase = refl;
-    gathered = grows [] (none_gathered m.certifier.state c tx slot
+    gathered = grows [] (none_gathered m.certifier c tx slot
         (number ∙ ap (λ b. suc (b + slot)) (sym s.before ∙ ap (λ (st : Rattle.sgt_certifier.specs.Certifier.State). st.before) s.certifier.same)) (ap gathered_in h.0));
   }
   grown (Some o) h own_step = by_phase o.phase refl h.2
@@ -256,7 +255,7 @@ module _ (m : Parts) (c : CoreState) (s : StandsFor m c) (tx slot : ℕ) (number
         own = own_step o refl;
         edges = edges ++ g.edges;
         phase = ap (λ w. phase_with w g.edges) e;
-        gathered = grows edges (subst (λ i. AreGathered m.certifier.state c i edges) (own_step o refl) is.1);
+        gathered = grows edges (subst (λ i. AreGathered m.certifier c i edges) (own_step o refl) is.1);
       }
       by_phase Committed e is = absurd (let f : Some o.tx ≡ None = sym is.0 ∙ undecided in cc)
       by_phase Refused e is = absurd (let f : Some o.tx ≡ None = sym is.0 ∙ undecided in cc)
@@ -351,7 +350,7 @@ module _ (m : Parts) (c : CoreState) (s : StandsFor m c) (tx slot : ℕ) (number
         step = subst (IsStep n d) (sym all.is) (
           t ∷ gathered_in c.step,
           ap (λ i. Some (record { tx = i; gathered = t ∷ gathered_in c.step })) (sym all.own),
-          subst (Rattle.sgt_core_machine.specs.Machine.IsPhase n d all.open_step) (sym all.phase) (undecided, subst (λ i. AreGathered m.certifier.state d i all.edges) (sym all.own) all.gathered),
+          subst (Rattle.sgt_core_machine.specs.Machine.IsPhase n d all.open_step) (sym all.phase) (undecided, subst (λ i. AreGathered m.certifier d i all.edges) (sym all.own) all.gathered),
         );
       } in
       (d, subst (λ q. MayStep c (Gather tx t) q d) (sym is) may, subst (λ w. StandsFor w d) (sym g.is) stands)

@@ -162,20 +162,20 @@ module _ (m : Parts) (c : CoreState) (s : StandsFor m c) (tx slot : ℕ) (number
 
 -- ---- the certifier
 
-is_active : (m : Parts) (c : CoreState) → StandsFor m c → (slot : ℕ) (r : Running) → slice_get m.table slot ≡ Some (Some r) → IsActive m.certifier.state r.handle
+is_active : (m : Parts) (c : CoreState) → StandsFor m c → (slot : ℕ) (r : Running) → slice_get m.table slot ≡ Some (Some r) → IsActive m.certifier r.handle
 is_active m c s slot r runs =
     let running = s.running slot (Some r) runs in
     let same = s.certifier.same in
-    let first : m.before ≡ m.certifier.state.before = sym s.before ∙ ap (λ (st : State). st.before) same in
-    let number : suc (m.before + slot) ≡ tx_under m.certifier.state r.handle = ap₂ (λ (a b : ℕ). suc (a + b)) first (sym (ap (λ (h : Handle). h.index) running.handle)) in (
+    let first : m.before ≡ m.certifier.before = sym s.before ∙ ap (λ (st : State). st.before) same in
+    let number : suc (m.before + slot) ≡ tx_under m.certifier r.handle = ap₂ (λ (a b : ℕ). suc (a + b)) first (sym (ap (λ (h : Handle). h.index) running.handle)) in (
       ap (λ (h : Handle). h.generation) running.handle ∙ ap (λ (st : State). st.generation) same,
-      subst (Contains m.certifier.state.active) number (subst (λ xs. Contains xs (suc (m.before + slot))) (ap (λ (st : State). st.active) same) running.active),
+      subst (Contains m.certifier.active) number (subst (λ xs. Contains xs (suc (m.before + slot))) (ap (λ (st : State). st.active) same) running.active),
     )
 
-no_step : (m : Parts) (c : CoreState) → StandsFor m c → c.certifier.step ≡ None → (t : ℕ) → m.certifier.state.step ≡ Some t → ⊥
+no_step : (m : Parts) (c : CoreState) → StandsFor m c → c.certifier.step ≡ None → (t : ℕ) → m.certifier.step ≡ Some t → ⊥
 no_step m c s none t is = let e : Some t ≡ None = sym is ∙ (sym (ap (λ (st : State). st.step) s.certifier.same) ∙ none) in absurd cc
 
-pub may_begin : (m : Parts) (c : CoreState) → StandsFor m c → m.step ≡ None → length m.table < 4096 → suc m.begun < 2 ^ 32 → IsServed m.certifier.state begin
+pub may_begin : (m : Parts) (c : CoreState) → StandsFor m c → m.step ≡ None → length m.table < 4096 → suc m.begun < 2 ^ 32 → IsServed m.certifier begin
 may_begin m c s none room numbers told.WindowFull f =
     let same = s.certifier.same in
     let begun = ap (λ (st : State). st.begun) same in
@@ -192,14 +192,14 @@ may_begin m c s none room numbers told.NumbersSpent f =
 may_begin m c s none room numbers _ f = f
 
 -- a window that isn't closed
-pub of_close : (m : Parts) (c : CoreState) → StandsFor m c → m.step ≡ None → (f : CertifierFault) → IsTold m.certifier.state close f → IsOfClose f
+pub of_close : (m : Parts) (c : CoreState) → StandsFor m c → m.step ≡ None → (f : CertifierFault) → IsTold m.certifier close f → IsOfClose f
 of_close m c s none (told.ActiveLeft n) t = tt
 of_close m c s none told.GenerationsSpent t = tt
 of_close m c s none told.Memory t = tt
 of_close m c s none (told.StepOpen tx) t = no_step m c s (certifier_closed m c s none) tx t.0
 of_close m c s none _ t = t.0
 
-pub may_withdraw_at : (m : Parts) (c : CoreState) → StandsFor m c → m.step ≡ None → (slot : ℕ) → MayWithdrawAt m.certifier.state m.table slot
+pub may_withdraw_at : (m : Parts) (c : CoreState) → StandsFor m c → m.step ≡ None → (slot : ℕ) → MayWithdrawAt m.certifier m.table slot
 may_withdraw_at m c s none slot r runs told.Unknown f = f (is_active m c s slot r runs)
 may_withdraw_at m c s none slot r runs (told.StepOpen t) f = no_step m c s (certifier_closed m c s none) t f
 may_withdraw_at m c s none slot r runs _ f = f
@@ -214,27 +214,27 @@ module _ (m : Parts) (c : CoreState) (s : StandsFor m c) (tx slot : ℕ) (number
   edges = edges_in m.step
 
   module _ (r : Running) (runs : slice_get m.table slot ≡ Some (Some r)) where
-    fits : (e : Edge) → Contains edges e → Fits m.certifier.state r.handle e × (e.from ≡ r.handle → e.to.generation ≡ m.certifier.state.generation)
+    fits : (e : Edge) → Contains edges e → Fits m.certifier r.handle e × (e.from ≡ r.handle → e.to.generation ≡ m.certifier.generation)
     fits e member =
         let g = gathered_in_step m c s tx slot number allowed m.step s.step in
         let running = s.running slot (Some r) runs in
-        let first : m.before ≡ m.certifier.state.before = sym s.before ∙ ap (λ (st : State). st.before) s.certifier.same in
+        let first : m.before ≡ m.certifier.before = sym s.before ∙ ap (λ (st : State). st.before) s.certifier.same in
         let window = g.window in
         let index : g.place ≡ slot = omega (arith, number, window, first) in
-        let same : record { index = g.place; generation = m.certifier.state.generation } ≡ r.handle
+        let same : record { index = g.place; generation = m.certifier.generation } ≡ r.handle
         = ap₂ (λ (a b : ℕ). record { index = a; generation = b }) index (sym (ap (λ (st : State). st.generation) s.certifier.same)) ∙ sym running.handle in
-        (subst (λ (h : Handle). Fits m.certifier.state h e) same (g.fit e member), λ from. g.forward e member (from ∙ sym same))
+        (subst (λ (h : Handle). Fits m.certifier h e) same (g.fit e member), λ from. g.forward e member (from ∙ sym same))
 
-    may_rule : MayDecide m.certifier.state r.handle edges
+    may_rule : MayDecide m.certifier r.handle edges
     may_rule = record {
       active = is_active m c s slot r runs;
       fit = λ n e at. (fits e (Contains-from_at edges n e at)).0;
       idle = sym (ap (λ (st : State). st.step) s.certifier.same) ∙ undecided m c s tx slot number allowed;
       forward = λ any.
-          let a = Any_at (λ (e : Edge). (e.from ≡ r.handle) × IsOlder m.certifier.state e.to) edges any in
+          let a = Any_at (λ (e : Edge). (e.from ≡ r.handle) × IsOlder m.certifier e.to) edges any in
           let here = (fits a.1 (Contains-from_at edges a.0 a.1 a.2)).1 a.3.0 in
           omega (arith, here, a.3.1);
     }
 
-  pub may_rule_at : MayRuleAt m.certifier.state m.table slot (edges_in m.step)
+  pub may_rule_at : MayRuleAt m.certifier m.table slot (edges_in m.step)
   may_rule_at r runs = may_rule r runs

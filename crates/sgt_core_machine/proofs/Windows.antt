@@ -15,7 +15,7 @@ use Rattle.sgt_site.specs.State.{KeepsReads}
 use Rattle.sgt_site.specs.declared.cell.Install.{Install}
 use Rattle.sgt_certifier.specs.Certifier.{State, with_begun, with_closed, serial}
 use Rattle.sgt_certifier.specs.History.{close, IsAllowed as IsRequestAllowed}
-use Rattle.sgt_certifier.specs.Kept.{Kept, Adds, IsTold}
+use Rattle.sgt_certifier.specs.Kept.{IsTold}
 use Rattle.sgt_certifier.specs.declared.call.Call.TheVariants as call
 use Rattle.sgt_certifier.specs.declared.call.CertifierFault.{CertifierFault}
 use Rattle.sgt_certifier.specs.declared.call.CertifierFault.TheVariants as told
@@ -45,18 +45,18 @@ unread_by c k s tx lt x v n = (
   λ h. absurd (let le = k.sound.ordered.begun s (entry.Read tx x v) (Contains-from_at (c.entries s) h.place _ h.at) in omega arith),
 )
 
-begin_allowed : (m : Parts) (c : CoreState) (h : Handle) (tx : ℕ) (new : Kept) → StandsFor m c → m.step ≡ None → Adds m.certifier (call.Begin tx h) new → IsAllowed c Begin
-begin_allowed m c h tx new s none adds fault.Unknown f = absurd (let e = f.1 in cc)
-begin_allowed m c h tx new s none adds fault.Ended f = absurd (let e = f.1 in cc)
-begin_allowed m c h tx new s none adds fault.StepOpen f = f (core_closed m c s none)
-begin_allowed m c h tx new s none adds fault.WindowFull f =
+begin_allowed : (m : Parts) (c : CoreState) (h : Handle) (tx : ℕ) (new : State) → StandsFor m c → m.step ≡ None → Serves m.certifier (call.Begin tx h) new → IsAllowed c Begin
+begin_allowed m c h tx new s none serves fault.Unknown f = absurd (let e = f.1 in cc)
+begin_allowed m c h tx new s none serves fault.Ended f = absurd (let e = f.1 in cc)
+begin_allowed m c h tx new s none serves fault.StepOpen f = f (core_closed m c s none)
+begin_allowed m c h tx new s none serves fault.WindowFull f =
     let begun = ap (λ (st : State). st.begun) s.certifier.same in
     let before = ap (λ (st : State). st.before) s.certifier.same in
-    adds.serves.0 told.WindowFull (omega (arith, f, begun, before))
-begin_allowed m c h tx new s none adds fault.NumbersSpent f =
+    serves.0 told.WindowFull (omega (arith, f, begun, before))
+begin_allowed m c h tx new s none serves fault.NumbersSpent f =
     let begun = ap (λ (st : State). st.begun) s.certifier.same in
-    adds.serves.0 told.NumbersSpent (omega (arith, f, begun))
-begin_allowed m c h tx new s none adds _ f = f
+    serves.0 told.NumbersSpent (omega (arith, f, begun))
+begin_allowed m c h tx new s none serves _ f = f
 
 abbrev pub begun_parts : Parts → Kept → Running → Parts
 begun_parts m new r = record m { certifier = new; begun = m.begun + 1; table = m.table ++ Some r ∷ [] }
@@ -64,9 +64,9 @@ begun_parts m new r = record m { certifier = new; begun = m.begun + 1; table = m
 abbrev pub begun_state : CoreState → CoreState
 begun_state c = record c { certifier = with_begun c.certifier }
 
-module _ (m : Parts) (c : CoreState) (s : StandsFor m c) (none : m.step ≡ None) (r : Running) (new : Kept) (tx : ℕ) (adds : Adds m.certifier (call.Begin tx r.handle) new) (empty : r.draft.touched ≡ []) where
+module _ (m : Parts) (c : CoreState) (s : StandsFor m c) (none : m.step ≡ None) (r : Running) (new : State) (tx : ℕ) (serves : Serves m.certifier (call.Begin tx r.handle) new) (empty : r.draft.touched ≡ []) where
   begun_number : tx ≡ suc c.certifier.begun
-  begun_number = adds.serves.1.0 ∙ ap (λ (st : State). suc st.begun) (sym s.certifier.same)
+  begun_number = serves.1.0 ∙ ap (λ (st : State). suc st.begun) (sym s.certifier.same)
 
   slot_stays : (k : ℕ) (slot : Option Running) → k < length m.table → RunsAt c m.before k slot → RunsAt (begun_state c) m.before k slot
   slot_stays k None lt out = λ there.
@@ -87,10 +87,10 @@ module _ (m : Parts) (c : CoreState) (s : StandsFor m c) (none : m.step ≡ None
       let gen = ap (λ (st : State). st.generation) s.certifier.same in
       let first = ap (λ (st : State). st.begun) s.certifier.same in
       let lowest = ap (λ (st : State). st.before) s.certifier.same in
-      let index : m.certifier.state.begun - m.certifier.state.before ≡ k = omega arith in
+      let index : m.certifier.begun - m.certifier.before ≡ k = omega arith in
       let bare : (t : ℕ) → at_site t r.draft.touched ≡ [] = λ t. ap (at_site t) empty in
       let new_handle : r.handle ≡ record { index = k; generation = c.certifier.generation } =
-      adds.serves.1.1 ∙ ap₂ (λ (a b : ℕ). record { index = a; generation = b }) index (sym gen) in
+      serves.1.1 ∙ ap₂ (λ (a b : ℕ). record { index = a; generation = b }) index (sym gen) in
       record {
         active = subst (Contains (c.certifier.active ++ suc c.certifier.begun ∷ [])) (sym number) (Contains-append_right c.certifier.active _ _ (cons_here (suc c.certifier.begun) []));
         handle = new_handle;
@@ -118,7 +118,7 @@ module _ (m : Parts) (c : CoreState) (s : StandsFor m c) (none : m.step ≡ None
 
   pub begin_goes : (d : CoreState) × MayStep c Begin (Begun tx) d × StandsFor (begun_parts m new r) d
   begin_goes =
-      let may : MayStep c Begin (Begun tx) (begun_state c) = (begin_allowed m c r.handle tx new s none adds, (begun_number, refl)) in
+      let may : MayStep c Begin (Begun tx) (begun_state c) = (begin_allowed m c r.handle tx new s none serves, (begun_number, refl)) in
       let begun = s.begun in
       let window = s.window in
       let long = length_push m.table (Some r) in (
@@ -128,7 +128,7 @@ module _ (m : Parts) (c : CoreState) (s : StandsFor m c) (none : m.step ≡ None
           reached = reached_more c Begin (Begun tx) (begun_state c) s.reached may;
           sites = s.sites;
           items = s.items;
-          certifier = subst (λ (st : State). Carries st (with_begun c.certifier)) (sym adds.serves.1.2) (carries_begun m.certifier.state c.certifier s.certifier);
+          certifier = subst (λ (st : State). Carries st (with_begun c.certifier)) (sym serves.1.2) (carries_begun m.certifier c.certifier s.certifier);
           before = s.before;
           begun = omega arith;
           window = omega arith;
@@ -144,13 +144,13 @@ module _ (m : Parts) (c : CoreState) (s : StandsFor m c) (none : m.step ≡ None
 pub carries_closed : (s t : State) → Carries s t → Carries (with_closed s) (with_closed t)
 carries_closed s t h = record { same = ap with_closed h.same; fewer = λ arc m. m; lead = λ a b j. absurd (nil_none _ j.1) }
 
-close_allowed : (m : Parts) (c : CoreState) → StandsFor m c → m.step ≡ None → IsRequestAllowed m.certifier.state close → IsAllowed c Close
+close_allowed : (m : Parts) (c : CoreState) → StandsFor m c → m.step ≡ None → IsRequestAllowed m.certifier close → IsAllowed c Close
 close_allowed m c s none may fault.Unknown f = absurd (let e = f.1 in cc)
 close_allowed m c s none may fault.Ended f = absurd (let e = f.1 in cc)
 close_allowed m c s none may fault.StepOpen f = f (core_closed m c s none)
-close_allowed m c s none may fault.ActiveLeft f = elim (list_cases m.certifier.state.active) [
+close_allowed m c s none may fault.ActiveLeft f = elim (list_cases m.certifier.active) [
   | inl empty ↦ f (ap (λ (st : State). st.active) s.certifier.same ∙ empty)
-  | inr some ↦ may (told.ActiveLeft (length m.certifier.state.active)) (refl, rw some.2 (omega arith))
+  | inr some ↦ may (told.ActiveLeft (length m.certifier.active)) (refl, rw some.2 (omega arith))
 ]
 close_allowed m c s none may fault.GenerationsSpent f =
     let gen = ap (λ (st : State). st.generation) s.certifier.same in
@@ -158,10 +158,10 @@ close_allowed m c s none may fault.GenerationsSpent f =
 close_allowed m c s none may _ f = f
 
 -- nobody is active where the certifier doesn't say so
-quiet : (m : Parts) (c : CoreState) → StandsFor m c → ((n : ℕ) → ((length m.certifier.state.active ≡ n) × (1 ≤ n)) → ⊥) → c.certifier.active ≡ []
-quiet m c s out = elim (list_cases m.certifier.state.active) [
+quiet : (m : Parts) (c : CoreState) → StandsFor m c → ((n : ℕ) → ((length m.certifier.active ≡ n) × (1 ≤ n)) → ⊥) → c.certifier.active ≡ []
+quiet m c s out = elim (list_cases m.certifier.active) [
   | inl empty ↦ ap (λ (st : State). st.active) s.certifier.same ∙ empty
-  | inr some ↦ absurd (out (length m.certifier.state.active) (refl, rw some.2 (omega arith)))
+  | inr some ↦ absurd (out (length m.certifier.active) (refl, rw some.2 (omega arith)))
 ]
 
 no_active : (xs : List ℕ) (n : ℕ) → length xs ≡ n → 1 ≤ n → xs ≡ [] → ⊥
@@ -183,11 +183,11 @@ generation_first m c s none quiet fault.StepOpen lt f = f (core_closed m c s non
 generation_first m c s none quiet fault.GenerationsSpent lt f = absurd (omega arith)
 generation_first m c s none quiet _ lt f = f
 
-pub close_refused : (m : Parts) (c : CoreState) (f : CertifierFault) → StandsFor m c → m.step ≡ None → IsTold m.certifier.state close f
+pub close_refused : (m : Parts) (c : CoreState) (f : CertifierFault) → StandsFor m c → m.step ≡ None → IsTold m.certifier close f
     → MayStep c Close (Fault (close_fault f)) c
 close_refused m c (told.ActiveLeft n) s none t = (
   (
-    λ e. no_active m.certifier.state.active n t.0.0 t.0.1 (sym (ap (λ (st : State). st.active) s.certifier.same) ∙ e),
+    λ e. no_active m.certifier.active n t.0.0 t.0.1 (sym (ap (λ (st : State). st.active) s.certifier.same) ∙ e),
     active_first m c s none,
   ),
   refl,
@@ -211,7 +211,7 @@ closed_parts m new = record m { certifier = new; before = m.begun; table = [] }
 abbrev pub closed_state : CoreState → CoreState
 closed_state c = record c { certifier = with_closed c.certifier }
 
-module _ (m : Parts) (c : CoreState) (s : StandsFor m c) (none : m.step ≡ None) (new : Kept) (ranks : ℕ) (adds : Adds m.certifier (call.Close ranks) new) where
+module _ (m : Parts) (c : CoreState) (s : StandsFor m c) (none : m.step ≡ None) (new : State) (ranks : ℕ) (serves : Serves m.certifier (call.Close ranks) new) where
   closed_handle : (i : Install) → IsHandleOf c.certifier i → IsHandleOf (with_closed c.certifier) i
   closed_handle i (inl here) =
       let window = (reached_kept c s.reached).sound.ordered.certifier.order_here i.tx here.2 in
@@ -233,15 +233,15 @@ module _ (m : Parts) (c : CoreState) (s : StandsFor m c) (none : m.step ≡ None
 
   pub close_goes : (d : CoreState) × MayStep c Close (Closed ranks) d × StandsFor (closed_parts m new) d
   close_goes =
-      let given = adds.serves.1.0 ∙ ap (λ (st : State). length (serial st)) (sym s.certifier.same) in
-      let may : MayStep c Close (Closed ranks) (closed_state c) = (close_allowed m c s none adds.serves.0, (given, refl)) in (
+      let given = serves.1.0 ∙ ap (λ (st : State). length (serial st)) (sym s.certifier.same) in
+      let may : MayStep c Close (Closed ranks) (closed_state c) = (close_allowed m c s none serves.0, (given, refl)) in (
         closed_state c,
         may,
         record {
           reached = reached_more c Close (Closed ranks) (closed_state c) s.reached may;
           sites = s.sites;
           items = s.items;
-          certifier = subst (λ (st : State). Carries st (with_closed c.certifier)) (sym adds.serves.1.1) (carries_closed m.certifier.state c.certifier s.certifier);
+          certifier = subst (λ (st : State). Carries st (with_closed c.certifier)) (sym serves.1.1) (carries_closed m.certifier c.certifier s.certifier);
           before = s.begun;
           begun = s.begun;
           window = omega arith;

@@ -236,12 +236,12 @@ module _ (m : Parts) (c : CoreState) (s : StandsFor m c) (none : m.step ≡ None
         | inr ne ↦ other_slot k o ne (s.running k o (sym (get_set_other m.table slot k None ne) ∙ at))
       ]
 
-      withdrawn_certifier : Carries new.certifier.state (with_withdrawn c.certifier tx)
+      withdrawn_certifier : Carries new.certifier (with_withdrawn c.certifier tx)
       withdrawn_certifier =
           let same = s.certifier.same in
-          let number : suc (m.certifier.state.before + r.handle.index) ≡ tx =
+          let number : suc (m.certifier.before + r.handle.index) ≡ tx =
           ap₂ (λ (a b : ℕ). suc (a + b)) (sym (ap (λ (st : State). st.before) same) ∙ s.before) (ap (λ (g : Handle). g.index) own.handle) ∙ sym h.0 in
-          let is : new.certifier.state ≡ with_withdrawn m.certifier.state tx = (w.adds.serves.1.1 ∙ ap (λ (g : Handle). with_withdrawn m.certifier.state (suc (m.certifier.state.before + g.index))) w.offers.handle_is) ∙ ap (with_withdrawn m.certifier.state) number in
+          let is : new.certifier ≡ with_withdrawn m.certifier tx = (w.serves.1.1 ∙ ap (λ (g : Handle). with_withdrawn m.certifier (suc (m.certifier.before + g.index))) w.offers.handle_is) ∙ ap (with_withdrawn m.certifier) number in
           subst (λ (st : State). Carries st (with_withdrawn c.certifier tx)) (sym is) (record { same = ap (λ (st : State). with_withdrawn st tx) same; fewer = s.certifier.fewer; lead = s.certifier.lead })
 
       pub withdraw_goes : (e : CoreState) × MayStep c (Withdraw tx) Withdrawn e × StandsFor new e

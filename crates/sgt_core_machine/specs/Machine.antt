@@ -16,7 +16,6 @@ use Rattle.sgt_order.specs.Graph.{Reaches}
 use Rattle.sgt_edges.specs.declared.edge.Edge.{Edge}
 use Rattle.sgt_certifier.specs.Certifier.{State, Arc, Joins}
 use Rattle.sgt_certifier.specs.History.{arcs_of, Fits, IsNoted}
-use Rattle.sgt_certifier.specs.Kept.{Kept, IsExpected}
 use Rattle.sgt_notation.specs.declared.event.Event.{Event}
 use Rattle.sgt_notation.specs.declared.event.Event.TheVariants as event
 use Rattle.sgt_core_model.specs.declared.reply.Reply.{Reply}
@@ -40,7 +39,7 @@ use Rattle.sgt_core_model.specs.Step.{gathered_in, IsRefused, Run}
 -- step
 pub record Parts : Type 0 where
   pub places : List Place
-  pub certifier : Kept
+  pub certifier : State
   pub begun : ℕ
   pub before : ℕ
   pub table : List (Option Running)
@@ -61,9 +60,9 @@ abbrev pub IsReached : CoreState → Type 0
 IsReached c = (items : List (List Holding))
     × ((events : List Event) × ((replies : List Reply) × Run (fresh items) events replies c))
 
--- the certifier that was handed fewer edges, over which the others lead
+-- the judge that was handed fewer edges, over which the others lead, and that forgets installs
 pub record Carries (s t : State) : Type 0 where
-  pub same : t ≡ record s { arcs = t.arcs }
+  pub same : t ≡ record s { arcs = t.arcs; installs = t.installs }
   pub fewer : (arc : Arc) → Contains s.arcs arc → Contains t.arcs arc
   pub lead : (a b : ℕ) → Joins t.arcs a b → Reaches (Joins s.arcs) a b
 
@@ -91,16 +90,15 @@ IsHandleOf s i =
     × Contains s.order i.tx)
     ⊎ ((i.handle.generation < s.generation) × (i.tx ≤ s.before))
 
--- the install of the committed transaction at the site can be noted, without memory
-pub record AwaitsInstall (certifier : Kept) (tx : ℕ) (touched : List Touch) (s : ℕ) : Type 0 where
-  pub unnoted : IsNoted certifier.state tx s → ⊥
-  pub expected : IsExpected certifier.expected touched s
+-- no install of the transaction is noted at the site
+abbrev pub AwaitsInstall : State → ℕ → ℕ → Type 0
+AwaitsInstall certifier tx s = IsNoted certifier tx s → ⊥
 
 -- what is due of the open step at a site where it was gathered, with this draft
 abbrev pub IsDueBy : Parts → CoreState → ℕ → List Touch → Phase → ℕ → Type 0
 IsDueBy m c tx touched (Gathering edges) s = c.due s ≡ []
 IsDueBy m c tx touched Committed s = (c.due s ≡ commit_block tx (c.changes tx s))
-    × AwaitsInstall m.certifier tx touched s
+    × AwaitsInstall m.certifier tx s
 IsDueBy m c tx touched Refused s = c.due s ≡ refuse_block tx (c.changes tx s)
 
 -- the pledge of the open step's transaction stands at the site, and its block is due by it
@@ -158,7 +156,7 @@ pub record AreGathered (s : State) (c : CoreState) (tx : ℕ) (edges : List Edge
 -- how far the open step has come
 abbrev pub IsPhase : Parts → CoreState → Open → Phase → Type 0
 IsPhase m c o (Gathering edges) = (c.certifier.step ≡ None)
-    × AreGathered m.certifier.state c o.tx edges
+    × AreGathered m.certifier c o.tx edges
 IsPhase m c o Committed = (c.certifier.step ≡ Some o.tx) × Contains c.certifier.order o.tx
 IsPhase m c o Refused = (c.certifier.step ≡ Some o.tx) × (Contains c.certifier.order o.tx → ⊥)
 
@@ -173,7 +171,7 @@ pub record StandsFor (m : Parts) (c : CoreState) : Type 0 where
   pub reached : IsReached c
   pub sites : AreSites c.items
   pub items : c.items ≡ map (λ p. p.site.items) m.places
-  pub certifier : Carries m.certifier.state c.certifier
+  pub certifier : Carries m.certifier c.certifier
   -- who was begun in this window, by its place there
   pub before : c.certifier.before ≡ m.before
   pub begun : c.certifier.begun ≡ m.begun

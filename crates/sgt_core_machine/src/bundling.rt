@@ -33,7 +33,7 @@ impl Machine {
         }
     }
 
-    /// The same of a machine that is given up: each site but for its log, and the certifier with its history once there is a
+    /// The same of a machine that is given up: each site but for its log, and the certifier once there is a
     /// certificate.
     pub(crate) fn into_bundle(self, alloc: Global) -> Result<Bundle, CoreFault>
         requires { Stands (parts_of self) }

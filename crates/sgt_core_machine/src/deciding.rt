@@ -11,7 +11,7 @@ ghost use Rattle.sgt_core_machine.specs.declared.machine.Running.{Running as ARu
 
 use crate::gathering::misses;
 use crate::machine::{Machine, Open, Part, Phase, Place, Running, refused};
-use sgt_certifier::{Certifier, CertifierFault, Decided};
+use sgt_certifier::{CertifierFault, Decided, Judge};
 use sgt_core_model::{CoreFault, Reply};
 use sgt_edges::EdgeList;
 use sgt_names::Tx;
@@ -73,7 +73,7 @@ impl Machine {
 
     // Ends the transaction at a place of the table, of which no block is due.
     pub(crate) fn end(&mut self, tx: Tx, slot: usize)
-        requires step { self.old.certifier.state.step ≡ Some tx }
+        requires step { self.old.certifier.step ≡ Some tx }
         requires slot { slot < length self.old.running.items }
         ensures { EndsAt (parts_of self.old) (parts_of self.new) tx slot }
     {
@@ -111,9 +111,9 @@ fn edges_of(alloc: Global, step: Option<Open>) -> EdgeList
     }
 }
 
-// Decides the transaction at a place of the table, with room for its installs. It errs for want of memory alone.
+// Decides the transaction at a place of the table. It errs for want of memory alone.
 fn rule(
-    certifier: &mut Certifier,
+    certifier: &mut Judge,
     table: &[Option<Running>],
     slot: usize,
     edges: &EdgeList,
@@ -122,17 +122,11 @@ fn rule(
     requires may { MayRuleAt certifier.old.state table.now slot edges.now }
     ensures ok { IfOk result
         (λ decided. RulesAt certifier.old certifier.new table.now slot edges.now decided) }
-    ensures err { OnErr result (certifier.new.state ≡ certifier.old.state) }
+    ensures err { OnErr result (certifier.new ≡ certifier.old) }
     ensures memory { IfErr result (λ f. f ≡ CertifierFault.Memory) }
 {
     match &table[slot] {
-        Some(running) => {
-            if let Err(fault) = certifier.expect(running.handle, &running.draft) {
-                return Err(fault);
-            }
-            let _history = certifier.history();
-            certifier.decide_allowed(running.handle, edges)
-        }
+        Some(running) => certifier.decide(running.handle, edges),
         None => unreachable!(),
     }
 }

@@ -6,7 +6,7 @@ ghost use Rattle.sgt_core_machine.specs.private.Installing.{IsPledgedAt, WritesA
 
 use crate::deciding::is_due;
 use crate::machine::{Machine, Part, Phase, Place, Running, refused};
-use sgt_certifier::Certifier;
+use sgt_certifier::Judge;
 use sgt_core_model::{CoreFault, Reply};
 use sgt_names::{SiteNo, Tx};
 
@@ -77,18 +77,17 @@ impl Machine {
     // Writes the block of the transaction that was decided so at the site, and notes its install.
     fn write(&mut self, tx: Tx, site: SiteNo, slot: usize, verdict: Verdict)
         requires pledge { IsPledgedAt self.old.places.items self.old.running.items site slot tx }
-        requires awaits { verdict ≡ Verdict.Committed
-            → AwaitsAt self.old.certifier self.old.running.items site slot tx }
+        requires awaits { verdict ≡ Verdict.Committed → AwaitsAt self.old.certifier site tx }
         ensures { Writes verdict (parts_of self.old) (parts_of self.new) site slot tx }
     {
         let table = self.running.as_slice();
-        note_at(&mut self.certifier, table, slot, tx, site, verdict);
+        note_install(&mut self.certifier, tx, site, verdict);
         write_at(&mut self.places, table, slot, tx, site, verdict);
     }
 
     // Ends the step, and its transaction with it.
     fn end_step(&mut self, tx: Tx, slot: usize)
-        requires step { self.old.certifier.state.step ≡ Some tx }
+        requires step { self.old.certifier.step ≡ Some tx }
         requires slot { slot < length self.old.running.items }
         ensures { Ends (parts_of self.old) (parts_of self.new) slot tx }
     {
@@ -106,27 +105,17 @@ fn part_at(places: &[Place], at: usize) -> Part
     places[at].part
 }
 
-// Notes the install of the transaction at a place of the table, if it is committed.
-fn note_at(
-    certifier: &mut Certifier,
-    table: &[Option<Running>],
-    slot: usize,
-    tx: Tx,
-    site: SiteNo,
-    verdict: Verdict,
-)
-    requires { verdict ≡ Verdict.Committed → AwaitsAt certifier.old table.now site slot tx }
-    ensures { IsNotedBy verdict certifier.old certifier.new table.now site slot tx }
+// Notes the install of the transaction, if it is committed.
+fn note_install(certifier: &mut Judge, tx: Tx, site: SiteNo, verdict: Verdict)
+    requires { verdict ≡ Verdict.Committed → AwaitsAt certifier.old site tx }
+    ensures { IsNotedBy verdict certifier.old certifier.new site tx }
 {
     let Verdict::Committed = verdict else {
         return;
     };
-    match &table[slot] {
-        Some(running) => match certifier.installed(tx, site, &running.draft) {
-            Ok(()) => {}
-            Err(_) => unreachable!(),
-        },
-        None => unreachable!(),
+    match certifier.note(tx, site) {
+        Ok(()) => {}
+        Err(_) => unreachable!(),
     }
 }
 

@@ -21,7 +21,7 @@ ghost use Rattle.sgt_core_machine.specs.declared.machine.Running.{Running as ARu
 use crate::gathering::{add_edges, edges_at, is_gathered, pledge_at, release_all};
 use crate::looking::look_at;
 use sgt_arena::{Handle, MAX_PLACES};
-use sgt_certifier::{Certifier, CertifierFault};
+use sgt_certifier::{CertifierFault, Judge};
 use sgt_core_model::{CoreFault, Reply};
 use sgt_edges::{EdgeFault, EdgeList};
 use sgt_names::{Draft, Holding, Item, Listed, Seen, SiteNo, Tx, Value};
@@ -77,7 +77,7 @@ pub struct Machine {
     pub alloc: Global,
     /// The sites, by number.
     pub places: Vec<Place>,
-    pub certifier: Certifier,
+    pub certifier: Judge,
     /// How many transactions were begun, and how many of them before this window.
     pub begun: u32,
     pub before: u32,
@@ -103,7 +103,7 @@ impl Machine {
         Ok(Machine {
             alloc,
             places,
-            certifier: Certifier::new(alloc),
+            certifier: Judge::new(alloc),
             begun: 0,
             before: 0,
             running: Vec::new(alloc),

@@ -48,7 +48,7 @@ impl Machine {
         requires slot { (r : ARunning) × (slice_get self.old.running.items slot ≡ Some (Some r)) }
         requires may { (t : ℕ)
             → MayPledgeAt self.old.places.items self.old.running.items t slot tx }
-        requires allowed { MayWithdrawAt self.old.certifier.state self.old.running.items slot }
+        requires allowed { MayWithdrawAt self.old.certifier self.old.running.items slot }
         ensures ok { OnOk result (WithdrawsAt (parts_of self.old) (parts_of self.new) tx slot) }
         ensures offered { OnErr result (AreOffered tx self.old.places.items self.new.places.items) }
         ensures rest { OnErr result

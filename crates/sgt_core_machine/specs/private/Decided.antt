@@ -4,7 +4,8 @@ use Rattle.std.specs.Prelude.{◌≡◌, ◌⊎◌, ℕ, List, [], Option, Some,
 use Rattle.sgt_edges.specs.declared.edge.Edge.{Edge}
 use Rattle.sgt_certifier.specs.Certifier.{State}
 use Rattle.sgt_certifier.specs.History.{Serves, tx_under}
-use Rattle.sgt_certifier.specs.Kept.{Kept, MayDecide}
+use Rattle.sgt_certifier.specs.Judged.{Ends as JudgeEnds}
+use Rattle.sgt_certifier.specs.Kept.{MayDecide}
 use Rattle.sgt_certifier.specs.declared.call.Call.TheVariants as call
 use Rattle.sgt_certifier.specs.declared.call.Decided.{Decided}
 use Rattle.sgt_certifier.specs.declared.call.Decided.TheVariants as verdict
@@ -46,14 +47,14 @@ MayRuleAt s table slot edges = (r : Running) → slice_get table slot ≡ Some (
 
 -- the transaction at this place of the table is decided with these edges, and each of its installs
 -- can be noted
-pub record RulesAt (old new : Kept) (table : List (Option Running)) (slot : ℕ) (edges : List Edge) (decided : Decided) : Type 0 where
+pub record RulesAt (old new : State) (table : List (Option Running)) (slot : ℕ) (edges : List Edge) (decided : Decided) : Type 0 where
   pub running : Running
   pub runs : slice_get table slot ≡ Some (Some running)
-  pub serves : Serves old.state (call.Decide running.handle edges decided) new.state
+  pub serves : Serves old (call.Decide running.handle edges decided) new
   pub awaits : phase_after decided ≡ Committed → (s : ℕ)
-      → AwaitsInstall new (tx_under old.state running.handle) running.draft.touched s
+      → AwaitsInstall new (tx_under old running.handle) s
 
 -- the transaction at this place of the table ends with its step
 pub record EndsAt (old new : Parts) (tx slot : ℕ) : Type 0 where
-  pub serves : Serves old.certifier.state (call.Finish tx) new.certifier.state
+  pub ends : JudgeEnds old.certifier tx new.certifier
   pub is : new ≡ record old { certifier = new.certifier; table = slice_set old.table slot None }

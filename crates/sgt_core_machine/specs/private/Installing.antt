@@ -6,9 +6,9 @@ use Rattle.sgt_names.specs.declared.entry.Change.{Change}
 use Rattle.sgt_names.specs.declared.entry.Entry.{Entry}
 use Rattle.sgt_site.specs.State.{SiteState, IsPledgedFor, commit_block, refuse_block}
 use Rattle.sgt_site.specs.declared.cell.Install.{Install}
-use Rattle.sgt_certifier.specs.History.{IsInstalling, Serves}
-use Rattle.sgt_certifier.specs.Kept.{Kept, Adds, changed_at}
-use Rattle.sgt_certifier.specs.declared.call.Call.TheVariants as call
+use Rattle.sgt_certifier.specs.History.{IsInstalling}
+use Rattle.sgt_certifier.specs.Certifier.{State}
+use Rattle.sgt_certifier.specs.Judged.{Ends as JudgeEnds, Notes}
 use Rattle.sgt_core_machine.specs.declared.machine.Place.{Place}
 use Rattle.sgt_core_machine.specs.declared.machine.Part.TheVariants.{Idle, Written}
 use Rattle.sgt_core_machine.specs.declared.machine.Running.{Running}
@@ -64,24 +64,20 @@ pub record WritesAt (verdict : Verdict) (old new : List Place) (table : List (Op
   pub is : new ≡ slice_set old site
       (record { site = ended_by verdict tx running place.site; part = Written })
 
--- the certifier takes the install of the transaction at this place of the table
-pub record AwaitsAt (certifier : Kept) (table : List (Option Running)) (site slot tx : ℕ) : Type 0 where
-  pub running : Running
-  pub runs : slice_get table slot ≡ Some (Some running)
-  pub installing : IsInstalling certifier.state tx
-  pub awaits : AwaitsInstall certifier tx running.draft.touched site
+-- the judge takes the install of the transaction
+pub record AwaitsAt (certifier : State) (site tx : ℕ) : Type 0 where
+  pub installing : IsInstalling certifier tx
+  pub awaits : AwaitsInstall certifier tx site
 
 -- it has noted the install, if there is one
-abbrev pub IsNotedBy : Verdict → Kept → Kept → List (Option Running) → ℕ → ℕ → ℕ → Type 0
-IsNotedBy Committed old new table site slot tx = (running : Running)
-    × (slice_get table slot ≡ Some (Some running))
-    × Adds old (call.Installed tx site (changed_at running.draft.touched site)) new
-IsNotedBy Refused old new table site slot tx = new ≡ old
+abbrev pub IsNotedBy : Verdict → State → State → ℕ → ℕ → Type 0
+IsNotedBy Committed old new site tx = Notes old tx site new
+IsNotedBy Refused old new site tx = new ≡ old
 
 -- the block is written, and the install noted
 pub record Writes (verdict : Verdict) (old new : Parts) (site slot tx : ℕ) : Type 0 where
   pub block : WritesAt verdict old.places new.places old.table site slot tx
-  pub noted : IsNotedBy verdict old.certifier new.certifier old.table site slot tx
+  pub noted : IsNotedBy verdict old.certifier new.certifier site tx
   pub is : new ≡ record old { places = new.places; certifier = new.certifier }
 
 -- the site has no part of a step any more
@@ -95,7 +91,7 @@ pub record AreAtRest (old new : List Place) : Type 0 where
 
 -- the step has ended, and its transaction with it
 pub record Ends (old new : Parts) (slot tx : ℕ) : Type 0 where
-  pub serves : Serves old.certifier.state (call.Finish tx) new.certifier.state
+  pub ends : JudgeEnds old.certifier tx new.certifier
   pub places : AreAtRest old.places new.places
   pub is : new ≡ record old {
     places = new.places;

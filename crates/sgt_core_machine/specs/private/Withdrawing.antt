@@ -5,8 +5,7 @@ use Rattle.sgt_names.specs.declared.draft.Touch.{Touch}
 use Rattle.sgt_arena.specs.declared.handle.Handle.{Handle}
 use Rattle.sgt_site.specs.State.{IsPledged, withdraw_block}
 use Rattle.sgt_certifier.specs.Certifier.{State}
-use Rattle.sgt_certifier.specs.History.{IsAllowed, withdraw}
-use Rattle.sgt_certifier.specs.Kept.{Adds}
+use Rattle.sgt_certifier.specs.History.{IsAllowed, Serves, withdraw}
 use Rattle.sgt_certifier.specs.declared.call.Call.TheVariants as call
 use Rattle.sgt_core_machine.specs.Machine.{Parts}
 use Rattle.sgt_core_machine.specs.declared.machine.Place.{Place}
@@ -69,7 +68,7 @@ pub record WithdrawsAt (old new : Parts) (tx slot : ℕ) : Type 0 where
   pub offers : OffersAt old.places pledged old.table slot tx handle
   pub places : AreWithdrawn tx pledged new.places
   pub number : ℕ
-  pub adds : Adds old.certifier (call.Withdraw handle number) new.certifier
+  pub serves : Serves old.certifier (call.Withdraw handle number) new.certifier
   pub is : new ≡ record old {
     places = new.places;
     certifier = new.certifier;

@@ -1,5 +1,5 @@
 use Rattle.std.proofs.Common.{◌≡◌, List, Option, sym, ◌∙◌, ap, subst}
-use Rattle.sgt_certifier.specs.Kept.{Kept}
+use Rattle.sgt_certifier.specs.Certifier.{State}
 use Rattle.sgt_notation.specs.declared.event.Event.TheVariants.{Close}
 use Rattle.sgt_core_model.specs.declared.reply.Reply.{Reply}
 use Rattle.sgt_core_model.specs.declared.reply.Reply.TheVariants.{Closed, Fault}
@@ -26,7 +26,7 @@ returns-in-Err c = λ d s.
     let none = none_of m.step (sym c.is_some.ensures ∙ c.if-is_some.false) in
     let may = close_refused m d c.in-Err.fault s none c.in-Err.ensures.err.told in
     let reply : c.refused-in-Err.result ≡ Fault _ = c.refused-in-Err.ensures ∙ ap Fault c.fault_of_close.ensures in
-    (d, subst (λ (r : Reply). MayStep d Close r d) (sym reply) may, subst (λ (k : Kept). StandsFor (record m { certifier = k }) d) (sym c.in-Err.ensures.err.same) s)
+    (d, subst (λ (r : Reply). MayStep d Close r d) (sym reply) may, subst (λ (k : State). StandsFor (record m { certifier = k }) d) (sym c.in-Err.ensures.err.same) s)
 
 pub returns-then-is_some : goal.returns-then-is_some
 returns-then-is_some c = λ d s.

@@ -70,8 +70,8 @@ rule-requires-clause-may c =
     let m = parts_of c.args.self.now in
     let s = c.requires.stands in
     let may = may_rule_at m s.0 s.1 c.args.tx c.args.slot c.requires.slot.0 (c.requires.allowed s.0 s.1) in
-    subst (λ (es : List Edge). MayRuleAt m.certifier.state c.as_slice.result.now c.args.slot es) (sym (c.edges_of-edges.ensures ∙ ap edges_in c.take.ensures.value))
-    (subst (λ (t : List (Option Running)). MayRuleAt m.certifier.state t c.args.slot (edges_in m.step)) (sym c.as_slice.ensures.value) may)
+    subst (λ (es : List Edge). MayRuleAt m.certifier c.as_slice.result.now c.args.slot es) (sym (c.edges_of-edges.ensures ∙ ap edges_in c.take.ensures.value))
+    (subst (λ (t : List (Option Running)). MayRuleAt m.certifier t c.args.slot (edges_in m.step)) (sym c.as_slice.ensures.value) may)
 
 pub returns-in-Err-Memory : goal.returns-in-Err-Memory
 returns-in-Err-Memory c = λ d s.
