@@ -1,6 +1,6 @@
 -- What a judge tells, said of a certifier's state, which has all installs.
 use Rattle.std.proofs.Common.{◌≡◌, ◌⊎◌, ◌+◌, ◌<◌, ◌≤◌, ℕ, suc, List, [], ◌∷◌, ◌++◌, length, append-nil, refl, sym, ◌∙◌, ap, subst, arith, inl, inr, Any, Contains, Some, None}
-use Rattle.std.specs.Prelude.{◌↔◌, Result, Ok, Err, IfErr, IsErrAnd}
+use Rattle.std.specs.Prelude.{Result, Ok, Err, IfErr, IsErrAnd}
 use Rattle.std.proofs.lemmas.Bool.{cases_eq}
 use Rattle.std.proofs.lemmas.List.{length_push}
 use Rattle.std.proofs.lemmas.Option.{same_Some}
@@ -17,7 +17,7 @@ use Rattle.sgt_certifier.specs.declared.call.Call.TheVariants as call
 use Rattle.sgt_certifier.specs.declared.call.CertifierFault.{CertifierFault}
 use Rattle.sgt_certifier.specs.declared.call.CertifierFault.TheVariants as fault
 use Rattle.sgt_certifier.specs.Certifier.{State, Install, opening}
-use Rattle.sgt_certifier.specs.History.{Request, begin, decide, finish, withdraw, close, expect, installed, request_of, install_in, installs_in, IsActive, IsAllowed, IsInstalling, IsNoted, IsRefused, Fails, Serves, Replays, fault_place, tx_under}
+use Rattle.sgt_certifier.specs.History.{Request, begin, decide, finish, withdraw, close, expect, installed, install_in, installs_in, IsActive, IsAllowed, IsNoted, IsRefused, Fails, Serves, Replays, fault_place, tx_under}
 use Rattle.sgt_certifier.specs.declared.install.Prepared.{Prepared}
 use Rattle.sgt_certifier.specs.Kept.{Declines, IsKept, IsTold, Kept, state_with}
 use Rattle.sgt_certifier.specs.Judged.{Ends, Notes, note_at}

@@ -1,20 +1,39 @@
 -- Decisions and their ranks.
-use Rattle.std.proofs.Common.{◌≡◌, ◌≢◌, ◌<◌, ◌≤◌, ℕ, suc, List, [], ◌∷◌, ◌++◌, length, map, refl, sym, ◌∙◌, ap, subst, arith, inl, inr, All, AllPairs, Contains, Some}
+use Rattle.std.proofs.Common.{◌≡◌, ◌≢◌, ◌<◌, ◌≤◌, ◌+◌, ℕ, suc, List, [], ◌∷◌, ◌++◌, length, map, refl, sym, ◌∙◌, ap, arith, add-one, inl, inr, All, AllPairs, Contains, Some}
 use Rattle.std.specs.Prelude.{slice_get, slice_index}
 use Rattle.std.proofs.lemmas.Option.{get_or_from_slice_get}
 use Rattle.std.proofs.lemmas.List.Elements.{Contains-append_cases}
 use Rattle.sgt_names.proofs.Places.{All-from_at, All_at, Contains_at, Contains-from_at}
+use Rattle.sgt_certifier.specs.declared.call.Call.{Call}
+use Rattle.sgt_certifier.specs.declared.call.Call.TheVariants as call
 use Rattle.sgt_cert.specs.declared.certificate.Decision.{Decision}
 use Rattle.sgt_cert.specs.declared.certificate.Decision.TheVariants as decision
 use Rattle.sgt_certifier.specs.Certifier.{State, Ruling, committed, refused, withdrawn, ruled, serial, ranked, place_in}
 use Rattle.sgt_certifier.specs.Sound.{IsSoundCertifier, IsRuled}
 use Rattle.sgt_certifier.specs.declared.ranking.Ruled.{Ruled}
 use Rattle.sgt_certifier.specs.Judged.{ruling_from}
-use Rattle.sgt_certifier.specs.Kept.{with_rank_in}
+use Rattle.sgt_certifier.specs.Kept.{rulings_from, windows_after, with_rank_in}
 use Rattle.sgt_certifier.proofs.Members.{cons_here, cons_later}
 use Rattle.sgt_certifier.proofs.Keeping.{distinct-append}
 use Rattle.sgt_certifier.proofs.Installs.{distinct_few}
 use Rattle.sgt_certifier.proofs.Ruling.{place_in_at, place_map}
+
+-- the decisions of a call and of those after it
+pub rulings_split : (begun before : ℕ) (c : Call) (cs : List Call) → rulings_from begun before (c ∷ cs) ≡ rulings_from 0 before (c ∷ []) ++ rulings_from (windows_after begun before c).0 (windows_after begun before c).1 cs
+rulings_split begun before (call.Begin tx h) cs = ap (λ k. rulings_from k before cs) (sym (add-one begun))
+rulings_split begun before (call.Decide h edges reply) cs = refl
+rulings_split begun before (call.Finish tx) cs = refl
+rulings_split begun before (call.Withdraw h number) cs = refl
+rulings_split begun before (call.Close ranks) cs = refl
+rulings_split begun before (call.Installed tx site items) cs = refl
+
+pub windows_few : (begun before : ℕ) (c : Call) → (windows_after begun before c).0 ≤ begun + 1
+windows_few begun before (call.Begin tx h) = omega arith
+windows_few begun before (call.Decide h edges reply) = omega arith
+windows_few begun before (call.Finish tx) = omega arith
+windows_few begun before (call.Withdraw h number) = omega arith
+windows_few begun before (call.Close ranks) = omega arith
+windows_few begun before (call.Installed tx site items) = omega arith
 
 abbrev IsBelow : ℕ → Ruling → Type 0
 IsBelow n r = ruled r < n

@@ -1,17 +1,15 @@
 -- The installs of a history.
-use Rattle.std.proofs.Common.{◌≡◌, ◌≢◌, ◌<◌, ◌≤◌, ◌+◌, ℕ, suc, true, false, eqb, List, [], ◌∷◌, ◌++◌, length, get_or, refl, sym, ◌∙◌, ap, subst, arith, inl, inr, All, AllPairs, Any, Contains, Some, None}
-use Rattle.std.specs.Prelude.{filter, ◌↔◌}
+use Rattle.std.proofs.Common.{◌≡◌, ◌≢◌, ◌<◌, ◌≤◌, ◌+◌, ℕ, suc, true, false, eqb, List, [], ◌∷◌, ◌++◌, length, get_or, refl, sym, ◌∙◌, ap, subst, arith, inl, inr, All, AllPairs, Contains, Some, None}
+use Rattle.std.specs.Prelude.{filter}
 use Rattle.std.specs.List.{list_any, filter_map}
 use Rattle.std.specs.Str.{bytes_eq}
 use Rattle.std.proofs.lemmas.Slice.Eq.{bytes_eq-Decides}
 use Rattle.std.proofs.lemmas.List.{length-append}
 use Rattle.std.proofs.lemmas.List.Sums.{length-filter}
 use Rattle.std.proofs.lemmas.Bool.{cases_Bool, ne_eqb, eqb-true, true≢false}
-use Rattle.std.proofs.lemmas.Option.{same_Some}
 use Rattle.std.proofs.lemmas.Map.Keys.{IsDistinct-from_apart}
 use Rattle.std.proofs.lemmas.Map.Steps.{length-le_from_distinct_below}
 use Rattle.std.proofs.lemmas.List.Elements.{Contains-append_cases, Contains-append_left, Contains-append_right, filter_map-append, filter-append}
-use Rattle.sgt_names.proofs.Places.{All-from_at, All_at}
 use Rattle.sgt_names.specs.Name.{Name}
 use Rattle.sgt_certifier.specs.Certifier.{State, Arc, Install, committed, Commits, opening, serial, with_install}
 use Rattle.sgt_certifier.specs.History.{IsNoted, install_in, installs_in, changes_item, counted}
@@ -19,7 +17,7 @@ use Rattle.sgt_certifier.specs.declared.call.Call.{Call}
 use Rattle.sgt_certifier.specs.declared.call.Call.TheVariants as call
 use Rattle.sgt_certifier.specs.Sound.{IsRuled, IsInstalled, AreTwice}
 use Rattle.sgt_certifier.proofs.Members.{cons_cases, cons_here, cons_later, nil_none, placed_old}
-use Rattle.sgt_certifier.proofs.Ruling.{AllPairs-push, push_cases}
+use Rattle.sgt_certifier.proofs.Ruling.{AllPairs-push}
 
 -- ---- each step keeps them
 

@@ -11,16 +11,16 @@ use Rattle.sgt_certifier.specs.declared.judge.Judge.TheInside.{Inside}
 use Rattle.sgt_certifier.specs.declared.call.Call.TheVariants as call
 use Rattle.sgt_certifier.specs.declared.call.CertifierFault.TheVariants as fault
 use Rattle.sgt_certifier.specs.Certifier.{State, Arc, Install, Ruling, withdrawn, without, serial, with_begun, with_finished, with_withdrawn, with_install, with_closed}
-use Rattle.sgt_certifier.specs.History.{begin, finish, withdraw, close, expect, installed, IsAllowed, IsActive, IsInstalling, IsNoted, Serves}
+use Rattle.sgt_certifier.specs.History.{begin, finish, withdraw, close, installed, IsAllowed, IsActive, IsInstalling, IsNoted, Serves}
 use Rattle.sgt_certifier.specs.Kept.{tx_at, arc_at, flagged, state_by}
 use Rattle.sgt_certifier.specs.Judged.{Ends, IsJudged, Notes, note_at, notes_of, ruling_from}
-use Rattle.sgt_certifier.specs.Sound.{IsGoodState, AreTwice}
+use Rattle.sgt_certifier.specs.Sound.{IsGoodState}
 use Rattle.sgt_certifier.proofs.Flags.{flagged_push, flagged_drop, flagged_less, flagged_member, flag_at}
 use Rattle.sgt_certifier.proofs.Installs.{distinct_few}
-use Rattle.sgt_certifier.proofs.Keeping.{finished-sound, renoted-sound}
+use Rattle.sgt_certifier.proofs.Keeping.{renoted-sound}
 use Rattle.sgt_certifier.proofs.Members.{nil_none}
-use Rattle.sgt_certifier.proofs.Replaying.{serves-good, open_step, no_step, no_active, installing}
-use Rattle.sgt_certifier.proofs.Ruling.{AllPairs-push, push_cases, finished-ruled, renoted-ruled}
+use Rattle.sgt_certifier.proofs.Replaying.{serves-good, no_step, no_active, installing}
+use Rattle.sgt_certifier.proofs.Ruling.{AllPairs-push, push_cases, renoted-ruled}
 use Rattle.sgt_certifier.proofs.Transfer.{contains_map, map_contains}
 
 by_fields : ℕ → ℕ → ℕ → List ℕ → List ℕ → List ℕ → List Arc → Option ℕ → List Ruling → List Install → State

@@ -1,6 +1,6 @@
 -- What a judge keeps: the state of the certifier, with its decisions, but of the installs only at
 -- which sites those of the open step are noted.
-use Rattle.std.specs.Prelude.{◌≡◌, ◌≢◌, ◌<◌, ◌≤◌, ◌+◌, [], ◌∷◌, ℕ, List, length, map, Bool, All, AllPairs, Option, Some, None}
+use Rattle.std.specs.Prelude.{◌≡◌, ◌≢◌, ◌<◌, ◌≤◌, ◌+◌, [], ℕ, List, length, map, Bool, All, AllPairs, Option, Some, None}
 use Rattle.sgt_names.specs.Limits.{max_sites}
 use Rattle.sgt_certifier.specs.declared.ranking.Ruled.{Ruled}
 use Rattle.sgt_certifier.specs.declared.ranking.Ruled.TheVariants as ruled_as

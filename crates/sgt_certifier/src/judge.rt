@@ -289,11 +289,7 @@ impl Judge {
     /// Decides a transaction that may be decided, with its edges, and opens its step. It is committed exactly where no cycle
     /// leads through it, else refused with a walk of edges from it back to it. It errs with C5 where memory is refused, and
     /// then the judge is as it was.
-    pub fn decide(
-        &mut self,
-        handle: Handle,
-        edges: &EdgeList,
-    ) -> Result<Decided, CertifierFault>
+    pub fn decide(&mut self, handle: Handle, edges: &EdgeList) -> Result<Decided, CertifierFault>
         requires may { MayDecide self.old handle edges.now }
         ensures ok { IfOk result
             (λ reply. Serves self.old (call.Decide handle edges.now reply) self.new) }

@@ -19,7 +19,7 @@ use Rattle.sgt_cert.specs.declared.certificate.Step.{Step}
 use Rattle.sgt_certifier.specs.Certifier.{State, Arc, committed, refused, Joins, Commits, Refuses, serial, with_begun, with_finished, with_withdrawn, with_install, with_closed}
 use Rattle.sgt_certifier.specs.Sound.{IsSoundCertifier, IsOfWindow, AreNew}
 use Rattle.sgt_certifier.proofs.Members.{cons_cases, nil_none, place_cases, placed_member, AllPairs-append}
-use Rattle.sgt_certifier.proofs.Keeping.{opening-sound, begun-sound, finished-sound, withdrawn-sound, refused-sound, committed-sound, closed-sound, noted-sound, uncommitted}
+use Rattle.sgt_certifier.proofs.Keeping.{opening-sound, begun-sound, finished-sound, withdrawn-sound, refused-sound, committed-sound, closed-sound, renoted-sound, uncommitted}
 use Rattle.sgt_core_model.specs.Core.{OpenStep, CoreState, fresh, with_entries, only_at, changed_at, touches, as_changes, AreEdges, committed_block, refused_block, withdrawn_block}
 use Rattle.sgt_site.specs.State.{change_entry, want_entry}
 use Rattle.sgt_core_model.specs.Runs.{IsLoggedConflict}
@@ -339,7 +339,7 @@ install-ordered c k o =
 
 pub noted-ordered : (c : CoreState) (i s : ℕ) (items : List Name) → IsOrdered c → IsOrdered (record c { certifier = with_install c.certifier i s items })
 noted-ordered c i s items o = record {
-  certifier = noted-sound c.certifier i s items o.certifier;
+  certifier = renoted-sound c.certifier (with_install c.certifier i s items).installs o.certifier;
   due = o.due;
   begun = o.begun;
   windows = o.windows;

@@ -19,7 +19,7 @@ use Rattle.sgt_certifier.specs.Certifier.{State, with_begun, with_withdrawn, wit
 use Rattle.sgt_certifier.proofs.Members.{cons_cases, cons_here, cons_later, nil_none, member_filter}
 use Rattle.sgt_certifier.proofs.Replaying.{contains_cases}
 use Rattle.sgt_certifier.proofs.Keeping.{uncommitted}
-use Rattle.sgt_certifier.proofs.Ruling.{opening-ruled, begun-ruled, finished-ruled, withdrawn-ruled, refused-ruled, committed-ruled, closed-ruled, noted-ruled}
+use Rattle.sgt_certifier.proofs.Ruling.{opening-ruled, begun-ruled, finished-ruled, withdrawn-ruled, refused-ruled, committed-ruled, closed-ruled, renoted-ruled}
 use Rattle.sgt_notation.specs.declared.event.Event.{Event}
 use Rattle.sgt_notation.specs.declared.event.Event.TheVariants.{Begin, Read, Put, Add, Gather, Decide, Install as Write, Commit, Withdraw, Close}
 use Rattle.sgt_core_model.specs.declared.reply.Reply.{Reply}
@@ -364,7 +364,7 @@ noted-sound c tx s h =
     elim (cases_Bool (is_committed c tx)) [
       | inl hit ↦ rw hit (record {
         ordered = noted-ordered c tx s _ h.ordered;
-        ruled = noted-ruled c.certifier tx s _ h.ruled;
+        ruled = renoted-ruled c.certifier _ h.ruled;
         legal = noted-legal c tx s _ h.legal;
         walked = same-walked c (with_install c.certifier tx s _) c.changes c.step h.walked (λ arc m. m) refl;
       })

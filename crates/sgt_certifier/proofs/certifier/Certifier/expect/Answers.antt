@@ -1,4 +1,4 @@
-use Rattle.std.proofs.Common.{All, Vec, Global, ap, sym, subst, ◌∙◌, ◌≡◌, refl}
+use Rattle.std.proofs.Common.{All, Vec, Global, ap, sym, subst, ◌≡◌, refl}
 use Rattle.sgt_certifier.specs.declared.call.CertifierFault.TheVariants as fault
 use Rattle.sgt_certifier.specs.declared.install.Prepared.{Prepared}
 use Rattle.sgt_certifier.specs.Counted.{AreCounted, HavePlaces}

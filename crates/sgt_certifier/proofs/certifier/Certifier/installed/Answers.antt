@@ -1,9 +1,9 @@
-use Rattle.std.proofs.Common.{◌≡◌, ◌<◌, ◌++◌, ◌∷◌, [], refl, sym, ap, ◌∙◌, subst, arith, ◌≢◌, AllPairs, length}
+use Rattle.std.proofs.Common.{◌≡◌, ◌++◌, ◌∷◌, [], refl, sym, ap, ◌∙◌, subst, arith, ◌≢◌, AllPairs, length}
 use Rattle.sgt_certifier.specs.declared.call.Call.TheVariants as call
 use Rattle.sgt_certifier.specs.declared.call.CertifierFault.TheVariants as fault
-use Rattle.sgt_certifier.specs.Kept.{Kept, Adds, Declines, IsExpected, changed_at, state_with, IsTold}
+use Rattle.sgt_certifier.specs.Kept.{Kept, Adds, IsExpected, changed_at, state_with, IsTold}
 use Rattle.sgt_certifier.specs.Counted.{CountsEach}
-use Rattle.sgt_certifier.proofs.Calling.{notes_serves, notes_kept, told_note, allowed_note, declines, view_by, told_with, allowed_with}
+use Rattle.sgt_certifier.proofs.Calling.{notes_serves, notes_kept, told_note, allowed_note, declines, view_by}
 use Rattle.sgt_certifier.proofs.Changes.{expected_same}
 use Rattle.sgt_certifier.proofs.Counting.{changed-once, counted-few, counted-installed, counted-fewer, counted-wider}
 use Rattle.sgt_certifier.proofs.Judging.{may_note}

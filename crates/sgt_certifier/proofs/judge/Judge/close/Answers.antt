@@ -1,4 +1,4 @@
-use Rattle.std.proofs.Common.{◌≡◌, ◌<◌, ◌++◌, ◌∷◌, [], length, map, suc, refl, sym, ap, ◌∙◌, subst, arith, add-one, None}
+use Rattle.std.proofs.Common.{◌≡◌, ◌++◌, length, map, refl, sym, ap, ◌∙◌, subst, arith, add-one}
 use Rattle.sgt_certifier.specs.declared.call.Call.TheVariants as call
 use Rattle.sgt_certifier.specs.Certifier.{State, serial}
 use Rattle.sgt_certifier.specs.History.{close, IsAllowed, Serves}

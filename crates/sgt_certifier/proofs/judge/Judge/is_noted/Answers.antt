@@ -1,7 +1,7 @@
 use Rattle.std.proofs.Common.{◌≡◌, sym, subst, Some, Contains}
 use Rattle.sgt_certifier.specs.Certifier.{State}
 use Rattle.sgt_certifier.specs.History.{IsNoted}
-use Rattle.sgt_certifier.proofs.Judging.{parts_of, state_of, is_noted}
+use Rattle.sgt_certifier.proofs.Judging.{parts_of, is_noted}
 use Rattle.sgt_certifier.proofs.judge.Judge.is_noted.Goals as goal
 
 pub returns : goal.returns

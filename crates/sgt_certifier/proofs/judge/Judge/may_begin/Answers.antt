@@ -1,4 +1,4 @@
-use Rattle.std.proofs.Common.{◌≡◌, None, ap, subst, sym, arith}
+use Rattle.std.proofs.Common.{◌≡◌, None, subst, arith}
 use Rattle.sgt_certifier.specs.Certifier.{State}
 use Rattle.sgt_certifier.specs.History.{begin, IsAllowed}
 use Rattle.sgt_certifier.proofs.Judging.{parts_of, state_of, begin_allowed}

@@ -1,4 +1,4 @@
-use Rattle.std.proofs.Common.{◌≡◌, ◌<◌, length, suc, None, sym, subst, arith}
+use Rattle.std.proofs.Common.{◌≡◌, ◌<◌, length, suc, None, subst, arith}
 use Rattle.sgt_certifier.specs.Certifier.{State}
 use Rattle.sgt_certifier.specs.History.{close, IsAllowed}
 use Rattle.sgt_certifier.proofs.Judging.{parts_of, state_of, close_allowed}

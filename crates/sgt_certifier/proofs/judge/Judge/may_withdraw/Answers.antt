@@ -1,6 +1,5 @@
-use Rattle.std.proofs.Common.{◌≡◌, None, sym, subst}
+use Rattle.std.proofs.Common.{◌≡◌, None, subst}
 use Rattle.sgt_certifier.specs.Certifier.{State}
-use Rattle.sgt_certifier.specs.History.{withdraw, IsAllowed}
 use Rattle.sgt_certifier.proofs.Judging.{withdraw_allowed}
 use Rattle.sgt_certifier.proofs.judge.Judge.may_withdraw.Goals as goal
 

@@ -1,4 +1,4 @@
-use Rattle.std.proofs.Common.{◌≡◌, ◌<◌, ◌≤◌, length, refl, sym, ap, ◌∙◌, subst, arith}
+use Rattle.std.proofs.Common.{◌<◌, sym, ap, subst, arith}
 use Rattle.sgt_names.specs.Limits.{max_sites}
 use Rattle.sgt_certifier.specs.Certifier.{State}
 use Rattle.sgt_certifier.specs.History.{installed, IsAllowed}

@@ -1,9 +1,9 @@
-use Rattle.std.proofs.Common.{◌≡◌, ◌++◌, ◌∷◌, [], length, map, refl, sym, ap, ◌∙◌, subst, arith, None, true, false}
+use Rattle.std.proofs.Common.{◌≡◌, ◌++◌, ◌∷◌, [], length, map, refl, sym, ap, ◌∙◌, subst, arith, true, false}
 use Rattle.std.specs.Prelude.{slice_set}
 use Rattle.std.proofs.lemmas.Option.{slice_get_within}
 use Rattle.std.proofs.lemmas.List.{length-map, map-append}
 use Rattle.sgt_certifier.specs.Certifier.{State, withdrawn}
-use Rattle.sgt_certifier.specs.History.{IsActive, IsAllowed, Serves, withdraw}
+use Rattle.sgt_certifier.specs.History.{IsAllowed, Serves, withdraw}
 use Rattle.sgt_certifier.specs.Judged.{ruling_from}
 use Rattle.sgt_certifier.specs.Kept.{tx_at}
 use Rattle.sgt_certifier.specs.declared.call.Call.TheVariants as call
