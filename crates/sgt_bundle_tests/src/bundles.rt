@@ -15,6 +15,9 @@ const LINE: &str =
 const TEXT: &str =
     "sgt 2\n{\"decisions\":[{\"commit\":2,\"rank\":0},{\"commit\":1,\"rank\":1}],\"sites\":1}\nsite 0\nitem x=5\nd2[x]=4\nc2\nd1[x]=3\nc1\nfinal x=12\nend\n";
 
+const TWO_SITES: &str =
+    "sgt 2\n{\"decisions\":[{\"commit\":2,\"rank\":0},{\"commit\":1,\"rank\":1}],\"sites\":2}\nsite 0\nitem x=5\nd2[x]=4\nc2\nd1[x]=3\nc1\nfinal x=12\nend\nsite 1\nitem x=5\nd2[x]=4\nc2\nd1[x]=3\nc1\nfinal x=12\nend\n";
+
 /// The log of an item's two values and the entries between.
 fn log_of(
     alloc: Global,
@@ -81,5 +84,21 @@ fn texts(rt: HostRuntime) -> Result<(), Fail> {
     ranks_are_distinct();
     serial_order_is_by_rank();
     valid_bundles_run_serially();
+    Ok(())
+}
+
+#[test]
+fn text_of_a_bundle_given_up(rt: HostRuntime) -> Result<(), Fail> {
+    let mut sites = one(rt.alloc(), increments(rt.alloc())?)?;
+    sites.push(increments(rt.alloc())?)?;
+    let mut certificate = from_line(rt.alloc(), LINE.as_bytes())?;
+    certificate.sites = 2;
+    match Bundle::new(certificate, sites) {
+        Some(bundle) => {
+            let text = bundle.into_text(rt.alloc())?;
+            assert!(rt; text.as_slice() == TWO_SITES.as_bytes());
+        }
+        None => assert!(rt; false),
+    }
     Ok(())
 }

@@ -1,12 +1,12 @@
 //! The text of a bundle.
 
-ghost use Rattle.std.specs.Prelude.{◌≡◌, ◌++◌, ◌∷◌, [], ◌≤◌, ◌+◌, All, IfOk, OnOk, length, map};
+ghost use Rattle.std.specs.Prelude.{◌≡◌, ◌++◌, ◌∷◌, [], ◌<◌, ◌≤◌, ◌+◌, All, IfOk, OnOk, length, map};
 ghost use Rattle.sgt_names.specs.Limits.{max_sites};
 ghost use Rattle.sgt_notation.specs.Spelling.{line_text, text_of_lines, IsEntry, IsHolding, IsLine};
 ghost use Rattle.sgt_notation.specs.declared.SectionLine.{SectionLine};
 ghost use Rattle.std.specs.List.{list_any};
 ghost use Rattle.sgt_names.specs.Entry.{is_increment};
-ghost use Rattle.sgt_cert.specs.Text.{has_increments, sections_from, section_lines, text_of, IsDecision, IsLog};
+ghost use Rattle.sgt_cert.specs.Text.{certificate_text, format_line, has_increments, sections_from, section_lines, text_of, IsDecision, IsLog};
 
 use crate::bundle::SiteLog;
 use crate::certificate::Certificate;
@@ -60,12 +60,16 @@ fn push_finals(out: &mut Vec<u8>, finals: &[Holding]) -> Result<(), AllocError>
     Ok(())
 }
 
-fn push_section(out: &mut Vec<u8>, site: SiteNo, log: &SiteLog) -> Result<(), AllocError>
+fn push_section(out: &mut Vec<u8>, site: u64, log: &SiteLog) -> Result<(), AllocError>
+    requires { site < max_sites }
     ensures text { OnOk result
         (out.new.items
         ≡ out.old.items ++ text_of_lines (map line_text (section_lines site log.now))) }
     ensures in_range { OnOk result (IsLog log.now) }
 {
+    let Ok(site) = SiteNo::new(site) else {
+        unreachable!();
+    };
     push_line(out, &SectionLine::Site(site))?;
     push_items(out, log.items.as_slice())?;
     push_entries(out, log.entries.as_slice())?;
@@ -81,10 +85,23 @@ fn push_sections(out: &mut Vec<u8>, sites: &[SiteLog]) -> Result<(), AllocError>
     ensures in_range { OnOk result (All IsLog sites.now) }
 {
     for (k, log) in sites.iter().enumerate() {
-        let Ok(site) = SiteNo::new(k as u64) else {
-            unreachable!();
-        };
-        push_section(out, site, log)?;
+        push_section(out, k as u64, log)?;
+    }
+    Ok(())
+}
+
+/// The sections of logs that are given up: each is let go once its section is written.
+fn push_given_sections(out: &mut Vec<u8>, sites: Vec<SiteLog>) -> Result<(), AllocError>
+    requires { length sites.items ≤ max_sites }
+    ensures text { OnOk result
+        (out.new.items
+        ≡ out.old.items ++ text_of_lines (map line_text (sections_from 0 sites.items))) }
+    ensures in_range { OnOk result (All IsLog sites.items) }
+{
+    let mut site = 0;
+    for log in sites {
+        push_section(out, site, &log)?;
+        site += 1;
     }
     Ok(())
 }
@@ -104,7 +121,24 @@ fn any_log_increments(sites: &[SiteLog]) -> bool
         .any(|log| any_increment(log.entries.as_slice()))
 }
 
-/// The text of a certificate and its logs, in the second format exactly where it has to be. Err: memory ran out.
+/// Lines 1 and 2 of the text: the second format exactly where it has to be, and the certificate. Err: memory ran out.
+fn head(alloc: Global, certificate: &Certificate, sites: &[SiteLog]) -> Result<Vec<u8>, AllocError>
+    ensures text { IfOk result
+        (λ head. head.items
+        ≡ text_of_lines
+        (format_line (has_increments sites.now) ∷ certificate_text certificate.now ∷ [])) }
+    ensures decisions { IfOk result (λ _. All (IsDecision max_sites) certificate.now.decisions) }
+{
+    let line = to_line(alloc, certificate)?;
+    let second = any_log_increments(sites);
+    let format = if second { b"sgt 2\n" } else { b"sgt 1\n" };
+    let mut head = Vec::from_slice(alloc, format)?;
+    head.extend_from_slice(line.as_slice())?;
+    head.extend_from_slice(b"\n")?;
+    Ok(head)
+}
+
+/// The text of a certificate and its logs. Err: memory ran out.
 pub(crate) fn text(
     alloc: Global,
     certificate: &Certificate,
@@ -117,12 +151,26 @@ pub(crate) fn text(
     ensures decisions { IfOk result (λ _. All (IsDecision max_sites) certificate.now.decisions) }
     ensures logs { IfOk result (λ _. All IsLog sites.now) }
 {
-    let line = to_line(alloc, certificate)?;
-    let second = any_log_increments(sites);
-    let format = if second { b"sgt 2\n" } else { b"sgt 1\n" };
-    let mut text = Vec::from_slice(alloc, format)?;
-    text.extend_from_slice(line.as_slice())?;
-    text.extend_from_slice(b"\n")?;
+    let mut text = head(alloc, certificate, sites)?;
     push_sections(&mut text, sites)?;
+    Ok(text)
+}
+
+/// The same of a certificate and logs that are given up: each is let go once it is written.
+pub(crate) fn given_text(
+    alloc: Global,
+    certificate: Certificate,
+    sites: Vec<SiteLog>,
+) -> Result<Vec<u8>, AllocError>
+    requires { length sites.items ≤ max_sites }
+    ensures text { IfOk result
+        (λ text. text.items
+        ≡ text_of (record { certificate = certificate; sites = sites.items })) }
+    ensures decisions { IfOk result (λ _. All (IsDecision max_sites) certificate.decisions) }
+    ensures logs { IfOk result (λ _. All IsLog sites.items) }
+{
+    let mut text = head(alloc, &certificate, sites.as_slice())?;
+    drop(certificate);
+    push_given_sections(&mut text, sites)?;
     Ok(text)
 }

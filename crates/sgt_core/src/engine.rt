@@ -39,7 +39,7 @@ fn write_ending(alloc: Global, core: Core, out: &mut Vec<u8>) -> Result<Ending, 
             out.extend_from_slice(b"---\n")?;
             Ok(Ending {
                 outcome: Outcome::Yes,
-                bundle: bundle.to_text(alloc)?,
+                bundle: bundle.into_text(alloc)?,
             })
         }
         Err(CoreFault::ActiveLeft) => {

@@ -136,7 +136,7 @@ fn run_text(alloc: Global, settled: &Settled) -> Result<Answer, AllocError>
     ensures { IfOk result (λ answer. IsTextOf settled.now answer.outcome answer.text.items) }
 {
     let whole = bundle(alloc, settled)?;
-    let bytes = whole.to_text(alloc)?;
+    let bytes = whole.into_text(alloc)?;
     let verdict = verdict_on(alloc, bytes.as_slice())?;
     let line = verdict.to_line(alloc)?;
     let dones = settled.dones();
