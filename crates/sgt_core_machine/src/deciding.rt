@@ -119,7 +119,7 @@ fn rule(
     edges: &EdgeList,
 ) -> Result<Decided, CertifierFault>
     requires slot { (r : ARunning) × (slice_get table.now slot ≡ Some (Some r)) }
-    requires may { MayRuleAt certifier.old.state table.now slot edges.now }
+    requires may { MayRuleAt certifier.old table.now slot edges.now }
     ensures ok { IfOk result
         (λ decided. RulesAt certifier.old certifier.new table.now slot edges.now decided) }
     ensures err { OnErr result (certifier.new ≡ certifier.old) }
