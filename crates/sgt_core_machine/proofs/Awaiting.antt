@@ -1,5 +1,5 @@
 -- After a decision the installs of the transaction can be noted.
-use Rattle.std.proofs.Common.{◌≡◌, ℕ, List, [], Option, Some, sym, subst, Contains}
+use Rattle.std.proofs.Common.{◌≡◌, ℕ, List, [], Option, Some, subst, Contains}
 use Rattle.std.specs.Prelude.{slice_get, Result, Ok, Err, IfOk, OnOk}
 use Rattle.sgt_edges.specs.declared.edge.Edge.{Edge}
 use Rattle.sgt_certifier.specs.Certifier.{State}

@@ -109,7 +109,7 @@ still_unnoted s tx site u items ne out m =
 
 pub awaits_stays : (verdict : Verdict) (old new : State) (s tx u : ℕ) → IsNotedBy verdict old new s tx → (u ≡ s → ⊥) → AwaitsInstall old tx u → AwaitsInstall new tx u
 awaits_stays Refused old new s tx u is ne h = subst (λ (k : State). AwaitsInstall k tx u) (sym is) h
-awaits_stays Committed old new s tx u is ne h n = still_unnoted old tx s u [] ne h (subst (λ (st : State). IsNoted st tx u) is.after n)
+awaits_stays Committed old new s tx u is ne h = λ n. still_unnoted old tx s u [] ne h (subst (λ (st : State). IsNoted st tx u) is.after n)
 
 -- the certifier carries what the model notes
 pub carries_noted : (verdict : Verdict) (m : Parts) (c : CoreState) (new : State) (s tx : ℕ) → IsVerdict c verdict tx → IsNotedBy verdict m.certifier new s tx → Carries m.certifier c.certifier

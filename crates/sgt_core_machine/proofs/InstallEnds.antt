@@ -35,7 +35,7 @@ all_true : (p : ℕ → Bool) (xs : List ℕ) → ((x : ℕ) → Contains xs x �
 all_true p [] h = refl
 all_true p (x ∷ xs) h = rw (h x (cons_here x xs)) (all_true p xs (λ y member. h y (cons_later x xs y member)))
 
-carries_finished : (s t : State) (i : ℕ) → Carries s t → Carries (with_finished s i) (with_finished t i)
+carries_finished : (s t : State) (i : ℕ) → Carries s t → Carries (record (with_finished s i) { installs = [] }) (with_finished t i)
 carries_finished s t i h = record { same = ap (λ st. with_finished st i) h.same; fewer = h.fewer; lead = h.lead }
 
 module _ (m : Parts) (c : CoreState) (s : StandsFor m c) (verdict : Verdict) (tx slot t : ℕ) (w : IsToWrite m c verdict tx slot t) (n : Parts) (h : Writes verdict m n t slot tx) where

@@ -20,7 +20,7 @@ use Rattle.sgt_site.specs.declared.fault.SiteFault.{SiteFault}
 use Rattle.sgt_site.specs.declared.fault.SiteFault.TheVariants as site_fault
 use Rattle.sgt_edges.specs.declared.edge.Edge.{Edge}
 use Rattle.sgt_certifier.specs.Certifier.{State}
-use Rattle.sgt_certifier.specs.History.{Request, begin, close, expect, tx_under, IsActive, IsOlder, Fits, IsAllowed as IsServed}
+use Rattle.sgt_certifier.specs.History.{Request, begin, close, tx_under, IsActive, IsOlder, Fits, IsAllowed as IsServed}
 use Rattle.sgt_certifier.specs.Kept.{IsTold, MayDecide}
 use Rattle.sgt_certifier.specs.declared.call.CertifierFault.{CertifierFault}
 use Rattle.sgt_certifier.specs.declared.call.CertifierFault.TheVariants as told
@@ -203,11 +203,6 @@ pub may_withdraw_at : (m : Parts) (c : CoreState) → StandsFor m c → m.step �
 may_withdraw_at m c s none slot r runs told.Unknown f = f (is_active m c s slot r runs)
 may_withdraw_at m c s none slot r runs (told.StepOpen t) f = no_step m c s (certifier_closed m c s none) t f
 may_withdraw_at m c s none slot r runs _ f = f
-
-pub may_expect : (s : State) (h : Handle) (edges : List Edge) → MayDecide s h edges → IsServed s (expect h)
-may_expect s h edges may told.Unknown f = f may.active
-may_expect s h edges may (told.StepOpen t) f = let e : Some t ≡ None = sym f ∙ may.idle in absurd cc
-may_expect s h edges may _ f = f
 
 module _ (m : Parts) (c : CoreState) (s : StandsFor m c) (tx slot : ℕ) (number : tx ≡ suc (m.before + slot)) (allowed : IsAllowed c (Decide tx)) where
   abbrev edges : List Edge

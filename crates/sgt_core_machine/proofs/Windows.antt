@@ -14,7 +14,7 @@ use Rattle.sgt_arena.specs.declared.handle.Handle.{Handle}
 use Rattle.sgt_site.specs.State.{KeepsReads}
 use Rattle.sgt_site.specs.declared.cell.Install.{Install}
 use Rattle.sgt_certifier.specs.Certifier.{State, with_begun, with_closed, serial}
-use Rattle.sgt_certifier.specs.History.{close, IsAllowed as IsRequestAllowed}
+use Rattle.sgt_certifier.specs.History.{close, IsAllowed as IsRequestAllowed, Serves}
 use Rattle.sgt_certifier.specs.Kept.{IsTold}
 use Rattle.sgt_certifier.specs.declared.call.Call.TheVariants as call
 use Rattle.sgt_certifier.specs.declared.call.CertifierFault.{CertifierFault}
@@ -58,7 +58,7 @@ begin_allowed m c h tx new s none serves fault.NumbersSpent f =
     serves.0 told.NumbersSpent (omega (arith, f, begun))
 begin_allowed m c h tx new s none serves _ f = f
 
-abbrev pub begun_parts : Parts → Kept → Running → Parts
+abbrev pub begun_parts : Parts → State → Running → Parts
 begun_parts m new r = record m { certifier = new; begun = m.begun + 1; table = m.table ++ Some r ∷ [] }
 
 abbrev pub begun_state : CoreState → CoreState
@@ -205,7 +205,7 @@ close_refused m c told.Unknown s none t = absurd t.0
 close_refused m c told.Stale s none t = absurd t.0
 close_refused m c told.NumbersSpent s none t = absurd t.0
 
-abbrev pub closed_parts : Parts → Kept → Parts
+abbrev pub closed_parts : Parts → State → Parts
 closed_parts m new = record m { certifier = new; before = m.begun; table = [] }
 
 abbrev pub closed_state : CoreState → CoreState

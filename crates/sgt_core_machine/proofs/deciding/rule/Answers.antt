@@ -1,10 +1,10 @@
-use Rattle.std.proofs.Common.{◌≡◌, sym, ◌∙◌, ap, subst, Some, Contains}
+use Rattle.std.proofs.Common.{◌∙◌, ap, Some}
 use Rattle.sgt_core_machine.proofs.Awaiting.{rules_from}
 use Rattle.sgt_core_machine.proofs.Finding.{found_there, someone_there}
 use Rattle.sgt_core_machine.proofs.deciding.rule.Goals as goal
 
-pub returns-in-Some-clause-ok : goal.returns-in-Some-clause-ok
-returns-in-Some-clause-ok c =
+pub returns-clause-ok : goal.returns-clause-ok
+returns-clause-ok c =
     let runs = found_there c.args.table.now c.args.slot c.index-table-slot.result c.requires.slot.0 c.requires.slot.1 c.index-table-slot.is ∙ ap Some c.in-Some.is in
     rules_from c.args.certifier.now c.decide.new.self c.args.table.now c.args.slot c.args.edges.now c.in-Some.running runs c.decide.result c.decide.ensures.ok c.decide.ensures.unnoted
 
