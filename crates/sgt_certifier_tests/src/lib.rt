@@ -12,6 +12,8 @@ mod faults;
 #[cfg(test)]
 mod graph;
 #[cfg(test)]
+mod judge;
+#[cfg(test)]
 mod memory;
 #[cfg(test)]
 mod plain;
