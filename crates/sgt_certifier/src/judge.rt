@@ -384,17 +384,14 @@ impl Judge {
         Ok(())
     }
 
-    /// Notes that the writes of the transaction of the open step are installed at the site. It takes no memory: it errs as
-    /// `may_note`, and then the judge is as it was.
-    pub fn note(&mut self, tx: Tx, site: SiteNo) -> Result<(), CertifierFault>
-        ensures ok { OnOk result (Notes self.old tx site self.new) }
-        ensures few { OnOk result (length self.new.installs ≤ max_sites) }
-        ensures err { IfErr result (λ f. Denies self.old (installed tx site) f self.new) }
-        ensures takes_none { IfErr result (λ f. f ≡ CertifierFault.Unknown) }
+    /// Notes that the writes of the transaction of the open step are installed at the site, where that may be noted. It takes no
+    /// memory. Constant time.
+    pub fn note(&mut self, tx: Tx, site: SiteNo)
+        requires { IsAllowed self.old (installed tx site) }
+        ensures notes { Notes self.old tx site self.new }
+        ensures few { length self.new.installs ≤ max_sites }
     {
-        self.may_note(tx, site)?;
         self.noted.push_reserved(site);
-        Ok(())
     }
 
     /// Whether the window may be closed. It errs with C3 where a step is open, else with C4 where transactions are active, else

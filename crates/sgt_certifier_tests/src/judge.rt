@@ -28,7 +28,7 @@ fn judged(rt: HostRuntime) -> Result<(), Fail> {
     assert!(rt; judge.is_under(two, second) && judge.active() == 2);
     assert!(rt; commits(&mut judge, first, &EdgeList::new(alloc))?);
     judge.may_note(one, names.site)?;
-    judge.note(one, names.site)?;
+    judge.note(one, names.site);
     judge.finish_step(one)?;
     judge.may_withdraw(second)?;
     assert!(rt; judge.withdraw(second)? == 1);

@@ -110,12 +110,8 @@ fn note_install(certifier: &mut Judge, tx: Tx, site: SiteNo, verdict: Verdict)
     requires { verdict ≡ Verdict.Committed → AwaitsAt certifier.old site tx }
     ensures { IsNotedBy verdict certifier.old certifier.new site tx }
 {
-    let Verdict::Committed = verdict else {
-        return;
-    };
-    match certifier.note(tx, site) {
-        Ok(()) => {}
-        Err(_) => unreachable!(),
+    if let Verdict::Committed = verdict {
+        certifier.note(tx, site);
     }
 }
 

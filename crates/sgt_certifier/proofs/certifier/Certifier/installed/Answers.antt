@@ -16,8 +16,8 @@ use Rattle.sgt_certifier.proofs.certifier.Certifier.installed.Goals as goal
 pub push_reserved-requires : goal.push_reserved-requires
 push_reserved-requires c =
     let i = c.self.inside in
-    let notes = c.in-Ok.ensures.ok in
-    let few = c.in-Ok.ensures.few in
+    let notes = c.note.ensures.notes in
+    let few = c.note.ensures.few in
     let longer = length_push i.judge.installs (note_at c.args.tx c.args.site) in
     let spare = c.self.invariant.0.spare c.args.tx (may_note i.judge c.args.tx c.args.site notes.allowed).0.0 in
     omega (arith, spare, few, ap (λ (s : State). length s.installs) notes.after, longer, i.history.ok)
@@ -34,7 +34,7 @@ invariant_of-self-2 c =
     let each = subst (λ xs. CountsEach c.args.site xs c.take_items.new.counts c.add_each.new.self) (c.as_slice.ensures ∙ items_is) c.add_each.ensures in
     let wider = counted-wider i.counts c.take_items.new.counts i.history.items i.expected.items c.take_items.ensures.widens c.self.invariant.1 in
     let counted_before = counted-fewer c.take_items.new.counts i.history.items i.expected.items c.take_items.new.expected.items c.take_items.ensures.fewer wider in (
-      notes_kept i.judge new i.history.items calls c.args.tx c.args.site items _ _ c.self.invariant.0 c.in-Ok.ensures.ok longer c.push_reserved.ensures.capacity,
+      notes_kept i.judge new i.history.items calls c.args.tx c.args.site items _ _ c.self.invariant.0 c.note.ensures.notes longer c.push_reserved.ensures.capacity,
       counted-installed c.take_items.new.counts c.add_each.new.self i.history.items calls c.take_items.new.expected.items c.args.tx c.args.site items longer each counted_before,
     )
 
@@ -47,7 +47,7 @@ returns-clause-ok c =
     let items_is : c.in_ok-items.items ≡ items = c.in_ok-items.ensures.items ∙ c.touched_near.ensures.changed in
     let made = call.Installed c.args.tx c.args.site items in
     let longer : calls ≡ i.history.items ++ made ∷ [] = c.push_reserved.ensures.items ∙ ap (λ xs. i.history.items ++ call.Installed c.args.tx c.args.site xs ∷ []) items_is in
-    let all = notes_serves i.judge new i.history.items calls c.args.tx c.args.site items _ c.self.invariant.0 c.in-Ok.ensures.ok longer in
+    let all = notes_serves i.judge new i.history.items calls c.args.tx c.args.site items _ c.self.invariant.0 c.note.ensures.notes longer in
     subst (λ (v : Kept). Adds v made (record { state = state_with new calls; history = calls; expected = c.take_items.new.expected.items })) c.self.view_is (record { serves = all; history = longer; expected = c.in_ok-items.ensures.others })
 
 pub returns-in_err-items-clause-takes_none : goal.returns-in_err-items-clause-takes_none
@@ -91,9 +91,3 @@ returns-in_err-items-clause-err c =
     let same : new ≡ old = ap (view_by i.judge i.history.items) c.in_err-items.ensures.err ∙ c.self.view_is in
     let told = subst (λ (v : Kept). IsTold v.state (installed c.args.tx c.args.site) fault.Memory) c.self.view_is (allowed_note i.judge i.history.items c.args.tx c.args.site _ c.self.invariant.0 c.in_ok-may_note.ensures.ok) in
     declines c.from_residual-in_err-items.result fault.Memory old new (installed c.args.tx c.args.site) c.from_residual-in_err-items.ensures.1 told same
-
-pub unreachable-requires : goal.unreachable-requires
-unreachable-requires c =
-    let asked = installed c.args.tx c.args.site in
-    let told = subst (IsTold c.self.inside.judge asked) c.in-Err.ensures.takes_none c.in-Err.ensures.err.told in
-    c.in_ok-may_note.ensures.ok fault.Unknown told.0
