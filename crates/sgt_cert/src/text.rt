@@ -121,6 +121,20 @@ fn any_log_increments(sites: &[SiteLog]) -> bool
         .any(|log| any_increment(log.entries.as_slice()))
 }
 
+// The bytes that an entry takes in memory.
+const ENTRY_ROOM: usize = 32;
+
+// How much room a text is made with, where its line 2 has so many bytes: for each entry as much as it takes in memory. The text may
+// outgrow it.
+fn room_for(line: usize, sites: &[SiteLog]) -> usize {
+    let mut room = line.saturating_add(64);
+    for log in sites {
+        let entries = log.entries.as_slice().len();
+        room = room.saturating_add(entries.saturating_mul(ENTRY_ROOM));
+    }
+    room
+}
+
 /// Lines 1 and 2 of the text: the second format exactly where it has to be, and the certificate. Err: memory ran out.
 fn head(alloc: Global, certificate: &Certificate, sites: &[SiteLog]) -> Result<Vec<u8>, AllocError>
     ensures text { IfOk result
@@ -132,7 +146,8 @@ fn head(alloc: Global, certificate: &Certificate, sites: &[SiteLog]) -> Result<V
     let line = to_line(alloc, certificate)?;
     let second = any_log_increments(sites);
     let format = if second { b"sgt 2\n" } else { b"sgt 1\n" };
-    let mut head = Vec::from_slice(alloc, format)?;
+    let mut head = Vec::with_capacity(alloc, room_for(line.len(), sites))?;
+    head.extend_from_slice(format)?;
     head.extend_from_slice(line.as_slice())?;
     head.extend_from_slice(b"\n")?;
     Ok(head)
