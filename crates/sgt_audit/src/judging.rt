@@ -86,6 +86,7 @@ fn judge_entry(
 }
 
 /// The least fault of a final value.
+#[inline(always)]
 pub fn judge_final(state: &SiteState, place: &OpenPlace, holding: &Holding) -> Option<Fault>
     ensures { (ds : List Decision) (c : Certificate) (before : List SectionLine) (log : SiteLog)
         → IsOpenPlace log place.now

@@ -123,7 +123,7 @@ impl Kept {
     }
 
     /// An item.
-    #[inline(always)]
+    #[inline(never)]
     fn follow_initial(&mut self, holding: &Holding) -> Result<Option<Fault>, AllocError>
         ensures sections { is_some self.new.sections ≡ is_some self.old.sections }
         ensures follows { let line = Initial holding.now in
@@ -134,7 +134,7 @@ impl Kept {
     }
 
     /// A final value.
-    #[inline(always)]
+    #[inline(never)]
     fn follow_final(&mut self, holding: &Holding) -> Result<Option<Fault>, AllocError>
         ensures sections { is_some self.new.sections ≡ is_some self.old.sections }
         ensures follows { let line = Final holding.now in
@@ -243,37 +243,26 @@ impl Kept {
             → IfOk result (Follows s (line_text line.now) (Reading self.new)) }
     {
         let copy = *line;
-        self.next_other(&copy)
+        match &copy {
+            SectionLine::Initial(holding) => self.follow_initial(holding),
+            SectionLine::Final(holding) => self.follow_final(holding),
+            _ => self.next_other(&copy),
+        }
     }
 
-    /// The same, of a kind that is less frequent.
+    /// The same, of a kind that is less frequent. It may be none of the format.
     #[inline(never)]
     fn next_other(&mut self, line: &SectionLine) -> Result<Option<Fault>, AllocError>
         ensures sections { is_some self.new.sections ≡ is_some self.old.sections }
         ensures follows { IsLine line.now → (s : Stage) → IsAt self.old s
             → IfOk result (Follows s (line_text line.now) (Reading self.new)) }
     {
-        match line {
-            SectionLine::Initial(holding) => self.follow_initial(holding),
-            SectionLine::Final(holding) => self.follow_final(holding),
-            SectionLine::Logged(entry) => self.next_allowed(entry),
-            SectionLine::Site(_) => self.follow_other(line),
-            SectionLine::End => self.follow_other(line),
+        if !is_allowed(self.second, line) {
+            return Ok(Some(self.unread()));
         }
-    }
-
-    /// The same, where the line is this entry, which may be none of the format.
-    #[inline(always)]
-    fn next_allowed(&mut self, entry: &Entry) -> Result<Option<Fault>, AllocError>
-        ensures sections { is_some self.new.sections ≡ is_some self.old.sections }
-        ensures follows { let line = Logged entry.now in
-            IsLine line → (s : Stage) → IsAt self.old s
-            → IfOk result (Follows s (line_text line) (Reading self.new)) }
-    {
-        if is_allowed(self.second, &SectionLine::Logged(*entry)) {
-            self.follow_rare(entry)
-        } else {
-            Ok(Some(self.unread()))
+        match line {
+            SectionLine::Logged(entry) => self.follow_rare(entry),
+            _ => self.follow_other(line),
         }
     }
 

@@ -1,28 +1,23 @@
 use Rattle.std.proofs.Common.{IfOk, sym, subst}
-use Rattle.sgt_notation.specs.Spelling.{IsLine, line_text}
-use Rattle.sgt_audit.specs.Faults.{Allows, Stage}
+use Rattle.sgt_notation.specs.Spelling.{line_text}
+use Rattle.sgt_notation.proofs.OneSpelling.{line-one}
+use Rattle.sgt_audit.specs.Faults.{Allows, IsLineIn, Stage}
 use Rattle.sgt_audit.specs.Kept.{IsAt}
 use Rattle.sgt_audit.specs.private.NextLine.{Follows}
 use Rattle.sgt_audit.specs.declared.machine.Progress.TheVariants.{Reading}
+use Rattle.sgt_audit_decisions.proofs.Loops.{refuted}
 use Rattle.sgt_audit.proofs.kept.Kept.next_other.Goals as goal
 
-pub returns-in-Initial-clause-follows : goal.returns-in-Initial-clause-follows
-returns-in-Initial-clause-follows c =
-    subst (λ l. IsLine l → (s : Stage) → IsAt c.args.self.now s → IfOk c.follow_initial.result (Follows s (line_text l) (Reading c.follow_initial.new.self))) (sym c.in-Initial.is)
-    (λ is. c.follow_initial.ensures.follows (is, tt))
-
-pub returns-in-Final-clause-follows : goal.returns-in-Final-clause-follows
-returns-in-Final-clause-follows c =
-    subst (λ l. IsLine l → (s : Stage) → IsAt c.args.self.now s → IfOk c.follow_final.result (Follows s (line_text l) (Reading c.follow_final.new.self))) (sym c.in-Final.is)
-    (λ is. c.follow_final.ensures.follows (is, tt))
+pub returns-then-not-is_allowed-clause-follows : goal.returns-then-not-is_allowed-clause-follows
+returns-then-not-is_allowed-clause-follows c is s here =
+    let line = c.args.line.now in
+    c.unread.ensures (line_text line) s
+    (λ l is_l same. refuted c.is_allowed.result c.is_allowed.ensures c.if-not-is_allowed.true (subst (Allows c.args.self.now.second) (sym (line-one line l is is_l.0 same)) is_l.1)) here
 
 pub returns-in-Logged-clause-follows : goal.returns-in-Logged-clause-follows
-returns-in-Logged-clause-follows c =
-    subst (λ l. IsLine l → (s : Stage) → IsAt c.args.self.now s → IfOk c.next_allowed.result (Follows s (line_text l) (Reading c.next_allowed.new.self))) (sym c.in-Logged.is)
-    (c.next_allowed.ensures.follows)
+returns-in-Logged-clause-follows c is =
+    subst (λ l. IsLineIn c.args.self.now.second l → (s : Stage) → IsAt c.args.self.now s → IfOk c.follow_rare.result (Follows s (line_text l) (Reading c.follow_rare.new.self))) (sym c.in-Logged.is)
+    c.follow_rare.ensures.follows (is, c.is_allowed.ensures.0 c.if-not-is_allowed.false)
 
-pub returns-in-Site-clause-follows : goal.returns-in-Site-clause-follows
-returns-in-Site-clause-follows c is = c.follow_other.ensures.follows (is, subst (Allows c.args.self.now.second) (sym c.in-Site.is) tt)
-
-pub returns-in-End-clause-follows : goal.returns-in-End-clause-follows
-returns-in-End-clause-follows c is = c.follow_other-in-End.ensures.follows (is, subst (Allows c.args.self.now.second) (sym c.in-End.is) tt)
+pub returns-in_default-clause-follows : goal.returns-in_default-clause-follows
+returns-in_default-clause-follows c is = c.follow_other.ensures.follows (is, c.is_allowed.ensures.0 c.if-not-is_allowed.false)
