@@ -232,7 +232,8 @@ impl Kept {
             IsLine line → (s : Stage) → IsAt self.old s
             → IfOk result (Follows s (line_text line) (Reading self.new)) }
     {
-        self.next_other(&SectionLine::Logged(*entry))
+        let copy = *entry;
+        self.next_allowed(&copy)
     }
 
     /// The same, of a kind that is less frequent, by way of memory that only this way touches.
@@ -246,23 +247,24 @@ impl Kept {
         match &copy {
             SectionLine::Initial(holding) => self.follow_initial(holding),
             SectionLine::Final(holding) => self.follow_final(holding),
-            _ => self.next_other(&copy),
+            SectionLine::Logged(entry) => self.next_allowed(entry),
+            SectionLine::Site(_) => self.follow_other(&copy),
+            SectionLine::End => self.follow_other(&copy),
         }
     }
 
-    /// The same, of a kind that is less frequent. It may be none of the format.
+    /// The same, where the line is this entry, which may be none of the format.
     #[inline(never)]
-    fn next_other(&mut self, line: &SectionLine) -> Result<Option<Fault>, AllocError>
+    fn next_allowed(&mut self, entry: &Entry) -> Result<Option<Fault>, AllocError>
         ensures sections { is_some self.new.sections ≡ is_some self.old.sections }
-        ensures follows { IsLine line.now → (s : Stage) → IsAt self.old s
-            → IfOk result (Follows s (line_text line.now) (Reading self.new)) }
+        ensures follows { let line = Logged entry.now in
+            IsLine line → (s : Stage) → IsAt self.old s
+            → IfOk result (Follows s (line_text line) (Reading self.new)) }
     {
-        if !is_allowed(self.second, line) {
-            return Ok(Some(self.unread()));
-        }
-        match line {
-            SectionLine::Logged(entry) => self.follow_rare(entry),
-            _ => self.follow_other(line),
+        if is_allowed(self.second, &SectionLine::Logged(*entry)) {
+            self.follow_rare(entry)
+        } else {
+            Ok(Some(self.unread()))
         }
     }
 
