@@ -1,9 +1,9 @@
 //! The least fault of a line, after lines with no fault.
 
-ghost use Rattle.std.specs.Prelude.{◌≡◌, ◌↔◌, ◌∷◌, ◌++◌, [], List, IsTrue, IfNone, IfOk, Contains};
+ghost use Rattle.std.specs.Prelude.{◌≡◌, ◌↔◌, ◌∷◌, ◌++◌, [], List, IsTrue, IfNone, IfOk, Contains, Some};
 ghost use Rattle.sgt_notation.specs.declared.SectionLine.{SectionLine};
 ghost use Rattle.sgt_notation.specs.declared.SectionLine.TheVariants.{Logged, Final, End};
-ghost use Rattle.sgt_names.specs.Log.{names};
+ghost use Rattle.sgt_names.specs.Log.{names, value_at};
 ghost use Rattle.sgt_cert.specs.Certificate.{IsDecidedOnce, AreRanks, ranks};
 ghost use Rattle.sgt_cert.specs.declared.certificate.Decision.{Decision};
 ghost use Rattle.sgt_audit_cells.specs.Tracks.{TracksOpen};
@@ -85,7 +85,25 @@ fn judge_entry(
     None
 }
 
+/// Whether the holding, of a listed item, has the value of its item. No search is needed where the item is the one whose final
+/// value comes next.
+#[inline(always)]
+fn holds_final(state: &SiteState, place: &OpenPlace, holding: &Holding) -> bool
+    ensures { (ds : List Decision) (log : SiteLog) → IsOpenPlace log place.now
+        → TracksOpen ds log.items log.entries state.now
+        → Contains (names log.items) holding.now.item
+        → (IsTrue result
+        ↔ (value_at log.items log.entries holding.now.item ≡ Some holding.now.value)) }
+{
+    if place.has_room_for(&SectionLine::Final(*holding)) {
+        state.has_value(place.finals, holding.value)
+    } else {
+        holds_value(state, holding)
+    }
+}
+
 /// The least fault of a final value.
+#[inline(always)]
 pub fn judge_final(state: &SiteState, place: &OpenPlace, holding: &Holding) -> Option<Fault>
     ensures { (ds : List Decision) (c : Certificate) (before : List SectionLine) (log : SiteLog)
         → IsOpenPlace log place.now
@@ -100,7 +118,7 @@ pub fn judge_final(state: &SiteState, place: &OpenPlace, holding: &Holding) -> O
     if !state.have_all_ended() {
         return Some(Fault::NotEnded);
     }
-    if !holds_value(state, holding) {
+    if !holds_final(state, place, holding) {
         return Some(Fault::Final);
     }
     None

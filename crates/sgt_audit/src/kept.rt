@@ -123,7 +123,7 @@ impl Kept {
     }
 
     /// An item.
-    #[inline(always)]
+    #[inline(never)]
     fn follow_initial(&mut self, holding: &Holding) -> Result<Option<Fault>, AllocError>
         ensures sections { is_some self.new.sections ≡ is_some self.old.sections }
         ensures follows { let line = Initial holding.now in
@@ -134,7 +134,7 @@ impl Kept {
     }
 
     /// A final value.
-    #[inline(always)]
+    #[inline(never)]
     fn follow_final(&mut self, holding: &Holding) -> Result<Option<Fault>, AllocError>
         ensures sections { is_some self.new.sections ≡ is_some self.old.sections }
         ensures follows { let line = Final holding.now in
@@ -232,7 +232,8 @@ impl Kept {
             IsLine line → (s : Stage) → IsAt self.old s
             → IfOk result (Follows s (line_text line) (Reading self.new)) }
     {
-        self.next_other(&SectionLine::Logged(*entry))
+        let copy = *entry;
+        self.next_allowed(&copy)
     }
 
     /// The same, of a kind that is less frequent, by way of memory that only this way touches.
@@ -243,27 +244,17 @@ impl Kept {
             → IfOk result (Follows s (line_text line.now) (Reading self.new)) }
     {
         let copy = *line;
-        self.next_other(&copy)
-    }
-
-    /// The same, of a kind that is less frequent.
-    #[inline(never)]
-    fn next_other(&mut self, line: &SectionLine) -> Result<Option<Fault>, AllocError>
-        ensures sections { is_some self.new.sections ≡ is_some self.old.sections }
-        ensures follows { IsLine line.now → (s : Stage) → IsAt self.old s
-            → IfOk result (Follows s (line_text line.now) (Reading self.new)) }
-    {
-        match line {
+        match &copy {
             SectionLine::Initial(holding) => self.follow_initial(holding),
             SectionLine::Final(holding) => self.follow_final(holding),
             SectionLine::Logged(entry) => self.next_allowed(entry),
-            SectionLine::Site(_) => self.follow_other(line),
-            SectionLine::End => self.follow_other(line),
+            SectionLine::Site(_) => self.follow_other(&copy),
+            SectionLine::End => self.follow_other(&copy),
         }
     }
 
     /// The same, where the line is this entry, which may be none of the format.
-    #[inline(always)]
+    #[inline(never)]
     fn next_allowed(&mut self, entry: &Entry) -> Result<Option<Fault>, AllocError>
         ensures sections { is_some self.new.sections ≡ is_some self.old.sections }
         ensures follows { let line = Logged entry.now in

@@ -61,7 +61,7 @@ fn come_before(items: &[Item], item: &Item) -> bool
 impl OpenPlace {
     /// Whether the line may stand next.
     #[inline(always)]
-    fn has_room_for(&self, line: &SectionLine) -> bool
+    pub(crate) fn has_room_for(&self, line: &SectionLine) -> bool
         ensures { IsTrue result ↔ FitsAt self.now line.now }
     {
         match line {

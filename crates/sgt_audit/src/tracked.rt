@@ -66,6 +66,7 @@ pub fn is_first(state: &SiteState, known: &Known, entry: &Entry) -> bool
 }
 
 /// Whether the holding, of a listed item, has the value of its item.
+#[inline(always)]
 pub(crate) fn holds_value(state: &SiteState, holding: &Holding) -> bool
     ensures { (ds : List Decision) (items : List Holding) (entries : List Entry)
         → TracksOpen ds items entries state.now

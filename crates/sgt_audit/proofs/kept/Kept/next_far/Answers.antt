@@ -4,7 +4,7 @@ use Rattle.sgt_audit.specs.Faults.{Allows, Stage}
 use Rattle.sgt_audit.specs.Kept.{IsAt}
 use Rattle.sgt_audit.specs.private.NextLine.{Follows}
 use Rattle.sgt_audit.specs.declared.machine.Progress.TheVariants.{Reading}
-use Rattle.sgt_audit.proofs.kept.Kept.next_other.Goals as goal
+use Rattle.sgt_audit.proofs.kept.Kept.next_far.Goals as goal
 
 pub returns-in-Initial-clause-follows : goal.returns-in-Initial-clause-follows
 returns-in-Initial-clause-follows c =
