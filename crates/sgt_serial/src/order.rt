@@ -63,8 +63,8 @@ fn into_sites(bundle: Bundle) -> Vec<SiteLog>
     sites
 }
 
-/// The committed transactions of the bundle by rank, as `serial_order` has them, and its logs. Its certificate is let go before they
-/// are sorted.
+/// The committed transactions of the bundle by rank, as `serial_order` has them, and its logs. Its
+/// certificate is let go before they are sorted.
 pub fn order_and_sites(alloc: Global, bundle: Bundle) -> Result<(Vec<Tx>, Vec<SiteLog>), AllocError>
     ensures order { IfOk result (λ r. r.0.items ≡ by_rank bundle.certificate.decisions) }
     ensures sites { IfOk result (λ r. r.1.items ≡ bundle.sites) }

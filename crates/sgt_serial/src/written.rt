@@ -272,8 +272,8 @@ impl Plan {
         })
     }
 
-    /// Writes the text of the report of the serial run of the bundle that it is of. Nothing is compared: whether the run agrees with the
-    /// record is not asked.
+    /// Writes the text of the report of the serial run of the bundle that it is of. Nothing is
+    /// compared: whether the run agrees with the record is not asked.
     pub fn write<W: Sink>(self, writer: &mut W) -> Result<(), Failed>
         requires { (b : Parts) × IsPlanOf b 65600 self }
         ensures ok { (b : Parts) → IsPlanOf b 65600 self → OnOk result

@@ -1,4 +1,4 @@
-use Rattle.std.proofs.Common.{◌≡◌, ◌≤◌, List, ap, ◌∙◌, subst, arith}
+use Rattle.std.proofs.Common.{List, ap, ◌∙◌, subst, arith}
 use Rattle.sgt_cert.specs.declared.bundle.SiteLog.{SiteLog}
 use Rattle.sgt_serial.specs.Report.{finals_of}
 use Rattle.sgt_serial.specs.private.Grouped.{AreOperationsOf}

@@ -1,4 +1,4 @@
-use Rattle.std.proofs.Common.{◌≡◌, ◌≤◌, ◌++◌, [], List, ℕ, sym, ap, ◌∙◌, refl, subst, arith, append-nil}
+use Rattle.std.proofs.Common.{◌++◌, [], List, ℕ, sym, ◌∙◌, subst, append-nil}
 use Rattle.sgt_names.specs.Device.{WritesFront}
 use Rattle.std.specs.Io.KnownBytes.{Appends}
 use Rattle.sgt_cert.specs.declared.bundle.SiteLog.{SiteLog}
