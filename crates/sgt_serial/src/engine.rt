@@ -43,12 +43,12 @@ fn write_fault<W: Sink>(
 }
 
 /// Writes the run of the bundle.
-fn write_serial<W: Sink>(alloc: Global, writer: &mut W, bundle: &Bundle) -> Result<(), EngineFail>
+fn write_serial<W: Sink>(alloc: Global, writer: &mut W, bundle: Bundle) -> Result<(), EngineFail>
     ensures ok { OnOk result
-        (Appends (W.holds writer.old) (W.holds writer.new) (report_text (report_of bundle.now))) }
+        (Appends (W.holds writer.old) (W.holds writer.new) (report_text (report_of bundle))) }
     ensures front { IsErrOf result EngineFail.WriteFault
         → WritesFront (W.holds writer.old) (W.holds writer.new)
-        (report_text (report_of bundle.now)) }
+        (report_text (report_of bundle)) }
     ensures untouched { IsErrOf result EngineFail.Memory → writer.new ≡ writer.old }
     ensures unread { result ≢ Err EngineFail.ReadFault }
     ensures fault { IsErrOf result EngineFail.WriteFault
@@ -57,7 +57,7 @@ fn write_serial<W: Sink>(alloc: Global, writer: &mut W, bundle: &Bundle) -> Resu
         → W.failures writer.new ≡ W.failures writer.old }
 {
     let plan = Plan::new(alloc, bundle)?;
-    match plan.write(writer, bundle) {
+    match plan.write(writer) {
         Ok(()) => Ok(()),
         Err(_) => Err(EngineFail::WriteFault),
     }
@@ -84,7 +84,7 @@ fn write_answer<W: Sink>(
 {
     match audited {
         Audited::Valid(bundle) => {
-            write_serial(alloc, writer, &bundle)?;
+            write_serial(alloc, writer, bundle)?;
             Ok(Outcome::Yes)
         }
         Audited::No { line, fault } => {

@@ -1,11 +1,13 @@
 //! The order of the serial run.
 
-ghost use Rattle.std.specs.Prelude.{◌≡◌, map, IfOk};
+ghost use Rattle.std.specs.Prelude.{◌≡◌, List, map, IfOk};
 ghost use Rattle.std.specs.List.{filter_map};
 ghost use Rattle.sgt_cert.specs.Certificate.{by_rank};
+ghost use Rattle.sgt_cert.specs.Parts.{FitTogether};
+ghost use Rattle.sgt_cert.specs.declared.certificate.Decision.{Decision as AnyDecision};
 ghost use Rattle.sgt_serial.specs.private.Order.{ranked_in};
 
-use sgt_cert::Decision;
+use sgt_cert::{Bundle, Decision, SiteLog};
 use sgt_names::Tx;
 use std::alloc::{AllocError, Global};
 
@@ -39,9 +41,40 @@ fn commits(alloc: Global, decisions: &[Decision]) -> Result<Vec<Ranked>, AllocEr
 pub fn serial_order(alloc: Global, decisions: &[Decision]) -> Result<Vec<Tx>, AllocError>
     ensures { IfOk result (λ order. order.items ≡ by_rank decisions.now) }
 {
-    let mut commits = commits(alloc, decisions)?;
+    let ranked = commits(alloc, decisions)?;
+    in_order(alloc, ranked)
+}
+
+/// The transactions by rank; those of one rank in the order in which they stand.
+fn in_order(alloc: Global, ranked: Vec<Ranked>) -> Result<Vec<Tx>, AllocError>
+    ensures { IfOk result (λ order. (decisions : List AnyDecision)
+        → ranked.items ≡ filter_map ranked_in decisions → order.items ≡ by_rank decisions) }
+{
+    let mut commits = ranked;
     commits.sort_by_key(|commit| commit.rank)?;
     transactions(alloc, commits.as_slice())
+}
+
+/// The logs of the bundle. Its certificate is let go.
+fn into_sites(bundle: Bundle) -> Vec<SiteLog>
+    ensures { result.items ≡ bundle.sites }
+{
+    let (_certificate, sites) = bundle.into_parts();
+    sites
+}
+
+/// The committed transactions of the bundle by rank, as `serial_order` has them, and its logs. Its
+/// certificate is let go before they are sorted.
+pub fn order_and_sites(alloc: Global, bundle: Bundle) -> Result<(Vec<Tx>, Vec<SiteLog>), AllocError>
+    ensures order { IfOk result (λ r. r.0.items ≡ by_rank bundle.certificate.decisions) }
+    ensures sites { IfOk result (λ r. r.1.items ≡ bundle.sites) }
+    ensures fit { IfOk result (λ r. FitTogether bundle) }
+{
+    let ranked = commits(alloc, bundle.certificate().decisions())?;
+    let _sites = bundle.sites();
+    let sites = into_sites(bundle);
+    let order = in_order(alloc, ranked)?;
+    Ok((order, sites))
 }
 
 fn transactions(alloc: Global, commits: &[Ranked]) -> Result<Vec<Tx>, AllocError>

@@ -4,6 +4,7 @@ ghost use Rattle.std.specs.Prelude.{◌≤◌, ◌+◌, ◌++◌, [], map, codes
 ghost use Rattle.std.specs.List.{flat_map};
 ghost use Rattle.std.specs.Io.KnownBytes.{Appends};
 ghost use Rattle.sgt_names.specs.Device.{CountsFailures, WritesFront};
+ghost use Rattle.sgt_cert.specs.Parts.{Parts};
 ghost use Rattle.sgt_notation.specs.Spelling.{text_of_lines};
 ghost use Rattle.sgt_serial.specs.Report.{reads_of, writes_of, run_of, report_of};
 ghost use Rattle.sgt_serial.specs.Text.{operation_line, change_line, run_lines, final_line, report_text};
@@ -14,7 +15,7 @@ use crate::entries::{SiteEntry, read_of, write_of};
 use crate::finals::finals;
 use crate::line::ROOM;
 use crate::operations::Operations;
-use crate::order::serial_order;
+use crate::order::order_and_sites;
 use crate::report::SiteValue;
 use crate::text::{push_change, push_final, push_head, push_read};
 use sgt_cert::{Bundle, SiteLog};
@@ -27,6 +28,7 @@ const BLOCK: usize = 65_536;
 /// All that the writing of a run needs, so that nothing is allocated once it begins.
 #[derive(Drop)]
 pub struct Plan {
+    sites: Vec<SiteLog>,
     order: Vec<Tx>,
     operations: Operations,
     finals: Vec<SiteValue>,
@@ -253,16 +255,16 @@ fn write_finals<W: Sink>(
 }
 
 impl Plan {
-    /// That of the bundle's run.
-    pub fn new(alloc: Global, bundle: &Bundle) -> Result<Plan, AllocError>
-        ensures { IfOk result (IsPlanOf bundle.now 65600) }
+    /// That of the bundle's run. The bundle's certificate is let go.
+    pub fn new(alloc: Global, bundle: Bundle) -> Result<Plan, AllocError>
+        ensures { IfOk result (IsPlanOf bundle 65600) }
     {
-        let sites = bundle.sites();
-        let order = serial_order(alloc, bundle.certificate().decisions.as_slice())?;
-        let operations = Operations::new(alloc, sites)?;
-        let finals = finals(alloc, sites)?;
+        let (order, sites) = order_and_sites(alloc, bundle)?;
+        let operations = Operations::new(alloc, sites.as_slice())?;
+        let finals = finals(alloc, sites.as_slice())?;
         let out = Vec::with_capacity(alloc, BLOCK + ROOM)?;
         Ok(Plan {
+            sites,
             order,
             operations,
             finals,
@@ -270,26 +272,25 @@ impl Plan {
         })
     }
 
-    /// Writes the text of the report of the bundle's serial run. Nothing is compared: whether the run agrees with the record is not
-    /// asked.
-    pub fn write<W: Sink>(self, writer: &mut W, bundle: &Bundle) -> Result<(), Failed>
-        requires { IsPlanOf bundle.now 65600 self }
-        ensures ok { OnOk result
-            (Appends (W.holds writer.old) (W.holds writer.new)
-            (report_text (report_of bundle.now))) }
-        ensures err { OnErr result
-            (WritesFront (W.holds writer.old) (W.holds writer.new)
-            (report_text (report_of bundle.now))) }
+    /// Writes the text of the report of the serial run of the bundle that it is of. Nothing is
+    /// compared: whether the run agrees with the record is not asked.
+    pub fn write<W: Sink>(self, writer: &mut W) -> Result<(), Failed>
+        requires { (b : Parts) × IsPlanOf b 65600 self }
+        ensures ok { (b : Parts) → IsPlanOf b 65600 self → OnOk result
+            (Appends (W.holds writer.old) (W.holds writer.new) (report_text (report_of b))) }
+        ensures err { (b : Parts) → IsPlanOf b 65600 self → OnErr result
+            (WritesFront (W.holds writer.old) (W.holds writer.new) (report_text (report_of b))) }
         ensures fails { CountsFailures result (W.failures writer.old) (W.failures writer.new) }
     {
         let Plan {
+            sites,
             order,
             operations,
             finals,
             mut out,
         } = self;
-        let sites = bundle.sites();
-        write_runs(writer, &mut out, sites, &operations, order.as_slice())?;
+        let logs = sites.as_slice();
+        write_runs(writer, &mut out, logs, &operations, order.as_slice())?;
         write_finals(writer, &mut out, finals.as_slice())?;
         write_all(writer, out.as_slice())?;
         Ok(())

@@ -39,6 +39,7 @@ PassesOn old new held bytes left = (front : List ℕ) × Appends old new front
 
 -- all that the writing of the bundle's run needs
 pub record IsPlanOf (b : Parts) (most : ℕ) (p : Plan) : Type 0 where
+  pub sites : p.sites.items ≡ b.sites
   pub order : p.order.items ≡ by_rank b.certificate.decisions
   pub operations : AreOperationsOf b.sites p.operations
   pub finals : p.finals.items ≡ finals_of b.sites

@@ -1,4 +1,4 @@
-use Rattle.std.proofs.Common.{◌≡◌, ◌≤◌, ◌<◌, [], ◌∷◌, length, sym, subst, arith}
+use Rattle.std.proofs.Common.{◌≤◌, ◌<◌, [], ◌∷◌, length, sym, subst, arith}
 use Rattle.std.specs.Fmt.{decimal}
 use Rattle.std.proofs.lemmas.Fmt.{length-decimal-le}
 use Rattle.sgt_names.specs.Name.{Name, IsName}

@@ -1,4 +1,4 @@
-use Rattle.std.proofs.Common.{◌≡◌, ◌≤◌, ◌++◌, [], ◌∷◌, length, drop, ap, ◌∙◌, rules, arith}
+use Rattle.std.proofs.Common.{◌≤◌, ◌++◌, ◌∷◌, length, ap, ◌∙◌, rules, arith}
 use Rattle.std.specs.Fmt.{decimal}
 use Rattle.std.proofs.Math.ListN.{drop_of_length-le}
 use Rattle.std.proofs.lemmas.Fmt.{length-decimal-le}

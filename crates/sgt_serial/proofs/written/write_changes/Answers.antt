@@ -1,5 +1,4 @@
 use Rattle.std.proofs.Common.{◌≡◌, ◌≤◌, ◌<◌, ◌+◌, ◌∙◌, [], ◌∷◌, map, refl, arith}
-use Rattle.std.specs.Prelude.{vec_capacity}
 use Rattle.sgt_notation.specs.Spelling.{text_of_lines}
 use Rattle.sgt_serial.specs.Report.{picked_of, write_at}
 use Rattle.sgt_serial.specs.Text.{change_line}

@@ -1,11 +1,9 @@
-use Rattle.std.proofs.Common.{◌≡◌, ◌≤◌, ◌<◌, ◌+◌, ◌++◌, ◌∙◌, [], ◌∷◌, length, map, drop, refl, ap, arith}
-use Rattle.std.specs.Prelude.{vec_capacity}
+use Rattle.std.proofs.Common.{◌≤◌, ◌+◌, ◌∙◌, length, map, drop, refl, ap, arith}
 use Rattle.std.proofs.Math.ListN.{drop_of_length-le}
 use Rattle.sgt_names.proofs.Lists.{element_at, drop_next}
 use Rattle.sgt_notation.specs.Spelling.{text_of_lines}
 use Rattle.sgt_serial.specs.Text.{final_line}
 use Rattle.sgt_serial.specs.private.Written.{with_lf}
-use Rattle.sgt_serial.proofs.Lines.{text-append}
 use Rattle.sgt_serial.proofs.Passing.{on-err, passes-none, passes-more, passes-all, passes-front}
 use Rattle.sgt_serial.proofs.written.write_finals.Goals as goal
 

@@ -1,5 +1,5 @@
 use Rattle.std.proofs.Common.{◌≡◌, ◌≤◌, ◌<◌, ◌+◌, ◌∙◌, [], ◌∷◌, map, refl, arith}
-use Rattle.std.specs.Prelude.{codes, vec_capacity}
+use Rattle.std.specs.Prelude.{codes}
 use Rattle.sgt_notation.specs.Spelling.{text_of_lines}
 use Rattle.sgt_serial.specs.Report.{picked_of, read_at}
 use Rattle.sgt_serial.specs.Text.{operation_line}

@@ -1,4 +1,4 @@
-use Rattle.std.proofs.Common.{◌≡◌, ◌++◌, ◌∙◌, [], map, refl, sym, ap, subst, append_assoc, append-nil}
+use Rattle.std.proofs.Common.{◌++◌, ◌∙◌, [], map, refl, sym, ap, subst, append_assoc, append-nil}
 use Rattle.std.specs.Prelude.{ℕ, List, codes, decimal}
 use Rattle.sgt_notation.specs.Spelling.{text_of_lines}
 use Rattle.sgt_serial.specs.Report.{reads_of, writes_of, run_of}

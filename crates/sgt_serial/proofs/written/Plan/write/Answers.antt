@@ -1,4 +1,4 @@
-use Rattle.std.proofs.Common.{◌≡◌, ◌≤◌, ◌++◌, [], List, ℕ, sym, ap, ◌∙◌, refl, subst, arith, append-nil}
+use Rattle.std.proofs.Common.{◌++◌, [], List, ℕ, sym, ◌∙◌, subst, append-nil}
 use Rattle.sgt_names.specs.Device.{WritesFront}
 use Rattle.std.specs.Io.KnownBytes.{Appends}
 use Rattle.sgt_cert.specs.declared.bundle.SiteLog.{SiteLog}
@@ -11,63 +11,60 @@ use Rattle.sgt_serial.proofs.written.Plan.write.Goals as goal
 
 pub write_runs-requires-clause-of : goal.write_runs-requires-clause-of
 write_runs-requires-clause-of g c =
-    subst (λ (logs : List SiteLog). AreOperationsOf logs c.args.self.operations) (sym c.sites-sites.ensures.logs) c.requires.operations
+    let plan = c.requires.1 in
+    subst (λ (logs : List SiteLog). AreOperationsOf logs c.args.self.operations) (sym (c.as_slice-logs.ensures.value ∙ plan.sites)) plan.operations
 
 pub returns-in_err-write_runs-clause-err : goal.returns-in_err-write_runs-clause-err
-returns-in_err-write_runs-clause-err g c =
+returns-in_err-write_runs-clause-err g c b plan =
     let holds = g.W.Sink.holds in
-    let b = c.args.bundle.now in
-    let logs = c.sites-sites.result.now in
+    let logs = c.as_slice-logs.result.now in
     let order = c.as_slice.result.now in
     let finals = c.args.self.finals.items in
     let held = c.args.self.out.items in
-    let whole = whole-text b logs order finals c.sites-sites.ensures.logs (c.as_slice.ensures.value ∙ c.requires.order) c.requires.finals in
+    let whole = whole-text b logs order finals (c.as_slice-logs.ensures.value ∙ plan.sites) (c.as_slice.ensures.value ∙ plan.order) plan.finals in
     on-err c.from_residual.result
-    (subst (λ (h : List ℕ). WritesFront (holds c.args.writer.now) (holds c.write_runs.new.writer) (h ++ report_text (report_of b))) c.requires.empty
+    (subst (λ (h : List ℕ). WritesFront (holds c.args.writer.now) (holds c.write_runs.new.writer) (h ++ report_text (report_of b))) plan.empty
     (broken-first (holds c.args.writer.now) (holds c.write_runs.new.writer) held (text_of_runs logs order) (text_of_finals finals) (report_text (report_of b))
     c.in_err-write_runs.ensures.err (sym whole)))
 
 pub returns-in_err-write_finals-clause-err : goal.returns-in_err-write_finals-clause-err
-returns-in_err-write_finals-clause-err g c =
+returns-in_err-write_finals-clause-err g c b plan =
     let holds = g.W.Sink.holds in
-    let b = c.args.bundle.now in
-    let logs = c.sites-sites.result.now in
+    let logs = c.as_slice-logs.result.now in
     let order = c.as_slice.result.now in
     let finals = c.as_slice-2.result.now in
     let held = c.args.self.out.items in
-    let whole = whole-text b logs order finals c.sites-sites.ensures.logs (c.as_slice.ensures.value ∙ c.requires.order) (c.as_slice-2.ensures.value ∙ c.requires.finals) in
+    let whole = whole-text b logs order finals (c.as_slice-logs.ensures.value ∙ plan.sites) (c.as_slice.ensures.value ∙ plan.order) (c.as_slice-2.ensures.value ∙ plan.finals) in
     on-err c.from_residual-in_err-write_finals.result
-    (subst (λ (h : List ℕ). WritesFront (holds c.args.writer.now) (holds c.write_finals.new.writer) (h ++ report_text (report_of b))) c.requires.empty
+    (subst (λ (h : List ℕ). WritesFront (holds c.args.writer.now) (holds c.write_finals.new.writer) (h ++ report_text (report_of b))) plan.empty
     (broken (holds c.args.writer.now) (holds c.write_runs.new.writer) (holds c.write_finals.new.writer) held (text_of_runs logs order) c.write_runs.new.out.items
     (text_of_finals finals) [] (report_text (report_of b)) c.in_ok-write_runs.ensures.ok c.in_err-write_finals.ensures.err (sym whole ∙ sym (append-nil (text_of_runs logs order ++ text_of_finals finals)))))
 
 pub returns-in_err-write_all-clause-err : goal.returns-in_err-write_all-clause-err
-returns-in_err-write_all-clause-err g c =
+returns-in_err-write_all-clause-err g c b plan =
     let holds = g.W.Sink.holds in
-    let b = c.args.bundle.now in
-    let logs = c.sites-sites.result.now in
+    let logs = c.as_slice-logs.result.now in
     let order = c.as_slice.result.now in
     let finals = c.as_slice-2.result.now in
     let held = c.args.self.out.items in
-    let whole = whole-text b logs order finals c.sites-sites.ensures.logs (c.as_slice.ensures.value ∙ c.requires.order) (c.as_slice-2.ensures.value ∙ c.requires.finals) in
+    let whole = whole-text b logs order finals (c.as_slice-logs.ensures.value ∙ plan.sites) (c.as_slice.ensures.value ∙ plan.order) (c.as_slice-2.ensures.value ∙ plan.finals) in
     on-err c.from_residual-in_err-write_all.result
     (written-front (holds c.args.writer.now) (holds c.write_finals.new.writer) (holds c.write_all.new.writer) held (text_of_runs logs order ++ text_of_finals finals) c.write_finals.new.out.items
-    (report_text (report_of b)) c.requires.empty whole
+    (report_text (report_of b)) plan.empty whole
     (joined (holds c.args.writer.now) (holds c.write_runs.new.writer) (holds c.write_finals.new.writer) held (text_of_runs logs order) c.write_runs.new.out.items
     (text_of_finals finals) c.write_finals.new.out.items c.in_ok-write_runs.ensures.ok c.in_ok-write_finals.ensures.ok)
     (subst (λ (bytes : List ℕ). WritesFront (holds c.write_finals.new.writer) (holds c.write_all.new.writer) bytes) c.as_slice-3.ensures.value c.in_err-write_all.ensures.err))
 
 pub returns-clause-ok : goal.returns-clause-ok
-returns-clause-ok g c =
+returns-clause-ok g c b plan =
     let holds = g.W.Sink.holds in
-    let b = c.args.bundle.now in
-    let logs = c.sites-sites.result.now in
+    let logs = c.as_slice-logs.result.now in
     let order = c.as_slice.result.now in
     let finals = c.as_slice-2.result.now in
     let held = c.args.self.out.items in
-    let whole = whole-text b logs order finals c.sites-sites.ensures.logs (c.as_slice.ensures.value ∙ c.requires.order) (c.as_slice-2.ensures.value ∙ c.requires.finals) in
+    let whole = whole-text b logs order finals (c.as_slice-logs.ensures.value ∙ plan.sites) (c.as_slice.ensures.value ∙ plan.order) (c.as_slice-2.ensures.value ∙ plan.finals) in
     written-all (holds c.args.writer.now) (holds c.write_finals.new.writer) (holds c.write_all.new.writer) held (text_of_runs logs order ++ text_of_finals finals) c.write_finals.new.out.items
-    (report_text (report_of b)) c.requires.empty whole
+    (report_text (report_of b)) plan.empty whole
     (joined (holds c.args.writer.now) (holds c.write_runs.new.writer) (holds c.write_finals.new.writer) held (text_of_runs logs order) c.write_runs.new.out.items
     (text_of_finals finals) c.write_finals.new.out.items c.in_ok-write_runs.ensures.ok c.in_ok-write_finals.ensures.ok)
     (subst (λ (bytes : List ℕ). Appends (holds c.write_finals.new.writer) (holds c.write_all.new.writer) bytes) c.as_slice-3.ensures.value c.in_ok-write_all.ensures.ok)
