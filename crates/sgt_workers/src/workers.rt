@@ -11,10 +11,10 @@ ghost use Rattle.sgt_workers.specs.Queue.{newcomer, HasStops, IsBegun, IsEnded, 
 
 use crate::fault::{PoolFail, PoolFault};
 use crate::order::in_order;
-use crate::queue::{QueuePass, Receiver, Sender, cut, fill, join, learn_once, open};
+use crate::queue::{QueuePass, Receiver, Sender, cut, fill, join, learn_once, open, take_job};
 use crate::ticket::Done;
 use crate::work::Work;
-use crate::worker::{Kit, Report, run_worker};
+use crate::worker::{Kit, Report};
 use std::alloc::{AllocError, Global};
 use std::sync::Wait;
 use std::thread;
@@ -145,7 +145,24 @@ fn run_workers<
             (λ r. All (IsAnswer (W.answers work.entry.now) scripts.entry.now) r.dones.items) }
         ensures fault { IfErr result
             (IsFault (W.faults work.entry.now) (length scripts.entry.now)) }
-    { run_worker(rt, alloc, receiver, kit, scripts, work) };
+    {
+        let Kit {
+            mut state,
+            mut pass,
+        } = kit;
+        let mut dones = Vec::new(alloc);
+        for _ in rt.forever() {
+            dones.reserve(1)?;
+            let Some(job) = take_job(rt, receiver, &mut pass, scripts) else {
+                return Ok(Report { state, pass, dones });
+            };
+            match work.work(rt, &mut state, job) {
+                Ok(done) => dones.push_reserved(done),
+                Err(fault) => return Err(PoolFail::Work(fault)),
+            }
+        }
+        unreachable!()
+    };
     thread::map_vec(rt, kits, &one)
 }
 
