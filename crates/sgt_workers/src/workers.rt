@@ -11,17 +11,18 @@ ghost use Rattle.sgt_workers.specs.Queue.{newcomer, HasStops, IsBegun, IsEnded, 
 
 use crate::fault::{PoolFail, PoolFault};
 use crate::order::in_order;
-use crate::queue::{QueuePass, Receiver, Sender, cut, fill, join, learn_once, open};
+use crate::queue::{QueuePass, Receiver, Sender, cut, fill, join, learn_once, open, take_job};
 use crate::ticket::Done;
 use crate::work::Work;
-use crate::worker::{Kit, Report, run_worker};
+use crate::worker::{Kit, Report};
 use std::alloc::{AllocError, Global};
 use std::sync::Wait;
 use std::thread;
 use std::thread::Threads;
 
 /// Runs each script as one job, by as many workers as there are states. Gives the Dones in the order of the scripts, and
-/// the states in theirs, once all workers are joined. After a fault the states are spent.
+/// the states in theirs, once all workers are joined. P2 where the queue has no room for all tasks, so that no worker starts. After
+/// a fault the states are spent.
 pub fn pool<
     S: Send + Drop,
     C: Sync,
@@ -46,7 +47,17 @@ pub fn pool<
     if scripts.is_empty() {
         return Ok(no_jobs(alloc, states, work));
     }
-    let (dones, states) = run_all(rt, alloc, scripts, states, work)?;
+    let workers = states.len();
+    let room = scripts.len().saturating_add(workers);
+    let (sender, receiver, mut pass) = open(alloc, room)?;
+    let Ok(()) = fill(rt, &sender, &mut pass, scripts.len() as u64, workers) else {
+        return Err(PoolFail::Pool(PoolFault::Unrun(1)));
+    };
+    let kits = make_kits(alloc, &sender, &mut pass, states)?;
+    let ends = run_workers(rt, alloc, &receiver, kits, scripts, work)?;
+    let reports = all_ended(alloc, ends)?;
+    let (dones, states) = collect(alloc, &sender, &mut pass, reports)?;
+    learn_once(&sender, &mut pass);
     match in_order(dones, scripts.len() as u64) {
         Ok(dones) => Ok((dones, states)),
         Err(fault) => Err(PoolFail::Pool(fault)),
@@ -64,43 +75,6 @@ fn no_jobs<S, C, E, W: Work<S, C, E>>(
     ensures states { AllZip W.keeps states.items result.1.items }
 {
     (Vec::new(alloc), states)
-}
-
-// What the workers leave once all are joined: their Dones, and the states. P2 where the queue has no room for all tasks, so
-// that no worker starts.
-fn run_all<
-    S: Send + Drop,
-    C: Sync,
-    E: Send + Drop,
-    W: Work<S, C, E> + Sync,
-    R: Threads + Wait + Sync,
->(
-    rt: &R,
-    alloc: Global,
-    scripts: &[C],
-    states: Vec<S>,
-    work: &W,
-) -> Result<(Vec<Done>, Vec<S>), PoolFail<E>>
-    requires { (0 < vec_len states) × (0 < length scripts.now) }
-    ensures once { IfOk result (λ r. OnceAtMost (length scripts.now) (jobs_of r.0.items)) }
-    ensures answers { IfOk result (λ r. All (IsAnswer (W.answers work.now) scripts.now) r.0.items) }
-    ensures keeps { IfOk result (λ r. AllZip W.keeps states.items r.1.items) }
-    ensures shares { IfOk result
-        (λ r. AreShared (W.does work.now) scripts.now states.items r.0.items r.1.items) }
-    ensures fault { IfErr result (IsFault (W.faults work.now) (length scripts.now)) }
-{
-    let workers = states.len();
-    let room = scripts.len().saturating_add(workers);
-    let (sender, receiver, mut pass) = open(alloc, room)?;
-    let Ok(()) = fill(rt, &sender, &mut pass, scripts.len() as u64, workers) else {
-        return Err(PoolFail::Pool(PoolFault::Unrun(1)));
-    };
-    let kits = make_kits(alloc, &sender, &mut pass, states)?;
-    let ends = run_workers(rt, alloc, &receiver, kits, scripts, work)?;
-    let reports = all_ended(alloc, ends)?;
-    let left = collect(alloc, &sender, &mut pass, reports)?;
-    learn_once(&sender, &mut pass);
-    Ok(left)
 }
 
 // What each worker begins with: a state, and a pass of its own.
@@ -171,7 +145,24 @@ fn run_workers<
             (λ r. All (IsAnswer (W.answers work.entry.now) scripts.entry.now) r.dones.items) }
         ensures fault { IfErr result
             (IsFault (W.faults work.entry.now) (length scripts.entry.now)) }
-    { run_worker(rt, alloc, receiver, kit, scripts, work) };
+    {
+        let Kit {
+            mut state,
+            mut pass,
+        } = kit;
+        let mut dones = Vec::new(alloc);
+        for _ in rt.forever() {
+            dones.reserve(1)?;
+            let Some(job) = take_job(rt, receiver, &mut pass, scripts) else {
+                return Ok(Report { state, pass, dones });
+            };
+            match work.work(rt, &mut state, job) {
+                Ok(done) => dones.push_reserved(done),
+                Err(fault) => return Err(PoolFail::Work(fault)),
+            }
+        }
+        unreachable!()
+    };
     thread::map_vec(rt, kits, &one)
 }
 

@@ -3,7 +3,7 @@ use Rattle.crossbeam_channel.specs.Claims.{view, IsSeatAt}
 use Rattle.crossbeam_channel.specs.Ends.{receives_on}
 use Rattle.sgt_workers.specs.Answers.{jobs_of, IsAnswer, JobsRise, Runs}
 use Rattle.sgt_workers.specs.Queue.{IsFilled}
-use Rattle.sgt_workers.proofs.worker.run_worker.Given as goal
+use Rattle.sgt_workers.proofs.workers.fn.run_workers.one.Given as goal
 
 abbrev pub invariant-loop : goal.invariant-loop
 invariant-loop g l = record {
