@@ -81,6 +81,7 @@ certificate-text c = refl
 
 pub certificate-pieces : (c : Certificate) (line start : List ℕ) (decisions : List Decision)
     → line ≡ start ++ (codes "{\"decisions\":[" ++ (items_text false (items_data decision_data decisions) ++ (codes ",\"sites\":" ++ (decimal c.sites ++ codes "}"))))
-    → start ≡ [] → decisions ≡ c.decisions → line ≡ certificate_text c
-certificate-pieces c line start decisions e none all =
-    e ∙ ap₂ (λ (front : List ℕ) (ds : List Decision). front ++ (codes "{\"decisions\":[" ++ (items_text false (items_data decision_data ds) ++ (codes ",\"sites\":" ++ (decimal c.sites ++ codes "}"))))) none all ∙ sym (certificate-text c)
+    → decisions ≡ c.decisions → line ≡ start ++ certificate_text c
+certificate-pieces c line start decisions e all =
+    e ∙ ap (λ (ds : List Decision). start ++ (codes "{\"decisions\":[" ++ (items_text false (items_data decision_data ds) ++ (codes ",\"sites\":" ++ (decimal c.sites ++ codes "}"))))) all
+    ∙ ap (λ (text : List ℕ). start ++ text) (sym (certificate-text c))

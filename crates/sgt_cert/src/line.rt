@@ -154,7 +154,7 @@ fn push_decisions(out: &mut Vec<u8>, decisions: &[Decision]) -> Result<(), Alloc
     out.extend_from_slice(b"]")
 }
 
-fn push_certificate(out: &mut Vec<u8>, decisions: &[Decision], sites: u64) -> Result<(), AllocError>
+fn push_parts(out: &mut Vec<u8>, decisions: &[Decision], sites: u64) -> Result<(), AllocError>
     ensures text { OnOk result (out.new.items ≡ out.old.items
         ++ (codes "{\"decisions\":[" ++ (items_text false (items_data decision_data decisions.now)
         ++ (codes ",\"sites\":" ++ (decimal sites ++ codes "}"))))) }
@@ -166,6 +166,19 @@ fn push_certificate(out: &mut Vec<u8>, decisions: &[Decision], sites: u64) -> Re
     out.extend_from_slice(b"}")
 }
 
+/// Writes the one line that spells the certificate, without an LF. Err: memory ran out.
+pub(crate) fn push_certificate(
+    out: &mut Vec<u8>,
+    certificate: &Certificate,
+) -> Result<(), AllocError>
+    ensures text { OnOk result
+        (out.new.items ≡ out.old.items ++ certificate_text certificate.now) }
+    ensures one_line { OnOk result (HasNoLf (certificate_text certificate.now)) }
+    ensures in_range { OnOk result (All (IsDecision max_sites) certificate.now.decisions) }
+{
+    push_parts(out, certificate.decisions(), certificate.sites as u64)
+}
+
 /// The one line that spells the certificate, without an LF. Err: memory ran out.
 ///
 /// Any certificate has such a line. Where its sites are not 1 to `MAX_SITES`, or a step is at none of them, `from_line` refuses it.
@@ -175,7 +188,7 @@ pub fn to_line(alloc: Global, certificate: &Certificate) -> Result<Vec<u8>, Allo
     ensures in_range { IfOk result (λ _. All (IsDecision max_sites) certificate.now.decisions) }
 {
     let mut line = Vec::new(alloc);
-    push_certificate(&mut line, certificate.decisions(), certificate.sites as u64)?;
+    push_certificate(&mut line, certificate)?;
     Ok(line)
 }
 

@@ -10,7 +10,7 @@ ghost use Rattle.sgt_cert.specs.Text.{certificate_text, format_line, has_increme
 
 use crate::bundle::SiteLog;
 use crate::certificate::Certificate;
-use crate::line::to_line;
+use crate::line::push_certificate;
 use sgt_names::{Entry, Holding, SiteNo};
 use sgt_notation::{SectionLine, write_section};
 use std::alloc::{AllocError, Global};
@@ -124,10 +124,9 @@ fn any_log_increments(sites: &[SiteLog]) -> bool
 // The bytes that an entry takes in memory.
 const ENTRY_ROOM: usize = 32;
 
-// How much room a text is made with, where its line 2 has so many bytes: for each entry as much as it takes in memory. The text may
-// outgrow it.
-fn room_for(line: usize, sites: &[SiteLog]) -> usize {
-    let mut room = line.saturating_add(64);
+// How much room a text is made with: for each entry as much as it takes in memory. The text may outgrow it.
+fn room_for(sites: &[SiteLog]) -> usize {
+    let mut room = 64usize;
     for log in sites {
         let entries = log.entries.as_slice().len();
         room = room.saturating_add(entries.saturating_mul(ENTRY_ROOM));
@@ -143,12 +142,11 @@ fn head(alloc: Global, certificate: &Certificate, sites: &[SiteLog]) -> Result<V
         (format_line (has_increments sites.now) ∷ certificate_text certificate.now ∷ [])) }
     ensures decisions { IfOk result (λ _. All (IsDecision max_sites) certificate.now.decisions) }
 {
-    let line = to_line(alloc, certificate)?;
     let second = any_log_increments(sites);
     let format = if second { b"sgt 2\n" } else { b"sgt 1\n" };
-    let mut head = Vec::with_capacity(alloc, room_for(line.len(), sites))?;
+    let mut head = Vec::with_capacity(alloc, room_for(sites))?;
     head.extend_from_slice(format)?;
-    head.extend_from_slice(line.as_slice())?;
+    push_certificate(&mut head, certificate)?;
     head.extend_from_slice(b"\n")?;
     Ok(head)
 }

@@ -1,12 +1,12 @@
-use Rattle.std.proofs.Common.{arith}
-use Rattle.sgt_cert.proofs.Compact.{certificate-pieces}
-use Rattle.sgt_cert.proofs.OneLine.{written-no_lf}
+use Rattle.std.proofs.Common.{◌++◌, List, ℕ, sym, ◌∙◌, ap, subst}
+use Rattle.sgt_cert.specs.Text.{certificate_text}
+use Rattle.sgt_notation.specs.Spelling.{HasNoLf}
 use Rattle.sgt_cert.proofs.line.to_line.Goals as goal
 
 pub returns-clause-text : goal.returns-clause-text
-returns-clause-text c = certificate-pieces c.args.certificate.now _ _ _ c.in_ok-push_certificate.ensures.text c.new-line.ensures.items c.decisions.ensures
+returns-clause-text c = c.in_ok-push_certificate.ensures.text ∙ ap (λ (start : List ℕ). start ++ certificate_text c.args.certificate.now) c.new-line.ensures.items
 
 pub returns-clause-one_line : goal.returns-clause-one_line
 returns-clause-one_line c =
-    written-no_lf c.args.certificate.now _ _ (certificate-pieces c.args.certificate.now _ _ _ c.in_ok-push_certificate.ensures.text c.new-line.ensures.items c.decisions.ensures)
-    (omega arith) c.decisions.ensures c.in_ok-push_certificate.ensures.in_range
+    let is = c.in_ok-push_certificate.ensures.text ∙ ap (λ (start : List ℕ). start ++ certificate_text c.args.certificate.now) c.new-line.ensures.items in
+    subst HasNoLf (sym is) c.in_ok-push_certificate.ensures.one_line
