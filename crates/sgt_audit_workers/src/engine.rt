@@ -150,8 +150,8 @@ fn judge_sections<H: Threads, R: Source>(
 }
 
 /// Audits all that the reader gives, with so many sections judged at once, and writes the line of the verdict and nothing else. The
-/// verdict is that of `audit` of sgt_audit; but behind a fault more may be read, twice as many sections as there are workers.
-/// With fewer than two workers it is `audit` itself.
+/// verdict is that of `audit` of sgt_audit; but behind a fault more may be read, at most twice as many sections as there are
+/// workers. With fewer than two workers it is `audit` itself.
 ///
 /// An Err is ReadFault, where a read failed or too many were needed (`MOST_READS` of sgt_names), or Memory: nothing was
 /// written then. Or it is WriteFault, where a write failed: at most a front of the line was written, and not the whole of it.

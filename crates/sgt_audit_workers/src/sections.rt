@@ -122,37 +122,6 @@ fn read_more<R: Source>(
     Ok(())
 }
 
-/// The next sections: so many, or all that there are, if they are fewer.
-pub fn read_ahead<R: Source>(
-    reader: &mut R,
-    text: &mut Text,
-    count: usize,
-) -> Result<Vec<Section>, EngineFail>
-    ensures ahead { let old = coming text.old.lines (R.tells reader.old) in
-        let now = coming text.new.lines (R.tells reader.new) in
-        (told : Option (List ℕ)) → IsBehind told text.old (R.tells reader.old)
-        → IfOk result (λ ahead. AreAhead told old ahead.items now) }
-    ensures behind { (told : Option (List ℕ)) → IsBehind told text.old (R.tells reader.old)
-        → IfOk result (λ _. IsBehind told text.new (R.tells reader.new)) }
-    ensures spends { (first : Option (List ℕ)) → HasSpent first text.old (R.tells reader.old)
-        → IfOk result (λ _. HasSpent first text.new (R.tells reader.new)) }
-    ensures asks { R.asked reader.new + text.new.lines.reads
-        ≡ R.asked reader.old + text.old.lines.reads }
-    ensures quiet { result ≢ Err EngineFail.ReadFault
-        → R.failures reader.new ≡ R.failures reader.old }
-    ensures read_fault { IsErrOf result EngineFail.ReadFault
-        → FailsBehind text.old (R.tells reader.old)
-        (R.failures reader.old) (R.failures reader.new) (R.asked reader.old) (R.asked reader.new) }
-    ensures write_fault { result ≢ Err EngineFail.WriteFault }
-{
-    let mut ahead = Vec::new(text.alloc);
-    for _section in 0..count {
-        let buffer = Vec::new(text.alloc);
-        read_more(reader, text, &mut ahead, buffer)?;
-    }
-    Ok(ahead)
-}
-
 /// Reads one section more behind those that were read, if there is one, where there is a buffer for it.
 pub fn read_on<R: Source>(
     reader: &mut R,
@@ -182,6 +151,62 @@ pub fn read_on<R: Source>(
         Some(buffer) => read_more(reader, text, ahead, buffer),
         None => Ok(()),
     }
+}
+
+/// How much is read before the first section is judged: as long as it is fewer sections and fewer bytes than these.
+#[derive(Clone, Copy)]
+pub struct Room {
+    pub sections: usize,
+    pub bytes: usize,
+}
+
+/// How many bytes the sections have.
+fn bytes_of(ahead: &[Section]) -> usize {
+    let mut bytes = 0usize;
+    for section in ahead {
+        bytes = bytes.saturating_add(section.bytes.len());
+    }
+    bytes
+}
+
+/// A buffer for one section more, if there is room for it behind these.
+fn buffer_behind(alloc: Global, ahead: &[Section], room: Room) -> Option<Vec<u8>> {
+    if bytes_of(ahead) < room.bytes {
+        Some(Vec::new(alloc))
+    } else {
+        None
+    }
+}
+
+/// The next sections, as long as there is room for them, or all that there are, if they are fewer.
+pub fn read_ahead<R: Source>(
+    reader: &mut R,
+    text: &mut Text,
+    room: Room,
+) -> Result<Vec<Section>, EngineFail>
+    ensures ahead { let old = coming text.old.lines (R.tells reader.old) in
+        let now = coming text.new.lines (R.tells reader.new) in
+        (told : Option (List ℕ)) → IsBehind told text.old (R.tells reader.old)
+        → IfOk result (λ ahead. AreAhead told old ahead.items now) }
+    ensures behind { (told : Option (List ℕ)) → IsBehind told text.old (R.tells reader.old)
+        → IfOk result (λ _. IsBehind told text.new (R.tells reader.new)) }
+    ensures spends { (first : Option (List ℕ)) → HasSpent first text.old (R.tells reader.old)
+        → IfOk result (λ _. HasSpent first text.new (R.tells reader.new)) }
+    ensures asks { R.asked reader.new + text.new.lines.reads
+        ≡ R.asked reader.old + text.old.lines.reads }
+    ensures quiet { result ≢ Err EngineFail.ReadFault
+        → R.failures reader.new ≡ R.failures reader.old }
+    ensures read_fault { IsErrOf result EngineFail.ReadFault
+        → FailsBehind text.old (R.tells reader.old)
+        (R.failures reader.old) (R.failures reader.new) (R.asked reader.old) (R.asked reader.new) }
+    ensures write_fault { result ≢ Err EngineFail.WriteFault }
+{
+    let mut ahead = Vec::new(text.alloc);
+    for _section in 0..room.sections {
+        let buffer = buffer_behind(text.alloc, ahead.as_slice(), room);
+        read_on(reader, text, &mut ahead, buffer)?;
+    }
+    Ok(ahead)
 }
 
 /// The first of the sections that were read, if there is one.
