@@ -13,7 +13,7 @@ ghost use Rattle.sgt_audit_workers.specs.private.Working.{Works, given};
 
 use crate::cutting::next_line;
 use crate::head::read_head;
-use crate::sections::{Section, Text, take_section};
+use crate::sections::{Section, Text, read_on, take_section};
 use crate::tally::Tally;
 use crate::workers::Workers;
 use sgt_audit::{Verdict, audit};
@@ -104,11 +104,10 @@ fn judge_each<H: Threads, R: Source>(
 {
     let sites = workers.head.sites as usize;
     let mut ahead = ahead;
-    let mut buffer = Vec::new(text.alloc);
     for _site in 0..sites {
-        let section = take_section(reader, text, &mut ahead, buffer)?;
+        let section = take_section(reader, text, &mut ahead)?;
         match workers.judge(rt, section)? {
-            Ok(free) => buffer = free,
+            Ok(free) => read_on(reader, text, &mut ahead, free)?,
             Err(verdict) => return Ok(verdict),
         }
     }
@@ -140,7 +139,7 @@ fn judge_sections<H: Threads, R: Source>(
         line: Vec::new(alloc),
         is_ended: false,
     };
-    let (head, ahead) = match read_head(rt, count, reader, &mut text)? {
+    let (head, ahead) = match read_head(rt, count.saturating_mul(2), reader, &mut text)? {
         Ok(begun) => begun,
         Err(verdict) => return Ok(verdict),
     };
@@ -151,8 +150,8 @@ fn judge_sections<H: Threads, R: Source>(
 }
 
 /// Audits all that the reader gives, with so many sections judged at once, and writes the line of the verdict and nothing else. The
-/// verdict is that of `audit` of sgt_audit; but behind a fault more may be read, as many sections as there are workers.
-/// With fewer than two workers it is `audit` itself.
+/// verdict is that of `audit` of sgt_audit; but behind a fault more may be read, at most twice as many sections as there are
+/// workers. With fewer than two workers it is `audit` itself.
 ///
 /// An Err is ReadFault, where a read failed or too many were needed (`MOST_READS` of sgt_names), or Memory: nothing was
 /// written then. Or it is WriteFault, where a write failed: at most a front of the line was written, and not the whole of it.

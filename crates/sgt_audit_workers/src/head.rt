@@ -15,7 +15,7 @@ ghost use Rattle.sgt_audit_workers.specs.private.Texts.{AreAhead, FailsBehind, H
 
 use crate::cutting::next_line;
 use crate::judging::{Judging, finish, start};
-use crate::sections::{Section, Text, read_ahead};
+use crate::sections::{Room, Section, Text, read_ahead};
 use sgt_audit::{Fault, Verdict};
 use sgt_audit_decisions::{Decided, Steps, are_cycles, are_ranks};
 use sgt_cert::{CertFault, Certificate, from_line};
@@ -130,10 +130,10 @@ fn second_fault(next: Next) -> Option<Fault>
     }
 }
 
-/// What the two lines say, once the second is judged; or its fault. So many sections are read meanwhile.
+/// What the two lines say, once the second is judged; or its fault. Meanwhile sections are read, as long as there is room for them.
 fn read_beside<H: Threads, R: Source>(
     rt: &H,
-    count: usize,
+    room: Room,
     reader: &mut R,
     text: &mut Text,
     judging: Judging,
@@ -160,7 +160,7 @@ fn read_beside<H: Threads, R: Source>(
         (R.failures reader.old) (R.failures reader.new) (R.asked reader.old) (R.asked reader.new) }
     ensures write_fault { result ≢ Err EngineFail.WriteFault }
 {
-    let ahead = read_ahead(reader, text, count);
+    let ahead = read_ahead(reader, text, room);
     let found = finish(rt, judging);
     let ahead = ahead?;
     match found {
@@ -170,8 +170,8 @@ fn read_beside<H: Threads, R: Source>(
     }
 }
 
-/// Reads the first two lines of a text, and so many sections behind them: what the lines say, with those sections; or the verdict on
-/// the text, where its first fault is in one of the two.
+/// Reads the first two lines of a text, and up to so many sections behind them, while the second is judged, which takes longer than to
+/// read twice its bytes: what the lines say, with those sections; or the verdict on the text, where its first fault is in one of the two.
 ///
 /// An Err is ReadFault, where a read failed or too many were needed, or Memory.
 pub fn read_head<H: Threads, R: Source>(
@@ -208,8 +208,12 @@ pub fn read_head<H: Threads, R: Source>(
     if let Some(fault) = second_fault(next) {
         return Ok(Err(Verdict::No { line: 2, fault }));
     }
+    let room = Room {
+        sections: count,
+        bytes: line.len().saturating_mul(2),
+    };
     let judging = start(rt, text.alloc, second, line);
-    match read_beside(rt, count, reader, text, judging)? {
+    match read_beside(rt, room, reader, text, judging)? {
         Ok(begun) => Ok(Ok(begun)),
         Err(fault) => Ok(Err(Verdict::No { line: 2, fault })),
     }

@@ -89,11 +89,12 @@ fn keep(ahead: &mut Vec<Section>, section: Section) -> Result<(), EngineFail>
     Ok(())
 }
 
-/// Reads the next section, if there is one, behind those that were read.
+/// Reads the next section, if there is one, behind those that were read, in this buffer.
 fn read_more<R: Source>(
     reader: &mut R,
     text: &mut Text,
     ahead: &mut Vec<Section>,
+    buffer: Vec<u8>,
 ) -> Result<(), EngineFail>
     ensures ahead { let left = coming text.old.lines (R.tells reader.old) in
         let now = coming text.new.lines (R.tells reader.new) in
@@ -116,17 +117,72 @@ fn read_more<R: Source>(
     if text.is_ended {
         return Ok(());
     }
-    let buffer = Vec::new(text.alloc);
     let section = next_section(reader, text, buffer)?;
     keep(ahead, section)?;
     Ok(())
 }
 
-/// The next sections: so many, or all that there are, if they are fewer.
+/// Reads one section more behind those that were read, if there is one, where there is a buffer for it.
+pub fn read_on<R: Source>(
+    reader: &mut R,
+    text: &mut Text,
+    ahead: &mut Vec<Section>,
+    buffer: Option<Vec<u8>>,
+) -> Result<(), EngineFail>
+    ensures ahead { let left = coming text.old.lines (R.tells reader.old) in
+        let now = coming text.new.lines (R.tells reader.new) in
+        (told from : Option (List ℕ)) → IsBehind told text.old (R.tells reader.old)
+        → AreAhead told from ahead.old.items left
+        → OnOk result (AreAhead told from ahead.new.items now) }
+    ensures behind { (told : Option (List ℕ)) → IsBehind told text.old (R.tells reader.old)
+        → OnOk result (IsBehind told text.new (R.tells reader.new)) }
+    ensures spends { (first : Option (List ℕ)) → HasSpent first text.old (R.tells reader.old)
+        → OnOk result (HasSpent first text.new (R.tells reader.new)) }
+    ensures asks { R.asked reader.new + text.new.lines.reads
+        ≡ R.asked reader.old + text.old.lines.reads }
+    ensures quiet { result ≢ Err EngineFail.ReadFault
+        → R.failures reader.new ≡ R.failures reader.old }
+    ensures read_fault { IsErrOf result EngineFail.ReadFault
+        → FailsBehind text.old (R.tells reader.old)
+        (R.failures reader.old) (R.failures reader.new) (R.asked reader.old) (R.asked reader.new) }
+    ensures write_fault { result ≢ Err EngineFail.WriteFault }
+{
+    match buffer {
+        Some(buffer) => read_more(reader, text, ahead, buffer),
+        None => Ok(()),
+    }
+}
+
+/// How much is read before the first section is judged: as long as it is fewer sections and fewer bytes than these.
+#[derive(Clone, Copy)]
+pub struct Room {
+    pub sections: usize,
+    pub bytes: usize,
+}
+
+/// How many bytes the sections have.
+fn bytes_of(ahead: &[Section]) -> usize {
+    let mut bytes = 0usize;
+    for section in ahead {
+        bytes = bytes.saturating_add(section.bytes.len());
+    }
+    bytes
+}
+
+/// A buffer for one section more, if there is room for it behind these.
+fn buffer_behind(alloc: Global, ahead: &[Section], room: Room) -> Option<Vec<u8>> {
+    if bytes_of(ahead) < room.bytes {
+        Some(Vec::new(alloc))
+    } else {
+        None
+    }
+}
+
+/// The next sections, as long as there is room for them, or all that there are, if they are fewer.
 pub fn read_ahead<R: Source>(
     reader: &mut R,
     text: &mut Text,
-    count: usize,
+    room: Room,
 ) -> Result<Vec<Section>, EngineFail>
     ensures ahead { let old = coming text.old.lines (R.tells reader.old) in
         let now = coming text.new.lines (R.tells reader.new) in
@@ -146,8 +202,9 @@ pub fn read_ahead<R: Source>(
     ensures write_fault { result ≢ Err EngineFail.WriteFault }
 {
     let mut ahead = Vec::new(text.alloc);
-    for _section in 0..count {
-        read_more(reader, text, &mut ahead)?;
+    for _section in 0..room.sections {
+        let buffer = buffer_behind(text.alloc, ahead.as_slice(), room);
+        read_on(reader, text, &mut ahead, buffer)?;
     }
     Ok(ahead)
 }
@@ -164,12 +221,11 @@ fn first(ahead: &mut Vec<Section>) -> Option<Section>
     Some(ahead.remove(0))
 }
 
-/// The next section: the first that was read, or one that is read now into this buffer.
+/// The next section: the first that was read, or one that is read now.
 pub fn take_section<R: Source>(
     reader: &mut R,
     text: &mut Text,
     ahead: &mut Vec<Section>,
-    buffer: Vec<u8>,
 ) -> Result<Section, EngineFail>
     ensures section { let left = coming text.old.lines (R.tells reader.old) in
         let now = coming text.new.lines (R.tells reader.new) in
@@ -191,6 +247,9 @@ pub fn take_section<R: Source>(
 {
     match first(ahead) {
         Some(section) => Ok(section),
-        None => next_section(reader, text, buffer),
+        None => {
+            let buffer = Vec::new(text.alloc);
+            next_section(reader, text, buffer)
+        }
     }
 }

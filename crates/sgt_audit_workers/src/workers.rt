@@ -37,11 +37,11 @@ pub struct Workers {
     pub tally: Tally,
 }
 
-/// A worker that has nothing to judge, if it was made, and a buffer for a section.
+/// A worker that has nothing to judge, if it was made, and then the buffer of the section that it judged.
 #[derive(Drop)]
 struct Free {
     alone: Option<Alone>,
-    buffer: Vec<u8>,
+    buffer: Option<Vec<u8>>,
 }
 
 /// The first of the sections that are judged now.
@@ -106,7 +106,7 @@ impl Workers {
         })
     }
 
-    /// A worker that may judge the next section, or none where a new one is made there, and a buffer; or the verdict on the text.
+    /// A worker that may judge the next section, or none where a new one is made there; or the verdict on the text.
     fn free<H: Threads>(&mut self, rt: &H) -> Result<Result<Free, Verdict>, EngineFail>
         requires count { 0 < self.old.count }
         requires works { Works None None self.old }
@@ -122,7 +122,7 @@ impl Workers {
         if self.running.len() < self.count {
             return Ok(Ok(Free {
                 alone: None,
-                buffer: Vec::new(self.alloc),
+                buffer: None,
             }));
         }
         let Some(running) = first(&mut self.running) else {
@@ -131,18 +131,19 @@ impl Workers {
         match take(rt, &mut self.tally, running)? {
             Ok(job) => Ok(Ok(Free {
                 alone: job.alone,
-                buffer: job.section.bytes,
+                buffer: Some(job.section.bytes),
             })),
             Err(verdict) => Ok(Err(verdict)),
         }
     }
 
-    /// Has the next section judged, and waits for a worker if need be: a buffer for the section behind it, or the verdict on the text.
+    /// Has the next section judged, and waits for a worker if need be: the buffer of the section that this one judged before, if
+    /// there was one, or the verdict on the text.
     pub fn judge<H: Threads>(
         &mut self,
         rt: &H,
         section: Section,
-    ) -> Result<Result<Vec<u8>, Verdict>, EngineFail>
+    ) -> Result<Result<Option<Vec<u8>>, Verdict>, EngineFail>
         requires count { 0 < self.old.count }
         requires head { IsHead (arc_value self.old.head) }
         requires works { Works None None self.old }

@@ -24,15 +24,15 @@ loop-section-preserved g c =
     let inv = c.loop-section.invariant in
     let old = coming c.args.text.now.lines (g.R.Source.tells c.args.reader.now) in
     record {
-      ahead = λ told behind. c.in_ok-read_more.ensures.ahead told old (inv.behind told behind) (inv.ahead told behind);
-      behind = λ told behind. c.in_ok-read_more.ensures.behind told (inv.behind told behind);
-      spends = λ first spent. c.in_ok-read_more.ensures.spends first (inv.spends first spent);
-      asks = omega (arith, c.in_ok-read_more.ensures.asks, inv.asks);
-      quiet = c.in_ok-read_more.ensures.quiet (λ same. cc) ∙ inv.quiet;
+      ahead = λ told behind. c.in_ok-read_on.ensures.ahead told old (inv.behind told behind) (inv.ahead told behind);
+      behind = λ told behind. c.in_ok-read_on.ensures.behind told (inv.behind told behind);
+      spends = λ first spent. c.in_ok-read_on.ensures.spends first (inv.spends first spent);
+      asks = omega (arith, c.in_ok-read_on.ensures.asks, inv.asks);
+      quiet = c.in_ok-read_on.ensures.quiet (λ same. cc) ∙ inv.quiet;
     }
 
-pub returns-in_err-read_more-clause-read_fault : goal.returns-in_err-read_more-clause-read_fault
-returns-in_err-read_more-clause-read_fault g c same =
-    let was : IsErrOf c.read_more.result ReadFault = search rules in
+pub returns-in_err-read_on-clause-read_fault : goal.returns-in_err-read_on-clause-read_fault
+returns-in_err-read_on-clause-read_fault g c same =
+    let was : IsErrOf c.read_on.result ReadFault = search rules in
     let inv = c.loop-section.invariant in
-    fails-from c.args.text.now c.loop-section.text _ _ _ _ _ _ _ _ (c.read_more.ensures.read_fault was) inv.spends inv.asks inv.quiet
+    fails-from c.args.text.now c.loop-section.text _ _ _ _ _ _ _ _ (c.read_on.ensures.read_fault was) inv.spends inv.asks inv.quiet
