@@ -48,6 +48,7 @@ impl Alone {
     ghost use Rattle.sgt_cert.specs.declared.bundle.SiteLog.{SiteLog};
     ghost use Rattle.sgt_cert.specs.declared.certificate.Certificate.{Certificate};
     ghost use Rattle.std.specs.Prelude.{[], ◌∷◌, ◌++◌, ◌≢◌, Some};
+    ghost use Rattle.sgt_notation.specs.declared.SectionLine.TheVariants.{Logged};
     ghost use Rattle.sgt_cert.specs.Text.{Begins};
     ghost use Rattle.sgt_audit.specs.Faults.{IsLineIn, Keeps};
     ghost use Rattle.sgt_audit.specs.Reading.{IsBegun, lines_read};
@@ -107,14 +108,102 @@ impl Alone {
             → IfOk result (FollowsAlone certificate.now edges.now b (line_text line.now) self.new) }
         ensures second { self.new.second ≡ self.old.second }
     {
-        if !is_allowed(self.second, line) {
-            return Ok(Some(Fault::Notation));
-        }
         match line {
-            SectionLine::Logged(Entry::Read { .. }) => self.follow(certificate, edges, line),
-            SectionLine::Logged(Entry::Write { .. }) => self.follow(certificate, edges, line),
-            SectionLine::Logged(Entry::Commit { .. }) => self.follow(certificate, edges, line),
-            _ => self.follow_other(certificate, edges, line),
+            SectionLine::Logged(entry) => self.next_entry(certificate, edges, entry),
+            _ => self.next_far(certificate, edges, line),
+        }
+    }
+
+    /// The same, where the line is this entry. The kinds that are most frequent go ways of their own, on which the kind is known and
+    /// not asked for again.
+    #[inline(always)]
+    fn next_entry(
+        &mut self,
+        certificate: &Decided,
+        edges: &[Edge],
+        entry: &Entry,
+    ) -> Result<Option<Fault>, AllocError>
+        ensures follows { let line = Logged entry.now in
+            IsLine line → (b : Begun) → StandsAlone certificate.now b self.old
+            → IfOk result (FollowsAlone certificate.now edges.now b (line_text line) self.new) }
+        ensures second { self.new.second ≡ self.old.second }
+    {
+        match *entry {
+            Entry::Read { tx, item, value } => {
+                self.follow_entry(certificate, edges, Entry::Read { tx, item, value })
+            }
+            Entry::Write { tx, item, value } => {
+                self.follow_entry(certificate, edges, Entry::Write { tx, item, value })
+            }
+            Entry::Commit { tx } => self.follow_entry(certificate, edges, Entry::Commit { tx }),
+            _ => self.next_far_entry(certificate, edges, entry),
+        }
+    }
+
+    /// The next line, which is this entry.
+    #[inline(always)]
+    fn follow_entry(
+        &mut self,
+        certificate: &Decided,
+        edges: &[Edge],
+        entry: Entry,
+    ) -> Result<Option<Fault>, AllocError>
+        ensures follows { let line = Logged entry in
+            IsLineIn self.old.second line → (b : Begun) → StandsAlone certificate.now b self.old
+            → IfOk result (FollowsAlone certificate.now edges.now b (line_text line) self.new) }
+        ensures second { self.new.second ≡ self.old.second }
+    {
+        self.follow(certificate, edges, &SectionLine::Logged(entry))
+    }
+
+    /// An entry of a kind that is less frequent, by way of memory that only this way touches.
+    #[inline(always)]
+    fn next_far_entry(
+        &mut self,
+        certificate: &Decided,
+        edges: &[Edge],
+        entry: &Entry,
+    ) -> Result<Option<Fault>, AllocError>
+        ensures follows { let line = Logged entry.now in
+            IsLine line → (b : Begun) → StandsAlone certificate.now b self.old
+            → IfOk result (FollowsAlone certificate.now edges.now b (line_text line) self.new) }
+        ensures second { self.new.second ≡ self.old.second }
+    {
+        self.next_other(certificate, edges, &SectionLine::Logged(*entry))
+    }
+
+    /// A line of another kind, by way of memory that only this way touches.
+    #[inline(always)]
+    fn next_far(
+        &mut self,
+        certificate: &Decided,
+        edges: &[Edge],
+        line: &SectionLine,
+    ) -> Result<Option<Fault>, AllocError>
+        ensures follows { IsLine line.now → (b : Begun) → StandsAlone certificate.now b self.old
+            → IfOk result (FollowsAlone certificate.now edges.now b (line_text line.now) self.new) }
+        ensures second { self.new.second ≡ self.old.second }
+    {
+        let copy = *line;
+        self.next_other(certificate, edges, &copy)
+    }
+
+    /// The next line, of a kind that is less frequent.
+    #[inline(never)]
+    fn next_other(
+        &mut self,
+        certificate: &Decided,
+        edges: &[Edge],
+        line: &SectionLine,
+    ) -> Result<Option<Fault>, AllocError>
+        ensures follows { IsLine line.now → (b : Begun) → StandsAlone certificate.now b self.old
+            → IfOk result (FollowsAlone certificate.now edges.now b (line_text line.now) self.new) }
+        ensures second { self.new.second ≡ self.old.second }
+    {
+        if is_allowed(self.second, line) {
+            self.follow(certificate, edges, line)
+        } else {
+            Ok(Some(Fault::Notation))
         }
     }
 

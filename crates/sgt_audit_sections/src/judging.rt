@@ -65,10 +65,9 @@ fn feed_front(
     ensures same { IfOk result (λ found. IfNone found (alone.new ≡ alone.old)) }
     ensures second { alone.new.second ≡ alone.old.second }
 {
-    let found = front_line(bytes);
-    if let Some((line, n)) = &found {
-        let fault = alone.next_read(certificate, edges, line)?;
-        return Ok(Some((*n, fault)));
+    if let Some((line, n)) = front_line(bytes) {
+        let fault = alone.next_read(certificate, edges, &line)?;
+        return Ok(Some((n, fault)));
     }
     match find_lf(bytes) {
         Some(n) => {

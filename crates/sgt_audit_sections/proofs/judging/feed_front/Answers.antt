@@ -7,7 +7,7 @@ use Rattle.sgt_audit_sections.proofs.judging.feed_front.Goals as goal
 
 pub returns-in-Some-clause-fed : goal.returns-in-Some-clause-fed
 returns-in-Some-clause-fed c =
-    let found = rw c.in-Some.is at c.front_line-found.ensures in
+    let found = rw c.in-Some.is at c.front_line.ensures in
     record {
       line = line_text c.in-Some.line;
       one = line-no_lf c.in-Some.line found.0;
