@@ -1,5 +1,5 @@
 -- The tickets of the tries so far.
-use Rattle.std.proofs.Common.{◌≡◌, ◌∙◌, false, ◌≤◌, ◌<◌, ℕ, ◌+◌, List, [], ◌∷◌, ◌++◌, length, refl, sym, ap, arith, subst, subst₂, All}
+use Rattle.std.proofs.Common.{◌≡◌, ◌≢◌, ◌∙◌, true, false, true≢false, ◌≤◌, ◌<◌, ℕ, ◌+◌, List, [], ◌∷◌, ◌++◌, length, refl, sym, ap, arith, subst, subst₂, All}
 use Rattle.std.specs.Prelude.{Bool, ◌↔◌, None, IfSome}
 use Rattle.std.specs.List.{last_or}
 use Rattle.std.proofs.lemmas.List.{length-append}
@@ -77,6 +77,13 @@ tries_once ops first last all t sites before reads begun empty none same does wi
   sites = sites;
   told = told;
 }
+
+-- it is withdrawn exactly where a sum doesn't fit
+pub fitting : (t : Ticket) (all : Bool) → t.verdict ≢ Withdrawn → all ≡ true → (t.verdict ≡ Withdrawn) ↔ (all ≡ false)
+fitting t all not fits = (λ is. absurd (not is), λ unfit. absurd (true≢false (sym fits ∙ unfit)))
+
+pub unfitting : (t : Ticket) (all : Bool) → t.verdict ≡ Withdrawn → all ≡ false → (t.verdict ≡ Withdrawn) ↔ (all ≡ false)
+unfitting t all is unfit = (λ _. unfit, λ _. is)
 
 -- ---- what tries do to a seat
 

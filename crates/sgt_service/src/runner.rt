@@ -29,7 +29,7 @@ impl<'a, L: Ledger, G: Gate> Runner<'a, L, G> {
     ghost use Rattle.sgt_service_locks.specs.Refused.{IsOfCall, IsOfChange, IsOfCommit, IsOfWithdraw};
     ghost use Rattle.sgt_service_locks.specs.Seats.{CountsEnd};
     ghost use Rattle.sgt_workers.specs.declared.ticket.Ending.TheVariants.{Withdrawn};
-    ghost use Rattle.sgt_service.specs.Tries.{AreStopped, AreTried, AreTriesOf, CountsOp, CountsReads, IsHalt, IsRefused, IsStopped, IsTryOf, TriesAt};
+    ghost use Rattle.sgt_service.specs.Tries.{AreStopped, AreTried, AreTriesOf, CountsOp, CountsReads, IsRefused, IsStopped, IsTryOf, TriesAt};
     ghost use Rattle.sgt_service.specs.Operations.{op_fits, sum_fits, Does, DoesAll, IsOfOperation, PutsSum};
 
     #[tactic(auto, using(crate::proofs::Faults::item_of_change))]
@@ -143,80 +143,9 @@ impl<'a, L: Ledger, G: Gate> Runner<'a, L, G> {
         Ok(true)
     }
 
-    #[tactic(auto, using(crate::proofs::Faults::back_halt, crate::proofs::Faults::back_parts))]
-    // Asks for the commit.
-    fn commit<R: Wait>(
-        &self,
-        rt: &R,
-        seat: &mut Seat<L>,
-        active: Active,
-    ) -> Result<Ticket, ServiceFault>
-        ensures decided { IfOk result (λ t. t.verdict ≢ Withdrawn) }
-        ensures told { IfOk result (IsTicketOf (vec_len self.now.service.now.sites) active) }
-        ensures parts { seat.new.share.parts ≡ seat.old.share.parts }
-        ensures ends { IfOk result
-            (λ t. CountsEnd t.verdict active seat.old seat.new) }
-        ensures halt { IfErr result
-            (IsHalt (λ verdict. verdict ≢ Withdrawn) active seat.old seat.new) }
-        ensures fault { IfErr result IsOfCommit }
-    {
-        match self.service.commit(rt, self.alloc, seat, active) {
-            Ok(ticket) => Ok(ticket),
-            Err(back) => Err(back.fault),
-        }
-    }
-
-    #[tactic(auto, using(crate::proofs::Faults::back_halt, crate::proofs::Faults::back_parts))]
-    // Withdraws the transaction.
-    fn withdraw<R: Wait>(
-        &self,
-        rt: &R,
-        seat: &mut Seat<L>,
-        active: Active,
-    ) -> Result<Ticket, ServiceFault>
-        ensures decided { IfOk result (λ t. t.verdict ≡ Withdrawn) }
-        ensures told { IfOk result (IsTicketOf (vec_len self.now.service.now.sites) active) }
-        ensures parts { seat.new.share.parts ≡ seat.old.share.parts }
-        ensures ends { IfOk result
-            (λ t. CountsEnd t.verdict active seat.old seat.new) }
-        ensures halt { IfErr result
-            (IsHalt (λ verdict. verdict ≡ Withdrawn) active seat.old seat.new) }
-        ensures fault { IfErr result IsOfWithdraw }
-    {
-        match self.service.withdraw(rt, seat, active) {
-            Ok(ticket) => Ok(ticket),
-            Err(back) => Err(back.fault),
-        }
-    }
-
-    #[tactic(auto, using(crate::proofs::Faults::withdraw_of_commit))]
-    // Asks for the commit of a transaction whose sums fit, and withdraws another.
-    fn end<R: Wait>(
-        &self,
-        rt: &R,
-        seat: &mut Seat<L>,
-        active: Active,
-        fits: bool,
-    ) -> Result<Ticket, ServiceFault>
-        ensures withdrawn { IfOk result (λ t. (t.verdict ≡ Withdrawn) ↔ (fits ≡ false)) }
-        ensures told { IfOk result (IsTicketOf (vec_len self.now.service.now.sites) active) }
-        ensures parts { seat.new.share.parts ≡ seat.old.share.parts }
-        ensures ends { IfOk result
-            (λ t. CountsEnd t.verdict active seat.old seat.new) }
-        ensures halt { IfErr result
-            (IsHalt (λ verdict. (verdict ≡ Withdrawn)
-            ↔ (fits ≡ false)) active seat.old seat.new) }
-        ensures fault { IfErr result IsOfCommit }
-        ensures unfit { fits ≡ false → IfErr result IsOfWithdraw }
-    {
-        if !fits {
-            return self.withdraw(rt, seat, active);
-        }
-        self.commit(rt, seat, active)
-    }
-
-    #[tactic(auto, using(crate::proofs::Faults::begin_of_call, crate::proofs::Faults::operation_of_call, crate::proofs::Faults::commit_of_call))]
-    // One try: a transaction of its own, whose reads' values it leaves in `reads`.
+    #[tactic(auto, using(crate::proofs::Faults::begin_of_call, crate::proofs::Faults::operation_of_call, crate::proofs::Faults::commit_of_call, crate::proofs::Faults::withdraw_of_call))]
+    // One try: a transaction of its own, whose reads' values it leaves in `reads`. It asks for the commit where all sums fit, and
+    // else withdraws.
     fn try_once<R: Wait>(
         &self,
         rt: &R,
@@ -233,8 +162,16 @@ impl<'a, L: Ledger, G: Gate> Runner<'a, L, G> {
         reads.clear();
         let mut active = self.service.begin(rt, self.alloc, seat)?;
         let fits = self.apply_all(rt, seat, &mut active, script, reads)?;
-        let ticket = self.end(rt, seat, active, fits)?;
-        Ok(ticket)
+        if !fits {
+            return match self.service.withdraw(rt, seat, active) {
+                Ok(ticket) => Ok(ticket),
+                Err(back) => Err(back.fault),
+            };
+        }
+        match self.service.commit(rt, self.alloc, seat, active) {
+            Ok(ticket) => Ok(ticket),
+            Err(back) => Err(back.fault),
+        }
     }
 
     #[tactic(auto, using(crate::proofs::Tries::tries_end, crate::proofs::Tries::tries_spent, crate::proofs::Tries::tries_more, crate::proofs::Tries::last_more))]
