@@ -109,8 +109,3 @@ module _ {L : Type 0} where
   abbrev pub IsStopped : Seat L → Seat L → ServiceFault → Type 0
   IsStopped old new f = (new.share ≡ old.share)
       ⊎ ((site : ℕ) × (f ≡ NotPledged site) × (new.share.amount ≡ old.share.amount + 1))
-
-  -- tries with these tickets, all refused, and behind them one without a ticket
-  abbrev pub AreStopped : List Op → List Ticket → Seat L → Seat L → ServiceFault → Type 0
-  AreStopped ops tickets old new f = All IsRefused tickets
-      × ((mid : Seat L) × AreTried ops tickets old mid × IsStopped mid new f)

@@ -23,13 +23,10 @@ pub struct Runner<'a, L: Ledger, G: Gate> {
 }
 
 impl<'a, L: Ledger, G: Gate> Runner<'a, L, G> {
-    ghost use Rattle.std.specs.Prelude.{◌≡◌, ◌≢◌, ◌↔◌, [], true, false, All, Ok, IfOk, IfErr, OnOk, OnErr, vec_len};
-    ghost use Rattle.sgt_service_locks.specs.Guarded.{IsTicketOf};
+    ghost use Rattle.std.specs.Prelude.{◌≡◌, true, false, All, Ok, IfOk, IfErr, OnOk, OnErr};
     ghost use Rattle.sgt_service_locks.specs.Reads.{look_in, IsOfActive};
-    ghost use Rattle.sgt_service_locks.specs.Refused.{IsOfCall, IsOfChange, IsOfCommit, IsOfWithdraw};
-    ghost use Rattle.sgt_service_locks.specs.Seats.{CountsEnd};
-    ghost use Rattle.sgt_workers.specs.declared.ticket.Ending.TheVariants.{Withdrawn};
-    ghost use Rattle.sgt_service.specs.Tries.{AreStopped, AreTried, AreTriesOf, CountsOp, CountsReads, IsRefused, IsStopped, IsTryOf, TriesAt};
+    ghost use Rattle.sgt_service_locks.specs.Refused.{IsOfCall, IsOfChange};
+    ghost use Rattle.sgt_service.specs.Tries.{CountsOp, CountsReads, IsStopped, TriesAt};
     ghost use Rattle.sgt_service.specs.Operations.{op_fits, sum_fits, Does, DoesAll, IsOfOperation, PutsSum};
 
     #[tactic(auto, using(crate::proofs::Faults::item_of_change))]
@@ -173,37 +170,6 @@ impl<'a, L: Ledger, G: Gate> Runner<'a, L, G> {
             Err(back) => Err(back.fault),
         }
     }
-
-    #[tactic(auto, using(crate::proofs::Tries::tries_end, crate::proofs::Tries::tries_spent, crate::proofs::Tries::tries_more, crate::proofs::Tries::last_more))]
-    // Tries a script until it isn't refused, or until no try is left.
-    fn try_all<R: Wait>(
-        &self,
-        rt: &R,
-        seat: &mut Seat<L>,
-        script: &Script,
-        tickets: &mut Vec<Ticket>,
-        reads: &mut Vec<Value>,
-    ) -> Result<(), ServiceFault>
-        requires { tickets.old.items ≡ [] }
-        ensures tries { OnOk result
-            (AreTriesOf self.now.tries script.now.operations tickets.new.items reads.new.items) }
-        ensures parts { seat.new.share.parts ≡ seat.old.share.parts }
-        ensures tried { OnOk result
-            (AreTried script.now.operations tickets.new.items seat.old seat.new) }
-        ensures halt { IfErr result
-            (AreStopped script.now.operations tickets.new.items seat.old seat.new) }
-        ensures fault { IfErr result IsOfCall }
-    {
-        for _ in 0..self.tries {
-            tickets.reserve(1)?;
-            let ticket = self.try_once(rt, seat, script, reads)?;
-            tickets.push_reserved(ticket);
-            if ticket.verdict != Ending::Refused {
-                return Ok(());
-            }
-        }
-        Ok(())
-    }
 }
 
 impl<'a, L: Ledger, G: Gate> Work<Seat<L>, Script, ServiceFault> for Runner<'a, L, G> {
@@ -220,6 +186,8 @@ impl<'a, L: Ledger, G: Gate> Work<Seat<L>, Script, ServiceFault> for Runner<'a, 
 
     ghost does = { λ w s number script done t. TriesJob s number script done t };
 
+    #[tactic(auto, using(crate::proofs::Tries::tries_end, crate::proofs::Tries::tries_spent, crate::proofs::Tries::tries_more, crate::proofs::Tries::last_more))]
+    // Tries the script until it isn't refused, or until no try is left.
     fn work<R: Wait>(
         &self,
         rt: &R,
@@ -229,7 +197,18 @@ impl<'a, L: Ledger, G: Gate> Work<Seat<L>, Script, ServiceFault> for Runner<'a, 
         self.service.gate.arrive(seat.number(), Place::Taken);
         let mut tickets = Vec::new(self.alloc);
         let mut reads = Vec::new(self.alloc);
-        self.try_all(rt, seat, job.script, &mut tickets, &mut reads)?;
+        for _ in 0..self.tries {
+            tickets.reserve(1)?;
+            let ticket = self.try_once(rt, seat, job.script, &mut reads)?;
+            tickets.push_reserved(ticket);
+            if ticket.verdict != Ending::Refused {
+                return Ok(Done {
+                    job: job.number,
+                    tickets,
+                    reads,
+                });
+            }
+        }
         Ok(Done {
             job: job.number,
             tickets,
