@@ -390,7 +390,6 @@ impl<L: Ledger> Guarded<L> {
         }
     }
 
-    #[tactic(auto, using(crate::proofs::Decisions::noted_awaits))]
     /// Writes the block of a transaction that is decided so at the site of this number, under both locks; an install is noted in the
     /// history. False where the pledge is lost or another site stands in its place, and then nothing changes.
     pub(crate) fn end(
