@@ -19,8 +19,8 @@ returns-in-Ok-commit-clause-tries g c =
           c.commit.new.seat c.in_ok-active.ensures.seat c.in_ok-active.ensures.draft c.apply_all.ensures.share c.apply_all.ensures.counts told.ok.2,
     )
 
-pub returns-then-not-fits-in-Ok-clause-tries : goal.returns-then-not-fits-in-Ok-clause-tries
-returns-then-not-fits-in-Ok-clause-tries g c =
+pub returns-in-Ok-clause-tries : goal.returns-in-Ok-clause-tries
+returns-in-Ok-clause-tries g c =
     let t = c.in-Ok.ticket in
     let told = c.in-Ok.ensures in
     let ends = subst (λ (v : Ending). CountsEnd v c.apply_all.new.active c.apply_all.new.seat c.withdraw.new.seat) (sym told.ok.1) told.ok.2 in (
@@ -37,8 +37,8 @@ returns-in-Err-commit-clause-halt g c =
     back_stopped (λ (v : Ending). v ≢ Withdrawn) c.apply_all.new.active c.args.seat.now c.apply_all.new.seat c.commit.new.seat c.in-Err-commit.back
     (c.apply_all.ensures.share.0 ∙ c.in_ok-active.ensures.seat.0) c.in-Err-commit.ensures.back
 
-pub returns-then-not-fits-in-Err-clause-halt : goal.returns-then-not-fits-in-Err-clause-halt
-returns-then-not-fits-in-Err-clause-halt g c =
+pub returns-in-Err-clause-halt : goal.returns-in-Err-clause-halt
+returns-in-Err-clause-halt g c =
     back_stopped (λ (v : Ending). v ≡ Withdrawn) c.apply_all.new.active c.args.seat.now c.apply_all.new.seat c.withdraw.new.seat c.in-Err.back
     (c.apply_all.ensures.share.0 ∙ c.in_ok-active.ensures.seat.0) c.in-Err.ensures.back
 
@@ -47,7 +47,7 @@ returns-in-Err-commit-clause-parts g c =
     back_parts (λ (v : Ending). v ≢ Withdrawn) c.apply_all.new.active c.args.seat.now c.apply_all.new.seat c.commit.new.seat c.in-Err-commit.back
     (c.apply_all.ensures.share.0 ∙ c.in_ok-active.ensures.seat.0) c.in-Err-commit.ensures.back
 
-pub returns-then-not-fits-in-Err-clause-parts : goal.returns-then-not-fits-in-Err-clause-parts
-returns-then-not-fits-in-Err-clause-parts g c =
+pub returns-in-Err-clause-parts : goal.returns-in-Err-clause-parts
+returns-in-Err-clause-parts g c =
     back_parts (λ (v : Ending). v ≡ Withdrawn) c.apply_all.new.active c.args.seat.now c.apply_all.new.seat c.withdraw.new.seat c.in-Err.back
     (c.apply_all.ensures.share.0 ∙ c.in_ok-active.ensures.seat.0) c.in-Err.ensures.back
