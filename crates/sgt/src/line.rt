@@ -148,6 +148,14 @@ impl Line {
         tells_lines(self.command) && !self.is_quiet
     }
 
+    /// The first file; `-`, standard input, where there is none.
+    pub(crate) fn first_file(&self) -> &str {
+        match self.files.first() {
+            Some(name) => name.as_str(),
+            None => "-",
+        }
+    }
+
     /// What is read, in the words of who has to type it.
     pub(crate) fn awaits(&self) -> Option<&'static str> {
         match self.command {

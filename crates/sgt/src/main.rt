@@ -13,6 +13,7 @@ use crate::progress::Progress;
 use sgt_names::{EngineFail, FromRead, MemSink, Sink, ToWrite, write_all};
 use sgt_program::{give_up, program, refuse_words};
 use sgt_words::choose;
+use std::alloc::AllocError;
 use std::fs::File;
 use std::io::{IsTerminal, Write};
 use std::process::ExitCode;
@@ -163,60 +164,58 @@ fn run_held<H: Threads + Wait + Sync>(
     Ok(status)
 }
 
-fn run_line<H: Threads + Wait + Sync>(host: &Host<'_, H>, line: &Line) -> Result<u8, EngineFail> {
-    let rt = host.rt;
-    if line.files.len() > 1 {
-        return audit_each(host, line);
-    }
-    let name = match line.files.first() {
-        Some(name) => name.as_str(),
-        None => "-",
-    };
-    if line.bundle.is_some() || line.is_strict {
-        return run_held(host, line, name);
-    }
-    if line.is_quiet && choose(rt.alloc(), line.words.as_slice()).is_ok() {
-        let mut verdict = MemSink::new(rt.alloc(), LINE)?;
-        return Ok(over(host, line.words.as_slice(), name, &mut verdict));
-    }
-    let mut output = ToWrite::new(Retrying::new(rt.stdout(), host.hush));
-    Ok(over(host, line.words.as_slice(), name, &mut output))
+// Runs the program over a file for its status alone.
+fn judge<H: Threads + Wait + Sync>(
+    host: &Host<'_, H>,
+    line: &Line,
+    name: &str,
+) -> Result<u8, EngineFail> {
+    let mut verdict = MemSink::new(host.rt.alloc(), LINE)?;
+    Ok(over(host, line.words.as_slice(), name, &mut verdict))
 }
 
-// The words of the command line, or the status where they can't be had.
-fn words_of(rt: &HostRuntime, hush: &Hush) -> Result<Vec<String>, u8> {
+// The command line, or the status where it can't be had.
+fn line_of(rt: &HostRuntime, hush: &Hush) -> Result<Line, u8> {
     let mut errors = ToWrite::new(LastWords::new(rt.stderr(), hush));
-    match env::args(rt) {
-        Ok(words) => match words.collect(rt.alloc()) {
-            Ok(words) => Ok(words),
-            Err(_) => Err(give_up(&mut errors, EngineFail::Memory)),
-        },
-        Err(e) if e.kind() == io::ErrorKind::OutOfMemory => {
-            Err(give_up(&mut errors, EngineFail::Memory))
-        }
-        Err(_) => Err(refuse_words(&mut errors)),
+    let given = match env::args(rt) {
+        Ok(words) => words.collect(rt.alloc()),
+        Err(e) if e.kind() == io::ErrorKind::OutOfMemory => Err(AllocError),
+        Err(_) => return Err(refuse_words(&mut errors)),
+    };
+    let line = match given {
+        Ok(given) => Line::of(rt.alloc(), given),
+        Err(_) => Err(AllocError),
+    };
+    match line {
+        Ok(line) => Ok(line),
+        Err(_) => Err(give_up(&mut errors, EngineFail::Memory)),
     }
 }
 
 fn main(rt: HostRuntime) -> ExitCode {
     let hush = Hush::new();
-    let given = match words_of(&rt, &hush) {
-        Ok(given) => given,
+    let line = match line_of(&rt, &hush) {
+        Ok(line) => line,
         Err(status) => return ExitCode::from(status),
     };
-    let ran = match Line::of(rt.alloc(), given) {
-        Ok(line) => {
-            let host = Host {
-                rt: &rt,
-                threads: &rt,
-                awaits: line.awaits(),
-                tells_lines: line.tells_lines
-                    || (line.tells_terminal() && rt.stderr().is_terminal()),
-                hush: &hush,
-            };
-            run_line(&host, &line)
-        }
-        Err(_) => Err(EngineFail::Memory),
+    let host = Host {
+        rt: &rt,
+        threads: &rt,
+        awaits: line.awaits(),
+        tells_lines: line.tells_lines || (line.tells_terminal() && rt.stderr().is_terminal()),
+        hush: &hush,
+    };
+    let words = line.words.as_slice();
+    let name = line.first_file();
+    let ran = if line.files.len() > 1 {
+        audit_each(&host, &line)
+    } else if line.bundle.is_some() || line.is_strict {
+        run_held(&host, &line, name)
+    } else if line.is_quiet && choose(rt.alloc(), words).is_ok() {
+        judge(&host, &line, name)
+    } else {
+        let mut output = ToWrite::new(Retrying::new(rt.stdout(), &hush));
+        Ok(over(&host, words, name, &mut output))
     };
     match ran {
         Ok(status) => ExitCode::from(status),

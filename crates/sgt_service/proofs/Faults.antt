@@ -1,5 +1,5 @@
 -- The faults of the calls that a worker makes.
-use Rattle.std.proofs.Common.{◌≡◌, ℕ, List, inl, inr, Some, None, Option, Result, Ok, Err, OnOk, IfErr, sym, subst, ◌∙◌, ◌≢◌}
+use Rattle.std.proofs.Common.{◌≡◌, ◌+◌, ℕ, List, inl, inr, Some, None, Option, Result, Ok, Err, OnOk, IfErr, sym, subst, ◌∙◌, ◌≢◌}
 use Rattle.std.specs.Prelude.{MatchResult}
 use Rattle.sgt_names.specs.Name.{Name}
 use Rattle.sgt_service_agreement.specs.declared.fault.ServiceFault.{ServiceFault}
@@ -8,7 +8,6 @@ use Rattle.sgt_site.specs.declared.fault.SiteFault.TheVariants as site
 use Rattle.sgt_certifier.specs.Kept.{Kept}
 use Rattle.sgt_workers.specs.declared.ticket.Done.{Done}
 use Rattle.sgt_workers.specs.declared.ticket.Ending.{Ending}
-use Rattle.sgt_certifier.specs.declared.call.CertifierFault.TheVariants as certifier
 use Rattle.sgt_service_locks.specs.Refused.{IsOfBegin, IsOfCall, IsOfChange, IsOfCommit, IsOfRead, IsOfWithdraw, RefusesItem}
 use Rattle.sgt_service_locks.specs.Seats.{IsBack}
 use Rattle.sgt_service_locks.specs.declared.active.Active.{Active}
@@ -18,7 +17,7 @@ use Rattle.sgt_service_settle.specs.Settled.{AreTickets, Run}
 use Rattle.sgt_service_settle.specs.Fault.{IsUnsettled}
 use Rattle.sgt_service.specs.Bundle.{IsToldAlone}
 use Rattle.sgt_service.specs.Operations.{IsOfOperation}
-use Rattle.sgt_service.specs.Tries.{IsHalt}
+use Rattle.sgt_service.specs.Tries.{IsStopped}
 
 pub item_of_change : (names : List (List Name)) (s : ℕ) (x : Name) (f : ServiceFault) → RefusesItem names s x f → IsOfChange f
 item_of_change names s x (fault.Site site.UnknownItem) r = tt
@@ -35,11 +34,6 @@ read_of_operation f h = inl h
 pub change_of_operation : (f : ServiceFault) → IsOfChange f → IsOfOperation f
 change_of_operation f h = inr h
 
--- what a withdrawal may be refused for, a commit may be too
-pub withdraw_of_commit : (f : ServiceFault) → IsOfWithdraw f → IsOfCommit f
-withdraw_of_commit (fault.Certifier certifier.Stale) h = tt
-withdraw_of_commit _ h = h
-
 -- each is a fault of some call
 pub begin_of_call : (f : ServiceFault) → IsOfBegin f → IsOfCall f
 begin_of_call f h = inl h
@@ -49,6 +43,9 @@ operation_of_call f h = elim h [ inl read ↦ inr (inl read) | inr change ↦ in
 
 pub commit_of_call : (f : ServiceFault) → IsOfCommit f → IsOfCall f
 commit_of_call f h = inr (inr (inr (inl h)))
+
+pub withdraw_of_call : (f : ServiceFault) → IsOfWithdraw f → IsOfCall f
+withdraw_of_call f h = inr (inr (inr (inr h)))
 
 -- what the tickets tell, where there is no memory for the sites
 pub alone_told : {A : Type 0} (c : Kept) (dones : List Done) (told : Result A ServiceFault) (f : ServiceFault) → OnOk told (AreTickets c.state.rulings dones)
@@ -69,25 +66,21 @@ memory_told c dones (Ok done) f tickets not is want = tickets
 memory_told c dones (Err g) f tickets not is want = absurd (not (sym is ∙ want))
 
 module _ {L : Type 0} where
-  halt_by : (decided : Ending → Type 0) (active : Active) (old new : Seat L) (o : Option Active) (f : ServiceFault)
-      → IsBack decided active old new (record { active = o; fault = f }) → IsHalt decided active old new f
-  halt_by decided active old new None f h = inr h
-  halt_by decided active old new (Some a) f h = inl h.1
+  stopped_by : (decided : Ending → Type 0) (active : Active) (old mid new : Seat L) (o : Option Active) (f : ServiceFault) → mid.share ≡ old.share
+      → IsBack decided active mid new (record { active = o; fault = f }) → IsStopped old new f
+  stopped_by decided active old mid new None f same h = inr (h.1, h.3, h.4.1.1 ∙ (λ i. (same i).amount + 1))
+  stopped_by decided active old mid new (Some a) f same h = inl (h.1.0 ∙ same)
 
-  pub back_halt : (decided : Ending → Type 0) (active : Active) (old new : Seat L) (b : Back) → IsBack decided active old new b
-      → IsHalt decided active old new b.fault
-  back_halt decided active old new b h = halt_by decided active old new b.active b.fault h
+  -- what comes back of a transaction that began and read at the seat
+  pub back_stopped : (decided : Ending → Type 0) (active : Active) (old mid new : Seat L) (b : Back) → mid.share ≡ old.share
+      → IsBack decided active mid new b → IsStopped old new b.fault
+  back_stopped decided active old mid new b same h = stopped_by decided active old mid new b.active b.fault same h
 
-  -- of a transaction that is withdrawn exactly where its sums don't fit
-  pub halt_as : (P Q : Ending → Type 0) → ((v : Ending) → P v → Q v) → (active : Active) (old new : Seat L) (f : ServiceFault) → IsHalt P active old new f
-      → IsHalt Q active old new f
-  halt_as P Q weaker active old new f (inl same) = inl same
-  halt_as P Q weaker active old new f (inr h) = inr (h.0, h.1, weaker h.0 h.2, h.3, h.4)
+  parts_by : (decided : Ending → Type 0) (active : Active) (old mid new : Seat L) (o : Option Active) (f : ServiceFault) → mid.share ≡ old.share
+      → IsBack decided active mid new (record { active = o; fault = f }) → new.share.parts ≡ old.share.parts
+  parts_by decided active old mid new None f same h = h.4.1.0 ∙ (λ t. (same t).parts)
+  parts_by decided active old mid new (Some a) f same h = λ t. ((h.1.0 ∙ same) t).parts
 
-  parts_by : (decided : Ending → Type 0) (active : Active) (old new : Seat L) (o : Option Active) (f : ServiceFault)
-      → IsBack decided active old new (record { active = o; fault = f }) → new.share.parts ≡ old.share.parts
-  parts_by decided active old new None f h = h.4.1.0
-  parts_by decided active old new (Some a) f h = λ t. (h.1.0 t).parts
-
-  pub back_parts : (decided : Ending → Type 0) (active : Active) (old new : Seat L) (b : Back) → IsBack decided active old new b → new.share.parts ≡ old.share.parts
-  back_parts decided active old new b h = parts_by decided active old new b.active b.fault h
+  pub back_parts : (decided : Ending → Type 0) (active : Active) (old mid new : Seat L) (b : Back) → mid.share ≡ old.share
+      → IsBack decided active mid new b → new.share.parts ≡ old.share.parts
+  back_parts decided active old mid new b same h = parts_by decided active old mid new b.active b.fault same h

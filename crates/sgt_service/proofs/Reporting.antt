@@ -1,6 +1,6 @@
 -- What a run writes, put together.
 use Rattle.std.proofs.Common.{◌≡◌, ℕ, ◌+◌, ◌≤◌, List, [], ◌∷◌, ◌++◌, length, map, ◌⊎◌, inl, inr, refl, sym, ◌∙◌, ap, subst, arith, append_assoc, All}
-use Rattle.std.specs.Prelude.{codes}
+use Rattle.std.specs.Prelude.{Option, IfSome, codes}
 use Rattle.std.proofs.lemmas.List.Elements.{All-head, All-tail}
 use Rattle.std.proofs.lemmas.List.Sums.{sum_by-cons}
 use Rattle.sgt_names.proofs.Lists.{All-from_map, All-weaken}
@@ -37,8 +37,8 @@ use Rattle.sgt_service.specs.Results.{done_text}
 use Rattle.sgt_service.specs.Tallies.{AreCountsOf}
 use Rattle.sgt_service.specs.Tries.{AreDonesOf, TriesJob}
 use Rattle.sgt_service.proofs.Shares.{counts_tried}
-use Rattle.sgt_service.specs.Input.{IsInput}
-use Rattle.sgt_service.specs.Report.{EndsRun, EndsUnsettled, IsOfRun, IsOutcome, IsRunAnswer, IsRunOf, IsTextOf, IsWant, site_items}
+use Rattle.sgt_service.specs.Input.{IsInput, Spells}
+use Rattle.sgt_service.specs.Report.{EndsRun, IsAnswer, EndsUnsettled, IsOfRun, IsOutcome, IsRunAnswer, IsRunOf, IsTextOf, IsWant, site_items}
 use Rattle.sgt_service.specs.declared.input.Input.{Input}
 
 -- sites with good items are refused for want of memory alone
@@ -80,6 +80,13 @@ pub run_answers : (input : Input) (tries : ℕ) (run : Run) (o : Outcome) (text 
 run_answers input tries run outcome.Yes text settled of began is = (run, settled, of, began, is)
 run_answers input tries run outcome.No text settled of began is = inl (run, settled, of, began, is)
 run_answers input tries run outcome.Unreadable text settled of began is = absurd is.ends
+
+-- and so is what answers an input, of what spells it
+pub read_answers : (input : Input) (tries : ℕ) (told : Option (List ℕ)) (o : Outcome) (text : List ℕ) → IfSome told (λ bytes. Spells bytes input)
+    → IsRunAnswer input tries o text → IsAnswer tries told o text
+read_answers input tries told outcome.Yes text spells is = (input, spells, is)
+read_answers input tries told outcome.No text spells is = (input, spells, is)
+read_answers input tries told outcome.Unreadable text spells is = absurd is
 
 joined : (a b d e t0 t1 t2 t3 t4 : List ℕ) → t0 ≡ [] → t1 ≡ t0 ++ a → t2 ≡ t1 ++ b → t3 ≡ t2 ++ d → t4 ≡ t3 ++ e → t4 ≡ a ++ (b ++ (d ++ e))
 joined a b d e t0 t1 t2 t3 t4 e0 e1 e2 e3 e4 =

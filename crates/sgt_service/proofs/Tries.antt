@@ -1,5 +1,5 @@
 -- The tickets of the tries so far.
-use Rattle.std.proofs.Common.{◌≡◌, ◌∙◌, false, ◌≤◌, ◌<◌, ℕ, ◌+◌, List, [], ◌∷◌, ◌++◌, length, refl, sym, ap, arith, subst, subst₂, All}
+use Rattle.std.proofs.Common.{◌≡◌, ◌≢◌, ◌∙◌, true, false, true≢false, ◌≤◌, ◌<◌, ℕ, ◌+◌, List, [], ◌∷◌, ◌++◌, length, refl, sym, ap, arith, subst, subst₂, All}
 use Rattle.std.specs.Prelude.{Bool, ◌↔◌, None, IfSome}
 use Rattle.std.specs.List.{last_or}
 use Rattle.std.proofs.lemmas.List.{length-append}
@@ -15,12 +15,11 @@ use Rattle.sgt_service_locks.specs.declared.active.Active.{Active}
 use Rattle.sgt_workers.specs.declared.ticket.Ticket.{Ticket}
 use Rattle.sgt_workers.specs.declared.ticket.Ending.TheVariants.{Withdrawn}
 use Rattle.sgt_service_agreement.specs.declared.counts.EntryCounts.{EntryCounts}
-use Rattle.sgt_service_agreement.specs.declared.fault.ServiceFault.{ServiceFault}
 use Rattle.sgt_service_locks.specs.Counts.{AreCounted, blocks_of, with_others}
 use Rattle.sgt_service_locks.specs.Seats.{CountsBegin, CountsEnd}
 use Rattle.sgt_service_locks.specs.declared.seat.Seat.{Seat}
 use Rattle.sgt_service.specs.Operations.{DoesAll, Tries, TriesBy}
-use Rattle.sgt_service.specs.Tries.{reads_at, with_reads, AreStopped, AreTried, AreTries, CountsReads, CountsTry, IsRefused, IsStopped, IsTryOf, TriesAt}
+use Rattle.sgt_service.specs.Tries.{reads_at, with_reads, AreTried, AreTries, CountsReads, CountsTry, IsRefused, IsTryOf, TriesAt}
 use Rattle.sgt_service.proofs.Keeping.{reads_all}
 
 -- a ticket that isn't refused is the last
@@ -78,6 +77,13 @@ tries_once ops first last all t sites before reads begun empty none same does wi
   told = told;
 }
 
+-- it is withdrawn exactly where a sum doesn't fit
+pub fitting : (t : Ticket) (all : Bool) → t.verdict ≢ Withdrawn → all ≡ true → (t.verdict ≡ Withdrawn) ↔ (all ≡ false)
+fitting t all not fits = (λ is. absurd (not is), λ unfit. absurd (true≢false (sym fits ∙ unfit)))
+
+pub unfitting : (t : Ticket) (all : Bool) → t.verdict ≡ Withdrawn → all ≡ false → (t.verdict ≡ Withdrawn) ↔ (all ≡ false)
+unfitting t all is unfit = (λ _. unfit, λ _. is)
+
 -- ---- what tries do to a seat
 
 -- two changes at each site, one after another
@@ -115,8 +121,3 @@ module _ {L : Type 0} where
   tried_more ops [] t heard old mid new same tried = (new, (heard, subst (λ s. TriesAt ops t heard s new) same tried), refl)
   tried_more ops (u ∷ tickets) t heard old mid new before tried =
       (before.0, before.1, tried_more ops tickets t heard before.0 mid new before.2 tried)
-
-  -- a try without a ticket
-  pub stopped_behind : (ops : List Op) (tickets : List Ticket) (old mid new : Seat L) (f : ServiceFault) → All IsRefused tickets
-      → AreTried ops tickets old mid → IsStopped mid new f → AreStopped ops tickets old new f
-  stopped_behind ops tickets old mid new f refused tried stopped = (refused, (mid, tried, stopped))

@@ -16,7 +16,6 @@ use Rattle.sgt_service_agreement.specs.declared.fault.ServiceFault.{ServiceFault
 use Rattle.sgt_service_agreement.specs.declared.fault.ServiceFault.TheVariants.{NotPledged}
 use Rattle.sgt_service_locks.specs.Counts.{capped, AreCounted, only_at, with_read, with_others, blocks_of}
 use Rattle.sgt_service_locks.specs.Reads.{look_in}
-use Rattle.sgt_service_locks.specs.Seats.{SameSeat, CountsLoss}
 use Rattle.sgt_service_locks.specs.declared.active.Active.{Active}
 use Rattle.sgt_service_locks.specs.declared.seat.Seat.{Seat}
 use Rattle.sgt_service.specs.Operations.{Tries, TriesBy}
@@ -105,20 +104,8 @@ module _ {L : Type 0} where
   abbrev pub TriesJob : Seat L → ℕ → Script → Done → Seat L → Type 0
   TriesJob old number script d new = AreTried script.operations d.tickets.items old new
 
-  -- a transaction without a ticket leaves its seat as it was. Or it was decided so, and V7 names
-  -- the site that had lost its pledge
-  abbrev pub IsHalt : (Ending → Type 0) → Active → Seat L → Seat L → ServiceFault → Type 0
-  IsHalt decided active old new f = SameSeat old new
-      ⊎ ((verdict : Ending) × (site : ℕ) × decided verdict × (f ≡ NotPledged site)
-      × CountsLoss verdict active site old new)
-
   -- a try without a ticket took no decision. Or it took one, and V7 names the site that had lost
   -- its pledge
   abbrev pub IsStopped : Seat L → Seat L → ServiceFault → Type 0
   IsStopped old new f = (new.share ≡ old.share)
       ⊎ ((site : ℕ) × (f ≡ NotPledged site) × (new.share.amount ≡ old.share.amount + 1))
-
-  -- tries with these tickets, all refused, and behind them one without a ticket
-  abbrev pub AreStopped : List Op → List Ticket → Seat L → Seat L → ServiceFault → Type 0
-  AreStopped ops tickets old new f = All IsRefused tickets
-      × ((mid : Seat L) × AreTried ops tickets old mid × IsStopped mid new f)

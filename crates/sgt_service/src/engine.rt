@@ -149,37 +149,8 @@ fn run_text(alloc: Global, settled: &Settled) -> Result<Answer, AllocError>
     Ok(Answer { outcome, text })
 }
 
-// Runs the scripts by as many workers as the blank has parts, on a service of these sites, and settles the run.
-fn run_and_settle<L: Ledger + Send + Sync, G: Gate + Sync, R: Threads + Wait + Sync>(
-    rt: &R,
-    alloc: Global,
-    blank: Blank,
-    workers: u64,
-    sites: &[Listed<Holding>],
-    scripts: &[Script],
-    tries: u64,
-    gate: &G,
-) -> Result<Settled, PoolFail<ServiceFault>>
-    requires ledger { (blank.name ≡ L.name) × (blank.parts ≡ L.parts) × (blank.parts ≡ workers) }
-    requires some { (1 ≤ workers) × (1 ≤ tries) }
-    requires sites { (1 ≤ length sites.now) × (length sites.now ≤ max_sites) }
-    requires items { All AreItems sites.now }
-    ensures settled { IfOk result IsSettled }
-    ensures run { IfOk result (IsRunOf scripts.now (length sites.now) tries) }
-    ensures fault { IfErr result (λ f. IsWant f ⊎ EndsRun scripts.now sites.now tries f) }
-{
-    let (service, seats) = match Service::<L, &G>::new(alloc, blank, sites, workers, gate) {
-        Ok(opened) => opened,
-        Err(fault) => return Err(PoolFail::Work(fault)),
-    };
-    let (dones, seats) = run(rt, alloc, &service, seats, scripts, tries)?;
-    match settle(alloc, service, dones, seats) {
-        Ok(settled) => Ok(settled),
-        Err(fault) => Err(PoolFail::Work(fault)),
-    }
-}
-
-// The same, where the sites that were settled are those that were put there; V9 names the first that isn't.
+// Runs the scripts by as many workers as the blank has parts, on a service of these sites, and settles the run. The sites that were
+// settled are those that were put there; V9 names the first that isn't.
 fn settled_run<L: Ledger + Send + Sync, G: Gate + Sync, R: Threads + Wait + Sync>(
     rt: &R,
     alloc: Global,
@@ -199,46 +170,18 @@ fn settled_run<L: Ledger + Send + Sync, G: Gate + Sync, R: Threads + Wait + Sync
     ensures items { IfOk result (λ s. site_items s ≡ sites.now) }
     ensures fault { IfErr result (λ f. IsWant f ⊎ EndsRun scripts.now sites.now tries f) }
 {
-    let settled = run_and_settle::<L, G, R>(
-        rt, alloc, blank, workers, sites, scripts, tries, gate,
-    )?;
+    let (service, seats) = match Service::<L, &G>::new(alloc, blank, sites, workers, gate) {
+        Ok(opened) => opened,
+        Err(fault) => return Err(PoolFail::Work(fault)),
+    };
+    let (dones, seats) = run(rt, alloc, &service, seats, scripts, tries)?;
+    let settled = match settle(alloc, service, dones, seats) {
+        Ok(settled) => settled,
+        Err(fault) => return Err(PoolFail::Work(fault)),
+    };
     match first_other(settled.sites(), sites) {
         None => Ok(settled),
         Some(site) => Err(PoolFail::Work(ServiceFault::LogDiffers(site))),
-    }
-}
-
-// The answer to an input. Err: memory ran out.
-fn answer_input<G: Gate + Sync, R: Threads + Wait + Sync>(
-    rt: &R,
-    alloc: Global,
-    input: Input,
-    workers: u64,
-    tries: u64,
-    gate: &G,
-) -> Result<Answer, AllocError>
-    requires some { (1 ≤ workers) × (1 ≤ tries) }
-    requires input { IsInput input }
-    ensures { IfOk result (λ answer. IsRunAnswer input tries answer.outcome answer.text.items) }
-{
-    let Input { sites, scripts } = input;
-    let items = items_of(alloc, sites.into_vec())?;
-    let settled = settled_run::<Brand, G, R>(
-        rt,
-        alloc,
-        Blank::new(workers),
-        workers,
-        items.as_slice(),
-        scripts.as_slice(),
-        tries,
-        gate,
-    );
-    match settled {
-        Ok(settled) => run_text(alloc, &settled),
-        Err(fail) => Ok(Answer {
-            outcome: Outcome::No,
-            text: fault_line(alloc, fail)?,
-        }),
     }
 }
 
@@ -257,11 +200,32 @@ fn answer_to<G: Gate + Sync, R: Threads + Wait + Sync>(
         (λ answer. (told : Option (List ℕ)) → IfSome told (λ bytes. IsRead bytes reading)
         → IsAnswer tries told answer.outcome answer.text.items) }
 {
-    match reading {
-        Reading::Readable(input) => answer_input(rt, alloc, input, workers, tries, gate),
-        Reading::Unreadable { line, fault } => Ok(Answer {
-            outcome: Outcome::Unreadable,
-            text: unreadable_line(alloc, line, fault)?,
+    let input = match reading {
+        Reading::Readable(input) => input,
+        Reading::Unreadable { line, fault } => {
+            return Ok(Answer {
+                outcome: Outcome::Unreadable,
+                text: unreadable_line(alloc, line, fault)?,
+            });
+        }
+    };
+    let Input { sites, scripts } = input;
+    let items = items_of(alloc, sites.into_vec())?;
+    let settled = settled_run::<Brand, G, R>(
+        rt,
+        alloc,
+        Blank::new(workers),
+        workers,
+        items.as_slice(),
+        scripts.as_slice(),
+        tries,
+        gate,
+    );
+    match settled {
+        Ok(settled) => run_text(alloc, &settled),
+        Err(fail) => Ok(Answer {
+            outcome: Outcome::No,
+            text: fault_line(alloc, fail)?,
         }),
     }
 }

@@ -23,13 +23,10 @@ pub struct Runner<'a, L: Ledger, G: Gate> {
 }
 
 impl<'a, L: Ledger, G: Gate> Runner<'a, L, G> {
-    ghost use Rattle.std.specs.Prelude.{◌≡◌, ◌≢◌, ◌↔◌, [], true, false, All, Ok, IfOk, IfErr, OnOk, OnErr, vec_len};
-    ghost use Rattle.sgt_service_locks.specs.Guarded.{IsTicketOf};
+    ghost use Rattle.std.specs.Prelude.{◌≡◌, true, false, All, Ok, IfOk, IfErr, OnOk, OnErr};
     ghost use Rattle.sgt_service_locks.specs.Reads.{look_in, IsOfActive};
-    ghost use Rattle.sgt_service_locks.specs.Refused.{IsOfCall, IsOfChange, IsOfCommit, IsOfWithdraw};
-    ghost use Rattle.sgt_service_locks.specs.Seats.{CountsEnd};
-    ghost use Rattle.sgt_workers.specs.declared.ticket.Ending.TheVariants.{Withdrawn};
-    ghost use Rattle.sgt_service.specs.Tries.{AreStopped, AreTried, AreTriesOf, CountsOp, CountsReads, IsHalt, IsRefused, IsStopped, IsTryOf, TriesAt};
+    ghost use Rattle.sgt_service_locks.specs.Refused.{IsOfCall, IsOfChange};
+    ghost use Rattle.sgt_service.specs.Tries.{CountsOp, CountsReads, IsStopped, TriesAt};
     ghost use Rattle.sgt_service.specs.Operations.{op_fits, sum_fits, Does, DoesAll, IsOfOperation, PutsSum};
 
     #[tactic(auto, using(crate::proofs::Faults::item_of_change))]
@@ -143,80 +140,9 @@ impl<'a, L: Ledger, G: Gate> Runner<'a, L, G> {
         Ok(true)
     }
 
-    #[tactic(auto, using(crate::proofs::Faults::back_halt, crate::proofs::Faults::back_parts))]
-    // Asks for the commit.
-    fn commit<R: Wait>(
-        &self,
-        rt: &R,
-        seat: &mut Seat<L>,
-        active: Active,
-    ) -> Result<Ticket, ServiceFault>
-        ensures decided { IfOk result (λ t. t.verdict ≢ Withdrawn) }
-        ensures told { IfOk result (IsTicketOf (vec_len self.now.service.now.sites) active) }
-        ensures parts { seat.new.share.parts ≡ seat.old.share.parts }
-        ensures ends { IfOk result
-            (λ t. CountsEnd t.verdict active seat.old seat.new) }
-        ensures halt { IfErr result
-            (IsHalt (λ verdict. verdict ≢ Withdrawn) active seat.old seat.new) }
-        ensures fault { IfErr result IsOfCommit }
-    {
-        match self.service.commit(rt, self.alloc, seat, active) {
-            Ok(ticket) => Ok(ticket),
-            Err(back) => Err(back.fault),
-        }
-    }
-
-    #[tactic(auto, using(crate::proofs::Faults::back_halt, crate::proofs::Faults::back_parts))]
-    // Withdraws the transaction.
-    fn withdraw<R: Wait>(
-        &self,
-        rt: &R,
-        seat: &mut Seat<L>,
-        active: Active,
-    ) -> Result<Ticket, ServiceFault>
-        ensures decided { IfOk result (λ t. t.verdict ≡ Withdrawn) }
-        ensures told { IfOk result (IsTicketOf (vec_len self.now.service.now.sites) active) }
-        ensures parts { seat.new.share.parts ≡ seat.old.share.parts }
-        ensures ends { IfOk result
-            (λ t. CountsEnd t.verdict active seat.old seat.new) }
-        ensures halt { IfErr result
-            (IsHalt (λ verdict. verdict ≡ Withdrawn) active seat.old seat.new) }
-        ensures fault { IfErr result IsOfWithdraw }
-    {
-        match self.service.withdraw(rt, seat, active) {
-            Ok(ticket) => Ok(ticket),
-            Err(back) => Err(back.fault),
-        }
-    }
-
-    #[tactic(auto, using(crate::proofs::Faults::withdraw_of_commit))]
-    // Asks for the commit of a transaction whose sums fit, and withdraws another.
-    fn end<R: Wait>(
-        &self,
-        rt: &R,
-        seat: &mut Seat<L>,
-        active: Active,
-        fits: bool,
-    ) -> Result<Ticket, ServiceFault>
-        ensures withdrawn { IfOk result (λ t. (t.verdict ≡ Withdrawn) ↔ (fits ≡ false)) }
-        ensures told { IfOk result (IsTicketOf (vec_len self.now.service.now.sites) active) }
-        ensures parts { seat.new.share.parts ≡ seat.old.share.parts }
-        ensures ends { IfOk result
-            (λ t. CountsEnd t.verdict active seat.old seat.new) }
-        ensures halt { IfErr result
-            (IsHalt (λ verdict. (verdict ≡ Withdrawn)
-            ↔ (fits ≡ false)) active seat.old seat.new) }
-        ensures fault { IfErr result IsOfCommit }
-        ensures unfit { fits ≡ false → IfErr result IsOfWithdraw }
-    {
-        if !fits {
-            return self.withdraw(rt, seat, active);
-        }
-        self.commit(rt, seat, active)
-    }
-
-    #[tactic(auto, using(crate::proofs::Faults::begin_of_call, crate::proofs::Faults::operation_of_call, crate::proofs::Faults::commit_of_call))]
-    // One try: a transaction of its own, whose reads' values it leaves in `reads`.
+    #[tactic(auto, using(crate::proofs::Faults::begin_of_call, crate::proofs::Faults::operation_of_call, crate::proofs::Faults::commit_of_call, crate::proofs::Faults::withdraw_of_call))]
+    // One try: a transaction of its own, whose reads' values it leaves in `reads`. It asks for the commit where all sums fit, and
+    // else withdraws.
     fn try_once<R: Wait>(
         &self,
         rt: &R,
@@ -233,39 +159,16 @@ impl<'a, L: Ledger, G: Gate> Runner<'a, L, G> {
         reads.clear();
         let mut active = self.service.begin(rt, self.alloc, seat)?;
         let fits = self.apply_all(rt, seat, &mut active, script, reads)?;
-        let ticket = self.end(rt, seat, active, fits)?;
-        Ok(ticket)
-    }
-
-    #[tactic(auto, using(crate::proofs::Tries::tries_end, crate::proofs::Tries::tries_spent, crate::proofs::Tries::tries_more, crate::proofs::Tries::last_more))]
-    // Tries a script until it isn't refused, or until no try is left.
-    fn try_all<R: Wait>(
-        &self,
-        rt: &R,
-        seat: &mut Seat<L>,
-        script: &Script,
-        tickets: &mut Vec<Ticket>,
-        reads: &mut Vec<Value>,
-    ) -> Result<(), ServiceFault>
-        requires { tickets.old.items ≡ [] }
-        ensures tries { OnOk result
-            (AreTriesOf self.now.tries script.now.operations tickets.new.items reads.new.items) }
-        ensures parts { seat.new.share.parts ≡ seat.old.share.parts }
-        ensures tried { OnOk result
-            (AreTried script.now.operations tickets.new.items seat.old seat.new) }
-        ensures halt { IfErr result
-            (AreStopped script.now.operations tickets.new.items seat.old seat.new) }
-        ensures fault { IfErr result IsOfCall }
-    {
-        for _ in 0..self.tries {
-            tickets.reserve(1)?;
-            let ticket = self.try_once(rt, seat, script, reads)?;
-            tickets.push_reserved(ticket);
-            if ticket.verdict != Ending::Refused {
-                return Ok(());
-            }
+        if !fits {
+            return match self.service.withdraw(rt, seat, active) {
+                Ok(ticket) => Ok(ticket),
+                Err(back) => Err(back.fault),
+            };
         }
-        Ok(())
+        match self.service.commit(rt, self.alloc, seat, active) {
+            Ok(ticket) => Ok(ticket),
+            Err(back) => Err(back.fault),
+        }
     }
 }
 
@@ -283,6 +186,8 @@ impl<'a, L: Ledger, G: Gate> Work<Seat<L>, Script, ServiceFault> for Runner<'a, 
 
     ghost does = { λ w s number script done t. TriesJob s number script done t };
 
+    #[tactic(auto, using(crate::proofs::Tries::tries_end, crate::proofs::Tries::tries_spent, crate::proofs::Tries::tries_more, crate::proofs::Tries::last_more))]
+    // Tries the script until it isn't refused, or until no try is left.
     fn work<R: Wait>(
         &self,
         rt: &R,
@@ -292,7 +197,18 @@ impl<'a, L: Ledger, G: Gate> Work<Seat<L>, Script, ServiceFault> for Runner<'a, 
         self.service.gate.arrive(seat.number(), Place::Taken);
         let mut tickets = Vec::new(self.alloc);
         let mut reads = Vec::new(self.alloc);
-        self.try_all(rt, seat, job.script, &mut tickets, &mut reads)?;
+        for _ in 0..self.tries {
+            tickets.reserve(1)?;
+            let ticket = self.try_once(rt, seat, job.script, &mut reads)?;
+            tickets.push_reserved(ticket);
+            if ticket.verdict != Ending::Refused {
+                return Ok(Done {
+                    job: job.number,
+                    tickets,
+                    reads,
+                });
+            }
+        }
         Ok(Done {
             job: job.number,
             tickets,

@@ -422,37 +422,21 @@ impl<L: Ledger> Guarded<L> {
             return false;
         }
         match verdict {
-            Ending::Committed => self.install(site, here, active),
+            Ending::Committed => {
+                if site
+                    .install(active.tx, active.handle, &active.draft)
+                    .is_err()
+                {
+                    return false;
+                }
+                let Guarded { certifier, .. } = self;
+                match certifier.installed(active.tx, here, &active.draft) {
+                    Ok(()) => true,
+                    Err(_) => unreachable!(),
+                }
+            }
             Ending::Refused => site.refuse(active.tx, &active.draft).is_ok(),
             Ending::Withdrawn => site.withdraw(active.tx).is_ok(),
-        }
-    }
-
-    fn install(&mut self, site: &mut Site, here: SiteNo, active: &Active) -> bool
-        requires { AwaitsInstalls self.old.certifier active.now.tx active.now.draft.touched here }
-        ensures awaits { IsTrue result
-            → AwaitsInstalls self.new.certifier active.now.tx active.now.draft.touched (here + 1) }
-        ensures noted { IsTrue result → Adds self.old.certifier
-            (call.Installed active.now.tx here
-            (changed_at active.now.draft.touched here)) self.new.certifier }
-        ensures ended { IsTrue result → IsEnded Committed active.now site.old site.new }
-        ensures stands { IsPledgedFor site.old active.now.tx active.now.draft.touched
-            → IsTrue result }
-        ensures lost { result ≡ false
-            → (site.new ≡ site.old) × (self.new.certifier ≡ self.old.certifier) }
-        ensures step { self.new.certifier.state.step ≡ self.old.certifier.state.step }
-        ensures same { self.new.lost ≡ self.old.lost }
-    {
-        if site
-            .install(active.tx, active.handle, &active.draft)
-            .is_err()
-        {
-            return false;
-        }
-        let Guarded { certifier, .. } = self;
-        match certifier.installed(active.tx, here, &active.draft) {
-            Ok(()) => true,
-            Err(_) => unreachable!(),
         }
     }
 }

@@ -1,14 +1,13 @@
-use Rattle.std.proofs.Common.{◌≡◌, ◌∙◌, ◌++◌, ◌∷◌, [], List, ap, inl, refl, rules, subst, sym}
+use Rattle.std.proofs.Common.{◌≡◌, ◌∙◌, ◌++◌, ◌∷◌, [], List, ap, rules, subst, sym}
 use Rattle.std.proofs.lemmas.List.Elements.{All-push}
-use Rattle.std.proofs.lemmas.Result.{err_from_is_err_and}
 use Rattle.sgt_workers.specs.declared.ticket.Ticket.{Ticket}
 use Rattle.sgt_service.specs.Tries.{AreTriesOf, IsRefused}
-use Rattle.sgt_service.proofs.Tries.{last_more, stopped_behind, tried_more, tries_end, tries_more, tries_spent, try_of}
-use Rattle.sgt_service.proofs.runner.Runner.try_all.Goals as goal
+use Rattle.sgt_service.proofs.Tries.{last_more, tried_more, tries_end, tries_more, tries_spent, try_of}
+use Rattle.sgt_service.proofs.runner.RunnerWorkSeatScriptServiceFault.work.Goals as goal
 
-pub returns-then-ne-clause-tries : goal.returns-then-ne-clause-tries
-returns-then-ne-clause-tries g c =
-    let ops = c.args.script.now.operations in
+pub returns-then-ne-clause-answer : goal.returns-then-ne-clause-answer
+returns-then-ne-clause-answer g c =
+    let ops = c.args.job.script.now.operations in
     let t = c.in_ok-ticket.ticket in
     let pushed : c.push_reserved.new.self.items ≡ c.loop.tickets.items ++ t ∷ [] =
     c.push_reserved.ensures.items ∙ ap (λ (ts : List Ticket). ts ++ t ∷ []) c.in_ok-reserve.ensures.items in
@@ -22,7 +21,7 @@ returns-then-ne-clause-tries g c =
 
 pub loop-preserved : goal.loop-preserved
 loop-preserved g c =
-    let ops = c.args.script.now.operations in
+    let ops = c.args.job.script.now.operations in
     let t = c.in_ok-ticket.ticket in
     let pushed : c.push_reserved.new.self.items ≡ c.loop.tickets.items ++ t ∷ [] =
     c.push_reserved.ensures.items ∙ ap (λ (ts : List Ticket). ts ++ t ∷ []) c.in_ok-reserve.ensures.items in
@@ -37,28 +36,14 @@ loop-preserved g c =
       len = search rules;
     }
 
-pub returns-clause-tries : goal.returns-clause-tries
-returns-clause-tries g c = record { whole = search (rules, tries_spent); each = c.loop.invariant.each; last = c.loop.invariant.last }
+pub returns-clause-answer : goal.returns-clause-answer
+returns-clause-answer g c = record { whole = search (rules, tries_spent); each = c.loop.invariant.each; last = c.loop.invariant.last }
 
-pub returns-then-ne-clause-tried : goal.returns-then-ne-clause-tried
-returns-then-ne-clause-tried g c =
-    let ops = c.args.script.now.operations in
+pub returns-then-ne-clause-does : goal.returns-then-ne-clause-does
+returns-then-ne-clause-does g c =
+    let ops = c.args.job.script.now.operations in
     let t = c.in_ok-ticket.ticket in
     let pushed : c.push_reserved.new.self.items ≡ c.loop.tickets.items ++ t ∷ [] =
     c.push_reserved.ensures.items ∙ ap (λ (ts : List Ticket). ts ++ t ∷ []) c.in_ok-reserve.ensures.items in
     rw pushed (tried_more ops c.loop.tickets.items t c.try_once.new.reads.items c.args.seat.now c.loop.seat c.try_once.new.seat
     c.loop.invariant.tried c.in_ok-ticket.ensures.tries)
-
-pub returns-in_err-reserve-clause-halt : goal.returns-in_err-reserve-clause-halt
-returns-in_err-reserve-clause-halt g c =
-    let p = err_from_is_err_and c.from_residual.result c.from_residual.ensures.1 in
-    rw (p.1, c.in_err-reserve.ensures.items)
-    (stopped_behind c.args.script.now.operations c.loop.tickets.items c.args.seat.now c.loop.seat c.loop.seat p.0
-    c.loop.invariant.refused c.loop.invariant.tried (inl refl))
-
-pub returns-in_err-ticket-clause-halt : goal.returns-in_err-ticket-clause-halt
-returns-in_err-ticket-clause-halt g c =
-    let p = err_from_is_err_and c.from_residual-in_err-ticket.result c.from_residual-in_err-ticket.ensures.1 in
-    rw (p.1, p.2, c.in_ok-reserve.ensures.items)
-    (stopped_behind c.args.script.now.operations c.loop.tickets.items c.args.seat.now c.loop.seat c.try_once.new.seat c.in_err-ticket.field-0.0
-    c.loop.invariant.refused c.loop.invariant.tried c.in_err-ticket.ensures.halt)
