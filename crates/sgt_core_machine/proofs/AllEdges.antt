@@ -5,11 +5,13 @@ use Rattle.std.proofs.lemmas.List.Elements.{Contains-append_cases, Contains-appe
 use Rattle.sgt_cert.specs.declared.certificate.Step.{Step}
 use Rattle.sgt_order.specs.Graph.{Leads, Reaches, placed}
 use Rattle.sgt_edges.specs.declared.edge.Edge.{Edge}
-use Rattle.sgt_certifier.specs.Certifier.{State, Arc, Joins, Walks, Commits, Refuses, committed, refused}
-use Rattle.sgt_certifier.specs.History.{arcs_of}
+use Rattle.sgt_certifier.specs.Certifier.{State, Arc, Joins, Walks, Commits, Refuses, committed, refused, serial}
+use Rattle.sgt_certifier.specs.History.{IsNoted, arcs_of}
 use Rattle.sgt_core_model.specs.Core.{CoreState, touches, AreEdges}
 use Rattle.sgt_core_model.specs.Step.{gathered_in}
+use Rattle.sgt_certifier.proofs.Members.{placed_old}
 use Rattle.sgt_core_machine.specs.Machine.{Carries, AreGathered}
+use Rattle.sgt_core_machine.proofs.Noting.{ruled_noted}
 use Rattle.sgt_core_model.proofs.Kept.{IsKept}
 use Rattle.sgt_core_model.proofs.Walks.{edge_site}
 use Rattle.sgt_core_model.proofs.Edges.{edges_of, edges_are}
@@ -78,7 +80,7 @@ module _ (u : State) (c : CoreState) (k : IsKept c) (carries : Carries u c.certi
   same_order : c.certifier.order ≡ u.order
   same_order = ap (λ (st : State). st.order) carries.same
 
-  module _ (new : State) (d : Commits u tx (arcs_of u edges) new) where
+  module _ (none : (site : ℕ) → IsNoted c.certifier tx site → ⊥) (new : State) (d : Commits u tx (arcs_of u edges) new) where
     pub commits_all : Commits c.certifier tx (edges_of c tx) (all_committed c tx d.places)
     commits_all = record {
       free = λ r. d.free (own_reaches tx tx r);
@@ -91,8 +93,15 @@ module _ (u : State) (c : CoreState) (k : IsKept c) (carries : Carries u c.certi
       after = refl;
     }
 
+    stays : (i : ℕ) → Contains (serial c.certifier) i → Contains (serial (all_committed c tx d.places)) i
+    stays i m = elim (Contains-append_cases c.certifier.past c.certifier.order i m) [
+      | inl early ↦ Contains-append_left c.certifier.past d.places i early
+      | inr late ↦ Contains-append_right c.certifier.past d.places i (subst (λ ps. Contains ps i) (sym d.placed.2) (placed_old d.placed.0 u.order tx i (subst (λ o. Contains o i) same_order late)))
+    ]
+
     pub committed_carries : Carries new (all_committed c tx d.places)
     committed_carries = record {
+      noted = ruled_noted u c.certifier new (all_committed c tx d.places) tx carries.noted (ap (λ (st : State). st.step) d.after) refl none stays;
       same =
           ap (λ (st : State). record st { order = d.places; arcs = c.certifier.arcs ++ edges_of c tx; step = Some tx; rulings = st.rulings ++ committed tx ∷ [] }) carries.same
           ∙ sym (ap (λ (st : State). record st { arcs = c.certifier.arcs ++ edges_of c tx; installs = c.certifier.installs }) d.after);
@@ -100,7 +109,7 @@ module _ (u : State) (c : CoreState) (k : IsKept c) (carries : Carries u c.certi
       lead = λ a b j. subst (λ (st : State). Reaches (Joins st.arcs) a b) (sym d.after) (own_lead a b j);
     }
 
-  module _ (walk : List Step) (new : State) (d : Refuses u tx (arcs_of u edges) walk new) where
+  module _ (none : (site : ℕ) → IsNoted c.certifier tx site → ⊥) (walk : List Step) (new : State) (d : Refuses u tx (arcs_of u edges) walk new) where
     pub refuses_all : Refuses c.certifier tx (edges_of c tx) walk (all_refused c tx walk)
     refuses_all = record {
       cycle = record {
@@ -116,6 +125,7 @@ module _ (u : State) (c : CoreState) (k : IsKept c) (carries : Carries u c.certi
 
     pub refused_carries : Carries new (all_refused c tx walk)
     refused_carries = record {
+      noted = ruled_noted u c.certifier new (all_refused c tx walk) tx carries.noted (ap (λ (st : State). st.step) d.after) refl none (λ j m. m);
       same =
           ap (λ (st : State). record st { step = Some tx; rulings = st.rulings ++ refused tx walk ∷ [] }) carries.same
           ∙ sym (ap (λ (st : State). record st { arcs = c.certifier.arcs; installs = c.certifier.installs }) d.after);

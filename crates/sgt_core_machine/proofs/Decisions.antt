@@ -32,6 +32,7 @@ use Rattle.sgt_core_machine.proofs.Touching.{draft_touches}
 use Rattle.sgt_core_machine.proofs.Standing.{reached_more, reached_kept}
 use Rattle.sgt_core_machine.proofs.Refusing.{site_count}
 use Rattle.sgt_core_machine.proofs.Stepping.{step_own}
+use Rattle.sgt_core_machine.proofs.Noting.{ended_noted}
 
 -- what the model's decision leaves, where the machine's certifier was left so
 pub record IsDecision (c : CoreState) (tx : ℕ) (new : State) (reply : Decided) : Type 0 where
@@ -260,7 +261,7 @@ module _ (m : Parts) (c : CoreState) (s : StandsFor m c) (tx slot : ℕ) (h : Is
             sites = s.sites;
             items = s.items;
             certifier = subst (λ (st : State). Carries st (with_finished v.certifier tx)) (sym finishes)
-                (record { same = ap (λ (st : State). with_finished st tx) v.carries.same; fewer = v.carries.fewer; lead = v.carries.lead });
+                (record { same = ap (λ (st : State). with_finished st tx) v.carries.same; noted = ended_noted new v.certifier (record (with_finished new tx) { installs = [] }) (with_finished v.certifier tx) v.carries.noted refl refl (λ j m. m); fewer = v.carries.fewer; lead = v.carries.lead });
             before = before_same ∙ s.before;
             begun = begun_same ∙ s.begun;
             window = s.window ∙ ap (λ j. m.before + j) (sym (length-set m.table slot None));

@@ -3,7 +3,7 @@ use Rattle.std.proofs.Common.{◌≡◌, ◌<◌, ◌+◌, ℕ, suc, zero, true,
 use Rattle.std.specs.Prelude.{slice_get, slice_set, ◌==◌}
 use Rattle.std.proofs.lemmas.Bool.{cases_Bool, cases_eq}
 use Rattle.std.proofs.lemmas.List.{append-nil, length-map}
-use Rattle.std.proofs.lemmas.List.Elements.{Contains-append_cases}
+use Rattle.std.proofs.lemmas.List.Elements.{Contains-append_cases, Contains-append_right}
 use Rattle.std.proofs.lemmas.Option.{same_Some, slice_get_within}
 use Rattle.sgt_names.specs.Name.{Name}
 use Rattle.sgt_names.specs.Draft.{at_site, writing_in, kept_in, Touches}
@@ -18,7 +18,7 @@ use Rattle.sgt_arena.specs.declared.handle.Handle.{Handle}
 use Rattle.sgt_site.specs.State.{KeepsReads}
 use Rattle.sgt_site.specs.declared.cell.Install.{Install}
 use Rattle.sgt_site.proofs.Appends.{LogsRead-append, LogsRead-cases}
-use Rattle.sgt_certifier.specs.Certifier.{State, with_install}
+use Rattle.sgt_certifier.specs.Certifier.{State, serial, with_install}
 use Rattle.sgt_certifier.specs.Certifier.{Install as Noted}
 use Rattle.sgt_certifier.specs.History.{IsNoted}
 use Rattle.sgt_certifier.specs.Kept.{changed_at as changed_names}
@@ -40,6 +40,7 @@ use Rattle.sgt_core_model.proofs.Entries.{as_wants}
 use Rattle.sgt_core_model.proofs.Faults.{is_in-Decides}
 use Rattle.sgt_core_model.proofs.LegalSteps.{only_here, only_there, cleared_here, cleared_there}
 use Rattle.sgt_core_machine.proofs.Standing.{reached_kept}
+use Rattle.sgt_core_machine.proofs.Noting.{install_noted}
 
 -- ---- the verdict
 
@@ -92,8 +93,8 @@ changed-written n (t ∷ ts) = elim (cases_Bool (t.site == n)) [
 pub noted-same : (c : CoreState) (tx s : ℕ) → noted c tx s ≡ record c.certifier { installs = (noted c tx s).installs }
 noted-same c tx s = elim (cases_Bool (is_committed c tx)) [ inl hit ↦ rw hit refl | inr miss ↦ rw miss refl ]
 
-carries_install : (s t : State) (tx site : ℕ) (items : List Name) → Carries s t → Carries (with_install s tx site []) (with_install t tx site items)
-carries_install s t tx site items h = record { same = ap (λ st. with_install st tx site items) h.same; fewer = h.fewer; lead = h.lead }
+carries_install : (s t : State) (tx site : ℕ) (items : List Name) → Contains (serial t) tx → Carries s t → Carries (with_install s tx site []) (with_install t tx site items)
+carries_install s t tx site items member h = record { same = ap (λ st. with_install st tx site items) h.same; noted = install_noted s t tx site items h.noted member; fewer = h.fewer; lead = h.lead }
 
 -- what is awaited at another site stays so
 still_unnoted : (s : State) (tx site u : ℕ) (items : List Name) → (u ≡ site → ⊥) → (IsNoted s tx u → ⊥) → IsNoted (with_install s tx site items) tx u → ⊥
@@ -117,7 +118,7 @@ pub carries_noted : (verdict : Verdict) (m : Parts) (c : CoreState) (new : State
 carries_noted Committed m c new s tx v is h =
     let hit : is_committed c tx ≡ true = (is_in-Decides c.certifier.order tx).1 (v.committed refl) in
     let items = map (λ (d : Name × Change). d.0) (c.changes tx s) in
-    rw hit (subst (λ (st : State). Carries st (with_install c.certifier tx s items)) (sym is.after) (carries_install m.certifier c.certifier tx s items h))
+    rw hit (subst (λ (st : State). Carries st (with_install c.certifier tx s items)) (sym is.after) (carries_install m.certifier c.certifier tx s items (Contains-append_right c.certifier.past c.certifier.order tx (v.committed refl)) h))
 carries_noted Refused m c new s tx v is h =
     let miss : is_committed c tx ≡ false = elim (cases_Bool (is_committed c tx)) [
       | inl hit ↦ absurd (v.refused refl ((is_in-Decides c.certifier.order tx).0 hit))

@@ -26,6 +26,7 @@ use Rattle.sgt_core_model.proofs.LegalSteps.{all_pass, empty_is}
 use Rattle.sgt_core_model.proofs.Runs.{is_site}
 use Rattle.sgt_core_machine.proofs.Standing.{reached_more}
 use Rattle.sgt_core_machine.proofs.InstallBlocks.{written_state, IsToWrite, due_some, written_places, written_running, written_items, written_carries, written_stands}
+use Rattle.sgt_core_machine.proofs.Noting.{ended_noted}
 
 -- the block of the open step is still due at the site
 abbrev pub IsDueThere : Place → Type 0
@@ -36,7 +37,7 @@ all_true p [] h = refl
 all_true p (x ∷ xs) h = rw (h x (cons_here x xs)) (all_true p xs (λ y member. h y (cons_later x xs y member)))
 
 carries_finished : (s t : State) (i : ℕ) → Carries s t → Carries (record (with_finished s i) { installs = [] }) (with_finished t i)
-carries_finished s t i h = record { same = ap (λ st. with_finished st i) h.same; fewer = h.fewer; lead = h.lead }
+carries_finished s t i h = record { same = ap (λ st. with_finished st i) h.same; noted = ended_noted s t (record (with_finished s i) { installs = [] }) (with_finished t i) h.noted refl refl (λ j m. m); fewer = h.fewer; lead = h.lead }
 
 module _ (m : Parts) (c : CoreState) (s : StandsFor m c) (verdict : Verdict) (tx slot t : ℕ) (w : IsToWrite m c verdict tx slot t) (n : Parts) (h : Writes verdict m n t slot tx) where
   abbrev d : CoreState

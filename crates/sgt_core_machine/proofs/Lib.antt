@@ -27,3 +27,4 @@ pub mod Awaiting
 pub mod InstallBlocks
 pub mod InstallEnds
 pub mod Installs
+pub mod Noting

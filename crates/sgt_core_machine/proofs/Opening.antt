@@ -80,7 +80,7 @@ new_stands sites places certifier h is some few = record {
       let e = h.each k p.0 p.1 in
       let same : e.0 ≡ items = ap (λ (q : Place). q.site.items) (sym e.3) ∙ p.2 in
       e.1 ∙ ap Some same);
-  certifier = subst (λ (s : State). Carries s opening) (sym is) (record { same = refl; fewer = λ arc m. m; lead = λ a b j. absurd (nil_none _ j.1) });
+  certifier = subst (λ (s : State). Carries s opening) (sym is) (record { same = refl; noted = record { open_step = λ tx o site n. absurd (nil_none n.1 (n.0, n.2, n.3)); committed = λ i m. absurd (nil_none i m) }; fewer = λ arc m. m; lead = λ a b j. absurd (nil_none _ j.1) });
   before = refl;
   begun = refl;
   window = refl;

@@ -8,7 +8,7 @@ use Rattle.sgt_cert.specs.declared.certificate.Step.{Step}
 use Rattle.sgt_site.specs.State.{commit_block, refuse_block}
 use Rattle.sgt_edges.specs.declared.edge.Edge.{Edge}
 use Rattle.sgt_certifier.specs.Certifier.{State, Commits, Refuses, with_finished}
-use Rattle.sgt_certifier.specs.History.{Serves as CertifierServes, tx_under, arcs_of}
+use Rattle.sgt_certifier.specs.History.{IsNoted, Serves as CertifierServes, tx_under, arcs_of}
 use Rattle.sgt_certifier.specs.declared.call.Call.TheVariants as call
 use Rattle.sgt_certifier.specs.declared.call.Decided.{Decided}
 use Rattle.sgt_certifier.specs.declared.call.Decided.TheVariants as verdict
@@ -33,6 +33,7 @@ use Rattle.sgt_core_machine.proofs.Standing.{reached_kept}
 use Rattle.sgt_core_machine.proofs.Stepping.{step_own}
 use Rattle.sgt_core_machine.proofs.AllEdges.{all_committed, all_refused, commits_all, committed_carries, refuses_all, refused_carries}
 use Rattle.sgt_core_machine.proofs.Decisions.{IsDecision, decision_due, decision_ends}
+use Rattle.sgt_core_machine.proofs.Noting.{none_of}
 
 -- a decided step is the certifier's
 pub ruled_step : (m : Parts) (c : CoreState) (o : Option Open) → IsStep m c o → IsRuled o → (q : Open) × (o ≡ Some q) × (c.certifier.step ≡ Some q.tx)
@@ -68,6 +69,10 @@ module _ (m : Parts) (c : CoreState) (s : StandsFor m c) (tx slot : ℕ) (number
   pub everywhere : (t : ℕ) → touches c tx t ≡ true → Contains (gathered_in c.step) t
   everywhere t hit = block_gathered c tx k.sound (λ n member out. allowed fault.NotGathered (n, member, out)) t hit
 
+  -- the transaction has no install yet
+  unnoted : (site : ℕ) → IsNoted c.certifier tx site → ⊥
+  unnoted site n = none_of m.certifier c.certifier tx site s.certifier.noted k.sound.ruled undecided (is_active c (Decide tx) tx allowed refl) n
+
   no_other : IsOtherOpen c tx → ⊥
   no_other other = allowed fault.StepOpen other
 
@@ -86,7 +91,7 @@ module _ (m : Parts) (c : CoreState) (s : StandsFor m c) (tx slot : ℕ) (number
     committed_one d number = record {
       certifier = all_committed c tx d.places;
       due = committed_block c tx;
-      carries = committed_carries m.certifier c k s.certifier tx edges gathered everywhere new d;
+      carries = committed_carries m.certifier c k s.certifier tx edges gathered everywhere unnoted new d;
       same = refl;
       order = λ i member.
           let there = placed_old d.placed.0 m.certifier.order tx i (subst (λ o. Contains o i) (ap (λ (st : State). st.order) s.certifier.same) member) in
@@ -108,7 +113,7 @@ module _ (m : Parts) (c : CoreState) (s : StandsFor m c) (tx slot : ℕ) (number
           arcs = edges_of c tx;
           certifier = all_committed c tx d.places;
           edges = edges_are c tx k.sound;
-          commits = commits_all m.certifier c k s.certifier tx edges gathered everywhere new d;
+          commits = commits_all m.certifier c k s.certifier tx edges gathered everywhere unnoted new d;
           after = refl;
         },
       );
@@ -118,7 +123,7 @@ module _ (m : Parts) (c : CoreState) (s : StandsFor m c) (tx slot : ℕ) (number
     refused_one walk d number = record {
       certifier = all_refused c tx walk;
       due = refused_block c tx;
-      carries = refused_carries m.certifier c k s.certifier tx edges gathered everywhere walk new d;
+      carries = refused_carries m.certifier c k s.certifier tx edges gathered everywhere unnoted walk new d;
       same = refl;
       order = λ i member. member;
       phase = λ n e o is mine. (
@@ -140,7 +145,7 @@ module _ (m : Parts) (c : CoreState) (s : StandsFor m c) (tx slot : ℕ) (number
           walk = walk;
           certifier = all_refused c tx walk;
           edges = edges_are c tx k.sound;
-          refuses = refuses_all m.certifier c k s.certifier tx edges gathered everywhere walk new d;
+          refuses = refuses_all m.certifier c k s.certifier tx edges gathered everywhere unnoted walk new d;
           after = refl;
         },
       );

@@ -1,5 +1,5 @@
 -- A transaction begins, and a window is closed.
-use Rattle.std.proofs.Common.{◌≡◌, ◌<◌, ◌≤◌, ◌+◌, ◌-◌, ℕ, suc, zero, List, [], ◌∷◌, ◌++◌, length, refl, sym, ◌∙◌, arith, inl, inr, All, Contains, Option, Some, None, subst, ap, ap₂, lit<}
+use Rattle.std.proofs.Common.{◌≡◌, ◌<◌, ◌≤◌, ◌+◌, ◌-◌, ℕ, suc, zero, List, [], ◌∷◌, ◌++◌, length, refl, sym, ◌∙◌, arith, inl, inr, All, Contains, Option, Some, None, subst, ap, ap₂, lit<, append-nil}
 use Rattle.std.specs.Prelude.{slice_get}
 use Rattle.std.specs.declared.cmp.Ordering.TheVariants.{Less}
 use Rattle.std.proofs.lemmas.List.{length_push}
@@ -32,11 +32,12 @@ use Rattle.sgt_core_model.specs.Step.{Fails, fault_place, IsAllowed, MayStep}
 use Rattle.sgt_core_machine.specs.Machine.{Parts, Carries, IsRunning, RunsAt, IsHandleOf, IsPlace, IsStep, StandsFor, close_fault}
 use Rattle.sgt_core_model.proofs.Kept.{IsKept}
 use Rattle.sgt_core_machine.proofs.Standing.{reached_more, reached_kept, core_closed, certifier_closed, part_closed}
+use Rattle.sgt_core_machine.proofs.Noting.{same_noted}
 
 -- ---- a transaction begins
 
 pub carries_begun : (s t : State) → Carries s t → Carries (with_begun s) (with_begun t)
-carries_begun s t h = record { same = ap with_begun h.same; fewer = h.fewer; lead = h.lead }
+carries_begun s t h = record { noted = same_noted s t (with_begun s) (with_begun t) h.noted refl refl refl (λ j m. m); same = ap with_begun h.same; fewer = h.fewer; lead = h.lead }
 
 -- none was read by one that isn't begun
 unread_by : (c : CoreState) → IsKept c → (s tx : ℕ) → c.certifier.begun < tx → KeepsReads (c.entries s) tx []
@@ -142,7 +143,7 @@ module _ (m : Parts) (c : CoreState) (s : StandsFor m c) (none : m.step ≡ None
 -- ---- the window is closed
 
 pub carries_closed : (s t : State) → Carries s t → Carries (with_closed s) (with_closed t)
-carries_closed s t h = record { same = ap with_closed h.same; fewer = λ arc m. m; lead = λ a b j. absurd (nil_none _ j.1) }
+carries_closed s t h = record { noted = same_noted s t (with_closed s) (with_closed t) h.noted refl refl refl (λ j m. subst (λ xs. Contains xs j) (sym (append-nil (serial t))) m); same = ap with_closed h.same; fewer = λ arc m. m; lead = λ a b j. absurd (nil_none _ j.1) }
 
 close_allowed : (m : Parts) (c : CoreState) → StandsFor m c → m.step ≡ None → IsRequestAllowed m.certifier close → IsAllowed c Close
 close_allowed m c s none may fault.Unknown f = absurd (let e = f.1 in cc)

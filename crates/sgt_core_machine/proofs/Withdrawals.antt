@@ -34,6 +34,7 @@ use Rattle.sgt_core_machine.proofs.Redrafting.{slot_begun, slot_active}
 use Rattle.sgt_core_machine.proofs.Stepping.{left_of}
 use Rattle.sgt_core_machine.proofs.Touching.{touches_draft, draft_touches, withdraw_allowed}
 use Rattle.sgt_core_machine.proofs.Opening.{same_lists}
+use Rattle.sgt_core_machine.proofs.Noting.{same_noted}
 
 -- ---- lists and logs
 
@@ -242,7 +243,7 @@ module _ (m : Parts) (c : CoreState) (s : StandsFor m c) (none : m.step ≡ None
           let number : suc (m.certifier.before + r.handle.index) ≡ tx =
           ap₂ (λ (a b : ℕ). suc (a + b)) (sym (ap (λ (st : State). st.before) same) ∙ s.before) (ap (λ (g : Handle). g.index) own.handle) ∙ sym h.0 in
           let is : new.certifier ≡ with_withdrawn m.certifier tx = (w.serves.1.1 ∙ ap (λ (g : Handle). with_withdrawn m.certifier (suc (m.certifier.before + g.index))) w.offers.handle_is) ∙ ap (with_withdrawn m.certifier) number in
-          subst (λ (st : State). Carries st (with_withdrawn c.certifier tx)) (sym is) (record { same = ap (λ (st : State). with_withdrawn st tx) same; fewer = s.certifier.fewer; lead = s.certifier.lead })
+          subst (λ (st : State). Carries st (with_withdrawn c.certifier tx)) (sym is) (record { same = ap (λ (st : State). with_withdrawn st tx) same; noted = same_noted m.certifier c.certifier (with_withdrawn m.certifier tx) (with_withdrawn c.certifier tx) s.certifier.noted refl refl refl (λ j m. m); fewer = s.certifier.fewer; lead = s.certifier.lead })
 
       pub withdraw_goes : (e : CoreState) × MayStep c (Withdraw tx) Withdrawn e × StandsFor new e
       withdraw_goes =

@@ -14,7 +14,8 @@ use Rattle.sgt_site.specs.declared.fault.SiteFault.TheVariants as site_fault
 use Rattle.sgt_site.specs.declared.cell.Install.{Install}
 use Rattle.sgt_order.specs.Graph.{Reaches}
 use Rattle.sgt_edges.specs.declared.edge.Edge.{Edge}
-use Rattle.sgt_certifier.specs.Certifier.{State, Arc, Joins}
+use Rattle.sgt_certifier.specs.Certifier.{State, Arc, Joins, serial}
+use Rattle.sgt_certifier.specs.Certifier.{Install as Noted}
 use Rattle.sgt_certifier.specs.History.{arcs_of, Fits, IsNoted}
 use Rattle.sgt_notation.specs.declared.event.Event.{Event}
 use Rattle.sgt_notation.specs.declared.event.Event.TheVariants as event
@@ -60,9 +61,16 @@ abbrev pub IsReached : CoreState → Type 0
 IsReached c = (items : List (List Holding))
     × ((events : List Event) × ((replies : List Reply) × Run (fresh items) events replies c))
 
--- the judge that was handed fewer edges, over which the others lead, and that forgets installs
+-- the judge has noted the installs of the open step, and each install is of a committed transaction
+pub record HasNoted (s t : State) : Type 0 where
+  pub open_step : (tx : ℕ) → s.step ≡ Some tx → (site : ℕ) → IsNoted t tx site → IsNoted s tx site
+  pub committed : (install : Noted) → Contains t.installs install → Contains (serial t) install.tx
+
+-- the judge that was handed fewer edges, over which the others lead, and that knows the installs of
+-- the open step alone, without their items
 pub record Carries (s t : State) : Type 0 where
   pub same : t ≡ record s { arcs = t.arcs; installs = t.installs }
+  pub noted : HasNoted s t
   pub fewer : (arc : Arc) → Contains s.arcs arc → Contains t.arcs arc
   pub lead : (a b : ℕ) → Joins t.arcs a b → Reaches (Joins s.arcs) a b
 

@@ -110,7 +110,7 @@ impl Core {
     }
 
     /// The logs with the certificate. It errs with E8 where a transaction is active, and else with E9 where there is no memory.
-    /// Linear in the history and the logs.
+    /// Linear in the decisions and the logs.
     pub fn bundle(&self, alloc: Global) -> Result<Bundle, CoreFault>
         ensures ok { IfOk result (λ b. (c : CoreState) → StandsFor self.now c → b ≡ bundle_of c) }
         ensures valid { IfOk result IsValid }
@@ -126,7 +126,7 @@ impl Core {
         self.machine.bundle(alloc)
     }
 
-    /// As `bundle`, of a core that is given up, also where it errs: the bundle's logs are the sites' own, and the history is gone
+    /// As `bundle`, of a core that is given up, also where it errs: the bundle's logs are the sites' own, and the decisions go
     /// once there is a certificate.
     pub fn into_bundle(self, alloc: Global) -> Result<Bundle, CoreFault>
         ensures ok { IfOk result (λ b. (c : CoreState) → StandsFor self c → b ≡ bundle_of c) }
