@@ -208,7 +208,10 @@ fn search(touched: &[Touch], site: SiteNo, item: Item) -> Result<usize, usize>
 fn order(t: &Touch, site: SiteNo, item: &Item) -> Ordering
     ensures { result ≡ place_cmp (place_of t.now) (site, item.now) }
 {
-    t.site.number().cmp(&site.number()).then(t.item.cmp(item))
+    match t.site.number().cmp(&site.number()) {
+        Ordering::Equal => t.item.cmp(item),
+        other => other,
+    }
 }
 
 // The items that are touched at the site.
