@@ -14,7 +14,7 @@ use crate::machine::{Machine, Open, Part, Phase, Place, Running, refused};
 use sgt_certifier::{CertifierFault, Decided, Judge};
 use sgt_core_model::{CoreFault, Reply};
 use sgt_edges::EdgeList;
-use sgt_names::Tx;
+use sgt_names::{Draft, Tx};
 use std::alloc::Global;
 
 impl Machine {
@@ -81,7 +81,14 @@ impl Machine {
             Ok(()) => {}
             Err(_) => unreachable!(),
         }
-        self.running[slot] = None;
+        keep_draft(&mut self.drafts, self.running[slot].take());
+    }
+}
+
+// Keeps the draft of a transaction that has ended, for another. Without memory for it, it goes.
+fn keep_draft(drafts: &mut Vec<Draft>, ended: Option<Running>) {
+    if let Some(running) = ended {
+        let _kept = drafts.push(running.draft);
     }
 }
 
@@ -149,11 +156,11 @@ fn reply_of(decided: &Decided) -> Reply
     }
 }
 
-// Whether a block of the open step is still due.
+// Whether a block of the open step is still due. Blocks are mostly written by rising site, so the last sites are looked at first.
 pub(crate) fn is_due(places: &[Place]) -> bool
     ensures { IsTrue result ↔ Any (λ p. p.part ≡ Due) places.now }
 {
-    places.iter().any(|place| is_due_at(place))
+    places.iter().rev().any(|place| is_due_at(place))
 }
 
 fn is_due_at(place: &Place) -> bool

@@ -88,6 +88,8 @@ pub struct Machine {
     pub more: EdgeList,
     pub spare: EdgeList,
     pub sites: Vec<SiteNo>,
+    /// Drafts of transactions that have ended, whose room is used again.
+    pub drafts: Vec<Draft>,
 }
 
 impl Machine {
@@ -111,6 +113,7 @@ impl Machine {
             more: EdgeList::new(alloc),
             spare: EdgeList::new(alloc),
             sites: Vec::new(alloc),
+            drafts: Vec::new(alloc),
         })
     }
 
@@ -252,7 +255,7 @@ impl Machine {
                 _ => unreachable!(),
             },
         };
-        let draft = Draft::new(self.alloc);
+        let draft = empty_draft(self.alloc, &mut self.drafts);
         let handle = begun.1;
         self.running.push_reserved(Some(Running { handle, draft }));
         self.begun += 1;
@@ -378,6 +381,19 @@ impl Machine {
             }
             Err(fault) => refused(fault_of_close(fault)),
         }
+    }
+}
+
+// A draft without reads and changes, in the room of an older one if there is one.
+fn empty_draft(alloc: Global, drafts: &mut Vec<Draft>) -> Draft
+    ensures { result.touched ≡ [] }
+{
+    match drafts.pop() {
+        Some(mut draft) => {
+            draft.clear();
+            draft
+        }
+        None => Draft::new(alloc),
     }
 }
 
