@@ -56,6 +56,12 @@ impl TouchList {
         *self.touched.allocator()
     }
 
+    pub(crate) fn clear(&mut self)
+        ensures { self.new.touched ≡ [] }
+    {
+        self.touched.clear();
+    }
+
     // Two binary searches.
     pub(crate) fn at(&self, site: SiteNo) -> &[Touch]
         ensures part { result.now ≡ at_site site self.now.touched }
