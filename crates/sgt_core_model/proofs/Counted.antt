@@ -53,7 +53,7 @@ version_same : (x : Name) (e : Entry) (es : List Entry) → change_of x e ≡ No
 version_same x e es is = ap (λ o. length (cons_option o (filter_map (change_of x) es))) is
 
 -- the items of the changes
-abbrev items_of : List (Name × Change) → List Name
+abbrev pub items_of : List (Name × Change) → List Name
 items_of cs = map (λ (d : Name × Change). d.0) cs
 
 turned : (x y : Name) (b : Bool) → bytes_eq x y ≡ b → bytes_eq y x ≡ b
@@ -106,7 +106,7 @@ refused-version i x cs = version-append (as_wants i cs) (entry.Refuse i ∷ []) 
 -- ---- the installs
 
 -- an install of these items at a site
-abbrev install_at : ℕ → ℕ → List Name → Install
+abbrev pub install_at : ℕ → ℕ → List Name → Install
 install_at i s items = record { tx = i; site = s; items = items }
 
 count_push : (p : Install → Bool) (xs : List Install) (a : Install) (b : Bool) → p a ≡ b → count_by p (xs ++ a ∷ []) ≡ count_by p xs + cond b 1 0

@@ -1,6 +1,6 @@
 -- What every state of the core keeps.
 -- The log of a site is spoken of with the block that it still gets, so the writing of a block changes nothing of what is said.
-use Rattle.std.specs.Prelude.{◌≡◌, ◌≢◌, ◌<◌, ◌≤◌, ◌⊎◌, ℕ, suc, true, false, List, [], ◌∷◌, ◌++◌, length, AllPairs, Contains, Some, slice_get, count_by}
+use Rattle.std.specs.Prelude.{◌≡◌, ◌≢◌, ◌<◌, ◌≤◌, ◌⊎◌, ◌↔◌, ℕ, suc, true, false, List, [], ◌∷◌, ◌++◌, length, AllPairs, Contains, Some, slice_get, count_by}
 use Rattle.std.specs.Option.{ForSome}
 use Rattle.sgt_names.specs.Name.{Name}
 use Rattle.sgt_names.specs.Entry.{tx_of, item_of, IsEnd, IsOpen, Continues, Repeats}
@@ -14,12 +14,12 @@ use Rattle.sgt_names.specs.declared.entry.Label.{Label}
 use Rattle.sgt_site.specs.State.{version_at, commit_block, refuse_block}
 use Rattle.sgt_order.specs.Graph.{IsTopological}
 use Rattle.sgt_cert.specs.declared.certificate.Step.{Step}
-use Rattle.sgt_certifier.specs.Certifier.{State, Arc, Ruling, committed, refused, withdrawn, ruled}
+use Rattle.sgt_certifier.specs.Certifier.{State, Arc, Install, Ruling, committed, refused, withdrawn, ruled}
 use Rattle.sgt_certifier.specs.History.{changes_item}
 use Rattle.sgt_certifier.specs.Sound.{IsSoundCertifier, IsRuled}
 use Rattle.sgt_core_model.specs.Core.{CoreState, items_at, is_some_change, is_committed}
 use Rattle.sgt_core_model.specs.Step.{IsOwnOpen, gathered_in}
-use Rattle.sgt_core_model.specs.Runs.{IsLoggedConflict}
+use Rattle.sgt_core_model.specs.Runs.{IsLoggedConflict, changed_by, IsLoggedInstall}
 
 -- the site's log with the block that it still gets
 abbrev pub written : CoreState → ℕ → List Entry
@@ -165,9 +165,16 @@ pub record IsCounted (c : CoreState) : Type 0 where
   pub due : (i s : ℕ) → c.certifier.step ≡ Some i → IsDueBlock c i s
   pub counts : (s : ℕ) (x : Name) → version_at (c.entries s) x ≡ count_by (changes_item s x) c.certifier.installs
 
+-- these are the installs that the logs tell, each once. A transaction changes nothing in a log in which its commit doesn't stand
+pub record AreInstalls (logs : ℕ → List Entry) (installs : List Install) : Type 0 where
+  pub noted : (install : Install) → Contains installs install ↔ IsLoggedInstall logs install
+  pub once : AllPairs (λ (a b : Install). (a.tx ≡ b.tx) × (a.site ≡ b.site) → ⊥) installs
+  pub uncommitted : (s tx : ℕ) → (Contains (logs s) (entry.Commit tx) → ⊥) → changed_by tx (logs s) ≡ []
+
 pub record IsKept (c : CoreState) : Type 0 where
   pub sound : IsSound c
   -- the certifier's open step is the core's, and is gathered wherever its transaction is there
   pub together : (i : ℕ) → c.certifier.step ≡ Some i → IsOwnOpen c i
   pub gathered : (i s : ℕ) → c.certifier.step ≡ Some i → IsThere c i s → Contains (gathered_in c.step) s
   pub counted : IsCounted c
+  pub installs : AreInstalls c.entries c.certifier.installs

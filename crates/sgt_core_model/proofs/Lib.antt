@@ -10,6 +10,7 @@ pub mod Changes
 pub mod Walks
 pub mod Faults
 pub mod Counted
+pub mod Installs
 pub mod Runs
 pub mod Valid
 pub mod Fitting

@@ -27,8 +27,9 @@ use Rattle.sgt_core_model.specs.declared.reply.Reply.TheVariants.{Begun, Value, 
 use Rattle.sgt_core_model.specs.declared.reply.CoreFault.TheVariants as fault
 use Rattle.sgt_core_model.specs.Core.{OpenStep, CoreState, fresh, sites_of, items_at, with_entries, only_at, changed_at, with_change, look, touches, touched, is_some_change, put_in, as_changes, committed_block, refused_block, withdrawn_block, is_empty, is_written, closed_if_written, is_committed, noted, installed}
 use Rattle.sgt_core_model.specs.Step.{StepIs, IsOwnOpen, IsOtherOpen, gathered_in, IsGathered, IsDecided, IsOfSite, tx_in, IsAllowed, AfterMemory, ReadsSite, Reads, CommitsAt, RefusesAt, Does, ServesAll, MayStep, Run}
-use Rattle.sgt_core_model.proofs.Kept.{IsSound, IsThere, IsCounted, IsKept}
+use Rattle.sgt_core_model.proofs.Kept.{IsSound, IsThere, IsCounted, AreInstalls, IsKept}
 use Rattle.sgt_core_model.proofs.Counted.{grown-counted, read-none, withdrawn-none, idle-counted, change-counted, yes-counted, no-counted, closing-counted, install-counted, fresh-counted}
+use Rattle.sgt_core_model.proofs.Installs.{grown-installs, read-quiet, withdrawn-quiet, install-installs, fresh-installs}
 use Rattle.sgt_core_model.proofs.Entries.{as_wants}
 use Rattle.sgt_core_model.proofs.Ordered.{moved_block, only_tx, closing-ordered, begin-ordered, read-ordered, same-ordered, yes-ordered, no-ordered, install-ordered, noted-ordered, withdraw-ordered, close-ordered, fresh-ordered}
 use Rattle.sgt_core_model.proofs.LegalSteps.{begin-legal, read-legal_at, closing-legal, install-legal, noted-legal, yes-legal, no-legal, withdraw-legal, close-legal, gather-legal, fresh-legal, none_due, touches_own}
@@ -148,8 +149,8 @@ is_site c s lt = let e : 0 + s ≡ s = omega arith in subst (Contains (sites_of 
 
 -- the step closes, or it stays open, and is the core's
 ending-kept : (c : CoreState) (i : ℕ) → IsSound c → c.certifier.step ≡ Some i → (is_written c ≡ false → IsOwnOpen c i)
-    → ((s : ℕ) → IsThere c i s → Contains (gathered_in c.step) s) → IsCounted c → IsKept (closed_if_written c i)
-ending-kept c i h open_i own gathered counted =
+    → ((s : ℕ) → IsThere c i s → Contains (gathered_in c.step) s) → IsCounted c → AreInstalls c.entries c.certifier.installs → IsKept (closed_if_written c i)
+ending-kept c i h open_i own gathered counted installs =
     elim (cases_Bool (is_written c)) [
       | inl done ↦ rw done (record {
         sound = record {
@@ -161,12 +162,14 @@ ending-kept c i h open_i own gathered counted =
         together = λ j e. absurd cc;
         gathered = λ j s e m. absurd cc;
         counted = closing-counted c i counted;
+        installs = installs;
       })
       | inr left ↦ rw left (record {
         sound = h;
         together = λ j e. subst (IsOwnOpen c) (same_Some i j (sym open_i ∙ e)) (own left);
         gathered = λ j s e m. gathered s (subst (λ t. IsThere c t s) (sym (same_Some i j (sym open_i ∙ e))) m);
         counted = counted;
+        installs = installs;
       })
     ]
 
@@ -256,6 +259,7 @@ begin-kept c k allowed = record {
   together = k.together;
   gathered = k.gathered;
   counted = idle-counted c (with_begun c.certifier) c.step (idle c k (none_open c (allowed fault.StepOpen))) refl k.counted;
+  installs = k.installs;
 }
 
 read_tx : (k tx : ℕ) (x : Name) (v s : ℕ) (e : Entry) → Contains (only_at k (entry.Read tx x v ∷ []) s) e → tx_of e ≡ tx
@@ -281,6 +285,7 @@ reads_site-kept c tx s x v new k allowed none r =
       gathered = λ i t e there. k.gathered i t e
           (there_before c tx (only_at s (entry.Read tx x r.0 ∷ [])) (read_tx s tx x r.0) i t (λ is. free (subst (λ j. c.certifier.step ≡ Some j) is e)) there);
       counted = grown-counted c (only_at s (entry.Read tx x r.0 ∷ [])) (read-none s tx x r.0) k.counted;
+      installs = grown-installs c.entries (only_at s (entry.Read tx x r.0 ∷ [])) c.certifier.installs (read-quiet s tx x r.0) k.installs;
     })
 
 reads-kept : (c : CoreState) (tx s : ℕ) (x : Name) (v : ℕ) (found : Option ℕ) (new : CoreState) → IsKept c → IsAllowed c (Read tx s x)
@@ -305,6 +310,7 @@ change-kept c tx s x change k closed known = record {
         inr (subst (λ b. is_some_change (cond b (changed_at s (put_in (x, change) (c.changes tx s)) (c.changes tx)) (c.changes i) t) ≡ true) (ne_eqb i tx other) some)
   ]);
   counted = change-counted c tx s x change (λ e. closed (k.together tx e)) k.counted;
+  installs = k.installs;
 }
 
 -- another step is open, or none, while nothing is decided
@@ -319,6 +325,7 @@ step-kept c step k none = record {
   together = λ i e. absurd (let f : Some i ≡ None = sym e ∙ none in cc);
   gathered = λ i s e m. absurd (let f : Some i ≡ None = sym e ∙ none in cc);
   counted = idle-counted c c.certifier step none refl k.counted;
+  installs = k.installs;
 }
 
 pub gather_idle : (c : CoreState) (tx s : ℕ) → IsKept c → IsAllowed c (Gather tx s) → c.certifier.step ≡ None
@@ -340,7 +347,7 @@ yes-kept c tx new k allowed d =
     }) (ap (λ (s : State). s.step) d.commits.after) (still_open c tx (entry.Commit tx) (λ s. as_changes tx (c.changes tx s)) (λ s m g. allowed fault.NotGathered (s, m, g)))
     (λ s m. block_gathered c tx h (λ t n g. allowed fault.NotGathered (t, n, g)) s
     (block_touches c tx d.certifier (entry.Commit tx) (λ n. as_changes tx (c.changes tx n)) s m))
-    (yes-counted c tx d.arcs d.certifier d.commits k.counted))
+    (yes-counted c tx d.arcs d.certifier d.commits k.counted) (subst (λ (s : State). AreInstalls c.entries s.installs) (sym d.commits.after) k.installs))
 
 no-kept : (c : CoreState) (tx : ℕ) (new : CoreState) → IsKept c → IsAllowed c (Decide tx) → RefusesAt c tx new → IsKept new
 no-kept c tx new k allowed d =
@@ -356,7 +363,7 @@ no-kept c tx new k allowed d =
     }) (ap (λ (s : State). s.step) d.refuses.after) (still_open c tx (entry.Refuse tx) (λ s. as_wants tx (c.changes tx s)) (λ s m g. allowed fault.NotGathered (s, m, g)))
     (λ s m. block_gathered c tx h (λ t n g. allowed fault.NotGathered (t, n, g)) s
     (block_touches c tx d.certifier (entry.Refuse tx) (λ n. as_wants tx (c.changes tx n)) s m))
-    (no-counted c tx d.arcs d.walk d.certifier out d.refuses k.counted))
+    (no-counted c tx d.arcs d.walk d.certifier out d.refuses k.counted) (subst (λ (s : State). AreInstalls c.entries s.installs) (sym d.refuses.after) k.installs))
 
 -- the install is noted, or there is nothing to note
 noted-sound : (c : CoreState) (tx s : ℕ) → IsSound c → IsSound (record c { certifier = noted c tx s })
@@ -387,15 +394,17 @@ install-kept c tx s k allowed =
     let open_tx = is_decided c tx (allowed fault.NotGathered) in
     let mid : CoreState = record c { certifier = noted c tx s } in
     let h = noted-sound c tx s k.sound in
+    let inside = below (length c.items) s (allowed fault.UnknownItem) in
     ending-kept (record (with_entries mid (only_at s (mid.due s))) { due = changed_at s [] mid.due }) tx (record {
       ordered = install-ordered mid s h.ordered;
       ruled = h.ruled;
       legal = install-legal mid s h.legal;
-      walked = install-walked mid s (below (length c.items) s (allowed fault.UnknownItem)) h.walked;
+      walked = install-walked mid s inside h.walked;
     }) (noted-step c tx s ∙ open_tx) (λ left. k.together tx open_tx) (λ t there. k.gathered tx t open_tx (elim there [
       | inl logged ↦ inl (logged.0, subst (λ es. Contains es logged.0) (moved_block c.entries c.due s t) logged.1, logged.2)
       | inr some ↦ inr some
     ])) (install-counted c tx s open_tx (install_due c tx s allowed) (k.sound.legal.changes_once tx s) k.counted)
+    (install-installs c tx s open_tx (install_due c tx s allowed) inside k.sound.legal k.counted k.installs)
 
 withdraw-kept : (c : CoreState) (tx : ℕ) → IsKept c → IsAllowed c (Withdraw tx)
     → IsKept (record (with_entries c (withdrawn_block c tx)) { certifier = with_withdrawn c.certifier tx })
@@ -414,6 +423,7 @@ withdraw-kept c tx k allowed =
       gathered = λ i s e m. absurd (let f : Some i ≡ None = sym e ∙ none in cc);
       counted = idle-counted (with_entries c (withdrawn_block c tx)) (with_withdrawn c.certifier tx) c.step none refl
           (grown-counted c (withdrawn_block c tx) (withdrawn-none c tx) k.counted);
+      installs = grown-installs c.entries (withdrawn_block c tx) c.certifier.installs (withdrawn-quiet c tx) k.installs;
     }
 
 close-kept : (c : CoreState) → IsKept c → IsAllowed c Close → IsKept (record c { certifier = with_closed c.certifier })
@@ -430,6 +440,7 @@ close-kept c k allowed =
       together = k.together;
       gathered = λ i s e m. absurd (let f : Some i ≡ None = sym e ∙ closed in cc);
       counted = idle-counted c (with_closed c.certifier) c.step closed refl k.counted;
+      installs = k.installs;
     }
 
 -- ---- all events
@@ -481,6 +492,7 @@ fresh-kept items = record {
   together = λ i e. absurd cc;
   gathered = λ i s e m. absurd cc;
   counted = fresh-counted items;
+  installs = fresh-installs items;
 }
 
 -- what every run of fresh sites keeps

@@ -1,17 +1,17 @@
 //! Laws of every run of the core.
 
-ghost use Rattle.std.specs.Prelude.{◌≡◌, ◌⊎◌, ℕ, List, [], All, count_by};
+ghost use Rattle.std.specs.Prelude.{◌≡◌, ◌⊎◌, ◌↔◌, ℕ, List, [], All, AllPairs, Contains, count_by};
 ghost use Rattle.sgt_names.specs.Name.{Name};
 ghost use Rattle.sgt_names.specs.declared.entry.Holding.{Holding};
 ghost use Rattle.sgt_site.specs.State.{version_at};
 ghost use Rattle.sgt_cert.specs.Parts.{FitTogether};
 ghost use Rattle.sgt_cert.specs.Valid.{IsValid};
 ghost use Rattle.sgt_order.specs.Graph.{IsAcyclic, IsTopological};
-ghost use Rattle.sgt_certifier.specs.Certifier.{Joins, serial};
+ghost use Rattle.sgt_certifier.specs.Certifier.{Install, Joins, serial};
 ghost use Rattle.sgt_certifier.specs.History.{changes_item};
 ghost use Rattle.sgt_core_model.specs.Core.{CoreState, fresh, touched, bundle_of};
 ghost use Rattle.sgt_core_model.specs.Step.{IsRefused, IsAllowed, MayStep, MayDecide, Run, parts_of_decision, replies_of_decision};
-ghost use Rattle.sgt_core_model.specs.Runs.{AreSites, AreAlike, IsLoggedConflict, IsAnswer, IsMemory};
+ghost use Rattle.sgt_core_model.specs.Runs.{AreSites, AreAlike, IsLoggedConflict, IsLoggedInstall, IsAnswer, IsMemory};
 ghost use Rattle.sgt_notation.specs.declared.event.Event.TheVariants.{Commit as ACommit};
 ghost use Rattle.sgt_notation.specs.declared.event.Event.{Event};
 ghost use Rattle.sgt_core_model.specs.declared.reply.Reply.{Reply};
@@ -43,6 +43,23 @@ pub fn installs_are_versions()
         (events : List Event) (replies : List Reply) (c : CoreState) (s : ℕ) (x : Name)
         → Run (fresh items) events replies c
         → version_at (c.entries s) x ≡ count_by (changes_item s x) c.certifier.installs }
+{}
+
+/// After whatever events, an install is noted exactly where the commit of its transaction stands in the site's log, and its items are
+/// those that the transaction changes there, in the order of the log. Each is of a committed transaction, and none is noted twice.
+pub fn installs_are_logged()
+    ensures noted { (items : List (List Holding))
+        (events : List Event) (replies : List Reply) (c : CoreState) (install : Install)
+        → Run (fresh items) events replies c
+        → Contains c.certifier.installs install ↔ IsLoggedInstall c.entries install }
+    ensures committed { (items : List (List Holding))
+        (events : List Event) (replies : List Reply) (c : CoreState) (install : Install)
+        → Run (fresh items) events replies c
+        → Contains c.certifier.installs install → Contains (serial c.certifier) install.tx }
+    ensures once { (items : List (List Holding))
+        (events : List Event) (replies : List Reply) (c : CoreState)
+        → Run (fresh items) events replies c
+        → AllPairs (λ (a b : Install). (a.tx ≡ b.tx) × (a.site ≡ b.site) → ⊥) c.certifier.installs }
 {}
 
 /// In every state each event is allowed or refused, and refused with one fault alone.
