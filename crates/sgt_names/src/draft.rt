@@ -40,7 +40,7 @@ enum Kept {
 }
 
 impl Kept {
-    ghost use Rattle.std.specs.Prelude.{◌≡◌, ◌⊎◌, IsTrue, IsSome, IsOk, IfOk, OnOk, OnErr, Some, false};
+    ghost use Rattle.std.specs.Prelude.{◌≡◌, ◌⊎◌, [], IsTrue, IsSome, IsOk, IfOk, OnOk, OnErr, Some, false};
     ghost use Rattle.sgt_names.specs.Draft.{touched_at, seen_at, change_at, ChangesOnly};
     ghost use Rattle.sgt_names.specs.DraftKept.{view_of};
 
@@ -132,6 +132,20 @@ impl Kept {
             *self = Kept::BySite(parts);
         }
     }
+
+    // Takes all out: a list stays, with its room, and parts become one.
+    fn clear(&mut self)
+        ensures { (view_of self.new).touched ≡ [] }
+    {
+        let alloc = match self {
+            Kept::Few(list) => {
+                list.clear();
+                return;
+            }
+            Kept::BySite(parts) => parts.alloc(),
+        };
+        *self = Kept::Few(TouchList::new(alloc));
+    }
 }
 
 /// The kept reads of a transaction, and its private writes and increments, of which an item has at most one.
@@ -165,6 +179,13 @@ impl Draft {
         Draft {
             kept: Kept::Few(TouchList::new(alloc)),
         }
+    }
+
+    /// Takes all out. Takes no memory; the room of a list is kept for what comes.
+    pub fn clear(&mut self)
+        ensures { self.new.touched ≡ [] }
+    {
+        self.kept.clear();
     }
 
     /// The touched items, by rising site and name: in one list while they are few, and site by site once they are more than one

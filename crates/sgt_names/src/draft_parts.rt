@@ -131,6 +131,10 @@ impl Parts {
         Ok(parts)
     }
 
+    pub(crate) fn alloc(&self) -> Global {
+        self.alloc
+    }
+
     pub(crate) fn parts(&self) -> &[Part]
         ensures all { touched_in result.now ≡ self.now.touched }
         ensures rising { AreRising self.now.touched }

@@ -56,6 +56,12 @@ impl TouchList {
         *self.touched.allocator()
     }
 
+    pub(crate) fn clear(&mut self)
+        ensures { self.new.touched ≡ [] }
+    {
+        self.touched.clear();
+    }
+
     // Two binary searches.
     pub(crate) fn at(&self, site: SiteNo) -> &[Touch]
         ensures part { result.now ≡ at_site site self.now.touched }
@@ -208,7 +214,10 @@ fn search(touched: &[Touch], site: SiteNo, item: Item) -> Result<usize, usize>
 fn order(t: &Touch, site: SiteNo, item: &Item) -> Ordering
     ensures { result ≡ place_cmp (place_of t.now) (site, item.now) }
 {
-    t.site.number().cmp(&site.number()).then(t.item.cmp(item))
+    match t.site.number().cmp(&site.number()) {
+        Ordering::Equal => t.item.cmp(item),
+        other => other,
+    }
 }
 
 // The items that are touched at the site.
