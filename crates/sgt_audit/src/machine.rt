@@ -32,6 +32,16 @@ pub struct Machine {
     pub progress: Progress,
 }
 
+/// Lets the bytes go. They are made few first: a C library such as glibc takes the size of a great block that it is given back
+/// for one that comes often, and keeps what is that size or smaller in a heap, where a growth copies and leaves a hole.
+fn let_go(alloc: Global, line: &mut Vec<u8>)
+    ensures { line.new.items ≡ [] }
+{
+    line.clear();
+    line.shrink_to(1);
+    *line = Vec::new(alloc);
+}
+
 impl Machine {
     ghost use Rattle.sgt_audit.specs.Faults.{Stage, Piece, start, headed, Rule, Breaks, bytes_of};
     ghost use Rattle.sgt_audit.specs.private.Ending.{EndsWith, IsKeeping, limit_of};
@@ -140,7 +150,7 @@ impl Machine {
         match &mut self.progress {
             Progress::Headed(second) => {
                 let read = from_line(self.alloc, line.as_slice());
-                *line = Vec::new(self.alloc);
+                let_go(self.alloc, line);
                 match Machine::begin(self.alloc, self.keeps, *second, read) {
                     Ok(Ok(kept)) => {
                         self.progress = Progress::Reading(kept);
