@@ -15,7 +15,8 @@ pub use reading::read_input;
 pub use reply::{number_of, write_reply};
 pub use sgt_core_machine::Core;
 pub use sgt_core_model::{
-    CoreFault, Reply, decisions_are_runs, installs_are_logged, installs_are_versions, refusals_are_determined,
-    replies_are_determined, runs_are_serializable, runs_go_on, states_are_determined,
+    CoreFault, Reply, decisions_are_runs, installs_are_logged, installs_are_versions,
+    refusals_are_determined, replies_are_determined, runs_are_serializable, runs_go_on,
+    states_are_determined,
 };
 pub use sgt_notation::Event;
