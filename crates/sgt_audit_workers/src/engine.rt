@@ -13,7 +13,7 @@ ghost use Rattle.sgt_audit_workers.specs.private.Working.{Works, given};
 
 use crate::cutting::next_line;
 use crate::head::read_head;
-use crate::sections::{Section, Text, read_on, take_section};
+use crate::sections::{Section, Text, put_by, read_up_to, take_section, wanted_behind};
 use crate::tally::Tally;
 use crate::workers::Workers;
 use sgt_audit::{Verdict, audit};
@@ -104,12 +104,15 @@ fn judge_each<H: Threads, R: Source>(
 {
     let sites = workers.head.sites as usize;
     let mut ahead = ahead;
-    for _site in 0..sites {
+    let mut buffers = Vec::new(text.alloc);
+    for site in 0..sites {
         let section = take_section(reader, text, &mut ahead)?;
         match workers.judge(rt, section)? {
-            Ok(free) => read_on(reader, text, &mut ahead, free)?,
+            Ok(free) => put_by(&mut buffers, free)?,
             Err(verdict) => return Ok(verdict),
         }
+        let wanted = wanted_behind(site, workers.count);
+        read_up_to(reader, text, &mut ahead, &mut buffers, wanted)?;
     }
     let yes = yes_to(workers.head.certificate.decisions());
     if let Some(verdict) = workers.wait(rt)? {
@@ -119,7 +122,7 @@ fn judge_each<H: Threads, R: Source>(
 }
 
 /// The verdict on all that the reader gives, with so many sections judged at once.
-fn judge_sections<H: Threads, R: Source>(
+fn judge_sections<H: Threads + Sync, R: Source>(
     rt: &H,
     alloc: Global,
     count: usize,

@@ -131,8 +131,9 @@ fn second_fault(next: Next) -> Option<Fault>
 }
 
 /// What the two lines say, once the second is judged; or its fault. Meanwhile sections are read, as long as there is room for them.
-fn read_beside<H: Threads, R: Source>(
+fn read_beside<H: Threads + Sync, R: Source>(
     rt: &H,
+    second: bool,
     room: Room,
     reader: &mut R,
     text: &mut Text,
@@ -161,7 +162,7 @@ fn read_beside<H: Threads, R: Source>(
     ensures write_fault { result ≢ Err EngineFail.WriteFault }
 {
     let ahead = read_ahead(reader, text, room);
-    let found = finish(rt, judging);
+    let found = finish(rt, text.alloc, second, judging);
     let ahead = ahead?;
     match found {
         Ok(Ok(head)) => Ok(Ok((head, ahead))),
@@ -174,7 +175,7 @@ fn read_beside<H: Threads, R: Source>(
 /// read twice its bytes: what the lines say, with those sections; or the verdict on the text, where its first fault is in one of the two.
 ///
 /// An Err is ReadFault, where a read failed or too many were needed, or Memory.
-pub fn read_head<H: Threads, R: Source>(
+pub fn read_head<H: Threads + Sync, R: Source>(
     rt: &H,
     count: usize,
     reader: &mut R,
@@ -212,8 +213,8 @@ pub fn read_head<H: Threads, R: Source>(
         sections: count,
         bytes: line.len().saturating_mul(2),
     };
-    let judging = start(rt, text.alloc, second, line);
-    match read_beside(rt, room, reader, text, judging)? {
+    let judging = start(rt, text.alloc, line);
+    match read_beside(rt, second, room, reader, text, judging)? {
         Ok(begun) => Ok(Ok(begun)),
         Err(fault) => Ok(Err(Verdict::No { line: 2, fault })),
     }

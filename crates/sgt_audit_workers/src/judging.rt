@@ -1,70 +1,132 @@
-//! Line 2, judged in a thread of its own.
+//! Line 2, judged in threads of their own.
 
-ghost use Rattle.std.specs.Prelude.{Bool, List, ℕ};
+ghost use Rattle.std.specs.Prelude.{List, ℕ};
 ghost use Rattle.sgt_audit_workers.specs.Head.{IsHeadOf};
-ghost use Rattle.sgt_audit_workers.specs.private.Judging.{WillSay};
+ghost use Rattle.sgt_audit_workers.specs.private.Judging.{IsReadFrom, WillRead};
 
 use crate::head::{Head, head_of};
+use crate::rules::{Once, judge_once};
 use sgt_audit::Fault;
+use sgt_audit_decisions::Decided;
+use sgt_cert::{CertFault, from_line};
 use sgt_names::EngineFail;
-use std::alloc::Global;
+use std::alloc::{AllocError, Global};
 use std::snapshot::Snapshot;
 use std::thread;
 use std::thread::{Promise, PromisedHandle, Threads};
 
-/// A line 2 that a thread was given, as clauses see it, and whether line 1 says the second format.
+/// A line 2, with the certificate that was read from it, if it is the line of one in which no transaction is decided twice.
+#[derive(Drop)]
+pub struct Reading {
+    line: Vec<u8>,
+    found: Result<Option<Once>, AllocError>,
+}
+
+/// A line 2 that a thread was given, as clauses see it.
 #[derive(Drop)]
 pub struct Given {
-    second: bool,
     line: Snapshot<Vec<u8>>,
 }
 
-impl Promise<Result<Result<Head, Fault>, EngineFail>> for Given {
-    ghost kept_by = { λ given found. IsHeadOf given.second given.line.value.items found };
+impl Promise<Reading> for Given {
+    ghost kept_by = { λ given reading. IsReadFrom given.line.value.items reading };
 }
 
-/// A line 2 that a thread judges; or that was judged here, where no thread could be made.
+/// A line 2 that a thread reads; or that was read here, where no thread could be made.
 #[derive(Drop)]
 pub enum Judging {
-    There(PromisedHandle<Result<Result<Head, Fault>, EngineFail>, Given>),
-    Here(Result<Result<Head, Fault>, EngineFail>),
+    There(PromisedHandle<Reading, Given>),
+    Here(Reading),
 }
 
-/// What the first two lines say, by the second of them; or its fault.
-fn head_owning(
-    alloc: Global,
-    second: bool,
-    line: Vec<u8>,
-) -> Result<Result<Head, Fault>, EngineFail>
-    ensures { IsHeadOf second line.items result }
+/// The certificate whose line this is, if no transaction is decided twice in it.
+fn once_of(alloc: Global, line: &[u8]) -> Result<Option<Once>, AllocError>
+    ensures { IfOk result (λ found. IfSome found (IsOnceOf line.now)) }
 {
-    head_of(alloc, second, line.as_slice())
+    let certificate = match from_line(alloc, line) {
+        Ok(certificate) => certificate,
+        Err(CertFault::Memory) => return Err(AllocError),
+        Err(_) => return Ok(None),
+    };
+    let sites = certificate.sites;
+    match Decided::new(alloc, certificate)? {
+        Some(certificate) => Ok(Some(Once { sites, certificate })),
+        None => Ok(None),
+    }
 }
 
-/// Has line 2 judged, in a thread of its own if one can be made.
-pub fn start<H: Threads>(rt: &H, alloc: Global, second: bool, line: Vec<u8>) -> Judging
-    ensures { WillSay second line.items result }
+/// Reads the line.
+fn read(alloc: Global, line: Vec<u8>) -> Reading
+    ensures { IsReadFrom line.items result }
+{
+    let found = once_of(alloc, line.as_slice());
+    Reading { line, found }
+}
+
+/// Has line 2 read, in a thread of its own if one can be made.
+pub fn start<H: Threads>(rt: &H, alloc: Global, line: Vec<u8>) -> Judging
+    ensures { WillRead line.items result }
 {
     let given = Given {
-        second,
         line: Snapshot::of(&line),
     };
-    let judge = move || -> Result<Result<Head, Fault>, EngineFail>
-        ensures { IsHeadOf second line.items result }
-    { head_owning(alloc, second, line) };
-    match thread::spawn_with(rt, given, judge) {
+    let read_there = move || -> Reading
+        ensures { IsReadFrom line.items result }
+    { read(alloc, line) };
+    match thread::spawn_with(rt, given, read_there) {
         Ok(handle) => Judging::There(handle),
         Err(refused) => Judging::Here((refused.value)()),
     }
 }
 
-/// Waits until line 2 is judged.
-pub fn finish<H: Threads>(rt: &H, judging: Judging) -> Result<Result<Head, Fault>, EngineFail>
-    ensures { (second : Bool) (line : List ℕ) → WillSay second line judging
-        → IsHeadOf second line result }
+/// Waits until line 2 is read.
+fn wait<H: Threads>(rt: &H, judging: Judging) -> Reading
+    ensures { (line : List ℕ) → WillRead line judging → IsReadFrom line result }
 {
     match judging {
         Judging::There(handle) => handle.join(rt),
-        Judging::Here(found) => found,
+        Judging::Here(reading) => reading,
+    }
+}
+
+/// Lets the memory go in a thread of its own, so that no one waits for that.
+fn let_go<H: Threads>(rt: &H, bytes: Vec<u8>) {
+    drop(thread::spawn(rt, move || drop(bytes)));
+}
+
+/// What the first two lines say, by the certificate that was read from the second, if it has no fault.
+fn head_read<H: Threads + Sync>(
+    rt: &H,
+    alloc: Global,
+    second: bool,
+    found: Result<Option<Once>, AllocError>,
+) -> Result<Option<Head>, EngineFail>
+    ensures head { (line : List ℕ) → IfOk found (λ found. IfSome found (IsOnceOf line))
+        → IfOk result (λ r. IfSome r (λ h. IsHeadOf second line (Ok (Ok h)))) }
+    ensures err { IfErr result (λ e. e ≡ EngineFail.Memory) }
+{
+    match found? {
+        Some(once) => Ok(judge_once(rt, alloc, second, once)?),
+        None => Ok(None),
+    }
+}
+
+/// Waits until line 2 is read, and judges its certificate: what the first two lines say, by the second of them; or its fault. Where
+/// there is one the line is judged again, rule after rule, to tell the least.
+pub fn finish<H: Threads + Sync>(
+    rt: &H,
+    alloc: Global,
+    second: bool,
+    judging: Judging,
+) -> Result<Result<Head, Fault>, EngineFail>
+    ensures { (line : List ℕ) → WillRead line judging → IsHeadOf second line result }
+{
+    let Reading { line, found } = wait(rt, judging);
+    match head_read(rt, alloc, second, found)? {
+        Some(head) => {
+            let_go(rt, line);
+            Ok(Ok(head))
+        }
+        None => head_of(alloc, second, line.as_slice()),
     }
 }
