@@ -107,10 +107,11 @@ fn judge_each<H: Threads, R: Source>(
     let mut buffers = Vec::new(text.alloc);
     for site in 0..sites {
         let section = take_section(reader, text, &mut ahead)?;
-        match workers.judge(rt, section)? {
-            Ok(free) => put_by(&mut buffers, free)?,
+        let free = match workers.judge(rt, section)? {
+            Ok(free) => free,
             Err(verdict) => return Ok(verdict),
-        }
+        };
+        put_by(&mut buffers, free)?;
         let wanted = wanted_behind(site, workers.count);
         read_up_to(reader, text, &mut ahead, &mut buffers, wanted)?;
     }

@@ -133,7 +133,6 @@ fn second_fault(next: Next) -> Option<Fault>
 /// What the two lines say, once the second is judged; or its fault. Meanwhile sections are read, as long as there is room for them.
 fn read_beside<H: Threads + Sync, R: Source>(
     rt: &H,
-    second: bool,
     room: Room,
     reader: &mut R,
     text: &mut Text,
@@ -162,7 +161,7 @@ fn read_beside<H: Threads + Sync, R: Source>(
     ensures write_fault { result ≢ Err EngineFail.WriteFault }
 {
     let ahead = read_ahead(reader, text, room);
-    let found = finish(rt, text.alloc, second, judging);
+    let found = finish(rt, text.alloc, judging);
     let ahead = ahead?;
     match found {
         Ok(Ok(head)) => Ok(Ok((head, ahead))),
@@ -213,8 +212,8 @@ pub fn read_head<H: Threads + Sync, R: Source>(
         sections: count,
         bytes: line.len().saturating_mul(2),
     };
-    let judging = start(rt, text.alloc, line);
-    match read_beside(rt, second, room, reader, text, judging)? {
+    let judging = start(rt, text.alloc, second, line);
+    match read_beside(rt, room, reader, text, judging)? {
         Ok(begun) => Ok(Ok(begun)),
         Err(fault) => Ok(Err(Verdict::No { line: 2, fault })),
     }

@@ -1,10 +1,11 @@
 //! Line 2, judged in threads of their own.
 
-ghost use Rattle.std.specs.Prelude.{List, ℕ};
+ghost use Rattle.std.specs.Prelude.{◌≡◌, Bool, List, ℕ, Ok, IfOk, IfErr, IfSome};
 ghost use Rattle.sgt_audit_workers.specs.Head.{IsHeadOf};
-ghost use Rattle.sgt_audit_workers.specs.private.Judging.{IsReadFrom, WillRead};
+ghost use Rattle.sgt_audit_workers.specs.private.Judging.{IsOnceOf, IsReadFrom, WillBeRead, WillSay};
 
 use crate::head::{Head, head_of};
+use crate::release::let_go;
 use crate::rules::{Once, judge_once};
 use sgt_audit::Fault;
 use sgt_audit_decisions::Decided;
@@ -34,9 +35,16 @@ impl Promise<Reading> for Given {
 
 /// A line 2 that a thread reads; or that was read here, where no thread could be made.
 #[derive(Drop)]
-pub enum Judging {
+pub enum Underway {
     There(PromisedHandle<Reading, Given>),
     Here(Reading),
+}
+
+/// A line 2 that is read, to be judged, and whether line 1 says the second format.
+#[derive(Drop)]
+pub struct Judging {
+    second: bool,
+    reading: Underway,
 }
 
 /// The certificate whose line this is, if no transaction is decided twice in it.
@@ -55,6 +63,17 @@ fn once_of(alloc: Global, line: &[u8]) -> Result<Option<Once>, AllocError>
     }
 }
 
+/// What the first two lines say, judged rule after rule, by the second of them; or its fault.
+fn head_owning(
+    alloc: Global,
+    second: bool,
+    line: Vec<u8>,
+) -> Result<Result<Head, Fault>, EngineFail>
+    ensures { IsHeadOf second line.items result }
+{
+    head_of(alloc, second, line.as_slice())
+}
+
 /// Reads the line.
 fn read(alloc: Global, line: Vec<u8>) -> Reading
     ensures { IsReadFrom line.items result }
@@ -63,9 +82,9 @@ fn read(alloc: Global, line: Vec<u8>) -> Reading
     Reading { line, found }
 }
 
-/// Has line 2 read, in a thread of its own if one can be made.
-pub fn start<H: Threads>(rt: &H, alloc: Global, line: Vec<u8>) -> Judging
-    ensures { WillRead line.items result }
+/// Has the line read, in a thread of its own if one can be made.
+fn start_reading<H: Threads>(rt: &H, alloc: Global, line: Vec<u8>) -> Underway
+    ensures { WillBeRead line.items result }
 {
     let given = Given {
         line: Snapshot::of(&line),
@@ -74,24 +93,29 @@ pub fn start<H: Threads>(rt: &H, alloc: Global, line: Vec<u8>) -> Judging
         ensures { IsReadFrom line.items result }
     { read(alloc, line) };
     match thread::spawn_with(rt, given, read_there) {
-        Ok(handle) => Judging::There(handle),
-        Err(refused) => Judging::Here((refused.value)()),
+        Ok(handle) => Underway::There(handle),
+        Err(refused) => Underway::Here((refused.value)()),
     }
 }
 
-/// Waits until line 2 is read.
-fn wait<H: Threads>(rt: &H, judging: Judging) -> Reading
-    ensures { (line : List ℕ) → WillRead line judging → IsReadFrom line result }
+/// Has line 2 read, to be judged.
+pub fn start<H: Threads>(rt: &H, alloc: Global, second: bool, line: Vec<u8>) -> Judging
+    ensures { WillSay second line.items result }
 {
-    match judging {
-        Judging::There(handle) => handle.join(rt),
-        Judging::Here(reading) => reading,
+    Judging {
+        second,
+        reading: start_reading(rt, alloc, line),
     }
 }
 
-/// Lets the memory go in a thread of its own, so that no one waits for that.
-fn let_go<H: Threads>(rt: &H, bytes: Vec<u8>) {
-    drop(thread::spawn(rt, move || drop(bytes)));
+/// Waits until the line is read.
+fn wait<H: Threads>(rt: &H, reading: Underway) -> Reading
+    ensures { (line : List ℕ) → WillBeRead line reading → IsReadFrom line result }
+{
+    match reading {
+        Underway::There(handle) => handle.join(rt),
+        Underway::Here(reading) => reading,
+    }
 }
 
 /// What the first two lines say, by the certificate that was read from the second, if it has no fault.
@@ -105,28 +129,31 @@ fn head_read<H: Threads + Sync>(
         → IfOk result (λ r. IfSome r (λ h. IsHeadOf second line (Ok (Ok h)))) }
     ensures err { IfErr result (λ e. e ≡ EngineFail.Memory) }
 {
-    match found? {
-        Some(once) => Ok(judge_once(rt, alloc, second, once)?),
-        None => Ok(None),
+    match found {
+        Ok(Some(once)) => Ok(judge_once(rt, alloc, second, once)?),
+        Ok(None) => Ok(None),
+        Err(_) => Err(EngineFail::Memory),
     }
 }
 
 /// Waits until line 2 is read, and judges its certificate: what the first two lines say, by the second of them; or its fault. Where
-/// there is one the line is judged again, rule after rule, to tell the least.
+/// there is one, the line is judged again, rule after rule, to tell the least.
 pub fn finish<H: Threads + Sync>(
     rt: &H,
     alloc: Global,
-    second: bool,
     judging: Judging,
 ) -> Result<Result<Head, Fault>, EngineFail>
-    ensures { (line : List ℕ) → WillRead line judging → IsHeadOf second line result }
+    ensures { (second : Bool) (line : List ℕ) → WillSay second line judging
+        → IsHeadOf second line result }
 {
-    let Reading { line, found } = wait(rt, judging);
-    match head_read(rt, alloc, second, found)? {
-        Some(head) => {
+    let Judging { second, reading } = judging;
+    let Reading { line, found } = wait(rt, reading);
+    match head_read(rt, alloc, second, found) {
+        Ok(Some(head)) => {
             let_go(rt, line);
             Ok(Ok(head))
         }
-        None => head_of(alloc, second, line.as_slice()),
+        Ok(None) => head_owning(alloc, second, line),
+        Err(e) => Err(e),
     }
 }

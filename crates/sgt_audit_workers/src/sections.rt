@@ -166,6 +166,14 @@ pub fn put_by(buffers: &mut Vec<Vec<u8>>, buffer: Option<Vec<u8>>) -> Result<(),
     }
 }
 
+/// One of the buffers, or a new one.
+fn buffer_of(alloc: Global, buffers: &mut Vec<Vec<u8>>) -> Vec<u8> {
+    match buffers.pop() {
+        Some(buffer) => buffer,
+        None => Vec::new(alloc),
+    }
+}
+
 /// How many sections are to be ahead once the section of this site is given to a worker: one for each of them, where all of them
 /// have one now, so that they need not wait for one another's next.
 pub fn wanted_behind(site: usize, workers: usize) -> usize {
@@ -202,10 +210,7 @@ pub fn read_up_to<R: Source>(
     ensures write_fault { result ≢ Err EngineFail.WriteFault }
 {
     for _section in ahead.len()..wanted {
-        let buffer = match buffers.pop() {
-            Some(buffer) => buffer,
-            None => Vec::new(text.alloc),
-        };
+        let buffer = buffer_of(text.alloc, buffers);
         read_more(reader, text, ahead, buffer)?;
     }
     Ok(())

@@ -15,6 +15,7 @@ ghost use Rattle.sgt_audit_workers.specs.private.Working.{Ends, GoesOn, SameWork
 
 use crate::head::Head;
 use crate::job::Job;
+use crate::release::let_go;
 use crate::running::{Running, finish, start};
 use crate::sections::Section;
 use crate::tally::Tally;
@@ -182,7 +183,7 @@ impl Workers {
     {
         'judged: while let Some(running) = first(&mut self.running) {
             match take(rt, &mut self.tally, running)? {
-                Ok(job) => drop(job),
+                Ok(job) => let_go(rt, job),
                 Err(verdict) => return Ok(Some(verdict)),
             }
         }
@@ -191,8 +192,10 @@ impl Workers {
 
     /// Waits for the sections that are judged still, whatever is found.
     pub fn stop<H: Threads>(self, rt: &H) {
-        for running in self.running {
+        let Workers { head, running, .. } = self;
+        for running in running {
             finish(rt, running);
         }
+        let_go(rt, head);
     }
 }
