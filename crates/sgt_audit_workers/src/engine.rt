@@ -13,7 +13,7 @@ ghost use Rattle.sgt_audit_workers.specs.private.Working.{Works, given};
 
 use crate::cutting::next_line;
 use crate::head::read_head;
-use crate::sections::{Section, Text, put_by, read_up_to, take_section, wanted_behind};
+use crate::sections::{Section, Text, read_on, take_section};
 use crate::tally::Tally;
 use crate::workers::Workers;
 use sgt_audit::{Verdict, audit};
@@ -104,16 +104,12 @@ fn judge_each<H: Threads, R: Source>(
 {
     let sites = workers.head.sites as usize;
     let mut ahead = ahead;
-    let mut buffers = Vec::new(text.alloc);
-    for site in 0..sites {
+    for _site in 0..sites {
         let section = take_section(reader, text, &mut ahead)?;
-        let free = match workers.judge(rt, section)? {
-            Ok(free) => free,
+        match workers.judge(rt, section)? {
+            Ok(free) => read_on(reader, text, &mut ahead, free)?,
             Err(verdict) => return Ok(verdict),
-        };
-        put_by(&mut buffers, free)?;
-        let wanted = wanted_behind(site, workers.count);
-        read_up_to(reader, text, &mut ahead, &mut buffers, wanted)?;
+        }
     }
     let yes = yes_to(workers.head.certificate.decisions());
     if let Some(verdict) = workers.wait(rt)? {

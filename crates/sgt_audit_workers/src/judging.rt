@@ -1,11 +1,10 @@
-//! Line 2, judged in threads of their own.
+//! Line 2, judged by threads.
 
-ghost use Rattle.std.specs.Prelude.{◌≡◌, Bool, List, ℕ, Ok, IfOk, IfErr, IfSome};
+ghost use Rattle.std.specs.Prelude.{Bool, List, ℕ, IfOk, IfSome};
 ghost use Rattle.sgt_audit_workers.specs.Head.{IsHeadOf};
-ghost use Rattle.sgt_audit_workers.specs.private.Judging.{IsOnceOf, IsReadFrom, WillBeRead, WillSay};
+ghost use Rattle.sgt_audit_workers.specs.private.Judging.{IsFoundOf, IsOnceOf, WillFind, WillSay};
 
 use crate::head::{Head, head_of};
-use crate::release::let_go;
 use crate::rules::{Once, judge_once};
 use sgt_audit::Fault;
 use sgt_audit_decisions::Decided;
@@ -16,21 +15,30 @@ use std::snapshot::Snapshot;
 use std::thread;
 use std::thread::{Promise, PromisedHandle, Threads};
 
-/// A line 2, with the certificate that was read from it, if it is the line of one in which no transaction is decided twice.
+/// What a line 2 is found to be: that of a certificate in which no transaction is decided twice, to be judged by the other rules; or
+/// what the first two lines say, or the fault, by all of them.
+#[derive(Drop)]
+pub enum Found {
+    Once(Once),
+    Judged(Result<Head, Fault>),
+}
+
+/// A line 2, once it is read.
 #[derive(Drop)]
 pub struct Reading {
     line: Vec<u8>,
-    found: Result<Option<Once>, AllocError>,
+    found: Result<Found, EngineFail>,
 }
 
-/// A line 2 that a thread was given, as clauses see it.
+/// A line 2 that a thread was given, as clauses see it, and whether line 1 says the second format.
 #[derive(Drop)]
 pub struct Given {
+    second: bool,
     line: Snapshot<Vec<u8>>,
 }
 
 impl Promise<Reading> for Given {
-    ghost kept_by = { λ given reading. IsReadFrom given.line.value.items reading };
+    ghost kept_by = { λ given reading. IsFoundOf given.second given.line.value.items reading.found };
 }
 
 /// A line 2 that a thread reads; or that was read here, where no thread could be made.
@@ -47,7 +55,7 @@ pub struct Judging {
     reading: Underway,
 }
 
-/// The certificate whose line this is, if no transaction is decided twice in it.
+/// The certificate whose line this is, if it is one in which no transaction is decided twice.
 fn once_of(alloc: Global, line: &[u8]) -> Result<Option<Once>, AllocError>
     ensures { IfOk result (λ found. IfSome found (IsOnceOf line.now)) }
 {
@@ -63,35 +71,36 @@ fn once_of(alloc: Global, line: &[u8]) -> Result<Option<Once>, AllocError>
     }
 }
 
-/// What the first two lines say, judged rule after rule, by the second of them; or its fault.
-fn head_owning(
-    alloc: Global,
-    second: bool,
-    line: Vec<u8>,
-) -> Result<Result<Head, Fault>, EngineFail>
-    ensures { IsHeadOf second line.items result }
+/// What the line is found to be. One with a fault is read once more, and judged rule after rule, for the least of its faults.
+fn find(alloc: Global, second: bool, line: &[u8]) -> Result<Found, EngineFail>
+    ensures { IsFoundOf second line.now result }
 {
-    head_of(alloc, second, line.as_slice())
+    match once_of(alloc, line) {
+        Ok(Some(once)) => Ok(Found::Once(once)),
+        Ok(None) => Ok(Found::Judged(head_of(alloc, second, line)?)),
+        Err(_) => Err(EngineFail::Memory),
+    }
 }
 
 /// Reads the line.
-fn read(alloc: Global, line: Vec<u8>) -> Reading
-    ensures { IsReadFrom line.items result }
+fn read(alloc: Global, second: bool, line: Vec<u8>) -> Reading
+    ensures { IsFoundOf second line.items result.found }
 {
-    let found = once_of(alloc, line.as_slice());
+    let found = find(alloc, second, line.as_slice());
     Reading { line, found }
 }
 
 /// Has the line read, in a thread of its own if one can be made.
-fn start_reading<H: Threads>(rt: &H, alloc: Global, line: Vec<u8>) -> Underway
-    ensures { WillBeRead line.items result }
+fn start_reading<H: Threads>(rt: &H, alloc: Global, second: bool, line: Vec<u8>) -> Underway
+    ensures { WillFind second line.items result }
 {
     let given = Given {
+        second,
         line: Snapshot::of(&line),
     };
     let read_there = move || -> Reading
-        ensures { IsReadFrom line.items result }
-    { read(alloc, line) };
+        ensures { IsFoundOf second line.items result.found }
+    { read(alloc, second, line) };
     match thread::spawn_with(rt, given, read_there) {
         Ok(handle) => Underway::There(handle),
         Err(refused) => Underway::Here((refused.value)()),
@@ -102,15 +111,14 @@ fn start_reading<H: Threads>(rt: &H, alloc: Global, line: Vec<u8>) -> Underway
 pub fn start<H: Threads>(rt: &H, alloc: Global, second: bool, line: Vec<u8>) -> Judging
     ensures { WillSay second line.items result }
 {
-    Judging {
-        second,
-        reading: start_reading(rt, alloc, line),
-    }
+    let reading = start_reading(rt, alloc, second, line);
+    Judging { second, reading }
 }
 
 /// Waits until the line is read.
 fn wait<H: Threads>(rt: &H, reading: Underway) -> Reading
-    ensures { (line : List ℕ) → WillBeRead line reading → IsReadFrom line result }
+    ensures { (second : Bool) (line : List ℕ) → WillFind second line reading
+        → IsFoundOf second line result.found }
 {
     match reading {
         Underway::There(handle) => handle.join(rt),
@@ -118,26 +126,7 @@ fn wait<H: Threads>(rt: &H, reading: Underway) -> Reading
     }
 }
 
-/// What the first two lines say, by the certificate that was read from the second, if it has no fault.
-fn head_read<H: Threads + Sync>(
-    rt: &H,
-    alloc: Global,
-    second: bool,
-    found: Result<Option<Once>, AllocError>,
-) -> Result<Option<Head>, EngineFail>
-    ensures head { (line : List ℕ) → IfOk found (λ found. IfSome found (IsOnceOf line))
-        → IfOk result (λ r. IfSome r (λ h. IsHeadOf second line (Ok (Ok h)))) }
-    ensures err { IfErr result (λ e. e ≡ EngineFail.Memory) }
-{
-    match found {
-        Ok(Some(once)) => Ok(judge_once(rt, alloc, second, once)?),
-        Ok(None) => Ok(None),
-        Err(_) => Err(EngineFail::Memory),
-    }
-}
-
-/// Waits until line 2 is read, and judges its certificate: what the first two lines say, by the second of them; or its fault. Where
-/// there is one, the line is judged again, rule after rule, to tell the least.
+/// Waits until line 2 is read, and judges its certificate: what the first two lines say, by the second of them; or its fault.
 pub fn finish<H: Threads + Sync>(
     rt: &H,
     alloc: Global,
@@ -148,12 +137,9 @@ pub fn finish<H: Threads + Sync>(
 {
     let Judging { second, reading } = judging;
     let Reading { line, found } = wait(rt, reading);
-    match head_read(rt, alloc, second, found) {
-        Ok(Some(head)) => {
-            let_go(rt, line);
-            Ok(Ok(head))
-        }
-        Ok(None) => head_owning(alloc, second, line),
+    match found {
+        Ok(Found::Once(once)) => judge_once(rt, alloc, second, once, line),
+        Ok(Found::Judged(judged)) => Ok(judged),
         Err(e) => Err(e),
     }
 }

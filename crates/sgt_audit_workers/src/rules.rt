@@ -1,16 +1,17 @@
 //! The rules of a certificate by itself, judged by several threads at once.
 
-ghost use Rattle.std.specs.Prelude.{◌≡◌, ℕ, List, IsTrue, Ok, IfOk, IfSome};
+ghost use Rattle.std.specs.Prelude.{◌↔◌, ℕ, List, IsTrue, IfOk};
 ghost use Rattle.sgt_audit_decisions.specs.Steps.{AreStepsOf};
 ghost use Rattle.sgt_audit.specs.Faults.{KeepsItself};
-ghost use Rattle.sgt_audit.specs.declared.faults.Fault.{Fault};
 ghost use Rattle.sgt_audit.specs.declared.faults.Fault.TheVariants as fault;
 ghost use Rattle.sgt_cert.specs.Text.{IsCertificate};
 ghost use Rattle.sgt_audit_workers.specs.Head.{IsHeadOf};
-ghost use Rattle.sgt_audit_workers.specs.private.Judging.{IsOnceOf};
+ghost use Rattle.sgt_audit_workers.specs.private.Judging.{IsLeast, IsOnceOf};
 
 use crate::head::Head;
+use sgt_audit::Fault;
 use sgt_audit_decisions::{Decided, Steps, are_cycles, are_ranks};
+use sgt_names::EngineFail;
 use std::alloc::{AllocError, Global};
 use std::thread;
 use std::thread::Threads;
@@ -22,55 +23,70 @@ pub struct Once {
     pub certificate: Decided,
 }
 
-/// Whether the certificate, in which no transaction is decided twice, keeps the other rules too.
-fn keeps_itself<H: Threads>(
+/// The least rule that the certificate, in which no transaction is decided twice, does not keep, if there is one.
+fn fault_of<H: Threads>(
     rt: &H,
     alloc: Global,
     certificate: &Decided,
-) -> Result<bool, AllocError>
-    ensures { IfOk result
-        (λ keeps. IsTrue keeps → ((f : Fault) → KeepsItself certificate.now.decisions f)) }
+) -> Result<Option<Fault>, AllocError>
+    ensures { IfOk result (IsLeast certificate.now.decisions) }
 {
     let decisions = certificate.decisions();
     let of_ranks = || -> Result<bool, AllocError>
-        ensures { IfOk result (λ are. IsTrue are → KeepsItself decisions.entry.now fault.Ranks) }
+        ensures { IfOk result (λ are. IsTrue are ↔ KeepsItself decisions.entry.now fault.Ranks) }
     { are_ranks(alloc, decisions) };
     let of_walks = || -> Result<bool, AllocError>
         ensures { IfOk result
-            (λ are. IsTrue are → KeepsItself certificate.entry.now.decisions fault.WalkShape) }
+            (λ are. IsTrue are ↔ KeepsItself certificate.entry.now.decisions fault.WalkShape) }
     { are_cycles(alloc, certificate) };
-    let (ranks, cycles) = thread::join(rt, of_ranks, of_walks);
-    Ok(ranks? && cycles?)
+    let (ranks, walks) = thread::join(rt, of_ranks, of_walks);
+    if !ranks? {
+        return Ok(Some(Fault::Ranks));
+    }
+    if !walks? {
+        return Ok(Some(Fault::WalkShape));
+    }
+    Ok(None)
 }
 
-/// What the first two lines say, with this certificate in the second of them, if it has no fault.
+/// The steps of the walks, by their sites. Meanwhile the line is let go.
+fn steps_of(alloc: Global, certificate: &Decided, line: Vec<u8>) -> Result<Steps, AllocError>
+    ensures { IfOk result
+        (λ steps. IsCertificate certificate.now → AreStepsOf certificate.now.decisions steps) }
+{
+    let steps = certificate.steps(alloc);
+    drop(line);
+    steps
+}
+
+/// What the first two lines say, with this certificate in the second of them, which is let go; or its fault.
 pub fn judge_once<H: Threads + Sync>(
     rt: &H,
     alloc: Global,
     second: bool,
     once: Once,
-) -> Result<Option<Head>, AllocError>
-    ensures { (line : List ℕ) → IsOnceOf line once → IfOk result
-        (λ found. IfSome found (λ h. IsHeadOf second line (Ok (Ok h)))) }
+    line: Vec<u8>,
+) -> Result<Result<Head, Fault>, EngineFail>
+    ensures { (line : List ℕ) → IsOnceOf line once → IsHeadOf second line result }
 {
     let Once { sites, certificate } = once;
     let lent = &certificate;
-    let of_rules = || -> Result<bool, AllocError>
-        ensures { IfOk result
-            (λ keeps. IsTrue keeps → ((f : Fault) → KeepsItself lent.entry.now.decisions f)) }
-    { keeps_itself(rt, alloc, lent) };
-    let of_steps = || -> Result<Steps, AllocError>
+    let of_fault = || -> Result<Option<Fault>, AllocError>
+        ensures { IfOk result (IsLeast lent.entry.now.decisions) }
+    { fault_of(rt, alloc, lent) };
+    let of_steps = move || -> Result<Steps, AllocError>
         ensures { IfOk result (λ steps. IsCertificate lent.entry.now
             → AreStepsOf lent.entry.now.decisions steps) }
-    { lent.steps(alloc) };
-    let (keeps, steps) = thread::join(rt, of_rules, of_steps);
-    if !keeps? {
-        return Ok(None);
+    { steps_of(alloc, lent, line) };
+    let (fault, steps) = thread::join(rt, of_fault, of_steps);
+    if let Some(fault) = fault? {
+        return Ok(Err(fault));
     }
-    Ok(Some(Head {
+    let steps = steps?;
+    Ok(Ok(Head {
         second,
         sites,
         certificate,
-        steps: steps?,
+        steps,
     }))
 }

@@ -153,69 +153,6 @@ pub fn read_on<R: Source>(
     }
 }
 
-/// One buffer more, if there is one.
-pub fn put_by(buffers: &mut Vec<Vec<u8>>, buffer: Option<Vec<u8>>) -> Result<(), EngineFail>
-    ensures { IfErr result (λ e. e ≡ EngineFail.Memory) }
-{
-    let Some(buffer) = buffer else {
-        return Ok(());
-    };
-    match buffers.push(buffer) {
-        Ok(()) => Ok(()),
-        Err(_) => Err(EngineFail::Memory),
-    }
-}
-
-/// One of the buffers, or a new one.
-fn buffer_of(alloc: Global, buffers: &mut Vec<Vec<u8>>) -> Vec<u8> {
-    match buffers.pop() {
-        Some(buffer) => buffer,
-        None => Vec::new(alloc),
-    }
-}
-
-/// How many sections are to be ahead once the section of this site is given to a worker: one for each of them, where all of them
-/// have one now, so that they need not wait for one another's next.
-pub fn wanted_behind(site: usize, workers: usize) -> usize {
-    match site.saturating_add(1).checked_rem(workers) {
-        Some(0) => workers,
-        _ => 0,
-    }
-}
-
-/// Reads on until so many sections are ahead, in these buffers first.
-pub fn read_up_to<R: Source>(
-    reader: &mut R,
-    text: &mut Text,
-    ahead: &mut Vec<Section>,
-    buffers: &mut Vec<Vec<u8>>,
-    wanted: usize,
-) -> Result<(), EngineFail>
-    ensures ahead { let left = coming text.old.lines (R.tells reader.old) in
-        let now = coming text.new.lines (R.tells reader.new) in
-        (told from : Option (List ℕ)) → IsBehind told text.old (R.tells reader.old)
-        → AreAhead told from ahead.old.items left
-        → OnOk result (AreAhead told from ahead.new.items now) }
-    ensures behind { (told : Option (List ℕ)) → IsBehind told text.old (R.tells reader.old)
-        → OnOk result (IsBehind told text.new (R.tells reader.new)) }
-    ensures spends { (first : Option (List ℕ)) → HasSpent first text.old (R.tells reader.old)
-        → OnOk result (HasSpent first text.new (R.tells reader.new)) }
-    ensures asks { R.asked reader.new + text.new.lines.reads
-        ≡ R.asked reader.old + text.old.lines.reads }
-    ensures quiet { result ≢ Err EngineFail.ReadFault
-        → R.failures reader.new ≡ R.failures reader.old }
-    ensures read_fault { IsErrOf result EngineFail.ReadFault
-        → FailsBehind text.old (R.tells reader.old)
-        (R.failures reader.old) (R.failures reader.new) (R.asked reader.old) (R.asked reader.new) }
-    ensures write_fault { result ≢ Err EngineFail.WriteFault }
-{
-    for _section in ahead.len()..wanted {
-        let buffer = buffer_of(text.alloc, buffers);
-        read_more(reader, text, ahead, buffer)?;
-    }
-    Ok(())
-}
-
 /// How much is read before the first section is judged: as long as it is fewer sections and fewer bytes than these.
 #[derive(Clone, Copy)]
 pub struct Room {

@@ -183,14 +183,14 @@ impl Workers {
     {
         'judged: while let Some(running) = first(&mut self.running) {
             match take(rt, &mut self.tally, running)? {
-                Ok(job) => let_go(rt, job),
+                Ok(job) => drop(job),
                 Err(verdict) => return Ok(Some(verdict)),
             }
         }
         Ok(None)
     }
 
-    /// Waits for the sections that are judged still, whatever is found.
+    /// Waits for the sections that are judged still, whatever is found. No one waits until what the lines say is let go.
     pub fn stop<H: Threads>(self, rt: &H) {
         let Workers { head, running, .. } = self;
         for running in running {

@@ -1,10 +1,17 @@
 -- Line 2, read in a thread of its own.
-use Rattle.std.specs.Prelude.{◌≡◌, ℕ, Bool, List, IfOk, IfSome}
+use Rattle.std.specs.Prelude.{◌≡◌, ℕ, Bool, List, Option, Some, None, Result, Ok, Err}
+use Rattle.sgt_names.specs.declared.outcome.EngineFail.{EngineFail}
+use Rattle.sgt_names.specs.declared.outcome.EngineFail.TheVariants.{Memory}
 use Rattle.sgt_cert.specs.Text.{IsCertificate, certificate_text}
+use Rattle.sgt_cert.specs.declared.certificate.Decision.{Decision}
+use Rattle.sgt_audit.specs.Faults.{Breaks, KeepsItself}
+use Rattle.sgt_audit.specs.declared.faults.Fault.{Fault}
+use Rattle.sgt_audit_workers.specs.Head.{IsHeadOf}
+use Rattle.sgt_audit_workers.specs.declared.judging.Found.{Found}
+use Rattle.sgt_audit_workers.specs.declared.judging.Found.TheVariants as found
 use Rattle.sgt_audit_workers.specs.declared.judging.Judging.{Judging}
 use Rattle.sgt_audit_workers.specs.declared.judging.Underway.{Underway}
 use Rattle.sgt_audit_workers.specs.declared.judging.Underway.TheVariants.{There, Here}
-use Rattle.sgt_audit_workers.specs.declared.judging.Reading.{Reading}
 use Rattle.sgt_audit_workers.specs.declared.rules.Once.{Once}
 
 -- the line is that of this certificate
@@ -13,17 +20,24 @@ pub record IsOnceOf (line : List ℕ) (once : Once) : Type 0 where
   pub line : line ≡ certificate_text once.certificate
   pub sites : once.sites ≡ once.certificate.sites
 
--- the line, and a certificate whose line it is, if one was found
-pub record IsReadFrom (line : List ℕ) (reading : Reading) : Type 0 where
-  pub line : reading.line.items ≡ line
-  pub found : IfOk reading.found (λ found. IfSome found (IsOnceOf line))
+-- the least rule that the decisions do not keep, or there is none
+abbrev pub IsLeast : List Decision → Option Fault → Type 0
+IsLeast decisions None = (f : Fault) → KeepsItself decisions f
+IsLeast decisions (Some f) = Breaks (KeepsItself decisions) f
 
--- what comes back is read from the line
-abbrev pub WillBeRead : (line : List ℕ) → Underway → Type 0
-WillBeRead line (There handle) = handle.promise.line.value.items ≡ line
-WillBeRead line (Here reading) = IsReadFrom line reading
+-- the second line is this, behind a first line of this format
+abbrev pub IsFoundOf : (second : Bool) → (line : List ℕ) → Result Found EngineFail → Type 0
+IsFoundOf second line (Ok (found.Once once)) = IsOnceOf line once
+IsFoundOf second line (Ok (found.Judged judged)) = IsHeadOf second line (Ok judged)
+IsFoundOf second line (Err e) = e ≡ Memory
+
+-- what comes back is what the line is
+abbrev pub WillFind : (second : Bool) → (line : List ℕ) → Underway → Type 0
+WillFind second line (There handle) =
+    (handle.promise.second ≡ second) × (handle.promise.line.value.items ≡ line)
+WillFind second line (Here reading) = IsFoundOf second line reading.found
 
 -- what comes back says what the line does
 pub record WillSay (second : Bool) (line : List ℕ) (judging : Judging) : Type 0 where
   pub second : judging.second ≡ second
-  pub reading : WillBeRead line judging.reading
+  pub reading : WillFind second line judging.reading

@@ -35,15 +35,15 @@ loop-site-preserved g c =
           let later = c.in_ok-section.ensures.behind told now.3 in (
             first.0,
             rw c.in-Ok.is at (c.in_ok-free.ensures.goes told now.0 first.0 now.1 first.1),
-            c.in_ok-read_up_to.ensures.ahead told first.0 later first.2,
-            c.in_ok-read_up_to.ensures.behind told later,
+            c.in_ok-read_on-in-Ok.ensures.ahead told first.0 later first.2,
+            c.in_ok-read_on-in-Ok.ensures.behind told later,
           );
       works = rw c.in-Ok.is at (c.in_ok-free.ensures.goes None None None inv.works (next-none c.in_ok-section.section));
       counted = omega (arith, rw c.in-Ok.is at c.in_ok-free.ensures.given, inv.counted);
       same = record { head = c.in_ok-free.ensures.same.head ∙ inv.same.head; count = c.in_ok-free.ensures.same.count ∙ inv.same.count };
-      spends = λ first spent. c.in_ok-read_up_to.ensures.spends first (c.in_ok-section.ensures.spends first (inv.spends first spent));
-      asks = omega (arith, c.in_ok-read_up_to.ensures.asks, c.in_ok-section.ensures.asks, inv.asks);
-      quiet = c.in_ok-read_up_to.ensures.quiet (λ same. cc) ∙ c.in_ok-section.ensures.quiet (λ same. cc) ∙ inv.quiet;
+      spends = λ first spent. c.in_ok-read_on-in-Ok.ensures.spends first (c.in_ok-section.ensures.spends first (inv.spends first spent));
+      asks = omega (arith, c.in_ok-read_on-in-Ok.ensures.asks, c.in_ok-section.ensures.asks, inv.asks);
+      quiet = c.in_ok-read_on-in-Ok.ensures.quiet (λ same. cc) ∙ c.in_ok-section.ensures.quiet (λ same. cc) ∙ inv.quiet;
     }
 
 pub returns-in-Err-clause-verdict : goal.returns-in-Err-clause-verdict
@@ -58,11 +58,11 @@ returns-in_err-section-clause-read_fault g c same =
     let inv = c.loop-site.invariant in
     fails-from c.args.text.now c.loop-site.text _ _ _ _ _ _ _ _ (c.take_section.ensures.read_fault was) inv.spends inv.asks inv.quiet
 
-pub returns-in_err-read_up_to-clause-read_fault : goal.returns-in_err-read_up_to-clause-read_fault
-returns-in_err-read_up_to-clause-read_fault g c same =
-    let was : IsErrOf c.read_up_to.result ReadFault = search rules in
+pub returns-in_err-read_on-in-Ok-clause-read_fault : goal.returns-in_err-read_on-in-Ok-clause-read_fault
+returns-in_err-read_on-in-Ok-clause-read_fault g c same =
+    let was : IsErrOf c.read_on.result ReadFault = search rules in
     let inv = c.loop-site.invariant in
-    fails-from c.args.text.now c.take_section.new.text _ _ _ _ _ _ _ _ (c.read_up_to.ensures.read_fault was)
+    fails-from c.args.text.now c.take_section.new.text _ _ _ _ _ _ _ _ (c.read_on.ensures.read_fault was)
     (λ first spent. c.in_ok-section.ensures.spends first (inv.spends first spent))
     (omega (arith, c.in_ok-section.ensures.asks, inv.asks))
     (c.in_ok-section.ensures.quiet (λ same. cc) ∙ inv.quiet)

@@ -10,7 +10,7 @@ invariant-loop-site g l = record {
       → IsBehind told l.fn.text (g.R.Source.tells l.fn.reader)
       → (now : Option (List ℕ)) × Works told now l.workers × AreAhead told now l.ahead.items (coming l.text.lines (g.R.Source.tells l.reader)) × IsBehind told l.text (g.R.Source.tells l.reader);
   works : Works None None l.workers;
-  counted : given l.workers ≡ l.site;
+  counted : given l.workers ≡ l._site;
   same : SameWorkers l.fn.workers l.workers;
   spends : (first : Option (List ℕ)) → HasSpent first l.fn.text (g.R.Source.tells l.fn.reader) → HasSpent first l.text (g.R.Source.tells l.reader);
   asks : g.R.Source.asked l.reader + l.text.lines.reads ≡ g.R.Source.asked l.fn.reader + l.fn.text.lines.reads;
