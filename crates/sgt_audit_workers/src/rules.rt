@@ -49,23 +49,23 @@ fn fault_of<H: Threads>(
     Ok(None)
 }
 
-/// The steps of the walks, by their sites. Meanwhile the line is let go.
-fn steps_of(alloc: Global, certificate: &Decided, line: Vec<u8>) -> Result<Steps, AllocError>
+/// The steps of the walks, by their sites. Then the bytes are let go, while other threads judge the rules.
+fn steps_of(alloc: Global, certificate: &Decided, bytes: Vec<u8>) -> Result<Steps, AllocError>
     ensures { IfOk result
         (λ steps. IsCertificate certificate.now → AreStepsOf certificate.now.decisions steps) }
 {
     let steps = certificate.steps(alloc);
-    drop(line);
+    drop(bytes);
     steps
 }
 
-/// What the first two lines say, with this certificate in the second of them, which is let go; or its fault.
+/// What the first two lines say, with this certificate in the second of them; or its fault. The second's bytes are let go.
 pub fn judge_once<H: Threads + Sync>(
     rt: &H,
     alloc: Global,
     second: bool,
     once: Once,
-    line: Vec<u8>,
+    bytes: Vec<u8>,
 ) -> Result<Result<Head, Fault>, EngineFail>
     ensures { (line : List ℕ) → IsOnceOf line once → IsHeadOf second line result }
 {
@@ -77,7 +77,7 @@ pub fn judge_once<H: Threads + Sync>(
     let of_steps = move || -> Result<Steps, AllocError>
         ensures { IfOk result (λ steps. IsCertificate lent.entry.now
             → AreStepsOf lent.entry.now.decisions steps) }
-    { steps_of(alloc, lent, line) };
+    { steps_of(alloc, lent, bytes) };
     let (fault, steps) = thread::join(rt, of_fault, of_steps);
     if let Some(fault) = fault? {
         return Ok(Err(fault));
