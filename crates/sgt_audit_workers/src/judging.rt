@@ -71,13 +71,24 @@ fn once_of(alloc: Global, line: &[u8]) -> Result<Option<Once>, AllocError>
     }
 }
 
-/// What the line is found to be. One with a fault is read once more, and judged rule after rule, for the least of its faults.
+/// What the line is found to be by all rules, judged one after another.
+fn judged_of(alloc: Global, second: bool, line: &[u8]) -> Result<Found, EngineFail>
+    ensures { IsFoundOf second line.now result }
+{
+    match head_of(alloc, second, line) {
+        Ok(judged) => Ok(Found::Judged(judged)),
+        Err(e) => Err(e),
+    }
+}
+
+/// What the line is found to be. One of no certificate, or where a transaction is decided twice, is read once more, for the least of
+/// its faults.
 fn find(alloc: Global, second: bool, line: &[u8]) -> Result<Found, EngineFail>
     ensures { IsFoundOf second line.now result }
 {
     match once_of(alloc, line) {
         Ok(Some(once)) => Ok(Found::Once(once)),
-        Ok(None) => Ok(Found::Judged(head_of(alloc, second, line)?)),
+        Ok(None) => judged_of(alloc, second, line),
         Err(_) => Err(EngineFail::Memory),
     }
 }
