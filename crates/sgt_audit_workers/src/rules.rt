@@ -32,10 +32,10 @@ fn fault_of<H: Threads>(
     ensures { IfOk result (IsLeast certificate.now.decisions) }
 {
     let decisions = certificate.decisions();
-    let of_ranks = || -> Result<bool, AllocError>
+    let of_ranks = move || -> Result<bool, AllocError>
         ensures { IfOk result (λ are. IsTrue are ↔ KeepsItself decisions.entry.now fault.Ranks) }
     { are_ranks(alloc, decisions) };
-    let of_walks = || -> Result<bool, AllocError>
+    let of_walks = move || -> Result<bool, AllocError>
         ensures { IfOk result
             (λ are. IsTrue are ↔ KeepsItself certificate.entry.now.decisions fault.WalkShape) }
     { are_cycles(alloc, certificate) };
@@ -71,7 +71,7 @@ pub fn judge_once<H: Threads + Sync>(
 {
     let Once { sites, certificate } = once;
     let lent = &certificate;
-    let of_fault = || -> Result<Option<Fault>, AllocError>
+    let of_fault = move || -> Result<Option<Fault>, AllocError>
         ensures { IfOk result (IsLeast lent.entry.now.decisions) }
     { fault_of(rt, alloc, lent) };
     let of_steps = move || -> Result<Steps, AllocError>

@@ -15,9 +15,9 @@ use Rattle.sgt_audit_workers.specs.declared.judging.Underway.TheVariants.{There,
 use Rattle.sgt_audit_workers.specs.declared.rules.Once.{Once}
 
 -- the line is that of this certificate
-pub record IsOnceOf (line : List ℕ) (once : Once) : Type 0 where
+pub record IsOnceOf (bytes : List ℕ) (once : Once) : Type 0 where
   pub spelled : IsCertificate once.certificate
-  pub line : line ≡ certificate_text once.certificate
+  pub line : bytes ≡ certificate_text once.certificate
   pub sites : once.sites ≡ once.certificate.sites
 
 -- the least rule that the decisions do not keep, or there is none
@@ -39,5 +39,5 @@ WillFind second line (Here reading) = IsFoundOf second line reading.found
 
 -- what comes back says what the line does
 pub record WillSay (second : Bool) (line : List ℕ) (judging : Judging) : Type 0 where
-  pub second : judging.second ≡ second
+  pub format : judging.second ≡ second
   pub reading : WillFind second line judging.reading
