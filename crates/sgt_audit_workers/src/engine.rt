@@ -119,7 +119,7 @@ fn judge_each<H: Threads, R: Source>(
 }
 
 /// The verdict on all that the reader gives, with so many sections judged at once.
-fn judge_sections<H: Threads, R: Source>(
+fn judge_sections<H: Threads + Sync, R: Source>(
     rt: &H,
     alloc: Global,
     count: usize,

@@ -131,7 +131,7 @@ fn second_fault(next: Next) -> Option<Fault>
 }
 
 /// What the two lines say, once the second is judged; or its fault. Meanwhile sections are read, as long as there is room for them.
-fn read_beside<H: Threads, R: Source>(
+fn read_beside<H: Threads + Sync, R: Source>(
     rt: &H,
     room: Room,
     reader: &mut R,
@@ -161,7 +161,7 @@ fn read_beside<H: Threads, R: Source>(
     ensures write_fault { result ≢ Err EngineFail.WriteFault }
 {
     let ahead = read_ahead(reader, text, room);
-    let found = finish(rt, judging);
+    let found = finish(rt, text.alloc, judging);
     let ahead = ahead?;
     match found {
         Ok(Ok(head)) => Ok(Ok((head, ahead))),
@@ -174,7 +174,7 @@ fn read_beside<H: Threads, R: Source>(
 /// read twice its bytes: what the lines say, with those sections; or the verdict on the text, where its first fault is in one of the two.
 ///
 /// An Err is ReadFault, where a read failed or too many were needed, or Memory.
-pub fn read_head<H: Threads, R: Source>(
+pub fn read_head<H: Threads + Sync, R: Source>(
     rt: &H,
     count: usize,
     reader: &mut R,

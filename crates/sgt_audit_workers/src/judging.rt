@@ -1,16 +1,34 @@
-//! Line 2, judged in a thread of its own.
+//! Line 2, judged by threads.
 
-ghost use Rattle.std.specs.Prelude.{Bool, List, ℕ};
+ghost use Rattle.std.specs.Prelude.{Bool, List, ℕ, IfOk, IfSome};
 ghost use Rattle.sgt_audit_workers.specs.Head.{IsHeadOf};
-ghost use Rattle.sgt_audit_workers.specs.private.Judging.{WillSay};
+ghost use Rattle.sgt_audit_workers.specs.private.Judging.{IsFoundOf, IsOnceOf, WillFind, WillSay};
 
 use crate::head::{Head, head_of};
+use crate::rules::{Once, judge_once};
 use sgt_audit::Fault;
+use sgt_audit_decisions::Decided;
+use sgt_cert::{CertFault, from_line};
 use sgt_names::EngineFail;
-use std::alloc::Global;
+use std::alloc::{AllocError, Global};
 use std::snapshot::Snapshot;
 use std::thread;
 use std::thread::{Promise, PromisedHandle, Threads};
+
+/// What a line 2 is found to be: that of a certificate in which no transaction is decided twice, to be judged by the other rules; or
+/// what the first two lines say, or the fault, by all of them.
+#[derive(Drop)]
+pub enum Found {
+    Once(Once),
+    Judged(Result<Head, Fault>),
+}
+
+/// A line 2, once it is read.
+#[derive(Drop)]
+pub struct Reading {
+    line: Vec<u8>,
+    found: Result<Found, EngineFail>,
+}
 
 /// A line 2 that a thread was given, as clauses see it, and whether line 1 says the second format.
 #[derive(Drop)]
@@ -19,52 +37,120 @@ pub struct Given {
     line: Snapshot<Vec<u8>>,
 }
 
-impl Promise<Result<Result<Head, Fault>, EngineFail>> for Given {
-    ghost kept_by = { λ given found. IsHeadOf given.second given.line.value.items found };
+impl Promise<Reading> for Given {
+    ghost kept_by = { λ given reading. IsFoundOf given.second given.line.value.items reading.found };
 }
 
-/// A line 2 that a thread judges; or that was judged here, where no thread could be made.
+/// A line 2 that a thread reads; or that was read here, where no thread could be made.
 #[derive(Drop)]
-pub enum Judging {
-    There(PromisedHandle<Result<Result<Head, Fault>, EngineFail>, Given>),
-    Here(Result<Result<Head, Fault>, EngineFail>),
+pub enum Underway {
+    There(PromisedHandle<Reading, Given>),
+    Here(Reading),
 }
 
-/// What the first two lines say, by the second of them; or its fault.
-fn head_owning(
-    alloc: Global,
+/// A line 2 that is read, to be judged, and whether line 1 says the second format.
+#[derive(Drop)]
+pub struct Judging {
     second: bool,
-    line: Vec<u8>,
-) -> Result<Result<Head, Fault>, EngineFail>
-    ensures { IsHeadOf second line.items result }
-{
-    head_of(alloc, second, line.as_slice())
+    reading: Underway,
 }
 
-/// Has line 2 judged, in a thread of its own if one can be made.
-pub fn start<H: Threads>(rt: &H, alloc: Global, second: bool, line: Vec<u8>) -> Judging
-    ensures { WillSay second line.items result }
+/// The certificate whose line this is, if it is one in which no transaction is decided twice.
+fn once_of(alloc: Global, line: &[u8]) -> Result<Option<Once>, AllocError>
+    ensures { IfOk result (λ found. IfSome found (IsOnceOf line.now)) }
+{
+    let certificate = match from_line(alloc, line) {
+        Ok(certificate) => certificate,
+        Err(CertFault::Memory) => return Err(AllocError),
+        Err(_) => return Ok(None),
+    };
+    let sites = certificate.sites;
+    match Decided::new(alloc, certificate)? {
+        Some(certificate) => Ok(Some(Once { sites, certificate })),
+        None => Ok(None),
+    }
+}
+
+/// What the line is found to be by all rules, judged one after another.
+fn judged_of(alloc: Global, second: bool, line: &[u8]) -> Result<Found, EngineFail>
+    ensures { IsFoundOf second line.now result }
+{
+    match head_of(alloc, second, line) {
+        Ok(judged) => Ok(Found::Judged(judged)),
+        Err(e) => Err(e),
+    }
+}
+
+/// What the line is found to be. One of no certificate, or where a transaction is decided twice, is read once more, for the least of
+/// its faults.
+fn find(alloc: Global, second: bool, line: &[u8]) -> Result<Found, EngineFail>
+    ensures { IsFoundOf second line.now result }
+{
+    match once_of(alloc, line) {
+        Ok(Some(once)) => Ok(Found::Once(once)),
+        Ok(None) => judged_of(alloc, second, line),
+        Err(_) => Err(EngineFail::Memory),
+    }
+}
+
+/// Reads the line.
+fn read(alloc: Global, second: bool, line: Vec<u8>) -> Reading
+    ensures { IsFoundOf second line.items result.found }
+{
+    let found = find(alloc, second, line.as_slice());
+    Reading { line, found }
+}
+
+/// Has the line read, in a thread of its own if one can be made.
+fn start_reading<H: Threads>(rt: &H, alloc: Global, second: bool, line: Vec<u8>) -> Underway
+    ensures { WillFind second line.items result }
 {
     let given = Given {
         second,
         line: Snapshot::of(&line),
     };
-    let judge = move || -> Result<Result<Head, Fault>, EngineFail>
-        ensures { IsHeadOf second line.items result }
-    { head_owning(alloc, second, line) };
-    match thread::spawn_with(rt, given, judge) {
-        Ok(handle) => Judging::There(handle),
-        Err(refused) => Judging::Here((refused.value)()),
+    let read_there = move || -> Reading
+        ensures { IsFoundOf second line.items result.found }
+    { read(alloc, second, line) };
+    match thread::spawn_with(rt, given, read_there) {
+        Ok(handle) => Underway::There(handle),
+        Err(refused) => Underway::Here((refused.value)()),
     }
 }
 
-/// Waits until line 2 is judged.
-pub fn finish<H: Threads>(rt: &H, judging: Judging) -> Result<Result<Head, Fault>, EngineFail>
+/// Has line 2 read, to be judged.
+pub fn start<H: Threads>(rt: &H, alloc: Global, second: bool, line: Vec<u8>) -> Judging
+    ensures { WillSay second line.items result }
+{
+    let reading = start_reading(rt, alloc, second, line);
+    Judging { second, reading }
+}
+
+/// Waits until the line is read.
+fn wait<H: Threads>(rt: &H, reading: Underway) -> Reading
+    ensures { (second : Bool) (line : List ℕ) → WillFind second line reading
+        → IsFoundOf second line result.found }
+{
+    match reading {
+        Underway::There(handle) => handle.join(rt),
+        Underway::Here(reading) => reading,
+    }
+}
+
+/// Waits until line 2 is read, and judges its certificate: what the first two lines say, by the second of them; or its fault.
+pub fn finish<H: Threads + Sync>(
+    rt: &H,
+    alloc: Global,
+    judging: Judging,
+) -> Result<Result<Head, Fault>, EngineFail>
     ensures { (second : Bool) (line : List ℕ) → WillSay second line judging
         → IsHeadOf second line result }
 {
-    match judging {
-        Judging::There(handle) => handle.join(rt),
-        Judging::Here(found) => found,
+    let Judging { second, reading } = judging;
+    let Reading { line, found } = wait(rt, reading);
+    match found {
+        Ok(Found::Once(once)) => judge_once(rt, alloc, second, once, line),
+        Ok(Found::Judged(judged)) => Ok(judged),
+        Err(e) => Err(e),
     }
 }

@@ -6,6 +6,8 @@ mod engine;
 mod head;
 mod job;
 mod judging;
+mod release;
+mod rules;
 mod running;
 mod sections;
 mod tally;

@@ -15,6 +15,7 @@ ghost use Rattle.sgt_audit_workers.specs.private.Working.{Ends, GoesOn, SameWork
 
 use crate::head::Head;
 use crate::job::Job;
+use crate::release::let_go;
 use crate::running::{Running, finish, start};
 use crate::sections::Section;
 use crate::tally::Tally;
@@ -189,10 +190,12 @@ impl Workers {
         Ok(None)
     }
 
-    /// Waits for the sections that are judged still, whatever is found.
+    /// Waits for the sections that are judged still, whatever is found. No one waits until what the lines say is let go.
     pub fn stop<H: Threads>(self, rt: &H) {
-        for running in self.running {
+        let Workers { head, running, .. } = self;
+        for running in running {
             finish(rt, running);
         }
+        let_go(rt, head);
     }
 }
