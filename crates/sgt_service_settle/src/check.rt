@@ -8,8 +8,7 @@ ghost use Rattle.sgt_service_settle.specs.Fault.{IsUnsettled};
 
 use crate::counts::has_first_counts;
 use crate::index::index_of;
-use crate::joined::no_marks;
-use crate::sites::{first_beyond, first_unfit};
+use crate::sites::{first_beyond, first_unfit, no_tables};
 use crate::tickets::check_tickets;
 use crate::versions::first_uncounted;
 use sgt_certifier::Certifier;
@@ -49,8 +48,8 @@ fn first_differing(
         return Ok(Some(first));
     }
     let index = index_of(alloc, certifier, sites.len())?;
-    let mut marks = no_marks(alloc, index.commits.len())?;
-    let unfit = first_unfit(alloc, &index, &mut marks, sites, counts)?;
+    let mut tables = no_tables(alloc, index.commits.len())?;
+    let unfit = first_unfit(alloc, &index, &mut tables, sites, counts)?;
     if let Some(site) = unfit {
         return Ok(Some(site));
     }
