@@ -1,23 +1,23 @@
 -- The reads of an item in two parts: the list, and the map of those that came behind one of a greater transaction.
-use Rattle.std.proofs.Common.{◌≡◌, ℕ, zero, suc, List, [], ◌∷◌, ◌++◌, length, get_or, Option, Some, None, Result, Ok, Err, cond, is_ok, refl, sym, ap, ◌∙◌, subst, inl, inr, ◌⊎◌, Contains}
-use Rattle.std.specs.Prelude.{slice_get, map, ◌↔◌, ◌==◌}
+use Rattle.std.proofs.Common.{◌≡◌, ℕ, zero, suc, List, [], ◌∷◌, Option, Some, None, Result, Ok, Err, cond, is_ok, refl, sym, ap, ◌∙◌, subst, inl, inr, ◌⊎◌, Contains}
+use Rattle.std.specs.Prelude.{slice_get, map, ◌↔◌, ◌==◌, OnOk}
 use Rattle.std.specs.BTreeMap.{BTreeMap, Updates, IsOrdered, get}
+use Rattle.std.specs.List.{insert}
 use Rattle.std.specs.Ordering.{nat_cmp}
-use Rattle.std.specs.declared.cmp.Ordering.TheVariants.{Less}
 use Rattle.std.proofs.lemmas.Bool.{cases_Bool, eqb-true, eqb-false}
 use Rattle.std.proofs.lemmas.Cmp.{nat_cmp_total}
-use Rattle.std.proofs.lemmas.List.Elements.{Contains-append_cases, Contains-append_left, Contains-append_right, Contains-push}
-use Rattle.std.proofs.lemmas.List.Quantifiers.{all_pairs_push}
+use Rattle.std.proofs.lemmas.List.Elements.{Contains-append_cases, Contains-append_left, Contains-append_right}
 use Rattle.std.proofs.lemmas.Map.Lookups.{exact_unsigned}
 use Rattle.std.proofs.lemmas.Map.Views.{btree_map_get_iff}
-use Rattle.std.proofs.lemmas.Option.{same_Some, slice_get-get_or}
+use Rattle.std.proofs.lemmas.Option.{same_Some}
 use Rattle.sgt_names.proofs.Places.{Contains_at, Contains-from_at}
+use Rattle.sgt_names.proofs.Ranged.{rising-insert}
+use Rattle.sgt_names.specs.Ordered.{IsGapFor}
 use Rattle.sgt_names.specs.declared.draft.Seen.{Seen}
 use Rattle.sgt_site.specs.declared.readings.Reading.{Reading}
 use Rattle.sgt_site.specs.private.Cells.{IsAnswering, ReadsAlso}
 use Rattle.sgt_site.specs.private.Readings.{late_reading, all_readings, AreParted}
-use Rattle.sgt_site.specs.private.Tails.{IsBelow}
-use Rattle.sgt_site.proofs.Basics.{is_single}
+use Rattle.sgt_site.proofs.Inserts.{Contains-insert}
 use Rattle.sgt_site.proofs.PendingReads.{apart}
 
 -- ---- what stands in the map
@@ -93,43 +93,47 @@ module _ (front : List Reading) (late : BTreeMap ℕ Seen) (parted : AreParted f
               ((late_iff late parted.ordered (record { tx = tx; seen = s })).1 is),
         ))
 
-    -- at the end of the list
-    pub parted-push : IsBelow (λ m. m.tx) nat_cmp front tx (length front) → AreParted (front ++ made ∷ []) late
-    parted-push below = record {
-      rising = all_pairs_push (λ a b. nat_cmp a.tx b.tx ≡ Less) front made parted.rising
-          (λ k d within. below k (get_or front k d) within (slice_get-get_or front k d within));
+    -- at its place in the list
+    pub parted-insert : (n : ℕ) → IsGapFor (λ m. m.tx) nat_cmp front tx n → AreParted (insert front n made) late
+    parted-insert n gap = record {
+      rising = rising-insert (λ (m : Reading). m.tx) nat_cmp nat_cmp_total front n made gap parted.rising;
       ordered = parted.ordered;
-      apart = λ t has. elim (Contains-append_cases front (made ∷ []) (record { tx = t; seen = has.0 }) has.1) [
-        | inl before ↦ parted.apart t (has.0, before)
-        | inr last ↦
-            let own : t ≡ tx = ap (λ (r : Reading). r.tx) (is_single made (record { tx = t; seen = has.0 }) last) in
+      apart = λ t has. elim ((Contains-insert front n made (record { tx = t; seen = has.0 })).0 has.1) [
+        | inl is ↦
+            let own : t ≡ tx = ap (λ (r : Reading). r.tx) is in
             subst (λ u. get nat_cmp late u ≡ None) (sym own) none_late
+        | inr before ↦ parted.apart t (has.0, before)
       ];
     }
 
     -- which may fail
-    pub parted-tried : {A E : Type 0} (r : Result A E) (new : List Reading) → new ≡ cond (is_ok r) (front ++ made ∷ []) front
-        → IsBelow (λ m. m.tx) nat_cmp front tx (length front) → AreParted new late
-    parted-tried (Ok a) new is below = subst (λ xs. AreParted xs late) (sym is) (parted-push below)
-    parted-tried (Err e) new is below = subst (λ xs. AreParted xs late) (sym is) parted
+    pub parted-tried : {A E : Type 0} (r : Result A E) (new : List Reading) (n : ℕ) → new ≡ cond (is_ok r) (insert front n made) front
+        → IsGapFor (λ m. m.tx) nat_cmp front tx n → AreParted new late
+    parted-tried (Ok a) new n is gap = subst (λ xs. AreParted xs late) (sym is) (parted-insert n gap)
+    parted-tried (Err e) new n is gap = subst (λ xs. AreParted xs late) (sym is) parted
 
-    pub also-push : ReadsAlso (all_readings front late) (all_readings (front ++ made ∷ []) late) made
-    also-push m = (
-      λ has. elim (Contains-append_cases (front ++ made ∷ []) (map late_reading late.entries) m has) [
-        | inl before ↦ elim (Contains-append_cases front (made ∷ []) m before) [
-          | inl old ↦ inr (Contains-append_left front (map late_reading late.entries) m old)
-          | inr last ↦ inl (is_single made m last)
+    pub also-insert : (n : ℕ) → ReadsAlso (all_readings front late) (all_readings (insert front n made) late) made
+    also-insert n m = (
+      λ has. elim (Contains-append_cases (insert front n made) (map late_reading late.entries) m has) [
+        | inl before ↦ elim ((Contains-insert front n made m).0 before) [
+          | inl is ↦ inl is
+          | inr old ↦ inr (Contains-append_left front (map late_reading late.entries) m old)
         ]
         | inr behind ↦ inr (Contains-append_right front (map late_reading late.entries) m behind)
       ],
       λ which. elim which [
-        | inl is ↦ Contains-append_left (front ++ made ∷ []) (map late_reading late.entries) m (subst (Contains (front ++ made ∷ [])) (sym is) (Contains-push front made))
+        | inl is ↦ Contains-append_left (insert front n made) (map late_reading late.entries) m ((Contains-insert front n made m).1 (inl is))
         | inr has ↦ elim (Contains-append_cases front (map late_reading late.entries) m has) [
-          | inl old ↦ Contains-append_left (front ++ made ∷ []) (map late_reading late.entries) m (Contains-append_left front (made ∷ []) m old)
-          | inr behind ↦ Contains-append_right (front ++ made ∷ []) (map late_reading late.entries) m behind
+          | inl old ↦ Contains-append_left (insert front n made) (map late_reading late.entries) m ((Contains-insert front n made m).1 (inr old))
+          | inr behind ↦ Contains-append_right (insert front n made) (map late_reading late.entries) m behind
         ]
       ],
     )
+
+    pub also-tried : {A E : Type 0} (r : Result A E) (new : List Reading) (n : ℕ) → new ≡ cond (is_ok r) (insert front n made) front
+        → OnOk r (ReadsAlso (all_readings front late) (all_readings new late) made)
+    also-tried (Ok a) new n is = subst (λ xs. ReadsAlso (all_readings front late) (all_readings xs late) made) (sym is) (also-insert n)
+    also-tried (Err e) new n is = tt
 
     -- in the map
     module _ (new : BTreeMap ℕ Seen) (ordered : IsOrdered nat_cmp new) (updates : Updates nat_cmp late new tx (Some seen)) where

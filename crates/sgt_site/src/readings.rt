@@ -1,6 +1,6 @@
 //! The reads of an item.
 
-ghost use Rattle.std.specs.Prelude.{◌≡◌, ◌<◌, ◌≤◌, ◌∷◌, ◌++◌, [], length, is_ok, if◌then◌else◌, IsTrue, IfOk, IfErr, OnOk, vec_len, vec_capacity};
+ghost use Rattle.std.specs.Prelude.{◌≡◌, ◌<◌, ◌≤◌, ◌∷◌, ◌++◌, [], length, is_ok, if◌then◌else◌, IsTrue, IfOk, IfErr, IfSome, OnOk, vec_len, vec_capacity};
 ghost use Rattle.std.specs.BTreeMap.{get};
 ghost use Rattle.std.specs.List.{insert as inserted};
 ghost use Rattle.std.specs.Ordering.{nat_cmp};
@@ -76,7 +76,7 @@ impl Short {
 pub(crate) struct Readings {
     // by rising transaction
     readings: Vec<Short>,
-    // those that came behind one of a greater transaction, so that no other is moved for them, and those that aren't short
+    // those that came behind many of greater transactions, so that not many are moved for them, and those that aren't short
     late: BTreeMap<Tx, Seen>,
 }
 
@@ -119,22 +119,32 @@ impl Readings {
         }
     }
 
-    /// Keeps the read of a transaction that has none yet. Where one of a greater transaction came before it, that is a search
-    /// of the reads that came so.
+    /// Keeps the read of a transaction that has none yet. Those of greater transactions that came before it are moved by a place,
+    /// if they are few, and else it is a search of the reads that came so late.
     pub(crate) fn add(&mut self, tx: Tx, seen: Seen) -> Result<(), AllocError>
         requires { IsAnswering self.old tx → ⊥ }
         ensures ok { OnOk result (ReadsAlso self.old self.new (record { tx = tx; seen = seen })) }
         ensures err { OnErr result (self.new ≡ self.old) }
     {
-        match Short::new(Reading { tx, seen }) {
-            Some(short) if are_below(self.readings.as_slice(), self.readings.len(), tx) => {
-                push(&mut self.readings, short)?;
-            }
-            _ => {
-                self.late.insert(tx, seen)?;
+        if let Some(short) = Short::new(Reading { tx, seen }) {
+            if let Some(at) = gap_near(self.readings.as_slice(), tx) {
+                return insert_in(&mut self.readings, at, short);
             }
         }
+        self.late.insert(tx, seen)?;
         Ok(())
+    }
+}
+
+// Where a read of the transaction goes, if it is near the end and there is none.
+#[inline(always)]
+fn gap_near(readings: &[Short], tx: Tx) -> Option<usize>
+    requires { IsRisingBy (λ m. m.tx) nat_cmp readings.now }
+    ensures { IfSome result (IsGapFor (λ m. m.tx) nat_cmp readings.now tx) }
+{
+    match search(readings, tx) {
+        Err(at) if readings.len() - at <= NEAR => Some(at),
+        _ => None,
     }
 }
 
@@ -156,7 +166,7 @@ fn get_late(late: &BTreeMap<Tx, Seen>, tx: Tx) -> Option<Seen>
     late.get(&tx).copied()
 }
 
-// How many of the last reads are looked at first.
+// How many of the last reads are looked at first, and how many are moved at most.
 const NEAR: usize = 8;
 
 // Where the transaction's read is, or where it would go. Transactions that read are mostly among the last.
@@ -241,17 +251,6 @@ pub(crate) fn make_place<T>(items: &mut Vec<T>) -> Result<(), AllocError>
     items.reserve(FIRST)
 }
 
-// Adds an element at the end.
-#[inline(always)]
-fn push<T: Drop>(items: &mut Vec<T>, item: T) -> Result<(), AllocError>
-    ensures items { items.new.items
-        ≡ (if is_ok result then items.old.items ++ item ∷ [] else items.old.items) }
-{
-    make_place(items)?;
-    items.push_reserved(item);
-    Ok(())
-}
-
 /// Inserts an element where there is room for it.
 pub(crate) fn insert<T: Drop>(items: &mut Vec<T>, at: usize, item: T)
     requires within { at ≤ vec_len items.old }
@@ -264,4 +263,16 @@ pub(crate) fn insert<T: Drop>(items: &mut Vec<T>, at: usize, item: T)
     } else {
         let _ = items.insert(at, item);
     }
+}
+
+// Inserts an element.
+#[inline(always)]
+fn insert_in<T: Drop>(items: &mut Vec<T>, at: usize, item: T) -> Result<(), AllocError>
+    requires { at ≤ vec_len items.old }
+    ensures items { items.new.items
+        ≡ (if is_ok result then inserted items.old.items at item else items.old.items) }
+{
+    make_place(items)?;
+    insert(items, at, item);
+    Ok(())
 }
