@@ -55,7 +55,7 @@ fn place_near(items: &[Holding], near: usize, item: Item) -> Option<usize>
 }
 
 // Where the item is at the site, if the site is there and has the item.
-#[tactic(auto, using(crate::proofs::Placing::place_there, crate::proofs::Placing::place_none))]
+#[tactic(auto, using(crate::proofs::Placing::place_there, crate::proofs::Placing::place_missing, crate::proofs::Placing::place_none))]
 fn find_place(sites: &[SiteLine], near: usize, site: SiteNo, item: Item) -> Option<usize>
     ensures some { IfSome result (λ at. HasPlace sites.now site item) }
     ensures none { IfNone result (HasPlace sites.now site item → ⊥) }

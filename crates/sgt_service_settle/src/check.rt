@@ -78,8 +78,9 @@ fn know_sites(sites: &[Site])
 /// - V9: a site, of a place or of an edge that was handed, isn't so; or another one stands at its place.
 /// - V10: a version at a site isn't so.
 ///
-/// Memory is linear in the history with its edges, in the logs and items of the sites and in the transactions. So is the time, but that
-/// the operations on an item are sorted, by transaction and by decision, and that each edge is looked up among them by binary search.
+/// Memory is linear in the history with its edges, in the logs and items of the sites and in the transactions. So is the time where
+/// transactions were decided in the order of their operations on each item, and all of them committed. Else the operations on an item
+/// are sorted, by decision and by transaction, and edges are looked up among them by binary search.
 /// At a site where an operation isn't joined to a neighbour on its item by an edge of its own, all edges are gone over, and each
 /// operation costs the site's log and the edges that it reaches.
 pub fn check_settled(
