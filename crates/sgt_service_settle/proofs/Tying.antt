@@ -1,5 +1,5 @@
 -- The edges at a site by their items, and those that are conflicts of its log.
-use Rattle.std.proofs.Common.{◌≡◌, ◌↔◌, ◌⊎◌, ◌+◌, ℕ, List, [], ◌∷◌, ◌++◌, Bool, true, false, Option, None, Some, Result, Ok, Err, IfOk, MatchOption, take, length, sym, subst, inl, inr, Contains, Vec}
+use Rattle.std.proofs.Common.{◌≡◌, ◌↔◌, ◌⊎◌, ◌+◌, ℕ, List, [], ◌∷◌, ◌++◌, Bool, false, Option, None, Some, Result, Ok, Err, IfOk, MatchOption, take, length, sym, subst, inl, inr, Contains, Vec}
 use Rattle.std.specs.Prelude.{slice_get, IsTrue}
 use Rattle.std.specs.declared.alloc.Global.{Global}
 use Rattle.std.proofs.lemmas.Bool.{cases_Bool}
@@ -11,7 +11,7 @@ use Rattle.sgt_certifier.proofs.Members.{nil_none}
 use Rattle.sgt_service_settle.specs.declared.handed.Handed.{Handed}
 use Rattle.sgt_service_settle.specs.declared.index.Index.{Index}
 use Rattle.sgt_service_settle.specs.declared.link.Link.{Link}
-use Rattle.sgt_service_settle.specs.private.Words.{At, Pushed}
+use Rattle.sgt_service_settle.specs.private.Words.{Pushed}
 use Rattle.sgt_service_settle.specs.private.Index.{IsLinkOf, IsLoggedBy}
 use Rattle.sgt_service_settle.specs.private.Sites.{AreLogged}
 use Rattle.sgt_service_settle.specs.private.Places.{IsShown, AreShown, IsTied, IsAdded, IsTieAdded, AreTied}

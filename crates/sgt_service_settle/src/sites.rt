@@ -96,11 +96,7 @@ fn unshown<'a>(shown: bool, edges: &'a [Handed], ties: &'a Ties) -> &'a [Handed]
     ensures yes { IsTrue shown → result.now ≡ ties.now.others.items }
     ensures no { shown ≡ false → result.now ≡ edges.now }
 {
-    if shown {
-        ties.others.as_slice()
-    } else {
-        edges
-    }
+    if shown { ties.others.as_slice() } else { edges }
 }
 
 // Whether the log of the site has the counted entries, and its conflicts are those that the decisions were handed.

@@ -1,4 +1,4 @@
-use Rattle.std.proofs.Common.{sym, subst, Contains}
+use Rattle.std.proofs.Common.{subst, Contains}
 use Rattle.std.specs.List.Sorted.{IsPermutation}
 use Rattle.std.proofs.lemmas.Result.{IfOk-weaker}
 use Rattle.std.proofs.lemmas.List.Sorted.{Contains-permutation, IsPermutation-sym}

@@ -1,6 +1,5 @@
-use Rattle.std.proofs.Common.{◌≡◌, ◌∙◌, ap, refl, sym, subst, length}
+use Rattle.std.proofs.Common.{◌∙◌, ap, refl, sym, subst, length}
 use Rattle.std.proofs.lemmas.Bool.{true≢false}
-use Rattle.sgt_service_settle.specs.declared.deeds.Track.{Track as ATrack}
 use Rattle.sgt_service_settle.specs.private.Deeds.{AreTracks}
 use Rattle.sgt_service_settle.specs.private.Joined.{AreSound, AreTracksCarried}
 use Rattle.sgt_service_settle.specs.private.Places.{AreShown}
@@ -23,7 +22,7 @@ returns-then-not-told-clause-ok c =
     let ties = c.in_ok-ties.ties in
     let told = rw c.as_slice-2.ensures.value at c.in_ok-told.ensures in
     let left = left_logged c.args.index.now c.args.site log ties.rows.items ties.others.items c.edges_at.result.now c.unshown-edges.result.now c.are_shown-shown.result c.in_ok-ties.ensures.tied (λ yes. subst (AreShown log) c.as_slice-rows.ensures.value (c.are_shown-shown.ensures yes))
-        c.edges_at.ensures c.unshown-edges.ensures.yes c.unshown-edges.ensures.no in
+    c.edges_at.ensures c.unshown-edges.ensures.yes c.unshown-edges.ensures.no in
     (λ yes. absurd (true≢false (sym yes)), λ fit. absurd (true≢false (sym (told.1 (left.1 fit.edges)) ∙ c.if-not-told.true)))
 
 pub returns-then-joined-clause-ok : goal.returns-then-joined-clause-ok
@@ -35,7 +34,7 @@ returns-then-joined-clause-ok c =
     let tracks = c.in_ok-tracks.tracks.items in
     let told = rw c.as_slice-2.ensures.value at c.in_ok-told.ensures in
     let left = left_logged index c.args.site log ties.rows.items ties.others.items c.edges_at.result.now c.unshown-edges.result.now c.are_shown-shown.result c.in_ok-ties.ensures.tied (λ yes. subst (AreShown log) c.as_slice-rows.ensures.value (c.are_shown-shown.ensures yes))
-        c.edges_at.ensures c.unshown-edges.ensures.yes c.unshown-edges.ensures.no in
+    c.edges_at.ensures c.unshown-edges.ensures.yes c.unshown-edges.ensures.no in
     let are : AreTracks index.commits.items items log (length log) tracks = subst (λ cs. AreTracks cs items log (length log) tracks) c.as_slice.ensures.value c.in_ok-tracks.ensures.tracks in
     let carried : AreTracksCarried c.as_slice-rows.result.now c.as_slice-deeds.result.now = c.in_ok-joined.ensures.carried c.if-joined.true in
     let by_rows : AreTracksCarried ties.rows.items c.as_slice-deeds.result.now = subst (λ rs. AreTracksCarried rs c.as_slice-deeds.result.now) c.as_slice-rows.ensures.value carried in
@@ -54,7 +53,7 @@ returns-clause-ok c =
     let ties = c.in_ok-ties.ties in
     let told = rw c.as_slice-2.ensures.value at c.in_ok-told.ensures in
     let left = left_logged c.args.index.now c.args.site log ties.rows.items ties.others.items c.edges_at.result.now c.unshown-edges.result.now c.are_shown-shown.result c.in_ok-ties.ensures.tied (λ yes. subst (AreShown log) c.as_slice-rows.ensures.value (c.are_shown-shown.ensures yes))
-        c.edges_at.ensures c.unshown-edges.ensures.yes c.unshown-edges.ensures.no in (
+    c.edges_at.ensures c.unshown-edges.ensures.yes c.unshown-edges.ensures.no in (
       λ yes. record {
         counted = c.has_counts.ensures.0 c.if-not-has_counts.false;
         edges = left.0 (told.0 c.if-not-told.false);
