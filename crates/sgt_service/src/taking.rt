@@ -1,6 +1,6 @@
 //! One more line of an input.
 
-ghost use Rattle.std.specs.Prelude.{◌≡◌, ◌↔◌, Any, All, IsTrue, IfOk};
+ghost use Rattle.std.specs.Prelude.{◌≡◌, ◌↔◌, Any, All, IsTrue, IfOk, IfSome, IfNone};
 ghost use Rattle.sgt_service.specs.Input.{HasPlace, IsPlaced};
 ghost use Rattle.sgt_service.specs.private.Taking.{Takes, TakesScript};
 
@@ -16,60 +16,81 @@ fn is_named(held: &Holding, item: Item) -> bool
     held.item == item
 }
 
-fn is_below(held: &Holding, item: &Item) -> bool {
-    held.item.cmp(item) == Ordering::Less
-}
-
-// Whether the item is where it would stand among names that rise.
-fn is_in_place(items: &[Holding], item: Item) -> bool
+// Whether the item is at this place.
+fn is_at(items: &[Holding], at: usize, item: Item) -> bool
     ensures { IsTrue result → Any (λ h. h.item ≡ item) items.now }
 {
-    let place = items.partition_point(|held| is_below(held, &item));
-    match items.get(place) {
+    match items.get(at) {
         Some(held) => is_named(held, item),
         None => false,
     }
 }
 
-/// Whether the item is among these. A binary search for one that is there, since the names of a site rise.
-fn holds(items: &[Holding], item: Item) -> bool
-    ensures { IsTrue result ↔ Any (λ h. h.item ≡ item) items.now }
-{
-    is_in_place(items, item) || items.iter().any(|held| is_named(held, item))
+fn is_below(held: &Holding, item: &Item) -> bool {
+    held.item.cmp(item) == Ordering::Less
 }
 
-/// Whether the site is there, and has the item.
-#[tactic(auto, using(crate::proofs::Placing::place_there, crate::proofs::Placing::place_none))]
-fn has_place(sites: &[SiteLine], site: SiteNo, item: Item) -> bool
-    ensures { IsTrue result ↔ HasPlace sites.now site item }
+// Where the item is, if it is there: looked for behind this place and at it, then where it would stand among names that rise, as
+// those of a site do, and then everywhere.
+fn place_near(items: &[Holding], near: usize, item: Item) -> Option<usize>
+    ensures some { IfSome result (λ at. Any (λ h. h.item ≡ item) items.now) }
+    ensures none { IfNone result (Any (λ h. h.item ≡ item) items.now → ⊥) }
+{
+    let next = near.saturating_add(1);
+    if is_at(items, next, item) {
+        return Some(next);
+    }
+    if is_at(items, near, item) {
+        return Some(near);
+    }
+    let place = items.partition_point(|held| is_below(held, &item));
+    if is_at(items, place, item) {
+        return Some(place);
+    }
+    if items.iter().any(|held| is_named(held, item)) {
+        Some(near)
+    } else {
+        None
+    }
+}
+
+// Where the item is at the site, if the site is there and has the item.
+#[tactic(auto, using(crate::proofs::Placing::place_there, crate::proofs::Placing::place_missing, crate::proofs::Placing::place_none))]
+fn find_place(sites: &[SiteLine], near: usize, site: SiteNo, item: Item) -> Option<usize>
+    ensures some { IfSome result (λ at. HasPlace sites.now site item) }
+    ensures none { IfNone result (HasPlace sites.now site item → ⊥) }
 {
     match sites.get(site.number() as usize) {
-        Some(line) => holds(line.items.as_slice(), item),
-        None => false,
+        Some(line) => place_near(line.items.as_slice(), near, item),
+        None => None,
     }
 }
 
-/// Whether the operation is of an item that is there.
-fn is_placed(sites: &[SiteLine], op: &Op) -> bool
-    ensures { IsTrue result ↔ IsPlaced sites.now op.now }
+// Where the item of the operation is, if it is there.
+fn place_of(sites: &[SiteLine], near: usize, op: &Op) -> Option<usize>
+    ensures some { IfSome result (λ at. IsPlaced sites.now op.now) }
+    ensures none { IfNone result (IsPlaced sites.now op.now → ⊥) }
 {
     match *op {
-        Op::Read { site, item } => has_place(sites, site, item),
-        Op::Put { site, item, .. } => has_place(sites, site, item),
-        Op::Add { site, item, .. } => has_place(sites, site, item),
-        Op::Sum { site, item, .. } => has_place(sites, site, item),
+        Op::Read { site, item } => find_place(sites, near, site, item),
+        Op::Put { site, item, .. } => find_place(sites, near, site, item),
+        Op::Add { site, item, .. } => find_place(sites, near, site, item),
+        Op::Sum { site, item, .. } => find_place(sites, near, site, item),
     }
 }
 
-/// Whether each operation of the script is.
+/// Whether each operation of the script is of an item that is there. Each is looked for near the one before.
 fn are_placed(sites: &[SiteLine], script: &Script) -> bool
     ensures { IsTrue result ↔ All (IsPlaced sites.now) script.now.operations }
 {
-    script
-        .operations
-        .as_slice()
-        .iter()
-        .all(|op| is_placed(sites, op))
+    let mut near = 0;
+    for op in script.operations.as_slice() {
+        let Some(at) = place_of(sites, near, op) else {
+            return false;
+        };
+        near = at;
+    }
+    true
 }
 
 /// Keeps the script, if the line spells one over these sites, and there may be one more.

@@ -119,21 +119,13 @@ front_contains order n e has = let at = Contains_at (take n order) e has in Cont
 
 -- ---- edges
 
-item_links_next : (links : List Link) (site : ℕ) (items : List Holding) (rows new : List (Vec Link Global)) (at : ℕ) (l : Link) → Contains links l → l.label.site ≡ site → IsItemAt items l.label.item at → Pushed rows at l new → AreItemLinks links site items rows → AreItemLinks links site items new
+pub item_links_next : (links : List Link) (site : ℕ) (items : List Holding) (rows new : List (Vec Link Global)) (at : ℕ) (l : Link) → Contains links l → l.label.site ≡ site → IsItemAt items l.label.item at → Pushed rows at l new → AreItemLinks links site items rows → AreItemLinks links site items new
 item_links_next links site items rows new at l among is_site item pushed are k m other there =
     elim (at_pushed rows at l new pushed k m other there) [
       | inl old ↦ are k m other old
       | inr last ↦
           let is : l ≡ other = last.2 in
           (subst (Contains links) is among, ap (λ (x : Link). x.label.site) (sym is) ∙ is_site, subst (λ (x : Link). IsItemAt items x.label.item k) is (subst (IsItemAt items l.label.item) (sym last.0) item))
-    ]
-
--- an edge at the site was added, or its item isn't there
-pub item_links_added : (links : List Link) (site : ℕ) (items : List Holding) (rows new : List (Vec Link Global)) (l : Link) → Contains links l → l.label.site ≡ site → (new ≡ rows) ⊎ ((at : ℕ) × IsItemAt items l.label.item at × Pushed rows at l new) → AreItemLinks links site items rows → AreItemLinks links site items new
-item_links_added links site items rows new l among is_site which are =
-    elim which [
-      | inl same ↦ subst (AreItemLinks links site items) (sym same) are
-      | inr added ↦ item_links_next links site items rows new added.0 l among is_site added.1 added.2 are
     ]
 
 handed_by_links : (index : Index) (site : ℕ) (items : List Holding) (rows : List (Vec Link Global)) (row : Vec Link Global) (at : ℕ) (x : Name) (last a b : ℕ) → AreItemLinks index.links.items site items rows → slice_get rows at ≡ Some row → IsItemAt items x at

@@ -22,4 +22,5 @@ pub mod Alone
 pub mod Tracking
 pub mod Coursing
 pub mod Joining
+pub mod Tying
 pub mod Following

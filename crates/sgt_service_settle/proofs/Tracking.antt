@@ -1,10 +1,12 @@
 -- What was done to each item, with versions, as a walk over a log meets it.
-use Rattle.std.proofs.Common.{◌≡◌, ◌≢◌, ◌⊎◌, ℕ, ◌+◌, ◌<◌, ◌≤◌, List, [], ◌∷◌, ◌++◌, Option, Some, true, false, sym, refl, ap, ◌∙◌, subst, arith, inl, inr, Contains}
+use Rattle.std.proofs.Common.{◌≡◌, ◌≢◌, ◌⊎◌, ℕ, ◌+◌, ◌<◌, ◌≤◌, List, [], ◌∷◌, ◌++◌, Option, Some, suc, get_or, true, false, sym, refl, ap, ◌∙◌, subst, arith, inl, inr, Contains}
 use Rattle.std.specs.Prelude.{slice_get, slice_set}
 use Rattle.std.specs.Ordering.{nat_cmp}
 use Rattle.std.specs.Cmp.Lexicographic.{slice_cmp}
 use Rattle.std.proofs.lemmas.Bool.{cases_Bool, cases_eq, true≢false}
-use Rattle.std.proofs.lemmas.Option.{same_Some, slice_get_within}
+use Rattle.std.proofs.lemmas.Option.{same_Some, slice_get_within, slice_get-get_or}
+use Rattle.std.specs.List.Sorted.{IsNonDecreasingBy}
+use Rattle.std.proofs.lemmas.List.Sorted.{IsNonDecreasingBy-from_all_adjacent}
 use Rattle.sgt_names.specs.Name.{Name}
 use Rattle.sgt_names.specs.Ordered.{IsRisingBy}
 use Rattle.sgt_names.specs.Entry.{tx_of, item_of, is_increment, Reads, Writes, Clash}
@@ -193,3 +195,11 @@ tracks_skip commits items log n e tracks here none are = record {
     | inr last ↦ absurd (none m k x (ap item_of last.1 ∙ item_f) (subst (λ z. IsIn commits (tx_of z) m) (sym last.1) commit_f) place)
   ];
 }
+
+-- ---- the order of the decisions
+
+-- deeds whose numbers fall from none to the next fall nowhere
+pub in_order : (deeds : List Deed) → ((k : ℕ) (d e : Deed) → slice_get deeds k ≡ Some d → slice_get deeds (suc k) ≡ Some e → d.number ≤ e.number) → IsNonDecreasingBy (λ (d : Deed). d.number) deeds
+in_order deeds each = IsNonDecreasingBy-from_all_adjacent (λ (d : Deed). d.number) deeds
+    (λ k d low. subst (λ m. (get_or deeds k d).number ≤ (get_or deeds m d).number) (let e : suc k ≡ k + 1 = omega arith in e)
+    (each k (get_or deeds k d) (get_or deeds (suc k) d) (slice_get-get_or deeds k d (omega (arith, low))) (slice_get-get_or deeds (suc k) d (omega (arith, low)))))

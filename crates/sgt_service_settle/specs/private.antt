@@ -8,3 +8,4 @@ pub mod Sites
 pub mod Deeds
 pub mod Course
 pub mod Joined
+pub mod Places

@@ -8,8 +8,7 @@ ghost use Rattle.sgt_service_settle.specs.Fault.{IsUnsettled};
 
 use crate::counts::has_first_counts;
 use crate::index::index_of;
-use crate::joined::no_marks;
-use crate::sites::{first_beyond, first_unfit};
+use crate::sites::{first_beyond, first_unfit, no_tables};
 use crate::tickets::check_tickets;
 use crate::versions::first_uncounted;
 use sgt_certifier::Certifier;
@@ -49,8 +48,8 @@ fn first_differing(
         return Ok(Some(first));
     }
     let index = index_of(alloc, certifier, sites.len())?;
-    let mut marks = no_marks(alloc, index.commits.len())?;
-    let unfit = first_unfit(alloc, &index, &mut marks, sites, counts)?;
+    let mut tables = no_tables(alloc, index.commits.len())?;
+    let unfit = first_unfit(alloc, &index, &mut tables, sites, counts)?;
     if let Some(site) = unfit {
         return Ok(Some(site));
     }
@@ -79,8 +78,9 @@ fn know_sites(sites: &[Site])
 /// - V9: a site, of a place or of an edge that was handed, isn't so; or another one stands at its place.
 /// - V10: a version at a site isn't so.
 ///
-/// Memory is linear in the history with its edges, in the logs and items of the sites and in the transactions. So is the time, but that
-/// the operations on an item are sorted, by transaction and by decision, and that each edge is looked up among them by binary search.
+/// Memory is linear in the history with its edges, in the logs and items of the sites and in the transactions. So is the time where
+/// transactions were decided in the order of their operations on each item, and all of them committed. Else the operations on an item
+/// are sorted, by decision and by transaction, and edges are looked up among them by binary search.
 /// At a site where an operation isn't joined to a neighbour on its item by an edge of its own, all edges are gone over, and each
 /// operation costs the site's log and the edges that it reaches.
 pub fn check_settled(

@@ -11,6 +11,9 @@ use crate::rows::push_at;
 use sgt_names::Tx;
 use std::alloc::{AllocError, Global};
 
+// For how many reads of a version the first one makes room.
+const FIRST_READS: usize = 8;
+
 /// What was done to an item by the transactions that are decided.
 #[derive(Drop)]
 pub struct Course {
@@ -221,11 +224,22 @@ pub(crate) fn no_course(alloc: Global) -> Result<Course, AllocError>
     })
 }
 
+// Room for some reads, where there are none yet.
+fn make_room(reads: &mut Vec<Deed>) -> Result<(), AllocError>
+    ensures { OnOk result (reads.new.items ≡ reads.old.items) }
+{
+    if reads.is_empty() {
+        reads.reserve(FIRST_READS)?;
+    }
+    Ok(())
+}
+
 fn add_read(course: &mut Course, deed: &Deed) -> Result<(), AllocError>
     requires within { deed.now.version < length course.old.reads.items }
     ensures { OnOk result (IsReadAdded course.old deed.now course.new) }
 {
     let reads = &mut course.reads[deed.version];
+    make_room(reads)?;
     reads.push(*deed)?;
     if course.last_read < deed.version {
         course.last_read = deed.version;

@@ -1,6 +1,6 @@
 //! What committed transactions did to each item of a site, with the versions that they met.
 
-ghost use Rattle.std.specs.Prelude.{◌≡◌, ◌<◌, ◌≤◌, ◌+◌, ◌^◌, ◌++◌, ◌∷◌, [], ℕ, length, true, false, OnOk, IfOk};
+ghost use Rattle.std.specs.Prelude.{◌≡◌, ◌<◌, ◌≤◌, ◌+◌, ◌^◌, ◌++◌, ◌∷◌, [], ℕ, length, true, false, IsTrue, OnOk, IfOk};
 ghost use Rattle.std.specs.Ordering.{nat_cmp};
 ghost use Rattle.std.specs.Cmp.Lexicographic.{slice_cmp};
 ghost use Rattle.std.specs.List.Sorted.{IsNonDecreasingBy, IsPermutation};
@@ -99,6 +99,18 @@ pub(crate) fn tracks_of(
         }
     }
     Ok(tracks)
+}
+
+/// Whether the deeds stand in the order of their decisions.
+pub(crate) fn are_in_order(deeds: &[Deed]) -> bool
+    ensures { IsTrue result → IsNonDecreasingBy (λ (d : ADeed). d.number) deeds.now }
+{
+    for i in 1..deeds.len() {
+        if deeds[i].number < deeds[i - 1].number {
+            return false;
+        }
+    }
+    true
 }
 
 /// The deeds in the order of their decisions.

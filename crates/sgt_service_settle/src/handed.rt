@@ -47,11 +47,23 @@ fn add_handed(handed: &mut Vec<Handed>, call: &Call) -> Result<(), AllocError>
     }
 }
 
+// How many edges the decisions are handed.
+fn edges_in(history: &[Call]) -> usize {
+    let mut count = 0usize;
+    for call in history {
+        if let Call::Decide { edges, .. } = call {
+            count = count.saturating_add(edges.count());
+        }
+    }
+    count
+}
+
 /// The edges that the decisions of the history were handed, in their order.
 pub(crate) fn all_handed(alloc: Global, history: &[Call]) -> Result<Vec<Handed>, AllocError>
     ensures { IfOk result (λ handed. handed.items ≡ handed_in history.now) }
 {
     let mut handed = Vec::new(alloc);
+    handed.reserve(edges_in(history))?;
     for call in history {
         add_handed(&mut handed, call)?;
     }

@@ -72,6 +72,7 @@ fn links_of(
     ensures { IfOk result (λ links. AreLinks windows.now commits.now handed.now links.items) }
 {
     let mut links = Vec::new(alloc);
+    links.reserve(handed.len())?;
     for one in handed {
         if let Some(link) = link_of(windows, commits, one) {
             links.push(link)?;

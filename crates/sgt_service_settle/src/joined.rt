@@ -1,71 +1,17 @@
 //! Whether the conflicting operations on each item are joined by edges, as far as they are neighbours: those that a service hands its
 //! edges to. Then all conflicts are carried: to the others walks lead over neighbours.
 
-ghost use Rattle.std.specs.Prelude.{◌≡◌, ◌⊎◌, ◌≤◌, ◌<◌, ◌+◌, ℕ, length, IsTrue, IfOk, OnOk, Contains, slice_set};
-ghost use Rattle.std.specs.Ordering.{nat_cmp};
-ghost use Rattle.std.specs.Cmp.Lexicographic.{slice_cmp};
-ghost use Rattle.sgt_names.specs.Ordered.{IsRisingBy};
-ghost use Rattle.sgt_service_settle.specs.private.Words.{IsItemAt, Pushed};
-ghost use Rattle.sgt_service_settle.specs.private.Acts.{AreKnown};
+ghost use Rattle.std.specs.Prelude.{◌≡◌, ◌⊎◌, ◌≤◌, ◌+◌, length, IsTrue, IfOk, Contains, slice_set};
+ghost use Rattle.std.specs.List.Sorted.{IsNonDecreasingBy};
 ghost use Rattle.sgt_service_settle.specs.private.Deeds.{IsSound};
-ghost use Rattle.sgt_service_settle.specs.private.Index.{IsPaired, AreCarried};
-ghost use Rattle.sgt_service_settle.specs.private.Joined.{AreUnder, AreItemLinks, AreDeedsCarried};
+ghost use Rattle.sgt_service_settle.specs.private.Joined.{AreUnder, AreDeedsCarried, AreSound, AreTracksCarried};
 ghost use Rattle.sgt_service_settle.specs.declared.deeds.Deed.{Deed as ADeed};
 
-use crate::acts::place_near;
 use crate::course::{Course, Marks, add, fits, follows, no_course};
-use crate::deeds::{Deed, by_number, tracks_of};
-use crate::index::{Index, edges_at, link_of};
+use crate::deeds::{Deed, Track, are_in_order, by_number};
 use crate::link::Link;
-use crate::rows::{no_rows, push_at, share};
-use sgt_names::{Entry, Holding, SiteNo, Tx};
+use sgt_names::Tx;
 use std::alloc::{AllocError, Global};
-
-// Those of the edges at a site that are between committed transactions, at the place of their item.
-fn links_at(
-    alloc: Global,
-    index: &Index,
-    site: SiteNo,
-    items: &[Holding],
-) -> Result<Vec<Vec<Link>>, AllocError>
-    requires paired { IsPaired index.now }
-    requires there { site < length index.now.sited.items }
-    requires rising { IsRisingBy (λ h. h.item) (slice_cmp nat_cmp) items.now }
-    ensures long { IfOk result (λ rows. length rows.items ≡ length items.now) }
-    ensures links { IfOk result
-        (λ rows. AreItemLinks index.now.links.items site items.now rows.items) }
-{
-    let windows = index.windows.as_slice();
-    let commits = index.commits.as_slice();
-    let edges = edges_at(index, site);
-    let mut rows = no_rows(alloc, items.len(), share(edges.len(), items.len()))?;
-    let mut near = 0;
-    for one in edges {
-        if let Some(link) = link_of(windows, commits, one) {
-            near = add_link(rows.as_mut_slice(), items, near, &link)?;
-        }
-    }
-    Ok(rows)
-}
-
-// Adds the edge at the place of its item, if that is there, and answers that place.
-fn add_link(
-    rows: &mut [Vec<Link>],
-    items: &[Holding],
-    near: usize,
-    link: &Link,
-) -> Result<usize, AllocError>
-    requires rising { IsRisingBy (λ h. h.item) (slice_cmp nat_cmp) items.now }
-    requires long { length rows.old ≡ length items.now }
-    ensures { OnOk result ((rows.new ≡ rows.old) ⊎ ((at : ℕ)
-        × IsItemAt items.now link.now.label.item at × Pushed rows.old at link.now rows.new)) }
-{
-    let Some(at) = place_near(items, near, link.label.item) else {
-        return Ok(near);
-    };
-    push_at(rows, at, *link)?;
-    Ok(at)
-}
 
 // The place of the first of the edges from this place on that were handed no earlier.
 fn first_since(links: &[Link], start: usize, number: u64) -> usize
@@ -157,7 +103,32 @@ impl Marks {
     }
 }
 
-// Whether each operation of an item follows those that were decided before.
+// Whether each operation of an item follows those before, which were decided before.
+fn follow_all(
+    alloc: Global,
+    marks: &mut Marks,
+    deeds: &[Deed],
+    links: &[Link],
+) -> Result<bool, AllocError>
+    requires under { AreUnder marks.old (marks.old.step + 1) }
+    requires sound { (d : ADeed) → Contains deeds.now d → IsSound d }
+    requires sorted { IsNonDecreasingBy (λ (d : ADeed). d.number) deeds.now }
+    ensures under { AreUnder marks.new (marks.new.step + 1) }
+    ensures carried { IfOk result (λ yes. IsTrue yes → AreDeedsCarried links.now deeds.now) }
+{
+    let mut course = no_course(alloc)?;
+    let mut start = 0;
+    for deed in deeds {
+        start = first_since(links, start, deed.number);
+        let joined = marks.join(alloc, &mut course, &links[start..], deed)?;
+        if !joined {
+            return Ok(false);
+        }
+    }
+    Ok(true)
+}
+
+// The same in the order in which they were decided.
 fn is_item_joined(
     alloc: Global,
     marks: &mut Marks,
@@ -169,43 +140,31 @@ fn is_item_joined(
     ensures under { AreUnder marks.new (marks.new.step + 1) }
     ensures carried { IfOk result (λ yes. IsTrue yes → AreDeedsCarried links.now deeds.now) }
 {
-    let order = by_number(alloc, deeds)?;
-    let mut course = no_course(alloc)?;
-    let mut start = 0;
-    for deed in order.as_slice() {
-        start = first_since(links, start, deed.number);
-        let joined = marks.join(alloc, &mut course, &links[start..], deed)?;
-        if !joined {
-            return Ok(false);
-        }
+    if are_in_order(deeds) {
+        return follow_all(alloc, marks, deeds, links);
     }
-    Ok(true)
+    let order = by_number(alloc, deeds)?;
+    follow_all(alloc, marks, order.as_slice(), links)
 }
 
 /// Whether the operations of committed transactions on each item, in the order in which they were decided, are joined to their
-/// neighbours among those before. Then all conflicts between committed transactions are carried; false tells nothing. Sorts what was
-/// done to each item, and then goes over it and over the edges there.
+/// neighbours among those before, by these edges. Then all conflicts between committed transactions are carried; false tells nothing.
+/// Sorts what was done to each item, and then goes over it and over the edges there.
 pub(crate) fn are_joined(
     alloc: Global,
-    index: &Index,
     marks: &mut Marks,
-    site: SiteNo,
-    items: &[Holding],
-    log: &[Entry],
+    tracks: &[Track],
+    rows: &[Vec<Link>],
 ) -> Result<bool, AllocError>
-    requires paired { IsPaired index.now }
-    requires there { site < length index.now.sited.items }
     requires under { AreUnder marks.old (marks.old.step + 1) }
-    requires rising { IsRisingBy (λ h. h.item) (slice_cmp nat_cmp) items.now }
-    requires known { AreKnown items.now log.now }
-    ensures carried { IfOk result (λ yes. IsTrue yes → AreCarried index.now site log.now) }
+    requires long { length tracks.now ≡ length rows.now }
+    requires sound { AreSound tracks.now }
+    ensures carried { IfOk result (λ yes. IsTrue yes → AreTracksCarried rows.now tracks.now) }
     ensures under { AreUnder marks.new (marks.new.step + 1) }
 {
-    let tracks = tracks_of(alloc, index.commits.as_slice(), site, items, log)?;
-    let links = links_at(alloc, index, site, items)?;
-    for at in 0..items.len() {
+    for at in 0..tracks.len() {
         let deeds = tracks[at].deeds.as_slice();
-        let joined = is_item_joined(alloc, marks, deeds, links[at].as_slice())?;
+        let joined = is_item_joined(alloc, marks, deeds, rows[at].as_slice())?;
         if !joined {
             return Ok(false);
         }

@@ -17,12 +17,14 @@ mod least;
 mod link;
 mod logged;
 mod names;
+mod places;
 mod points;
 mod rows;
 mod search;
 mod sites;
 mod tallies;
 mod tickets;
+mod ties;
 mod told;
 mod versions;
 

@@ -19,10 +19,10 @@ pub(crate) fn push_at<T: Copy>(rows: &mut [Vec<T>], at: usize, x: T) -> Result<(
     Ok(())
 }
 
-/// What each has of a whole, where so many share it.
+/// What each has of a whole at most, mostly, where so many share it: an eighth more than an even share.
 pub(crate) fn share(whole: usize, all: usize) -> usize {
     match whole.checked_div(all) {
-        Some(each) => each,
+        Some(each) => each.saturating_add(each / 8),
         None => 0,
     }
 }

@@ -1,6 +1,6 @@
 //! Whether the logs of the sites agree with the history.
 
-ghost use Rattle.std.specs.Prelude.{◌≡◌, ◌↔◌, ◌≤◌, ◌<◌, ◌+◌, ◌++◌, ℕ, List, IsTrue, Contains, IfOk, OnErr, MatchOption, length, slice_get, Some};
+ghost use Rattle.std.specs.Prelude.{◌≡◌, ◌↔◌, ◌≤◌, ◌<◌, ◌+◌, ◌++◌, ℕ, List, IsTrue, Contains, IfOk, OnErr, MatchOption, length, slice_get, Some, false};
 ghost use Rattle.std.specs.Ordering.{nat_cmp};
 ghost use Rattle.std.specs.Cmp.Lexicographic.{slice_cmp};
 ghost use Rattle.sgt_names.specs.Limits.{max_sites};
@@ -18,15 +18,35 @@ use crate::acts::{Act, acts_of};
 use crate::carried::are_carried;
 use crate::counts::has_counts;
 use crate::course::Marks;
+use crate::deeds::tracks_of;
 use crate::handed::Handed;
 use crate::index::{Index, edges_at};
-use crate::joined::are_joined;
+use crate::joined::{are_joined, no_marks};
 use crate::logged::is_logged;
+use crate::places::{Places, are_shown, no_places};
 use crate::points::{Nears, no_nears};
+use crate::ties::{Ties, ties_at};
 use sgt_names::{Entry, Holding, SiteNo, Tx};
 use sgt_service_agreement::EntryCounts;
 use sgt_site::Site;
 use std::alloc::{AllocError, Global};
+
+/// Tables by the numbers of transactions, which each site writes anew.
+#[derive(Drop)]
+pub struct Tables {
+    pub marks: Marks,
+    pub places: Places,
+}
+
+/// Tables with nothing in them, for so many transactions.
+pub(crate) fn no_tables(alloc: Global, all: usize) -> Result<Tables, AllocError>
+    ensures { IfOk result (λ tables. AreUnder tables.marks (tables.marks.step + 1)) }
+{
+    Ok(Tables {
+        marks: no_marks(alloc, all)?,
+        places: no_places(alloc, all)?,
+    })
+}
 
 // Whether each of these edges is a conflict of the log.
 fn are_logged(
@@ -51,11 +71,39 @@ fn are_logged(
     true
 }
 
+// Whether these edges at the site are conflicts of the log. Sorts what was done to each item.
+fn are_told(
+    alloc: Global,
+    windows: &[Vec<Tx>],
+    items: &[Holding],
+    log: &[Entry],
+    edges: &[Handed],
+) -> Result<bool, AllocError>
+    requires rising { IsRisingBy (λ h. h.item) (slice_cmp nat_cmp) items.now }
+    requires known { AreKnown items.now log.now }
+    ensures { IfOk result (λ yes. IsTrue yes ↔ AreLogged windows.now edges.now log.now) }
+{
+    if edges.is_empty() {
+        return Ok(true);
+    }
+    let acts = acts_of(alloc, items, log)?;
+    let mut near = no_nears(alloc, items.len())?;
+    Ok(are_logged(windows, items, acts.as_slice(), &mut near, edges))
+}
+
+// The edges that are not shown to be conflicts.
+fn unshown<'a>(shown: bool, edges: &'a [Handed], ties: &'a Ties) -> &'a [Handed]
+    ensures yes { IsTrue shown → result.now ≡ ties.now.others.items }
+    ensures no { shown ≡ false → result.now ≡ edges.now }
+{
+    if shown { ties.others.as_slice() } else { edges }
+}
+
 // Whether the log of the site has the counted entries, and its conflicts are those that the decisions were handed.
 fn is_log_fit(
     alloc: Global,
     index: &Index,
-    marks: &mut Marks,
+    tables: &mut Tables,
     site: SiteNo,
     counts: EntryCounts,
     items: &[Holding],
@@ -63,24 +111,27 @@ fn is_log_fit(
 ) -> Result<bool, AllocError>
     requires paired { IsPaired index.now }
     requires there { site < length index.now.sited.items }
-    requires under { AreUnder marks.old (marks.old.step + 1) }
+    requires under { AreUnder tables.old.marks (tables.old.marks.step + 1) }
     requires rising { IsRisingBy (λ h. h.item) (slice_cmp nat_cmp) items.now }
     requires known { AreKnown items.now log.now }
     ensures ok { IfOk result (λ yes. IsTrue yes ↔ IsLogFit index.now site counts log.now) }
     ensures err { OnErr result (AreEntriesCounted counts log.now) }
-    ensures under { AreUnder marks.new (marks.new.step + 1) }
+    ensures under { AreUnder tables.new.marks (tables.new.marks.step + 1) }
 {
     if !has_counts(log, counts) {
         return Ok(false);
     }
-    let acts = acts_of(alloc, items, log)?;
-    let mut near = no_nears(alloc, items.len())?;
-    let windows = index.windows.as_slice();
-    let edges = edges_at(index, site);
-    if !are_logged(windows, items, acts.as_slice(), &mut near, edges) {
+    let tracks = tracks_of(alloc, index.commits.as_slice(), site, items, log)?;
+    let ties = ties_at(alloc, index, site, items)?;
+    let deeds = tracks.as_slice();
+    let rows = ties.rows.as_slice();
+    let shown = are_shown(&mut tables.places, log, deeds, rows);
+    let edges = unshown(shown, edges_at(index, site), &ties);
+    let told = are_told(alloc, index.windows.as_slice(), items, log, edges)?;
+    if !told {
         return Ok(false);
     }
-    let joined = are_joined(alloc, index, marks, site, items, log)?;
+    let joined = are_joined(alloc, &mut tables.marks, deeds, rows)?;
     if joined {
         return Ok(true);
     }
@@ -92,35 +143,35 @@ fn is_log_fit(
 fn is_site_fit(
     alloc: Global,
     index: &Index,
-    marks: &mut Marks,
+    tables: &mut Tables,
     site: SiteNo,
     counts: EntryCounts,
     held: &Site,
 ) -> Result<bool, AllocError>
     requires paired { IsPaired index.now }
     requires there { site < length index.now.sited.items }
-    requires under { AreUnder marks.old (marks.old.step + 1) }
+    requires under { AreUnder tables.old.marks (tables.old.marks.step + 1) }
     ensures ok { IfOk result (λ yes. IsTrue yes ↔ IsSiteFit index.now site counts held.now) }
     ensures err { OnErr result (IsCounted site counts held.now) }
-    ensures under { AreUnder marks.new (marks.new.step + 1) }
+    ensures under { AreUnder tables.new.marks (tables.new.marks.step + 1) }
 {
     if held.number() != site {
         return Ok(false);
     }
-    is_log_fit(alloc, index, marks, site, counts, held.items(), held.log())
+    is_log_fit(alloc, index, tables, site, counts, held.items(), held.log())
 }
 
 /// The least of the places that there are at which isn't the site of that number, or whose log isn't fit.
 pub(crate) fn first_unfit(
     alloc: Global,
     index: &Index,
-    marks: &mut Marks,
+    tables: &mut Tables,
     sites: &[Site],
     counts: &[EntryCounts],
 ) -> Result<Option<SiteNo>, AllocError>
     requires paired { IsPaired index.now }
     requires there { length index.now.sited.items ≡ length sites.now }
-    requires under { AreUnder marks.old (marks.old.step + 1) }
+    requires under { AreUnder tables.old.marks (tables.old.marks.step + 1) }
     requires few { length sites.now ≤ max_sites }
     requires counts { length counts.now ≡ length sites.now }
     ensures ok { IfOk result (λ found. MatchOption found
@@ -135,7 +186,7 @@ pub(crate) fn first_unfit(
         let Ok(site) = SiteNo::new(k as u64) else {
             unreachable!();
         };
-        let fit = is_site_fit(alloc, index, marks, site, counts[k], &sites[k])?;
+        let fit = is_site_fit(alloc, index, tables, site, counts[k], &sites[k])?;
         if !fit {
             return Ok(Some(site));
         }

@@ -5,9 +5,10 @@ use Rattle.sgt_names.specs.declared.entry.Holding.{Holding}
 use Rattle.sgt_order.specs.Graph.{Reaches}
 use Rattle.sgt_service_settle.specs.declared.course.Marks.{Marks}
 use Rattle.sgt_service_settle.specs.declared.deeds.Deed.{Deed}
+use Rattle.sgt_service_settle.specs.declared.deeds.Track.{Track}
 use Rattle.sgt_service_settle.specs.declared.link.Link.{Link}
 use Rattle.sgt_service_settle.specs.private.Words.{At, IsItemAt}
-use Rattle.sgt_service_settle.specs.private.Deeds.{IsBefore}
+use Rattle.sgt_service_settle.specs.private.Deeds.{IsBefore, IsSound}
 
 -- at the place of each item stand edges on it at the site, of these links
 abbrev pub AreItemLinks : List Link → ℕ → List Holding → List (Vec Link Global) → Type 0
@@ -33,6 +34,16 @@ pub record Precedes (d e : Deed) : Type 0 where
 abbrev pub AreDeedsCarried : List Link → List Deed → Type 0
 AreDeedsCarried links deeds = (d e : Deed) → Contains deeds d → Contains deeds e → Precedes d e
     → GetsTo links (max d.number e.number) d.tx e.tx
+
+-- so do the edges of each item, at its place
+abbrev pub AreTracksCarried : List (Vec Link Global) → List Track → Type 0
+AreTracksCarried rows tracks = (k : ℕ) (t : Track) (row : Vec Link Global)
+    → slice_get tracks k ≡ Some t → slice_get rows k ≡ Some row
+    → AreDeedsCarried row.items t.deeds.items
+
+abbrev pub AreSound : List Track → Type 0
+AreSound tracks = (k : ℕ) (t : Track) (d : Deed) → slice_get tracks k ≡ Some t
+    → Contains t.deeds.items d → IsSound d
 
 -- ---- marks
 

@@ -14,8 +14,8 @@ first_unfit-requires-clause-paired c = c.in_ok-index.ensures.index.paired
 pub first_unfit-requires-clause-there : goal.first_unfit-requires-clause-there
 first_unfit-requires-clause-there c = c.in_ok-index.ensures.long
 
-pub returns-in_err-marks-clause-err : goal.returns-in_err-marks-clause-err
-returns-in_err-marks-clause-err c = on_err c.from_residual-in_err-marks.result _ (0, c.has_first_counts.ensures.0 c.if-not-has_first_counts.false, λ k lt. absurd (omega (arith, lt)))
+pub returns-in_err-tables-clause-err : goal.returns-in_err-tables-clause-err
+returns-in_err-tables-clause-err c = on_err c.from_residual-in_err-tables.result _ (0, c.has_first_counts.ensures.0 c.if-not-has_first_counts.false, λ k lt. absurd (omega (arith, lt)))
 
 pub returns-in-Some-clause-ok : goal.returns-in-Some-clause-ok
 returns-in-Some-clause-ok c =

@@ -1,4 +1,4 @@
-use Rattle.std.proofs.Common.{refl, inl, inr}
+use Rattle.std.proofs.Common.{◌∙◌, ◌++◌, ◌∷◌, [], ap, refl, inl, inr}
 use Rattle.sgt_service_settle.proofs.Lists.{read}
 use Rattle.sgt_service_settle.proofs.course.add_read.Goals as goal
 
@@ -10,7 +10,7 @@ returns-then-course-deed c = record {
   after = c.push.new.self;
   was = read c.args.course.now.reads.items c.args.deed.now.version c.index_mut-reads.result.now c.requires.within c.index_mut-reads.ensures.value;
   now = refl;
-  more = c.in_ok-push.ensures.items;
+  more = c.in_ok-push.ensures.items ∙ ap (λ xs. xs ++ c.args.deed.now ∷ []) c.in_ok-make_room.ensures;
   last = inl (c.if-course-deed.true, refl);
 }
 
@@ -22,6 +22,6 @@ returns-else-course-deed c = record {
   after = c.push.new.self;
   was = read c.args.course.now.reads.items c.args.deed.now.version c.index_mut-reads.result.now c.requires.within c.index_mut-reads.ensures.value;
   now = refl;
-  more = c.in_ok-push.ensures.items;
+  more = c.in_ok-push.ensures.items ∙ ap (λ xs. xs ++ c.args.deed.now ∷ []) c.in_ok-make_room.ensures;
   last = inr (c.if-course-deed.false, refl);
 }

@@ -1,4 +1,4 @@
-use Rattle.std.proofs.Common.{subst, arith}
+use Rattle.std.proofs.Common.{◌∙◌, subst, arith}
 use Rattle.std.proofs.lemmas.List.{take_all}
 use Rattle.sgt_service_settle.specs.private.Index.{AreLinks}
 use Rattle.sgt_service_settle.proofs.Lists.{read}
@@ -18,7 +18,7 @@ loop-one-preserved c =
     ]
 
 pub loop-one-init : goal.loop-one-init
-loop-one-init c = rw c.new-links.ensures.items (links_none c.args.windows.now c.args.commits.now c.args.handed.now)
+loop-one-init c = rw (c.in_ok-reserve.ensures.items ∙ c.new-links.ensures.items) (links_none c.args.windows.now c.args.commits.now c.args.handed.now)
 
 pub returns : goal.returns
 returns c =

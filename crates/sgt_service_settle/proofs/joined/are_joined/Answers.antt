@@ -4,18 +4,16 @@ use Rattle.std.proofs.lemmas.Bool.{cases_lt}
 use Rattle.std.proofs.lemmas.Option.{same_Some, slice_get_within}
 use Rattle.sgt_service_settle.specs.declared.deeds.Track.{Track as ATrack}
 use Rattle.sgt_service_settle.specs.declared.link.Link.{Link as ALink}
-use Rattle.sgt_service_settle.specs.private.Deeds.{AreTracks}
-use Rattle.sgt_service_settle.specs.private.Joined.{AreItemLinks, AreDeedsCarried}
+use Rattle.sgt_service_settle.specs.private.Joined.{AreDeedsCarried}
 use Rattle.sgt_service_settle.proofs.Lists.{read}
-use Rattle.sgt_service_settle.proofs.Joining.{all_carried}
 use Rattle.sgt_service_settle.proofs.joined.are_joined.Goals as goal
 
 pub is_item_joined-requires-clause-sound : goal.is_item_joined-requires-clause-sound
 is_item_joined-requires-clause-sound c d has =
-    let tracks = c.in_ok-tracks.tracks.items in
-    let low : c.loop-at.at < length tracks = omega (arith, c.loop-at-test.true, c.in_ok-tracks.ensures.long) in
-    let here = read tracks c.loop-at.at c.index.result.now low c.index.ensures in
-    (c.in_ok-tracks.ensures.tracks.each c.loop-at.at c.index.result.now here).sound d (subst (λ xs. Contains xs d) c.as_slice-deeds.ensures.value has)
+    let tracks = c.args.tracks.now in
+    let track = c.index-tracks-at.result in
+    let here = read tracks c.loop-at.at track c.loop-at-test.true c.index-tracks-at.is in
+    c.requires.sound c.loop-at.at track d here (subst (λ xs. Contains xs d) (c.as_slice-deeds.ensures.value ∙ ap (λ (t : ATrack). t.deeds.items) (sym c.index-tracks-at.is)) has)
 
 pub loop-at-preserved : goal.loop-at-preserved
 loop-at-preserved c = record {
@@ -23,31 +21,22 @@ loop-at-preserved c = record {
   carried = λ k t row low at_t at_row. elim (cases_lt k c.loop-at.at) [
     | inl early ↦ c.loop-at.invariant.carried k t row early at_t at_row
     | inr late ↦
-        let tracks = c.in_ok-tracks.tracks.items in
-        let rows = c.in_ok-links.links.items in
+        let tracks = c.args.tracks.now in
+        let rows = c.args.rows.now in
         let at = c.loop-at.at in
-        let track = c.index.result.now in
-        let own = c.index-in-loop-at.result.now in
+        let track : ATrack = c.index-tracks-at.result in
+        let own : Vec ALink Global = c.index-rows-at.result in
         let same : at ≡ k = omega (arith, late, low) in
-        let in_tracks : at < length tracks = omega (arith, c.loop-at-test.true, c.in_ok-tracks.ensures.long) in
-        let in_rows : at < length rows = omega (arith, c.loop-at-test.true, c.in_ok-links.ensures.long) in
-        let is_t : track ≡ t = same_Some track t (sym (read tracks at track in_tracks c.index.ensures) ∙ (ap (slice_get tracks) same ∙ at_t)) in
-        let is_row : own ≡ row = same_Some own row (sym (read rows at own in_rows c.index-in-loop-at.ensures) ∙ (ap (slice_get rows) same ∙ at_row)) in
+        let in_rows : at < length rows = omega (arith, c.loop-at-test.true, c.requires.long) in
+        let is_t : track ≡ t = same_Some track t (sym (read tracks at track c.loop-at-test.true c.index-tracks-at.is) ∙ (ap (slice_get tracks) same ∙ at_t)) in
+        let is_row : own ≡ row = same_Some own row (sym (read rows at own in_rows c.index-rows-at.is) ∙ (ap (slice_get rows) same ∙ at_row)) in
         let known = c.in_ok-joined.ensures.carried c.if-not-joined.false in
-        let in_row : AreDeedsCarried own.items c.as_slice-deeds.result.now = subst (λ ls. AreDeedsCarried ls c.as_slice-deeds.result.now) c.as_slice-in-loop-at.ensures.value known in
-        let both : AreDeedsCarried own.items track.deeds.items = subst (λ xs. AreDeedsCarried own.items xs) c.as_slice-deeds.ensures.value in_row in
+        let in_row : AreDeedsCarried own.items c.as_slice-deeds.result.now = subst (λ ls. AreDeedsCarried ls c.as_slice-deeds.result.now) c.as_slice.ensures.value known in
+        let both : AreDeedsCarried own.items track.deeds.items = subst (λ xs. AreDeedsCarried own.items xs) (c.as_slice-deeds.ensures.value ∙ ap (λ (u : ATrack). u.deeds.items) (sym c.index-tracks-at.is)) in_row in
         subst (λ (r : Vec ALink Global). AreDeedsCarried r.items t.deeds.items) is_row (subst (λ (u : ATrack). AreDeedsCarried own.items u.deeds.items) is_t both)
   ];
 }
 
 pub returns-clause-carried : goal.returns-clause-carried
-returns-clause-carried c = λ yes.
-    let index = c.args.index.now in
-    let items = c.args.items.now in
-    let log = c.args.log.now in
-    let tracks = c.in_ok-tracks.tracks.items in
-    let rows = c.in_ok-links.links.items in
-    let links : AreItemLinks index.links.items c.args.site items rows = c.in_ok-links.ensures.links in
-    let are : AreTracks index.commits.items items log (length log) tracks = subst (λ cs. AreTracks cs items log (length log) tracks) c.as_slice.ensures.value c.in_ok-tracks.ensures.tracks in
-    all_carried index c.args.site items log tracks rows c.requires.known links c.in_ok-links.ensures.long are
-    (λ k t row at_t at_row. c.loop-at.invariant.carried k t row (let low = slice_get_within tracks k t at_t in omega (arith, low, c.in_ok-tracks.ensures.long, c.loop-at-test.false)) at_t at_row)
+returns-clause-carried c = λ yes k t row at_t at_row.
+    c.loop-at.invariant.carried k t row (let low = slice_get_within c.args.tracks.now k t at_t in omega (arith, low, c.loop-at-test.false)) at_t at_row

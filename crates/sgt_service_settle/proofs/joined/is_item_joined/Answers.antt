@@ -1,47 +1,22 @@
-use Rattle.std.proofs.Common.{take, drop, sym, subst, arith, List, Contains}
-use Rattle.std.proofs.lemmas.List.{take_rest, take_all}
+use Rattle.std.proofs.Common.{subst, Contains}
+use Rattle.std.specs.List.Sorted.{IsPermutation}
+use Rattle.std.proofs.lemmas.Result.{IfOk-weaker}
 use Rattle.std.proofs.lemmas.List.Sorted.{Contains-permutation, IsPermutation-sym}
-use Rattle.std.specs.List.Sorted.{IsNonDecreasingBy, IsPermutation}
-use Rattle.sgt_certifier.proofs.Members.{nil_none}
-use Rattle.sgt_service_settle.specs.declared.deeds.Deed.{Deed as ADeed}
-use Rattle.sgt_service_settle.specs.declared.link.Link.{Link as ALink}
-use Rattle.sgt_service_settle.specs.private.Deeds.{IsSound}
-use Rattle.sgt_service_settle.specs.private.Course.{IsCourse, Follows}
-use Rattle.sgt_service_settle.specs.private.Joined.{AreDeedsCarried, ComesTo, LeadsTo}
-use Rattle.sgt_service_settle.proofs.Lists.{read, take_on}
-use Rattle.sgt_service_settle.proofs.Following.{deeds_next}
-use Rattle.sgt_service_settle.proofs.Joining.{follows_all, number_early, front_contains}
+use Rattle.sgt_service_settle.specs.private.Joined.{AreDeedsCarried}
 use Rattle.sgt_service_settle.proofs.joined.is_item_joined.Goals as goal
 
-pub loop-deed-init : goal.loop-deed-init
-loop-deed-init c = record { under = c.requires.under; course = c.in_ok-course.ensures; carried = λ d e has other precedes. absurd (nil_none d has) }
-
-pub loop-deed-preserved : goal.loop-deed-preserved
-loop-deed-preserved c =
-    let links = c.args.links.now in
-    let order = c.as_slice-deed-items.result.now in
-    let n = c.loop-deed.deed-index in
-    let d : ADeed = c.deed-item.result in
-    let here = read order n d c.loop-deed-test.true c.deed-item.is in
-    let course = c.loop-deed.course in
-    let inv = c.loop-deed.invariant in
-    let start = c.first_since-start.result in
-    let same : IsPermutation c.args.deeds.now order = subst (IsPermutation c.args.deeds.now) (sym c.as_slice-deed-items.ensures.value) c.in_ok-order.ensures.same in
-    let sorted : IsNonDecreasingBy (λ (x : ADeed). x.number) order = subst (IsNonDecreasingBy (λ (x : ADeed). x.number)) (sym c.as_slice-deed-items.ensures.value) c.in_ok-order.ensures.sorted in
-    let sound : (e : ADeed) → Contains (take n order) e → IsSound e = λ e has. c.requires.sound e (Contains-permutation order c.args.deeds.now e (IsPermutation-sym c.args.deeds.now order same) (front_contains order n e has)) in
-    let early = λ (e : ADeed) (has : Contains (take n order) e). number_early order n d e sorted here has in
-    let follows : Follows (ComesTo (drop start links) d) (LeadsTo (drop start links) d) course d = subst (λ (ls : List ALink). Follows (ComesTo ls d) (LeadsTo ls d) course d) (take_rest links start) (c.in_ok-joined.ensures.follows c.if-not-joined.false) in
-    let more = take_on order n d here in
-    record {
-      under = c.in_ok-joined.ensures.under;
-      course = subst (λ xs. IsCourse xs c.join.new.course) (sym more) (c.in_ok-joined.ensures.course c.if-not-joined.false (take n order) inv.course);
-      carried = subst (AreDeedsCarried links) (sym more) (deeds_next links (take n order) d course inv.course sound early (c.in_ok-joined.ensures.fits c.if-not-joined.false) (follows_all links start course d follows) inv.carried);
-    }
+pub follow_all-requires-2-clause-sound : goal.follow_all-requires-2-clause-sound
+follow_all-requires-2-clause-sound c d has =
+    let order = c.in_ok-order.order.items in
+    let same : IsPermutation c.args.deeds.now order = c.in_ok-order.ensures.same in
+    c.requires.sound d (Contains-permutation order c.args.deeds.now d (IsPermutation-sym c.args.deeds.now order same) (subst (λ xs. Contains xs d) c.as_slice.ensures.value has))
 
 pub returns-clause-carried : goal.returns-clause-carried
-returns-clause-carried c = λ yes d e first second precedes.
-    let order = c.as_slice-deed-items.result.now in
-    let same : IsPermutation c.args.deeds.now order = subst (IsPermutation c.args.deeds.now) (sym c.as_slice-deed-items.ensures.value) c.in_ok-order.ensures.same in
-    let whole = take_all c.loop-deed.deed-index order (omega (arith, c.loop-deed-test.false)) in
-    let all = subst (AreDeedsCarried c.args.links.now) whole c.loop-deed.invariant.carried in
-    all d e (Contains-permutation c.args.deeds.now order d same first) (Contains-permutation c.args.deeds.now order e same second) precedes
+returns-clause-carried c =
+    let order = c.in_ok-order.order.items in
+    let deeds = c.args.deeds.now in
+    let links = c.args.links.now in
+    let same : IsPermutation deeds order = c.in_ok-order.ensures.same in
+    IfOk-weaker c.follow_all-2.result _ _
+    (λ yes all is d e first second precedes. (subst (AreDeedsCarried links) c.as_slice.ensures.value (all is)) d e (Contains-permutation deeds order d same first) (Contains-permutation deeds order e same second) precedes)
+    c.follow_all-2.ensures.carried

@@ -1,39 +1,63 @@
-use Rattle.std.proofs.Common.{◌∙◌, refl, sym, subst}
+use Rattle.std.proofs.Common.{◌∙◌, ap, refl, sym, subst, length}
 use Rattle.std.proofs.lemmas.Bool.{true≢false}
-use Rattle.sgt_service_settle.specs.private.Acts.{AreActs, AreByActor}
+use Rattle.sgt_service_settle.specs.private.Deeds.{AreTracks}
+use Rattle.sgt_service_settle.specs.private.Joined.{AreSound, AreTracksCarried}
+use Rattle.sgt_service_settle.specs.private.Places.{AreShown}
+use Rattle.sgt_service_settle.proofs.Joining.{all_carried}
+use Rattle.sgt_service_settle.proofs.Tying.{left_logged}
 use Rattle.sgt_service_settle.proofs.sites.is_log_fit.Goals as goal
 
-pub are_logged-requires-clause-sorted : goal.are_logged-requires-clause-sorted
-are_logged-requires-clause-sorted c = subst AreByActor (sym c.as_slice.ensures.value) c.in_ok-acts.ensures.sorted
+pub are_shown-shown-requires : goal.are_shown-shown-requires
+are_shown-shown-requires c = ap length c.as_slice-deeds.ensures.value ∙ (c.in_ok-tracks.ensures.long ∙ (sym c.in_ok-ties.ensures.long ∙ sym (ap length c.as_slice-rows.ensures.value)))
 
-pub returns-then-not-are_logged-clause-ok : goal.returns-then-not-are_logged-clause-ok
-returns-then-not-are_logged-clause-ok c =
-    let are : AreActs c.args.items.now c.args.log.now c.as_slice.result.now = rw c.as_slice.ensures.value c.in_ok-acts.ensures.acts in
-    let logged = rw c.as_slice-windows.ensures.value at (c.are_logged.ensures c.args.log.now c.requires.known are) in (
-      λ told. absurd (true≢false (sym told)),
-      λ fit. absurd (true≢false (sym (logged.1 (λ h has. let k = (c.edges_at-edges.ensures h).0 has in fit.edges h k.0 k.1)) ∙ c.if-not-are_logged.true)),
-    )
+pub are_joined-requires-clause-long : goal.are_joined-requires-clause-long
+are_joined-requires-clause-long c = ap length c.as_slice-deeds.ensures.value ∙ (c.in_ok-tracks.ensures.long ∙ (sym c.in_ok-ties.ensures.long ∙ sym (ap length c.as_slice-rows.ensures.value)))
+
+pub are_joined-requires-clause-sound : goal.are_joined-requires-clause-sound
+are_joined-requires-clause-sound c = subst AreSound (sym c.as_slice-deeds.ensures.value) (λ k t d at has. (c.in_ok-tracks.ensures.tracks.each k t at).sound d has)
+
+pub returns-then-not-told-clause-ok : goal.returns-then-not-told-clause-ok
+returns-then-not-told-clause-ok c =
+    let log = c.args.log.now in
+    let ties = c.in_ok-ties.ties in
+    let told = rw c.as_slice-2.ensures.value at c.in_ok-told.ensures in
+    let left = left_logged c.args.index.now c.args.site log ties.rows.items ties.others.items c.edges_at.result.now c.unshown-edges.result.now c.are_shown-shown.result c.in_ok-ties.ensures.tied (λ yes. subst (AreShown log) c.as_slice-rows.ensures.value (c.are_shown-shown.ensures yes))
+    c.edges_at.ensures c.unshown-edges.ensures.yes c.unshown-edges.ensures.no in
+    (λ yes. absurd (true≢false (sym yes)), λ fit. absurd (true≢false (sym (told.1 (left.1 fit.edges)) ∙ c.if-not-told.true)))
 
 pub returns-then-joined-clause-ok : goal.returns-then-joined-clause-ok
 returns-then-joined-clause-ok c =
-    let are : AreActs c.args.items.now c.args.log.now c.as_slice.result.now = rw c.as_slice.ensures.value c.in_ok-acts.ensures.acts in
-    let logged = rw c.as_slice-windows.ensures.value at (c.are_logged.ensures c.args.log.now c.requires.known are) in (
-      λ told. record {
+    let index = c.args.index.now in
+    let items = c.args.items.now in
+    let log = c.args.log.now in
+    let ties = c.in_ok-ties.ties in
+    let tracks = c.in_ok-tracks.tracks.items in
+    let told = rw c.as_slice-2.ensures.value at c.in_ok-told.ensures in
+    let left = left_logged index c.args.site log ties.rows.items ties.others.items c.edges_at.result.now c.unshown-edges.result.now c.are_shown-shown.result c.in_ok-ties.ensures.tied (λ yes. subst (AreShown log) c.as_slice-rows.ensures.value (c.are_shown-shown.ensures yes))
+    c.edges_at.ensures c.unshown-edges.ensures.yes c.unshown-edges.ensures.no in
+    let are : AreTracks index.commits.items items log (length log) tracks = subst (λ cs. AreTracks cs items log (length log) tracks) c.as_slice.ensures.value c.in_ok-tracks.ensures.tracks in
+    let carried : AreTracksCarried c.as_slice-rows.result.now c.as_slice-deeds.result.now = c.in_ok-joined.ensures.carried c.if-joined.true in
+    let by_rows : AreTracksCarried ties.rows.items c.as_slice-deeds.result.now = subst (λ rs. AreTracksCarried rs c.as_slice-deeds.result.now) c.as_slice-rows.ensures.value carried in
+    let by_tracks : AreTracksCarried ties.rows.items tracks = subst (AreTracksCarried ties.rows.items) c.as_slice-deeds.ensures.value by_rows in (
+      λ yes. record {
         counted = c.has_counts.ensures.0 c.if-not-has_counts.false;
-        edges = λ h has site. logged.0 c.if-not-are_logged.false h ((c.edges_at-edges.ensures h).1 (has, site));
-        conflicts = c.in_ok-joined.ensures.carried c.if-joined.true;
+        edges = left.0 (told.0 c.if-not-told.false);
+        conflicts = all_carried index c.args.site items log tracks ties.rows.items c.requires.known c.in_ok-ties.ensures.links c.in_ok-ties.ensures.long are by_tracks;
       },
       λ fit. refl,
     )
 
 pub returns-clause-ok : goal.returns-clause-ok
 returns-clause-ok c =
-    let are : AreActs c.args.items.now c.args.log.now c.as_slice.result.now = rw c.as_slice.ensures.value c.in_ok-acts.ensures.acts in
-    let logged = rw c.as_slice-windows.ensures.value at (c.are_logged.ensures c.args.log.now c.requires.known are) in (
-      λ told. record {
+    let log = c.args.log.now in
+    let ties = c.in_ok-ties.ties in
+    let told = rw c.as_slice-2.ensures.value at c.in_ok-told.ensures in
+    let left = left_logged c.args.index.now c.args.site log ties.rows.items ties.others.items c.edges_at.result.now c.unshown-edges.result.now c.are_shown-shown.result c.in_ok-ties.ensures.tied (λ yes. subst (AreShown log) c.as_slice-rows.ensures.value (c.are_shown-shown.ensures yes))
+    c.edges_at.ensures c.unshown-edges.ensures.yes c.unshown-edges.ensures.no in (
+      λ yes. record {
         counted = c.has_counts.ensures.0 c.if-not-has_counts.false;
-        edges = λ h has site. logged.0 c.if-not-are_logged.false h ((c.edges_at-edges.ensures h).1 (has, site));
-        conflicts = c.in_ok-carried.ensures.0 told;
+        edges = left.0 (told.0 c.if-not-told.false);
+        conflicts = c.in_ok-carried.ensures.0 yes;
       },
       λ fit. c.in_ok-carried.ensures.1 fit.conflicts,
     )
