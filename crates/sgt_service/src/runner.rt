@@ -1,6 +1,6 @@
 //! One worker's part of a run: a script, tried so often.
 
-ghost use Rattle.std.specs.Prelude.{◌≡◌, ◌≤◌, [], IfOk};
+ghost use Rattle.std.specs.Prelude.{◌≡◌, ◌≤◌};
 
 use sgt_names::{Item, SiteNo, Value};
 use sgt_notation::{Op, Script};
@@ -8,7 +8,7 @@ use sgt_service_agreement::ServiceFault;
 use sgt_service_locks::{Active, Seat, Service};
 use sgt_site::SiteFault;
 use sgt_workers::{Done, Ending, Gate, Job, Place, Ticket, Work};
-use std::alloc::{AllocError, Global};
+use std::alloc::Global;
 use std::sync::Wait;
 use std::sync::ledger::Ledger;
 
@@ -172,15 +172,6 @@ impl<'a, L: Ledger, G: Gate> Runner<'a, L, G> {
     }
 }
 
-// No values yet, with room for one of each operation of the script.
-fn no_reads(alloc: Global, script: &Script) -> Result<Vec<Value>, AllocError>
-    ensures { IfOk result (λ reads. reads.items ≡ []) }
-{
-    let mut reads = Vec::new(alloc);
-    reads.reserve(script.operations.as_slice().len())?;
-    Ok(reads)
-}
-
 impl<'a, L: Ledger, G: Gate> Work<Seat<L>, Script, ServiceFault> for Runner<'a, L, G> {
     ghost use Rattle.std.specs.Prelude.{◌≡◌, refl};
     ghost use Rattle.std.proofs.Common.{◌∙◌};
@@ -205,7 +196,7 @@ impl<'a, L: Ledger, G: Gate> Work<Seat<L>, Script, ServiceFault> for Runner<'a, 
     ) -> Result<Done, ServiceFault> {
         self.service.gate.arrive(seat.number(), Place::Taken);
         let mut tickets = Vec::new(self.alloc);
-        let mut reads = no_reads(self.alloc, job.script)?;
+        let mut reads = Vec::new(self.alloc);
         for _ in 0..self.tries {
             tickets.reserve(1)?;
             let ticket = self.try_once(rt, seat, job.script, &mut reads)?;
