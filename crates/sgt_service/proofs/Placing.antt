@@ -18,7 +18,7 @@ place_there sites s x l None here t = tt
 pub place_missing : (sites : List SiteLine) (s : ℕ) (x : Name) (l : SiteLine) (r : Option ℕ) → slice_get sites s ≡ Some l
     → IfNone r (Any (λ h. h.item ≡ x) l.items → ⊥) → IfNone r (HasPlace sites s x → ⊥)
 place_missing sites s x l (Some at) here t = tt
-place_missing sites s x l None here none h = none (subst (λ (k : SiteLine). Any (λ h. h.item ≡ x) k.items) (same_Some h.0 l (sym h.1 ∙ here)) h.2)
+place_missing sites s x l None here none = λ h. none (subst (λ (k : SiteLine). Any (λ h. h.item ≡ x) k.items) (same_Some h.0 l (sym h.1 ∙ here)) h.2)
 
 pub place_none : (sites : List SiteLine) (s : ℕ) (x : Name) → slice_get sites s ≡ None → HasPlace sites s x → ⊥
 place_none sites s x none h = let e = sym h.1 ∙ none in absurd cc

@@ -41,7 +41,6 @@ AreTracksCarried rows tracks = (k : ℕ) (t : Track) (row : Vec Link Global)
     → slice_get tracks k ≡ Some t → slice_get rows k ≡ Some row
     → AreDeedsCarried row.items t.deeds.items
 
--- no read is an increment
 abbrev pub AreSound : List Track → Type 0
 AreSound tracks = (k : ℕ) (t : Track) (d : Deed) → slice_get tracks k ≡ Some t
     → Contains t.deeds.items d → IsSound d
