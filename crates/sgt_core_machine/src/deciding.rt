@@ -10,7 +10,7 @@ ghost use Rattle.sgt_core_machine.specs.declared.machine.Part.TheVariants.{Due};
 ghost use Rattle.sgt_core_machine.specs.declared.machine.Running.{Running as ARunning};
 
 use crate::gathering::misses;
-use crate::machine::{Machine, Open, Part, Phase, Place, Running, refused};
+use crate::machine::{DRAFTS, Machine, Open, Part, Phase, Place, Running, refused};
 use sgt_certifier::{CertifierFault, Decided, Judge};
 use sgt_core_model::{CoreFault, Reply};
 use sgt_edges::EdgeList;
@@ -85,10 +85,12 @@ impl Machine {
     }
 }
 
-// Keeps the draft of a transaction that has ended, for another. Without memory for it, it goes.
+// Keeps the draft of a transaction that has ended, for another, where there is room for it. It takes no memory.
 fn keep_draft(drafts: &mut Vec<Draft>, ended: Option<Running>) {
     if let Some(running) = ended {
-        let _kept = drafts.push(running.draft);
+        if drafts.len() < DRAFTS && drafts.len() < drafts.capacity() {
+            drafts.push_reserved(running.draft);
+        }
     }
 }
 

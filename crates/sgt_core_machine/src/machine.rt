@@ -88,7 +88,7 @@ pub struct Machine {
     pub more: EdgeList,
     pub spare: EdgeList,
     pub sites: Vec<SiteNo>,
-    /// Drafts of transactions that have ended, whose room is used again.
+    /// Drafts of transactions that were decided and have ended, whose room is used again: `DRAFTS` at most.
     pub drafts: Vec<Draft>,
 }
 
@@ -384,7 +384,11 @@ impl Machine {
     }
 }
 
-// A draft without reads and changes, in the room of an older one if there is one.
+/// How many drafts of transactions that have ended are kept at most.
+pub(crate) const DRAFTS: usize = 16;
+
+// A draft without reads and changes, in the room of an older one if there is one. Where there is none, room is made to keep drafts
+// later, when no memory may be taken; none are kept if it is refused.
 fn empty_draft(alloc: Global, drafts: &mut Vec<Draft>) -> Draft
     ensures { result.touched ≡ [] }
 {
@@ -393,7 +397,10 @@ fn empty_draft(alloc: Global, drafts: &mut Vec<Draft>) -> Draft
             draft.clear();
             draft
         }
-        None => Draft::new(alloc),
+        None => {
+            let _room = drafts.reserve(DRAFTS);
+            Draft::new(alloc)
+        }
     }
 }
 

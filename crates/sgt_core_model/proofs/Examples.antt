@@ -14,6 +14,7 @@ use Rattle.sgt_notation.specs.declared.event.Event.TheVariants.{Begin, Read, Put
 use Rattle.sgt_core_model.specs.declared.reply.Reply.{Reply}
 use Rattle.sgt_core_model.specs.declared.reply.Reply.TheVariants.{Begun, Value, Kept, Gathered, Yes, No, Installed, Closed}
 use Rattle.sgt_core_model.specs.Core.{finals_of, items_at}
+use Rattle.sgt_core_model.specs.Runs.{changed_by}
 use Rattle.sgt_core_model.proofs.Faults.{told_by, allowed_or_refused}
 use Rattle.sgt_core_model.proofs.Going.{commits_so, refuses_so, verdict_by, verdict, looked, valued_by, reads_site, reads, decides, goes_on}
 use Rattle.sgt_core_model.proofs.Committing.{gather_all, write_all, finishes, commits}
@@ -240,6 +241,10 @@ read_after_own_increment-replies = refl
 read_after_own_increment-log : read_after_own_increment.log 0 ≡ entry.Read 1 x 5 ∷ entry.Add 1 x 7 ∷ entry.Commit 1 ∷ entry.Write 2 x 8 ∷ entry.Commit 2 ∷ []
 unfolding play
 read_after_own_increment-log = refl
+
+read_after_own_increment-changes : changed_by 2 (read_after_own_increment.log 0) ≡ x ∷ []
+unfolding play
+read_after_own_increment-changes = refl
 
 -- increments make the same cycle as writes do with reads
 abbrev only_cycle_with_increments : Played

@@ -244,11 +244,15 @@ suits_commit tx (committed i) suits own = ap committed own
 suits_commit tx (refused i walk) suits own = absurd suits
 suits_commit tx (withdrawn i) suits own = absurd suits
 
+-- and the log is of a site
+pub logged-inside : (c : CoreState) (s tx : ℕ) → IsSound c → Contains (c.entries s) (entry.Commit tx) → s < length c.items
+logged-inside c s tx h m =
+    let out : length c.items ≤ s → ⊥ = λ le. nil_none (entry.Commit tx) (subst (λ es. Contains es (entry.Commit tx)) (h.walked.outside s le) m) in
+    omega (arith, out)
+
 pub logged-committed : (c : CoreState) (s tx : ℕ) → IsSound c → Contains (c.entries s) (entry.Commit tx) → Contains (serial c.certifier) tx
 logged-committed c s tx h m =
-    let out : length c.items ≤ s → ⊥ = λ le. nil_none (entry.Commit tx) (subst (λ es. Contains es (entry.Commit tx)) (h.walked.outside s le) m) in
-    let inside : s < length c.items = omega (arith, out) in
-    elim ((h.legal.sites s inside).log.stands (entry.Commit tx) (Contains-append_left (c.entries s) (c.due s) (entry.Commit tx) m)) [
+    elim ((h.legal.sites s (logged-inside c s tx h m)).log.stands (entry.Commit tx) (Contains-append_left (c.entries s) (c.due s) (entry.Commit tx) m)) [
       | inl read ↦ absurd read.0
       | inr done ↦
           let by = done.0.1 in

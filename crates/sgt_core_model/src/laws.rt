@@ -1,6 +1,6 @@
 //! Laws of every run of the core.
 
-ghost use Rattle.std.specs.Prelude.{◌≡◌, ◌⊎◌, ◌↔◌, ℕ, List, [], All, AllPairs, Contains, count_by};
+ghost use Rattle.std.specs.Prelude.{◌≡◌, ◌⊎◌, ◌↔◌, ◌<◌, ℕ, List, [], length, All, AllPairs, Contains, count_by};
 ghost use Rattle.sgt_names.specs.Name.{Name};
 ghost use Rattle.sgt_names.specs.declared.entry.Holding.{Holding};
 ghost use Rattle.sgt_site.specs.State.{version_at};
@@ -46,7 +46,8 @@ pub fn installs_are_versions()
 {}
 
 /// After whatever events, an install is noted exactly where the commit of its transaction stands in the site's log, and its items are
-/// those that the transaction changes there, in the order of the log. Each is of a committed transaction, and none is noted twice.
+/// those that the transaction changes there, in the order of the log. Each is of a committed transaction and of a site of the run, and
+/// none is noted twice.
 pub fn installs_are_logged()
     ensures noted { (items : List (List Holding))
         (events : List Event) (replies : List Reply) (c : CoreState) (install : Install)
@@ -56,6 +57,10 @@ pub fn installs_are_logged()
         (events : List Event) (replies : List Reply) (c : CoreState) (install : Install)
         → Run (fresh items) events replies c
         → Contains c.certifier.installs install → Contains (serial c.certifier) install.tx }
+    ensures sited { (items : List (List Holding))
+        (events : List Event) (replies : List Reply) (c : CoreState) (install : Install)
+        → Run (fresh items) events replies c
+        → Contains c.certifier.installs install → install.site < length c.items }
     ensures once { (items : List (List Holding))
         (events : List Event) (replies : List Reply) (c : CoreState)
         → Run (fresh items) events replies c
