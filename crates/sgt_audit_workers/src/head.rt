@@ -4,7 +4,7 @@ ghost use Rattle.std.specs.Prelude.{◌≡◌, ◌≢◌, ◌+◌, ◌-◌, ◌^
 ghost use Rattle.sgt_names.specs.Limits.{max_line};
 ghost use Rattle.sgt_notation.specs.Lines.{IsNext, coming};
 ghost use Rattle.sgt_notation.specs.Spelling.{text_of_lines};
-ghost use Rattle.sgt_cert.specs.Text.{certificate_text, format_line};
+ghost use Rattle.sgt_cert.specs.Text.{IsCertificate, certificate_text, format_line};
 ghost use Rattle.sgt_audit.specs.Faults.{Breaks, FirstFault, Rule, headed, whole};
 ghost use Rattle.sgt_audit.specs.Verdict.{IsVerdict};
 ghost use Rattle.sgt_audit.specs.private.Judging.{AnswersItself};
@@ -87,6 +87,25 @@ fn judge_certificate(
     }
 }
 
+/// The certificate whose line this is, behind a first line of this format; or the fault of the line.
+pub fn certificate_of(
+    alloc: Global,
+    second: bool,
+    line: &[u8],
+) -> Result<Result<Certificate, Fault>, EngineFail>
+    ensures certificate { IfOk result (λ r. IfOk r (λ c. IsCertificate c
+        × (line.now ≡ certificate_text c))) }
+    ensures fault { IfOk result
+        (λ r. IfErr r (Breaks (Rule (headed second) (whole line.now)))) }
+    ensures err { IfErr result (λ e. e ≡ EngineFail.Memory) }
+{
+    match from_line(alloc, line) {
+        Ok(certificate) => Ok(Ok(certificate)),
+        Err(CertFault::Memory) => Err(EngineFail::Memory),
+        Err(_) => Ok(Err(Fault::Certificate)),
+    }
+}
+
 /// What the two lines say, by the second of them, which is this; or its fault.
 pub fn head_of(alloc: Global, second: bool, line: &[u8]) -> Result<Result<Head, Fault>, EngineFail>
     ensures head { IfOk result (λ r. IfOk r (λ h. IsHead h × (h.second ≡ second)
@@ -130,7 +149,7 @@ fn second_fault(next: Next) -> Option<Fault>
     }
 }
 
-/// What the two lines say, once the second is judged; or its fault. Meanwhile sections are read, as long as there is room for them.
+/// What the two lines say, once the second is judged; or its fault. While it is read sections are read too, as long as there is room for them.
 fn read_beside<H: Threads + Sync, R: Source>(
     rt: &H,
     room: Room,

@@ -1,14 +1,15 @@
 //! Line 2, judged by threads.
 
-ghost use Rattle.std.specs.Prelude.{Bool, List, ℕ, IfOk, IfSome};
+ghost use Rattle.std.specs.Prelude.{◌≡◌, Bool, List, ℕ, IfOk, IfSome};
+ghost use Rattle.sgt_cert.specs.Text.{IsCertificate, certificate_text};
 ghost use Rattle.sgt_audit_workers.specs.Head.{IsHeadOf};
 ghost use Rattle.sgt_audit_workers.specs.private.Judging.{IsFoundOf, IsOnceOf, WillFind, WillSay};
 
-use crate::head::{Head, head_of};
+use crate::head::{Head, certificate_of, head_of};
 use crate::rules::{Once, judge_once};
 use sgt_audit::Fault;
 use sgt_audit_decisions::Decided;
-use sgt_cert::{CertFault, from_line};
+use sgt_cert::Certificate;
 use sgt_names::EngineFail;
 use std::alloc::{AllocError, Global};
 use std::snapshot::Snapshot;
@@ -22,6 +23,9 @@ pub enum Found {
     Once(Once),
     Judged(Result<Head, Fault>),
 }
+
+/// A line with as many bytes is long: only then are threads worth their start.
+pub const LONG: usize = 65_536;
 
 /// A line 2, once it is read.
 #[derive(Drop)]
@@ -55,15 +59,12 @@ pub struct Judging {
     reading: Underway,
 }
 
-/// The certificate whose line this is, if it is one in which no transaction is decided twice.
-fn once_of(alloc: Global, line: &[u8]) -> Result<Option<Once>, AllocError>
-    ensures { IfOk result (λ found. IfSome found (IsOnceOf line.now)) }
+/// The certificate, if no transaction is decided twice in it.
+fn once_of(alloc: Global, certificate: Certificate) -> Result<Option<Once>, AllocError>
+    ensures { IfOk result (λ found. IfSome found (λ once. (line : List ℕ)
+        → IsCertificate certificate × (line ≡ certificate_text certificate)
+        → IsOnceOf line once)) }
 {
-    let certificate = match from_line(alloc, line) {
-        Ok(certificate) => certificate,
-        Err(CertFault::Memory) => return Err(AllocError),
-        Err(_) => return Ok(None),
-    };
     let sites = certificate.sites;
     match Decided::new(alloc, certificate)? {
         Some(certificate) => Ok(Some(Once { sites, certificate })),
@@ -81,15 +82,21 @@ fn judged_of(alloc: Global, second: bool, line: &[u8]) -> Result<Found, EngineFa
     }
 }
 
-/// What the line is found to be. One of no certificate, or where a transaction is decided twice, is read once more, for the least of
-/// its faults.
+/// What the line is found to be. A short one is judged at once. One where a transaction is decided twice is read once more, for the
+/// least of its faults.
 fn find(alloc: Global, second: bool, line: &[u8]) -> Result<Found, EngineFail>
     ensures { IsFoundOf second line.now result }
 {
-    match once_of(alloc, line) {
-        Ok(Some(once)) => Ok(Found::Once(once)),
-        Ok(None) => judged_of(alloc, second, line),
-        Err(_) => Err(EngineFail::Memory),
+    if line.len() < LONG {
+        return judged_of(alloc, second, line);
+    }
+    let certificate = match certificate_of(alloc, second, line)? {
+        Ok(certificate) => certificate,
+        Err(fault) => return Ok(Found::Judged(Err(fault))),
+    };
+    match once_of(alloc, certificate)? {
+        Some(once) => Ok(Found::Once(once)),
+        None => judged_of(alloc, second, line),
     }
 }
 

@@ -1,6 +1,7 @@
 //! What no clause says: that verdicts come where memory can be had, as one thread gives them.
 
 use crate::audit_with;
+use crate::judging::LONG;
 use sgt_audit::audit;
 use sgt_names::{EngineFail, MemSink, MemSource};
 use std::alloc::Global;
@@ -53,11 +54,43 @@ fn faults_of_each_section(rt: HostRuntime) -> Result<(), Fail> {
         ("site 1\n", "site 0\n"),
         ("sgt 1", "sgt 3"),
         ("rank\":0", "rank\":1"),
+        ("kind", "sort"),
+        ("refuse\":2", "refuse\":1"),
+        ("site\":1,\"to\":1", "site\":1,\"to\":2"),
     ] {
         let text = TWO_SITES.replace(rt.alloc(), old, new)?;
         for workers in 1..4usize {
             assert!(rt; agrees(&rt, rt.alloc(), text.as_bytes(), workers)?, "{new}");
         }
+    }
+    Ok(())
+}
+
+// The same with so many withdrawn transactions that line 2 is a long one.
+fn with_a_long_line(alloc: Global) -> Result<String, Fail> {
+    let mut withdrawn = String::new(alloc);
+    for tx in 3..5_000u32 {
+        let decision = format!(in alloc; ",{{\"withdraw\":{tx}}}")?;
+        withdrawn.push_str(decision.as_str())?;
+    }
+    let end = format!(in alloc; "}}]}}{withdrawn}],\"sites\"")?;
+    Ok(TWO_SITES.replace(alloc, "}]}],\"sites\"", end.as_str())?)
+}
+
+#[test]
+fn faults_of_a_long_line(rt: HostRuntime) -> Result<(), Fail> {
+    let long = with_a_long_line(rt.alloc())?;
+    assert!(rt; long.len() > LONG);
+    for (old, new) in [
+        ("kind", "kind"),
+        ("kind", "sort"),
+        ("rank\":0", "rank\":1"),
+        ("refuse\":2", "refuse\":1"),
+        ("site\":1,\"to\":1", "site\":1,\"to\":2"),
+        ("r2[x]=6", "r2[x]=5"),
+    ] {
+        let text = long.replace(rt.alloc(), old, new)?;
+        assert!(rt; agrees(&rt, rt.alloc(), text.as_bytes(), 3)?, "{new}");
     }
     Ok(())
 }

@@ -26,6 +26,9 @@ use std::alloc::{AllocError, Global};
 use std::sync::Arc;
 use std::thread::Threads;
 
+/// So many decisions take some time to be let go.
+const MANY: usize = 4_096;
+
 /// Workers that judge sections, one after another of a text, and what those before these came to.
 #[derive(Drop)]
 pub struct Workers {
@@ -190,12 +193,14 @@ impl Workers {
         Ok(None)
     }
 
-    /// Waits for the sections that are judged still, whatever is found. No one waits until what the lines say is let go.
+    /// Waits for the sections that are judged still, whatever is found. Where the lines say much, no one waits until that is let go.
     pub fn stop<H: Threads>(self, rt: &H) {
         let Workers { head, running, .. } = self;
         for running in running {
             finish(rt, running);
         }
-        let_go(rt, head);
+        if head.certificate.decisions().len() >= MANY {
+            let_go(rt, head);
+        }
     }
 }
