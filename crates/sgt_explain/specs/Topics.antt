@@ -4,10 +4,12 @@ use Rattle.sgt_cert.specs.declared.fault.CertFault.{CertFault}
 use Rattle.sgt_cert.specs.declared.fault.CertFault.TheVariants as line
 use Rattle.sgt_audit.specs.declared.faults.Fault.{Fault}
 use Rattle.sgt_audit.specs.declared.faults.Fault.TheVariants as fault
+use Rattle.sgt_explain.specs.declared.topics.Anomaly.{Anomaly}
+use Rattle.sgt_explain.specs.declared.topics.Anomaly.TheVariants as anomaly
 use Rattle.sgt_explain.specs.declared.topics.Topic.{Topic}
 use Rattle.sgt_explain.specs.declared.topics.Reply.{Reply}
 use Rattle.sgt_explain.specs.declared.topics.Reply.TheVariants as reply
-use Rattle.sgt_explain.specs.declared.topics.Topic.TheVariants.{Bundle, Line, Told}
+use Rattle.sgt_explain.specs.declared.topics.Topic.TheVariants.{Bundle, Line, Told, Found}
 
 abbrev pub fault_name : Fault → List ℕ
 fault_name fault.Format = codes "F1"
@@ -51,6 +53,9 @@ reply_name reply.NumbersSpent = codes "E11"
 reply_name reply.NotTouched = codes "E12"
 reply_name reply.NotALine = codes "L1"
 reply_name reply.TooLong = codes "L2"
+reply_name reply.IdRepeated = codes "L3"
+reply_name reply.BundleKept = codes "B"
+reply_name reply.ChainBroken = codes "C1"
 reply_name reply.NoDecision = codes "V1"
 reply_name reply.DecidedTwice = codes "V2"
 reply_name reply.RunMemory = codes "V3"
@@ -65,10 +70,23 @@ reply_name reply.PoolMemory = codes "P1"
 reply_name reply.ScriptLeft = codes "P2"
 reply_name reply.ScriptRepeated = codes "P3"
 
+abbrev pub anomaly_name : Anomaly → List ℕ
+anomaly_name anomaly.Internal = codes "internal"
+anomaly_name anomaly.Duplicate = codes "duplicate"
+anomaly_name anomaly.AbortedRead = codes "G1a"
+anomaly_name anomaly.Unwritten = codes "unwritten"
+anomaly_name anomaly.IntermediateRead = codes "G1b"
+anomaly_name anomaly.Value = codes "value"
+anomaly_name anomaly.WriteCycle = codes "G0"
+anomaly_name anomaly.CircularFlow = codes "G1c"
+anomaly_name anomaly.SingleAntiDependency = codes "G-single"
+anomaly_name anomaly.ItemAntiDependency = codes "G2-item"
+
 abbrev pub topic_name : Topic → List ℕ
 topic_name (Bundle f) = fault_name f
 topic_name (Line f) = line_name f
 topic_name (Told r) = reply_name r
+topic_name (Found a) = anomaly_name a
 
 -- the text is the rule of this name: it begins with the name and a space
 abbrev pub IsRuleOf : List ℕ → List ℕ → Type 0

@@ -1,6 +1,7 @@
 //! Verdicts explained: what a no means, line by line, and of a yes why transactions were refused.
 #![tactic(auto)]
 
+mod anomalies;
 mod answers;
 mod certified;
 mod engine;
@@ -16,4 +17,4 @@ mod topics;
 mod yeses;
 
 pub use engine::{explain, explain_topic, explain_transaction};
-pub use topics::{Reply, Topic};
+pub use topics::{Anomaly, Reply, Topic};

@@ -2,6 +2,7 @@
 
 ghost use Rattle.sgt_explain.specs.Topics.{fault_name, line_name, topic_name, IsRuleOf};
 
+use crate::anomalies::anomaly_rule;
 use crate::replies::reply_rule;
 use crate::topics::Topic;
 use sgt_audit::Fault;
@@ -213,5 +214,6 @@ pub fn rule_of(topic: Topic) -> &'static str
         Topic::Bundle(fault) => fault_rule(fault),
         Topic::Line(fault) => line_rule(fault),
         Topic::Told(reply) => reply_rule(reply),
+        Topic::Found(anomaly) => anomaly_rule(anomaly),
     }
 }

@@ -3,8 +3,9 @@
 ghost use Rattle.std.specs.Prelude.{◌≡◌, ◌≢◌, IfSome, IfNone};
 ghost use Rattle.sgt_audit.specs.declared.faults.Fault.{Fault};
 ghost use Rattle.sgt_cert.specs.declared.fault.CertFault.{CertFault};
+ghost use Rattle.sgt_explain.specs.declared.topics.Anomaly.{Anomaly};
 ghost use Rattle.sgt_explain.specs.declared.topics.Reply.{Reply};
-ghost use Rattle.sgt_explain.specs.Topics.{fault_name, line_name, reply_name, topic_name};
+ghost use Rattle.sgt_explain.specs.Topics.{anomaly_name, fault_name, line_name, reply_name, topic_name};
 
 use sgt_audit::Fault;
 use sgt_cert::CertFault;
@@ -25,9 +26,13 @@ pub enum Reply {
     GenerationsSpent,
     NumbersSpent,
     NotTouched,
-    /// L1 and L2: why a line can't be read.
+    /// L1 to L3: why a line can't be read.
     NotALine,
     TooLong,
+    IdRepeated,
+    /// B: a bundle can't be handed out. C1: it doesn't go on where the one before it ended.
+    BundleKept,
+    ChainBroken,
     /// V1 to V10 and P1 to P3: why a run isn't told. V3, V5, P1 and P3 are never written.
     NoDecision,
     DecidedTwice,
@@ -44,8 +49,25 @@ pub enum Reply {
     ScriptRepeated,
 }
 
-/// A rule that can be asked about: of a fault of a bundle, F1 to F19, or of why a line is no certificate, K1 to K4; or what a
-/// reply of a replay or a run says.
+/// What a history of a database can have, by the names of the field.
+#[derive(Clone, Copy, Debug, PartialEq, Eq)]
+pub enum Anomaly {
+    /// Faults of a line.
+    Internal,
+    Duplicate,
+    AbortedRead,
+    Unwritten,
+    IntermediateRead,
+    Value,
+    /// Cycles of conflicts.
+    WriteCycle,
+    CircularFlow,
+    SingleAntiDependency,
+    ItemAntiDependency,
+}
+
+/// A rule that can be asked about: of a fault of a bundle, F1 to F19, or of why a line is no certificate, K1 to K4; what a
+/// reply of a replay, a run or a service says; or an anomaly of a history.
 #[derive(Clone, Copy, Debug, PartialEq, Eq)]
 pub enum Topic {
     /// The rule of a bundle that this fault breaks.
@@ -54,6 +76,8 @@ pub enum Topic {
     Line(CertFault),
     /// What is told so.
     Told(Reply),
+    /// What a history has.
+    Found(Anomaly),
 }
 
 /// The fault of a bundle with this name.
@@ -119,6 +143,9 @@ fn reply_of(word: &[u8]) -> Option<Reply>
         b"E12" => Some(Reply::NotTouched),
         b"L1" => Some(Reply::NotALine),
         b"L2" => Some(Reply::TooLong),
+        b"L3" => Some(Reply::IdRepeated),
+        b"B" => Some(Reply::BundleKept),
+        b"C1" => Some(Reply::ChainBroken),
         b"V1" => Some(Reply::NoDecision),
         b"V2" => Some(Reply::DecidedTwice),
         b"V3" => Some(Reply::RunMemory),
@@ -132,6 +159,26 @@ fn reply_of(word: &[u8]) -> Option<Reply>
         b"P1" => Some(Reply::PoolMemory),
         b"P2" => Some(Reply::ScriptLeft),
         b"P3" => Some(Reply::ScriptRepeated),
+        _ => None,
+    }
+}
+
+/// The anomaly with this name.
+fn anomaly_of(word: &[u8]) -> Option<Anomaly>
+    ensures some { IfSome result (λ a. word.now ≡ anomaly_name a) }
+    ensures none { IfNone result ((a : Anomaly) → word.now ≢ anomaly_name a) }
+{
+    match word {
+        b"internal" => Some(Anomaly::Internal),
+        b"duplicate" => Some(Anomaly::Duplicate),
+        b"G1a" => Some(Anomaly::AbortedRead),
+        b"unwritten" => Some(Anomaly::Unwritten),
+        b"G1b" => Some(Anomaly::IntermediateRead),
+        b"value" => Some(Anomaly::Value),
+        b"G0" => Some(Anomaly::WriteCycle),
+        b"G1c" => Some(Anomaly::CircularFlow),
+        b"G-single" => Some(Anomaly::SingleAntiDependency),
+        b"G2-item" => Some(Anomaly::ItemAntiDependency),
         _ => None,
     }
 }
@@ -156,8 +203,8 @@ impl Topic {
     ghost use Rattle.sgt_explain.specs.declared.topics.Topic.{Topic as Named};
     ghost use Rattle.sgt_explain.specs.Topics.{topic_name};
 
-    /// The topic of this name: `F1` to `F19`, `K1` to `K4`; `E1` to `E12`, `L1`, `L2`, `V1` to `V10`, `P1` to `P3`. Names are
-    /// compared byte by byte. None where no topic has the name.
+    /// The topic of this name: `F1` to `F19`, `K1` to `K4`; `E1` to `E12`, `L1` to `L3`, `V1` to `V10`, `P1` to `P3`, `B`, `C1`;
+    /// `internal` to `G2-item`. Names are compared byte by byte. None where no topic has the name.
     pub fn find(word: &str) -> Option<Topic>
         ensures some { IfSome result (λ topic. word.now ≡ topic_name topic) }
         ensures none { IfNone result ((topic : Named) → word.now ≢ topic_name topic) }
@@ -166,8 +213,11 @@ impl Topic {
         if let Some(topic) = rule(name) {
             return Some(topic);
         }
-        match reply_of(name) {
-            Some(reply) => Some(Topic::Told(reply)),
+        if let Some(reply) = reply_of(name) {
+            return Some(Topic::Told(reply));
+        }
+        match anomaly_of(name) {
+            Some(anomaly) => Some(Topic::Found(anomaly)),
             None => None,
         }
     }
