@@ -19,7 +19,7 @@ use Rattle.sgt_certify_faults.specs.Faults.{IsFaultless}
 use Rattle.sgt_certify_logs.specs.Certifiable.{IsWithLine, SpellsLogs}
 use Rattle.sgt_certify_logs.specs.Sound.{AreSound, SpellsSoundLogs}
 use Rattle.sgt_certify_logs.proofs.Inserted.{logs-one, with-bundle}
-use Rattle.sgt_certify.specs.Answer.{Excludes, HasCertificate, IsAnswer, IsCertified, IsCertifiedBy, refusal_text}
+use Rattle.sgt_certify.specs.Answer.{Excludes, HasCertificate, IsAnswer, IsCertified, IsCertifiedBy, IsFirst, refusal_text}
 use Rattle.sgt_certify.specs.declared.refuting.Refusal.{Refusal}
 use Rattle.sgt_certify.proofs.Made.{certified-from, none-shown}
 
@@ -60,8 +60,8 @@ certified-by c bytes line text (sites, logs, valid, many) ds is made =
 
 -- what the logs have refuses the bytes
 pub refused-by : (refusal : Refusal) (bytes lines text : List ℕ) (sites : List SiteLog) → text ≡ refusal_text refusal ++ lines → IsFaultless bytes → SpellsLogs bytes sites
-    → Excludes refusal sites → IsAnswer bytes No text
-refused-by refusal bytes lines text sites told faultless logs shown =
+    → Excludes refusal sites → IsFirst refusal sites → IsAnswer bytes No text
+refused-by refusal bytes lines text sites told faultless logs shown first =
     inl (record {
       refusal = refusal;
       lines = lines;
@@ -70,6 +70,7 @@ refused-by refusal bytes lines text sites told faultless logs shown =
       logs = logs;
       faultless = faultless;
       shown = shown;
+      first = first;
       none = none-shown refusal bytes sites logs shown;
     })
 

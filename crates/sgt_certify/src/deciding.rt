@@ -3,7 +3,7 @@
 ghost use Rattle.std.specs.Prelude.{◌≡◌, ◌<◌, ◌≤◌, ℕ, List, length, IfOk, IfErr};
 ghost use Rattle.sgt_cert.specs.Valid.{IsValid};
 ghost use Rattle.sgt_cert.specs.declared.bundle.SiteLog.{SiteLog};
-ghost use Rattle.sgt_certify.specs.Answer.{IsCertifiedBy, Excludes, IsAnswer};
+ghost use Rattle.sgt_certify.specs.Answer.{IsCertifiedBy, Excludes, IsAnswer, IsFirst};
 ghost use Rattle.sgt_certify_faults.specs.Faults.{IsFaultless};
 ghost use Rattle.sgt_certify_logs.specs.Certifiable.{SpellsLogs};
 ghost use Rattle.sgt_certify_logs.specs.Sound.{AreSound, SpellsSoundLogs};
@@ -73,7 +73,7 @@ fn lines_of(alloc: Global, txs: &[Tx]) -> Result<Vec<u8>, AllocError> {
 fn reason_answer(alloc: Global, refusal: Refusal, txs: &[Tx]) -> Result<Answer, AllocError>
     ensures { IfOk result
         (λ a. (bytes : List ℕ) (logs : List SiteLog) → IsFaultless bytes → SpellsLogs bytes logs
-        → Excludes refusal logs → IsAnswer bytes a.outcome a.text.items) }
+        → Excludes refusal logs → IsFirst refusal logs → IsAnswer bytes a.outcome a.text.items) }
 {
     let lines = lines_of(alloc, txs)?;
     let text = joined(alloc, line_of(refusal), lines.as_slice())?;

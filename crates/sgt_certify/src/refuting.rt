@@ -1,10 +1,11 @@
 //! Why a text of logs has no certificate, checked against the logs.
 
-ghost use Rattle.std.specs.Prelude.{◌≡◌, ◌++◌, List, [], length, IfOk, IfErr, IfSome, IfNone};
+ghost use Rattle.std.specs.Prelude.{◌≡◌, ◌++◌, List, [], length, IsTrue, IfOk, IfErr, IfSome, IfNone};
 ghost use Rattle.sgt_cert.specs.declared.bundle.SiteLog.{SiteLog};
-ghost use Rattle.sgt_certify.specs.Answer.{Excludes, IsRefused, refusal_text};
+ghost use Rattle.sgt_certify.specs.Answer.{Excludes, IsFirst, IsRefused, refusal_text};
 ghost use Rattle.sgt_certify_faults.specs.Faults.{IsFaultless};
 ghost use Rattle.sgt_certify_logs.specs.Certifiable.{SpellsLogs};
+ghost use Rattle.sgt_certify_logs.specs.Witness.{HaveConflictsInACycle, HaveEndsInACycle};
 ghost use Rattle.sgt_cert.specs.Text.{certificate_text};
 ghost use Rattle.sgt_notation.specs.Spelling.{HasNoLf};
 
@@ -13,8 +14,8 @@ use sgt_audit::read_bundle;
 use sgt_cert::{Bundle, Certificate, SiteLog, to_line};
 use sgt_certify_logs::{is_conflict_cycle, is_end_cycle};
 use sgt_certify_search::{Proof, Reason};
-use sgt_certify_stuck::is_stuck;
-use sgt_names::{EngineFail, Listed};
+use sgt_certify_stuck::{conflicts_follow, ends_follow, is_stuck};
+use sgt_names::{EngineFail, Listed, Tx};
 use std::alloc::{AllocError, Global};
 
 /// Why logs have no certificate.
@@ -39,27 +40,51 @@ pub fn line_of(refusal: Refusal) -> &'static [u8]
     }
 }
 
-/// What the proof shows of the logs, if it does.
+/// Whether the orders show that neither the ends nor the committed conflicts of the logs are in a cycle.
+fn are_in_order(
+    alloc: Global,
+    sites: &[SiteLog],
+    ends: &[Tx],
+    ranks: &[Tx],
+) -> Result<bool, AllocError>
+    ensures { IfOk result
+        (λ are. IsTrue are
+        → (HaveEndsInACycle sites.now → ⊥) × (HaveConflictsInACycle sites.now → ⊥)) }
+{
+    let along = ends_follow(alloc, sites, ends)?;
+    if !along {
+        return Ok(false);
+    }
+    conflicts_follow(alloc, sites, ranks)
+}
+
+/// What the proof shows of the logs, if it does: the first of the reasons that they have.
 fn shown(alloc: Global, sites: &[SiteLog], proof: &Proof) -> Result<Option<Refusal>, AllocError>
-    ensures { IfOk result (λ shown. IfSome shown (λ refusal. Excludes refusal sites.now)) }
+    ensures shown { IfOk result (λ shown. IfSome shown (λ refusal. Excludes refusal sites.now)) }
+    ensures first { IfOk result (λ shown. IfSome shown (λ refusal. IsFirst refusal sites.now)) }
 {
     match proof {
-        Proof::Ends(steps) => Ok(if is_end_cycle(sites, steps.as_slice()) {
-            Some(Refusal::Order)
-        } else {
-            None
-        }),
-        Proof::Conflicts(steps) => Ok(if is_conflict_cycle(sites, steps.as_slice()) {
-            Some(Refusal::Ranks)
-        } else {
-            None
-        }),
-        Proof::Stuck(set) => Ok(if is_stuck(alloc, sites, set)? {
-            Some(Refusal::Walk)
-        } else {
-            None
-        }),
+        Proof::Ends(steps) => {
+            if is_end_cycle(sites, steps.as_slice()) {
+                return Ok(Some(Refusal::Order));
+            }
+        }
+        Proof::Conflicts { cycle, ends } => {
+            if is_conflict_cycle(sites, cycle.as_slice())
+                && ends_follow(alloc, sites, ends.as_slice())?
+            {
+                return Ok(Some(Refusal::Ranks));
+            }
+        }
+        Proof::Stuck { set, ends, ranks } => {
+            if is_stuck(alloc, sites, set)?
+                && are_in_order(alloc, sites, ends.as_slice(), ranks.as_slice())?
+            {
+                return Ok(Some(Refusal::Walk));
+            }
+        }
     }
+    Ok(None)
 }
 
 /// The line of a certificate that decides nothing, of so many sites.

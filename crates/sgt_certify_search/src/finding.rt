@@ -5,13 +5,13 @@ ghost use Rattle.std.specs.Prelude.{◌<◌, length, IfSome};
 use crate::faults::LineFault;
 use crate::reading::Reader;
 use crate::report::{order_text, ranks_text, walk_text};
-use crate::search::{Finding, search};
+use crate::search::{Finding, Stuck, numbers_of, search};
 use crate::steps::{conflict_steps, end_steps};
 use sgt_cert::Certificate;
 use sgt_certify_history::History;
 use sgt_certify_logs::{ConflictStep, EndStep};
 use sgt_certify_stuck::StuckSet;
-use sgt_names::Listed;
+use sgt_names::{Listed, Tx};
 use sgt_notation::{SectionLine, find_lf, front_line};
 use std::alloc::{AllocError, Global};
 
@@ -20,10 +20,17 @@ use std::alloc::{AllocError, Global};
 pub enum Proof {
     /// A cycle of ends.
     Ends(Vec<EndStep>),
-    /// A cycle of conflicts.
-    Conflicts(Vec<ConflictStep>),
-    /// A stuck set.
-    Stuck(StuckSet),
+    /// A cycle of conflicts; and an order in which the ends lead onward, so that they are in no cycle.
+    Conflicts {
+        cycle: Vec<ConflictStep>,
+        ends: Vec<Tx>,
+    },
+    /// A stuck set; and orders in which the ends, and the committed conflicts, lead onward.
+    Stuck {
+        set: StuckSet,
+        ends: Vec<Tx>,
+        ranks: Vec<Tx>,
+    },
 }
 
 /// Why there is no certificate of logs of so many sites: what may show it, and the lines that tell it.
@@ -117,6 +124,21 @@ fn count_of(history: &History) -> u8 {
     }
 }
 
+/// What may show that the set is stuck.
+fn stuck_proof(alloc: Global, history: &History, stuck: Stuck) -> Result<Proof, AllocError> {
+    let Stuck {
+        set,
+        ends,
+        ranks,
+        ..
+    } = stuck;
+    Ok(Proof::Stuck {
+        set,
+        ends: numbers_of(alloc, history, ends.as_slice())?,
+        ranks: numbers_of(alloc, history, ranks.as_slice())?,
+    })
+}
+
 /// The lines that tell what was found, and what may show it.
 fn told(alloc: Global, history: &History, finding: Finding) -> Result<Found, AllocError> {
     let sites = count_of(history);
@@ -131,14 +153,17 @@ fn told(alloc: Global, history: &History, finding: Finding) -> Result<Found, All
             Proof::Ends(end_steps(alloc, history, cycle.as_slice())?),
             order_text(alloc, history, cycle.as_slice())?,
         ),
-        Finding::Ranks(cycle) => (
-            Proof::Conflicts(conflict_steps(alloc, history, cycle.as_slice())?),
+        Finding::Ranks(cycle, ends) => (
+            Proof::Conflicts {
+                cycle: conflict_steps(alloc, history, cycle.as_slice())?,
+                ends: numbers_of(alloc, history, ends.as_slice())?,
+            },
             ranks_text(alloc, history, cycle.as_slice())?,
         ),
-        Finding::Walk(left, stuck) => (
-            Proof::Stuck(stuck),
-            walk_text(alloc, history, left.as_slice())?,
-        ),
+        Finding::Walk(stuck) => {
+            let lines = walk_text(alloc, history, stuck.left.as_slice())?;
+            (stuck_proof(alloc, history, stuck)?, lines)
+        }
     };
     Ok(Found::Refused(Reason {
         sites,
