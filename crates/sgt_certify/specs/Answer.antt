@@ -14,6 +14,7 @@ use Rattle.sgt_audit.specs.Faults.{fault_number}
 use Rattle.sgt_certify_faults.specs.Faults.{GoesOn, IsFaultless, IsFirstFault}
 use Rattle.sgt_certify_logs.specs.Certifiable.{AreCertifiable, HasNoCertificate, IsWithLine, SpellsLogs}
 use Rattle.sgt_certify_logs.specs.Witness.{HaveConflictsInACycle, HaveEndsInACycle, IsStuck}
+use Rattle.sgt_certify.specs.Lines.{AreLinesOf}
 use Rattle.sgt_certify.specs.declared.refuting.Refusal.{Refusal}
 use Rattle.sgt_certify.specs.declared.refuting.Refusal.TheVariants.{Order, Ranks, Walk}
 
@@ -59,7 +60,8 @@ IsFirst Ranks sites = HaveEndsInACycle sites → ⊥
 IsFirst Walk sites = (HaveEndsInACycle sites → ⊥) × (HaveConflictsInACycle sites → ⊥)
 
 -- the text begins with the line of a refusal, the bytes have no fault, the logs that they spell
--- have what that line says and nothing that is told before it, and so no certificate
+-- have what that line says and nothing that is told before it, and so no certificate; the lines
+-- behind it are those of what they have
 pub record IsRefused (bytes text : List ℕ) : Type 0 where
   pub refusal : Refusal
   pub lines : List ℕ
@@ -69,6 +71,7 @@ pub record IsRefused (bytes text : List ℕ) : Type 0 where
   pub faultless : IsFaultless bytes
   pub shown : Excludes refusal sites
   pub first : IsFirst refusal sites
+  pub lines_are : AreLinesOf refusal sites lines
   pub none : HasNoCertificate bytes
 
 -- the line of a fault

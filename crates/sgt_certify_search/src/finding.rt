@@ -4,7 +4,7 @@ ghost use Rattle.std.specs.Prelude.{◌<◌, length, IfSome};
 
 use crate::faults::LineFault;
 use crate::reading::Reader;
-use crate::report::{order_text, ranks_text, walk_text};
+use crate::report::walk_text;
 use crate::search::{Finding, Stuck, numbers_of, search};
 use crate::steps::{conflict_steps, end_steps};
 use sgt_cert::Certificate;
@@ -25,20 +25,20 @@ pub enum Proof {
         cycle: Vec<ConflictStep>,
         ends: Vec<Tx>,
     },
-    /// A stuck set; and orders in which the ends, and the committed conflicts, lead onward.
+    /// A stuck set; orders in which the ends, and the committed conflicts, lead onward; and the lines of the next ends.
     Stuck {
         set: StuckSet,
         ends: Vec<Tx>,
         ranks: Vec<Tx>,
+        lines: Vec<u8>,
     },
 }
 
-/// Why there is no certificate of logs of so many sites: what may show it, and the lines that tell it.
+/// Why there is no certificate of logs of so many sites: what may show it.
 #[derive(Drop)]
 pub struct Reason {
     pub sites: u8,
     pub proof: Proof,
-    pub lines: Vec<u8>,
 }
 
 /// What was found of a text of logs.
@@ -126,6 +126,7 @@ fn count_of(history: &History) -> u8 {
 
 /// What may show that the set is stuck.
 fn stuck_proof(alloc: Global, history: &History, stuck: Stuck) -> Result<Proof, AllocError> {
+    let lines = walk_text(alloc, history, stuck.left.as_slice())?;
     let Stuck {
         set,
         ends,
@@ -136,40 +137,28 @@ fn stuck_proof(alloc: Global, history: &History, stuck: Stuck) -> Result<Proof, 
         set,
         ends: numbers_of(alloc, history, ends.as_slice())?,
         ranks: numbers_of(alloc, history, ranks.as_slice())?,
+        lines,
     })
 }
 
-/// The lines that tell what was found, and what may show it.
+/// The certificate that was found, or what may show that there is none.
 fn told(alloc: Global, history: &History, finding: Finding) -> Result<Found, AllocError> {
     let sites = count_of(history);
-    let (proof, lines) = match finding {
+    let proof = match finding {
         Finding::Decided(decisions) => {
             return Ok(Found::Certificate(Certificate {
                 sites,
                 decisions: Listed::new(decisions),
             }));
         }
-        Finding::Order(cycle) => (
-            Proof::Ends(end_steps(alloc, history, cycle.as_slice())?),
-            order_text(alloc, history, cycle.as_slice())?,
-        ),
-        Finding::Ranks(cycle, ends) => (
-            Proof::Conflicts {
-                cycle: conflict_steps(alloc, history, cycle.as_slice())?,
-                ends: numbers_of(alloc, history, ends.as_slice())?,
-            },
-            ranks_text(alloc, history, cycle.as_slice())?,
-        ),
-        Finding::Walk(stuck) => {
-            let lines = walk_text(alloc, history, stuck.left.as_slice())?;
-            (stuck_proof(alloc, history, stuck)?, lines)
-        }
+        Finding::Order(cycle) => Proof::Ends(end_steps(alloc, history, cycle.as_slice())?),
+        Finding::Ranks(cycle, ends) => Proof::Conflicts {
+            cycle: conflict_steps(alloc, history, cycle.as_slice())?,
+            ends: numbers_of(alloc, history, ends.as_slice())?,
+        },
+        Finding::Walk(stuck) => stuck_proof(alloc, history, stuck)?,
     };
-    Ok(Found::Refused(Reason {
-        sites,
-        proof,
-        lines,
-    }))
+    Ok(Found::Refused(Reason { sites, proof }))
 }
 
 /// What the search finds in what the logs say.
