@@ -19,8 +19,13 @@ use Rattle.sgt_certify_faults.specs.Faults.{IsFaultless}
 use Rattle.sgt_certify_logs.specs.Certifiable.{IsWithLine, SpellsLogs}
 use Rattle.sgt_certify_logs.specs.Sound.{AreSound, SpellsSoundLogs}
 use Rattle.sgt_certify_logs.proofs.Inserted.{logs-one, with-bundle}
-use Rattle.sgt_certify.specs.Answer.{Excludes, HasCertificate, IsAnswer, IsCertified, IsCertifiedBy, refusal_text}
+use Rattle.sgt_certify.specs.Answer.{Excludes, HasCertificate, IsAnswer, IsCertified, IsCertifiedBy, IsFirst, refusal_text}
+use Rattle.std.specs.List.{flat_map}
+use Rattle.sgt_certify_logs.specs.Witness.{EndsBefore, PrecedesCommitted}
+use Rattle.sgt_certify_greedy.proofs.Rings.{ring-cycle}
+use Rattle.sgt_certify.specs.Lines.{AreLinesOf, IsShownBy, tx_line}
 use Rattle.sgt_certify.specs.declared.refuting.Refusal.{Refusal}
+use Rattle.sgt_certify.specs.declared.refuting.Refusal.TheVariants.{Order, Ranks, Walk}
 use Rattle.sgt_certify.proofs.Made.{certified-from, none-shown}
 
 -- the steps of a logged walk are at sites that there are
@@ -58,10 +63,23 @@ certified-by c bytes line text (sites, logs, valid, many) ds is made =
     certified-from bytes text (certificate_text c) (record { certificate = c; sites = sites }) with
     (with-bundle bytes text c sites with (certificate-within c bytes sites logs valid many ds) many logs) valid
 
+-- what the slow search shows excludes a certificate
+pub shown-excludes : (refusal : Refusal) (sites : List SiteLog) (txs : List ℕ) → IsShownBy refusal sites txs → Excludes refusal sites
+shown-excludes Order sites txs ring = ring-cycle (EndsBefore sites) txs ring
+shown-excludes Ranks sites txs ring = ring-cycle (PrecedesCommitted sites) txs ring
+shown-excludes Walk sites txs stuck = (txs, stuck)
+
+pub brief-lines : (refusal : Refusal) (sites : List SiteLog) (txs lines : List ℕ) → IsShownBy refusal sites txs → lines ≡ flat_map tx_line txs
+    → AreLinesOf refusal sites lines
+brief-lines Order sites txs lines shown are = inr (txs, shown, are)
+brief-lines Ranks sites txs lines shown are = inr (txs, shown, are)
+brief-lines Walk sites txs lines shown are = tt
+
 -- what the logs have refuses the bytes
-pub refused-by : (refusal : Refusal) (bytes lines text : List ℕ) (sites : List SiteLog) → text ≡ refusal_text refusal ++ lines → IsFaultless bytes → SpellsLogs bytes sites
-    → Excludes refusal sites → IsAnswer bytes No text
-refused-by refusal bytes lines text sites told faultless logs shown =
+pub refused-by : (refusal : Refusal) (bytes lines text txs : List ℕ) (sites : List SiteLog) → text ≡ refusal_text refusal ++ lines → lines ≡ flat_map tx_line txs
+    → IsFaultless bytes → SpellsLogs bytes sites → IsShownBy refusal sites txs → IsFirst refusal sites → IsAnswer bytes No text
+refused-by refusal bytes lines text txs sites told are faultless logs shown first =
+    let excludes = shown-excludes refusal sites txs shown in
     inl (record {
       refusal = refusal;
       lines = lines;
@@ -69,8 +87,10 @@ refused-by refusal bytes lines text sites told faultless logs shown =
       sites = sites;
       logs = logs;
       faultless = faultless;
-      shown = shown;
-      none = none-shown refusal bytes sites logs shown;
+      shown = excludes;
+      first = first;
+      lines_are = brief-lines refusal sites txs lines shown are;
+      none = none-shown refusal bytes sites logs excludes;
     })
 
 -- the logs that sound bytes spell are sound

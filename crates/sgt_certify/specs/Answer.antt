@@ -14,6 +14,7 @@ use Rattle.sgt_audit.specs.Faults.{fault_number}
 use Rattle.sgt_certify_faults.specs.Faults.{GoesOn, IsFaultless, IsFirstFault}
 use Rattle.sgt_certify_logs.specs.Certifiable.{AreCertifiable, HasNoCertificate, IsWithLine, SpellsLogs}
 use Rattle.sgt_certify_logs.specs.Witness.{HaveConflictsInACycle, HaveEndsInACycle, IsStuck}
+use Rattle.sgt_certify.specs.Lines.{AreLinesOf}
 use Rattle.sgt_certify.specs.declared.refuting.Refusal.{Refusal}
 use Rattle.sgt_certify.specs.declared.refuting.Refusal.TheVariants.{Order, Ranks, Walk}
 
@@ -52,9 +53,15 @@ Excludes Order sites = HaveEndsInACycle sites
 Excludes Ranks sites = HaveConflictsInACycle sites
 Excludes Walk sites = (decided : List ℕ) × IsStuck sites decided
 
+-- the logs have none of the reasons that are told before this one
+abbrev pub IsFirst : Refusal → List SiteLog → Type 0
+IsFirst Order sites = Unit {0}
+IsFirst Ranks sites = HaveEndsInACycle sites → ⊥
+IsFirst Walk sites = (HaveEndsInACycle sites → ⊥) × (HaveConflictsInACycle sites → ⊥)
+
 -- the text begins with the line of a refusal, the bytes have no fault, the logs that they spell
--- have what that line says, and so
--- no certificate
+-- have what that line says and nothing that is told before it, and so no certificate; the lines
+-- behind it are those of what they have
 pub record IsRefused (bytes text : List ℕ) : Type 0 where
   pub refusal : Refusal
   pub lines : List ℕ
@@ -63,6 +70,8 @@ pub record IsRefused (bytes text : List ℕ) : Type 0 where
   pub logs : SpellsLogs bytes sites
   pub faultless : IsFaultless bytes
   pub shown : Excludes refusal sites
+  pub first : IsFirst refusal sites
+  pub lines_are : AreLinesOf refusal sites lines
   pub none : HasNoCertificate bytes
 
 -- the line of a fault

@@ -3,17 +3,18 @@
 ghost use Rattle.std.specs.Prelude.{◌≡◌, ◌<◌, ◌≤◌, ℕ, List, length, IfOk, IfErr};
 ghost use Rattle.sgt_cert.specs.Valid.{IsValid};
 ghost use Rattle.sgt_cert.specs.declared.bundle.SiteLog.{SiteLog};
-ghost use Rattle.sgt_certify.specs.Answer.{IsCertifiedBy, Excludes, IsAnswer};
+ghost use Rattle.sgt_certify.specs.Answer.{IsCertifiedBy, IsAnswer, IsFirst};
+ghost use Rattle.sgt_certify.specs.Lines.{IsShownBy};
 ghost use Rattle.sgt_certify_faults.specs.Faults.{IsFaultless};
 ghost use Rattle.sgt_certify_logs.specs.Certifiable.{SpellsLogs};
 ghost use Rattle.sgt_certify_logs.specs.Sound.{AreSound, SpellsSoundLogs};
 
 use crate::making::with_line;
 use crate::refuting::{Refusal, joined, line_of, logs_of};
+use crate::telling::tx_lines;
 use sgt_cert::{Bundle, Certificate, to_line};
 use sgt_certify_greedy::{Answer as Decided, decide};
 use sgt_names::{EngineFail, MAX_SITES, Outcome, Tx};
-use sgt_notation::push_number;
 use std::alloc::{AllocError, Global};
 
 /// An outcome, and what is to be written.
@@ -59,23 +60,14 @@ fn certificate_answer(
     }
 }
 
-/// The transactions, one a line.
-fn lines_of(alloc: Global, txs: &[Tx]) -> Result<Vec<u8>, AllocError> {
-    let mut lines = Vec::new(alloc);
-    for tx in txs {
-        push_number(&mut lines, u64::from(tx.number()))?;
-        lines.extend_from_slice(b"\n")?;
-    }
-    Ok(lines)
-}
-
 /// The no by what the logs have, told by these transactions.
 fn reason_answer(alloc: Global, refusal: Refusal, txs: &[Tx]) -> Result<Answer, AllocError>
     ensures { IfOk result
         (λ a. (bytes : List ℕ) (logs : List SiteLog) → IsFaultless bytes → SpellsLogs bytes logs
-        → Excludes refusal logs → IsAnswer bytes a.outcome a.text.items) }
+        → IsShownBy refusal logs txs.now → IsFirst refusal logs
+        → IsAnswer bytes a.outcome a.text.items) }
 {
-    let lines = lines_of(alloc, txs)?;
+    let lines = tx_lines(alloc, txs)?;
     let text = joined(alloc, line_of(refusal), lines.as_slice())?;
     Ok(Answer {
         outcome: Outcome::No,

@@ -7,6 +7,7 @@ mod laws;
 mod making;
 mod refuting;
 mod taking;
+mod telling;
 
 pub use deciding::{Answer, sound_answer};
 pub use engine::certify;

@@ -1,20 +1,23 @@
 //! Why a text of logs has no certificate, checked against the logs.
 
-ghost use Rattle.std.specs.Prelude.{◌≡◌, ◌++◌, List, [], length, IfOk, IfErr, IfSome, IfNone};
+ghost use Rattle.std.specs.Prelude.{◌≡◌, ◌++◌, List, [], length, IsTrue, IfOk, IfErr, IfSome, IfNone};
 ghost use Rattle.sgt_cert.specs.declared.bundle.SiteLog.{SiteLog};
-ghost use Rattle.sgt_certify.specs.Answer.{Excludes, IsRefused, refusal_text};
+ghost use Rattle.sgt_certify.specs.Answer.{Excludes, IsFirst, IsRefused, refusal_text};
+ghost use Rattle.sgt_certify.specs.Lines.{AreLinesOf};
 ghost use Rattle.sgt_certify_faults.specs.Faults.{IsFaultless};
 ghost use Rattle.sgt_certify_logs.specs.Certifiable.{SpellsLogs};
+ghost use Rattle.sgt_certify_logs.specs.Witness.{HaveConflictsInACycle, HaveEndsInACycle};
 ghost use Rattle.sgt_cert.specs.Text.{certificate_text};
 ghost use Rattle.sgt_notation.specs.Spelling.{HasNoLf};
 
 use crate::making::with_line;
+use crate::telling::{conflict_lines, end_lines};
 use sgt_audit::read_bundle;
 use sgt_cert::{Bundle, Certificate, SiteLog, to_line};
-use sgt_certify_logs::{is_conflict_cycle, is_end_cycle};
+use sgt_certify_logs::{ConflictStep, EndStep, is_conflict_cycle, is_end_cycle};
 use sgt_certify_search::{Proof, Reason};
-use sgt_certify_stuck::is_stuck;
-use sgt_names::{EngineFail, Listed};
+use sgt_certify_stuck::{conflicts_follow, ends_follow, is_stuck};
+use sgt_names::{EngineFail, Listed, Tx};
 use std::alloc::{AllocError, Global};
 
 /// Why logs have no certificate.
@@ -39,27 +42,110 @@ pub fn line_of(refusal: Refusal) -> &'static [u8]
     }
 }
 
-/// What the proof shows of the logs, if it does.
-fn shown(alloc: Global, sites: &[SiteLog], proof: &Proof) -> Result<Option<Refusal>, AllocError>
-    ensures { IfOk result (λ shown. IfSome shown (λ refusal. Excludes refusal sites.now)) }
+/// Whether the orders show that neither the ends nor the committed conflicts of the logs are in a cycle.
+fn are_in_order(
+    alloc: Global,
+    sites: &[SiteLog],
+    ends: &[Tx],
+    ranks: &[Tx],
+) -> Result<bool, AllocError>
+    ensures { IfOk result
+        (λ are. IsTrue are
+        → (HaveEndsInACycle sites.now → ⊥) × (HaveConflictsInACycle sites.now → ⊥)) }
+{
+    let along = ends_follow(alloc, sites, ends)?;
+    if !along {
+        return Ok(false);
+    }
+    conflicts_follow(alloc, sites, ranks)
+}
+
+/// A refusal, and the lines behind its first.
+#[derive(Drop)]
+struct Told {
+    refusal: Refusal,
+    lines: Vec<u8>,
+}
+
+/// What the proof shows of the logs, if it does: the first of the reasons that they have.
+fn shown(alloc: Global, sites: &[SiteLog], proof: &Proof) -> Result<Option<Told>, AllocError>
+    ensures shown { IfOk result (λ told. IfSome told (λ t. Excludes t.refusal sites.now)) }
+    ensures first { IfOk result (λ told. IfSome told (λ t. IsFirst t.refusal sites.now)) }
+    ensures lines { IfOk result
+        (λ told. IfSome told (λ t. AreLinesOf t.refusal sites.now t.lines.items)) }
 {
     match proof {
-        Proof::Ends(steps) => Ok(if is_end_cycle(sites, steps.as_slice()) {
-            Some(Refusal::Order)
-        } else {
-            None
-        }),
-        Proof::Conflicts(steps) => Ok(if is_conflict_cycle(sites, steps.as_slice()) {
-            Some(Refusal::Ranks)
-        } else {
-            None
-        }),
-        Proof::Stuck(set) => Ok(if is_stuck(alloc, sites, set)? {
-            Some(Refusal::Walk)
-        } else {
-            None
-        }),
+        Proof::Ends(steps) => order_shown(alloc, sites, steps.as_slice()),
+        Proof::Conflicts { cycle, ends } => {
+            ranks_shown(alloc, sites, cycle.as_slice(), ends.as_slice())
+        }
+        Proof::Stuck {
+            set,
+            ends,
+            ranks,
+            lines,
+        } => {
+            if is_stuck(alloc, sites, set)?
+                && are_in_order(alloc, sites, ends.as_slice(), ranks.as_slice())?
+            {
+                return Ok(Some(Told {
+                    refusal: Refusal::Walk,
+                    lines: Vec::from_slice(alloc, lines.as_slice())?,
+                }));
+            }
+            Ok(None)
+        }
     }
+}
+
+/// `no order` with these steps, if they are a cycle.
+fn order_shown(
+    alloc: Global,
+    sites: &[SiteLog],
+    steps: &[EndStep],
+) -> Result<Option<Told>, AllocError>
+    ensures shown { IfOk result (λ told. IfSome told (λ t. Excludes t.refusal sites.now)) }
+    ensures first { IfOk result (λ told. IfSome told (λ t. IsFirst t.refusal sites.now)) }
+    ensures lines { IfOk result
+        (λ told. IfSome told (λ t. AreLinesOf t.refusal sites.now t.lines.items)) }
+{
+    if !is_end_cycle(sites, steps) {
+        return Ok(None);
+    }
+    let Some(lines) = end_lines(alloc, sites, steps)? else {
+        return Ok(None);
+    };
+    Ok(Some(Told {
+        refusal: Refusal::Order,
+        lines,
+    }))
+}
+
+/// `no ranks` with these steps, if they are a cycle, and the order shows that no ends are in one.
+fn ranks_shown(
+    alloc: Global,
+    sites: &[SiteLog],
+    cycle: &[ConflictStep],
+    ends: &[Tx],
+) -> Result<Option<Told>, AllocError>
+    ensures shown { IfOk result (λ told. IfSome told (λ t. Excludes t.refusal sites.now)) }
+    ensures first { IfOk result (λ told. IfSome told (λ t. IsFirst t.refusal sites.now)) }
+    ensures lines { IfOk result
+        (λ told. IfSome told (λ t. AreLinesOf t.refusal sites.now t.lines.items)) }
+{
+    if !is_conflict_cycle(sites, cycle) {
+        return Ok(None);
+    }
+    if !ends_follow(alloc, sites, ends)? {
+        return Ok(None);
+    }
+    let Some(lines) = conflict_lines(alloc, sites, cycle)? else {
+        return Ok(None);
+    };
+    Ok(Some(Told {
+        refusal: Refusal::Ranks,
+        lines,
+    }))
 }
 
 /// The line of a certificate that decides nothing, of so many sites.
@@ -110,8 +196,9 @@ pub fn refused(alloc: Global, text: &[u8], reason: &Reason) -> Result<Option<Vec
     let Some(bundle) = logs_of(alloc, text, reason.sites)? else {
         return Ok(None);
     };
-    let Some(refusal) = shown(alloc, bundle.sites(), &reason.proof)? else {
+    let Some(told) = shown(alloc, bundle.sites(), &reason.proof)? else {
         return Ok(None);
     };
-    Ok(Some(joined(alloc, line_of(refusal), reason.lines.as_slice())?))
+    let Told { refusal, lines } = told;
+    Ok(Some(joined(alloc, line_of(refusal), lines.as_slice())?))
 }

@@ -3,7 +3,7 @@
 ghost use Rattle.std.specs.Prelude.{◌≡◌, ◌≤◌, ◌^◌, ◌<◌, ℕ, length, All, Contains, IfOk};
 ghost use Rattle.sgt_names.specs.Limits.{max_sites};
 ghost use Rattle.sgt_certify_logs.specs.Sound.{AreSound};
-ghost use Rattle.sgt_certify_logs.specs.Witness.{HasEnd};
+ghost use Rattle.sgt_certify_logs.specs.Witness.{HasEnd, HaveEndsInACycle};
 ghost use Rattle.sgt_certify_greedy.specs.Answer.{IsAnswerTo};
 ghost use Rattle.sgt_certify_greedy.specs.Decided.{AreKnown};
 ghost use Rattle.sgt_certify_greedy.specs.Pairs.{ArePairsOf};
@@ -56,7 +56,7 @@ fn certificate_of(count: usize, settled: Settled) -> Certificate
     }
 }
 
-/// The answer by what is known of the logs.
+/// The answer by what is known of the logs, whose ends stand in no cycle.
 fn answer_by(
     alloc: Global,
     sites: &[SiteLog],
@@ -67,6 +67,7 @@ fn answer_by(
     requires known { AreKnown sites.now known.now }
     requires ends { All (HasEnd sites.now) ended.now }
     requires all { (t : ℕ) → HasEnd sites.now t → Contains ended.now t }
+    requires no_cycle { HaveEndsInACycle sites.now → ⊥ }
     ensures { IfOk result (IsAnswerTo sites.now) }
 {
     let settled = decide_each(alloc, sites, known, ended)?;
@@ -93,6 +94,7 @@ fn answer_after(
     requires pairs { ArePairsOf Ends sites.now ends.items }
     requires ends { All (HasEnd sites.now) ended.now }
     requires all { (t : ℕ) → HasEnd sites.now t → Contains ended.now t }
+    requires no_cycle { HaveEndsInACycle sites.now → ⊥ }
     ensures { IfOk result (IsAnswerTo sites.now) }
 {
     let conflicts = pairs_of(alloc, sites, Rule::Conflicts)?;
@@ -115,8 +117,8 @@ fn answer_after(
     }
 }
 
-/// A certificate that makes the sound logs valid, or what shows that there is none: a cycle of their ends, a cycle of their committed
-/// conflicts, or a set that is stuck in them. Err: memory ran out.
+/// A certificate that makes the sound logs valid, or what shows that there is none: a cycle of their ends, else a cycle of their
+/// committed conflicts, else a set that is stuck in them. Err: memory ran out.
 pub fn decide(alloc: Global, sites: &[SiteLog]) -> Result<Answer, AllocError>
     requires sound { AreSound sites.now }
     requires few { length sites.now ≤ max_sites }

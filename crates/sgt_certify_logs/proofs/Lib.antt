@@ -3,3 +3,4 @@ pub mod Cycles
 pub mod Stuck
 pub mod Inserted
 pub mod Operations
+pub mod Round

@@ -1,3 +1,4 @@
 pub mod Certifiable
 pub mod Witness
+pub mod Steps
 pub mod Sound

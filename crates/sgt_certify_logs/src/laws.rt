@@ -6,7 +6,18 @@ ghost use Rattle.sgt_cert.specs.Text.{IsCertificate, Spells, certificate_text};
 ghost use Rattle.sgt_cert.specs.declared.bundle.SiteLog.{SiteLog};
 ghost use Rattle.sgt_cert.specs.declared.certificate.Certificate.{Certificate};
 ghost use Rattle.sgt_certify_logs.specs.Certifiable.{AreCertifiable, IsWithLine, SpellsLogs};
+ghost use Rattle.sgt_certify_logs.specs.declared.checks.ConflictStep.{ConflictStep};
+ghost use Rattle.sgt_certify_logs.specs.declared.checks.EndStep.{EndStep};
+ghost use Rattle.sgt_certify_logs.specs.Steps.{IsConflictCycle, IsEndCycle};
 ghost use Rattle.sgt_certify_logs.specs.Witness.{HaveConflictsInACycle, HaveEndsInACycle, IsStuck};
+
+/// Steps that are a cycle show that the logs have one.
+pub fn steps_show_cycles()
+    ensures ends { (sites : List SiteLog) (steps : List EndStep) → IsEndCycle sites steps
+        → HaveEndsInACycle sites }
+    ensures conflicts { (sites : List SiteLog) (steps : List ConflictStep)
+        → IsConflictCycle sites steps → HaveConflictsInACycle sites }
+{}
 
 /// Where the ends of the logs stand in a cycle, no certificate makes them valid: the decisions would follow one another round it.
 pub fn ends_in_a_cycle_have_no_certificate()

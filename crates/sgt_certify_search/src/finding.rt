@@ -4,14 +4,14 @@ ghost use Rattle.std.specs.Prelude.{◌<◌, length, IfSome};
 
 use crate::faults::LineFault;
 use crate::reading::Reader;
-use crate::report::{order_text, ranks_text, walk_text};
-use crate::search::{Finding, search};
+use crate::report::walk_text;
+use crate::search::{Finding, Stuck, numbers_of, search};
 use crate::steps::{conflict_steps, end_steps};
 use sgt_cert::Certificate;
 use sgt_certify_history::History;
 use sgt_certify_logs::{ConflictStep, EndStep};
 use sgt_certify_stuck::StuckSet;
-use sgt_names::Listed;
+use sgt_names::{Listed, Tx};
 use sgt_notation::{SectionLine, find_lf, front_line};
 use std::alloc::{AllocError, Global};
 
@@ -20,18 +20,25 @@ use std::alloc::{AllocError, Global};
 pub enum Proof {
     /// A cycle of ends.
     Ends(Vec<EndStep>),
-    /// A cycle of conflicts.
-    Conflicts(Vec<ConflictStep>),
-    /// A stuck set.
-    Stuck(StuckSet),
+    /// A cycle of conflicts; and an order in which the ends lead onward, so that they are in no cycle.
+    Conflicts {
+        cycle: Vec<ConflictStep>,
+        ends: Vec<Tx>,
+    },
+    /// A stuck set; orders in which the ends, and the committed conflicts, lead onward; and the lines of the next ends.
+    Stuck {
+        set: StuckSet,
+        ends: Vec<Tx>,
+        ranks: Vec<Tx>,
+        lines: Vec<u8>,
+    },
 }
 
-/// Why there is no certificate of logs of so many sites: what may show it, and the lines that tell it.
+/// Why there is no certificate of logs of so many sites: what may show it.
 #[derive(Drop)]
 pub struct Reason {
     pub sites: u8,
     pub proof: Proof,
-    pub lines: Vec<u8>,
 }
 
 /// What was found of a text of logs.
@@ -117,34 +124,41 @@ fn count_of(history: &History) -> u8 {
     }
 }
 
-/// The lines that tell what was found, and what may show it.
+/// What may show that the set is stuck.
+fn stuck_proof(alloc: Global, history: &History, stuck: Stuck) -> Result<Proof, AllocError> {
+    let lines = walk_text(alloc, history, stuck.left.as_slice())?;
+    let Stuck {
+        set,
+        ends,
+        ranks,
+        ..
+    } = stuck;
+    Ok(Proof::Stuck {
+        set,
+        ends: numbers_of(alloc, history, ends.as_slice())?,
+        ranks: numbers_of(alloc, history, ranks.as_slice())?,
+        lines,
+    })
+}
+
+/// The certificate that was found, or what may show that there is none.
 fn told(alloc: Global, history: &History, finding: Finding) -> Result<Found, AllocError> {
     let sites = count_of(history);
-    let (proof, lines) = match finding {
+    let proof = match finding {
         Finding::Decided(decisions) => {
             return Ok(Found::Certificate(Certificate {
                 sites,
                 decisions: Listed::new(decisions),
             }));
         }
-        Finding::Order(cycle) => (
-            Proof::Ends(end_steps(alloc, history, cycle.as_slice())?),
-            order_text(alloc, history, cycle.as_slice())?,
-        ),
-        Finding::Ranks(cycle) => (
-            Proof::Conflicts(conflict_steps(alloc, history, cycle.as_slice())?),
-            ranks_text(alloc, history, cycle.as_slice())?,
-        ),
-        Finding::Walk(left, stuck) => (
-            Proof::Stuck(stuck),
-            walk_text(alloc, history, left.as_slice())?,
-        ),
+        Finding::Order(cycle) => Proof::Ends(end_steps(alloc, history, cycle.as_slice())?),
+        Finding::Ranks(cycle, ends) => Proof::Conflicts {
+            cycle: conflict_steps(alloc, history, cycle.as_slice())?,
+            ends: numbers_of(alloc, history, ends.as_slice())?,
+        },
+        Finding::Walk(stuck) => stuck_proof(alloc, history, stuck)?,
     };
-    Ok(Found::Refused(Reason {
-        sites,
-        proof,
-        lines,
-    }))
+    Ok(Found::Refused(Reason { sites, proof }))
 }
 
 /// What the search finds in what the logs say.

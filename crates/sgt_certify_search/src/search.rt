@@ -17,10 +17,27 @@ pub enum Finding {
     Decided(Vec<Decision>),
     /// A cycle of ends.
     Order(Vec<Before>),
-    /// A cycle of committed conflicts.
-    Ranks(Vec<Link>),
+    /// A cycle of committed conflicts, and an order in which the ends lead onward.
+    Ranks(Vec<Link>, Vec<u32>),
     /// The next ends, where only refused ones without a walk are free, and what was decided by then.
-    Walk(Vec<Left>, StuckSet),
+    Walk(Stuck),
+}
+
+/// Where only refused ones without a walk are free: the next ends, what was decided by then, and orders in which the ends and the
+/// committed conflicts lead onward.
+#[derive(Drop)]
+pub struct Stuck {
+    pub left: Vec<Left>,
+    pub set: StuckSet,
+    pub ends: Vec<u32>,
+    pub ranks: Vec<u32>,
+}
+
+/// The order of the ends, or a cycle of them.
+#[derive(Drop)]
+enum Ends {
+    Order(Vec<u32>),
+    Cycle(Vec<Before>),
 }
 
 /// The next end of a site.
@@ -63,22 +80,24 @@ fn committed_count(history: &History) -> usize {
     count
 }
 
-/// The cycle of ends, if there is one.
-fn order_cycle(alloc: Global, history: &History) -> Result<Option<Vec<Before>>, AllocError> {
+/// The order of the ends, or the cycle of them that is told.
+fn order_of_ends(alloc: Global, history: &History) -> Result<Ends, AllocError> {
     let mut front = Front::new(alloc, history)?;
+    let mut order = Vec::with_capacity(alloc, history.count())?;
     for _ in 0..history.count() {
         match front.free.last() {
             Some(tx) => {
                 let tx = *tx;
+                order.push(tx)?;
                 front.decide(history, tx)?;
             }
             None => break,
         }
     }
     if front.decided >= history.count() {
-        return Ok(None);
+        return Ok(Ends::Order(order));
     }
-    Ok(Some(front.cycle(alloc, history)?))
+    Ok(Ends::Cycle(front.cycle(alloc, history)?))
 }
 
 /// A search from the transaction through the allowed ones, as far as the ends.
@@ -266,7 +285,7 @@ fn ends_left(alloc: Global, history: &History, front: &Front) -> Result<Vec<Left
 }
 
 /// The numbers of the transactions.
-fn numbers_of(alloc: Global, history: &History, places: &[u32]) -> Result<Vec<Tx>, AllocError> {
+pub fn numbers_of(alloc: Global, history: &History, places: &[u32]) -> Result<Vec<Tx>, AllocError> {
     let mut numbers = Vec::new(alloc);
     for place in places {
         if let Some(life) = history.life(*place) {
@@ -330,20 +349,25 @@ fn decide_all(alloc: Global, history: &History, order: &[u32]) -> Result<Greedy,
 pub fn search(alloc: Global, history: &History) -> Result<Finding, AllocError> {
     let order = rank_order(alloc, history)?;
     if order.len() < committed_count(history) {
-        return match order_cycle(alloc, history)? {
-            Some(cycle) => Ok(Finding::Order(cycle)),
-            None => Ok(Finding::Ranks(rank_cycle(alloc, history, order.as_slice())?)),
+        return match order_of_ends(alloc, history)? {
+            Ends::Cycle(cycle) => Ok(Finding::Order(cycle)),
+            Ends::Order(ends) => Ok(Finding::Ranks(
+                rank_cycle(alloc, history, order.as_slice())?,
+                ends,
+            )),
         };
     }
     let mut greedy = decide_all(alloc, history, order.as_slice())?;
     if greedy.front.decided >= history.count() {
         return Ok(Finding::Decided(greedy.decisions));
     }
-    match order_cycle(alloc, history)? {
-        Some(cycle) => Ok(Finding::Order(cycle)),
-        None => Ok(Finding::Walk(
-            ends_left(alloc, history, &greedy.front)?,
-            greedy.stuck_set(alloc, history)?,
-        )),
+    match order_of_ends(alloc, history)? {
+        Ends::Cycle(cycle) => Ok(Finding::Order(cycle)),
+        Ends::Order(ends) => Ok(Finding::Walk(Stuck {
+            left: ends_left(alloc, history, &greedy.front)?,
+            set: greedy.stuck_set(alloc, history)?,
+            ends,
+            ranks: order,
+        })),
     }
 }

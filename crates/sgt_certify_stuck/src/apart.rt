@@ -32,7 +32,7 @@ fn does(class: Class, entry: &Entry, item: &Item) -> bool
 }
 
 /// The item to which the entry does this, if it does it.
-fn item_by(class: Class, entry: &Entry) -> Option<Item>
+pub fn item_by(class: Class, entry: &Entry) -> Option<Item>
     ensures only { IfSome result (λ x. Does class x entry.now) }
     ensures all { (x : Name) → Does class x entry.now → result ≡ Some x }
 {
@@ -84,9 +84,30 @@ fn note(
 /// Two things that are done to an item, one before the other.
 #[derive(Clone, Copy)]
 pub struct Pair {
-    first: Class,
-    second: Class,
+    pub first: Class,
+    pub second: Class,
 }
+
+/// Each conflict is one of these pairs.
+pub const READS: Pair = Pair {
+    first: Class::Change,
+    second: Class::Read,
+};
+
+pub const CHANGES: Pair = Pair {
+    first: Class::Read,
+    second: Class::Change,
+};
+
+pub const PUTS: Pair = Pair {
+    first: Class::Change,
+    second: Class::Put,
+};
+
+pub const PUT_OVER: Pair = Pair {
+    first: Class::Put,
+    second: Class::Change,
+};
 
 /// Whether no source does the first of the pair to an item before a barred one does the second to it.
 fn is_clear(
@@ -119,35 +140,19 @@ fn are_apart(
 ) -> Result<bool, AllocError>
     ensures { IfOk result (λ apart. IsTrue apart → AreApart entries.now sources.now barred.now) }
 {
-    let reads = Pair {
-        first: Class::Change,
-        second: Class::Read,
-    };
-    let changes = Pair {
-        first: Class::Read,
-        second: Class::Change,
-    };
-    let puts = Pair {
-        first: Class::Change,
-        second: Class::Put,
-    };
-    let put_over = Pair {
-        first: Class::Put,
-        second: Class::Change,
-    };
-    let free_of_reads = is_clear(alloc, entries, sources, barred, reads)?;
+    let free_of_reads = is_clear(alloc, entries, sources, barred, READS)?;
     if !free_of_reads {
         return Ok(false);
     }
-    let free_of_changes = is_clear(alloc, entries, sources, barred, changes)?;
+    let free_of_changes = is_clear(alloc, entries, sources, barred, CHANGES)?;
     if !free_of_changes {
         return Ok(false);
     }
-    let free_of_puts = is_clear(alloc, entries, sources, barred, puts)?;
+    let free_of_puts = is_clear(alloc, entries, sources, barred, PUTS)?;
     if !free_of_puts {
         return Ok(false);
     }
-    is_clear(alloc, entries, sources, barred, put_over)
+    is_clear(alloc, entries, sources, barred, PUT_OVER)
 }
 
 /// Whether no conflict of any log leads from a source to a barred one.

@@ -2,11 +2,11 @@ use Rattle.std.proofs.Common.{◌≤◌, List, length, sym, subst}
 use Rattle.sgt_names.specs.Limits.{max_sites}
 use Rattle.sgt_cert.specs.declared.bundle.SiteLog.{SiteLog}
 use Rattle.sgt_certify_logs.specs.Sound.{AreSound}
-use Rattle.sgt_certify_logs.specs.Witness.{EndsBefore, PrecedesCommitted}
 use Rattle.sgt_certify_greedy.specs.Answer.{IsAnswerTo}
 use Rattle.sgt_certify_greedy.specs.declared.deciding.Answer.{Answer}
 use Rattle.sgt_certify_greedy.specs.declared.deciding.Answer.TheVariants.{Certificate, Order, Ranks, Stuck}
-use Rattle.sgt_certify_greedy.proofs.Rings.{ring-cycle}
+use Rattle.sgt_certify.specs.Lines.{IsShownBy}
+use Rattle.sgt_certify.specs.declared.refuting.Refusal.TheVariants.{Order as RefusedOrder, Ranks as RefusedRanks, Walk as RefusedWalk}
 use Rattle.sgt_certify.proofs.Decided.{logs-sound}
 use Rattle.sgt_certify.proofs.deciding.sound_answer.Goals as goal
 
@@ -30,18 +30,18 @@ returns-in-Order-clause-answer c =
     let logs = c.in_ok-bundle.bundle.sites in
     let is = subst (λ (sites : List SiteLog). IsAnswerTo sites c.in_ok-found.found) c.sites-logs.ensures.logs c.in_ok-found.ensures in
     let ring : IsAnswerTo logs (Order c.in-Order.cycle) = subst (λ (a : Answer). IsAnswerTo logs a) c.in-Order.is is in
-    c.in_ok-reason_answer-in-Order.ensures c.args.text.now logs c.requires.faultless c.in_ok-bundle.ensures.logs (ring-cycle (EndsBefore logs) c.in-Order.cycle.items ring)
+    c.in_ok-reason_answer-in-Order.ensures c.args.text.now logs c.requires.faultless c.in_ok-bundle.ensures.logs (subst (IsShownBy RefusedOrder logs) (sym c.as_slice.ensures.value) ring) tt
 
 pub returns-in-Ranks-clause-answer : goal.returns-in-Ranks-clause-answer
 returns-in-Ranks-clause-answer c =
     let logs = c.in_ok-bundle.bundle.sites in
     let is = subst (λ (sites : List SiteLog). IsAnswerTo sites c.in_ok-found.found) c.sites-logs.ensures.logs c.in_ok-found.ensures in
     let ring : IsAnswerTo logs (Ranks c.in-Ranks.cycle) = subst (λ (a : Answer). IsAnswerTo logs a) c.in-Ranks.is is in
-    c.in_ok-reason_answer-in-Ranks.ensures c.args.text.now logs c.requires.faultless c.in_ok-bundle.ensures.logs (ring-cycle (PrecedesCommitted logs) c.in-Ranks.cycle.items ring)
+    c.in_ok-reason_answer-in-Ranks.ensures c.args.text.now logs c.requires.faultless c.in_ok-bundle.ensures.logs (subst (IsShownBy RefusedRanks logs) (sym c.as_slice-in-Ranks.ensures.value) ring.0) ring.1
 
 pub returns-clause-answer : goal.returns-clause-answer
 returns-clause-answer c =
     let logs = c.in_ok-bundle.bundle.sites in
     let is = subst (λ (sites : List SiteLog). IsAnswerTo sites c.in_ok-found.found) c.sites-logs.ensures.logs c.in_ok-found.ensures in
     let stuck : IsAnswerTo logs (Stuck c.in-Stuck.set) = subst (λ (a : Answer). IsAnswerTo logs a) c.in-Stuck.is is in
-    c.in_ok-reason_answer-in-Stuck.ensures c.args.text.now logs c.requires.faultless c.in_ok-bundle.ensures.logs (c.in-Stuck.set.items, stuck)
+    c.in_ok-reason_answer-in-Stuck.ensures c.args.text.now logs c.requires.faultless c.in_ok-bundle.ensures.logs (subst (IsShownBy RefusedWalk logs) (sym c.as_slice-in-Stuck.ensures.value) stuck.0) (stuck.1, stuck.2)

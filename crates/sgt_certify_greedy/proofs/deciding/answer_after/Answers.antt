@@ -38,5 +38,7 @@ returns-in-Cycle c =
     let txs = c.as_slice-txs.result.now in
     let found = c.as_slice-found.result.now in
     let exact = subst (λ (ps : List Pair). ArePairsOf Conflicts sites ps) (sym c.as_slice-found.ensures.value) c.in_ok-conflicts.ensures in
-    let only = subst (λ (w : List ℕ). All (λ (t : ℕ). IsIn sites (Commit t)) w) (sym c.as_slice-txs.ensures.value) c.in_ok-commits.ensures.only in
-    ring-precedes sites found txs c.in-Cycle.cycle.items exact only (subst (λ (s : Sorting). IsSorting txs (Leads found) s) c.in-Cycle.is c.in_ok-sorting.ensures)
+    let only = subst (λ (w : List ℕ). All (λ (t : ℕ). IsIn sites (Commit t)) w) (sym c.as_slice-txs.ensures.value) c.in_ok-commits.ensures.only in (
+      ring-precedes sites found txs c.in-Cycle.cycle.items exact only (subst (λ (s : Sorting). IsSorting txs (Leads found) s) c.in-Cycle.is c.in_ok-sorting.ensures),
+      c.requires.no_cycle,
+    )

@@ -6,6 +6,7 @@ use Rattle.sgt_cert.specs.declared.certificate.Decision.{Decision}
 use Rattle.sgt_certify_logs.specs.Witness.{IsStuck}
 use Rattle.sgt_certify_greedy.proofs.Elements.{contains-none, none-long}
 use Rattle.sgt_certify_greedy.proofs.Decisions.{left-stuck, some-first}
+use Rattle.sgt_certify_greedy.proofs.Knowing.{conflicts-ordered}
 use Rattle.sgt_certify_greedy.proofs.Validity.{committed-decided, valid-from}
 use Rattle.sgt_certify_greedy.proofs.deciding.answer_by.Goals as goal
 
@@ -38,7 +39,10 @@ returns c =
     let ds = c.in_ok-settled.settled.decisions.items in
     let settled = c.in_ok-settled.ensures in
     let first = some-first c.as_slice-rest.result.now (sym c.is_empty.ensures ∙ c.if-is_empty.false) in
-    let some = subst (λ (w : List ℕ). (t : ℕ) × Contains w t) c.as_slice-rest.ensures.value first in
-    subst (IsStuck sites) (sym (c.in_ok-txs.ensures ∙ ap (λ (es : List Decision). map decided_tx es) c.as_slice-done.ensures.value))
-    (left-stuck sites order left settled.0 ds settled.1 some settled.2
-    (committed-decided sites c.requires.sound order order ds known.committed known.only known.ordered settled.1.each))
+    let some = subst (λ (w : List ℕ). (t : ℕ) × Contains w t) c.as_slice-rest.ensures.value first in (
+      subst (IsStuck sites) (sym (c.in_ok-txs.ensures ∙ ap (λ (es : List Decision). map decided_tx es) c.as_slice-done.ensures.value))
+          (left-stuck sites order left settled.0 ds settled.1 some settled.2
+          (committed-decided sites c.requires.sound order order ds known.committed known.only known.ordered settled.1.each)),
+      c.requires.no_cycle,
+      conflicts-ordered sites order known.ordered known.committed,
+    )

@@ -1,7 +1,8 @@
-use Rattle.std.proofs.Common.{◌≡◌, ℕ, List, [], ◌∷◌, ◌++◌, ◌⊎◌}
-use Rattle.sgt_certify_logs.specs.Witness.{IsChain, PrecedesCommitted}
+use Rattle.std.proofs.Common.{take}
+use Rattle.sgt_certify_logs.specs.Steps.{IsConflictStep, LeadFrom}
+use Rattle.sgt_certify_logs.specs.declared.checks.ConflictStep.{ConflictStep}
 use Rattle.sgt_certify_logs.proofs.checks.is_conflict_cycle.Given as goal
 
 abbrev pub invariant-loop-step : goal.invariant-loop-step
 invariant-loop-step l =
-    ((l.step-index ≡ 0) × (l.here ≡ l.start)) ⊎ ((between : List ℕ) × IsChain (PrecedesCommitted l.sites) l.start (between ++ l.here ∷ []))
+    LeadFrom (λ (s : ConflictStep). s.from) (λ (s : ConflictStep). s.to) (IsConflictStep l.sites) l.start (take l.step-index l.steps) l.here

@@ -1,0 +1,15 @@
+use Rattle.std.proofs.Common.{ℕ, inl}
+use Rattle.sgt_certify_logs.specs.Steps.{IsEndStep}
+use Rattle.sgt_certify_logs.specs.Witness.{EndsBefore}
+use Rattle.sgt_certify_logs.specs.declared.checks.EndStep.{EndStep}
+use Rattle.sgt_certify_logs.proofs.Round.{end-step, round-cycle}
+use Rattle.sgt_certify.proofs.refuting.order_shown.Goals as goal
+
+pub returns-clause-shown : goal.returns-clause-shown
+returns-clause-shown c =
+    let sites = c.args.sites.now in
+    round-cycle (λ (s : EndStep). s.from) (λ (s : EndStep). s.to) (IsEndStep sites) (EndsBefore sites) (end-step sites) c.args.steps.now
+    (c.is_end_cycle.ensures.0 c.if-not-is_end_cycle.false)
+
+pub returns-clause-lines : goal.returns-clause-lines
+returns-clause-lines c = inl (c.args.steps.now, c.is_end_cycle.ensures.0 c.if-not-is_end_cycle.false, rw c.in-Some.is at c.in_ok-lines.ensures)
