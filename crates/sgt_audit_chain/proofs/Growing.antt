@@ -1,6 +1,6 @@
 -- A chain with one more bundle.
-use Rattle.std.proofs.Common.{◌≡◌, ℕ, suc, ◌+◌, ◌-◌, ◌<◌, ◌≤◌, Bool, List, [], ◌∷◌, ◌++◌, length, map, Option, Some, None, refl, sym, ap, ap₂, ◌∙◌, subst, arith, inl, inr, All}
-use Rattle.std.specs.Prelude.{slice_get, option_map, sum_by, count_by, min}
+use Rattle.std.proofs.Common.{◌≡◌, ℕ, suc, ◌+◌, ◌-◌, ◌<◌, Bool, List, [], ◌∷◌, ◌++◌, length, Option, Some, sym, ap, ap₂, ◌∙◌, arith, inl, inr}
+use Rattle.std.specs.Prelude.{slice_get, option_map, count_by, IfSome, IfOk, Result, Ok, Err}
 use Rattle.std.proofs.lemmas.Bool.{cases_lt}
 use Rattle.std.proofs.lemmas.List.{length-append}
 use Rattle.std.proofs.lemmas.List.Elements.{All-push}
@@ -10,9 +10,10 @@ use Rattle.sgt_names.specs.declared.entry.Holding.{Holding}
 use Rattle.sgt_names.proofs.Lists.{front_at, middle_at, within_at}
 use Rattle.sgt_cert.specs.Parts.{Parts}
 use Rattle.sgt_cert.specs.Valid.{IsValid}
+use Rattle.sgt_cert.specs.Text.{Spells}
 use Rattle.sgt_cert.specs.declared.certificate.Decision.{Decision}
 use Rattle.sgt_cert.specs.Certificate.{is_commit, is_refusal, is_withdrawal}
-use Rattle.sgt_audit_chain.specs.Audited.{counts_of, total}
+use Rattle.sgt_audit_chain.specs.Audited.{SpellEach, counts_of, total}
 use Rattle.sgt_audit_chain.specs.Chain.{IsChain, final_values, initial_values, values_behind}
 use Rattle.sgt_audit_chain.specs.Sums.{in_64_bits}
 use Rattle.sgt_audit_chain.specs.declared.counts.Counts.{Counts}
@@ -67,3 +68,14 @@ counts-next bundles b old new ds same before committed refused withdrawn =
     let two = total-next is_refusal bundles b old.refused new.refused (ap (λ (c : Counts). c.refused) before) (refused ∙ ap (λ ds. in_64_bits (old.refused + count_by is_refusal ds)) same) in
     let three = total-next is_withdrawal bundles b old.withdrawn new.withdrawn (ap (λ (c : Counts). c.withdrawn) before) (withdrawn ∙ ap (λ ds. in_64_bits (old.withdrawn + count_by is_withdrawal ds)) same) in
     ap₂ (λ r w. counts-from new.committed r w) two three ∙ ap (λ c. counts-from c (counts_of (bundles ++ b ∷ [])).refused (counts_of (bundles ++ b ∷ [])).withdrawn) one
+
+-- one more text
+pub spell-next : (told : List (Option (List ℕ))) (bundles : List Parts) (one : Option (List ℕ)) (b : Parts) → SpellEach told bundles → IfSome one (λ text. Spells text b) → SpellEach (told ++ one ∷ []) (bundles ++ b ∷ [])
+spell-next [] [] one b spelled here = (here, tt)
+spell-next [] (c ∷ bundles) one b spelled here = absurd spelled
+spell-next (o ∷ told) [] one b spelled here = absurd spelled
+spell-next (o ∷ told) (c ∷ bundles) one b spelled here = (spelled.0, spell-next told bundles one b spelled.1 here)
+
+pub ok-map : {A E : Type 0} (P Q : A → Type 0) (r : Result A E) → ((a : A) → P a → Q a) → IfOk r P → IfOk r Q
+ok-map P Q (Ok a) f h = f a h
+ok-map P Q (Err e) f h = tt

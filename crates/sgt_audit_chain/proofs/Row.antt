@@ -1,29 +1,28 @@
 -- The committed transactions of a chain, run in a row.
-use Rattle.std.proofs.Common.{◌≡◌, ℕ, zero, suc, ◌+◌, ◌<◌, Bool, true, false, cond, get_or, List, [], ◌∷◌, ◌++◌, length, map, Option, Some, None, refl, sym, ap, ap₂, ◌∙◌, subst, arith, inl, inr, All, Contains, add-one}
+use Rattle.std.proofs.Common.{◌≡◌, ℕ, zero, suc, ◌<◌, Bool, false, cond, get_or, List, [], ◌∷◌, length, map, Option, Some, None, refl, sym, ap, ◌∙◌, subst, arith, inl, inr, All, Contains}
 use Rattle.std.specs.Prelude.{slice_get, ◌==◌, is_some, option_and_then, option_map, fold}
 use Rattle.std.specs.List.{filter, filter_map, cons_option, AllByRecursion}
 use Rattle.std.specs.Str.{bytes_eq}
 use Rattle.std.specs.Option.{ForSome, option_map_or}
-use Rattle.std.proofs.lemmas.Bool.{cases_Bool, true≢false}
+use Rattle.std.proofs.lemmas.Bool.{cases_Bool}
 use Rattle.std.proofs.lemmas.List.Elements.{recursion_from_All}
 use Rattle.std.proofs.lemmas.Option.{none-some, same_Some, slice_get-map}
 use Rattle.std.proofs.lemmas.Slice.Eq.{bytes_eq-Decides}
 use Rattle.sgt_names.specs.Name.{Name}
 use Rattle.sgt_names.specs.Entry.{tx_of, item_of, change_of}
 use Rattle.sgt_names.specs.Log.{names, value_in, value_after, value_with}
-use Rattle.sgt_names.specs.declared.entry.Change.{Change}
 use Rattle.sgt_names.specs.declared.entry.Change.TheVariants as change
 use Rattle.sgt_names.specs.declared.entry.Entry.{Entry}
 use Rattle.sgt_names.specs.declared.entry.Entry.TheVariants as entry
 use Rattle.sgt_names.specs.declared.entry.Holding.{Holding}
 use Rattle.sgt_names.proofs.Lists.{option_cases, heads, tails}
-use Rattle.sgt_names.proofs.Places.{All_at, Contains-from_at}
+use Rattle.sgt_names.proofs.Places.{All_at}
 use Rattle.sgt_cert.specs.Parts.{FitTogether, IsShapedLog, Parts}
-use Rattle.sgt_cert.specs.Serial.{Store, entries_of, initial_store, own_entries, store_after, RunsOn, RunsSerially}
+use Rattle.sgt_cert.specs.Serial.{Store, entries_of, initial_store, own_entries, store_after, RunsSerially}
 use Rattle.sgt_cert.specs.Valid.{IsValid, IsValidLog}
 use Rattle.sgt_cert.specs.declared.bundle.SiteLog.{SiteLog}
 use Rattle.sgt_cert.proofs.Headline.{valid-agrees}
-use Rattle.sgt_audit_chain.specs.Chain.{IsChain, final_of, final_values, initial_of, initial_values}
+use Rattle.sgt_audit_chain.specs.Chain.{IsChain, final_of, final_values, initial_of}
 use Rattle.sgt_audit_chain.specs.Serial.{ChainAgrees, RunInARow, committed_of, store_behind}
 
 -- ---- stores that are the same

@@ -8,6 +8,5 @@ mod going_on;
 mod laws;
 
 pub use auditor::ChainAuditor;
-pub use counts::Counts;
 pub use faults::ChainFault;
-pub use laws::chains_run_serially;
+pub use laws::{chains_run_serially, faults_exclude_chains};
