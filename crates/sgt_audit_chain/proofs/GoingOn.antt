@@ -30,9 +30,9 @@ pub holding-same : (h k : Holding) → (bytes_eq h.item k.item && nat_eq h.value
 unfolding holding-of
 holding-same h k both = elim (cases_Bool (bytes_eq h.item k.item)) [
   | inl hit ↦ elim (cases_Bool (nat_eq h.value k.value)) [
-      | inl same ↦ ap₂ holding-of ((bytes_eq-Decides h.item k.item).0 hit) (eqb-true h.value k.value same)
-      | inr miss ↦ absurd (true≢false (sym both ∙ ap₂ (λ a b. a && b) hit miss))
-    ]
+    | inl same ↦ ap₂ holding-of ((bytes_eq-Decides h.item k.item).0 hit) (eqb-true h.value k.value same)
+    | inr miss ↦ absurd (true≢false (sym both ∙ ap₂ (λ a b. a && b) hit miss))
+  ]
   | inr miss ↦ absurd (true≢false (sym both ∙ ap (λ t. t && nat_eq h.value k.value) miss))
 ]
 

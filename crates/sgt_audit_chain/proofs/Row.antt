@@ -35,11 +35,14 @@ after-same sites tx store other same s x = ap (λ first. value_after first (own_
 
 runs-same : (sites : List SiteLog) (txs : List ℕ) (store other : Store) → AreSame store other → RunsSerially sites txs other → RunsSerially sites txs store
 runs-same sites [] store other same run = λ s log at n d within. let h = get_or log.finals n d in same s h.item ∙ run s log at n d within
-runs-same sites (tx ∷ txs) store other same run = (record {
-  reads = λ s x v c. same s x ∙ run.0.reads s x v c;
-  writes = λ s x v c. ap is_some (same s x) ∙ run.0.writes s x v c;
-  adds = λ s x v c. ap is_some (same s x) ∙ run.0.adds s x v c;
-}, runs-same sites txs (store_after sites tx store) (store_after sites tx other) (after-same sites tx store other same) run.1)
+runs-same sites (tx ∷ txs) store other same run = (
+  record {
+    reads = λ s x v c. same s x ∙ run.0.reads s x v c;
+    writes = λ s x v c. ap is_some (same s x) ∙ run.0.writes s x v c;
+    adds = λ s x v c. ap is_some (same s x) ∙ run.0.adds s x v c;
+  },
+  runs-same sites txs (store_after sites tx store) (store_after sites tx other) (after-same sites tx store other same) run.1,
+)
 
 abbrev behind : List SiteLog → List ℕ → Store → Store
 behind sites txs store = fold (λ before tx. store_after sites tx before) store txs
@@ -183,12 +186,13 @@ run-row b [] store same fit chain =
     (runs-same b.sites (committed_of b) store (initial_store b.sites) same (valid-agrees b (All_at IsValid (b ∷ []) 0 b chain.valid refl)), tt)
 run-row b (c ∷ bundles) store same fit chain =
     let valid = All_at IsValid (b ∷ c ∷ bundles) 0 b chain.valid refl in
-    let fits = All_at FitTogether (b ∷ c ∷ bundles) 0 b fit refl in
-    (runs-same b.sites (committed_of b) store (initial_store b.sites) same (valid-agrees b valid),
-    run-row c bundles (store_behind b store) (λ s x.
-    behind-same b.sites (committed_of b) store (initial_store b.sites) same s x ∙ end-value b valid fits s x
-    ∙ ap (λ values. value_of values s x) (sym (chain.goes_on 0 b c refl refl)) ∙ value-at initial_of c.sites s x)
-    (All-tail FitTogether b (c ∷ bundles) fit) (chain-tail b (c ∷ bundles) chain))
+    let fits = All_at FitTogether (b ∷ c ∷ bundles) 0 b fit refl in (
+      runs-same b.sites (committed_of b) store (initial_store b.sites) same (valid-agrees b valid),
+      run-row c bundles (store_behind b store) (λ s x.
+          behind-same b.sites (committed_of b) store (initial_store b.sites) same s x ∙ end-value b valid fits s x
+          ∙ ap (λ values. value_of values s x) (sym (chain.goes_on 0 b c refl refl)) ∙ value-at initial_of c.sites s x)
+          (All-tail FitTogether b (c ∷ bundles) fit) (chain-tail b (c ∷ bundles) chain),
+    )
 
 -- the committed transactions of a chain agree with one serial run
 pub chain-agrees : (bundles : List Parts) → All FitTogether bundles → IsChain bundles → ChainAgrees bundles

@@ -32,7 +32,8 @@ abbrev pub counts_of : List Parts → Counts
 counts_of bundles = record {
   committed = in_64_bits (total is_commit bundles);
   refused = in_64_bits (total is_refusal bundles);
-  withdrawn = in_64_bits (total is_withdrawal bundles) }
+  withdrawn = in_64_bits (total is_withdrawal bundles);
+}
 
 -- a valid bundle behind these doesn't go on, first on this line
 abbrev pub BreaksOff : List Parts → Parts → (line : ℕ) → Type 0

@@ -106,8 +106,6 @@ impl ChainAuditor {
             refused,
             withdrawn,
         } = self.counts;
-        format!(in alloc;
-            "yes {committed} committed {refused} refused {withdrawn} withdrawn\n"
-        )
+        format!(in alloc; "yes {committed} committed {refused} refused {withdrawn} withdrawn\n")
     }
 }

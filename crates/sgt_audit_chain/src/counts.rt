@@ -37,8 +37,12 @@ impl Counts {
     {
         let mut counts = self;
         for decision in decisions {
-            counts.committed = counts.committed.saturating_add(u64::from(decision.is_commit()));
-            counts.refused = counts.refused.saturating_add(u64::from(decision.is_refusal()));
+            counts.committed = counts
+                .committed
+                .saturating_add(u64::from(decision.is_commit()));
+            counts.refused = counts
+                .refused
+                .saturating_add(u64::from(decision.is_refusal()));
             counts.withdrawn = counts
                 .withdrawn
                 .saturating_add(u64::from(decision.is_withdrawal()));

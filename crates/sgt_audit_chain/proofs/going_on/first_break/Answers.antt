@@ -21,14 +21,17 @@ returns-in-Some-first_difference-clause-some c =
     let there = element_at left n values c.in-Some.ensures.lookup.3.0 c.in-Some.ensures.lookup.1 in
     let found = c.in-Some-first_difference.ensures.some in
     let line : c.saturating_add-in-Some-first_difference.result ≡ in_64_bits (site_line logs n + place + 1) =
-        omega (arith, c.loop-site.invariant.0, c.saturating_add.ensures, c.saturating_add-in-Some-first_difference.ensures) in
-    (site_line logs n + place + 1, record {
-      site = n;
-      before = c.loop-site.invariant.1;
-      here = breaks-at _ _ log.items values (site_line logs n) place (items-at logs n log at) there
-          (ap (take place) (sym c.as_slice.ensures) ∙ found.0 ∙ ap (take place) c.as_slice-in-loop-site.ensures)
-          (λ same. found.1 (ap (λ xs. slice_get xs place) c.as_slice.ensures ∙ same ∙ sym (ap (λ xs. slice_get xs place) c.as_slice-in-loop-site.ensures)));
-    }, line)
+    omega (arith, c.loop-site.invariant.0, c.saturating_add.ensures, c.saturating_add-in-Some-first_difference.ensures) in (
+      site_line logs n + place + 1,
+      record {
+        site = n;
+        before = c.loop-site.invariant.1;
+        here = breaks-at _ _ log.items values (site_line logs n) place (items-at logs n log at) there
+            (ap (take place) (sym c.as_slice.ensures) ∙ found.0 ∙ ap (take place) c.as_slice-in-loop-site.ensures)
+            (λ same. found.1 (ap (λ xs. slice_get xs place) c.as_slice.ensures ∙ same ∙ sym (ap (λ xs. slice_get xs place) c.as_slice-in-loop-site.ensures)));
+      },
+      line,
+    )
 
 pub loop-site-preserved : goal.loop-site-preserved
 loop-site-preserved c =
@@ -41,9 +44,10 @@ loop-site-preserved c =
     let there = element_at left n values c.in-Some.ensures.lookup.3.0 c.in-Some.ensures.lookup.1 in
     let same = sym c.as_slice.ensures ∙ c.in_default-first_difference.ensures.none ∙ c.as_slice-in-loop-site.ensures in
     let next = line-next logs n log at in
-    let long = c.lines_of.ensures (length (take n logs)) in
-    (omega (arith, next, long, c.loop-site.invariant.0, c.saturating_add-line.ensures),
-    front-next (map initial_of logs) left n log.items c.loop-site.invariant.1 (items-at logs n log at) (there ∙ ap Some (sym same)))
+    let long = c.lines_of.ensures (length (take n logs)) in (
+      omega (arith, next, long, c.loop-site.invariant.0, c.saturating_add-line.ensures),
+      front-next (map initial_of logs) left n log.items c.loop-site.invariant.1 (items-at logs n log at) (there ∙ ap Some (sym same)),
+    )
 
 pub returns-then-logs-left-clause-some : goal.returns-then-logs-left-clause-some
 returns-then-logs-left-clause-some c =
@@ -52,9 +56,12 @@ returns-then-logs-left-clause-some c =
     let n = c.loop-site.site in
     let end : n ≡ length logs = omega arith in
     let more = within_at left n (omega (arith, end, c.if-logs-left.true)) in
-    let past : length (map initial_of logs) ≤ n = omega (arith, end, length-map logs initial_of) in
-    (site_line logs n, record {
-      site = n;
-      before = c.loop-site.invariant.1;
-      here = missing-at _ _ more.0 (site_line logs n) (slice_get_past (map initial_of logs) n past) more.1;
-    }, c.loop-site.invariant.0)
+    let past : length (map initial_of logs) ≤ n = omega (arith, end, length-map logs initial_of) in (
+      site_line logs n,
+      record {
+        site = n;
+        before = c.loop-site.invariant.1;
+        here = missing-at _ _ more.0 (site_line logs n) (slice_get_past (map initial_of logs) n past) more.1;
+      },
+      c.loop-site.invariant.0,
+    )

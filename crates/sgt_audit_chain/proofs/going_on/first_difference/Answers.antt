@@ -10,9 +10,11 @@ returns-in_default-clause-some c =
     let left = c.args.left.now in
     let n = c.loop-n.n in
     let here = element_at items n c.index-items-n.result c.loop-n-test.true c.index-items-n.is in
-    let there = element_at left n c.in-Some.other.now c.in-Some.ensures.lookup.3.0 c.in-Some.ensures.lookup.1 in
-    (c.loop-n.invariant, λ same. holding-other c.in-Some.other.now c.index-items-n.result (sym c.if-eq.ensures)
-    (same_Some c.in-Some.other.now c.index-items-n.result (sym there ∙ sym same ∙ here)))
+    let there = element_at left n c.in-Some.other.now c.in-Some.ensures.lookup.3.0 c.in-Some.ensures.lookup.1 in (
+      c.loop-n.invariant,
+      λ same. holding-other c.in-Some.other.now c.index-items-n.result (sym c.if-eq.ensures)
+          (same_Some c.in-Some.other.now c.index-items-n.result (sym there ∙ sym same ∙ here)),
+    )
 
 pub returns-in_default-2-clause-some : goal.returns-in_default-2-clause-some
 returns-in_default-2-clause-some c =
@@ -38,6 +40,7 @@ returns-then-items-left-clause-some c =
     let items = c.args.items.now in
     let left = c.args.left.now in
     let end : c.loop-n.n ≡ length items = omega arith in
-    let more = within_at left (length items) c.if-items-left.true in
-    (subst (λ n. take n items ≡ take n left) end c.loop-n.invariant,
-    λ same. none-some more.0 (sym (slice_get_past items (length items) (omega arith)) ∙ same ∙ more.1))
+    let more = within_at left (length items) c.if-items-left.true in (
+      subst (λ n. take n items ≡ take n left) end c.loop-n.invariant,
+      λ same. none-some more.0 (sym (slice_get_past items (length items) (omega arith)) ∙ same ∙ more.1),
+    )
