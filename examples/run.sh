@@ -1,6 +1,7 @@
 #!/bin/sh
 # Builds the library and the examples in C, Rust and Python, runs each on the stored bundle and on a broken one, and compares what
-# they print with what the program prints, by the README and, where it is built, by itself. Ends with status 1 at a difference.
+# they print with what the program prints, by the README and, where it is built, by itself. Where it is built, a bank of eight threads
+# runs over `sgt serve` in each language, and its bundles are audited as a chain. Ends with status 1 at a difference.
 set -eu
 export PYTHONDONTWRITEBYTECODE=1
 cd "$(dirname "$0")/.."
@@ -17,6 +18,9 @@ gcc -shared -Wl,--version-script=$out/sgt.map -Wl,--gc-sections -Wl,--whole-arch
 python3 examples/check_header.py
 gcc -std=c11 -O2 -Wall -Wextra -Werror -Icrates/sgt_c examples/c/audit.c $out/libsgt.a -o $out/audit
 gcc -std=c11 -g -Wall -Wextra -Werror -fsanitize=address,undefined -Icrates/sgt_c examples/c/audit.c $out/libsgt.a -o $out/audit_asan
+gcc -std=c11 -O2 -Wall -Wextra -Werror examples/c/certifier.c examples/c/bank.c -pthread -o $out/bank
+gcc -std=c11 -g -Wall -Wextra -Werror -fsanitize=address,undefined examples/c/certifier.c examples/c/bank.c -pthread -o $out/bank_asan
+gcc -std=c11 -g -Wall -Wextra -Werror -fsanitize=thread examples/c/certifier.c examples/c/bank.c -pthread -o $out/bank_tsan
 cargo build --quiet --release --offline --manifest-path examples/rust/Cargo.toml --target-dir $out/cargo
 
 cp crates/sgt/stdin $out/stored
@@ -88,5 +92,27 @@ compare c $out/store.bundle audit 0 $out/store $out/audit
 compare rust $out/store.bundle audit 0 $out/store $out/cargo/release/sgt
 compare python $out/store.bundle audit 0 $out/store python3 examples/python/sgt.py
 [ "$(cat $out/careless)" = 'no line 10 F11' ] || failed=1
+
+# run_bank WHO COMMAND..: a bank whose money stays, and whose bundles are a chain of its transactions
+run_bank() {
+    who=$1
+    shift
+    rm -rf $out/bundles
+    if SGT=crates/sgt/out/sgt "$@" $out/bundles > $out/found && crates/sgt/out/sgt audit --chain $out/bundles/*.sgt > $out/chain; then
+        echo "bank in $who: $(sed -n 2p $out/found), $(cat $out/chain)"
+    else
+        echo "fails: bank in $who"
+        cat $out/found
+        failed=1
+    fi
+}
+
+if [ -x crates/sgt/out/sgt ]; then
+    run_bank C $out/bank
+    run_bank 'C, addresses watched' $out/bank_asan
+    run_bank 'C, threads watched' $out/bank_tsan
+    run_bank Rust $out/cargo/release/bank
+    run_bank Python python3 examples/python/bank.py
+fi
 [ $failed = 0 ] && echo 'all agree'
 exit $failed

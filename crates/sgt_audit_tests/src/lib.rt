@@ -7,6 +7,8 @@ mod bundles;
 #[cfg(test)]
 mod calls;
 #[cfg(test)]
+mod chains;
+#[cfg(test)]
 mod decisions;
 #[cfg(test)]
 mod devices;

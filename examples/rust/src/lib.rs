@@ -2,6 +2,8 @@
 
 use std::fmt;
 
+pub mod certifier;
+
 mod raw {
     //! What `sgt.h` declares.
 

@@ -1,0 +1,4 @@
+pub mod GoingOn
+pub mod Excluded
+pub mod Growing
+pub mod Row

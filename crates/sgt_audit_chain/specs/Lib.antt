@@ -1,0 +1,5 @@
+pub mod Chain
+pub mod Serial
+pub mod Break
+pub mod Sums
+pub mod Audited

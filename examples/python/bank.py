@@ -1,0 +1,81 @@
+"""Eight threads move money between accounts, each move a transaction that `sgt serve` certifies; and the bundles are audited.
+
+Four threads move money between any two accounts, and four between the same two, so that many are refused and tried again. Meanwhile
+the bank is cut into bundles. No move loses money: the sum is the same in the end.
+
+usage: python3 bank.py [FOLDER [MOVES]]       (SGT: the program, else `sgt`; MOVES of each thread)
+"""
+import os
+import random
+import subprocess
+import sys
+import tempfile
+import threading
+import time
+
+from certifier import Certifier
+
+ACCOUNTS = [f"account_{number}" for number in range(8)]
+FIRST, THREADS = 1000, 8
+
+
+def move(certifier, giver, taker, amount):
+    """Moves money, where the giver has so much; how often it was tried."""
+    tries = 0
+    for attempt in certifier.transaction():
+        tries += 1
+        with attempt as tx:
+            has = tx.read(giver)
+            if has < amount:
+                tx.withdraw()
+            else:
+                tx.put(giver, has - amount)
+                tx.put(taker, tx.read(taker) + amount)
+                tx.add("moves", 1, site=1)
+    return tries
+
+
+def customer(certifier, number, moves, tries):
+    """A thread's moves."""
+    rng = random.Random(number)
+    names = ACCOUNTS if number < THREADS // 2 else ACCOUNTS[:2]
+    for _ in range(moves):
+        giver, taker = rng.sample(names, 2)
+        tries[number] += move(certifier, giver, taker, rng.randrange(1, 200))
+
+
+def run(folder, moves):
+    """The sum of the accounts at the end, and how many transactions were refused."""
+    tries = [0] * THREADS
+    with Certifier([dict.fromkeys(ACCOUNTS, FIRST), {"moves": 0}], bundles=folder) as certifier:
+        threads = [threading.Thread(target=customer, args=(certifier, number, moves, tries)) for number in range(THREADS)]
+        for thread in threads:
+            thread.start()
+        while any(thread.is_alive() for thread in threads):
+            time.sleep(0.1)
+            certifier.cut()
+        for thread in threads:
+            thread.join()
+        with next(certifier.transaction()) as tx:
+            total = sum(tx.read(account) for account in ACCOUNTS)
+    return total, sum(tries) - THREADS * moves
+
+
+def main():
+    moves = int(sys.argv[2]) if len(sys.argv) > 2 else 250
+    with tempfile.TemporaryDirectory() as folder:
+        folder = sys.argv[1] if len(sys.argv) > 1 else folder
+        total, refused = run(folder, moves)
+        bundles = sorted(os.path.join(folder, name) for name in os.listdir(folder) if name.endswith(".sgt"))
+        with open(bundles[-1]) as last:
+            finals = [int(line.partition("=")[2]) for line in last if line.startswith("final account_")]
+        audit = subprocess.run([os.environ.get("SGT", "sgt"), "audit", "--chain", *bundles], capture_output=True, text=True)
+    print(f"{THREADS * moves} moves, {refused} refused and tried again, in {len(bundles)} bundles")
+    print(f"{total} of {FIRST * len(ACCOUNTS)} are there")
+    print(audit.stdout.rstrip("\n"))
+    holds = total == sum(finals) == FIRST * len(ACCOUNTS) and f" {refused} refused " in audit.stdout
+    return audit.returncode if holds else 1
+
+
+if __name__ == "__main__":
+    sys.exit(main())

@@ -1,0 +1,244 @@
+//! Transactions over named numbers, certified by `sgt serve`: for the threads of one process.
+//!
+//! ```no_run
+//! # use sgt::certifier::{Certifier, Error};
+//! # fn main() -> Result<(), Error> {
+//! let certifier = Certifier::new("sgt", &["a=10 b=0"], Some("bundles".as_ref()))?;
+//! certifier.transaction(1000, |tx| {
+//!     // tried again where it is refused, withdrawn where it answers an Err
+//!     tx.put(0, "a", tx.read(0, "a")? - 3)?;
+//!     tx.add(0, "b", 3)
+//! })?;
+//! certifier.cut()?; // what was done until now is a bundle in the folder
+//! # Ok(())
+//! # }
+//! ```
+//!
+//! A site is told by the words of a replay's line: its items by rising name, each with its first value. Transactions come in epochs of at
+//! most 4,096. A certifier closes a full one by itself: who begins one more then waits until none is open. So does `cut`. So no transaction
+//! is begun or cut inside the closure of another one: it would wait for itself.
+
+use std::ffi::OsStr;
+use std::fmt;
+use std::io::{self, BufRead, BufReader, Write};
+use std::process::{Child, ChildStdin, ChildStdout, Command, Stdio};
+use std::sync::{Condvar, Mutex, MutexGuard, PoisonError};
+
+/// Why there is no answer.
+#[derive(Debug)]
+pub enum Error {
+    /// It is refused, E1 to E12 or L1, and nothing has changed.
+    Refused(String),
+    /// The transaction was refused at each of its tries.
+    NotCommitted,
+    /// The bundle can't be written. Nothing is lost.
+    NotWritten,
+    /// The certifier has ended, or never began.
+    Lost(io::Error),
+}
+
+impl fmt::Display for Error {
+    fn fmt(&self, f: &mut fmt::Formatter<'_>) -> fmt::Result {
+        match self {
+            Error::Refused(why) => write!(f, "refused: {why}"),
+            Error::NotCommitted => write!(f, "refused at each try"),
+            Error::NotWritten => write!(f, "the bundle can't be written"),
+            Error::Lost(why) => write!(f, "the certifier is lost: {why}"),
+        }
+    }
+}
+
+impl std::error::Error for Error {}
+
+impl From<io::Error> for Error {
+    fn from(why: io::Error) -> Error {
+        Error::Lost(why)
+    }
+}
+
+fn gone() -> Error {
+    Error::Lost(io::ErrorKind::BrokenPipe.into())
+}
+
+fn unreadable() -> Error {
+    Error::Lost(io::ErrorKind::InvalidData.into())
+}
+
+/// The pipe to the certifier. The input is gone once the talk has ended.
+struct Pipe {
+    input: Option<ChildStdin>,
+    output: BufReader<ChildStdout>,
+}
+
+impl Pipe {
+    fn ask(&mut self, line: &str) -> Result<String, Error> {
+        // until the reply is read whole, there is none to whom a further line could be sent
+        let mut input = self.input.take().ok_or_else(gone)?;
+        input.write_all(format!("{line}\n").as_bytes())?;
+        let mut said = String::new();
+        self.output.read_line(&mut said)?;
+        if said.pop() != Some('\n') {
+            return Err(gone());
+        }
+        self.input = Some(input);
+        match said.strip_prefix("! ") {
+            None => Ok(said),
+            Some("B") => Err(Error::NotWritten),
+            Some(why) => Err(Error::Refused(why.to_owned())),
+        }
+    }
+}
+
+/// How many transactions are open, and whether somebody waits until none is.
+#[derive(Default)]
+struct Open {
+    count: usize,
+    is_waited_for: bool,
+}
+
+/// `sgt serve` behind a pipe.
+pub struct Certifier {
+    process: Mutex<Child>,
+    pipe: Mutex<Pipe>,
+    open: Mutex<Open>,
+    change: Condvar,
+}
+
+fn lock<T>(mutex: &Mutex<T>) -> MutexGuard<'_, T> {
+    mutex.lock().unwrap_or_else(PoisonError::into_inner)
+}
+
+impl Certifier {
+    /// Over these sites. Bundles go to the folder, which is made; without one they go nowhere.
+    pub fn new(program: impl AsRef<OsStr>, sites: &[&str], bundles: Option<&OsStr>) -> Result<Certifier, Error> {
+        let mut command = Command::new(program);
+        command.arg("serve").stdin(Stdio::piped()).stdout(Stdio::piped());
+        if let Some(folder) = bundles {
+            command.arg("--bundles").arg(folder);
+        }
+        let mut process = command.spawn()?;
+        let mut input = process.stdin.take().ok_or_else(gone)?;
+        let output = BufReader::new(process.stdout.take().ok_or_else(gone)?);
+        for (number, items) in sites.iter().enumerate() {
+            writeln!(input, "{}", format!("site {number} {items}").trim_end())?;
+        }
+        Ok(Certifier {
+            process: Mutex::new(process),
+            pipe: Mutex::new(Pipe { input: Some(input), output }),
+            open: Mutex::default(),
+            change: Condvar::new(),
+        })
+    }
+
+    /// The reply to a line.
+    fn ask(&self, line: &str) -> Result<String, Error> {
+        lock(&self.pipe).ask(line)
+    }
+
+    fn wait_while(&self, mut waits: impl FnMut(&Open) -> bool) -> MutexGuard<'_, Open> {
+        self.change.wait_while(lock(&self.open), |open| waits(open)).unwrap_or_else(PoisonError::into_inner)
+    }
+
+    /// The reply to a line that is asked once no transaction is open.
+    fn ask_when_none_is_open(&self, line: &str) -> Result<String, Error> {
+        self.wait_while(|open| open.is_waited_for).is_waited_for = true;
+        drop(self.wait_while(|open| open.count > 0));
+        let said = self.ask(line);
+        lock(&self.open).is_waited_for = false;
+        self.change.notify_all();
+        said
+    }
+
+    /// A new transaction, which is withdrawn where it is dropped before it has ended.
+    pub fn begin(&self) -> Result<Transaction<'_>, Error> {
+        loop {
+            self.wait_while(|open| open.is_waited_for).count += 1;
+            let mut tx = Transaction { certifier: self, number: String::new() };
+            let line = match self.ask("b") {
+                Ok(said) => {
+                    tx.number.push_str(&said[1..]);
+                    return Ok(tx);
+                }
+                Err(Error::Refused(why)) if why == "E7" => "z",
+                Err(Error::Refused(why)) if why == "E11" => "x",
+                Err(why) => return Err(why),
+            };
+            drop(tx);
+            self.ask_when_none_is_open(line)?;
+        }
+    }
+
+    /// Does a transaction, at most so often, up to the first try that is committed, or that answers an Err: it is withdrawn then.
+    pub fn transaction<T>(&self, tries: u32, mut does: impl FnMut(&Transaction<'_>) -> Result<T, Error>) -> Result<T, Error> {
+        for _ in 0..tries {
+            let tx = self.begin()?;
+            let done = does(&tx)?;
+            if tx.commit()? {
+                return Ok(done);
+            }
+        }
+        Err(Error::NotCommitted)
+    }
+
+    /// The number of the bundle that has what was done since the last one. It waits until no transaction is open.
+    pub fn cut(&self) -> Result<u64, Error> {
+        let said = self.ask_when_none_is_open("x")?;
+        said[2..].parse().map_err(|_| unreadable())
+    }
+
+    /// Ends the talk: what wasn't cut is a bundle. Whether the certifier's status is 0.
+    pub fn end(self) -> Result<bool, Error> {
+        lock(&self.pipe).input = None;
+        Ok(lock(&self.process).wait()?.success())
+    }
+}
+
+impl Drop for Certifier {
+    fn drop(&mut self) {
+        lock(&self.pipe).input = None;
+        let _ = lock(&self.process).wait();
+    }
+}
+
+/// A transaction that is open.
+pub struct Transaction<'a> {
+    certifier: &'a Certifier,
+    /// Empty where it has not begun or has ended.
+    number: String,
+}
+
+impl Transaction<'_> {
+    /// The item's value: with the transaction's own change, where it made one.
+    pub fn read(&self, site: u8, item: &str) -> Result<u64, Error> {
+        let said = self.certifier.ask(&format!("r{}[{site}.{item}]", self.number))?;
+        let value = said.rsplit('=').next().and_then(|value| value.parse().ok());
+        value.ok_or_else(unreadable)
+    }
+
+    /// The item is to have this value, once the transaction is committed.
+    pub fn put(&self, site: u8, item: &str, value: u64) -> Result<(), Error> {
+        self.certifier.ask(&format!("w{}[{site}.{item}]={value}", self.number)).map(drop)
+    }
+
+    /// This is to be added to the item, modulo 2^64. Transactions that only add to an item don't stand in each other's way.
+    pub fn add(&self, site: u8, item: &str, value: u64) -> Result<(), Error> {
+        self.certifier.ask(&format!("d{}[{site}.{item}]={value}", self.number)).map(drop)
+    }
+
+    /// Whether it is committed. Where it isn't it is over, and what it did may be tried as another one.
+    pub fn commit(mut self) -> Result<bool, Error> {
+        let said = self.certifier.ask(&format!("c{}", self.number))?;
+        self.number.clear();
+        Ok(said.ends_with(" yes"))
+    }
+}
+
+impl Drop for Transaction<'_> {
+    fn drop(&mut self) {
+        if !self.number.is_empty() {
+            let _ = self.certifier.ask(&format!("a{}", self.number));
+        }
+        lock(&self.certifier.open).count -= 1;
+        self.certifier.change.notify_all();
+    }
+}
