@@ -1,0 +1,6 @@
+pub mod Starts
+pub mod Counting
+pub mod Filling
+pub mod Counts
+pub mod Placing
+pub mod Releasing

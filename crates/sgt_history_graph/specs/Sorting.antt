@@ -25,6 +25,6 @@ IsTallied limit waits free order = (v : ℕ) → count_of v free + count_of v or
 pub record IsUnderWay (nodes : ℕ) (edges : List Edge) (limit : ℕ) (waits free order : List ℕ) : Type 0 where
   pub few : limit ≤ nodes
   pub len : length waits ≡ nodes
-  pub counts : (v : ℕ) → v < nodes → slice_index waits v ≡ waiting order edges v
+  pub counts : (v : ℕ) → slice_index waits v ≡ waiting order edges v
   pub tally : IsTallied limit waits free order
   pub least : IsLeastFirst nodes edges order

@@ -1,8 +1,8 @@
 //! Nodes in an order in which edges lead onward, or a cycle of edges.
 
-ghost use Rattle.std.specs.Prelude.{◌≡◌, ℕ, ◌+◌, ◌<◌, ◌≤◌, [], length, List, All, IfOk, OnOk, slice_index, vec_len};
+ghost use Rattle.std.specs.Prelude.{◌≡◌, ℕ, ◌+◌, ◌^◌, ◌<◌, ◌≤◌, [], length, List, All, IfOk, OnOk, slice_index, sum, vec_len};
 ghost use Rattle.std.specs.Ordering.{nat_cmp};
-ghost use Rattle.std.specs.BinaryHeap.{heap_items, IsHeap};
+ghost use Rattle.std.specs.BinaryHeap.{heap_items, heap_len, IsHeap};
 ghost use Rattle.sgt_history_graph.specs.declared.edge.Edge.{Edge as Pair};
 ghost use Rattle.sgt_history_graph.specs.Graph.{JoinsNodes};
 ghost use Rattle.sgt_history_graph.specs.Rows.{HasRows};
@@ -40,7 +40,7 @@ fn counts_of(alloc: Global, nodes: usize, edges: &[Edge]) -> Result<Vec<usize>, 
     requires { All (JoinsNodes nodes) edges.now }
     ensures len { IfOk result (λ counts. vec_len counts ≡ nodes) }
     ensures counts { IfOk result
-        (λ counts. (v : ℕ) → v < nodes → slice_index counts.items v ≡ waiting [] edges.now v) }
+        (λ counts. (v : ℕ) → slice_index counts.items v ≡ waiting [] edges.now v) }
 {
     let mut counts = vec![in alloc; 0usize; nodes]?;
     'counting: for edge in edges {
@@ -62,6 +62,7 @@ impl Sorting {
         ensures tally { OnOk result
             (IsTallied (last + 1) self.new.waits.items (numbers (heap_items self.new.free)) self.new.order.items) }
         ensures heap { OnOk result (IsHeap (λ x y. nat_cmp y.0 x.0) (heap_items self.new.free)) }
+        ensures fewer { OnOk result (sum self.new.waits.items + heap_len self.new.free ≤ sum self.old.waits.items + heap_len self.old.free) }
     {
         'releasing: for target in targets {
             let at = *target as usize;

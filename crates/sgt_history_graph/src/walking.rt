@@ -1,6 +1,6 @@
 //! Walks back along edges, to a cycle.
 
-ghost use Rattle.std.specs.Prelude.{◌≡◌, ℕ, ◌<◌, length, All, Contains, IfOk, IfSome, IfNone, slice_index, vec_len};
+ghost use Rattle.std.specs.Prelude.{◌≡◌, ℕ, ◌^◌, ◌<◌, ◌≤◌, length, drop, reverse, Some, slice_get, All, Contains, IfOk, IfSome, IfNone, slice_index, vec_len};
 ghost use Rattle.sgt_history_graph.specs.Graph.{Goes, IsCycle, JoinsNodes};
 ghost use Rattle.sgt_history_graph.specs.Walks.{IsSource, IsTrail};
 
@@ -39,14 +39,15 @@ fn sources_of(alloc: Global, waits: &[usize], edges: &[Edge]) -> Result<Vec<u32>
 /// The part of the walk from this node on, turned round.
 fn turned(alloc: Global, walk: &[u32], here: u32) -> Result<Vec<u32>, AllocError>
     requires met { Contains walk.now here }
-    ensures { IfOk result (λ cycle. (R : ℕ → ℕ → Type 0) → IsTrail (λ x y. R y x) walk.now here → IsCycle R cycle.items) }
+    ensures { IfOk result (λ part. (at : ℕ) × (slice_get walk.now at ≡ Some here)
+        × (part.items ≡ reverse (drop at walk.now))) }
 {
     let Some(at) = walk.iter().position(|v| *v == here) else {
         unreachable!()
     };
-    let mut cycle = Vec::from_slice(alloc, &walk[at..])?;
-    cycle.reverse();
-    Ok(cycle)
+    let mut part = Vec::from_slice(alloc, &walk[at..])?;
+    part.reverse();
+    Ok(part)
 }
 
 /// A cycle of nodes that wait, each the source of the next one.
