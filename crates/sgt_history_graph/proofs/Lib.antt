@@ -4,3 +4,5 @@ pub mod Filling
 pub mod Counts
 pub mod Placing
 pub mod Releasing
+pub mod Placed
+pub mod Trails

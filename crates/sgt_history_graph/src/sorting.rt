@@ -3,9 +3,7 @@
 ghost use Rattle.std.specs.Prelude.{◌≡◌, ℕ, ◌+◌, ◌^◌, ◌<◌, ◌≤◌, [], length, List, All, IfOk, OnOk, slice_index, sum, vec_len};
 ghost use Rattle.std.specs.Ordering.{nat_cmp};
 ghost use Rattle.std.specs.BinaryHeap.{heap_items, heap_len, IsHeap};
-ghost use Rattle.sgt_history_graph.specs.declared.edge.Edge.{Edge as Pair};
 ghost use Rattle.sgt_history_graph.specs.Graph.{JoinsNodes};
-ghost use Rattle.sgt_history_graph.specs.Rows.{HasRows};
 ghost use Rattle.sgt_history_graph.specs.Ordered.{IsOrdered};
 ghost use Rattle.sgt_history_graph.specs.Sorting.{count_of, numbers, waiting, IsTallied, IsUnderWay};
 
@@ -74,23 +72,6 @@ impl Sorting {
         }
         Ok(())
     }
-
-    /// Places those that are free, and those up to the last one that then become so.
-    fn place_free(&mut self, rows: &Rows, last: u32) -> Result<(), AllocError>
-        ghost graph: { (nodes : ℕ) × List Pair }
-        requires rows { HasRows graph.0 graph.1 rows.now.starts.items rows.now.targets.items }
-        requires under_way { IsUnderWay graph.0 graph.1 (last + 1) self.old.waits.items
-            (numbers (heap_items self.old.free)) self.old.order.items }
-        requires heap { IsHeap (λ x y. nat_cmp y.0 x.0) (heap_items self.old.free) }
-        ensures free { OnOk result (heap_items self.new.free ≡ []) }
-        ensures under_way { OnOk result (IsUnderWay graph.0 graph.1 (last + 1) self.new.waits.items [] self.new.order.items) }
-    {
-        'placing: while let Some(Reverse(node)) = self.free.pop() {
-            self.order.push(node)?;
-            self.release(rows.row(node), last)?;
-        }
-        Ok(())
-    }
 }
 
 /// Places all nodes that wait for none in the end.
@@ -107,10 +88,14 @@ fn sorted(alloc: Global, nodes: usize, edges: &[Edge]) -> Result<Sorting, AllocE
         order: Vec::with_capacity(alloc, nodes)?,
     };
     'nodes: for node in 0..nodes {
-        if sorting.waits[node] == 0 {
-            let free = node as u32;
-            sorting.free.push(Reverse(free))?;
-            sorting.place_free(&rows, free)?;
+        if sorting.waits[node] > 0 {
+            continue;
+        }
+        let last = node as u32;
+        sorting.free.push(Reverse(last))?;
+        'placing: while let Some(Reverse(next)) = sorting.free.pop() {
+            sorting.order.push(next)?;
+            sorting.release(rows.row(next), last)?;
         }
     }
     Ok(sorting)
