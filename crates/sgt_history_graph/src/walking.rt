@@ -36,13 +36,26 @@ fn sources_of(alloc: Global, waits: &[usize], edges: &[Edge]) -> Result<Vec<u32>
     Ok(sources)
 }
 
+/// The first place at which the walk is at this node.
+fn place_of(walk: &[u32], here: u32) -> Option<usize>
+    ensures some { IfSome result (λ at. slice_get walk.now at ≡ Some here) }
+    ensures none { IfNone result (Contains walk.now here → ⊥) }
+{
+    for at in 0..walk.len() {
+        if walk[at] == here {
+            return Some(at);
+        }
+    }
+    None
+}
+
 /// The part of the walk from this node on, turned round.
 fn turned(alloc: Global, walk: &[u32], here: u32) -> Result<Vec<u32>, AllocError>
     requires met { Contains walk.now here }
     ensures { IfOk result (λ part. (at : ℕ) × (slice_get walk.now at ≡ Some here)
         × (part.items ≡ reverse (drop at walk.now))) }
 {
-    let Some(at) = walk.iter().position(|v| *v == here) else {
+    let Some(at) = place_of(walk, here) else {
         unreachable!()
     };
     let mut part = Vec::from_slice(alloc, &walk[at..])?;
