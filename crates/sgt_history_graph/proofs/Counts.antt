@@ -89,13 +89,13 @@ pub waits-some : (placed : List ℕ) (edges : List Edge) (v : ℕ) → 0 < waiti
 waits-some placed [] v some = absurd (omega arith)
 waits-some placed (e ∷ es) v some =
     let later : is_waiting placed v e ≡ 0 → (a : ℕ) × Goes (e ∷ es) a v × (count_of a placed ≡ 0) = λ none.
-        let more = waits-some placed es v (omega (arith, some, waiting-cons placed v e es, none)) in
-        (more.0, (suc more.1.0, omega (arith, more.1.1), more.1.2), more.2) in
+    let more = waits-some placed es v (omega (arith, some, waiting-cons placed v e es, none)) in
+    (more.0, (suc more.1.0, omega (arith, more.1.1), more.1.2), more.2) in
     elim (cases_eq e.to v) [
       | inl same ↦ elim (cases_eq (count_of e.from placed) 0) [
-          | inl absent ↦ (e.from, (0, omega arith, ap (λ (t : ℕ). record { from = e.from; to = t }) same), absent)
-          | inr present ↦ later (ap₂ (λ b c. cond (b && c) 1 0) (eq-eqb e.to v same) (ne_eqb (count_of e.from placed) 0 present))
-        ]
+        | inl absent ↦ (e.from, (0, omega arith, ap (λ (t : ℕ). record { from = e.from; to = t }) same), absent)
+        | inr present ↦ later (ap₂ (λ b c. cond (b && c) 1 0) (eq-eqb e.to v same) (ne_eqb (count_of e.from placed) 0 present))
+      ]
       | inr other ↦ later (ap (λ b. cond (b && eqb (count_of e.from placed) 0) 1 0) (ne_eqb e.to v other))
     ]
 

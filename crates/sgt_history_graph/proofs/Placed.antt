@@ -109,10 +109,10 @@ placed-next nodes edges limit waits free order targets now rest more node so is 
   few = so.few;
   len = long ∙ so.len;
   counts = λ v.
-    let all = waiting-placed order edges node v is.new in
-    let same = ap (count_of v) are in
-    let now_are : slice_index now v ≡ waiting (order ++ node ∷ []) edges v = omega (arith, all, same, so.counts v, less v) in
-    now_are ∙ ap (λ xs. waiting xs edges v) (sym pushed);
+      let all = waiting-placed order edges node v is.new in
+      let same = ap (count_of v) are in
+      let now_are : slice_index now v ≡ waiting (order ++ node ∷ []) edges v = omega (arith, all, same, so.counts v, less v) in
+      now_are ∙ ap (λ xs. waiting xs edges v) (sym pushed);
   tally = tally;
   least = subst (IsLeastFirst nodes edges) (sym pushed) (least-push nodes edges order node so.least least);
 }
@@ -178,18 +178,21 @@ pub waits-led : (nodes : ℕ) (edges : List Edge) (waits order : List ℕ) → I
 waits-led nodes edges waits order so joins v some =
     let from = waits-some order edges v (omega (arith, some, so.counts v)) in
     let a = from.0 in
-    let lt = (All_in (JoinsNodes nodes) edges (record { from = a; to = v }) joins from.1).0 in
-    (a, from.1, elim (cases_eq (slice_index waits a) 0) [
-      | inl none ↦ absurd (omega (arith, so.tally a, expected-one nodes waits a lt none, from.2))
-      | inr more ↦ omega (arith, more)
-    ])
+    let lt = (All_in (JoinsNodes nodes) edges (record { from = a; to = v }) joins from.1).0 in (
+      a,
+      from.1,
+      elim (cases_eq (slice_index waits a) 0) [
+        | inl none ↦ absurd (omega (arith, so.tally a, expected-one nodes waits a lt none, from.2))
+        | inr more ↦ omega (arith, more)
+      ],
+    )
 
 pub order-whole : (nodes : ℕ) (edges : List Edge) (waits order : List ℕ) → IsUnderWay nodes edges nodes waits [] order → All (JoinsNodes nodes) edges
     → ((v : ℕ) → slice_index waits v ≡ 0) → IsOrder nodes edges order
 order-whole nodes edges waits order so joins none =
     let all : (v : ℕ) → v < nodes → Contains order v = λ v lt. counted-contains v order (omega (arith, so.tally v, expected-one nodes waits v lt (none v))) in
     let apart : (i j v : ℕ) → slice_get order i ≡ Some v → slice_get order j ≡ Some v → i < j → ⊥ = λ i j v first second lt.
-        (so.least j v second).free.left (Contains-from_at (take j order) i v (slice_get-take_at order j i v lt first)) in
+    (so.least j v second).free.left (Contains-from_at (take j order) i v (slice_get-take_at order j i v lt first)) in
     record {
       within = All-from_at (λ v. v < nodes) order (λ n v at. (so.least n v at).free.node);
       all = all;
@@ -198,10 +201,10 @@ order-whole nodes edges waits order so joins none =
         | inr le ↦ elim (cases_lt j i) [ inl lt ↦ absurd (apart j i v second first lt) | inr ge ↦ omega (arith, le, ge) ]
       ];
       onward = λ a b goes.
-        let lt = (All_in (JoinsNodes nodes) edges (record { from = a; to = b }) joins goes).1 in
-        let at = Contains_at order b (all b lt) in
-        let from = Contains_at (take at.0 order) a ((so.least at.0 b at.1).free.behind a goes) in
-        let place = slice_get-take order at.0 from.0 a from.1 in
-        record { i = from.0; j = at.0; before = place.0; first_at = place.1; second_at = at.1 };
+          let lt = (All_in (JoinsNodes nodes) edges (record { from = a; to = b }) joins goes).1 in
+          let at = Contains_at order b (all b lt) in
+          let from = Contains_at (take at.0 order) a ((so.least at.0 b at.1).free.behind a goes) in
+          let place = slice_get-take order at.0 from.0 a from.1 in
+          record { i = from.0; j = at.0; before = place.0; first_at = place.1; second_at = at.1 };
       least = so.least;
     }

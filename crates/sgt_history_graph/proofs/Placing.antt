@@ -72,9 +72,9 @@ expected-past limit waits v le = ap (λ b. cond (b && eqb (slice_index waits v) 
 pub expected-some : (limit : ℕ) (waits : List ℕ) (v : ℕ) → 0 < expected limit waits v → (v < limit) × (slice_index waits v ≡ 0) × (expected limit waits v ≡ 1)
 expected-some limit waits v some = elim (cases_lt v limit) [
   | inl lt ↦ elim (cases_eq (slice_index waits v) 0) [
-      | inl none ↦ (lt, none, expected-one limit waits v lt none)
-      | inr more ↦ absurd (omega (arith, some, expected-waits limit waits v more))
-    ]
+    | inl none ↦ (lt, none, expected-one limit waits v lt none)
+    | inr more ↦ absurd (omega (arith, some, expected-waits limit waits v more))
+  ]
   | inr le ↦ absurd (omega (arith, some, expected-past limit waits v le))
 ]
 

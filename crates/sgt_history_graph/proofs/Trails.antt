@@ -95,7 +95,7 @@ sources-hit waits edges k sources d so lt within some =
     let inside : e.to < length sources = omega (arith, within, so.len) in
     let here : slice_index new e.to ≡ e.from = get_or-set_same sources e.to e.from 0 inside in
     let at : IsLed waits edges new e.to =
-      (subst (λ (a : ℕ). Goes edges a e.to) (sym here) (Contains-get_or edges k d lt), subst (λ (a : ℕ). 0 < slice_index waits a) (sym here) some) in
+    (subst (λ (a : ℕ). Goes edges a e.to) (sym here) (Contains-get_or edges k d lt), subst (λ (a : ℕ). 0 < slice_index waits a) (sym here) some) in
     record {
       len = length-set sources e.to e.from ∙ so.len;
       led = λ a v goes waits_for. elim (cases_eq v e.to) [

@@ -70,7 +70,10 @@ impl Walk {
 
     /// An edge leads back to a node that was come to then, whose component isn't closed: all nodes come to behind it are of that one.
     fn join(&mut self, since: u32) {
-        let kept = self.firsts.as_slice().partition_point(|first| *first <= since);
+        let kept = self
+            .firsts
+            .as_slice()
+            .partition_point(|first| *first <= since);
         self.firsts.truncate(kept);
     }
 
@@ -81,7 +84,8 @@ impl Walk {
             return;
         }
         self.firsts.pop();
-        let alone = self.open.as_slice().last() == Some(&node) && !rows.targets_of(node).contains(&node);
+        let alone = self.open.as_slice().last() == Some(&node)
+            && !rows.targets_of(node).contains(&node);
         let label = if alone { 0 } else { node.saturating_add(1) };
         'closing: while let Some(member) = self.open.pop() {
             set_number(self.since.as_mut_slice(), member, CLOSED);
@@ -112,7 +116,10 @@ impl Walk {
         match rows.targets_of(stop.node).get(stop.followed) {
             Some(target) => {
                 let followed = stop.followed.saturating_add(1);
-                self.path.push(Stop { node: stop.node, followed })?;
+                self.path.push(Stop {
+                    node: stop.node,
+                    followed,
+                })?;
                 self.follow(*target)?;
             }
             None => self.leave(rows, stop.node),

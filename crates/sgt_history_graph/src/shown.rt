@@ -11,6 +11,12 @@ use std::alloc::{AllocError, Global};
 /// How far it is from a node from which no walk leads.
 const FAR: u32 = u32::MAX;
 
+/// The first node that is in a component.
+fn first_marked(components: &[u32]) -> Option<u32> {
+    let at = components.iter().position(|component| *component != 0)?;
+    u32::try_from(at).ok()
+}
+
 /// The edges between nodes of this component, turned round.
 fn turned_edges(
     alloc: Global,
@@ -24,8 +30,13 @@ fn turned_edges(
 {
     let mut turned = Vec::new(alloc);
     for edge in edges {
-        if number_at(components, edge.from) == component && number_at(components, edge.to) == component {
-            turned.push(Edge { from: edge.to, to: edge.from })?;
+        if number_at(components, edge.from) == component
+            && number_at(components, edge.to) == component
+        {
+            turned.push(Edge {
+                from: edge.to,
+                to: edge.from,
+            })?;
         }
     }
     Ok(turned)
@@ -69,7 +80,12 @@ fn nearest(rows: &Rows, distances: &[u32], node: u32) -> Option<u32> {
 }
 
 /// Of the shortest cycles through the node the one whose nodes are, from it on, the least.
-fn least_cycle(alloc: Global, rows: &Rows, distances: &[u32], node: u32) -> Result<Option<Vec<u32>>, AllocError> {
+fn least_cycle(
+    alloc: Global,
+    rows: &Rows,
+    distances: &[u32],
+    node: u32,
+) -> Result<Option<Vec<u32>>, AllocError> {
     let mut cycle = Vec::new(alloc);
     let mut here = node;
     for _ in 0..distances.len() {
@@ -85,19 +101,59 @@ fn least_cycle(alloc: Global, rows: &Rows, distances: &[u32], node: u32) -> Resu
 
 /// The cycle to show, if the graph has one: of the least node that lies on one the shortest, of several the one whose nodes are, from it
 /// on, the least. Takes time in proportion to nodes and edges. What is found is not proved. Err: memory ran out.
-pub fn shown_cycle(alloc: Global, nodes: usize, edges: &[Edge]) -> Result<Option<Vec<u32>>, AllocError>
+pub fn shown_cycle(
+    alloc: Global,
+    nodes: usize,
+    edges: &[Edge],
+) -> Result<Option<Vec<u32>>, AllocError>
     requires few { nodes ≤ 2 ^ 32 }
     requires ends { All (JoinsNodes nodes) edges.now }
 {
     let rows = Rows::new(alloc, nodes, edges)?;
     let components = components_of(alloc, &rows, nodes, edges.len())?;
-    let Some(node) = components.iter().position(|component| *component != 0) else {
+    let Some(node) = first_marked(components.as_slice()) else {
         return Ok(None);
     };
-    let node = node as u32;
     let component = number_at(components.as_slice(), node);
     let turned = turned_edges(alloc, nodes, edges, components.as_slice(), component)?;
     let back = Rows::new(alloc, nodes, turned.as_slice())?;
     let distances = distances(alloc, &back, nodes, node)?;
     least_cycle(alloc, &rows, distances.as_slice(), node)
+}
+
+#[cfg(test)]
+mod tests {
+    use super::*;
+    use crate::sorting::{Ordered, order};
+    use std::test::Fail;
+
+    fn edge(from: u32, to: u32) -> Edge {
+        Edge { from, to }
+    }
+
+    #[test]
+    fn orders_the_least_first(rt: HostRuntime) -> Result<(), Fail> {
+        let edges = [edge(3, 0), edge(3, 1), edge(1, 2), edge(3, 1)];
+        match order(rt.alloc(), 5, &edges)? {
+            Ordered::Order(nodes) => assert_eq!(rt; nodes.as_slice(), [3, 0, 1, 2, 4].as_slice()),
+            Ordered::Cycle(_) => assert!(rt; false),
+        }
+        Ok(())
+    }
+
+    #[test]
+    fn shows_the_least_of_the_shortest_cycles(rt: HostRuntime) -> Result<(), Fail> {
+        let edges = [
+            edge(0, 1),
+            edge(1, 2),
+            edge(2, 4),
+            edge(4, 1),
+            edge(3, 1),
+            edge(2, 3),
+            edge(4, 5),
+        ];
+        let cycle = shown_cycle(rt.alloc(), 6, &edges)?.ok_or("none")?;
+        assert_eq!(rt; cycle.as_slice(), [1, 2, 3].as_slice());
+        Ok(())
+    }
 }

@@ -15,10 +15,12 @@ back-preserved c =
     let inv = c.back.invariant in
     let R : ℕ → ℕ → Type 0 = λ x y. IsSource waits sources y x in
     let within : here < length c.back.met.items = omega (arith, waiting-within waits here inv.1, inv.0) in
-    let pushed = c.in_ok-push.ensures.items in
-    (length-set c.back.met.items here true ∙ inv.0, c.requires.closed here inv.1,
+    let pushed = c.in_ok-push.ensures.items in (
+      length-set c.back.met.items here true ∙ inv.0,
+      c.requires.closed here inv.1,
       met-more c.back.met.items c.back.walk.items c.push.new.self.items here inv.2 pushed within,
-      subst (λ (xs : List ℕ). IsTrail R xs (slice_index sources here)) (sym pushed) (trail-push R c.back.walk.items here (slice_index sources here) inv.3 (inv.1, refl)))
+      subst (λ (xs : List ℕ). IsTrail R xs (slice_index sources here)) (sym pushed) (trail-push R c.back.walk.items here (slice_index sources here) inv.3 (inv.1, refl)),
+    )
 
 pub turned-requires : goal.turned-requires
 turned-requires c =

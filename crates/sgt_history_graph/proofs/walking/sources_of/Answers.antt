@@ -20,4 +20,4 @@ loop-edge-preserved c =
 pub returns-clause-sources : goal.returns-clause-sources
 returns-clause-sources c =
     (subst (λ (es : List Edge). (a v : ℕ) → Goes es a v → 0 < slice_index c.args.waits.now a → IsLed c.args.waits.now c.args.edges.now c.loop-edge.sources.items v)
-      (take_all c.loop-edge.edge-index c.args.edges.now c.loop-edge-test.false) c.loop-edge.invariant.led)
+    (take_all c.loop-edge.edge-index c.args.edges.now c.loop-edge-test.false) c.loop-edge.invariant.led)

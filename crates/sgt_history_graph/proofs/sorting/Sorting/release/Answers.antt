@@ -39,19 +39,23 @@ releasing-preserved c =
     let most = sum old.waits.items + length (numbers (heap_items old.free)) in
     let n = c.index.result.now - 1 in
     let P : Sorting → Type 0 = λ s. IsReleasing limit targets (k + 1) old.waits.items s.waits.items (numbers (heap_items s.free)) s.order.items most
-        × IsHeap (λ x y. nat_cmp y.0 x.0) (heap_items s.free) × (s.order ≡ old.order) in
+    × IsHeap (λ x y. nat_cmp y.0 x.0) (heap_items s.free) × (s.order ≡ old.order) in
     elim c.if-left-eq0.branch [
-      | then-left-eq0+then-target-last+in_ok-push w ↦ subst P (sym w.self-is)
-          (releasing-freed limit targets k old.waits.items now.waits.items (numbers (heap_items now.free)) (numbers (heap_items w.push.new.self)) now.order.items most b n
+      | then-left-eq0+then-target-last+in_ok-push w ↦ subst P (sym w.self-is) (
+        releasing-freed limit targets k old.waits.items now.waits.items (numbers (heap_items now.free)) (numbers (heap_items w.push.new.self)) now.order.items most b n
             c.releasing.invariant.0 c.releasing-test.true refl told.1 was w.if-left-eq0.true (omega (arith, w.if-target-last.true))
             (pushed-counts b (heap_items now.free) (heap_items w.push.new.self) w.in_ok-push.ensures.permutation)
             (pushed-length b (heap_items now.free) (heap_items w.push.new.self) w.in_ok-push.ensures.permutation),
-          w.in_ok-push.ensures.heap_order c.releasing.invariant.1, c.releasing.invariant.2)
+        w.in_ok-push.ensures.heap_order c.releasing.invariant.1,
+        c.releasing.invariant.2,
+      )
       | else-left-eq0 w ↦ subst P (sym w.self-is) (
-          releasing-kept limit targets k old.waits.items now.waits.items (numbers (heap_items now.free)) now.order.items most b n
+        releasing-kept limit targets k old.waits.items now.waits.items (numbers (heap_items now.free)) now.order.items most b n
             c.releasing.invariant.0 c.releasing-test.true refl told.1 was (elim w.else-left-eq0.branch [
               | else-left-eq0-via-then-left-eq0+else-target-last v ↦ inr (omega (arith, v.if-target-last.false))
               | else-left-eq0-via-else-left-eq0 v ↦ inl v.if-left-eq0.false
             ]),
-          c.releasing.invariant.1, c.releasing.invariant.2)
+        c.releasing.invariant.1,
+        c.releasing.invariant.2,
+      )
     ]
