@@ -1,5 +1,5 @@
 -- The next node is placed.
-use Rattle.std.proofs.Common.{◌≡◌, ◌≢◌, ◌==◌, ◌&&◌, ℕ, zero, suc, ◌+◌, ◌-◌, ◌<◌, ◌≤◌, ◌⊎◌, Bool, true, false, cond, eqb, ltb, List, [], ◌∷◌, ◌++◌, length, get_or, take, Some, refl, sym, ap, ap₂, ◌∙◌, subst, arith, inl, inr, slice_index, Contains, All}
+use Rattle.std.proofs.Common.{◌≡◌, ◌≢◌, ◌&&◌, ℕ, zero, suc, ◌+◌, ◌<◌, ◌≤◌, false, cond, eqb, List, [], ◌∷◌, ◌++◌, length, take, Some, refl, sym, ap, ◌∙◌, subst, arith, inl, inr, slice_index, Contains, All}
 use Rattle.std.specs.Prelude.{slice_get}
 use Rattle.std.specs.Ordering.{nat_cmp, is_lt}
 use Rattle.std.specs.BinaryHeap.{IsUpperBound}
@@ -7,16 +7,15 @@ use Rattle.std.specs.declared.cmp.Reverse.{Reverse}
 use Rattle.std.specs.declared.cmp.Ordering.TheVariants.{Less, Equal, Greater}
 use Rattle.std.proofs.lemmas.Bool.{cases_eq, cases_lt, lt-ltb, le-ltb, true≢false}
 use Rattle.std.proofs.lemmas.List.{take-append-le, take_at, length_push}
-use Rattle.std.proofs.lemmas.List.Elements.{Contains-push}
 use Rattle.std.proofs.lemmas.Option.{same_Some, slice_get_within}
 use Rattle.sgt_names.proofs.Places.{All-from_at, Contains_at, Contains-from_at, slice_get-take, slice_get-take_at}
 use Rattle.sgt_names.proofs.Lists.{All_in, front_at, middle_at, within_at}
 use Rattle.sgt_history_graph.specs.declared.edge.Edge.{Edge}
-use Rattle.sgt_history_graph.specs.Graph.{Goes, IsFree, IsLeastFirst, IsLeastFree, IsOrder, JoinsNodes, Precedes}
+use Rattle.sgt_history_graph.specs.Graph.{Goes, IsFree, IsLeastFirst, IsLeastFree, IsOrder, JoinsNodes}
 use Rattle.sgt_history_graph.specs.Rows.{targets_from}
 use Rattle.sgt_history_graph.specs.Sorting.{count_of, numbers, waiting, IsTallied, IsUnderWay}
 use Rattle.sgt_history_graph.proofs.Counts.{is_at, at-other, at-same, absent-none, contains-counted, count-push, counted-contains, none-waits, waiting-placed, waits-none, waits-some}
-use Rattle.sgt_history_graph.proofs.Placing.{expected, expected-one, expected-some, expected-waits, expected-past, AreCounted}
+use Rattle.sgt_history_graph.proofs.Placing.{expected, expected-one, expected-some, expected-waits, expected-past}
 
 -- ---- the top of the heap
 

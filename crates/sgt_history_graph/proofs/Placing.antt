@@ -1,17 +1,11 @@
 -- What is kept up while nodes are put in order.
-use Rattle.std.proofs.Common.{◌≡◌, ◌≢◌, ◌==◌, ◌&&◌, ℕ, zero, suc, ◌+◌, ◌-◌, ◌<◌, ◌≤◌, ◌⊎◌, Bool, true, false, cond, eqb, ltb, List, [], ◌∷◌, ◌++◌, length, get_or, set, take, Some, refl, sym, ap, ap₂, ◌∙◌, subst, arith, inl, inr, slice_index, replicate, sum, Contains, All}
-use Rattle.std.specs.Prelude.{slice_get}
+use Rattle.std.proofs.Common.{◌≡◌, ◌≢◌, ◌&&◌, ℕ, ◌+◌, ◌<◌, ◌≤◌, Bool, true, false, cond, eqb, ltb, List, [], length, get_or, set, take, refl, sym, ap, ap₂, ◌∙◌, subst, arith, inl, inr, slice_index, replicate}
 use Rattle.std.proofs.lemmas.Bool.{cases_eq, cases_lt, eq-eqb, ne_eqb, lt-ltb, le-ltb}
 use Rattle.std.proofs.lemmas.List.{length-set, length-take-le, length-replicate, get_or-replicate, get_or-set_same, get_or-set_other, get_or_read, get_or_past}
-use Rattle.std.proofs.lemmas.List.Sums.{count_by-le-length, sum_by-set, sum_by-take-le, sum_by_more}
-use Rattle.std.proofs.lemmas.Option.{same_Some, slice_get_within}
-use Rattle.sgt_names.proofs.Places.{Contains_at, Contains-from_at, slice_get-take, slice_get-take_at}
-use Rattle.sgt_names.proofs.Lists.{front_at}
+use Rattle.std.proofs.lemmas.List.Sums.{count_by-le-length}
 use Rattle.sgt_history_graph.specs.declared.edge.Edge.{Edge}
-use Rattle.sgt_history_graph.specs.Graph.{Goes, IsFree, IsLeastFirst, IsLeastFree, IsOrder, JoinsNodes, Precedes}
-use Rattle.sgt_history_graph.specs.Rows.{targets_from}
-use Rattle.sgt_history_graph.specs.Sorting.{count_of, waiting, IsTallied, IsUnderWay}
-use Rattle.sgt_history_graph.proofs.Counts.{is_at, is_waiting, at-other, at-same, absent-none, contains-counted, count-cons, count-push, counted-contains, none-waits, waiting-more, waiting-placed, waits-none, waits-some}
+use Rattle.sgt_history_graph.specs.Sorting.{count_of, waiting}
+use Rattle.sgt_history_graph.proofs.Counts.{at-other, at-same, waiting-more}
 
 -- ---- counts of edges
 

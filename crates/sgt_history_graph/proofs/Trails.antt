@@ -1,5 +1,5 @@
 -- Walks back along edges, to a cycle.
-use Rattle.std.proofs.Common.{◌≡◌, ◌≢◌, ℕ, zero, suc, ◌+◌, ◌<◌, ◌≤◌, ◌⊎◌, Bool, true, false, List, [], ◌∷◌, ◌++◌, length, get_or, set, take, drop, reverse, Some, refl, sym, ap, ◌∙◌, subst, arith, inl, inr, slice_index, Contains}
+use Rattle.std.proofs.Common.{◌≡◌, ℕ, zero, suc, ◌+◌, ◌<◌, ◌⊎◌, Bool, true, false, List, [], ◌∷◌, ◌++◌, length, get_or, set, take, drop, reverse, Some, sym, ap, ◌∙◌, subst, arith, inl, inr, slice_index, Contains}
 use Rattle.std.specs.Prelude.{slice_get}
 use Rattle.std.proofs.lemmas.Bool.{cases_eq, cases_lt}
 use Rattle.std.proofs.lemmas.List.{get_or_past, get_or-set_same, get_or-set_other, length-set, reverse-append, take_more}
@@ -7,7 +7,7 @@ use Rattle.std.proofs.lemmas.List.Elements.{Contains-append_left, Contains-get_o
 use Rattle.std.proofs.lemmas.Option.{same_Some}
 use Rattle.sgt_history_graph.specs.declared.edge.Edge.{Edge}
 use Rattle.sgt_history_graph.specs.Graph.{Goes, IsChain, IsCycle}
-use Rattle.sgt_history_graph.specs.Walks.{IsSource, IsTrail}
+use Rattle.sgt_history_graph.specs.Walks.{IsTrail}
 
 -- ---- chains
 

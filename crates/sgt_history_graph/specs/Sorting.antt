@@ -1,5 +1,5 @@
 -- What is kept up while nodes are put in order.
-use Rattle.std.specs.Prelude.{◌≡◌, ◌==◌, ◌&&◌, nat_lt, if◌then◌else◌, ℕ, ◌+◌, ◌<◌, ◌≤◌, List, length, count_by, map, slice_index}
+use Rattle.std.specs.Prelude.{◌≡◌, ◌==◌, ◌&&◌, nat_lt, if◌then◌else◌, ℕ, ◌+◌, ◌≤◌, List, length, count_by, map, slice_index}
 use Rattle.std.specs.declared.cmp.Reverse.{Reverse}
 use Rattle.sgt_history_graph.specs.declared.edge.Edge.{Edge}
 use Rattle.sgt_history_graph.specs.Graph.{IsLeastFirst}

@@ -6,6 +6,8 @@ mod edge;
 mod rows;
 mod shown;
 mod sorting;
+#[cfg(test)]
+mod tests;
 mod walking;
 
 pub use edge::Edge;

@@ -1,6 +1,5 @@
-use Rattle.std.proofs.Common.{◌≡◌, ℕ, ◌<◌, length, get_or, arith, ap}
-use Rattle.std.proofs.lemmas.List.{get_or_read, take_all}
-use Rattle.sgt_history_graph.specs.Sorting.{waiting}
+use Rattle.std.proofs.Common.{◌<◌, length, get_or, arith}
+use Rattle.std.proofs.lemmas.List.{get_or_read}
 use Rattle.sgt_history_graph.proofs.Placing.{counted-none, counted-next, count-bound}
 use Rattle.sgt_history_graph.proofs.sorting.counts_of.Goals as goal
 

@@ -1,4 +1,4 @@
-use Rattle.std.proofs.Common.{◌≡◌, ℕ, ◌<◌, ◌≤◌, [], length, List, All, sym, ap, ◌∙◌, subst, arith, slice_index, Vec, Global}
+use Rattle.std.proofs.Common.{◌≡◌, ℕ, [], List, All, sym, subst, arith, slice_index, Vec, Global}
 use Rattle.std.specs.Prelude.{⊤}
 use Rattle.std.proofs.lemmas.Option.{MatchOption-at_none}
 use Rattle.sgt_history_graph.specs.Graph.{JoinsNodes}

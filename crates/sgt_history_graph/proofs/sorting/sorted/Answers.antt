@@ -1,10 +1,9 @@
-use Rattle.std.proofs.Common.{◌≡◌, ◌<◌, ◌≤◌, ℕ, ◌+◌, length, slice_index, arith, refl, sym, ap, ◌∙◌, subst, Vec, Global}
+use Rattle.std.proofs.Common.{◌≡◌, ◌<◌, ℕ, ◌+◌, length, slice_index, arith, ap, ◌∙◌, Vec, Global}
 use Rattle.std.specs.BinaryHeap.{heap_items}
 use Rattle.std.proofs.lemmas.List.{get_or_read}
-use Rattle.sgt_history_graph.specs.Rows.{targets_from}
 use Rattle.sgt_history_graph.specs.Sorting.{numbers}
 use Rattle.sgt_history_graph.proofs.Releasing.{popped-counts, pushed-counts}
-use Rattle.sgt_history_graph.proofs.Placed.{least-of, looked-free, looked-waits, placeable, placed-next, row-waits, tally-moved, top-least, under_way-none}
+use Rattle.sgt_history_graph.proofs.Placed.{least-of, looked-free, placeable, placed-next, row-waits, tally-moved, top-least}
 use Rattle.sgt_history_graph.proofs.sorting.sorted.Goals as goal
 
 pub placing-init : goal.placing-init

@@ -1,7 +1,6 @@
-use Rattle.std.proofs.Common.{◌≡◌, ◌+◌, [], List, ℕ, sum}
+use Rattle.std.proofs.Common.{◌≡◌, ◌+◌, [], sum}
 use Rattle.std.specs.Ordering.{nat_cmp}
 use Rattle.std.specs.BinaryHeap.{heap_items, heap_len, IsHeap}
-use Rattle.sgt_history_graph.specs.Rows.{HasRows}
 use Rattle.sgt_history_graph.specs.Sorting.{numbers, IsUnderWay}
 use Rattle.sgt_history_graph.proofs.sorting.sorted.Given as goal
 

@@ -1,4 +1,4 @@
-use Rattle.std.proofs.Common.{◌≡◌, ℕ, ◌<◌, length, slice_index, List, true, false, refl, sym, ap, ◌∙◌, subst, arith, Contains, Some, drop, reverse, Vec, Global}
+use Rattle.std.proofs.Common.{◌≡◌, ℕ, ◌<◌, length, slice_index, List, true, false, refl, sym, ◌∙◌, subst, arith, Contains, Some, drop, reverse, Vec, Global}
 use Rattle.std.specs.Prelude.{slice_get}
 use Rattle.std.proofs.lemmas.List.{get_or_read, length-set}
 use Rattle.std.proofs.lemmas.Result.{IfOk-weaker}

@@ -1,4 +1,4 @@
-use Rattle.std.proofs.Common.{◌≡◌, ℕ, ◌<◌, Bool, true, false, not, length, get_or, slice_index, count_by, Contains}
+use Rattle.std.proofs.Common.{◌≡◌, ℕ, ◌<◌, true, false, not, length, get_or, slice_index, count_by, Contains}
 use Rattle.sgt_history_graph.specs.Walks.{IsSource, IsTrail}
 use Rattle.sgt_history_graph.proofs.walking.cycle_back.Given as goal
 

@@ -1,4 +1,4 @@
-use Rattle.std.proofs.Common.{◌≡◌, ℕ, ◌+◌, ◌<◌, ◌≤◌, length, get_or, set, take, slice_index, sym, subst, arith, Vec, Global, List}
+use Rattle.std.proofs.Common.{ℕ, ◌+◌, ◌<◌, slice_index, sym, subst, arith, Vec, Global, List}
 use Rattle.std.proofs.lemmas.List.{take_all}
 use Rattle.sgt_history_graph.specs.declared.edge.Edge.{Edge}
 use Rattle.sgt_history_graph.specs.Graph.{Goes}

@@ -1,5 +1,5 @@
-use Rattle.std.proofs.Common.{◌≡◌, ℕ, ◌<◌, slice_index, List, refl, sym, ap, ◌∙◌, subst}
-use Rattle.sgt_history_graph.specs.Graph.{Goes, IsCycle}
+use Rattle.std.proofs.Common.{◌≡◌, ℕ, slice_index, List, sym, ap, ◌∙◌, subst}
+use Rattle.sgt_history_graph.specs.Graph.{Goes}
 use Rattle.sgt_history_graph.specs.Walks.{IsSource}
 use Rattle.sgt_history_graph.proofs.Trails.{cycle-weaker}
 use Rattle.sgt_history_graph.proofs.walking.waiting_cycle.Goals as goal

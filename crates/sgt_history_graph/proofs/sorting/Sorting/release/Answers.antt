@@ -1,10 +1,10 @@
-use Rattle.std.proofs.Common.{◌≡◌, ◌≢◌, ◌⊎◌, ◌<◌, ◌≤◌, ℕ, ◌+◌, ◌-◌, length, get_or, slice_index, arith, refl, sym, ap, ◌∙◌, subst, sum, inl, inr}
+use Rattle.std.proofs.Common.{◌≡◌, ◌+◌, ◌-◌, length, get_or, slice_index, arith, refl, sym, subst, sum, inl, inr}
 use Rattle.std.specs.Ordering.{nat_cmp}
-use Rattle.std.specs.BinaryHeap.{heap_items, heap_len, IsHeap}
+use Rattle.std.specs.BinaryHeap.{heap_items, IsHeap}
 use Rattle.std.proofs.lemmas.List.{get_or_read}
 use Rattle.sgt_history_graph.specs.declared.sorting.Sorting.{Sorting}
 use Rattle.sgt_history_graph.specs.Sorting.{numbers}
-use Rattle.sgt_history_graph.proofs.Releasing.{IsReleasing, releasing-none, releasing-kept, releasing-freed, target-waits, pushed-counts, pushed-length}
+use Rattle.sgt_history_graph.proofs.Releasing.{IsReleasing, releasing-kept, releasing-freed, target-waits, pushed-counts, pushed-length}
 use Rattle.sgt_history_graph.proofs.sorting.Sorting.release.Goals as goal
 use Rattle.sgt_history_graph.proofs.sorting.Sorting.release.Goals.{then-left-eq0+then-target-last+in_ok-push, else-left-eq0, else-left-eq0-via-then-left-eq0+else-target-last, else-left-eq0-via-else-left-eq0}
 

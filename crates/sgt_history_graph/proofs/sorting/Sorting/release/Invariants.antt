@@ -1,6 +1,6 @@
 use Rattle.std.proofs.Common.{◌≡◌, ◌+◌, sum, length}
 use Rattle.std.specs.Ordering.{nat_cmp}
-use Rattle.std.specs.BinaryHeap.{heap_items, heap_len, IsHeap}
+use Rattle.std.specs.BinaryHeap.{heap_items, IsHeap}
 use Rattle.sgt_history_graph.specs.Sorting.{numbers}
 use Rattle.sgt_history_graph.proofs.Releasing.{IsReleasing}
 use Rattle.sgt_history_graph.proofs.sorting.Sorting.release.Given as goal
