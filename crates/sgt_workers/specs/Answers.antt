@@ -1,6 +1,6 @@
 -- What a pool answers.
 use Rattle.std.specs.Prelude.{◌≡◌, ℕ, ◌-◌, ◌<◌, ◌≤◌, List, [], ◌∷◌, Some, slice_get, map, ⊤}
-use Rattle.std.specs.List.{All, AllPairs, AllZip, flat_map}
+use Rattle.std.specs.List.{AllPairs, AllZip, flat_map}
 use Rattle.std.specs.List.Sorted.{IsPermutation}
 use Rattle.sgt_workers.specs.declared.fault.PoolFail.{PoolFail}
 use Rattle.sgt_workers.specs.declared.fault.PoolFail.TheVariants.{Work, Pool}
@@ -54,24 +54,16 @@ AreShared {S} does scripts states dones after =
     × (map (λ share. share.1) shares ≡ after)
     × IsPermutation (flat_map (λ share. share.0) shares) dones
 
--- no Done is of a job that has none; one with two Dones has them at two places
-abbrev pub IsTold : ℕ → List Done → PoolFault → Type 0
-IsTold count dones Memory = ⊥
-IsTold count dones (Unrun n) = IsJob count n × All (λ d. d.job ≡ n → ⊥) dones
-IsTold count dones (Doubled n) =
-    (i : ℕ) × (j : ℕ) × (d : Done) × (e : Done) × (i < j)
-    × (slice_get dones i ≡ Some d) × (slice_get dones j ≡ Some e) × (d.job ≡ n) × (e.job ≡ n)
-
 -- a fault of the pool, and none of its work
 abbrev pub IsOwn : {E : Type 0} → PoolFail E → Type 0
 IsOwn (Work e) = ⊥
 IsOwn (Pool f) = ⊤
 
--- one that a pool gives: want of memory, or one of the jobs that has no Done; none is ever run
--- twice
+-- one that a pool gives: want of memory; or the first of the jobs wasn't run, since no worker was
+-- started; none is ever run twice, and where all workers came to their ends each was run
 abbrev pub IsMet : ℕ → PoolFault → Type 0
 IsMet count Memory = ⊤
-IsMet count (Unrun n) = IsJob count n
+IsMet count (Unrun n) = IsJob count n × (n ≡ 1)
 IsMet count (Doubled n) = ⊥
 
 -- a fault that the work may end with, or one of the pool

@@ -1,11 +1,11 @@
 //! The queue of jobs: their numbers in rising order, and then a stop for each worker. The front is taken.
 
-ghost use Rattle.std.specs.Prelude.{◌≡◌, ◌+◌, ◌-◌, ◌<◌, ◌⊎◌, length, IfNone, IfSome, IfOk, OnOk, OnErr, Some, slice_get, ⊤, true};
+ghost use Rattle.std.specs.Prelude.{◌≡◌, ◌+◌, ◌-◌, ◌<◌, ◌≤◌, ◌⊎◌, length, IfNone, IfSome, IfOk, OnOk, OnErr, Some, slice_get, ⊤, true};
 ghost use Rattle.std.specs.List.{All};
 ghost use Rattle.crossbeam_channel.specs.Claims.{view, IsSeatAt};
 ghost use Rattle.crossbeam_channel.specs.Ends.{sends_on, receives_on, ruled_capacity};
-ghost use Rattle.sgt_workers.specs.Queue.{sender_of, newcomer, spent_hold, with_job, with_stop, took, at_stop, joined};
-ghost use Rattle.sgt_workers.specs.Queue.{IsFilled, Kept, Takes, OnceAtMost, HasRoom};
+ghost use Rattle.sgt_workers.specs.Queue.{sender_of, newcomer, lender, spent_hold, with_job, with_stop, took, at_stop, joined};
+ghost use Rattle.sgt_workers.specs.Queue.{IsFilled, Kept, Takes, AreAll, HasRoom};
 
 use crate::work::Job;
 use crossbeam_channel::protocol::{Join, Lesson, Outcome, Protocol, Split};
@@ -24,13 +24,16 @@ pub enum Task {
 }
 
 /// What a pass to the queue knows: whether it is the sender's, how many jobs and stops it knows to be sent, the numbers of
-/// the jobs that it took, and whether it took a stop. No value of it is made.
+/// the jobs that it took, whether it took a stop, how many passes were cut from it that were not joined to it again, and whether it is
+/// one of those (1 or 0). No value of it is made.
 pub struct Hold {
     pub sends: bool,
     pub sent: u64,
     pub stops: u64,
     pub taken: LinkedList<u64>,
     pub stopped: bool,
+    pub lent: u64,
+    pub out: u64,
 }
 
 /// The rule of the queue: the numbers go up by one, the stops come last, the front is taken, and each job once.
@@ -46,7 +49,7 @@ impl Protocol<Task, Hold> for Rising {
 pub struct ForWorker;
 
 impl Split<Hold> for ForWorker {
-    ghost left = { λ v. v };
+    ghost left = { lender 1 };
 
     ghost right = { newcomer };
 }
@@ -90,11 +93,11 @@ impl Lesson<Task, Hold> for TakesFront {
     ghost fact = { λ v items. ⊤ };
 }
 
-/// What a pass knows to be taken was taken once.
-pub struct TakenOnce;
+/// What a pass knows to be taken are all jobs, each once.
+pub struct TakenAll;
 
-impl Lesson<Task, Hold> for TakenOnce {
-    ghost fact = { λ v items. OnceAtMost v.sent v.taken };
+impl Lesson<Task, Hold> for TakenAll {
+    ghost fact = { λ v items. AreAll v.sent v.taken };
 }
 
 pub type Sender = RuledSender<Task, Hold, Rising>;
@@ -119,8 +122,9 @@ pub fn open(alloc: Global, capacity: usize) -> Result<(Sender, Receiver, QueuePa
 
 /// A pass for one more worker.
 pub fn cut(sender: &Sender, pass: &mut QueuePass) -> QueuePass
-    requires { IsSeatAt (sends_on sender.now) pass.old }
-    ensures old { IsSeatAt (sends_on sender.now) pass.new × (view pass.new ≡ view pass.old) }
+    requires { IsSeatAt (sends_on sender.now) pass.old × ((view pass.old).sends ≡ true) }
+    ensures old { IsSeatAt (sends_on sender.now) pass.new
+        × (view pass.new ≡ lender 1 (view pass.old)) }
     ensures new { IsSeatAt (sends_on sender.now) result × (view result ≡ newcomer (view pass.old)) }
 {
     sender.another::<ForWorker>(pass)
@@ -128,20 +132,24 @@ pub fn cut(sender: &Sender, pass: &mut QueuePass) -> QueuePass
 
 /// Takes in what a worker's pass knows.
 pub fn join(sender: &Sender, pass: &mut QueuePass, other: QueuePass)
-    requires { IsSeatAt (sends_on sender.now) pass.old × IsSeatAt (sends_on sender.now) other }
+    requires seats { IsSeatAt (sends_on sender.now) pass.old × IsSeatAt (sends_on sender.now) other }
+    requires sends { (view pass.old).sends ≡ true }
+    requires out { (view other).lent ≤ (view pass.old).out }
     ensures seat { IsSeatAt (sends_on sender.now) pass.new }
     ensures both { view pass.new ≡ joined (view pass.old) (view other) }
 {
     sender.absorb::<ForWorker>(pass, other)
 }
 
-/// No job that the sender's pass knows to be taken was taken twice, and each was sent.
-pub fn learn_once(sender: &Sender, pass: &mut QueuePass)
-    requires { IsSeatAt (sends_on sender.now) pass.old × ((view pass.old).sends ≡ true) }
+/// Once all passes that were cut are joined again, and a stop was taken: the sender's pass knows each job that was sent to be taken, once.
+pub fn learn_all(sender: &Sender, pass: &mut QueuePass)
+    requires seat { IsSeatAt (sends_on sender.now) pass.old × ((view pass.old).sends ≡ true) }
+    requires none_out { (view pass.old).out ≡ 0 }
+    requires stopped { (view pass.old).stopped ≡ true }
     ensures same { view pass.new ≡ view pass.old }
-    ensures once { OnceAtMost (view pass.old).sent (view pass.old).taken }
+    ensures all { AreAll (view pass.old).sent (view pass.old).taken }
 {
-    sender.learn_as::<TakenOnce>(pass)
+    sender.learn_as::<TakenAll>(pass)
 }
 
 /// Sends the jobs 1 to `jobs` and then a stop for each worker. The queue has room for all of them.
@@ -242,6 +250,7 @@ pub fn take_job<'a, C, R: Wait>(
 ) -> Option<Job<&'a C>>
     requires seat { IsSeatAt (receives_on receiver.now) pass.old }
     requires filled { IsFilled (length scripts.now) (view pass.old) }
+    requires lent { (view pass.old).lent ≡ 1 }
     ensures seat { IsSeatAt (receives_on receiver.now) pass.new }
     ensures job { IfSome result (λ j. view pass.new ≡ took j.number (view pass.old)) }
     ensures rising { IfSome result
@@ -258,7 +267,8 @@ pub fn take_job<'a, C, R: Wait>(
 
 // Takes the front. An empty queue is no answer: a worker takes until its stop.
 fn take<R: Wait>(rt: &R, receiver: &Receiver, pass: &mut QueuePass) -> Task
-    requires { IsSeatAt (receives_on receiver.now) pass.old }
+    requires seat { IsSeatAt (receives_on receiver.now) pass.old }
+    requires lent { (view pass.old).lent ≡ 1 }
     ensures seat { IsSeatAt (receives_on receiver.now) pass.new }
     ensures front { Takes (view pass.old) result (view pass.new) }
 {

@@ -1,17 +1,17 @@
 //! The pool: one worker for each state, and a Done for each script.
 
-ghost use Rattle.std.specs.Prelude.{◌≡◌, ◌<◌, ◌⊎◌, [], Ok, Err, IfOk, IfErr, length, map, vec_len};
+ghost use Rattle.std.specs.Prelude.{◌≡◌, ◌<◌, ◌⊎◌, [], true, Ok, Err, IfOk, IfErr, OnOk, length, map, vec_len};
 ghost use Rattle.std.specs.List.{All, AllZip, Contains, flat_map, range_with_len};
 ghost use Rattle.crossbeam_channel.specs.Claims.{view, IsSeatAt};
 ghost use Rattle.crossbeam_channel.specs.Ends.{sends_on, receives_on};
 ghost use Rattle.sgt_workers.specs.declared.fault.PoolFail.TheVariants.{Pool};
 ghost use Rattle.sgt_workers.specs.declared.fault.PoolFault.TheVariants.{Memory};
 ghost use Rattle.sgt_workers.specs.Answers.{jobs_of, AreShared, IsAnswer, IsFault, IsOwn, IsReport};
-ghost use Rattle.sgt_workers.specs.Queue.{newcomer, HasStops, IsBegun, IsEnded, OnceAtMost};
+ghost use Rattle.sgt_workers.specs.Queue.{newcomer, lender, HasStops, IsBegun, IsEnded};
 
 use crate::fault::{PoolFail, PoolFault};
 use crate::order::in_order;
-use crate::queue::{QueuePass, Receiver, Sender, cut, fill, join, learn_once, open, take_job};
+use crate::queue::{QueuePass, Receiver, Sender, cut, fill, join, learn_all, open, take_job};
 use crate::ticket::Done;
 use crate::work::Work;
 use crate::worker::{Kit, Report};
@@ -21,8 +21,8 @@ use std::thread;
 use std::thread::Threads;
 
 /// Runs each script as one job, by as many workers as there are states. Gives the Dones in the order of the scripts, and
-/// the states in theirs, once all workers are joined. P2 where the queue has no room for all tasks, so that no worker starts. After
-/// a fault the states are spent.
+/// the states in theirs, once all workers are joined. P2 with job 1 where the queue doesn't take all tasks, so that no worker starts.
+/// After a fault the states are spent.
 pub fn pool<
     S: Send + Drop,
     C: Sync,
@@ -57,11 +57,8 @@ pub fn pool<
     let ends = run_workers(rt, alloc, &receiver, kits, scripts, work)?;
     let reports = all_ended(alloc, ends)?;
     let (dones, states) = collect(alloc, &sender, &mut pass, reports)?;
-    learn_once(&sender, &mut pass);
-    match in_order(dones, scripts.len() as u64) {
-        Ok(dones) => Ok((dones, states)),
-        Err(fault) => Err(PoolFail::Pool(fault)),
-    }
+    learn_all(&sender, &mut pass);
+    Ok((in_order(dones), states))
 }
 
 // Without a script there is no Done, and the states stay as they are.
@@ -84,8 +81,9 @@ fn make_kits<S: Drop>(
     pass: &mut QueuePass,
     states: Vec<S>,
 ) -> Result<Vec<Kit<S>>, AllocError>
-    requires { IsSeatAt (sends_on sender.now) pass.old }
-    ensures seat { IsSeatAt (sends_on sender.now) pass.new × (view pass.new ≡ view pass.old) }
+    requires { IsSeatAt (sends_on sender.now) pass.old × ((view pass.old).sends ≡ true) }
+    ensures seat { IsSeatAt (sends_on sender.now) pass.new }
+    ensures lender { IfOk result (λ v. view pass.new ≡ lender (vec_len v) (view pass.old)) }
     ensures kits { IfOk result (λ v. AllZip (λ s k. k.state ≡ s) states.items v.items) }
     ensures cut { IfOk result
         (λ v. All (λ k.
@@ -202,6 +200,9 @@ fn collect<S: Drop>(
     reports: Vec<Report<S>>,
 ) -> Result<(Vec<Done>, Vec<S>), AllocError>
     requires pass { IsSeatAt (sends_on sender.now) pass.old × ((view pass.old).taken ≡ []) }
+    requires sends { (view pass.old).sends ≡ true }
+    requires out { (view pass.old).out ≡ vec_len reports }
+    requires some { 0 < vec_len reports }
     requires reports { All
         (λ w. IsEnded (sends_on sender.now) w.pass (jobs_of w.dones.items)) reports.items }
     ensures seat { IsSeatAt (sends_on sender.now) pass.new }
@@ -210,6 +211,8 @@ fn collect<S: Drop>(
     ensures taken { IfOk result (λ r. (view pass.new).taken ≡ jobs_of r.0.items) }
     ensures sent { ((view pass.new).sends ≡ (view pass.old).sends)
         × ((view pass.new).sent ≡ (view pass.old).sent) }
+    ensures whole { OnOk result
+        (((view pass.new).out ≡ 0) × ((view pass.new).stopped ≡ true)) }
 {
     let mut all = Vec::new(alloc);
     let mut states = Vec::new(alloc);
