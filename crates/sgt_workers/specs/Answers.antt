@@ -4,8 +4,7 @@ use Rattle.std.specs.List.{AllPairs, AllZip, flat_map}
 use Rattle.std.specs.List.Sorted.{IsPermutation}
 use Rattle.sgt_workers.specs.declared.fault.PoolFail.{PoolFail}
 use Rattle.sgt_workers.specs.declared.fault.PoolFail.TheVariants.{Work, Pool}
-use Rattle.sgt_workers.specs.declared.fault.PoolFault.{PoolFault}
-use Rattle.sgt_workers.specs.declared.fault.PoolFault.TheVariants.{Memory, Unrun, Doubled}
+use Rattle.sgt_workers.specs.declared.fault.PoolFault.TheVariants.{Memory}
 use Rattle.sgt_workers.specs.declared.ticket.Done.{Done}
 use Rattle.sgt_workers.specs.declared.worker.Report.{Report}
 
@@ -59,14 +58,8 @@ abbrev pub IsOwn : {E : Type 0} → PoolFail E → Type 0
 IsOwn (Work e) = ⊥
 IsOwn (Pool f) = ⊤
 
--- one that a pool gives: want of memory; or the first of the jobs wasn't run, since no worker was
--- started; none is ever run twice, and where all workers came to their ends each was run
-abbrev pub IsMet : ℕ → PoolFault → Type 0
-IsMet count Memory = ⊤
-IsMet count (Unrun n) = IsJob count n × (n ≡ 1)
-IsMet count (Doubled n) = ⊥
-
--- a fault that the work may end with, or one of the pool
-abbrev pub IsFault : {E : Type 0} → (E → Type 0) → ℕ → PoolFail E → Type 0
-IsFault faults count (Work e) = faults e
-IsFault faults count (Pool f) = IsMet count f
+-- a fault that the work may end with, or want of memory: none of the pool's jobs is left out, and none
+-- is run twice
+abbrev pub IsFault : {E : Type 0} → (E → Type 0) → PoolFail E → Type 0
+IsFault faults (Work e) = faults e
+IsFault faults (Pool f) = f ≡ Memory

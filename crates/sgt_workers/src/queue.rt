@@ -1,6 +1,6 @@
 //! The queue of jobs: their numbers in rising order, and then a stop for each worker. The front is taken.
 
-ghost use Rattle.std.specs.Prelude.{◌≡◌, ◌+◌, ◌-◌, ◌<◌, ◌≤◌, ◌⊎◌, length, IfNone, IfSome, IfOk, OnOk, OnErr, Some, slice_get, ⊤, true};
+ghost use Rattle.std.specs.Prelude.{◌≡◌, ◌+◌, ◌-◌, ◌<◌, ◌≤◌, length, IfNone, IfSome, IfOk, Some, slice_get, ⊤, true};
 ghost use Rattle.std.specs.List.{All};
 ghost use Rattle.crossbeam_channel.specs.Claims.{view, IsSeatAt};
 ghost use Rattle.crossbeam_channel.specs.Ends.{sends_on, receives_on, ruled_capacity};
@@ -106,10 +106,6 @@ pub type Receiver = RuledReceiver<Task, Hold, Rising>;
 
 pub type QueuePass = Pass<Task, Hold>;
 
-/// A task couldn't be sent, since the queue has no receiver.
-#[derive(Clone, Copy)]
-pub struct Unsent;
-
 /// The two ends of a queue with room for this many tasks, and the sender's pass.
 pub fn open(alloc: Global, capacity: usize) -> Result<(Sender, Receiver, QueuePass), AllocError>
     requires { 0 < capacity }
@@ -152,93 +148,68 @@ pub fn learn_all(sender: &Sender, pass: &mut QueuePass)
     sender.learn_as::<TakenAll>(pass)
 }
 
-/// Sends the jobs 1 to `jobs` and then a stop for each worker. The queue has room for all of them.
-pub fn fill<R: Wait>(
-    rt: &R,
-    sender: &Sender,
-    pass: &mut QueuePass,
-    jobs: u64,
-    workers: usize,
-) -> Result<(), Unsent>
+/// Sends the jobs 1 to `jobs` and then a stop for each worker. The queue has room for all of them, and its receiver stands.
+pub fn fill<R: Wait>(rt: &R, sender: &Sender, pass: &mut QueuePass, jobs: u64, workers: usize)
     requires seat { IsSeatAt (sends_on sender.now) pass.old }
     requires view { view pass.old ≡ sender_of 0 0 }
     requires room { HasRoom (jobs + workers) (ruled_capacity (sends_on sender.now)) }
     ensures seat { IsSeatAt (sends_on sender.now) pass.new }
-    ensures sent { OnOk result (view pass.new ≡ sender_of jobs workers) }
-    ensures unsent { OnErr result
-        (((view pass.new).sent < jobs) ⊎ ((view pass.new).stops < workers)) }
+    ensures sent { view pass.new ≡ sender_of jobs workers }
 {
-    send_jobs(rt, sender, pass, jobs)?;
-    send_stops(rt, sender, pass, workers)
+    send_jobs(rt, sender, pass, jobs);
+    send_stops(rt, sender, pass, workers);
 }
 
-fn send_jobs<R: Wait>(
-    rt: &R,
-    sender: &Sender,
-    pass: &mut QueuePass,
-    jobs: u64,
-) -> Result<(), Unsent>
+fn send_jobs<R: Wait>(rt: &R, sender: &Sender, pass: &mut QueuePass, jobs: u64)
     requires seat { IsSeatAt (sends_on sender.now) pass.old }
     requires view { view pass.old ≡ sender_of 0 0 }
     ensures seat { IsSeatAt (sends_on sender.now) pass.new }
-    ensures sent { OnOk result (view pass.new ≡ sender_of jobs 0) }
-    ensures unsent { OnErr result ((view pass.new).sent < jobs) }
+    ensures sent { view pass.new ≡ sender_of jobs 0 }
 {
     for k in 0..jobs {
-        send_job(rt, sender, pass, k + 1)?;
+        send_job(rt, sender, pass, k + 1);
     }
-    Ok(())
 }
 
-fn send_stops<R: Wait>(
-    rt: &R,
-    sender: &Sender,
-    pass: &mut QueuePass,
-    workers: usize,
-) -> Result<(), Unsent>
+fn send_stops<R: Wait>(rt: &R, sender: &Sender, pass: &mut QueuePass, workers: usize)
     requires seat { IsSeatAt (sends_on sender.now) pass.old }
     requires view { view pass.old ≡ sender_of (view pass.old).sent 0 }
     ensures seat { IsSeatAt (sends_on sender.now) pass.new }
-    ensures sent { OnOk result (view pass.new ≡ sender_of (view pass.old).sent workers) }
-    ensures unsent { OnErr result ((view pass.new).stops < workers) }
+    ensures sent { view pass.new ≡ sender_of (view pass.old).sent workers }
 {
     for _k in 0..workers {
-        send_stop(rt, sender, pass)?;
+        send_stop(rt, sender, pass);
     }
-    Ok(())
 }
 
-// Sends the next job, before any stop.
-fn send_job<R: Wait>(
-    rt: &R,
-    sender: &Sender,
-    pass: &mut QueuePass,
-    number: u64,
-) -> Result<(), Unsent>
+// Sends the next job. A queue without a receiver would take none: it is waited for.
+fn send_job<R: Wait>(rt: &R, sender: &Sender, pass: &mut QueuePass, number: u64)
     requires seat { IsSeatAt (sends_on sender.now) pass.old }
     requires sends { ((view pass.old).sends ≡ true) × ((view pass.old).stops ≡ 0) }
     requires next { number ≡ (view pass.old).sent + 1 }
     ensures seat { IsSeatAt (sends_on sender.now) pass.new }
-    ensures sent { OnOk result (view pass.new ≡ with_job (view pass.old)) }
-    ensures same { OnErr result (view pass.new ≡ view pass.old) }
+    ensures sent { view pass.new ≡ with_job (view pass.old) }
 {
-    match sender.send_as::<SendsJob, R>(rt, pass, Task::Run(number)) {
-        Ok(()) => Ok(()),
-        Err(_) => Err(Unsent),
+    for _ in rt.forever() {
+        if let Ok(()) = sender.send_as::<SendsJob, R>(rt, pass, Task::Run(number)) {
+            return;
+        }
     }
+    unreachable!()
 }
 
-fn send_stop<R: Wait>(rt: &R, sender: &Sender, pass: &mut QueuePass) -> Result<(), Unsent>
+fn send_stop<R: Wait>(rt: &R, sender: &Sender, pass: &mut QueuePass)
     requires seat { IsSeatAt (sends_on sender.now) pass.old }
     requires sends { (view pass.old).sends ≡ true }
     ensures seat { IsSeatAt (sends_on sender.now) pass.new }
-    ensures sent { OnOk result (view pass.new ≡ with_stop (view pass.old)) }
-    ensures same { OnErr result (view pass.new ≡ view pass.old) }
+    ensures sent { view pass.new ≡ with_stop (view pass.old) }
 {
-    match sender.send_as::<SendsStop, R>(rt, pass, Task::Stop) {
-        Ok(()) => Ok(()),
-        Err(_) => Err(Unsent),
+    for _ in rt.forever() {
+        if let Ok(()) = sender.send_as::<SendsStop, R>(rt, pass, Task::Stop) {
+            return;
+        }
     }
+    unreachable!()
 }
 
 /// Takes the front: the next job, or None at a stop.

@@ -21,8 +21,7 @@ use std::thread;
 use std::thread::Threads;
 
 /// Runs each script as one job, by as many workers as there are states. Gives the Dones in the order of the scripts, and
-/// the states in theirs, once all workers are joined. P2 with job 1 where the queue doesn't take all tasks, so that no worker starts.
-/// After a fault the states are spent.
+/// the states in theirs, once all workers are joined. After a fault the states are spent.
 pub fn pool<
     S: Send + Drop,
     C: Sync,
@@ -42,7 +41,7 @@ pub fn pool<
     ensures shares { IfOk result
         (λ r. AreShared (W.does work.now) scripts.now states.items r.0.items r.1.items) }
     ensures states { IfOk result (λ r. AllZip W.keeps states.items r.1.items) }
-    ensures fault { IfErr result (IsFault (W.faults work.now) (length scripts.now)) }
+    ensures fault { IfErr result (IsFault (W.faults work.now)) }
 {
     if scripts.is_empty() {
         return Ok(no_jobs(alloc, states, work));
@@ -50,9 +49,7 @@ pub fn pool<
     let workers = states.len();
     let room = scripts.len().saturating_add(workers);
     let (sender, receiver, mut pass) = open(alloc, room)?;
-    let Ok(()) = fill(rt, &sender, &mut pass, scripts.len() as u64, workers) else {
-        return Err(PoolFail::Pool(PoolFault::Unrun(1)));
-    };
+    fill(rt, &sender, &mut pass, scripts.len() as u64, workers);
     let kits = make_kits(alloc, &sender, &mut pass, states)?;
     let ends = run_workers(rt, alloc, &receiver, kits, scripts, work)?;
     let reports = all_ended(alloc, ends)?;
@@ -130,7 +127,7 @@ fn run_workers<
         IfOk e (λ r. All
         (IsAnswer (W.answers work.now) scripts.now) r.dones.items)) v.items) }
     ensures fault { IfOk result
-        (λ v. All (λ e. IfErr e (IsFault (W.faults work.now) (length scripts.now))) v.items) }
+        (λ v. All (λ e. IfErr e (IsFault (W.faults work.now))) v.items) }
 {
     let one = |kit: Kit<S>| -> Result<Report<S>, PoolFail<E>>
         requires { IsBegun (receives_on receiver.now) (length scripts.now) kit.pass }
@@ -141,8 +138,7 @@ fn run_workers<
             (IsReport (W.does work.entry.now) scripts.entry.now kit.state) }
         ensures answers { IfOk result
             (λ r. All (IsAnswer (W.answers work.entry.now) scripts.entry.now) r.dones.items) }
-        ensures fault { IfErr result
-            (IsFault (W.faults work.entry.now) (length scripts.entry.now)) }
+        ensures fault { IfErr result (IsFault (W.faults work.entry.now)) }
     {
         let Kit {
             mut state,

@@ -21,12 +21,12 @@ run_workers-requires-clause-begun g c κs within =
     let n = length c.args.scripts.now in
     rw c.in_ok-sender.ensures.ends (λ k d h.
     let its = c.in_ok-kits.ensures.cut k d h in
-    let knows = subst (λ (v : Hold). IsFilled n v × (v.taken ≡ []) × (v.lent ≡ 1)) (sym (its.1 ∙ ap newcomer c.in-Ok.ensures.sent)) ((refl, omega (arith, c.requires)), refl, refl) in
+    let knows = subst (λ (v : Hold). IsFilled n v × (v.taken ≡ []) × (v.lent ≡ 1)) (sym (its.1 ∙ ap newcomer c.fill.ensures.sent)) ((refl, omega (arith, c.requires)), refl, refl) in
     (its.0, knows.0, knows.1, knows.2))
 
 pub run_workers-requires-clause-stops : goal.run_workers-requires-clause-stops
 run_workers-requires-clause-stops g c κs within =
-    λ k d h. ap (λ (v : Hold). v.stops) ((c.in_ok-kits.ensures.cut k d h).1 ∙ ap newcomer c.in-Ok.ensures.sent) ∙ c.len-workers.ensures ∙ c.args.states.ok.0 ∙ zip_length _ _ _ c.in_ok-kits.ensures.kits ∙ sym c.in_ok-kits.kits.ok.0
+    λ k d h. ap (λ (v : Hold). v.stops) ((c.in_ok-kits.ensures.cut k d h).1 ∙ ap newcomer c.fill.ensures.sent) ∙ c.len-workers.ensures ∙ c.args.states.ok.0 ∙ zip_length _ _ _ c.in_ok-kits.ensures.kits ∙ sym c.in_ok-kits.kits.ok.0
 
 pub collect-requires-clause-reports : goal.collect-requires-clause-reports
 collect-requires-clause-reports g c =
@@ -35,7 +35,7 @@ collect-requires-clause-reports g c =
 pub collect-requires-clause-out : goal.collect-requires-clause-out
 collect-requires-clause-out g c =
     let cut = ap (λ (h : Hold). h.out) c.in_ok-kits.ensures.lender in
-    let none = ap (λ (h : Hold). h.out) c.in-Ok.ensures.sent in
+    let none = ap (λ (h : Hold). h.out) c.fill.ensures.sent in
     let kits = zip_length _ _ _ c.in_ok-ends.ensures.keeps in
     let ends = ap length c.in_ok-reports.ensures.reports ∙ length-map c.in_ok-reports.reports.items Ok in
     omega (arith, cut, none, kits, ends, c.in_ok-kits.kits.ok.0, c.in_ok-reports.reports.ok.0)
@@ -51,7 +51,7 @@ pub returns-clause-jobs : goal.returns-clause-jobs
 returns-clause-jobs g c =
     let P = IsAnswer (g.W.Work.answers c.args.work.now) c.args.scripts.now in
     let each : All P c.in_ok-dones.dones.items = rw c.in_ok-dones.ensures.dones (all_flat P (λ w. w.dones.items) c.in_ok-reports.reports.items (all_ok _ (λ r. All P r.dones.items) c.in_ok-reports.reports.items (subst (λ l. All (λ e. IfOk e (λ r. All P r.dones.items)) l) c.in_ok-reports.ensures.reports c.in_ok-ends.ensures.answers))) in
-    let sent = c.in_ok-dones.ensures.sent.1 ∙ (ap (λ (h : Hold). h.sent) c.in_ok-kits.ensures.lender ∙ ap (λ (h : Hold). h.sent) c.in-Ok.ensures.sent) in
+    let sent = c.in_ok-dones.ensures.sent.1 ∙ (ap (λ (h : Hold). h.sent) c.in_ok-kits.ensures.lender ∙ ap (λ (h : Hold). h.sent) c.fill.ensures.sent) in
     let all = subst (λ k. AreAll k (jobs_of c.in_ok-dones.dones.items)) sent (subst (λ l. AreAll (view c.collect.new.pass).sent l) c.in_ok-dones.ensures.taken c.learn_all.ensures.all) in
     c.in_order.ensures.jobs (length c.args.scripts.now) (λ k d h. job_there (g.W.Work.answers c.args.work.now) c.args.scripts.now _ (each k d h)) all
 
