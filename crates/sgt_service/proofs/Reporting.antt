@@ -18,7 +18,6 @@ use Rattle.sgt_workers.specs.Answers.{AreShared, IsFault}
 use Rattle.sgt_workers.specs.declared.ticket.Done.{Done}
 use Rattle.sgt_workers.specs.declared.fault.PoolFail.{PoolFail}
 use Rattle.sgt_workers.specs.declared.fault.PoolFail.TheVariants.{Work, Pool}
-use Rattle.sgt_workers.specs.declared.fault.PoolFault.TheVariants as pool
 use Rattle.sgt_service_locks.specs.Refused.{IsOfCall, RefusesSites}
 use Rattle.sgt_service_locks.specs.Seats.{IsNew}
 use Rattle.sgt_service_locks.specs.Together.{parts_of, amount_of, counts_of}
@@ -66,12 +65,10 @@ call_ends (fault.LogDiffers site) is = inr (is, λ e. absurd cc)
 call_ends (fault.VersionsDiffer site) is = inr (is, λ e. absurd cc)
 
 -- what a pool of the service's calls ends with ends the run, or is want of memory
-pub ends_run : (scripts : List Script) (items : List (List Holding)) (tries : ℕ) (f : PoolFail ServiceFault) → IsFault IsOfCall (length scripts) f
+pub ends_run : (scripts : List Script) (items : List (List Holding)) (tries : ℕ) (f : PoolFail ServiceFault) → IsFault IsOfCall f
     → IsWant f ⊎ EndsRun scripts items tries f
 ends_run scripts items tries (Work f) is = elim (call_ends f is) [ inl want ↦ inl want | inr ends ↦ inr (inl ends) ]
-ends_run scripts items tries (Pool pool.Memory) is = inl refl
-ends_run scripts items tries (Pool (pool.Unrun job)) is = inr is
-ends_run scripts items tries (Pool (pool.Doubled job)) is = absurd is
+ends_run scripts items tries (Pool f) is = inl is
 
 -- the text of a run is its answer
 pub run_answers : (input : Input) (tries : ℕ) (run : Run) (o : Outcome) (text : List ℕ) → IsSettled run

@@ -16,7 +16,6 @@ use Rattle.sgt_certifier.specs.History.{Replays}
 use Rattle.sgt_certifier.specs.Kept.{Kept}
 use Rattle.sgt_service_agreement.specs.declared.fault.ServiceFault.{ServiceFault}
 use Rattle.sgt_service_agreement.specs.declared.fault.ServiceFault.TheVariants as fault
-use Rattle.sgt_workers.specs.Answers.{IsJob}
 use Rattle.sgt_workers.specs.declared.ticket.Done.{Done}
 use Rattle.sgt_workers.specs.declared.fault.PoolFail.{PoolFail}
 use Rattle.sgt_workers.specs.declared.fault.PoolFail.TheVariants.{Work, Pool}
@@ -132,14 +131,12 @@ pub record EndsElsewhere (scripts : List Script) (items : List (List Holding)) (
   pub began : BeganOtherwise items (site_items run) number
   pub told : f ≡ fault.LogDiffers number
 
--- what may end a run of these scripts at sites with these items: a call of the service, a run that
--- isn't settled or isn't theirs, or a
--- job that the pool didn't run
+-- what may end a run of these scripts at sites with these items: a call of the service, or a run that
+-- isn't settled or isn't theirs. The pool has no fault of its own but want of memory
 abbrev pub EndsRun : List Script → List (List Holding) → ℕ → PoolFail ServiceFault → Type 0
 EndsRun scripts items tries (Work f) =
     IsOfRun f ⊎ (EndsUnsettled scripts (length items) tries f ⊎ EndsElsewhere scripts items tries f)
-EndsRun scripts items tries (Pool (pool.Unrun job)) = IsJob (length scripts) job
-EndsRun scripts items tries (Pool _) = ⊥
+EndsRun scripts items tries (Pool f) = ⊥
 
 -- want of memory, which ends a run too and is never told
 abbrev pub IsWant : PoolFail ServiceFault → Type 0

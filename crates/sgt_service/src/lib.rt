@@ -20,4 +20,4 @@ pub use reading::read_input;
 pub use running::run;
 pub use settled::{Settled, bundle, settle};
 pub use sgt_service_agreement::{EntryCounts, ServiceFault, agrees, gather_agreed};
-pub use sgt_service_locks::{Active, Back, Guarded, Opened, Seat, Service};
+pub use sgt_service_locks::{Active, Back, Opened, Seat, Service};

@@ -23,7 +23,7 @@ use std::thread::Threads;
 /// is withdrawn at that operation and isn't tried again (V5). Gives a Done for each script, in their order, with a ticket
 /// for each try and the values that the reads of the last try answered, and the seats in theirs, once all workers are joined.
 ///
-/// An Err is a fault of the pool, or of the service's call that a worker made: V3, V4 or V7. Of several it isn't fixed which.
+/// An Err is P1, or a fault of the service's call that a worker made: V3, V4 or V7. Of several it isn't fixed which.
 /// A sum whose source no earlier operation reads or writes is S1. The seats and the tickets are then spent.
 ///
 /// The service's gate is told of each job that a worker takes, and of what the service's calls tell. A worker's number is its seat's.
@@ -46,7 +46,7 @@ pub fn run<L: Ledger + Send + Sync, G: Gate + Sync, R: Threads + Wait + Sync>(
         (λ r. begun_of r.1.items ≡ capped (begun_of seats.items + length (tickets_of r.0.items))) }
     ensures tried { IfOk result
         (λ r. AreShared TriesJob scripts.now seats.items r.0.items r.1.items) }
-    ensures fault { IfErr result (IsFault IsOfCall (length scripts.now)) }
+    ensures fault { IfErr result (IsFault IsOfCall) }
 {
     let runner = Runner {
         alloc,

@@ -123,8 +123,8 @@ impl Settled {
 /// are all that there are, the history has as many decisions as their shares together. It waits for nobody. The Dones come back by
 /// rising job, in whatever order they were given.
 ///
-/// A run that isn't settled is refused as `Settled::of_opened` refuses it: V1, V2, V6, V8, V9 and V10, in this order, each with the
-/// least number of its kind. V3: there was no memory, and the tickets are the decisions. Where there is none for the sites, the
+/// A run that isn't settled is refused as `Settled::of_opened` refuses it: V1, V2, V6, V8, V9, V10 and V4 with C4, in this order,
+/// each with the least number of its kind. V3: there was no memory, and the tickets are the decisions. Where there is none for the sites, the
 /// certifier and the tickets alone are looked at.
 #[tactic(auto, using(crate::proofs::Counts::counts_many))]
 pub fn settle<L: Ledger, G: Gate>(

@@ -16,8 +16,7 @@ use sgt_workers::{Ending, Ticket};
 use std::alloc::{AllocError, Global};
 use std::sync::ledger::{Book, Ledger, Share};
 
-/// The certifier beside the book of its decisions. Its own calls alone change it, and note that a site has lost its pledge; a test puts
-/// another certifier in its place, with as many decisions, by `exchange_in_a_test`.
+/// The certifier beside the book of its decisions. Its own calls alone change it, and note that a site has lost its pledge.
 #[derive(Drop)]
 pub struct Guarded<L: Ledger> {
     certifier: Certifier,
@@ -83,23 +82,6 @@ impl<L: Ledger> Guarded<L> {
             none,
         } = self;
         (certifier, book, none)
-    }
-
-    /// For tests: puts another certifier in the place of this one, as somebody might behind a service's back. V7 and V10 tell of it
-    /// where its installs aren't those of the sites, V1 and V9 where its decisions or edges aren't those that were told. False, and
-    /// nothing is changed, where it hasn't as many decisions.
-    pub fn exchange_in_a_test(&mut self, other: Certifier) -> bool
-        ensures same_count { IsTrue result
-            ↔ (decision_count other ≡ decision_count self.old.certifier) }
-        ensures exchanged { IsTrue result → self.new.certifier ≡ other }
-        ensures kept { result ≡ false → self.new.certifier ≡ self.old.certifier }
-        ensures lost { self.new.lost ≡ self.old.lost }
-    {
-        if self.certifier.decided() != other.decided() {
-            return false;
-        }
-        self.certifier = other;
-        true
     }
 
     /// Begins the next transaction.

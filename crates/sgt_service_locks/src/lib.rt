@@ -5,6 +5,7 @@
 mod active;
 mod ending;
 mod guarded;
+mod logged;
 mod opened;
 mod pledges;
 mod pledging;
@@ -14,7 +15,6 @@ mod service;
 mod touched;
 
 pub use active::{Active, Back};
-pub use guarded::Guarded;
 pub use opened::Opened;
 pub use seat::Seat;
 pub use service::Service;

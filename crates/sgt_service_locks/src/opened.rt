@@ -1,6 +1,7 @@
 //! A service taken apart, once all its callers are done.
 
 ghost use Rattle.std.specs.Prelude.{◌≡◌, ◌+◌, IfOk, vec_len};
+ghost use Rattle.std.specs.List.{AllZip};
 ghost use Rattle.sgt_service_locks.specs.Together.{added, both, parts_of, amount_of, counts_of};
 
 use crate::seat::Seat;
@@ -92,15 +93,27 @@ fn counted<L: Ledger>(
     Ok(counts)
 }
 
-// The sites, without their locks.
+// What each of them is, taken out, in their order.
+fn taken_out<T: Drop, U: Drop, F: Fn(T) -> U>(
+    alloc: Global,
+    all: Vec<T>,
+    take: F,
+) -> Result<Vec<U>, AllocError>
+    requires { F.IsAlwaysCallable take }
+    ensures { IfOk result (λ out. AllZip (λ one it. F.post take one it) all.items out.items) }
+{
+    let mut out = Vec::new(alloc);
+    for one in all {
+        out.push(take(one))?;
+    }
+    Ok(out)
+}
+
+// The sites, each out of its lock, in the order of the locks.
 fn unlocked(alloc: Global, sites: Vec<Mutex<Site>>) -> Result<Vec<Site>, AllocError>
     ensures { IfOk result (λ all. vec_len all ≡ vec_len sites) }
 {
-    let mut all = Vec::new(alloc);
-    for site in sites {
-        all.push(site.into_inner())?;
-    }
-    Ok(all)
+    taken_out(alloc, sites, |site| site.into_inner())
 }
 
 // Adds what one seat counted at each site.

@@ -7,19 +7,21 @@ ghost use Rattle.sgt_service_locks.specs.Refused.{IsToldOfRead};
 
 use crate::active::Active;
 use crate::guarded::is_numbered;
+use crate::logged::{Logged, Unread};
 use crate::seat::Seat;
 use crate::service::Service;
 use sgt_names::{Draft, Item, Seen, SiteNo, Value, changes_show_at_their_place};
 use sgt_service_agreement::ServiceFault;
 use sgt_site::{Site, SiteFault};
 use sgt_workers::{Gate, Place};
-use std::sync::Wait;
 use std::sync::ledger::Ledger;
+use std::sync::{MutexGuard, Wait};
 
 impl<L: Ledger, G: Gate> Service<L, G> {
     ghost use Rattle.sgt_service_agreement.specs.declared.fault.ServiceFault.TheVariants.{Site as AtSite};
     ghost use Rattle.sgt_site.specs.declared.fault.SiteFault.TheVariants.{UnknownItem};
-    ghost use Rattle.std.specs.Prelude.{◌≡◌, None, Some, Err, IsTrue, IsSome, IsOk, IfOk, IfErr, OnOk, OnErr, vec_len};
+    ghost use Rattle.std.specs.Sync.Mutex.{mutex_guard_value as held};
+    ghost use Rattle.std.specs.Prelude.{◌≡◌, ◌<◌, None, Some, Err, IsTrue, IsSome, IsOk, IfOk, IfErr, OnOk, OnErr, vec_len};
     ghost use Rattle.sgt_service_locks.specs.Counts.{AreCounted, only_at, with_read};
     ghost use Rattle.sgt_service_locks.specs.Reads.{look_in, GainsRead, IsOfActive, SameActive};
     ghost use Rattle.sgt_service_locks.specs.Refused.{HasItem, IsOfRead};
@@ -65,13 +67,30 @@ impl<L: Ledger, G: Gate> Service<L, G> {
             return Err(ServiceFault::Site(SiteFault::UnknownItem));
         }
         active.draft.room()?;
-        let value = self.read_site(rt, seat, active, site, item)?;
+        let (value, logged) = self.read_site(rt, seat, active, site, item)?;
         self.gate.arrive(seat.number, Place::AfterRead(site));
-        seat.count_read(site);
+        seat.count_read(logged);
         Ok(value)
     }
 
-    // Reads at the site, under its lock, for a draft that has room for what is read, and keeps it there.
+    // Takes the site's lock for a read.
+    fn lock_to_read<R: Wait>(
+        &self,
+        rt: &R,
+        here: SiteNo,
+        active: &Active,
+    ) -> (MutexGuard<'_, Site>, Unread)
+        requires { here < vec_len self.now.sites }
+        ensures site { result.1.site.value ≡ held result.0 }
+        ensures active { result.1.active.value ≡ active.now }
+    {
+        let guard = self.lock_site(rt, here);
+        let unread = Unread::of(&guard, active);
+        (guard, unread)
+    }
+
+    // Reads at the site, under its lock, for a draft that has room for what is read, and keeps it there. The lock is let go with this
+    // read alone, or with the site as it was.
     #[tactic(auto, using(crate::proofs::Faults::read_of))]
     fn read_site<R: Wait>(
         &self,
@@ -80,21 +99,27 @@ impl<L: Ledger, G: Gate> Service<L, G> {
         active: &mut Active,
         site: SiteNo,
         item: Item,
-    ) -> Result<Value, ServiceFault>
+    ) -> Result<(Value, Logged), ServiceFault>
         requires item { HasItem self.now.names.items site item }
         requires room { IsTrue active.old.draft.has_room }
         requires unread { look_in active.old.draft.touched site item ≡ None }
-        ensures value { IfOk result (λ v. look_in active.new.draft.touched site item ≡ Some v) }
+        ensures value { IfOk result (λ r. look_in active.new.draft.touched site item ≡ Some r.0) }
+        ensures logged { IfOk result (λ r. r.1.site ≡ site) }
         ensures gained { OnOk result
             (GainsRead site item active.old.draft.touched active.new.draft.touched) }
         ensures named { IsOfActive active.old active.new }
         ensures err { OnErr result (SameActive active.old active.new) }
         ensures fault { IfErr result IsOfRead }
     {
-        let mut guard = self.lock_site(rt, site);
-        let held = &mut *guard;
+        let (mut guard, unread) = self.lock_to_read(rt, site, active);
         self.gate.arrive(seat.number, Place::InRead(site));
-        read_held(held, active, site, item)
+        match read_held(&mut guard, active, site, item) {
+            Ok(value) => Ok((value, unread.log(guard, active, site, item))),
+            Err(fault) => {
+                unread.release(guard, active);
+                Err(fault)
+            }
+        }
     }
 }
 

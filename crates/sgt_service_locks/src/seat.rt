@@ -1,7 +1,7 @@
 //! Seats: what each worker has of the ledger of decisions, and what it counted at each site.
 
 ghost use Rattle.std.specs.Prelude.{◌≡◌, ◌<◌};
-ghost use Rattle.sgt_service_locks.specs.Counts.{with_read, with_others};
+ghost use Rattle.sgt_service_locks.specs.Counts.{with_others};
 
 use sgt_names::SiteNo;
 use sgt_service_agreement::EntryCounts;
@@ -19,7 +19,7 @@ pub struct Seat<L: Ledger> {
 
 impl<L: Ledger> Seat<L> {
     ghost use Rattle.std.specs.Prelude.{◌≡◌};
-    ghost use Rattle.sgt_service_locks.specs.Counts.{AreCounted, only_at, with_read, with_others};
+    ghost use Rattle.sgt_service_locks.specs.Counts.{AreCounted, only_at, with_others};
     ghost use Rattle.sgt_service_locks.specs.Seats.{CountsBegin};
 
     /// The worker's number, of which the gate is told.
@@ -50,20 +50,6 @@ impl<L: Ledger> Seat<L> {
         self.begun = self.begun.saturating_add(1);
     }
 
-    // Counts a logged read.
-    #[tactic(auto, using(crate::proofs::Counting::counted_set, crate::proofs::Counting::counted_past))]
-    pub(crate) fn count_read(&mut self, site: SiteNo)
-        ensures share { (self.new.share ≡ self.old.share) × (self.new.begun ≡ self.old.begun)
-            × (self.new.number ≡ self.old.number) }
-        ensures counts { AreCounted
-            (only_at site with_read) self.old.counts.items self.new.counts.items }
-    {
-        let place = site.number() as usize;
-        if place < self.counts.len() {
-            self.counts[place] = with_read(self.counts[place]);
-        }
-    }
-
     // Counts so many other entries.
     #[tactic(auto, using(crate::proofs::Counting::counted_set, crate::proofs::Counting::counted_past))]
     pub(crate) fn count_others(&mut self, site: SiteNo, more: u64)
@@ -76,15 +62,6 @@ impl<L: Ledger> Seat<L> {
         if place < self.counts.len() {
             self.counts[place] = with_others(self.counts[place], more);
         }
-    }
-}
-
-fn with_read(counts: EntryCounts) -> EntryCounts
-    ensures { result ≡ with_read counts }
-{
-    EntryCounts {
-        reads: counts.reads.saturating_add(1),
-        others: counts.others,
     }
 }
 

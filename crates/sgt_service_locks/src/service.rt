@@ -27,7 +27,7 @@ use std::sync::{Mutex, Wait};
 #[derive(Drop)]
 pub struct Service<L: Ledger, G: Gate> {
     /// The certifier with its book, under its lock.
-    pub certifier: Mutex<Guarded<L>>,
+    pub(crate) certifier: Mutex<Guarded<L>>,
     /// The sites, by number, each under its lock. Of what somebody does to one behind the service's back V7, V9 and V10 tell as far as
     /// it shows in a pledge, a count, an edge or a version.
     pub sites: Vec<Mutex<Site>>,

@@ -24,3 +24,4 @@ pub mod Coursing
 pub mod Joining
 pub mod Tying
 pub mod Following
+pub mod Beginning

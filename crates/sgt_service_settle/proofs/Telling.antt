@@ -108,6 +108,7 @@ before_two r good (fault.MissingTicket k) lt shown = absurd (omega (arith, lt))
 before_two r good (fault.TicketOrder job) lt shown = absurd (omega (arith, lt))
 before_two r good (fault.LogDiffers site) lt shown = absurd (omega (arith, lt))
 before_two r good (fault.VersionsDiffer site) lt shown = absurd (omega (arith, lt))
+before_two r good (fault.Certifier f) lt shown = absurd (omega (arith, lt))
 before_two r good _ lt shown = absurd shown
 
 before_missing : (r : Run) → NoStray r → NoTwo r → (g : ServiceFault) → kind_place g < 6 → Shows r g → ⊥
@@ -117,6 +118,7 @@ before_missing r good two (fault.MissingTicket k) lt shown = absurd (omega (arit
 before_missing r good two (fault.TicketOrder job) lt shown = absurd (omega (arith, lt))
 before_missing r good two (fault.LogDiffers site) lt shown = absurd (omega (arith, lt))
 before_missing r good two (fault.VersionsDiffer site) lt shown = absurd (omega (arith, lt))
+before_missing r good two (fault.Certifier f) lt shown = absurd (omega (arith, lt))
 before_missing r good two _ lt shown = absurd shown
 
 before_order : (r : Run) → NoStray r → NoTwo r → NoMissing r → (g : ServiceFault) → kind_place g < 8 → Shows r g → ⊥
@@ -126,6 +128,7 @@ before_order r good two missing (fault.MissingTicket k) lt shown = let le = miss
 before_order r good two missing (fault.TicketOrder job) lt shown = absurd (omega (arith, lt))
 before_order r good two missing (fault.LogDiffers site) lt shown = absurd (omega (arith, lt))
 before_order r good two missing (fault.VersionsDiffer site) lt shown = absurd (omega (arith, lt))
+before_order r good two missing (fault.Certifier f) lt shown = absurd (omega (arith, lt))
 before_order r good two missing _ lt shown = absurd shown
 
 -- none of the kind has a smaller number
@@ -136,6 +139,7 @@ none_before r (fault.MissingTicket j) lt shown = absurd (omega (arith, lt))
 none_before r (fault.TicketOrder j) lt shown = absurd (omega (arith, lt))
 none_before r (fault.LogDiffers j) lt shown = absurd (omega (arith, lt))
 none_before r (fault.VersionsDiffer j) lt shown = absurd (omega (arith, lt))
+none_before r (fault.Certifier f) lt shown = absurd (omega (arith, lt))
 none_before r _ lt shown = absurd shown
 
 least_stray : (r : Run) (k : ℕ) → ((t : Ticket) → Contains (tickets_of r.dones) t → (IsGood r.certifier.state.rulings t → ⊥) → k ≤ t.number) → (g : ServiceFault) → kind_place g ≡ 1 → fault_at g < k → Shows r g → ⊥
@@ -145,6 +149,7 @@ least_stray r k least (fault.MissingTicket j) same lt shown = absurd (omega (ari
 least_stray r k least (fault.TicketOrder j) same lt shown = absurd (omega (arith, same))
 least_stray r k least (fault.LogDiffers j) same lt shown = absurd (omega (arith, same))
 least_stray r k least (fault.VersionsDiffer j) same lt shown = absurd (omega (arith, same))
+least_stray r k least (fault.Certifier f) same lt shown = absurd (omega (arith, same))
 least_stray r k least _ same lt shown = absurd shown
 
 least_two : (r : Run) (k : ℕ) → ((j : ℕ) → j < k → count_of j (tickets_of r.dones) ≤ 1) → (g : ServiceFault) → kind_place g ≡ 2 → fault_at g < k → Shows r g → ⊥
@@ -154,6 +159,7 @@ least_two r k least (fault.MissingTicket j) same lt shown = absurd (omega (arith
 least_two r k least (fault.TicketOrder j) same lt shown = absurd (omega (arith, same))
 least_two r k least (fault.LogDiffers j) same lt shown = absurd (omega (arith, same))
 least_two r k least (fault.VersionsDiffer j) same lt shown = absurd (omega (arith, same))
+least_two r k least (fault.Certifier f) same lt shown = absurd (omega (arith, same))
 least_two r k least _ same lt shown = absurd shown
 
 least_missing : (r : Run) (k : ℕ) → ((j : ℕ) → j < k → 1 ≤ count_of j (tickets_of r.dones)) → (g : ServiceFault) → kind_place g ≡ 6 → fault_at g < k → Shows r g → ⊥
@@ -163,6 +169,7 @@ least_missing r k least (fault.MissingTicket j) same lt shown = let le = least j
 least_missing r k least (fault.TicketOrder j) same lt shown = absurd (omega (arith, same))
 least_missing r k least (fault.LogDiffers j) same lt shown = absurd (omega (arith, same))
 least_missing r k least (fault.VersionsDiffer j) same lt shown = absurd (omega (arith, same))
+least_missing r k least (fault.Certifier f) same lt shown = absurd (omega (arith, same))
 least_missing r k least _ same lt shown = absurd shown
 
 least_unordered : (r : Run) (k : ℕ) → ((d : Done) → Contains r.dones d → (Rises d → ⊥) → k ≤ d.job) → (g : ServiceFault) → kind_place g ≡ 8 → fault_at g < k → Shows r g → ⊥
@@ -172,6 +179,7 @@ least_unordered r k least (fault.MissingTicket j) same lt shown = absurd (omega 
 least_unordered r k least (fault.TicketOrder j) same lt shown = let le = least shown.0 shown.1 shown.3 in omega (arith, le, shown.2, lt)
 least_unordered r k least (fault.LogDiffers j) same lt shown = absurd (omega (arith, same))
 least_unordered r k least (fault.VersionsDiffer j) same lt shown = absurd (omega (arith, same))
+least_unordered r k least (fault.Certifier f) same lt shown = absurd (omega (arith, same))
 least_unordered r k least _ same lt shown = absurd shown
 
 pub before_sites : (r : Run) → NoStray r → NoTwo r → NoMissing r → NoDisorder r → (g : ServiceFault) → kind_place g < 9 → Shows r g → ⊥
@@ -181,6 +189,7 @@ before_sites r good two missing order (fault.MissingTicket j) lt shown = let le 
 before_sites r good two missing order (fault.TicketOrder j) lt shown = shown.3 (order shown.0 shown.1)
 before_sites r good two missing order (fault.LogDiffers j) lt shown = absurd (omega (arith, lt))
 before_sites r good two missing order (fault.VersionsDiffer j) lt shown = absurd (omega (arith, lt))
+before_sites r good two missing order (fault.Certifier f) lt shown = absurd (omega (arith, lt))
 before_sites r good two missing order _ lt shown = absurd shown
 
 -- ---- the fault that is told

@@ -1,12 +1,21 @@
 -- Why a run isn't settled.
-use Rattle.std.specs.Prelude.{◌≡◌, ◌<◌, ◌≤◌, ℕ, length, Contains, Some, slice_get}
+use Rattle.std.specs.Prelude.{◌≡◌, ◌≢◌, ◌-◌, ◌<◌, ◌≤◌, ℕ, List, length, Contains, Some, slice_get}
 use Rattle.sgt_site.specs.State.{SiteState}
 use Rattle.sgt_workers.specs.declared.ticket.Ticket.{Ticket}
 use Rattle.sgt_workers.specs.declared.ticket.Done.{Done}
-use Rattle.sgt_service_settle.specs.Settled.{Run, AreTickets, AreCountedAt, tickets_of, count_of, IsGood, Rises, IsSettledAt}
+use Rattle.sgt_certifier.specs.declared.call.Call.{Call}
+use Rattle.sgt_certifier.specs.declared.call.CertifierFault.{CertifierFault}
+use Rattle.sgt_certifier.specs.declared.call.CertifierFault.TheVariants.{ActiveLeft}
+use Rattle.sgt_service_settle.specs.Settled.{Run, AreTickets, AreCountedAt, begins_in, tickets_of, count_of, IsGood, Rises, IsSettledAt}
 use Rattle.sgt_service_agreement.specs.Agreed.{VersionsAgree}
 use Rattle.sgt_service_agreement.specs.declared.fault.ServiceFault.{ServiceFault}
 use Rattle.sgt_service_agreement.specs.declared.fault.ServiceFault.TheVariants as fault
+
+-- the history doesn't begin as many transactions as there are tickets: so many more
+abbrev pub LeavesActive : List Call → List Done → CertifierFault → Type 0
+LeavesActive history dones (ActiveLeft n) = (begins_in history ≢ length (tickets_of dones))
+    × (n ≡ begins_in history - length (tickets_of dones))
+LeavesActive history dones _ = ⊥
 
 -- something isn't as it should be, at the fault's number. The others are no matter of a run that is
 -- over
@@ -21,6 +30,7 @@ Shows r (fault.TicketOrder job) = (d : Done) × Contains r.dones d × (d.job ≡
 Shows r (fault.LogDiffers site) = IsSettledAt r site → ⊥
 Shows r (fault.VersionsDiffer site) =
     (s : SiteState) × (slice_get r.sites site ≡ Some s) × (VersionsAgree r.certifier.history s → ⊥)
+Shows r (fault.Certifier f) = LeavesActive r.certifier.history r.dones f
 Shows r _ = ⊥
 
 -- the order in which faults are told
@@ -31,7 +41,8 @@ kind_place (fault.MissingTicket k) = 6
 kind_place (fault.TicketOrder job) = 8
 kind_place (fault.LogDiffers site) = 9
 kind_place (fault.VersionsDiffer site) = 10
-kind_place _ = 11
+kind_place (fault.Certifier f) = 11
+kind_place _ = 12
 
 abbrev pub fault_at : ServiceFault → ℕ
 fault_at (fault.StrayTicket k) = k

@@ -13,6 +13,7 @@ use Rattle.sgt_certifier.specs.Certifier.{Ruling, committed, refused, withdrawn}
 use Rattle.sgt_certifier.specs.History.{Replays}
 use Rattle.sgt_certifier.specs.Kept.{Kept}
 use Rattle.sgt_certifier.specs.declared.call.Call.{Call}
+use Rattle.sgt_certifier.specs.declared.call.Call.TheVariants as call
 use Rattle.sgt_workers.specs.declared.ticket.Ticket.{Ticket}
 use Rattle.sgt_workers.specs.declared.ticket.Done.{Done}
 use Rattle.sgt_workers.specs.declared.ticket.Ending.TheVariants as ending
@@ -49,6 +50,16 @@ pub record AreTickets (rulings : List Ruling) (dones : List Done) : Type 0 where
   pub good : All (IsGood rulings) (tickets_of dones)
   pub once : (number : ℕ) → number < length rulings → count_of number (tickets_of dones) ≡ 1
   pub rising : All Rises dones
+
+-- ---- begins
+
+abbrev pub is_begin : Call → Bool
+is_begin (call.Begin tx h) = true
+is_begin _ = false
+
+-- how many transactions a history begins
+abbrev pub begins_in : List Call → ℕ
+begins_in history = count_by is_begin history
 
 -- ---- sites
 
@@ -134,11 +145,12 @@ IsSettledAt r site =
     IsSiteSettled r.certifier.history r.certifier.state.rulings r.counts site
     (slice_get r.sites site)
 
--- the tickets are the decisions of the history, at each place is the site of that number, which
--- agrees with it, and each version is
--- the number of installs that it counts
+-- the tickets are the decisions of the history, which begins as many transactions as there are
+-- tickets; at each place is the site of that number, which agrees with it, and each version is the
+-- number of installs that it counts
 pub record IsSettled (r : Run) : Type 0 where
   pub kept : AreKept r
   pub tickets : AreTickets r.certifier.state.rulings r.dones
+  pub begun : begins_in r.certifier.history ≡ length (tickets_of r.dones)
   pub sites : (site : ℕ) → IsSettledAt r site
   pub versions : All (VersionsAgree r.certifier.history) r.sites

@@ -6,6 +6,7 @@ ghost use Rattle.sgt_site.specs.State.{IsSite};
 ghost use Rattle.sgt_service_settle.specs.Settled.{AreCountedAt, AreKept, IsSettled, IsSiteSettled};
 ghost use Rattle.sgt_service_settle.specs.Fault.{IsUnsettled};
 
+use crate::begins::check_begins;
 use crate::counts::has_first_counts;
 use crate::index::index_of;
 use crate::sites::{first_beyond, first_unfit, no_tables};
@@ -67,7 +68,8 @@ fn know_sites(sites: &[Site])
 
 /// Whether a run is settled: its tickets are the decisions of the certifier's history, each once and those of each job in order; at
 /// each place is the site of that number, its log has the entries that were counted there, and its conflicts are those that the
-/// decisions were handed; and each version is the number of installs that the history counts.
+/// decisions were handed; each version is the number of installs that the history counts; and as many transactions were begun as there
+/// are tickets.
 ///
 /// The first that holds is answered, each with the least number of its kind:
 /// - V1: a ticket has no decision of its number, transaction and verdict.
@@ -77,6 +79,7 @@ fn know_sites(sites: &[Site])
 /// - V3: a log can't be judged, since there was no memory.
 /// - V9: a site, of a place or of an edge that was handed, isn't so; or another one stands at its place.
 /// - V10: a version at a site isn't so.
+/// - V4 with C4: more transactions were begun than there are tickets, so many more.
 ///
 /// Memory is linear in the history with its edges, in the logs and items of the sites and in the transactions. So is the time where
 /// transactions were decided in the order of their operations on each item, and all of them committed. Else the operations on an item
@@ -122,6 +125,9 @@ pub fn check_settled(
     }
     if let Some(site) = first_uncounted(certifier, sites) {
         return Err(ServiceFault::VersionsDiffer(site));
+    }
+    if let Err(fault) = check_begins(history, dones) {
+        return Err(fault);
     }
     Ok(())
 }

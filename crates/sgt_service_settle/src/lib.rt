@@ -2,6 +2,7 @@
 #![tactic(auto)]
 
 mod acts;
+mod begins;
 mod carried;
 mod check;
 mod committed;

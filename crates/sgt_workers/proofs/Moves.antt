@@ -1,7 +1,7 @@
 -- Each step keeps the rule of the queue.
-use Rattle.std.proofs.Common.{◌≡◌, ◌≢◌, ℕ, zero, suc, ◌+◌, ◌<◌, ◌≤◌, true, true≢false, List, [], ◌∷◌, ◌++◌, set, sym, refl, ap, ◌∙◌, subst, ⊎_elim, arith}
-use Rattle.std.specs.Prelude.{⊤}
-use Rattle.std.specs.List.{sum_by}
+use Rattle.std.proofs.Common.{◌≡◌, ◌≢◌, ℕ, zero, suc, ◌+◌, ◌<◌, ◌≤◌, Bool, true, false, true≢false, List, [], ◌∷◌, ◌++◌, set, sym, refl, ap, ◌∙◌, subst, ⊎_elim, inl, inr, arith}
+use Rattle.std.specs.Prelude.{◌⊎◌, ◌||◌, ⊤}
+use Rattle.std.specs.List.{sum_by, range_with_len}
 use Rattle.std.proofs.lemmas.List.Sums.{sum_by-append, sum_by_push}
 use Rattle.std.proofs.lemmas.List.Elements.{All-append, All-push}
 use Rattle.atomic_table.proofs.Lists.{at_set, at_snoc}
@@ -11,8 +11,8 @@ use Rattle.crossbeam_channel.specs.Fifo.{Pushes, Pops, Forks, Merges, Learns}
 use Rattle.sgt_workers.specs.declared.queue.Task.{Task}
 use Rattle.sgt_workers.specs.declared.queue.Task.TheVariants.{Run, Stop}
 use Rattle.sgt_workers.specs.declared.queue.Hold.{Hold}
-use Rattle.sgt_workers.specs.Queue.{sender_of, newcomer, spent_hold, with_job, with_stop, took, at_stop, joined, AreStops, Follows, Knows, Accounts, Kept, Takes, OnceAtMost}
-use Rattle.sgt_workers.proofs.Weights.{sum_set, sum_has, weigh_more, weigh_grows}
+use Rattle.sgt_workers.specs.Queue.{sender_of, newcomer, lender, spent_hold, with_job, with_stop, took, at_stop, joined, AreAll, AreOut, AreStops, Follows, Knows, Accounts, Kept, Takes}
+use Rattle.sgt_workers.proofs.Weights.{sum_set, sum_has, sum_only, weigh_more}
 
 follows_low : (low top stops : ℕ) (ts : List Task) → Follows low top stops ts → low ≤ top
 follows_low low top stops [] f = omega (arith, f)
@@ -55,127 +55,261 @@ same_weight : (low : ℕ) (views : List Hold) (by : ℕ) (v w : Hold) → get_el
 same_weight low views by v w at same sums weight =
     omega (arith, sum_set (λ u. sum_by weight u.taken) views by v w at, ap (sum_by weight) same, sums weight)
 
+-- the pass changes to one that is lent as much, and has lent as many
+same_out : (views : List Hold) (by : ℕ) (v w : Hold) → get_elem? views by ≡ some v → w.lent ≡ v.lent → w.out ≡ v.out → AreOut views → AreOut (set views by w)
+same_out views by v w at lent out is =
+    omega (arith, sum_set (λ (u : Hold). u.lent) views by v w at, sum_set (λ (u : Hold). u.out) views by v w at, lent, out, is)
+
+not_true : (b : Bool) → (b ≡ true → ⊥) → b ≡ false
+not_true true h = absurd (h refl)
+not_true false h = refl
+
+or_true : (a b : Bool) → (a || b) ≡ true → (a ≡ true) ⊎ (b ≡ true)
+or_true true b e = inl refl
+or_true false b e = inr e
+
+pub or_right : (a : Bool) → (a || true) ≡ true
+or_right true = refl
+or_right false = refl
+
+pub lender_more : (v : Hold) (n m : ℕ) → m ≡ n + 1 → lender 1 (lender n v) ≡ lender m v
+lender_more v n m e =
+    let more : v.out + n + 1 ≡ v.out + m = omega (arith, e) in
+    ap (λ (k : ℕ). record v { out = k }) more
+
 pub begins : Kept [] (sender_of 0 0 ∷ [])
-begins = (
-  0,
-  0,
-  0,
-  0,
-  refl,
-  λ pass v e. let o = only_one (sender_of 0 0) v pass e in subst (λ (y : Hold). Knows 0 0 0 0 pass y) o.1 ((λ _. (o.0, refl, refl)), (λ p. absurd (omega (arith, p))), λ k d h. absurd (omega (arith, h))),
-  λ weight. refl,
-)
+begins = record {
+  by = 0;
+  low = 0;
+  top = 0;
+  stops = 0;
+  follows = refl;
+  knows = λ pass v e.
+      let o = only_one (sender_of 0 0) v pass e in
+      subst (λ (y : Hold). Knows 0 0 0 0 pass y) o.1 (record {
+        sends = λ _. (o.0, refl, refl, refl);
+        filled = λ p. absurd (omega (arith, p));
+        taken = λ k d h. absurd (omega (arith, h));
+        stopped = λ p. absurd (true≢false (sym p));
+        lends = λ p. absurd (true≢false p);
+        idle = λ p _. absurd (true≢false p);
+      });
+  accounts = λ weight. refl;
+  out = refl;
+}
 
 pub sends_job : (n by : ℕ) (v : Hold) (k : ℕ) → v.sends ≡ true → v.stops ≡ 0 → k ≡ v.sent + 1 → Pushes Kept n by v (Run k) (λ w. w ≡ with_job v)
 sends_job n by v k may going next items views room h at =
-    let mine = h.5 by v at in
-    let me = mine.0 may in
+    let mine = h.knows by v at in
+    let me = mine.sends may in
     let w : Hold = with_job v in
-    let none : h.3 ≡ 0 = sym me.2 ∙ going in
-    let number : h.2 + 1 ≡ k = omega (arith, me.1, next) in
-    let follows : Follows h.1 h.2 0 items = subst (λ s. Follows h.1 h.2 s items) none h.4 in (
+    let none : h.stops ≡ 0 = sym me.2 ∙ going in
+    let number : h.top + 1 ≡ k = omega (arith, me.1, next) in
+    let follows : Follows h.low h.top 0 items = subst (λ s. Follows h.low h.top s items) none h.follows in (
       w,
-      (
-        h.0,
-        h.1,
-        h.2 + 1,
-        0,
-        subst (λ m. Follows h.1 (h.2 + 1) 0 (items ++ Run m ∷ [])) number (follows_job h.1 h.2 items follows),
-        all_set (Knows h.0 h.1 (h.2 + 1) 0) views by w ((λ _. (me.0, omega (arith, me.1), going)), (λ p. absurd (omega (arith, p, going))), mine.2)
-            (λ j u other e. let its = h.5 j u e in ((λ p. absurd (other ((its.0 p).0 ∙ sym me.0))), (λ p. absurd (omega (arith, p, (its.1 p).1, none))), its.2)),
-        same_weight h.1 views by v w at refl h.6,
-      ),
+      record {
+        by = h.by;
+        low = h.low;
+        top = h.top + 1;
+        stops = 0;
+        follows = subst (λ m. Follows h.low (h.top + 1) 0 (items ++ Run m ∷ [])) number (follows_job h.low h.top items follows);
+        knows = all_set (Knows h.by h.low (h.top + 1) 0) views by w (record {
+          sends = λ _. (me.0, omega (arith, me.1), going, me.3);
+          filled = λ p. absurd (omega (arith, p, going));
+          taken = mine.taken;
+          stopped = λ p. absurd (omega (arith, (mine.stopped p).1, none));
+          lends = mine.lends;
+          idle = mine.idle;
+        }) (λ j u other e.
+            let its = h.knows j u e in
+            record {
+              sends = λ p. absurd (other ((its.sends p).0 ∙ sym me.0));
+              filled = λ p. absurd (omega (arith, p, (its.filled p).1, none));
+              taken = its.taken;
+              stopped = λ p. absurd (omega (arith, (its.stopped p).1, none));
+              lends = its.lends;
+              idle = its.idle;
+            });
+        accounts = same_weight h.low views by v w at refl h.accounts;
+        out = same_out views by v w at refl refl h.out;
+      },
       refl,
     )
 
 pub sends_stop : (n by : ℕ) (v : Hold) → v.sends ≡ true → Pushes Kept n by v Stop (λ w. w ≡ with_stop v)
 sends_stop n by v may items views room h at =
-    let mine = h.5 by v at in
-    let me = mine.0 may in
+    let mine = h.knows by v at in
+    let me = mine.sends may in
     let w : Hold = with_stop v in (
       w,
-      (
-        h.0,
-        h.1,
-        h.2,
-        h.3 + 1,
-        follows_stop h.1 h.2 h.3 items h.4,
-        all_set (Knows h.0 h.1 h.2 (h.3 + 1)) views by w ((λ _. (me.0, me.1, omega (arith, me.2))), (λ p. (me.1, omega (arith, me.2))), mine.2)
-            (λ j u other e. let its = h.5 j u e in ((λ p. absurd (other ((its.0 p).0 ∙ sym me.0))), (λ p. ((its.1 p).0, omega (arith, (its.1 p).1))), its.2)),
-        same_weight h.1 views by v w at refl h.6,
-      ),
+      record {
+        by = h.by;
+        low = h.low;
+        top = h.top;
+        stops = h.stops + 1;
+        follows = follows_stop h.low h.top h.stops items h.follows;
+        knows = all_set (Knows h.by h.low h.top (h.stops + 1)) views by w (record {
+          sends = λ _. (me.0, me.1, omega (arith, me.2), me.3);
+          filled = λ p. (me.1, omega (arith, me.2));
+          taken = mine.taken;
+          stopped = λ p. ((mine.stopped p).0, omega arith);
+          lends = mine.lends;
+          idle = mine.idle;
+        }) (λ j u other e.
+            let its = h.knows j u e in
+            record {
+              sends = λ p. absurd (other ((its.sends p).0 ∙ sym me.0));
+              filled = λ p. ((its.filled p).0, omega (arith, (its.filled p).1));
+              taken = its.taken;
+              stopped = λ p. ((its.stopped p).0, omega arith);
+              lends = its.lends;
+              idle = its.idle;
+            });
+        accounts = same_weight h.low views by v w at refl h.accounts;
+        out = same_out views by v w at refl refl h.out;
+      },
       refl,
     )
 
-pub takes : (by : ℕ) (v : Hold) → Pops Kept by v (Takes v)
-takes by v (Run n) items views h at =
-    let mine = h.5 by v at in
+pub takes : (by : ℕ) (v : Hold) → v.lent ≡ 1 → Pops Kept by v (Takes v)
+takes by v lent (Run n) items views h at =
+    let mine = h.knows by v at in
     let w : Hold = took n v in
-    let next : n ≡ h.1 + 1 = h.4.0 in
-    let low = follows_low n h.2 h.3 items h.4.1 in (
+    let next : n ≡ h.low + 1 = h.follows.0 in
+    let low = follows_low n h.top h.stops items h.follows.1 in (
       w,
-      (
-        h.0,
-        n,
-        h.2,
-        h.3,
-        h.4.1,
-        all_set (Knows h.0 n h.2 h.3) views by w (mine.0, mine.1, All-push (λ m. m ≤ n) v.taken n (λ k d l. omega (arith, mine.2 k d l, next)) (omega arith))
-            (λ j u other e. let its = h.5 j u e in (its.0, its.1, λ k d l. omega (arith, its.2 k d l, next))),
-        λ weight. omega (arith, sum_set (λ u. sum_by weight u.taken) views by v w at, sum_by_push weight v.taken n, h.6 weight, weigh_more weight h.1 n next),
-      ),
-      (omega (arith, next), (λ k d l. omega (arith, mine.2 k d l, next)), (λ p. omega (arith, (mine.1 p).0, low)), refl),
+      record {
+        by = h.by;
+        low = n;
+        top = h.top;
+        stops = h.stops;
+        follows = h.follows.1;
+        knows = all_set (Knows h.by n h.top h.stops) views by w (record {
+          sends = mine.sends;
+          filled = mine.filled;
+          taken = All-push (λ m. m ≤ n) v.taken n (λ k d l. omega (arith, mine.taken k d l, next)) (omega arith);
+          stopped = λ p. absurd (omega (arith, (mine.stopped p).0, next, low));
+          lends = mine.lends;
+          idle = λ p l. absurd (omega (arith, l, lent));
+        }) (λ j u other e.
+            let its = h.knows j u e in
+            record {
+              sends = its.sends;
+              filled = its.filled;
+              taken = λ k d l. omega (arith, its.taken k d l, next);
+              stopped = λ p. absurd (omega (arith, (its.stopped p).0, next, low));
+              lends = its.lends;
+              idle = its.idle;
+            });
+        accounts = λ weight. omega (arith, sum_set (λ (u : Hold). sum_by weight u.taken) views by v w at, sum_by_push weight v.taken n, h.accounts weight, weigh_more weight h.low n next);
+        out = same_out views by v w at refl refl h.out;
+      },
+      (omega (arith, next), (λ k d l. omega (arith, mine.taken k d l, next)), (λ p. omega (arith, (mine.filled p).0, low)), refl),
     )
-takes by v Stop items views h at =
+takes by v lent Stop items views h at =
+    let mine = h.knows by v at in
     let w : Hold = at_stop v in (
       w,
-      (
-        h.0,
-        h.1,
-        h.2,
-        h.3,
-        follows_after h.1 h.2 h.3 items h.4.0 h.4.1 h.4.2,
-        all_set (Knows h.0 h.1 h.2 h.3) views by w (h.5 by v at) (λ j u other e. h.5 j u e),
-        same_weight h.1 views by v w at refl h.6,
-      ),
+      record {
+        by = h.by;
+        low = h.low;
+        top = h.top;
+        stops = h.stops;
+        follows = follows_after h.low h.top h.stops items h.follows.0 h.follows.1 h.follows.2;
+        knows = all_set (Knows h.by h.low h.top h.stops) views by w (record {
+          sends = mine.sends;
+          filled = mine.filled;
+          taken = mine.taken;
+          stopped = λ _. (h.follows.1, h.follows.0);
+          lends = mine.lends;
+          idle = mine.idle;
+        }) (λ j u other e. h.knows j u e);
+        accounts = same_weight h.low views by v w at refl h.accounts;
+        out = same_out views by v w at refl refl h.out;
+      },
       refl,
     )
 
-pub forks : (by : ℕ) (v : Hold) → Forks Kept by v v (newcomer v)
-forks by v items views h at =
+pub forks : (by : ℕ) (v : Hold) → v.sends ≡ true → Forks Kept by v (lender 1 v) (newcomer v)
+forks by v may items views h at =
+    let l : Hold = lender 1 v in
     let r : Hold = newcomer v in
-    let mine = h.5 by v at in (
-      h.0,
-      h.1,
-      h.2,
-      h.3,
-      h.4,
-      λ j u e. ⊎_elim (λ x. all_set (Knows h.0 h.1 h.2 h.3) views by v mine (λ j u other e. h.5 j u e) j u x)
-          (λ (is : r ≡ u). subst (λ (y : Hold). Knows h.0 h.1 h.2 h.3 j y) is ((λ p. absurd (true≢false (sym p))), mine.1, λ k d l. absurd (omega (arith, l)))) (at_snoc (set views by v) r u j e),
-      λ weight. omega (arith, sum_by_push (λ u. sum_by weight u.taken) (set views by v) r, same_weight h.1 views by v v at refl h.6 weight),
-    )
+    let mine = h.knows by v at in
+    let F = Knows h.by h.low h.top h.stops in
+    let with_it : F by l = record {
+      sends = mine.sends;
+      filled = mine.filled;
+      taken = mine.taken;
+      stopped = mine.stopped;
+      lends = λ p. absurd (true≢false (sym may ∙ p));
+      idle = mine.idle;
+    } in
+    record {
+      by = h.by;
+      low = h.low;
+      top = h.top;
+      stops = h.stops;
+      follows = h.follows;
+      knows = λ j u e. ⊎_elim (λ x. all_set F views by l with_it (λ j u other e. h.knows j u e) j u x) (λ (is : r ≡ u). subst (λ (y : Hold). F j y) is (record {
+        sends = λ p. absurd (true≢false (sym p));
+        filled = mine.filled;
+        taken = λ k d l. absurd (omega (arith, l));
+        stopped = λ p. absurd (true≢false (sym p));
+        lends = λ _. refl;
+        idle = λ _ _. refl;
+      })) (at_snoc (set views by l) r u j e);
+      accounts = λ weight. omega (arith, sum_by_push (λ (u : Hold). sum_by weight u.taken) (set views by l) r, same_weight h.low views by v l at refl h.accounts weight);
+      out = omega (arith, sum_by_push (λ (u : Hold). u.lent) (set views by l) r, sum_by_push (λ (u : Hold). u.out) (set views by l) r, sum_set (λ (u : Hold). u.lent) views by v l at, sum_set (λ (u : Hold). u.out) views by v l at, h.out);
+    }
 
-pub joins : (by : ℕ) (v : Hold) (other : ℕ) (w : Hold) → Merges Kept by v other w (joined v w) spent_hold
-joins by v other w items views h at apart there =
+pub joins : (by : ℕ) (v : Hold) (other : ℕ) (w : Hold) → v.sends ≡ true → w.lent ≤ v.out → Merges Kept by v other w (joined v w) spent_hold
+joins by v other w may lent items views h at apart there =
     let both : Hold = joined v w in
     let theirs : get_elem? views other ≡ some w = ⊎_elim (λ x. absurd (apart x.0)) (λ x. x.1) (at_set views by other both w there) in
-    let mine = h.5 by v at in
-    let its = h.5 other w theirs in
-    let F = Knows h.0 h.1 h.2 h.3 in (
-      h.0,
-      h.1,
-      h.2,
-      h.3,
-      h.4,
-      all_set F (set views by both) other spent_hold ((λ p. absurd (true≢false (sym p))), (λ p. absurd (omega (arith, p))), λ k d l. absurd (omega (arith, l)))
-          (λ j u _ e. all_set F views by both (mine.0, mine.1, All-append (λ n. n ≤ h.1) v.taken w.taken mine.2 its.2) (λ i t _ f. h.5 i t f) j u e),
-      λ weight. omega (arith, sum_set (λ u. sum_by weight u.taken) (set views by both) other w spent_hold there, sum_set (λ u. sum_by weight u.taken) views by v both at, sum_by-append weight v.taken w.taken, h.6 weight),
-    )
+    let mine = h.knows by v at in
+    let its = h.knows other w theirs in
+    let away : w.sends ≡ false = not_true w.sends (λ p. apart ((its.sends p).0 ∙ sym (mine.sends may).0)) in
+    let none : w.out ≡ 0 = its.lends away in
+    let F = Knows h.by h.low h.top h.stops in
+    record {
+      by = h.by;
+      low = h.low;
+      top = h.top;
+      stops = h.stops;
+      follows = h.follows;
+      knows = all_set F (set views by both) other spent_hold (record {
+        sends = λ p. absurd (true≢false (sym p));
+        filled = λ p. absurd (omega (arith, p));
+        taken = λ k d l. absurd (omega (arith, l));
+        stopped = λ p. absurd (true≢false (sym p));
+        lends = λ _. refl;
+        idle = λ _ _. refl;
+      }) (λ j u _ e. all_set F views by both (record {
+        sends = mine.sends;
+        filled = mine.filled;
+        taken = All-append (λ n. n ≤ h.low) v.taken w.taken mine.taken its.taken;
+        stopped = λ p. ⊎_elim (λ (q : v.stopped ≡ true). mine.stopped q) (λ (q : w.stopped ≡ true). its.stopped q) (or_true v.stopped w.stopped p);
+        lends = λ p. absurd (true≢false (sym may ∙ p));
+        idle = λ p _. absurd (true≢false (sym may ∙ p));
+      }) (λ i t _ f. h.knows i t f) j u e);
+      accounts = λ weight. omega (arith, sum_set (λ (u : Hold). sum_by weight u.taken) (set views by both) other w spent_hold there, sum_set (λ (u : Hold). sum_by weight u.taken) views by v both at, sum_by-append weight v.taken w.taken, h.accounts weight);
+      out = omega (arith, sum_set (λ (u : Hold). u.lent) (set views by both) other w spent_hold there, sum_set (λ (u : Hold). u.lent) views by v both at, sum_set (λ (u : Hold). u.out) (set views by both) other w spent_hold there, sum_set (λ (u : Hold). u.out) views by v both at, none, lent, h.out);
+    }
 
 pub learns : (by : ℕ) (v : Hold) → Learns Kept by v (λ items. ⊤)
 learns by v items views h at = tt
 
-pub learns_once : (by : ℕ) (v : Hold) → v.sends ≡ true → Learns Kept by v (λ items. OnceAtMost v.sent v.taken)
-learns_once by v may items views h at weight =
-    let me = (h.5 by v at).0 may in
-    omega (arith, sum_has (λ u. sum_by weight u.taken) views by v at, h.6 weight, weigh_grows weight h.1 v.sent (omega (arith, me.1, follows_low h.1 h.2 h.3 items h.4)))
+-- with none out, and a stop taken, no other pass has taken a job, and all were taken
+pub learns_all : (by : ℕ) (v : Hold) → v.sends ≡ true → v.out ≡ 0 → v.stopped ≡ true → Learns Kept by v (λ items. AreAll v.sent v.taken)
+learns_all by v may none stopped items views h at weight =
+    let mine = h.knows by v at in
+    let me = mine.sends may in
+    let away : (j : ℕ) (u : Hold) → j ≢ by → get_elem? views j ≡ some u → u.sends ≡ false = λ j u other e. not_true u.sends (λ p. other (((h.knows j u e).sends p).0 ∙ sym me.0)) in
+    let outs : sum_by (λ (u : Hold). u.out) views ≡ v.out = sum_only (λ (u : Hold). u.out) views by v at (λ j u other e. (h.knows j u e).lends (away j u other e)) in
+    let lents : sum_by (λ (u : Hold). u.lent) views ≡ 0 = omega (arith, h.out, outs, none) in
+    let idle : (j : ℕ) (u : Hold) → j ≢ by → get_elem? views j ≡ some u → sum_by weight u.taken ≡ 0 = λ j u other e.
+    let has = sum_has (λ (u : Hold). u.lent) views j u e in
+    ap (sum_by weight) ((h.knows j u e).idle (away j u other e) (omega (arith, has, lents))) in
+    let all : sum_by (λ (u : Hold). sum_by weight u.taken) views ≡ sum_by weight v.taken = sum_only (λ (u : Hold). sum_by weight u.taken) views by v at idle in
+    let low : h.low ≡ v.sent = omega (arith, (mine.stopped stopped).0, me.1) in
+    sym all ∙ h.accounts weight ∙ ap (λ n. sum_by weight (range_with_len 1 n)) low

@@ -1,5 +1,5 @@
 -- What numbers weigh, added up over the passes.
-use Rattle.std.proofs.Common.{◌≡◌, ℕ, zero, suc, ◌+◌, ◌-◌, ◌<◌, ◌≤◌, List, Some, refl, [], ◌∷◌, ◌++◌, set, sym, ap, ◌∙◌, subst, arith}
+use Rattle.std.proofs.Common.{◌≡◌, ◌≢◌, ℕ, zero, suc, ◌+◌, ◌-◌, ◌<◌, ◌≤◌, List, Some, refl, [], ◌∷◌, ◌++◌, set, sym, ap, ◌∙◌, subst, arith}
 use Rattle.std.specs.Prelude.{slice_get}
 use Rattle.std.proofs.lemmas.Option.{none-some, same_Some}
 use Rattle.std.specs.List.{sum_by, range_with_len}
@@ -22,6 +22,17 @@ module _ {X : Type 0} (f : X → ℕ) where
   sum_has [] i x e = absurd (some-ne-none x (sym e))
   sum_has (a ∷ xs) zero x e = omega (arith, sum_by-cons f a xs, ap f (some-injective a x e))
   sum_has (a ∷ xs) (suc i) x e = omega (arith, sum_by-cons f a xs, sum_has xs i x e)
+
+  sum_none : (xs : List X) → ((j : ℕ) (y : X) → get_elem? xs j ≡ some y → f y ≡ 0) → sum_by f xs ≡ 0
+  sum_none [] none = refl
+  sum_none (a ∷ xs) none = omega (arith, sum_by-cons f a xs, none 0 a refl, sum_none xs (λ j y e. none (suc j) y e))
+
+  -- one of the list weighs, and no other
+  pub sum_only : (xs : List X) (i : ℕ) (x : X) → get_elem? xs i ≡ some x → ((j : ℕ) (y : X) → j ≢ i → get_elem? xs j ≡ some y → f y ≡ 0) → sum_by f xs ≡ f x
+  sum_only [] i x e none = absurd (some-ne-none x (sym e))
+  sum_only (a ∷ xs) zero x e none = omega (arith, sum_by-cons f a xs, ap f (some-injective a x e), sum_none xs (λ j y g. none (suc j) y (λ s. absurd (omega (arith, s))) g))
+  sum_only (a ∷ xs) (suc i) x e none =
+      omega (arith, sum_by-cons f a xs, none 0 a (λ s. absurd (omega (arith, s))) refl, sum_only xs i x e (λ j y other g. none (suc j) y (λ s. other (omega (arith, s))) g))
 
   has_at : (xs : List X) (i : ℕ) (x : X) → slice_get xs i ≡ Some x → f x ≤ sum_by f xs
   has_at [] i x e = absurd (none-some x e)
@@ -68,6 +79,20 @@ above n a zero lt = refl
 above n a (suc count) lt =
     let not_it : is_it n a ≡ 0 = omega (arith, lt) in
     omega (arith, not_it, sum_by-cons (is_it n) a (range_with_len (a + 1) count), above n (a + 1) count (omega (arith, lt)))
+
+-- another number doesn't weigh
+pub weighs_none : (n m : ℕ) → (m ≡ n → ⊥) → is_it n m ≡ 0
+weighs_none n m other =
+    dite (dec_le n m) (λ (low : n ≤ m). dite (dec_le m n) (λ (high : m ≤ n). absurd (other (omega (arith, low, high)))) (λ high. omega (arith, high)))
+    (λ low. omega (arith, low))
+
+-- a number of the range weighs there
+pub weighs_there : (n a count : ℕ) → a ≤ n → n < a + count → 1 ≤ sum_by (is_it n) (range_with_len a count)
+weighs_there n a zero le lt = absurd (omega (arith, le, lt))
+weighs_there n a (suc count) le lt =
+    let all = sum_by-cons (is_it n) a (range_with_len (a + 1) count) in
+    dite (dec_le n a) (λ (low : n ≤ a). let one : is_it n a ≡ 1 = omega (arith, le, low) in omega (arith, all, one))
+    (λ high. omega (arith, all, weighs_there n (a + 1) count (omega (arith, high)) (omega (arith, lt))))
 
 pub weighs_once : (n a count : ℕ) → sum_by (is_it n) (range_with_len a count) ≤ 1
 weighs_once n a zero = omega arith

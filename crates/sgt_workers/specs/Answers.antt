@@ -1,11 +1,10 @@
 -- What a pool answers.
 use Rattle.std.specs.Prelude.{◌≡◌, ℕ, ◌-◌, ◌<◌, ◌≤◌, List, [], ◌∷◌, Some, slice_get, map, ⊤}
-use Rattle.std.specs.List.{All, AllPairs, AllZip, flat_map}
+use Rattle.std.specs.List.{AllPairs, AllZip, flat_map}
 use Rattle.std.specs.List.Sorted.{IsPermutation}
 use Rattle.sgt_workers.specs.declared.fault.PoolFail.{PoolFail}
 use Rattle.sgt_workers.specs.declared.fault.PoolFail.TheVariants.{Work, Pool}
-use Rattle.sgt_workers.specs.declared.fault.PoolFault.{PoolFault}
-use Rattle.sgt_workers.specs.declared.fault.PoolFault.TheVariants.{Memory, Unrun, Doubled}
+use Rattle.sgt_workers.specs.declared.fault.PoolFault.TheVariants.{Memory}
 use Rattle.sgt_workers.specs.declared.ticket.Done.{Done}
 use Rattle.sgt_workers.specs.declared.worker.Report.{Report}
 
@@ -54,27 +53,13 @@ AreShared {S} does scripts states dones after =
     × (map (λ share. share.1) shares ≡ after)
     × IsPermutation (flat_map (λ share. share.0) shares) dones
 
--- no Done is of a job that has none; one with two Dones has them at two places
-abbrev pub IsTold : ℕ → List Done → PoolFault → Type 0
-IsTold count dones Memory = ⊥
-IsTold count dones (Unrun n) = IsJob count n × All (λ d. d.job ≡ n → ⊥) dones
-IsTold count dones (Doubled n) =
-    (i : ℕ) × (j : ℕ) × (d : Done) × (e : Done) × (i < j)
-    × (slice_get dones i ≡ Some d) × (slice_get dones j ≡ Some e) × (d.job ≡ n) × (e.job ≡ n)
-
 -- a fault of the pool, and none of its work
 abbrev pub IsOwn : {E : Type 0} → PoolFail E → Type 0
 IsOwn (Work e) = ⊥
 IsOwn (Pool f) = ⊤
 
--- one that a pool gives: want of memory, or one of the jobs that has no Done; none is ever run
--- twice
-abbrev pub IsMet : ℕ → PoolFault → Type 0
-IsMet count Memory = ⊤
-IsMet count (Unrun n) = IsJob count n
-IsMet count (Doubled n) = ⊥
-
--- a fault that the work may end with, or one of the pool
-abbrev pub IsFault : {E : Type 0} → (E → Type 0) → ℕ → PoolFail E → Type 0
-IsFault faults count (Work e) = faults e
-IsFault faults count (Pool f) = IsMet count f
+-- a fault that the work may end with, or want of memory: none of the pool's jobs is left out, and none
+-- is run twice
+abbrev pub IsFault : {E : Type 0} → (E → Type 0) → PoolFail E → Type 0
+IsFault faults (Work e) = faults e
+IsFault faults (Pool f) = f ≡ Memory

@@ -10,10 +10,10 @@ pub enum PoolFault {
     /// A growth was refused.
     #[error("P1: out of memory")]
     Memory,
-    /// The job of this number has no Done.
+    /// The job of this number has no Done. No pool tells it.
     #[error("P2: job {0} was not run")]
     Unrun(u64),
-    /// The job of this number has two Dones.
+    /// The job of this number has two Dones. No pool tells it.
     #[error("P3: job {0} was run twice")]
     Doubled(u64),
 }

@@ -1,11 +1,11 @@
 //! The queue of jobs: their numbers in rising order, and then a stop for each worker. The front is taken.
 
-ghost use Rattle.std.specs.Prelude.{◌≡◌, ◌+◌, ◌-◌, ◌<◌, ◌⊎◌, length, IfNone, IfSome, IfOk, OnOk, OnErr, Some, slice_get, ⊤, true};
+ghost use Rattle.std.specs.Prelude.{◌≡◌, ◌+◌, ◌-◌, ◌<◌, ◌≤◌, length, IfNone, IfSome, IfOk, Some, slice_get, ⊤, true};
 ghost use Rattle.std.specs.List.{All};
 ghost use Rattle.crossbeam_channel.specs.Claims.{view, IsSeatAt};
 ghost use Rattle.crossbeam_channel.specs.Ends.{sends_on, receives_on, ruled_capacity};
-ghost use Rattle.sgt_workers.specs.Queue.{sender_of, newcomer, spent_hold, with_job, with_stop, took, at_stop, joined};
-ghost use Rattle.sgt_workers.specs.Queue.{IsFilled, Kept, Takes, OnceAtMost, HasRoom};
+ghost use Rattle.sgt_workers.specs.Queue.{sender_of, newcomer, lender, spent_hold, with_job, with_stop, took, at_stop, joined};
+ghost use Rattle.sgt_workers.specs.Queue.{IsFilled, Kept, Takes, AreAll, HasRoom};
 
 use crate::work::Job;
 use crossbeam_channel::protocol::{Join, Lesson, Outcome, Protocol, Split};
@@ -24,13 +24,16 @@ pub enum Task {
 }
 
 /// What a pass to the queue knows: whether it is the sender's, how many jobs and stops it knows to be sent, the numbers of
-/// the jobs that it took, and whether it took a stop. No value of it is made.
+/// the jobs that it took, whether it took a stop, how many passes were cut from it that were not joined to it again, and whether it is
+/// one of those (1 or 0). No value of it is made.
 pub struct Hold {
     pub sends: bool,
     pub sent: u64,
     pub stops: u64,
     pub taken: LinkedList<u64>,
     pub stopped: bool,
+    pub lent: u64,
+    pub out: u64,
 }
 
 /// The rule of the queue: the numbers go up by one, the stops come last, the front is taken, and each job once.
@@ -46,7 +49,7 @@ impl Protocol<Task, Hold> for Rising {
 pub struct ForWorker;
 
 impl Split<Hold> for ForWorker {
-    ghost left = { λ v. v };
+    ghost left = { lender 1 };
 
     ghost right = { newcomer };
 }
@@ -90,11 +93,11 @@ impl Lesson<Task, Hold> for TakesFront {
     ghost fact = { λ v items. ⊤ };
 }
 
-/// What a pass knows to be taken was taken once.
-pub struct TakenOnce;
+/// What a pass knows to be taken are all jobs, each once.
+pub struct TakenAll;
 
-impl Lesson<Task, Hold> for TakenOnce {
-    ghost fact = { λ v items. OnceAtMost v.sent v.taken };
+impl Lesson<Task, Hold> for TakenAll {
+    ghost fact = { λ v items. AreAll v.sent v.taken };
 }
 
 pub type Sender = RuledSender<Task, Hold, Rising>;
@@ -102,10 +105,6 @@ pub type Sender = RuledSender<Task, Hold, Rising>;
 pub type Receiver = RuledReceiver<Task, Hold, Rising>;
 
 pub type QueuePass = Pass<Task, Hold>;
-
-/// A task couldn't be sent, since the queue has no receiver.
-#[derive(Clone, Copy)]
-pub struct Unsent;
 
 /// The two ends of a queue with room for this many tasks, and the sender's pass.
 pub fn open(alloc: Global, capacity: usize) -> Result<(Sender, Receiver, QueuePass), AllocError>
@@ -119,8 +118,9 @@ pub fn open(alloc: Global, capacity: usize) -> Result<(Sender, Receiver, QueuePa
 
 /// A pass for one more worker.
 pub fn cut(sender: &Sender, pass: &mut QueuePass) -> QueuePass
-    requires { IsSeatAt (sends_on sender.now) pass.old }
-    ensures old { IsSeatAt (sends_on sender.now) pass.new × (view pass.new ≡ view pass.old) }
+    requires { IsSeatAt (sends_on sender.now) pass.old × ((view pass.old).sends ≡ true) }
+    ensures old { IsSeatAt (sends_on sender.now) pass.new
+        × (view pass.new ≡ lender 1 (view pass.old)) }
     ensures new { IsSeatAt (sends_on sender.now) result × (view result ≡ newcomer (view pass.old)) }
 {
     sender.another::<ForWorker>(pass)
@@ -128,109 +128,88 @@ pub fn cut(sender: &Sender, pass: &mut QueuePass) -> QueuePass
 
 /// Takes in what a worker's pass knows.
 pub fn join(sender: &Sender, pass: &mut QueuePass, other: QueuePass)
-    requires { IsSeatAt (sends_on sender.now) pass.old × IsSeatAt (sends_on sender.now) other }
+    requires seats { IsSeatAt (sends_on sender.now) pass.old × IsSeatAt (sends_on sender.now) other }
+    requires sends { (view pass.old).sends ≡ true }
+    requires out { (view other).lent ≤ (view pass.old).out }
     ensures seat { IsSeatAt (sends_on sender.now) pass.new }
     ensures both { view pass.new ≡ joined (view pass.old) (view other) }
 {
     sender.absorb::<ForWorker>(pass, other)
 }
 
-/// No job that the sender's pass knows to be taken was taken twice, and each was sent.
-pub fn learn_once(sender: &Sender, pass: &mut QueuePass)
-    requires { IsSeatAt (sends_on sender.now) pass.old × ((view pass.old).sends ≡ true) }
+/// Once all passes that were cut are joined again, and a stop was taken: the sender's pass knows each job that was sent to be taken, once.
+pub fn learn_all(sender: &Sender, pass: &mut QueuePass)
+    requires seat { IsSeatAt (sends_on sender.now) pass.old × ((view pass.old).sends ≡ true) }
+    requires none_out { (view pass.old).out ≡ 0 }
+    requires stopped { (view pass.old).stopped ≡ true }
     ensures same { view pass.new ≡ view pass.old }
-    ensures once { OnceAtMost (view pass.old).sent (view pass.old).taken }
+    ensures all { AreAll (view pass.old).sent (view pass.old).taken }
 {
-    sender.learn_as::<TakenOnce>(pass)
+    sender.learn_as::<TakenAll>(pass)
 }
 
-/// Sends the jobs 1 to `jobs` and then a stop for each worker. The queue has room for all of them.
-pub fn fill<R: Wait>(
-    rt: &R,
-    sender: &Sender,
-    pass: &mut QueuePass,
-    jobs: u64,
-    workers: usize,
-) -> Result<(), Unsent>
+/// Sends the jobs 1 to `jobs` and then a stop for each worker. The queue has room for all of them, and its receiver stands.
+pub fn fill<R: Wait>(rt: &R, sender: &Sender, pass: &mut QueuePass, jobs: u64, workers: usize)
     requires seat { IsSeatAt (sends_on sender.now) pass.old }
     requires view { view pass.old ≡ sender_of 0 0 }
     requires room { HasRoom (jobs + workers) (ruled_capacity (sends_on sender.now)) }
     ensures seat { IsSeatAt (sends_on sender.now) pass.new }
-    ensures sent { OnOk result (view pass.new ≡ sender_of jobs workers) }
-    ensures unsent { OnErr result
-        (((view pass.new).sent < jobs) ⊎ ((view pass.new).stops < workers)) }
+    ensures sent { view pass.new ≡ sender_of jobs workers }
 {
-    send_jobs(rt, sender, pass, jobs)?;
-    send_stops(rt, sender, pass, workers)
+    send_jobs(rt, sender, pass, jobs);
+    send_stops(rt, sender, pass, workers);
 }
 
-fn send_jobs<R: Wait>(
-    rt: &R,
-    sender: &Sender,
-    pass: &mut QueuePass,
-    jobs: u64,
-) -> Result<(), Unsent>
+fn send_jobs<R: Wait>(rt: &R, sender: &Sender, pass: &mut QueuePass, jobs: u64)
     requires seat { IsSeatAt (sends_on sender.now) pass.old }
     requires view { view pass.old ≡ sender_of 0 0 }
     ensures seat { IsSeatAt (sends_on sender.now) pass.new }
-    ensures sent { OnOk result (view pass.new ≡ sender_of jobs 0) }
-    ensures unsent { OnErr result ((view pass.new).sent < jobs) }
+    ensures sent { view pass.new ≡ sender_of jobs 0 }
 {
     for k in 0..jobs {
-        send_job(rt, sender, pass, k + 1)?;
+        send_job(rt, sender, pass, k + 1);
     }
-    Ok(())
 }
 
-fn send_stops<R: Wait>(
-    rt: &R,
-    sender: &Sender,
-    pass: &mut QueuePass,
-    workers: usize,
-) -> Result<(), Unsent>
+fn send_stops<R: Wait>(rt: &R, sender: &Sender, pass: &mut QueuePass, workers: usize)
     requires seat { IsSeatAt (sends_on sender.now) pass.old }
     requires view { view pass.old ≡ sender_of (view pass.old).sent 0 }
     ensures seat { IsSeatAt (sends_on sender.now) pass.new }
-    ensures sent { OnOk result (view pass.new ≡ sender_of (view pass.old).sent workers) }
-    ensures unsent { OnErr result ((view pass.new).stops < workers) }
+    ensures sent { view pass.new ≡ sender_of (view pass.old).sent workers }
 {
     for _k in 0..workers {
-        send_stop(rt, sender, pass)?;
+        send_stop(rt, sender, pass);
     }
-    Ok(())
 }
 
-// Sends the next job, before any stop.
-fn send_job<R: Wait>(
-    rt: &R,
-    sender: &Sender,
-    pass: &mut QueuePass,
-    number: u64,
-) -> Result<(), Unsent>
+// Sends the next job. A queue without a receiver would take none: it is waited for.
+fn send_job<R: Wait>(rt: &R, sender: &Sender, pass: &mut QueuePass, number: u64)
     requires seat { IsSeatAt (sends_on sender.now) pass.old }
     requires sends { ((view pass.old).sends ≡ true) × ((view pass.old).stops ≡ 0) }
     requires next { number ≡ (view pass.old).sent + 1 }
     ensures seat { IsSeatAt (sends_on sender.now) pass.new }
-    ensures sent { OnOk result (view pass.new ≡ with_job (view pass.old)) }
-    ensures same { OnErr result (view pass.new ≡ view pass.old) }
+    ensures sent { view pass.new ≡ with_job (view pass.old) }
 {
-    match sender.send_as::<SendsJob, R>(rt, pass, Task::Run(number)) {
-        Ok(()) => Ok(()),
-        Err(_) => Err(Unsent),
+    for _ in rt.forever() {
+        if let Ok(()) = sender.send_as::<SendsJob, R>(rt, pass, Task::Run(number)) {
+            return;
+        }
     }
+    unreachable!()
 }
 
-fn send_stop<R: Wait>(rt: &R, sender: &Sender, pass: &mut QueuePass) -> Result<(), Unsent>
+fn send_stop<R: Wait>(rt: &R, sender: &Sender, pass: &mut QueuePass)
     requires seat { IsSeatAt (sends_on sender.now) pass.old }
     requires sends { (view pass.old).sends ≡ true }
     ensures seat { IsSeatAt (sends_on sender.now) pass.new }
-    ensures sent { OnOk result (view pass.new ≡ with_stop (view pass.old)) }
-    ensures same { OnErr result (view pass.new ≡ view pass.old) }
+    ensures sent { view pass.new ≡ with_stop (view pass.old) }
 {
-    match sender.send_as::<SendsStop, R>(rt, pass, Task::Stop) {
-        Ok(()) => Ok(()),
-        Err(_) => Err(Unsent),
+    for _ in rt.forever() {
+        if let Ok(()) = sender.send_as::<SendsStop, R>(rt, pass, Task::Stop) {
+            return;
+        }
     }
+    unreachable!()
 }
 
 /// Takes the front: the next job, or None at a stop.
@@ -242,6 +221,7 @@ pub fn take_job<'a, C, R: Wait>(
 ) -> Option<Job<&'a C>>
     requires seat { IsSeatAt (receives_on receiver.now) pass.old }
     requires filled { IsFilled (length scripts.now) (view pass.old) }
+    requires lent { (view pass.old).lent ≡ 1 }
     ensures seat { IsSeatAt (receives_on receiver.now) pass.new }
     ensures job { IfSome result (λ j. view pass.new ≡ took j.number (view pass.old)) }
     ensures rising { IfSome result
@@ -258,7 +238,8 @@ pub fn take_job<'a, C, R: Wait>(
 
 // Takes the front. An empty queue is no answer: a worker takes until its stop.
 fn take<R: Wait>(rt: &R, receiver: &Receiver, pass: &mut QueuePass) -> Task
-    requires { IsSeatAt (receives_on receiver.now) pass.old }
+    requires seat { IsSeatAt (receives_on receiver.now) pass.old }
+    requires lent { (view pass.old).lent ≡ 1 }
     ensures seat { IsSeatAt (receives_on receiver.now) pass.new }
     ensures front { Takes (view pass.old) result (view pass.new) }
 {

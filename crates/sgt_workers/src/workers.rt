@@ -1,17 +1,17 @@
 //! The pool: one worker for each state, and a Done for each script.
 
-ghost use Rattle.std.specs.Prelude.{◌≡◌, ◌<◌, ◌⊎◌, [], Ok, Err, IfOk, IfErr, length, map, vec_len};
+ghost use Rattle.std.specs.Prelude.{◌≡◌, ◌<◌, ◌⊎◌, [], true, Ok, Err, IfOk, IfErr, OnOk, length, map, vec_len};
 ghost use Rattle.std.specs.List.{All, AllZip, Contains, flat_map, range_with_len};
 ghost use Rattle.crossbeam_channel.specs.Claims.{view, IsSeatAt};
 ghost use Rattle.crossbeam_channel.specs.Ends.{sends_on, receives_on};
 ghost use Rattle.sgt_workers.specs.declared.fault.PoolFail.TheVariants.{Pool};
 ghost use Rattle.sgt_workers.specs.declared.fault.PoolFault.TheVariants.{Memory};
 ghost use Rattle.sgt_workers.specs.Answers.{jobs_of, AreShared, IsAnswer, IsFault, IsOwn, IsReport};
-ghost use Rattle.sgt_workers.specs.Queue.{newcomer, HasStops, IsBegun, IsEnded, OnceAtMost};
+ghost use Rattle.sgt_workers.specs.Queue.{newcomer, lender, HasStops, IsBegun, IsEnded};
 
 use crate::fault::{PoolFail, PoolFault};
 use crate::order::in_order;
-use crate::queue::{QueuePass, Receiver, Sender, cut, fill, join, learn_once, open, take_job};
+use crate::queue::{QueuePass, Receiver, Sender, cut, fill, join, learn_all, open, take_job};
 use crate::ticket::Done;
 use crate::work::Work;
 use crate::worker::{Kit, Report};
@@ -21,8 +21,7 @@ use std::thread;
 use std::thread::Threads;
 
 /// Runs each script as one job, by as many workers as there are states. Gives the Dones in the order of the scripts, and
-/// the states in theirs, once all workers are joined. P2 where the queue has no room for all tasks, so that no worker starts. After
-/// a fault the states are spent.
+/// the states in theirs, once all workers are joined. After a fault the states are spent.
 pub fn pool<
     S: Send + Drop,
     C: Sync,
@@ -42,7 +41,7 @@ pub fn pool<
     ensures shares { IfOk result
         (λ r. AreShared (W.does work.now) scripts.now states.items r.0.items r.1.items) }
     ensures states { IfOk result (λ r. AllZip W.keeps states.items r.1.items) }
-    ensures fault { IfErr result (IsFault (W.faults work.now) (length scripts.now)) }
+    ensures fault { IfErr result (IsFault (W.faults work.now)) }
 {
     if scripts.is_empty() {
         return Ok(no_jobs(alloc, states, work));
@@ -50,18 +49,13 @@ pub fn pool<
     let workers = states.len();
     let room = scripts.len().saturating_add(workers);
     let (sender, receiver, mut pass) = open(alloc, room)?;
-    let Ok(()) = fill(rt, &sender, &mut pass, scripts.len() as u64, workers) else {
-        return Err(PoolFail::Pool(PoolFault::Unrun(1)));
-    };
+    fill(rt, &sender, &mut pass, scripts.len() as u64, workers);
     let kits = make_kits(alloc, &sender, &mut pass, states)?;
     let ends = run_workers(rt, alloc, &receiver, kits, scripts, work)?;
     let reports = all_ended(alloc, ends)?;
     let (dones, states) = collect(alloc, &sender, &mut pass, reports)?;
-    learn_once(&sender, &mut pass);
-    match in_order(dones, scripts.len() as u64) {
-        Ok(dones) => Ok((dones, states)),
-        Err(fault) => Err(PoolFail::Pool(fault)),
-    }
+    learn_all(&sender, &mut pass);
+    Ok((in_order(dones), states))
 }
 
 // Without a script there is no Done, and the states stay as they are.
@@ -84,8 +78,9 @@ fn make_kits<S: Drop>(
     pass: &mut QueuePass,
     states: Vec<S>,
 ) -> Result<Vec<Kit<S>>, AllocError>
-    requires { IsSeatAt (sends_on sender.now) pass.old }
-    ensures seat { IsSeatAt (sends_on sender.now) pass.new × (view pass.new ≡ view pass.old) }
+    requires { IsSeatAt (sends_on sender.now) pass.old × ((view pass.old).sends ≡ true) }
+    ensures seat { IsSeatAt (sends_on sender.now) pass.new }
+    ensures lender { IfOk result (λ v. view pass.new ≡ lender (vec_len v) (view pass.old)) }
     ensures kits { IfOk result (λ v. AllZip (λ s k. k.state ≡ s) states.items v.items) }
     ensures cut { IfOk result
         (λ v. All (λ k.
@@ -132,7 +127,7 @@ fn run_workers<
         IfOk e (λ r. All
         (IsAnswer (W.answers work.now) scripts.now) r.dones.items)) v.items) }
     ensures fault { IfOk result
-        (λ v. All (λ e. IfErr e (IsFault (W.faults work.now) (length scripts.now))) v.items) }
+        (λ v. All (λ e. IfErr e (IsFault (W.faults work.now))) v.items) }
 {
     let one = |kit: Kit<S>| -> Result<Report<S>, PoolFail<E>>
         requires { IsBegun (receives_on receiver.now) (length scripts.now) kit.pass }
@@ -143,8 +138,7 @@ fn run_workers<
             (IsReport (W.does work.entry.now) scripts.entry.now kit.state) }
         ensures answers { IfOk result
             (λ r. All (IsAnswer (W.answers work.entry.now) scripts.entry.now) r.dones.items) }
-        ensures fault { IfErr result
-            (IsFault (W.faults work.entry.now) (length scripts.entry.now)) }
+        ensures fault { IfErr result (IsFault (W.faults work.entry.now)) }
     {
         let Kit {
             mut state,
@@ -202,6 +196,9 @@ fn collect<S: Drop>(
     reports: Vec<Report<S>>,
 ) -> Result<(Vec<Done>, Vec<S>), AllocError>
     requires pass { IsSeatAt (sends_on sender.now) pass.old × ((view pass.old).taken ≡ []) }
+    requires sends { (view pass.old).sends ≡ true }
+    requires out { (view pass.old).out ≡ vec_len reports }
+    requires some { 0 < vec_len reports }
     requires reports { All
         (λ w. IsEnded (sends_on sender.now) w.pass (jobs_of w.dones.items)) reports.items }
     ensures seat { IsSeatAt (sends_on sender.now) pass.new }
@@ -210,6 +207,8 @@ fn collect<S: Drop>(
     ensures taken { IfOk result (λ r. (view pass.new).taken ≡ jobs_of r.0.items) }
     ensures sent { ((view pass.new).sends ≡ (view pass.old).sends)
         × ((view pass.new).sent ≡ (view pass.old).sent) }
+    ensures whole { OnOk result
+        (((view pass.new).out ≡ 0) × ((view pass.new).stopped ≡ true)) }
 {
     let mut all = Vec::new(alloc);
     let mut states = Vec::new(alloc);

@@ -1,4 +1,5 @@
-use Rattle.std.proofs.Common.{◌≡◌, All, [], ◌∷◌, ◌++◌, sym, ap, ◌∙◌, subst}
+use Rattle.std.proofs.Common.{◌≡◌, All, [], ◌∷◌, ◌++◌, length, sym, ap, ◌∙◌, subst, inl, arith}
+use Rattle.std.specs.Prelude.{◌||◌}
 use Rattle.std.specs.List.{flat_map}
 use Rattle.std.proofs.lemmas.List.{map-append, append-nil}
 use Rattle.std.proofs.lemmas.List.Concat.{flat_map-append}
@@ -10,12 +11,18 @@ use Rattle.sgt_workers.specs.Queue.{IsEnded}
 use Rattle.sgt_workers.specs.declared.ticket.Done.{Done}
 use Rattle.sgt_workers.specs.declared.queue.Hold.{Hold}
 use Rattle.sgt_workers.specs.declared.worker.Report.{Report}
+use Rattle.sgt_workers.proofs.Moves.{or_right}
 use Rattle.sgt_workers.proofs.workers.collect.Goals as goal
 
 pub join-requires : goal.join-requires
 join-requires g c =
     let P : Report g.row.S.Denot → Type 0 = λ w. IsEnded (sends_on c.args.sender.now) w.pass (jobs_of w.dones.items) in
-    (c.loop-report.invariant.seat, (All-head P c.in-Some.report _ (subst (All P) c.in-Some.ensures.steps.0 c.loop-report.invariant.rest)).0)
+    let here : P c.in-Some.report = All-head P c.in-Some.report _ (subst (All P) c.in-Some.ensures.steps.0 c.loop-report.invariant.rest) in
+    record {
+      seats = (c.loop-report.invariant.seat, here.0);
+      sends = c.loop-report.invariant.sent.0 ∙ c.requires.sends;
+      out = omega (arith, here.3, c.loop-report.invariant.out, ap length c.in-Some.ensures.steps.0);
+    }
 
 pub loop-report-preserved : goal.loop-report-preserved
 loop-report-preserved g c =
@@ -38,5 +45,7 @@ loop-report-preserved g c =
       seat = c.join.ensures.seat;
       taken = ap (λ (h : Hold). h.taken) both ∙ ap (λ l. l ++ (view x.pass).taken) so_far.taken ∙ ap (λ l. jobs_of all ++ l) (sym here.2) ∙ sym (ap jobs_of appended ∙ jobs);
       sent = (ap (λ (h : Hold). h.sends) both ∙ so_far.sent.0, ap (λ (h : Hold). h.sent) both ∙ so_far.sent.1);
+      out = omega (arith, ap (λ (h : Hold). h.out) both, here.3, so_far.out, ap length c.in-Some.ensures.steps.0);
+      stopped = inl (ap (λ (h : Hold). h.stopped) both ∙ ap (λ b. (view c.loop-report.pass).stopped || b) here.1 ∙ or_right (view c.loop-report.pass).stopped);
       rest = All-tail P x _ rest;
     }

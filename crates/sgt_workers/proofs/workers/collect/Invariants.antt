@@ -1,4 +1,5 @@
-use Rattle.std.proofs.Common.{◌≡◌, All, map}
+use Rattle.std.proofs.Common.{◌≡◌, All, length, map, true}
+use Rattle.std.specs.Prelude.{◌⊎◌, vec_len}
 use Rattle.std.specs.List.{flat_map}
 use Rattle.crossbeam_channel.specs.Claims.{view, IsSeatAt}
 use Rattle.crossbeam_channel.specs.Ends.{sends_on}
@@ -13,5 +14,7 @@ invariant-loop-report g l = record {
   seat : IsSeatAt (sends_on l.sender) l.pass;
   taken : (view l.pass).taken ≡ jobs_of l.all.items;
   sent : ((view l.pass).sends ≡ (view l.fn.pass).sends) × ((view l.pass).sent ≡ (view l.fn.pass).sent);
+  out : (view l.pass).out ≡ length l.report-iterator.rest.items;
+  stopped : ((view l.pass).stopped ≡ true) ⊎ (length l.report-iterator.rest.items ≡ vec_len l.fn.reports);
   rest : All (λ w. IsEnded (sends_on l.sender) w.pass (jobs_of w.dones.items)) l.report-iterator.rest.items;
 }

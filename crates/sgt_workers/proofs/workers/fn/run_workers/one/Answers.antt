@@ -38,6 +38,7 @@ loop-preserved g c =
       ends = tt;
       seat = told.seat;
       filled = subst (λ (h : Hold). IsFilled (length c.captures.scripts.now) h) (sym told.job) c.loop.invariant.filled;
+      lent = ap (λ (h : Hold). h.lent) told.job ∙ c.loop.invariant.lent;
       taken = rw same with_it;
       keeps = laws.keeps_on _ _ _ c.loop.invariant.keeps said.keeps;
       answers = rw same (All-push P before done c.loop.invariant.answers right);
@@ -51,7 +52,7 @@ returns-in_default g c =
     let i = c.loop.invariant in
     let stop = c.in_default.ensures.stop in
     record {
-      taken = rw same (c.in_default.ensures.seat, ap (λ (h : Hold). h.stopped) stop, i.taken ∙ sym (ap (λ (h : Hold). h.taken) stop));
+      taken = rw same (c.in_default.ensures.seat, ap (λ (h : Hold). h.stopped) stop, i.taken ∙ sym (ap (λ (h : Hold). h.taken) stop), ap (λ (h : Hold). h.lent) stop ∙ i.lent);
       keeps = i.keeps;
       answers = rw same i.answers;
       reports = (rw same i.rising, rw same i.runs);

@@ -11,6 +11,7 @@ invariant-loop g l = record {
   ends : (goal.iterator-loop g).is_finite l.iterator';
   seat : IsSeatAt (receives_on l.receiver) l.pass;
   filled : IsFilled (length l.scripts) (view l.pass);
+  lent : (view l.pass).lent ≡ 1;
   taken : jobs_of l.dones.items ≡ (view l.pass).taken;
   keeps : g.W.Work.keeps l.fn.kit.state l.state;
   answers : All (IsAnswer (g.W.Work.answers l.work) l.scripts) l.dones.items;
