@@ -1,0 +1,5 @@
+pub mod Names
+pub mod Kinds
+pub mod Parts
+pub mod Reads
+pub mod private
