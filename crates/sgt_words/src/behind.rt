@@ -131,6 +131,7 @@ pub fn choice_behind(name: CommandName, options: &[String]) -> Option<Choice>
         CommandName::Serial => Choice::Serial,
         CommandName::Replay => Choice::Replay,
         CommandName::Certify => Choice::Certify,
+        CommandName::Check | CommandName::Serve => return None,
         CommandName::Run => unreachable!(),
     };
     if options.is_empty() {

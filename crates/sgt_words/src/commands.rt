@@ -214,5 +214,6 @@ pub fn listing_line<'a>(alloc: Global, name: CommandName) -> Result<Command<'a>,
         CommandName::Certify => certify_line(alloc).arg(file(alloc)),
         CommandName::Explain => full_explain(alloc),
         CommandName::Draw => full_draw(alloc),
+        CommandName::Check | CommandName::Serve => command(alloc),
     }
 }

@@ -32,12 +32,11 @@ fn names_help(word: &str) -> bool
 fn help_word(words: &[String]) -> Option<&str>
     ensures { IsSome result ↔ Any NamesHelp (map string_bytes words.now) }
 {
-    for word in words {
-        if names_help(word.as_str()) {
-            return Some(word.as_str());
-        }
+    let (word, behind) = first_of(words)?;
+    if names_help(word) {
+        return Some(word);
     }
-    None
+    help_word(behind)
 }
 
 // The words of the command that these begin with, or of all.
