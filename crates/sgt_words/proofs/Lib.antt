@@ -1,3 +1,4 @@
 pub mod Examples
 pub mod Numbers
 pub mod Told
+pub mod Helping

@@ -68,6 +68,11 @@ Asks words choice = ((words ≡ []) × (choice ≡ Audit))
 abbrev pub AsksFor : List (List ℕ) → Choice → Type 0
 AsksFor words choice = Asks (drop 1 words) choice
 
+-- behind the program's name stands `explain`, and maybe more
+abbrev pub NamesExplain : List (List ℕ) → Type 0
+NamesExplain words = (options : List (List ℕ))
+    × (drop 1 words ≡ command_text command.Explain ∷ options)
+
 -- other words are help or no command
 abbrev pub AsksNone : List (List ℕ) → Type 0
 AsksNone words = (choice : Choice) → AsksFor words choice → ⊥

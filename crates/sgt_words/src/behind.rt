@@ -1,6 +1,8 @@
 //! What stands behind a command's name.
 
-ghost use Rattle.std.specs.Prelude.{◌≡◌, ◌≢◌, ℕ, Bool, List, Option, Some, IfSome, map, string_bytes};
+ghost use Rattle.std.specs.Prelude.{◌≡◌, ◌≢◌, ◌↔◌, ◌∷◌, [], ℕ, Bool, Option, Some, IfNone, IfSome, IsTrue, codes, map, string_bytes};
+ghost use Rattle.sgt_explain.specs.Topics.{topic_name};
+ghost use Rattle.sgt_explain.specs.declared.topics.Topic.{Topic};
 ghost use Rattle.sgt_words.specs.declared.choice.Choice.{Choice};
 ghost use Rattle.sgt_line.specs.declared.name.CommandName.TheVariants as command;
 ghost use Rattle.sgt_words.specs.Words.{Says, SaysTx, SaysWorkers, TellsPicture, TellsTx, command_of};
@@ -41,10 +43,13 @@ fn tx_told(words: &[String]) -> Option<Tx>
     if word == "--tx" {
         return tx_of(only_of(behind)?);
     }
-    if !behind.is_empty() {
-        return None;
-    }
-    tx_of(word.strip_prefix("--tx=")?)
+    tx_of(only_of(words)?.strip_prefix("--tx=")?)
+}
+
+fn is_dot(word: &str) -> bool
+    ensures { IsTrue result ↔ (word.now ≡ codes "--dot") }
+{
+    word == "--dot"
 }
 
 // Of which transaction a picture is, if not of all, and whether as Graphviz text.
@@ -54,14 +59,14 @@ fn picture_told(options: &[String]) -> Option<(Option<Tx>, bool)>
         → TellsPicture (map string_bytes options.now) tx is_dot → result ≡ Some (tx, is_dot) }
 {
     let (first, behind) = first_of(options)?;
-    if first == "--dot" {
+    if is_dot(first) {
         if behind.is_empty() {
             return Some((None, true));
         }
         return Some((Some(tx_told(behind)?), true));
     }
     let (before, last) = last_of(options)?;
-    if last == "--dot" {
+    if is_dot(last) {
         return Some((Some(tx_told(before)?), true));
     }
     Some((Some(tx_told(options)?), false))
@@ -84,6 +89,16 @@ fn audit_behind(options: &[String]) -> Option<Choice>
     Some(Choice::AuditWith { workers })
 }
 
+// The rule that the one word names.
+fn rule_told(options: &[String]) -> Option<Topic>
+    ensures some { IfSome result
+        (λ topic. map string_bytes options.now ≡ topic_name topic ∷ []) }
+    ensures none { IfNone result
+        ((topic : Topic) → map string_bytes options.now ≢ topic_name topic ∷ []) }
+{
+    Topic::find(only_of(options)?)
+}
+
 // What stands behind `explain`.
 fn explain_behind(options: &[String]) -> Option<Choice>
     ensures some { IfSome result (λ choice. (command_of choice ≡ command.Explain)
@@ -94,12 +109,10 @@ fn explain_behind(options: &[String]) -> Option<Choice>
     if options.is_empty() {
         return Some(Choice::Explain);
     }
-    if let Some(word) = only_of(options) {
-        if let Some(topic) = Topic::find(word) {
-            return Some(Choice::Rule(topic));
-        }
+    match rule_told(options) {
+        Some(topic) => Some(Choice::Rule(topic)),
+        None => Some(Choice::Transaction(tx_told(options)?)),
     }
-    Some(Choice::Transaction(tx_told(options)?))
 }
 
 // What stands behind `draw`.

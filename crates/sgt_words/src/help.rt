@@ -5,6 +5,7 @@ ghost use Rattle.sgt_words.specs.Words.{HasText, IsHelp, NamesHelp, TellsHelp};
 
 use crate::choice::NoChoice;
 use crate::commands::{command, listing_line};
+use crate::options::lacks_memory;
 use clap::error::ErrorKind;
 use clap::{Command, Error};
 use sgt_line::{behind_first, first_of, named};
@@ -65,7 +66,7 @@ fn refused(alloc: Global, error: &Error) -> Result<NoChoice, AllocError>
     ensures text { IfOk result HasText }
     ensures usage { IfOk result (λ no. IsHelp no → ⊥) }
 {
-    if error.kind() == ErrorKind::OutOfMemory {
+    if lacks_memory(error) {
         return Err(AllocError);
     }
     let text = some_text(alloc, error.to_string(alloc)?)?;

@@ -1,7 +1,7 @@
 //! The options of `run`, read by clap.
 
-ghost use Rattle.std.specs.Prelude.{◌≡◌, ◌⊎◌, ◌≤◌, ℕ, Ok, Some, IfOk, IfSome, IsErr, false, map, string_bytes};
-ghost use Rattle.clap.specs.Words.{app_of, found_of, one_text, rule_of};
+ghost use Rattle.std.specs.Prelude.{◌≡◌, ◌⊎◌, ◌↔◌, ◌≤◌, ℕ, Ok, Some, IfOk, IfSome, IsErr, IsTrue, false, map, string_bytes};
+ghost use Rattle.clap.specs.Words.{app_of, found_of, kind_of, one_text, rule_of};
 ghost use Rattle.sgt_words.specs.Options.{ReadsNumber, SaysRun, number_rule, run_line};
 ghost use Rattle.sgt_words.specs.private.Found.{FindsRun};
 ghost use Rattle.sgt_words.specs.private.Runs.{IsRunOf};
@@ -10,7 +10,7 @@ use crate::choice::Choice;
 use crate::commands::MORE;
 use clap::builder::ValueParser;
 use clap::error::ErrorKind;
-use clap::{Arg, ArgMatches, Command};
+use clap::{Arg, ArgMatches, Command, Error};
 use sgt_names::{MAX_TRIES, MAX_WORKERS};
 use std::alloc::{AllocError, Global};
 
@@ -91,6 +91,13 @@ fn numbers_of(matches: &ArgMatches) -> Option<(u64, u64)>
     Some((workers, tries))
 }
 
+/// Whether clap's fault is want of memory.
+pub fn lacks_memory(error: &Error) -> bool
+    ensures { IsTrue result ↔ (kind_of error.now ≡ ErrorKind.OutOfMemory) }
+{
+    error.kind() == ErrorKind::OutOfMemory
+}
+
 /// What `run` and its options ask for; the first word is `run` itself.
 pub fn choose_run(alloc: Global, words: &[String]) -> Result<Option<Choice>, AllocError>
     ensures some { IfOk result
@@ -101,7 +108,7 @@ pub fn choose_run(alloc: Global, words: &[String]) -> Result<Option<Choice>, All
     let mut line = run_line(alloc)?;
     let matches = match line.try_get_matches_from_mut(words) {
         Ok(matches) => matches,
-        Err(error) if error.kind() == ErrorKind::OutOfMemory => return Err(AllocError),
+        Err(error) if lacks_memory(&error) => return Err(AllocError),
         Err(_) => return Ok(None),
     };
     match numbers_of(&matches) {
