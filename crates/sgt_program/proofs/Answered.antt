@@ -1,5 +1,5 @@
 -- What the engines' answers say, by the status.
-use Rattle.std.proofs.Common.{◌≡◌, ◌≤◌, ℕ, List, [], ◌∷◌, Option, Result, Ok, Err, subst, arith}
+use Rattle.std.proofs.Common.{◌≡◌, ◌<◌, ◌≤◌, ℕ, List, [], ◌∷◌, Option, Result, Ok, Err, inl, length, subst, arith}
 use Rattle.std.specs.Prelude.{IfSome, IfOk, OnErr, OnOk}
 use Rattle.std.specs.Io.KnownBytes.{Appends}
 use Rattle.sgt_names.specs.declared.outcome.EngineFail.{EngineFail}
@@ -13,7 +13,13 @@ use Rattle.sgt_audit.specs.Verdict.{IsVerdict, SaysHeadline, text_of}
 use Rattle.sgt_audit.specs.declared.verdict.Verdict.{Verdict}
 use Rattle.sgt_audit.specs.declared.verdict.Verdict.TheVariants.{Yes, No}
 use Rattle.sgt_serial.specs.Answer as serial
-use Rattle.sgt_program.specs.Commands.{AnswersAudit, AnswersRule, AnswersSerial, AnswersOthers, ByStatus, outcome}
+use Rattle.sgt_explain.specs.Topics.{IsRuleOf, topic_name}
+use Rattle.sgt_explain.specs.declared.topics.Topic.{Topic}
+use Rattle.sgt_line.specs.declared.name.CommandName.TheVariants as command
+use Rattle.sgt_words.specs.Words.{AsksHelp, command_of}
+use Rattle.sgt_words.specs.declared.choice.Choice.{Choice}
+use Rattle.sgt_words.specs.declared.choice.Choice.TheVariants.{Run}
+use Rattle.sgt_program.specs.Commands.{Answers, AnswersAudit, AnswersRule, AnswersSerial, AnswersOthers, ByStatus, outcome}
 use Rattle.sgt_program.specs.Ending.{status_of}
 use Rattle.sgt_program.specs.declared.ending.Ending.TheVariants.{Ran}
 
@@ -103,24 +109,67 @@ status-answers Wrote Front (Err fail) wrote front =
     }
 
 -- nothing was written for want of memory
-pub memory-answers : (status : ℕ) (held : Option (List ℕ)) → status ≡ 3 → AnswersOthers status held held
-memory-answers status held is = record {
+pub memory-answers : (words : List (List ℕ)) (status : ℕ) (held : Option (List ℕ)) → status ≡ 3 → AnswersOthers words status held held
+memory-answers words status held is = record {
   help = λ e. absurd (omega arith);
+  usage = λ e. absurd (omega arith);
   known = λ e. absurd (omega arith);
   front = λ le. (0 ∷ [], (0, omega arith, wrote_nothing held));
 }
 
+-- of a run too
+pub run-memory : (choice : Choice) (status : ℕ) (told held : Option (List ℕ)) → command_of choice ≡ command.Run → status ≡ 3 → Answers choice status told held held
+run-memory (Run workers tries) status told held is three = record {
+  yes = λ e. absurd (omega arith);
+  no = λ e. absurd (omega arith);
+  unreadable = λ e. absurd (omega arith);
+  front = λ le. inl (wrote_nothing held);
+}
+run-memory choice status told held is three = absurd cc
+
+-- the help was shown, or the writer failed
+pub help-answers : (words : List (List ℕ)) (old new : Option (List ℕ)) (text : List ℕ) (Quiet : Type 0) (r : Result Outcome EngineFail) → AsksHelp words
+    → 0 < length text → OnOk r (Appends old new text) → OnErr r (WritesFront old new text) → IfOk r (λ o. (o ≡ Outcome_.Yes) × Quiet)
+    → AnswersOthers words (status_of (Ran r)) old new
+help-answers words old new text Quiet (Ok Outcome_.Yes) asks some shown front is = record {
+  help = λ e. (asks, (text, some, shown));
+  usage = λ e. absurd (omega arith);
+  known = λ e. absurd (omega arith);
+  front = λ le. absurd (omega arith);
+}
+help-answers words old new text Quiet (Ok Outcome_.No) asks some shown front is = absurd (let e : Outcome_.No ≡ Outcome_.Yes = is.0 in cc)
+help-answers words old new text Quiet (Ok Outcome_.Unreadable) asks some shown front is =
+    absurd (let e : Outcome_.Unreadable ≡ Outcome_.Yes = is.0 in cc)
+help-answers words old new text Quiet (Err fail) asks some shown front is =
+    let high = failing fail in
+    record {
+      help = λ e. absurd (omega (arith, high, e));
+      usage = λ e. absurd (omega (arith, high, e));
+      known = λ e. absurd (omega (arith, high, e));
+      front = λ le. (text, front);
+    }
+
+-- no help was asked for
+pub usage-answers : (words : List (List ℕ)) (status : ℕ) (old new : Option (List ℕ)) → (AsksHelp words → ⊥) → status ≡ 2 → AnswersOthers words status old new
+usage-answers words status old new no_help is = record {
+  help = λ e. absurd (omega arith);
+  usage = λ e. no_help;
+  known = λ e. absurd (omega arith);
+  front = λ le. absurd (omega arith);
+}
+
 -- a rule was shown, or the writer failed
-pub rule-answers : (old new : Option (List ℕ)) (r : Result Outcome EngineFail) → IfOk r (λ o. o ≡ Outcome_.Yes) → OnOk r ((text : List ℕ) × Appends old new text)
-    → OnErr r ((text : List ℕ) × WritesFront old new text) → AnswersRule (status_of (Ran r)) old new
-rule-answers old new (Ok Outcome_.Yes) is shown front = record {
+pub rule-answers : (topic : Topic) (old new : Option (List ℕ)) (r : Result Outcome EngineFail) → IfOk r (λ o. o ≡ Outcome_.Yes)
+    → OnOk r ((text : List ℕ) × IsRuleOf (topic_name topic) text × Appends old new text)
+    → OnErr r ((text : List ℕ) × WritesFront old new text) → AnswersRule topic (status_of (Ran r)) old new
+rule-answers topic old new (Ok Outcome_.Yes) is shown front = record {
   rule = λ e. shown;
   known = (λ e. absurd (omega arith), λ e. absurd (omega arith));
   front = λ le. absurd (omega arith);
 }
-rule-answers old new (Ok Outcome_.No) is shown front = absurd (let e : Outcome_.No ≡ Outcome_.Yes = is in cc)
-rule-answers old new (Ok Outcome_.Unreadable) is shown front = absurd (let e : Outcome_.Unreadable ≡ Outcome_.Yes = is in cc)
-rule-answers old new (Err fail) is shown front =
+rule-answers topic old new (Ok Outcome_.No) is shown front = absurd (let e : Outcome_.No ≡ Outcome_.Yes = is in cc)
+rule-answers topic old new (Ok Outcome_.Unreadable) is shown front = absurd (let e : Outcome_.Unreadable ≡ Outcome_.Yes = is in cc)
+rule-answers topic old new (Err fail) is shown front =
     let high = failing fail in
     record {
       rule = λ e. absurd (omega (arith, high, e));

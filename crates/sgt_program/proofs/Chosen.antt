@@ -1,8 +1,10 @@
 -- What was chosen is what the words ask for.
-use Rattle.std.proofs.Common.{◌≡◌, ◌⊎◌, ◌∙◌, ℕ, Bool, true, false, not, List, Result, Ok, Err, inl, inr, ap, sym, subst}
-use Rattle.sgt_words.specs.Words.{AsksFor, AsksNone}
+use Rattle.std.proofs.Common.{◌≡◌, ◌⊎◌, ◌∙◌, ℕ, Bool, true, false, not, List, ◌∷◌, Result, Ok, Err, inl, inr, ap, sym, subst}
+use Rattle.sgt_line.specs.Names.{command_text}
+use Rattle.sgt_line.specs.declared.name.CommandName.TheVariants as command
+use Rattle.sgt_words.specs.Words.{AsksFor, NamesExplain, command_of}
 use Rattle.sgt_words.specs.declared.choice.Choice.{Choice}
-use Rattle.sgt_words.specs.declared.choice.Choice.TheVariants.{Audit, Replay, Run, Serial}
+use Rattle.sgt_words.specs.declared.choice.Choice.TheVariants.{Audit}
 use Rattle.sgt_words.specs.declared.choice.NoChoice.{NoChoice}
 use Rattle.sgt_words.specs.declared.choice.NoChoice.TheVariants.{Help, Usage, Memory}
 
@@ -21,10 +23,11 @@ is_chosen (Ok choice) = true
 is_chosen (Err refusal) = false
 
 -- and so it is where memory might have been wanting
-pub same_run : (r : Result Choice NoChoice) (x y : Choice) (P : Choice → Type 0) → r ≡ Ok x → (r ≡ Ok y) ⊎ (r ≡ Err Memory) → P x → P y
-same_run r x y P is either p = elim either [
+pub same_asked : (r : Result Choice NoChoice) (x y : Choice) (P : Choice → Type 0) (Q : Type 0) → r ≡ Ok x
+    → (r ≡ Ok y) ⊎ ((r ≡ Err Memory) × Q) → P x → P y
+same_asked r x y P Q is either p = elim either [
   | inl is_y ↦ same_choice r x y P is is_y p
-  | inr e ↦ (let bad : true ≡ false = sym (ap is_chosen is) ∙ ap is_chosen e in cc)
+  | inr e ↦ (let bad : true ≡ false = sym (ap is_chosen is) ∙ ap is_chosen e.0 in cc)
 ]
 
 abbrev pub is_memory : NoChoice → Bool
@@ -36,11 +39,25 @@ abbrev is_refusal : Result Choice NoChoice → Bool
 is_refusal (Ok choice) = false
 is_refusal (Err refusal) = not (is_memory refusal)
 
--- words that ask for a run are refused for want of memory alone
-pub no_refusal : (r : Result Choice NoChoice) (x : Choice) (refusal : NoChoice) → (r ≡ Ok x) ⊎ (r ≡ Err Memory) → r ≡ Err refusal → is_memory refusal ≡ false → ⊥
-no_refusal r x refusal either is other =
+-- words that ask for a command are refused for want of memory alone
+pub no_refusal : (r : Result Choice NoChoice) (x : Choice) (refusal : NoChoice) (Q : Type 0) → (r ≡ Ok x) ⊎ ((r ≡ Err Memory) × Q)
+    → r ≡ Err refusal → is_memory refusal ≡ false → ⊥
+no_refusal r x refusal Q either is other =
     let refused : is_refusal r ≡ true = ap is_refusal is ∙ ap not other in
     elim either [
       | inl e ↦ (let bad : false ≡ true = sym (ap is_refusal e) ∙ refused in cc)
-      | inr e ↦ (let bad : false ≡ true = sym (ap is_refusal e) ∙ refused in cc)
+      | inr e ↦ (let bad : false ≡ true = sym (ap is_refusal e.0) ∙ refused in cc)
     ]
+
+-- and that comes of a run
+pub of_a_run : (r : Result Choice NoChoice) (x : Choice) (Q : Type 0) → (r ≡ Ok x) ⊎ ((r ≡ Err Memory) × Q) → r ≡ Err Memory → Q
+of_a_run r x Q either is = elim either [
+  | inl e ↦ (let bad : true ≡ false = sym (ap is_chosen e) ∙ ap is_chosen is in absurd cc)
+  | inr e ↦ e.1
+]
+
+-- who asks for an explanation names `explain`
+pub names_explain : (words : List (List ℕ)) (choice : Choice) → AsksFor words choice → command_of choice ≡ command.Explain → NamesExplain words
+names_explain words choice (inl none) is =
+    absurd (let bad : command.Audit ≡ command.Explain = sym (ap command_of none.1) ∙ is in cc)
+names_explain words choice (inr (options, named, says)) is = (options, named ∙ ap (λ c. command_text c ∷ options) is)

@@ -1,5 +1,5 @@
 -- What each command answers, by the exit status.
-use Rattle.std.specs.Prelude.{◌≡◌, ◌≢◌, ◌<◌, ◌≤◌, ℕ, List, Option, length, IfSome}
+use Rattle.std.specs.Prelude.{◌≡◌, ◌≢◌, ◌<◌, ◌≤◌, ℕ, List, Option, Some, None, length, IfSome}
 use Rattle.std.specs.Io.KnownBytes.{Appends}
 use Rattle.sgt_names.specs.Device.{WritesFront}
 use Rattle.sgt_names.specs.declared.outcome.Outcome.{Outcome}
@@ -12,10 +12,13 @@ use Rattle.sgt_audit.specs.declared.verdict.Verdict.TheVariants.{Yes, No}
 use Rattle.sgt_certify.specs.Answer as certify
 use Rattle.sgt_draw.specs.Drawn as draw
 use Rattle.sgt_explain.specs.Explained as explain
+use Rattle.sgt_explain.specs.Topics.{IsRuleOf, topic_name}
+use Rattle.sgt_explain.specs.declared.topics.Topic.{Topic}
 use Rattle.sgt_core.specs.Replay as replay
 use Rattle.sgt_service.specs.Report as run
 use Rattle.sgt_serial.specs.Answer as serial
 use Rattle.sgt_serial.specs.Answer.{IsAnswer}
+use Rattle.sgt_words.specs.Words.{AsksFor, AsksHelp, AsksNone}
 use Rattle.sgt_words.specs.declared.choice.Choice.{Choice}
 use Rattle.sgt_words.specs.declared.choice.Choice.TheVariants.{Audit, AuditWith, Certify, Draw, DrawWith, Explain, Replay, Rule, Run, Serial, Transaction}
 
@@ -93,10 +96,12 @@ AnswersCertify status told written written' =
     ByStatus (λ outcome. certify.WroteAnswer told outcome written written')
     (certify.WroteAnswerFront told written written') status
 
--- the explanation: the line of the verdict, a yes at 0 and a no at 1, and what it means
-abbrev pub AnswersExplain : (status : ℕ) (told written written' : Option (List ℕ)) → Type 0
-AnswersExplain status told written written' =
-    ByStatus (λ outcome. explain.WroteExplained told outcome written written')
+-- the explanation: the line of the verdict, a yes at 0 and a no at 1, and what it means, with what
+-- this transaction did, or no transaction
+abbrev pub AnswersExplain : Option ℕ → (status : ℕ) (told written written' : Option (List ℕ))
+    → Type 0
+AnswersExplain asked status told written written' =
+    ByStatus (λ outcome. explain.WroteExplainedOf asked told outcome written written')
     (explain.WroteExplainedFront told written written') status
 
 -- the picture of a valid bundle at 0, and at 1 the line of a no
@@ -105,9 +110,10 @@ AnswersDraw status told written written' =
     ByStatus (λ outcome. draw.WroteDrawn told outcome written written')
     (draw.WroteDrawnFront told written written') status
 
--- a rule: its text at 0, and nothing else but a front at 3 and 4
-pub record AnswersRule (status : ℕ) (written written' : Option (List ℕ)) : Type 0 where
-  pub rule : status ≡ 0 → (text : List ℕ) × Appends written written' text
+-- a rule: its text at 0, which begins with its name, and nothing else but a front at 3 and 4
+pub record AnswersRule (topic : Topic) (status : ℕ) (written written' : Option (List ℕ)) : Type 0 where
+  pub rule : status ≡ 0 → (text : List ℕ) × IsRuleOf (topic_name topic) text
+      × Appends written written' text
   pub known : (status ≢ 1) × (status ≢ 2)
   pub front : 3 ≤ status → (text : List ℕ) × WritesFront written written' text
 
@@ -118,16 +124,29 @@ Answers (AuditWith workers) = AnswersAudit
 Answers Serial = AnswersSerial
 Answers Replay = AnswersReplay
 Answers Certify = AnswersCertify
-Answers Explain = AnswersExplain
-Answers (Transaction tx) = AnswersExplain
-Answers (Rule topic) = λ status told written written'. AnswersRule status written written'
+Answers Explain = AnswersExplain None
+Answers (Transaction tx) = AnswersExplain (Some tx)
+Answers (Rule topic) = λ status told written written'. AnswersRule topic status written written'
 Answers Draw = AnswersDraw
 Answers (DrawWith tx is_dot) = AnswersDraw
 Answers (Run workers tries) = AnswersRun tries
 
--- other words: help, or no command
-pub record AnswersOthers (status : ℕ) (written written' : Option (List ℕ)) : Type 0 where
-  pub help : status ≡ 0 → ShowsHelp written written'
+-- other words: help where one of them asks for it, or no command
+pub record AnswersOthers (words : List (List ℕ)) (status : ℕ) (written written' : Option (List ℕ))
+    : Type 0 where
+  pub help : status ≡ 0 → AsksHelp words × ShowsHelp written written'
+  pub usage : status ≡ 2 → AsksHelp words → ⊥
   pub known : status ≢ 1
   -- what was written before stays
   pub front : 3 ≤ status → (text : List ℕ) × WritesFront written written' text
+
+-- what comes of the words: a command that they ask for is answered; or, where they ask for none or
+-- memory is wanting, nothing is read
+pub data ComesOf (words : List (List ℕ)) (status : ℕ) (told written written' : Option (List ℕ))
+    (unread : Type 0) : Type 0 where
+  command : (choice : Choice) → AsksFor words choice → Answers choice status told written written'
+      → ComesOf words status told written written' unread
+  other : AsksNone words → unread → AnswersOthers words status written written'
+      → ComesOf words status told written written' unread
+  memory : status ≡ 3 → unread → AnswersOthers words status written written'
+      → ComesOf words status told written written' unread

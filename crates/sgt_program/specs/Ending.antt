@@ -1,5 +1,5 @@
 -- How a run of the program ends.
-use Rattle.std.specs.Prelude.{◌<◌, ◌≤◌, ◌⊎◌, ℕ, List, Option, Ok, Err, codes, length, IfSome}
+use Rattle.std.specs.Prelude.{◌≡◌, ◌<◌, ◌≤◌, ◌⊎◌, ◌+◌, ℕ, List, Option, Ok, Err, codes, length, IfSome}
 use Rattle.std.specs.Io.KnownBytes.{Appends}
 use Rattle.sgt_names.specs.Device.{WritesFront}
 use Rattle.sgt_names.specs.declared.outcome.EngineFail.{EngineFail}
@@ -19,11 +19,13 @@ status_of (Ran (Err Memory)) = 3
 status_of (Ran (Err ReadFault)) = 4
 status_of (Ran (Err WriteFault)) = 4
 
--- the reader failed between these counts of its failures, or it told more than the bound of reads
--- allows
-abbrev pub ReadFailed : Option (List ℕ) → (failures failures' : ℕ) → Type 0
-ReadFailed told failures failures' = (failures < failures')
-    ⊎ IfSome told (λ bytes. most_reads ≤ length bytes)
+-- the reader failed between these counts of its failures; or it told as many bytes as the bound on
+-- reads, and all reads were made, or the bytes were kept to be explained
+abbrev pub ReadFailed : (is_kept : Type 0) → (told : Option (List ℕ))
+    → (failures failures' asked asked' : ℕ) → Type 0
+ReadFailed is_kept told failures failures' asked asked' = (failures < failures')
+    ⊎ (IfSome told (λ bytes. most_reads ≤ length bytes)
+    × ((asked' ≡ asked + most_reads) ⊎ is_kept))
 
 -- how the devices come out of a run that ends so: where no device is blamed none has failed, and
 -- where one is blamed it has;

@@ -1,10 +1,10 @@
 //! The program over any reader and writers.
 
-ghost use Rattle.std.specs.Prelude.{◌≡◌, ◌<◌, ℕ, Err, map, length, string_bytes, IfErr, IsOk, codes};
-ghost use Rattle.sgt_program.specs.Commands.{AnswersAudit, AnswersCertify, AnswersDraw, AnswersExplain, AnswersSerial, AnswersReplay, AnswersRun, AnswersOthers};
+ghost use Rattle.std.specs.Prelude.{◌≡◌, ◌<◌, Err, map, length, string_bytes, IfErr, IsOk, codes};
+ghost use Rattle.sgt_program.specs.Commands.{Answers, ComesOf};
 ghost use Rattle.sgt_program.specs.Ending.{LeavesDevices, ReadFailed, TellsErrors, WroteOrFailed, status_of, text_of_fail};
-ghost use Rattle.sgt_words.specs.Words.{AsksAudit, AsksNamed, AsksNone, AsksRun, AsksWorkers};
-ghost use Rattle.sgt_words.specs.declared.choice.Choice.TheVariants as choice;
+ghost use Rattle.sgt_words.specs.Words.{AsksFor, NamesExplain};
+ghost use Rattle.sgt_words.specs.declared.choice.Choice.{Choice};
 ghost use Rattle.sgt_program.specs.declared.ending.Ending.{Ending};
 ghost use Rattle.sgt_program.specs.declared.ending.Ending.TheVariants.{Ran, NoCommand};
 
@@ -73,33 +73,19 @@ pub fn program<H: Threads + Wait + Sync, R: Source, W: Sink, E: Sink>(
     writer: &mut W,
     errors: &mut E,
 ) -> u8
-    // what each command answers
-    ensures audit { AsksAudit (map string_bytes words.now)
-        → AnswersAudit result (R.tells reader.old) (W.holds writer.old) (W.holds writer.new) }
-    ensures workers { (workers : ℕ) → AsksWorkers (map string_bytes words.now) workers
-        → AnswersAudit result (R.tells reader.old) (W.holds writer.old) (W.holds writer.new) }
-    ensures serial { AsksNamed (map string_bytes words.now) choice.Serial
-        → AnswersSerial result (R.tells reader.old) (W.holds writer.old) (W.holds writer.new) }
-    ensures replay { AsksNamed (map string_bytes words.now) choice.Replay
-        → AnswersReplay result (R.tells reader.old) (W.holds writer.old) (W.holds writer.new) }
-    ensures certify { AsksNamed (map string_bytes words.now) choice.Certify
-        → AnswersCertify result (R.tells reader.old) (W.holds writer.old) (W.holds writer.new) }
-    ensures explain { AsksNamed (map string_bytes words.now) choice.Explain
-        → AnswersExplain result (R.tells reader.old) (W.holds writer.old) (W.holds writer.new) }
-    ensures draw { AsksNamed (map string_bytes words.now) choice.Draw
-        → AnswersDraw result (R.tells reader.old) (W.holds writer.old) (W.holds writer.new) }
-    ensures run { (workers tries : ℕ) → AsksRun (map string_bytes words.now) workers tries
-        → AnswersRun tries result (R.tells reader.old) (W.holds writer.old) (W.holds writer.new) }
-    ensures others { AsksNone (map string_bytes words.now)
-        → (reader.new ≡ reader.old)
-        × AnswersOthers result (W.holds writer.old) (W.holds writer.new) }
+    // what each command answers, and what comes of all words
+    ensures asked { (choice : Choice) → AsksFor (map string_bytes words.now) choice
+        → Answers choice result (R.tells reader.old) (W.holds writer.old) (W.holds writer.new) }
+    ensures chosen { ComesOf (map string_bytes words.now) result (R.tells reader.old)
+        (W.holds writer.old) (W.holds writer.new) (reader.new ≡ reader.old) }
 
     // how the run ended: by its status, by the devices, and by what the error stream was told
     ensures ends { (ending : Ending) × (result ≡ status_of ending)
         × LeavesDevices ending
         ((R.failures reader.new ≡ R.failures reader.old)
         × (W.failures writer.new ≡ W.failures writer.old))
-        (ReadFailed (R.tells reader.old) (R.failures reader.old) (R.failures reader.new))
+        (ReadFailed (NamesExplain (map string_bytes words.now)) (R.tells reader.old)
+        (R.failures reader.old) (R.failures reader.new) (R.asked reader.old) (R.asked reader.new))
         (W.failures writer.old < W.failures writer.new)
         (writer.new ≡ writer.old)
         × TellsErrors ending (errors.new ≡ errors.old)

@@ -3,9 +3,10 @@
 ghost use Rattle.std.specs.Prelude.{◌≡◌, ◌<◌, length, IfOk, IfErr, OnErr, OnOk};
 ghost use Rattle.std.specs.Io.KnownBytes.{Appends};
 ghost use Rattle.sgt_names.specs.Device.{WritesFront};
-ghost use Rattle.sgt_program.specs.Commands.{Answers, AnswersAudit, AnswersOthers, outcome};
+ghost use Rattle.sgt_program.specs.Commands.{Answers, AnswersAudit, outcome};
 ghost use Rattle.sgt_program.specs.Ending.{LeavesDevices, ReadFailed, status_of};
-ghost use Rattle.sgt_words.specs.Words.{CanRun};
+ghost use Rattle.sgt_words.specs.Words.{CanRun, command_of};
+ghost use Rattle.sgt_line.specs.declared.name.CommandName.TheVariants as command;
 ghost use Rattle.sgt_program.specs.declared.ending.Ending.TheVariants.{Ran};
 
 use sgt_audit::{Verdict, audit};
@@ -45,7 +46,8 @@ fn audit_by<H: Threads + Sync, R: Source, W: Sink>(
     ensures ends { LeavesDevices (Ran result)
         ((R.failures reader.new ≡ R.failures reader.old)
         × (W.failures writer.new ≡ W.failures writer.old))
-        (ReadFailed (R.tells reader.old) (R.failures reader.old) (R.failures reader.new))
+        (ReadFailed ⊥ (R.tells reader.old) (R.failures reader.old)
+        (R.failures reader.new) (R.asked reader.old) (R.asked reader.new))
         (W.failures writer.old < W.failures writer.new)
         (writer.new ≡ writer.old) }
 {
@@ -69,7 +71,8 @@ pub fn run_choice<H: Threads + Wait + Sync, R: Source, W: Sink>(
     ensures ends { LeavesDevices (Ran result)
         ((R.failures reader.new ≡ R.failures reader.old)
         × (W.failures writer.new ≡ W.failures writer.old))
-        (ReadFailed (R.tells reader.old) (R.failures reader.old) (R.failures reader.new))
+        (ReadFailed (command_of choice ≡ command.Explain) (R.tells reader.old)
+        (R.failures reader.old) (R.failures reader.new) (R.asked reader.old) (R.asked reader.new))
         (W.failures writer.old < W.failures writer.new)
         (writer.new ≡ writer.old) }
 {
@@ -104,8 +107,6 @@ pub fn show_help<W: Sink>(writer: &mut W, text: &str) -> Result<Outcome, EngineF
     requires { 0 < length text.now }
     ensures text { OnOk result (Appends (W.holds writer.old) (W.holds writer.new) text.now) }
     ensures front { OnErr result (WritesFront (W.holds writer.old) (W.holds writer.new) text.now) }
-    ensures others { AnswersOthers (status_of (Ran result)) (W.holds writer.old)
-        (W.holds writer.new) }
     ensures yes { IfOk result
         (λ outcome. (outcome ≡ Outcome.Yes) × (W.failures writer.new ≡ W.failures writer.old)) }
     ensures fault { IfErr result

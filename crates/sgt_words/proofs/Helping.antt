@@ -1,23 +1,15 @@
--- Words that ask for help.
-use Rattle.std.proofs.Common.{◌≡◌, ◌<◌, ℕ, zero, suc, List, [], ◌∷◌, Any, map, length, refl, ap, sym, subst, arith}
-use Rattle.std.specs.Prelude.{Result, Ok, Err, IfOk, slice_index_or}
-use Rattle.sgt_words.specs.Words.{IsHelp}
-use Rattle.sgt_words.specs.declared.choice.NoChoice.{NoChoice}
+-- Words of which one asks for help.
+use Rattle.std.proofs.Common.{◌≡◌, ◌<◌, ℕ, zero, suc, List, [], ◌∷◌, Any, length, refl, sym, subst, arith}
 
--- one of them, as a function shows it
-pub any_mapped : {A B : Type 0} (f : A → B) (P : B → Type 0) (xs : List A) → Any (λ x. P (f x)) xs → Any P (map f xs)
-any_mapped {A = A} f P xs (k, x, within, at, p) = (k, f x, subst (λ n. k < n) (sym (same_length xs)) within, shown xs k within at, p)
-  where
-    same_length : (ys : List A) → length (map f ys) ≡ length ys
-    same_length [] = refl
-    same_length (y ∷ ys) = ap suc (same_length ys)
+module _ {A : Type 0} (P : A → Type 0) (w : A) (ws : List A) where
+  any_later : Any P ws → Any P (w ∷ ws)
+  any_later (k, x, within, at, holds) = (suc k, x, omega (arith, within), at, holds)
 
-    shown : (ys : List A) (n : ℕ) → n < length ys → slice_index_or ys n x ≡ x → slice_index_or (map f ys) n (f x) ≡ f x
-    shown [] n less is = absurd (omega (arith, less))
-    shown (y ∷ ys) zero less is = ap f is
-    shown (y ∷ ys) (suc n) less is = shown ys n (omega (arith, less)) is
+  any_behind : (P w → ⊥) → Any P (w ∷ ws) → Any P ws
+  any_behind other (zero, x, within, at, holds) = absurd (other (subst P (sym at) holds))
+  any_behind other (suc k, x, within, at, holds) = (k, x, omega (arith, within), at, holds)
 
--- help that is told only so is told only where that holds
-pub told_so : {E : Type 0} (r : Result NoChoice E) (P Q : Type 0) → (P → Q) → IfOk r (λ told. IsHelp told → P) → IfOk r (λ told. IsHelp told → Q)
-told_so (Ok told) P Q so help = λ is. so (help is)
-told_so (Err e) P Q so help = tt
+  -- where the first does not, one of the others does
+  pub of_the_others : (xs : List A) (S : Type 0) → xs ≡ w ∷ ws → (P w → ⊥) → (S → Any P ws) × (Any P ws → S) → (S → Any P xs) × (Any P xs → S)
+  of_the_others xs S e other both =
+      (λ some. subst (Any P) (sym e) (any_later (both.0 some)), λ has. both.1 (any_behind other (subst (Any P) e has)))

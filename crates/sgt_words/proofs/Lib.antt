@@ -1,5 +1,4 @@
 pub mod Examples
 pub mod Numbers
-pub mod OneWord
-pub mod ThreeWords
+pub mod Told
 pub mod Helping

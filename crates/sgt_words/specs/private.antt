@@ -1,3 +1,3 @@
 -- Words of private clauses.
 pub mod Found
-pub mod More
+pub mod Runs

@@ -2,6 +2,7 @@
 
 use crate::options::{number_option, run_line};
 use clap::{Arg, ArgAction, Command};
+use sgt_line::CommandName;
 use sgt_names::MAX_WORKERS;
 use std::alloc::{AllocError, Global};
 
@@ -65,8 +66,7 @@ fn plain_line<'a>(alloc: Global, name: &'a str, about: &'a str, usage: &'a str) 
         .after_help(MORE)
 }
 
-/// The words of `audit`.
-pub fn audit_line<'a>(alloc: Global) -> Result<Command<'a>, AllocError> {
+fn audit_line<'a>(alloc: Global) -> Result<Command<'a>, AllocError> {
     let workers = number_option(
         alloc,
         "workers",
@@ -89,8 +89,7 @@ fn certify_line<'a>(alloc: Global) -> Command<'a> {
     plain_line(alloc, "certify", CERTIFY, CERTIFY_USAGE)
 }
 
-/// The words of `explain`.
-pub fn explain_line<'a>(alloc: Global) -> Result<Command<'a>, AllocError> {
+fn explain_line<'a>(alloc: Global) -> Result<Command<'a>, AllocError> {
     let rule = Arg::new(alloc, "RULE").help(
         "Says what F1 to F19 or K1 to K4 is, or a reply's E8, L1 or V9",
     );
@@ -106,8 +105,7 @@ pub fn explain_line<'a>(alloc: Global) -> Result<Command<'a>, AllocError> {
         .arg(tx)
 }
 
-/// The words of `draw`.
-pub fn draw_line<'a>(alloc: Global) -> Result<Command<'a>, AllocError> {
+fn draw_line<'a>(alloc: Global) -> Result<Command<'a>, AllocError> {
     let tx = Arg::new(alloc, "tx")
         .long("tx")
         .value_name("N")
@@ -206,16 +204,16 @@ fn full_draw<'a>(alloc: Global) -> Result<Command<'a>, AllocError> {
     draw_line(alloc)?.arg(file(alloc))
 }
 
-/// The words of a command with those that are taken out before, for its help. None: this is no command.
-pub fn listing_line<'a>(alloc: Global, name: &str) -> Option<Result<Command<'a>, AllocError>> {
+/// The words of a command with those that are taken out before, for its help.
+pub fn listing_line<'a>(alloc: Global, name: CommandName) -> Result<Command<'a>, AllocError> {
     match name {
-        "audit" => Some(full_audit(alloc)),
-        "serial" => Some(full_serial(alloc)),
-        "replay" => Some(full_replay(alloc)),
-        "run" => Some(full_run(alloc)),
-        "certify" => Some(certify_line(alloc).arg(file(alloc))),
-        "explain" => Some(full_explain(alloc)),
-        "draw" => Some(full_draw(alloc)),
-        _ => None,
+        CommandName::Audit => full_audit(alloc),
+        CommandName::Serial => full_serial(alloc),
+        CommandName::Replay => full_replay(alloc),
+        CommandName::Run => full_run(alloc),
+        CommandName::Certify => certify_line(alloc).arg(file(alloc)),
+        CommandName::Explain => full_explain(alloc),
+        CommandName::Draw => full_draw(alloc),
+        CommandName::Check | CommandName::Serve => command(alloc),
     }
 }

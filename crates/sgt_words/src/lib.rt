@@ -1,10 +1,10 @@
 //! What the words of `sgt`'s command line ask for.
 #![tactic(auto)]
 
+mod behind;
 mod choice;
 mod commands;
-mod line;
+mod help;
 mod options;
-mod workers;
 
 pub use choice::{Choice, NoChoice, choose};

@@ -1,16 +1,16 @@
 //! The options of `run`, read by clap.
 
-ghost use Rattle.std.specs.Prelude.{◌≡◌, ◌⊎◌, ◌≤◌, ℕ, Ok, Err, Some, IfOk, IfErr, IfSome, false, map, string_bytes};
-ghost use Rattle.clap.specs.Words.{app_of, found_of, one_text, rule_of};
+ghost use Rattle.std.specs.Prelude.{◌≡◌, ◌⊎◌, ◌↔◌, ◌≤◌, ℕ, Ok, Some, IfOk, IfSome, IsErr, IsTrue, false, map, string_bytes};
+ghost use Rattle.clap.specs.Words.{app_of, found_of, kind_of, one_text, rule_of};
 ghost use Rattle.sgt_words.specs.Options.{ReadsNumber, SaysRun, number_rule, run_line};
-ghost use Rattle.sgt_words.specs.Words.{AsksHelp, HasText, IsHelp, IsRunOf};
 ghost use Rattle.sgt_words.specs.private.Found.{FindsRun};
+ghost use Rattle.sgt_words.specs.private.Runs.{IsRunOf};
 
-use crate::choice::{Choice, NoChoice};
+use crate::choice::Choice;
 use crate::commands::MORE;
-use crate::line::{no_command, told_of};
 use clap::builder::ValueParser;
-use clap::{Arg, ArgMatches, Command};
+use clap::error::ErrorKind;
+use clap::{Arg, ArgMatches, Command, Error};
 use sgt_names::{MAX_TRIES, MAX_WORKERS};
 use std::alloc::{AllocError, Global};
 
@@ -91,21 +91,28 @@ fn numbers_of(matches: &ArgMatches) -> Option<(u64, u64)>
     Some((workers, tries))
 }
 
+/// Whether clap's fault is want of memory.
+pub fn lacks_memory(error: &Error) -> bool
+    ensures { IsTrue result ↔ (kind_of error.now ≡ ErrorKind.OutOfMemory) }
+{
+    error.kind() == ErrorKind::OutOfMemory
+}
+
 /// What `run` and its options ask for; the first word is `run` itself.
-pub fn choose_run(alloc: Global, words: &[String]) -> Result<Choice, NoChoice>
-    ensures run { (workers tries : ℕ) → SaysRun (map string_bytes words.now) workers tries
-        → (result ≡ Ok (Choice.Run workers tries)) ⊎ (result ≡ Err NoChoice.Memory) }
-    ensures only { IfOk result (IsRunOf (map string_bytes words.now)) }
-    ensures text { IfErr result HasText }
-    ensures help { IfErr result (λ no. IsHelp no → AsksHelp (map string_bytes words.now)) }
+pub fn choose_run(alloc: Global, words: &[String]) -> Result<Option<Choice>, AllocError>
+    ensures some { IfOk result
+        (λ found. IfSome found (IsRunOf (map string_bytes words.now))) }
+    ensures all { (workers tries : ℕ) → SaysRun (map string_bytes words.now) workers tries
+        → (result ≡ Ok (Some (Choice.Run workers tries))) ⊎ IsErr result }
 {
     let mut line = run_line(alloc)?;
     let matches = match line.try_get_matches_from_mut(words) {
         Ok(matches) => matches,
-        Err(error) => return Err(told_of(alloc, &mut line, words, &error)?),
+        Err(error) if lacks_memory(&error) => return Err(AllocError),
+        Err(_) => return Ok(None),
     };
     match numbers_of(&matches) {
-        Some((workers, tries)) => Ok(Choice::Run { workers, tries }),
-        None => Err(no_command(alloc, &mut line)?),
+        Some((workers, tries)) => Ok(Some(Choice::Run { workers, tries })),
+        None => Ok(None),
     }
 }

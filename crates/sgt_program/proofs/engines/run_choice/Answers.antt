@@ -1,9 +1,13 @@
+use Rattle.std.proofs.Common.{◌≡◌, Err, None, Some, ap}
 use Rattle.sgt_certify.specs.Answer as certify
 use Rattle.sgt_draw.specs.Drawn as draw
 use Rattle.sgt_explain.specs.Explained as explain
 use Rattle.sgt_core.specs.Replay as replay
 use Rattle.sgt_service.specs.Report as run
 use Rattle.sgt_program.proofs.Answered.{audit-fails, rule-answers, serial-answers, status-answers, verdict-answers}
+use Rattle.sgt_program.proofs.Told.{due, failed_more, kept, leaves, leaves_more}
+use Rattle.sgt_line.specs.declared.name.CommandName.TheVariants as command
+use Rattle.sgt_words.specs.Words.{command_of}
 use Rattle.sgt_program.proofs.engines.run_choice.Goals as goal
 
 pub returns-in-Ok-clause-answers : goal.returns-in-Ok-clause-answers
@@ -47,22 +51,22 @@ returns-in-Explain-clause-answers g c =
     let told = g.R.Source.tells c.args.reader.now in
     let old = g.W.Sink.holds c.args.writer.now in
     let new = g.W.Sink.holds c.explain.new.writer in
-    rw c.in-Explain.is (status-answers (λ outcome. explain.WroteExplained told outcome old new) (explain.WroteExplainedFront told old new)
-    c.explain.result c.explain.ensures.answer c.explain.ensures.front)
+    rw c.in-Explain.is (status-answers (λ outcome. explain.WroteExplainedOf None told outcome old new) (explain.WroteExplainedFront told old new)
+    c.explain.result c.explain.ensures.asked c.explain.ensures.front)
 
 pub returns-in-Transaction-clause-answers : goal.returns-in-Transaction-clause-answers
 returns-in-Transaction-clause-answers g c =
     let told = g.R.Source.tells c.args.reader.now in
     let old = g.W.Sink.holds c.args.writer.now in
     let new = g.W.Sink.holds c.explain_transaction.new.writer in
-    rw c.in-Transaction.is (status-answers (λ outcome. explain.WroteExplained told outcome old new) (explain.WroteExplainedFront told old new)
-    c.explain_transaction.result c.explain_transaction.ensures.answer c.explain_transaction.ensures.front)
+    rw c.in-Transaction.is (status-answers (λ outcome. explain.WroteExplainedOf (Some c.in-Transaction.tx) told outcome old new) (explain.WroteExplainedFront told old new)
+    c.explain_transaction.result c.explain_transaction.ensures.asked c.explain_transaction.ensures.front)
 
 pub returns-in-Rule-clause-answers : goal.returns-in-Rule-clause-answers
 returns-in-Rule-clause-answers g c =
     let old = g.W.Sink.holds c.args.writer.now in
     let new = g.W.Sink.holds c.explain_topic.new.writer in
-    rw c.in-Rule.is (rule-answers old new c.explain_topic.result c.explain_topic.ensures.ok c.explain_topic.ensures.text c.explain_topic.ensures.front)
+    rw c.in-Rule.is (rule-answers c.in-Rule.topic old new c.explain_topic.result c.explain_topic.ensures.ok c.explain_topic.ensures.rule c.explain_topic.ensures.front)
 
 pub returns-in-Draw-clause-answers : goal.returns-in-Draw-clause-answers
 returns-in-Draw-clause-answers g c =
@@ -82,3 +86,54 @@ returns-in-DrawWith-clause-answers g c =
 
 pub returns-in-AuditWith-clause-answers : goal.returns-in-AuditWith-clause-answers
 returns-in-AuditWith-clause-answers g c = rw c.in-AuditWith.is c.audit_by.ensures.answers
+
+pub returns-in-Serial-clause-ends : goal.returns-in-Serial-clause-ends
+returns-in-Serial-clause-ends g c =
+    let said = c.serial.ensures in
+    leaves c.serial.result _ _ _ _ _ _ (due _ _ _ _ _ _) said.quiet_reader said.quiet_writer said.read_fault said.write_fault said.unwritten said.untouched
+
+pub returns-in-Replay-clause-ends : goal.returns-in-Replay-clause-ends
+returns-in-Replay-clause-ends g c =
+    let said = c.replay.ensures in
+    leaves c.replay.result _ _ _ _ _ _ (due _ _ _ _ _ _) said.quiet_reader said.quiet_writer said.read_fault said.write_fault said.unwritten said.untouched
+
+pub returns-in-Certify-clause-ends : goal.returns-in-Certify-clause-ends
+returns-in-Certify-clause-ends g c =
+    let said = c.certify.ensures in
+    leaves c.certify.result _ _ _ _ _ _ (due _ _ _ _ _ _) said.quiet_reader said.quiet_writer said.read_fault said.write_fault said.unwritten said.untouched
+
+pub returns-in-Draw-clause-ends : goal.returns-in-Draw-clause-ends
+returns-in-Draw-clause-ends g c =
+    let said = c.draw.ensures in
+    leaves c.draw.result _ _ _ _ _ _ (due _ _ _ _ _ _) said.quiet_reader said.quiet_writer said.read_fault said.write_fault said.unwritten said.untouched
+
+pub returns-in-DrawWith-clause-ends : goal.returns-in-DrawWith-clause-ends
+returns-in-DrawWith-clause-ends g c =
+    let said = c.draw-in-DrawWith.ensures in
+    leaves c.draw-in-DrawWith.result _ _ _ _ _ _ (due _ _ _ _ _ _) said.quiet_reader said.quiet_writer said.read_fault said.write_fault said.unwritten said.untouched
+
+pub returns-in-Run-clause-ends : goal.returns-in-Run-clause-ends
+returns-in-Run-clause-ends g c =
+    let said = c.run_scripts.ensures in
+    leaves c.run_scripts.result _ _ _ _ _ _ (due _ _ _ _ _ _) said.quiet_reader said.quiet_writer said.read_fault said.write_fault said.unwritten said.untouched
+
+pub returns-in-Explain-clause-ends : goal.returns-in-Explain-clause-ends
+returns-in-Explain-clause-ends g c =
+    let said = c.explain.ensures in
+    let is : command_of c.args.choice ≡ command.Explain = ap command_of c.in-Explain.is in
+    leaves c.explain.result _ _ _ _ _ _ (kept _ _ _ _ _ _ is) said.quiet_reader said.quiet_writer said.read_fault said.write_fault said.unwritten said.untouched
+
+pub returns-in-Transaction-clause-ends : goal.returns-in-Transaction-clause-ends
+returns-in-Transaction-clause-ends g c =
+    let said = c.explain_transaction.ensures in
+    let is : command_of c.args.choice ≡ command.Explain = ap command_of c.in-Transaction.is in
+    leaves c.explain_transaction.result _ _ _ _ _ _ (kept _ _ _ _ _ _ is) said.quiet_reader said.quiet_writer said.read_fault said.write_fault said.unwritten said.untouched
+
+pub returns-in-Err-clause-ends : goal.returns-in-Err-clause-ends
+returns-in-Err-clause-ends g c =
+    let said = c.in-Err.ensures in
+    leaves (Err c.in-Err.fail) _ _ _ _ _ _ (due _ _ _ _ _ _) said.quiet_reader said.quiet_writer said.read_fault said.write_fault said.unwritten said.untouched
+
+pub returns-in-AuditWith-clause-ends : goal.returns-in-AuditWith-clause-ends
+returns-in-AuditWith-clause-ends g c =
+    leaves_more c.audit_by.result _ _ _ _ _ (failed_more _ _ _ _ _ _ _ absurd) c.audit_by.ensures.ends

@@ -1,0 +1,58 @@
+-- What a word is, behind a command.
+use Rattle.std.specs.Prelude.{◌≡◌, ◌⊎◌, ℕ, List, ◌++◌, codes, ⊤}
+use Rattle.sgt_line.specs.Names.{NamesRule}
+use Rattle.sgt_line.specs.declared.kind.Kind.{Kind}
+use Rattle.sgt_line.specs.declared.kind.Kind.TheVariants.{Against, Dashes, File, Joined, Numbered, Place, Plain, Progress, Quiet, RuleName, Strict}
+use Rattle.sgt_line.specs.declared.name.CommandName.{CommandName}
+use Rattle.sgt_line.specs.declared.name.CommandName.TheVariants.{Audit, Check, Draw, Explain, Replay, Run, Serial, Serve}
+
+-- the word begins with a dash
+abbrev pub IsDashed : List ℕ → Type 0
+IsDashed word = (rest : List ℕ) × (word ≡ codes "-" ++ rest)
+
+-- the command tells of the lines that it reads
+abbrev pub TellsLines : CommandName → Type 0
+TellsLines command = ((command ≡ Audit) ⊎ (command ≡ Check))
+    ⊎ ((command ≡ Serial) ⊎ (command ≡ Replay))
+
+-- what the word is, but Plain: a switch of the command, `--`, an option of it with what stands behind
+-- it, a rule's name, or a file
+abbrev pub IsNoted : CommandName → List ℕ → Kind → Type 0
+IsNoted command word Quiet = ((command ≡ Audit) ⊎ (command ≡ Check))
+    × ((word ≡ codes "-q") ⊎ (word ≡ codes "--quiet"))
+IsNoted command word Strict = (command ≡ Replay) × (word ≡ codes "--strict")
+IsNoted command word Progress = TellsLines command × (word ≡ codes "--progress")
+IsNoted command word Dashes = word ≡ codes "--"
+IsNoted command word Place = (((command ≡ Replay) ⊎ (command ≡ Run)) × (word ≡ codes "--bundle"))
+    ⊎ (((command ≡ Serve) × (word ≡ codes "--bundles")) ⊎ ((command ≡ Check) × (word ≡ codes "--svg")))
+IsNoted command word Against = (command ≡ Check) × (word ≡ codes "--against")
+IsNoted command word Numbered = (((command ≡ Audit) ⊎ (command ≡ Run)) × (word ≡ codes "--workers"))
+    ⊎ (((command ≡ Run) × (word ≡ codes "--tries"))
+    ⊎ (((command ≡ Explain) ⊎ (command ≡ Draw)) × (word ≡ codes "--tx")))
+IsNoted command word Joined = (command ≡ Audit)
+    × ((number : List ℕ) × (word ≡ codes "--workers=" ++ number))
+IsNoted command word RuleName = (command ≡ Explain) × NamesRule word
+IsNoted command word File = ((command ≡ Explain) × NamesRule word → ⊥)
+    × ((word ≡ codes "-") ⊎ (IsDashed word → ⊥))
+IsNoted command word Plain = ⊥
+
+-- and else Plain
+abbrev pub IsKind : CommandName → List ℕ → Kind → Type 0
+IsKind command word Plain = (kind : Kind) → IsNoted command word kind → ⊥
+IsKind command word kind = IsNoted command word kind
+
+-- an option with a word behind it, or in itself
+abbrev pub IsOption : Kind → Type 0
+IsOption Place = ⊤
+IsOption Against = ⊤
+IsOption Numbered = ⊤
+IsOption Joined = ⊤
+IsOption kind = ⊥
+
+-- a switch, or `--`
+abbrev pub IsSwitch : Kind → Type 0
+IsSwitch Quiet = ⊤
+IsSwitch Strict = ⊤
+IsSwitch Progress = ⊤
+IsSwitch Dashes = ⊤
+IsSwitch kind = ⊥

@@ -1,0 +1,41 @@
+-- The names of commands, and of rules.
+use Rattle.std.specs.Prelude.{◌≡◌, ◌≢◌, ◌⊎◌, ◌≤◌, ℕ, All, List, [], ◌∷◌, codes}
+use Rattle.sgt_line.specs.declared.name.CommandName.{CommandName}
+use Rattle.sgt_line.specs.declared.name.CommandName.TheVariants.{Audit, Certify, Check, Draw, Explain, Replay, Run, Serial, Serve}
+
+-- the word by which a command is called
+abbrev pub command_text : CommandName → List ℕ
+command_text Audit = codes "audit"
+command_text Serial = codes "serial"
+command_text Replay = codes "replay"
+command_text Run = codes "run"
+command_text Serve = codes "serve"
+command_text Certify = codes "certify"
+command_text Check = codes "check"
+command_text Explain = codes "explain"
+command_text Draw = codes "draw"
+
+-- a letter that rules' names begin with
+abbrev pub IsTopicLetter : ℕ → Type 0
+IsTopicLetter letter = (((letter ≡ 70) ⊎ (letter ≡ 75)) ⊎ ((letter ≡ 69) ⊎ (letter ≡ 76)))
+    ⊎ (((letter ≡ 86) ⊎ (letter ≡ 80)) ⊎ (letter ≡ 67))
+
+-- a letter and a number, as F10, C1 or E8
+abbrev pub IsNumbered : List ℕ → Type 0
+IsNumbered word = (letter : ℕ) × (digits : List ℕ) × (word ≡ letter ∷ digits)
+    × IsTopicLetter letter × (digits ≢ []) × All (λ digit. (48 ≤ digit) × (digit ≤ 57)) digits
+
+-- the name of a cycle of conflicts in a history
+abbrev pub IsCycleName : List ℕ → Type 0
+IsCycleName word = ((word ≡ codes "G0") ⊎ (word ≡ codes "G1c"))
+    ⊎ ((word ≡ codes "G-single") ⊎ (word ≡ codes "G2-item"))
+
+-- the name of a fault of a history's line
+abbrev pub IsFaultName : List ℕ → Type 0
+IsFaultName word = (((word ≡ codes "internal") ⊎ (word ≡ codes "duplicate"))
+    ⊎ ((word ≡ codes "G1a") ⊎ (word ≡ codes "unwritten")))
+    ⊎ ((word ≡ codes "G1b") ⊎ (word ≡ codes "value"))
+
+-- the word is of the form of a rule's name, or a reply's: B has no number
+abbrev pub NamesRule : List ℕ → Type 0
+NamesRule word = (IsNumbered word ⊎ (word ≡ codes "B")) ⊎ (IsCycleName word ⊎ IsFaultName word)

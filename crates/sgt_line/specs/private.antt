@@ -1,0 +1,3 @@
+-- Words of private clauses.
+pub mod State
+pub mod Found

@@ -1,0 +1,42 @@
+-- How far a command line is read.
+use Rattle.std.specs.Prelude.{◌≡◌, ◌≢◌, ◌⊎◌, ℕ, List, [], ◌∷◌, ◌++◌, None}
+use Rattle.sgt_line.specs.Kinds.{IsKind}
+use Rattle.sgt_line.specs.Parts.{HasRoom, Parts, left, with_extra}
+use Rattle.sgt_line.specs.Reads.{Behind, Reads}
+use Rattle.sgt_line.specs.declared.kind.Kind.{Kind}
+use Rattle.sgt_line.specs.declared.kind.Kind.TheVariants.{Against, Dashes, Numbered, Place, Plain}
+use Rattle.sgt_line.specs.declared.name.CommandName.{CommandName}
+
+-- all but the last word is read, and that is an option of this kind, which waits for the word behind it
+pub record Waits (command : CommandName) (first : Parts) (words : List (List ℕ)) (kind : Kind) (without : Parts) : Type 0 where
+  pub before : List (List ℕ)
+  pub option : List ℕ
+  pub cut : words ≡ before ++ (option ∷ [])
+  pub is_kind : IsKind command option kind
+  pub reads : Reads command first before without
+
+-- the words are read to these parts, where the last is of this kind
+abbrev pub IsReadTo : CommandName → Parts → List (List ℕ) → Kind → Parts → Type 0
+IsReadTo command first words Numbered parts = (without : Parts)
+    × ((w : Waits command first words Numbered without) × (parts ≡ left without w.option))
+IsReadTo command first words Place parts = Waits command first words Place parts × (parts.place ≡ None)
+IsReadTo command first words Against parts = (without : Parts)
+    × ((w : Waits command first words Against without) × (parts ≡ left without w.option))
+    × (without.against ≡ None)
+IsReadTo command first words Dashes parts = Behind command first words parts
+IsReadTo command first words kind parts = Reads command first words parts
+
+-- a file or a rule's name was added, where there is room, and else left as one too many
+abbrev pub Adds : CommandName → (old added : Parts) → (word : List ℕ) → (new : Parts) → Type 0
+Adds command old added word new = (HasRoom command old × (new ≡ added))
+    ⊎ ((HasRoom command old → ⊥) × (new ≡ with_extra old word))
+
+-- behind the option of a place its word is waited for, if there is no place yet; else it is left
+abbrev pub WaitsForPlace : (old : Parts) → (word : List ℕ) → (after : Kind) → (new : Parts) → Type 0
+WaitsForPlace old word after new = ((after ≡ Place) × (old.place ≡ None) × (new ≡ old))
+    ⊎ ((after ≡ Plain) × (old.place ≢ None) × (new ≡ left old word))
+
+-- behind the option of an order its word is waited for, if there is no order yet; it is left
+abbrev pub WaitsForOrder : (old : Parts) → (word : List ℕ) → (after : Kind) → (new : Parts) → Type 0
+WaitsForOrder old word after new = (new ≡ left old word) × (((after ≡ Against) × (old.against ≡ None))
+    ⊎ ((after ≡ Plain) × (old.against ≢ None)))

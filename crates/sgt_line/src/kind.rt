@@ -1,0 +1,214 @@
+//! What a word is, behind a command.
+
+ghost use Rattle.std.specs.Prelude.{◌≡◌, ◌↔◌, ◌++◌, ℕ, IfNone, IfSome, IsTrue, List};
+ghost use Rattle.sgt_line.specs.Kinds.{IsKind, IsNoted, IsOption, IsSwitch, TellsLines};
+ghost use Rattle.sgt_line.specs.Names.{IsCycleName, IsFaultName, IsNumbered, IsTopicLetter, NamesRule};
+ghost use Rattle.sgt_line.specs.declared.kind.Kind.{Kind};
+ghost use Rattle.sgt_line.specs.declared.kind.Kind.TheVariants as kind;
+
+use crate::name::CommandName;
+
+/// What a word is, behind a command.
+#[derive(Clone, Copy, Debug, PartialEq, Eq)]
+pub enum Kind {
+    /// It is left for the program.
+    Plain,
+    /// So it is, with the number behind it.
+    Numbered,
+    /// Such an option and its number in one word.
+    Joined,
+    /// It is left for the program, which says what the rule is.
+    RuleName,
+    /// A file to be read.
+    File,
+    /// Behind it stands a file or a folder to be written.
+    Place,
+    /// It is left for the program, and behind it stands the file of an order.
+    Against,
+    /// The status alone is answered.
+    Quiet,
+    /// A refused event is a no.
+    Strict,
+    /// Lines are told as they are read.
+    Progress,
+    /// Behind it each word is a file.
+    Dashes,
+}
+
+// Whether a rule's name begins so.
+fn is_topic_letter(letter: u8) -> bool
+    ensures { IsTrue result ↔ IsTopicLetter letter }
+{
+    matches!(letter, b'F' | b'K' | b'E' | b'L' | b'V' | b'P' | b'C')
+}
+
+// Whether the word is a letter and a number, as F10.
+fn is_numbered(word: &[u8]) -> bool
+    ensures { IsTrue result ↔ IsNumbered word.now }
+{
+    match word.split_first() {
+        Some((letter, digits)) if is_topic_letter(*letter) => {
+            !digits.is_empty() && digits.iter().all(|b| b.is_ascii_digit())
+        }
+        _ => false,
+    }
+}
+
+// Whether a history is refused by a cycle of this name.
+fn is_cycle_name(word: &str) -> bool
+    ensures { IsTrue result ↔ IsCycleName word.now }
+{
+    word == "G0" || word == "G1c" || word == "G-single" || word == "G2-item"
+}
+
+// Whether a history is refused by a fault of this name.
+fn is_fault_name(word: &str) -> bool
+    ensures { IsTrue result ↔ IsFaultName word.now }
+{
+    let is_plain = word == "internal" || word == "duplicate" || word == "G1a";
+    is_plain || word == "unwritten" || word == "G1b" || word == "value"
+}
+
+// Whether the word is of the form of a rule's name.
+fn names_rule(word: &str) -> bool
+    ensures { IsTrue result ↔ NamesRule word.now }
+{
+    is_numbered(word.as_bytes()) || word == "B" || is_cycle_name(word) || is_fault_name(word)
+}
+
+fn begins(text: &[u8], front: &[u8]) -> bool
+    ensures { IsTrue result ↔ ((rest : List ℕ) × (text.now ≡ front.now ++ rest)) }
+{
+    text.starts_with(front)
+}
+
+fn is_rule(command: CommandName, word: &str) -> bool
+    ensures { IsTrue result ↔ IsNoted command word.now kind.RuleName }
+{
+    command == CommandName::Explain && names_rule(word)
+}
+
+fn is_file(command: CommandName, word: &str) -> bool
+    ensures { IsTrue result ↔ IsNoted command word.now kind.File }
+{
+    !is_rule(command, word) && (word == "-" || !begins(word.as_bytes(), b"-"))
+}
+
+fn is_quiet(command: CommandName, word: &str) -> bool
+    ensures { IsTrue result ↔ IsNoted command word.now kind.Quiet }
+{
+    (command == CommandName::Audit || command == CommandName::Check)
+        && (word == "-q" || word == "--quiet")
+}
+
+fn is_strict(command: CommandName, word: &str) -> bool
+    ensures { IsTrue result ↔ IsNoted command word.now kind.Strict }
+{
+    command == CommandName::Replay && word == "--strict"
+}
+
+/// Whether the command tells of the lines that it reads, where it is asked to.
+pub fn tells_lines(command: CommandName) -> bool
+    ensures { IsTrue result ↔ TellsLines command }
+{
+    match command {
+        CommandName::Audit | CommandName::Check => true,
+        CommandName::Serial | CommandName::Replay => true,
+        _ => false,
+    }
+}
+
+fn is_progress(command: CommandName, word: &str) -> bool
+    ensures { IsTrue result ↔ IsNoted command word.now kind.Progress }
+{
+    tells_lines(command) && word == "--progress"
+}
+
+fn is_place(command: CommandName, word: &str) -> bool
+    ensures { IsTrue result ↔ IsNoted command word.now kind.Place }
+{
+    match command {
+        CommandName::Replay | CommandName::Run => word == "--bundle",
+        CommandName::Serve => word == "--bundles",
+        CommandName::Check => word == "--svg",
+        _ => false,
+    }
+}
+
+fn is_against(command: CommandName, word: &str) -> bool
+    ensures { IsTrue result ↔ IsNoted command word.now kind.Against }
+{
+    command == CommandName::Check && word == "--against"
+}
+
+fn takes_number(command: CommandName, word: &str) -> bool
+    ensures { IsTrue result ↔ IsNoted command word.now kind.Numbered }
+{
+    match command {
+        CommandName::Audit => word == "--workers",
+        CommandName::Run => word == "--workers" || word == "--tries",
+        CommandName::Explain | CommandName::Draw => word == "--tx",
+        _ => false,
+    }
+}
+
+fn is_joined(command: CommandName, word: &str) -> bool
+    ensures { IsTrue result ↔ IsNoted command word.now kind.Joined }
+{
+    command == CommandName::Audit && begins(word.as_bytes(), b"--workers=")
+}
+
+// The kind of an option that takes a word behind it, or has it in itself.
+fn option_of(command: CommandName, word: &str) -> Option<Kind>
+    ensures some { IfSome result (IsNoted command word.now) }
+    ensures none { IfNone result ((noted : Kind) → IsOption noted → IsNoted command word.now noted → ⊥) }
+{
+    if is_place(command, word) {
+        Some(Kind::Place)
+    } else if is_against(command, word) {
+        Some(Kind::Against)
+    } else if takes_number(command, word) {
+        Some(Kind::Numbered)
+    } else if is_joined(command, word) {
+        Some(Kind::Joined)
+    } else {
+        None
+    }
+}
+
+// The kind of a switch.
+fn switch_of(command: CommandName, word: &str) -> Option<Kind>
+    ensures some { IfSome result (IsNoted command word.now) }
+    ensures none { IfNone result ((noted : Kind) → IsSwitch noted → IsNoted command word.now noted → ⊥) }
+{
+    if is_quiet(command, word) {
+        Some(Kind::Quiet)
+    } else if is_strict(command, word) {
+        Some(Kind::Strict)
+    } else if is_progress(command, word) {
+        Some(Kind::Progress)
+    } else if word == "--" {
+        Some(Kind::Dashes)
+    } else {
+        None
+    }
+}
+
+/// What the word is.
+pub fn kind_of(command: CommandName, word: &str) -> Kind
+    ensures { IsKind command word.now result }
+{
+    if is_rule(command, word) {
+        return Kind::RuleName;
+    }
+    if is_file(command, word) {
+        return Kind::File;
+    }
+    if let Some(kind) = option_of(command, word) {
+        return kind;
+    }
+    match switch_of(command, word) {
+        Some(kind) => kind,
+        None => Kind::Plain,
+    }
+}
