@@ -29,14 +29,14 @@ cut_there text head place begins =
     let front = begins.0 in
     let behind = begins.1 in
     let taken : take place text ≡ front =
-        ap (λ n. take n text) (sym begins.3) ∙ (ap (take (length front)) begins.4 ∙ take_front front (head ++ behind)) in
+    ap (λ n. take n text) (sym begins.3) ∙ (ap (take (length front)) begins.4 ∙ take_front front (head ++ behind)) in
     let dropped : drop (place + length head) text ≡ behind =
-        ap (λ n. drop (n + length head) text) (sym begins.3)
-        ∙ (ap (drop (length front + length head)) begins.4 ∙ drop_both front head behind) in
+    ap (λ n. drop (n + length head) text) (sym begins.3)
+    ∙ (ap (drop (length front + length head)) begins.4 ∙ drop_both front head behind) in
     let size : length text - (place + length head) ≡ length behind =
-        omega (arith, ap length begins.4, length-append front (head ++ behind), length-append head behind, begins.3) in
+    omega (arith, ap length begins.4, length-append front (head ++ behind), length-append head behind, begins.3) in
     let last : take (length text - (place + length head)) (drop (place + length head) text) ≡ behind =
-        ap (take (length text - (place + length head))) dropped ∙ whole behind _ size in
+    ap (take (length text - (place + length head))) dropped ∙ whole behind _ size in
     (subst AreLines (sym taken) begins.2, begins.4 ∙ (ap (λ l. l ++ (head ++ behind)) (sym taken) ∙ ap (λ l. take place text ++ (head ++ l)) (sym last)))
 
 -- at the start
@@ -49,15 +49,19 @@ begins_behind text head place occurs =
     let split = OccursAt-split text (10 ∷ head) place occurs in
     let behind = drop (place + length (10 ∷ head)) text in
     let front = take place text in
-    let room = occurs.fits in
-    (front ++ (10 ∷ []), behind, inr (front, refl), grind (arith, common_steps),
-    sym (take-append-drop place text) ∙ (ap (λ l. front ++ l) split ∙ sym (append_assoc front (10 ∷ []) (head ++ behind))))
+    let room = occurs.fits in (
+      front ++ (10 ∷ []),
+      behind,
+      inr (front, refl),
+      grind (arith, common_steps),
+      sym (take-append-drop place text) ∙ (ap (λ l. front ++ l) split ∙ sym (append_assoc front (10 ∷ []) (head ++ behind))),
+    )
 
 occurs_there : (text head before behind : List ℕ) → text ≡ (before ++ (10 ∷ [])) ++ (head ++ behind) → OccursAt text (10 ∷ head) (length before)
 occurs_there text head before behind e =
     let other : text ≡ before ++ (10 ∷ (head ++ behind)) = e ∙ append_assoc before (10 ∷ []) (head ++ behind) in
     let dropped : drop (length before) text ≡ 10 ∷ (head ++ behind) =
-        ap (drop (length before)) other ∙ drop_front before (10 ∷ (head ++ behind)) in
+    ap (drop (length before)) other ∙ drop_front before (10 ∷ (head ++ behind)) in
     OccursAt-from_part text (10 ∷ head) (length before)
     (omega (arith, ap length other, length-append before (10 ∷ (head ++ behind)), length-append head behind))
     (ap (take (length (10 ∷ head))) dropped ∙ take_front (10 ∷ head) behind)
@@ -67,19 +71,23 @@ pub begins_later : (text head : List ℕ) (found : Option ℕ) → ((rest : List
     → (place : ℕ) → BeginsAt text head place → (before : List ℕ) × (length before + 1 ≡ place) × OccursAt text (10 ∷ head) (length before)
 begins_later text head found start finds place (front, behind, inl none, size, e) =
     absurd (start behind (e ∙ ap (λ l. l ++ (head ++ behind)) none))
-begins_later text head found start finds place (front, behind, inr (before, last), size, e) =
-    (before, omega (arith, ap length last, length-append before (10 ∷ []), size),
-    occurs_there text head before behind (e ∙ ap (λ l. l ++ (head ++ behind)) last))
+begins_later text head found start finds place (front, behind, inr (before, last), size, e) = (
+  before,
+  omega (arith, ap length last, length-append before (10 ∷ []), size),
+  occurs_there text head before behind (e ∙ ap (λ l. l ++ (head ++ behind)) last),
+)
 
 pub finds_line : (text head : List ℕ) (place : ℕ) → ((rest : List ℕ) → text ≡ head ++ rest → ⊥) → FindsNeedle text (10 ∷ head) 0 (Some place)
     → FindsLine text head (Some (place + 1))
-finds_line text head place start finds =
-    (begins_behind text head place finds.1, λ other begins.
-    let later = begins_later text head (Some place) start finds other begins in
-    elim (cases_lt (length later.0) place) [
-      | inl less ↦ absurd (finds.0.before (length later.0) (omega arith) less later.2)
-      | inr not_less ↦ omega (arith, later.1)
-    ])
+finds_line text head place start finds = (
+  begins_behind text head place finds.1,
+  λ other begins.
+      let later = begins_later text head (Some place) start finds other begins in
+      elim (cases_lt (length later.0) place) [
+        | inl less ↦ absurd (finds.0.before (length later.0) (omega arith) less later.2)
+        | inr not_less ↦ omega (arith, later.1)
+      ],
+)
 
 pub finds_none : (text head : List ℕ) → ((rest : List ℕ) → text ≡ head ++ rest → ⊥) → FindsNeedle text (10 ∷ head) 0 None
     → FindsLine text head None

@@ -114,7 +114,7 @@ module _ (command : CommandName) (first : Parts) (taken : List (List ℕ)) (p : 
       let waiting : IsReadTo command first taken Against p = subst (λ k. IsReadTo command first taken k p) e state in
       let wait : Waits command first taken Against waiting.0 = waiting.1.0 in
       let whole : q ≡ record (left waiting.0 wait.option) { against = Some w } =
-          more ∙ ap (λ (o : Parts). record o { against = Some w }) waiting.1.1 in
+      more ∙ ap (λ (o : Parts). record o { against = Some w }) waiting.1.1 in
       subst (λ ws. Reads command first (ws ++ (w ∷ [])) q) (sym wait.cut)
       (subst (Reads command first ((wait.before ++ (wait.option ∷ [])) ++ (w ∷ []))) (sym whole)
       (reads.against wait.option w wait.reads wait.is_kind waiting.2))
@@ -125,10 +125,10 @@ module _ (command : CommandName) (first : Parts) (taken : List (List ℕ)) (p : 
       let here : IsKind command w Place = subst (λ k. IsKind command w k) e is in
       elim waits [
         | inl waiting ↦ subst (λ k. IsReadTo command first (taken ++ (w ∷ [])) k q) (sym waiting.0)
-          (subst (IsReadTo command first (taken ++ (w ∷ [])) Place) (sym waiting.2)
-          (record { before = taken; option = w; cut = refl; is_kind = here; reads = reading }, waiting.1))
+            (subst (IsReadTo command first (taken ++ (w ∷ [])) Place) (sym waiting.2)
+            (record { before = taken; option = w; cut = refl; is_kind = here; reads = reading }, waiting.1))
         | inr more ↦ subst (λ k. IsReadTo command first (taken ++ (w ∷ [])) k q) (sym more.0)
-          (subst (Reads command first (taken ++ (w ∷ []))) (sym more.2) (reads.plain w reading (inr (inl (here, more.1)))))
+            (subst (Reads command first (taken ++ (w ∷ []))) (sym more.2) (reads.plain w reading (inr (inl (here, more.1)))))
       ]
 
   pub waits_order : (kind after : Kind) (q : Parts) → kind ≡ Against → IsKind command w kind → WaitsForOrder p w after q → Reads command first taken p
@@ -137,7 +137,7 @@ module _ (command : CommandName) (first : Parts) (taken : List (List ℕ)) (p : 
       let here : IsKind command w Against = subst (λ k. IsKind command w k) e is in
       elim waits.1 [
         | inl waiting ↦ subst (λ k. IsReadTo command first (taken ++ (w ∷ [])) k q) (sym waiting.0)
-          (p, (record { before = taken; option = w; cut = refl; is_kind = here; reads = reading }, waits.0), waiting.1)
+            (p, (record { before = taken; option = w; cut = refl; is_kind = here; reads = reading }, waits.0), waiting.1)
         | inr more ↦ subst (λ k. IsReadTo command first (taken ++ (w ∷ [])) k q) (sym more.0)
-          (subst (Reads command first (taken ++ (w ∷ []))) (sym waits.0) (reads.plain w reading (inr (inr (here, more.1)))))
+            (subst (Reads command first (taken ++ (w ∷ []))) (sym waits.0) (reads.plain w reading (inr (inr (here, more.1)))))
       ]

@@ -22,11 +22,13 @@ returns-in-Ok-clause-chosen g c =
 
 pub returns-in-Ok-clause-ends : goal.returns-in-Ok-clause-ends
 returns-in-Ok-clause-ends g c =
-    let finished = c.finish.ensures in
-    (Ran c.run_choice.result, finished.status,
-    leaves_more c.run_choice.result _ _ _ _ _
-    (failed_more _ _ _ _ _ _ _ (names_explain (map string_bytes c.args.words.now) c.in-Ok.choice c.in-Ok.ensures.only)) c.run_choice.ensures.ends,
-    tells-errors c.run_choice.result _ _ finished.silent finished.told)
+    let finished = c.finish.ensures in (
+      Ran c.run_choice.result,
+      finished.status,
+      leaves_more c.run_choice.result _ _ _ _ _
+          (failed_more _ _ _ _ _ _ _ (names_explain (map string_bytes c.args.words.now) c.in-Ok.choice c.in-Ok.ensures.only)) c.run_choice.ensures.ends,
+      tells-errors c.run_choice.result _ _ finished.silent finished.told,
+    )
 
 pub returns-in-Err-Help-clause-asked : goal.returns-in-Err-Help-clause-asked
 returns-in-Err-Help-clause-asked g c = λ choice asks.

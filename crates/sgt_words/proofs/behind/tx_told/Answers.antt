@@ -6,14 +6,14 @@ pub returns-then-eq-clause-some : goal.returns-then-eq-clause-some
 returns-then-eq-clause-some c =
     let first : c.in_ok-word.word.now ≡ codes "--tx" = search rules in
     let words : map string_bytes c.args.words.now ≡ codes "--tx" ∷ c.in_ok-only_of.field-0.now ∷ [] =
-        c.in_ok-word.ensures ∙ (ap (λ t. t ∷ map string_bytes c.in_ok-word.behind.now) first ∙ ap (λ l. codes "--tx" ∷ l) c.in_ok-only_of.ensures) in
+    c.in_ok-word.ensures ∙ (ap (λ t. t ∷ map string_bytes c.in_ok-word.behind.now) first ∙ ap (λ l. codes "--tx" ∷ l) c.in_ok-only_of.ensures) in
     on_some c.tx_of.result _ _ (λ tx says. (c.in_ok-only_of.field-0.now, says, inl words)) c.tx_of.ensures.some
 
 pub returns-then-eq-clause-all : goal.returns-then-eq-clause-all
 returns-then-eq-clause-all c =
     let first : c.in_ok-word.word.now ≡ codes "--tx" = search rules in
     let words : map string_bytes c.args.words.now ≡ codes "--tx" ∷ c.in_ok-only_of.field-0.now ∷ [] =
-        c.in_ok-word.ensures ∙ (ap (λ t. t ∷ map string_bytes c.in_ok-word.behind.now) first ∙ ap (λ l. codes "--tx" ∷ l) c.in_ok-only_of.ensures) in
+    c.in_ok-word.ensures ∙ (ap (λ t. t ∷ map string_bytes c.in_ok-word.behind.now) first ∙ ap (λ l. codes "--tx" ∷ l) c.in_ok-only_of.ensures) in
     tx_apart (map string_bytes c.args.words.now) c.in_ok-only_of.field-0.now c.tx_of.result words c.tx_of.ensures.all
 
 pub returns-clause-some : goal.returns-clause-some

@@ -6,13 +6,13 @@ pub returns-in-Some-Run-clause-some : goal.returns-in-Some-Run-clause-some
 returns-in-Some-Run-clause-some c =
     let word : c.in-Some.word.now ≡ codes "run" = rw c.in-Some-Run.field-0-is at c.in-Some-Run.ensures.some in
     let words : map string_bytes c.args.words.now ≡ codes "run" ∷ map string_bytes c.in-Some.options.now =
-        c.in-Some.ensures ∙ ap (λ t. t ∷ map string_bytes c.in-Some.options.now) word in
+    c.in-Some.ensures ∙ ap (λ t. t ∷ map string_bytes c.in-Some.options.now) word in
     on_found c.choose_run.result _ _ (asks_run _ _ words) c.choose_run.ensures.some
 
 pub returns-in-Some-Run-clause-all : goal.returns-in-Some-Run-clause-all
 returns-in-Some-Run-clause-all c =
     let word : c.in-Some.word.now ≡ codes "run" = rw c.in-Some-Run.field-0-is at c.in-Some-Run.ensures.some in
     let words : map string_bytes c.args.words.now ≡ codes "run" ∷ map string_bytes c.in-Some.options.now =
-        c.in-Some.ensures ∙ ap (λ t. t ∷ map string_bytes c.in-Some.options.now) word in
+    c.in-Some.ensures ∙ ap (λ t. t ∷ map string_bytes c.in-Some.options.now) word in
     only_run _ _ c.named.result c.choose_run.result words (c.in-Some-Run.is ∙ ap Some c.in-Some-Run.field-0-is)
     (λ name e. c.named.ensures.all name (word ∙ e)) c.choose_run.ensures.all
