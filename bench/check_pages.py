@@ -25,9 +25,8 @@ def text_of(path):
 
 
 def commands():
-    """The commands that the code knows: those without options, and those that are read apart."""
-    plain = re.findall(r'if word == "(\w+)"', text_of(f"{WORDS}/choice.rt"))
-    return sorted({*plain, *re.findall(r'word\.as_str\(\) == "(\w+)"', text_of(f"{WORDS}/choice.rt"))})
+    """The commands that the code knows."""
+    return sorted(re.findall(r'b"(\w+)" => Some\(CommandName::', text_of("crates/sgt_line/src/name.rt")))
 
 
 def options():

@@ -5,8 +5,9 @@ use Rattle.std.proofs.lemmas.Bool.Decides.{Decides-eqb}
 use Rattle.std.specs.Str.Parse.{IsNumeral, without_leading_plus}
 use Rattle.sgt_audit.specs.declared.faults.Fault.TheVariants as fault
 use Rattle.sgt_cert.specs.declared.fault.CertFault.TheVariants as cert_fault
+use Rattle.sgt_explain.specs.declared.topics.Anomaly.TheVariants as anomaly
 use Rattle.sgt_explain.specs.declared.topics.Reply.TheVariants as reply
-use Rattle.sgt_explain.specs.declared.topics.Topic.TheVariants.{Bundle, Line, Told}
+use Rattle.sgt_explain.specs.declared.topics.Topic.TheVariants.{Bundle, Line, Told, Found}
 use Rattle.std.specs.Prelude.{IfOk, IfSome, Result, Ok, Err, IsErr}
 use Rattle.sgt_explain.specs.Topics.{topic_name}
 use Rattle.sgt_explain.specs.declared.topics.Topic.{Topic}
@@ -67,6 +68,8 @@ letter_of (Line cert_fault.NotJson) rest e = absurd (omega (arith, ap (λ (l : L
 letter_of (Line f) rest e = absurd (omega (arith, ap (λ (l : List ℕ). get_or l 0 0) e))
 letter_of (Told reply.Unknown) rest e = absurd (omega (arith, ap (λ (l : List ℕ). get_or l 0 0) e))
 letter_of (Told r) rest e = absurd (omega (arith, ap (λ (l : List ℕ). get_or l 0 0) e))
+letter_of (Found anomaly.Internal) rest e = absurd (omega (arith, ap (λ (l : List ℕ). get_or l 0 0) e))
+letter_of (Found a) rest e = absurd (omega (arith, ap (λ (l : List ℕ). get_or l 0 0) e))
 
 -- no rule and no transaction
 pub no_explained : (options : List (List ℕ)) → (options ≡ [] → ⊥) → ((topic : Topic) → options ≢ topic_name topic ∷ []) → ((tx : ℕ) → TellsTx options tx → ⊥)
