@@ -1,4 +1,4 @@
-"""A bank with eight clients, as a load for the recorders beside this file, and `sgt check` behind it.
+"""A bank with eight clients, as a load for the recorders beside this file, and a judge behind it.
 
 Accounts stand in pairs. A client moves money between two accounts, or takes money out of one account of a pair as long as
 the pair together has enough: the first loses an update where two do it at once, the second skews."""
@@ -50,23 +50,24 @@ def run(connections, rounds):
         thread.join()
 
 
+HERE = os.path.dirname(os.path.abspath(__file__))
+PLAIN = os.path.join(HERE, "../../bench/history/plain.py")
+
+
 def program():
-    """The path of `sgt`: that of the variable SGT, the one on the PATH, or this checkout's."""
-    built = os.path.join(os.path.dirname(os.path.abspath(__file__)), "../../crates/sgt/out/sgt")
-    found = os.environ.get("SGT") or shutil.which("sgt") or (built if os.path.exists(built) else None)
-    if not found:
-        sys.exit("no sgt: put it on the PATH, or name it in the variable SGT")
-    return found
+    """The path of `sgt`: that of the variable SGT, the one on the PATH, or this checkout's; or None."""
+    built = os.path.join(HERE, "../../crates/sgt/out/sgt")
+    return os.environ.get("SGT") or shutil.which("sgt") or (built if os.path.exists(built) else None)
 
 
 def judge(title, path):
-    """Prints what `sgt check` says of the history, and gives the first line of it."""
-    said = subprocess.run([program(), "check", path], capture_output=True, text=True)
+    """Prints what is said of the history, and gives the first line of it."""
+    said = subprocess.run([sys.executable, PLAIN, path], capture_output=True, text=True)
     print(f"{title}: {said.stdout.rstrip()}")
     if said.stderr or said.returncode > 1:
         print(said.stderr.rstrip(), file=sys.stderr)
     verdict = said.stdout.split("\n")[0]
-    if verdict.startswith("no "):
+    if verdict.startswith("no ") and program():
         told = subprocess.run([program(), "explain", verdict[3:]], capture_output=True, text=True)
         print("".join(f"    {line}\n" for line in told.stdout.splitlines()), end="")
     sys.stdout.flush()

@@ -1,4 +1,4 @@
-"""Turns a history of Jepsen's list-append or rw-register workload, in EDN or JSON, into one for `sgt check`.
+"""Turns a history of Jepsen's list-append or rw-register workload, in EDN or JSON, into ours (docs/FORMAT.md).
 
     python3 elle.py [--registers-by-value] history.edn > bank.history
 

@@ -1,4 +1,4 @@
-"""Writes a history for `sgt check`: a line a transaction, which says what it read and wrote, by version, and how it ended.
+"""Writes a history: a line a transaction, which says what it read and wrote, by version, and how it ended.
 
     history = History("bank.history")
     transaction = history.begin("client 1")

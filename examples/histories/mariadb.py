@@ -1,4 +1,4 @@
-"""Records what transactions on MariaDB or MySQL read and write, for `sgt check`.
+"""Records what transactions on MariaDB or MySQL read and write.
 
 The table has a column `ver`, which each change counts up by `ver = last_insert_id(ver + 1)`: the server hands the new version
 back with the answer, so no second query is needed. Run as a program it plays the bank of bank.py at each isolation level:

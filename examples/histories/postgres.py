@@ -1,4 +1,4 @@
-"""Records what transactions on PostgreSQL read and write, for `sgt check`.
+"""Records what transactions on PostgreSQL read and write.
 
 Two ways. `Versions`: the table has a column `version`, which each change counts up. `Unchanged`: the table stays as it is; a row's
 `xmin` says which transaction wrote it, and the server's commit timestamps (`track_commit_timestamp = on`) in what order these

@@ -1,4 +1,4 @@
-"""Records what transactions on SQLite read and write, for `sgt check`.
+"""Records what transactions on SQLite read and write.
 
 A table of one row counts all changes, by a trigger: a change leaves the next number in its row as the version. Both happen in one
 statement, so that no other change can come between. Run as a program it plays the bank of bank.py by `begin immediate`, by `begin`,
