@@ -31,7 +31,7 @@ const ACTIVE_LEFT: &str = "E8 ActiveLeft\n\
     the input: the bundle is written only where each has ended (status 1 otherwise).\n";
 
 const MEMORY: &str = "E9 Memory\n\
-    There was no memory. `sgt serve` goes on behind it, with all as before; other commands end with status 3 in its place.\n";
+    There was no memory. It is never written: `sgt` ends with status 3.\n";
 
 const GENERATIONS_SPENT: &str = "E10 GenerationsSpent\n\
     No further window can be opened: `z` at the last of 4294967295.\n";
@@ -44,19 +44,15 @@ const NOT_TOUCHED: &str = "E12 NotTouched\n\
 
 const NOT_A_LINE: &str = "L1 NotALine\n\
     The line of the input that is named spells nothing, or nothing that may stand there: first `site K NAME=NUM ..` from\n\
-    site 0 on, names rising, and behind them events (`sgt replay`, `sgt serve`) or scripts (`sgt run`), one space between\n\
-    two words, none at the end, each line with its LF. `sgt serve` goes on behind it, but for a site line.\n\
-    Of a history (`sgt check`): the line is no JSON object with \"tx\", \"end\" and \"ops\"; standard error says what is wrong.\n";
+    site 0 on, names rising, and behind them events (`sgt replay`) or scripts (`sgt run`), one space between two words,\n\
+    none at the end, each line with its LF.\n\
+    Of a history: the line is no JSON object with \"tx\", \"end\" and \"ops\", as docs/FORMAT.md has it.\n";
 
 const TOO_LONG: &str = "L2 TooLong\n\
     The line of the input that is named has more than 1048576 bytes, of a history more than 16777216.\n";
 
 const ID_REPEATED: &str = "L3 IdRepeated\n\
     The line of the history that is named has the \"tx\" of an earlier one: each transaction has one line.\n";
-
-const BUNDLE_KEPT: &str = "B BundleKept\n\
-    The bundle can't be written into the folder of bundles: it is full, gone or read-only, or the next number is taken.\n\
-    Nothing is lost: the transactions stay with `sgt serve`. Mend the folder, and send `x` again.\n";
 
 const CHAIN_BROKEN: &str = "C1 ChainBroken\n\
     The bundle doesn't go on where the one before it ended: it has another site, another item, or an item whose first\n\
@@ -126,7 +122,6 @@ pub fn reply_rule(reply: Reply) -> &'static str
         Reply::NotALine => NOT_A_LINE,
         Reply::TooLong => TOO_LONG,
         Reply::IdRepeated => ID_REPEATED,
-        Reply::BundleKept => BUNDLE_KEPT,
         Reply::ChainBroken => CHAIN_BROKEN,
         Reply::NoDecision => NO_DECISION,
         Reply::DecidedTwice => DECIDED_TWICE,

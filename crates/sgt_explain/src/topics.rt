@@ -30,8 +30,7 @@ pub enum Reply {
     NotALine,
     TooLong,
     IdRepeated,
-    /// B: a bundle can't be handed out. C1: it doesn't go on where the one before it ended.
-    BundleKept,
+    /// C1: a bundle doesn't go on where the one before it ended.
     ChainBroken,
     /// V1 to V10 and P1 to P3: why a run isn't told. V3, V5, P1 and P3 are never written.
     NoDecision,
@@ -144,7 +143,6 @@ fn reply_of(word: &[u8]) -> Option<Reply>
         b"L1" => Some(Reply::NotALine),
         b"L2" => Some(Reply::TooLong),
         b"L3" => Some(Reply::IdRepeated),
-        b"B" => Some(Reply::BundleKept),
         b"C1" => Some(Reply::ChainBroken),
         b"V1" => Some(Reply::NoDecision),
         b"V2" => Some(Reply::DecidedTwice),
@@ -203,7 +201,7 @@ impl Topic {
     ghost use Rattle.sgt_explain.specs.declared.topics.Topic.{Topic as Named};
     ghost use Rattle.sgt_explain.specs.Topics.{topic_name};
 
-    /// The topic of this name: `F1` to `F19`, `K1` to `K4`; `E1` to `E12`, `L1` to `L3`, `V1` to `V10`, `P1` to `P3`, `B`, `C1`;
+    /// The topic of this name: `F1` to `F19`, `K1` to `K4`; `E1` to `E12`, `L1` to `L3`, `V1` to `V10`, `P1` to `P3`, `C1`;
     /// `internal` to `G2-item`. Names are compared byte by byte. None where no topic has the name.
     pub fn find(word: &str) -> Option<Topic>
         ensures some { IfSome result (λ topic. word.now ≡ topic_name topic) }
