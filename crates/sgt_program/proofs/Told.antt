@@ -52,6 +52,19 @@ leaves (Err ReadFault) Reader Writer Due Read Wrote Unwritten so reader writer r
     (so (read refl), unwritten refl)
 leaves (Err WriteFault) Reader Writer Due Read Wrote Unwritten so reader writer read write unwritten untouched = write refl
 
+abbrev pub failing : (T : Type 0) → EngineFail → Result T EngineFail
+failing T fail = Err fail
+
+-- and of one that failed with this fault, whatever it answers else
+pub leaves_fail : (T : Type 0) (fail : EngineFail) (Reader Writer Due Read Wrote Unwritten : Type 0) → (Due → Read)
+    → (failing T fail ≢ failing T ReadFault → Reader) → (failing T fail ≢ failing T WriteFault → Writer) → (IsErrOf (failing T fail) ReadFault → Due)
+    → (IsErrOf (failing T fail) WriteFault → Wrote) → (IsErrOf (failing T fail) ReadFault → Unwritten) → (IsErrOf (failing T fail) Memory → Unwritten)
+    → LeavesDevices (Ran (Err fail)) (Reader × Writer) Read Wrote Unwritten
+leaves_fail T Memory Reader Writer Due Read Wrote Unwritten so reader writer read write unwritten untouched =
+    ((reader (λ e. cc), writer (λ e. cc)), untouched refl)
+leaves_fail T ReadFault Reader Writer Due Read Wrote Unwritten so reader writer read write unwritten untouched = (so (read refl), unwritten refl)
+leaves_fail T WriteFault Reader Writer Due Read Wrote Unwritten so reader writer read write unwritten untouched = write refl
+
 pub failed_more : (K K' : Type 0) (told : Option (List ℕ)) (failures failures' asked asked' : ℕ) → (K → K')
     → ReadFailed K told failures failures' asked asked' → ReadFailed K' told failures failures' asked asked'
 failed_more K K' told failures failures' asked asked' so (inl failed) = inl failed

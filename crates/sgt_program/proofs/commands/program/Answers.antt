@@ -1,4 +1,4 @@
-use Rattle.std.proofs.Common.{ap, inl, map, refl, string_bytes}
+use Rattle.std.proofs.Common.{◌<◌, ◌∙◌, Err, ap, length, map, refl, rules, string_bytes}
 use Rattle.sgt_program.proofs.Answered.{help-answers, memory-answers, run-memory, usage-answers}
 use Rattle.sgt_program.proofs.Chosen.{is_memory, names_explain, no_refusal, of_a_run, same_asked}
 use Rattle.sgt_program.proofs.Told.{failed_more, helped, leaves_more, tells-errors}
@@ -39,10 +39,12 @@ pub returns-in-Err-Help-clause-chosen : goal.returns-in-Err-Help-clause-chosen
 returns-in-Err-Help-clause-chosen g c =
     let said = c.in-Err-Help in
     let shown = c.show_help.ensures in
+    let some : 0 < length c.as_str.result.now = search rules in
     comes.other
     (λ choice asks. no_refusal c.choose.result choice said.field-0 _ (c.choose.ensures.all choice asks) said.is (ap is_memory said.field-0-is))
     refl
-    (rw c.finish-in-Err-Help.ensures.status (help-answers _ _ _ _ _ c.show_help.result (rw said.field-0-is at said.ensures.help) ? shown.text shown.front shown.yes))
+    (rw c.finish-in-Err-Help.ensures.status (help-answers _ _ _ _ _ c.show_help.result (rw said.field-0-is at said.ensures.help)
+    some shown.text shown.front shown.yes))
 
 pub returns-in-Err-Help-clause-ends : goal.returns-in-Err-Help-clause-ends
 returns-in-Err-Help-clause-ends g c =
@@ -74,7 +76,8 @@ returns-in-Err-Usage-clause-ends g c =
 
 pub returns-in-Err-Memory-clause-asked : goal.returns-in-Err-Memory-clause-asked
 returns-in-Err-Memory-clause-asked g c = λ choice asks.
-    run-memory choice _ _ _ (of_a_run c.choose.result choice _ (c.choose.ensures.all choice asks) ?) c.give_up.ensures.status
+    run-memory choice _ _ _ (of_a_run c.choose.result choice _ (c.choose.ensures.all choice asks)
+    (c.in-Err-Memory.is ∙ ap Err c.in-Err-Memory.field-0-is)) c.give_up.ensures.status
 
 pub returns-in-Err-Memory-clause-chosen : goal.returns-in-Err-Memory-clause-chosen
 returns-in-Err-Memory-clause-chosen g c =

@@ -1,6 +1,6 @@
-use Rattle.std.proofs.Common.{Err}
+use Rattle.sgt_audit.specs.declared.verdict.Verdict.{Verdict}
 use Rattle.sgt_program.proofs.Answered.{audit-fails, verdict-answers}
-use Rattle.sgt_program.proofs.Told.{due, leaves}
+use Rattle.sgt_program.proofs.Told.{due, leaves_fail}
 use Rattle.sgt_program.proofs.engines.audit_by.Goals as goal
 
 pub returns-in-Ok-clause-answers : goal.returns-in-Ok-clause-answers
@@ -14,4 +14,4 @@ returns-in-Err-clause-answers g c = audit-fails _ _ _ c.in-Err.fail c.in-Err.ens
 pub returns-in-Err-clause-ends : goal.returns-in-Err-clause-ends
 returns-in-Err-clause-ends g c =
     let said = c.in-Err.ensures in
-    leaves (Err c.in-Err.fail) _ _ _ _ _ _ (due _ _ _ _ _ _) said.quiet_reader said.quiet_writer said.read_fault said.write_fault said.unwritten said.untouched
+    leaves_fail Verdict c.in-Err.fail _ _ _ _ _ _ (due _ _ _ _ _ _) said.quiet_reader said.quiet_writer said.read_fault said.write_fault said.unwritten said.untouched

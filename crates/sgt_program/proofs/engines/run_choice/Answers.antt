@@ -1,11 +1,12 @@
-use Rattle.std.proofs.Common.{◌≡◌, Err, None, Some, ap}
+use Rattle.std.proofs.Common.{◌≡◌, None, Some, ap}
+use Rattle.sgt_audit.specs.declared.verdict.Verdict.{Verdict}
 use Rattle.sgt_certify.specs.Answer as certify
 use Rattle.sgt_draw.specs.Drawn as draw
 use Rattle.sgt_explain.specs.Explained as explain
 use Rattle.sgt_core.specs.Replay as replay
 use Rattle.sgt_service.specs.Report as run
 use Rattle.sgt_program.proofs.Answered.{audit-fails, rule-answers, serial-answers, status-answers, verdict-answers}
-use Rattle.sgt_program.proofs.Told.{due, failed_more, kept, leaves, leaves_more}
+use Rattle.sgt_program.proofs.Told.{due, failed_more, kept, leaves, leaves_fail, leaves_more}
 use Rattle.sgt_line.specs.declared.name.CommandName.TheVariants as command
 use Rattle.sgt_words.specs.Words.{command_of}
 use Rattle.sgt_program.proofs.engines.run_choice.Goals as goal
@@ -132,7 +133,7 @@ returns-in-Transaction-clause-ends g c =
 pub returns-in-Err-clause-ends : goal.returns-in-Err-clause-ends
 returns-in-Err-clause-ends g c =
     let said = c.in-Err.ensures in
-    leaves (Err c.in-Err.fail) _ _ _ _ _ _ (due _ _ _ _ _ _) said.quiet_reader said.quiet_writer said.read_fault said.write_fault said.unwritten said.untouched
+    leaves_fail Verdict c.in-Err.fail _ _ _ _ _ _ (due _ _ _ _ _ _) said.quiet_reader said.quiet_writer said.read_fault said.write_fault said.unwritten said.untouched
 
 pub returns-in-AuditWith-clause-ends : goal.returns-in-AuditWith-clause-ends
 returns-in-AuditWith-clause-ends g c =
