@@ -1,0 +1,4 @@
+pub mod Transaction
+pub mod History
+pub mod Cut
+pub mod Serial

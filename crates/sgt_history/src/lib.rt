@@ -1,0 +1,6 @@
+//! Histories whose operations name versions: what makes one serializable, and what excludes it.
+#![tactic(auto)]
+
+mod history;
+
+pub use history::{History, Kind, Line, Operation};
