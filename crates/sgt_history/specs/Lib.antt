@@ -2,3 +2,5 @@ pub mod Transaction
 pub mod History
 pub mod Cut
 pub mod Serial
+pub mod Conflicts
+pub mod Flaws

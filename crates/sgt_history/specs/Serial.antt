@@ -1,6 +1,6 @@
 -- When a history is serializable: its committed transactions, run alone one after another in some
 -- order, do what they did.
-use Rattle.std.specs.Prelude.{◌≡◌, ◌⊎◌, ℕ, ◌<◌, true, List, [], ◌∷◌, ◌++◌, Option, Some, None, slice_get, Contains}
+use Rattle.std.specs.Prelude.{◌≡◌, ◌⊎◌, ℕ, suc, ◌<◌, ◌≤◌, true, List, [], ◌∷◌, ◌++◌, Option, Some, None, slice_get, Contains}
 use Rattle.sgt_history.specs.declared.history.Kind.TheVariants.{Read, Write}
 use Rattle.sgt_history.specs.declared.history.Operation.{Operation}
 use Rattle.sgt_history.specs.Transaction.{Transaction}
@@ -38,34 +38,34 @@ pub record IsWriteOf {I V : Type 0} (o : Operation I V) (x : I) : Type 0 where
   pub write : o.kind ≡ Write
   pub item : o.item ≡ x
 
--- none of the operations writes the item
-abbrev pub NoneWrites : {I V : Type 0} → List (Operation I V) → I → Type 0
-NoneWrites {I} {V} done x = (o : Operation I V) → Contains done o → IsWriteOf o x → ⊥
+-- none of the operations from the first place on, before the second, writes the item
+abbrev pub NoneWrites : {I V : Type 0} → List (Operation I V) → (first second : ℕ) → I → Type 0
+NoneWrites {I} {V} run first second x = (place : ℕ) (o : Operation I V) → first ≤ place → place < second
+    → slice_get run place ≡ Some o → IsWriteOf o x → ⊥
 
--- the last of the operations that writes the item writes this version
-pub record IsLastWritten {I V : Type 0} (done : List (Operation I V)) (x : I) (version : ℕ) : Type 0 where
-  pub front : List (Operation I V)
-  pub last : Operation I V
-  pub rest : List (Operation I V)
-  pub is : done ≡ front ++ last ∷ rest
-  pub writes : IsWriteOf last x
-  pub version_is : last.version ≡ version
-  pub none : NoneWrites rest x
+-- before the place, the last operation that writes the item writes this version
+pub record IsLastWritten {I V : Type 0} (run : List (Operation I V)) (place : ℕ) (x : I) (version : ℕ) : Type 0 where
+  pub last : ℕ
+  pub o : Operation I V
+  pub before : last < place
+  pub there : slice_get run last ≡ Some o
+  pub writes : IsWriteOf o x
+  pub version_is : o.version ≡ version
+  pub none : NoneWrites run (suc last) place x
 
--- the version that the item has behind the operations: the last one written, or 0 where none is
-abbrev pub Has : {I V : Type 0} → List (Operation I V) → I → ℕ → Type 0
-Has done x version = IsLastWritten done x version ⊎ ((version ≡ 0) × NoneWrites done x)
+-- the version that the item has at the place: the last one written before it, or 0 where none is
+abbrev pub Has : {I V : Type 0} → List (Operation I V) → ℕ → I → ℕ → Type 0
+Has run place x version = IsLastWritten run place x version ⊎ ((version ≡ 0) × NoneWrites run 0 place x)
 
--- behind these operations a read gives the version that its item has (so an own one what its
--- transaction wrote last), and a write a greater one
-pub record Follows {I V : Type 0} (done : List (Operation I V)) (o : Operation I V) : Type 0 where
-  pub read : o.kind ≡ Read → Has done o.item o.version
-  pub write : o.kind ≡ Write → (before : ℕ) × Has done o.item before × (before < o.version)
+-- a read there gives the version that its item has (so an own one what its transaction wrote last),
+-- a write a greater one
+pub record Follows {I V : Type 0} (run : List (Operation I V)) (place : ℕ) (o : Operation I V) : Type 0 where
+  pub read : o.kind ≡ Read → Has run place o.item o.version
+  pub write : o.kind ≡ Write → (version : ℕ) × Has run place o.item version × (version < o.version)
 
--- so does each of the operations behind those before it
+-- so does each operation of the run
 abbrev pub RunsRight : {I V : Type 0} → List (Operation I V) → Type 0
-RunsRight {I} {V} run = (done : List (Operation I V)) (o : Operation I V) (rest : List (Operation I V))
-    → run ≡ done ++ o ∷ rest → Follows done o
+RunsRight {I} {V} run = (place : ℕ) (o : Operation I V) → slice_get run place ≡ Some o → Follows run place o
 
 -- all values that are given for one version of an item are equal
 abbrev pub ValuesAgree : {I V : Type 0} → List (Operation I V) → Type 0

@@ -2,5 +2,7 @@
 #![tactic(auto)]
 
 mod history;
+mod named;
 
 pub use history::{History, Kind, Line, Operation};
+pub use named::{Conflict, Flaw};
