@@ -1,1 +1,5 @@
 pub mod Cutting
+pub mod Runs
+pub mod Placed
+pub mod Standing
+pub mod Forward

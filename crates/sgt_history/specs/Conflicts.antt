@@ -55,6 +55,14 @@ pub record ConflictIn {I V : Type 0} (h : List (Transaction I V)) (ways : Confli
   pub w : ℕ
   pub conflict : HaveConflict h kind from to x v w
 
+-- the first stands in the order before the second
+pub record Precedes (order : List ℕ) (first second : ℕ) : Type 0 where
+  pub i : ℕ
+  pub j : ℕ
+  pub before : i < j
+  pub first_at : slice_get order i ≡ Some first
+  pub second_at : slice_get order j ≡ Some second
+
 -- each number stands in the relation to the next one, from a on
 abbrev pub IsChain : (ℕ → ℕ → Type 0) → ℕ → List ℕ → Type 0
 IsChain R a [] = Unit {0}
