@@ -3,3 +3,4 @@ pub mod Runs
 pub mod Placed
 pub mod Standing
 pub mod Forward
+pub mod Excluded
