@@ -4,3 +4,4 @@ pub mod Placed
 pub mod Standing
 pub mod Forward
 pub mod Excluded
+pub mod Search

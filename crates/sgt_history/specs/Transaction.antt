@@ -1,6 +1,6 @@
 -- What a history is made of: transactions, each of which commits or aborts, with its operations in
 -- their order. Items and values are of whatever types, of which nothing counts but which are equal.
-use Rattle.std.specs.Prelude.{◌≡◌, ◌<◌, Bool, List, map, Option, Some, None}
+use Rattle.std.specs.Prelude.{◌≡◌, ℕ, ◌<◌, Bool, List, map, Option, Some, None, slice_get}
 use Rattle.sgt_history.specs.declared.history.Kind.TheVariants.{Write}
 use Rattle.sgt_history.specs.declared.history.Operation.{Operation}
 
@@ -11,6 +11,11 @@ pub record Transaction (I V : Type 0) : Type 0 where
 -- the operation writes a version above 0, if it writes
 abbrev pub WritesPositive : {I V : Type 0} → Operation I V → Type 0
 WritesPositive o = o.kind ≡ Write → 0 < o.version
+
+-- each version that is written is above 0
+abbrev pub ArePositive : {I V : Type 0} → List (Transaction I V) → Type 0
+ArePositive {I} {V} h = (line place : ℕ) (t : Transaction I V) (o : Operation I V) → slice_get h line ≡ Some t
+    → slice_get t.operations place ≡ Some o → WritesPositive o
 
 -- an operation, a transaction, whose items and values have other names
 abbrev pub renamed_value : {V W : Type 0} → (V → W) → Option V → Option W
