@@ -5,3 +5,4 @@ pub mod Standing
 pub mod Forward
 pub mod Excluded
 pub mod Search
+pub mod Complete
