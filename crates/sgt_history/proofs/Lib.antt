@@ -6,3 +6,4 @@ pub mod Forward
 pub mod Excluded
 pub mod Search
 pub mod Complete
+pub mod Renaming

@@ -82,3 +82,15 @@ pub record Serves {I V : Type 0} (h : List (Transaction I V)) (order : List ℕ)
 
 abbrev pub IsSerializable : {I V : Type 0} → List (Transaction I V) → Type 0
 IsSerializable h = (order : List ℕ) × Serves h order
+
+-- ---- other names
+
+-- the operation stands in some line's transaction
+abbrev pub IsIn : {I V : Type 0} → List (Transaction I V) → Operation I V → Type 0
+IsIn {I} {V} h o = (line : ℕ) × (t : Transaction I V) × (slice_get h line ≡ Some t) × Contains t.operations o
+
+-- the names keep the items of the history apart, and its values
+pub record KeepApart {I J V W : Type 0} (f : I → J) (g : V → W) (h : List (Transaction I V)) : Type 0 where
+  pub items : (o p : Operation I V) → IsIn h o → IsIn h p → f o.item ≡ f p.item → o.item ≡ p.item
+  pub values : (o p : Operation I V) (v w : V) → IsIn h o → IsIn h p → o.value ≡ Some v → p.value ≡ Some w
+      → g v ≡ g w → v ≡ w
