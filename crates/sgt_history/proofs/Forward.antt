@@ -5,6 +5,7 @@ use Rattle.std.proofs.lemmas.Option.{same_Some}
 use Rattle.sgt_history.specs.declared.history.Operation.{Operation}
 use Rattle.sgt_history.specs.declared.named.Conflict.{Conflict}
 use Rattle.sgt_history.specs.declared.named.Conflict.TheVariants.{WriteWrite, WriteRead, ReadWrite}
+use Rattle.sgt_history.specs.declared.named.Graph.{Graph}
 use Rattle.sgt_history.specs.Transaction.{Transaction}
 use Rattle.sgt_history.specs.Serial.{IsOrder, StandOnce, run_of, Has, RunsRight, Serves, IsSerializable}
 use Rattle.sgt_history.specs.Conflicts.{Writes, Reads, HaveConflict, ConflictIn, Precedes, IsChain, IsCycle, HasCycle}
@@ -58,7 +59,7 @@ module _ (order : List ℕ) (once : StandOnce order) (R : ℕ → ℕ → Type 0
       let same = once all.i all.j a all.first_at all.second_at in
       absurd (omega (arith, all.before, same))
 
-pub cycle-excludes : {I V : Type 0} (h : List (Transaction I V)) (ways : Conflict → Type 0) → HasCycle h ways → IsSerializable h → ⊥
-cycle-excludes h ways (cycle, is) (order, s) =
-    no-cycle order s.ordered.once (ConflictIn h ways)
+pub cycle-excludes : {I V : Type 0} (h : List (Transaction I V)) (g : Graph) → HasCycle h g → IsSerializable h → ⊥
+cycle-excludes h g (cycle, is) (order, s) =
+    no-cycle order s.ordered.once (ConflictIn h g)
         (λ a b c. goes_forward h order s c.kind a b c.x c.v c.w c.conflict) cycle is

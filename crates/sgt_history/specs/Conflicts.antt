@@ -4,6 +4,8 @@ use Rattle.sgt_history.specs.declared.history.Kind.TheVariants.{Read}
 use Rattle.sgt_history.specs.declared.history.Operation.{Operation}
 use Rattle.sgt_history.specs.declared.named.Conflict.{Conflict}
 use Rattle.sgt_history.specs.declared.named.Conflict.TheVariants.{WriteWrite, WriteRead, ReadWrite}
+use Rattle.sgt_history.specs.declared.named.Graph.{Graph}
+use Rattle.sgt_history.specs.declared.named.Graph.TheVariants as graph
 use Rattle.sgt_history.specs.Transaction.{Transaction}
 use Rattle.sgt_history.specs.Serial.{IsCommitted, IsWriteOf, NoneWrites}
 
@@ -46,10 +48,20 @@ HaveConflict h WriteWrite from to x v w = (from ≢ to) × Writes h from x v × 
 HaveConflict h WriteRead from to x v w = (from ≢ to) × Writes h from x v × Reads h to x w × (v ≡ w)
 HaveConflict h ReadWrite from to x v w = (from ≢ to) × Reads h from x v × Writes h to x w × IsNext h x v w
 
--- two transactions conflict in one of these ways
-pub record ConflictIn {I V : Type 0} (h : List (Transaction I V)) (ways : Conflict → Type 0) (from to : ℕ) : Type 0 where
+-- the graph has conflicts of this kind
+abbrev pub IsAmong : Graph → Conflict → Type 0
+IsAmong graph.WriteWrite WriteWrite = Unit {0}
+IsAmong graph.WriteWrite WriteRead = ⊥
+IsAmong graph.WriteWrite ReadWrite = ⊥
+IsAmong graph.WithReads WriteWrite = Unit {0}
+IsAmong graph.WithReads WriteRead = Unit {0}
+IsAmong graph.WithReads ReadWrite = ⊥
+IsAmong graph.Whole kind = Unit {0}
+
+-- two transactions have a conflict of the graph
+pub record ConflictIn {I V : Type 0} (h : List (Transaction I V)) (g : Graph) (from to : ℕ) : Type 0 where
   pub kind : Conflict
-  pub among : ways kind
+  pub among : IsAmong g kind
   pub x : I
   pub v : ℕ
   pub w : ℕ
@@ -73,6 +85,6 @@ abbrev pub IsCycle : (ℕ → ℕ → Type 0) → List ℕ → Type 0
 IsCycle R [] = ⊥
 IsCycle R (a ∷ between) = IsChain R a (between ++ a ∷ [])
 
--- the graph with these ways alone has a cycle
-abbrev pub HasCycle : {I V : Type 0} → List (Transaction I V) → (Conflict → Type 0) → Type 0
-HasCycle h ways = (cycle : List ℕ) × IsCycle (ConflictIn h ways) cycle
+-- the graph has a cycle
+abbrev pub HasCycle : {I V : Type 0} → List (Transaction I V) → Graph → Type 0
+HasCycle h g = (cycle : List ℕ) × IsCycle (ConflictIn h g) cycle

@@ -11,6 +11,17 @@ pub enum Conflict {
     ReadWrite,
 }
 
+/// Which conflicts a graph of the transactions has.
+#[derive(Clone, Copy, Debug, PartialEq, Eq)]
+pub enum Graph {
+    /// ww alone.
+    WriteWrite,
+    /// ww and wr.
+    WithReads,
+    /// ww, wr and rw.
+    Whole,
+}
+
 /// What a committed transaction has that no order mends, in the order in which it is told.
 #[derive(Clone, Copy, Debug, PartialEq, Eq)]
 pub enum Flaw {
