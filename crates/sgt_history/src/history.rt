@@ -1,6 +1,6 @@
 //! A history, with its items and values as numbers.
 
-ghost use Rattle.std.specs.Prelude.{All, length};
+ghost use Rattle.std.specs.Prelude.{All, length, ◌<◌, ◌^◌};
 ghost use Rattle.sgt_history.specs.Cut.{EndsRise, EndWithin};
 ghost use Rattle.sgt_history.specs.Transaction.{WritesPositive};
 
@@ -30,14 +30,16 @@ pub struct Line {
 }
 
 /// A history whose items and values are numbered, each with one number: all operations, one after another, and where the transaction
-/// of each line ends.
+/// of each line ends. There are at most 2^32-1 of either.
 #[derive(Drop)]
 pub struct History {
-    operations: Vec<Operation<u32, u32>>,
-    lines: Vec<Line>,
+    pub operations: Vec<Operation<u32, u32>>,
+    pub lines: Vec<Line>,
     ghost rising: { EndsRise lines.items },
     ghost within: { EndWithin (length operations.items) lines.items },
     ghost positive: { All WritesPositive operations.items },
+    ghost few: { length operations.items < 2 ^ 32 },
+    ghost few_lines: { length lines.items < 2 ^ 32 },
 }
 
 impl History {
@@ -55,7 +57,7 @@ impl History {
         }
     }
 
-    /// An operation more of the line that is being read.
+    /// An operation more of the line that is being read. Errs where no more can be kept.
     #[inline]
     pub fn push(&mut self, operation: Operation<u32, u32>) -> Result<(), AllocError>
         requires { WritesPositive operation }
@@ -63,6 +65,9 @@ impl History {
         ensures open { OnOk result (open_of self.new ≡ open_of self.old ++ operation ∷ []) }
         ensures err { OnErr result (open_of self.new ≡ open_of self.old) }
     {
+        if self.operations.len() >= u32::MAX as usize {
+            return Err(AllocError);
+        }
         self.operations.push(operation)?;
         Ok(())
     }
@@ -75,6 +80,9 @@ impl History {
         ensures err { OnErr result (closed_of self.new ≡ closed_of self.old) }
     {
         let end = self.operations.len();
+        if self.lines.len() >= u32::MAX as usize {
+            return Err(AllocError);
+        }
         self.lines.push(Line { end, commits })?;
         Ok(())
     }
