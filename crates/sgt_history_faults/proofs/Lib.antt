@@ -1,1 +1,4 @@
 pub mod Taken
+pub mod NextLine
+pub mod Bounds
+pub mod Covering

@@ -1,3 +1,5 @@
 pub mod Mine
 pub mod Touch
 pub mod Noted
+pub mod Collected
+pub mod Order

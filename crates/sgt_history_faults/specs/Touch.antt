@@ -29,9 +29,9 @@ pub record IsTouchOf (line : ℕ) (commits : Bool) (done : List (Operation ℕ �
   pub kind_is : e.kind ≡ o.kind
   pub read : o.kind ≡ Read → (commits ≡ true) × NoneWrites done 0 e.place o.item
 
--- whether the transaction writes a greater version
+-- of a write: whether the transaction writes a greater version
 abbrev pub TellsSurpassed : List (Operation ℕ ℕ) → Touch → Type 0
-TellsSurpassed done e = IsTrue e.surpassed ↔ WritesGreater done e.item e.version
+TellsSurpassed done e = e.kind ≡ Write → (IsTrue e.surpassed ↔ WritesGreater done e.item e.version)
 
 -- an operation is to be touched
 abbrev pub IsToTouch : Bool → List (Operation ℕ ℕ) → ℕ → Operation ℕ ℕ → Type 0
@@ -43,13 +43,6 @@ pub record IsTouched (touches : List Touch) (line place : ℕ) : Type 0 where
   pub in_it : Contains touches e
   pub line_is : e.line ≡ line
   pub place_is : e.place ≡ place
-
--- the touches are those of the line
-pub record AreTouchesOf (line : ℕ) (commits : Bool) (done : List (Operation ℕ ℕ)) (touches : List Touch) : Type 0 where
-  pub each : All (IsTouchOf line commits done) touches
-  pub surpassed : All (TellsSurpassed done) touches
-  pub all : (place : ℕ) (o : Operation ℕ ℕ) → slice_get done place ≡ Some o → IsToTouch commits done place o
-      → IsTouched touches line place
 
 -- none of the operations contradicts what was written before, or that one does, and none before it
 abbrev pub IsContradicted : List (Operation ℕ ℕ) → ℕ → Type 0

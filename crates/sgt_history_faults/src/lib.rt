@@ -1,12 +1,16 @@
 //! The first fault of a history, or that it has none.
 #![tactic(auto)]
 
+mod collecting;
 mod fault;
 mod mine;
+mod sorting;
 mod touch;
 mod touching;
 
+pub use collecting::{Collected, collect};
 pub use fault::{Fault, with_fault};
 pub use mine::{Mine, Owned};
+pub use sorting::sort_touches;
 pub use touch::Touch;
 pub use touching::Whose;

@@ -79,7 +79,7 @@ fn put_touch(
 
 /// Puts the touches of a line behind those before, whether one surpasses another still to be told. Gives the first operation that
 /// contradicts what its transaction wrote before, if there is one.
-fn take_line(
+pub fn take_line(
     operations: &[Operation<u32, u32>],
     whose: Whose,
     mine: &mut [Mine],
@@ -106,7 +106,7 @@ fn take_line(
 }
 
 /// Tells of the touches from here on whether their transaction writes a greater version, by what it has written in all.
-fn mark_surpassed(touches: &mut Vec<Touch>, from: usize, mine: &[Mine])
+pub fn mark_surpassed(touches: &mut Vec<Touch>, from: usize, mine: &[Mine])
     requires { All (IsTouchBelow (length mine.now)) touches.old.items }
     ensures { AreMarked from mine.now touches.old.items touches.new.items }
 {
