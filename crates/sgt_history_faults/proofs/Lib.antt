@@ -2,3 +2,4 @@ pub mod Taken
 pub mod NextLine
 pub mod Bounds
 pub mod Covering
+pub mod Sorted
