@@ -3,3 +3,5 @@ pub mod NextLine
 pub mod Bounds
 pub mod Covering
 pub mod Sorted
+pub mod Grouped
+pub mod Grouping

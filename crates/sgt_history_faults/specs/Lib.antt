@@ -3,3 +3,4 @@ pub mod Touch
 pub mod Noted
 pub mod Collected
 pub mod Order
+pub mod Group

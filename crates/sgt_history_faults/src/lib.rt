@@ -3,7 +3,9 @@
 
 mod collecting;
 mod fault;
+mod judging;
 mod mine;
+mod scanning;
 mod sorting;
 mod touch;
 mod touching;
