@@ -5,3 +5,4 @@ pub mod Covering
 pub mod Sorted
 pub mod Grouped
 pub mod Grouping
+pub mod Whole
