@@ -6,3 +6,4 @@ pub mod Sorted
 pub mod Grouped
 pub mod Grouping
 pub mod Whole
+pub mod GivenNext

@@ -4,3 +4,4 @@ pub mod Noted
 pub mod Collected
 pub mod Order
 pub mod Group
+pub mod Given

@@ -69,7 +69,7 @@ fn with_contradiction(first: Option<Fault>, whose: Whose, contradicted: Option<u
 }
 
 /// The line, whose operations begin there.
-fn line_at(history: &History, line: usize, begin: usize) -> Line
+pub fn line_at(history: &History, line: usize, begin: usize) -> Line
     requires line { line < length history.now.lines.items }
     requires begin { begin ≡ end_of 0 (take line history.now.lines.items) }
     ensures is { slice_get history.now.lines.items line ≡ Some result }

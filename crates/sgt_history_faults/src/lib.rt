@@ -3,12 +3,14 @@
 
 mod collecting;
 mod fault;
+mod giving;
 mod judging;
 mod mine;
 mod scanning;
 mod sorting;
 mod touch;
 mod touching;
+mod values;
 
 pub use collecting::{Collected, collect};
 pub use fault::{Fault, with_fault};
