@@ -7,3 +7,5 @@ pub mod Grouped
 pub mod Grouping
 pub mod Whole
 pub mod GivenNext
+pub mod GivenWhole
+pub mod Decided

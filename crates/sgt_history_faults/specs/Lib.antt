@@ -5,3 +5,4 @@ pub mod Collected
 pub mod Order
 pub mod Group
 pub mod Given
+pub mod Judged

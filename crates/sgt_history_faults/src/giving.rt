@@ -65,7 +65,9 @@ fn give_line(history: &History, line: usize, begin: usize, given: &mut Vec<Given
     if !commits {
         return Ok(());
     }
-    take_given(&history.operations.as_slice()[begin..end], line as u32, given)
+    let operations = &history.operations.as_slice()[begin..end];
+    take_given(operations, line as u32, given)?;
+    Ok(())
 }
 
 /// All that operations of committed transactions give.

@@ -3,6 +3,7 @@
 
 mod collecting;
 mod fault;
+mod first;
 mod giving;
 mod judging;
 mod mine;
@@ -12,9 +13,6 @@ mod touch;
 mod touching;
 mod values;
 
-pub use collecting::{Collected, collect};
-pub use fault::{Fault, with_fault};
-pub use mine::{Mine, Owned};
-pub use sorting::sort_touches;
+pub use fault::Fault;
+pub use first::{Judged, judge};
 pub use touch::Touch;
-pub use touching::Whose;
