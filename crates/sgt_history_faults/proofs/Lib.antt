@@ -9,3 +9,4 @@ pub mod Whole
 pub mod GivenNext
 pub mod GivenWhole
 pub mod Decided
+pub mod Ready

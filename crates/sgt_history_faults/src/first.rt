@@ -6,7 +6,7 @@ ghost use Rattle.sgt_history.specs.Transaction.{Transaction};
 ghost use Rattle.sgt_history_faults.specs.Judged.{CoversValues, IsJudged, IsReadyFor};
 ghost use Rattle.sgt_history_faults.specs.Noted.{Covers, IsReal};
 
-use crate::collecting::{Collected, collect};
+use crate::collecting::collect;
 use crate::fault::{Fault, with_fault};
 use crate::giving::{given_of, sort_given};
 use crate::scanning::judge_touches;
@@ -49,6 +49,7 @@ fn earlier(one: Option<Fault>, other: Option<Fault>) -> Option<Fault>
 
 /// What a history is judged to be, by its touches and the first fault that isn't found by them.
 fn judged_by(touches: Vec<Touch>, before: Option<Fault>) -> Judged
+    requires { (h : List (Transaction ℕ ℕ)) × IsReadyFor h touches.items before }
     ensures { (h : List (Transaction ℕ ℕ)) → IsReadyFor h touches.items before → IsJudged h result }
 {
     let mut touches = touches;
@@ -64,6 +65,7 @@ pub fn judge(alloc: Global, history: &History) -> Result<Judged, AllocError>
     ensures { IfOk result (IsJudged (closed_of history.now)) }
 {
     let values = first_of_values(alloc, history)?;
-    let Collected { touches, first } = collect(alloc, history)?;
-    Ok(judged_by(touches, earlier(first, values)))
+    let collected = collect(alloc, history)?;
+    let first = earlier(collected.first, values);
+    Ok(judged_by(collected.touches, first))
 }
