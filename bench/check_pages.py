@@ -26,7 +26,9 @@ def text_of(path):
 
 def commands():
     """The commands that the code knows."""
-    return sorted(re.findall(r'b"(\w+)" => Some\(CommandName::', text_of("crates/sgt_line/src/name.rt")))
+    named = re.findall(r'b"(\w+)" => Some\(CommandName::(\w+)', text_of("crates/sgt_line/src/name.rt"))
+    missing = re.findall(r"(CommandName::.*) => return None", text_of(f"{WORDS}/behind.rt"))
+    return sorted(word for word, name in named if not any(f"::{name}" in it for it in missing))
 
 
 def options():
