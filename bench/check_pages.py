@@ -45,7 +45,7 @@ def rewritten():
 
 def topics():
     """The rules and replies that can be asked about."""
-    return re.findall(r'b"([A-Z]\d+)" =>', text_of(TOPICS))
+    return re.findall(r'b"([\w-]+)" => Some', text_of(TOPICS))
 
 
 def completed():
