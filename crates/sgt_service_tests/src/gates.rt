@@ -52,6 +52,8 @@ impl HoldUntil {
 }
 
 impl Gate for HoldUntil {
+    ghost lets_go = { λ gate worker place. Unit {0} };
+
     fn arrive(&self, _worker: usize, place: Place) {
         self.tell(&place);
         self.hold(&place);
@@ -81,6 +83,8 @@ impl HoldThree {
 }
 
 impl Gate for HoldThree {
+    ghost lets_go = { λ gate worker place. Unit {0} };
+
     fn arrive(&self, _worker: usize, place: Place) {
         self.first.tell(&place);
         self.second.tell(&place);
@@ -113,6 +117,8 @@ impl SixteenTake {
 }
 
 impl Gate for SixteenTake {
+    ghost lets_go = { λ gate worker place. Unit {0} };
+
     fn arrive(&self, worker: usize, place: Place) {
         if place != Place::Taken {
             return;

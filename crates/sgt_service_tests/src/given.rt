@@ -1,8 +1,6 @@
-//! Sites and scripts from their lines, and what is put in the place of a certifier or a site.
+//! Sites and scripts from their lines, and what is put in the place of a site.
 
 use sgt_arena::Handle;
-use sgt_certifier::Certifier;
-use sgt_edges::EdgeList;
 use sgt_names::{Draft, Holding, Item, Listed, SiteNo, Tx};
 use sgt_notation::{Script, read_script, read_site};
 use sgt_site::Site;
@@ -31,21 +29,6 @@ fn write_of(alloc: Global, item: Item) -> Result<Draft, Fail> {
     let mut draft = Draft::new(alloc);
     draft.put(SiteNo::new(0)?, item, 6)?;
     Ok(draft)
-}
-
-/// A certifier whose first transaction installed the item at site 0, and whose second may be active.
-pub fn other_certifier(alloc: Global, item: Item, is_active: bool) -> Result<Certifier, Fail> {
-    let mut certifier = Certifier::new(alloc);
-    let draft = write_of(alloc, item)?;
-    let (tx, handle) = certifier.begin()?;
-    certifier.expect(handle, &draft)?;
-    certifier.decide(handle, EdgeList::new(alloc))?;
-    certifier.installed(tx, SiteNo::new(0)?, &draft)?;
-    certifier.finish_step(tx)?;
-    if is_active {
-        certifier.begin()?;
-    }
-    Ok(certifier)
 }
 
 /// Site 0 with these items, where transaction 1 wrote this one.

@@ -16,6 +16,8 @@ mod runs;
 #[cfg(test)]
 mod schedules;
 #[cfg(test)]
+mod settling;
+#[cfg(test)]
 mod steps;
 #[cfg(test)]
 mod windows;

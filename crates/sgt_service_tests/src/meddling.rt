@@ -3,8 +3,7 @@
 ghost use Rattle.std.specs.Prelude.{◌≡◌};
 
 use crate::gates::{HoldThree, HoldUntil};
-use crate::given::{other_certifier, other_site, scripts_of, sites_of};
-use sgt_certifier::Certifier;
+use crate::given::{other_site, scripts_of, sites_of};
 use sgt_names::{Holding, Item, Listed, SiteNo, Tx};
 use sgt_notation::Script;
 use sgt_service::{run, settle};
@@ -52,14 +51,6 @@ fn meddle<L: Ledger, R: Wait>(
     service.gate.arrive(0, Place::AfterRead(nowhere));
 }
 
-// What is put in its place once the run is over.
-#[derive(Drop)]
-enum Exchanged {
-    Nothing,
-    Certifier(Certifier),
-    Site(Site),
-}
-
 // How a run ends.
 #[derive(Clone, Copy, Debug, PartialEq, Eq)]
 enum End {
@@ -69,30 +60,10 @@ enum End {
     Settled,
 }
 
-/// Puts another certifier with as many decisions behind the lock.
-pub fn replace<L: Ledger, G: Gate, R: Wait>(
-    rt: &R,
-    service: &Service<L, G>,
-    other: Certifier,
-) -> bool {
-    service.certifier.lock(rt).exchange_in_a_test(other)
-}
-
-fn exchange<L: Ledger, G: Gate, R: Wait>(
-    rt: &R,
-    service: &Service<L, G>,
-    exchanged: Exchanged,
-) -> bool {
-    match exchanged {
-        Exchanged::Nothing => true,
-        Exchanged::Certifier(other) => replace(rt, service, other),
-        Exchanged::Site(other) => match service.sites.first() {
-            Some(site) => {
-                *site.lock(rt) = other;
-                true
-            }
-            None => false,
-        },
+/// Puts another site in the place of the first.
+pub fn exchange<L: Ledger, G: Gate, R: Wait>(rt: &R, service: &Service<L, G>, other: Site) {
+    if let Some(site) = service.sites.first() {
+        *site.lock(rt) = other;
     }
 }
 
@@ -119,7 +90,7 @@ fn ended<L: Ledger + Send + Sync, R: Threads + Wait + Sync>(
     sites: &[Listed<Holding>],
     scripts: &[Script],
     does: Meddling,
-    exchanged: Exchanged,
+    exchanged: Option<Site>,
     told: Option<Vec<Done>>,
 ) -> Option<End>
     requires { (blank.name ≡ L.name) × (blank.parts ≡ L.parts) × (blank.parts ≡ 2) }
@@ -144,8 +115,10 @@ fn ended<L: Ledger + Send + Sync, R: Threads + Wait + Sync>(
     );
     match ran? {
         Ok((dones, mut seats)) => {
-            let is_exchanged = exchange(rt, &service, exchanged);
-            if seats.push(second).is_err() || !is_exchanged {
+            if let Some(other) = exchanged {
+                exchange(rt, &service, other);
+            }
+            if seats.push(second).is_err() {
                 return None;
             }
             match settle(alloc, service, told.unwrap_or(dones), seats) {
@@ -177,7 +150,7 @@ fn changed<R: Threads + Wait + Sync>(
     rt: &R,
     alloc: Global,
     does: Meddling,
-    exchanged: Exchanged,
+    exchanged: Option<Site>,
 ) -> Result<Option<End>, Fail> {
     let sites = sites_of(alloc, &["site 0 x=5 y=2"]).ok_or("no sites")?;
     let scripts = scripts_of(alloc, &["w[0.x]=7"])?;
@@ -198,16 +171,7 @@ fn exchanged_site<R: Threads + Wait + Sync>(rt: &R, alloc: Global) -> Result<Opt
     let (x, y) = (Item::new(b"x")?, Item::new(b"y")?);
     let items = [Holding { item: x, value: 5 }, Holding { item: y, value: 2 }];
     let other = other_site(alloc, &items, y)?;
-    changed(rt, alloc, Meddling::Nothing, Exchanged::Site(other))
-}
-
-// And with another certifier.
-fn exchanged_certifier<R: Threads + Wait + Sync>(
-    rt: &R,
-    alloc: Global,
-) -> Result<Option<End>, Fail> {
-    let other = other_certifier(alloc, Item::new(b"y")?, false)?;
-    changed(rt, alloc, Meddling::Nothing, Exchanged::Certifier(other))
+    changed(rt, alloc, Meddling::Nothing, Some(other))
 }
 
 #[test]
@@ -225,10 +189,9 @@ fn site_changed_under_the_lock(rt: HostRuntime) -> Result<(), Fail> {
         ),
     ];
     for (does, end) in rows {
-        assert_eq!(rt; changed(&rt, alloc, does, Exchanged::Nothing)?, Some(end));
+        assert_eq!(rt; changed(&rt, alloc, does, None)?, Some(end));
     }
     // as many decisions and installs, but of another item
-    assert_eq!(rt; exchanged_certifier(&rt, alloc)?, Some(differs));
     assert_eq!(rt; exchanged_site(&rt, alloc)?, Some(differs));
     Ok(())
 }
@@ -291,7 +254,7 @@ fn told_otherwise<R: Threads + Wait + Sync>(
         sites.as_slice(),
         scripts.as_slice(),
         Meddling::Nothing,
-        Exchanged::Nothing,
+        None,
         Some(told),
     ))
 }

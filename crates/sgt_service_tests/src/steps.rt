@@ -2,12 +2,12 @@
 
 ghost use Rattle.std.specs.Prelude.{◌≡◌};
 
-use crate::meddling::replace;
-use sgt_certifier::Certifier;
+use crate::meddling::exchange;
 use sgt_names::{Holding, Item, Listed, SiteNo, Value};
 use sgt_service::{Settled, settle};
 use sgt_service_agreement::ServiceFault;
 use sgt_service_locks::{Active, Back, Seat, Service};
+use sgt_site::Site;
 use sgt_workers::{Done, NoGate, Ticket};
 use std::alloc::Global;
 use std::sync::Wait;
@@ -164,7 +164,7 @@ fn first_wrong<L: Ledger, R: Wait>(
 }
 
 /// Which of the calls is the first that answers otherwise, and how what is left is settled, whose one job was told all tickets.
-/// Between the first calls and the others another certifier may be put in the place of the service's. None: there was no memory before
+/// Between the first calls and the others another site may be put in the place of site 0. None: there was no memory before
 /// the first call.
 pub fn stepped<L: Ledger, R: Wait>(
     rt: &R,
@@ -172,7 +172,7 @@ pub fn stepped<L: Ledger, R: Wait>(
     blank: Blank,
     sites: &[Listed<Holding>],
     steps: &[(Step, Answer)],
-    exchanged: Option<Certifier>,
+    exchanged: Option<Site>,
     others: &[(Step, Answer)],
 ) -> Option<(Option<usize>, Result<Settled, ServiceFault>)>
     requires { (blank.name ≡ L.name) × (blank.parts ≡ L.parts) × (blank.parts ≡ 1) }
@@ -198,9 +198,7 @@ pub fn stepped<L: Ledger, R: Wait>(
             &mut tickets,
         );
         if let Some(other) = exchanged {
-            if !replace(rt, &service, other) {
-                wrong = Some(steps.len());
-            }
+            exchange(rt, &service, other);
         }
         if wrong.is_none() {
             wrong = first_wrong(

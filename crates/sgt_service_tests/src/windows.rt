@@ -1,10 +1,11 @@
-//! The calls of one thread: a window that is closed, a withdrawal, a certifier of another history, and growths that are refused.
+//! The calls of one thread: a window that is closed, a withdrawal, a transaction that is left, a site of another history, and growths
+//! that are refused.
 
-use crate::given::{other_certifier, sites_of};
+use crate::given::{other_site, sites_of};
 use crate::steps::{Answer, Step, stepped};
 use sgt_audit::{Verdict, audit};
 use sgt_certifier::CertifierFault;
-use sgt_names::{Entry, Item, MemSink, MemSource, SiteNo, Tx};
+use sgt_names::{Entry, Holding, Item, MemSink, MemSource, SiteNo, Tx};
 use sgt_service::{Settled, bundle};
 use sgt_service_agreement::ServiceFault;
 use sgt_workers::{Ending, Ticket};
@@ -91,12 +92,36 @@ fn withdrawn(rt: HostRuntime) -> Result<(), Fail> {
     Ok(())
 }
 
+// It has no ticket.
+#[test]
+fn left_active(rt: HostRuntime) -> Result<(), Fail> {
+    let alloc = rt.alloc();
+    let (x, one) = (Item::new(b"x")?, Tx::new(1)?);
+    let left = ServiceFault::Certifier(CertifierFault::ActiveLeft(1));
+    let steps = [
+        (Step::Begin, Answer::Begun(1, 0)),
+        (Step::Put(x, 6), Answer::Kept),
+        (Step::Commit, ended(0, one, Ending::Committed)),
+        (Step::Begin, Answer::Begun(2, 0)),
+        (Step::Read(x), Answer::Seen(6)),
+    ];
+    let sites = sites_of(alloc, &["site 0 x=5"]).ok_or("no sites")?;
+    let blank = Blank::new(1);
+    let run = stepped::<Brand, _>(&rt, alloc, blank, sites.as_slice(), &steps, None, &[]);
+    let Some((None, Err(fault))) = &run else {
+        panic!(rt; "another answer, or settled");
+    };
+    assert_eq!(rt; *fault, left);
+    Ok(())
+}
+
 // The versions of the site aren't those that the certifier's history counts.
 #[test]
 fn other_history(rt: HostRuntime) -> Result<(), Fail> {
     let alloc = rt.alloc();
     let (x, y, tx) = (Item::new(b"x")?, Item::new(b"y")?, Tx::new(1)?);
-    let other = other_certifier(alloc, y, true)?;
+    let items = [Holding { item: x, value: 5 }, Holding { item: y, value: 2 }];
+    let other = other_site(alloc, &items, y)?;
     let lost = ServiceFault::NotPledged(SiteNo::new(0)?);
     let steps = [
         (Step::Begin, Answer::Begun(1, 0)),
