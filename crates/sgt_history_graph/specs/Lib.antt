@@ -1,0 +1,5 @@
+pub mod Graph
+pub mod Rows
+pub mod Sorting
+pub mod Walks
+pub mod Ordered

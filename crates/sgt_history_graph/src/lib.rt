@@ -1,0 +1,15 @@
+//! Directed graphs: an order in which all edges lead onward, or a cycle; and the cycle to show.
+#![tactic(auto)]
+
+mod components;
+mod edge;
+mod rows;
+mod shown;
+mod sorting;
+#[cfg(test)]
+mod tests;
+mod walking;
+
+pub use edge::Edge;
+pub use shown::shown_cycle;
+pub use sorting::{Ordered, order};
