@@ -101,7 +101,7 @@ fn push_before(touches: &[Touch], first: Option<u32>, at: u32, pairs: &mut Vec<E
 }
 
 /// Puts all pairs that conflict in this way, the first a write, behind those before.
-fn push_forward(touches: &[Touch], kind: Conflict, pairs: &mut Vec<Edge>) -> Result<(), AllocError>
+pub fn push_forward(touches: &[Touch], kind: Conflict, pairs: &mut Vec<Edge>) -> Result<(), AllocError>
     requires few { length touches.now < 2 ^ 32 }
     requires written { kind ≢ Conflict.ReadWrite }
     ensures { OnOk result (AddsAll touches.now kind pairs.old.items pairs.new.items) }
@@ -115,7 +115,7 @@ fn push_forward(touches: &[Touch], kind: Conflict, pairs: &mut Vec<Edge>) -> Res
 }
 
 /// Puts all pairs of a read and the write of the next version behind those before.
-fn push_backward(touches: &[Touch], pairs: &mut Vec<Edge>) -> Result<(), AllocError>
+pub fn push_backward(touches: &[Touch], pairs: &mut Vec<Edge>) -> Result<(), AllocError>
     requires few { length touches.now < 2 ^ 32 }
     ensures { OnOk result (AddsAll touches.now Conflict.ReadWrite pairs.old.items pairs.new.items) }
 {
