@@ -162,3 +162,35 @@ module _ (h : List (Transaction ℕ ℕ)) (touches : List Touch) (by : IsFaultle
           let x = All_in (IsTouch h) touches b.2.a by.touches_are.each (Contains-from_at touches b.0.from b.2.a b.2.first) in
           let y = All_in (IsTouch h) touches b.2.b by.touches_are.each (Contains-from_at touches b.0.to b.2.b b.2.second) in
           (x.t, ap (λ (u : Edge). slice_get h u.from) b.2.is ∙ x.in_line, y.t, ap (λ (u : Edge). slice_get h u.to) b.2.is ∙ y.in_line)
+
+-- ---- by graph
+
+pub by-graph : (P : Graph → Type 0) → P graph.WriteWrite → P graph.WithReads → P graph.Whole → (g : Graph) → P g
+by-graph P a b c graph.WriteWrite = a
+by-graph P a b c graph.WithReads = b
+by-graph P a b c graph.Whole = c
+
+pub record HasThree (touches : List Touch) (three : List Edge) (n m : ℕ) : Type 0 where
+  pub first : ArePairsOf touches graph.WriteWrite (take n three)
+  pub second : ArePairsOf touches graph.WithReads (take m three)
+  pub third : ArePairsOf touches graph.Whole three
+
+pub three-parts : (touches : List Touch) (none one two three : List Edge) (n m : ℕ) → none ≡ [] → AddsAll touches WriteWrite none one
+    → AddsAll touches WriteRead one two → AddsAll touches ReadWrite two three → n ≡ length one → m ≡ length two → HasThree touches three n m
+three-parts touches none one two three n m nil a b c n_is m_is =
+    let a' = subst (λ xs. AddsAll touches WriteWrite xs one) nil a in
+    let all : three ≡ one ++ (b.more ++ c.more) = c.is ∙ ap (λ xs. xs ++ c.more) b.is ∙ append_assoc one b.more c.more in
+    record {
+      first = subst (ArePairsOf touches graph.WriteWrite) (sym (ap (λ k. take k three) n_is ∙ front-part touches one three (b.more ++ c.more) all))
+          (first-part touches one a');
+      second = subst (ArePairsOf touches graph.WithReads) (sym (ap (λ k. take k three) m_is ∙ front-part touches two three c.more c.is))
+          (second-part touches one two a' b);
+      third = third-part touches one two three a' b c;
+    }
+
+pub whole-edges : (h : List (Transaction ℕ ℕ)) (touches : List Touch) → IsFaultlessBy h touches → (old new : List Edge) → AreLined touches old new
+    → ArePairsOf touches graph.Whole old → AreEdgesOf h graph.Whole new
+whole-edges h touches by old new lined are =
+    subst (AreEdgesOf h graph.Whole) (take_all (length new) new (omega arith))
+        (edges-are h touches by graph.Whole old new (length new) lined
+            (subst (ArePairsOf touches graph.Whole) (sym (take_all (length new) old (omega (arith, lined.size)))) are))

@@ -8,7 +8,7 @@ use Rattle.sgt_history.specs.Conflicts.{IsAmong, ConflictIn}
 use Rattle.sgt_history_faults.specs.declared.touch.Touch.{Touch}
 use Rattle.sgt_history_graph.specs.declared.edge.Edge.{Edge}
 use Rattle.sgt_history_graph.specs.Graph.{JoinsNodes}
-use Rattle.sgt_history_conflicts.specs.declared.edges.Parts.{Parts}
+use Rattle.sgt_history_conflicts.specs.declared.parts.Parts.{Parts}
 use Rattle.sgt_history_conflicts.specs.Pairs.{IsPair}
 
 -- the edges of a graph

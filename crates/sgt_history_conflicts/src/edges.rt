@@ -1,25 +1,16 @@
 //! The conflicts of transactions as edges between their lines.
 
-ghost use Rattle.std.specs.Prelude.{◌≡◌, ◌<◌, ◌≤◌, ℕ, List, IfOk, length, All};
+ghost use Rattle.std.specs.Prelude.{◌≡◌, ℕ, List, IfOk, All};
 ghost use Rattle.sgt_history.specs.Transaction.{Transaction};
 ghost use Rattle.sgt_history_conflicts.specs.Edges.{AreLined, HasEdges, HasPairs, JoinsTouches, part_of};
 ghost use Rattle.sgt_history_faults.specs.Judged.{IsFaultlessBy};
 
+use crate::parts::Parts;
 use crate::pairs::{push_backward, push_forward};
 use sgt_history::{Conflict, Graph};
 use sgt_history_faults::Touch;
 use sgt_history_graph::Edge;
 use std::alloc::{AllocError, Global};
-
-/// Edges of ww, then of wr, then of rw; and how many there are of the first, and of the first two.
-#[derive(Drop)]
-pub struct Parts {
-    pub edges: Vec<Edge>,
-    pub write_write: usize,
-    pub with_reads: usize,
-    ghost first: { write_write ≤ length edges.items },
-    ghost second: { with_reads ≤ length edges.items },
-}
 
 /// The edges of a graph.
 pub fn edges_in(parts: &Parts, graph: Graph) -> &[Edge]

@@ -3,5 +3,7 @@
 
 mod edges;
 mod pairs;
+mod parts;
 
-pub use edges::{Parts, edges_in, edges_of, pairs_of};
+pub use edges::{edges_in, edges_of, pairs_of};
+pub use parts::Parts;
