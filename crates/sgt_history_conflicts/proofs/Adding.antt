@@ -47,8 +47,8 @@ added-one touches kind Are May old new e pair narrow a = record {
         Contains-from_at (a.more ++ e ∷ []) at.0 (record { from = i; to = k }) (front_at a.more (e ∷ []) at.0 (record { from = i; to = k }) at.1)
     | inr (one, two) ↦
         subst (λ x. Contains (a.more ++ e ∷ []) (record { from = x; to = k })) (sym one)
-            (subst (λ y. Contains (a.more ++ e ∷ []) (record { from = e.from; to = y })) (sym two)
-                (Contains-from_at (a.more ++ e ∷ []) (length a.more) e (middle_at a.more e [])))
+        (subst (λ y. Contains (a.more ++ e ∷ []) (record { from = e.from; to = y })) (sym two)
+        (Contains-from_at (a.more ++ e ∷ []) (length a.more) e (middle_at a.more e [])))
   ];
 }
   where
@@ -80,11 +80,14 @@ only-last touches kind at None not none i k lt pair =
 only-last touches kind at (Some p) not is i k lt pair =
     elim (cases_eq k at) [
       | inr apart ↦ inl (omega arith)
-      | inl e ↦ inr (elim (cases_order i p) [
+      | inl e ↦ inr (
+        elim (cases_order i p) [
           | inl same ↦ ap Some (sym same)
           | inr (inl less) ↦ absurd (pair.none p is.1 less (omega (arith, is.0, e)) is.2 is.3)
           | inr (inr more) ↦ absurd (is.4 i pair.a more (omega (arith, pair.before, e)) pair.first (first-written kind pair.a pair.b not pair.meets))
-        ], e)
+        ],
+        e,
+      )
     ]
 
 -- a pair with this place in front is with the first write behind it
@@ -98,11 +101,14 @@ only-first touches at None none i k le pair =
 only-first touches at (Some p) is i k le pair =
     elim (cases_eq i at) [
       | inr apart ↦ inl (omega arith)
-      | inl e ↦ inr (e, elim (cases_order k p) [
+      | inl e ↦ inr (
+        e,
+        elim (cases_order k p) [
           | inl same ↦ ap Some (sym same)
           | inr (inl less) ↦ absurd (is.4 k pair.b (omega (arith, pair.before, e)) less pair.second pair.meets.3)
           | inr (inr more) ↦ absurd (pair.none p is.1 (omega (arith, is.0, e)) more is.2 is.3)
-        ])
+        ],
+      )
     ]
 
 -- the pair with the last write

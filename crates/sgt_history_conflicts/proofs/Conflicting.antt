@@ -51,19 +51,33 @@ nearest touches P each i zero a lt le at is = absurd (omega arith)
 nearest touches P each i (suc k) a lt le at is =
     let m = within_at touches k (omega (arith, le)) in
     elim (each m.0) [
-      | inl yes1 ↦ record { p = k; e = m.0; from = omega (arith, lt); to = omega arith; at = m.1; is = yes1;
-          none = λ n u above below there p. absurd (omega (arith, above, below)) }
+      | inl yes1 ↦ record {
+        p = k;
+        e = m.0;
+        from = omega (arith, lt);
+        to = omega arith;
+        at = m.1;
+        is = yes1;
+        none = λ n u above below there p. absurd (omega (arith, above, below));
+      }
       | inr never ↦
           let less : i < k = elim (cases_eq i k) [
             | inl e ↦ absurd (never (subst P (same_Some a m.0 (sym at ∙ ap (slice_get touches) e ∙ m.1)) is))
             | inr apart ↦ omega (arith, lt, apart)
           ] in
           let n = nearest touches P each i k a less (omega (arith, le)) at is in
-          record { p = n.p; e = n.e; from = n.from; to = omega (arith, n.to); at = n.at; is = n.is;
+          record {
+            p = n.p;
+            e = n.e;
+            from = n.from;
+            to = omega (arith, n.to);
+            at = n.at;
+            is = n.is;
             none = λ q u above below there p. elim (cases_eq q k) [
               | inl e ↦ never (subst P (same_Some u m.0 (sym there ∙ ap (slice_get touches) e ∙ m.1)) p)
               | inr apart ↦ n.none q u above (omega (arith, below, apart)) there p
-            ] }
+            ];
+          }
     ]
 
 -- the first of those from a place on
@@ -90,11 +104,18 @@ behind touches P each (suc top) i k b most le at is =
             | inr apart ↦ omega (arith, le, apart)
           ] in
           let n = behind touches P each top (suc i) k b (omega (arith, most)) less at is in
-          record { p = n.p; e = n.e; from = omega (arith, n.from); to = n.to; at = n.at; is = n.is;
+          record {
+            p = n.p;
+            e = n.e;
+            from = omega (arith, n.from);
+            to = n.to;
+            at = n.at;
+            is = n.is;
             none = λ q u above below there p. elim (cases_eq q i) [
               | inl e ↦ never (subst P (same_Some u m.0 (sym there ∙ ap (slice_get touches) e ∙ m.1)) p)
               | inr apart ↦ n.none q u (omega (arith, above, apart)) below there p
-            ] }
+            ];
+          }
     ]
 
 -- ---- what order says
@@ -173,32 +194,52 @@ module _ (h : List (Transaction ℕ ℕ)) (touches : List Touch) (are : AreTouch
       let i = touch-at at.0 f.e at.1 in
       let t_is : i.t ≡ t = same_Some i.t t (sym i.in_line ∙ ap (slice_get h) f.line_is ∙ in_line) in
       let o_is : i.of.o ≡ o = same_Some i.of.o o (sym i.of.there ∙ ap (slice_get i.t.operations) f.place_is
-          ∙ ap (λ (u : Transaction ℕ ℕ). slice_get u.operations place) t_is ∙ there) in
-      (record {
-        i = at.0;
-        e = f.e;
-        at = at.1;
-        line_is = f.line_is;
-        item_is = i.of.item_is ∙ ap (λ (u : Operation ℕ ℕ). u.item) o_is;
-        version_is = i.of.version_is ∙ ap (λ (u : Operation ℕ ℕ). u.version) o_is;
-      }, i.of.kind_is ∙ ap (λ (u : Operation ℕ ℕ). u.kind) o_is, i.of.commits_is ∙ ap (λ (u : Transaction ℕ ℕ). u.commits) t_is)
+      ∙ ap (λ (u : Transaction ℕ ℕ). slice_get u.operations place) t_is ∙ there) in (
+        record {
+          i = at.0;
+          e = f.e;
+          at = at.1;
+          line_is = f.line_is;
+          item_is = i.of.item_is ∙ ap (λ (u : Operation ℕ ℕ). u.item) o_is;
+          version_is = i.of.version_is ∙ ap (λ (u : Operation ℕ ℕ). u.version) o_is;
+        },
+        i.of.kind_is ∙ ap (λ (u : Operation ℕ ℕ). u.kind) o_is,
+        i.of.commits_is ∙ ap (λ (u : Transaction ℕ ℕ). u.commits) t_is,
+      )
 
   write-at : (line x v : ℕ) → Writes h line x v → (f : IsAt line x v) × IsWritten f.e
   write-at line x v w =
-      let f = find line w.place w.t w.o w.is.committed.0 w.is.there (are.all line w.place w.t w.o w.is.committed.0 w.is.there (inl w.writes.write)) in
-      (record {
-        i = f.0.i; e = f.0.e; at = f.0.at; line_is = f.0.line_is; item_is = f.0.item_is ∙ w.writes.item; version_is = f.0.version_is ∙ w.version_is },
-          record { write = f.1 ∙ w.writes.write; commits = f.2 ∙ w.is.committed.1 })
+      let f = find line w.place w.t w.o w.is.committed.0 w.is.there (are.all line w.place w.t w.o w.is.committed.0 w.is.there (inl w.writes.write)) in (
+        record {
+          i = f.0.i;
+          e = f.0.e;
+          at = f.0.at;
+          line_is = f.0.line_is;
+          item_is = f.0.item_is ∙ w.writes.item;
+          version_is = f.0.version_is ∙ w.version_is;
+        },
+        record { write = f.1 ∙ w.writes.write; commits = f.2 ∙ w.is.committed.1 },
+      )
 
   read-at : (line x v : ℕ) → Reads h line x v → (f : IsAt line x v) × (f.e.kind ≡ Read)
   read-at line x v r =
       let f = find line r.place r.t r.o r.is.committed.0 r.is.there
-          (are.all line r.place r.t r.o r.is.committed.0 r.is.there (inr (r.read, r.is.committed.1,
-              subst (λ y. (place : ℕ) (o : Operation ℕ ℕ) → 0 ≤ place → place < r.place → slice_get r.t.operations place ≡ Some o → IsWriteOf o y → ⊥)
-                  (sym r.item_is) r.foreign))) in
-      (record {
-        i = f.0.i; e = f.0.e; at = f.0.at; line_is = f.0.line_is; item_is = f.0.item_is ∙ r.item_is; version_is = f.0.version_is ∙ r.version_is },
-          f.1 ∙ r.read)
+      (are.all line r.place r.t r.o r.is.committed.0 r.is.there (inr (
+        r.read,
+        r.is.committed.1,
+        subst (λ y. (place : ℕ) (o : Operation ℕ ℕ) → 0 ≤ place → place < r.place → slice_get r.t.operations place ≡ Some o → IsWriteOf o y → ⊥)
+            (sym r.item_is) r.foreign,
+      ))) in (
+        record {
+          i = f.0.i;
+          e = f.0.e;
+          at = f.0.at;
+          line_is = f.0.line_is;
+          item_is = f.0.item_is ∙ r.item_is;
+          version_is = f.0.version_is ∙ r.version_is;
+        },
+        f.1 ∙ r.read,
+      )
 
   module _ (faultless : IsFaultless h) where
     one-writer : (l m x v : ℕ) → Writes h l x v → Writes h m x v → l ≡ m
@@ -228,22 +269,22 @@ module _ (h : List (Transaction ℕ ℕ)) (touches : List Touch) (are : AreTouch
           let f = write-at line a.item c w in
           elim (cases_lt f.0.i k) [
             | inr past ↦ elim (cases_eq k f.0.i) [
-                | inl e ↦
-                    let same = same_Some b f.0.e (sym at' ∙ ap (slice_get touches) e ∙ f.0.at) in
-                    omega (arith, ap (λ (u : Touch). u.version) same, f.0.version_is)
-                | inr apart ↦
-                    let rise = versions-rise b f.0.e (ordered k f.0.i b f.0.e (omega (arith, past, apart)) at' f.0.at) (sym item ∙ sym f.0.item_is) in
-                    omega (arith, rise, f.0.version_is)
-              ]
+              | inl e ↦
+                  let same = same_Some b f.0.e (sym at' ∙ ap (slice_get touches) e ∙ f.0.at) in
+                  omega (arith, ap (λ (u : Touch). u.version) same, f.0.version_is)
+              | inr apart ↦
+                  let rise = versions-rise b f.0.e (ordered k f.0.i b f.0.e (omega (arith, past, apart)) at' f.0.at) (sym item ∙ sym f.0.item_is) in
+                  omega (arith, rise, f.0.version_is)
+            ]
             | inl less ↦ elim (cases_order f.0.i i) [
-                | inl e ↦
-                    let same = same_Some f.0.e a (sym f.0.at ∙ ap (slice_get touches) e ∙ at) in
-                    absurd (omega (arith, ap (λ (u : Touch). u.version) same, f.0.version_is, more))
-                | inr (inl before) ↦
-                    let rise = versions-rise f.0.e a (ordered f.0.i i f.0.e a before f.0.at at) f.0.item_is in
-                    absurd (omega (arith, rise, f.0.version_is, more))
-                | inr (inr inside) ↦ absurd (none f.0.i f.0.e inside less f.0.at f.1)
-              ]
+              | inl e ↦
+                  let same = same_Some f.0.e a (sym f.0.at ∙ ap (slice_get touches) e ∙ at) in
+                  absurd (omega (arith, ap (λ (u : Touch). u.version) same, f.0.version_is, more))
+              | inr (inl before) ↦
+                  let rise = versions-rise f.0.e a (ordered f.0.i i f.0.e a before f.0.at at) f.0.item_is in
+                  absurd (omega (arith, rise, f.0.version_is, more))
+              | inr (inr inside) ↦ absurd (none f.0.i f.0.e inside less f.0.at f.1)
+            ]
           ];
     }
 
@@ -257,19 +298,24 @@ module _ (h : List (Transaction ℕ ℕ)) (touches : List Touch) (are : AreTouch
           | inr apart ↦ omega (arith, most, apart)
         ] in
         (p.meets.1, a, b, next-version i k p.a p.b p.first p.second p.before p.none p.meets.0 above (inr p.meets.2))
-    pair-conflict WriteRead i k p =
-        (p.meets.1, writes-at i p.a p.a.item p.a.version p.first p.meets.2 refl refl,
-            reads-at k p.b p.a.item p.b.version p.second p.meets.3 (sym p.meets.0) refl, p.meets.4)
+    pair-conflict WriteRead i k p = (
+      p.meets.1,
+      writes-at i p.a p.a.item p.a.version p.first p.meets.2 refl refl,
+      reads-at k p.b p.a.item p.b.version p.second p.meets.3 (sym p.meets.0) refl,
+      p.meets.4,
+    )
     pair-conflict ReadWrite i k p =
         let order = ordered i k p.a p.b p.before p.first p.second in
         let most = versions-rise p.a p.b order p.meets.0 in
         let above : p.a.version < p.b.version = elim (cases_eq p.a.version p.b.version) [
           | inl e ↦ absurd (kinds-rise p.a p.b order p.meets.0 e p.meets.2 p.meets.3.write)
           | inr apart ↦ omega (arith, most, apart)
-        ] in
-        (p.meets.1, reads-at i p.a p.a.item p.a.version p.first p.meets.2 refl refl,
-            writes-at k p.b p.a.item p.b.version p.second p.meets.3 (sym p.meets.0) refl,
-            next-version i k p.a p.b p.first p.second p.before p.none p.meets.0 above (inl p.meets.2))
+        ] in (
+          p.meets.1,
+          reads-at i p.a p.a.item p.a.version p.first p.meets.2 refl refl,
+          writes-at k p.b p.a.item p.b.version p.second p.meets.3 (sym p.meets.0) refl,
+          next-version i k p.a p.b p.first p.second p.before p.none p.meets.0 above (inl p.meets.2),
+        )
 
     -- ---- a conflict is a pair
 
@@ -298,11 +344,11 @@ module _ (h : List (Transaction ℕ ℕ)) (touches : List Touch) (are : AreTouch
               let same = same_Some m a (sym here ∙ ap (slice_get touches) (sym e) ∙ at) in
               (ap (λ (u : Touch). u.item) same, omega (arith, ap (λ (u : Touch). u.version) same), omega (arith, ap (λ (u : Touch). u.version) same, most))
           | inr apart ↦ elim (cases_eq p k) [
-              | inl e ↦
-                  let same = same_Some m b (sym here ∙ ap (slice_get touches) e ∙ at') in
-                  (ap (λ (u : Touch). u.item) same ∙ sym item, omega (arith, ap (λ (u : Touch). u.version) same, most), omega (arith, ap (λ (u : Touch). u.version) same))
-              | inr more ↦ between a m b (ordered i p a m (omega (arith, le, apart)) at here) (ordered p k m b (omega (arith, less, more)) here at') item
-            ]
+            | inl e ↦
+                let same = same_Some m b (sym here ∙ ap (slice_get touches) e ∙ at') in
+                (ap (λ (u : Touch). u.item) same ∙ sym item, omega (arith, ap (λ (u : Touch). u.version) same, most), omega (arith, ap (λ (u : Touch). u.version) same))
+            | inr more ↦ between a m b (ordered i p a m (omega (arith, le, apart)) at here) (ordered p k m b (omega (arith, less, more)) here at') item
+          ]
         ]
 
     pub conflict-pair : (kind : Conflict) (from to x v w : ℕ) → HaveConflict h kind from to x v w → IsPairOf kind from to x v w
@@ -311,15 +357,15 @@ module _ (h : List (Transaction ℕ ℕ)) (touches : List Touch) (are : AreTouch
         let b = write-at to x w second in
         -- the first write of the second version
         let lt = stands-before a.0.i b.0.i a.0.e b.0.e a.0.at b.0.at (a.0.item_is ∙ sym b.0.item_is)
-            (omega (arith, a.0.version_is, b.0.version_is, next.above)) in
+        (omega (arith, a.0.version_is, b.0.version_is, next.above)) in
         let k = behind touches (λ e. IsWritten e × ((e.item ≡ x) × (e.version ≡ w)))
-            (λ e. decidable-both (decidable-written e) (decidable-both (cases_eq e.item x) (cases_eq e.version w)))
-            b.0.i a.0.i b.0.i b.0.e (omega arith) (omega (arith, lt)) b.0.at (b.1, (b.0.item_is, b.0.version_is)) in
+        (λ e. decidable-both (decidable-written e) (decidable-both (cases_eq e.item x) (cases_eq e.version w)))
+        b.0.i a.0.i b.0.i b.0.e (omega arith) (omega (arith, lt)) b.0.at (b.1, (b.0.item_is, b.0.version_is)) in
         let less = stands-before a.0.i k.p a.0.e k.e a.0.at k.at (a.0.item_is ∙ sym k.is.1.0)
-            (omega (arith, a.0.version_is, k.is.1.1, next.above)) in
+        (omega (arith, a.0.version_is, k.is.1.1, next.above)) in
         let p = nearest touches IsWritten decidable-written a.0.i k.p a.0.e less (omega (arith, slice_get_within touches k.p k.e k.at)) a.0.at a.1 in
         let m = mid a.0.i p.p k.p a.0.e p.e k.e a.0.at p.at k.at p.from (omega (arith, p.to)) (a.0.item_is ∙ sym k.is.1.0)
-            (omega (arith, a.0.version_is, k.is.1.1, next.above)) in
+        (omega (arith, a.0.version_is, k.is.1.1, next.above)) in
         let item : p.e.item ≡ x = m.0 ∙ a.0.item_is in
         let not : p.e.version ≢ w = λ e. k.none p.p p.e p.from p.to p.at (p.is, (item, e)) in
         let by = writes-at p.p p.e x p.e.version p.at p.is item refl in

@@ -125,7 +125,7 @@ module _ (h : List (Transaction ℕ ℕ)) (touches : List Touch) (by : IsFaultle
         let one : l.a.line ≡ from = ap (λ (u : Touch). u.line) a_is ∙ p.from_is in
         let two : l.b.line ≡ to = ap (λ (u : Touch). u.line) b_is ∙ p.to_is in
         subst (λ x. Contains (take n new) (record { from = x; to = to })) one
-            (subst (λ y. Contains (take n new) (record { from = l.a.line; to = y })) two found);
+        (subst (λ y. Contains (take n new) (record { from = l.a.line; to = y })) two found);
     nodes = All-from_at (JoinsNodes (length h)) (take n new) (λ k e at.
         let c = sounds-lines e k at in
         (slice_get_within h e.from c.0 c.1, slice_get_within h e.to c.2 c.3));
@@ -192,5 +192,5 @@ pub whole-edges : (h : List (Transaction ℕ ℕ)) (touches : List Touch) → Is
     → ArePairsOf touches graph.Whole old → AreEdgesOf h graph.Whole new
 whole-edges h touches by old new lined are =
     subst (AreEdgesOf h graph.Whole) (take_all (length new) new (omega arith))
-        (edges-are h touches by graph.Whole old new (length new) lined
-            (subst (ArePairsOf touches graph.Whole) (sym (take_all (length new) old (omega (arith, lined.size)))) are))
+    (edges-are h touches by graph.Whole old new (length new) lined
+    (subst (ArePairsOf touches graph.Whole) (sym (take_all (length new) old (omega (arith, lined.size)))) are))

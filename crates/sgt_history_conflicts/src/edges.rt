@@ -5,8 +5,8 @@ ghost use Rattle.sgt_history.specs.Transaction.{Transaction};
 ghost use Rattle.sgt_history_conflicts.specs.Edges.{AreLined, HasEdges, HasPairs, JoinsTouches, part_of};
 ghost use Rattle.sgt_history_faults.specs.Judged.{IsFaultlessBy};
 
-use crate::parts::Parts;
 use crate::pairs::{push_backward, push_forward};
+use crate::parts::Parts;
 use sgt_history::{Conflict, Graph};
 use sgt_history_faults::Touch;
 use sgt_history_graph::Edge;

@@ -84,7 +84,12 @@ fn push_behind(
 }
 
 /// Puts the pair of this touch and the first write behind it behind the pairs before, if they conflict.
-fn push_before(touches: &[Touch], first: Option<u32>, at: u32, pairs: &mut Vec<Edge>) -> Result<(), AllocError>
+fn push_before(
+    touches: &[Touch],
+    first: Option<u32>,
+    at: u32,
+    pairs: &mut Vec<Edge>,
+) -> Result<(), AllocError>
     requires at { at < length touches.now }
     requires first { IsFirst touches.now (at + 1) first }
     ensures { OnOk result ((before : List Edge) → AddsFrom touches.now Conflict.ReadWrite (at + 1) before pairs.old.items
@@ -93,7 +98,11 @@ fn push_before(touches: &[Touch], first: Option<u32>, at: u32, pairs: &mut Vec<E
     let Some(to) = first else {
         return Ok(());
     };
-    if !meets(Conflict::ReadWrite, &touches[at as usize], &touches[to as usize]) {
+    if !meets(
+        Conflict::ReadWrite,
+        &touches[at as usize],
+        &touches[to as usize],
+    ) {
         return Ok(());
     }
     pairs.push(Edge { from: at, to })?;
@@ -101,7 +110,11 @@ fn push_before(touches: &[Touch], first: Option<u32>, at: u32, pairs: &mut Vec<E
 }
 
 /// Puts all pairs that conflict in this way, the first a write, behind those before.
-pub fn push_forward(touches: &[Touch], kind: Conflict, pairs: &mut Vec<Edge>) -> Result<(), AllocError>
+pub fn push_forward(
+    touches: &[Touch],
+    kind: Conflict,
+    pairs: &mut Vec<Edge>,
+) -> Result<(), AllocError>
     requires few { length touches.now < 2 ^ 32 }
     requires written { kind ≢ Conflict.ReadWrite }
     ensures { OnOk result (AddsAll touches.now kind pairs.old.items pairs.new.items) }

@@ -16,8 +16,8 @@ returns c = λ before added.
     let two = slice_get-get_or c.args.touches.now c.in-Some.to d (slice_get_within c.args.touches.now c.in-Some.to first.1 first.2) in
     let pair = pair-before c.args.touches.now c.args.at c.in-Some.to _ _ first one two (c.meets.ensures.0 c.if-not-meets.false) in
     rw c.in_ok-push.ensures.items (added-one c.args.touches.now ReadWrite (λ i k. c.args.at + 1 ≤ i) (λ i k. c.args.at ≤ i) before
-        c.args.pairs.now.items (record { from = c.args.at; to = c.in-Some.to }) pair
-        (λ i k le is. elim (only-first c.args.touches.now c.args.at c.args.first c.requires.first i k le is) [
-          | inl more ↦ inl more
-          | inr (at, same) ↦ inr (at, same_Some k c.in-Some.to (sym same ∙ c.in-Some.is))
-        ]) added)
+    c.args.pairs.now.items (record { from = c.args.at; to = c.in-Some.to }) pair
+    (λ i k le is. elim (only-first c.args.touches.now c.args.at c.args.first c.requires.first i k le is) [
+      | inl more ↦ inl more
+      | inr (at, same) ↦ inr (at, same_Some k c.in-Some.to (sym same ∙ c.in-Some.is))
+    ]) added)

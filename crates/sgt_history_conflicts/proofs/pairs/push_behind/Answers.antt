@@ -16,8 +16,8 @@ returns c = λ before added.
     let two = slice_get-get_or c.args.touches.now c.args.at d c.requires.at in
     let pair = pair-behind c.args.touches.now c.args.kind c.in-Some.from c.args.at _ _ last one two (c.meets.ensures.0 c.if-not-meets.false) in
     rw c.in_ok-push.ensures.items (added-one c.args.touches.now c.args.kind (λ i k. k < c.args.at) (λ i k. k < c.args.at + 1) before
-        c.args.pairs.now.items (record { from = c.in-Some.from; to = c.args.at }) pair
-        (λ i k lt is. elim (only-last c.args.touches.now c.args.kind c.args.at c.args.last c.requires.written c.requires.last i k lt is) [
-          | inl less ↦ inl less
-          | inr (same, at) ↦ inr (same_Some i c.in-Some.from (sym same ∙ c.in-Some.is), at)
-        ]) added)
+    c.args.pairs.now.items (record { from = c.in-Some.from; to = c.args.at }) pair
+    (λ i k lt is. elim (only-last c.args.touches.now c.args.kind c.args.at c.args.last c.requires.written c.requires.last i k lt is) [
+      | inl less ↦ inl less
+      | inr (same, at) ↦ inr (same_Some i c.in-Some.from (sym same ∙ c.in-Some.is), at)
+    ]) added)
