@@ -19,6 +19,7 @@ pub mod Leading
 pub mod Stepping
 pub mod Opening
 pub mod Bundles
+pub mod Written
 pub mod AllEdges
 pub mod Decisions
 pub mod Ruled

@@ -1,3 +1,4 @@
 pub mod Machine
 pub mod Gathered
+pub mod Cut
 pub mod private

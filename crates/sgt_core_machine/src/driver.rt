@@ -1,9 +1,11 @@
 //! The core: a machine of one thread that serves events.
 
-ghost use Rattle.std.specs.Prelude.{◌≡◌, ◌≢◌, ◌≤◌, [], length, IfOk, IfErr, OnOk, OnErr};
+ghost use Rattle.std.specs.Prelude.{◌≡◌, ◌≢◌, ◌≤◌, [], length, IfOk, IfErr, OnOk, OnErr, option_map};
 ghost use Rattle.sgt_names.specs.Limits.{max_sites};
+ghost use Rattle.sgt_cert.specs.Text.{text_of};
 ghost use Rattle.sgt_cert.specs.Valid.{IsValid};
-ghost use Rattle.sgt_core_model.specs.Core.{CoreState, fresh, bundle_of};
+ghost use Rattle.sgt_core_model.specs.Core.{CoreState, OpenStep, fresh, bundle_of};
+ghost use Rattle.sgt_core_machine.specs.Cut.{last_values};
 ghost use Rattle.sgt_core_model.specs.Step.{MayStep, MayDecide, Run};
 ghost use Rattle.sgt_core_model.specs.Runs.{AreSites};
 ghost use Rattle.sgt_core_machine.specs.Machine.{StandsFor, Stands, GoesOn, RefusesSites, RefusesBundle};
@@ -32,6 +34,13 @@ impl Model for Core {
     ghost view = { λ c. parts_of c.machine };
 
     ghost invariant = { λ c. Stands (parts_of c.machine) };
+}
+
+/// What a cut gives: the text of the bundle of all that was logged, and a core over the last values.
+#[derive(Drop)]
+pub struct Cut {
+    pub text: Vec<u8>,
+    pub next: Core,
 }
 
 impl Core {
@@ -140,5 +149,61 @@ impl Core {
             return Err(CoreFault::ActiveLeft);
         }
         machine.into_bundle(alloc)
+    }
+
+    /// What a cut gives here: the text of the bundle, and a core over the last values, to which nothing has happened. It errs
+    /// as `bundle` does. The core itself stays as it is, so a cut is made by putting the new one in its place. The logs are not
+    /// copied. Linear in the decisions and the logs.
+    pub fn cut(&self, alloc: Global) -> Result<Cut, CoreFault>
+        ensures text { IfOk result
+            (λ cut. (c : CoreState) → StandsFor self.now c
+            → cut.text.items ≡ text_of (bundle_of c)) }
+        ensures next { IfOk result
+            (λ cut. (c : CoreState) → StandsFor self.now c
+            → StandsFor cut.next (fresh (last_values c))) }
+        ensures idle { OnOk result
+            ((c : CoreState) → StandsFor self.now c → c.certifier.active ≡ []) }
+        ensures refused { IfErr result
+            (λ f. (c : CoreState) → StandsFor self.now c → RefusesBundle c f) }
+    {
+        if self.machine.certifier.active() > 0 {
+            return Err(CoreFault::ActiveLeft);
+        }
+        let Ok(written) = self.machine.written(alloc) else {
+            return Err(CoreFault::Memory);
+        };
+        match Machine::new(alloc, written.finals.as_slice()) {
+            Ok(machine) => Ok(Cut {
+                text: written.text,
+                next: Core { machine },
+            }),
+            Err(fault) => match fault {
+                SiteFault::Memory => Err(CoreFault::Memory),
+                _ => unreachable!(),
+            },
+        }
+    }
+
+    /// How many transactions were begun.
+    pub fn begun(&self) -> u32
+        ensures { (c : CoreState) → StandsFor self.now c → result ≡ c.certifier.begun }
+    {
+        self.machine.begun
+    }
+
+    /// How many sites there are.
+    pub fn sites(&self) -> usize
+        ensures sites { (c : CoreState) → StandsFor self.now c → result ≡ length c.items }
+        ensures few { result ≤ max_sites }
+    {
+        self.machine.places.len()
+    }
+
+    /// The transaction whose step is open.
+    pub fn open_step(&self) -> Option<Tx>
+        ensures { (c : CoreState) → StandsFor self.now c
+            → result ≡ option_map (λ (step : OpenStep). step.tx) c.step }
+    {
+        self.machine.step.as_ref().map(|open| open.tx)
     }
 }

@@ -2,6 +2,7 @@
 #![tactic(auto)]
 
 mod bundling;
+mod cutting;
 mod deciding;
 mod driver;
 mod gathering;
@@ -11,4 +12,4 @@ mod machine;
 mod whole;
 mod withdrawing;
 
-pub use driver::Core;
+pub use driver::{Core, Cut};
