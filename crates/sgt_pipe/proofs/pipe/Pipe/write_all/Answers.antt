@@ -16,8 +16,10 @@ writes-preserved g c =
     let first = c.args.self.now.history.written in
     record {
       within = omega (arith, e.count);
-      wrote = (subst (Appends _ _) (sym (take-add c.writes.at n bytes)) (appends_on _ _ _ _ _ was.0 wrote.0),
-        wrote.1 ∙ (ap (λ ws. ws ++ take n (Rattle.std.proofs.Common.drop c.writes.at bytes)) was.1 ∙ (append_assoc first _ _ ∙ ap (λ ts. first ++ ts) (sym (take-add c.writes.at n bytes)))));
+      wrote = (
+        subst (Appends _ _) (sym (take-add c.writes.at n bytes)) (appends_on _ _ _ _ _ was.0 wrote.0),
+        wrote.1 ∙ (ap (λ ws. ws ++ take n (Rattle.std.proofs.Common.drop c.writes.at bytes)) was.1 ∙ (append_assoc first _ _ ∙ ap (λ ts. first ++ ts) (sym (take-add c.writes.at n bytes)))),
+      );
       quiet = e.fails ∙ c.writes.invariant.quiet;
       given = e.given ∙ c.writes.invariant.given;
       waits = e.waits ∙ c.writes.invariant.waits;
