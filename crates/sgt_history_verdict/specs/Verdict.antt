@@ -1,0 +1,63 @@
+-- What a history is decided to be.
+use Rattle.std.specs.Prelude.{◌≡◌, ℕ, Bool, if◌then◌else◌, List, [], ◌∷◌, length, Option, None, Some, slice_get}
+use Rattle.sgt_history.specs.declared.named.Graph.{Graph}
+use Rattle.sgt_history.specs.declared.named.Graph.TheVariants.{WriteWrite, WithReads, Whole}
+use Rattle.sgt_history.specs.Transaction.{Transaction}
+use Rattle.sgt_history.specs.Serial.{Serves}
+use Rattle.sgt_history.specs.Conflicts.{ConflictIn, IsCycle, HasCycle}
+use Rattle.sgt_history.specs.Flaws.{IsFirstFault}
+use Rattle.sgt_history_conflicts.specs.Edges.{AreEdgesOf, HasPairs}
+use Rattle.sgt_history_faults.specs.Judged.{IsFaultlessBy}
+use Rattle.sgt_history_graph.specs.Graph.{IsOrder}
+use Rattle.sgt_history_graph.specs.declared.edge.Edge.{Edge}
+use Rattle.sgt_history_verdict.specs.declared.cyclic.Cyclic.{Cyclic}
+use Rattle.sgt_history_verdict.specs.declared.deciding.Verdict.{Verdict}
+use Rattle.sgt_history_verdict.specs.declared.deciding.Verdict.TheVariants as verdict
+
+-- ---- an order
+
+-- the line, if its transaction commits, before these
+abbrev pub with_committed : Option (Transaction ℕ ℕ) → ℕ → List ℕ → List ℕ
+with_committed None line lines = lines
+with_committed (Some t) line lines = if t.commits then line ∷ lines else lines
+
+-- those of the lines whose transactions commit
+abbrev pub committed_in : List (Transaction ℕ ℕ) → List ℕ → List ℕ
+committed_in h [] = []
+committed_in h (line ∷ lines) = with_committed (slice_get h line) line (committed_in h lines)
+
+-- the order serves, and has the least line first of those that may stand behind those before
+pub record IsSerialBy (h : List (Transaction ℕ ℕ)) (order : List ℕ) : Type 0 where
+  pub serves : Serves h (committed_in h order)
+  pub edges : List Edge
+  pub conflicts : AreEdgesOf h Whole edges
+  pub ordered : IsOrder (length h) edges order
+
+-- ---- a cycle
+
+-- the first graph has less conflicts than the second
+abbrev pub IsBelow : Graph → Graph → Type 0
+IsBelow WriteWrite WriteWrite = ⊥
+IsBelow WriteWrite WithReads = Unit {0}
+IsBelow WriteWrite Whole = Unit {0}
+IsBelow WithReads WriteWrite = ⊥
+IsBelow WithReads WithReads = ⊥
+IsBelow WithReads Whole = Unit {0}
+IsBelow Whole g = ⊥
+
+-- it is a cycle of the graph, and no graph with less conflicts has one
+pub record IsLeastCycle (h : List (Transaction ℕ ℕ)) (g : Graph) (cycle : List ℕ) : Type 0 where
+  pub is : IsCycle (ConflictIn h g) cycle
+  pub least : (less : Graph) → IsBelow less g → HasCycle h less → ⊥
+
+pub record IsCyclic (h : List (Transaction ℕ ℕ)) (c : Cyclic) : Type 0 where
+  pub faultless : IsFaultlessBy h c.touches.items
+  pub pairs_are : HasPairs c.touches.items c.pairs
+  pub cycle_is : IsLeastCycle h c.graph c.cycle.items
+
+-- ---- the verdict
+
+abbrev pub IsVerdict : List (Transaction ℕ ℕ) → Verdict → Type 0
+IsVerdict h (verdict.Serial order) = IsSerialBy h order.items
+IsVerdict h (verdict.Faulty f) = IsFirstFault h f.line f.flaw f.place
+IsVerdict h (verdict.Cyclic c) = IsCyclic h c
