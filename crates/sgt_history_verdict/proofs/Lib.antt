@@ -1,2 +1,4 @@
 pub mod Kept
 pub mod Served
+pub mod Least
+pub mod Stepping

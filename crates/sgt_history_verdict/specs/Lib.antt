@@ -1,2 +1,4 @@
 pub mod Verdict
 pub mod Decided
+pub mod Steps
+pub mod Named

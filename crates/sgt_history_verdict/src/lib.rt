@@ -1,8 +1,18 @@
 //! Whether a history is serializable, with what shows it: an order that serves, a fault, or a cycle of conflicts.
 #![tactic(auto)]
 
+mod along;
+mod anomaly;
 mod cyclic;
 mod deciding;
+mod quick;
+mod step;
+mod steps;
+#[cfg(test)]
+mod tests;
 
+pub use anomaly::{Anomaly, anomaly_of};
 pub use cyclic::Cyclic;
 pub use deciding::{Decided, Verdict, decide};
+pub use step::Step;
+pub use steps::steps_of;

@@ -1,0 +1,68 @@
+//! Steps along lines, each from one line to the next, and from the last to the first.
+
+ghost use Rattle.std.specs.Prelude.{◌≡◌, ◌<◌, Some, All, IfNone, IfOk, IfSome, length, slice_get};
+ghost use Rattle.sgt_history_conflicts.specs.Edges.{JoinsTouches};
+ghost use Rattle.sgt_history_verdict.specs.declared.step.Step.{Step};
+ghost use Rattle.sgt_history_verdict.specs.Steps.{AreAlong, IsOfPairs, LeadAlong, Leads, place_behind};
+
+use crate::step::{Step, least, step_of};
+use sgt_history_faults::Touch;
+use sgt_history_graph::Edge;
+use std::alloc::{AllocError, Global};
+
+/// The line behind this place; behind the last place is the first.
+pub(crate) fn line_behind(lines: &[u32], place: usize) -> u32
+    requires { place < length lines.now }
+    ensures { slice_get lines.now (place_behind place (length lines.now)) ≡ Some result }
+{
+    if place + 1 < lines.len() {
+        lines[place + 1]
+    } else {
+        lines[0]
+    }
+}
+
+/// The least step of these pairs from one line to another, if there is one.
+fn least_between(
+    touches: &[Touch],
+    pairs: &[Edge],
+    ranks: &[u32],
+    lines: (u32, u32),
+) -> Option<Step>
+    requires { All (JoinsTouches touches.now) pairs.now }
+    ensures some { IfSome result (λ s. IsOfPairs touches.now pairs.now s × Leads s lines.0 lines.1) }
+    ensures none { IfNone result ((s : Step) → IsOfPairs touches.now pairs.now s → Leads s lines.0 lines.1 → ⊥) }
+{
+    let (from, to) = lines;
+    let mut best = None;
+    for pair in pairs {
+        let step = step_of(touches, *pair);
+        if step.from == from && step.to == to {
+            best = Some(least(ranks, best, step));
+        }
+    }
+    best
+}
+
+/// The steps along these lines, where there are some. Takes time in proportion to lines times pairs.
+pub(crate) fn steps_along(
+    alloc: Global,
+    touches: &[Touch],
+    pairs: &[Edge],
+    ranks: &[u32],
+    lines: &[u32],
+) -> Result<Vec<Step>, AllocError>
+    requires joins { All (JoinsTouches touches.now) pairs.now }
+    requires lead { LeadAlong touches.now pairs.now lines.now }
+    ensures { IfOk result (λ steps. AreAlong touches.now pairs.now lines.now steps.items) }
+{
+    let mut steps = Vec::new(alloc);
+    for place in 0..lines.len() {
+        let ends = (lines[place], line_behind(lines, place));
+        let Some(step) = least_between(touches, pairs, ranks, ends) else {
+            unreachable!()
+        };
+        steps.push(step)?;
+    }
+    Ok(steps)
+}
