@@ -1,5 +1,5 @@
 -- Steps of pairs of touches, along lines.
-use Rattle.std.proofs.Common.{◌≡◌, ℕ, zero, suc, ◌+◌, ◌<◌, ◌≤◌, List, [], ◌∷◌, ◌++◌, Option, Some, None, length, get_or, set, map, refl, sym, ap, ◌∙◌, subst, arith, inl, inr, ◌⊎◌, All, Contains, length-append}
+use Rattle.std.proofs.Common.{◌≡◌, ℕ, zero, suc, ◌+◌, ◌<◌, ◌≤◌, List, [], ◌∷◌, ◌++◌, Option, Some, None, length, get_or, set, map, refl, sym, ap, ◌∙◌, subst, arith, inl, inr, ◌⊎◌, All, Contains, Vec, Global, length-append}
 use Rattle.std.specs.Prelude.{slice_get, IfNone, IfSome}
 use Rattle.std.proofs.lemmas.List.Elements.{All-set}
 use Rattle.std.proofs.lemmas.Bool.{cases_lt, lt-ltb, le-ltb}
@@ -16,10 +16,12 @@ use Rattle.sgt_history_faults.specs.declared.touch.Touch.{Touch}
 use Rattle.sgt_history_faults.specs.Judged.{IsFaultlessBy}
 use Rattle.sgt_history_graph.specs.declared.edge.Edge.{Edge}
 use Rattle.sgt_history_conflicts.specs.Pairs.{IsPair, Meets}
-use Rattle.sgt_history_conflicts.specs.Edges.{ArePairsOf, JoinsTouches}
+use Rattle.sgt_history_conflicts.specs.Edges.{ArePairsOf, JoinsTouches, part_of}
 use Rattle.sgt_history_conflicts.proofs.Conflicting.{pair-conflict, conflict-pair}
+use Rattle.sgt_history_verdict.specs.declared.cyclic.Cyclic.{Cyclic}
 use Rattle.sgt_history_verdict.specs.declared.step.Step.{Step}
-use Rattle.sgt_history_verdict.specs.Steps.{IsStep, AreSteps, AreAlong, AreOfPairs, IsOf, IsOfPairs, LeadAlong, Leads, kind_between, lines_of, place_behind, step_between}
+use Rattle.sgt_history_verdict.specs.Steps.{IsStep, AreSteps, AreAlong, AreOfPairs, IsOf, IsOfPairs, IsTold, LeadAlong, Leads, kind_between, lines_of, place_behind, step_between}
+use Rattle.sgt_history_verdict.specs.Verdict.{IsCyclic}
 
 -- ---- a step of a pair
 
@@ -250,3 +252,35 @@ kept-next touches pairs best i d step r lt of either all =
       | inr e ↦ subst P e (all i d lt)
     ] in
     All-set P best i (Some r) this all
+
+-- ---- of what is told of a cycle
+
+pub told-join : (c : Cyclic) (h : List (Transaction ℕ ℕ)) (touches : List Touch) (pairs : List Edge) → IsCyclic h c → touches ≡ c.touches.items
+    → pairs ≡ part_of c.pairs c.graph → All (JoinsTouches touches) pairs
+told-join c h touches pairs is t p =
+    subst (λ ts. All (JoinsTouches ts) pairs) (sym t) (subst (λ es. All (JoinsTouches c.touches.items) es) (sym p)
+    (pairs-join c.touches.items c.graph (part_of c.pairs c.graph) (is.pairs_are c.graph)))
+
+pub told-lead : (c : Cyclic) (h : List (Transaction ℕ ℕ)) (touches : List Touch) (pairs : List Edge) (lines : List ℕ) → IsCyclic h c → touches ≡ c.touches.items
+    → pairs ≡ part_of c.pairs c.graph → lines ≡ c.cycle.items → LeadAlong touches pairs lines
+told-lead c h touches pairs lines is t p l =
+    let lead : LeadAlong c.touches.items (part_of c.pairs c.graph) c.cycle.items =
+    cycle-leads h c.touches.items is.faultless c.graph (part_of c.pairs c.graph) (is.pairs_are c.graph) c.cycle.items is.cycle_is.is in
+    subst (λ ts. LeadAlong ts pairs lines) (sym t) (subst (λ es. LeadAlong c.touches.items es lines) (sym p)
+    (subst (λ xs. LeadAlong c.touches.items (part_of c.pairs c.graph) xs) (sym l) lead))
+
+pub told-steps : (c : Cyclic) (h : List (Transaction ℕ ℕ)) (touches : List Touch) (pairs : List Edge) (lines : List ℕ) (steps : List Step) → IsCyclic h c
+    → touches ≡ c.touches.items → pairs ≡ part_of c.pairs c.graph → 0 < length lines → AreAlong touches pairs lines steps → AreSteps h c.graph steps
+told-steps c h touches pairs lines steps is t p some along =
+    along-steps h c.touches.items is.faultless c.graph (part_of c.pairs c.graph) (is.pairs_are c.graph) lines steps some
+    (subst (λ es. AreAlong c.touches.items es lines steps) p (subst (λ ts. AreAlong ts pairs lines steps) t along))
+
+pub told-cycle : (c : Cyclic) (h : List (Transaction ℕ ℕ)) (lines : List ℕ) → IsCyclic h c → lines ≡ c.cycle.items → 0 < length lines
+told-cycle c h lines is l = subst (λ xs. 0 < length xs) (sym l) (cycle-some (ConflictIn h c.graph) c.cycle.items is.cycle_is.is)
+
+pub told-shown : (shown : Option (Vec ℕ Global)) (one : Vec ℕ Global) (cycle lines : List ℕ) → shown ≡ Some one → lines ≡ one.items → IsTold shown cycle lines
+told-shown shown one cycle lines is l = subst (λ o. IsTold o cycle lines) (sym is) (inl l)
+
+pub told-other : (shown : Option (Vec ℕ Global)) (cycle lines : List ℕ) → lines ≡ cycle → IsTold shown cycle lines
+told-other None cycle lines l = l
+told-other (Some one) cycle lines l = inr l

@@ -13,5 +13,5 @@ loop-place-preserved c = λ touches pairs are.
     let place = c.loop-place.place in
     let of = All_in (λ (o : Option Step). IfSome o (IsOfPairs touches pairs)) c.args.best.now (Some c.in-Some.step) are c.in-Some.ensures.0 in
     along-next touches pairs lines place c.loop-place.steps.items c.push.new.self.items c.in-Some.step (get_or lines place 0) c.line_behind.result
-    (c.loop-place.invariant touches pairs are) c.in_ok-push.ensures.items (slice_get-get_or lines place 0 c.loop-place-test.true) c.line_behind.ensures
+    (c.loop-place.invariant touches pairs are) c.in_ok-push-in-Some.ensures.items (slice_get-get_or lines place 0 c.loop-place-test.true) c.line_behind.ensures
     of c.in-Some.ensures.1
