@@ -1,4 +1,4 @@
-use Rattle.std.proofs.Common.{◌≡◌, get_or}
+use Rattle.std.proofs.Common.{get_or}
 use Rattle.std.proofs.lemmas.Option.{slice_get-get_or}
 use Rattle.sgt_history_verdict.proofs.Stepping.{along-next, none-is}
 use Rattle.sgt_history_verdict.proofs.along.steps_along.Goals as goal

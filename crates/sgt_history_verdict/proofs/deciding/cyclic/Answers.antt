@@ -1,4 +1,3 @@
-use Rattle.std.proofs.Common.{◌≡◌}
 use Rattle.sgt_history_verdict.proofs.Least.{edges-join}
 use Rattle.sgt_history_verdict.proofs.deciding.cyclic.Goals as goal
 

@@ -1,4 +1,4 @@
-use Rattle.std.proofs.Common.{◌≡◌, ◌∙◌, sym, subst}
+use Rattle.std.proofs.Common.{◌∙◌, sym, subst}
 use Rattle.sgt_history.specs.Cut.{cut}
 use Rattle.sgt_history_faults.specs.Judged.{IsJudged}
 use Rattle.sgt_history_verdict.specs.Decided.{IsDecidedFrom}

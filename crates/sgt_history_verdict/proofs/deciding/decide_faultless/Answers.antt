@@ -1,4 +1,4 @@
-use Rattle.std.proofs.Common.{◌≡◌, sym, subst}
+use Rattle.std.proofs.Common.{sym, subst}
 use Rattle.sgt_history.specs.declared.named.Graph.TheVariants.{Whole}
 use Rattle.sgt_history_faults.specs.Judged.{IsFaultlessBy}
 use Rattle.sgt_history_graph.specs.Ordered.{IsOrdered}

@@ -1,5 +1,6 @@
-use Rattle.std.proofs.Common.{◌≡◌, ◌<◌, ◌∙◌, ℕ, List, Option, length, sym, subst, arith, Vec, Global}
-use Rattle.std.specs.Prelude.{IfSome}
+use Rattle.std.proofs.Common.{◌≡◌, ◌<◌, ◌∙◌, ℕ, Bool, true, false, List, Option, length, sym, ap, arith, inl, inr, Vec, Global}
+use Rattle.std.specs.Prelude.{◌==◌, IfSome}
+use Rattle.std.proofs.lemmas.Bool.{cases_eq}
 use Rattle.std.proofs.lemmas.Option.{IfSome_then}
 use Rattle.std.proofs.lemmas.Result.{IfOk-weaker}
 use Rattle.sgt_history.specs.Transaction.{Transaction}
@@ -8,6 +9,12 @@ use Rattle.sgt_history_verdict.specs.Steps.{AreAlong, AreSteps, IsTold, lines_of
 use Rattle.sgt_history_verdict.specs.Verdict.{IsCyclic}
 use Rattle.sgt_history_verdict.proofs.Stepping.{along-lines, told-join, told-shown, told-steps}
 use Rattle.sgt_history_verdict.proofs.steps.shown_steps.Goals as goal
+
+not-empty : (n m : ℕ) (r : Bool) → r ≡ (n == 0) → r ≡ false → m ≡ n → 0 < m
+not-empty n m r is unlike same = elim (cases_eq n 0) [
+  | inl e ↦ let f : (n == 0) ≡ false = sym is ∙ unlike in let t : (n == 0) ≡ true = ap (λ k. k == 0) e in let g = sym t ∙ f in cc
+  | inr other ↦ omega (arith, same, other)
+]
 
 pub quick_steps-requires : goal.quick_steps-requires
 quick_steps-requires c =
@@ -19,10 +26,7 @@ returns-clause-steps c =
     let pairs = c.edges_in-pairs.result.now in
     let lines = c.as_slice-2.result.now in
     let cyclic = c.args.cyclic.now in
-    let empty = c.is_empty.ensures in
-    let long = c.as_slice-2.ensures.value in
-    let size = c.in-Some.shown.ok.0 in
-    let some : 0 < length lines = omega (arith, c.if-is_empty.false, empty, c.as_slice-2.ensures.len) in
+    let some = not-empty _ (length lines) c.is_empty.result c.is_empty.ensures c.if-is_empty.false c.as_slice-2.ensures.len in
     IfOk-weaker c.quick_steps.result (λ (found : Option (Vec Step Global)). IfSome found (λ steps. AreAlong touches pairs lines steps.items))
     (λ (found : Option (Vec Step Global)). IfSome found (λ steps. (h : List (Transaction ℕ ℕ)) → IsCyclic h cyclic → AreSteps h cyclic.graph steps.items))
     (λ found along. IfSome_then found along (λ steps a h is. told-steps cyclic h touches pairs lines steps.items is c.as_slice.ensures.value c.edges_in-pairs.ensures some a))
