@@ -1,13 +1,10 @@
 -- Lines whose transactions commit, kept in their order.
-use Rattle.std.proofs.Common.{◌≡◌, ℕ, zero, suc, ◌+◌, ◌-◌, ◌<◌, ◌≤◌, Bool, true, false, List, [], ◌∷◌, Option, Some, None, length, refl, sym, ap, ◌∙◌, subst, arith, inl, inr, ◌⊎◌, Contains}
+use Rattle.std.proofs.Common.{◌≡◌, ℕ, zero, suc, ◌<◌, Bool, true, false, List, [], ◌∷◌, Some, None, refl, sym, ap, ◌∙◌, subst, arith, inl, inr, ◌⊎◌}
 use Rattle.std.specs.Prelude.{slice_get}
-use Rattle.std.proofs.lemmas.Bool.{cases_eq, cases_lt, cases_order}
 use Rattle.std.proofs.lemmas.Option.{same_Some}
 use Rattle.sgt_names.proofs.Lists.{option_cases}
-use Rattle.sgt_names.proofs.Places.{Contains_at, Contains-from_at}
 use Rattle.sgt_history.specs.Transaction.{Transaction}
-use Rattle.sgt_history.specs.Serial.{IsCommitted, IsOrder, StandOnce}
-use Rattle.sgt_history.specs.Conflicts.{Precedes}
+use Rattle.sgt_history.specs.Serial.{IsCommitted, StandOnce}
 use Rattle.sgt_history_verdict.specs.Verdict.{with_committed, committed_in}
 
 bools : (b : Bool) → (b ≡ true) ⊎ (b ≡ false)
@@ -39,9 +36,9 @@ decide : (h : List (Transaction ℕ ℕ)) (line : ℕ) → ((t : Transaction ℕ
 decide h line = elim (option_cases (slice_get h line)) [
   | inl none ↦ inr (λ t c. let f = sym none ∙ c.0 in cc)
   | inr some ↦ elim (bools some.0.commits) [
-      | inl commits ↦ inl (some.0, (some.1, commits))
-      | inr aborts ↦ inr (λ t c. let f = sym aborts ∙ ap (λ (u : Transaction ℕ ℕ). u.commits) (same_Some some.0 t (sym some.1 ∙ c.0)) ∙ c.1 in cc)
-    ]
+    | inl commits ↦ inl (some.0, (some.1, commits))
+    | inr aborts ↦ inr (λ t c. let f = sym aborts ∙ ap (λ (u : Transaction ℕ ℕ). u.commits) (same_Some some.0 t (sym some.1 ∙ c.0)) ∙ c.1 in cc)
+  ]
 ]
 
 -- what stands in what is kept
@@ -106,19 +103,19 @@ kept-both h (x ∷ xs) (suc i) (suc j) a b t u lt at at' c d =
     let r = kept-both h xs i j a b t u (omega arith) at at' c d in
     elim (decide h x) [
       | inl e ↦ record {
-          i = suc r.i;
-          j = suc r.j;
-          before = omega (arith, r.before);
-          first_at = ap (λ ys. slice_get ys (suc r.i)) (kept-first h x e.0 xs e.1) ∙ r.first_at;
-          second_at = ap (λ ys. slice_get ys (suc r.j)) (kept-first h x e.0 xs e.1) ∙ r.second_at;
-        }
+        i = suc r.i;
+        j = suc r.j;
+        before = omega (arith, r.before);
+        first_at = ap (λ ys. slice_get ys (suc r.i)) (kept-first h x e.0 xs e.1) ∙ r.first_at;
+        second_at = ap (λ ys. slice_get ys (suc r.j)) (kept-first h x e.0 xs e.1) ∙ r.second_at;
+      }
       | inr not ↦ record {
-          i = r.i;
-          j = r.j;
-          before = r.before;
-          first_at = ap (λ ys. slice_get ys r.i) (left-first h x xs not) ∙ r.first_at;
-          second_at = ap (λ ys. slice_get ys r.j) (left-first h x xs not) ∙ r.second_at;
-        }
+        i = r.i;
+        j = r.j;
+        before = r.before;
+        first_at = ap (λ ys. slice_get ys r.i) (left-first h x xs not) ∙ r.first_at;
+        second_at = ap (λ ys. slice_get ys r.j) (left-first h x xs not) ∙ r.second_at;
+      }
     ]
 
 -- what stands once is kept once
@@ -145,6 +142,6 @@ kept-once h (x ∷ xs) once i j y at at' = from (decide h x) i j at at' (kept-on
         absurd (nowhere i (ap (λ ys. slice_get ys (suc i)) (sym (kept-first h x c.0 xs c.1)) ∙ e ∙ ap Some (sym same)))
     from (inl c) (suc i) (suc j) e f rest =
         ap suc (rest i j y (ap (λ ys. slice_get ys (suc i)) (sym (kept-first h x c.0 xs c.1)) ∙ e)
-            (ap (λ ys. slice_get ys (suc j)) (sym (kept-first h x c.0 xs c.1)) ∙ f))
+        (ap (λ ys. slice_get ys (suc j)) (sym (kept-first h x c.0 xs c.1)) ∙ f))
     from (inr not) i j e f rest =
         rest i j y (ap (λ ys. slice_get ys i) (sym (left-first h x xs not)) ∙ e) (ap (λ ys. slice_get ys j) (sym (left-first h x xs not)) ∙ f)

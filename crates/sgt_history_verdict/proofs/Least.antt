@@ -1,5 +1,5 @@
 -- The least graph that has a cycle, and what a history is decided from.
-use Rattle.std.proofs.Common.{◌≡◌, ℕ, zero, suc, ◌-◌, List, [], ◌∷◌, Some, length, take, drop, refl, sym, ap, ◌∙◌, subst, arith, All}
+use Rattle.std.proofs.Common.{◌≡◌, ℕ, zero, suc, ◌-◌, List, [], ◌∷◌, length, take, drop, sym, ap, ◌∙◌, subst, arith, All}
 use Rattle.std.specs.Prelude.{slice_get}
 use Rattle.std.proofs.lemmas.Option.{same_Some, slice_get_within}
 use Rattle.std.proofs.lemmas.List.Elements.{All-take, All-drop}
@@ -86,7 +86,7 @@ cut-positive begin (l ∷ ls) ops all zero place t o at there =
     let part : List (Operation ℕ ℕ) = take (l.end - begin) (drop begin ops) in
     let same = same_Some (record { commits = l.commits; operations = part }) t at in
     All_at P part place o (All-take P (l.end - begin) (drop begin ops) (All-drop P begin ops all))
-        (ap (λ (u : Transaction ℕ ℕ). slice_get u.operations place) same ∙ there)
+    (ap (λ (u : Transaction ℕ ℕ). slice_get u.operations place) same ∙ there)
 cut-positive begin (l ∷ ls) ops all (suc line) place t o at there = cut-positive l.end ls ops all line place t o at there
 
 pub decided-from : (lines : List Line) (ops : List (Operation ℕ ℕ)) (touches : List Touch) → All (λ (u : Operation ℕ ℕ). WritesPositive u) ops

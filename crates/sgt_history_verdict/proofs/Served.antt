@@ -1,6 +1,5 @@
 -- What an order of all nodes of a history's conflicts comes to, and a cycle of them.
-use Rattle.std.proofs.Common.{◌≡◌, ℕ, zero, suc, ◌+◌, ◌<◌, ◌≤◌, List, [], ◌∷◌, ◌++◌, Some, length, refl, sym, ap, ◌∙◌, subst, arith, Contains}
-use Rattle.std.specs.Prelude.{slice_get}
+use Rattle.std.proofs.Common.{ℕ, List, [], ◌∷◌, ◌++◌, length}
 use Rattle.std.proofs.lemmas.Option.{slice_get_within}
 use Rattle.sgt_names.proofs.Places.{Contains_at, Contains-from_at}
 use Rattle.sgt_history.specs.declared.named.Conflict.{Conflict}
@@ -8,7 +7,7 @@ use Rattle.sgt_history.specs.declared.named.Conflict.TheVariants.{WriteWrite, Wr
 use Rattle.sgt_history.specs.declared.named.Graph.{Graph}
 use Rattle.sgt_history.specs.declared.named.Graph.TheVariants as graph
 use Rattle.sgt_history.specs.Transaction.{Transaction, ArePositive}
-use Rattle.sgt_history.specs.Serial.{IsCommitted, IsOrder, Serves}
+use Rattle.sgt_history.specs.Serial.{IsCommitted, Serves}
 use Rattle.sgt_history.specs.Conflicts.{HaveConflict, ConflictIn, Precedes, IsChain, IsCycle, HasCycle}
 use Rattle.sgt_history.specs.Flaws.{IsFaultless}
 use Rattle.sgt_history.proofs.Forward.{no-cycle}
@@ -63,7 +62,7 @@ order-serves h positive faultless edges are order o =
           Contains-from_at (committed_in h order) r.0 line r.1;
       once = kept-once h order o.once;
     }) (λ kind a b x v w c.
-        let both = committed-both h kind a b x v w c in
-        let p = o.onward a b (are.all a b (record { kind = kind; among = tt; x = x; v = v; w = w; conflict = c })) in
-        let r = kept-both h order p.i p.j a b both.0.0 both.1.0 p.before p.first_at p.second_at both.0.1 both.1.1 in
-        record { i = r.i; j = r.j; before = r.before; first_at = r.first_at; second_at = r.second_at })
+    let both = committed-both h kind a b x v w c in
+    let p = o.onward a b (are.all a b (record { kind = kind; among = tt; x = x; v = v; w = w; conflict = c })) in
+    let r = kept-both h order p.i p.j a b both.0.0 both.1.0 p.before p.first_at p.second_at both.0.1 both.1.1 in
+    record { i = r.i; j = r.j; before = r.before; first_at = r.first_at; second_at = r.second_at })

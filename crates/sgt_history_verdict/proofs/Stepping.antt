@@ -1,12 +1,12 @@
 -- Steps of pairs of touches, along lines.
-use Rattle.std.proofs.Common.{◌≡◌, ℕ, zero, suc, ◌+◌, ◌<◌, ◌≤◌, List, [], ◌∷◌, ◌++◌, Option, Some, None, length, get_or, set, map, refl, sym, ap, ◌∙◌, subst, arith, inl, inr, ◌⊎◌, All, Contains, Vec, Global, length-append}
+use Rattle.std.proofs.Common.{◌≡◌, ℕ, zero, suc, ◌+◌, ◌<◌, ◌≤◌, List, [], ◌∷◌, ◌++◌, Option, Some, None, length, get_or, set, refl, sym, ap, ◌∙◌, subst, arith, inl, inr, ◌⊎◌, All, Vec, Global, length-append}
 use Rattle.std.specs.Prelude.{slice_get, IfNone, IfSome}
 use Rattle.std.proofs.lemmas.List.Elements.{All-set}
 use Rattle.std.proofs.lemmas.Bool.{cases_lt, lt-ltb, le-ltb}
 use Rattle.std.proofs.lemmas.Option.{same_Some, slice_get_within, slice_get-get_or}
 use Rattle.sgt_names.proofs.Lists.{front_at, back_at}
 use Rattle.sgt_names.proofs.Places.{Contains_at, Contains-from_at, All-from_at}
-use Rattle.sgt_history.specs.declared.history.Kind.TheVariants.{Read, Write}
+use Rattle.sgt_history.specs.declared.history.Kind.TheVariants.{Write}
 use Rattle.sgt_history.specs.declared.named.Conflict.{Conflict}
 use Rattle.sgt_history.specs.declared.named.Conflict.TheVariants.{WriteWrite, WriteRead, ReadWrite}
 use Rattle.sgt_history.specs.declared.named.Graph.{Graph}
@@ -15,7 +15,7 @@ use Rattle.sgt_history.specs.Conflicts.{ConflictIn, HaveConflict, IsAmong, IsCha
 use Rattle.sgt_history_faults.specs.declared.touch.Touch.{Touch}
 use Rattle.sgt_history_faults.specs.Judged.{IsFaultlessBy}
 use Rattle.sgt_history_graph.specs.declared.edge.Edge.{Edge}
-use Rattle.sgt_history_conflicts.specs.Pairs.{IsPair, Meets}
+use Rattle.sgt_history_conflicts.specs.Pairs.{Meets}
 use Rattle.sgt_history_conflicts.specs.Edges.{ArePairsOf, JoinsTouches, part_of}
 use Rattle.sgt_history_conflicts.proofs.Conflicting.{pair-conflict, conflict-pair}
 use Rattle.sgt_history_verdict.specs.declared.cyclic.Cyclic.{Cyclic}

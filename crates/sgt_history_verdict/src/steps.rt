@@ -42,11 +42,7 @@ fn shown_steps(
 /// The steps of the cycle that is told: that to be shown, where steps along it are found, else the other. `ranks` says where the name of each
 /// item stands among the names: of several steps from one line to another that one is told which is least by kind (ww, wr, rw), by that, by
 /// version. Takes time in proportion to the conflicts. Err: memory ran out.
-pub fn steps_of(
-    alloc: Global,
-    cyclic: &Cyclic,
-    ranks: &[u32],
-) -> Result<Vec<Step>, AllocError>
+pub fn steps_of(alloc: Global, cyclic: &Cyclic, ranks: &[u32]) -> Result<Vec<Step>, AllocError>
     requires { (h : List (Transaction ℕ ℕ)) × IsCyclic h cyclic.now }
     ensures steps { IfOk result (λ steps. (h : List (Transaction ℕ ℕ)) → IsCyclic h cyclic.now
         → AreSteps h cyclic.now.graph steps.items) }

@@ -92,7 +92,11 @@ fn tells_a_cycle_of_writes(rt: HostRuntime) -> Result<(), Fail> {
 #[test]
 fn tells_the_steps_of_a_cycle_with_one_rw(rt: HostRuntime) -> Result<(), Fail> {
     let first = [(Kind::Read, 0, 0), (Kind::Read, 1, 1), (Kind::Read, 2, 1)];
-    let second = [(Kind::Write, 0, 1), (Kind::Write, 1, 1), (Kind::Write, 2, 1)];
+    let second = [
+        (Kind::Write, 0, 1),
+        (Kind::Write, 1, 1),
+        (Kind::Write, 2, 1),
+    ];
     let history = history_of(rt.alloc(), &first, &second)?;
     let away = Step {
         kind: Conflict::ReadWrite,
@@ -114,7 +118,10 @@ fn tells_the_steps_of_a_cycle_with_one_rw(rt: HostRuntime) -> Result<(), Fail> {
         Verdict::Cyclic(cyclic) => {
             let steps = steps_of(rt.alloc(), &cyclic, &[0, 2, 1])?;
             assert_eq!(rt; steps.as_slice(), [away, back].as_slice());
-            assert_eq!(rt; anomaly_of(cyclic.graph, steps.as_slice()), Anomaly::GSingle);
+            assert_eq!(rt;
+                anomaly_of(cyclic.graph, steps.as_slice()),
+                Anomaly::GSingle
+            );
         }
         _ => assert!(rt; false),
     }

@@ -17,18 +17,18 @@ loop-pair-preserved c =
     let step = c.step_of-step.result in
     elim c.if-step-from.branch [
       | then-step-from+then-step-to w ↦ record {
-          some = found-next touches pairs a b c.loop-pair.best c.if-step-from.best step w.least.result c.loop-pair.invariant.some
-              (of-next touches pairs i d step c.loop-pair-test.true c.step_of-step.ensures) (w.if-step-from.true, w.if-step-to.true) w.least.ensures w.best-is;
-          none = found-none (NoneTo touches pairs a b (i + 1)) c.if-step-from.best w.least.result w.best-is;
-        }
+        some = found-next touches pairs a b c.loop-pair.best c.if-step-from.best step w.least.result c.loop-pair.invariant.some
+            (of-next touches pairs i d step c.loop-pair-test.true c.step_of-step.ensures) (w.if-step-from.true, w.if-step-to.true) w.least.ensures w.best-is;
+        none = found-none (NoneTo touches pairs a b (i + 1)) c.if-step-from.best w.least.result w.best-is;
+      }
       | else-step-from w ↦ record {
-          some = subst (λ o. IfSome o (λ s. IsOfPairs touches pairs s × Leads s a b)) (sym w.best-is) c.loop-pair.invariant.some;
-          none = none-next touches pairs a b i d c.loop-pair.best c.if-step-from.best step c.loop-pair-test.true c.loop-pair.invariant.none c.step_of-step.ensures
-              (λ leads. elim w.else-step-from.branch [
-                | else-step-from-via-then-step-from+else-step-to v ↦ omega (arith, leads.1, v.if-step-to.false)
-                | else-step-from-via-else-step-from v ↦ omega (arith, leads.0, v.if-step-from.false)
-              ]) w.best-is;
-        }
+        some = subst (λ o. IfSome o (λ s. IsOfPairs touches pairs s × Leads s a b)) (sym w.best-is) c.loop-pair.invariant.some;
+        none = none-next touches pairs a b i d c.loop-pair.best c.if-step-from.best step c.loop-pair-test.true c.loop-pair.invariant.none c.step_of-step.ensures
+            (λ leads. elim w.else-step-from.branch [
+              | else-step-from-via-then-step-from+else-step-to v ↦ omega (arith, leads.1, v.if-step-to.false)
+              | else-step-from-via-else-step-from v ↦ omega (arith, leads.0, v.if-step-from.false)
+            ]) w.best-is;
+      }
     ]
 
 pub returns-clause-none : goal.returns-clause-none

@@ -41,5 +41,5 @@ returns-clause-told c =
     IfOk-weaker c.quick_steps.result (λ (found : Option (Vec Step Global)). IfSome found (λ steps. AreAlong touches pairs lines steps.items))
     (λ (found : Option (Vec Step Global)). IfSome found (λ steps. IsTold cyclic.shown cyclic.cycle.items (lines_of steps.items)))
     (λ found along. IfSome_then found along (λ steps a. told-shown cyclic.shown c.in-Some.shown cyclic.cycle.items (lines_of steps.items) c.in-Some.is
-        (along-lines touches pairs lines steps.items a ∙ c.as_slice-2.ensures.value)))
+    (along-lines touches pairs lines steps.items a ∙ c.as_slice-2.ensures.value)))
     c.quick_steps.ensures

@@ -1,4 +1,4 @@
-use Rattle.std.proofs.Common.{◌≡◌, ◌<◌, ◌∙◌, ℕ, List, Option, length, sym, subst, arith, Vec, Global}
+use Rattle.std.proofs.Common.{◌∙◌, ℕ, List, Vec, Global}
 use Rattle.std.proofs.lemmas.Result.{IfOk-weaker}
 use Rattle.sgt_history.specs.Transaction.{Transaction}
 use Rattle.sgt_history_verdict.specs.declared.step.Step.{Step}
@@ -25,7 +25,7 @@ returns-clause-steps c =
     IfOk-weaker c.steps_along.result (λ (steps : Vec Step Global). AreAlong touches pairs lines steps.items)
     (λ (steps : Vec Step Global). (h : List (Transaction ℕ ℕ)) → IsCyclic h cyclic → AreSteps h cyclic.graph steps.items)
     (λ steps a h is. told-steps cyclic h touches pairs lines steps.items is c.as_slice.ensures.value c.edges_in-pairs.ensures
-        (told-cycle cyclic h lines is c.as_slice-2.ensures.value) a)
+    (told-cycle cyclic h lines is c.as_slice-2.ensures.value) a)
     c.steps_along.ensures
 
 pub returns-clause-told : goal.returns-clause-told
@@ -37,5 +37,5 @@ returns-clause-told c =
     IfOk-weaker c.steps_along.result (λ (steps : Vec Step Global). AreAlong touches pairs lines steps.items)
     (λ (steps : Vec Step Global). IsTold cyclic.shown cyclic.cycle.items (lines_of steps.items))
     (λ steps a. told-other cyclic.shown cyclic.cycle.items (lines_of steps.items)
-        (along-lines touches pairs lines steps.items a ∙ c.as_slice-2.ensures.value))
+    (along-lines touches pairs lines steps.items a ∙ c.as_slice-2.ensures.value))
     c.steps_along.ensures
