@@ -14,11 +14,7 @@ bools false = inr refl
 -- the first line is kept, or it isn't
 kept-first : (h : List (Transaction ℕ ℕ)) (line : ℕ) (t : Transaction ℕ ℕ) (ls : List ℕ) → IsCommitted h line t
     → committed_in h (line ∷ ls) ≡ line ∷ committed_in h ls
-kept-first h line t ls c =
-    ap (λ o. with_committed o line (committed_in h ls)) c.0 ∙ yes-kept t.commits c.1
-  where
-    yes-kept : (b : Bool) → b ≡ true → with_committed (Some t) line (committed_in h ls) ≡ line ∷ committed_in h ls
-    yes-kept b e = rw c.1 refl
+kept-first h line t ls c = ap (λ o. with_committed o line (committed_in h ls)) c.0 ∙ rw c.1 refl
 
 left-first : (h : List (Transaction ℕ ℕ)) (line : ℕ) (ls : List ℕ) → ((t : Transaction ℕ ℕ) → IsCommitted h line t → ⊥)
     → committed_in h (line ∷ ls) ≡ committed_in h ls
@@ -42,26 +38,26 @@ decide h line = elim (option_cases (slice_get h line)) [
 ]
 
 -- what stands in what is kept
-pub record IsKept (h : List (Transaction ℕ ℕ)) (xs : List ℕ) (k line : ℕ) : Type 0 where
+pub record IsKept (h : List (Transaction ℕ ℕ)) (xs : List ℕ) (line : ℕ) : Type 0 where
   pub i : ℕ
   pub t : Transaction ℕ ℕ
   pub at : slice_get xs i ≡ Some line
   pub commits : IsCommitted h line t
 
-pub kept-from : (h : List (Transaction ℕ ℕ)) (xs : List ℕ) (k line : ℕ) → slice_get (committed_in h xs) k ≡ Some line → IsKept h xs k line
+pub kept-from : (h : List (Transaction ℕ ℕ)) (xs : List ℕ) (k line : ℕ) → slice_get (committed_in h xs) k ≡ Some line → IsKept h xs line
 kept-from h [] k line at = absurd (cc (at))
 kept-from h (x ∷ xs) k line at = from (decide h x) k at (λ m e. kept-from h xs m line e)
   where
-    later : (m : ℕ) → IsKept h xs m line → IsKept h (x ∷ xs) k line
-    later m r = record { i = suc r.i; t = r.t; at = r.at; commits = r.commits }
+    later : IsKept h xs line → IsKept h (x ∷ xs) line
+    later r = record { i = suc r.i; t = r.t; at = r.at; commits = r.commits }
 
     from : ((t : Transaction ℕ ℕ) × IsCommitted h x t) ⊎ ((t : Transaction ℕ ℕ) → IsCommitted h x t → ⊥) → (n : ℕ) → slice_get (committed_in h (x ∷ xs)) n ≡ Some line
-        → ((m : ℕ) → slice_get (committed_in h xs) m ≡ Some line → IsKept h xs m line) → IsKept h (x ∷ xs) k line
+        → ((m : ℕ) → slice_get (committed_in h xs) m ≡ Some line → IsKept h xs line) → IsKept h (x ∷ xs) line
     from (inl c) zero e rest =
         let same : x ≡ line = same_Some x line (ap (λ ys. slice_get ys 0) (sym (kept-first h x c.0 xs c.1)) ∙ e) in
         record { i = 0; t = c.0; at = ap Some same; commits = subst (λ l. IsCommitted h l c.0) same c.1 }
-    from (inl c) (suc n) e rest = later n (rest n (ap (λ ys. slice_get ys (suc n)) (sym (kept-first h x c.0 xs c.1)) ∙ e))
-    from (inr not) n e rest = later n (rest n (ap (λ ys. slice_get ys n) (sym (left-first h x xs not)) ∙ e))
+    from (inl c) (suc n) e rest = later (rest n (ap (λ ys. slice_get ys (suc n)) (sym (kept-first h x c.0 xs c.1)) ∙ e))
+    from (inr not) n e rest = later (rest n (ap (λ ys. slice_get ys n) (sym (left-first h x xs not)) ∙ e))
 
 -- of two places the first line that is kept stays first
 pub record ArePlaced (h : List (Transaction ℕ ℕ)) (xs : List ℕ) (first second : ℕ) : Type 0 where

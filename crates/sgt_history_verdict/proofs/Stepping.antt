@@ -92,10 +92,10 @@ chain-next R a (b ∷ bs) chain zero x y at at' =
     subst (λ z. R x z) (same_Some b y at') (subst (λ z. R z b) (same_Some a x at) chain.0)
 chain-next R a (b ∷ bs) chain (suc i) x y at at' = chain-next R b bs chain.1 i x y at at'
 
-behind-last : (place count : ℕ) → count ≤ place + 1 → place_behind place count ≡ 0
+pub behind-last : (place count : ℕ) → count ≤ place + 1 → place_behind place count ≡ 0
 behind-last place count le = rw (le-ltb (place + 1) count le) refl
 
-behind-other : (place count : ℕ) → place + 1 < count → place_behind place count ≡ place + 1
+pub behind-other : (place count : ℕ) → place + 1 < count → place_behind place count ≡ place + 1
 behind-other place count lt = rw (lt-ltb (place + 1) count lt) refl
 
 pub cycle-next : (R : ℕ → ℕ → Type 0) (cycle : List ℕ) → IsCycle R cycle → (place x y : ℕ) → slice_get cycle place ≡ Some x

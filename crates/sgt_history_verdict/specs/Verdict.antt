@@ -61,3 +61,9 @@ abbrev pub IsVerdict : List (Transaction ℕ ℕ) → Verdict → Type 0
 IsVerdict h (verdict.Serial order) = IsSerialBy h order.items
 IsVerdict h (verdict.Faulty f) = IsFirstFault h f.line f.flaw f.place
 IsVerdict h (verdict.Cyclic c) = IsCyclic h c
+
+-- it is that an order serves
+abbrev pub IsSerial : Verdict → Type 0
+IsSerial (verdict.Serial order) = Unit {0}
+IsSerial (verdict.Faulty f) = ⊥
+IsSerial (verdict.Cyclic c) = ⊥

@@ -1,12 +1,13 @@
 //! Whether a history is serializable.
 
-ghost use Rattle.std.specs.Prelude.{◌≡◌, ◌≤◌, ◌^◌, ℕ, List, IfOk, length};
+ghost use Rattle.std.specs.Prelude.{◌≡◌, ◌≤◌, ◌^◌, ◌↔◌, ℕ, List, IfOk, length};
 ghost use Rattle.sgt_history.specs.History.{closed_of};
+ghost use Rattle.sgt_history.specs.Serial.{IsSerializable};
 ghost use Rattle.sgt_history.specs.Transaction.{Transaction};
 ghost use Rattle.sgt_history_conflicts.specs.Edges.{HasEdges};
 ghost use Rattle.sgt_history_faults.specs.Judged.{IsFaultlessBy};
 ghost use Rattle.sgt_history_verdict.specs.Decided.{IsDecidedFrom, IsFoundIn};
-ghost use Rattle.sgt_history_verdict.specs.Verdict.{IsCyclic, IsLeastCycle, IsVerdict};
+ghost use Rattle.sgt_history_verdict.specs.Verdict.{IsCyclic, IsLeastCycle, IsSerial, IsVerdict};
 
 use crate::cyclic::Cyclic;
 use sgt_history::{Graph, History, Line};
@@ -100,6 +101,8 @@ fn decide_faultless(alloc: Global, nodes: usize, touches: Vec<Touch>) -> Result<
 /// Decides whether a history is serializable.
 pub fn decide(alloc: Global, history: History) -> Result<Decided, AllocError>
     ensures verdict { IfOk result (λ decided. IsVerdict (closed_of history) decided.verdict) }
+    // So want of memory aside the verdict is that an order serves exactly where the history is serializable.
+    ensures exact { IfOk result (λ decided. IsSerial decided.verdict ↔ IsSerializable (closed_of history)) }
     ensures lines { IfOk result (λ decided. decided.lines ≡ history.lines) }
 {
     let judged = judge(alloc, &history)?;

@@ -3,6 +3,7 @@ use Rattle.sgt_history.specs.Cut.{cut}
 use Rattle.sgt_history_faults.specs.Judged.{IsJudged}
 use Rattle.sgt_history_verdict.specs.Decided.{IsDecidedFrom}
 use Rattle.sgt_history_verdict.specs.Verdict.{IsVerdict}
+use Rattle.sgt_history_verdict.proofs.Excluding.{exact}
 use Rattle.sgt_history_verdict.proofs.Least.{decided-from}
 use Rattle.sgt_history_verdict.proofs.deciding.decide.Goals as goal
 use Rattle.sgt_history_verdict.proofs.deciding.decide.Goals.{in-Faulty, in-Faultless+in_ok-verdict-in-Faultless}
@@ -29,3 +30,7 @@ returns-clause-verdict c =
           let from = subst (λ n. IsDecidedFrom h n touches) (sym (w.len.ensures ∙ lines.ok.0)) (decided-from lines.items ops touches c.args.history.positive by) in
           subst (IsVerdict h) (sym w.verdict-is) (w.in_ok-verdict-in-Faultless.ensures h from)
     ]
+
+pub returns-clause-exact : goal.returns-clause-exact
+returns-clause-exact c =
+    exact (cut 0 c.args.history.lines.items c.args.history.operations.items) c.match-judged.verdict (returns-clause-verdict c)
