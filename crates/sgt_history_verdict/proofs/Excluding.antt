@@ -34,10 +34,10 @@ conflict-of : (h : List (Transaction ℕ ℕ)) (g : Graph) (s : Step) → IsStep
 conflict-of h g s is = record { kind = s.kind; among = is.among; x = s.item; v = s.from_version; w = s.to_version; conflict = is.conflict }
 
 module _ (h : List (Transaction ℕ ℕ)) (g : Graph) (s : Step) (rest : List Step) (are : AreSteps h g (s ∷ rest)) where
-  steps : List Step
+  abbrev steps : List Step
   steps = s ∷ rest
 
-  round : List ℕ
+  abbrev round : List ℕ
   round = lines_of steps ++ s.from ∷ []
 
   -- where one line stands, and the next
@@ -54,19 +54,19 @@ module _ (h : List (Transaction ℕ ℕ)) (g : Graph) (s : Step) (rest : List St
       let all : length round ≡ length (lines_of steps) + 1 = length-append (lines_of steps) (s.from ∷ []) in
       let lt : i < length steps = omega (arith, slice_get_within round (suc i) y at', all, size) in
       let t = at-line i x lt at in
-      let c = conflict-of h g t.0 (All_at (IsStep h g) steps i t.0 are.each t.1.0) in
+      let c = conflict-of h g t.0 (All_at (IsStep h g) steps i t.0 are.each t.1) in
       let leads : t.0.to ≡ y = elim (cases_lt (i + 1) (length steps)) [
         | inl less ↦
             let e : suc i ≡ place_behind i (length steps) = omega (arith, behind-other i (length steps) less) in
             let u = at-line (suc i) y (omega (arith, less)) at' in
-            are.onward i t.0 u.0 t.1.0 (ap (slice_get steps) (sym e) ∙ u.1.0) ∙ u.1.1
+            are.onward i t.0 u.0 t.1 (ap (slice_get steps) (sym e) ∙ u.1) ∙ u.2
         | inr last ↦
             let e : place_behind i (length steps) ≡ 0 = behind-last i (length steps) last in
             let end : suc i ≡ length (lines_of steps) + 0 = omega (arith, lt, last, size) in
             let first : s.from ≡ y = same_Some s.from y (sym (back_at (lines_of steps) (s.from ∷ []) 0) ∙ ap (slice_get round) (sym end) ∙ at') in
-            are.onward i t.0 s t.1.0 (ap (slice_get steps) e) ∙ first
+            are.onward i t.0 s t.1 (ap (slice_get steps) e) ∙ first
       ] in
-      subst (λ z. ConflictIn h g x z) leads (subst (λ z. ConflictIn h g z t.0.to) t.1.1 c)
+      subst (λ z. ConflictIn h g x z) leads (subst (λ z. ConflictIn h g z t.0.to) t.2 c)
 
   steps-cycle : IsCycle (ConflictIn h g) (lines_of (s ∷ rest))
   steps-cycle = chain-of (ConflictIn h g) s.from (lines_of rest ++ s.from ∷ []) goes
