@@ -1,5 +1,5 @@
 -- What a verdict and the steps of a cycle exclude.
-use Rattle.std.proofs.Common.{◌≡◌, ℕ, zero, suc, ◌+◌, ◌<◌, ◌≤◌, List, [], ◌∷◌, ◌++◌, Some, length, map, refl, sym, ap, ◌∙◌, subst, arith, inl, inr, ◌⊎◌, length-append}
+use Rattle.std.proofs.Common.{◌≡◌, ℕ, suc, ◌+◌, ◌<◌, List, [], ◌∷◌, ◌++◌, Some, length, refl, sym, ap, ◌∙◌, subst, arith, inl, inr, length-append}
 use Rattle.std.specs.Prelude.{◌↔◌, slice_get}
 use Rattle.std.proofs.lemmas.Bool.{cases_lt}
 use Rattle.std.proofs.lemmas.List.{length-map}
@@ -9,7 +9,7 @@ use Rattle.sgt_names.proofs.Places.{All_at}
 use Rattle.sgt_history.specs.declared.named.Graph.{Graph}
 use Rattle.sgt_history.specs.Transaction.{Transaction}
 use Rattle.sgt_history.specs.Serial.{IsSerializable}
-use Rattle.sgt_history.specs.Conflicts.{ConflictIn, HasCycle, IsChain, IsCycle}
+use Rattle.sgt_history.specs.Conflicts.{ConflictIn, IsChain, IsCycle}
 use Rattle.sgt_history.proofs.Excluded.{fault-excludes}
 use Rattle.sgt_history.proofs.Forward.{cycle-excludes}
 use Rattle.sgt_history_verdict.specs.declared.deciding.Verdict.{Verdict}
