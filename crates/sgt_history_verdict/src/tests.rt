@@ -1,7 +1,7 @@
 //! What small histories are decided to be.
 
 use crate::anomaly::{Anomaly, anomaly_of};
-use crate::deciding::{Verdict, decide};
+use crate::deciding::{Decided, Verdict, decide};
 use crate::step::Step;
 use crate::steps::steps_of;
 use sgt_history::{Conflict, Flaw, History, Kind, Operation};
@@ -49,7 +49,9 @@ fn orders_a_serializable_history(rt: HostRuntime) -> Result<(), Fail> {
     let first = [(Kind::Read, 0, 1)];
     let second = [(Kind::Read, 0, 0), (Kind::Write, 0, 1)];
     let history = history_of(rt.alloc(), &first, &second)?;
-    match decide(rt.alloc(), history)?.verdict {
+    let Decided { verdict, lines } = decide(rt.alloc(), history)?;
+    assert_eq!(rt; lines.len(), 2);
+    match verdict {
         Verdict::Serial(order) => assert_eq!(rt; order.as_slice(), [1, 0].as_slice()),
         _ => assert!(rt; false),
     }
@@ -66,7 +68,9 @@ fn tells_a_fault(rt: HostRuntime) -> Result<(), Fail> {
         flaw: Flaw::Unwritten,
         place: 1,
     };
-    match decide(rt.alloc(), history)?.verdict {
+    let Decided { verdict, lines } = decide(rt.alloc(), history)?;
+    assert_eq!(rt; lines.len(), 2);
+    match verdict {
         Verdict::Faulty(told) => assert_eq!(rt; told, fault),
         _ => assert!(rt; false),
     }
@@ -78,7 +82,9 @@ fn tells_a_cycle_of_writes(rt: HostRuntime) -> Result<(), Fail> {
     let first = [(Kind::Write, 0, 1), (Kind::Write, 1, 2)];
     let second = [(Kind::Write, 0, 2), (Kind::Write, 1, 1)];
     let history = history_of(rt.alloc(), &first, &second)?;
-    match decide(rt.alloc(), history)?.verdict {
+    let Decided { verdict, lines } = decide(rt.alloc(), history)?;
+    assert_eq!(rt; lines.len(), 2);
+    match verdict {
         Verdict::Cyclic(cyclic) => {
             let steps = steps_of(rt.alloc(), &cyclic, &[0, 1])?;
             assert_eq!(rt; steps.len(), 2);
@@ -114,7 +120,9 @@ fn tells_the_steps_of_a_cycle_with_one_rw(rt: HostRuntime) -> Result<(), Fail> {
         from_version: 1,
         to_version: 1,
     };
-    match decide(rt.alloc(), history)?.verdict {
+    let Decided { verdict, lines } = decide(rt.alloc(), history)?;
+    assert_eq!(rt; lines.len(), 2);
+    match verdict {
         Verdict::Cyclic(cyclic) => {
             let steps = steps_of(rt.alloc(), &cyclic, &[0, 2, 1])?;
             assert_eq!(rt; steps.as_slice(), [away, back].as_slice());
