@@ -139,7 +139,7 @@ impl Inbox {
             × KeepsOrForgets (R.tells pipe.old.reader) (R.tells pipe.new.reader)) }
         ensures fault { OnErr result
             ((R.failures pipe.new.reader ≡ R.failures pipe.old.reader + 1)
-            ⊎ (self.old.reads ≡ 0)) }
+            ⊎ ((self.old.reads ≡ 0) × (self.new.reads ≡ 0))) }
         ensures asks { R.asked pipe.new.reader + self.new.reads
             ≡ R.asked pipe.old.reader + self.old.reads }
         // what was given and written before the read

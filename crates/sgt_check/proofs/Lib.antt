@@ -1,0 +1,9 @@
+pub mod Pushing
+pub mod Values
+pub mod Spelled
+pub mod Named
+pub mod Counted
+pub mod OneLine
+pub mod OneHistory
+pub mod NoHistory
+pub mod Exact

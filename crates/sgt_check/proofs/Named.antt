@@ -1,0 +1,111 @@
+-- What is told of a numbered history answers the bytes that spell it.
+use Rattle.std.proofs.Common.{◌≡◌, ℕ, ◌<◌, Bool, true, false, List, ◌++◌, Some, map, refl, sym, ap, ap₂, ◌∙◌, subst, inl, inr, ◌⊎◌, All}
+use Rattle.std.specs.Prelude.{slice_get}
+use Rattle.json.specs.Json.{Json}
+use Rattle.sgt_names.specs.declared.outcome.Outcome.{Outcome}
+use Rattle.sgt_names.specs.declared.outcome.Outcome.TheVariants.{Yes, No, Unreadable}
+use Rattle.sgt_names.proofs.Lists.{All-weaken}
+use Rattle.sgt_history.proofs.Renaming.{serves-on}
+use Rattle.sgt_history.specs.Conflicts.{HasCycle}
+use Rattle.sgt_history.specs.History.{closed_of}
+use Rattle.sgt_history.specs.Serial.{KeepApart}
+use Rattle.sgt_history.specs.Transaction.{Transaction, renamed, renamed_operation}
+use Rattle.sgt_history.specs.declared.named.Graph.{Graph}
+use Rattle.sgt_history_evidence.proofs.Renamed.{conflict-on, cycle-back, cycle-on, operation-on}
+use Rattle.sgt_history_evidence.proofs.RenamedEvidence.{evidence-on}
+use Rattle.sgt_history_evidence.proofs.RenamedFlaws.{faultless-on, first_fault-on}
+use Rattle.sgt_history_text.specs.Name.{compact}
+use Rattle.sgt_history_text.specs.Reading.{IsReading, nth}
+use Rattle.sgt_history_text.specs.Text.{Spells}
+use Rattle.sgt_history_text.specs.declared.reading.Reading.{Reading}
+use Rattle.sgt_history_verdict.specs.Steps.{AreSteps, IsStep}
+use Rattle.sgt_history_verdict.specs.declared.step.Step.{Step}
+use Rattle.sgt_check.specs.Answer.{AreStepsOf, IsAnswer, IsCycleTold, IsFaultTold, IsStepOf, IsYes, by_number, compactly}
+use Rattle.sgt_check.specs.Text.{aborted_of, committed_of, counts_text, cycle_text, fault_text, order_part, Spelling}
+use Rattle.sgt_check.specs.Told.{IsCyclicTold, IsFaultyTold, IsSerialTold, IsTold, spelled}
+use Rattle.sgt_check.specs.declared.naming.Naming.{Naming}
+use Rattle.sgt_check.specs.declared.options.Options.{Options}
+use Rattle.sgt_check.proofs.Spelled.{aborted-same, committed-same, fault-same, numbered, spelled-is}
+
+module _ (options : Options) (bytes : List ℕ) (r : Reading) (is : IsReading bytes r) (n : Naming)
+    (ids_are : n.ids ≡ r.ids) (items_are : n.items ≡ r.items) (values_are : n.values ≡ r.values) where
+  -- the numbered history
+  abbrev m : List (Transaction ℕ ℕ)
+  m = closed_of r.history
+
+  abbrev named : List (Transaction Json Json)
+  named = map (renamed (nth is.items) (nth is.values)) m
+
+  spelled_as : spelled n ≡ numbered is.ids is.items is.values
+  spelled_as = spelled-is n is.ids is.items is.values (ids_are ∙ is.id_texts) (items_are ∙ is.item_texts) (values_are ∙ is.value_texts)
+
+  serial-answer : (text : List ℕ) → IsSerialTold options n m text → IsYes options bytes text
+  serial-answer text a = record {
+    ids = is.ids;
+    h = named;
+    spells = is.spells;
+    order = a.order;
+    serves = serves-on (nth is.items) (nth is.values) m is.apart a.order a.serves;
+    text_is = a.text_is
+        ∙ ap (λ (s : Spelling ℕ ℕ). counts_text (committed_of m) (aborted_of m) ++ order_part options.order s a.order) spelled_as
+        ∙ ap₂ (λ (c d : ℕ). counts_text c d ++ order_part options.order (numbered is.ids is.items is.values) a.order)
+        (sym (committed-same (nth is.items) (nth is.values) m)) (sym (aborted-same (nth is.items) (nth is.values) m))
+        ∙ ordered options.order;
+  }
+    where
+      ordered : (b : Bool) → counts_text (committed_of named) (aborted_of named) ++ order_part b (numbered is.ids is.items is.values) a.order
+          ≡ counts_text (committed_of named) (aborted_of named) ++ order_part b (compactly is.ids) a.order
+      ordered true = refl
+      ordered false = refl
+
+  faulty-answer : (text : List ℕ) → IsFaultyTold n m text → IsFaultTold bytes text
+  faulty-answer text a =
+      let f = a.fault in
+      let told = a.told in
+      record {
+        ids = is.ids;
+        h = named;
+        spells = is.spells;
+        line = f.line;
+        flaw = f.flaw;
+        place = f.place;
+        first = first_fault-on (nth is.items) (nth is.values) m is.apart f.line f.flaw f.place a.first;
+        t = renamed (nth is.items) (nth is.values) told.t;
+        o = renamed_operation (nth is.items) (nth is.values) told.o;
+        is = operation-on (nth is.items) (nth is.values) m is.apart f.line f.place told.t told.o told.is;
+        evidence = told.evidence;
+        behind = evidence-on (nth is.items) (nth is.values) m is.apart f.line f.place told.t told.o told.is f.flaw told.evidence told.behind;
+        text_is = a.text_is ∙ ap (λ (s : Spelling ℕ ℕ). fault_text s m f.line f.flaw told.o told.evidence) spelled_as
+            ∙ sym (fault-same (nth is.items) (nth is.values) (compactly is.ids) m f.line f.flaw told.o told.evidence);
+      }
+
+  step-on : {g : Graph} (s : Step) → IsStep m g s → IsStepOf named (nth is.items) g s
+  step-on s step = record {
+    among = step.among;
+    conflict = conflict-on (nth is.items) (nth is.values) m is.apart s.kind s.from s.to s.item s.from_version s.to_version step.conflict;
+  }
+
+  cyclic-answer : (text : List ℕ) → IsCyclicTold n m text → IsCycleTold bytes text
+  cyclic-answer text a = record {
+    ids = is.ids;
+    h = named;
+    spells = is.spells;
+    faultless = faultless-on (nth is.items) (nth is.values) m is.apart a.faultless;
+    graph = a.graph;
+    cycle = cycle-on (nth is.items) (nth is.values) m is.apart a.graph a.cycle;
+    least = λ less below cycle. a.least less below (cycle-back (nth is.items) (nth is.values) m is.apart less cycle);
+    items = is.items;
+    steps = a.steps;
+    are = record {
+      some = a.are.some;
+      each = All-weaken (IsStep m a.graph) (IsStepOf named (nth is.items) a.graph) a.steps (λ s step. step-on s step) a.are.each;
+      onward = a.are.onward;
+    };
+    text_is = a.text_is ∙ ap (λ (s : Spelling ℕ ℕ). cycle_text s a.graph a.steps) spelled_as;
+  }
+
+  pub told-answer : (outcome : Outcome) (text : List ℕ) → IsTold options n m outcome text → IsAnswer options bytes outcome text
+  told-answer Yes text a = serial-answer text a
+  told-answer No text (inl a) = inl (faulty-answer text a)
+  told-answer No text (inr a) = inr (cyclic-answer text a)
+  told-answer Unreadable text a = absurd a

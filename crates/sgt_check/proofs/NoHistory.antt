@@ -1,0 +1,142 @@
+-- A text with a line that can't be read spells no history.
+use Rattle.std.proofs.Common.{◌≡◌, ◌≢◌, ℕ, suc, ◌+◌, ◌<◌, ◌≤◌, List, [], ◌∷◌, ◌++◌, Some, length, take, refl, sym, ap, ap₂, ◌∙◌, subst, arith, inl, inr, ◌⊎◌, append_assoc, append-nil, Contains}
+use Rattle.std.specs.List.{AllByRecursion}
+use Rattle.std.specs.Prelude.{slice_get}
+use Rattle.std.proofs.lemmas.Option.{slice_get_within}
+use Rattle.json.specs.Json.{Json}
+use Rattle.sgt_names.proofs.Places.{All_at, Contains_at, slice_get-take_at}
+use Rattle.sgt_names.proofs.Lists.{front_at, middle_at}
+use Rattle.sgt_notation.specs.Lines.{IsLongerThan}
+use Rattle.sgt_notation.specs.Spelling.{HasNoLf, text_of_lines}
+use Rattle.sgt_notation.proofs.OneSpelling.{HasNot, cut_at_byte}
+use Rattle.sgt_history.specs.Serial.{StandOnce}
+use Rattle.sgt_history.specs.Transaction.{Transaction}
+use Rattle.sgt_history_text.specs.Line.{IsLine}
+use Rattle.sgt_history_text.specs.Text.{Blocks, IsFirstUnreadable, IsInFront, SpellEach, Spells, longest_line}
+use Rattle.sgt_history_text.specs.declared.fault.LineFault.{LineFault}
+use Rattle.sgt_history_text.specs.declared.fault.LineFault.TheVariants.{NotALine, TooLong, IdAgain}
+use Rattle.sgt_check.proofs.OneLine.{line-one}
+use Rattle.sgt_check.proofs.OneHistory.{Whole, each-one, front, no_lf_in, spelled-no_lf, whole, without}
+
+no_byte : (l m : List ℕ) → l ++ 10 ∷ m ≡ [] → ⊥
+no_byte [] m e = cc
+no_byte (x ∷ l) m e = cc
+
+-- ---- behind the lines before
+
+record Behind (before xs : List (List ℕ)) (r rest : List ℕ) : Type 0 where
+  pub more : List (List ℕ)
+  pub is : xs ≡ before ++ more
+  pub rest_is : rest ≡ text_of_lines more ++ r
+
+behind : (before xs : List (List ℕ)) (r rest : List ℕ) → AllByRecursion (HasNot 10) before → AllByRecursion (HasNot 10) xs → HasNot 10 r
+    → text_of_lines xs ++ r ≡ text_of_lines before ++ rest → Behind before xs r rest
+behind [] xs r rest h g hr e = record { more = xs; is = refl; rest_is = sym e }
+behind (b ∷ bs) [] r rest h g hr e = absurd (no_lf_in b (text_of_lines bs ++ rest) (subst (HasNot 10) (e ∙ front b bs rest) hr))
+behind (b ∷ bs) (x ∷ xs) r rest h g hr e =
+    let cut = cut_at_byte 10 x b (text_of_lines xs ++ r) (text_of_lines bs ++ rest) g.0 h.0 (sym (front x xs r) ∙ e ∙ front b bs rest) in
+    let more = behind bs xs r rest h.1 g.1 hr cut.1 in
+    record { more = more.more; is = ap₂ (λ (z : List ℕ) (zs : List (List ℕ)). z ∷ zs) cut.0 more.is; rest_is = more.rest_is }
+
+-- what is in front of the rest: nothing, or a line
+abbrev Leads : List (List ℕ) → List ℕ → Type 0
+Leads [] rest = rest ≡ []
+Leads (m ∷ ms) rest = ((more : List ℕ) × (rest ≡ m ++ 10 ∷ more)) ⊎ ((rest ≡ m) × (m ≢ []))
+
+leads-whole : (more : List (List ℕ)) (r rest : List ℕ) → rest ≡ text_of_lines more ++ r → r ≡ [] → Leads more rest
+leads-whole [] r rest e none = e ∙ none
+leads-whole (m ∷ ms) r rest e none = inl (text_of_lines ms ++ r, e ∙ front m ms r)
+
+leads-last : (more : List (List ℕ)) (r rest : List ℕ) → rest ≡ text_of_lines more ++ r → r ≢ [] → Leads (more ++ r ∷ []) rest
+leads-last [] r rest e some = inr (e, some)
+leads-last (m ∷ ms) r rest e some = inl (text_of_lines ms ++ r, e ∙ front m ms r)
+
+in-front-one : (line m rest : List ℕ) → IsInFront line rest → HasNot 10 m → ((more : List ℕ) × (rest ≡ m ++ 10 ∷ more)) ⊎ ((rest ≡ m) × (m ≢ [])) → m ≡ line
+in-front-one line m rest f none (inl (more, is)) = elim f.there [
+  | inl (more', is') ↦ (cut_at_byte 10 m line more more' none (without line f.none) (sym is ∙ is')).0
+  | inr (is', some) ↦ absurd (no_lf_in m more (subst (HasNot 10) (sym is' ∙ is) (without line f.none)))
+]
+in-front-one line m rest f none (inr (is, some)) = elim f.there [
+  | inl (more', is') ↦ absurd (no_lf_in line more' (subst (HasNot 10) (sym is ∙ is') none))
+  | inr (is', some') ↦ sym is ∙ is'
+]
+
+in-front-some : (line rest : List ℕ) → IsInFront line rest → rest ≡ [] → ⊥
+in-front-some line rest f none = elim f.there [
+  | inl (more, is) ↦ no_byte line more (sym is ∙ none)
+  | inr (is, some) ↦ some (sym is ∙ none)
+]
+
+-- ---- what is spelled before, and behind
+
+record Split (xs ys : List (List ℕ)) (ids : List Json) : Type 0 where
+  pub one : List Json
+  pub two : List Json
+  pub h : List (Transaction Json Json)
+  pub k : List (Transaction Json Json)
+  pub ids_are : ids ≡ one ++ two
+  pub before : SpellEach xs one h
+  pub behind : SpellEach ys two k
+
+split : (xs ys : List (List ℕ)) (ids : List Json) (h : List (Transaction Json Json)) → SpellEach (xs ++ ys) ids h → Split xs ys ids
+split [] ys ids h s = record { one = []; two = ids; h = []; k = h; ids_are = refl; before = tt; behind = s }
+split (x ∷ xs) ys [] h s = absurd s
+split (x ∷ xs) ys (id ∷ ids) [] s = absurd s
+split (x ∷ xs) ys (id ∷ ids) (t ∷ h) s =
+    let rest = split xs ys ids h s.3 in
+    record {
+      one = id ∷ rest.one;
+      two = rest.two;
+      h = t ∷ rest.h;
+      k = rest.k;
+      ids_are = ap (λ (zs : List Json). id ∷ zs) rest.ids_are;
+      before = (s.0, s.1, s.2, rest.before);
+      behind = rest.behind;
+    }
+
+-- ---- no fault of the line
+
+not-longer : (m rest : List ℕ) → length m ≤ longest_line → ((more : List ℕ) × (rest ≡ m ++ 10 ∷ more)) ⊎ ((rest ≡ m) × (m ≢ [])) → IsLongerThan longest_line rest → ⊥
+not-longer m rest short (inl (more, is)) long =
+    let at = middle_at m 10 more in
+    let there = slice_get-take_at (m ++ 10 ∷ more) (longest_line + 1) (length m) 10 (omega (arith, short)) at in
+    All_at (λ b. b ≢ 10) (take (longest_line + 1) (m ++ 10 ∷ more)) (length m) 10 (subst (λ (bytes : List ℕ). HasNoLf (take (longest_line + 1) bytes)) is long.1) there refl
+not-longer m rest short (inr (is, some)) long = omega (arith, short, long.0, ap (λ (bytes : List ℕ). length bytes) is)
+
+-- the line in front of the rest, if there is one, has none of the faults
+none-blocks : (ys : List (List ℕ)) (rest : List ℕ) (ids one two : List Json) (k : List (Transaction Json Json)) → Leads ys rest → SpellEach ys two k
+    → StandOnce (one ++ two) → ids ≡ one → (fault : LineFault) → Blocks ids rest fault → ⊥
+none-blocks [] rest ids one two k none s once same NotALine (line, f, never) = in-front-some line rest f none
+none-blocks [] rest ids one two k none s once same TooLong (long, no_lf) = omega (arith, long, ap (λ (bytes : List ℕ). length bytes) none)
+none-blocks [] rest ids one two k none s once same IdAgain (line, id, t, f, is, again) = in-front-some line rest f none
+none-blocks (m ∷ ms) rest ids one [] k leads s once same fault blocks = absurd s
+none-blocks (m ∷ ms) rest ids one (id' ∷ two) [] leads s once same fault blocks = absurd s
+none-blocks (m ∷ ms) rest ids one (id' ∷ two) (t' ∷ k) leads s once same NotALine (line, f, never) =
+    never id' t' (subst (λ (l : List ℕ). IsLine l id' t') (in-front-one line m rest f (without m s.0) leads) s.2)
+none-blocks (m ∷ ms) rest ids one (id' ∷ two) (t' ∷ k) leads s once same TooLong long = not-longer m rest s.1 leads long
+none-blocks (m ∷ ms) rest ids one (id' ∷ two) (t' ∷ k) leads s once same IdAgain (line, id, t, f, is, again) =
+    let here = subst (λ (l : List ℕ). IsLine l id' t') (in-front-one line m rest f (without m s.0) leads) s.2 in
+    let id_is = (line-one line id' id t' t here is).0 in
+    let at = Contains_at one id (subst (λ (js : List Json). Contains js id) same again) in
+    let first = front_at one (id' ∷ two) at.0 id at.1 in
+    let second = middle_at one id' two ∙ ap (λ (j : Json). Some j) id_is in
+    let place = once at.0 (length one) id first second in
+    omega (arith, place, slice_get_within one at.0 id at.1)
+
+pub unreadable-none : (bytes : List ℕ) (number : ℕ) (fault : LineFault) (ids : List Json) (h : List (Transaction Json Json)) → IsFirstUnreadable bytes number fault
+    → Spells bytes ids h → ⊥
+unreadable-none bytes number fault ids h a s =
+    let w = whole s.lines bytes (spelled-no_lf s.lines ids h s.spell) s.are_lines in
+    let b = behind a.before w.xs w.r a.rest (spelled-no_lf a.before a.ids a.h a.spell) w.no_lf w.none (sym w.bytes_are ∙ a.text) in
+    elim w.lines_are [
+      | inl (none, is) ↦ never b.more (is ∙ b.is) (leads-whole b.more w.r a.rest b.rest_is none)
+      | inr (some, is) ↦
+          never (b.more ++ w.r ∷ []) (is ∙ ap (λ (zs : List (List ℕ)). zs ++ w.r ∷ []) b.is ∙ append_assoc a.before b.more (w.r ∷ []))
+          (leads-last b.more w.r a.rest b.rest_is some)
+    ]
+  where
+    never : (ys : List (List ℕ)) → s.lines ≡ a.before ++ ys → Leads ys a.rest → ⊥
+    never ys is leads =
+        let parts = split a.before ys ids h (subst (λ (ls : List (List ℕ)). SpellEach ls ids h) is s.spell) in
+        none-blocks ys a.rest a.ids parts.one parts.two parts.k leads parts.behind (subst (λ (js : List Json). StandOnce js) parts.ids_are s.apart)
+        (each-one a.before a.ids parts.one a.h parts.h a.spell parts.before).0 fault a.blocks

@@ -1,0 +1,20 @@
+use Rattle.std.proofs.Common.{ℕ, List, ◌++◌, ap, ◌∙◌}
+use Rattle.sgt_history_verdict.specs.declared.step.Step.{Step}
+use Rattle.sgt_check.specs.Text.{cycle_text}
+use Rattle.sgt_check.specs.Told.{spelled}
+use Rattle.sgt_check.proofs.answer.cyclic_text.Goals as goal
+
+pub returns : goal.returns
+returns c h is =
+    let cyclic = c.args.cyclic.now in
+    let s = spelled c.args.naming.now in
+    record {
+      faultless = is.faultless.faultless;
+      graph = cyclic.graph;
+      cycle = (cyclic.cycle.items, is.cycle_is.is);
+      least = is.cycle_is.least;
+      steps = c.in_ok-steps.steps.items;
+      are = c.in_ok-steps.ensures.steps h is;
+      text_is = c.in_ok-push_cycle.ensures ∙ ap (λ (t : List ℕ). t ++ cycle_text s cyclic.graph c.as_slice-2.result.now) c.new-text.ensures.items
+          ∙ ap (λ (steps : List Step). cycle_text s cyclic.graph steps) c.as_slice-2.ensures.value;
+    }

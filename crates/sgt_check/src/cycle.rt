@@ -1,0 +1,85 @@
+//! The text of a cycle.
+
+ghost use Rattle.std.specs.Prelude.{◌≡◌, ◌++◌, OnOk};
+ghost use Rattle.std.specs.List.{flat_map};
+ghost use Rattle.sgt_check.specs.Told.{spelled};
+ghost use Rattle.sgt_check.specs.Text.{anomaly_text, conflict_text, cycle_text, ends_text, step_text, versions_text};
+
+use crate::naming::{Naming, push_line_number, push_name};
+use sgt_history::{Conflict, Graph};
+use sgt_history_verdict::{Anomaly, Step, anomaly_of};
+use sgt_notation::push_number;
+use std::alloc::AllocError;
+
+/// The name of a cycle, in a line.
+fn anomaly_line(anomaly: Anomaly) -> &'static [u8]
+    ensures { result.now ≡ anomaly_text anomaly }
+{
+    match anomaly {
+        Anomaly::G0 => b"no G0\n",
+        Anomaly::G1c => b"no G1c\n",
+        Anomaly::GSingle => b"no G-single\n",
+        Anomaly::G2Item => b"no G2-item\n",
+    }
+}
+
+/// A kind of conflict, between spaces.
+fn conflict_word(kind: Conflict) -> &'static [u8]
+    ensures { result.now ≡ conflict_text kind }
+{
+    match kind {
+        Conflict::WriteWrite => b" ww ",
+        Conflict::WriteRead => b" wr ",
+        Conflict::ReadWrite => b" rw ",
+    }
+}
+
+/// Puts the two transactions of a step, and its kind.
+fn push_ends(out: &mut Vec<u8>, naming: &Naming, step: &Step) -> Result<(), AllocError>
+    ensures { OnOk result (out.new.items ≡ out.old.items ++ ends_text (spelled naming.now) step.now) }
+{
+    push_name(out, &naming.ids, step.from)?;
+    out.extend_from_slice(conflict_word(step.kind))?;
+    push_name(out, &naming.ids, step.to)?;
+    out.extend_from_slice(b" ")
+}
+
+/// Puts the item of a step, and the versions.
+fn push_versions(out: &mut Vec<u8>, naming: &Naming, step: &Step) -> Result<(), AllocError>
+    ensures { OnOk result (out.new.items ≡ out.old.items ++ versions_text (spelled naming.now) step.now) }
+{
+    push_name(out, &naming.items, step.item)?;
+    out.extend_from_slice(b" ")?;
+    push_number(out, step.from_version)?;
+    out.extend_from_slice(b" ")?;
+    push_number(out, step.to_version)
+}
+
+/// Puts the line of a step.
+fn push_step(out: &mut Vec<u8>, naming: &Naming, step: &Step) -> Result<(), AllocError>
+    ensures { OnOk result (out.new.items ≡ out.old.items ++ step_text (spelled naming.now) step.now) }
+{
+    push_ends(out, naming, step)?;
+    push_versions(out, naming, step)?;
+    out.extend_from_slice(b" lines ")?;
+    push_line_number(out, step.from)?;
+    out.extend_from_slice(b" ")?;
+    push_line_number(out, step.to)?;
+    out.extend_from_slice(b"\n")
+}
+
+/// Puts the name of a cycle of the least graph that has one, and its steps.
+pub fn push_cycle(
+    out: &mut Vec<u8>,
+    naming: &Naming,
+    graph: Graph,
+    steps: &[Step],
+) -> Result<(), AllocError>
+    ensures { OnOk result (out.new.items ≡ out.old.items ++ cycle_text (spelled naming.now) graph steps.now) }
+{
+    out.extend_from_slice(anomaly_line(anomaly_of(graph, steps)))?;
+    for step in steps {
+        push_step(out, naming, step)?;
+    }
+    Ok(())
+}

@@ -1,0 +1,21 @@
+//! `check`: whether a history is serializable, with what shows that it isn't.
+#![tactic(auto)]
+
+mod answer;
+mod cycle;
+mod engine;
+mod fault;
+mod laws;
+mod naming;
+mod options;
+mod ranks;
+#[cfg(test)]
+mod tests;
+mod yes;
+
+pub use engine::check;
+pub use laws::{
+    a_text_spells_one_history, a_yes_is_told_exactly_of_what_is_serializable,
+    an_unreadable_line_spells_none,
+};
+pub use options::Options;

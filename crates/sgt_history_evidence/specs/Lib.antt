@@ -1,0 +1,3 @@
+pub mod Writers
+pub mod Values
+pub mod Evidence

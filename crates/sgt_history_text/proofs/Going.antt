@@ -1,0 +1,224 @@
+-- How far a reader was read, against all that it told.
+use Rattle.std.proofs.Common.{◌≡◌, ◌≢◌, ℕ, ◌+◌, ◌<◌, ◌≤◌, suc, List, [], ◌∷◌, ◌++◌, length, Option, Some, None, IfSome, append_assoc, refl, sym, ap, ◌∙◌, subst, arith, inl, inr}
+use Rattle.std.specs.Prelude.{⊤}
+use Rattle.std.proofs.lemmas.List.{append-nil}
+use Rattle.json.specs.Json.{Json}
+use Rattle.sgt_names.specs.Limits.{most_reads}
+use Rattle.sgt_notation.specs.Spelling.{HasNoLf, text_of_lines}
+use Rattle.sgt_notation.specs.Lines.{Ahead, Gives, MetReadFault, ReadFaultIsDue, Spends, Stream, coming}
+use Rattle.sgt_notation.specs.declared.lines.Next.TheVariants.{Line, Cut, TooLong as Long, End}
+use Rattle.sgt_history.specs.Transaction.{Transaction}
+use Rattle.sgt_history_text.specs.Built.{IsBuilt, IsTaken}
+use Rattle.sgt_history_text.specs.Line.{IsLine}
+use Rattle.sgt_history_text.specs.Reading.{IsStop, stop_of}
+use Rattle.sgt_history_text.specs.Text.{AreLines, Blocks, IsFirstUnreadable, IsInFront, SpellEach, Spells, longest_line}
+use Rattle.sgt_history_text.specs.declared.building.Builder.{Builder}
+use Rattle.sgt_history_text.specs.declared.fault.LineFault.{LineFault}
+use Rattle.sgt_history_text.specs.declared.fault.LineFault.TheVariants.{NotALine, TooLong, IdAgain}
+use Rattle.sgt_history_text.specs.declared.reading.Stop.TheVariants.{Ended, At}
+
+-- ---- lines
+
+text-append : (xs ys : List (List ℕ)) → text_of_lines (xs ++ ys) ≡ text_of_lines xs ++ text_of_lines ys
+text-append [] ys = refl
+text-append (x ∷ xs) ys = ap (λ (t : List ℕ). (x ++ 10 ∷ []) ++ t) (text-append xs ys) ∙ sym (append_assoc (x ++ 10 ∷ []) (text_of_lines xs) (text_of_lines ys))
+
+one-line : (xs : List (List ℕ)) (l rest : List ℕ) → text_of_lines (xs ++ l ∷ []) ++ rest ≡ text_of_lines xs ++ (l ++ 10 ∷ rest)
+one-line xs l rest =
+    ap (λ (t : List ℕ). t ++ rest) (text-append xs (l ∷ [])) ∙ append_assoc (text_of_lines xs) (text_of_lines (l ∷ [])) rest
+    ∙ ap (λ (t : List ℕ). text_of_lines xs ++ t) (ap (λ (t : List ℕ). t ++ rest) (append-nil (l ++ 10 ∷ [])) ∙ append_assoc l (10 ∷ []) rest)
+
+each-push : (lines : List (List ℕ)) (ids : List Json) (h : List (Transaction Json Json)) (l : List ℕ) (id : Json) (t : Transaction Json Json)
+    → SpellEach lines ids h → HasNoLf l → length l ≤ longest_line → IsLine l id t → SpellEach (lines ++ l ∷ []) (ids ++ id ∷ []) (h ++ t ∷ [])
+each-push [] [] [] l id t e none short is = (none, short, is, tt)
+each-push [] [] (u ∷ us) l id t e none short is = absurd e
+each-push [] (i ∷ is') us l id t e none short is = absurd e
+each-push (k ∷ ks) [] us l id t e none short is = absurd e
+each-push (k ∷ ks) (i ∷ is') [] l id t e none short is = absurd e
+each-push (k ∷ ks) (i ∷ is') (u ∷ us) l id t e none short is = (e.0, e.1, e.2, each-push ks is' us l id t e.3 none short is)
+
+each-length : (lines : List (List ℕ)) (ids : List Json) (h : List (Transaction Json Json)) → SpellEach lines ids h → length lines ≡ length ids
+each-length [] [] [] e = refl
+each-length [] [] (u ∷ us) e = absurd e
+each-length [] (i ∷ is) us e = absurd e
+each-length (k ∷ ks) [] us e = absurd e
+each-length (k ∷ ks) (i ∷ is) [] e = absurd e
+each-length (k ∷ ks) (i ∷ is) (u ∷ us) e = ap suc (each-length ks is us e.3)
+
+pub each-same : (lines : List (List ℕ)) (ids : List Json) (h : List (Transaction Json Json)) → SpellEach lines ids h → length ids ≡ length h
+each-same [] [] [] e = refl
+each-same [] [] (u ∷ us) e = absurd e
+each-same [] (i ∷ is) us e = absurd e
+each-same (k ∷ ks) [] us e = absurd e
+each-same (k ∷ ks) (i ∷ is) [] e = absurd e
+each-same (k ∷ ks) (i ∷ is) (u ∷ us) e = ap suc (each-same ks is us e.3)
+
+-- ---- how far
+
+-- the bytes are these lines and then what comes
+abbrev pub IsRest : List (List ℕ) → Option (List ℕ) → Option (List ℕ) → Type 0
+IsRest lines None coming = ⊤
+IsRest lines (Some bytes) None = ⊥
+IsRest lines (Some bytes) (Some rest) = bytes ≡ text_of_lines lines ++ rest
+
+-- so much was read
+pub record Goes (told coming : Option (List ℕ)) (b : Builder) : Type 0 where
+  pub lines : List (List ℕ)
+  pub ids : List Json
+  pub h : List (Transaction Json Json)
+  pub spell : SpellEach lines ids h
+  pub built : IsBuilt b ids h []
+  pub rest : IsRest lines told coming
+
+rest-empty : (told : Option (List ℕ)) (ahead : Ahead) → ahead.held ≡ [] → IsRest [] told (coming ahead told)
+rest-empty None ahead fresh = tt
+rest-empty (Some bytes) ahead fresh = ap (λ (held : List ℕ). held ++ bytes) (sym fresh)
+
+pub goes-none : (told : Option (List ℕ)) (ahead : Ahead) (b : Builder) → IsBuilt b [] [] [] → ahead.held ≡ [] → Goes told (coming ahead told) b
+goes-none told ahead b built fresh = record { lines = []; ids = []; h = []; spell = tt; built = built; rest = rest-empty told ahead fresh }
+
+rest-line : (xs : List (List ℕ)) (limit : ℕ) (told old new : Option (List ℕ)) (l : List ℕ) → IsRest xs told old → Gives limit old Line l new
+    → IsRest (xs ++ l ∷ []) told new
+rest-line xs limit None old new l rest gives = tt
+rest-line xs limit (Some bytes) None new l rest gives = absurd rest
+rest-line xs limit (Some bytes) (Some os) None l rest gives = absurd gives
+rest-line xs limit (Some bytes) (Some os) (Some ns) l rest gives =
+    rest ∙ ap (λ (t : List ℕ). text_of_lines xs ++ t) gives.2 ∙ sym (one-line xs l ns)
+
+pub goes-line : (told old new : Option (List ℕ)) (b b' : Builder) (l : List ℕ) (goes : Goes told old b) → HasNoLf l → length l ≤ longest_line
+    → Gives longest_line old Line l new → IsTaken goes.ids goes.h l b' None → Goes told new b'
+goes-line told old new b b' l goes none short gives (id, t, is, fresh, built) = record {
+  lines = goes.lines ++ l ∷ [];
+  ids = goes.ids ++ id ∷ [];
+  h = goes.h ++ t ∷ [];
+  spell = each-push goes.lines goes.ids goes.h l id t goes.spell none short is;
+  built = built;
+  rest = rest-line goes.lines longest_line told old new l goes.rest gives;
+}
+
+-- ---- the end
+
+end-lines : (lines : List (List ℕ)) (told old new : Option (List ℕ)) (l : List ℕ) → IsRest lines told old → Gives longest_line old End l new
+    → IfSome told (λ bytes. AreLines lines bytes)
+end-lines lines None old new l rest gives = tt
+end-lines lines (Some bytes) None new l rest gives = absurd rest
+end-lines lines (Some bytes) (Some xs) None l rest gives = absurd gives
+end-lines lines (Some bytes) (Some xs) (Some ys) l rest gives =
+    inl (rest ∙ ap (λ (t : List ℕ). text_of_lines lines ++ t) gives.0 ∙ append-nil (text_of_lines lines))
+
+spelled : (told : Option (List ℕ)) (lines : List (List ℕ)) (ids : List Json) (h : List (Transaction Json Json)) (b : Builder) → SpellEach lines ids h → IsBuilt b ids h []
+    → IfSome told (λ bytes. AreLines lines bytes) → IfSome told (λ bytes. Spells bytes ids h)
+spelled None lines ids h b each built are = tt
+spelled (Some bytes) lines ids h b each built are = record { lines = lines; are_lines = are; spell = each; apart = built.ids_kept.once }
+
+pub stops-end : (told old new : Option (List ℕ)) (b : Builder) (l : List ℕ) → Goes told old b → Gives longest_line old End l new → IsStop told b Ended
+stops-end told old new b l goes gives =
+    (goes.ids, goes.h, goes.built, spelled told goes.lines goes.ids goes.h b goes.spell goes.built (end-lines goes.lines told old new l goes.rest gives))
+
+some_byte : (l : List ℕ) → 0 < length l → l ≢ []
+some_byte l h e = omega (arith, ap length e)
+
+cut-lines : (lines : List (List ℕ)) (told old new : Option (List ℕ)) (l : List ℕ) → IsRest lines told old → Gives longest_line old Cut l new
+    → IfSome told (λ bytes. AreLines (lines ++ l ∷ []) bytes)
+cut-lines lines None old new l rest gives = tt
+cut-lines lines (Some bytes) None new l rest gives = absurd rest
+cut-lines lines (Some bytes) (Some xs) None l rest gives = absurd gives
+cut-lines lines (Some bytes) (Some xs) (Some ys) l rest gives = inr (record {
+  front = lines;
+  last = l;
+  lines_are = refl;
+  some_byte = some_byte l gives.1;
+  bytes_are = rest ∙ ap (λ (t : List ℕ). text_of_lines lines ++ t) gives.3;
+})
+
+-- ---- a line that can't be read
+
+-- the line was read from the front
+abbrev pub InFront : List ℕ → Option (List ℕ) → Type 0
+InFront l old = IfSome old (λ rest. IsInFront l rest)
+
+front-line : (old new : Option (List ℕ)) (l : List ℕ) → HasNoLf l → length l ≤ longest_line → Gives longest_line old Line l new → InFront l old
+front-line None new l none short gives = tt
+front-line (Some xs) None l none short gives = absurd gives
+front-line (Some xs) (Some ys) l none short gives = record { none = none; short = short; there = inl (ys, gives.2) }
+
+front-cut : (old new : Option (List ℕ)) (l : List ℕ) → HasNoLf l → length l ≤ longest_line → Gives longest_line old Cut l new → InFront l old
+front-cut None new l none short gives = tt
+front-cut (Some xs) None l none short gives = absurd gives
+front-cut (Some xs) (Some ys) l none short gives = record { none = none; short = short; there = inr (gives.3, some_byte l gives.1) }
+
+taken-blocks : (ids : List Json) (h : List (Transaction Json Json)) (b : Builder) (l : List ℕ) (fault : LineFault) (old : Option (List ℕ)) → InFront l old
+    → IsTaken ids h l b (Some fault) → IfSome old (λ rest. Blocks ids rest fault)
+taken-blocks ids h b l fault None front taken = tt
+taken-blocks ids h b l NotALine (Some rest) front taken = (l, front, taken)
+taken-blocks ids h b l TooLong (Some rest) front taken = absurd taken
+taken-blocks ids h b l IdAgain (Some rest) front (id, t, is, again) = (l, id, t, front, is, again)
+
+long-blocks : (ids : List Json) (old new : Option (List ℕ)) (l : List ℕ) → Gives longest_line old Long l new → IfSome old (λ rest. Blocks ids rest TooLong)
+long-blocks ids None new l gives = tt
+long-blocks ids (Some xs) None l gives = absurd gives
+long-blocks ids (Some xs) (Some ys) l gives = gives.0
+
+module _ (told old : Option (List ℕ)) (b : Builder) (n : ℕ) (goes : Goes told old b) (number : n ≡ length goes.ids + 1) where
+  stops-at : (told old : Option (List ℕ)) (fault : LineFault) → IsRest goes.lines told old → IfSome old (λ rest. Blocks goes.ids rest fault)
+      → IfSome told (λ bytes. IsFirstUnreadable bytes n fault)
+  stops-at None old fault rest blocks = tt
+  stops-at (Some bytes) None fault rest blocks = absurd rest
+  stops-at (Some bytes) (Some xs) fault rest blocks = record {
+    before = goes.lines;
+    ids = goes.ids;
+    h = goes.h;
+    rest = xs;
+    text = rest;
+    spell = goes.spell;
+    apart = goes.built.ids_kept.once;
+    number_is = number ∙ ap (λ k. k + 1) (sym (each-length goes.lines goes.ids goes.h goes.spell));
+    blocks = blocks;
+  }
+
+  pub stops-line : (new : Option (List ℕ)) (b' : Builder) (l : List ℕ) (fault : LineFault) → HasNoLf l → length l ≤ longest_line → Gives longest_line old Line l new
+      → IsTaken goes.ids goes.h l b' (Some fault) → IsStop told b' (At n fault)
+  stops-line new b' l fault none short gives taken =
+      stops-at told old fault goes.rest (taken-blocks goes.ids goes.h b' l fault old (front-line old new l none short gives) taken)
+
+  pub stops-long : (new : Option (List ℕ)) (l : List ℕ) → Gives longest_line old Long l new → IsStop told b (At n TooLong)
+  stops-long new l gives = stops-at told old TooLong goes.rest (long-blocks goes.ids old new l gives)
+
+  pub stops-cut : (new : Option (List ℕ)) (b' : Builder) (l : List ℕ) (fault : Option LineFault) → HasNoLf l → length l ≤ longest_line → Gives longest_line old Cut l new
+      → IsTaken goes.ids goes.h l b' fault → IsStop told b' (stop_of n fault)
+  stops-cut new b' l (Some fault) none short gives taken =
+      stops-at told old fault goes.rest (taken-blocks goes.ids goes.h b' l fault old (front-cut old new l none short gives) taken)
+  stops-cut new b' l None none short gives (id, t, is, fresh, built) = (
+    goes.ids ++ id ∷ [],
+    goes.h ++ t ∷ [],
+    built,
+    spelled told (goes.lines ++ l ∷ []) (goes.ids ++ id ∷ []) (goes.h ++ t ∷ []) b' (each-push goes.lines goes.ids goes.h l id t goes.spell none short is) built
+        (cut-lines goes.lines told old new l goes.rest gives),
+  )
+
+-- ---- the reads
+
+pub spends_on : (told mid new : Option (List ℕ)) (a b c : ℕ) → Spends a told b mid → Spends b mid c new → Spends a told c new
+spends_on None mid new a b c first later = tt
+spends_on (Some xs) None new a b c first later = absurd first
+spends_on (Some xs) (Some ys) None a b c first later = absurd later
+spends_on (Some xs) (Some ys) (Some zs) a b c first later = omega arith
+
+pub spends-none : (told : Option (List ℕ)) (a b : ℕ) → b ≡ a → Spends a told b told
+spends-none None a b same = tt
+spends-none (Some xs) a b same = omega arith
+
+-- no read was left, so each of them took a byte
+all-spent : (told new : Option (List ℕ)) → Spends 4294967295 told 0 new → IfSome told (λ bytes. most_reads ≤ length bytes)
+all-spent None new spends = tt
+all-spent (Some xs) None spends = absurd spends
+all-spent (Some xs) (Some ys) spends = let all : 4294967295 ≤ length xs = omega arith in all
+
+-- a read fault is one of the source, or all reads were made
+pub fault-met : (told : Option (List ℕ)) (failures asked asked' reads : ℕ) (old new : Stream) (line : List ℕ) → old.failures ≡ failures → Spends 4294967295 told reads old.told → old.ahead.reads ≡ reads
+    → asked' + new.ahead.reads ≡ asked + 4294967295 → MetReadFault old line new → ReadFaultIsDue told failures new.failures asked asked'
+fault-met told failures asked asked' reads old new line quiet spends same counts met =
+    elim met.cause [
+      | inl failed ↦ inl (omega (arith, failed.0, quiet))
+      | inr spent ↦ inr (omega (arith, spent.0, counts), all-spent told new.told (spends_on told old.told new.told 4294967295 reads 0 spends (subst (λ (n : ℕ). Spends n old.told 0 new.told) same spent.2)))
+    ]

@@ -1,0 +1,16 @@
+mod Cut
+mod Tries
+mod Lookups
+mod Trees
+mod Parts
+mod Spelled
+mod Kept
+mod Named
+mod Grown
+mod Going
+mod Ending
+mod Fronts
+mod Opened
+mod Gathered
+mod Solid
+mod Objects

@@ -1,0 +1,176 @@
+-- What a transaction's members are is seen of what was read to some depth.
+use Rattle.std.proofs.Common.{◌≡◌, ℕ, suc, Bool, true, false, cond, List, [], ◌∷◌, map, Option, Some, None, option_map, All, IfSome, refl, sym, ap, ap₂, ◌∙◌, subst, arith, codes, decimal}
+use Rattle.std.specs.Str.{bytes_eq}
+use Rattle.std.proofs.lemmas.Option.{same_Some}
+use Rattle.json.specs.Json.{Json, null, boolean, number, string, array, object, Items, no_items, item, Members, no_members, member}
+use Rattle.json.specs.Find.{get_member, later_or}
+use Rattle.json.specs.Value.{items_of}
+use Rattle.sgt_history.specs.Transaction.{Transaction}
+use Rattle.sgt_history.specs.declared.history.Operation.{Operation}
+use Rattle.sgt_history_text.specs.Line.{IsOperation, end_word, given, kind_word, operation_json}
+use Rattle.sgt_history_text.specs.Name.{IsKey, IsValue}
+use Rattle.sgt_history_text.specs.Parsed.{IsTransaction}
+use Rattle.sgt_history_text.specs.Shallow.{IsScalar, arrays, empty, leaf, map_items, map_members, read_members}
+
+-- it is as it is read, and nothing else is read so
+record IsSolid (f : Json → Json) (y : Json) : Type 0 where
+  pub fixed : f y ≡ y
+  pub back : (x : Json) → f x ≡ y → x ≡ y
+
+-- ---- scalars
+
+not_scalar : (x y : Json) → IsScalar y → (IsScalar x → ⊥) → x ≡ y → ⊥
+not_scalar x y s other e = other (subst IsScalar (sym e) s)
+
+leaf_fixed : (y : Json) → IsScalar y → leaf y ≡ y
+leaf_fixed null s = refl
+leaf_fixed (boolean b) s = refl
+leaf_fixed (number n) s = refl
+leaf_fixed (string n) s = refl
+leaf_fixed (array js) s = absurd s
+leaf_fixed (object ms) s = absurd s
+
+leaf_back : (y : Json) → IsScalar y → (x : Json) → leaf x ≡ y → x ≡ y
+leaf_back y s null e = e
+leaf_back y s (boolean b) e = e
+leaf_back y s (number n) e = e
+leaf_back y s (string n) e = e
+leaf_back y s (array js) e = absurd (not_scalar (empty false) y s (λ h. h) e)
+leaf_back y s (object ms) e = absurd (not_scalar (empty true) y s (λ h. h) e)
+
+leaf_solid : (y : Json) → IsScalar y → IsSolid leaf y
+leaf_solid y s = record { fixed = leaf_fixed y s; back = leaf_back y s }
+
+arrays_fixed : (f : Json → Json) (y : Json) → IsScalar y → arrays f y ≡ y
+arrays_fixed f null s = refl
+arrays_fixed f (boolean b) s = refl
+arrays_fixed f (number n) s = refl
+arrays_fixed f (string n) s = refl
+arrays_fixed f (array js) s = absurd s
+arrays_fixed f (object ms) s = absurd s
+
+arrays_back : (f : Json → Json) (y : Json) → IsScalar y → (x : Json) → arrays f x ≡ y → x ≡ y
+arrays_back f y s null e = e
+arrays_back f y s (boolean b) e = e
+arrays_back f y s (number n) e = e
+arrays_back f y s (string n) e = e
+arrays_back f y s (array js) e = absurd (not_scalar (array (map_items f js)) y s (λ h. h) e)
+arrays_back f y s (object ms) e = absurd (not_scalar (empty true) y s (λ h. h) e)
+
+arrays_solid : (f : Json → Json) (y : Json) → IsScalar y → IsSolid (arrays f) y
+arrays_solid f y s = record { fixed = arrays_fixed f y s; back = arrays_back f y s }
+
+key_scalar : (least most : ℕ) (j : Json) → IsKey least most j → IsScalar j
+key_scalar least most null k = absurd k
+key_scalar least most (boolean b) k = absurd k
+key_scalar least most (number s) k = tt
+key_scalar least most (string s) k = tt
+key_scalar least most (array js) k = absurd k
+key_scalar least most (object ms) k = absurd k
+
+value_scalar : (j : Json) → IsValue j → IsScalar j
+value_scalar null k = tt
+value_scalar (boolean b) k = tt
+value_scalar (number s) k = tt
+value_scalar (string s) k = tt
+value_scalar (array js) k = absurd k
+value_scalar (object ms) k = absurd k
+
+-- ---- arrays
+
+abbrev AreSolid : (Json → Json) → Items → Type 0
+AreSolid f no_items = Unit {0}
+AreSolid f (item j js) = IsSolid f j × AreSolid f js
+
+first_item : (x y : Json) (xs ys : Items) → item x xs ≡ item y ys → x ≡ y
+first_item x y xs ys e = cc
+
+rest_items : (x y : Json) (xs ys : Items) → item x xs ≡ item y ys → xs ≡ ys
+rest_items x y xs ys e = cc
+
+elements : (xs ys : Items) → array xs ≡ array ys → xs ≡ ys
+elements xs ys e = cc
+
+items_fixed : (f : Json → Json) (ks : Items) → AreSolid f ks → map_items f ks ≡ ks
+items_fixed f no_items s = refl
+items_fixed f (item k ks) s = ap₂ item s.0.fixed (items_fixed f ks s.1)
+
+items_back : (f : Json → Json) (ks js : Items) → AreSolid f ks → map_items f js ≡ ks → js ≡ ks
+items_back f no_items no_items s e = refl
+items_back f no_items (item j js) s e = absurd cc
+items_back f (item k ks) no_items s e = absurd cc
+items_back f (item k ks) (item j js) s e =
+    ap₂ item (s.0.back j (first_item (f j) k (map_items f js) ks e)) (items_back f ks js s.1 (rest_items (f j) k (map_items f js) ks e))
+
+array_back : (f : Json → Json) (ks : Items) → AreSolid f ks → (x : Json) → arrays f x ≡ array ks → x ≡ array ks
+array_back f ks s null e = absurd cc
+array_back f ks s (boolean b) e = absurd cc
+array_back f ks s (number n) e = absurd cc
+array_back f ks s (string n) e = absurd cc
+array_back f ks s (object ms) e = absurd cc
+array_back f ks s (array js) e = ap array (items_back f ks js s (elements (map_items f js) ks e))
+
+array_solid : (f : Json → Json) (ks : Items) → AreSolid f ks → IsSolid (arrays f) (array ks)
+array_solid f ks s = record { fixed = ap array (items_fixed f ks s); back = array_back f ks s }
+
+given_solid : (v : Option Json) → IfSome v IsValue → AreSolid leaf (given v)
+given_solid None k = tt
+given_solid (Some j) k = (leaf_solid j (value_scalar j k), tt)
+
+operation_solid : (o : Operation Json Json) → IsOperation o → IsSolid (arrays leaf) (operation_json o)
+operation_solid o is =
+    array_solid leaf (item (string (kind_word o.kind)) (item o.item (item (number (decimal o.version)) (given o.value)))) (
+      leaf_solid (string (kind_word o.kind)) tt,
+      (leaf_solid o.item (key_scalar 0 1024 o.item is.item_is), (leaf_solid (number (decimal o.version)) tt, given_solid o.value is.value_is)),
+    )
+
+operations_solid : (os : List (Operation Json Json)) → All IsOperation os → AreSolid (arrays leaf) (items_of (map operation_json os))
+operations_solid [] all = tt
+operations_solid (o ∷ os) all = (operation_solid o (all 0 o (omega arith)), operations_solid os (λ k d h. all (suc k) d (omega arith)))
+
+-- ---- members
+
+later : (f : Json → Json) (o : Option Json) (b : Bool) (j : Json)
+    → later_or (option_map f o) (cond b (Some (f j)) None) ≡ option_map f (later_or o (cond b (Some j) None))
+later f None true j = refl
+later f None false j = refl
+later f (Some i) true j = refl
+later f (Some i) false j = refl
+
+get_read : (f : Json → Json) (name : List ℕ) (ms : Members) → get_member name (map_members f ms) ≡ option_map f (get_member name ms)
+get_read f name no_members = refl
+get_read f name (member k j ms) =
+    ap (λ o. later_or o (cond (bytes_eq k name) (Some (f j)) None)) (get_read f name ms) ∙ later f (get_member name ms) (bytes_eq k name) j
+
+some_back : (f : Json → Json) (o : Option Json) (y : Json) → IsSolid f y → option_map f o ≡ Some y → o ≡ Some y
+some_back f None y s e = absurd cc
+some_back f (Some x) y s e = ap Some (s.back x (same_Some (f x) y e))
+
+module _ (f : Json → Json) (ms : Members) (name : List ℕ) (y : Json) (s : IsSolid f y) where
+  member_on : get_member name (map_members f ms) ≡ Some y → get_member name ms ≡ Some y
+  member_on e = some_back f (get_member name ms) y s (sym (get_read f name ms) ∙ e)
+
+  member_back : get_member name ms ≡ Some y → get_member name (map_members f ms) ≡ Some y
+  member_back e = get_read f name ms ∙ ap (option_map f) e ∙ ap Some s.fixed
+
+-- ---- read so deep, it is a transaction exactly where it is one
+
+pub transaction_on : (ms : Members) (id : Json) (t : Transaction Json Json) → IsTransaction (object (read_members ms)) id t → IsTransaction (object ms) id t
+transaction_on ms id t is = record {
+  tx = member_on (arrays (arrays leaf)) ms (codes "tx") id (arrays_solid (arrays leaf) id (key_scalar 1 256 id is.id_is)) is.tx;
+  end = member_on (arrays (arrays leaf)) ms (codes "end") (string (end_word t.commits)) (arrays_solid (arrays leaf) (string (end_word t.commits)) tt) is.end;
+  ops = member_on (arrays (arrays leaf)) ms (codes "ops") (array (items_of (map operation_json t.operations)))
+      (array_solid (arrays leaf) (items_of (map operation_json t.operations)) (operations_solid t.operations is.each)) is.ops;
+  id_is = is.id_is;
+  each = is.each;
+}
+
+pub transaction_back : (ms : Members) (id : Json) (t : Transaction Json Json) → IsTransaction (object ms) id t → IsTransaction (object (read_members ms)) id t
+transaction_back ms id t is = record {
+  tx = member_back (arrays (arrays leaf)) ms (codes "tx") id (arrays_solid (arrays leaf) id (key_scalar 1 256 id is.id_is)) is.tx;
+  end = member_back (arrays (arrays leaf)) ms (codes "end") (string (end_word t.commits)) (arrays_solid (arrays leaf) (string (end_word t.commits)) tt) is.end;
+  ops = member_back (arrays (arrays leaf)) ms (codes "ops") (array (items_of (map operation_json t.operations)))
+      (array_solid (arrays leaf) (items_of (map operation_json t.operations)) (operations_solid t.operations is.each)) is.ops;
+  id_is = is.id_is;
+  each = is.each;
+}

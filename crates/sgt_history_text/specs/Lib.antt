@@ -1,0 +1,9 @@
+pub mod Name
+pub mod Line
+pub mod Text
+pub mod Parsed
+pub mod Shallow
+pub mod Pool
+pub mod Table
+pub mod Built
+pub mod Reading

@@ -1,0 +1,144 @@
+//! A history that grows by transactions, its items and values numbered.
+
+ghost use Rattle.std.specs.Prelude.{◌≡◌, ◌++◌, ◌∷◌, [], List, All, IfOk, OnOk, map};
+ghost use Rattle.std.specs.Bool.{MatchBool};
+ghost use Rattle.json.specs.Json.{Json};
+ghost use Rattle.json.specs.Tree.{HasNumbers};
+ghost use Rattle.json.specs.Value.{value_view};
+ghost use Rattle.sgt_history.specs.Transaction.{Transaction, WritesPositive};
+ghost use Rattle.sgt_history.specs.declared.history.Operation.{Operation};
+ghost use Rattle.sgt_history_text.specs.Built.{AreKept, IsAdded, IsBuilt, IsNumbered, IsNumberedOperation, IsNumberedValue};
+ghost use Rattle.sgt_history_text.specs.Line.{IsOperation};
+ghost use Rattle.sgt_history_text.specs.Name.{IsId, IsValue};
+ghost use Rattle.sgt_history_text.specs.Parsed.{seen, seen_operation, seen_transaction};
+ghost use Rattle.sgt_history.specs.Transaction.{renamed_value};
+ghost use Rattle.std.specs.Prelude.{IfSome};
+
+use crate::line::Lent;
+use crate::table::{Interned, Table};
+use json::{Value, to_vec};
+use sgt_history::{History, Operation};
+use std::alloc::{AllocError, Global};
+
+/// What was read so far.
+#[derive(Drop)]
+pub(crate) struct Builder {
+    pub history: History,
+    pub ids: Table,
+    pub items: Table,
+    pub values: Table,
+}
+
+/// No line yet.
+pub(crate) fn no_lines(alloc: Global) -> Result<Builder, AllocError>
+    ensures { IfOk result (λ b. IsBuilt b [] [] []) }
+{
+    Ok(Builder {
+        history: History::new(alloc),
+        ids: Table::new(alloc)?,
+        items: Table::new(alloc)?,
+        values: Table::new(alloc)?,
+    })
+}
+
+/// The number of a value.
+fn number(alloc: Global, names: &mut Table, value: &Value<'_>) -> Result<u32, AllocError>
+    requires { HasNumbers (value_view value.now) }
+    ensures { (js : List Json) → AreKept names.old js
+        → IfOk result (λ n. IsNumbered js (value_view value.now) names.new n) }
+{
+    let text = to_vec(alloc, value)?;
+    match names.intern(alloc, text.as_slice())? {
+        Interned::Old(number) => Ok(number),
+        Interned::New(number) => Ok(number),
+    }
+}
+
+/// The number of the value that an operation gives, if it gives one.
+fn number_given(
+    alloc: Global,
+    names: &mut Table,
+    value: Option<&Value<'_>>,
+) -> Result<Option<u32>, AllocError>
+    requires { IfSome (renamed_value seen value) HasNumbers }
+    ensures { (js : List Json) → AreKept names.old js
+        → IfOk result (λ n. IsNumberedValue js (renamed_value seen value.entry) names.new n) }
+{
+    match value {
+        Some(value) => Ok(Some(number(alloc, names, value)?)),
+        None => Ok(None),
+    }
+}
+
+/// The operation, with numbers.
+fn numbered(
+    alloc: Global,
+    items: &mut Table,
+    values: &mut Table,
+    lent: &Operation<&Value<'_>, &Value<'_>>,
+) -> Result<Operation<u32, u32>, AllocError>
+    requires { IsOperation (seen_operation lent.now) }
+    ensures positive { IfOk result WritesPositive }
+    ensures numbered { (js vs : List Json) → AreKept items.old js → AreKept values.old vs
+        → IfOk result (λ o. IsNumberedOperation js vs (seen_operation lent.now) items.new values.new o) }
+{
+    Ok(Operation {
+        version: lent.version,
+        item: number(alloc, items, lent.item)?,
+        kind: lent.kind,
+        value: number_given(alloc, values, lent.value)?,
+    })
+}
+
+/// One operation more of the line that is being read.
+fn push_operation(
+    alloc: Global,
+    builder: &mut Builder,
+    lent: &Operation<&Value<'_>, &Value<'_>>,
+) -> Result<(), AllocError>
+    requires { IsOperation (seen_operation lent.now) }
+    ensures { (ids : List Json) (h : List (Transaction Json Json)) (begun : List (Operation Json Json))
+        → IsBuilt builder.old ids h begun → OnOk result (IsBuilt builder.new ids h (begun ++ seen_operation lent.now ∷ [])) }
+{
+    let operation = numbered(alloc, &mut builder.items, &mut builder.values, lent)?;
+    builder.history.push(operation)?;
+    Ok(())
+}
+
+/// All operations of the line.
+fn push_operations(
+    alloc: Global,
+    builder: &mut Builder,
+    operations: &[Operation<&Value<'_>, &Value<'_>>],
+) -> Result<(), AllocError>
+    requires { All IsOperation (map seen_operation operations.now) }
+    ensures { (ids : List Json) (h : List (Transaction Json Json)) → IsBuilt builder.old ids h []
+        → OnOk result (IsBuilt builder.new ids h (map seen_operation operations.now)) }
+{
+    for operation in operations {
+        push_operation(alloc, builder, operation)?;
+    }
+    Ok(())
+}
+
+/// The transaction of the line, unless an earlier one has its id: false then.
+pub(crate) fn add(
+    alloc: Global,
+    builder: &mut Builder,
+    lent: &Lent<'_, '_>,
+) -> Result<bool, AllocError>
+    requires each { All IsOperation (seen_transaction lent.now).operations }
+    requires id { IsId (seen lent.now.id) }
+    ensures { (ids : List Json) (h : List (Transaction Json Json)) → IsBuilt builder.old ids h []
+        → IfOk result (λ new. IsAdded ids h (seen lent.now.id) (seen_transaction lent.now) builder.new new) }
+{
+    push_operations(alloc, builder, lent.operations.as_slice())?;
+    let text = to_vec(alloc, lent.id)?;
+    match builder.ids.intern(alloc, text.as_slice())? {
+        Interned::Old(_) => Ok(false),
+        Interned::New(_) => {
+            builder.history.close(lent.commits)?;
+            Ok(true)
+        }
+    }
+}

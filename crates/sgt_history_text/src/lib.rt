@@ -1,0 +1,19 @@
+//! Histories, read: which text spells which history, its names as numbers, and the first line that can't be read.
+#![tactic(auto)]
+
+mod building;
+mod fault;
+mod line;
+mod names;
+mod operations;
+mod reading;
+mod shallow;
+mod table;
+#[cfg(test)]
+mod tests;
+mod values;
+mod whole;
+
+pub use fault::{LineFault, MAX_HISTORY_LINE, MOST_ID_BYTES, MOST_ITEM_BYTES};
+pub use names::Names;
+pub use reading::{HistoryText, Reading, read_history};

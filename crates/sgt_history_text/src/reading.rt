@@ -1,0 +1,174 @@
+//! The history that all lines of a reader spell.
+
+ghost use Rattle.std.specs.Prelude.{◌≡◌, ◌≢◌, ◌+◌, [], length, ℕ, List, Option, Err, IfOk, IfSome, IsErrOf};
+ghost use Rattle.json.specs.Json.{Json};
+ghost use Rattle.sgt_history.specs.Transaction.{Transaction};
+ghost use Rattle.sgt_names.specs.Limits.{most_reads};
+ghost use Rattle.sgt_notation.specs.Lines.{ReadFaultIsDue};
+ghost use Rattle.sgt_history_text.specs.Built.{IsBuilt, IsTaken};
+ghost use Rattle.sgt_history_text.specs.Reading.{IsReading, IsStop, IsToldOf, stop_of};
+ghost use Rattle.sgt_history_text.specs.Text.{Spells};
+
+use crate::building::{Builder, add, no_lines};
+use crate::fault::{LineFault, MAX_HISTORY_LINE};
+use crate::line::{parsed, transaction};
+use crate::names::Names;
+use json::Scratch;
+use sgt_history::History;
+use sgt_names::{EngineFail, Source};
+use sgt_notation::{Lines, LinesFault, Next};
+use std::alloc::{AllocError, Global};
+
+/// A history that was read, and what its numbers stand for: each id, item and value as JSON writes it compact.
+#[derive(Drop)]
+pub struct Reading {
+    /// The history, its items and values numbered.
+    pub history: History,
+    /// The ids, in the order of the lines.
+    pub ids: Names,
+    /// The items by number.
+    pub items: Names,
+    /// The values by number.
+    pub values: Names,
+}
+
+/// What a text was read as.
+#[derive(Drop)]
+pub enum HistoryText {
+    /// A history.
+    Read(Reading),
+    /// None: its first line that can't be read, from 1, and why.
+    Unreadable { line: u64, fault: LineFault },
+}
+
+/// One line more, given without its LF, or why it can't be read. Err: memory ran out.
+fn take_line(
+    alloc: Global,
+    builder: &mut Builder,
+    scratch: &mut Scratch,
+    line: &[u8],
+) -> Result<Option<LineFault>, AllocError>
+    ensures { (ids : List Json) (h : List (Transaction Json Json)) → IsBuilt builder.old ids h []
+        → IfOk result (IsTaken ids h line.now builder.new) }
+{
+    let Some(value) = parsed(alloc, line, scratch)? else {
+        return Ok(Some(LineFault::NotALine));
+    };
+    let Some(lent) = transaction(alloc, &value)? else {
+        return Ok(Some(LineFault::NotALine));
+    };
+    if add(alloc, builder, &lent)? {
+        Ok(None)
+    } else {
+        Ok(Some(LineFault::IdAgain))
+    }
+}
+
+/// Where the reading of lines stops.
+#[derive(Clone, Copy)]
+pub(crate) enum Stop {
+    /// At the end.
+    Ended,
+    /// At the first line that can't be read.
+    At { line: u64, fault: LineFault },
+}
+
+/// The number of the next line.
+fn next_line(builder: &Builder) -> u64
+    ensures { (ids : List Json) (h : List (Transaction Json Json)) → IsBuilt builder.now ids h [] → result ≡ length ids + 1 }
+{
+    builder.ids.len() as u64 + 1
+}
+
+fn stop_with(line: u64, fault: Option<LineFault>) -> Stop
+    ensures { result ≡ stop_of line fault }
+{
+    match fault {
+        Some(fault) => Stop::At { line, fault },
+        None => Stop::Ended,
+    }
+}
+
+/// Reads line after line, up to the end or to the first that can't be read.
+fn read_lines<R: Source>(
+    alloc: Global,
+    reader: &mut R,
+    lines: &mut Lines,
+    builder: &mut Builder,
+) -> Result<Stop, EngineFail>
+    requires fresh { lines.old ≡ record { held = []; reads = most_reads } }
+    requires none { IsBuilt builder.old [] [] [] }
+    ensures stops { IfOk result (IsStop (R.tells reader.old) builder.new) }
+    ensures quiet { result ≢ Err EngineFail.ReadFault
+        → R.failures reader.new ≡ R.failures reader.old }
+    ensures read_fault { IsErrOf result EngineFail.ReadFault → ReadFaultIsDue (R.tells reader.old)
+        (R.failures reader.old) (R.failures reader.new) (R.asked reader.old) (R.asked reader.new) }
+    ensures write_fault { result ≢ Err EngineFail.WriteFault }
+{
+    let mut line = Vec::new(alloc);
+    let mut scratch = Scratch::new(alloc);
+    'lines: loop {
+        let number = next_line(builder);
+        match lines.next(reader, &mut line, MAX_HISTORY_LINE) {
+            Ok(Next::Line) => {
+                if let Some(fault) = take_line(alloc, builder, &mut scratch, line.as_slice())? {
+                    return Ok(Stop::At {
+                        line: number,
+                        fault,
+                    });
+                }
+            }
+            Ok(Next::Cut) => {
+                let fault = take_line(alloc, builder, &mut scratch, line.as_slice())?;
+                return Ok(stop_with(number, fault));
+            }
+            Ok(Next::End) => return Ok(Stop::Ended),
+            Ok(Next::TooLong) => {
+                return Ok(Stop::At {
+                    line: number,
+                    fault: LineFault::TooLong,
+                });
+            }
+            Err(LinesFault::Memory) => return Err(EngineFail::Memory),
+            Err(LinesFault::ReadFault) => return Err(EngineFail::ReadFault),
+        }
+    }
+}
+
+/// The history that was read, with its names.
+fn finished(builder: Builder) -> Reading
+    ensures { (bytes : List ℕ) (ids : List Json) (h : List (Transaction Json Json)) → IsBuilt builder ids h []
+        → Spells bytes ids h → IsReading bytes result }
+{
+    let Builder {
+        history,
+        ids,
+        items,
+        values,
+    } = builder;
+    Reading {
+        history,
+        ids: ids.into_names(),
+        items: items.into_names(),
+        values: values.into_names(),
+    }
+}
+
+/// Reads a history, a transaction a line. Each line is read whole before the next, and no line behind the first that can't be read.
+///
+/// An Err is ReadFault, where a read failed or too many were needed, or Memory, where a growth was refused.
+pub fn read_history<R: Source>(alloc: Global, reader: &mut R) -> Result<HistoryText, EngineFail>
+    ensures told { IfOk result (λ text. IfSome (R.tells reader.old) (λ bytes. IsToldOf bytes text)) }
+    ensures quiet { result ≢ Err EngineFail.ReadFault
+        → R.failures reader.new ≡ R.failures reader.old }
+    ensures read_fault { IsErrOf result EngineFail.ReadFault → ReadFaultIsDue (R.tells reader.old)
+        (R.failures reader.old) (R.failures reader.new) (R.asked reader.old) (R.asked reader.new) }
+    ensures write_fault { result ≢ Err EngineFail.WriteFault }
+{
+    let mut lines = Lines::new(alloc)?;
+    let mut builder = no_lines(alloc)?;
+    match read_lines(alloc, reader, &mut lines, &mut builder)? {
+        Stop::Ended => Ok(HistoryText::Read(finished(builder))),
+        Stop::At { line, fault } => Ok(HistoryText::Unreadable { line, fault }),
+    }
+}

@@ -1,0 +1,71 @@
+-- The end of a talk: what is asked of the core then, and its last bundle.
+use Rattle.std.proofs.Common.{◌≡◌, ℕ, List, [], ◌∷◌, ◌++◌, length, map, refl, sym, ◌∙◌, ap, subst, inl, inr, Option, Some, None}
+use Rattle.std.specs.List.{range_with_len}
+use Rattle.std.proofs.lemmas.List.{append-nil}
+use Rattle.sgt_cert.specs.Parts.{Parts as Logs}
+use Rattle.sgt_cert.specs.Text.{text_of}
+use Rattle.sgt_notation.specs.declared.event.Event.{Event}
+use Rattle.sgt_notation.specs.declared.event.Event.TheVariants.{Withdraw}
+use Rattle.sgt_core_model.specs.Core.{CoreState, bundle_of}
+use Rattle.sgt_core_model.specs.Step.{MayStep, Run}
+use Rattle.sgt_core_model.specs.declared.reply.Reply.{Reply}
+use Rattle.sgt_core_machine.specs.Machine.{GoesOn, Parts, StandsFor}
+use Rattle.sgt_serve.specs.declared.last.Last.{Last}
+use Rattle.sgt_serve.specs.declared.last.Last.TheVariants.{Done, Memory, Unwritten}
+use Rattle.sgt_serve.specs.Ended.{Closes, installs_of, open_tx}
+use Rattle.sgt_serve.specs.private.Closing.{ClosesSo, HandsOut}
+use Rattle.sgt_courses.proofs.Courses.{run_on}
+
+-- these are asked of it, whatever is replied
+abbrev pub Asked : Parts → List Event → Parts → Type 0
+Asked old events new = GoesOn (λ c d. (replies : List Reply) × Run c events replies d) old new
+
+pub asked_none : (m : Parts) → Asked m [] m
+asked_none m c stands = (c, ([], refl), stands)
+
+pub asked_more : (m n o : Parts) (events : List Event) (e : Event) (reply : Reply) → Asked m events n → GoesOn (λ c d. MayStep c e reply d) n o → Asked m (events ++ e ∷ []) o
+asked_more m n o events e reply asked goes c stands =
+    let (d, ran, there) = asked c stands in
+    let (x, may, last) = goes d there in
+    (x, (ran.0 ++ reply ∷ [], run_on c d x events (e ∷ []) ran.0 (reply ∷ []) ran.1 (x, may, refl)), last)
+
+-- the open step is installed
+abbrev pub Installed : Parts → Parts → Type 0
+Installed old new = GoesOn (λ c d. (replies : List Reply) × Run c (installs_of (open_tx c) (length c.items)) replies d) old new
+
+pub installed_none : (m : Parts) → ((c : CoreState) → StandsFor m c → None ≡ open_tx c) → Installed m m
+installed_none m none c stands =
+    (c, subst (λ (tx : Option ℕ). (replies : List Reply) × Run c (installs_of tx (length c.items)) replies c) (none c stands) ([], refl), stands)
+
+pub installed_some : (m n : Parts) (tx sites : ℕ) → ((c : CoreState) → StandsFor m c → Some tx ≡ open_tx c) → ((c : CoreState) → StandsFor m c → sites ≡ length c.items)
+    → Asked m (installs_of (Some tx) sites) n → Installed m n
+installed_some m n tx sites open_step count asked c stands =
+    let (d, ran, there) = asked c stands in
+    let all = subst (λ (k : ℕ). (replies : List Reply) × Run c (installs_of (Some tx) k) replies d) (count c stands) ran in
+    (d, subst (λ (t : Option ℕ). (replies : List Reply) × Run c (installs_of t (length c.items)) replies d) (open_step c stands) all, there)
+
+-- ---- the last bundle
+
+closed_so : (last : Last) (c d : CoreState) (kept kept' : List (ℕ × List ℕ)) → Closes c d → HandsOut last d kept kept' → ClosesSo last c kept kept'
+closed_so Done c d kept kept' closes (idle, number, more) = (record { number = number; bundle = bundle_of d } ∷ [], inr (d, closes, idle, number, refl), more)
+closed_so Memory c d kept kept' closes same = same
+closed_so Unwritten c d kept kept' closes same = same
+
+pub closed_over : (m n o : Parts) (begun : ℕ) (last : Last) (kept kept' : List (ℕ × List ℕ)) → ((c : CoreState) → StandsFor m c → begun ≡ c.certifier.begun)
+    → Installed m n → Asked n (map Withdraw (range_with_len 1 begun)) o → ((c : CoreState) → StandsFor o c → HandsOut last c kept kept')
+    → (c : CoreState) → StandsFor m c → ClosesSo last c kept kept'
+closed_over m n o begun last kept kept' count installs withdraws hands c stands =
+    let (d, ran, there) = installs c stands in
+    let (e, then, at) = withdraws d there in
+    let rest = subst (λ (k : ℕ). Run d (map Withdraw (range_with_len 1 k)) then.0 e) (count c stands) then.1 in
+    closed_so last c e kept kept' (ran.0 ++ then.0, run_on c d e (installs_of (open_tx c) (length c.items)) (map Withdraw (range_with_len 1 c.certifier.begun)) ran.0 then.0 ran.1 rest) (hands e at)
+
+pub closed_none : (m : Parts) (begun : ℕ) (kept : List (ℕ × List ℕ)) → ((c : CoreState) → StandsFor m c → begun ≡ c.certifier.begun) → begun ≡ 0
+    → (c : CoreState) → StandsFor m c → ClosesSo Done c kept kept
+closed_none m begun kept count none c stands = ([], inl (sym (count c stands) ∙ none, refl), sym (append-nil kept))
+
+pub handed_out : (m : Parts) (b : Logs) (text : List ℕ) (number : ℕ) (kept kept' : List (ℕ × List ℕ)) → ((c : CoreState) → StandsFor m c → b ≡ bundle_of c)
+    → ((c : CoreState) → StandsFor m c → c.certifier.active ≡ []) → text ≡ text_of b → kept' ≡ kept ++ (number, text) ∷ []
+    → (c : CoreState) → StandsFor m c → HandsOut Done c kept kept'
+handed_out m b text number kept kept' same idle spelled more c stands =
+    (idle c stands, number, more ∙ ap (λ (t : List ℕ). kept ++ (number, t) ∷ []) (spelled ∙ ap text_of (same c stands)))

@@ -1,0 +1,23 @@
+//! The certifier of one thread, served line by line.
+#![tactic(auto)]
+
+mod bundles;
+mod ending;
+mod engine;
+mod fail;
+mod last;
+mod opening;
+mod places;
+mod stop;
+mod talking;
+#[cfg(test)]
+mod tests;
+mod turning;
+mod writing;
+
+pub use bundles::Bundles;
+pub use engine::serve;
+pub use fail::ServeFail;
+pub use places::{MemBundles, NoBundles};
+pub use sgt_courses::{Answer, CutFault, courses_are_chains, courses_are_runs, fronts_are_courses};
+pub use sgt_pipe::{Handed, HandedBundle, Pipe};

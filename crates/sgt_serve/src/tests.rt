@@ -1,0 +1,36 @@
+//! A talk in memory.
+
+use crate::{Bundles, MemBundles, NoBundles, Pipe, serve};
+use sgt_names::{MemSink, MemSource, Outcome};
+use std::test::Fail;
+
+// Replies, a cut that is refused, two that are made, a line that asks nothing, and a last line without its LF.
+#[test]
+fn a_talk_is_answered_and_cut(rt: HostRuntime) -> Result<(), Fail> {
+    let alloc = rt.alloc();
+    let input = b"site 0 x=5\nb\nw1[0.x]=6\nx\nc1\nx\nhello\nb\nr1[0.x]\nc1\nb\nx";
+    let said = b"b1\nw1[0.x]=6\n! E8\nc1 yes\nx 1\n! L1\nb1\nr1[0.x]=6\nc1 yes\nb2\n! L1\n";
+    let mut pipe = Pipe::new(MemSource::new(input, 7, None), MemSink::new(alloc, 200)?);
+    let mut bundles = MemBundles::new(alloc, 0);
+    let outcome = serve(alloc, &mut pipe, &mut bundles)?;
+    assert!(rt; outcome == Outcome::Yes);
+    let (_source, sink) = pipe.into_parts();
+    assert!(rt; sink.bytes() == said.as_slice());
+    let last =
+        b"sgt 1\n{\"decisions\":[{\"commit\":1,\"rank\":0},{\"withdraw\":2}],\"sites\":1}\nsite 0\nitem x=6\nr1[x]=6\nc1\nfinal x=6\nend\n";
+    let texts = bundles.texts();
+    assert!(rt; texts.len() == 2);
+    let second = texts[1].as_slice();
+    assert!(rt; second == last.as_slice());
+    Ok(())
+}
+
+#[test]
+fn a_place_that_keeps_none_counts(rt: HostRuntime) -> Result<(), Fail> {
+    let mut bundles = NoBundles::new();
+    let first = bundles.keep(b"sgt 1\n")?;
+    let second = bundles.keep(b"sgt 1\n")?;
+    assert!(rt; first == 1);
+    assert!(rt; second == 2);
+    Ok(())
+}

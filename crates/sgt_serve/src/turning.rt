@@ -1,0 +1,83 @@
+//! A line is answered.
+
+ghost use Rattle.std.specs.Prelude.{◌≡◌, ◌≤◌, IsTrue, ◌↔◌, length};
+ghost use Rattle.sgt_names.specs.Limits.{max_line};
+ghost use Rattle.sgt_notation.specs.Spelling.{HasNoLf};
+ghost use Rattle.sgt_core_machine.specs.Machine.{GoesOn};
+ghost use Rattle.sgt_core.specs.Replay.{MayAnswer};
+ghost use Rattle.sgt_courses.specs.Course.{cut_line};
+ghost use Rattle.sgt_serve.specs.private.Turning.{Takes, cut_fault_of};
+
+use crate::bundles::Bundles;
+use sgt_core_machine::Core;
+use sgt_core_model::{CoreFault, Reply};
+use sgt_courses::{Answer, CutFault};
+use sgt_notation::{EventLine, read_event};
+use std::alloc::Global;
+
+/// Whether the line asks for a cut.
+pub(crate) fn asks_cut(line: &[u8]) -> bool
+    ensures { IsTrue result ↔ (line.now ≡ cut_line) }
+{
+    matches!(line, b"x")
+}
+
+/// What the core replies to the event.
+fn reply_to(core: &mut Core, event: &EventLine) -> Reply
+    ensures { GoesOn (λ c d. MayAnswer c event.now result d) core.old core.new }
+{
+    match event {
+        EventLine::One(event) => core.step(*event),
+        EventLine::ToDecide(tx) => core.to_decide(*tx),
+    }
+}
+
+/// How it is told that there is no bundle.
+fn cut_fault(fault: CoreFault) -> CutFault
+    ensures { result ≡ cut_fault_of fault }
+{
+    match fault {
+        CoreFault::ActiveLeft => CutFault::ActiveLeft,
+        _ => CutFault::Memory,
+    }
+}
+
+/// Cuts the core, if that may be: its bundle is kept, and a core over the last values stands in its place.
+fn cut<B: Bundles>(alloc: Global, core: &mut Core, bundles: &mut B) -> Answer
+    ensures takes { Takes core.old cut_line result (B.handed bundles.old) (B.handed bundles.new)
+        core.new }
+    ensures counts { B.refusals bundles.old ≤ B.refusals bundles.new }
+{
+    match core.cut(alloc) {
+        Ok(cut) => match bundles.keep(cut.text.as_slice()) {
+            Ok(number) => {
+                *core = cut.next;
+                Answer::Cut(number)
+            }
+            Err(_) => Answer::Uncut(CutFault::Unwritten),
+        },
+        Err(fault) => Answer::Uncut(cut_fault(fault)),
+    }
+}
+
+/// Answers a line, and does what it asks for.
+pub(crate) fn answer<B: Bundles>(
+    alloc: Global,
+    core: &mut Core,
+    bundles: &mut B,
+    line: &[u8],
+) -> Answer
+    requires one { HasNoLf line.now }
+    requires short { length line.now ≤ max_line }
+    ensures takes { Takes core.old line.now result (B.handed bundles.old) (B.handed bundles.new)
+        core.new }
+    ensures counts { B.refusals bundles.old ≤ B.refusals bundles.new }
+{
+    if asks_cut(line) {
+        return cut(alloc, core, bundles);
+    }
+    match read_event(line) {
+        Ok(event) => Answer::Replies(reply_to(core, &event)),
+        Err(_) => Answer::Unreadable,
+    }
+}
