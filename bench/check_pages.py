@@ -14,7 +14,7 @@ import tempfile
 
 PAGES = ["README.md", *sorted(glob.glob("docs/*.md")), *sorted(glob.glob("crates/*/README.md"))]
 WORDS = "crates/sgt_words/src"
-FILES = "crates/sgt/src/line.rt"
+LINE = "crates/sgt_line/src"
 TOPICS = "crates/sgt_explain/src/topics.rt"
 WORDS_AT_MOST = {"README.md": 1100, "docs/BENCH.md": 1500, "docs/GATE.md": 750}
 
@@ -24,23 +24,31 @@ def text_of(path):
         return file.read()
 
 
+def missing():
+    """The names of commands that are none of this version."""
+    arms = re.findall(r"(CommandName::.*) => return None", text_of(f"{WORDS}/behind.rt"))
+    return {name for arm in arms for name in re.findall(r"CommandName::(\w+)", arm)}
+
+
 def commands():
     """The commands that the code knows."""
-    named = re.findall(r'b"(\w+)" => Some\(CommandName::(\w+)', text_of("crates/sgt_line/src/name.rt"))
-    missing = re.findall(r"(CommandName::.*) => return None", text_of(f"{WORDS}/behind.rt"))
-    return sorted(word for word, name in named if not any(f"::{name}" in it for it in missing))
+    named = re.findall(r'b"(\w+)" => Some\(CommandName::(\w+)', text_of(f"{LINE}/name.rt"))
+    return sorted(word for word, name in named if name not in missing())
 
 
 def options():
     """The options that the code knows, by their long names."""
     named = re.findall(r'\.long\("(\w+)"\)', text_of(f"{WORDS}/commands.rt"))
     named += re.findall(r'number_option\(\s*alloc,\s*"(\w+)"', text_of(f"{WORDS}/options.rt"))
-    return sorted({*(f"--{name}" for name in named), *re.findall(r'"(--\w+)"', text_of(FILES)), "--help", "--version"})
+    lines = text_of(f"{LINE}/kind.rt").splitlines()
+    of_others = {line for line in lines if (names := set(re.findall(r"CommandName::(\w+)", line))) and names <= missing()}
+    named += [name for line in lines if line not in of_others for name in re.findall(r'"--(\w+)"', line)]
+    return sorted({*(f"--{name}" for name in named), "--help", "--version"})
 
 
 def rewritten():
     """The words in a command's place that are made into other words before."""
-    return re.findall(r'word\.as_str\(\) == "(\w+)"', text_of(FILES))
+    return re.findall(r'word == "(\w+)"', text_of(f"{LINE}/line.rt"))
 
 
 def topics():

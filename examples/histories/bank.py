@@ -62,7 +62,8 @@ def program():
 
 def judge(title, path):
     """Prints what is said of the history, and gives the first line of it."""
-    said = subprocess.run([sys.executable, PLAIN, path], capture_output=True, text=True)
+    judge_of = [program(), "check"] if program() else [sys.executable, PLAIN]
+    said = subprocess.run([*judge_of, path], capture_output=True, text=True)
     print(f"{title}: {said.stdout.rstrip()}")
     if said.stderr or said.returncode > 1:
         print(said.stderr.rstrip(), file=sys.stderr)

@@ -88,6 +88,13 @@ impl<'a, R: Read> Steady<'a, R> {
     }
 }
 
+impl Steady<'_, Input> {
+    /// What it is called that is read.
+    pub(crate) fn name<'b>(&self, file: &'b str) -> &'b str {
+        self.inner.name(file)
+    }
+}
+
 impl<R: Read> Read for &mut Steady<'_, R> {
     fn read(&mut self, buffer: &mut [u8]) -> io::Result<usize> {
         for _ in 0..TRIES {

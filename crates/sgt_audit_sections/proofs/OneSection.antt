@@ -1,7 +1,12 @@
 -- A section judged line by line, behind empty sections of the sites before it.
-use Rattle.std.proofs.Common.{◌≡◌, ◌≢◌, ℕ, ◌+◌, ◌<◌, Bool, IsTrue, List, [], ◌∷◌, ◌++◌, length, map, take, drop, replicate, Option, Some, None, refl, sym, ap, ◌∙◌, subst, arith, lit<, inl, inr, ◌⊎◌, append_assoc, zero-add, All}
+use Rattle.std.proofs.Common.{◌≡◌, ◌≢◌, ℕ, zero, suc, ◌+◌, ◌<◌, ◌≤◌, Bool, IsTrue, List, [], ◌∷◌, ◌++◌, length, map, take, drop, replicate, Option, Some, None, refl, sym, ap, ◌∙◌, subst, arith, lit<, inl, inr, ◌⊎◌, append_assoc, zero-add, All}
 use Rattle.std.specs.Prelude.{◌↔◌, slice_get}
-use Rattle.std.proofs.lemmas.List.{append-nil, append_cancel_left, length-append, length-replicate, map-append, take-append-drop}
+use Rattle.std.specs.List.{AllByRecursion}
+use Rattle.std.proofs.lemmas.Bool.{cases_order}
+use Rattle.std.proofs.lemmas.List.{append-nil, append_cancel_left, length-append, length-replicate, map-append, take-append-drop, take-append-le}
+use Rattle.std.proofs.lemmas.List.Elements.{All-from_recursion, recursion_from_All}
+use Rattle.sgt_names.specs.Limits.{max_line}
+use Rattle.sgt_notation.specs.Lines.{IsLongerThan}
 use Rattle.sgt_names.proofs.Places.{All_at, All-from_at, Contains-from_at}
 use Rattle.sgt_names.proofs.Lists.{All_in, middle_at}
 use Rattle.sgt_notation.specs.Spelling.{line_text, text_of_lines, HasNoLf}
@@ -19,32 +24,21 @@ use Rattle.sgt_audit.specs.declared.alone.Alone.{Alone}
 use Rattle.sgt_audit.specs.declared.faults.Fault.{Fault}
 use Rattle.sgt_audit.specs.declared.faults.Fault.TheVariants as fault
 use Rattle.sgt_audit.specs.Alone.{IsReadyAlone, MeetsSteps, StandsAlone}
-use Rattle.sgt_audit.specs.Faults.{fault_number, IsLineIn, Keeps, whole, last, Rule, Breaks, within}
+use Rattle.sgt_audit.specs.Faults.{fault_number, IsLineIn, Keeps, Piece, whole, last, bytes_of, ComesNext, Rule, Breaks, within}
 use Rattle.sgt_audit.specs.Kept.{IsMet, TracksCurrent}
 use Rattle.sgt_audit.specs.Reading.{Begun, IsBegun, lines_read}
 use Rattle.sgt_audit.specs.private.Following.{MayFollow, with_next}
 use Rattle.sgt_audit.proofs.LinePlaces.{cut_append, last_cut, no_cons}
 use Rattle.sgt_audit.proofs.MayFollow.{added-lines, are-sections, begins-follow, sections-append}
-use Rattle.sgt_audit.proofs.ReaderAtStage.{one-line}
+use Rattle.sgt_audit.proofs.NextStage.{notation-breaks}
+use Rattle.sgt_audit.proofs.ReaderAtStage.{one-line, piece}
 use Rattle.sgt_audit_sections.specs.Sections.{empty_log, alone, KeepsAlone, AreKeptAlone, OwnFault, IsFaultlessCertificate, StepsAreFound}
-use Rattle.sgt_audit_sections.specs.Judged.{IsWholeSection}
+use Rattle.sgt_audit_sections.specs.Judged.{IsUnderway, IsWholeSection}
 use Rattle.sgt_audit_sections.specs.private.Feeding.{FedAlone}
 use Rattle.sgt_audit_sections.proofs.SectionFaults.{empties}
 
 abbrev pub empty : ℕ → List SiteLog
 empty k = replicate k empty_log
-
--- the lines of the section that were fed, and what is kept of them
-pub record Goes (second : Bool) (c : Certificate) (k : ℕ) (bytes rest : List ℕ) (line : ℕ) (a : Alone) : Type 0 where
-  pub b : Begun
-  pub own : List SectionLine
-  pub whole : b.whole ≡ empty k
-  pub stands : StandsAlone c b a
-  pub lines : lines_read b ≡ alone k own
-  pub kept : AreKeptAlone second c k own
-  pub text : bytes ≡ text_of_lines (map line_text own) ++ rest
-  pub number : line ≡ length own + 1
-  pub format : a.second ≡ second
 
 -- before the first line
 abbrev pub at_site : Certificate → ℕ → Begun
@@ -53,7 +47,7 @@ at_site c k = record { sites = c.sites; whole = empty k; current = None }
 pub fresh : (c : Certificate) (k : ℕ) → IsFaultlessCertificate c → k < c.sites → IsBegun (at_site c k)
 fresh c k good few = record { some = good.spelled.0; few = good.spelled.1; logs = empties k; room = omega (arith, length-replicate k empty_log) }
 
-pub begins : (second : Bool) (c : Certificate) (k : ℕ) (bytes : List ℕ) (a : Alone) → StandsAlone c (at_site c k) a → a.second ≡ second → Goes second c k bytes bytes 1 a
+pub begins : (second : Bool) (c : Certificate) (k : ℕ) (bytes : List ℕ) (a : Alone) → StandsAlone c (at_site c k) a → a.second ≡ second → IsUnderway second c k bytes bytes 1 a
 begins second c k bytes a stands format = record {
   b = at_site c k;
   own = [];
@@ -69,6 +63,61 @@ begins second c k bytes a stands format = record {
 -- what is behind the line at the front
 pub cut-rest : (rest l : List ℕ) (n : ℕ) → take n rest ≡ l ++ 10 ∷ [] → rest ≡ l ++ 10 ∷ drop n rest
 cut-rest rest l n front = sym (take-append-drop n rest) ∙ ap (λ (t : List ℕ). t ++ drop n rest) front ∙ append_assoc l (10 ∷ []) (drop n rest)
+
+-- ---- a line that is too long
+
+-- an LF within the front
+lf-within : (l more : List ℕ) (n : ℕ) → length l < n → AllByRecursion (λ b. b ≢ 10) (take n (l ++ 10 ∷ more)) → ⊥
+lf-within l more zero lt h = absurd (omega arith)
+lf-within [] more (suc n) lt h = h.0 refl
+lf-within (x ∷ l) more (suc n) lt h = lf-within l more n (omega arith) h.1
+
+within-front : (l more bytes : List ℕ) (limit : ℕ) → bytes ≡ l ++ 10 ∷ more → HasNoLf (take (limit + 1) bytes) → length l < limit + 1 → ⊥
+within-front l more bytes limit is front lt = lf-within l more (limit + 1) lt (recursion_from_All (λ b. b ≢ 10) (take (limit + 1) (l ++ 10 ∷ more)) (subst (λ (t : List ℕ). HasNoLf (take (limit + 1) t)) is front))
+
+piece-long : (limit : ℕ) (bytes : List ℕ) (next : Piece) → ComesNext bytes next → limit < length bytes → HasNoLf (take (limit + 1) bytes) → limit < length (bytes_of next)
+piece-long limit bytes (whole l) (more, is, none) lt front =
+    elim (cases_order limit (length l)) [
+      | inl same ↦ absurd (within-front l more bytes limit is front (omega (arith, same)))
+      | inr (inl less) ↦ less
+      | inr (inr more_left) ↦ absurd (within-front l more bytes limit is front (omega (arith, more_left)))
+    ]
+piece-long limit bytes (last l) (is, none) lt front = omega (arith, ap length is)
+
+-- what stands before it has no LF
+pub longer-front : (rest left : List ℕ) → HasNoLf rest → IsLongerThan max_line left → IsLongerThan max_line (rest ++ left)
+longer-front rest left one long = (
+  omega (arith, length-append rest left, long.0),
+  All-from_recursion (λ b. b ≢ 10) _ (go rest (max_line + 1) (recursion_from_All (λ b. b ≢ 10) rest one)),
+)
+  where
+    shorter : (n m : ℕ) (xs : List ℕ) → n ≤ m → AllByRecursion (λ b. b ≢ 10) (take m xs) → AllByRecursion (λ b. b ≢ 10) (take n xs)
+    shorter zero m xs le h = tt
+    shorter (suc n) zero xs le h = absurd (omega arith)
+    shorter (suc n) (suc m) [] le h = tt
+    shorter (suc n) (suc m) (x ∷ xs) le h = (h.0, shorter n m xs (omega arith) h.1)
+
+    below : (n : ℕ) → n ≤ max_line + 1 → AllByRecursion (λ b. b ≢ 10) (take n left)
+    below n le = shorter n (max_line + 1) left le (recursion_from_All (λ b. b ≢ 10) _ long.1)
+
+    all-of : (xs : List ℕ) (n : ℕ) → n ≤ max_line + 1 → AllByRecursion (λ b. b ≢ 10) xs → AllByRecursion (λ b. b ≢ 10) (take n (xs ++ left))
+    all-of [] n le h = below n le
+    all-of (x ∷ xs) zero le h = tt
+    all-of (x ∷ xs) (suc n) le h = (h.0, all-of xs n (omega arith) h.1)
+
+    go : (xs : List ℕ) (n : ℕ) → AllByRecursion (λ b. b ≢ 10) xs → AllByRecursion (λ b. b ≢ 10) (take (max_line + 1) (xs ++ left))
+    go xs n h = all-of xs (max_line + 1) (omega arith) h
+
+pub longer-rest : (rest more : List ℕ) → max_line < length rest → HasNoLf rest → IsLongerThan max_line (rest ++ more)
+longer-rest rest more lt one = (
+  omega (arith, length-append rest more, lt),
+  All-from_recursion (λ b. b ≢ 10) _ (subst (λ (t : List ℕ). AllByRecursion (λ b. b ≢ 10) t) (sym (take-append-le (max_line + 1) rest more (omega (arith, lt)))) (few rest (max_line + 1) (recursion_from_All (λ b. b ≢ 10) rest one))),
+)
+  where
+    few : (xs : List ℕ) (n : ℕ) → AllByRecursion (λ b. b ≢ 10) xs → AllByRecursion (λ b. b ≢ 10) (take n xs)
+    few xs zero h = tt
+    few [] (suc n) h = tt
+    few (x ∷ xs) (suc n) h = (h.0, few xs n h.1)
 
 -- ---- whether one more section is whole
 
@@ -92,7 +141,7 @@ steps-found ds k edges log met are is = (
       All_in (λ (e : Edge). e.step.label.site ≡ k → IsMet log.entries e) (edges_in ds) e found both.0 both.1)),
 )
 
-module _ (second : Bool) (c : Certificate) (k : ℕ) (few : k < c.sites) (bytes rest : List ℕ) (line : ℕ) (a : Alone) (g : Goes second c k bytes rest line a) where
+module _ (second : Bool) (c : Certificate) (k : ℕ) (few : k < c.sites) (bytes rest : List ℕ) (line : ℕ) (a : Alone) (g : IsUnderway second c k bytes rest line a) where
   -- the section goes on
   pub open-yet : AreSections c.sites (alone k g.own) → ⊥
   open-yet all =
@@ -114,6 +163,37 @@ module _ (second : Bool) (c : Certificate) (k : ℕ) (few : k < c.sites) (bytes 
     comes = (refl, one);
     breaks = breaks;
     others = other;
+  }
+
+  -- where what comes next is a line that is too long
+  pub unspelled : (left : List ℕ) → IsLongerThan max_line (rest ++ left) → OwnFault second c k (bytes ++ left) line fault.Notation
+  unspelled left long =
+      let p = piece (rest ++ left) in
+      record {
+        own = g.own;
+        rest = rest ++ left;
+        next = p.0;
+        text = ap (λ (t : List ℕ). t ++ left) g.text ∙ append_assoc (text_of_lines (map line_text g.own)) rest left;
+        kept = g.kept;
+        open_yet = open-yet;
+        number = g.number;
+        comes = p.1;
+        breaks = notation-breaks second c (alone k g.own) p.0 (piece-long max_line (rest ++ left) p.0 p.1 long.0 long.1);
+        others = λ same. cc;
+      }
+
+  -- more of it was read
+  pub underway-more : (more : List ℕ) → IsUnderway second c k (bytes ++ more) (rest ++ more) line a
+  underway-more more = record {
+    b = g.b;
+    own = g.own;
+    whole = g.whole;
+    stands = g.stands;
+    lines = g.lines;
+    kept = g.kept;
+    text = ap (λ (t : List ℕ). t ++ more) g.text ∙ append_assoc (text_of_lines (map line_text g.own)) rest more;
+    number = g.number;
+    format = g.format;
   }
 
   module _ (edges : List Edge) (new : Alone) (n : ℕ) (same : new.second ≡ a.second) where
@@ -190,7 +270,7 @@ module _ (second : Bool) (c : Certificate) (k : ℕ) (few : k < c.sites) (bytes 
       cases = whole-cases (empty k) g.b g.b.current read g.whole (begins-follow g.b read may)
 
       -- the section goes on behind it
-      pub goes-on : (k < length next.whole → ⊥) → Goes second c k bytes (drop n rest) (line + 1) new
+      pub goes-on : (k < length next.whole → ⊥) → IsUnderway second c k bytes (drop n rest) (line + 1) new
       goes-on before = record {
         b = next;
         own = more_own;

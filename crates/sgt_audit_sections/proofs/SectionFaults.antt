@@ -1,13 +1,14 @@
 -- Sections with no fault of their own, and the first fault of the text that they stand in.
-use Rattle.std.proofs.Common.{◌≡◌, ◌≢◌, ℕ, suc, ◌+◌, ◌<◌, Bool, List, [], ◌∷◌, ◌++◌, length, map, take, replicate, Some, refl, sym, ap, ◌∙◌, subst, arith, lit<, inl, inr, append_assoc, add-zero, All, Contains}
+use Rattle.std.proofs.Common.{◌≡◌, ◌≢◌, ℕ, suc, ◌+◌, ◌<◌, ◌≤◌, Bool, List, [], ◌∷◌, ◌++◌, length, map, take, replicate, Some, refl, sym, ap, ◌∙◌, subst, arith, lit<, inl, inr, append_assoc, add-zero, All, Contains}
 use Rattle.std.specs.Prelude.{slice_get}
+use Rattle.std.specs.List.{AllByRecursion}
 use Rattle.std.proofs.lemmas.Bool.{cases_order}
 use Rattle.std.proofs.lemmas.List.{append-nil, length-append, length-map, length-take, length-replicate, map-append}
 use Rattle.std.proofs.lemmas.List.Elements.{All-append, All-replicate}
 use Rattle.std.proofs.lemmas.Option.{slice_get_within}
 use Rattle.sgt_names.proofs.Places.{All_at, All-from_at, slice_get-take}
-use Rattle.sgt_notation.specs.Spelling.{line_text, text_of_lines}
-use Rattle.sgt_notation.proofs.OneSpelling.{line-one}
+use Rattle.sgt_notation.specs.Spelling.{IsLine, line_text, text_of_lines}
+use Rattle.sgt_notation.proofs.OneSpelling.{cut_at_byte, line-one, line-one_line}
 use Rattle.sgt_notation.proofs.Short.{line-no_lf}
 use Rattle.sgt_notation.specs.declared.SectionLine.{SectionLine}
 use Rattle.sgt_notation.specs.declared.SectionLine.TheVariants.{Site, Initial, Logged, Final, End}
@@ -18,18 +19,18 @@ use Rattle.sgt_cert.specs.declared.bundle.SiteLog.{SiteLog}
 use Rattle.sgt_cert.specs.declared.certificate.Certificate.{Certificate}
 use Rattle.sgt_cert.specs.declared.certificate.Decision.TheVariants.{Refuse}
 use Rattle.sgt_cert.specs.declared.certificate.Step.{Step}
-use Rattle.sgt_cert.proofs.OneText.{sections-one}
+use Rattle.sgt_cert.proofs.OneText.{line_front, sections-one}
 use Rattle.sgt_audit_decisions.specs.Steps.{edges_in}
 use Rattle.sgt_audit_decisions.specs.declared.steps.Edge.{Edge}
 use Rattle.sgt_audit.specs.declared.faults.Fault.{Fault}
 use Rattle.sgt_audit.specs.declared.faults.Fault.TheVariants as fault
-use Rattle.sgt_audit.specs.Faults.{fault_number, AllKept, IsLineIn, Keeps, Piece, whole, last, ComesNext, Rule, Breaks, within, complete, lines_so_far, IsFaultless, FirstFault, HasNoFault}
+use Rattle.sgt_audit.specs.Faults.{fault_number, AllKept, IsLineIn, Keeps, Piece, whole, last, ComesNext, Rule, Breaks, within, complete, lines_so_far, IsFaultless, FirstFault, HasNoFault, reach}
 use Rattle.sgt_audit.specs.Kept.{IsMet}
 use Rattle.sgt_audit.proofs.FaultNumbers.{number-one}
 use Rattle.sgt_audit.proofs.LinePlaces.{cut_append, no_cons}
 use Rattle.sgt_audit.proofs.LoggedConflicts.{met-walks, walks-met}
 use Rattle.sgt_audit.proofs.MayFollow.{split-whole, sections-append}
-use Rattle.sgt_audit.proofs.OneFault.{first_fault-excluded}
+use Rattle.sgt_audit.proofs.OneFault.{first_fault-excluded, reach-one}
 use Rattle.sgt_audit.proofs.decidable.Entries.{decidable-walks}
 use Rattle.sgt_audit.proofs.NextStage.{line-trails, ends-behind}
 use Rattle.sgt_audit.proofs.ReaderAtStage.{text-append, one-line, piece}
@@ -289,6 +290,49 @@ own-first second c logs bytes n f good kept few o =
       breaks = breaks-moved empty logs len (empties k) (shaped second c logs kept) second c o.own o.next f o.others o.breaks;
     }
 
+-- how far it reaches
+front-within : (second : Bool) (c : Certificate) (logs : List SiteLog) (own : List SectionLine) → length (front_text second c logs) + length (text_of_lines (map line_text own)) ≤ length (text_of_lines (lines_so_far (within second c (sections_from 0 logs ++ own))))
+front-within second c logs own =
+    let text = text_of_lines (lines_so_far (within second c (sections_from 0 logs ++ own))) in
+    omega (arith, ap length (text-split second c logs own []), length-append (front_text second c logs) (text_of_lines (map line_text own) ++ []), length-append (text_of_lines (map line_text own)) [], length-append text [])
+
+pub own-reach : (second : Bool) (c : Certificate) (logs : List SiteLog) (bytes : List ℕ) (n m : ℕ) (f g : Fault) → IsFaultlessCertificate c
+    → AreFaultlessSections second c logs → length logs < c.sites → (o : OwnFault second c (length logs) bytes n f)
+    → (any : FirstFault (front_text second c logs ++ bytes) m g) → length (front_text second c logs) + length (text_of_lines (map line_text o.own)) ≤ reach (front_text second c logs ++ bytes) m g any
+unfolding own-first
+own-reach second c logs bytes n m f g good kept few o any =
+    omega (arith, front-within second c logs o.own, reach-one (front_text second c logs ++ bytes) m (lines_in_front logs + n) g f any (own-first second c logs bytes n f good kept few o))
+
+front-size : (x : SectionLine) (xs : List SectionLine) → length (text_of_lines (map line_text (x ∷ xs))) ≡ length (line_text x) + 1 + length (text_of_lines (map line_text xs))
+front-size x xs =
+    let all = text_of_lines (map line_text (x ∷ xs)) in
+    let more = text_of_lines (map line_text xs) in
+    omega (arith, ap length (line_front (line_text x) (map line_text xs) []), length-append all [], length-append (line_text x) (10 ∷ (more ++ [])), length-append more [])
+
+-- lines of one text, of which the second are no fewer
+pub no-fewer : (xs ys : List SectionLine) (r s : List ℕ) → AllByRecursion IsLine xs → AllByRecursion IsLine ys → text_of_lines (map line_text xs) ++ r ≡ text_of_lines (map line_text ys) ++ s → length xs ≤ length ys
+    → length (text_of_lines (map line_text xs)) ≤ length (text_of_lines (map line_text ys))
+no-fewer [] ys r s is are same few = omega arith
+no-fewer (x ∷ xs) [] r s is are same few = absurd (omega (arith, few))
+no-fewer (x ∷ xs) (y ∷ ys) r s is are same few =
+    let e1 = sym (line_front (line_text x) (map line_text xs) r) ∙ same ∙ line_front (line_text y) (map line_text ys) s in
+    let cut = cut_at_byte 10 (line_text x) (line_text y) (text_of_lines (map line_text xs) ++ r) (text_of_lines (map line_text ys) ++ s) (line-one_line x is.0) (line-one_line y are.0) e1 in
+    let more = no-fewer xs ys r s is.1 are.1 cut.1 (omega (arith, few)) in
+    omega (arith, more, ap length cut.0, front-size x xs, front-size y ys)
+
+kept-each : (second : Bool) (c : Certificate) (k : ℕ) (own : List SectionLine) → AreKeptAlone second c k own → AllByRecursion IsLine own
+kept-each second c k own kept = each-line own (λ earlier later l e. (kept earlier later l e).0.0)
+  where
+    each-line : (xs : List SectionLine) → ((earlier later : List SectionLine) (l : SectionLine) → xs ≡ earlier ++ l ∷ later → IsLine l) → AllByRecursion IsLine xs
+    each-line [] h = tt
+    each-line (x ∷ xs) h = (h [] xs x refl, each-line xs (λ earlier later l e. h (x ∷ earlier) later l (ap (λ (ls : List SectionLine). x ∷ ls) e)))
+
+-- a fault is behind lines with none
+pub behind-kept : (second : Bool) (c : Certificate) (k : ℕ) (own : List SectionLine) (bytes rest : List ℕ) (n : ℕ) (f : Fault) → AreKeptAlone second c k own → bytes ≡ text_of_lines (map line_text own) ++ rest → length own + 1 ≤ n
+    → (o : OwnFault second c k bytes n f) → length (text_of_lines (map line_text own)) ≤ length (text_of_lines (map line_text o.own))
+behind-kept second c k own bytes rest n f kept text few o =
+    no-fewer own o.own rest o.rest (kept-each second c k own kept) (kept-each second c k o.own o.kept) (sym text ∙ o.text) (omega (arith, few, o.number))
+
 -- ---- all sections
 
 whole-kept : (second : Bool) (c : Certificate) (before : List SectionLine) (line : SectionLine) → IsLineIn second line → (g : Fault) → Keeps c before line g → Rule (within second c before) (whole (line_text line)) g
@@ -367,6 +411,21 @@ module _ (second : Bool) (c : Certificate) (logs : List SiteLog) (good : IsFault
     };
   }
 
+  pub missed-reach : (bytes : List ℕ) (m : ℕ) (g : Fault) → (Found → ⊥) → (any : FirstFault (front_text second c logs ++ bytes) m g) → length (front_text second c logs) ≤ reach (front_text second c logs ++ bytes) m g any
+  unfolding missed-first
+  missed-reach bytes m g miss any =
+      let same = ap (λ (ls : List (List ℕ)). text_of_lines (format_line second ∷ certificate_text c ∷ ls)) (ap (map line_text) last-line.1 ∙ map-append line_text front (End ∷ [])) in
+      let last = one-line (lines_so_far (within second c front)) (line_text End) [] in
+      omega (
+        arith,
+        ap length same,
+        ap length last,
+        length-append (text_of_lines (lines_so_far (within second c front))) (line_text End ++ 10 ∷ []),
+        length-append (line_text End) (10 ∷ []),
+        length-append (text_of_lines (lines_so_far (within second c front) ++ line_text End ∷ [])) [],
+        reach-one (front_text second c logs ++ bytes) m (lines_in_front logs) g fault.WalkStep any (missed-first bytes miss),
+      )
+
   trails : (bytes : List ℕ) (p : Piece) → ComesNext bytes p → bytes ≢ [] → Breaks (Rule (complete second c lines) p) fault.Trailing
   trails bytes (whole l) comes some = line-trails l (complete second c lines) tt
   trails bytes (last l) comes some = ends-behind (complete second c lines) l tt (λ none. some (comes.0 ∙ none))
@@ -384,6 +443,11 @@ module _ (second : Bool) (c : Certificate) (logs : List SiteLog) (good : IsFault
         comes = p.1;
         breaks = trails bytes p.0 p.1 some;
       }
+
+  pub trailing-reach : (bytes : List ℕ) (m : ℕ) (g : Fault) → Found → bytes ≢ [] → (any : FirstFault (front_text second c logs ++ bytes) m g) → length (front_text second c logs) ≤ reach (front_text second c logs ++ bytes) m g any
+  unfolding trailing-first
+  trailing-reach bytes m g found some any =
+      omega (arith, reach-one (front_text second c logs ++ bytes) m (lines_in_front logs + 1) g fault.Trailing any (trailing-first bytes found some))
 
   pub no_fault-found : HasNoFault (front_text second c logs) → Found
   no_fault-found none =

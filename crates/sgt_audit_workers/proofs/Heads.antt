@@ -1,9 +1,10 @@
 -- The first two lines of a text.
-use Rattle.std.proofs.Common.{◌≡◌, ℕ, ◌+◌, ◌<◌, ◌≤◌, Bool, true, false, List, [], ◌∷◌, ◌++◌, length, Option, Some, None, IfSome, refl, sym, ap, ◌∙◌, subst, arith}
+use Rattle.std.proofs.Common.{◌≡◌, ℕ, ◌+◌, ◌*◌, ◌/◌, ◌<◌, ◌≤◌, Bool, true, false, List, [], ◌∷◌, ◌++◌, length, Option, Some, None, IfSome, refl, sym, ap, ◌∙◌, subst, arith, append_assoc}
 use Rattle.std.specs.Prelude.{Result, Ok, Err, IfOk, IfErr}
 use Rattle.std.specs.Io.KnownBytes.{Consumes}
 use Rattle.std.proofs.KnownBytes.{Consumes-trans}
-use Rattle.std.proofs.lemmas.List.{append-nil}
+use Rattle.std.proofs.Math.Nat.{mul-add, mul_comm, mul_assoc, mul-le-mul_left}
+use Rattle.std.proofs.lemmas.List.{append-nil, length-append}
 use Rattle.sgt_names.specs.declared.outcome.EngineFail.{EngineFail}
 use Rattle.sgt_names.specs.declared.outcome.EngineFail.TheVariants.{Memory}
 use Rattle.sgt_names.specs.Limits.{max_line, most_reads}
@@ -17,10 +18,17 @@ use Rattle.sgt_audit.specs.declared.faults.Fault.{Fault}
 use Rattle.sgt_audit.specs.declared.faults.Fault.TheVariants as fault
 use Rattle.sgt_audit.specs.declared.machine.Progress.TheVariants as at
 use Rattle.sgt_audit.specs.Faults.{fault_number, Stage, start, headed, lines_so_far, IsFaultless, Piece, whole, last, ComesNext, Rule, Breaks, FirstFault, bytes_of}
+use Rattle.sgt_audit.specs.declared.verdict.Verdict.TheVariants.{No}
+use Rattle.sgt_audit.proofs.OneFault.{reach-one}
 use Rattle.sgt_audit.proofs.ReaderAtStage.{at-long}
 use Rattle.sgt_audit_sections.specs.Sections.{front_text}
 use Rattle.sgt_audit_workers.specs.Head.{IsHead, IsHeadOf}
 use Rattle.sgt_audit_workers.specs.declared.head.Head.{Head}
+use Rattle.sgt_audit_workers.specs.Reads.{Reader}
+use Rattle.sgt_audit_workers.specs.Cut.{longest}
+use Rattle.sgt_audit_workers.specs.private.Begun.{IsFaultBefore, IsMost}
+use Rattle.sgt_audit_workers.specs.private.Tallied.{IsFound}
+use Rattle.sgt_audit_workers.specs.private.Texts.{HasAsked}
 use Rattle.sgt_audit_workers.proofs.Reading.{line-more}
 
 -- ---- what comes next has the first fault
@@ -95,32 +103,68 @@ ends-headed : (second : Bool) (l : List ℕ) → Breaks (Rule (headed second) (l
 ends-headed second l = record { broken = λ h. h; least = headed-below second l }
 
 module _ (second : Bool) (limit : ℕ) (bytes l rest : List ℕ) where
+  abbrev front : List ℕ
+  front = text_of_lines (format_line second ∷ [])
+
   abbrev text : List ℕ
-  text = text_of_lines (format_line second ∷ []) ++ bytes
+  text = front ++ bytes
 
-  pub second-line : (f : Fault) → IsNext limit bytes Line l rest → Breaks (Rule (headed second) (whole l)) f → FirstFault text 2 f
-  second-line f is breaks = line-fails (headed second) limit bytes l rest f tt is breaks
+  pub second-line : (f : Fault) → IsNext limit bytes Line l rest → Breaks (Rule (headed second) (whole l)) f → IsFaultBefore front bytes rest 2 f
+  unfolding line-fails fault-here
+  second-line f is breaks =
+      let here = line-fails (headed second) limit bytes l rest f tt is breaks in (
+        here,
+        λ m g any. omega (arith, reach-one text m 2 g f any here, length-append front bytes, ap length is.2, length-append l (10 ∷ rest)),
+      )
 
-  pub second-cut : IsNext limit bytes Cut l rest → FirstFault text 2 fault.Truncated
-  second-cut is = cut-fails (headed second) limit bytes l rest fault.Truncated tt is (ends-headed second l)
+  pub second-cut : IsNext limit bytes Cut l rest → IsFaultBefore front bytes rest 2 fault.Truncated
+  unfolding cut-fails fault-here
+  second-cut is =
+      let here = cut-fails (headed second) limit bytes l rest fault.Truncated tt is (ends-headed second l) in (
+        here,
+        λ m g any. omega (arith, reach-one text m 2 g fault.Truncated any here, length-append front bytes, ap length is.3),
+      )
 
-  pub second-end : IsNext limit bytes End l rest → FirstFault text 2 fault.Truncated
-  second-end is = end-fails (headed second) limit bytes l rest fault.Truncated tt is (ends-headed second [])
+  pub second-end : IsNext limit bytes End l rest → IsFaultBefore front bytes rest 2 fault.Truncated
+  unfolding end-fails fault-here
+  second-end is =
+      let here = end-fails (headed second) limit bytes l rest fault.Truncated tt is (ends-headed second []) in (
+        here,
+        λ m g any. omega (arith, reach-one text m 2 g fault.Truncated any here, length-append front bytes, ap length is.0),
+      )
 
 -- ---- what was told
 
--- what comes next, of bytes that are known
-pub next-told : (limit : ℕ) (old new : Option (List ℕ)) (next : Next) (l : List ℕ) (P : List ℕ → Type 0) → Gives limit old next l new → ((bytes rest : List ℕ) → IsNext limit bytes next l rest → P bytes) → IfSome old P
-next-told limit None new next l P gives holds = tt
-next-told limit (Some bytes) None next l P gives holds = absurd gives
-next-told limit (Some bytes) (Some rest) next l P gives holds = holds bytes rest gives
+-- a fault in the first line, which might be all that was read
+pub found-first : (limit : ℕ) (told new : Option (List ℕ)) (next : Next) (l : List ℕ) (f : Fault) → Gives limit told next l new → ((bytes rest : List ℕ) → IsNext limit bytes next l rest → FirstFault bytes 1 f) → IsFound 0 told told 0 (No 1 f)
+found-first limit None new next l f gives first = tt
+found-first limit (Some bytes) None next l f gives first = absurd gives
+found-first limit (Some bytes) (Some rest) next l f gives first = (first bytes rest gives, λ n g fault. (omega arith, omega arith))
 
--- the same behind the first line
-pub behind-first : (told mid : Option (List ℕ)) (second : Bool) (P : List ℕ → Type 0) → Consumes told mid (format_line second ++ 10 ∷ []) → IfSome mid (λ bytes. P (text_of_lines (format_line second ∷ []) ++ bytes)) → IfSome told P
-behind-first None mid second P first holds = tt
-behind-first (Some all) None second P first holds = absurd first
-behind-first (Some all) (Some bytes) second P first holds =
-    subst P (sym (first ∙ ap (λ (t : List ℕ). t ++ bytes) (sym (append-nil (format_line second ++ 10 ∷ []))))) holds
+-- a fault behind it
+pub found-second : (limit : ℕ) (told mid new : Option (List ℕ)) (second : Bool) (next : Next) (l : List ℕ) (f : Fault) → Consumes told mid (format_line second ++ 10 ∷ []) → Gives limit mid next l new
+    → ((bytes rest : List ℕ) → IsNext limit bytes next l rest → IsFaultBefore (text_of_lines (format_line second ∷ [])) bytes rest 2 f) → IsFound 0 told new 0 (No 2 f)
+found-second limit None mid new second next l f first gives fault = tt
+found-second limit (Some all) None new second next l f first gives fault = absurd first
+found-second limit (Some all) (Some bytes) None second next l f first gives fault = absurd gives
+found-second limit (Some all) (Some bytes) (Some rest) second next l f first gives fault =
+    let here = fault bytes rest gives in
+    let found : IsFound 0 (Some (text_of_lines (format_line second ∷ []) ++ bytes)) (Some rest) 0 (No 2 f) = (here.0, λ n g any. let far = here.1 n g any in (omega arith, omega (arith, far))) in
+    subst (λ (b : List ℕ). IsFound 0 (Some b) (Some rest) 0 (No 2 f)) (sym (first ∙ ap (λ (t : List ℕ). t ++ bytes) (sym (append-nil (format_line second ++ 10 ∷ []))))) found
+
+-- in a second line that was read whole
+pub found-line : (told mid new : Option (List ℕ)) (second : Bool) (limit : ℕ) (l : List ℕ) (f : Fault) → Consumes told mid (format_line second ++ 10 ∷ []) → Gives limit mid Line l new → Breaks (Rule (headed second) (whole l)) f → IsFound (length l) told new 0 (No 2 f)
+found-line None mid new second limit l f first gives breaks = tt
+found-line (Some all) None new second limit l f first gives breaks = absurd first
+found-line (Some all) (Some bytes) None second limit l f first gives breaks = absurd gives
+found-line (Some all) (Some bytes) (Some rest) second limit l f first gives breaks =
+    let front = text_of_lines (format_line second ∷ []) in
+    let here = second-line second limit bytes l rest f gives breaks in
+    let found : IsFound (length l) (Some (front ++ bytes)) (Some rest) 0 (No 2 f) = (
+      here.0,
+      λ n g any. let far = here.1 n g any in (omega (arith, far, length-append front bytes, ap length gives.2, length-append l (10 ∷ rest)), omega (arith, far)),
+    ) in
+    subst (λ (b : List ℕ). IsFound (length l) (Some b) (Some rest) 0 (No 2 f)) (sym (first ∙ ap (λ (t : List ℕ). t ++ bytes) (sym (append-nil (format_line second ++ 10 ∷ []))))) found
 
 -- a line of a text that is this
 pub line-told : (limit : ℕ) (old new : Option (List ℕ)) (l spelled : List ℕ) → l ≡ spelled → Gives limit old Line l new → Consumes old new (spelled ++ 10 ∷ [])
@@ -141,6 +185,35 @@ pub spends-none : (reads : ℕ) (told : Option (List ℕ)) → Spends reads told
 spends-none reads None = tt
 spends-none reads (Some bytes) = omega arith
 
+-- ---- how often the reader was asked
+
+-- no more was read than these bytes, and one read
+pub asked-on : (first old now : Reader) (left new : Option (List ℕ)) (front bytes : List ℕ) (more all : ℕ) → HasAsked first left 0 old → Consumes first.told left front → Consumes left new bytes → now.asked ≤ old.asked + more → more ≤ length bytes + all → HasAsked first new all now
+asked-on first old now left new front bytes more all asked is read few le = known first.told left new asked is read
+  where
+    known : (told left new : Option (List ℕ)) → IfSome told (λ xs. IfSome left (λ ys. old.asked + length ys ≤ first.asked + length xs + 0)) → Consumes told left front → Consumes left new bytes → IfSome told (λ xs. IfSome new (λ ys. now.asked + length ys ≤ first.asked + length xs + all))
+    known None left new asked is read = tt
+    known (Some xs) None new asked is read = absurd is
+    known (Some xs) (Some ys) None asked is read = tt
+    known (Some xs) (Some ys) (Some zs) asked is read = omega (arith, asked, few, le, ap length read, length-append bytes zs)
+
+pub asked-same : (first old now : Reader) (left : Option (List ℕ)) (more : ℕ) → HasAsked first left 0 old → now.asked ≤ old.asked + more → HasAsked first left more now
+asked-same first old now left more asked few = known first.told left asked
+  where
+    known : (told left : Option (List ℕ)) → IfSome told (λ xs. IfSome left (λ ys. old.asked + length ys ≤ first.asked + length xs + 0)) → IfSome told (λ xs. IfSome left (λ ys. now.asked + length ys ≤ first.asked + length xs + more))
+    known None left asked = tt
+    known (Some xs) None asked = tt
+    known (Some xs) (Some ys) asked = omega (arith, asked, few)
+
+-- no fewer bytes are gone than stand in what came
+pub gives-read : (limit : ℕ) (old new : Option (List ℕ)) (next : Next) (l : List ℕ) → Gives limit old next l new → (bytes : List ℕ) × Consumes old new bytes × (length l ≤ length bytes)
+gives-read limit None new next l gives = (l, tt, omega arith)
+gives-read limit (Some xs) None next l gives = absurd gives
+gives-read limit (Some xs) (Some ys) Line l gives = (l ++ 10 ∷ [], gives.2 ∙ sym (append_assoc l (10 ∷ []) ys), omega (arith, length-append l (10 ∷ [])))
+gives-read limit (Some xs) (Some ys) Cut l gives = (l, gives.3 ∙ sym (append-nil l) ∙ ap (λ (r : List ℕ). l ++ r) (sym gives.4), omega arith)
+gives-read limit (Some xs) (Some ys) TooLong l gives = (l, gives.1, omega arith)
+gives-read limit (Some xs) (Some ys) End l gives = ([], gives.0 ∙ sym gives.2, omega (arith, ap length gives.1))
+
 -- what line 2 was found to say
 pub head-of : (second : Bool) (line : List ℕ) (r : Result (Result Head Fault) EngineFail)
     → IfOk r (λ r. IfOk r (λ h. IsHead h × (h.second ≡ second) × (line ≡ certificate_text h.certificate)))
@@ -148,3 +221,18 @@ pub head-of : (second : Bool) (line : List ℕ) (r : Result (Result Head Fault) 
 head-of second line (Ok (Ok h)) head fault err = head
 head-of second line (Ok (Err f)) head fault err = fault
 head-of second line (Err e) head fault err = err
+
+-- ---- how long a section may be
+
+pub most-within : (count many most : ℕ) → 0 < count → most ≤ 3145726 + many / count / 2 → IsMost count many most
+most-within count many most some le =
+    let each = many / count in
+    let half = each / 2 in
+    let few : 2 * half ≤ each = omega arith in
+    let all : count * each ≤ many = omega (arith, some) in
+    let most-half : longest most ≤ 4194304 + half = omega (arith, le) in
+    let sized : 2 * count * longest most ≤ 2 * count * (4194304 + half) = mul-le-mul_left (2 * count) most-half in
+    let split : 2 * count * (4194304 + half) ≡ 2 * count * 4194304 + 2 * count * half = mul-add (2 * count) 4194304 half in
+    let turned : 2 * count * half ≡ count * (2 * half) = ap (λ n. n * half) (mul_comm 2 count) ∙ mul_assoc count 2 half in
+    let fewer : count * (2 * half) ≤ count * each = mul-le-mul_left count few in
+    omega (arith, sized, split, turned, fewer, all)

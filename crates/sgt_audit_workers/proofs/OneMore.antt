@@ -12,13 +12,14 @@ use Rattle.sgt_audit_cells.proofs.Doing.{get_cases}
 use Rattle.sgt_audit.specs.declared.faults.Fault.{Fault}
 use Rattle.sgt_audit.specs.declared.faults.Fault.TheVariants as fault
 use Rattle.sgt_audit.specs.declared.verdict.Verdict.{Verdict}
+use Rattle.sgt_audit.specs.declared.verdict.Verdict.TheVariants.{No}
 use Rattle.sgt_audit.specs.Faults.{FirstFault}
 use Rattle.sgt_audit.proofs.MayFollow.{sections-append}
 use Rattle.sgt_audit_sections.specs.Sections.{AllStepsAreFound, AreFaultlessSections, IsFaultlessSection, OwnFault, StepsAreFound, front_text, lines_in_front}
 use Rattle.sgt_audit_sections.specs.Judged.{IsWholeSection}
-use Rattle.sgt_audit_sections.proofs.SectionFaults.{own-first, missed-first, trailing-first}
+use Rattle.sgt_audit_sections.proofs.SectionFaults.{own-first, own-reach, missed-first, missed-reach, trailing-first, trailing-reach}
 use Rattle.sgt_audit_workers.specs.declared.tally.Tally.{Tally}
-use Rattle.sgt_audit_workers.specs.Tallies.{IsTally}
+use Rattle.sgt_audit_workers.specs.Tallies.{IsTally, IsVerdictBehind}
 
 both : (a b : Bool) (P Q R : Type 0) → IsTrue a ↔ P → IsTrue b ↔ Q → (P → Q → R) → (R → P) → (R → Q) → IsTrue (a && b) ↔ R
 both true b P Q R is are join left right = (λ h. join (is.0 refl) (are.0 h), λ r. are.1 (right r))
@@ -68,17 +69,29 @@ module _ (second : Bool) (c : Certificate) (logs : List SiteLog) (old : Tally) (
   first-of few more n f own = subst (λ m. FirstFault (front_text second c logs ++ (bytes ++ more)) (m + n) f) (sym t.lines) (own-first second c logs (bytes ++ more) n f t.certificate t.faultless few own)
 
   -- at the end of the text
-  pub last-of : (few : length logs < c.sites) (more : List ℕ) (n : ℕ) (f : Fault) → more ≡ [] → OwnFault second c (length logs) bytes n f → FirstFault (front_text second c logs ++ (bytes ++ more)) (old.lines + n) f
-  last-of few more n f none own = first-of few more n f (subst (λ (t : List ℕ). OwnFault second c (length logs) t n f) (sym (append-nil bytes) ∙ ap (λ (m : List ℕ). bytes ++ m) (sym none)) own)
+  pub last-own : (more : List ℕ) (n : ℕ) (f : Fault) → more ≡ [] → OwnFault second c (length logs) bytes n f → OwnFault second c (length logs) (bytes ++ more) n f
+  last-own more n f none own = subst (λ (t : List ℕ). OwnFault second c (length logs) t n f) (sym (append-nil bytes) ∙ ap (λ (m : List ℕ). bytes ++ m) (sym none)) own
+
+  pub behind-of : (few : length logs < c.sites) (more : List ℕ) (n : ℕ) (f : Fault) → OwnFault second c (length logs) (bytes ++ more) n f → IsVerdictBehind (front_text second c logs) (bytes ++ more) (No (old.lines + n) f)
+  behind-of few more n f own = (
+    first-of few more n f own,
+    λ m g any. let far = own-reach second c logs (bytes ++ more) n m f g t.certificate t.faultless few own any in omega (arith, far),
+  )
 
 module _ (second : Bool) (c : Certificate) (logs : List SiteLog) (t : Tally) (is : IsTally second c logs t) (each : length logs ≡ c.sites) (more : List ℕ) where
-  pub misses : t.met ≡ false → FirstFault (front_text second c logs ++ more) t.lines fault.WalkStep
+  pub misses : t.met ≡ false → IsVerdictBehind (front_text second c logs) more (No t.lines fault.WalkStep)
   misses missed =
-      subst (λ n. FirstFault (front_text second c logs ++ more) n fault.WalkStep) (sym is.lines)
-      (missed-first second c logs is.certificate is.faultless each more (λ found. false≢true (sym missed ∙ is.met.1 found)))
+      let none = λ (found : AllStepsAreFound c.decisions logs). false≢true (sym missed ∙ is.met.1 found) in (
+        subst (λ n. FirstFault (front_text second c logs ++ more) n fault.WalkStep) (sym is.lines)
+            (missed-first second c logs is.certificate is.faultless each more none),
+        λ m g any. missed-reach second c logs is.certificate is.faultless each more m g none any,
+      )
 
-  pub trails : AllStepsAreFound c.decisions logs → more ≢ [] → FirstFault (front_text second c logs ++ more) (t.lines + 1) fault.Trailing
-  trails found some = subst (λ n. FirstFault (front_text second c logs ++ more) (n + 1) fault.Trailing) (sym is.lines) (trailing-first second c logs is.certificate is.faultless each more found some)
+  pub trails : (line : ℕ) → line ≡ t.lines + 1 → AllStepsAreFound c.decisions logs → more ≢ [] → IsVerdictBehind (front_text second c logs) more (No line fault.Trailing)
+  trails line same found some = (
+    subst (λ n. FirstFault (front_text second c logs ++ more) n fault.Trailing) (ap (λ n. n + 1) (sym is.lines) ∙ sym same) (trailing-first second c logs is.certificate is.faultless each more found some),
+    λ m g any. trailing-reach second c logs is.certificate is.faultless each more m g found some any,
+  )
 
 -- what an Ok is answered with
 pub ok-adds : {E : Type 0} (r : Result (Option Verdict) E) (v : Verdict) (P : Option Verdict → Type 0) → IfOk r (λ found. found ≡ Some v) → P (Some v) → IfOk r P

@@ -1,4 +1,5 @@
 pub mod Head
 pub mod Tallies
 pub mod Cut
+pub mod Reads
 pub mod private

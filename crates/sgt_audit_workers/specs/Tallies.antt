@@ -1,9 +1,11 @@
 -- What the first sections of a text were found to be.
-use Rattle.std.specs.Prelude.{◌≡◌, ◌↔◌, ℕ, Bool, IsTrue, List, [], ◌∷◌, ◌++◌, length, map, Option, Some, None}
+use Rattle.std.specs.Prelude.{◌≡◌, ◌↔◌, ◌≤◌, ℕ, Bool, IsTrue, List, [], ◌∷◌, ◌++◌, length, map, Option, Some, None}
 use Rattle.sgt_notation.specs.Spelling.{line_text, text_of_lines}
 use Rattle.sgt_cert.specs.Text.{section_lines}
 use Rattle.sgt_cert.specs.declared.bundle.SiteLog.{SiteLog}
 use Rattle.sgt_cert.specs.declared.certificate.Certificate.{Certificate}
+use Rattle.sgt_audit.specs.Faults.{FirstFault, reach}
+use Rattle.sgt_audit.specs.declared.faults.Fault.{Fault}
 use Rattle.sgt_audit.specs.declared.verdict.Verdict.{Verdict}
 use Rattle.sgt_audit.specs.Verdict.{IsVerdict}
 use Rattle.sgt_audit_sections.specs.Sections.{AllStepsAreFound, AreFaultlessSections, IsFaultlessCertificate, front_text, lines_in_front}
@@ -17,6 +19,12 @@ pub record IsTally (second : Bool) (c : Certificate) (logs : List SiteLog) (t : 
   pub lines : t.lines ≡ lines_in_front logs
   pub met : IsTrue t.met ↔ AllStepsAreFound c.decisions logs
 
+-- the verdict on a text; its fault is behind this front of it
+abbrev pub IsVerdictBehind : (front rest : List ℕ) → Verdict → Type 0
+IsVerdictBehind front rest v = IsVerdict (front ++ rest) v
+    × ((n : ℕ) (f : Fault) (first : FirstFault (front ++ rest) n f)
+    → length front ≤ reach (front ++ rest) n f first)
+
 -- after one more section of these bytes, with more behind them: it is whole, and the tally is that
 -- with its log; or this is the verdict on the text
 abbrev pub Adds : Bool → Certificate → List SiteLog → (bytes more : List ℕ) → Tally
@@ -24,4 +32,4 @@ abbrev pub Adds : Bool → Certificate → List SiteLog → (bytes more : List �
 Adds second c logs bytes more new None = (log : SiteLog) × IsTally second c (logs ++ log ∷ []) new
     × (bytes ≡ text_of_lines (map line_text (section_lines (length logs) log)))
 Adds second c logs bytes more new (Some v) =
-    IsVerdict (front_text second c logs ++ (bytes ++ more)) v
+    IsVerdictBehind (front_text second c logs) (bytes ++ more) v

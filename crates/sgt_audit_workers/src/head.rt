@@ -1,21 +1,23 @@
 //! The first two lines of a text.
 
-ghost use Rattle.std.specs.Prelude.{◌≡◌, ◌≢◌, ◌+◌, ◌-◌, ◌^◌, ◌∷◌, ◌++◌, ℕ, Bool, [], List, Option, Err, false, IfOk, IfErr, IfSome, IfNone, IsErrOf};
+ghost use Rattle.std.specs.Prelude.{◌≡◌, ◌≢◌, ◌+◌, ◌-◌, ◌*◌, ◌^◌, ◌<◌, ◌≤◌, ◌∷◌, ◌++◌, ℕ, Bool, [], List, Option, length, IfOk, IfErr, IfSome, IfNone, vec_len};
 ghost use Rattle.sgt_names.specs.Limits.{max_line};
-ghost use Rattle.sgt_notation.specs.Lines.{IsNext, coming};
+ghost use Rattle.sgt_notation.specs.Lines.{IsNext};
 ghost use Rattle.sgt_notation.specs.Spelling.{text_of_lines};
 ghost use Rattle.sgt_cert.specs.Text.{IsCertificate, certificate_text, format_line};
 ghost use Rattle.sgt_audit.specs.Faults.{Breaks, FirstFault, Rule, headed, whole};
-ghost use Rattle.sgt_audit.specs.Verdict.{IsVerdict};
 ghost use Rattle.sgt_audit.specs.private.Judging.{AnswersItself};
 ghost use Rattle.sgt_audit_workers.specs.Head.{IsHead};
-ghost use Rattle.sgt_audit_workers.specs.private.Begun.{IsBegun};
+ghost use Rattle.sgt_audit_workers.specs.Reads.{Reader, reader};
+ghost use Rattle.sgt_audit_workers.specs.declared.sections.Section.{Section};
+ghost use Rattle.sgt_audit_workers.specs.declared.sections.State.TheVariants.{Going};
+ghost use Rattle.sgt_audit_workers.specs.private.Begun.{BeginsText, IsFaultBefore, IsMost};
 ghost use Rattle.sgt_audit_workers.specs.private.Judging.{WillSay};
-ghost use Rattle.sgt_audit_workers.specs.private.Texts.{AreAhead, FailsBehind, HasSpent, IsBehind};
+ghost use Rattle.sgt_audit_workers.specs.private.Tallied.{second_size};
+ghost use Rattle.sgt_audit_workers.specs.private.Texts.{HasRead, IsAsked, IsLeft};
 
-use crate::cutting::next_line;
 use crate::judging::{Judging, finish, start};
-use crate::sections::{Room, Section, Text, read_ahead};
+use crate::sections::{Beside, Section, Text, read_ahead, read_line};
 use sgt_audit::{Fault, Verdict};
 use sgt_audit_decisions::{Decided, Steps, are_cycles, are_ranks};
 use sgt_cert::{CertFault, Certificate, from_line};
@@ -139,7 +141,7 @@ fn second_fault(next: Next) -> Option<Fault>
     ensures none { IfNone result (next ≡ Next.Line) }
     ensures some { (second : Bool) (bytes line rest : List ℕ) → next ≢ Next.TooLong
         → IsNext (2 ^ 64 - 1) bytes next line rest → IfSome result
-        (FirstFault (text_of_lines (format_line second ∷ []) ++ bytes) 2) }
+        (IsFaultBefore (text_of_lines (format_line second ∷ [])) bytes rest 2) }
 {
     match next {
         Next::Line => None,
@@ -149,90 +151,119 @@ fn second_fault(next: Next) -> Option<Fault>
     }
 }
 
-/// What the two lines say, once the second is judged; or its fault. While it is read sections are read too, as long as there is room for them.
+/// How many bytes of a section are wanted in one piece at least: with the longest line behind them they are 4 MiB.
+const PIECE: usize = 3_145_726;
+
+/// How many bytes of sections are read at most, for each worker, while the second line is judged.
+const BESIDE: usize = 4_194_304;
+
+/// How many bytes of a section are wanted in one piece, for so many workers: with those of the second line, which is let go before the
+/// sections are judged, twice as many sections as there are workers have 8 MiB for each worker.
+fn most_of(count: usize, line: &[u8]) -> usize
+    requires { 0 < count }
+    ensures { IsMost count (length line.now) result }
+{
+    PIECE.saturating_add(line.len() / count / 2)
+}
+
+/// What is read while the second line is judged: that takes longer than to read twice its bytes.
+fn beside(count: usize, line: &[u8]) -> Beside
+    requires { 0 < count }
+    ensures { result.sections + 1 ≤ 2 * count }
+{
+    Beside {
+        sections: count.saturating_mul(2).saturating_sub(1),
+        bytes: line
+            .len()
+            .saturating_mul(2)
+            .min(count.saturating_mul(BESIDE)),
+    }
+}
+
+/// What the first two lines say, which have no fault, and sections that were read behind them.
+#[derive(Drop)]
+pub struct Begun {
+    pub head: Head,
+    pub ahead: Vec<Section>,
+}
+
+/// What the two lines say, once the second is judged, with the sections that were read beside it; or its fault, whatever was read.
 fn read_beside<H: Threads + Sync, R: Source>(
     rt: &H,
-    room: Room,
-    reader: &mut R,
+    beside: Beside,
+    source: &mut R,
     text: &mut Text,
     judging: Judging,
-) -> Result<Result<(Head, Vec<Section>), Fault>, EngineFail>
+) -> Result<Result<Begun, Fault>, EngineFail>
     ensures head { (second : Bool) (line : List ℕ) → WillSay second line judging
-        → IfOk result (λ r. IfOk r (λ p. IsHead p.0 × (p.0.second ≡ second)
-        × (line ≡ certificate_text p.0.certificate))) }
+        → IfOk result (λ r. IfOk r (λ b. IsHead b.head × (b.head.second ≡ second)
+        × (line ≡ certificate_text b.head.certificate))) }
     ensures fault { (second : Bool) (line : List ℕ) → WillSay second line judging
         → IfOk result (λ r. IfErr r (Breaks (Rule (headed second) (whole line)))) }
-    ensures ahead { let old = coming text.old.lines (R.tells reader.old) in
-        let now = coming text.new.lines (R.tells reader.new) in
-        (told : Option (List ℕ)) → IsBehind told text.old (R.tells reader.old)
-        → IfOk result (λ r. IfOk r (λ p. AreAhead told old p.1.items now)) }
-    ensures behind { (told : Option (List ℕ)) → IsBehind told text.old (R.tells reader.old)
-        → IfOk result (λ _. IsBehind told text.new (R.tells reader.new)) }
-    ensures spends { (first : Option (List ℕ)) → HasSpent first text.old (R.tells reader.old)
-        → IfOk result (λ _. HasSpent first text.new (R.tells reader.new)) }
-    ensures asks { R.asked reader.new + text.new.lines.reads
-        ≡ R.asked reader.old + text.old.lines.reads }
-    ensures quiet { result ≢ Err EngineFail.ReadFault
-        → R.failures reader.new ≡ R.failures reader.old }
-    ensures read_fault { IsErrOf result EngineFail.ReadFault
-        → FailsBehind text.old (R.tells reader.old)
-        (R.failures reader.old) (R.failures reader.new) (R.asked reader.old) (R.asked reader.new) }
-    ensures write_fault { result ≢ Err EngineFail.WriteFault }
+    ensures ahead { let old = reader (R.tells source.old) (R.failures source.old) (R.asked source.old) in
+        let new = reader (R.tells source.new) (R.failures source.new) (R.asked source.new) in
+        (first : Reader) (left : Option (List ℕ)) → IsLeft first text.old old left
+        → IfOk result (λ r. IfOk r (λ b. HasRead first left b.ahead.items text.new new)) }
+    ensures held { let old = reader (R.tells source.old) (R.failures source.old) (R.asked source.old) in
+        let new = reader (R.tells source.new) (R.failures source.new) (R.asked source.new) in
+        (first : Reader) (left : Option (List ℕ)) → IsLeft first text.old old left
+        → IfOk result (λ r. IfErr r (λ _. (ahead : List Section) × (length ahead ≤ beside.sections)
+        × HasRead first left ahead text.new new)) }
+    ensures asked { let old = reader (R.tells source.old) (R.failures source.old) (R.asked source.old) in
+        let new = reader (R.tells source.new) (R.failures source.new) (R.asked source.new) in
+        (first : Reader) (left : Option (List ℕ)) → IsLeft first text.old old left
+        → IsAsked first text.old old → IsAsked first text.new new }
+    ensures few { IfOk result (λ r. IfOk r (λ b. vec_len b.ahead ≤ beside.sections)) }
+    ensures most { text.new.most ≡ text.old.most }
+    ensures err { IfErr result (λ e. e ≡ EngineFail.Memory) }
 {
-    let ahead = read_ahead(reader, text, room);
-    let found = finish(rt, text.alloc, judging);
-    let ahead = ahead?;
-    match found {
-        Ok(Ok(head)) => Ok(Ok((head, ahead))),
+    let ahead = read_ahead(source, text, beside);
+    match finish(rt, text.alloc, judging) {
+        Ok(Ok(head)) => Ok(Ok(Begun { head, ahead })),
         Ok(Err(fault)) => Ok(Err(fault)),
         Err(_) => Err(EngineFail::Memory),
     }
 }
 
-/// Reads the first two lines of a text, and up to so many sections behind them, while the second is judged, which takes longer than to
-/// read twice its bytes: what the lines say, with those sections; or the verdict on the text, where its first fault is in one of the two.
+/// Reads the first two lines of a text, and sections behind them, while the second is judged: what the lines say, with those sections; or
+/// the verdict on the text, where its first fault is in one of the two.
 ///
-/// An Err is ReadFault, where a read failed or too many were needed, or Memory.
+/// An Err is ReadFault, where a read of the two lines failed or too many were needed, or Memory.
 pub fn read_head<H: Threads + Sync, R: Source>(
     rt: &H,
     count: usize,
-    reader: &mut R,
+    source: &mut R,
     text: &mut Text,
-) -> Result<Result<(Head, Vec<Section>), Verdict>, EngineFail>
-    requires going { text.old.is_ended ≡ false }
-    ensures head { IfOk result (λ r. IfOk r (λ p. IsHead p.0)) }
-    ensures begun { let told = coming text.old.lines (R.tells reader.old) in
-        IfOk result (λ r. IfOk r
-        (λ p. IsBegun told p.0 p.1.items text.new (R.tells reader.new))) }
-    ensures verdict { IfOk result (λ r. IfErr r
-        (λ v. IfSome (coming text.old.lines (R.tells reader.old)) (λ bytes. IsVerdict bytes v))) }
-    ensures spends { (first : Option (List ℕ)) → HasSpent first text.old (R.tells reader.old)
-        → IfOk result (λ r. IfOk r (λ _. HasSpent first text.new (R.tells reader.new))) }
-    ensures asks { R.asked reader.new + text.new.lines.reads
-        ≡ R.asked reader.old + text.old.lines.reads }
-    ensures quiet { result ≢ Err EngineFail.ReadFault
-        → R.failures reader.new ≡ R.failures reader.old }
-    ensures read_fault { IsErrOf result EngineFail.ReadFault
-        → FailsBehind text.old (R.tells reader.old)
-        (R.failures reader.old) (R.failures reader.new) (R.asked reader.old) (R.asked reader.new) }
-    ensures write_fault { result ≢ Err EngineFail.WriteFault }
+) -> Result<Result<Begun, Verdict>, EngineFail>
+    requires count { 0 < count }
+    requires going { text.old.state ≡ Going }
+    ensures head { IfOk result (λ r. IfOk r (λ b. IsHead b.head)) }
+    ensures begun { let old = reader (R.tells source.old) (R.failures source.old) (R.asked source.old) in
+        let new = reader (R.tells source.new) (R.failures source.new) (R.asked source.new) in
+        (first : Reader) → IsLeft first text.old old first.told → IsAsked first text.old old
+        → IfOk result (BeginsText count first text.new new) }
+    ensures asked { let old = reader (R.tells source.old) (R.failures source.old) (R.asked source.old) in
+        let new = reader (R.tells source.new) (R.failures source.new) (R.asked source.new) in
+        (first : Reader) → IsLeft first text.old old first.told
+        → IsAsked first text.old old → IsAsked first text.new new }
+    ensures few { IfOk result (λ r. IfOk r (λ b. vec_len b.ahead + 1 ≤ 2 * count)) }
+    ensures most { IfOk result (λ r. IfOk r
+        (λ b. IsMost count (second_size b.head) text.new.most)) }
 {
     let mut line = Vec::new(text.alloc);
-    let first = next_line(reader, &mut text.lines, &mut line, MAX_LINE)?;
+    let first = read_line(source, text, &mut line, MAX_LINE)?;
     let second = match first_line(first, line.as_slice()) {
         Ok(second) => second,
         Err(fault) => return Ok(Err(Verdict::No { line: 1, fault })),
     };
-    let next = next_line(reader, &mut text.lines, &mut line, usize::MAX)?;
+    let next = read_line(source, text, &mut line, usize::MAX)?;
     if let Some(fault) = second_fault(next) {
         return Ok(Err(Verdict::No { line: 2, fault }));
     }
-    let room = Room {
-        sections: count,
-        bytes: line.len().saturating_mul(2),
-    };
+    text.most = most_of(count, line.as_slice());
+    let beside = beside(count, line.as_slice());
     let judging = start(rt, text.alloc, second, line);
-    match read_beside(rt, room, reader, text, judging)? {
+    match read_beside(rt, beside, source, text, judging)? {
         Ok(begun) => Ok(Ok(begun)),
         Err(fault) => Ok(Err(Verdict::No { line: 2, fault })),
     }

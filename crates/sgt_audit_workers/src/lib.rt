@@ -6,6 +6,7 @@ mod engine;
 mod head;
 mod job;
 mod judging;
+mod long;
 mod release;
 mod rules;
 mod running;

@@ -1,12 +1,11 @@
 //! The sections judged so far, in their order.
 
-ghost use Rattle.std.specs.Prelude.{◌≡◌, ◌≢◌, ◌<◌, ◌↔◌, ◌++◌, ◌+◌, [], ℕ, Bool, IsTrue, IfOk, IfErr, IfSome, IfNone, List, length};
+ghost use Rattle.std.specs.Prelude.{◌≡◌, ◌≢◌, ◌<◌, ◌↔◌, ◌+◌, ◌^◌, ◌&&◌, None, [], ℕ, Bool, IsTrue, IfOk, IfErr, IfSome, IfNone, OnOk, List, length};
 ghost use Rattle.sgt_cert.specs.declared.bundle.SiteLog.{SiteLog};
 ghost use Rattle.sgt_cert.specs.declared.certificate.Certificate.{Certificate};
-ghost use Rattle.sgt_audit.specs.Verdict.{IsVerdict};
 ghost use Rattle.sgt_audit_sections.specs.Judged.{IsJudgedSection, IsWhole};
 ghost use Rattle.sgt_audit_sections.specs.Sections.{IsFaultlessCertificate, front_text, AllStepsAreFound};
-ghost use Rattle.sgt_audit_workers.specs.Tallies.{Adds, IsTally};
+ghost use Rattle.sgt_audit_workers.specs.Tallies.{Adds, IsTally, IsVerdictBehind};
 
 use sgt_audit::{Fault, Verdict};
 use sgt_audit_sections::Judged;
@@ -34,6 +33,13 @@ fn counted_on(lines: u64, line: u64) -> Result<u64, EngineFail>
     }
 }
 
+/// Whether both hold.
+fn both(first: bool, second: bool) -> bool
+    ensures { result ≡ (first && second) }
+{
+    first && second
+}
+
 impl Tally {
     /// Before the first section.
     pub fn new() -> Tally
@@ -48,13 +54,28 @@ impl Tally {
     }
 
     /// A fault at this line of the next section.
-    fn fault_at(&self, line: u64, fault: Fault) -> Result<Option<Verdict>, EngineFail>
+    pub fn fault_at(&self, line: u64, fault: Fault) -> Result<Option<Verdict>, EngineFail>
         ensures ok { IfOk result
             (λ found. found ≡ Some (Verdict.No (self.now.lines + line) fault)) }
         ensures err { IfErr result (λ e. e ≡ EngineFail.Memory) }
     {
         let line = counted_on(self.lines, line)?;
         Ok(Some(Verdict::No { line, fault }))
+    }
+
+    /// One more section, which is whole, with so many lines.
+    pub fn add_whole(&mut self, lines: u64, met: bool) -> Result<(), EngineFail>
+        ensures adds { (second : Bool) (c : Certificate) (logs : List SiteLog) (bytes more : List ℕ)
+            → IsTally second c logs self.old → length logs < c.sites
+            → IsJudgedSection second c (length logs) bytes (Judged.Whole lines met)
+            → OnOk result (Adds second c logs bytes more self.new None) }
+        ensures whole { self.old.whole < 2 ^ 32 → OnOk result (self.new.whole ≡ self.old.whole + 1) }
+        ensures err { IfErr result (λ e. e ≡ EngineFail.Memory) }
+    {
+        self.lines = counted_on(self.lines, lines)?;
+        self.whole = self.whole.saturating_add(1);
+        self.met = both(self.met, met);
+        Ok(())
     }
 
     /// One more section: the verdict on the text, if it has a fault. An Err is Memory. The section was cut behind its first line `end`,
@@ -69,15 +90,13 @@ impl Tally {
     {
         match judged {
             Judged::Whole { lines, met } => {
-                self.lines = counted_on(self.lines, lines)?;
-                self.whole = self.whole.saturating_add(1);
-                self.met = self.met && met;
+                self.add_whole(lines, met)?;
                 Ok(None)
             }
             Judged::Faulty { line, fault } => self.fault_at(line, fault),
-            Judged::Open { line, fault } => {
+            Judged::Open { line, .. } => {
                 if is_last {
-                    self.fault_at(line, fault)
+                    self.fault_at(line, Fault::Truncated)
                 } else {
                     Err(EngineFail::Memory)
                 }
@@ -90,7 +109,7 @@ impl Tally {
     pub fn walk_fault(&self) -> Option<Verdict>
         ensures some { (second : Bool) (c : Certificate) (logs : List SiteLog) (more : List ℕ)
             → IsTally second c logs self.now → length logs ≡ c.sites
-            → IfSome result (IsVerdict (front_text second c logs ++ more)) }
+            → IfSome result (IsVerdictBehind (front_text second c logs) more) }
         ensures none { (second : Bool) (c : Certificate) (logs : List SiteLog)
             → IsTally second c logs self.now
             → IfNone result (AllStepsAreFound c.decisions logs) }
@@ -109,7 +128,7 @@ impl Tally {
         ensures trails { (second : Bool) (c : Certificate) (logs : List SiteLog) (more : List ℕ)
             → IsTally second c logs self.now → length logs ≡ c.sites
             → AllStepsAreFound c.decisions logs → more ≢ []
-            → IfOk result (IsVerdict (front_text second c logs ++ more)) }
+            → IfOk result (IsVerdictBehind (front_text second c logs) more) }
         ensures err { IfErr result (λ e. e ≡ EngineFail.Memory) }
     {
         let line = counted_on(self.lines, 1)?;

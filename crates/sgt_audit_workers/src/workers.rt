@@ -1,6 +1,6 @@
 //! Workers, each with a section that it judges in a thread of its own.
 
-ghost use Rattle.std.specs.Prelude.{◌≡◌, ◌<◌, ◌≤◌, ◌+◌, ◌∷◌, ◌++◌, [], ℕ, List, Option, None, IfOk, IfErr, IfSome, IfNone, OnOk};
+ghost use Rattle.std.specs.Prelude.{◌≡◌, ◌<◌, ◌≤◌, ◌+◌, ◌∷◌, ◌++◌, [], ℕ, List, Option, None, length, IfOk, IfErr, IfSome, IfNone, OnOk};
 ghost use Rattle.std.specs.Arc.{arc_value};
 ghost use Rattle.std.specs.Io.KnownBytes.{Consumes};
 ghost use Rattle.sgt_audit_sections.specs.Sections.{front_text};
@@ -11,7 +11,7 @@ ghost use Rattle.sgt_audit_workers.specs.private.Jobs.{IsGiven, MayJudge};
 ghost use Rattle.sgt_audit_workers.specs.private.Running.{Will};
 ghost use Rattle.sgt_audit_workers.specs.private.Tallied.{IsTallied, Takes};
 ghost use Rattle.sgt_audit_workers.specs.private.Texts.{IsNextSection};
-ghost use Rattle.sgt_audit_workers.specs.private.Working.{Ends, GoesOn, SameWorkers, Works, given};
+ghost use Rattle.sgt_audit_workers.specs.private.Working.{CanWork, Ends, GoesOn, SameWorkers, Works, given};
 
 use crate::head::Head;
 use crate::job::Job;
@@ -35,6 +35,8 @@ pub struct Workers {
     pub alloc: Global,
     /// How many there may be.
     pub count: usize,
+    /// How many bytes of a section are wanted in one piece.
+    pub most: usize,
     pub head: Arc<Head>,
     /// The sections that are judged now.
     pub running: Vec<Running>,
@@ -52,6 +54,7 @@ struct Free {
 fn first(running: &mut Vec<Running>) -> Option<Running>
     ensures some { IfSome result (λ r. running.old.items ≡ r ∷ running.new.items) }
     ensures none { IfNone result (running.old.items ≡ []) }
+    ensures empty { IfNone result (running.new.items ≡ []) }
 {
     if running.is_empty() {
         return None;
@@ -73,10 +76,10 @@ fn take<H: Threads>(
     tally: &mut Tally,
     running: Running,
 ) -> Result<Result<Job, Verdict>, EngineFail>
-    ensures takes { (h : Head) (job : Job) (told old new : Option (List ℕ))
+    ensures takes { (h : Head) (job : Job) (most : ℕ) (told old new : Option (List ℕ))
         → IsTallied h told old tally.old → tally.old.whole < h.certificate.sites
-        → IsGiven told old tally.old.whole job new → Will h job running
-        → IfOk result (Takes h told new tally.old tally.new) }
+        → IsGiven most old tally.old.whole job new → Will h job running
+        → IfOk result (Takes h most told new tally.old tally.new) }
     ensures err { IfErr result (λ e. e ≡ EngineFail.Memory) }
 {
     let job = finish(rt, running);
@@ -92,10 +95,12 @@ fn take<H: Threads>(
 
 impl Workers {
     /// So many workers, before the first section.
-    pub fn new(alloc: Global, count: usize, head: Head) -> Result<Workers, AllocError>
+    pub fn new(alloc: Global, count: usize, most: usize, head: Head) -> Result<Workers, AllocError>
         requires { IsHead head }
         ensures head { IfOk result (λ w. arc_value w.head ≡ head) }
         ensures count { IfOk result (λ w. w.count ≡ count) }
+        ensures most { IfOk result (λ w. w.most ≡ most) }
+        ensures idle { IfOk result (λ w. w.running.items ≡ []) }
         ensures given { IfOk result (λ w. given w ≡ 0) }
         ensures works { IfOk result (λ w. (told left : Option (List ℕ))
             → Consumes told left (front_text head.second head.certificate [])
@@ -104,6 +109,7 @@ impl Workers {
         Ok(Workers {
             alloc,
             count,
+            most,
             head: Arc::new(alloc, head)?,
             running: Vec::new(alloc),
             tally: Tally::new(),
@@ -113,13 +119,16 @@ impl Workers {
     /// A worker that may judge the next section, or none where a new one is made there; or the verdict on the text.
     fn free<H: Threads>(&mut self, rt: &H) -> Result<Result<Free, Verdict>, EngineFail>
         requires count { 0 < self.old.count }
-        requires works { Works None None self.old }
+        requires works { CanWork self.old }
         requires sites { given self.old ≤ (arc_value self.old.head).certificate.sites }
         ensures goes { (told left : Option (List ℕ)) → Works told left self.old
-            → IfOk result (GoesOn told left self.new) }
+            → IfOk result (GoesOn told left (length self.old.running.items) self.new) }
         ensures idle { IfOk result (λ r. IfOk r (λ free. IfSome free.alone
             (MayJudge (arc_value self.new.head) (given self.new)))) }
         ensures given { IfOk result (λ r. IfOk r (λ _. given self.new ≡ given self.old)) }
+        ensures few { length self.old.running.items ≤ self.old.count
+            → IfOk result (λ r. IfOk r (λ _. length self.new.running.items + 1 ≤ self.old.count)) }
+        ensures fewer { length self.new.running.items ≤ length self.old.running.items }
         ensures same { SameWorkers self.old self.new }
         ensures err { IfErr result (λ e. e ≡ EngineFail.Memory) }
     {
@@ -150,11 +159,16 @@ impl Workers {
     ) -> Result<Result<Option<Vec<u8>>, Verdict>, EngineFail>
         requires count { 0 < self.old.count }
         requires head { IsHead (arc_value self.old.head) }
-        requires works { Works None None self.old }
+        requires works { CanWork self.old }
         requires sites { given self.old < (arc_value self.old.head).certificate.sites }
         ensures goes { (told left next : Option (List ℕ)) → Works told left self.old
-            → IsNextSection told left section next → IfOk result (GoesOn told next self.new) }
+            → IsNextSection self.old.most left section next
+            → IfOk result (GoesOn told next (length self.old.running.items + 1) self.new) }
         ensures given { IfOk result (λ r. IfOk r (λ _. given self.new ≡ given self.old + 1)) }
+        ensures few { length self.old.running.items ≤ self.old.count
+            → IfOk result (λ r. IfOk r (λ _. length self.new.running.items ≤ self.old.count)) }
+        ensures more { IfOk result (λ r. IfOk r
+            (λ _. length self.new.running.items ≤ length self.old.running.items + 1)) }
         ensures same { SameWorkers self.old self.new }
         ensures err { IfErr result (λ e. e ≡ EngineFail.Memory) }
     {
@@ -175,12 +189,13 @@ impl Workers {
 
     /// Waits until all sections are judged: the verdict on the text, if one has a fault.
     pub fn wait<H: Threads>(&mut self, rt: &H) -> Result<Option<Verdict>, EngineFail>
-        requires works { Works None None self.old }
+        requires works { CanWork self.old }
         requires sites { given self.old ≤ (arc_value self.old.head).certificate.sites }
         ensures ends { (told left : Option (List ℕ)) → Works told left self.old
-            → IfOk result (Ends told left self.new) }
+            → IfOk result (Ends told left (length self.old.running.items) self.new) }
         ensures all { IfOk result (λ found. IfNone found
             (self.new.tally.whole ≡ given self.old)) }
+        ensures none { IfOk result (λ found. IfNone found (self.new.running.items ≡ [])) }
         ensures same { SameWorkers self.old self.new }
         ensures err { IfErr result (λ e. e ≡ EngineFail.Memory) }
     {

@@ -12,9 +12,17 @@ use Rattle.sgt_c.specs.declared.answers.SgtVerdict.{SgtVerdict}
 use Rattle.sgt_c.specs.declared.answers.NoAnswer.{NoAnswer}
 use Rattle.sgt_c.specs.declared.answers.NoAnswer.TheVariants.{Memory, Long}
 
--- a yes is 0 and a no is 1
+-- the version of the calls and of these numbers
+abbrev pub calls_version : ℕ
+calls_version = 1
+
+-- a yes is 0
+abbrev pub IsYes : ℕ → Type 0
+IsYes n = n ≡ 0
+
+-- and a no is 1
 abbrev pub IsAnswered : ℕ → Type 0
-IsAnswered n = (n ≡ 0) ⊎ (n ≡ 1)
+IsAnswered n = IsYes n ⊎ (n ≡ 1)
 
 -- the number of an outcome; none of the calls finds its input unreadable
 abbrev pub number_of_outcome : Outcome → ℕ
@@ -26,6 +34,14 @@ number_of_outcome outcome.Unreadable = 1
 abbrev pub number_of : NoAnswer → ℕ
 number_of Memory = 3
 number_of Long = 4
+
+-- no answer: too many reads were needed
+abbrev pub IsLong : ℕ → Type 0
+IsLong n = n ≡ number_of Long
+
+-- the text doesn't fit
+abbrev pub IsRoom : ℕ → Type 0
+IsRoom n = n ≡ 5
 
 -- an answer, or why there is none
 abbrev pub IsNumber : ℕ → Type 0

@@ -1,7 +1,7 @@
 //! The numbers that C is answered by, and the verdict as C sees it.
 
 ghost use Rattle.std.specs.Prelude.{◌≡◌};
-ghost use Rattle.sgt_c.specs.Answers.{number_of};
+ghost use Rattle.sgt_c.specs.Answers.{calls_version, number_of};
 
 use sgt_audit::Verdict;
 
@@ -116,7 +116,7 @@ impl From<NoAnswer> for SgtVerdict {
 /// The version of these calls: `SGT_VERSION` of the header that fits.
 #[unsafe(no_mangle)]
 pub extern "C" fn sgt_version() -> u32
-    ensures { result ≡ SGT_VERSION }
+    ensures { result ≡ calls_version }
 {
     SGT_VERSION
 }

@@ -5,9 +5,9 @@ ghost use Rattle.sgt_names.specs.Limits.{most_reads};
 ghost use Rattle.sgt_audit.specs.Verdict.{IsVerdict, SaysHeadline, HoldsHeadline};
 ghost use Rattle.sgt_audit.specs.declared.verdict.Verdict.{Verdict};
 ghost use Rattle.sgt_c.specs.declared.answers.NoAnswer.{NoAnswer};
-ghost use Rattle.sgt_c.specs.Answers.{IsAnswered, IsNumber, told_none, told_verdict};
+ghost use Rattle.sgt_c.specs.Answers.{IsAnswered, IsLong, IsNumber, IsYes, told_none, told_verdict};
 
-use crate::answers::{NoAnswer, SGT_LONG, SGT_YES, SgtVerdict};
+use crate::answers::{NoAnswer, SgtVerdict};
 use crate::memory::{Given, Nowhere};
 use crate::texts::no_answer;
 use sgt_audit::{Verdict, audit};
@@ -41,9 +41,9 @@ pub extern "C" fn sgt_audit(alloc: Global, bytes: &[u8], verdict: &mut SgtVerdic
     ensures kind { verdict.new.kind ≡ result }
     ensures verdict { IsAnswered result
         → (v : Verdict) × IsVerdict bytes.now v × (verdict.new ≡ told_verdict v) }
-    ensures headline { result ≡ SGT_YES → HoldsHeadline bytes.now }
+    ensures headline { IsYes result → HoldsHeadline bytes.now }
     ensures none { (IsAnswered result → ⊥) → (why : NoAnswer) × (verdict.new ≡ told_none why) }
-    ensures long { result ≡ SGT_LONG → most_reads ≤ length bytes.now }
+    ensures long { IsLong result → most_reads ≤ length bytes.now }
 {
     *verdict = match verdict_on(alloc, bytes) {
         Ok(found) => SgtVerdict::from(found),

@@ -2,9 +2,9 @@
 
 ghost use Rattle.std.specs.Prelude.{◌≡◌, ◌≤◌, ◌<◌, ◌⊎◌, ◌++◌, ℕ, List, Err, IfOk, length, drop};
 ghost use Rattle.sgt_names.specs.Limits.{most_reads};
-ghost use Rattle.sgt_c.specs.Answers.{IsAnswered, IsNumber, IsSerialText};
+ghost use Rattle.sgt_c.specs.Answers.{IsAnswered, IsLong, IsNumber, IsRoom, IsSerialText};
 
-use crate::answers::{NoAnswer, SGT_LONG, SGT_ROOM};
+use crate::answers::NoAnswer;
 use crate::memory::{Given, Written};
 use crate::texts::{Answered, measure, no_answer, number_of_answer, put};
 use sgt_names::Asks;
@@ -37,7 +37,7 @@ pub extern "C" fn sgt_serial_len(alloc: Global, bytes: &[u8], text_len: &mut usi
     ensures text { IsAnswered result
         → (text : List ℕ) × IsSerialText bytes.now result text × (text_len.new ≡ length text) }
     ensures none { (IsAnswered result → ⊥) → text_len.new ≡ 0 }
-    ensures long { result ≡ SGT_LONG → most_reads ≤ length bytes.now }
+    ensures long { IsLong result → most_reads ≤ length bytes.now }
 {
     measure(&serial_text(alloc, bytes), text_len)
 }
@@ -52,14 +52,14 @@ pub extern "C" fn sgt_serial(
     out: &mut [u8],
     text_len: &mut usize,
 ) -> u32
-    ensures number { IsNumber result ⊎ (result ≡ SGT_ROOM) }
+    ensures number { IsNumber result ⊎ IsRoom result }
     ensures text { IsAnswered result → (text : List ℕ) × IsSerialText bytes.now result text
         × (text_len.new ≡ length text) × (out.new ≡ text ++ drop (length text) out.old) }
-    ensures room { result ≡ SGT_ROOM → (n : ℕ) × (text : List ℕ) × IsSerialText bytes.now n text
+    ensures room { IsRoom result → (n : ℕ) × (text : List ℕ) × IsSerialText bytes.now n text
         × (text_len.new ≡ length text) × (length out.old < length text) }
     ensures unwritten { (IsAnswered result → ⊥) → out.new ≡ out.old }
-    ensures none { (IsAnswered result ⊎ (result ≡ SGT_ROOM) → ⊥) → text_len.new ≡ 0 }
-    ensures long { result ≡ SGT_LONG → most_reads ≤ length bytes.now }
+    ensures none { (IsAnswered result ⊎ IsRoom result → ⊥) → text_len.new ≡ 0 }
+    ensures long { IsLong result → most_reads ≤ length bytes.now }
 {
     put(&serial_text(alloc, bytes), out, text_len)
 }

@@ -1,7 +1,7 @@
 //! Texts that bytes are answered by, and how they come to C.
 
 ghost use Rattle.std.specs.Prelude.{◌≡◌, ◌≤◌, ◌<◌, ◌++◌, IfOk, IfErr, length, drop};
-ghost use Rattle.sgt_c.specs.Answers.{number_of, number_of_outcome};
+ghost use Rattle.sgt_c.specs.Answers.{IsRoom, number_of, number_of_outcome};
 
 use crate::answers::{NoAnswer, SGT_NO, SGT_ROOM, SGT_YES};
 use sgt_names::{EngineFail, Outcome};
@@ -56,7 +56,7 @@ pub fn put(answer: &Result<Answered, NoAnswer>, out: &mut [u8], text_len: &mut u
     ensures whole { IfOk answer.now (λ a. length a.text.items ≤ length out.old
         → (result ≡ a.number) × (out.new ≡ a.text.items ++ drop (length a.text.items) out.old)) }
     ensures room { IfOk answer.now
-        (λ a. length out.old < length a.text.items → (result ≡ SGT_ROOM) × (out.new ≡ out.old)) }
+        (λ a. length out.old < length a.text.items → IsRoom result × (out.new ≡ out.old)) }
     ensures measured { IfOk answer.now (λ a. text_len.new ≡ length a.text.items) }
     ensures err { IfErr answer.now
         (λ why. (result ≡ number_of why) × (text_len.new ≡ 0) × (out.new ≡ out.old)) }

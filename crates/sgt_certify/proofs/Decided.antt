@@ -73,7 +73,7 @@ pub brief-lines : (refusal : Refusal) (sites : List SiteLog) (txs lines : List �
     → AreLinesOf refusal sites lines
 brief-lines Order sites txs lines shown are = inr (txs, shown, are)
 brief-lines Ranks sites txs lines shown are = inr (txs, shown, are)
-brief-lines Walk sites txs lines shown are = tt
+brief-lines Walk sites txs lines shown are = inr (txs, shown, are)
 
 -- what the logs have refuses the bytes
 pub refused-by : (refusal : Refusal) (bytes lines text txs : List ℕ) (sites : List SiteLog) → text ≡ refusal_text refusal ++ lines → lines ≡ flat_map tx_line txs

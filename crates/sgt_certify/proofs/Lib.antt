@@ -1,3 +1,4 @@
 pub mod Taken
 pub mod Made
 pub mod Decided
+pub mod NextEnds

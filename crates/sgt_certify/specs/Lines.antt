@@ -1,8 +1,11 @@
 -- The lines behind a refusal: each step with the two lines of the text that show it.
-use Rattle.std.specs.Prelude.{◌≡◌, ◌⊎◌, ℕ, zero, suc, ◌+◌, List, [], ◌∷◌, ◌++◌, codes, decimal, length}
+use Rattle.std.specs.Prelude.{◌≡◌, ◌⊎◌, ℕ, zero, suc, ◌+◌, ◌<◌, List, [], ◌∷◌, ◌++◌, codes, decimal, length, Contains, Some, slice_get}
 use Rattle.std.specs.List.{flat_map}
+use Rattle.sgt_names.specs.Entry.{tx_of, IsEnd}
+use Rattle.sgt_names.specs.declared.entry.Entry.{Entry}
 use Rattle.sgt_names.specs.declared.entry.Kind.{Kind}
 use Rattle.sgt_names.specs.declared.entry.Kind.TheVariants.{Wr, Rw, Ww}
+use Rattle.sgt_notation.specs.Spelling.{entry_text}
 use Rattle.sgt_cert.specs.declared.bundle.SiteLog.{SiteLog}
 use Rattle.sgt_certify_logs.specs.Steps.{IsConflictCycle, IsEndCycle}
 use Rattle.sgt_certify_logs.specs.Witness.{EndsBefore, IsStuck, PrecedesCommitted}
@@ -51,6 +54,34 @@ conflict_line sites s = decimal s.from ++ (kind_text s.kind ++ (decimal s.to ++ 
 abbrev pub tx_line : ℕ → List ℕ
 tx_line tx = decimal tx ++ codes "\n"
 
+-- whoever ends in the log before this place is decided
+abbrev pub AreDecidedBefore : (ℕ → Type 0) → List Entry → ℕ → Type 0
+AreDecidedBefore IsDecided entries n = (k : ℕ) (f : Entry) → k < n → slice_get entries k ≡ Some f → IsEnd f → IsDecided (tx_of f)
+
+-- the next end of a log: who ends there isn't decided, and whoever ends before is
+pub record IsNextEnd (IsDecided : ℕ → Type 0) (entries : List Entry) (place : ℕ) (e : Entry) : Type 0 where
+  pub at : slice_get entries place ≡ Some e
+  pub end : IsEnd e
+  pub left : IsDecided (tx_of e) → ⊥
+  pub before : AreDecidedBefore IsDecided entries place
+
+-- of the next end of a site: END site S line L
+abbrev pub left_text : Entry → (site line : ℕ) → List ℕ
+left_text e site line =
+    entry_text e ++ (codes " site " ++ (decimal site ++ (codes " line " ++ (decimal line ++ codes "\n"))))
+
+-- the line of the next end of the log of this site; none where all its ends are decided
+abbrev pub IsLeftLine : List SiteLog → (ℕ → Type 0) → (site : ℕ) → SiteLog → List ℕ → Type 0
+IsLeftLine sites IsDecided site log line =
+    ((place : ℕ) × (e : Entry) × IsNextEnd IsDecided log.entries place e × (line ≡ left_text e site (line_of sites site place)))
+    ⊎ (AreDecidedBefore IsDecided log.entries (length log.entries) × (line ≡ []))
+
+-- those of the logs from this site on, one after another
+abbrev pub AreLeftLines : List SiteLog → (ℕ → Type 0) → (site : ℕ) → List SiteLog → List ℕ → Type 0
+AreLeftLines sites IsDecided site [] text = text ≡ []
+AreLeftLines sites IsDecided site (log ∷ logs) text = (line : List ℕ) × (rest : List ℕ) × IsLeftLine sites IsDecided site log line
+    × AreLeftLines sites IsDecided (suc site) logs rest × (text ≡ line ++ rest)
+
 -- what the slow search tells: the transactions alone that stand in a cycle, or are decided in a stuck
 -- set
 abbrev pub IsShownBy : Refusal → List SiteLog → List ℕ → Type 0
@@ -58,8 +89,8 @@ IsShownBy Order sites txs = IsRing (EndsBefore sites) txs
 IsShownBy Ranks sites txs = IsRing (PrecedesCommitted sites) txs
 IsShownBy Walk sites txs = IsStuck sites txs
 
--- the lines are those of a cycle's steps that the logs have, or the transactions that the slow search
--- found; behind `no walk` nothing is said of them
+-- the lines are those of a cycle's steps that the logs have, or of the next ends where a set is stuck; or
+-- the transactions that the slow search found
 abbrev pub AreLinesOf : Refusal → List SiteLog → List ℕ → Type 0
 AreLinesOf Order sites lines =
     ((steps : List EndStep) × IsEndCycle sites steps × (lines ≡ flat_map (end_line sites) steps))
@@ -67,4 +98,6 @@ AreLinesOf Order sites lines =
 AreLinesOf Ranks sites lines =
     ((steps : List ConflictStep) × IsConflictCycle sites steps × (lines ≡ flat_map (conflict_line sites) steps))
     ⊎ ((txs : List ℕ) × IsShownBy Ranks sites txs × (lines ≡ flat_map tx_line txs))
-AreLinesOf Walk sites lines = Unit {0}
+AreLinesOf Walk sites lines =
+    ((decided : List ℕ) × IsStuck sites decided × AreLeftLines sites (Contains decided) 0 sites lines)
+    ⊎ ((txs : List ℕ) × IsShownBy Walk sites txs × (lines ≡ flat_map tx_line txs))

@@ -4,6 +4,7 @@
 mod deciding;
 mod engine;
 mod laws;
+mod left;
 mod making;
 mod refuting;
 mod taking;

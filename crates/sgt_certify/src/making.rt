@@ -1,6 +1,6 @@
 //! A text with a certificate put in.
 
-ghost use Rattle.std.specs.Prelude.{◌≡◌, ◌∷◌, ◌++◌, ℕ, List, IfOk, IfErr, IfSome, IfNone, IsTrue};
+ghost use Rattle.std.specs.Prelude.{◌≡◌, ◌∷◌, ◌++◌, ℕ, false, List, IfOk, IfErr, IfSome, IfNone, IsTrue};
 ghost use Rattle.sgt_notation.specs.Spelling.{HasNoLf};
 ghost use Rattle.sgt_cert.specs.Text.{certificate_text};
 ghost use Rattle.sgt_certify.specs.Answer.{IsCertified, SpellsValid};
@@ -77,6 +77,7 @@ const VERDICT_ROOM: usize = 128;
 /// Whether the auditor finds that the text spells a valid bundle.
 fn is_valid(alloc: Global, text: &[u8]) -> Result<bool, EngineFail>
     ensures yes { IfOk result (λ yes. IsTrue yes → SpellsValid text.now) }
+    ensures no { IfOk result (λ yes. yes ≡ false → SpellsValid text.now → ⊥) }
     ensures err { IfErr result (λ e. e ≡ EngineFail.Memory) }
 {
     let mut source = MemSource::new(text, usize::MAX, None);

@@ -6,17 +6,19 @@ ghost use Rattle.sgt_certify.specs.Answer.{Excludes, IsFirst, IsRefused, refusal
 ghost use Rattle.sgt_certify.specs.Lines.{AreLinesOf};
 ghost use Rattle.sgt_certify_faults.specs.Faults.{IsFaultless};
 ghost use Rattle.sgt_certify_logs.specs.Certifiable.{SpellsLogs};
+ghost use Rattle.sgt_certify.specs.declared.refuting.Refusal.{Refusal as AnyRefusal};
 ghost use Rattle.sgt_certify_logs.specs.Witness.{HaveConflictsInACycle, HaveEndsInACycle};
 ghost use Rattle.sgt_cert.specs.Text.{certificate_text};
 ghost use Rattle.sgt_notation.specs.Spelling.{HasNoLf};
 
+use crate::left::left_lines;
 use crate::making::with_line;
 use crate::telling::{conflict_lines, end_lines};
 use sgt_audit::read_bundle;
 use sgt_cert::{Bundle, Certificate, SiteLog, to_line};
 use sgt_certify_logs::{ConflictStep, EndStep, is_conflict_cycle, is_end_cycle};
 use sgt_certify_search::{Proof, Reason};
-use sgt_certify_stuck::{conflicts_follow, ends_follow, is_stuck};
+use sgt_certify_stuck::{StuckSet, conflicts_follow, ends_follow, is_stuck};
 use sgt_names::{EngineFail, Listed, Tx};
 use std::alloc::{AllocError, Global};
 
@@ -79,23 +81,34 @@ fn shown(alloc: Global, sites: &[SiteLog], proof: &Proof) -> Result<Option<Told>
         Proof::Conflicts { cycle, ends } => {
             ranks_shown(alloc, sites, cycle.as_slice(), ends.as_slice())
         }
-        Proof::Stuck {
-            set,
-            ends,
-            ranks,
-            lines,
-        } => {
-            if is_stuck(alloc, sites, set)?
-                && are_in_order(alloc, sites, ends.as_slice(), ranks.as_slice())?
-            {
-                return Ok(Some(Told {
-                    refusal: Refusal::Walk,
-                    lines: Vec::from_slice(alloc, lines.as_slice())?,
-                }));
+        Proof::Stuck { set, ends, ranks } => {
+            if !are_in_order(alloc, sites, ends.as_slice(), ranks.as_slice())? {
+                return Ok(None);
             }
-            Ok(None)
+            walk_lines(alloc, sites, set)
         }
     }
+}
+
+/// `no walk` with the next ends, if the set is stuck.
+fn walk_lines(alloc: Global, sites: &[SiteLog], set: &StuckSet) -> Result<Option<Told>, AllocError>
+    ensures refusal { IfOk result (λ told. IfSome told (λ t. t.refusal ≡ Refusal.Walk)) }
+    ensures shown { IfOk result (λ told. IfSome told (λ t. Excludes Refusal.Walk sites.now)) }
+    ensures lines { IfOk result
+        (λ told. IfSome told (λ t. AreLinesOf Refusal.Walk sites.now t.lines.items)) }
+{
+    if !is_stuck(alloc, sites, set)? {
+        return Ok(None);
+    }
+    let mut decided = Vec::from_slice(alloc, set.committed.as_slice())?;
+    decided.extend_from_slice(set.others.as_slice())?;
+    let Some(lines) = left_lines(alloc, sites, decided.as_slice())? else {
+        return Ok(None);
+    };
+    Ok(Some(Told {
+        refusal: Refusal::Walk,
+        lines,
+    }))
 }
 
 /// `no order` with these steps, if they are a cycle.

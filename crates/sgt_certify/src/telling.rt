@@ -45,7 +45,7 @@ fn line_among(sites: &[SiteLog], site: usize, place: usize) -> Option<u64>
 }
 
 /// The line of the entry, counted from 1. None: its number is no u64.
-fn line_at(sites: &[SiteLog], site: usize, place: usize) -> Option<u64>
+pub fn line_at(sites: &[SiteLog], site: usize, place: usize) -> Option<u64>
     ensures { IfSome result (λ n. n ≡ line_of sites.now site place) }
 {
     line_among(sites, site, place)?.checked_add(1)

@@ -1,5 +1,5 @@
 -- Decisions are taken one by one, until none can be taken.
-use Rattle.std.proofs.Common.{◌≡◌, true, false, eqb, ℕ, zero, suc, List, [], ◌∷◌, ◌++◌, Some, None, map, take, length, refl, sym, ap, ◌∙◌, subst, arith, inl, inr, ◌⊎◌, All, AllPairs, Contains}
+use Rattle.std.proofs.Common.{◌≡◌, true, false, eqb, ℕ, zero, suc, List, [], ◌∷◌, ◌++◌, Some, None, map, take, length, refl, sym, ap, ◌∙◌, subst, arith, inl, inr, ◌⊎◌, All, AllPairs, Contains, ◌<◌}
 use Rattle.std.specs.Prelude.{slice_get}
 use Rattle.std.proofs.lemmas.Bool.{cases_eq, false≢true, true≢false}
 use Rattle.std.proofs.lemmas.Option.{same_Some, slice_get_within, slice_get-map}
@@ -116,11 +116,22 @@ next-decided sites order left commits next ds d had here free fits with_d =
 
 -- where none can be taken and some are left, they are stuck
 pub left-stuck : (sites : List SiteLog) (order left commits : List ℕ) (ds : List Decision) → IsDeciding sites order left commits ds
-    → ((t : ℕ) × Contains left t) → ((t : ℕ) → Contains left t → IsUnpreceded sites left t → IsHopeless sites commits t)
+    → ((t : ℕ) × Contains left t × IsUnpreceded sites left t) → ((t : ℕ) → Contains left t → IsUnpreceded sites left t → IsHopeless sites commits t)
     → ((t : ℕ) → Contains (txs_of ds) t → IsIn sites (entry.Commit t) → HasCommit ds t)
     → IsStuck sites (txs_of ds)
 left-stuck sites order left commits ds had some hopeless committed = record {
-  left = (some.0, had.left_only some.0 some.1, had.apart some.0 some.1);
+  free = (
+    some.0,
+    record {
+      ends = had.left_only some.0 some.1;
+      open_yet = had.apart some.0 some.1;
+      next = λ u ends.
+          elim (had.all u (ends.e, (ends.log, ends.here, Contains-from_at ends.log.entries ends.p ends.e ends.first), ends.ends.0, ends.from)) [
+            | inl rest ↦ absurd (some.2 u rest ends)
+            | inr decided ↦ decided
+          ];
+    },
+  );
   refused = λ t free.
       elim (had.all t free.ends) [
         | inr decided ↦ absurd (free.open_yet decided)
@@ -146,6 +157,6 @@ is-commit d t rank is = (ap is_commit is, ap decided_tx is)
 pub commit-decided : (ds : List Decision) (t : ℕ) → HasCommit ds t → Contains (txs_of ds) t
 commit-decided ds t (number, rank, at) = Contains-from_at (txs_of ds) number t (txs-at ds number (Commit t rank) at)
 
-pub some-first : (xs : List ℕ) → eqb (length xs) 0 ≡ false → (t : ℕ) × Contains xs t
-some-first [] none = absurd (true≢false none)
-some-first (x ∷ xs) none = (x, (0, omega arith, refl))
+pub positive-length : (xs : List ℕ) → eqb (length xs) 0 ≡ false → 0 < length xs
+positive-length [] none = absurd (true≢false none)
+positive-length (x ∷ xs) none = omega arith

@@ -5,14 +5,14 @@ ghost use Rattle.sgt_names.specs.Limits.{max_sites};
 ghost use Rattle.sgt_certify_logs.specs.Sound.{AreSound};
 ghost use Rattle.sgt_certify_logs.specs.Witness.{HasEnd, HaveEndsInACycle};
 ghost use Rattle.sgt_certify_greedy.specs.Answer.{IsAnswerTo};
-ghost use Rattle.sgt_certify_greedy.specs.Decided.{AreKnown};
+ghost use Rattle.sgt_certify_greedy.specs.Decided.{AreKnown, IsUnpreceded};
 ghost use Rattle.sgt_certify_greedy.specs.Pairs.{ArePairsOf};
 ghost use Rattle.sgt_certify_greedy.specs.declared.pairs.Rule.TheVariants.{Ends};
 
 use crate::greedy::{Known, Settled, decide_each, decided_by};
 use crate::pairs::{Pair, Rule, pairs_of};
 use crate::sets::{committed, ended};
-use crate::sorting::{Sorting, sorted};
+use crate::sorting::{Sorting, cycle_in, sorted, source};
 use sgt_cert::{Certificate, SiteLog};
 use sgt_names::{Listed, Tx};
 use std::alloc::{AllocError, Global};
@@ -56,6 +56,23 @@ fn certificate_of(count: usize, settled: Settled) -> Certificate
     }
 }
 
+/// One of these that can be decided next: ends stand in no cycle, so there is one.
+fn free_one(alloc: Global, sites: &[SiteLog], known: &Known, left: &[Tx]) -> Result<Tx, AllocError>
+    requires known { AreKnown sites.now known.now }
+    requires some { 0 < length left.now }
+    requires no_cycle { HaveEndsInACycle sites.now → ⊥ }
+    ensures { IfOk result (λ t. Contains left.now t × IsUnpreceded sites.now left.now t) }
+{
+    let pairs = known.ends.as_slice();
+    match source(left, pairs) {
+        Some(tx) => Ok(tx),
+        None => {
+            let _cycle = cycle_in(alloc, left, pairs)?;
+            unreachable!()
+        }
+    }
+}
+
 /// The answer by what is known of the logs, whose ends stand in no cycle.
 fn answer_by(
     alloc: Global,
@@ -77,6 +94,7 @@ fn answer_by(
         let made = certificate_of(count, settled);
         return Ok(Answer::Certificate(made));
     }
+    let _free = free_one(alloc, sites, known, rest)?;
     let done = settled.decisions.as_slice();
     let txs = decided_by(alloc, done)?;
     Ok(Answer::Stuck(txs))

@@ -39,7 +39,7 @@ pub fn predecessor(left: &[Tx], pairs: &[Pair], tx: Tx) -> Option<Tx>
 }
 
 /// One of these to which no pair leads from one of them.
-fn source(left: &[Tx], pairs: &[Pair]) -> Option<Tx>
+pub fn source(left: &[Tx], pairs: &[Pair]) -> Option<Tx>
     ensures some { IfSome result
         (λ t. Contains left.now t × ((a : ℕ) → Contains left.now a → Leads pairs.now a t → ⊥)) }
     ensures none { IfNone result
@@ -55,7 +55,7 @@ fn source(left: &[Tx], pairs: &[Pair]) -> Option<Tx>
 }
 
 /// A cycle of pairs through some of these, to each of which a pair leads from one of them.
-fn cycle_in(alloc: Global, left: &[Tx], pairs: &[Pair]) -> Result<Vec<Tx>, AllocError>
+pub fn cycle_in(alloc: Global, left: &[Tx], pairs: &[Pair]) -> Result<Vec<Tx>, AllocError>
     requires some { 0 < length left.now }
     requires led { (t : ℕ) → Contains left.now t
         → (a : ℕ) × Contains left.now a × Leads pairs.now a t }

@@ -125,10 +125,11 @@ module _ (b : Parts) (valid : IsValid b) (decided : List ℕ) (stuck : IsStuck b
 
   none : ⊥
   none =
-      let t = stuck.left in
-      let end = t.1 in
+      let t = stuck.free.0 in
+      let free = stuck.free.1 in
+      let end = free.ends in
       let by = decided_in b valid end.0 end.1 in
-      t.2 (all-decided by.0 t.0 (by.1.0, by.1.1, by.1.2 ∙ end.3) end)
+      free.open_yet (all-decided by.0 t (by.1.0, by.1.1, by.1.2 ∙ end.3) end)
 
 pub stuck-none : (sites : List SiteLog) (decided : List ℕ) → IsStuck sites decided → AreCertifiable sites → ⊥
 stuck-none sites decided stuck (c, valid) = none (record { certificate = c; sites = sites }) valid decided stuck

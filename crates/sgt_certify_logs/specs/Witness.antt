@@ -84,8 +84,8 @@ pub record LiesOnCycle (sites : List SiteLog) (decided : List ℕ) (t : ℕ) : T
   pub closed : stops walk ≡ between ++ t ∷ []
   pub through : All (λ a. Contains decided a × IsIn sites (Commit a)) between
 
--- some transaction is left, and each that can be decided next is refused and lies on no such cycle
+-- some transaction can be decided next, and each that can is refused and lies on no such cycle
 pub record IsStuck (sites : List SiteLog) (decided : List ℕ) : Type 0 where
-  pub left : (t : ℕ) × HasEnd sites t × (Contains decided t → ⊥)
+  pub free : (t : ℕ) × IsFree sites decided t
   pub refused : (t : ℕ) → IsFree sites decided t
       → IsIn sites (Refuse t) × (LiesOnCycle sites decided t → ⊥)

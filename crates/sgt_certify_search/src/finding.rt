@@ -4,7 +4,6 @@ ghost use Rattle.std.specs.Prelude.{◌<◌, length, IfSome};
 
 use crate::faults::LineFault;
 use crate::reading::Reader;
-use crate::report::walk_text;
 use crate::search::{Finding, Stuck, numbers_of, search};
 use crate::steps::{conflict_steps, end_steps};
 use sgt_cert::Certificate;
@@ -25,12 +24,11 @@ pub enum Proof {
         cycle: Vec<ConflictStep>,
         ends: Vec<Tx>,
     },
-    /// A stuck set; orders in which the ends, and the committed conflicts, lead onward; and the lines of the next ends.
+    /// A stuck set; and orders in which the ends, and the committed conflicts, lead onward.
     Stuck {
         set: StuckSet,
         ends: Vec<Tx>,
         ranks: Vec<Tx>,
-        lines: Vec<u8>,
     },
 }
 
@@ -126,18 +124,11 @@ fn count_of(history: &History) -> u8 {
 
 /// What may show that the set is stuck.
 fn stuck_proof(alloc: Global, history: &History, stuck: Stuck) -> Result<Proof, AllocError> {
-    let lines = walk_text(alloc, history, stuck.left.as_slice())?;
-    let Stuck {
-        set,
-        ends,
-        ranks,
-        ..
-    } = stuck;
+    let Stuck { set, ends, ranks } = stuck;
     Ok(Proof::Stuck {
         set,
         ends: numbers_of(alloc, history, ends.as_slice())?,
         ranks: numbers_of(alloc, history, ranks.as_slice())?,
-        lines,
     })
 }
 

@@ -4,7 +4,6 @@
 mod faults;
 mod finding;
 mod reading;
-mod report;
 mod search;
 mod steps;
 

@@ -2,7 +2,7 @@
 
 use sgt_cert::{Decision, Step};
 use sgt_certify_history::{
-    Asked, Before, Bounds, End, Fate, Front, History, Link, Marks, Spread, Waiting, ask, is_marked,
+    Asked, Before, Bounds, Fate, Front, History, Link, Marks, Spread, Waiting, ask, is_marked,
     met_from, number_at, rank_order, set_mark, set_number, short, walk_of,
 };
 use sgt_certify_stuck::{Circle, StuckSet};
@@ -23,11 +23,10 @@ pub enum Finding {
     Walk(Stuck),
 }
 
-/// Where only refused ones without a walk are free: the next ends, what was decided by then, and orders in which the ends and the
+/// Where only refused ones without a walk are free: what was decided by then, and orders in which the ends and the
 /// committed conflicts lead onward.
 #[derive(Drop)]
 pub struct Stuck {
-    pub left: Vec<Left>,
     pub set: StuckSet,
     pub ends: Vec<u32>,
     pub ranks: Vec<u32>,
@@ -38,13 +37,6 @@ pub struct Stuck {
 enum Ends {
     Order(Vec<u32>),
     Cycle(Vec<Before>),
-}
-
-/// The next end of a site.
-#[derive(Clone, Copy, Debug)]
-pub struct Left {
-    pub site: u32,
-    pub end: End,
 }
 
 /// A choice of the next decision: a transaction, and its walk if it is refused.
@@ -270,20 +262,6 @@ fn steps_of(alloc: Global, history: &History, walk: &[Link]) -> Result<Vec<Step>
     Ok(steps)
 }
 
-/// The next end of each site with ends left.
-fn ends_left(alloc: Global, history: &History, front: &Front) -> Result<Vec<Left>, AllocError> {
-    let mut left = Vec::new(alloc);
-    for site in 0..history.sites.len() {
-        if let Some(end) = front.next_end(history, site) {
-            left.push(Left {
-                site: short(site),
-                end,
-            })?;
-        }
-    }
-    Ok(left)
-}
-
 /// The numbers of the transactions.
 pub fn numbers_of(alloc: Global, history: &History, places: &[u32]) -> Result<Vec<Tx>, AllocError> {
     let mut numbers = Vec::new(alloc);
@@ -364,7 +342,6 @@ pub fn search(alloc: Global, history: &History) -> Result<Finding, AllocError> {
     match order_of_ends(alloc, history)? {
         Ends::Cycle(cycle) => Ok(Finding::Order(cycle)),
         Ends::Order(ends) => Ok(Finding::Walk(Stuck {
-            left: ends_left(alloc, history, &greedy.front)?,
             set: greedy.stuck_set(alloc, history)?,
             ends,
             ranks: order,

@@ -1,5 +1,5 @@
 -- What the checks of a set tell: that it is stuck.
-use Rattle.std.proofs.Common.{◌≡◌, inl, inr, ◌⊎◌, ℕ, true, false, List, [], ◌∷◌, ◌++◌, Some, BTreeSet, sym, refl, ap, ◌∙◌, subst, suc, Contains}
+use Rattle.std.proofs.Common.{◌≡◌, inl, inr, ◌⊎◌, ℕ, ◌<◌, ◌≤◌, arith, true, false, List, [], ◌∷◌, ◌++◌, Some, BTreeSet, length, sym, refl, ap, ◌∙◌, subst, suc, Contains}
 use Rattle.std.specs.Prelude.{slice_get}
 use Rattle.std.specs.BTreeSet.{contains}
 use Rattle.std.specs.Ordering.{nat_cmp}
@@ -16,8 +16,10 @@ use Rattle.sgt_cert.specs.Valid.{AreLogged}
 use Rattle.sgt_cert.specs.declared.certificate.Step.{Step}
 use Rattle.sgt_cert.specs.declared.bundle.SiteLog.{SiteLog}
 use Rattle.sgt_certify_logs.specs.Witness.{EndsBefore, IsFree, IsIn, IsStuck, LiesOnCycle}
+use Rattle.sgt_certify_stuck.proofs.Elements.{each-in}
 use Rattle.sgt_certify_stuck.specs.Apart.{AreApart, HasNoWalk, HasTx}
-use Rattle.sgt_certify_stuck.specs.private.Ends.{AreShown, IsBehind, IsFirstLeft, IsLeft, IsLogShown, IsShown}
+use Rattle.sgt_certify_stuck.specs.Ends.{AllDecided, IsFirstLeft}
+use Rattle.sgt_certify_stuck.specs.private.Ends.{AreShown, EndsBehind, IsBehind, IsFreeBy, IsLogShown, IsNext, IsShown}
 
 -- ---- no walk
 
@@ -115,9 +117,9 @@ module _ (sites : List SiteLog) (committed others : List ℕ) (decided rest : BT
             })))
       ]
 
-  pub is-stuck : IsLeft sites decided → AreShown sites decided committed → IsStuck sites (committed ++ others)
+  pub is-stuck : IsFreeBy sites decided → AreShown sites decided committed → IsStuck sites (committed ++ others)
   is-stuck left logs = record {
-    left = (left.0, left.1, not-in left.0 left.2);
+    free = (left.0, record { ends = left.1; open_yet = not-in left.0 left.2; next = λ u before. only u (left.3 u before) });
     refused = λ t free.
         let e = free.ends.0 in
         let log = free.ends.1.0 in
@@ -151,7 +153,32 @@ behind-waits sites log decided tx here (q, f, left, at, end, is) = (
   left.5,
 )
 
-pub left-is : (sites : List SiteLog) (log : SiteLog) (decided : BTreeSet ℕ) (tx : ℕ) → Contains sites log
-    → (k : ℕ) × IsFirstLeft log.entries decided k tx → IsLeft sites decided
-left-is sites log decided tx here (k, (e, at, end, is, out, before)) =
-    (tx, (e, (log, here, Contains-from_at log.entries k e at), end, is), out)
+pub free-is : (sites : List SiteLog) (log : SiteLog) (decided : BTreeSet ℕ) (tx : ℕ) → Contains sites log
+    → (k : ℕ) → IsFirstLeft log.entries decided k tx → ((u : ℕ) → EndsBefore sites u tx → HasTx decided u) → IsFreeBy sites decided
+free-is sites log decided tx here k (e, at, end, is, out, before) next =
+    (tx, (e, (log, here, Contains-from_at log.entries k e at), end, is), out, next)
+
+-- where each log lets it be next, nobody who isn't decided ends before it
+pub nobody-waits : (sites : List SiteLog) (decided : BTreeSet ℕ) (tx n : ℕ) → length sites ≤ n
+    → ((i : ℕ) (log : SiteLog) → i < n → slice_get sites i ≡ Some log → IsNext log.entries decided tx)
+    → (u : ℕ) → EndsBefore sites u tx → HasTx decided u
+nobody-waits sites decided tx n all next u h =
+    subst (HasTx decided) h.from
+    (each-in (λ (log : SiteLog). IsNext log.entries decided tx) sites n all next h.log h.here h.q h.f h.second h.ends.1 h.to h.p h.e h.before h.first h.ends.0)
+
+pub left-behind : (entries : List Entry) (decided : BTreeSet ℕ) (place left tx : ℕ) → IsFirstLeft entries decided place left
+    → EndsBehind entries place tx → IsBehind entries decided tx
+left-behind entries decided place left tx (e, at, end, is, out, before) (q, f, behind, there, ends, its) =
+    (q, f, (place, e, behind, at, end, subst (λ (t : ℕ). contains nat_cmp decided t ≡ false) (sym is) out), there, ends, its)
+
+pub none-behind : (entries : List Entry) (decided : BTreeSet ℕ) (place left tx : ℕ) → IsFirstLeft entries decided place left
+    → (EndsBehind entries place tx → ⊥) → IsNext entries decided tx
+none-behind entries decided place left tx (e, at, end, is, out, before) none q f there ends its k g lt at-k end-k =
+    elim (cases_order k place) [
+      | inl same ↦ absurd (none (q, f, subst (λ (n : ℕ). n < q) same lt, there, ends, its))
+      | inr (inl front) ↦ before k g front at-k end-k
+      | inr (inr behind) ↦ absurd (none (q, f, omega (arith, behind, lt), there, ends, its))
+    ]
+
+pub all-next : (entries : List Entry) (decided : BTreeSet ℕ) (tx : ℕ) → AllDecided entries decided (length entries) → IsNext entries decided tx
+all-next entries decided tx all q f there ends its k g lt at-k end-k = all k g (slice_get_within entries k g at-k) at-k end-k

@@ -1,35 +1,37 @@
 //! Ends of logs against a set of decided transactions.
 
-ghost use Rattle.std.specs.Prelude.{◌≡◌, ℕ, ◌<◌, false, IsTrue, IfSome, IfNone, Some, length, slice_get};
+ghost use Rattle.std.specs.Prelude.{◌≡◌, ◌↔◌, ℕ, ◌<◌, false, IsTrue, IfSome, IfNone, Some, length, slice_get};
 ghost use Rattle.std.specs.BTreeSet.{contains};
 ghost use Rattle.std.specs.Ordering.{nat_cmp};
 ghost use Rattle.sgt_names.specs.declared.entry.Entry.TheVariants.{Commit as Committed, Refuse as Refused};
 ghost use Rattle.sgt_certify_logs.specs.Witness.{EndsBefore, IsIn};
-ghost use Rattle.sgt_certify_stuck.specs.private.Ends.{AllDecided, IsBehind, IsFirstLeft, IsLeft};
+ghost use Rattle.sgt_certify_stuck.specs.Apart.{HasTx};
+ghost use Rattle.sgt_certify_stuck.specs.Ends.{AllDecided, IsFirstLeft};
+ghost use Rattle.sgt_certify_stuck.specs.private.Ends.{EndsBehind, IsBehind, IsFreeBy, IsNext};
 
 use sgt_cert::SiteLog;
 use sgt_names::{Entry, Tx};
 use std::collections::BTreeSet;
 
-/// Who ends first in the log of those that aren't decided.
-pub fn first_left(entries: &[Entry], decided: &BTreeSet<Tx>) -> Option<Tx>
-    ensures some { IfSome result (λ tx. (k : ℕ) × IsFirstLeft entries.now decided.now k tx) }
+/// Where the first end of the log stands of those that aren't decided, and whose it is.
+pub fn first_left(entries: &[Entry], decided: &BTreeSet<Tx>) -> Option<(usize, Tx)>
+    ensures some { IfSome result (λ r. IsFirstLeft entries.now decided.now r.0 r.1) }
     ensures none { IfNone result (AllDecided entries.now decided.now (length entries.now)) }
 {
-    for entry in entries {
+    for (place, entry) in entries.iter().enumerate() {
         if entry.is_end() && !decided.contains(&entry.tx()) {
-            return Some(entry.tx());
+            return Some((place, entry.tx()));
         }
     }
     None
 }
 
-/// Whether some log ends a transaction that isn't decided.
-pub fn has_left(sites: &[SiteLog], decided: &BTreeSet<Tx>) -> bool
-    ensures { IsTrue result → IsLeft sites.now decided.now }
+/// Whether an end of this transaction stands behind the place.
+fn ends_behind(entries: &[Entry], place: usize, tx: Tx) -> bool
+    ensures { IsTrue result ↔ EndsBehind entries.now place tx }
 {
-    for log in sites {
-        if let Some(_) = first_left(log.entries.as_slice(), decided) {
+    for (at, entry) in entries.iter().enumerate() {
+        if place < at && entry.is_end() && entry.tx() == tx {
             return true;
         }
     }
@@ -38,30 +40,38 @@ pub fn has_left(sites: &[SiteLog], decided: &BTreeSet<Tx>) -> bool
 
 /// Whether in this log an end of a transaction that isn't decided stands before one of this.
 fn is_behind(entries: &[Entry], decided: &BTreeSet<Tx>, tx: Tx) -> bool
-    ensures { IsTrue result → IsBehind entries.now decided.now tx }
+    ensures yes { IsTrue result → IsBehind entries.now decided.now tx }
+    ensures no { result ≡ false → IsNext entries.now decided.now tx }
 {
-    let mut left = false;
-    for entry in entries {
-        if entry.is_end() {
-            if left && entry.tx() == tx {
-                return true;
-            }
-            if !decided.contains(&entry.tx()) {
-                left = true;
-            }
+    match first_left(entries, decided) {
+        Some((place, _)) => ends_behind(entries, place, tx),
+        None => false,
+    }
+}
+
+/// Whether in some log an end of a transaction that isn't decided stands before one of this.
+pub fn waits(sites: &[SiteLog], decided: &BTreeSet<Tx>, tx: Tx) -> bool
+    ensures yes { IsTrue result
+        → (u : ℕ) × EndsBefore sites.now u tx × (contains nat_cmp decided.now u ≡ false) }
+    ensures no { result ≡ false → (u : ℕ) → EndsBefore sites.now u tx → HasTx decided.now u }
+{
+    for log in sites {
+        if is_behind(log.entries.as_slice(), decided, tx) {
+            return true;
         }
     }
     false
 }
 
-/// Whether in some log an end of a transaction that isn't decided stands before one of this.
-pub fn waits(sites: &[SiteLog], decided: &BTreeSet<Tx>, tx: Tx) -> bool
-    ensures { IsTrue result
-        → (u : ℕ) × EndsBefore sites.now u tx × (contains nat_cmp decided.now u ≡ false) }
+/// Whether some log ends a transaction that isn't decided, before which none does.
+pub fn has_free(sites: &[SiteLog], decided: &BTreeSet<Tx>) -> bool
+    ensures { IsTrue result → IsFreeBy sites.now decided.now }
 {
     for log in sites {
-        if is_behind(log.entries.as_slice(), decided, tx) {
-            return true;
+        if let Some(left) = first_left(log.entries.as_slice(), decided) {
+            if !waits(sites, decided, left.1) {
+                return true;
+            }
         }
     }
     false

@@ -7,5 +7,7 @@ mod onward;
 mod sets;
 mod stuck;
 
+pub use ends::first_left;
 pub use onward::{conflicts_follow, ends_follow};
+pub use sets::set_of;
 pub use stuck::{Circle, StuckSet, is_stuck};

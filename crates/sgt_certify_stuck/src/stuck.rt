@@ -6,7 +6,7 @@ ghost use Rattle.sgt_certify_stuck.specs.Apart.{HasNoWalk, HasTx};
 ghost use Rattle.sgt_certify_stuck.specs.private.Ends.{AreShown, IsLogShown, IsShown};
 
 use crate::apart::are_all_apart;
-use crate::ends::{are_uncommitted, first_left, has_left, is_refused, waits};
+use crate::ends::{are_uncommitted, first_left, has_free, is_refused, waits};
 use crate::sets::{others_of, set_of};
 use sgt_cert::SiteLog;
 use sgt_names::Tx;
@@ -118,7 +118,7 @@ fn is_log_shown(
         → IsLogShown sites.now decided.now stuck.now.committed.items log.now) }
 {
     match first_left(log.entries.as_slice(), decided) {
-        Some(tx) => is_shown(alloc, sites, stuck, decided, tx),
+        Some(left) => is_shown(alloc, sites, stuck, decided, left.1),
         None => Ok(true),
     }
 }
@@ -156,8 +156,8 @@ fn decided_of(alloc: Global, stuck: &StuckSet) -> Result<BTreeSet<Tx>, AllocErro
     set_of(alloc, all.as_slice())
 }
 
-/// Whether the set is stuck in these logs: some transaction is left, and each that can be decided next is refused and lies on no cycle
-/// of conflicts through committed ones of the set. The circles show it. Err: memory ran out.
+/// Whether the set is stuck in these logs: some transaction can be decided next, and each that can is refused and lies on no cycle of
+/// conflicts through committed ones of the set. The circles show it. Err: memory ran out.
 pub fn is_stuck(alloc: Global, sites: &[SiteLog], stuck: &StuckSet) -> Result<bool, AllocError>
     ensures { IfOk result
         (λ is. IsTrue is
@@ -168,7 +168,7 @@ pub fn is_stuck(alloc: Global, sites: &[SiteLog], stuck: &StuckSet) -> Result<bo
         return Ok(false);
     }
     let decided = decided_of(alloc, stuck)?;
-    if !has_left(sites, &decided) {
+    if !has_free(sites, &decided) {
         return Ok(false);
     }
     are_shown(alloc, sites, stuck, &decided)

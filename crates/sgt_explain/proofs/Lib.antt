@@ -1,6 +1,7 @@
 pub mod FaultyLine
 pub mod FaultyText
 pub mod ListedItems
+pub mod SeenLines
 pub mod ShownDecisions
 pub mod ShownEntries
 pub mod ShownSteps

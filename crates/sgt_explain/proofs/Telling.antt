@@ -23,6 +23,10 @@ pub on-ok : {T E P Q : Type 0} (r : Result T E) → (P → Q) → OnOk r P → O
 on-ok (Ok t) f p = f p
 on-ok (Err e) f p = tt
 
+pub on-both : {T E : Type 0} (P Q : Type 0) (r : Result T E) → OnOk r P → OnOk r Q → OnOk r (P × Q)
+on-both P Q (Ok t) p q = (p, q)
+on-both P Q (Err e) p q = tt
+
 -- what holds of a call that went well, by each of some facts
 pub on-all : {T E F : Type 0} (P : F → Type 0) (r : Result T E) → ((f : F) → OnOk r (P f)) → OnOk r ((f : F) → P f)
 on-all P (Ok t) each = each
@@ -68,7 +72,7 @@ pub if-ok : {T E : Type 0} {P Q : T → Type 0} (r : Result T E) → ((t : T) �
 if-ok (Ok t) f p = f t p
 if-ok (Err e) f p = tt
 
-pub means-both : (bytes : List ℕ) (asked : Option ℕ) (v : Verdict) (told more meaning : List ℕ) → Tells bytes v [] told → TellsAsked bytes asked [] more → meaning ≡ told ++ more → MeansOf bytes asked v meaning
+pub means-both : (bytes : List ℕ) (asked : Option ℕ) (v : Verdict) (told more meaning : List ℕ) → Tells bytes v [] told → TellsAsked bytes v asked [] more → meaning ≡ told ++ more → MeansOf bytes asked v meaning
 means-both bytes asked v told more meaning tells dealings text = record {
   said = told;
   more = more;

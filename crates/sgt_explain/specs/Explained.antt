@@ -21,7 +21,7 @@ use Rattle.sgt_explain_decisions.specs.Twice.{TellsTwice}
 use Rattle.sgt_explain_decisions.specs.Walks.{TellsWalk}
 use Rattle.sgt_explain.specs.Asked.{TellsAsked}
 use Rattle.sgt_explain.specs.Certified.{TellsNoCertificate, SpellsCertificate, ShowsAgainstEnd, ShowsMisplaced, ShowsUnended}
-use Rattle.sgt_explain.specs.Lines.{ShowsFaulty, ShowsEnd, ShowsUnlisted, ShowsRepeating, ShowsCut}
+use Rattle.sgt_explain.specs.Lines.{ShowsFaulty, ShowsUnspelled, ShowsEnd, ShowsUnlisted, ShowsRepeating, ShowsCut}
 use Rattle.sgt_explain.specs.Shown.{lines_before, decisions_before, ShowsRead, ShowsFinal, ShowsRanks}
 use Rattle.sgt_explain.specs.Steps.{ShowsStep}
 
@@ -38,6 +38,7 @@ Tells bytes (No line fault.Format) old new =
     ShowsFaulty (codes "Format: ") bytes line fault.Format old new
 Tells bytes (No line fault.Notation) old new =
     ShowsFaulty (codes "Notation: ") bytes line fault.Notation old new
+    × ShowsUnspelled bytes line old new
 Tells bytes (No line fault.Certificate) old new = TellsNoCertificate bytes line old new
 Tells bytes (No line fault.Ranks) old new = (first : FirstFault bytes line fault.Ranks)
     → (c : Certificate) → SpellsCertificate (bytes_of first.next) c
@@ -94,7 +95,7 @@ pub record MeansOf (bytes : List ℕ) (asked : Option ℕ) (v : Verdict) (meanin
   pub more : List ℕ
   pub text : meaning ≡ said ++ more
   pub told : Tells bytes v [] said
-  pub dealings : TellsAsked bytes asked [] more
+  pub dealings : TellsAsked bytes v asked [] more
 
 -- whether one is asked for or not
 abbrev pub Means : List ℕ → Verdict → List ℕ → Type 0

@@ -8,6 +8,8 @@ use Rattle.sgt_notation.specs.declared.SectionLine.TheVariants as Line
 use Rattle.sgt_audit.specs.declared.faults.Fault.{Fault}
 use Rattle.sgt_audit.specs.Faults.{FirstFault, bytes_of}
 use Rattle.sgt_explain_lines.specs.Beside.{ShowsNearest, ShowsTwice, ShowsBlock}
+use Rattle.sgt_audit.specs.declared.faults.Fault.TheVariants as fault
+use Rattle.sgt_explain_lines.specs.Slips.{TellsSlip}
 use Rattle.sgt_explain_lines.specs.Told.{Adds, ShowsLine}
 use Rattle.sgt_explain_lines.specs.Numbered.{open_site, numbered_items, numbered_entries}
 use Rattle.sgt_explain_lines.specs.declared.section.Logged.{Logged}
@@ -17,7 +19,12 @@ abbrev pub ShowsFaulty : (words bytes : List ℕ) → ℕ → Fault → (old new
 ShowsFaulty words bytes n f old new = (first : FirstFault bytes n f)
     → ShowsLine words n (bytes_of first.next) old new
 
--- the same of the line where a text ends too early, if that has any bytes
+-- of a line that spells nothing, why
+abbrev pub ShowsUnspelled : (bytes : List ℕ) → ℕ → (old new : List ℕ) → Type 0
+ShowsUnspelled bytes n old new = (first : FirstFault bytes n fault.Notation)
+    → TellsSlip n (bytes_of first.next) old new
+
+-- the name of the fault, and the line where a text ends too early, if that has any bytes
 pub record ShowsEnd (line : List ℕ) (n : ℕ) (old new : List ℕ) : Type 0 where
   pub begins : Adds (old ++ codes "Truncated: ") new
   pub shown : line ≢ [] → ShowsLine (codes "Truncated: ") n line old new

@@ -73,7 +73,7 @@ fn push_asked(
     asked: &Option<Tx>,
 ) -> Result<(), AllocError>
     ensures { OnOk result
-        (TellsAsked bytes.now asked.now (string_bytes out.old) (string_bytes out.new)) }
+        (TellsAsked bytes.now verdict asked.now (string_bytes out.old) (string_bytes out.new)) }
 {
     match asked {
         Some(tx) => push_transaction(alloc, out, bytes, verdict, *tx),
@@ -88,7 +88,7 @@ fn dealings_of(
     verdict: Verdict,
     asked: &Option<Tx>,
 ) -> Result<String, AllocError>
-    ensures { IfOk result (λ told. TellsAsked bytes.now asked.now [] (string_bytes told)) }
+    ensures { IfOk result (λ told. TellsAsked bytes.now verdict asked.now [] (string_bytes told)) }
 {
     let mut dealings = String::new(alloc);
     push_asked(alloc, &mut dealings, bytes, verdict, asked)?;

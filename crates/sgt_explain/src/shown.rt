@@ -1,7 +1,7 @@
 //! What is shown of a line that gives an item another value than the item has there, and of one that stands against the ranks.
 
-ghost use Rattle.std.specs.Prelude.{◌≡◌, ℕ, List, ◌∷◌, ◌++◌, Some, IfOk, OnOk, IfSome, IsSomeAnd, string_bytes};
-ghost use Rattle.sgt_notation.specs.Spelling.{HasNoLf};
+ghost use Rattle.std.specs.Prelude.{◌≡◌, ◌≤◌, ◌+◌, ℕ, List, ◌∷◌, ◌++◌, All, Some, length, take, IfOk, OnOk, IfSome, IsSomeAnd, string_bytes};
+ghost use Rattle.sgt_notation.specs.Spelling.{HasNoLf, text_of_lines};
 ghost use Rattle.sgt_notation.specs.declared.SectionLine.{SectionLine};
 ghost use Rattle.sgt_cert.specs.Text.{certificate_text, IsCertificate};
 ghost use Rattle.sgt_cert.specs.declared.certificate.Certificate.{Certificate};
@@ -24,11 +24,24 @@ use sgt_names::{Entry, Item, Tx, Value};
 use sgt_notation::SectionLine;
 use std::alloc::{AllocError, Global};
 
+/// The first bytes, so many of them, or all where there are fewer.
+fn front_of(bytes: &[u8], count: usize) -> &[u8]
+    ensures { count ≤ length bytes.now → result.now ≡ take count bytes.now }
+{
+    if count > bytes.len() {
+        return bytes;
+    }
+    &bytes[..count]
+}
+
 /// The lines before the line of this number.
-pub(crate) fn text_before(bytes: &[u8], number: u64) -> &[u8] {
+pub(crate) fn text_before(bytes: &[u8], number: u64) -> &[u8]
+    ensures { (lines : List (List ℕ)) (rest : List ℕ) → All HasNoLf lines
+        → number ≡ length lines + 1 → bytes.now ≡ text_of_lines lines ++ rest
+        → result.now ≡ text_of_lines lines }
+{
     let rest = after_line(bytes, number.saturating_sub(1));
-    let length = bytes.len().saturating_sub(rest.len());
-    bytes.get(..length).unwrap_or(bytes)
+    front_of(bytes, bytes.len().saturating_sub(rest.len()))
 }
 
 /// The certificate of line 2, if it is one. Err: memory ran out.

@@ -1,9 +1,9 @@
 //! What is said of a yes, and of one transaction.
 
-ghost use Rattle.std.specs.Prelude.{OnOk, string_bytes};
+ghost use Rattle.std.specs.Prelude.{◌≡◌, OnOk, string_bytes};
 ghost use Rattle.sgt_cert.specs.declared.certificate.Certificate.{Certificate};
 ghost use Rattle.sgt_explain_decisions.specs.Fate.{TellsFate};
-ghost use Rattle.sgt_explain.specs.Asked.{HoldsCertificate, TellsTransaction};
+ghost use Rattle.sgt_explain.specs.Asked.{HoldsCertificate, TellsTransaction, seen_before};
 
 use crate::shown::{certificate_of, text_before};
 use sgt_audit::Verdict;
@@ -23,7 +23,9 @@ pub(crate) fn push_yes(alloc: Global, out: &mut String, bytes: &[u8]) -> Result<
 }
 
 /// The line behind the last that may be shown of a transaction: all lines of a valid bundle, else those before the first fault.
-fn end_of(verdict: Verdict) -> u64 {
+fn end_of(verdict: Verdict) -> u64
+    ensures { result ≡ seen_before verdict }
+{
     match verdict {
         Verdict::Yes { .. } => u64::MAX,
         Verdict::No { line, .. } => line,
@@ -59,7 +61,7 @@ pub(crate) fn push_transaction(
     tx: Tx,
 ) -> Result<(), AllocError>
     ensures { OnOk result
-        (TellsTransaction bytes.now tx (string_bytes out.old) (string_bytes out.new)) }
+        (TellsTransaction bytes.now verdict tx (string_bytes out.old) (string_bytes out.new)) }
 {
     let end = end_of(verdict);
     push_decided(alloc, out, bytes, end, tx)?;

@@ -1,6 +1,11 @@
 -- What is said of one transaction's entries, site by site.
-use Rattle.std.specs.Prelude.{◌≡◌, ◌⊎◌, ℕ, List, [], ◌∷◌, ◌++◌, All, codes, decimal, Option, Some, None, if◌then◌else◌, ◌==◌}
+use Rattle.std.specs.Prelude.{◌≡◌, ◌⊎◌, ℕ, ◌+◌, List, [], ◌∷◌, ◌++◌, All, codes, decimal, Option, Some, None, if◌then◌else◌, ◌==◌}
+use Rattle.std.specs.List.{filter_map, enumerate_from}
 use Rattle.sgt_names.specs.Entry.{tx_of}
+use Rattle.sgt_names.specs.declared.entry.Entry.{Entry}
+use Rattle.sgt_notation.specs.declared.SectionLine.{SectionLine}
+use Rattle.sgt_explain_lines.specs.Numbered.{entry_in}
+use Rattle.sgt_explain_lines.specs.Sited.{HasBefore, site_at}
 use Rattle.sgt_explain_lines.specs.Told.{Adds, shown_line}
 use Rattle.sgt_explain_dealings.specs.declared.conflicts.Pair.{Pair}
 use Rattle.sgt_explain_dealings.specs.declared.dealings.Own.{Own}
@@ -8,6 +13,19 @@ use Rattle.sgt_explain_dealings.specs.Conflicts.{IsOwnConflict, pairs_text}
 
 abbrev pub IsOwn : ℕ → Own → Type 0
 IsOwn tx own = tx_of own.logged.entry ≡ tx
+
+-- the entry with its site and the number of its line, where it is one of the transaction
+abbrev pub own_from : (tx site line : ℕ) → Option Entry → Option Own
+own_from tx site line (Some e) = if tx_of e == tx then Some (record { site = site; logged = record { line = line; entry = e } }) else None
+own_from tx site line None = None
+
+-- the entry of the line at a place, with the site that is open there
+abbrev pub own_at : ℕ → List SectionLine → ℕ × SectionLine → Option Own
+own_at tx lines (place, line) = own_from tx (site_at lines place) (place + 3) (entry_in line)
+
+-- all entries that the transaction has in these lines, in their order
+abbrev pub own_of : ℕ → List SectionLine → List Own
+own_of tx lines = filter_map (own_at tx lines) (enumerate_from 0 lines)
 
 -- the site, where it isn't the one before it
 abbrev pub site_if_new : Option ℕ → ℕ → List ℕ
@@ -29,3 +47,12 @@ own_head own = own_text None own ++ codes "in conflict:\n"
 abbrev pub TellsDealings : ℕ → (old new : List ℕ) → Type 0
 TellsDealings tx old new = (new ≡ old ++ codes "it has no entry\n")
     ⊎ ((own : List Own) × (pairs : List Pair) × All (IsOwn tx) own × All (IsOwnConflict tx) pairs × Adds (old ++ (own_head own ++ pairs_text pairs)) new)
+
+-- of these entries, which are all that the transaction has, each is shown, and conflicts; or that it has none
+abbrev pub TellsOwn : ℕ → List Own → (old new : List ℕ) → Type 0
+TellsOwn tx [] old new = new ≡ old ++ codes "it has no entry\n"
+TellsOwn tx (one ∷ own) old new = (pairs : List Pair) × All (IsOwnConflict tx) pairs × Adds (old ++ (own_head (one ∷ own) ++ pairs_text pairs)) new
+
+-- the same of the lines that a text has before the line of this number
+abbrev pub TellsAllOwn : (bytes : List ℕ) (number tx : ℕ) → (old new : List ℕ) → Type 0
+TellsAllOwn bytes number tx old new = (lines : List SectionLine) → HasBefore bytes number lines → TellsOwn tx (own_of tx lines) old new

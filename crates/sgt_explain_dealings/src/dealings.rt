@@ -1,7 +1,12 @@
 //! What one transaction did: its entries at each site.
 
-ghost use Rattle.std.specs.Prelude.{◌≡◌, ◌++◌, ℕ, None, All, IfOk, OnOk, string_bytes};
-ghost use Rattle.sgt_explain_dealings.specs.Dealings.{IsOwn, site_if_new, one_text, own_text, own_head, TellsDealings};
+ghost use Rattle.std.specs.Prelude.{◌≡◌, ◌↔◌, IsTrue, ◌≤◌, ◌<◌, ◌++◌, [], ℕ, List, None, All, IfOk, OnOk, string_bytes};
+ghost use Rattle.std.specs.List.{cons_option};
+ghost use Rattle.sgt_notation.specs.Spelling.{line_text, IsLine};
+ghost use Rattle.sgt_notation.specs.declared.SectionLine.{SectionLine};
+ghost use Rattle.sgt_explain_lines.specs.Numbered.{entry_in, site_behind};
+ghost use Rattle.sgt_explain_lines.specs.Sited.{HasBefore};
+ghost use Rattle.sgt_explain_dealings.specs.Dealings.{IsOwn, own_from, own_of, site_if_new, one_text, own_text, own_head, TellsDealings, TellsAllOwn};
 
 use crate::conflicts::{push_conflicts, push_count};
 use sgt_explain_lines::{Logged, cut_line, entry_of, push_logged};
@@ -17,29 +22,53 @@ pub struct Own {
 }
 
 /// The entry of a line of a section. Lines 1 and 2 are none.
-pub(crate) fn entry_at(site: &mut u8, line: u64, text: &[u8]) -> Option<Entry> {
+pub(crate) fn entry_at(site: &mut u8, line: u64, text: &[u8]) -> Option<Entry>
+    ensures head { line ≤ 2 → (result ≡ None) × (site.new ≡ site.old) }
+    ensures spelled { 2 < line → (read : SectionLine) → IsLine read → text.now ≡ line_text read
+        → (result ≡ entry_in read) × (site.new ≡ site_behind site.old read) }
+{
     if line > 2 { entry_of(site, text) } else { None }
+}
+
+/// Puts the entry behind the others, if it is one of the transaction.
+fn push_from(
+    own: &mut Vec<Own>,
+    tx: Tx,
+    site: u8,
+    line: u64,
+    found: Option<Entry>,
+) -> Result<(), AllocError>
+    ensures { OnOk result (own.new.items
+        ≡ own.old.items ++ cons_option (own_from tx site line found) []) }
+{
+    let Some(entry) = found else {
+        return Ok(());
+    };
+    if entry.tx() == tx {
+        own.push(Own {
+            site,
+            logged: Logged { line, entry },
+        })?;
+    }
+    Ok(())
 }
 
 /// The entries of the transaction in the lines before this one.
 fn own_in(alloc: Global, bytes: &[u8], end: u64, tx: Tx) -> Result<Vec<Own>, AllocError>
-    ensures { IfOk result (λ own. All (IsOwn tx) own.items) }
+    ensures own { IfOk result (λ own. All (IsOwn tx) own.items) }
+    ensures all { IfOk result (λ own. (lines : List SectionLine) → HasBefore bytes.now end lines
+        → own.items ≡ own_of tx lines) }
 {
     let mut own = Vec::new(alloc);
     let mut site = 0u8;
     let mut rest = bytes;
     for line in 1..end {
         let (text, behind) = cut_line(rest);
-        match entry_at(&mut site, line, text) {
-            Some(entry) if entry.tx() == tx => own.push(Own {
-                site,
-                logged: Logged { line, entry },
-            })?,
-            _ => {}
-        }
+        let found = entry_at(&mut site, line, text);
+        push_from(&mut own, tx, site, line, found)?;
         rest = behind;
         if rest.is_empty() {
-            break;
+            return Ok(own);
         }
     }
     Ok(own)
@@ -99,6 +128,12 @@ fn push_own_head(out: &mut String, own: &[Own]) -> Result<(), AllocError>
     out.push_str("in conflict:\n")
 }
 
+fn has_none(own: &Vec<Own>) -> bool
+    ensures { IsTrue result ↔ (own.now.items ≡ []) }
+{
+    own.as_slice().is_empty()
+}
+
 /// What the transaction did in the lines before this one: its entries at each site with their
 /// lines, and its conflicts with other transactions, each in its direction. Forty conflicts are
 /// shown, and the others counted.
@@ -109,10 +144,12 @@ pub fn push_dealings(
     end: u64,
     tx: Tx,
 ) -> Result<(), AllocError>
-    ensures { OnOk result (TellsDealings tx (string_bytes out.old) (string_bytes out.new)) }
+    ensures told { OnOk result (TellsDealings tx (string_bytes out.old) (string_bytes out.new)) }
+    ensures all { OnOk result (TellsAllOwn bytes.now end tx
+        (string_bytes out.old) (string_bytes out.new)) }
 {
     let own = own_in(alloc, bytes, end, tx)?;
-    if own.is_empty() {
+    if has_none(&own) {
         return out.push_str("it has no entry\n");
     }
     push_own_head(out, own.as_slice())?;

@@ -3,3 +3,5 @@ pub mod Beside
 pub mod Making
 pub mod Numbering
 pub mod Showing
+pub mod Siting
+pub mod Slipping

@@ -128,7 +128,7 @@ on-ok (Err e) P Q f p = tt
 
 -- ---- one more line
 
-numbers-append : (n : ℕ) (xs ys : List SectionLine) → enumerate_from n (xs ++ ys) ≡ enumerate_from n xs ++ enumerate_from (n + length xs) ys
+pub numbers-append : (n : ℕ) (xs ys : List SectionLine) → enumerate_from n (xs ++ ys) ≡ enumerate_from n xs ++ enumerate_from (n + length xs) ys
 numbers-append n [] ys = ap (λ k. enumerate_from k ys) (omega arith)
 numbers-append n (x ∷ xs) ys =
     let e : n + 1 + length xs ≡ n + suc (length xs) = omega arith in

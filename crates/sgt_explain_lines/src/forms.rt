@@ -1,7 +1,8 @@
 //! What is said of a line by itself, or by its place: of line 1, of a line that spells nothing, of the end of the input.
 
-ghost use Rattle.std.specs.Prelude.{ℕ, ◌-◌, ◌<◌, List, [], ◌++◌, OnOk, codes, string_bytes};
+ghost use Rattle.std.specs.Prelude.{◌≡◌, ℕ, ◌-◌, ◌<◌, List, [], ◌++◌, OnOk, codes, string_bytes};
 ghost use Rattle.sgt_explain_lines.specs.Numbered.{IsLineAt};
+ghost use Rattle.sgt_explain_lines.specs.Slips.{TellsSlip};
 ghost use Rattle.sgt_explain_lines.specs.Told.{Adds, ShowsLine, ShowsNumbered};
 
 use crate::input::{line_at, text_at};
@@ -15,7 +16,8 @@ use std::fmt::Write;
 
 /// The name of a fault, and what it says.
 fn push_words(out: &mut String, name: &str, words: &str) -> Result<(), AllocError>
-    ensures { OnOk result (Adds (string_bytes out.old ++ name.now) (string_bytes out.new)) }
+    ensures begins { OnOk result (Adds (string_bytes out.old ++ name.now) (string_bytes out.new)) }
+    ensures text { OnOk result (string_bytes out.new ≡ string_bytes out.old ++ (name.now ++ words.now)) }
 {
     out.push_str(name)?;
     out.push_str(words)
@@ -54,8 +56,10 @@ pub fn push_format(out: &mut String, bytes: &[u8]) -> Result<(), AllocError>
 
 /// F2: a line spells nothing.
 pub fn push_notation(out: &mut String, bytes: &[u8], number: u64) -> Result<(), AllocError>
-    ensures { (line : List ℕ) → IsLineAt bytes.now number line
+    ensures line { (line : List ℕ) → IsLineAt bytes.now number line
         → OnOk result (ShowsLine (codes "Notation: ") number line (string_bytes out.old) (string_bytes out.new)) }
+    ensures slip { (line : List ℕ) → IsLineAt bytes.now number line
+        → OnOk result (TellsSlip number line (string_bytes out.old) (string_bytes out.new)) }
 {
     push_words(out, "Notation: ", "this line is none that a section has\n")?;
     let line = text_at(bytes, number);

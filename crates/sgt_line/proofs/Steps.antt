@@ -1,5 +1,6 @@
 -- One more word of a command line is read.
-use Rattle.std.proofs.Common.{◌≡◌, ◌⊎◌, ◌∙◌, ℕ, List, [], ◌∷◌, ◌++◌, Option, Some, None, true, false, inl, inr, refl, sym, ap, subst, codes, arith, drop}
+use Rattle.std.proofs.Common.{◌≡◌, ◌⊎◌, ◌∙◌, ℕ, List, [], ◌∷◌, ◌++◌, Option, Some, None, true, false, inl, inr, refl, sym, ap, subst, codes, arith, drop, length, take, ◌≤◌}
+use Rattle.std.proofs.lemmas.Grind.{common_steps}
 use Rattle.std.specs.Prelude.{IfOk, Result, Ok, Err}
 use Rattle.sgt_line.specs.Names.{command_text}
 use Rattle.sgt_line.specs.declared.name.CommandName.TheVariants as name
@@ -21,6 +22,10 @@ letter (x ∷ xs) = x
 pub on_ok : {A E : Type 0} (r : Result A E) (P Q : A → Type 0) → ((x : A) → P x → Q x) → IfOk r P → IfOk r Q
 on_ok (Ok x) P Q so holds = so x holds
 on_ok (Err e) P Q so holds = tt
+
+-- all of a list
+pub taken_whole : {A : Type 0} (xs : List A) (n : ℕ) → length xs ≤ n → take n xs ≡ xs
+taken_whole xs n le = grind (arith, common_steps)
 
 no_help : (command : CommandName) → command_text command ≡ codes "help" → ⊥
 no_help name.Audit e = absurd (omega (arith, ap letter e))
@@ -110,14 +115,11 @@ module _ (command : CommandName) (first : Parts) (taken : List (List ℕ)) (p : 
 
   pub ordered : (before : Kind) (q : Parts) → before ≡ Against → q ≡ record p { against = Some w } → IsReadTo command first taken before p
       → Reads command first (taken ++ (w ∷ [])) q
-  ordered before q e more state =
+  ordered before q e whole state =
       let waiting : IsReadTo command first taken Against p = subst (λ k. IsReadTo command first taken k p) e state in
-      let wait : Waits command first taken Against waiting.0 = waiting.1.0 in
-      let whole : q ≡ record (left waiting.0 wait.option) { against = Some w } =
-      more ∙ ap (λ (o : Parts). record o { against = Some w }) waiting.1.1 in
+      let wait : Waits command first taken Against p = waiting.0 in
       subst (λ ws. Reads command first (ws ++ (w ∷ [])) q) (sym wait.cut)
-      (subst (Reads command first ((wait.before ++ (wait.option ∷ [])) ++ (w ∷ []))) (sym whole)
-      (reads.against wait.option w wait.reads wait.is_kind waiting.2))
+      (subst (Reads command first ((wait.before ++ (wait.option ∷ [])) ++ (w ∷ []))) (sym whole) (reads.against wait.option w wait.reads wait.is_kind waiting.1))
 
   pub waits_place : (kind after : Kind) (q : Parts) → kind ≡ Place → IsKind command w kind → WaitsForPlace p w after q → Reads command first taken p
       → IsReadTo command first (taken ++ (w ∷ [])) after q
@@ -135,9 +137,10 @@ module _ (command : CommandName) (first : Parts) (taken : List (List ℕ)) (p : 
       → IsReadTo command first (taken ++ (w ∷ [])) after q
   waits_order kind after q e is waits reading =
       let here : IsKind command w Against = subst (λ k. IsKind command w k) e is in
-      elim waits.1 [
+      elim waits [
         | inl waiting ↦ subst (λ k. IsReadTo command first (taken ++ (w ∷ [])) k q) (sym waiting.0)
-            (p, (record { before = taken; option = w; cut = refl; is_kind = here; reads = reading }, waits.0), waiting.1)
+            (subst (IsReadTo command first (taken ++ (w ∷ [])) Against) (sym waiting.2)
+            (record { before = taken; option = w; cut = refl; is_kind = here; reads = reading }, waiting.1))
         | inr more ↦ subst (λ k. IsReadTo command first (taken ++ (w ∷ [])) k q) (sym more.0)
-            (subst (Reads command first (taken ++ (w ∷ []))) (sym waits.0) (reads.plain w reading (inr (inr (here, more.1)))))
+            (subst (Reads command first (taken ++ (w ∷ []))) (sym more.2) (reads.plain w reading (inr (inr (here, more.1)))))
       ]

@@ -2,7 +2,7 @@
 use Rattle.std.specs.Prelude.{◌≡◌, ◌⊎◌, ℕ, List, ◌++◌, codes, ⊤}
 use Rattle.sgt_line.specs.Names.{NamesRule}
 use Rattle.sgt_line.specs.declared.kind.Kind.{Kind}
-use Rattle.sgt_line.specs.declared.kind.Kind.TheVariants.{Against, Dashes, File, Joined, Numbered, Place, Plain, Progress, Quiet, RuleName, Strict}
+use Rattle.sgt_line.specs.declared.kind.Kind.TheVariants.{Against, Chain, Dashes, File, Joined, Numbered, Place, Plain, Progress, Quiet, RuleName, Strict}
 use Rattle.sgt_line.specs.declared.name.CommandName.{CommandName}
 use Rattle.sgt_line.specs.declared.name.CommandName.TheVariants.{Audit, Check, Draw, Explain, Replay, Run, Serial, Serve}
 
@@ -21,6 +21,7 @@ abbrev pub IsNoted : CommandName → List ℕ → Kind → Type 0
 IsNoted command word Quiet = ((command ≡ Audit) ⊎ (command ≡ Check))
     × ((word ≡ codes "-q") ⊎ (word ≡ codes "--quiet"))
 IsNoted command word Strict = (command ≡ Replay) × (word ≡ codes "--strict")
+IsNoted command word Chain = (command ≡ Audit) × (word ≡ codes "--chain")
 IsNoted command word Progress = TellsLines command × (word ≡ codes "--progress")
 IsNoted command word Dashes = word ≡ codes "--"
 IsNoted command word Place = (((command ≡ Replay) ⊎ (command ≡ Run)) × (word ≡ codes "--bundle"))
@@ -53,6 +54,7 @@ IsOption kind = ⊥
 abbrev pub IsSwitch : Kind → Type 0
 IsSwitch Quiet = ⊤
 IsSwitch Strict = ⊤
+IsSwitch Chain = ⊤
 IsSwitch Progress = ⊤
 IsSwitch Dashes = ⊤
 IsSwitch kind = ⊥

@@ -15,6 +15,7 @@ pub record Parts : Type 0 where
   pub names_rule : Bool
   pub is_quiet : Bool
   pub is_strict : Bool
+  pub is_chain : Bool
   pub tells_lines : Bool
 
 -- a line that has these words alone
@@ -27,6 +28,7 @@ bare words = record {
   names_rule = false;
   is_quiet = false;
   is_strict = false;
+  is_chain = false;
   tells_lines = false;
 }
 
@@ -60,5 +62,6 @@ parts_of line = record {
   names_rule = line.names_rule;
   is_quiet = line.is_quiet;
   is_strict = line.is_strict;
+  is_chain = line.is_chain;
   tells_lines = line.tells_lines;
 }

@@ -3,7 +3,7 @@ use Rattle.std.specs.Prelude.{◌≡◌, ◌≢◌, ◌⊎◌, ℕ, true, List, 
 use Rattle.sgt_line.specs.Kinds.{IsKind}
 use Rattle.sgt_line.specs.Names.{command_text}
 use Rattle.sgt_line.specs.Parts.{HasRoom, Parts, bare, left, with_extra, with_file, with_rule}
-use Rattle.sgt_line.specs.declared.kind.Kind.TheVariants.{Against, Dashes, File, Joined, Numbered, Place, Plain, Progress, Quiet, RuleName, Strict}
+use Rattle.sgt_line.specs.declared.kind.Kind.TheVariants.{Against, Chain, Dashes, File, Joined, Numbered, Place, Plain, Progress, Quiet, RuleName, Strict}
 use Rattle.sgt_line.specs.declared.name.CommandName.{CommandName}
 
 -- what takes a place of which there is one: the place that is there stays, and the word is a plain one
@@ -30,13 +30,15 @@ pub data Reads (command : CommandName) (first : Parts) : List (List ℕ) → Par
   -- `--bundle FILE`: neither word is left
   place : {ws : List (List ℕ)} {p : Parts} (o f : List ℕ) → Reads command first ws p → IsKind command o Place → p.place ≡ None
       → Reads command first ((ws ++ (o ∷ [])) ++ (f ∷ [])) (record p { place = Some f })
-  -- `--against ORDER`: the option is left
+  -- `--against ORDER` likewise
   against : {ws : List (List ℕ)} {p : Parts} (o f : List ℕ) → Reads command first ws p → IsKind command o Against → p.against ≡ None
-      → Reads command first ((ws ++ (o ∷ [])) ++ (f ∷ [])) (record (left p o) { against = Some f })
+      → Reads command first ((ws ++ (o ∷ [])) ++ (f ∷ [])) (record p { against = Some f })
   quiet : {ws : List (List ℕ)} {p : Parts} (w : List ℕ) → Reads command first ws p → IsKind command w Quiet
       → Reads command first (ws ++ (w ∷ [])) (record p { is_quiet = true })
   strict : {ws : List (List ℕ)} {p : Parts} (w : List ℕ) → Reads command first ws p → IsKind command w Strict
       → Reads command first (ws ++ (w ∷ [])) (record p { is_strict = true })
+  chain : {ws : List (List ℕ)} {p : Parts} (w : List ℕ) → Reads command first ws p → IsKind command w Chain
+      → Reads command first (ws ++ (w ∷ [])) (record p { is_chain = true })
   progress : {ws : List (List ℕ)} {p : Parts} (w : List ℕ) → Reads command first ws p → IsKind command w Progress
       → Reads command first (ws ++ (w ∷ [])) (record p { tells_lines = true })
 

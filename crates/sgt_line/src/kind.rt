@@ -23,12 +23,14 @@ pub enum Kind {
     File,
     /// Behind it stands a file or a folder to be written.
     Place,
-    /// It is left for the program, and behind it stands the file of an order.
+    /// Behind it stands the file of an order.
     Against,
     /// The status alone is answered.
     Quiet,
     /// A refused event is a no.
     Strict,
+    /// The files are the bundles of a chain.
+    Chain,
     /// Lines are told as they are read.
     Progress,
     /// Behind it each word is a file.
@@ -105,6 +107,12 @@ fn is_strict(command: CommandName, word: &str) -> bool
     ensures { IsTrue result ↔ IsNoted command word.now kind.Strict }
 {
     command == CommandName::Replay && word == "--strict"
+}
+
+fn is_chain(command: CommandName, word: &str) -> bool
+    ensures { IsTrue result ↔ IsNoted command word.now kind.Chain }
+{
+    command == CommandName::Audit && word == "--chain"
 }
 
 /// Whether the command tells of the lines that it reads, where it is asked to.
@@ -185,6 +193,8 @@ fn switch_of(command: CommandName, word: &str) -> Option<Kind>
         Some(Kind::Quiet)
     } else if is_strict(command, word) {
         Some(Kind::Strict)
+    } else if is_chain(command, word) {
+        Some(Kind::Chain)
     } else if is_progress(command, word) {
         Some(Kind::Progress)
     } else if word == "--" {

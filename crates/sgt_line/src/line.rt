@@ -30,6 +30,8 @@ pub struct Line {
     pub is_quiet: bool,
     /// Whether a replay that refuses an event ends with status 1.
     pub is_strict: bool,
+    /// Whether the files of an audit are the bundles of a chain.
+    pub is_chain: bool,
     /// Whether standard error is told of each million lines that were read.
     pub tells_lines: bool,
 }
@@ -50,6 +52,7 @@ impl Line {
             names_rule: false,
             is_quiet: false,
             is_strict: false,
+            is_chain: false,
             tells_lines: false,
         }
     }
@@ -151,10 +154,10 @@ impl Line {
         ensures { IfOk result (λ after. WaitsForOrder (parts_of self.old) word.now after
             (parts_of self.new)) }
     {
-        self.leave(alloc, word)?;
         if self.against.is_none() {
             return Ok(Kind::Against);
         }
+        self.leave(alloc, word)?;
         Ok(Kind::Plain)
     }
 
@@ -177,6 +180,7 @@ impl Line {
             Kind::Joined => self.add_joined(alloc, word)?,
             Kind::Quiet => self.is_quiet = true,
             Kind::Strict => self.is_strict = true,
+            Kind::Chain => self.is_chain = true,
             Kind::Progress => self.tells_lines = true,
             Kind::Plain => self.leave(alloc, word)?,
             Kind::Dashes => return Ok(kind),
@@ -215,6 +219,18 @@ impl Line {
         Ok(Kind::Plain)
     }
 
+    // The last of the words is left for the program.
+    fn leave_last(&mut self, alloc: Global, words: &[String]) -> Result<(), AllocError>
+        ensures { OnOk result ((front : List (List ℕ)) → (last : List ℕ)
+            → map string_bytes words.now ≡ front ++ (last ∷ [])
+            → parts_of self.new ≡ left (parts_of self.old) last) }
+    {
+        match last_of(words) {
+            Some((_, last)) => self.leave(alloc, last),
+            None => Ok(()),
+        }
+    }
+
     // All these words are read, the last of this kind. An option that lacks the word behind it is left for the program.
     fn end(
         &mut self,
@@ -227,8 +243,9 @@ impl Line {
             → IsReadTo command first (map string_bytes words.now) before (parts_of self.old)
             → IsRead command first (map string_bytes words.now) (parts_of self.new)) }
     {
-        match (before, last_of(words)) {
-            (Kind::Place, Some((_, option))) => self.leave(alloc, option),
+        match before {
+            Kind::Place => self.leave_last(alloc, words),
+            Kind::Against => self.leave_last(alloc, words),
             _ => Ok(()),
         }
     }

@@ -1,5 +1,5 @@
 -- What each command answers, by the exit status.
-use Rattle.std.specs.Prelude.{◌≡◌, ◌≢◌, ◌<◌, ◌≤◌, ℕ, List, Option, Some, None, length, IfSome}
+use Rattle.std.specs.Prelude.{◌≡◌, ◌≢◌, ◌<◌, ◌≤◌, ℕ, Bool, List, Option, Some, None, length, IfSome}
 use Rattle.std.specs.Io.KnownBytes.{Appends}
 use Rattle.sgt_names.specs.Device.{WritesFront}
 use Rattle.sgt_names.specs.declared.outcome.Outcome.{Outcome}
@@ -10,6 +10,8 @@ use Rattle.sgt_audit.specs.declared.faults.Fault.{Fault}
 use Rattle.sgt_audit.specs.declared.verdict.Verdict.{Verdict}
 use Rattle.sgt_audit.specs.declared.verdict.Verdict.TheVariants.{Yes, No}
 use Rattle.sgt_certify.specs.Answer as certify
+use Rattle.sgt_check.specs.Answer as check
+use Rattle.sgt_check.specs.declared.options.Options.{Options}
 use Rattle.sgt_draw.specs.Drawn as draw
 use Rattle.sgt_explain.specs.Explained as explain
 use Rattle.sgt_explain.specs.Topics.{IsRuleOf, topic_name}
@@ -20,7 +22,7 @@ use Rattle.sgt_serial.specs.Answer as serial
 use Rattle.sgt_serial.specs.Answer.{IsAnswer}
 use Rattle.sgt_words.specs.Words.{AsksFor, AsksHelp, AsksNone}
 use Rattle.sgt_words.specs.declared.choice.Choice.{Choice}
-use Rattle.sgt_words.specs.declared.choice.Choice.TheVariants.{Audit, AuditWith, Certify, Draw, DrawWith, Explain, Replay, Rule, Run, Serial, Transaction}
+use Rattle.sgt_words.specs.declared.choice.Choice.TheVariants.{Audit, AuditWith, Certify, Check, Draw, DrawWith, Explain, Replay, Rule, Run, Serial, Transaction}
 
 abbrev pub outcome : Verdict → Outcome
 outcome (Yes c r w) = Outcome_.Yes
@@ -96,6 +98,17 @@ AnswersCertify status told written written' =
     ByStatus (λ outcome. certify.WroteAnswer told outcome written written')
     (certify.WroteAnswerFront told written written') status
 
+-- what is asked of a history besides the answer
+abbrev pub options_of : Bool → Options
+options_of tells_order = record { order = tells_order }
+
+-- the verdict on a history: a yes at 0, with an order where it is asked for; at 1 a no with what shows
+-- it; at 2 the line that can't be read
+abbrev pub AnswersCheck : Bool → (status : ℕ) (told written written' : Option (List ℕ)) → Type 0
+AnswersCheck tells_order status told written written' =
+    ByStatus (λ outcome. check.WroteAnswer (options_of tells_order) told outcome written written')
+    (check.WroteAnswerFront (options_of tells_order) told written written') status
+
 -- the explanation: the line of the verdict, a yes at 0 and a no at 1, and what it means, with what
 -- this transaction did, or no transaction
 abbrev pub AnswersExplain : Option ℕ → (status : ℕ) (told written written' : Option (List ℕ))
@@ -124,6 +137,7 @@ Answers (AuditWith workers) = AnswersAudit
 Answers Serial = AnswersSerial
 Answers Replay = AnswersReplay
 Answers Certify = AnswersCertify
+Answers (Check tells_order) = AnswersCheck tells_order
 Answers Explain = AnswersExplain None
 Answers (Transaction tx) = AnswersExplain (Some tx)
 Answers (Rule topic) = λ status told written written'. AnswersRule topic status written written'

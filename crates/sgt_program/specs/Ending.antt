@@ -1,11 +1,14 @@
 -- How a run of the program ends.
-use Rattle.std.specs.Prelude.{◌≡◌, ◌<◌, ◌≤◌, ◌⊎◌, ◌+◌, ℕ, List, Option, Ok, Err, codes, length, IfSome}
+use Rattle.std.specs.Prelude.{◌≡◌, ◌<◌, ◌≤◌, ◌⊎◌, ◌+◌, ⊤, ℕ, List, Option, Ok, Err, codes, length, IfSome}
 use Rattle.std.specs.Io.KnownBytes.{Appends}
 use Rattle.sgt_names.specs.Device.{WritesFront}
 use Rattle.sgt_names.specs.declared.outcome.EngineFail.{EngineFail}
 use Rattle.sgt_names.specs.declared.outcome.EngineFail.TheVariants.{Memory, ReadFault, WriteFault}
 use Rattle.sgt_names.specs.declared.outcome.Outcome.TheVariants.{Yes, No, Unreadable}
 use Rattle.sgt_names.specs.Limits.{most_reads}
+use Rattle.sgt_words.specs.Words.{AsksFor}
+use Rattle.sgt_words.specs.declared.choice.Choice.{Choice}
+use Rattle.sgt_words.specs.declared.choice.Choice.TheVariants.{AuditWith}
 use Rattle.sgt_program.specs.declared.ending.Ending.{Ending}
 use Rattle.sgt_program.specs.declared.ending.Ending.TheVariants.{Ran, NoCommand}
 
@@ -26,6 +29,19 @@ abbrev pub ReadFailed : (is_kept : Type 0) → (told : Option (List ℕ))
 ReadFailed is_kept told failures failures' asked asked' = (failures < failures')
     ⊎ (IfSome told (λ bytes. most_reads ≤ length bytes)
     × ((asked' ≡ asked + most_reads) ⊎ is_kept))
+
+-- behind a fault more may be read
+abbrev pub ReadsOn : Choice → Type 0
+ReadsOn (AuditWith workers) = ⊤
+ReadsOn _ = ⊥
+
+abbrev pub AsksWorkers : (words : List (List ℕ)) → Type 0
+AsksWorkers words = (workers : ℕ) × AsksFor words (AuditWith workers)
+
+-- no read has failed; or, where more may be read than up to a fault, the answer is a no, and one has at most
+abbrev pub ReaderIsQuiet : (reads_on : Type 0) → Ending → (failures failures' : ℕ) → Type 0
+ReaderIsQuiet reads_on ending failures failures' = (failures' ≡ failures)
+    ⊎ (reads_on × (ending ≡ Ran (Ok No)) × (failures' ≤ failures + 1))
 
 -- how the devices come out of a run that ends so: where no device is blamed none has failed, and
 -- where one is blamed it has;

@@ -2,7 +2,7 @@
 
 ghost use Rattle.std.specs.Prelude.{◌≡◌, ◌<◌, Err, map, length, string_bytes, IfErr, IsOk, codes};
 ghost use Rattle.sgt_program.specs.Commands.{Answers, ComesOf};
-ghost use Rattle.sgt_program.specs.Ending.{LeavesDevices, ReadFailed, TellsErrors, WroteOrFailed, status_of, text_of_fail};
+ghost use Rattle.sgt_program.specs.Ending.{AsksWorkers, LeavesDevices, ReadFailed, ReaderIsQuiet, TellsErrors, WroteOrFailed, status_of, text_of_fail};
 ghost use Rattle.sgt_words.specs.Words.{AsksFor, NamesExplain};
 ghost use Rattle.sgt_words.specs.declared.choice.Choice.{Choice};
 ghost use Rattle.sgt_program.specs.declared.ending.Ending.{Ending};
@@ -17,7 +17,7 @@ use std::sync::Wait;
 use std::thread::Threads;
 
 /// The exit status; where there is no answer, the error stream is told why.
-fn finish<E: Sink>(errors: &mut E, run: Result<Outcome, EngineFail>) -> u8
+pub(crate) fn finish<E: Sink>(errors: &mut E, run: Result<Outcome, EngineFail>) -> u8
     ensures status { result ≡ status_of (Ran run) }
     ensures silent { IsOk run → errors.new ≡ errors.old }
     ensures told { IfErr run (λ fail.
@@ -82,8 +82,8 @@ pub fn program<H: Threads + Wait + Sync, R: Source, W: Sink, E: Sink>(
     // how the run ended: by its status, by the devices, and by what the error stream was told
     ensures ends { (ending : Ending) × (result ≡ status_of ending)
         × LeavesDevices ending
-        ((R.failures reader.new ≡ R.failures reader.old)
-        × (W.failures writer.new ≡ W.failures writer.old))
+        (ReaderIsQuiet (AsksWorkers (map string_bytes words.now)) ending (R.failures reader.old)
+        (R.failures reader.new) × (W.failures writer.new ≡ W.failures writer.old))
         (ReadFailed (NamesExplain (map string_bytes words.now)) (R.tells reader.old)
         (R.failures reader.old) (R.failures reader.new) (R.asked reader.old) (R.asked reader.new))
         (W.failures writer.old < W.failures writer.new)

@@ -1,10 +1,10 @@
 //! The engines behind the commands, and the help, each with how it ended.
 
-ghost use Rattle.std.specs.Prelude.{◌≡◌, ◌<◌, length, IfOk, IfErr, OnErr, OnOk};
+ghost use Rattle.std.specs.Prelude.{⊤, ◌≡◌, ◌<◌, length, IfOk, IfErr, OnErr, OnOk};
 ghost use Rattle.std.specs.Io.KnownBytes.{Appends};
 ghost use Rattle.sgt_names.specs.Device.{WritesFront};
 ghost use Rattle.sgt_program.specs.Commands.{Answers, AnswersAudit, outcome};
-ghost use Rattle.sgt_program.specs.Ending.{LeavesDevices, ReadFailed, status_of};
+ghost use Rattle.sgt_program.specs.Ending.{LeavesDevices, ReadFailed, ReaderIsQuiet, ReadsOn, status_of};
 ghost use Rattle.sgt_words.specs.Words.{CanRun, command_of};
 ghost use Rattle.sgt_line.specs.declared.name.CommandName.TheVariants as command;
 ghost use Rattle.sgt_program.specs.declared.ending.Ending.TheVariants.{Ran};
@@ -12,6 +12,7 @@ ghost use Rattle.sgt_program.specs.declared.ending.Ending.TheVariants.{Ran};
 use sgt_audit::{Verdict, audit};
 use sgt_audit_workers::audit_with;
 use sgt_certify::certify;
+use sgt_check::{Options, check};
 use sgt_core::replay;
 use sgt_draw::{Wanted, draw};
 use sgt_explain::{explain, explain_topic, explain_transaction};
@@ -44,7 +45,7 @@ fn audit_by<H: Threads + Sync, R: Source, W: Sink>(
     ensures answers { AnswersAudit (status_of (Ran result)) (R.tells reader.old)
         (W.holds writer.old) (W.holds writer.new) }
     ensures ends { LeavesDevices (Ran result)
-        ((R.failures reader.new ≡ R.failures reader.old)
+        (ReaderIsQuiet ⊤ (Ran result) (R.failures reader.old) (R.failures reader.new)
         × (W.failures writer.new ≡ W.failures writer.old))
         (ReadFailed ⊥ (R.tells reader.old) (R.failures reader.old)
         (R.failures reader.new) (R.asked reader.old) (R.asked reader.new))
@@ -69,7 +70,7 @@ pub fn run_choice<H: Threads + Wait + Sync, R: Source, W: Sink>(
     ensures answers { Answers choice (status_of (Ran result)) (R.tells reader.old)
         (W.holds writer.old) (W.holds writer.new) }
     ensures ends { LeavesDevices (Ran result)
-        ((R.failures reader.new ≡ R.failures reader.old)
+        (ReaderIsQuiet (ReadsOn choice) (Ran result) (R.failures reader.old) (R.failures reader.new)
         × (W.failures writer.new ≡ W.failures writer.old))
         (ReadFailed (command_of choice ≡ command.Explain) (R.tells reader.old)
         (R.failures reader.old) (R.failures reader.new) (R.asked reader.old) (R.asked reader.new))
@@ -85,6 +86,9 @@ pub fn run_choice<H: Threads + Wait + Sync, R: Source, W: Sink>(
         Choice::Serial => serial(alloc, reader, writer),
         Choice::Replay => replay(alloc, reader, writer),
         Choice::Certify => certify(alloc, reader, writer),
+        Choice::Check { tells_order } => {
+            check(alloc, reader, writer, Options { order: tells_order })
+        }
         Choice::Explain => explain(alloc, reader, writer),
         Choice::Transaction(tx) => explain_transaction(alloc, tx, reader, writer),
         Choice::Rule(topic) => explain_topic(topic, writer),

@@ -2,6 +2,7 @@
 //! rows the answer differs.
 #![tactic(auto)]
 
+mod desk;
 mod devices;
 mod row;
 mod trial;

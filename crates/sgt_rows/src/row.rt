@@ -1,5 +1,6 @@
 //! Worked rows, read from their folders.
 
+use sgt_line::Line;
 use std::alloc::{AllocError, Global};
 use std::rt::Files;
 use std::{fs, io};
@@ -7,10 +8,12 @@ use std::{fs, io};
 /// What the program is given.
 #[derive(Drop)]
 pub struct Given {
-    /// The words of the command line, the program's name first.
-    pub words: Vec<String>,
+    /// The command line.
+    pub line: Line,
     /// Standard input. None: nothing is read, so each read would fail.
     pub input: Option<String>,
+    /// The texts of the files that the line names, in their order.
+    pub files: Vec<String>,
 }
 
 /// What the program must answer.
@@ -21,6 +24,10 @@ pub struct Wanted {
     /// Lines that the output must have.
     pub must: String,
     pub status: u8,
+    /// The bundle that goes to a file.
+    pub bundle: Option<String>,
+    /// The bundles that a talk hands out.
+    pub cut: Vec<String>,
 }
 
 /// A worked row of the program.
@@ -57,12 +64,24 @@ fn text_or_none<R: Files + AllocGlobal>(rt: &R, name: &str, file: &str) -> io::R
     }
 }
 
+/// The texts of the files that the line names.
+fn files_of<R: Files + AllocGlobal>(rt: &R, name: &str, line: &Line) -> io::Result<Vec<String>> {
+    let mut files = Vec::new(rt.alloc());
+    for file in &line.files {
+        files.push(text_or_none(rt, name, file.as_str())?)?;
+    }
+    Ok(files)
+}
+
 fn given_of<R: Files + AllocGlobal>(rt: &R, name: &str) -> io::Result<Given> {
     let args = text_or_none(rt, name, "args")?;
     let words = words_of(rt.alloc(), args.as_str())?;
+    let line = Line::of(rt.alloc(), words.as_slice())?;
+    let files = files_of(rt, name, &line)?;
     Ok(Given {
-        words,
+        line,
         input: text_of(rt, name, "stdin")?,
+        files,
     })
 }
 
@@ -71,23 +90,41 @@ fn status_of<R: Files + AllocGlobal>(rt: &R, name: &str) -> io::Result<u8> {
     Ok(status.trim().parse::<u8>().unwrap_or(0))
 }
 
-fn wanted_of<R: Files + AllocGlobal>(rt: &R, name: &str) -> io::Result<Wanted> {
+/// The bundles that a talk hands out: `1.sgt`, `2.sgt` and so on.
+fn cut_of<R: Files + AllocGlobal>(rt: &R, name: &str) -> io::Result<Vec<String>> {
+    let mut cut = Vec::new(rt.alloc());
+    for number in 1..1_000u64 {
+        let file = format!(in rt.alloc(); "{number}.sgt")?;
+        match text_of(rt, name, file.as_str())? {
+            Some(text) => cut.push(text)?,
+            None => return Ok(cut),
+        }
+    }
+    Ok(cut)
+}
+
+fn wanted_of<R: Files + AllocGlobal>(rt: &R, name: &str, line: &Line) -> io::Result<Wanted> {
     let status = status_of(rt, name)?;
     let output = text_of(rt, name, "stdout")?;
+    let bundle = match &line.place {
+        Some(file) => text_of(rt, name, file.as_str())?,
+        None => None,
+    };
     Ok(Wanted {
         output,
         must: text_or_none(rt, name, "must")?,
         status,
+        bundle,
+        cut: cut_of(rt, name)?,
     })
 }
 
 impl Row {
-    /// The row in the folder of this name, with the files `args` (none: no words), `stdin`, `stdout`, `status` (none: 0) and `must`.
+    /// The row in the folder of this name, with the files `args` (none: no words), `stdin`, `stdout`, `status` (none: 0) and `must`,
+    /// and those that `args` names: to be read, or as they must be written.
     pub(crate) fn read<R: Files + AllocGlobal>(rt: &R, name: &str) -> io::Result<Row> {
         let given = given_of(rt, name)?;
-        Ok(Row {
-            given,
-            wanted: wanted_of(rt, name)?,
-        })
+        let wanted = wanted_of(rt, name, &given.line)?;
+        Ok(Row { given, wanted })
     }
 }

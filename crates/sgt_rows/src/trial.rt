@@ -2,50 +2,12 @@
 
 ghost use Rattle.std.specs.Prelude.{◌<◌};
 
+use crate::desk::{Answer, answer_to, run};
 use crate::row::{Row, words_of};
-use sgt_names::{MemSink, MemSource};
-use sgt_program::program;
+use sgt_names::MemSource;
 use std::alloc::{AllocError, Global};
 use std::sync::Wait;
 use std::thread::Threads;
-
-/// How many bytes the sinks of a trial take.
-const ROOM: usize = 4_000_000;
-
-/// What the program answered.
-#[derive(Drop)]
-struct Answer {
-    status: u8,
-    output: MemSink,
-    errors: MemSink,
-}
-
-/// Runs the program on this input.
-fn run<H: Threads + Wait + Sync>(
-    rt: &H,
-    alloc: Global,
-    words: &[String],
-    mut input: MemSource<'_>,
-) -> Result<Answer, AllocError> {
-    let mut output = MemSink::new(alloc, ROOM)?;
-    let mut errors = MemSink::new(alloc, ROOM)?;
-    let status = program(rt, alloc, words, &mut input, &mut output, &mut errors);
-    Ok(Answer {
-        status,
-        output,
-        errors,
-    })
-}
-
-/// The row's input, read in pieces of so many bytes.
-fn source_of(row: &Row, per_read: usize) -> MemSource<'_>
-    requires { 0 < per_read }
-{
-    match &row.given.input {
-        Some(text) => MemSource::new(text.as_bytes(), per_read, None),
-        None => MemSource::new(b"sgt 1\n", per_read, Some(1)),
-    }
-}
 
 /// What the audit of the text says.
 fn verdict_of<H: Threads + Wait + Sync>(
@@ -119,6 +81,26 @@ fn is_answer(alloc: Global, row: &Row, output: &str, status: u8) -> Result<bool,
     }
 }
 
+/// Whether the bundle that goes to a file is the row's.
+fn has_bundle(answer: &Answer, row: &Row) -> bool {
+    match (&answer.bundle, &row.wanted.bundle) {
+        (Some(bundle), Some(wanted)) => bundle.bytes() == wanted.as_bytes(),
+        (None, None) => true,
+        _ => false,
+    }
+}
+
+/// Whether the bundles that a talk handed out are the row's.
+fn has_cut(answer: &Answer, row: &Row) -> bool {
+    let wanted = row.wanted.cut.as_slice();
+    let Some(cut) = &answer.cut else {
+        return wanted.is_empty();
+    };
+    let told = cut.texts();
+    let mut pairs = told.iter().zip(wanted.iter());
+    told.len() == wanted.len() && pairs.all(|(text, wanted)| text.as_slice() == wanted.as_bytes())
+}
+
 /// Whether the program, which reads so many bytes at once, answers as the row says. The error stream is told something exactly where
 /// the words are no command.
 fn answers<H: Threads + Wait + Sync>(
@@ -129,12 +111,10 @@ fn answers<H: Threads + Wait + Sync>(
 ) -> Result<bool, AllocError>
     requires { 0 < per_read }
 {
-    let answer = run(
-        rt,
-        alloc,
-        row.given.words.as_slice(),
-        source_of(row, per_read),
-    )?;
+    let answer = answer_to(rt, alloc, row, per_read)?;
+    if !has_bundle(&answer, row) || !has_cut(&answer, row) {
+        return Ok(false);
+    }
     let Ok(output) = str::from_utf8(answer.output.bytes()) else {
         return Ok(false);
     };

@@ -17,7 +17,7 @@ use Rattle.sgt_line.specs.declared.name.CommandName.{CommandName}
 use Rattle.sgt_words.specs.Options.{SaysRun}
 use Rattle.sgt_words.specs.Words.{Asks, Says, SaysTx, SaysWorkers, TellsPicture, TellsTx, command_of}
 use Rattle.sgt_words.specs.declared.choice.Choice.{Choice}
-use Rattle.sgt_words.specs.declared.choice.Choice.TheVariants.{Audit, AuditWith, Certify, Draw, DrawWith, Explain, Replay, Rule, Run, Serial, Transaction}
+use Rattle.sgt_words.specs.declared.choice.Choice.TheVariants.{Audit, AuditWith, Certify, Check, Draw, DrawWith, Explain, Replay, Rule, Run, Serial, Transaction}
 use Rattle.sgt_words.specs.private.Runs.{IsRunOf}
 
 -- what holds of the value holds in other words
@@ -78,6 +78,20 @@ no_explained options some no_rule no_tx Explain is says = some says
 no_explained options some no_rule no_tx (Rule topic) is says = no_rule topic says
 no_explained options some no_rule no_tx (Transaction tx) is says = no_tx tx says
 no_explained options some no_rule no_tx choice is says = absurd cc
+
+-- several words
+pub no_check : (options : List (List ℕ)) → (options ≡ [] → ⊥) → ((w : List ℕ) → options ≢ w ∷ []) → (choice : Choice) → command_of choice ≡ command.Check
+    → Says options choice → ⊥
+no_check options some single (Check false) is says = some says
+no_check options some single (Check true) is says = single (codes "--order") says
+no_check options some single choice is says = absurd cc
+
+-- another word than `--order`
+pub no_order : (options : List (List ℕ)) (w : List ℕ) → options ≡ w ∷ [] → (w ≡ codes "--order" → ⊥) → (choice : Choice) → command_of choice ≡ command.Check
+    → Says options choice → ⊥
+no_order options w e other (Check false) is says = absurd (omega (arith, ap length says, ap length e))
+no_order options w e other (Check true) is says = other (ap (λ l. get_or l 0 w) (sym e ∙ says))
+no_order options w e other choice is says = absurd cc
 
 -- a rule is no transaction
 pub rule_alone : (options : List (List ℕ)) (topic : Topic) (tx : ℕ) → options ≡ topic_name topic ∷ [] → TellsTx options tx → ⊥

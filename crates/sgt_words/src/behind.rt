@@ -129,6 +129,22 @@ fn draw_behind(options: &[String]) -> Option<Choice>
     Some(Choice::DrawWith { tx, is_dot })
 }
 
+// What stands behind `check`.
+fn check_behind(options: &[String]) -> Option<Choice>
+    ensures some { IfSome result (λ choice. (command_of choice ≡ command.Check)
+        × Says (map string_bytes options.now) choice) }
+    ensures all { (choice : Choice) → command_of choice ≡ command.Check
+        → Says (map string_bytes options.now) choice → result ≡ Some choice }
+{
+    if options.is_empty() {
+        return Some(Choice::Check { tells_order: false });
+    }
+    if only_of(options)? == "--order" {
+        return Some(Choice::Check { tells_order: true });
+    }
+    None
+}
+
 /// What the words behind a command's name ask for; of `run` see `choose_run`.
 pub fn choice_behind(name: CommandName, options: &[String]) -> Option<Choice>
     requires { name ≢ command.Run }
@@ -141,10 +157,11 @@ pub fn choice_behind(name: CommandName, options: &[String]) -> Option<Choice>
         CommandName::Audit => return audit_behind(options),
         CommandName::Explain => return explain_behind(options),
         CommandName::Draw => return draw_behind(options),
+        CommandName::Check => return check_behind(options),
         CommandName::Serial => Choice::Serial,
         CommandName::Replay => Choice::Replay,
         CommandName::Certify => Choice::Certify,
-        CommandName::Check | CommandName::Serve => return None,
+        CommandName::Serve => return None,
         CommandName::Run => unreachable!(),
     };
     if options.is_empty() {

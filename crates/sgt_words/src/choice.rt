@@ -36,6 +36,8 @@ pub enum Choice {
     Draw,
     /// The same, of this refused transaction's cycle alone, or as Graphviz text.
     DrawWith { tx: Option<Tx>, is_dot: bool },
+    /// Judge a history of a database; where it is serializable, write an order too, if it is asked for.
+    Check { tells_order: bool },
     /// Run scripts by so many workers, each of them tried so often at most, and write what became of them and the bundle.
     Run { workers: u64, tries: u64 },
 }
@@ -79,7 +81,8 @@ fn choice_of(alloc: Global, words: &[String]) -> Result<Option<Choice>, AllocErr
 }
 
 /// What the words ask for; the first word is the program's name. The options of `run` are read by clap, `audit` may have
-/// `--workers N` behind it, `explain` a rule's name or `--tx N`, and `draw` `--tx N` and `--dot`; else a command stands alone. Other
+/// `--workers N` behind it, `explain` a rule's name or `--tx N`, and `draw` `--tx N` and `--dot`, and `check` `--order`;
+/// else a command stands alone. Other
 /// words are help, where one of them asks for it, or no command.
 pub fn choose(alloc: Global, words: &[String]) -> Result<Choice, NoChoice>
     ensures only { IfOk result (AsksFor (map string_bytes words.now)) }

@@ -9,7 +9,7 @@ use std::alloc::{AllocError, Global};
 const VERSION: &str = "0.5.0 (bundles: sgt 1, sgt 2)";
 
 const ABOUT: &str =
-    "Audits the logs of certified runs, explains and draws them, makes the certificate of logs that have none, replays runs from events, and runs scripts.";
+    "Audits the logs of certified runs, explains and draws them, makes the certificate of logs that have none, replays runs from events, runs scripts, and judges histories of databases.";
 
 const AUDIT: &str =
     "Writes `yes C committed R refused W withdrawn` for a valid bundle, else `no line L FN` (the default)";
@@ -25,17 +25,23 @@ const CERTIFY: &str =
 
 const EXPLAIN: &str = "Writes audit's line on a bundle, and what it means";
 
+const CHECK: &str =
+    "Writes `yes C committed A aborted` for a serializable history, else the anomaly with what shows it: docs/HISTORIES.md";
+
 const DRAW: &str =
     "Draws a valid bundle as SVG: transactions by rank, their conflicts, and refused ones with their cycles; else writes audit's `no` line";
 
 // The usage of each command, with an example. What of it is a file or about files is taken out of the words before.
 const AUDIT_USAGE: &str =
-    "sgt audit [-q] [--workers N] [--progress] [FILE]...\n  e.g. sgt audit bundle.txt";
+    "sgt audit [-q] [--workers N] [--progress] [FILE]...\n       sgt audit --chain [-q] [--progress] FILE...\n  e.g. sgt audit bundle.txt";
 
 const SERIAL_USAGE: &str = "sgt serial [--progress] [FILE]\n  e.g. sgt serial bundle.txt";
 
 const REPLAY_USAGE: &str =
     "sgt replay [--strict] [--progress] [--bundle FILE] [FILE]\n  e.g. sgt replay --bundle bundle.txt events.txt";
+
+const CHECK_USAGE: &str =
+    "sgt check [--order] [-q] [--progress] [FILE]\n  e.g. sgt check history.jsonl";
 
 const CERTIFY_USAGE: &str = "sgt certify [FILE]\n  e.g. sgt certify logs.txt > bundle.txt";
 
@@ -47,14 +53,14 @@ const DRAW_USAGE: &str =
 
 /// What the help of each command ends with.
 pub const MORE: &str =
-    "Behind each command a FILE may stand; with none, or -, standard input is read. Where standard error is a terminal, audit, serial and replay tell it of each million lines read, as with --progress. sgt COMMAND --help lists all options of a command.
+    "Behind each command a FILE may stand; with none, or -, standard input is read. Where standard error is a terminal, audit, serial, replay and check tell it of each million lines read, as with --progress. sgt COMMAND --help lists all options of a command.
 
 L is the first line with a fault and FN the fault: docs/FORMAT.md has the faults and the formats of a bundle, a replay and scripts.
 
 Exit status:
   0  yes or done, or help was asked for
-  1  no: the bundle is not valid, no certificate was made, a replay ended with a transaction active or refused an event under --strict, a script was not committed, or a fault ended a run
-  2  the words are no command and nothing was read, or `! LN line L`: line L of events or scripts is the first that can't be read
+  1  no: the bundle is not valid, no certificate was made, a history is not serializable, a replay ended with a transaction active or refused an event under --strict, a script was not committed, or a fault ended a run
+  2  the words are no command and nothing was read, or `! LN line L`: line L of events, scripts or a history is the first that can't be read
   3  want of memory
   4  a read or a write failed";
 
@@ -122,6 +128,15 @@ fn draw_line<'a>(alloc: Global) -> Result<Command<'a>, AllocError> {
         .arg(dot)
 }
 
+fn check_line<'a>(alloc: Global) -> Result<Command<'a>, AllocError> {
+    let order = flag(
+        alloc,
+        "order",
+        "Writes behind a yes `---` and the ids in an order that serves",
+    );
+    plain_line(alloc, "check", CHECK, CHECK_USAGE).arg(order)
+}
+
 /// All that is left for the program of the words.
 pub fn command<'a>(alloc: Global) -> Result<Command<'a>, AllocError> {
     let line = Command::new(alloc, "sgt")
@@ -134,6 +149,7 @@ pub fn command<'a>(alloc: Global) -> Result<Command<'a>, AllocError> {
         .subcommand(replay_line(alloc))?
         .subcommand(run_line(alloc)?)?
         .subcommand(certify_line(alloc))?
+        .subcommand(check_line(alloc)?)?
         .subcommand(explain_line(alloc)?)?
         .subcommand(draw_line(alloc)?)
 }
@@ -164,14 +180,23 @@ fn file<'a>(alloc: Global) -> Arg<'a> {
     Arg::new(alloc, "FILE").help("Is read in place of standard input")
 }
 
+fn quiet<'a>(alloc: Global) -> Arg<'a> {
+    flag(alloc, "quiet", "Answers by the status alone").short('q')
+}
+
 fn full_audit<'a>(alloc: Global) -> Result<Command<'a>, AllocError> {
-    let quiet = flag(alloc, "quiet", "Answers by the status alone").short('q');
     let files = Arg::new(alloc, "FILE").action(ArgAction::Append).help(
         "Are read in place of standard input; of several, a line each",
     );
+    let chain = flag(
+        alloc,
+        "chain",
+        "Takes the files for one system's bundles in a row: each begins where the one before ends",
+    );
     audit_line(alloc)?
         .arg(files)?
-        .arg(quiet)?
+        .arg(quiet(alloc))?
+        .arg(chain)?
         .arg(progress(alloc))
 }
 
@@ -196,6 +221,13 @@ fn full_run<'a>(alloc: Global) -> Result<Command<'a>, AllocError> {
     run_line(alloc)?.arg(file(alloc))?.arg(bundle(alloc))
 }
 
+fn full_check<'a>(alloc: Global) -> Result<Command<'a>, AllocError> {
+    check_line(alloc)?
+        .arg(file(alloc))?
+        .arg(quiet(alloc))?
+        .arg(progress(alloc))
+}
+
 fn full_explain<'a>(alloc: Global) -> Result<Command<'a>, AllocError> {
     explain_line(alloc)?.arg(file(alloc))
 }
@@ -214,6 +246,7 @@ pub fn listing_line<'a>(alloc: Global, name: CommandName) -> Result<Command<'a>,
         CommandName::Certify => certify_line(alloc).arg(file(alloc)),
         CommandName::Explain => full_explain(alloc),
         CommandName::Draw => full_draw(alloc),
-        CommandName::Check | CommandName::Serve => command(alloc),
+        CommandName::Serve => command(alloc),
+        CommandName::Check => full_check(alloc),
     }
 }

@@ -1,7 +1,7 @@
 //! What is said of words that ask for no command: help, or how the commands are used.
 
 ghost use Rattle.std.specs.Prelude.{◌<◌, ◌↔◌, Any, IfOk, IsSome, IsTrue, length, map, string_bytes};
-ghost use Rattle.sgt_words.specs.Words.{HasText, IsHelp, NamesHelp, TellsHelp};
+ghost use Rattle.sgt_words.specs.Words.{HasText, IsUsage, NamesHelp, TellsHelp};
 
 use crate::choice::NoChoice;
 use crate::commands::{command, listing_line};
@@ -64,7 +64,7 @@ fn help_text(alloc: Global, words: &[String], word: &str) -> Result<String, Allo
 // The usage text for what clap says against the words.
 fn refused(alloc: Global, error: &Error) -> Result<NoChoice, AllocError>
     ensures text { IfOk result HasText }
-    ensures usage { IfOk result (λ no. IsHelp no → ⊥) }
+    ensures usage { IfOk result IsUsage }
 {
     if lacks_memory(error) {
         return Err(AllocError);
@@ -76,7 +76,7 @@ fn refused(alloc: Global, error: &Error) -> Result<NoChoice, AllocError>
 // The usage text for words of which none asks for help. What clap would take here, as `audit --`, is no command.
 fn usage(alloc: Global, words: &[String]) -> Result<NoChoice, AllocError>
     ensures text { IfOk result HasText }
-    ensures usage { IfOk result (λ no. IsHelp no → ⊥) }
+    ensures usage { IfOk result IsUsage }
 {
     if let Err(error) = command(alloc)?.try_get_matches_from_mut(words) {
         if error.use_stderr() {

@@ -141,6 +141,8 @@ fn text_of(measure: raw::Measure, write: raw::Write, given: &[u8]) -> Result<Tex
     let mut text = vec![0; len];
     // SAFETY: `text` has room for `len` bytes and is nobody else's.
     let answer = unsafe { write(given.as_ptr(), given.len(), text.as_mut_ptr(), text.len(), &mut len) };
+    // As long as the text that was written, whatever the first call said of it.
+    text.truncate(len);
     match answer {
         raw::YES => Ok(Text::Yes(text)),
         raw::NO => Ok(Text::No(text)),

@@ -1,16 +1,40 @@
 -- A text whose first two lines were read, and sections behind them.
-use Rattle.std.specs.Prelude.{ℕ, List, [], Option}
+use Rattle.std.specs.Prelude.{◌≤◌, ℕ, ◌+◌, ◌-◌, ◌*◌, IfSome, List, [], ◌++◌, length, Option, Result, Ok, Err}
 use Rattle.std.specs.Io.KnownBytes.{Consumes}
-use Rattle.sgt_notation.specs.Lines.{coming}
+use Rattle.sgt_audit.specs.Faults.{FirstFault, reach}
+use Rattle.sgt_audit.specs.Verdict.{IsVerdict}
+use Rattle.sgt_audit.specs.declared.faults.Fault.{Fault}
+use Rattle.sgt_audit.specs.declared.verdict.Verdict.{Verdict}
 use Rattle.sgt_audit_sections.specs.Sections.{front_text}
-use Rattle.sgt_audit_workers.specs.declared.head.Head.{Head}
-use Rattle.sgt_audit_workers.specs.declared.sections.Section.{Section}
+use Rattle.sgt_audit_workers.specs.Cut.{longest}
+use Rattle.sgt_audit_workers.specs.Reads.{Reader, ReadsLittleFurther, room}
+use Rattle.sgt_audit_workers.specs.declared.head.Begun.{Begun}
 use Rattle.sgt_audit_workers.specs.declared.sections.Text.{Text}
-use Rattle.sgt_audit_workers.specs.private.Texts.{AreAhead, IsBehind}
+use Rattle.sgt_audit_workers.specs.private.Texts.{HasRead}
 
 -- the lines say that, and the sections come behind them
-pub record IsBegun (told : Option (List ℕ)) (h : Head) (ahead : List Section) (text : Text) (left : Option (List ℕ)) : Type 0 where
+pub record IsBegun (first : Reader) (b : Begun) (text : Text) (now : Reader) : Type 0 where
   pub middle : Option (List ℕ)
-  pub front : Consumes told middle (front_text h.second h.certificate [])
-  pub sections : AreAhead told middle ahead (coming text.lines left)
-  pub behind : IsBehind told text left
+  pub front : Consumes first.told middle (front_text b.head.second b.head.certificate [])
+  pub sections : HasRead first middle b.ahead.items text now
+
+-- sections of that length, twice as many as there are workers, have 8 MiB for each worker and the bytes of the second line
+abbrev pub IsMost : (workers second most : ℕ) → Type 0
+IsMost workers second most = 2 * workers * longest most ≤ workers * room + second
+
+-- this is the verdict on the text, and what was read goes little further than its fault
+abbrev pub IsVerdictNear : (workers : ℕ) → (first now : Reader) → Verdict → Type 0
+IsVerdictNear workers first now v = IfSome first.told (λ bytes. IsVerdict bytes v
+    × ReadsLittleFurther workers bytes (now.asked - first.asked))
+
+-- the lines have no fault, and so many sections are held at most; or this is the verdict
+abbrev pub BeginsText : (workers : ℕ) → (first : Reader) → Text → (now : Reader)
+    → Result Begun Verdict → Type 0
+BeginsText workers first text now (Ok b) = IsBegun first b text now
+BeginsText workers first text now (Err v) = IsVerdictNear workers first now v
+
+-- behind this front line n has the first fault, and what comes of it is no more than that and the rest
+abbrev pub IsFaultBefore : (front bytes rest : List ℕ) → (n : ℕ) → Fault → Type 0
+IsFaultBefore front bytes rest n f = FirstFault (front ++ bytes) n f
+    × ((m : ℕ) (g : Fault) (any : FirstFault (front ++ bytes) m g)
+    → length (front ++ bytes) ≤ length rest + reach (front ++ bytes) m g any)

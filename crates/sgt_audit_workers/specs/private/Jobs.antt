@@ -16,9 +16,9 @@ abbrev pub IsIdle : Head → ℕ → Job → Type 0
 IsIdle h k job = IfSome job.alone (MayJudge h k)
 
 -- the worker has the section of this site, which came next
-pub record IsGiven (told old : Option (List ℕ)) (k : ℕ) (job : Job) (new : Option (List ℕ)) : Type 0 where
+pub record IsGiven (most : ℕ) (old : Option (List ℕ)) (k : ℕ) (job : Job) (new : Option (List ℕ)) : Type 0 where
   pub site : job.site ≡ k
-  pub section : IsNextSection told old job.section new
+  pub section : IsNextSection most old job.section new
 
 -- the worker has judged its section, and may judge those behind it, where that is whole
 pub record HasJudged (h : Head) (job : Job) : Type 0 where

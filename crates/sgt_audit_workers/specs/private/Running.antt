@@ -14,8 +14,8 @@ Will h job (There handle) =
 Will h job (Here done) = HasRun h job done
 
 -- the sections of the sites from this one on, which came one after another
-abbrev pub AreRunning : Head → (told old : Option (List ℕ)) → ℕ → List Running
+abbrev pub AreRunning : Head → (most : ℕ) → (old : Option (List ℕ)) → ℕ → List Running
     → Option (List ℕ) → Type 0
-AreRunning h told old k [] new = Consumes old new []
-AreRunning h told old k (r ∷ running) new = (job : Job) × (next : Option (List ℕ))
-    × IsGiven told old k job next × Will h job r × AreRunning h told next (k + 1) running new
+AreRunning h most old k [] new = Consumes old new []
+AreRunning h most old k (r ∷ running) new = (job : Job) × (next : Option (List ℕ))
+    × IsGiven most old k job next × Will h job r × AreRunning h most next (k + 1) running new

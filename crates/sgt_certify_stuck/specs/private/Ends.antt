@@ -8,17 +8,7 @@ use Rattle.sgt_names.specs.declared.entry.Entry.TheVariants.{Refuse}
 use Rattle.sgt_cert.specs.declared.bundle.SiteLog.{SiteLog}
 use Rattle.sgt_certify_logs.specs.Witness.{EndsBefore, HasEnd, IsIn}
 use Rattle.sgt_certify_stuck.specs.Apart.{HasNoWalk, HasTx}
-
--- whoever ends among the first n entries is decided
-abbrev pub AllDecided : List Entry → BTreeSet ℕ → ℕ → Type 0
-AllDecided entries decided n = (k : ℕ) (e : Entry) → k < n → slice_get entries k ≡ Some e → IsEnd e
-    → HasTx decided (tx_of e)
-
--- the entry at k ends this transaction, that isn't decided, and whoever ends before is
-abbrev pub IsFirstLeft : List Entry → BTreeSet ℕ → ℕ → ℕ → Type 0
-IsFirstLeft entries decided k tx = (e : Entry) × (slice_get entries k ≡ Some e) × IsEnd e
-    × (tx_of e ≡ tx)
-    × (contains nat_cmp decided tx ≡ false) × AllDecided entries decided k
+use Rattle.sgt_certify_stuck.specs.Ends.{AllDecided, IsFirstLeft}
 
 -- an end of a transaction that isn't decided stands in front of place n
 abbrev pub HasLeft : List Entry → BTreeSet ℕ → ℕ → Type 0
@@ -29,6 +19,15 @@ HasLeft entries decided n = (p : ℕ) × (e : Entry) × (p < n) × (slice_get en
 abbrev pub IsBehind : List Entry → BTreeSet ℕ → ℕ → Type 0
 IsBehind entries decided tx = (q : ℕ) × (f : Entry) × HasLeft entries decided q
     × (slice_get entries q ≡ Some f) × IsEnd f × (tx_of f ≡ tx)
+
+-- an end of the transaction stands behind the place
+abbrev pub EndsBehind : List Entry → (place tx : ℕ) → Type 0
+EndsBehind entries place tx = (q : ℕ) × (f : Entry) × (place < q) × (slice_get entries q ≡ Some f) × IsEnd f × (tx_of f ≡ tx)
+
+-- whoever ends before an end of this is decided
+abbrev pub IsNext : List Entry → BTreeSet ℕ → ℕ → Type 0
+IsNext entries decided tx = (q : ℕ) (f : Entry) → slice_get entries q ≡ Some f → IsEnd f → tx_of f ≡ tx
+    → AllDecided entries decided q
 
 -- the transaction can't be decided next, since an end of one that isn't decided stands before one
 -- of its own; or it is refused and
@@ -44,9 +43,10 @@ IsLogShown sites decided committed log = AllDecided log.entries decided (length 
     ⊎ ((k : ℕ) × (tx : ℕ) × IsFirstLeft log.entries decided k tx
     × IsShown sites decided committed tx)
 
--- somebody ends who isn't decided
-abbrev pub IsLeft : List SiteLog → BTreeSet ℕ → Type 0
-IsLeft sites decided = (t : ℕ) × HasEnd sites t × (contains nat_cmp decided t ≡ false)
+-- somebody ends who isn't decided, and all that end before it are
+abbrev pub IsFreeBy : List SiteLog → BTreeSet ℕ → Type 0
+IsFreeBy sites decided = (t : ℕ) × HasEnd sites t × (contains nat_cmp decided t ≡ false)
+    × ((u : ℕ) → EndsBefore sites u t → HasTx decided u)
 
 -- each log is shown
 abbrev pub AreShown : List SiteLog → BTreeSet ℕ → List ℕ → Type 0

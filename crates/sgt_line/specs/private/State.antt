@@ -20,9 +20,8 @@ abbrev pub IsReadTo : CommandName → Parts → List (List ℕ) → Kind → Par
 IsReadTo command first words Numbered parts = (without : Parts)
     × ((w : Waits command first words Numbered without) × (parts ≡ left without w.option))
 IsReadTo command first words Place parts = Waits command first words Place parts × (parts.place ≡ None)
-IsReadTo command first words Against parts = (without : Parts)
-    × ((w : Waits command first words Against without) × (parts ≡ left without w.option))
-    × (without.against ≡ None)
+IsReadTo command first words Against parts = Waits command first words Against parts
+    × (parts.against ≡ None)
 IsReadTo command first words Dashes parts = Behind command first words parts
 IsReadTo command first words kind parts = Reads command first words parts
 
@@ -36,7 +35,7 @@ abbrev pub WaitsForPlace : (old : Parts) → (word : List ℕ) → (after : Kind
 WaitsForPlace old word after new = ((after ≡ Place) × (old.place ≡ None) × (new ≡ old))
     ⊎ ((after ≡ Plain) × (old.place ≢ None) × (new ≡ left old word))
 
--- behind the option of an order its word is waited for, if there is no order yet; it is left
+-- behind the option of an order likewise
 abbrev pub WaitsForOrder : (old : Parts) → (word : List ℕ) → (after : Kind) → (new : Parts) → Type 0
-WaitsForOrder old word after new = (new ≡ left old word) × (((after ≡ Against) × (old.against ≡ None))
-    ⊎ ((after ≡ Plain) × (old.against ≢ None)))
+WaitsForOrder old word after new = ((after ≡ Against) × (old.against ≡ None) × (new ≡ old))
+    ⊎ ((after ≡ Plain) × (old.against ≢ None) × (new ≡ left old word))

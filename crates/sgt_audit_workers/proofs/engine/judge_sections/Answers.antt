@@ -1,44 +1,55 @@
-use Rattle.std.proofs.Common.{rules, Option, None, List, ℕ, IfSome, ap, subst, sym, arith}
-use Rattle.std.specs.Prelude.{IfOk, IsErrOf}
-use Rattle.sgt_names.specs.declared.outcome.EngineFail.TheVariants.{ReadFault}
-use Rattle.sgt_names.specs.Limits.{most_reads}
-use Rattle.sgt_notation.specs.Lines.{Ahead, ReadFaultIsDue, Spends, coming}
+use Rattle.std.proofs.Common.{subst, sym}
 use Rattle.sgt_audit.specs.Verdict.{IsVerdict}
-use Rattle.sgt_audit_workers.specs.Head.{IsHead}
-use Rattle.sgt_audit_workers.proofs.Heads.{all-comes, spends-none}
+use Rattle.sgt_audit.proofs.Verdicts.{told-map}
+use Rattle.sgt_audit_workers.specs.Reads.{IsFailOf, ReadsLittleFurther, reader}
+use Rattle.sgt_audit_workers.proofs.Answered.{fail-is}
 use Rattle.sgt_audit_workers.proofs.engine.judge_sections.Goals as goal
 
-pub judge_each-found-requires-clause-head : goal.judge_each-found-requires-clause-head
-judge_each-found-requires-clause-head g c = subst IsHead (sym c.in_ok-workers.ensures.head) (rw c.in-Ok.is at c.in_ok-begun.ensures.head)
+pub returns-in-Some-clause-verdict : goal.returns-in-Some-clause-verdict
+returns-in-Some-clause-verdict g c =
+    let first = reader (g.R.Source.tells c.args.source.now) (g.R.Source.failures c.args.source.now) (g.R.Source.asked c.args.source.now) in
+    let near = rw c.in-Some.ensures.some at (c.judge_text-found.ensures.verdict first (c.in_ok-text.ensures.left first) (c.in_ok-text.ensures.asked first)) in
+    told-map _ (λ bytes. IsVerdict bytes c.in-Some.verdict) first.told (λ bytes both. both.0) near
 
-pub judge_each-found-requires-clause-works : goal.judge_each-found-requires-clause-works
-judge_each-found-requires-clause-works g c = c.in_ok-workers.ensures.works None None tt
+pub returns-in-Some-clause-little_further : goal.returns-in-Some-clause-little_further
+returns-in-Some-clause-little_further g c =
+    let first = reader (g.R.Source.tells c.args.source.now) (g.R.Source.failures c.args.source.now) (g.R.Source.asked c.args.source.now) in
+    let near = rw c.in-Some.ensures.some at (c.judge_text-found.ensures.verdict first (c.in_ok-text.ensures.left first) (c.in_ok-text.ensures.asked first)) in
+    told-map _ (λ bytes. ReadsLittleFurther c.args.count bytes _) first.told (λ bytes both. both.1) near
 
-pub returns-clause-verdict : goal.returns-clause-verdict
-returns-clause-verdict g c =
-    let told = g.R.Source.tells c.args.reader.now in
-    let from = coming c.in_ok-new.field-0 told in
-    let begun = rw c.in-Ok.is at c.in_ok-begun.ensures.begun in
-    subst (λ (t : Option (List ℕ)). IfOk c.judge_each-found.result (λ v. IfSome t (λ bytes. IsVerdict bytes v))) (all-comes _ told c.in_ok-new.ensures)
-    (c.judge_each-found.ensures.verdict from begun.middle (c.in_ok-workers.ensures.works from begun.middle begun.front) begun.sections begun.behind)
+pub returns-in-Some-clause-yes : goal.returns-in-Some-clause-yes
+returns-in-Some-clause-yes g c is =
+    let first = reader (g.R.Source.tells c.args.source.now) (g.R.Source.failures c.args.source.now) (g.R.Source.asked c.args.source.now) in
+    let now = reader (g.R.Source.tells c.judge_text-found.new.source) (g.R.Source.failures c.judge_text-found.new.source) (g.R.Source.asked c.judge_text-found.new.source) in
+    c.has_failed-failed.ensures.quiet first now (c.judge_text-found.ensures.asked first (c.in_ok-text.ensures.left first) (c.in_ok-text.ensures.asked first)) (c.in-Some.ensures.yes is)
 
-pub returns-in-Err-clause-verdict : goal.returns-in-Err-clause-verdict
-returns-in-Err-clause-verdict g c =
-    let told = g.R.Source.tells c.args.reader.now in
-    subst (λ (t : Option (List ℕ)). IfSome t (λ bytes. IsVerdict bytes c.in-Err.verdict)) (all-comes _ told c.in_ok-new.ensures) (rw c.in-Err.is at c.in_ok-begun.ensures.verdict)
+pub returns-in-Some-clause-failed : goal.returns-in-Some-clause-failed
+returns-in-Some-clause-failed g c =
+    let first = reader (g.R.Source.tells c.args.source.now) (g.R.Source.failures c.args.source.now) (g.R.Source.asked c.args.source.now) in
+    let now = reader (g.R.Source.tells c.judge_text-found.new.source) (g.R.Source.failures c.judge_text-found.new.source) (g.R.Source.asked c.judge_text-found.new.source) in
+    let asked = c.judge_text-found.ensures.asked first (c.in_ok-text.ensures.left first) (c.in_ok-text.ensures.asked first) in
+    subst (IsFailOf first now) (sym c.fail_of-fail.ensures) (fail-is first now c.has_failed-failed.result (c.has_failed-failed.ensures.due first now asked) (c.has_failed-failed.ensures.quiet first now asked))
 
-pub returns-in_err-begun-clause-read_fault : goal.returns-in_err-begun-clause-read_fault
-returns-in_err-begun-clause-read_fault g c same =
-    let was : IsErrOf c.read_head.result ReadFault = search rules in
-    let told = g.R.Source.tells c.args.reader.now in
-    let reads = ap (λ (a : Ahead). a.reads) c.in_ok-new.ensures in
-    c.read_head.ensures.read_fault was told (g.R.Source.asked c.args.reader.now) (λ going. subst (λ n. Spends most_reads told n told) (sym reads) (spends-none most_reads told)) (omega (arith, reads))
+pub returns-clause-fail : goal.returns-clause-fail
+returns-clause-fail g c =
+    let first = reader (g.R.Source.tells c.args.source.now) (g.R.Source.failures c.args.source.now) (g.R.Source.asked c.args.source.now) in
+    let now = reader (g.R.Source.tells c.judge_text-found.new.source) (g.R.Source.failures c.judge_text-found.new.source) (g.R.Source.asked c.judge_text-found.new.source) in
+    let asked = c.judge_text-found.ensures.asked first (c.in_ok-text.ensures.left first) (c.in_ok-text.ensures.asked first) in
+    subst (IsFailOf first now) (sym c.fail_of-fail.ensures) (fail-is first now c.has_failed-failed.result (c.has_failed-failed.ensures.due first now asked) (c.has_failed-failed.ensures.quiet first now asked))
 
-pub returns-clause-read_fault : goal.returns-clause-read_fault
-returns-clause-read_fault g c same =
-    let told = g.R.Source.tells c.args.reader.now in
-    let asked = g.R.Source.asked c.args.reader.now in
-    let reads = ap (λ (a : Ahead). a.reads) c.in_ok-new.ensures in
-    let spent = rw c.in-Ok.is at (c.in_ok-begun.ensures.spends told (λ going. subst (λ n. Spends most_reads told n told) (sym reads) (spends-none most_reads told))) in
-    subst (λ f. ReadFaultIsDue told f (g.R.Source.failures c.judge_each-found.new.reader) asked (g.R.Source.asked c.judge_each-found.new.reader)) (c.in_ok-begun.ensures.quiet (λ same. cc))
-    (c.judge_each-found.ensures.read_fault same told asked spent (omega (arith, c.in_ok-begun.ensures.asks, reads)))
+pub returns-in-Some-clause-once : goal.returns-in-Some-clause-once
+returns-in-Some-clause-once g c =
+    let first = reader (g.R.Source.tells c.args.source.now) (g.R.Source.failures c.args.source.now) (g.R.Source.asked c.args.source.now) in
+    let asked = c.judge_text-found.ensures.asked first (c.in_ok-text.ensures.left first) (c.in_ok-text.ensures.asked first) in
+    asked.once
+
+pub returns-clause-once : goal.returns-clause-once
+returns-clause-once g c =
+    let first = reader (g.R.Source.tells c.args.source.now) (g.R.Source.failures c.args.source.now) (g.R.Source.asked c.args.source.now) in
+    let asked = c.judge_text-found.ensures.asked first (c.in_ok-text.ensures.left first) (c.in_ok-text.ensures.asked first) in
+    asked.once
+
+pub judge_text-found-requires-clause-begins : goal.judge_text-found-requires-clause-begins
+judge_text-found-requires-clause-begins g c lifetimes within =
+    let first = reader (g.R.Source.tells c.args.source.now) (g.R.Source.failures c.args.source.now) (g.R.Source.asked c.args.source.now) in
+    (first, c.in_ok-text.ensures.left first, c.in_ok-text.ensures.asked first)

@@ -1,92 +1,169 @@
-use Rattle.std.proofs.Common.{rules, ◌∷◌, ◌++◌, [], ◌∙◌, ap, arith, refl, subst, sym}
-use Rattle.std.specs.Prelude.{IsErrOf}
-use Rattle.std.proofs.lemmas.Bool.{false≢true}
-use Rattle.sgt_names.specs.declared.outcome.EngineFail.TheVariants.{ReadFault}
-use Rattle.sgt_names.specs.Limits.{max_line, most_reads}
-use Rattle.sgt_notation.specs.Lines.{ReadFaultIsDue, coming}
+use Rattle.std.proofs.Common.{◌+◌, ◌*◌, ◌∷◌, ◌++◌, [], ◌∙◌, List, Option, ℕ, ap, arith, length, refl, subst, sym}
+use Rattle.sgt_names.specs.Limits.{max_line}
+use Rattle.sgt_notation.specs.Lines.{Gives, IsNext, coming}
 use Rattle.sgt_notation.specs.declared.lines.Next.TheVariants.{Line}
-use Rattle.sgt_notation.specs.Spelling.{text_of_lines}
 use Rattle.sgt_cert.specs.Text.{certificate_text, format_line}
-use Rattle.sgt_audit.specs.Faults.{FirstFault}
-use Rattle.sgt_audit.proofs.ReaderAtStage.{spends_on}
-use Rattle.sgt_audit_sections.specs.Sections.{front_text}
-use Rattle.sgt_audit_workers.specs.private.Texts.{IsBehind}
-use Rattle.sgt_audit_workers.proofs.Heads.{behind-first, front-told, line-told, next-told, second-line}
-use Rattle.sgt_audit_workers.proofs.Reading.{fails-on}
+use Rattle.sgt_audit.specs.declared.verdict.Verdict.TheVariants.{No}
+use Rattle.sgt_audit_workers.specs.Cut.{longest}
+use Rattle.sgt_audit_workers.specs.Reads.{reader}
+use Rattle.sgt_audit_workers.specs.private.Begun.{IsMost}
+use Rattle.sgt_audit_workers.specs.private.Texts.{IsLeftIn}
+use Rattle.sgt_audit_workers.proofs.Answered.{near, text-answer}
+use Rattle.sgt_audit_workers.proofs.Heads.{asked-on, asked-same, found-first, found-line, found-second, front-told, gives-read, line-told}
+use Rattle.sgt_audit_workers.proofs.Left.{going-left, spent-asked}
+use Rattle.sgt_audit_workers.proofs.Taken.{answer-of}
 use Rattle.sgt_audit_workers.proofs.head.read_head.Goals as goal
 
-pub returns-in_err-first-clause-read_fault : goal.returns-in_err-first-clause-read_fault
-returns-in_err-first-clause-read_fault g c same first from spent counts =
-    let was : IsErrOf c.next_line.result ReadFault = search rules in
-    c.next_line.ensures.read_fault was first from (spent c.requires.going) counts
+pub returns-in-Err-clause-begun : goal.returns-in-Err-clause-begun
+returns-in-Err-clause-begun g c first is was =
+    let old = reader (g.R.Source.tells c.args.source.now) (g.R.Source.failures c.args.source.now) (g.R.Source.asked c.args.source.now) in
+    let now = reader (g.R.Source.tells c.read_line.new.source) (g.R.Source.failures c.read_line.new.source) (g.R.Source.asked c.read_line.new.source) in
+    let here = subst (IsLeftIn first c.args.text.now.lines c.args.text.now.most old first.told) c.requires.going is in
+    let reads = c.args.text.now.lines.reads in
+    let line = c.read_line.new.line.items in
+    let gives = subst (λ (o : Option (List ℕ)). Gives max_line o c.in_ok-first.first line (coming c.read_line.new.text.lines now.told)) (sym here.0) c.in_ok-first.ensures.gave in
+    let found = found-first max_line first.told _ c.in_ok-first.first line c.in-Err.fault gives (λ bytes rest next. c.in-Err.ensures.fault bytes rest (subst (λ (l : List ℕ). IsNext max_line bytes c.in_ok-first.first l rest) (sym c.as_slice.ensures.value) next)) in
+    let before = spent-asked first old reads reads 0 first.told was.asks here.1 (omega arith) in
+    let asked = asked-same first old now first.told (max_line + 1) before (omega (arith, c.read_line.ensures.few, c.read_line.ensures.short)) in
+    near c.args.count 0 (max_line + 1) first now (No 1 c.in-Err.fault) (answer-of 0 0 (max_line + 1) (max_line + 1) first now first.told (No 1 c.in-Err.fault) found asked (omega arith)) (omega (arith, c.requires.count))
 
-pub returns-in_err-next-clause-read_fault : goal.returns-in_err-next-clause-read_fault
-returns-in_err-next-clause-read_fault g c same told from spent counts =
-    let was : IsErrOf c.next_line-2.result ReadFault = search rules in
-    let first = rw c.in-Ok.ensures.format.0 at c.in_ok-first.ensures.gave in
-    fails-on _ _ _ _ _ _ _ _ _ _ (c.next_line-2.ensures.read_fault was) first.spends (omega (arith, c.in_ok-first.ensures.asks)) first.quiet told from (spent c.requires.going) counts
-
-pub returns-in-Some-clause-verdict : goal.returns-in-Some-clause-verdict
-returns-in-Some-clause-verdict g c =
-    let first = rw c.in-Ok.ensures.format.0 at c.in_ok-first.ensures.gave in
+pub returns-in-Some-clause-begun : goal.returns-in-Some-clause-begun
+returns-in-Some-clause-begun g c first is was =
+    let middle = reader (g.R.Source.tells c.read_line.new.source) (g.R.Source.failures c.read_line.new.source) (g.R.Source.asked c.read_line.new.source) in
+    let now = reader (g.R.Source.tells c.read_line-2.new.source) (g.R.Source.failures c.read_line-2.new.source) (g.R.Source.asked c.read_line-2.new.source) in
+    let old = reader (g.R.Source.tells c.args.source.now) (g.R.Source.failures c.args.source.now) (g.R.Source.asked c.args.source.now) in
+    let here = subst (IsLeftIn first c.args.text.now.lines c.args.text.now.most old first.told) c.requires.going is in
     let second = c.in-Ok.second in
     let fault = c.in-Some.fault in
-    let front = line-told max_line _ _ c.next_line.new.line.items (format_line second) (sym c.as_slice.ensures.value ∙ c.in-Ok.ensures.format.1) first.gives in
-    behind-first (coming c.args.text.now.lines (g.R.Source.tells c.args.reader.now)) (coming c.next_line.new.lines (g.R.Source.tells c.next_line.new.reader)) second (λ bytes. FirstFault bytes 2 fault) front
-    (next-told 18446744073709551615 (coming c.next_line.new.lines (g.R.Source.tells c.next_line.new.reader)) (coming c.next_line-2.new.lines (g.R.Source.tells c.next_line-2.new.reader)) c.in_ok-next.next c.next_line-2.new.line.items (λ bytes. FirstFault (text_of_lines (format_line second ∷ []) ++ bytes) 2 fault) c.in_ok-next.ensures.gave.gives
-    (λ bytes rest is. c.in-Some.ensures.some second bytes c.next_line-2.new.line.items rest (c.in_ok-next.ensures.gave.unlimited refl) is))
+    let line = c.read_line-2.new.line.items in
+    let left = coming c.read_line.new.text.lines middle.told in
+    let rest = coming c.read_line-2.new.text.lines now.told in
+    let gave = rw c.in-Ok.ensures.format.0 at c.in_ok-first.ensures.gave in
+    let gives = subst (λ (o : Option (List ℕ)). Gives max_line o Line c.read_line.new.line.items left) (sym here.0) gave in
+    let front = line-told max_line first.told left c.read_line.new.line.items (format_line second) (sym c.as_slice.ensures.value ∙ c.in-Ok.ensures.format.1) gives in
+    let mid = c.in_ok-first.ensures.left first first.told is c.in-Ok.ensures.format.0 in
+    let spent = subst (IsLeftIn first c.read_line.new.text.lines c.read_line.new.text.most middle left) c.in_ok-first.ensures.going mid in
+    let reads = c.read_line.new.text.lines.reads in
+    let before = spent-asked first middle reads reads 0 left (c.read_line.ensures.asked first first.told is was).asks spent.1 (omega arith) in
+    let found = found-second 18446744073709551615 first.told left rest second c.in_ok-next.next line fault front c.in_ok-next.ensures.gave
+    (λ bytes more next. c.in-Some.ensures.some second bytes line more (c.in_ok-next.ensures.unlimited refl) next) in
+    let read = gives-read 18446744073709551615 left rest c.in_ok-next.next line c.in_ok-next.ensures.gave in
+    let asked = asked-on first middle now left rest (format_line second ++ 10 ∷ []) read.0 (length line + 1) 1 before front read.1 (omega (arith, c.read_line-2.ensures.few)) (omega (arith, read.2)) in
+    near c.args.count 0 1 first now (No 2 fault) (answer-of 0 0 1 1 first now rest (No 2 fault) found asked (omega arith)) (omega (arith, c.requires.count))
 
 pub returns-in-Ok-2-clause-begun : goal.returns-in-Ok-2-clause-begun
-returns-in-Ok-2-clause-begun g c =
-    let first = rw c.in-Ok.ensures.format.0 at c.in_ok-first.ensures.gave in
+returns-in-Ok-2-clause-begun g c first is was =
+    let middle = reader (g.R.Source.tells c.read_line.new.source) (g.R.Source.failures c.read_line.new.source) (g.R.Source.asked c.read_line.new.source) in
+    let now = reader (g.R.Source.tells c.read_line-2.new.source) (g.R.Source.failures c.read_line-2.new.source) (g.R.Source.asked c.read_line-2.new.source) in
+    let old = reader (g.R.Source.tells c.args.source.now) (g.R.Source.failures c.args.source.now) (g.R.Source.asked c.args.source.now) in
+    let here = subst (IsLeftIn first c.args.text.now.lines c.args.text.now.most old first.told) c.requires.going is in
+    let line = c.read_line-2.new.line.items in
+    let left = coming c.read_line.new.text.lines middle.told in
+    let rest = coming c.read_line-2.new.text.lines now.told in
+    let gave = rw c.in-Ok.ensures.format.0 at c.in_ok-first.ensures.gave in
+    let gives = subst (λ (o : Option (List ℕ)). Gives max_line o Line c.read_line.new.line.items left) (sym here.0) gave in
     let next = rw c.in_default.ensures.none at c.in_ok-next.ensures.gave in
-    let old = coming c.args.text.now.lines (g.R.Source.tells c.args.reader.now) in
-    let mid = coming c.next_line.new.lines (g.R.Source.tells c.next_line.new.reader) in
-    let left = coming c.next_line-2.new.lines (g.R.Source.tells c.next_line-2.new.reader) in
-    let said = rw c.in-Ok-2.is at (c.in_ok-begun.ensures.head c.in-Ok.second c.next_line-2.new.line.items c.start-judging.ensures) in
-    let h = c.in-Ok-2.begun.0 in
-    let front = front-told old mid left h.second h.certificate
-    (line-told max_line _ _ c.next_line.new.line.items (format_line h.second) (sym c.as_slice.ensures.value ∙ c.in-Ok.ensures.format.1 ∙ ap format_line (sym said.1)) first.gives)
-    (line-told 18446744073709551615 _ _ c.next_line-2.new.line.items (certificate_text h.certificate) said.2 next.gives) in
-    let behind : IsBehind old _ (g.R.Source.tells c.next_line-2.new.reader) = record { front = front_text h.second h.certificate []; read = front; ended = λ ends. absurd (false≢true (sym c.requires.going ∙ ends)) } in
+    let said = rw c.in-Ok-2.is at (c.in_ok-begun.ensures.head c.in-Ok.second line c.start-judging.ensures) in
+    let h = c.in-Ok-2.begun.head in
+    let front = front-told first.told left rest h.second h.certificate
+    (line-told max_line first.told left c.read_line.new.line.items (format_line h.second) (sym c.as_slice.ensures.value ∙ c.in-Ok.ensures.format.1 ∙ ap format_line (sym said.1)) gives)
+    (line-told 18446744073709551615 left rest line (certificate_text h.certificate) said.2 next) in
+    let mid = c.in_ok-first.ensures.left first first.told is c.in-Ok.ensures.format.0 in
+    let behind = c.in_ok-next.ensures.left first left mid c.in_default.ensures.none in
     record {
-      middle = left;
+      middle = rest;
       front = front;
-      sections = rw c.in-Ok-2.is at (c.in_ok-begun.ensures.ahead old behind);
-      behind = c.in_ok-begun.ensures.behind old behind;
+      sections = rw c.in-Ok-2.is at (c.in_ok-begun.ensures.ahead first rest (going-left first now c.read_line-2.new.text.lines c.read_line-2.new.text.most c.most_of-text.result rest c.read_line-2.new.text.state c.in_ok-next.ensures.going behind));
     }
+
+pub returns-in-Err-2-clause-begun : goal.returns-in-Err-2-clause-begun
+returns-in-Err-2-clause-begun g c first is was =
+    let middle = reader (g.R.Source.tells c.read_line.new.source) (g.R.Source.failures c.read_line.new.source) (g.R.Source.asked c.read_line.new.source) in
+    let second_now = reader (g.R.Source.tells c.read_line-2.new.source) (g.R.Source.failures c.read_line-2.new.source) (g.R.Source.asked c.read_line-2.new.source) in
+    let now = reader (g.R.Source.tells c.read_beside.new.source) (g.R.Source.failures c.read_beside.new.source) (g.R.Source.asked c.read_beside.new.source) in
+    let old = reader (g.R.Source.tells c.args.source.now) (g.R.Source.failures c.args.source.now) (g.R.Source.asked c.args.source.now) in
+    let here = subst (IsLeftIn first c.args.text.now.lines c.args.text.now.most old first.told) c.requires.going is in
+    let second = c.in-Ok.second in
+    let fault = c.in-Err-2.fault in
+    let line = c.read_line-2.new.line.items in
+    let left = coming c.read_line.new.text.lines middle.told in
+    let rest = coming c.read_line-2.new.text.lines second_now.told in
+    let gave = rw c.in-Ok.ensures.format.0 at c.in_ok-first.ensures.gave in
+    let gives = subst (λ (o : Option (List ℕ)). Gives max_line o Line c.read_line.new.line.items left) (sym here.0) gave in
+    let next = rw c.in_default.ensures.none at c.in_ok-next.ensures.gave in
+    let front = line-told max_line first.told left c.read_line.new.line.items (format_line second) (sym c.as_slice.ensures.value ∙ c.in-Ok.ensures.format.1) gives in
+    let breaks = rw c.in-Err-2.is at (c.in_ok-begun.ensures.fault second line c.start-judging.ensures) in
+    let found = found-line first.told left rest second 18446744073709551615 line fault front next breaks in
+    let mid = c.in_ok-first.ensures.left first first.told is c.in-Ok.ensures.format.0 in
+    let behind = c.in_ok-next.ensures.left first left mid c.in_default.ensures.none in
+    let most = c.most_of-text.result in
+    let begins = going-left first second_now c.read_line-2.new.text.lines c.read_line-2.new.text.most most rest c.read_line-2.new.text.state c.in_ok-next.ensures.going behind in
+    let held = rw c.in-Err-2.is at (c.in_ok-begun.ensures.held first rest begins) in
+    let once = c.read_line-2.ensures.asked first left mid (c.read_line.ensures.asked first first.told is was) in
+    let asked = c.read_beside.ensures.asked first rest begins (record { asks = once.asks; once = once.once; fails = once.fails }) in
+    let many = 2 * c.args.count in
+    let each = longest c.read_beside.new.text.most in
+    let answer = text-answer (length line) many first now rest held.0 c.read_beside.new.text (No 2 fault) found held.2 asked (omega (arith, held.1, c.beside-beside.ensures)) in
+    near c.args.count (length line) (many * each) first now (No 2 fault) answer (omega (arith, c.most_of-text.ensures, c.as_slice-2.ensures.value, ap (λ m. many * longest m) c.read_beside.ensures.most))
+
+pub returns-in_err-first-clause-asked : goal.returns-in_err-first-clause-asked
+returns-in_err-first-clause-asked g c first is was = c.read_line.ensures.asked first first.told is was
+
+pub returns-in-Err-clause-asked : goal.returns-in-Err-clause-asked
+returns-in-Err-clause-asked g c first is was = c.read_line.ensures.asked first first.told is was
+
+pub returns-in_err-next-clause-asked : goal.returns-in_err-next-clause-asked
+returns-in_err-next-clause-asked g c first is was =
+    let left = coming c.read_line.new.text.lines (g.R.Source.tells c.read_line.new.source) in
+    let mid = c.in_ok-first.ensures.left first first.told is c.in-Ok.ensures.format.0 in
+    c.read_line-2.ensures.asked first left mid (c.read_line.ensures.asked first first.told is was)
+
+pub returns-in-Some-clause-asked : goal.returns-in-Some-clause-asked
+returns-in-Some-clause-asked g c first is was =
+    let left = coming c.read_line.new.text.lines (g.R.Source.tells c.read_line.new.source) in
+    let mid = c.in_ok-first.ensures.left first first.told is c.in-Ok.ensures.format.0 in
+    c.read_line-2.ensures.asked first left mid (c.read_line.ensures.asked first first.told is was)
+
+pub returns-in_err-begun-clause-asked : goal.returns-in_err-begun-clause-asked
+returns-in_err-begun-clause-asked g c first is was =
+    let left = coming c.read_line.new.text.lines (g.R.Source.tells c.read_line.new.source) in
+    let mid = c.in_ok-first.ensures.left first first.told is c.in-Ok.ensures.format.0 in
+    let now = reader (g.R.Source.tells c.read_line-2.new.source) (g.R.Source.failures c.read_line-2.new.source) (g.R.Source.asked c.read_line-2.new.source) in
+    let rest = coming c.read_line-2.new.text.lines now.told in
+    let behind = c.in_ok-next.ensures.left first left mid c.in_default.ensures.none in
+    let begins = going-left first now c.read_line-2.new.text.lines c.read_line-2.new.text.most c.most_of-text.result rest c.read_line-2.new.text.state c.in_ok-next.ensures.going behind in
+    let once = c.read_line-2.ensures.asked first left mid (c.read_line.ensures.asked first first.told is was) in
+    c.read_beside.ensures.asked first rest begins (record { asks = once.asks; once = once.once; fails = once.fails })
+
+pub returns-in-Ok-2-clause-asked : goal.returns-in-Ok-2-clause-asked
+returns-in-Ok-2-clause-asked g c first is was =
+    let left = coming c.read_line.new.text.lines (g.R.Source.tells c.read_line.new.source) in
+    let mid = c.in_ok-first.ensures.left first first.told is c.in-Ok.ensures.format.0 in
+    let now = reader (g.R.Source.tells c.read_line-2.new.source) (g.R.Source.failures c.read_line-2.new.source) (g.R.Source.asked c.read_line-2.new.source) in
+    let rest = coming c.read_line-2.new.text.lines now.told in
+    let behind = c.in_ok-next.ensures.left first left mid c.in_default.ensures.none in
+    let begins = going-left first now c.read_line-2.new.text.lines c.read_line-2.new.text.most c.most_of-text.result rest c.read_line-2.new.text.state c.in_ok-next.ensures.going behind in
+    let once = c.read_line-2.ensures.asked first left mid (c.read_line.ensures.asked first first.told is was) in
+    c.read_beside.ensures.asked first rest begins (record { asks = once.asks; once = once.once; fails = once.fails })
+
+pub returns-in-Err-2-clause-asked : goal.returns-in-Err-2-clause-asked
+returns-in-Err-2-clause-asked g c first is was =
+    let left = coming c.read_line.new.text.lines (g.R.Source.tells c.read_line.new.source) in
+    let mid = c.in_ok-first.ensures.left first first.told is c.in-Ok.ensures.format.0 in
+    let now = reader (g.R.Source.tells c.read_line-2.new.source) (g.R.Source.failures c.read_line-2.new.source) (g.R.Source.asked c.read_line-2.new.source) in
+    let rest = coming c.read_line-2.new.text.lines now.told in
+    let behind = c.in_ok-next.ensures.left first left mid c.in_default.ensures.none in
+    let begins = going-left first now c.read_line-2.new.text.lines c.read_line-2.new.text.most c.most_of-text.result rest c.read_line-2.new.text.state c.in_ok-next.ensures.going behind in
+    let once = c.read_line-2.ensures.asked first left mid (c.read_line.ensures.asked first first.told is was) in
+    c.read_beside.ensures.asked first rest begins (record { asks = once.asks; once = once.once; fails = once.fails })
 
 pub returns-in-Ok-2-clause-head : goal.returns-in-Ok-2-clause-head
 returns-in-Ok-2-clause-head g c =
-    let said = rw c.in-Ok-2.is at (c.in_ok-begun.ensures.head c.in-Ok.second c.next_line-2.new.line.items c.start-judging.ensures) in
+    let said = rw c.in-Ok-2.is at (c.in_ok-begun.ensures.head c.in-Ok.second c.read_line-2.new.line.items c.start-judging.ensures) in
     said.0
 
-pub returns-in-Err-2-clause-verdict : goal.returns-in-Err-2-clause-verdict
-returns-in-Err-2-clause-verdict g c =
-    let first = rw c.in-Ok.ensures.format.0 at c.in_ok-first.ensures.gave in
-    let next = rw c.in_default.ensures.none at c.in_ok-next.ensures.gave in
-    let second = c.in-Ok.second in
-    let fault = c.in-Err-2.fault in
-    let l = c.next_line-2.new.line.items in
-    let old = coming c.args.text.now.lines (g.R.Source.tells c.args.reader.now) in
-    let mid = coming c.next_line.new.lines (g.R.Source.tells c.next_line.new.reader) in
-    let left = coming c.next_line-2.new.lines (g.R.Source.tells c.next_line-2.new.reader) in
-    let breaks = rw c.in-Err-2.is at (c.in_ok-begun.ensures.fault second l c.start-judging.ensures) in
-    let front = line-told max_line _ _ c.next_line.new.line.items (format_line second) (sym c.as_slice.ensures.value ∙ c.in-Ok.ensures.format.1) first.gives in
-    behind-first old mid second (λ bytes. FirstFault bytes 2 fault) front
-    (next-told 18446744073709551615 mid left Line l (λ bytes. FirstFault (text_of_lines (format_line second ∷ []) ++ bytes) 2 fault) next.gives
-    (λ bytes rest is. second-line second 18446744073709551615 bytes l rest fault is breaks))
-
-pub returns-in_err-begun-clause-read_fault : goal.returns-in_err-begun-clause-read_fault
-returns-in_err-begun-clause-read_fault g c same told from spent counts =
-    let was : IsErrOf c.read_beside.result ReadFault = search rules in
-    let first = rw c.in-Ok.ensures.format.0 at c.in_ok-first.ensures.gave in
-    let next = rw c.in_default.ensures.none at c.in_ok-next.ensures.gave in
-    let tells = g.R.Source.tells in
-    let reads = c.args.text.now.lines.reads in
-    let reads' = c.next_line.new.lines.reads in
-    let reads'' = c.next_line-2.new.lines.reads in
-    let once = spends_on told (tells c.args.reader.now) (tells c.next_line.new.reader) most_reads reads reads reads' (spent c.requires.going) (omega arith) first.spends in
-    let twice = spends_on told (tells c.next_line.new.reader) (tells c.next_line-2.new.reader) most_reads reads' reads' reads'' once (omega arith) next.spends in
-    subst (λ f. ReadFaultIsDue told f (g.R.Source.failures c.read_beside.new.reader) from (g.R.Source.asked c.read_beside.new.reader)) (next.quiet ∙ first.quiet)
-    (c.read_beside.ensures.read_fault was told from (λ going. twice) (omega (arith, counts, c.in_ok-first.ensures.asks, c.in_ok-next.ensures.asks)))
+pub returns-in-Ok-2-clause-most : goal.returns-in-Ok-2-clause-most
+returns-in-Ok-2-clause-most g c =
+    let said = rw c.in-Ok-2.is at (c.in_ok-begun.ensures.head c.in-Ok.second c.read_line-2.new.line.items c.start-judging.ensures) in
+    let sized = subst (λ (l : List ℕ). IsMost c.args.count (length l) c.most_of-text.result) (c.as_slice-2.ensures.value ∙ said.2) c.most_of-text.ensures in
+    subst (IsMost c.args.count (length (certificate_text c.in-Ok-2.begun.head.certificate))) (sym c.read_beside.ensures.most) sized

@@ -1,42 +1,20 @@
-use Rattle.std.proofs.Common.{rules, List, ℕ, sym, subst, ◌∙◌}
-use Rattle.std.specs.Prelude.{IsErrOf}
-use Rattle.std.proofs.lemmas.Bool.{false≢true}
-use Rattle.sgt_names.specs.declared.outcome.EngineFail.TheVariants.{ReadFault}
-use Rattle.std.specs.Io.KnownBytes.{Consumes}
-use Rattle.sgt_notation.specs.Lines.{coming}
-use Rattle.sgt_audit_workers.proofs.Given.{behind-more, cut-ends, cut-reads}
-use Rattle.std.proofs.KnownBytes.{Consumes-nil}
+use Rattle.std.proofs.Common.{arith, subst, sym, ◌≡◌}
+use Rattle.sgt_audit_workers.specs.Cut.{FailsDuly}
+use Rattle.sgt_audit_workers.specs.Reads.{reader}
+use Rattle.sgt_audit_workers.specs.private.Texts.{IsLeftIn, StateFails}
+use Rattle.sgt_audit_workers.proofs.Left.{may-fail}
 use Rattle.sgt_audit_workers.proofs.sections.next_section.Goals as goal
 
-pub returns-then-text-clause-section : goal.returns-then-text-clause-section
-returns-then-text-clause-section g c told behind =
-    let now = coming c.args.text.now.lines (g.R.Source.tells c.args.reader.now) in
+pub returns-in_default-clause-asked : goal.returns-in_default-clause-asked
+returns-in_default-clause-asked g c first left is was =
+    let old = reader (g.R.Source.tells c.args.source.now) (g.R.Source.failures c.args.source.now) (g.R.Source.asked c.args.source.now) in
+    let now = reader (g.R.Source.tells c.read_piece-stop.new.reader) (g.R.Source.failures c.read_piece-stop.new.reader) (g.R.Source.asked c.read_piece-stop.new.reader) in
+    let here = subst (IsLeftIn first c.args.text.now.lines c.args.text.now.most old left) c.requires is in
+    let same : old.failures ≡ first.failures = subst (StateFails first old) c.requires was.fails in
     record {
-      bytes = subst (λ (s : List ℕ). Consumes now now s) (sym c.clear.ensures.items) (Consumes-nil now);
-      last = λ last. behind.ended c.if-text.true;
+      asks = omega (arith, was.asks, c.read_piece-stop.ensures.asks);
+      once = omega (arith, c.read_piece-stop.ensures.once, same);
+      fails = may-fail first old now c.args.text.now.lines.reads left c.read_piece-stop.result c.read_piece-stop.ensures.quiet
+          (λ e. subst (λ o. FailsDuly c.args.text.now.lines.reads o old.failures now.failures old.asked now.asked) (sym here.0) (c.read_piece-stop.ensures.read_fault e))
+          c.read_piece-stop.ensures.write_fault same was.asks here.1;
     }
-
-pub returns-then-branch-clause-section : goal.returns-then-branch-clause-section
-returns-then-branch-clause-section g c told behind = record {
-  bytes = cut-reads _ _ _ _ c.in_ok-read_section.ensures.cut;
-  last = λ last. absurd (false≢true last);
-}
-
-pub returns-then-branch-clause-behind : goal.returns-then-branch-clause-behind
-returns-then-branch-clause-behind g c told behind =
-    behind-more told _ _ _ _ _ behind (cut-reads _ _ _ _ c.in_ok-read_section.ensures.cut) (λ ends. absurd (false≢true (sym c.if-text.false ∙ ends)))
-
-pub returns-clause-section : goal.returns-clause-section
-returns-clause-section g c told behind = record {
-  bytes = cut-reads _ _ _ _ c.in_ok-read_section.ensures.cut;
-  last = λ last. cut-ends told _ _ _ _ behind.read (rw c.if-branch.false at c.in_ok-read_section.ensures.cut);
-}
-
-pub returns-clause-behind : goal.returns-clause-behind
-returns-clause-behind g c told behind =
-    behind-more told _ _ _ _ _ behind (cut-reads _ _ _ _ c.in_ok-read_section.ensures.cut) (λ ends. cut-ends told _ _ _ _ behind.read (rw c.if-branch.false at c.in_ok-read_section.ensures.cut))
-
-pub returns-in_err-read_section-clause-read_fault : goal.returns-in_err-read_section-clause-read_fault
-returns-in_err-read_section-clause-read_fault g c same first from spent counts =
-    let was : IsErrOf c.read_section.result ReadFault = search rules in
-    c.read_section.ensures.read_fault was first from (spent c.if-text.false) counts

@@ -1,14 +1,15 @@
-use Rattle.std.proofs.Common.{◌≡◌, ◌+◌, ℕ, List, Option}
-use Rattle.sgt_notation.specs.Lines.{coming}
-use Rattle.sgt_audit_workers.specs.private.Texts.{AreAhead, HasSpent, IsBehind}
+use Rattle.std.proofs.Common.{◌≡◌, ◌≤◌, ℕ, List, Option, vec_len}
+use Rattle.sgt_audit_workers.specs.Reads.{Reader, reader}
+use Rattle.sgt_audit_workers.specs.private.Texts.{HasRead, IsAsked, IsLeft}
 use Rattle.sgt_audit_workers.proofs.sections.read_ahead.Given as goal
 
 abbrev pub invariant-loop-section : goal.invariant-loop-section
-invariant-loop-section g l = record {
-  ahead : (told : Option (List ℕ)) → IsBehind told l.fn.text (g.R.Source.tells l.fn.reader)
-      → AreAhead told (coming l.fn.text.lines (g.R.Source.tells l.fn.reader)) l.ahead.items (coming l.text.lines (g.R.Source.tells l.reader));
-  behind : (told : Option (List ℕ)) → IsBehind told l.fn.text (g.R.Source.tells l.fn.reader) → IsBehind told l.text (g.R.Source.tells l.reader);
-  spends : (first : Option (List ℕ)) → HasSpent first l.fn.text (g.R.Source.tells l.fn.reader) → HasSpent first l.text (g.R.Source.tells l.reader);
-  asks : g.R.Source.asked l.reader + l.text.lines.reads ≡ g.R.Source.asked l.fn.reader + l.fn.text.lines.reads;
-  quiet : g.R.Source.failures l.reader ≡ g.R.Source.failures l.fn.reader;
-}
+invariant-loop-section g l =
+    let old = reader (g.R.Source.tells l.fn.source) (g.R.Source.failures l.fn.source) (g.R.Source.asked l.fn.source) in
+    let now = reader (g.R.Source.tells l.source) (g.R.Source.failures l.source) (g.R.Source.asked l.source) in
+    record {
+      read : (first : Reader) (left : Option (List ℕ)) → IsLeft first l.fn.text old left → HasRead first left l.ahead.items l.text now;
+      asked : (first : Reader) (left : Option (List ℕ)) → IsLeft first l.fn.text old left → IsAsked first l.fn.text old → IsAsked first l.text now;
+      few : vec_len l.ahead ≤ l._section;
+      most : l.text.most ≡ l.fn.text.most;
+    }

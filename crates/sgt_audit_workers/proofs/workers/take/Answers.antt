@@ -4,23 +4,23 @@ use Rattle.sgt_audit_workers.proofs.Taken.{ends-last, found, idle-behind, judged
 use Rattle.sgt_audit_workers.proofs.workers.take.Goals as goal
 
 pub returns-in-None-clause-takes : goal.returns-in-None-clause-takes
-returns-in-None-clause-takes g c h job told old new tallied lt given will =
+returns-in-None-clause-takes g c h job most told old new tallied lt given will =
     let done = c.finish-job.result in
     let ran = c.finish-job.ensures h job will in
-    let here = given-run h told old new c.args.tally.now.whole job done ran given in
-    let added = rw c.in-None.is at (c.in_ok-verdict.ensures.adds h.second h.certificate tallied.logs done.section.bytes.items (rest_of told new) tallied.tally
-    (omega (arith, tallied.tally.whole, lt)) (judged-at h told old new done c.args.tally.now tallied here c.in-Ok.judged ran.done c.in-Ok.is) (ends-last h told old new done c.args.tally.now tallied here)) in
-    let now = taken h told old new done c.args.tally.now tallied here c.add.new.self added in (
+    let here = given-run h most old new c.args.tally.now.whole job done ran given in
+    let added = rw c.in-None.is at (c.in_ok-verdict.ensures.adds h.second h.certificate tallied.logs done.section.bytes.items (rest_of new) tallied.tally
+    (omega (arith, tallied.tally.whole, lt)) (judged-at h most told old new done c.args.tally.now tallied here c.in-Ok.judged ran.done c.in-Ok.is) (ends-last h most told old new done c.args.tally.now tallied here)) in
+    let now = taken h told old new done.section.bytes.items c.args.tally.now tallied here.section.bytes c.add.new.self (rest_of new) added in (
       now.0,
       now.1,
       idle-later h (done.site + 1) c.add.new.self.whole done (omega (arith, here.site, now.1)) (idle-behind h done c.in-Ok.judged ran.done c.in-Ok.is (rw c.in-None.is at c.in_ok-verdict.ensures.whole)),
     )
 
 pub returns-in-Some-clause-takes : goal.returns-in-Some-clause-takes
-returns-in-Some-clause-takes g c h job told old new tallied lt given will =
+returns-in-Some-clause-takes g c h job most told old new tallied lt given will =
     let done = c.finish-job.result in
     let ran = c.finish-job.ensures h job will in
-    let here = given-run h told old new c.args.tally.now.whole job done ran given in
-    let added = rw c.in-Some.is at (c.in_ok-verdict.ensures.adds h.second h.certificate tallied.logs done.section.bytes.items (rest_of told new) tallied.tally
-    (omega (arith, tallied.tally.whole, lt)) (judged-at h told old new done c.args.tally.now tallied here c.in-Ok.judged ran.done c.in-Ok.is) (ends-last h told old new done c.args.tally.now tallied here)) in
-    found h told old new done c.args.tally.now tallied here c.add.new.self c.in-Some.verdict added
+    let here = given-run h most old new c.args.tally.now.whole job done ran given in
+    let added = rw c.in-Some.is at (c.in_ok-verdict.ensures.adds h.second h.certificate tallied.logs done.section.bytes.items (rest_of new) tallied.tally
+    (omega (arith, tallied.tally.whole, lt)) (judged-at h most told old new done c.args.tally.now tallied here c.in-Ok.judged ran.done c.in-Ok.is) (ends-last h most told old new done c.args.tally.now tallied here)) in
+    found h told old new done.section.bytes.items c.args.tally.now tallied here.section.bytes _ c.in-Some.verdict (omega (arith, here.section.short)) added

@@ -4,8 +4,9 @@ use Rattle.sgt_cert.specs.Certificate.{decided_tx}
 use Rattle.sgt_cert.specs.Valid.{IsValid}
 use Rattle.sgt_cert.specs.declared.certificate.Decision.{Decision}
 use Rattle.sgt_certify_logs.specs.Witness.{IsStuck}
+use Rattle.sgt_certify_greedy.specs.Decided.{IsUnpreceded}
 use Rattle.sgt_certify_greedy.proofs.Elements.{contains-none, none-long}
-use Rattle.sgt_certify_greedy.proofs.Decisions.{left-stuck, some-first}
+use Rattle.sgt_certify_greedy.proofs.Decisions.{left-stuck, positive-length}
 use Rattle.sgt_certify_greedy.proofs.Knowing.{conflicts-ordered}
 use Rattle.sgt_certify_greedy.proofs.Validity.{committed-decided, valid-from}
 use Rattle.sgt_certify_greedy.proofs.deciding.answer_by.Goals as goal
@@ -30,6 +31,9 @@ returns-then-is_empty c =
       c.certificate_of-made.ensures.sites,
     )
 
+pub free_one-requires-clause-some : goal.free_one-requires-clause-some
+free_one-requires-clause-some c = positive-length c.as_slice-rest.result.now (sym c.is_empty.ensures ∙ c.if-is_empty.false)
+
 pub returns : goal.returns
 returns c =
     let sites = c.args.sites.now in
@@ -38,10 +42,10 @@ returns c =
     let left = c.in_ok-settled.settled.left.items in
     let ds = c.in_ok-settled.settled.decisions.items in
     let settled = c.in_ok-settled.ensures in
-    let first = some-first c.as_slice-rest.result.now (sym c.is_empty.ensures ∙ c.if-is_empty.false) in
-    let some = subst (λ (w : List ℕ). (t : ℕ) × Contains w t) c.as_slice-rest.ensures.value first in (
+    let some = subst (λ (w : List ℕ). Contains w c.in_ok-_free._free × IsUnpreceded sites w c.in_ok-_free._free) c.as_slice-rest.ensures.value
+    c.in_ok-_free.ensures in (
       subst (IsStuck sites) (sym (c.in_ok-txs.ensures ∙ ap (λ (es : List Decision). map decided_tx es) c.as_slice-done.ensures.value))
-          (left-stuck sites order left settled.0 ds settled.1 some settled.2
+          (left-stuck sites order left settled.0 ds settled.1 (c.in_ok-_free._free, some.0, some.1) settled.2
           (committed-decided sites c.requires.sound order order ds known.committed known.only known.ordered settled.1.each)),
       c.requires.no_cycle,
       conflicts-ordered sites order known.ordered known.committed,

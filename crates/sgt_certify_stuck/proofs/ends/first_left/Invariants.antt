@@ -1,5 +1,5 @@
-use Rattle.sgt_certify_stuck.specs.private.Ends.{AllDecided}
+use Rattle.sgt_certify_stuck.specs.Ends.{AllDecided}
 use Rattle.sgt_certify_stuck.proofs.ends.first_left.Given as goal
 
-abbrev pub invariant-loop-entry : goal.invariant-loop-entry
-invariant-loop-entry l = AllDecided l.entries l.decided l.entry-index
+abbrev pub invariant-loop-place : goal.invariant-loop-place
+invariant-loop-place l = AllDecided l.entries l.decided l.place

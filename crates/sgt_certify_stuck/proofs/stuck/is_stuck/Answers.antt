@@ -10,5 +10,5 @@ returns c =
     c.in_ok-decided.ensures.has c.in_ok-decided.ensures.only
     (λ t has. c.in_ok-others.ensures.has t (subst (λ (xs : List ℕ). Contains xs t) (sym c.as_slice.ensures.value) has))
     (c.are_uncommitted.ensures c.if-not-are_uncommitted.false)
-    (c.has_left.ensures c.if-not-has_left.false) (h yes))
+    (c.has_free.ensures c.if-not-has_free.false) (h yes))
     c.are_shown.ensures

@@ -1,19 +1,33 @@
-use Rattle.std.proofs.Common.{List, inl, sym, subst, All}
+use Rattle.std.proofs.Common.{List, inl, sym, subst, All, ◌∙◌}
+use Rattle.std.proofs.lemmas.Bool.{true≢false}
 use Rattle.sgt_explain_lines.proofs.Numbering.{on-ok}
 use Rattle.sgt_explain_dealings.specs.declared.dealings.Own.{Own}
 use Rattle.sgt_explain_dealings.specs.Dealings.{IsOwn}
 use Rattle.sgt_explain_dealings.proofs.Behind.{str-ok}
-use Rattle.sgt_explain_dealings.proofs.Pairing.{tells-dealings}
+use Rattle.sgt_explain_dealings.proofs.Pairing.{tells-dealings, tells-none, tells-own}
 use Rattle.sgt_explain_dealings.proofs.dealings.push_dealings.Goals as goal
 
-pub returns-then-is_empty : goal.returns-then-is_empty
-returns-then-is_empty c = on-ok c.push_str.result _ _ (λ e. inl e) (str-ok c.push_str.result _ _ _ c.push_str.ensures.bytes)
+pub returns-then-has_none-clause-told : goal.returns-then-has_none-clause-told
+returns-then-has_none-clause-told c = on-ok c.push_str.result _ _ (λ e. inl e) (str-ok c.push_str.result _ _ _ c.push_str.ensures.bytes)
 
-pub returns : goal.returns
-returns c =
+pub returns-then-has_none-clause-all : goal.returns-then-has_none-clause-all
+returns-then-has_none-clause-all c = on-ok c.push_str.result _ _ (λ e lines h. tells-none c.args.tx lines c.in_ok-own.own.items _ _ (c.has_none.ensures.0 c.if-has_none.true) (c.in_ok-own.ensures.all lines h) e)
+    (str-ok c.push_str.result _ _ _ c.push_str.ensures.bytes)
+
+pub returns-clause-told : goal.returns-clause-told
+returns-clause-told c =
     let tx = c.args.tx in
-    let all = c.in_ok-own.ensures in
+    let all = c.in_ok-own.ensures.own in
     let given = subst (λ (os : List Own). All (IsOwn tx) os) (sym c.as_slice-2.ensures.value) all in
     let sorted = subst (λ (os : List Own). All (IsOwn tx) os) (sym c.as_slice-3.ensures.value) (c.in_ok-sorted.ensures tx given) in
     on-ok c.push_count.result _ _ (λ more. tells-dealings tx c.in_ok-own.own.items c.as_slice.result.now _ _ _ _ c.as_slice.ensures.value all c.in_ok-push_own_head.ensures
     (c.in_ok-count.ensures tx sorted) more) c.push_count.ensures
+
+pub returns-clause-all : goal.returns-clause-all
+returns-clause-all c =
+    let tx = c.args.tx in
+    let all = c.in_ok-own.ensures.own in
+    let given = subst (λ (os : List Own). All (IsOwn tx) os) (sym c.as_slice-2.ensures.value) all in
+    let sorted = subst (λ (os : List Own). All (IsOwn tx) os) (sym c.as_slice-3.ensures.value) (c.in_ok-sorted.ensures tx given) in
+    on-ok c.push_count.result _ _ (λ more lines h. tells-own tx lines c.in_ok-own.own.items c.as_slice.result.now _ _ _ _ (λ none. true≢false (sym (c.has_none.ensures.1 none) ∙ c.if-has_none.false)) c.as_slice.ensures.value
+    (c.in_ok-own.ensures.all lines h) c.in_ok-push_own_head.ensures (c.in_ok-count.ensures tx sorted) more) c.push_count.ensures

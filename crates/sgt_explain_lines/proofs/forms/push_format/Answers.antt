@@ -4,5 +4,5 @@ use Rattle.sgt_explain_lines.proofs.forms.push_format.Goals as goal
 
 pub returns : goal.returns
 returns c = λ line h.
-    on-ok c.push_format_slip.result _ _ (λ more. shows-line _ _ line c.text_at-line.result.now _ _ _ _ c.in_ok-push_words.ensures
+    on-ok c.push_format_slip.result _ _ (λ more. shows-line _ _ line c.text_at-line.result.now _ _ _ _ c.in_ok-push_words.ensures.begins
     (c.text_at-line.ensures line h) c.in_ok-push_numbered.ensures more) c.push_format_slip.ensures

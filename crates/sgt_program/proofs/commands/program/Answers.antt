@@ -1,7 +1,8 @@
-use Rattle.std.proofs.Common.{◌<◌, ◌∙◌, Err, ap, length, map, refl, rules, string_bytes}
+use Rattle.std.proofs.Common.{◌<◌, ◌∙◌, Err, ap, inl, length, map, refl, rules, string_bytes}
+use Rattle.sgt_names.specs.declared.outcome.EngineFail.TheVariants.{Memory}
 use Rattle.sgt_program.proofs.Answered.{help-answers, memory-answers, run-memory, usage-answers}
 use Rattle.sgt_program.proofs.Chosen.{is_memory, names_explain, no_refusal, of_a_run, same_asked}
-use Rattle.sgt_program.proofs.Told.{failed_more, helped, leaves_more, tells-errors}
+use Rattle.sgt_program.proofs.Told.{asks_workers, failed_more, helped, leaves_more, quiet_more, tells-errors}
 use Rattle.sgt_program.specs.Commands as comes
 use Rattle.sgt_program.specs.Commands.{Answers}
 use Rattle.sgt_program.specs.Ending.{status_of}
@@ -25,8 +26,8 @@ returns-in-Ok-clause-ends g c =
     let finished = c.finish.ensures in (
       Ran c.run_choice.result,
       finished.status,
-      leaves_more c.run_choice.result _ _ _ _ _
-          (failed_more _ _ _ _ _ _ _ (names_explain (map string_bytes c.args.words.now) c.in-Ok.choice c.in-Ok.ensures.only)) c.run_choice.ensures.ends,
+      leaves_more c.run_choice.result _ _ _ _ _ _
+          (quiet_more _ _ _ _ _ _ (asks_workers (map string_bytes c.args.words.now) c.in-Ok.choice c.in-Ok.ensures.only)) (failed_more _ _ _ _ _ _ _ (names_explain (map string_bytes c.args.words.now) c.in-Ok.choice c.in-Ok.ensures.only)) c.run_choice.ensures.ends,
       tells-errors c.run_choice.result _ _ finished.silent finished.told,
     )
 
@@ -52,7 +53,7 @@ returns-in-Err-Help-clause-ends g c =
     let shown = c.show_help.ensures in (
       Ran c.show_help.result,
       finished.status,
-      helped c.show_help.result _ _ _ _ _ shown.yes shown.fault,
+      helped c.show_help.result _ _ _ _ _ _ shown.yes shown.fault,
       tells-errors c.show_help.result _ _ finished.silent finished.told,
     )
 
@@ -72,7 +73,7 @@ returns-in-Err-Usage-clause-chosen g c =
 pub returns-in-Err-Usage-clause-ends : goal.returns-in-Err-Usage-clause-ends
 returns-in-Err-Usage-clause-ends g c =
     let refused = c.refuse.ensures in
-    (NoCommand, refused.status, ((refl, refl), refl), (c.as_str-in-Err-Usage.result.now, refused.some, refused.told))
+    (NoCommand, refused.status, ((inl refl, refl), refl), (c.as_str-in-Err-Usage.result.now, refused.some, refused.told))
 
 pub returns-in-Err-Memory-clause-asked : goal.returns-in-Err-Memory-clause-asked
 returns-in-Err-Memory-clause-asked g c = λ choice asks.
@@ -82,3 +83,8 @@ returns-in-Err-Memory-clause-asked g c = λ choice asks.
 pub returns-in-Err-Memory-clause-chosen : goal.returns-in-Err-Memory-clause-chosen
 returns-in-Err-Memory-clause-chosen g c =
     comes.memory c.give_up.ensures.status refl (memory-answers _ c.give_up.result _ c.give_up.ensures.status)
+
+pub returns-in-Err-Memory-clause-ends : goal.returns-in-Err-Memory-clause-ends
+returns-in-Err-Memory-clause-ends g c =
+    let gave = c.give_up.ensures in
+    (Ran (Err Memory), gave.status, ((inl refl, refl), refl), gave.told)

@@ -1,12 +1,16 @@
-use Rattle.std.proofs.Common.{◌≡◌, None, Some, ap}
+use Rattle.std.proofs.Common.{◌≡◌, None, Some, ap, inl, subst, sym}
+use Rattle.std.specs.Prelude.{⊤}
 use Rattle.sgt_audit.specs.declared.verdict.Verdict.{Verdict}
 use Rattle.sgt_certify.specs.Answer as certify
+use Rattle.sgt_check.specs.Answer as check
 use Rattle.sgt_draw.specs.Drawn as draw
 use Rattle.sgt_explain.specs.Explained as explain
 use Rattle.sgt_core.specs.Replay as replay
 use Rattle.sgt_service.specs.Report as run
+use Rattle.sgt_program.specs.Commands.{options_of}
 use Rattle.sgt_program.proofs.Answered.{audit-fails, rule-answers, serial-answers, status-answers, verdict-answers}
-use Rattle.sgt_program.proofs.Told.{due, failed_more, kept, leaves, leaves_fail, leaves_more}
+use Rattle.sgt_program.specs.Ending.{ReadsOn}
+use Rattle.sgt_program.proofs.Told.{due, failed_more, kept, leaves, leaves_fail, leaves_more, leaves_topic, quiet_more}
 use Rattle.sgt_line.specs.declared.name.CommandName.TheVariants as command
 use Rattle.sgt_words.specs.Words.{command_of}
 use Rattle.sgt_program.proofs.engines.run_choice.Goals as goal
@@ -46,6 +50,15 @@ returns-in-Certify-clause-answers g c =
     let new = g.W.Sink.holds c.certify.new.writer in
     rw c.in-Certify.is (status-answers (λ outcome. certify.WroteAnswer told outcome old new) (certify.WroteAnswerFront told old new)
     c.certify.result c.certify.ensures.answer c.certify.ensures.front)
+
+pub returns-in-Check-clause-answers : goal.returns-in-Check-clause-answers
+returns-in-Check-clause-answers g c =
+    let told = g.R.Source.tells c.args.reader.now in
+    let old = g.W.Sink.holds c.args.writer.now in
+    let new = g.W.Sink.holds c.check.new.writer in
+    let options = options_of c.in-Check.tells_order in
+    rw c.in-Check.is (status-answers (λ outcome. check.WroteAnswer options told outcome old new) (check.WroteAnswerFront options told old new)
+    c.check.result c.check.ensures.answer c.check.ensures.front)
 
 pub returns-in-Explain-clause-answers : goal.returns-in-Explain-clause-answers
 returns-in-Explain-clause-answers g c =
@@ -91,50 +104,61 @@ returns-in-AuditWith-clause-answers g c = rw c.in-AuditWith.is c.audit_by.ensure
 pub returns-in-Serial-clause-ends : goal.returns-in-Serial-clause-ends
 returns-in-Serial-clause-ends g c =
     let said = c.serial.ensures in
-    leaves c.serial.result _ _ _ _ _ _ (due _ _ _ _ _ _) said.quiet_reader said.quiet_writer said.read_fault said.write_fault said.unwritten said.untouched
+    leaves c.serial.result _ _ _ _ _ _ (due _ _ _ _ _ _) (λ other. inl (said.quiet_reader other)) said.quiet_writer said.read_fault said.write_fault said.unwritten said.untouched
 
 pub returns-in-Replay-clause-ends : goal.returns-in-Replay-clause-ends
 returns-in-Replay-clause-ends g c =
     let said = c.replay.ensures in
-    leaves c.replay.result _ _ _ _ _ _ (due _ _ _ _ _ _) said.quiet_reader said.quiet_writer said.read_fault said.write_fault said.unwritten said.untouched
+    leaves c.replay.result _ _ _ _ _ _ (due _ _ _ _ _ _) (λ other. inl (said.quiet_reader other)) said.quiet_writer said.read_fault said.write_fault said.unwritten said.untouched
 
 pub returns-in-Certify-clause-ends : goal.returns-in-Certify-clause-ends
 returns-in-Certify-clause-ends g c =
     let said = c.certify.ensures in
-    leaves c.certify.result _ _ _ _ _ _ (due _ _ _ _ _ _) said.quiet_reader said.quiet_writer said.read_fault said.write_fault said.unwritten said.untouched
+    leaves c.certify.result _ _ _ _ _ _ (due _ _ _ _ _ _) (λ other. inl (said.quiet_reader other)) said.quiet_writer said.read_fault said.write_fault said.unwritten said.untouched
+
+pub returns-in-Check-clause-ends : goal.returns-in-Check-clause-ends
+returns-in-Check-clause-ends g c =
+    let said = c.check.ensures in
+    leaves c.check.result _ _ _ _ _ _ (due _ _ _ _ _ _) (λ other. inl (said.quiet_reader other)) said.quiet_writer said.read_fault said.write_fault said.unwritten said.untouched
 
 pub returns-in-Draw-clause-ends : goal.returns-in-Draw-clause-ends
 returns-in-Draw-clause-ends g c =
     let said = c.draw.ensures in
-    leaves c.draw.result _ _ _ _ _ _ (due _ _ _ _ _ _) said.quiet_reader said.quiet_writer said.read_fault said.write_fault said.unwritten said.untouched
+    leaves c.draw.result _ _ _ _ _ _ (due _ _ _ _ _ _) (λ other. inl (said.quiet_reader other)) said.quiet_writer said.read_fault said.write_fault said.unwritten said.untouched
 
 pub returns-in-DrawWith-clause-ends : goal.returns-in-DrawWith-clause-ends
 returns-in-DrawWith-clause-ends g c =
     let said = c.draw-in-DrawWith.ensures in
-    leaves c.draw-in-DrawWith.result _ _ _ _ _ _ (due _ _ _ _ _ _) said.quiet_reader said.quiet_writer said.read_fault said.write_fault said.unwritten said.untouched
+    leaves c.draw-in-DrawWith.result _ _ _ _ _ _ (due _ _ _ _ _ _) (λ other. inl (said.quiet_reader other)) said.quiet_writer said.read_fault said.write_fault said.unwritten said.untouched
 
 pub returns-in-Run-clause-ends : goal.returns-in-Run-clause-ends
 returns-in-Run-clause-ends g c =
     let said = c.run_scripts.ensures in
-    leaves c.run_scripts.result _ _ _ _ _ _ (due _ _ _ _ _ _) said.quiet_reader said.quiet_writer said.read_fault said.write_fault said.unwritten said.untouched
+    leaves c.run_scripts.result _ _ _ _ _ _ (due _ _ _ _ _ _) (λ other. inl (said.quiet_reader other)) said.quiet_writer said.read_fault said.write_fault said.unwritten said.untouched
 
 pub returns-in-Explain-clause-ends : goal.returns-in-Explain-clause-ends
 returns-in-Explain-clause-ends g c =
     let said = c.explain.ensures in
     let is : command_of c.args.choice ≡ command.Explain = ap command_of c.in-Explain.is in
-    leaves c.explain.result _ _ _ _ _ _ (kept _ _ _ _ _ _ is) said.quiet_reader said.quiet_writer said.read_fault said.write_fault said.unwritten said.untouched
+    leaves c.explain.result _ _ _ _ _ _ (kept _ _ _ _ _ _ is) (λ other. inl (said.quiet_reader other)) said.quiet_writer said.read_fault said.write_fault said.unwritten said.untouched
 
 pub returns-in-Transaction-clause-ends : goal.returns-in-Transaction-clause-ends
 returns-in-Transaction-clause-ends g c =
     let said = c.explain_transaction.ensures in
     let is : command_of c.args.choice ≡ command.Explain = ap command_of c.in-Transaction.is in
-    leaves c.explain_transaction.result _ _ _ _ _ _ (kept _ _ _ _ _ _ is) said.quiet_reader said.quiet_writer said.read_fault said.write_fault said.unwritten said.untouched
+    leaves c.explain_transaction.result _ _ _ _ _ _ (kept _ _ _ _ _ _ is) (λ other. inl (said.quiet_reader other)) said.quiet_writer said.read_fault said.write_fault said.unwritten said.untouched
 
 pub returns-in-Err-clause-ends : goal.returns-in-Err-clause-ends
 returns-in-Err-clause-ends g c =
     let said = c.in-Err.ensures in
-    leaves_fail Verdict c.in-Err.fail _ _ _ _ _ _ (due _ _ _ _ _ _) said.quiet_reader said.quiet_writer said.read_fault said.write_fault said.unwritten said.untouched
+    leaves_fail Verdict c.in-Err.fail _ _ _ _ _ _ (due _ _ _ _ _ _) (λ other. inl (said.quiet_reader other)) said.quiet_writer said.read_fault said.write_fault said.unwritten said.untouched
 
 pub returns-in-AuditWith-clause-ends : goal.returns-in-AuditWith-clause-ends
 returns-in-AuditWith-clause-ends g c =
-    leaves_more c.audit_by.result _ _ _ _ _ (failed_more _ _ _ _ _ _ _ absurd) c.audit_by.ensures.ends
+    let on : ReadsOn c.args.choice = subst ReadsOn (sym c.in-AuditWith.is) tt in
+    leaves_more c.audit_by.result _ _ _ _ _ _ (quiet_more ⊤ (ReadsOn c.args.choice) _ _ _ _ (λ _. on)) (failed_more _ _ _ _ _ _ _ absurd) c.audit_by.ensures.ends
+
+pub returns-in-Rule-clause-ends : goal.returns-in-Rule-clause-ends
+returns-in-Rule-clause-ends g c =
+    let said = c.explain_topic.ensures in
+    leaves_topic c.explain_topic.result _ _ _ _ _ _ said.only said.write_fault said.quiet_writer

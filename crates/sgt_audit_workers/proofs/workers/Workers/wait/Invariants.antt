@@ -8,6 +8,7 @@ invariant-judged g l = record {
   goes : (told left : Option (List ℕ)) → Works told left l.fn.self → Works told left l.self;
   counted : given l.self ≡ given l.fn.self;
   sites : given l.self ≤ (arc_value l.self.head).certificate.sites;
+  fewer : length l.self.running.items ≤ length l.fn.self.running.items;
   same : SameWorkers l.fn.self l.self;
 }
 

@@ -43,6 +43,10 @@ pub returns-in-Strict : goal.returns-in-Strict
 returns-in-Strict c = λ first taken reading.
     reads.strict c.args.word.now reading (subst (λ k. IsKind c.args.command c.args.word.now k) c.in-Strict.is c.requires)
 
+pub returns-in-Chain : goal.returns-in-Chain
+returns-in-Chain c = λ first taken reading.
+    reads.chain c.args.word.now reading (subst (λ k. IsKind c.args.command c.args.word.now k) c.in-Chain.is c.requires)
+
 pub returns-in-Progress : goal.returns-in-Progress
 returns-in-Progress c = λ first taken reading.
     reads.progress c.args.word.now reading (subst (λ k. IsKind c.args.command c.args.word.now k) c.in-Progress.is c.requires)

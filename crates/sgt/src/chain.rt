@@ -1,0 +1,56 @@
+//! An audit of one system's bundles in a row.
+
+use crate::devices::{Held, LastWords, Retrying};
+use crate::host::{Host, ended, open};
+use sgt_audit_chain::ChainAuditor;
+use sgt_line::Line;
+use sgt_names::{FromRead, Sink, ToWrite};
+use sgt_program::{audit_next, end_chain};
+
+// The status of the file as the next bundle, if the chain ends with it.
+fn next<H, W: Sink>(
+    host: &Host<'_, H>,
+    auditor: &mut ChainAuditor,
+    name: &str,
+    writer: &mut W,
+) -> Option<u8> {
+    let mut steady = match open(host, name) {
+        Ok(steady) => steady,
+        Err(status) => return Some(status),
+    };
+    let mut errors = ToWrite::new(LastWords::new(host.rt.stderr(), host.hush));
+    let status = {
+        let mut reader = FromRead::new(&mut steady);
+        audit_next(
+            auditor,
+            host.rt.alloc(),
+            name,
+            &mut reader,
+            writer,
+            &mut errors,
+        )?
+    };
+    Some(ended(host, &steady, name, status))
+}
+
+// The status of the files, up to the first that doesn't go on.
+fn audit_files<H, W: Sink>(host: &Host<'_, H>, files: &[String], writer: &mut W) -> u8 {
+    let mut auditor = ChainAuditor::new(host.rt.alloc());
+    for name in files {
+        if let Some(status) = next(host, &mut auditor, name.as_str(), writer) {
+            return status;
+        }
+    }
+    let mut errors = ToWrite::new(LastWords::new(host.rt.stderr(), host.hush));
+    end_chain(&auditor, host.rt.alloc(), writer, &mut errors)
+}
+
+/// Audits the files as a chain; quietly by the status alone.
+pub(crate) fn audit_chain<H>(host: &Host<'_, H>, line: &Line) -> u8 {
+    let files = line.files.as_slice();
+    if line.is_quiet {
+        return audit_files(host, files, &mut Held::new(host.rt.alloc()));
+    }
+    let mut output = ToWrite::new(Retrying::new(host.rt.stdout(), host.hush));
+    audit_files(host, files, &mut output)
+}

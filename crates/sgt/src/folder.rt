@@ -1,0 +1,119 @@
+//! The folder of a server's bundles.
+
+ghost use Rattle.std.specs.Prelude.{◌≡◌};
+
+use sgt_names::{Asks, Failed};
+use sgt_serve::{Bundles, Handed, HandedBundle};
+use std::fs::File;
+use std::io::Write;
+use std::{fs, io};
+
+// The greatest number that a bundle's name has room for.
+const MOST: u64 = 99_999_999;
+
+/// A folder that keeps each bundle as a file of its own, whose name has the number. No file is ever written over.
+#[derive(Drop)]
+pub struct FolderBundles<'a> {
+    rt: &'a HostRuntime,
+    folder: &'a str,
+    last: u64,
+    refused: Asks,
+    handed: Handed,
+}
+
+// The number of the bundle that a file of this name is.
+fn number_of(name: &str) -> Option<u64> {
+    let digits = name.strip_suffix(".sgt")?;
+    if digits.len() != 8 || !digits.bytes().all(|b| b.is_ascii_digit()) {
+        return None;
+    }
+    digits.parse::<u64>().ok()
+}
+
+// The greatest number of a bundle in the folder.
+fn greatest(rt: &HostRuntime, folder: &str) -> io::Result<u64> {
+    let mut last = 0;
+    for entry in fs::read_dir(rt, folder)? {
+        match entry {
+            Ok(entry) => last = number_of(entry.file_name()).unwrap_or(0).max(last),
+            Err(e) if e.kind() == io::ErrorKind::InvalidFilename => {}
+            Err(e) => return Err(e),
+        }
+    }
+    Ok(last)
+}
+
+// Writes the text to a file, and waits until it is stored.
+fn store(rt: &HostRuntime, name: &str, text: &[u8]) -> io::Result<()> {
+    let mut file = File::create(rt, name)?;
+    file.write_all(text)?;
+    file.sync_all()
+}
+
+// Waits until the names of the folder are stored.
+fn sync(rt: &HostRuntime, folder: &str) -> io::Result<()> {
+    File::open(rt, folder)?.sync_all()
+}
+
+impl<'a> FolderBundles<'a> {
+    /// The folder, which is made where it isn't there. The next number is the one behind the greatest in it.
+    pub(crate) fn open(rt: &'a HostRuntime, folder: &'a str) -> io::Result<FolderBundles<'a>> {
+        fs::create_dir_all(rt, folder)?;
+        Ok(FolderBundles {
+            rt,
+            folder,
+            last: greatest(rt, folder)?,
+            refused: Asks::none(),
+            handed: Handed::new(),
+        })
+    }
+
+    // Stores the text beside its name, and then gives it the name, which nobody may have.
+    fn link(&self, beside: &str, name: &str, text: &[u8]) -> io::Result<()> {
+        store(self.rt, beside, text)?;
+        fs::hard_link(self.rt, beside, name)?;
+        if let Err(why) = sync(self.rt, self.folder) {
+            let _ = fs::remove_file(self.rt, name);
+            return Err(why);
+        }
+        Ok(())
+    }
+
+    // Stores the text under the next number.
+    fn write_whole(&mut self, text: &[u8]) -> io::Result<u64>
+        ensures handed { self.new.handed ≡ self.old.handed }
+        ensures refused { self.new.refused ≡ self.old.refused }
+    {
+        if self.last >= MOST {
+            return Err(io::Error::from(io::ErrorKind::AlreadyExists));
+        }
+        let number = self.last + 1;
+        let folder = self.folder;
+        let name = format!(in self.rt.alloc(); "{folder}/{number:08}.sgt")?;
+        let beside = format!(in self.rt.alloc(); "{folder}/{number:08}.part")?;
+        let linked = self.link(beside.as_str(), name.as_str(), text);
+        let _ = fs::remove_file(self.rt, beside.as_str());
+        linked?;
+        self.last = number;
+        Ok(number)
+    }
+}
+
+impl Bundles for FolderBundles<'_> {
+    ghost handed = { λ b. b.handed.items };
+
+    ghost refusals = { λ b. b.refused.count };
+
+    fn keep(&mut self, text: &[u8]) -> Result<u64, Failed> {
+        match self.write_whole(text) {
+            Ok(number) => {
+                self.handed = self.handed.with(&HandedBundle { number, text });
+                Ok(number)
+            }
+            Err(_) => {
+                self.refused = self.refused.one_more();
+                Err(Failed)
+            }
+        }
+    }
+}

@@ -1,0 +1,101 @@
+//! The system, and what is read of it.
+
+use crate::devices::{Hush, Input, LastWords, Steady};
+use crate::progress::Progress;
+use sgt_names::{FromRead, Sink, ToWrite};
+use sgt_program::program;
+use std::fs::File;
+use std::io;
+use std::io::IsTerminal;
+use std::sync::Wait;
+use std::thread::Threads;
+
+/// The system: its files and streams, and its threads; what is awaited from a terminal, if something is read; whether lines are told
+/// as they are read, and whether last words are wanted.
+#[derive(Drop)]
+pub struct Host<'a, H> {
+    pub rt: &'a HostRuntime,
+    pub threads: &'a H,
+    pub awaits: Option<&'static str>,
+    pub tells_lines: bool,
+    pub hush: &'a Hush,
+}
+
+/// Says why a file could not be read or written, if it isn't that its reader went away, and gives the status.
+pub(crate) fn refuse_file(rt: &HostRuntime, name: &str, why: &io::Error) -> u8 {
+    if why.kind() != io::ErrorKind::BrokenPipe {
+        let _ = eprintln!(rt; "sgt: {name}: {why}");
+    }
+    4
+}
+
+// Standard input or a file, which is opened only where it will be read.
+fn input_of<H>(host: &Host<'_, H>, name: &str) -> io::Result<Input> {
+    let rt = host.rt;
+    let input = rt.stdin();
+    if let Some(text) = host.awaits {
+        if name != "-" {
+            return Ok(Input::File(File::open(rt, name)?));
+        }
+        if input.is_terminal() {
+            let _ = eprintln!(rt;
+                "sgt: waiting for {text} from the terminal, which Ctrl-D ends; sgt --help says more"
+            );
+        }
+    }
+    Ok(Input::Standard(input))
+}
+
+/// The reader of standard input or a file; the status, where it can't be opened.
+pub(crate) fn open<'a, H>(host: &Host<'a, H>, name: &str) -> Result<Steady<'a, Input>, u8> {
+    let input = match input_of(host, name) {
+        Ok(input) => input,
+        Err(why) => return Err(refuse_file(host.rt, name, &why)),
+    };
+    let progress = if host.tells_lines {
+        Some(Progress::new(host.rt))
+    } else {
+        None
+    };
+    host.hush.lift();
+    Ok(Steady::new(input, progress, host.hush))
+}
+
+/// The status of what ended with this one; why a read failed is told.
+pub(crate) fn ended<H>(
+    host: &Host<'_, H>,
+    steady: &Steady<'_, Input>,
+    name: &str,
+    status: u8,
+) -> u8 {
+    match &steady.why {
+        Some(why) => refuse_file(host.rt, steady.name(name), why),
+        None => status,
+    }
+}
+
+/// Runs the program over standard input or a file and a writer, and gives the status.
+pub(crate) fn over<H: Threads + Wait + Sync, W: Sink>(
+    host: &Host<'_, H>,
+    words: &[String],
+    name: &str,
+    writer: &mut W,
+) -> u8 {
+    let mut steady = match open(host, name) {
+        Ok(steady) => steady,
+        Err(status) => return status,
+    };
+    let mut errors = ToWrite::new(LastWords::new(host.rt.stderr(), host.hush));
+    let status = {
+        let mut reader = FromRead::new(&mut steady);
+        program(
+            host.threads,
+            host.rt.alloc(),
+            words,
+            &mut reader,
+            writer,
+            &mut errors,
+        )
+    };
+    ended(host, &steady, name, status)
+}

@@ -1,0 +1,90 @@
+//! Several files, a bundle that goes to a file, a strict replay, and a status alone.
+
+use crate::devices::{Held, Retrying};
+use crate::host::{Host, over, refuse_file};
+use sgt_line::{Line, cut, strict_status};
+use sgt_names::{EngineFail, MemSink, ToWrite, write_all};
+use std::fs::File;
+use std::io::Write;
+use std::sync::Wait;
+use std::thread::Threads;
+
+// How much of a verdict's line is kept where it isn't written at once.
+const LINE: usize = 200;
+
+/// A line for each file, its name in front. The status is the greatest.
+pub(crate) fn audit_each<H: Threads + Wait + Sync>(
+    host: &Host<'_, H>,
+    line: &Line,
+) -> Result<u8, EngineFail> {
+    let rt = host.rt;
+    let mut status = 0;
+    let mut output = ToWrite::new(Retrying::new(rt.stdout(), host.hush));
+    for name in &line.files {
+        let mut verdict = MemSink::new(rt.alloc(), LINE)?;
+        let found = over(host, line.words.as_slice(), name.as_str(), &mut verdict);
+        status = status.max(found);
+        if found <= 1 && !line.is_quiet {
+            let head = format!(in rt.alloc(); "{name}: ")?;
+            for text in [head.as_bytes(), verdict.bytes()] {
+                if write_all(&mut output, text).is_err() {
+                    return Err(EngineFail::WriteFault);
+                }
+            }
+        }
+    }
+    Ok(status)
+}
+
+// The bundle goes to its file, and what is in front of it to standard output.
+fn deliver<H>(host: &Host<'_, H>, line: &Line, text: &[u8]) -> Result<Option<u8>, EngineFail> {
+    let rt = host.rt;
+    let mut output = ToWrite::new(Retrying::new(rt.stdout(), host.hush));
+    let (front, bundle) = match &line.place {
+        Some(_) => cut(text),
+        None => (text, None),
+    };
+    if write_all(&mut output, front).is_err() {
+        return Err(EngineFail::WriteFault);
+    }
+    if let (Some(name), Some(bundle)) = (&line.place, bundle) {
+        let written = match File::create(rt, name.as_str()) {
+            Ok(mut file) => file.write_all(bundle),
+            Err(why) => Err(why),
+        };
+        if let Err(why) = written {
+            return Ok(Some(refuse_file(rt, name.as_str(), &why)));
+        }
+    }
+    Ok(None)
+}
+
+/// A replay or a run whose bundle has a file of its own, or a strict replay.
+pub(crate) fn run_held<H: Threads + Wait + Sync>(
+    host: &Host<'_, H>,
+    line: &Line,
+    name: &str,
+) -> Result<u8, EngineFail> {
+    let mut held = Held::new(host.rt.alloc());
+    let status = over(host, line.words.as_slice(), name, &mut held);
+    if held.refused > 0 {
+        return Err(EngineFail::Memory);
+    }
+    if let Some(failed) = deliver(host, line, held.bytes())? {
+        return Ok(failed);
+    }
+    if line.is_strict {
+        return Ok(strict_status(status, cut(held.bytes()).0));
+    }
+    Ok(status)
+}
+
+/// Runs the program over a file for its status alone.
+pub(crate) fn judge<H: Threads + Wait + Sync>(
+    host: &Host<'_, H>,
+    line: &Line,
+    name: &str,
+) -> Result<u8, EngineFail> {
+    let mut verdict = Held::new(host.rt.alloc());
+    Ok(over(host, line.words.as_slice(), name, &mut verdict))
+}

@@ -1,0 +1,54 @@
+//! Events served one by one.
+
+use crate::devices::{LastWords, Retrying};
+use crate::folder::FolderBundles;
+use crate::host::{Host, ended, open, refuse_file};
+use sgt_line::Line;
+use sgt_names::{EngineFail, FromRead, Outcome, ToWrite};
+use sgt_program::give_up;
+use sgt_serve::{Bundles, NoBundles, Pipe, ServeFail, serve};
+
+// The status; where there is no answer, standard error is told why.
+fn status_of<H>(host: &Host<'_, H>, told: Result<Outcome, ServeFail>) -> u8 {
+    let fail = match told {
+        Ok(Outcome::Yes) => return 0,
+        Ok(Outcome::No) => return 1,
+        Ok(Outcome::Unreadable) => return 2,
+        Err(ServeFail::Memory) => EngineFail::Memory,
+        Err(ServeFail::ReadFault) => EngineFail::ReadFault,
+        Err(ServeFail::WriteFault) => EngineFail::WriteFault,
+        Err(ServeFail::BundleFault) => {
+            let _ = eprintln!(host.rt; "sgt: the last bundle can't be written");
+            return 4;
+        }
+    };
+    let mut errors = ToWrite::new(LastWords::new(host.rt.stderr(), host.hush));
+    give_up(&mut errors, fail)
+}
+
+// Talks over standard input or a file and standard output, and gives the status.
+fn talk<H, B: Bundles>(host: &Host<'_, H>, name: &str, bundles: &mut B) -> u8 {
+    let mut steady = match open(host, name) {
+        Ok(steady) => steady,
+        Err(status) => return status,
+    };
+    let told = {
+        let reader = FromRead::new(&mut steady);
+        let writer = ToWrite::new(Retrying::new(host.rt.stdout(), host.hush));
+        let mut pipe = Pipe::new(reader, writer);
+        serve(host.rt.alloc(), &mut pipe, bundles)
+    };
+    let status = status_of(host, told);
+    ended(host, &steady, name, status)
+}
+
+/// Serves events, and keeps their bundles in the folder that the line names, if it names one.
+pub(crate) fn serve_events<H>(host: &Host<'_, H>, line: &Line, name: &str) -> u8 {
+    match &line.place {
+        Some(folder) => match FolderBundles::open(host.rt, folder.as_str()) {
+            Ok(mut bundles) => talk(host, name, &mut bundles),
+            Err(why) => refuse_file(host.rt, folder.as_str(), &why),
+        },
+        None => talk(host, name, &mut NoBundles::new()),
+    }
+}

@@ -1,0 +1,208 @@
+//! What the program answers to a row, whose files are its own: over memory what `main` does over files.
+
+ghost use Rattle.std.specs.Prelude.{◌<◌};
+
+use crate::row::{Given, Row};
+use sgt_audit_chain::ChainAuditor;
+use sgt_line::{Line, cut, strict_status};
+use sgt_names::{MemSink, MemSource, Outcome, write_all};
+use sgt_program::{audit_next, end_chain, program};
+use sgt_serve::{MemBundles, Pipe, serve};
+use std::alloc::{AllocError, Global};
+use std::sync::Wait;
+use std::thread::Threads;
+
+/// How many bytes the sinks of a trial take.
+const ROOM: usize = 4_000_000;
+
+/// What the program answered.
+#[derive(Drop)]
+pub struct Answer {
+    pub status: u8,
+    pub output: MemSink,
+    pub errors: MemSink,
+    /// The bundle that goes to a file.
+    pub bundle: Option<MemSink>,
+    /// The bundles that a talk handed out.
+    pub cut: Option<MemBundles>,
+}
+
+/// Runs the program on this input.
+pub(crate) fn run<H: Threads + Wait + Sync>(
+    rt: &H,
+    alloc: Global,
+    words: &[String],
+    mut input: MemSource<'_>,
+) -> Result<Answer, AllocError> {
+    let mut output = MemSink::new(alloc, ROOM)?;
+    let mut errors = MemSink::new(alloc, ROOM)?;
+    let status = program(rt, alloc, words, &mut input, &mut output, &mut errors);
+    Ok(Answer {
+        status,
+        output,
+        errors,
+        bundle: None,
+        cut: None,
+    })
+}
+
+/// The row's input, or its first file, read in pieces of so many bytes.
+fn source_of(given: &Given, per_read: usize) -> MemSource<'_>
+    requires { 0 < per_read }
+{
+    match (given.files.first(), &given.input) {
+        (Some(text), _) | (None, Some(text)) => MemSource::new(text.as_bytes(), per_read, None),
+        (None, None) => MemSource::new(b"sgt 1\n", per_read, Some(1)),
+    }
+}
+
+/// A sink that was given these bytes.
+fn sink_of(alloc: Global, bytes: &[u8]) -> Result<MemSink, AllocError> {
+    let mut sink = MemSink::new(alloc, ROOM)?;
+    let _ = write_all(&mut sink, bytes);
+    Ok(sink)
+}
+
+/// A line for each file, its name in front. The status is the greatest.
+fn audit_each<H: Threads + Wait + Sync>(
+    rt: &H,
+    alloc: Global,
+    given: &Given,
+    per_read: usize,
+) -> Result<Answer, AllocError>
+    requires { 0 < per_read }
+{
+    let mut output = MemSink::new(alloc, ROOM)?;
+    let mut errors = MemSink::new(alloc, ROOM)?;
+    let mut status = 0u8;
+    for (name, text) in given.line.files.iter().zip(given.files.iter()) {
+        let source = MemSource::new(text.as_bytes(), per_read, None);
+        let found = run(rt, alloc, given.line.words.as_slice(), source)?;
+        status = status.max(found.status);
+        if found.status <= 1 {
+            let head = format!(in alloc; "{name}: ")?;
+            let _ = write_all(&mut output, head.as_bytes());
+            let _ = write_all(&mut output, found.output.bytes());
+        }
+        let _ = write_all(&mut errors, found.errors.bytes());
+    }
+    Ok(Answer {
+        status,
+        output,
+        errors,
+        bundle: None,
+        cut: None,
+    })
+}
+
+/// The status of the files as a chain.
+fn audit_chain(
+    alloc: Global,
+    given: &Given,
+    per_read: usize,
+    output: &mut MemSink,
+    errors: &mut MemSink,
+) -> u8
+    requires { 0 < per_read }
+{
+    let mut auditor = ChainAuditor::new(alloc);
+    for (name, text) in given.line.files.iter().zip(given.files.iter()) {
+        let mut source = MemSource::new(text.as_bytes(), per_read, None);
+        let name = name.as_str();
+        let found = audit_next(&mut auditor, alloc, name, &mut source, output, errors);
+        if let Some(status) = found {
+            return status;
+        }
+    }
+    end_chain(&auditor, alloc, output, errors)
+}
+
+// Whether the line asks for a talk: `serve` alone is left of its words.
+fn asks_talk(line: &Line) -> bool {
+    line.words.len() == 2
+        && line
+            .words
+            .get(1)
+            .is_some_and(|word| word.as_str() == "serve")
+}
+
+/// What is answered in a talk.
+fn talk(alloc: Global, given: &Given, per_read: usize) -> Result<Answer, AllocError>
+    requires { 0 < per_read }
+{
+    let mut pipe = Pipe::new(source_of(given, per_read), MemSink::new(alloc, ROOM)?);
+    let mut bundles = MemBundles::new(alloc, 0);
+    let status = match serve(alloc, &mut pipe, &mut bundles) {
+        Ok(Outcome::Yes) => 0,
+        Ok(_) => 2,
+        Err(_) => 4,
+    };
+    let (_, output) = pipe.into_parts();
+    Ok(Answer {
+        status,
+        output,
+        errors: MemSink::new(alloc, 0)?,
+        bundle: None,
+        cut: Some(bundles),
+    })
+}
+
+/// What is answered to the words and files.
+fn answered<H: Threads + Wait + Sync>(
+    rt: &H,
+    alloc: Global,
+    given: &Given,
+    per_read: usize,
+) -> Result<Answer, AllocError>
+    requires { 0 < per_read }
+{
+    let line = &given.line;
+    if asks_talk(line) {
+        return talk(alloc, given, per_read);
+    }
+    if line.is_chain && !line.files.is_empty() {
+        let mut output = MemSink::new(alloc, ROOM)?;
+        let mut errors = MemSink::new(alloc, ROOM)?;
+        let status = audit_chain(alloc, given, per_read, &mut output, &mut errors);
+        return Ok(Answer {
+            status,
+            output,
+            errors,
+            bundle: None,
+            cut: None,
+        });
+    }
+    if line.files.len() > 1 {
+        return audit_each(rt, alloc, given, per_read);
+    }
+    run(rt, alloc, line.words.as_slice(), source_of(given, per_read))
+}
+
+/// The program's answer to the row, read in pieces of so many bytes: without the bundle that goes to a file, and without a word where
+/// the line asks for the status alone.
+pub(crate) fn answer_to<H: Threads + Wait + Sync>(
+    rt: &H,
+    alloc: Global,
+    row: &Row,
+    per_read: usize,
+) -> Result<Answer, AllocError>
+    requires { 0 < per_read }
+{
+    let mut answer = answered(rt, alloc, &row.given, per_read)?;
+    let line = &row.given.line;
+    if line.is_strict {
+        answer.status = strict_status(answer.status, cut(answer.output.bytes()).0);
+    }
+    if line.place.is_some() {
+        if let (front, Some(bundle)) = cut(answer.output.bytes()) {
+            let bundle = sink_of(alloc, bundle)?;
+            let front = sink_of(alloc, front)?;
+            answer.bundle = Some(bundle);
+            answer.output = front;
+        }
+    }
+    if line.is_quiet {
+        answer.output = MemSink::new(alloc, 0)?;
+    }
+    Ok(answer)
+}
