@@ -17,7 +17,7 @@ use crate::talk::serve_events;
 use sgt_line::Line;
 use sgt_names::{EngineFail, ToWrite};
 use sgt_program::{give_up, refuse_words};
-use sgt_words::{Choice, NoChoice, choose};
+use sgt_words::{Choice, NoChoice, asks_talk, choose};
 use std::alloc::AllocError;
 use std::io::IsTerminal;
 use std::process::ExitCode;
@@ -80,15 +80,6 @@ fn tells_terminal(choice: &Result<Choice, NoChoice>) -> bool {
     }
 }
 
-// Whether the line asks for a talk, which has no plain reader and writer: `serve` alone is left of its words.
-fn asks_talk(line: &Line) -> bool {
-    line.words.len() == 2
-        && line
-            .words
-            .get(1)
-            .is_some_and(|word| word.as_str() == "serve")
-}
-
 // Runs the program as the line says.
 fn run<H: Threads + Wait + Sync>(
     host: &Host<'_, H>,
@@ -99,7 +90,7 @@ fn run<H: Threads + Wait + Sync>(
         Some(name) => name.as_str(),
         None => "-",
     };
-    if asks_talk(line) && line.files.len() < 2 {
+    if asks_talk(line.words.as_slice()) && line.files.len() < 2 {
         return Ok(serve_events(host, line, name));
     }
     match choice {

@@ -8,6 +8,7 @@ use sgt_line::{Line, cut, strict_status};
 use sgt_names::{MemSink, MemSource, Outcome, write_all};
 use sgt_program::{audit_next, end_chain, program};
 use sgt_serve::{MemBundles, Pipe, serve};
+use sgt_words::asks_talk;
 use std::alloc::{AllocError, Global};
 use std::sync::Wait;
 use std::thread::Threads;
@@ -117,15 +118,6 @@ fn audit_chain(
     end_chain(&auditor, alloc, output, errors)
 }
 
-// Whether the line asks for a talk: `serve` alone is left of its words.
-fn asks_talk(line: &Line) -> bool {
-    line.words.len() == 2
-        && line
-            .words
-            .get(1)
-            .is_some_and(|word| word.as_str() == "serve")
-}
-
 /// What is answered in a talk.
 fn talk(alloc: Global, given: &Given, per_read: usize) -> Result<Answer, AllocError>
     requires { 0 < per_read }
@@ -157,7 +149,7 @@ fn answered<H: Threads + Wait + Sync>(
     requires { 0 < per_read }
 {
     let line = &given.line;
-    if asks_talk(line) {
+    if asks_talk(line.words.as_slice()) {
         return talk(alloc, given, per_read);
     }
     if line.is_chain && !line.files.is_empty() {

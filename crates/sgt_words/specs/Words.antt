@@ -70,6 +70,10 @@ Asks words choice = ((words ≡ []) × (choice ≡ Audit))
 abbrev pub AsksFor : List (List ℕ) → Choice → Type 0
 AsksFor words choice = Asks (drop 1 words) choice
 
+-- behind the program's name stands `serve`, alone
+abbrev pub AsksTalk : List (List ℕ) → Type 0
+AsksTalk words = drop 1 words ≡ command_text command.Serve ∷ []
+
 -- behind the program's name stands `explain`, and maybe more
 abbrev pub NamesExplain : List (List ℕ) → Type 0
 NamesExplain words = (options : List (List ℕ))

@@ -1,15 +1,15 @@
 //! What the words of the command line ask for.
 
-ghost use Rattle.std.specs.Prelude.{◌≡◌, ◌⊎◌, Ok, Err, Some, IfOk, IfErr, IfSome, IsErr, map, string_bytes};
+ghost use Rattle.std.specs.Prelude.{◌≡◌, ◌↔◌, ◌⊎◌, Ok, Err, Some, IfOk, IfErr, IfSome, IsErr, IsTrue, map, string_bytes};
 ghost use Rattle.sgt_words.specs.declared.choice.Choice.{Choice};
 ghost use Rattle.sgt_line.specs.declared.name.CommandName.TheVariants as command;
-ghost use Rattle.sgt_words.specs.Words.{Asks, AsksFor, HasText, TellsHelp, command_of};
+ghost use Rattle.sgt_words.specs.Words.{Asks, AsksFor, AsksTalk, HasText, TellsHelp, command_of};
 
 use crate::behind::choice_behind;
 use crate::help::no_choice;
 use crate::options::choose_run;
 use sgt_explain::Topic;
-use sgt_line::{CommandName, behind_first, first_of, named};
+use sgt_line::{CommandName, behind_first, first_of, named, only_of};
 use sgt_names::Tx;
 use std::alloc::{AllocError, Global};
 
@@ -80,10 +80,21 @@ fn choice_of(alloc: Global, words: &[String]) -> Result<Option<Choice>, AllocErr
     }
 }
 
+/// Whether the words ask to serve events, which takes a reader and a writer that know of one another: behind the program's name
+/// `serve` stands, alone.
+pub fn asks_talk(words: &[String]) -> bool
+    ensures { IsTrue result ↔ AsksTalk (map string_bytes words.now) }
+{
+    match only_of(behind_first(words)) {
+        Some(word) => word == "serve",
+        None => false,
+    }
+}
+
 /// What the words ask for; the first word is the program's name. The options of `run` are read by clap, `audit` may have
 /// `--workers N` behind it, `explain` a rule's name or `--tx N`, and `draw` `--tx N` and `--dot`, and `check` `--order`;
-/// else a command stands alone. Other
-/// words are help, where one of them asks for it, or no command.
+/// else a command stands alone (`serve` is no choice: see `asks_talk`). Other words are help, where one of them asks for it,
+/// or no command.
 pub fn choose(alloc: Global, words: &[String]) -> Result<Choice, NoChoice>
     ensures only { IfOk result (AsksFor (map string_bytes words.now)) }
     ensures all { (choice : Choice) → AsksFor (map string_bytes words.now) choice

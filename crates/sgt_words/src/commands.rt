@@ -9,7 +9,7 @@ use std::alloc::{AllocError, Global};
 const VERSION: &str = "0.5.0 (bundles: sgt 1, sgt 2)";
 
 const ABOUT: &str =
-    "Audits the logs of certified runs, explains and draws them, makes the certificate of logs that have none, replays runs from events, runs scripts, and judges histories of databases.";
+    "Audits the logs of certified runs, explains and draws them, makes the certificate of logs that have none, replays runs from events, answers events one by one for a service, runs scripts, and judges histories of databases.";
 
 const AUDIT: &str =
     "Writes `yes C committed R refused W withdrawn` for a valid bundle, else `no line L FN` (the default)";
@@ -19,6 +19,9 @@ const SERIAL: &str =
 
 const REPLAY: &str =
     "Reads sites and events, and writes a reply to each event, then `---` and the bundle, or `! E8`";
+
+const SERVE: &str =
+    "Answers each event at once, for a service in any language, and hands its logs out as bundles: docs/SERVICE.md";
 
 const CERTIFY: &str =
     "Makes the certificate of logs that have none, and writes the bundle, or why there is no certificate";
@@ -39,6 +42,8 @@ const SERIAL_USAGE: &str = "sgt serial [--progress] [FILE]\n  e.g. sgt serial bu
 
 const REPLAY_USAGE: &str =
     "sgt replay [--strict] [--progress] [--bundle FILE] [FILE]\n  e.g. sgt replay --bundle bundle.txt events.txt";
+
+const SERVE_USAGE: &str = "sgt serve [--bundles DIR] [FILE]\n  e.g. sgt serve --bundles bundles";
 
 const CHECK_USAGE: &str =
     "sgt check [--order] [-q] [--progress] [FILE]\n  e.g. sgt check history.jsonl";
@@ -91,13 +96,17 @@ fn replay_line<'a>(alloc: Global) -> Command<'a> {
     plain_line(alloc, "replay", REPLAY, REPLAY_USAGE)
 }
 
+fn serve_line<'a>(alloc: Global) -> Command<'a> {
+    plain_line(alloc, "serve", SERVE, SERVE_USAGE)
+}
+
 fn certify_line<'a>(alloc: Global) -> Command<'a> {
     plain_line(alloc, "certify", CERTIFY, CERTIFY_USAGE)
 }
 
 fn explain_line<'a>(alloc: Global) -> Result<Command<'a>, AllocError> {
     let rule = Arg::new(alloc, "RULE").help(
-        "Says what F1 to F19 or K1 to K4 is, or a reply's E8, L1 or V9",
+        "Says what F1 to F19, K1 to K4 or C1 is, a reply's E8, L1 or V9, or an anomaly as G1a",
     );
     let tx = Arg::new(alloc, "tx")
         .long("tx")
@@ -147,6 +156,7 @@ pub fn command<'a>(alloc: Global) -> Result<Command<'a>, AllocError> {
     line.subcommand(audit_line(alloc)?)?
         .subcommand(serial_line(alloc))?
         .subcommand(replay_line(alloc))?
+        .subcommand(serve_line(alloc))?
         .subcommand(run_line(alloc)?)?
         .subcommand(certify_line(alloc))?
         .subcommand(check_line(alloc)?)?
@@ -213,6 +223,14 @@ fn full_replay<'a>(alloc: Global) -> Result<Command<'a>, AllocError> {
         .arg(bundle(alloc))
 }
 
+fn full_serve<'a>(alloc: Global) -> Result<Command<'a>, AllocError> {
+    let folder = Arg::new(alloc, "bundles")
+        .long("bundles")
+        .value_name("DIR")
+        .help("Writes each bundle into this folder, as 00000001.sgt and so on");
+    serve_line(alloc).arg(file(alloc))?.arg(folder)
+}
+
 fn full_serial<'a>(alloc: Global) -> Result<Command<'a>, AllocError> {
     serial_line(alloc).arg(file(alloc))?.arg(progress(alloc))
 }
@@ -246,7 +264,7 @@ pub fn listing_line<'a>(alloc: Global, name: CommandName) -> Result<Command<'a>,
         CommandName::Certify => certify_line(alloc).arg(file(alloc)),
         CommandName::Explain => full_explain(alloc),
         CommandName::Draw => full_draw(alloc),
-        CommandName::Serve => command(alloc),
+        CommandName::Serve => full_serve(alloc),
         CommandName::Check => full_check(alloc),
     }
 }

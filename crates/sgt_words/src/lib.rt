@@ -7,4 +7,4 @@ mod commands;
 mod help;
 mod options;
 
-pub use choice::{Choice, NoChoice, choose};
+pub use choice::{Choice, NoChoice, asks_talk, choose};
