@@ -11,14 +11,17 @@ const INTERNAL: &str = "internal Contradicts Itself\n\
     A transaction contradicts itself: it reads an item behind its own write and gets another version than it wrote; or it\n\
     writes an item again with a version that isn't greater; or it reads a version that it only writes later.\n\
     No isolation level of PostgreSQL, MySQL, MariaDB or SQLite lets it happen. See first that the recorder takes the version\n\
-    from the row in the same statement; then a replica that lags, or a cache between.\n\
+    from the row in the same statement, and that each UPDATE counts it up; that each new try is a transaction of its own in\n\
+    the record; then a replica that lags, or a cache between.\n\
     An example, where the transaction wrote 2 and then read 1:\n\
     \x20 {\"tx\":\"T-1\",\"end\":\"commit\",\"ops\":[[\"w\",\"x\",2],[\"r\",\"x\",1]]}\n";
 
 const DUPLICATE: &str = "duplicate Version Written Twice\n\
     Two committed transactions wrote the same version of an item, so no order of its writes can be told.\n\
     An update that sets the version by hand, or counts it up outside of the statement that writes; a lost update of the\n\
-    version itself: two computed 4 + 1. Count it up in the statement: `SET version = version + 1`.\n";
+    version itself: two computed 4 + 1. Count it up in the statement: `SET version = version + 1`. Or a transaction is\n\
+    recorded as committed that the database rolled back: PostgreSQL answers COMMIT behind an error with ROLLBACK, and\n\
+    psycopg2 raises nothing then.\n";
 
 const ABORTED_READ: &str = "G1a Aborted Read\n\
     A committed transaction read a version that an aborted one wrote (Adya 1999: G1a, a dirty read).\n\
@@ -59,14 +62,18 @@ const SINGLE: &str = "G-single Single Anti-dependency Cycle\n\
     transaction saw the one before another's commit, and the other behind it.\n\
     READ COMMITTED lets it happen in PostgreSQL, MySQL, MariaDB, Oracle and SQL Server; REPEATABLE READ in MySQL and\n\
     MariaDB, where a plain SELECT reads the snapshot and an UPDATE the newest row. PostgreSQL's REPEATABLE READ does not.\n\
-    What helps: SERIALIZABLE, `SELECT .. FOR UPDATE`, or `UPDATE .. WHERE version = ?` and a look at the count of rows.\n";
+    What helps: SERIALIZABLE, `SELECT .. FOR UPDATE`, or `UPDATE .. WHERE version = ?` and a look at the count of rows.\n\
+    At a level that doesn't let it happen: a read outside of the transaction (another connection, autocommit, a cache, a\n\
+    replica), or the level wasn't set.\n";
 
 const ITEM: &str = "G2-item Item Anti-dependency Cycle\n\
     A circle of conflicts with two or more reads that were overwritten (Adya 1999: G2-item). With two transactions and two\n\
     items it is write skew (A5B of Berenson et al. 1995): each read what the other then changed, and neither saw the change.\n\
     Snapshots let it happen: REPEATABLE READ in PostgreSQL, MySQL and MariaDB, Oracle's SERIALIZABLE, SQL Server's SNAPSHOT;\n\
     and all levels below. SERIALIZABLE of PostgreSQL, MySQL and MariaDB does not.\n\
-    What helps: SERIALIZABLE and a new try where it is refused, or `SELECT .. FOR UPDATE` of what the decision rests on.\n";
+    What helps: SERIALIZABLE and a new try where it is refused, or `SELECT .. FOR UPDATE` of what the decision rests on.\n\
+    At SERIALIZABLE: a read outside of the transaction (another connection, autocommit, a cache, a replica), or the level\n\
+    wasn't set.\n";
 
 /// What the anomaly is, and who lets it happen.
 pub fn anomaly_rule(anomaly: Anomaly) -> &'static str

@@ -46,7 +46,8 @@ const NOT_A_LINE: &str = "L1 NotALine\n\
     The line of the input that is named spells nothing, or nothing that may stand there: first `site K NAME=NUM ..` from\n\
     site 0 on, names rising, and behind them events (`sgt replay`) or scripts (`sgt run`), one space between two words,\n\
     none at the end, each line with its LF.\n\
-    Of a history: the line is no JSON object with \"tx\", \"end\" and \"ops\", as docs/FORMAT.md has it.\n";
+    Of a history: the line is no JSON object with \"tx\", \"end\" (\"commit\" or \"abort\") and \"ops\", or an operation is neither\n\
+    [\"r\", ITEM, VERSION] nor [\"w\", ITEM, VERSION] with a whole number as version, of a write from 1: docs/FORMAT.md.\n";
 
 const TOO_LONG: &str = "L2 TooLong\n\
     The line of the input that is named has more than 1048576 bytes, of a history more than 16777216.\n";
