@@ -288,7 +288,19 @@ def two_at_once(program, above, rounds=100):
     return None
 
 
-CASES = [answers_at_once, folder_is_a_file, folder_cannot_be_made, folder_is_read_only, folder_vanishes, folder_vanishes_for_good,
+def file_is_read(program, above):
+    """A talk may come from a file; one that isn't there is told."""
+    path = os.path.join(above, "talk")
+    with open(path, "wb") as file:
+        file.write(SITES + MOVE)
+    done = subprocess.run([program, "serve", path], stdin=subprocess.DEVNULL, capture_output=True)
+    gone = subprocess.run([program, "serve", path + "s"], stdin=subprocess.DEVNULL, capture_output=True)
+    other = subprocess.run([program, "serve", above], stdin=subprocess.DEVNULL, capture_output=True)
+    return first_of(wrong((done.stdout, done.returncode), (REPLIES, 0)), wrong(gone.returncode, 4), wrong(b"No such file" in gone.stderr, True),
+                    wrong(other.returncode, 4), wrong(b"Is a directory" in other.stderr, True))
+
+
+CASES = [answers_at_once, file_is_read, folder_is_a_file, folder_cannot_be_made, folder_is_read_only, folder_vanishes, folder_vanishes_for_good,
          disk_is_full, file_system_is_full, replies_go_to_a_full_device, client_reads_no_more, client_dies, name_is_taken, numbers_go_on,
          numbers_are_used_up, beside_is_linked, beside_is_a_link, two_at_once]
 
