@@ -49,6 +49,15 @@ void *realloc(void *old, size_t size) {
 """
 
 
+def built_shim(folder):
+    """The path of the built library."""
+    source = os.path.join(folder, "refuse.c")
+    with open(source, "w", encoding="utf-8") as file:
+        file.write(SHIM)
+    subprocess.run(["gcc", "-O1", "-shared", "-fPIC", "-o", source[:-1] + "so", source, "-ldl"], check=True)
+    return source[:-1] + "so"
+
+
 def tests_of(crate):
     """The names of the crate's tests of refused growths, with their modules."""
     found = []
@@ -90,10 +99,7 @@ def main():
     crates = words.crates or [name for name in sorted(os.listdir(f"{TOP}/crates")) if tests_of(name)]
     failures = 0
     with tempfile.TemporaryDirectory() as folder:
-        shim, told = f"{folder}/refuse.so", f"{folder}/told"
-        with open(f"{folder}/refuse.c", "w", encoding="utf-8") as file:
-            file.write(SHIM)
-        subprocess.run(["gcc", "-O1", "-shared", "-fPIC", "-o", shim, f"{folder}/refuse.c", "-ldl"], check=True)
+        shim, told = built_shim(folder), f"{folder}/told"
         for crate in crates:
             subprocess.run(["rt", "test"], cwd=f"{TOP}/crates/{crate}", check=True, stdout=subprocess.DEVNULL)
             for test in tests_of(crate):
@@ -103,4 +109,5 @@ def main():
     sys.exit(1 if failures else 0)
 
 
-main()
+if __name__ == "__main__":
+    main()

@@ -5,8 +5,10 @@ usage: random_histories.py PROGRAM [COUNT [SEED]]
 
 A history is what a few transactions on few items did that ran side by side, with dirty, committed or old reads; then reads,
 writes and ends are changed, lines exchanged, ids given twice, and all is spelled oddly: white space, escapes, CR LF, members
-that nobody asked for or that stand twice, bytes that are no JSON. Ends with status 1 at a difference, which it prints, and
-else says how often each answer came. Four at a time.
+that nobody asked for or that stand twice, bytes that are no JSON. What the program doesn't know of --against, --sessions and
+--real-time isn't asked for. Ends with status 1 at a difference, which it prints, and else says how often each answer came;
+with status 1 also where standard error was told nothing of a line that can't be read. Four at a time; 100,000 take half an
+hour of two processors.
 """
 import collections
 import multiprocessing
@@ -289,7 +291,7 @@ def order_of(rng, speller, lines):
     return b"\n".join(text) + (b"\n" if text and rng.random() < 0.9 else b"")
 
 
-def history(rng, with_asked):
+def history(rng, with_asked, with_against):
     """A text, the options, and the order to judge it against, if one is asked for."""
     lines, items = side_by_side(rng)
     for _ in range(rng.choice([0, 0, 0, 1, 1, 2, 3])):
@@ -302,7 +304,7 @@ def history(rng, with_asked):
         options = rng.choice([["--real-time"], ["--sessions"], ["--sessions", "--real-time"]])
     if rng.random() < 0.3:
         options = options + ["--order"]
-    order = order_of(rng, speller, lines) if "--order" not in options and rng.random() < 0.25 else None
+    order = order_of(rng, speller, lines) if with_against and "--order" not in options and rng.random() < 0.25 else None
     with_times = bool(set(options) & {"--real-time", "--sessions"}) and rng.random() < 0.95 or rng.random() < 0.1
     spelled = [speller.line(line, with_times) for line in lines]
     if rng.random() < 0.15:
@@ -317,9 +319,9 @@ def history(rng, with_asked):
 
 
 def compare(job):
-    """The first line of the answer, and what differs, if anything does."""
-    program, seed, number, with_asked = job
-    text, options, order = history(random.Random(f"{seed} {number}"), with_asked)
+    """The first line of the answer, what differs, if anything does, and whether words on standard error are missing."""
+    program, seed, number, with_asked, with_against = job
+    text, options, order = history(random.Random(f"{seed} {number}"), with_asked, with_against)
     words = ["check"] + options
     with tempfile.NamedTemporaryFile() as file:
         if order is not None:
@@ -331,11 +333,11 @@ def compare(job):
     said, status = slow.answer(text, against_text=order, **asked)
     head = said.split(b"\n")[0].decode()
     kind = " ".join(head.split()[:2]) if head[:1] in "!n" else head.split()[0]
-    if (run.stdout, run.returncode) == (said, status) and (status != 2 or run.stderr):
-        return kind, None
+    if (run.stdout, run.returncode) == (said, status):
+        return kind, None, status == 2 and not run.stderr
     told = [f"history {number} of seed {seed}: {' '.join(words)}", repr(text), f"order: {order!r}"]
     told += [f"slow.py: {said!r} {status}", f"program: {run.stdout!r} {run.returncode} {run.stderr!r}"]
-    return kind, "\n".join(told)
+    return kind, "\n".join(told), False
 
 
 def main():
@@ -346,17 +348,24 @@ def main():
     seed = sys.argv[3] if len(sys.argv) > 3 else "1"
     probe = subprocess.run([program, "check", "--sessions", "--real-time"], input=b"", capture_output=True)
     with_asked = probe.returncode == 0
-    jobs = ((program, seed, number, with_asked) for number in range(count))
-    kinds = collections.Counter()
+    probe = subprocess.run([program, "check", "--against", os.devnull], input=b"", capture_output=True)
+    with_against = probe.returncode == 0
+    jobs = ((program, seed, number, with_asked, with_against) for number in range(count))
+    kinds, wordless = collections.Counter(), 0
     with multiprocessing.Pool(4) as pool:
-        for kind, differs in pool.imap(compare, jobs, chunksize=50):
+        for kind, differs, is_wordless in pool.imap(compare, jobs, chunksize=50):
             if differs:
                 print(differs)
                 sys.exit(1)
             kinds[kind] += 1
-    print(f"{count} histories, 0 differ{'' if with_asked else ' (without sessions and real time)'}")
+            wordless += is_wordless
+    without = [word for word, is_known in (("sessions and real time", with_asked), ("orders", with_against)) if not is_known]
+    print(f"{count} histories, 0 differ{' (without ' + ' and '.join(without) + ')' if without else ''}")
     for kind, many in sorted(kinds.items()):
         print(f"{many:8} {kind}")
+    if wordless:
+        print(f"of {wordless} that can't be read standard error was told nothing")
+        sys.exit(1)
 
 
 if __name__ == "__main__":

@@ -239,9 +239,70 @@ def numbers_are_used_up(program, above):
     return first_of(wrong(it.ask(b"x"), "! B"), wrong(it.end(), 0), wrong(os.listdir(above), ["99999999.sgt"]))
 
 
-CASES = [answers_at_once, folder_is_a_file, folder_cannot_be_made, folder_is_read_only, folder_vanishes, folder_vanishes_for_good,
+def beside_is_linked(program, above):
+    """A kill between the two names of a bundle leaves both; the bundle is moved away, and isn't written over."""
+    kept, beside = os.path.join(above, "kept"), [f"00000001.{at}part" for at in ("", "0.", "1.", "2.")]
+    it = Serve(program, above)
+    fault = first_of(moved(it), wrong(it.ask(b"x"), "x 1"), wrong(it.end(), 0))
+    os.rename(os.path.join(above, "00000001.sgt"), kept)
+    with open(kept, "rb") as file:
+        text = file.read()
+    for name in beside:
+        os.link(kept, os.path.join(above, name))
+    it = Serve(program, above)
+    fault = first_of(fault, moved(it), wrong(it.ask(b"x"), "x 1"), wrong(it.end(), 0))
+    return first_of(fault, wrong(open(kept, "rb").read(), text), wrong(texts_in(above)[0][1], text), wrong(sorted(os.listdir(above)), sorted(["00000001.sgt", "kept", *beside])))
+
+
+def beside_is_a_link(program, above):
+    """What a link leads to isn't written over."""
+    kept = os.path.join(os.path.dirname(above), "mine")
+    with open(kept, "w") as file:
+        file.write("mine")
+    for at in ("", "0.", "1."):
+        os.symlink(kept, os.path.join(above, f"00000001.{at}part"))
+    it = Serve(program, above)
+    return first_of(moved(it), wrong(it.ask(b"x"), "x 1"), wrong(it.end(), 0), wrong(open(kept).read(), "mine"))
+
+
+def two_at_once(program, above, rounds=100):
+    """Two servers over one folder: each has the bundle that it was told of, or is told that it has none."""
+    for n in range(rounds):
+        folder = os.path.join(above, str(n))
+        them = [Serve(program, folder) for _ in range(2)]
+        for k, it in enumerate(them):
+            it.send(b"site 0 x=0\nb\nw1[0.x]=%d\nc1\n" % k)
+            for _ in range(3):
+                it.reply()
+        for it in them:
+            it.send(b"x\n")
+        said = [it.reply() for it in them]
+        for k, it in enumerate(them):
+            it.process.kill()
+            it.process.wait()
+            if said[k] == "! B":
+                continue
+            path = os.path.join(folder, f"{int(said[k][2:]):08}.sgt")
+            if not os.path.exists(path) or b"\nfinal x=%d\n" % k not in open(path, "rb").read():
+                return f"round {n}: {said} were answered, and the bundle of the server {k + 1} isn't there"
+    return None
+
+
+def file_is_read(program, above):
+    """A talk may come from a file; one that isn't there is told."""
+    path = os.path.join(above, "talk")
+    with open(path, "wb") as file:
+        file.write(SITES + MOVE)
+    done = subprocess.run([program, "serve", path], stdin=subprocess.DEVNULL, capture_output=True)
+    gone = subprocess.run([program, "serve", path + "s"], stdin=subprocess.DEVNULL, capture_output=True)
+    other = subprocess.run([program, "serve", above], stdin=subprocess.DEVNULL, capture_output=True)
+    return first_of(wrong((done.stdout, done.returncode), (REPLIES, 0)), wrong(gone.returncode, 4), wrong(b"No such file" in gone.stderr, True),
+                    wrong(other.returncode, 4), wrong(b"Is a directory" in other.stderr, True))
+
+
+CASES = [answers_at_once, file_is_read, folder_is_a_file, folder_cannot_be_made, folder_is_read_only, folder_vanishes, folder_vanishes_for_good,
          disk_is_full, file_system_is_full, replies_go_to_a_full_device, client_reads_no_more, client_dies, name_is_taken, numbers_go_on,
-         numbers_are_used_up]
+         numbers_are_used_up, beside_is_linked, beside_is_a_link, two_at_once]
 
 
 # ---- kills

@@ -86,7 +86,7 @@ class Talk:
         """The reply at the end of the input, with these bytes behind the last LF, or None."""
         said = None
         if rest or self.core is None and not self.sites:
-            said = self.line(rest + b"!") if len(rest) <= LIMIT else self.line(rest)
+            said = self.line(rest if len(rest) > LIMIT else b"!")
         if self.status is None:
             self.finish(0)
         return said

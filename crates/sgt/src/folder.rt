@@ -11,6 +11,9 @@ use std::{fs, io};
 // The greatest number that a bundle's name has room for.
 const MOST: u64 = 99_999_999;
 
+// How many names beside a bundle's are tried. A kill leaves one behind, and another server may have one.
+const BESIDE: u32 = 1_000;
+
 /// A folder that keeps each bundle as a file of its own, whose name has the number. No file is ever written over.
 #[derive(Drop)]
 pub struct FolderBundles<'a> {
@@ -43,9 +46,21 @@ fn greatest(rt: &HostRuntime, folder: &str) -> io::Result<u64> {
     Ok(last)
 }
 
+// A new file beside the name of this number, and what it is called. It is nobody else's: what stands there is never opened.
+fn new_beside(rt: &HostRuntime, folder: &str, number: u64) -> io::Result<(String, File)> {
+    for at in 0..BESIDE {
+        let beside = format!(in rt.alloc(); "{folder}/{number:08}.{at}.part")?;
+        match File::create_new(rt, beside.as_str()) {
+            Ok(file) => return Ok((beside, file)),
+            Err(why) if why.kind() == io::ErrorKind::AlreadyExists => {}
+            Err(why) => return Err(why),
+        }
+    }
+    Err(io::Error::from(io::ErrorKind::AlreadyExists))
+}
+
 // Writes the text to a file, and waits until it is stored.
-fn store(rt: &HostRuntime, name: &str, text: &[u8]) -> io::Result<()> {
-    let mut file = File::create(rt, name)?;
+fn store(mut file: File, text: &[u8]) -> io::Result<()> {
     file.write_all(text)?;
     file.sync_all()
 }
@@ -68,9 +83,8 @@ impl<'a> FolderBundles<'a> {
         })
     }
 
-    // Stores the text beside its name, and then gives it the name, which nobody may have.
-    fn link(&self, beside: &str, name: &str, text: &[u8]) -> io::Result<()> {
-        store(self.rt, beside, text)?;
+    // Gives what was stored beside it the name, which nobody may have.
+    fn link(&self, beside: &str, name: &str) -> io::Result<()> {
         fs::hard_link(self.rt, beside, name)?;
         if let Err(why) = sync(self.rt, self.folder) {
             let _ = fs::remove_file(self.rt, name);
@@ -90,8 +104,11 @@ impl<'a> FolderBundles<'a> {
         let number = self.last + 1;
         let folder = self.folder;
         let name = format!(in self.rt.alloc(); "{folder}/{number:08}.sgt")?;
-        let beside = format!(in self.rt.alloc(); "{folder}/{number:08}.part")?;
-        let linked = self.link(beside.as_str(), name.as_str(), text);
+        let (beside, file) = new_beside(self.rt, folder, number)?;
+        let linked = match store(file, text) {
+            Ok(()) => self.link(beside.as_str(), name.as_str()),
+            Err(why) => Err(why),
+        };
         let _ = fs::remove_file(self.rt, beside.as_str());
         linked?;
         self.last = number;

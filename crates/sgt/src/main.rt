@@ -58,8 +58,16 @@ fn line_of(rt: &HostRuntime, hush: &Hush) -> Result<Line, u8> {
     }
 }
 
+// Whether the line asks for a talk, and names one file at most.
+fn is_talk(line: &Line) -> bool {
+    asks_talk(line.words.as_slice()) && line.files.len() < 2
+}
+
 // What is read, in the words of who has to type it. None: nothing is.
-fn awaited(choice: &Result<Choice, NoChoice>) -> Option<&'static str> {
+fn awaited(line: &Line, choice: &Result<Choice, NoChoice>) -> Option<&'static str> {
+    if is_talk(line) {
+        return Some("sites and events");
+    }
     match choice {
         Ok(Choice::Rule(_)) => None,
         Ok(Choice::Certify) => Some("a bundle without its line 2"),
@@ -90,7 +98,7 @@ fn run<H: Threads + Wait + Sync>(
         Some(name) => name.as_str(),
         None => "-",
     };
-    if asks_talk(line.words.as_slice()) && line.files.len() < 2 {
+    if is_talk(line) {
         return Ok(serve_events(host, line, name));
     }
     match choice {
@@ -118,7 +126,7 @@ fn main(rt: HostRuntime) -> ExitCode {
     let host = Host {
         rt: &rt,
         threads: &rt,
-        awaits: awaited(&choice),
+        awaits: awaited(&line, &choice),
         tells_lines: line.tells_lines || is_told,
         hush: &hush,
     };
