@@ -119,7 +119,15 @@ def folder_cannot_be_made(program, above):
 def folder_is_read_only(program, above):
     os.chmod(above, 0o555)
     it = Serve(program, above, preexec_fn=as_nobody)
-    return first_of(moved(it), wrong(it.ask(b"x"), "! B"), wrong(it.ask(b"b"), "b2"), wrong(it.ask(b"a2"), "a2"),
+    return first_of(wrong(it.process.wait(WAIT), 4), wrong(it.reply(), ""), wrong(os.listdir(above), []))
+
+
+def folder_becomes_read_only(program, above):
+    os.chmod(above, 0o777)
+    it = Serve(program, above, preexec_fn=as_nobody)
+    fault = moved(it)
+    os.chmod(above, 0o555)
+    return first_of(fault, wrong(it.ask(b"x"), "! B"), wrong(it.ask(b"b"), "b2"), wrong(it.ask(b"a2"), "a2"),
                     wrong(it.end(), 4), wrong(os.listdir(above), []))
 
 
@@ -300,7 +308,7 @@ def file_is_read(program, above):
                     wrong(other.returncode, 4), wrong(b"Is a directory" in other.stderr, True))
 
 
-CASES = [answers_at_once, file_is_read, folder_is_a_file, folder_cannot_be_made, folder_is_read_only, folder_vanishes, folder_vanishes_for_good,
+CASES = [answers_at_once, file_is_read, folder_is_a_file, folder_cannot_be_made, folder_is_read_only, folder_becomes_read_only, folder_vanishes, folder_vanishes_for_good,
          disk_is_full, file_system_is_full, replies_go_to_a_full_device, client_reads_no_more, client_dies, name_is_taken, numbers_go_on,
          numbers_are_used_up, beside_is_linked, beside_is_a_link, two_at_once]
 

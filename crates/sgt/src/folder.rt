@@ -71,13 +71,16 @@ fn sync(rt: &HostRuntime, folder: &str) -> io::Result<()> {
 }
 
 impl<'a> FolderBundles<'a> {
-    /// The folder, which is made where it isn't there. The next number is the one behind the greatest in it.
+    /// The folder, which is made where it isn't there, and can be written. The next number is the one behind the greatest in it.
     pub(crate) fn open(rt: &'a HostRuntime, folder: &'a str) -> io::Result<FolderBundles<'a>> {
         fs::create_dir_all(rt, folder)?;
+        let last = greatest(rt, folder)?;
+        let (trial, _) = new_beside(rt, folder, last + 1)?;
+        fs::remove_file(rt, trial.as_str())?;
         Ok(FolderBundles {
             rt,
             folder,
-            last: greatest(rt, folder)?,
+            last,
             refused: Asks::none(),
             handed: Handed::new(),
         })
@@ -127,7 +130,9 @@ impl Bundles for FolderBundles<'_> {
                 self.handed = self.handed.with(&HandedBundle { number, text });
                 Ok(number)
             }
-            Err(_) => {
+            Err(why) => {
+                let folder = self.folder;
+                let _ = eprintln!(self.rt; "sgt: {folder}: a bundle can't be written: {why}");
                 self.refused = self.refused.one_more();
                 Err(Failed)
             }
